@@ -1,0 +1,6 @@
+pub mod Arithmetic
+pub mod Plain
+pub mod Typing
+pub mod Shapes
+pub mod Operators
+pub mod Actions

@@ -1,0 +1,87 @@
+-- What each operator gives.
+use Rattle.std.specs.Prelude.{◌≡◌, ℕ, ℤ, pos, negsuc, ◌+ℤ◌, ◌-ℤ◌, Bool, true, false, not, ◌&&◌, ◌==◌, List, [], ◌∷◌, Result, Ok, Err, Option, Some, None, if◌then◌else◌}
+use Rattle.ioa_value.specs.declared.arithmetic.Fault.{Fault}
+use Rattle.ioa_value.specs.declared.operator.Op.{Op}
+use Rattle.ioa_value.specs.declared.operator.Op.TheVariants.{Add, Sub, Eq}
+use Rattle.ioa_value.specs.declared.value.Value.{Value}
+use Rattle.ioa_value.specs.Arithmetic.{tested}
+use Rattle.ioa_value.specs.Plain.{Val, Vals, truth, num, name, tuple, items, none, more, plain}
+use Rattle.ioa_value.specs.Typing.{own}
+
+-- a value, a fault, or nothing, where the operands are not the operator's
+pub data Answer : Type 0 where
+  gives : Val → Answer
+  faults : Fault → Answer
+  nothing : Answer
+
+abbrev pub answer_of : Result Value Fault → Answer
+answer_of (Ok v) = gives (plain v)
+answer_of (Err f) = faults f
+
+abbrev pub of_number : Result ℤ Fault → Answer
+of_number (Ok z) = gives (num z)
+of_number (Err f) = faults f
+
+abbrev pub on_numbers : (ℤ → ℤ → Answer) → List Val → Answer
+on_numbers f (num x ∷ num y ∷ []) = f x y
+on_numbers f _ = nothing
+
+abbrev pub same_truth : Bool → Bool → Bool
+same_truth true b = b
+same_truth false b = not b
+
+abbrev pub same_number : ℤ → ℤ → Bool
+same_number (pos a) (pos b) = a == b
+same_number (negsuc a) (negsuc b) = a == b
+same_number _ _ = false
+
+-- whether two values are equal
+abbrev mutual
+  pub same : Val → Val → Bool
+  same (truth a) (truth b) = same_truth a b
+  same (num a) (num b) = same_number a b
+  same (name s a) (name t b) = (s == t) && (a == b)
+  same (tuple s a) (tuple t b) = (s == t) && same_all a b
+  same (items s a) (items t b) = (s == t) && same_all a b
+  same _ _ = false
+
+  pub same_all : Vals → Vals → Bool
+  same_all none none = true
+  same_all none (more w ws) = false
+  same_all (more v vs) none = false
+  same_all (more v vs) (more w ws) = same v w && same_all vs ws
+
+-- two values of one type
+abbrev pub compared : List Val → Answer
+compared (x ∷ y ∷ []) = if own x == own y then gives (truth (same x y)) else nothing
+compared _ = nothing
+
+-- the operator's value or fault, of the operands in order
+abbrev pub operate : Op → List Val → Answer
+operate Add vs = on_numbers (λ x y. of_number (tested (x +ℤ y))) vs
+operate Sub vs = on_numbers (λ x y. of_number (tested (x -ℤ y))) vs
+operate Eq vs = compared vs
+
+-- how many operands the operator takes
+abbrev pub arity : Op → ℕ
+arity _ = 2
+
+abbrev pub of_numbers : ℕ → List ℕ → Option ℕ
+of_numbers ty (a ∷ b ∷ []) = if (a == 1) && (b == 1) then Some ty else None
+of_numbers ty _ = None
+
+abbrev pub of_alike : ℕ → List ℕ → Option ℕ
+of_alike ty (a ∷ b ∷ []) = if a == b then Some ty else None
+of_alike ty _ = None
+
+-- the type of what the operator gives, where it takes operands of these types
+abbrev pub op_type : Op → List ℕ → Option ℕ
+op_type Add tys = of_numbers 1 tys
+op_type Sub tys = of_numbers 1 tys
+op_type Eq tys = of_alike 0 tys
+
+-- the operands are the operator's
+abbrev pub Takes : Op → List Val → Type 0
+Takes Add vs = (x : ℤ) × (y : ℤ) × (vs ≡ num x ∷ num y ∷ [])
+Takes Sub vs = (x : ℤ) × (y : ℤ) × (vs ≡ num x ∷ num y ∷ [])
+Takes Eq vs = (x : Val) × (y : Val) × (own x ≡ own y) × (vs ≡ x ∷ y ∷ [])

@@ -1,0 +1,73 @@
+ghost use Rattle.std.specs.Prelude.{◌≡◌, ◌∷◌, [], ℤ, map, IfOk};
+ghost use Rattle.ioa_value.specs.Plain.{plain, Val, num};
+ghost use Rattle.ioa_value.specs.Operators.{operate, Takes, answer_of, of_number, same};
+
+use crate::arithmetic::{Fault, add, subtract};
+use crate::memory::OutOfMemory;
+use crate::types::Types;
+use crate::value::{Value, same};
+use std::alloc::Global;
+
+/// An operator on values.
+#[derive(Clone, Copy, PartialEq, Eq, Debug)]
+pub enum Op {
+    Add,
+    Sub,
+    Eq,
+}
+
+/// The operator's value, or its fault. Operators on numbers and truth values grow no memory.
+pub fn apply(
+    _alloc: Global,
+    _types: &Types,
+    op: Op,
+    operands: &[Value],
+) -> Result<Result<Value, Fault>, OutOfMemory>
+    requires { Takes op (map plain operands.now) }
+    ensures { IfOk result (λ r. answer_of r ≡ operate op (map plain operands.now)) }
+{
+    Ok(applied(op, operands))
+}
+
+fn applied(op: Op, operands: &[Value]) -> Result<Value, Fault>
+    requires { Takes op (map plain operands.now) }
+    ensures { answer_of result ≡ operate op (map plain operands.now) }
+{
+    match op {
+        Op::Add => {
+            let (a, b) = two_numbers(operands);
+            number(add(a, b))
+        }
+        Op::Sub => {
+            let (a, b) = two_numbers(operands);
+            number(subtract(a, b))
+        }
+        Op::Eq => Ok(Value::Truth(same(&operands[0], &operands[1]))),
+    }
+}
+
+fn number(outcome: Result<i64, Fault>) -> Result<Value, Fault>
+    ensures { answer_of result ≡ of_number outcome }
+{
+    match outcome {
+        Ok(n) => Ok(Value::Num(n)),
+        Err(fault) => Err(fault),
+    }
+}
+
+fn two_numbers(operands: &[Value]) -> (i64, i64)
+    requires { (x : ℤ) × (y : ℤ) × (map plain operands.now ≡ num x ∷ num y ∷ []) }
+    ensures { map plain operands.now ≡ num result.0 ∷ num result.1 ∷ [] }
+{
+    (number_of(&operands[0]), number_of(&operands[1]))
+}
+
+fn number_of(value: &Value) -> i64
+    requires { (x : ℤ) × (plain value.now ≡ num x) }
+    ensures { plain value.now ≡ num result }
+{
+    match value {
+        Value::Num(n) => *n,
+        _ => unreachable!(),
+    }
+}
