@@ -4,3 +4,4 @@ pub mod Typing
 pub mod Shapes
 pub mod Operators
 pub mod Actions
+pub mod Coded
