@@ -1,5 +1,5 @@
 -- Values as plain data in a row, so that models can hold values: each value as its parts in prefix order.
-use Rattle.std.specs.Prelude.{◌≡◌, ◌⊎◌, ℕ, ℤ, Bool, true, false, List, [], ◌∷◌}
+use Rattle.std.specs.Prelude.{◌≡◌, ◌⊎◌, ℕ, ℤ, Bool, false, List, [], ◌∷◌}
 use Rattle.std.specs.Coded.{Coded, code_by, coded×, coded⊎, coded_ℕ, coded_ℤ, coded_bool, coded_list}
 use Rattle.ioa_value.specs.Plain.{Val, Vals, truth, num, name, tuple, items, none, more}
 use base.Stored.{coded_unit}

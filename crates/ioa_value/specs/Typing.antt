@@ -1,5 +1,5 @@
 -- Each type is a set of values.
-use Rattle.std.specs.Prelude.{◌≡◌, ℕ, IsTrue, Bool, false, pos, List, [], ◌∷◌, Option, Some, None}
+use Rattle.std.specs.Prelude.{◌≡◌, ℕ, IsTrue, false, pos, List, [], ◌∷◌}
 use Rattle.ioa_value.specs.Arithmetic.{fits}
 use Rattle.ioa_value.specs.Plain.{Val, truth, num, name, tuple, items}
 
