@@ -1,0 +1,74 @@
+-- Trees without places in memory and without lines: what grammar, well-formedness and meaning speak of.
+use Rattle.std.specs.Prelude.{ℕ, ◌+◌, max, Bool, List, [], ◌∷◌, Option, map, fold}
+use Rattle.ioa_value.specs.Actions.{Name}
+use Rattle.ioa_syntax.specs.declared.tree.Operator.{Operator}
+use Rattle.ioa_syntax.specs.declared.tree.Kind.{Kind}
+
+-- an expression
+pub data Expr : Type 0 where
+  number : ℕ → Expr
+  truth : Bool → Expr
+  named : Name → Expr
+  parens : Expr → Expr
+  binary : Expr → Operator → Expr → Expr
+
+-- a name and the name of its type: a formal, a variable or a parameter
+pub record FieldTree : Type 0 where
+  pub name : Name
+  pub ty : Name
+
+-- a position of an entry: a parameter, which stands for any value of its type
+pub data PositionTree : Type 0 where
+  typed : FieldTree → PositionTree
+
+-- an entry of a signature
+pub record EntryTree : Type 0 where
+  pub kind : Kind
+  pub name : Name
+  pub positions : List PositionTree
+
+-- a state variable, with its start expression where there is one
+pub record VariableTree : Type 0 where
+  pub field : FieldTree
+  pub start : Option Expr
+
+-- the value of a parameter to try
+pub record ProposalTree : Type 0 where
+  pub name : Name
+  pub value : Expr
+
+-- a statement: an assignment of a whole variable
+pub data Stmt : Type 0 where
+  assign : Name → Expr → Stmt
+
+pub record TransitionTree : Type 0 where
+  pub kind : Kind
+  pub name : Name
+  pub pre : Option Expr
+  pub proposals : List ProposalTree
+  pub effect : List Stmt
+
+pub record AutomatonTree : Type 0 where
+  pub name : Name
+  pub formals : List FieldTree
+  pub entries : List EntryTree
+  pub variables : List VariableTree
+  pub transitions : List TransitionTree
+
+-- a component: its name, its automaton's name and the arguments
+pub record InstanceTree : Type 0 where
+  pub name : Name
+  pub automaton : Name
+  pub arguments : List Expr
+
+pub record CompositionTree : Type 0 where
+  pub name : Name
+  pub instances : List InstanceTree
+
+pub data DeclarationTree : Type 0 where
+  automaton : AutomatonTree → DeclarationTree
+  composition : CompositionTree → DeclarationTree
+
+-- a source
+abbrev pub SourceTree : Type 0
+SourceTree = List DeclarationTree

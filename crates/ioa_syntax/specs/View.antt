@@ -1,0 +1,83 @@
+-- The tree that a value of the program is: no places in memory, no lines.
+use Rattle.std.specs.Prelude.{List, map, Option, Some, None}
+use Rattle.std.specs.Option.{option_map}
+use Rattle.std.specs.String.{string_bytes}
+use Rattle.ioa_value.specs.Actions as actions
+use Rattle.ioa_syntax.specs.declared.tree.Name.{Name}
+use Rattle.ioa_syntax.specs.declared.tree.Expression.{Expression}
+use Rattle.ioa_syntax.specs.declared.tree.Expression.TheVariants as expressions
+use Rattle.ioa_syntax.specs.declared.tree.Field.{Field}
+use Rattle.ioa_syntax.specs.declared.tree.Position.{Position}
+use Rattle.ioa_syntax.specs.declared.tree.Position.TheVariants.{Typed}
+use Rattle.ioa_syntax.specs.declared.tree.Entry.{Entry}
+use Rattle.ioa_syntax.specs.declared.tree.Variable.{Variable}
+use Rattle.ioa_syntax.specs.declared.tree.Proposal.{Proposal}
+use Rattle.ioa_syntax.specs.declared.tree.Statement.{Statement}
+use Rattle.ioa_syntax.specs.declared.tree.Statement.TheVariants.{Assign}
+use Rattle.ioa_syntax.specs.declared.tree.Transition.{Transition}
+use Rattle.ioa_syntax.specs.declared.tree.Automaton.{Automaton}
+use Rattle.ioa_syntax.specs.declared.tree.Instance.{Instance}
+use Rattle.ioa_syntax.specs.declared.tree.Assembly.{Assembly}
+use Rattle.ioa_syntax.specs.declared.tree.Declaration.{Declaration}
+use Rattle.ioa_syntax.specs.declared.tree.Declaration.TheVariants as declarations
+use Rattle.ioa_syntax.specs.Tree.{Expr, number, truth, named, parens, binary, FieldTree, PositionTree, typed, EntryTree, VariableTree, ProposalTree, Stmt, assign, TransitionTree, AutomatonTree, InstanceTree, CompositionTree, DeclarationTree, automaton, composition, SourceTree}
+
+abbrev pub name_of : Name → actions.Name
+name_of n = string_bytes n.text
+
+abbrev pub expr_of : Expression → Expr
+expr_of (expressions.Number n line) = number n
+expr_of (expressions.Truth b line) = truth b
+expr_of (expressions.Name n) = named (name_of n)
+expr_of (expressions.Parentheses' p e line) = parens (expr_of e)
+expr_of (expressions.Binary' p l o q r) = binary (expr_of l) o (expr_of r)
+
+abbrev pub field_of : Field → FieldTree
+field_of f = record { name = name_of f.name; ty = name_of f.ty }
+
+abbrev pub position_of : Position → PositionTree
+position_of (Typed f) = typed (field_of f)
+
+abbrev pub entry_of : Entry → EntryTree
+entry_of e = record { kind = e.kind; name = name_of e.name; positions = map position_of e.positions.items }
+
+abbrev pub variable_of : Variable → VariableTree
+variable_of v = record { field = field_of v.field; start = option_map expr_of v.start }
+
+abbrev pub proposal_of : Proposal → ProposalTree
+proposal_of p = record { name = name_of p.name; value = expr_of p.value }
+
+abbrev pub stmt_of : Statement → Stmt
+stmt_of (Assign n e) = assign (name_of n) (expr_of e)
+
+abbrev pub transition_of : Transition → TransitionTree
+transition_of t = record {
+  kind = t.kind;
+  name = name_of t.name;
+  pre = option_map expr_of t.pre;
+  proposals = map proposal_of t.proposals.items;
+  effect = map stmt_of t.effect.items;
+}
+
+abbrev pub automaton_of : Automaton → AutomatonTree
+automaton_of a = record {
+  name = name_of a.name;
+  formals = map field_of a.formals.items;
+  entries = map entry_of a.entries.items;
+  variables = map variable_of a.variables.items;
+  transitions = map transition_of a.transitions.items;
+}
+
+abbrev pub instance_of : Instance → InstanceTree
+instance_of i = record { name = name_of i.name; automaton = name_of i.automaton; arguments = map expr_of i.arguments.items }
+
+abbrev pub assembly_of : Assembly → CompositionTree
+assembly_of c = record { name = name_of c.name; instances = map instance_of c.instances.items }
+
+abbrev pub declaration_of : Declaration → DeclarationTree
+declaration_of (declarations.Automaton a) = automaton (automaton_of a)
+declaration_of (declarations.Composition c) = composition (assembly_of c)
+
+-- the source's tree
+abbrev pub tree_of : List Declaration → SourceTree
+tree_of ds = map declaration_of ds

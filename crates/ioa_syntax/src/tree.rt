@@ -1,0 +1,116 @@
+/// A name as it stands in a source, with its line (from 1).
+#[derive(Drop)]
+pub struct Name {
+    pub text: String,
+    pub line: u32,
+}
+
+/// An operator between two expressions.
+#[derive(Clone, Copy, PartialEq, Eq, Debug)]
+pub enum Operator {
+    Equal,
+    Plus,
+    Minus,
+}
+
+/// An expression. Each form that can begin an expression keeps the line of its first token.
+#[derive(Drop)]
+pub enum Expression {
+    Number(u64, u32),
+    Truth(bool, u32),
+    Name(Name),
+    Parentheses(Box<Expression>, u32),
+    Binary(Box<Expression>, Operator, Box<Expression>),
+}
+
+/// A name and the name of its type: a formal parameter, a variable or a parameter of an entry.
+#[derive(Drop)]
+pub struct Field {
+    pub name: Name,
+    pub ty: Name,
+}
+
+/// Whether an automaton takes an action from its environment, offers it, or keeps it to itself.
+#[derive(Clone, Copy, PartialEq, Eq, Debug)]
+pub enum Kind {
+    Input,
+    Output,
+    Internal,
+}
+
+/// A position of a signature's entry.
+#[derive(Drop)]
+pub enum Position {
+    /// A parameter, which stands for any value of its type.
+    Typed(Field),
+}
+
+/// An entry of a signature.
+#[derive(Drop)]
+pub struct Entry {
+    pub kind: Kind,
+    pub name: Name,
+    pub positions: Vec<Position>,
+}
+
+/// A state variable. Without a start expression it starts at the first value of its type.
+#[derive(Drop)]
+pub struct Variable {
+    pub field: Field,
+    pub start: Option<Expression>,
+}
+
+/// Which value of a parameter to try.
+#[derive(Drop)]
+pub struct Proposal {
+    pub name: Name,
+    pub value: Expression,
+}
+
+/// A statement of an effect.
+#[derive(Drop)]
+pub enum Statement {
+    Assign(Name, Expression),
+}
+
+/// The transition of an entry.
+#[derive(Drop)]
+pub struct Transition {
+    pub kind: Kind,
+    pub name: Name,
+    pub pre: Option<Expression>,
+    pub proposals: Vec<Proposal>,
+    pub effect: Vec<Statement>,
+}
+
+/// An automaton: signature, state and transitions.
+#[derive(Drop)]
+pub struct Automaton {
+    pub name: Name,
+    pub formals: Vec<Field>,
+    pub entries: Vec<Entry>,
+    pub variables: Vec<Variable>,
+    pub transitions: Vec<Transition>,
+}
+
+/// A component of a composition: an automaton with its arguments.
+#[derive(Drop)]
+pub struct Instance {
+    pub name: Name,
+    pub automaton: Name,
+    pub arguments: Vec<Expression>,
+}
+
+/// A composition as it is declared.
+#[derive(Drop)]
+pub struct Assembly {
+    pub name: Name,
+    pub instances: Vec<Instance>,
+}
+
+/// A declaration of a source.
+#[derive(Drop)]
+pub enum Declaration {
+    Automaton(Automaton),
+    Composition(Assembly),
+}
