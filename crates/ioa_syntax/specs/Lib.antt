@@ -2,3 +2,11 @@ pub use Rattle.ioa_lex.specs.Tokens
 pub use Rattle.ioa_value.specs.Actions
 pub mod Tree
 pub mod View
+pub mod Meaning
+pub mod Components
+pub mod Steps
+pub mod Runs
+pub mod Likes
+pub mod Instances
+pub mod WellFormed
+pub mod Compositions

@@ -1,0 +1,82 @@
+-- The composition that a source declares under a name (Lynch 1996, section 8.2).
+use Rattle.std.specs.Prelude.{ℕ, Bool, List, [], ◌∷◌, map, find, length, reverse, Option, Some, None, Result, Ok, Err, IsTrue, ◌≡◌, slice_get}
+use Rattle.std.specs.Str.{bytes_eq}
+use Rattle.ioa_value.specs.Actions.{Name}
+use Rattle.ioa_value.specs.Plain.{Val}
+use Rattle.ioa_value.specs.Tests.{are_of}
+use Rattle.ioa_syntax.specs.Tree.{FieldTree, AutomatonTree, InstanceTree, CompositionTree, DeclarationTree, automaton, composition, SourceTree}
+use Rattle.ioa_syntax.specs.Meaning.{Env}
+use Rattle.ioa_syntax.specs.Instances.{TypeTable, type_named, basic_table, Instance, component_of, argument_values, start_values, state_of}
+use Rattle.ioa_syntax.specs.Components.{Component, Compatible}
+
+abbrev pub automata : SourceTree → List AutomatonTree
+automata [] = []
+automata (automaton a ∷ ds) = a ∷ automata ds
+automata (composition c ∷ ds) = automata ds
+
+abbrev pub compositions : SourceTree → List CompositionTree
+compositions [] = []
+compositions (automaton a ∷ ds) = compositions ds
+compositions (composition c ∷ ds) = c ∷ compositions ds
+
+abbrev pub first_item : {X : Type 0} → List X → Option X
+first_item [] = None
+first_item (x ∷ xs) = Some x
+
+-- the composition of this name, or the last one where no name is given
+abbrev pub picked : SourceTree → Option Name → Option CompositionTree
+picked s (Some name) = find (λ c. bytes_eq c.name name) (compositions s)
+picked s None = first_item (reverse (compositions s))
+
+-- the automaton of this name
+abbrev pub automaton_named : SourceTree → Name → Option AutomatonTree
+automaton_named s name = find (λ a. bytes_eq a.name name) (automata s)
+
+-- a component: its name, its instance, and the start values of its variables in order
+pub record Member : Type 0 where
+  pub name : Name
+  pub instance : Instance
+  pub starts : List Val
+
+-- a composition: its name, its components in order, and the names that are hidden
+pub record Composed : Type 0 where
+  pub name : Name
+  pub members : List Member
+  pub hidden : List Name
+
+-- the values are of the types of the fields, one for each
+abbrev pub Fit : TypeTable → List FieldTree → List Val → Type 0
+Fit t [] [] = Unit {0}
+Fit t [] (v ∷ vs) = ⊥
+Fit t (f ∷ fs) [] = ⊥
+Fit t (f ∷ fs) (v ∷ vs) = (n : ℕ) × (type_named t f.ty ≡ Some n) × IsTrue (are_of t.shapes (v ∷ []) (n ∷ [])) × Fit t fs vs
+
+-- what an instance's tree stands for: its automaton, its arguments' values, which fit the formals, and the start
+pub record IsMember (s : SourceTree) (i : InstanceTree) (m : Member) : Type 0 where
+  pub name : m.name ≡ i.name
+  pub types : m.instance.types ≡ basic_table
+  pub automaton : automaton_named s i.automaton ≡ Some m.instance.automaton
+  pub arguments : argument_values i.arguments ≡ Ok m.instance.arguments
+  pub fit : Fit basic_table m.instance.automaton.formals m.instance.arguments
+  pub starts : start_values m.instance ≡ Ok m.starts
+
+abbrev pub AreMembers : SourceTree → List InstanceTree → List Member → Type 0
+AreMembers s [] [] = Unit {0}
+AreMembers s [] (m ∷ ms) = ⊥
+AreMembers s (i ∷ is) [] = ⊥
+AreMembers s (i ∷ is) (m ∷ ms) = IsMember s i m × AreMembers s is ms
+
+-- the components as the step sees them
+abbrev pub components_of : Composed → List (Component Env)
+components_of c = map (λ m. component_of m.instance) c.members
+
+-- the states in which they start
+abbrev pub starts_of : Composed → List Env
+starts_of c = map (λ m. state_of m.instance.automaton m.starts) c.members
+
+-- the composition that the source's tree stands for; nothing can be hidden yet
+pub record IsComposed (s : SourceTree) (t : CompositionTree) (c : Composed) : Type 0 where
+  pub name : c.name ≡ t.name
+  pub members : AreMembers s t.instances c.members
+  pub hidden : c.hidden ≡ []
+  pub compatible : Compatible (components_of c)

@@ -1,0 +1,91 @@
+-- What expressions and effects mean (effects of transitions: Lynch 1996, section 8.1; IOA's notation).
+use Rattle.std.specs.Prelude.{ℕ, Bool, true, false, if◌then◌else◌, List, [], ◌∷◌, Option, Some, None, pos}
+use Rattle.std.specs.List.{list_any}
+use Rattle.std.specs.Str.{bytes_eq}
+use Rattle.ioa_value.specs.declared.arithmetic.Fault.{Fault}
+use Rattle.ioa_value.specs.declared.operator.Op.{Op}
+use Rattle.ioa_value.specs.declared.operator.Op.TheVariants as ops
+use Rattle.ioa_value.specs.Actions.{Name}
+use Rattle.ioa_value.specs.Plain.{Val, truth as truth_value, num}
+use Rattle.ioa_value.specs.Operators.{Answer, gives, faults, nothing, operate}
+use Rattle.ioa_syntax.specs.declared.tree.Operator.{Operator}
+use Rattle.ioa_syntax.specs.declared.tree.Operator.TheVariants.{Equal, Plus, Minus}
+use Rattle.ioa_syntax.specs.Tree.{Expr, number, truth, named, parens, binary, Stmt, assign}
+
+-- what each name stands for
+abbrev pub Env : Type 0
+Env = Name → Option Val
+
+abbrev pub nothing_known : Env
+nothing_known x = None
+
+-- the names, one after another, stand for the values
+abbrev pub values_of : List Name → List Val → Env
+values_of [] vs x = None
+values_of (n ∷ ns) [] x = None
+values_of (n ∷ ns) (v ∷ vs) x = if bytes_eq n x then Some v else values_of ns vs x
+
+abbrev pub or_else : {X : Type 0} → Option X → Option X → Option X
+or_else (Some v) o = Some v
+or_else None o = o
+
+-- the first environment, and the second for the names that it does not know
+abbrev pub over : Env → Env → Env
+over e f x = or_else (e x) (f x)
+
+-- the environment with one name's value replaced
+abbrev pub with_name : Env → Name → Val → Env
+with_name env x v y = if bytes_eq x y then Some v else env y
+
+-- the environment for these names alone
+abbrev pub kept : List Name → Env → Env
+kept names env x = if list_any (λ n. bytes_eq n x) names then env x else None
+
+-- goes on with a value; a fault stays
+abbrev pub then_value : Answer → (Val → Answer) → Answer
+then_value (gives v) go = go v
+then_value (faults f) go = faults f
+then_value nothing go = nothing
+
+abbrev pub value_of : Option Val → Answer
+value_of (Some v) = gives v
+value_of None = nothing
+
+abbrev pub op_of : Operator → Op
+op_of Equal = ops.Eq
+op_of Plus = ops.Add
+op_of Minus = ops.Sub
+
+-- the value of an expression, or its fault: operands go left to right and the first fault wins
+abbrev pub val : Expr → Env → Answer
+val (number n) env = gives (num (pos n))
+val (truth b) env = gives (truth_value b)
+val (named x) env = value_of (env x)
+val (parens e) env = val e env
+val (binary l o r) env = then_value (val l env) (λ x. then_value (val r env) (λ y. operate (op_of o) (x ∷ y ∷ [])))
+
+-- what statements leave: an environment, a fault, or nothing, where a name or a value is missing
+pub data Outcome : Type 0 where
+  becomes : Env → Outcome
+  breaks : Fault → Outcome
+  nowhere : Outcome
+
+-- an assignment replaces the value of a name that stands for one
+abbrev pub assigned : Name → Env → Answer → Option Val → Outcome
+assigned x env (gives v) (Some old) = becomes (with_name env x v)
+assigned x env (gives v) None = nowhere
+assigned x env (faults f) old = breaks f
+assigned x env nothing old = nowhere
+
+abbrev pub then_do : Outcome → (Env → Outcome) → Outcome
+then_do (becomes env) go = go env
+then_do (breaks f) go = breaks f
+then_do nowhere go = nowhere
+
+abbrev pub does : Stmt → Env → Outcome
+does (assign x e) env = assigned x env (val e env) (env x)
+
+-- statements in sequence
+abbrev pub eff : List Stmt → Env → Outcome
+eff [] env = becomes env
+eff (s ∷ ss) env = then_do (does s env) (λ next. eff ss next)

@@ -1,0 +1,207 @@
+-- Which sources are well formed.
+use Rattle.std.specs.Prelude.{ℕ, ◌+◌, ◌==◌, nat_le, Bool, true, false, not, ◌&&◌, ◌||◌, List, [], ◌∷◌, ◌++◌, map, filter, find, length, sum, Option, Some, None, pos, IsTrue, if◌then◌else◌, codes}
+use Rattle.std.specs.List.{list_any, list_all, flat_map}
+use Rattle.std.specs.Option.{option_map, option_map_or}
+use Rattle.std.specs.Str.{bytes_eq}
+use Rattle.ioa_value.specs.Actions.{Name}
+use Rattle.ioa_value.specs.Arithmetic.{fits}
+use Rattle.ioa_value.specs.Operators.{op_type}
+use Rattle.ioa_syntax.specs.declared.tree.Kind.{Kind}
+use Rattle.ioa_syntax.specs.declared.tree.Kind.TheVariants.{Input, Output, Internal}
+use Rattle.ioa_syntax.specs.Tree.{Expr, number, truth, named, parens, binary, FieldTree, PositionTree, typed, EntryTree, VariableTree, ProposalTree, Stmt, assign, TransitionTree, AutomatonTree, InstanceTree, CompositionTree, DeclarationTree, automaton, composition, SourceTree}
+use Rattle.ioa_syntax.specs.Meaning.{op_of}
+use Rattle.ioa_syntax.specs.Instances.{TypeTable, type_named, basic_table, field_names, variable_names, position_name}
+
+-- names with the numbers of their types
+abbrev pub Context : Type 0
+Context = List (Name × ℕ)
+
+abbrev pub type_in : Context → Name → Option ℕ
+type_in [] x = None
+type_in (p ∷ ps) x = if bytes_eq p.0 x then Some p.1 else type_in ps x
+
+abbrev pub both_types : Option ℕ → Option ℕ → (List ℕ → Option ℕ) → Option ℕ
+both_types (Some a) (Some b) f = f (a ∷ b ∷ [])
+both_types (Some a) None f = None
+both_types None o f = None
+
+-- the type of an expression, where it has one
+abbrev pub type_of : Context → Expr → Option ℕ
+type_of c (number n) = if fits (pos n) then Some 1 else None
+type_of c (truth b) = Some 0
+type_of c (named x) = type_in c x
+type_of c (parens e) = type_of c e
+type_of c (binary l o r) = both_types (type_of c l) (type_of c r) (op_type (op_of o))
+
+abbrev pub is_some_of : Option ℕ → ℕ → Bool
+is_some_of o ty = option_map_or (λ t. t == ty) o false
+
+-- both are there, and are one type
+abbrev pub same_type : Option ℕ → Option ℕ → Bool
+same_type (Some a) o = is_some_of o a
+same_type None o = false
+
+-- the expression has this type
+abbrev pub has_ty : Context → Expr → ℕ → Bool
+has_ty c e ty = is_some_of (type_of c e) ty
+
+-- the nodes of a tree; a pair of parentheses is one
+abbrev pub nodes : Expr → ℕ
+nodes (number n) = 1
+nodes (truth b) = 1
+nodes (named x) = 1
+nodes (parens e) = nodes e + 1
+nodes (binary l o r) = nodes l + nodes r + 1
+
+abbrev pub stmt_nodes : Stmt → ℕ
+stmt_nodes (assign x e) = nodes e + 1
+
+abbrev pub contains : List Name → Name → Bool
+contains ns x = list_any (λ n. bytes_eq n x) ns
+
+-- no name stands twice
+abbrev pub distinct : List Name → Bool
+distinct [] = true
+distinct (n ∷ ns) = not (contains ns n) && distinct ns
+
+-- no name of the first list is one of the second
+abbrev pub apart : List Name → List Name → Bool
+apart ns ms = list_all (λ n. not (contains ms n)) ns
+
+abbrev pub declared_name : DeclarationTree → Name
+declared_name (automaton a) = a.name
+declared_name (composition c) = c.name
+
+-- the names of the one global space
+abbrev pub global_names : SourceTree → List Name
+global_names s = basic_table.names ++ map declared_name s
+
+-- a type is declared
+abbrev pub is_type : TypeTable → FieldTree → Bool
+is_type t f = option_map_or (λ n. true) (type_named t f.ty) false
+
+abbrev pub typed_field : TypeTable → FieldTree → List (Name × ℕ)
+typed_field t f = option_map_or (λ n. (f.name, n) ∷ []) (type_named t f.ty) []
+
+-- the fields' names with their types
+abbrev pub context_of : TypeTable → List FieldTree → Context
+context_of t fs = flat_map (typed_field t) fs
+
+abbrev pub position_fields : List PositionTree → List FieldTree
+position_fields [] = []
+position_fields (typed f ∷ ps) = f ∷ position_fields ps
+
+abbrev pub variable_fields : AutomatonTree → List FieldTree
+variable_fields a = map (λ v. v.field) a.variables
+
+abbrev pub same_kind : Kind → Kind → Bool
+same_kind Input Input = true
+same_kind Output Output = true
+same_kind Internal Internal = true
+same_kind _ _ = false
+
+abbrev pub is_input : Kind → Bool
+is_input k = same_kind k Input
+
+module _ (t : TypeTable) (globals : List Name) (a : AutomatonTree) where
+  abbrev pub formals : Context
+  formals = context_of t a.formals
+
+  -- variables and formals: what proposals may name
+  abbrev pub held : Context
+  held = context_of t (variable_fields a) ++ formals
+
+  -- variables, formals and the entry's parameters: what preconditions and effects may name
+  abbrev pub scope : EntryTree → Context
+  scope e = held ++ context_of t (position_fields e.positions)
+
+  abbrev pub local_names : List Name
+  local_names = field_names a.formals ++ variable_names a
+
+  -- formals and variables have names of their own and known types
+  abbrev pub fields_fine : Bool
+  fields_fine = distinct local_names && apart local_names globals
+      && list_all (is_type t) a.formals && list_all (is_type t) (variable_fields a)
+
+  -- a start expression has its variable's type, and names formals alone
+  abbrev pub start_fine : VariableTree → Bool
+  start_fine v = option_map_or (λ e. same_type (type_of formals e) (type_named t v.field.ty)) v.start true
+
+  -- the parameters of an entry have names of their own and known types
+  abbrev pub entry_fine : EntryTree → Bool
+  entry_fine e = distinct (map position_name e.positions) && apart (map position_name e.positions) (globals ++ local_names)
+      && list_all (is_type t) (position_fields e.positions) && nat_le (length e.positions) 8
+
+  -- entry and transition are of one kind and one name
+  abbrev pub matches : EntryTree → TransitionTree → Bool
+  matches e r = same_kind e.kind r.kind && bytes_eq e.name r.name
+
+  -- each entry has one transition, and each transition an entry
+  abbrev pub one_to_one : Bool
+  one_to_one = list_all (λ e. length (filter (matches e) a.transitions) == 1) a.entries
+      && list_all (λ r. list_any (λ e. matches e r) a.entries) a.transitions
+
+  -- a precondition is a Bool over variables, formals and parameters
+  abbrev pub pre_fine : EntryTree → TransitionTree → Bool
+  pre_fine e r = option_map_or (λ p. has_ty (scope e) p 0 && nat_le (nodes p) 4096) r.pre true
+
+  -- a proposal is for a parameter of the entry, of its type, over variables and formals
+  abbrev pub proposal_fine : EntryTree → ProposalTree → Bool
+  proposal_fine e p = option_map_or (λ ty. has_ty held p.value ty) (type_in (context_of t (position_fields e.positions)) p.name) false
+
+  abbrev pub proposals_fine : EntryTree → TransitionTree → Bool
+  proposals_fine e r = list_all (proposal_fine e) r.proposals && distinct (map (λ p. p.name) r.proposals)
+      && nat_le (sum (map (λ p. nodes p.value) r.proposals)) 4096
+
+  -- each parameter that is no Bool has a proposal
+  abbrev pub all_proposed : EntryTree → TransitionTree → Bool
+  all_proposed e r = list_all (λ f. is_some_of (type_named t f.ty) 0 || contains (map (λ p. p.name) r.proposals) f.name) (position_fields e.positions)
+
+  -- an assignment is to a variable, of its type
+  abbrev pub stmt_fine : EntryTree → Stmt → Bool
+  stmt_fine e (assign x v) = option_map_or (λ ty. has_ty (scope e) v ty) (type_in (context_of t (variable_fields a)) x) false
+
+  abbrev pub effect_fine : EntryTree → TransitionTree → Bool
+  effect_fine e r = list_all (stmt_fine e) r.effect && nat_le (sum (map stmt_nodes r.effect)) 4096
+
+  -- an input has neither precondition nor proposals
+  abbrev pub input_fine : TransitionTree → Bool
+  input_fine r = option_map_or (λ p. false) r.pre true && (length r.proposals == 0)
+
+  abbrev pub transition_fine : EntryTree → TransitionTree → Bool
+  transition_fine e r = effect_fine e r && (if is_input r.kind then input_fine r else pre_fine e r && proposals_fine e r && all_proposed e r)
+
+  abbrev pub automaton_fine : Bool
+  automaton_fine = fields_fine && list_all start_fine a.variables
+      && distinct (map (λ e. e.name) a.entries) && list_all entry_fine a.entries
+      && one_to_one && list_all (λ e. list_all (λ r. not (matches e r) || transition_fine e r) a.transitions) a.entries
+      && nat_le (length a.formals) 8 && nat_le (length a.variables) 64 && nat_le (length a.entries) 64
+
+abbrev pub is_automaton_of : Name → DeclarationTree → Bool
+is_automaton_of x (automaton a) = bytes_eq a.name x
+is_automaton_of x (composition c) = false
+
+-- an instance is of an automaton declared before, and its arguments have types without any name
+abbrev pub instance_fine : SourceTree → InstanceTree → Bool
+instance_fine before i = list_any (is_automaton_of i.automaton) before
+    && list_all (λ e. option_map_or (λ ty. true) (type_of [] e) false) i.arguments
+
+abbrev pub composition_fine : SourceTree → CompositionTree → Bool
+composition_fine before c = distinct (map (λ i. i.name) c.instances) && list_all (instance_fine before) c.instances
+    && nat_le (length c.instances) 32
+
+module _ (globals : List Name) where
+  abbrev pub declaration_fine : SourceTree → DeclarationTree → Bool
+  declaration_fine before (automaton a) = automaton_fine basic_table globals a
+  declaration_fine before (composition c) = composition_fine before c
+
+  -- each declaration is fine over those before it
+  abbrev pub declarations_fine : SourceTree → SourceTree → Bool
+  declarations_fine before [] = true
+  declarations_fine before (d ∷ ds) = declaration_fine before d && declarations_fine (before ++ d ∷ []) ds
+
+abbrev pub well_formed : SourceTree → Bool
+well_formed s = distinct (global_names s) && nat_le (length s) 256 && declarations_fine (global_names s) [] s
+
+abbrev pub WellFormed : SourceTree → Type 0
+WellFormed s = IsTrue (well_formed s)
