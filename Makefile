@@ -1,0 +1,42 @@
+# Kettlesalmon: the compiler and runtime `ioac`.
+
+PREFIX ?= /usr/local
+PROGRAM := crates/ioac/out/ioac
+EXAMPLE := examples/counter
+
+.PHONY: all demo test examples bench install clean
+
+# Proves and builds the program.
+all: $(PROGRAM)
+
+$(PROGRAM): crates.txt $(wildcard crates/*/src/*.rt crates/*/src/*/*.rt)
+	cd crates/ioac && rt run -- replay counter.ioa < stdin > out/made.txt
+
+# Shows the main job on an example. Until `make` has run, the program is tried without its proofs.
+demo:
+	@if [ -x $(PROGRAM) ]; then \
+	  $(PROGRAM) replay $(EXAMPLE)/counter.ioa < $(EXAMPLE)/counts.list; \
+	else \
+	  echo "(the program is not proved here yet: this runs it unproved; 'make' proves it)" >&2; \
+	  cd crates/ioac && rt try -- replay counter.ioa < ../../$(EXAMPLE)/counts.list; \
+	fi
+
+# The whole gate.
+test:
+	rt ci
+	@sh examples/run.sh $(PROGRAM)
+
+# The examples on the program that stands.
+examples: all
+	@sh examples/run.sh $(PROGRAM)
+
+# Figures: how time grows with the list and with the source.
+bench: all
+	@sh bench/ratios.sh $(PROGRAM)
+
+install: all
+	install -d $(DESTDIR)$(PREFIX)/bin
+	install -m 755 $(PROGRAM) $(DESTDIR)$(PREFIX)/bin/ioac
+
+clean:
+	rm -rf crates/*/out

@@ -1,0 +1,27 @@
+use crate::store::{Store, StoreErr};
+use std::alloc::Global;
+use std::io::ErrorKind;
+use std::{fs, rt};
+
+/// The files that a runtime reaches.
+#[derive(Drop)]
+pub struct Files<'a, R> {
+    rt: &'a R,
+}
+
+impl<'a, R> Files<'a, R> {
+    /// The files of this runtime.
+    pub fn new(rt: &'a R) -> Files<'a, R> {
+        Files { rt }
+    }
+}
+
+impl<'a, R: rt::Files + AllocGlobal> Store for Files<'a, R> {
+    fn load(&mut self, _alloc: Global, name: &str) -> Result<Vec<u8>, StoreErr> {
+        match fs::read(self.rt, name) {
+            Ok(bytes) => Ok(bytes),
+            Err(error) if error.kind() == ErrorKind::OutOfMemory => Err(StoreErr::OutOfMemory),
+            Err(_) => Err(StoreErr::Io),
+        }
+    }
+}

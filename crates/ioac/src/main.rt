@@ -1,0 +1,36 @@
+//! `ioac`: checks, composes, compiles and replays I/O automata.
+#![tactic(auto)]
+
+mod command;
+mod failure;
+mod files;
+mod replay;
+mod request;
+mod store;
+#[cfg(test)]
+mod tests;
+
+use ioa_log::Counted;
+use std::process::ExitCode;
+use std::{env, io};
+
+fn main(rt: HostRuntime) -> io::Result<ExitCode> {
+    let alloc = rt.alloc();
+    let mut errors = rt.stderr();
+    let words: Vec<String> = match env::args(&rt) {
+        Ok(words) => words.collect(alloc)?,
+        Err(_) => return Ok(ExitCode::from(2)),
+    };
+    let mut store = files::Files::new(&rt);
+    let mut input = Counted::new(rt.stdin());
+    let mut output = Counted::new(rt.stdout());
+    let status = command::command(
+        alloc,
+        words.as_slice(),
+        &mut store,
+        &mut input,
+        &mut output,
+        &mut errors,
+    );
+    Ok(ExitCode::from(status))
+}

@@ -1,0 +1,63 @@
+use clap::{Arg, ArgMatches, Command, Error};
+use std::alloc::{AllocError, Global};
+use std::convert::AsStr;
+
+/// What a command line asks for.
+#[derive(Drop)]
+pub enum Request<'a> {
+    /// To replay the list on standard input in a composition of a source.
+    Replay {
+        file: &'a str,
+        composition: Option<&'a str>,
+    },
+}
+
+fn file_argument<'a>(alloc: Global) -> Arg<'a> {
+    Arg::new(alloc, "FILE")
+        .required(true)
+        .help("A source of I/O automata")
+}
+
+fn composition_option<'a>(alloc: Global) -> Arg<'a> {
+    Arg::new(alloc, "comp")
+        .long("comp")
+        .value_name("NAME")
+        .help("The composition to take; without it, the source's last one")
+}
+
+fn replay_command<'a>(alloc: Global) -> Result<Command<'a>, AllocError> {
+    Command::new(alloc, "replay")
+        .about("Performs a list of actions, read on standard input, and prints its external trace")
+        .after_help(
+            "The list has one action a line, as `tick(5)`. Blank lines and lines that begin with % are skipped.\n\
+             Exit status: 0 done, 1 source refused, 2 bad command line, 3 ended by a fault,\n\
+             4 list refused, or ended not enabled or not an action, 5 memory or a device.",
+        )
+        .arg(file_argument(alloc))?
+        .arg(composition_option(alloc))
+}
+
+fn program<'a>(alloc: Global) -> Result<Command<'a>, AllocError> {
+    Command::new(alloc, "ioac")
+        .about("Compiles I/O automata and replays lists of their actions")
+        .subcommand_required(true)
+        .arg_required_else_help(true)
+        .disable_help_subcommand(true)
+        .subcommand(replay_command(alloc)?)
+}
+
+/// Reads a command line, whose first word is the program's.
+pub fn parse<'a, S: AsStr>(alloc: Global, words: &'a [S]) -> Result<ArgMatches<'a>, Error> {
+    program(alloc)?.try_get_matches_from(words)
+}
+
+/// The request that a command line has. None where a word is missing, which a parse rules out.
+pub fn read_request<'a>(matches: &ArgMatches<'a>) -> Option<Request<'a>> {
+    let (name, found) = matches.subcommand()?;
+    let file = found.get_str("FILE")?;
+    let composition = found.get_str("comp");
+    match name {
+        "replay" => Some(Request::Replay { file, composition }),
+        _ => None,
+    }
+}

@@ -1,0 +1,3 @@
+mod rows;
+mod shelf;
+mod streams;
