@@ -5,3 +5,4 @@ pub mod Shapes
 pub mod Operators
 pub mod Actions
 pub mod Coded
+pub mod Names

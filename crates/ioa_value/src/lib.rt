@@ -4,6 +4,7 @@
 mod action;
 mod arithmetic;
 mod memory;
+mod names;
 mod operator;
 mod types;
 mod value;
@@ -11,6 +12,7 @@ mod value;
 pub use action::Action;
 pub use arithmetic::Fault;
 pub use memory::OutOfMemory;
+pub use names::is_name;
 pub use operator::{Op, apply};
 pub use types::{Types, first, has_type};
 pub use value::{Ty, Value, copies, same};
