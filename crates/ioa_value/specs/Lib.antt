@@ -6,3 +6,6 @@ pub mod Operators
 pub mod Actions
 pub mod Coded
 pub mod Names
+pub mod Written
+pub mod Reads
+pub mod Tokens

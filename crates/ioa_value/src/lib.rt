@@ -6,6 +6,8 @@ mod arithmetic;
 mod memory;
 mod names;
 mod operator;
+mod reading;
+mod tokens;
 mod types;
 mod value;
 
@@ -14,5 +16,6 @@ pub use arithmetic::Fault;
 pub use memory::OutOfMemory;
 pub use names::is_name;
 pub use operator::{Op, apply};
+pub use reading::read_action;
 pub use types::{Types, first, has_type};
 pub use value::{Ty, Value, copies, same};
