@@ -5,3 +5,4 @@ pub mod TokenLemmas
 pub mod SpellLemmas
 pub mod ReadLemmas
 pub mod ActionLemmas
+pub mod WrittenLemmas

@@ -10,6 +10,7 @@ mod reading;
 mod tokens;
 mod types;
 mod value;
+mod writing;
 
 pub use action::Action;
 pub use arithmetic::Fault;
@@ -19,3 +20,4 @@ pub use operator::{Op, apply};
 pub use reading::read_action;
 pub use types::{Types, first, has_type};
 pub use value::{Ty, Value, copies, same};
+pub use writing::print_action;
