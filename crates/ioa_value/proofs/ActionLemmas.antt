@@ -1,12 +1,12 @@
 -- An action's text begins with its name.
-use Rattle.std.proofs.Common.{◌≡◌, ℕ, List, [], ◌∷◌, ◌++◌, Option, Some, None, Result, Ok, Err, IfOk, IfNone, refl, sym, ap, subst, ◌∙◌}
+use Rattle.std.proofs.Common.{◌≡◌, ℕ, List, [], ◌∷◌, Option, Some, None, Result, Ok, Err, IfOk, IfNone, refl, sym, ap, subst, ◌∙◌}
 use Rattle.ioa_value.specs.Plain.{Val}
 use Rattle.ioa_value.specs.Typing.{Shape}
 use Rattle.ioa_value.specs.Actions.{Act}
 use Rattle.ioa_value.specs.Names.{IsName}
 use Rattle.ioa_value.specs.Reads.{Padded, Reads, ReadsValues, ReadsArguments}
 use Rattle.ioa_value.specs.Tokens.{first_word, after_first}
-use Rattle.ioa_value.proofs.TokenLemmas.{IsEnd, IsWord, finds_word, finds_rest, front}
+use Rattle.ioa_value.proofs.TokenLemmas.{IsEnd, finds_word, finds_rest, front}
 use Rattle.ioa_value.proofs.SpellLemmas.{name_is_word}
 
 ends : (types : List Shape) (rest : List ℕ) (vs : List Val) → ReadsArguments types rest vs → IsEnd rest
@@ -26,7 +26,7 @@ named types text a (n, (first, rest, p, r, e)) =
     record {
       legal = n;
       name = ap first_word e ∙ finds_word a.name first rest h p end;
-      arguments = subst (λ x. ReadsArguments types x a.vals) (sym (ap after_first e ∙ finds_rest a.name first rest h p end)) r
+      arguments = subst (λ x. ReadsArguments types x a.vals) (sym (ap after_first e ∙ finds_rest a.name first rest h p end)) r;
     }
 
 pub reads : (types : List Shape) (text : List ℕ) (a : Act) → IsName a.name → first_word text ≡ a.name → ReadsArguments types (after_first text) a.vals → Reads types text a

@@ -6,3 +6,4 @@ pub mod SpellLemmas
 pub mod ReadLemmas
 pub mod ActionLemmas
 pub mod WrittenLemmas
+pub mod ListLemmas

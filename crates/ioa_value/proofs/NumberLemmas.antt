@@ -1,5 +1,5 @@
 -- A word that spells a number is text.
-use Rattle.std.proofs.Common.{◌≡◌, ℕ, ◌<◌, ℤ, List, ◌∷◌, IsUtf8, sym, subst, arith, inl, inr}
+use Rattle.std.proofs.Common.{ℕ, ℤ, List, IsUtf8, sym, subst, arith, inl, inr}
 use Rattle.std.proofs.lemmas.Str.{IsUtf8-from_ascii}
 use Rattle.std.proofs.lemmas.Str.Ascii.{IsAscii-cons}
 use Rattle.std.proofs.lemmas.Fmt.{IsAscii-from_digits}

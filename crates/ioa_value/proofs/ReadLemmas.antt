@@ -4,7 +4,7 @@ use Rattle.ioa_value.specs.Plain.{Val}
 use Rattle.ioa_value.specs.Typing.{Shape}
 use Rattle.ioa_value.specs.Reads.{IsBlank, Spells, IsTyped, ReadsMore, ReadsValues}
 use Rattle.ioa_value.specs.Tokens.{first_word, after_first}
-use Rattle.ioa_value.proofs.TokenLemmas.{IsEnd, IsWord, finds_word, finds_rest, front}
+use Rattle.ioa_value.proofs.TokenLemmas.{IsEnd, finds_word, finds_rest, front}
 use Rattle.ioa_value.proofs.SpellLemmas.{spelled_is_word, spells_once}
 
 heads : (a b : ℕ) (xs ys : List ℕ) → a ∷ xs ≡ b ∷ ys → a ≡ b
@@ -33,7 +33,7 @@ begins types text v vs (first, rest, (w, s, t, p), m, e) =
     record {
       spelled = subst (λ x. Spells x v) (sym k) s;
       typed = t;
-      more = subst (λ x. ReadsMore types x vs) (sym k') m
+      more = subst (λ x. ReadsMore types x vs) (sym k') m;
     }
 
 pub joins : (types : List Shape) (text : List ℕ) (v : Val) (vs : List Val) → Begins types text v vs → ReadsValues types text (v ∷ vs)

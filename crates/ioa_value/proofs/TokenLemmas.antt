@@ -1,5 +1,5 @@
 -- A padded word is found again at the front of a text.
-use Rattle.std.proofs.Common.{◌≡◌, ℕ, ◌<◌, Bool, true, false, not, ◌&&◌, ◌||◌, ◌==◌, cond, IsTrue, List, [], ◌∷◌, ◌++◌, length, refl, sym, ap, subst, ◌∙◌, append_assoc, append-nil, length-append, arith}
+use Rattle.std.proofs.Common.{◌≡◌, ℕ, ◌<◌, Bool, true, false, not, ◌&&◌, ◌||◌, List, [], ◌∷◌, ◌++◌, length, refl, sym, ap, ◌∙◌, append_assoc, append-nil, length-append, arith}
 use Rattle.std.specs.List.{list_all}
 use Rattle.ioa_value.specs.Reads.{is_blank, IsBlank, Padded}
 use Rattle.ioa_value.specs.Tokens.{is_mark, is_inside, after_blanks, word, after_word, first_word, after_first}
@@ -108,7 +108,7 @@ front text =
     let a = blanks (after_word (after_blanks text)) in
     let w = first_word text in
     let whole : text ≡ b.0 ++ (w ++ (a.0 ++ after_first text)) =
-        b.2 ∙ ap (λ l. b.0 ++ l) (words (after_blanks text)) ∙ ap (λ l. b.0 ++ (w ++ l)) a.2 in
+    b.2 ∙ ap (λ l. b.0 ++ l) (words (after_blanks text)) ∙ ap (λ l. b.0 ++ (w ++ l)) a.2 in
     (b.0 ++ (w ++ a.0), (b.0, a.0, b.1, a.1, refl), whole ∙ sym (regroup b.0 w a.0 (after_first text)))
 
 pub shorter : (text : List ℕ) (b : ℕ) (rest : List ℕ) → after_first text ≡ b ∷ rest → length rest < length text

@@ -9,3 +9,4 @@ pub mod Names
 pub mod Written
 pub mod Reads
 pub mod Tokens
+pub mod Lists

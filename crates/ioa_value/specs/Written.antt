@@ -1,5 +1,5 @@
 -- The one spelling of a value and of an action.
-use Rattle.std.specs.Prelude.{ℕ, Bool, true, false, List, [], ◌∷◌, ◌++◌, codes}
+use Rattle.std.specs.Prelude.{ℕ, true, false, List, [], ◌∷◌, ◌++◌, codes}
 use Rattle.std.specs.Fmt.{signed_decimal}
 use Rattle.ioa_value.specs.Plain.{Val, truth, num, name, tuple, items}
 use Rattle.ioa_value.specs.Actions.{Act}

@@ -3,6 +3,7 @@
 
 mod action;
 mod arithmetic;
+mod listing;
 mod memory;
 mod names;
 mod operator;
@@ -14,6 +15,7 @@ mod writing;
 
 pub use action::Action;
 pub use arithmetic::Fault;
+pub use listing::{is_skipped, read_list};
 pub use memory::OutOfMemory;
 pub use names::is_name;
 pub use operator::{Op, apply};

@@ -15,11 +15,7 @@ use std::alloc::Global;
 /// The action that the text says, where it is the text of an action whose values have types among
 /// these. Blanks (spaces, tabs and CR) may stand between tokens and at both ends, and numbers may
 /// have zeros in front.
-pub fn read_action(
-    alloc: Global,
-    types: &Types,
-    text: &[u8],
-) -> Result<Option<Action>, OutOfMemory>
+pub fn read_action(alloc: Global, types: &Types, text: &[u8]) -> Result<Option<Action>, OutOfMemory>
     ensures found { IfOk result (λ r. IfSome r (λ a. Reads types.now text.now (act_of a))) }
     ensures none { IfOk result (λ r. IfNone r ((a : Act) → Reads types.now text.now a → ⊥)) }
 {
@@ -58,11 +54,7 @@ fn read_arguments(
 }
 
 /// One value or more, parted by `,`, up to `)` and the end.
-fn read_values(
-    alloc: Global,
-    types: &Types,
-    text: &[u8],
-) -> Result<Option<Vec<Value>>, OutOfMemory>
+fn read_values(alloc: Global, types: &Types, text: &[u8]) -> Result<Option<Vec<Value>>, OutOfMemory>
     ensures found { IfOk result (λ r. IfSome r (λ vals. ReadsValues types.now text.now (map plain vals.items))) }
     ensures none { IfOk result (λ r. IfNone r ((vs : List Val) → ReadsValues types.now text.now vs → ⊥)) }
 {

@@ -11,11 +11,7 @@ use std::alloc::Global;
 
 /// The one spelling of an action: its name, and for one value or more `(`, the values parted by
 /// `, `, and `)`.
-pub fn print_action(
-    alloc: Global,
-    _types: &Types,
-    action: &Action,
-) -> Result<String, OutOfMemory>
+pub fn print_action(alloc: Global, _types: &Types, action: &Action) -> Result<String, OutOfMemory>
     ensures { IfOk result (λ text. string_bytes text ≡ written_action (act_of action.now)) }
 {
     let mut text = String::from_str(alloc, action.name.as_str())?;

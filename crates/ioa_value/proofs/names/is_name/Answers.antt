@@ -1,5 +1,4 @@
-use Rattle.std.proofs.Common.{rules, arith}
-use Rattle.std.proofs.lemmas.Grind.{common_steps}
+use Rattle.std.proofs.Common.{rules}
 use Rattle.ioa_value.specs.Names as spec
 use Rattle.ioa_value.proofs.names.is_name.Goals as goal
 

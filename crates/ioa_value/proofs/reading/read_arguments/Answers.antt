@@ -1,4 +1,4 @@
-use Rattle.std.proofs.Common.{◌≡◌, List, ◌∷◌, ap, subst}
+use Rattle.std.proofs.Common.{List, subst}
 use Rattle.ioa_value.specs.Plain.{Val}
 use Rattle.ioa_value.specs.Reads.{ReadsArguments, ReadsValues}
 use Rattle.ioa_value.proofs.ActionLemmas.{inner, none_passes}

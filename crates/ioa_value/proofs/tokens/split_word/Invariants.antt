@@ -6,7 +6,7 @@ abbrev pub invariant-loop-at : goal.invariant-loop-at
 invariant-loop-at l = record {
   within : l.at ≤ length l.text;
   before : take l.at l.text ++ word (drop l.at l.text) ≡ word l.text;
-  after : after_word (drop l.at l.text) ≡ after_word l.text
+  after : after_word (drop l.at l.text) ≡ after_word l.text;
 }
 
 abbrev pub decreases-loop-at : goal.decreases-loop-at
