@@ -7,3 +7,4 @@ pub mod ReadLemmas
 pub mod ActionLemmas
 pub mod WrittenLemmas
 pub mod ListLemmas
+pub mod OnceLemmas

@@ -10,7 +10,7 @@ use Rattle.ioa_value.proofs.SpellLemmas.{spelled_is_word, spells_once}
 heads : (a b : ℕ) (xs ys : List ℕ) → a ∷ xs ≡ b ∷ ys → a ≡ b
 heads a b xs ys e = cc
 
-apart : (xs ys : List ℕ) → 41 ∷ xs ≡ 44 ∷ ys → ⊥
+pub apart : (xs ys : List ℕ) → 41 ∷ xs ≡ 44 ∷ ys → ⊥
 apart xs ys e = omega (arith, heads 41 44 xs ys e)
 
 -- before a mark

@@ -3,6 +3,7 @@
 
 mod action;
 mod arithmetic;
+mod laws;
 mod listing;
 mod memory;
 mod names;
@@ -15,6 +16,7 @@ mod writing;
 
 pub use action::Action;
 pub use arithmetic::Fault;
+pub use laws::{one_action, written_is_read};
 pub use listing::{is_skipped, read_list};
 pub use memory::OutOfMemory;
 pub use names::is_name;

@@ -1,4 +1,4 @@
-ghost use Rattle.std.specs.Prelude.{◌≡◌, ℤ, List, IsTrue, IfSome, IfNone, IfOk, map};
+ghost use Rattle.std.specs.Prelude.{◌≡◌, ℤ, List, IsTrue, IfSome, IfNone, IfOk, IsSomeAnd, map};
 ghost use Rattle.ioa_value.specs.Plain.{Val, plain};
 ghost use Rattle.ioa_value.specs.Arithmetic.{fits};
 ghost use Rattle.ioa_value.specs.Actions.{Act, act_of};
@@ -18,6 +18,7 @@ use std::alloc::Global;
 pub fn read_action(alloc: Global, types: &Types, text: &[u8]) -> Result<Option<Action>, OutOfMemory>
     ensures found { IfOk result (λ r. IfSome r (λ a. Reads types.now text.now (act_of a))) }
     ensures none { IfOk result (λ r. IfNone r ((a : Act) → Reads types.now text.now a → ⊥)) }
+    ensures only { (a : Act) → Reads types.now text.now a → IfOk result (λ r. IsSomeAnd r (λ b. act_of b ≡ a)) }
 {
     let front = first_word(text);
     if !is_name(front.word) {

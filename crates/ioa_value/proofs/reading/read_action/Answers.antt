@@ -6,6 +6,7 @@ use Rattle.ioa_value.specs.Names.{is_name, IsName}
 use Rattle.ioa_value.specs.Reads.{ReadsArguments}
 use Rattle.ioa_value.proofs.SpellLemmas.{name_is_text}
 use Rattle.ioa_value.proofs.ActionLemmas.{named, reads}
+use Rattle.ioa_value.proofs.OnceLemmas.{reads_once}
 use Rattle.ioa_value.proofs.reading.read_action.Goals as goal
 
 pub returns-then-not-is_name-clause-none : goal.returns-then-not-is_name-clause-none
@@ -33,3 +34,15 @@ returns-clause-found c =
     (subst IsName (sym name) legal)
     (sym c.first_word-front.ensures.word ∙ sym name)
     (subst (λ x. ReadsArguments c.args.types.now x (map plain c.in-Some.vals.items)) c.first_word-front.ensures.rest args)
+
+pub returns-then-not-is_name-clause-only : goal.returns-then-not-is_name-clause-only
+returns-then-not-is_name-clause-only c = returns-then-not-is_name-clause-none c
+
+pub returns-in_default-clause-only : goal.returns-in_default-clause-only
+returns-in_default-clause-only c = returns-in_default-clause-none c
+
+pub returns-in_default-2-clause-only : goal.returns-in_default-2-clause-only
+returns-in_default-2-clause-only c = returns-in_default-2-clause-none c
+
+pub returns-clause-only : goal.returns-clause-only
+returns-clause-only c = λ a r. reads_once c.args.types.now c.args.text.now _ a (returns-clause-found c) r
