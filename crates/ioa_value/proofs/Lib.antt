@@ -8,3 +8,4 @@ pub mod ActionLemmas
 pub mod WrittenLemmas
 pub mod ListLemmas
 pub mod OnceLemmas
+pub mod ListOnceLemmas

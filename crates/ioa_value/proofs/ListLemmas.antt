@@ -3,6 +3,7 @@ use Rattle.std.proofs.Common.{◌≡◌, ◌⊎◌, ℕ, ◌+◌, ◌<◌, ◌�
 use Rattle.std.specs.List.{onto_first}
 use Rattle.std.proofs.lemmas.List.Elements.{All-nil, All-cons}
 use Rattle.std.proofs.lemmas.Bool.{false≢true}
+use Rattle.std.proofs.lemmas.Bool.Decides.{nat_tests}
 use Rattle.ioa_value.specs.Typing.{Shape}
 use Rattle.ioa_value.specs.Actions.{Act}
 use Rattle.ioa_value.specs.Reads.{Reads}
@@ -53,7 +54,7 @@ one_more types (l ∷ ls) ks xs ys (inl h) r = inl (h.0, one_more types ls ks xs
 one_more types (l ∷ ls) ks xs ys (inr (a, more, h, m, e)) r =
     inr (a, more ++ ys, h, one_more types ls ks more ys m r, ap (λ zs. zs ++ ys) e)
 
-good : (types : List Shape) (ls : List (List ℕ)) (acts : List Act) → ReadsLines types ls acts → All (IsLine types) ls
+pub good : (types : List Shape) (ls : List (List ℕ)) (acts : List Act) → ReadsLines types ls acts → All (IsLine types) ls
 good types [] acts r = All-nil (IsLine types)
 good types (l ∷ ls) acts (inl h) = All-cons (IsLine types) l ls (inl h.0) (good types ls acts h.1)
 good types (l ∷ ls) acts (inr (a, more, h, m, e)) = All-cons (IsLine types) l ls (inr (a, h)) (good types ls more m)
@@ -98,3 +99,9 @@ module _ (types : List Shape) (text : List ℕ) (count : ℕ) (acts : List Act) 
 pub not_empty : (xs : List ℕ) (r : Bool) → r ≡ false → r ≡ (length xs == 0) → 0 < length xs
 not_empty [] r e f = absurd (false≢true (sym e ∙ f))
 not_empty (x ∷ xs) r e f = omega arith
+
+zero_at : (n : ℕ) → (n == 0) ≡ true → n ≡ 0
+zero_at n e = grind (arith, nat_tests)
+
+pub empty : (xs : List ℕ) (r : Bool) → r ≡ true → r ≡ (length xs == 0) → length xs ≡ 0
+empty xs r e f = zero_at (length xs) (sym f ∙ e)

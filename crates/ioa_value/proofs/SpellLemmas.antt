@@ -126,3 +126,7 @@ unfolding is_name
 name_is_text w h =
     let p = two (begins_with_letter w) (list_all is_word_byte w) (nat_le (length w) 64) (not (is_reserved w)) h in
     IsUtf8-from_ascii w (word_bytes_ascii w p.1)
+
+pub begins_name : (w : List ℕ) → IsName w → begins_with_letter w ≡ true
+unfolding is_name
+begins_name w h = (two (begins_with_letter w) (list_all is_word_byte w) (nat_le (length w) 64) (not (is_reserved w)) h).0

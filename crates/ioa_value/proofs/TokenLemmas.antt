@@ -26,7 +26,7 @@ not_blank m false e = refl
 not_inside : (m b : Bool) → b ≡ true → not (b || m) ≡ false
 not_inside m b e = rw e refl
 
-skip : (before rest : List ℕ) → list_all is_blank before ≡ true → after_blanks (before ++ rest) ≡ after_blanks rest
+pub skip : (before rest : List ℕ) → list_all is_blank before ≡ true → after_blanks (before ++ rest) ≡ after_blanks rest
 skip [] rest e = refl
 skip (b ∷ bs) rest e =
     let p = both (is_blank b) (list_all is_blank bs) e in

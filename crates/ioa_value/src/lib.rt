@@ -16,7 +16,7 @@ mod writing;
 
 pub use action::Action;
 pub use arithmetic::Fault;
-pub use laws::{one_action, written_is_read};
+pub use laws::{no_bad_line, one_action, one_list, written_is_read};
 pub use listing::{is_skipped, read_list};
 pub use memory::OutOfMemory;
 pub use names::is_name;

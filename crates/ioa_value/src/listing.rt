@@ -1,5 +1,5 @@
-ghost use Rattle.std.specs.Prelude.{◌≡◌, IfOk, IfErr, map};
-ghost use Rattle.ioa_value.specs.Actions.{act_of};
+ghost use Rattle.std.specs.Prelude.{◌≡◌, ℕ, List, IfOk, IfErr, IsOkAnd, IsErrAnd, map};
+ghost use Rattle.ioa_value.specs.Actions.{Act, act_of};
 ghost use Rattle.ioa_value.specs.Lists as spec;
 
 use crate::action::Action;
@@ -19,6 +19,8 @@ pub fn read_list(
 ) -> Result<Result<Vec<Action>, u64>, OutOfMemory>
     ensures list { IfOk result (λ r. IfOk r (λ list. spec.ReadsList types.now text.now (map act_of list.items))) }
     ensures bad { IfOk result (λ r. IfErr r (λ n. spec.BadLine types.now text.now n)) }
+    ensures only { (acts : List Act) → spec.ReadsList types.now text.now acts → IfOk result (λ r. IsOkAnd r (λ list. map act_of list.items ≡ acts)) }
+    ensures only_bad { (n : ℕ) → spec.BadLine types.now text.now n → IfOk result (λ r. IsErrAnd r (λ m. m ≡ n)) }
 {
     let mut list = Vec::new(alloc);
     let mut count = 0;

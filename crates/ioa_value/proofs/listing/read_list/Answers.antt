@@ -1,9 +1,10 @@
 use Rattle.std.proofs.Common.{◌∷◌, [], ◌+◌, ◌<◌, map, sym, ap, subst, ◌∙◌, length, arith}
 use Rattle.std.proofs.lemmas.List.{map-append}
 use Rattle.ioa_value.specs.Actions.{act_of}
-use Rattle.ioa_value.specs.Lists.{is_skipped, after_line}
+use Rattle.ioa_value.specs.Lists.{lines, is_skipped, after_line}
 use Rattle.ioa_value.specs.Reads.{Reads}
-use Rattle.ioa_value.proofs.ListLemmas.{ReadTo, shorter, skipped, performed, broken, not_empty}
+use Rattle.ioa_value.proofs.ListLemmas.{ReadTo, shorter, skipped, performed, broken, finished, not_empty, empty}
+use Rattle.ioa_value.proofs.ListOnceLemmas.{no_bad_line, one_bad_line, lines_once}
 use Rattle.ioa_value.proofs.listing.read_list.Goals as goal
 
 pub returns-in_default-clause-bad : goal.returns-in_default-clause-bad
@@ -52,3 +53,21 @@ loop-rest-preserved c =
           (subst (λ xs. ReadTo c.args.types.now c.args.text.now (c.loop-rest.count + 1) xs (after_line c.loop-rest.rest.now)) (sym all) here);
       within = omega (arith, same, shorter c.loop-rest.rest.now long);
     }
+
+pub returns-in_default-clause-only : goal.returns-in_default-clause-only
+returns-in_default-clause-only c = λ acts r. no_bad_line c.args.types.now c.args.text.now acts _ r (returns-in_default-clause-bad c)
+
+pub returns-in_default-clause-only_bad : goal.returns-in_default-clause-only_bad
+returns-in_default-clause-only_bad c = λ n b. one_bad_line c.args.types.now c.args.text.now _ n (returns-in_default-clause-bad c) b
+
+pub returns-clause-list : goal.returns-clause-list
+returns-clause-list c =
+    finished c.args.types.now c.args.text.now c.loop-rest.count (map act_of c.loop-rest.list.items) c.loop-rest.rest.now
+    c.loop-rest.invariant.read
+    (empty c.loop-rest.rest.now c.is_empty.result c.loop-rest-test.false c.is_empty.ensures)
+
+pub returns-clause-only : goal.returns-clause-only
+returns-clause-only c = λ acts r. lines_once c.args.types.now (lines c.args.text.now) _ acts (returns-clause-list c) r
+
+pub returns-clause-only_bad : goal.returns-clause-only_bad
+returns-clause-only_bad c = λ n b. no_bad_line c.args.types.now c.args.text.now _ n (returns-clause-list c) b
