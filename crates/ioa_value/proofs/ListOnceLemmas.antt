@@ -1,12 +1,12 @@
 -- A list text has one list of actions, or one first bad line.
-use Rattle.std.proofs.Common.{◌≡◌, ◌⊎◌, ℕ, suc, ◌+◌, ◌<◌, Bool, true, false, ◌&&◌, ◌||◌, ◌==◌, not, nat_le, IsTrue, List, [], ◌∷◌, ◌++◌, length, All, refl, sym, ap, ap₂, subst, ◌∙◌, append-nil, arith, inl, inr}
+use Rattle.std.proofs.Common.{◌≡◌, ◌⊎◌, ℕ, suc, ◌+◌, Bool, true, false, ◌||◌, ◌==◌, List, [], ◌∷◌, ◌++◌, length, All, refl, sym, ap, ap₂, subst, ◌∙◌, append-nil, arith, inl, inr}
 use Rattle.std.specs.List.{list_all}
 use Rattle.std.proofs.lemmas.Bool.{false≢true}
 use Rattle.std.proofs.lemmas.Bool.Decides.{nat_tests}
 use Rattle.std.proofs.lemmas.List.Elements.{All-head, All-tail, All-same}
 use Rattle.ioa_value.specs.Typing.{Shape}
 use Rattle.ioa_value.specs.Actions.{Act}
-use Rattle.ioa_value.specs.Names.{IsName, is_name, is_reserved, is_letter, is_word_byte, begins_with_letter}
+use Rattle.ioa_value.specs.Names.{begins_with_letter}
 use Rattle.ioa_value.specs.Reads.{is_blank, Reads}
 use Rattle.ioa_value.specs.Tokens.{after_blanks, word, first_word}
 use Rattle.ioa_value.specs.Lists.{lines, begins_comment, is_skipped, ReadsLines, ReadsList, IsLine, BadLine}

@@ -1,5 +1,5 @@
 -- A text is read in at most one way, and what is written is read.
-use Rattle.std.proofs.Common.{◌≡◌, ℕ, suc, ◌<◌, ◌^◌, Bool, true, false, pos, negsuc, neg_ℤ, IsTrue, List, [], ◌∷◌, ◌++◌, All, refl, sym, ap, ap₂, subst, ◌∙◌, append_assoc, append-nil, arith, inl, inr}
+use Rattle.std.proofs.Common.{◌≡◌, ℕ, suc, ◌<◌, ◌^◌, true, false, pos, negsuc, neg_ℤ, IsTrue, List, [], ◌∷◌, ◌++◌, All, refl, sym, ap, ap₂, subst, ◌∙◌, append_assoc, append-nil, arith, inl, inr}
 use Rattle.std.specs.Fmt.{decimal}
 use Rattle.std.proofs.lemmas.Fmt.{decimal_is_IsNumeral}
 use Rattle.std.proofs.lemmas.List.Elements.{All-head, All-tail}
@@ -80,9 +80,13 @@ after_read types [] h = ([], refl, refl)
 after_read types (v ∷ vs) h =
     let t = All-head (IsTyped types) v vs h in
     let w = written_value v in
-    let value : ReadsValue types (32 ∷ w) v = (w, spelled types v t, t, (32 ∷ [], [], refl, refl, ap (λ l. 32 ∷ l) (sym (append-nil w)))) in
-    (32 ∷ w, written_after vs ++ 41 ∷ [], value, after_read types vs (All-tail (IsTyped types) v vs h),
-        ap (λ l. 44 ∷ 32 ∷ l) (append_assoc w (written_after vs) (41 ∷ [])))
+    let value : ReadsValue types (32 ∷ w) v = (w, spelled types v t, t, (32 ∷ [], [], refl, refl, ap (λ l. 32 ∷ l) (sym (append-nil w)))) in (
+      32 ∷ w,
+      written_after vs ++ 41 ∷ [],
+      value,
+      after_read types vs (All-tail (IsTyped types) v vs h),
+      ap (λ l. 44 ∷ 32 ∷ l) (append_assoc w (written_after vs) (41 ∷ [])),
+    )
 
 arguments_read : (types : List Shape) (vs : List Val) → All (IsTyped types) vs → ReadsArguments types (written_values vs) vs
 arguments_read types [] h = refl

@@ -11,23 +11,19 @@ ghost use Rattle.ioa_value.specs.Reads.{Reads, IsTyped};
 /// A list text has no bad line.
 pub fn no_bad_line()
     ensures { (types : List Shape) (text : List ℕ) (acts : List Act) (n : ℕ) → ReadsList types text acts → BadLine types text n → ⊥ }
-{
-}
+{}
 
 /// A text is read as at most one action.
 pub fn one_action()
     ensures { (types : List Shape) (text : List ℕ) (a b : Act) → Reads types text a → Reads types text b → a ≡ b }
-{
-}
+{}
 
 /// A list text has one list of actions at most.
 pub fn one_list()
     ensures { (types : List Shape) (text : List ℕ) (xs ys : List Act) → ReadsList types text xs → ReadsList types text ys → xs ≡ ys }
-{
-}
+{}
 
 /// What is written of an action with a legal name and typed values is read as that action.
 pub fn written_is_read()
     ensures { (types : List Shape) (a : Act) → IsName a.name → All (IsTyped types) a.vals → Reads types (written_action a) a }
-{
-}
+{}
