@@ -1,3 +1,12 @@
 pub mod PlainLemmas
 pub mod SameLemmas
 pub mod TestLemmas
+pub mod NumberLemmas
+pub mod TokenLemmas
+pub mod SpellLemmas
+pub mod ReadLemmas
+pub mod ActionLemmas
+pub mod WrittenLemmas
+pub mod ListLemmas
+pub mod OnceLemmas
+pub mod ListOnceLemmas

@@ -6,3 +6,8 @@ pub mod Operators
 pub mod Actions
 pub mod Coded
 pub mod Tests
+pub mod Names
+pub mod Written
+pub mod Reads
+pub mod Tokens
+pub mod Lists

@@ -1,0 +1,5 @@
+use Rattle.ioa_value.proofs.OnceLemmas.{reads_once}
+use Rattle.ioa_value.proofs.laws.one_action.Goals as goal
+
+pub returns : goal.returns
+returns c = reads_once
