@@ -3,6 +3,7 @@
 
 mod run;
 mod state;
+mod step;
 
 pub use run::{effect, enabled};
 pub use state::{NodeState, from_values, state_values};

@@ -1,0 +1,6 @@
+pub mod NameLemmas
+pub mod ViewLemmas
+pub mod SayLemmas
+pub mod ScopeLemmas
+pub mod FineLemmas
+pub mod GlobalLemmas

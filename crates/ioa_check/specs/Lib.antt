@@ -1,0 +1,5 @@
+pub mod Verdicts
+pub mod Globals
+pub mod Fields
+pub mod Scopes
+pub mod Sizes

@@ -1,0 +1,132 @@
+ghost use Rattle.std.specs.Prelude.{◌≡◌, ◌&&◌, ◌++◌, [], map, length, nat_le};
+ghost use Rattle.std.specs.List.{list_all};
+ghost use Rattle.ioa_syntax.specs.View.{automaton_of, entry_of, variable_of};
+ghost use Rattle.ioa_syntax.specs.Instances.{basic_table, position_name};
+ghost use Rattle.ioa_syntax.specs.WellFormed as well_formed;
+ghost use Rattle.ioa_check.specs.Globals.{texts};
+ghost use Rattle.ioa_check.specs.Verdicts.{Says};
+
+use crate::expressions::{line_of, type_of};
+use crate::fields::{type_named, types_known};
+use crate::globals::apart_from_globals;
+use crate::names::{apart, at_most, distinct};
+use crate::scope::Scope;
+use crate::transitions::{one_to_one, transitions_fine};
+use indexmap::IndexSet;
+use ioa_syntax::{Automaton, Entry, Refusal, Variable};
+
+/// Whether an automaton is well formed beside these global names.
+pub(crate) fn automaton_fine(automaton: &Automaton, globals: &IndexSet<&str>) -> Result<(), Refusal>
+    ensures { Says result (well_formed.automaton_fine basic_table (texts globals.now) (automaton_of automaton.now)) }
+{
+    limits_kept(automaton)?;
+    fields_fine(automaton, globals)?;
+    starts_fine(automaton)?;
+    entries_fine(automaton, globals)?;
+    one_to_one(automaton)?;
+    transitions_fine(automaton)
+}
+
+/// Whether there are no more formals, variables and entries than the limits.
+fn limits_kept(automaton: &Automaton) -> Result<(), Refusal>
+    ensures { let a = automaton_of automaton.now in Says result (nat_le (length a.formals) 8 && nat_le (length a.variables) 64 && nat_le (length a.entries) 64) }
+{
+    at_most(&automaton.formals, 8)?;
+    at_most(&automaton.variables, 64)?;
+    at_most(&automaton.entries, 64)
+}
+
+/// Whether formals and variables have names of their own and known types.
+#[tactic(auto, using(crate::proofs::ViewLemmas::views))]
+fn fields_fine(automaton: &Automaton, globals: &IndexSet<&str>) -> Result<(), Refusal>
+    ensures { Says result (well_formed.fields_fine basic_table (texts globals.now) (automaton_of automaton.now)) }
+{
+    names_distinct(automaton)?;
+    names_apart(automaton, globals)?;
+    types_known(&automaton.formals)?;
+    types_known(&automaton.variables)
+}
+
+#[tactic(auto, using(crate::proofs::ViewLemmas::views, crate::proofs::NameLemmas::joins))]
+fn names_distinct(automaton: &Automaton) -> Result<(), Refusal>
+    ensures { Says result (well_formed.distinct (well_formed.local_names basic_table [] (automaton_of automaton.now))) }
+{
+    distinct(&automaton.formals)?;
+    distinct(&automaton.variables)?;
+    apart(&automaton.variables, &automaton.formals)
+}
+
+#[tactic(auto, using(crate::proofs::ViewLemmas::views, crate::proofs::NameLemmas::joins))]
+fn names_apart(automaton: &Automaton, globals: &IndexSet<&str>) -> Result<(), Refusal>
+    ensures { Says result (well_formed.apart (well_formed.local_names basic_table [] (automaton_of automaton.now)) (texts globals.now)) }
+{
+    apart_from_globals(&automaton.formals, globals)?;
+    apart_from_globals(&automaton.variables, globals)
+}
+
+/// Whether each start expression has its variable's type.
+fn starts_fine(automaton: &Automaton) -> Result<(), Refusal>
+    ensures { let a = automaton_of automaton.now in Says result (list_all (well_formed.start_fine basic_table [] a) a.variables) }
+{
+    for variable in &automaton.variables {
+        start_fine(automaton, variable)?;
+    }
+    Ok(())
+}
+
+fn start_fine(automaton: &Automaton, variable: &Variable) -> Result<(), Refusal>
+    ensures { Says result (well_formed.start_fine basic_table [] (automaton_of automaton.now) (variable_of variable.now)) }
+{
+    match &variable.start {
+        None => Ok(()),
+        Some(start) => {
+            let own = type_of(&Scope::of_starts(automaton), start)?;
+            match type_named(&variable.field.ty) {
+                Some(ty) if ty.0 == own.0 => Ok(()),
+                _ => Err(Refusal::TypeMismatch(line_of(start))),
+            }
+        }
+    }
+}
+
+/// Whether entries have names of their own, and parameters with names of their own and known types.
+#[tactic(auto, using(crate::proofs::ViewLemmas::views))]
+fn entries_fine(automaton: &Automaton, globals: &IndexSet<&str>) -> Result<(), Refusal>
+    ensures { let a = automaton_of automaton.now in Says result (well_formed.distinct (map (λ e. e.name) a.entries) && list_all (well_formed.entry_fine basic_table (texts globals.now) a) a.entries) }
+{
+    distinct(&automaton.entries)?;
+    each_entry_fine(automaton, globals)
+}
+
+fn each_entry_fine(automaton: &Automaton, globals: &IndexSet<&str>) -> Result<(), Refusal>
+    ensures { let a = automaton_of automaton.now in Says result (list_all (well_formed.entry_fine basic_table (texts globals.now) a) a.entries) }
+{
+    for entry in &automaton.entries {
+        entry_fine(automaton, entry, globals)?;
+    }
+    Ok(())
+}
+
+#[tactic(auto, using(crate::proofs::ViewLemmas::views))]
+fn entry_fine(automaton: &Automaton, entry: &Entry, globals: &IndexSet<&str>) -> Result<(), Refusal>
+    ensures { Says result (well_formed.entry_fine basic_table (texts globals.now) (automaton_of automaton.now) (entry_of entry.now)) }
+{
+    at_most(&entry.positions, 8)?;
+    distinct(&entry.positions)?;
+    parameters_apart(automaton, entry, globals)?;
+    types_known(&entry.positions)
+}
+
+#[tactic(auto, using(crate::proofs::ViewLemmas::views, crate::proofs::NameLemmas::joins))]
+fn parameters_apart(
+    automaton: &Automaton,
+    entry: &Entry,
+    globals: &IndexSet<&str>,
+) -> Result<(), Refusal>
+    ensures { let a = automaton_of automaton.now in
+        Says result (well_formed.apart (map position_name (entry_of entry.now).positions) (texts globals.now ++ well_formed.local_names basic_table [] a)) }
+{
+    apart_from_globals(&entry.positions, globals)?;
+    apart(&entry.positions, &automaton.formals)?;
+    apart(&entry.positions, &automaton.variables)
+}

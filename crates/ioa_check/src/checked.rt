@@ -1,0 +1,59 @@
+ghost use Rattle.std.specs.Prelude.{◌≡◌, ◌≢◌, true, IfOk, IfErr, OnOk};
+ghost use Rattle.ioa_syntax.specs.View.{tree_of};
+ghost use Rattle.ioa_syntax.specs.WellFormed.{WellFormed};
+ghost use Rattle.ioa_check.specs.Verdicts.{is_fault};
+ghost use Rattle.ioa_lex.specs.declared.refusal.Refusal.TheVariants.{OutOfMemory};
+
+use crate::declarations::source_fine;
+use ioa_syntax::{Declaration, Refusal, Source};
+use std::alloc::Global;
+use std::marker::Model;
+
+/// A source that is well formed.
+#[derive(Drop)]
+pub struct Checked {
+    source: Source,
+}
+
+impl Model for Checked {
+    ghost use Rattle.std.specs.Prelude.{List};
+    ghost use Rattle.std.specs.Coded.{coded_list};
+    ghost use Rattle.ioa_syntax.specs.declared.tree.Declaration.{Declaration};
+    ghost use Rattle.ioa_syntax.specs.contracts.tree.Declaration as declaration;
+    ghost use Rattle.ioa_syntax.specs.View.{tree_of};
+    ghost use Rattle.ioa_syntax.specs.WellFormed.{WellFormed};
+
+    ghost Value = { List Declaration };
+
+    ghost coded = { coded_list declaration.the_row.coded };
+
+    ghost view = { λ c. c.source };
+
+    ghost invariant = { λ c. WellFormed (tree_of c.source) };
+}
+
+impl Checked {
+    /// The declarations in order.
+    pub fn declarations(&self) -> &[Declaration]
+        ensures value { result.now ≡ self.now }
+        ensures well_formed { WellFormed (tree_of self.now) }
+    {
+        self.source.declarations()
+    }
+}
+
+/// The source, if it is well formed.
+///
+/// # Errors
+/// With the line at fault: `DuplicateName`, `UnknownName` (also a name used before its declaration, or where it may not
+/// stand), `TypeMismatch`, `BadSignature`, `NoProposal` and `TooMany`, each only where the source is not well formed;
+/// `OutOfMemory`.
+pub fn check(alloc: Global, source: Source) -> Result<Checked, Refusal>
+    ensures same { IfOk result (λ c. tree_of c ≡ tree_of source) }
+    ensures well_formed { OnOk result (WellFormed (tree_of source)) }
+    ensures refused { IfErr result (λ r. r ≢ OutOfMemory → WellFormed (tree_of source) → ⊥) }
+    ensures which { IfErr result (λ r. r ≢ OutOfMemory → is_fault r ≡ true) }
+{
+    source_fine(alloc, source.declarations())?;
+    Ok(Checked { source })
+}

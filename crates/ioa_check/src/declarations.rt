@@ -1,0 +1,99 @@
+ghost use Rattle.std.specs.Prelude.{◌≡◌, [], map, true, false};
+ghost use Rattle.std.specs.List.{list_all, list_any};
+ghost use Rattle.std.specs.Option.{option_map_or};
+ghost use Rattle.ioa_syntax.specs.View.{automaton_of, assembly_of, instance_of, declaration_of, tree_of, name_of, expr_of};
+ghost use Rattle.ioa_syntax.specs.WellFormed as well_formed;
+ghost use Rattle.ioa_check.specs.Globals.{texts};
+ghost use Rattle.ioa_check.specs.Verdicts.{Says, SaysOrMemory};
+
+use crate::automata::automaton_fine;
+use crate::expressions::type_of;
+use crate::globals::global_names;
+use crate::names::{at_most, distinct, same_name};
+use crate::scope::Scope;
+use indexmap::IndexSet;
+use ioa_syntax::{Assembly, Declaration, Expression, Instance, Name, Refusal};
+use std::alloc::Global;
+
+/// Whether declarations are a well formed source.
+pub(crate) fn source_fine(alloc: Global, declarations: &[Declaration]) -> Result<(), Refusal>
+    ensures { SaysOrMemory result (well_formed.well_formed (tree_of declarations.now)) }
+{
+    at_most(declarations, 256)?;
+    let globals = global_names(alloc, declarations)?;
+    declarations_fine(declarations, &globals)
+}
+
+/// Whether each declaration is well formed over those before it.
+fn declarations_fine(declarations: &[Declaration], globals: &IndexSet<&str>) -> Result<(), Refusal>
+    ensures { Says result (well_formed.declarations_fine (texts globals.now) [] (tree_of declarations.now)) }
+{
+    for i in 0..declarations.len() {
+        declaration_fine(&declarations[..i], &declarations[i], globals)?;
+    }
+    Ok(())
+}
+
+fn declaration_fine(
+    before: &[Declaration],
+    declaration: &Declaration,
+    globals: &IndexSet<&str>,
+) -> Result<(), Refusal>
+    ensures { Says result (well_formed.declaration_fine (texts globals.now) (tree_of before.now) (declaration_of declaration.now)) }
+{
+    match declaration {
+        Declaration::Automaton(automaton) => automaton_fine(automaton, globals),
+        Declaration::Composition(composition) => composition_fine(before, composition),
+    }
+}
+
+/// Whether a composition's components have names of their own and are well formed.
+#[tactic(auto, using(crate::proofs::ViewLemmas::views))]
+fn composition_fine(before: &[Declaration], composition: &Assembly) -> Result<(), Refusal>
+    ensures { Says result (well_formed.composition_fine (tree_of before.now) (assembly_of composition.now)) }
+{
+    at_most(&composition.instances, 32)?;
+    distinct(&composition.instances)?;
+    each_instance_fine(before, composition)
+}
+
+fn each_instance_fine(before: &[Declaration], composition: &Assembly) -> Result<(), Refusal>
+    ensures { Says result (list_all (well_formed.instance_fine (tree_of before.now)) (assembly_of composition.now).instances) }
+{
+    for instance in &composition.instances {
+        instance_fine(before, instance)?;
+    }
+    Ok(())
+}
+
+/// Whether a component is of an automaton declared before, and each argument has a type.
+fn instance_fine(before: &[Declaration], instance: &Instance) -> Result<(), Refusal>
+    ensures { Says result (well_formed.instance_fine (tree_of before.now) (instance_of instance.now)) }
+{
+    if !has_automaton(before, &instance.automaton) {
+        return Err(Refusal::UnknownName(instance.automaton.line));
+    }
+    arguments_fine(&instance.arguments)
+}
+
+fn has_automaton(declarations: &[Declaration], name: &Name) -> bool
+    ensures { result ≡ list_any (well_formed.is_automaton_of (name_of name.now)) (tree_of declarations.now) }
+{
+    for declaration in declarations {
+        if let Declaration::Automaton(automaton) = declaration
+            && same_name(&automaton.name, name)
+        {
+            return true;
+        }
+    }
+    false
+}
+
+fn arguments_fine(arguments: &[Expression]) -> Result<(), Refusal>
+    ensures { Says result (list_all (λ e. option_map_or (λ ty. true) (well_formed.type_of [] e) false) (map expr_of arguments.now)) }
+{
+    for argument in arguments {
+        type_of(&Scope::empty(), argument)?;
+    }
+    Ok(())
+}

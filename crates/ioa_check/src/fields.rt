@@ -1,0 +1,106 @@
+ghost use Rattle.std.specs.Prelude.{◌≡◌, ◌<◌, map, length, IfSome};
+ghost use Rattle.std.specs.List.{list_all};
+ghost use Rattle.std.specs.Option.{option_map};
+ghost use Rattle.ioa_syntax.specs.Tree.{FieldTree, typed};
+ghost use Rattle.ioa_syntax.specs.View.{name_of, position_of};
+ghost use Rattle.ioa_syntax.specs.View as view;
+ghost use Rattle.ioa_syntax.specs.Instances.{basic_table};
+ghost use Rattle.ioa_syntax.specs.Instances as instances;
+ghost use Rattle.ioa_syntax.specs.WellFormed.{type_in, context_of, is_type};
+ghost use Rattle.ioa_check.specs.Fields.{type_under};
+ghost use Rattle.ioa_check.specs.Verdicts.{Says};
+
+use crate::names::same_name;
+use ioa_syntax::{Field, Name, Position, Refusal, Variable};
+use ioa_value::Ty;
+
+/// What has a name and the name of a type in a source.
+pub(crate) trait Typed {
+    ghost tree: { Self → FieldTree };
+
+    fn field(&self) -> &Field
+        ensures { view.field_of result.now ≡ tree self.now };
+}
+
+impl Typed for Field {
+    ghost use Rattle.ioa_syntax.specs.View.{field_of};
+
+    ghost tree = { field_of };
+
+    fn field(&self) -> &Field {
+        self
+    }
+}
+
+impl Typed for Variable {
+    ghost use Rattle.ioa_syntax.specs.View.{field_of};
+
+    ghost tree = { λ v. field_of v.field };
+
+    fn field(&self) -> &Field {
+        &self.field
+    }
+}
+
+impl Typed for Position {
+    ghost use Rattle.ioa_syntax.specs.View.{position_of};
+    ghost use Rattle.ioa_check.specs.Fields.{field_in};
+
+    ghost tree = { λ p. field_in (position_of p) };
+
+    fn field(&self) -> &Field {
+        match self {
+            Position::Typed(field) => field,
+        }
+    }
+}
+
+/// The type of this name, where there is one.
+pub fn type_named(name: &Name) -> Option<Ty>
+    ensures value { option_map (λ ty. ty.0) result ≡ instances.type_named basic_table (name_of name.now) }
+    ensures within { IfSome result (λ ty. ty.0 < length basic_table.shapes) }
+{
+    if "Bool" == name.text.as_str() {
+        Some(Ty::BOOL)
+    } else if "Int" == name.text.as_str() {
+        Some(Ty::INT)
+    } else {
+        None
+    }
+}
+
+/// The type of the first of the items that has this name and a type.
+pub(crate) fn find_type<T: Typed>(items: &[T], name: &Name) -> Option<Ty>
+    ensures { option_map (λ ty. ty.0) result ≡ type_in (context_of basic_table (map T.tree items.now)) (name_of name.now) }
+{
+    for item in items {
+        if let Some(ty) = type_under(item.field(), name) {
+            return Some(ty);
+        }
+    }
+    None
+}
+
+/// The type of a field, where it has this name.
+fn type_under(field: &Field, name: &Name) -> Option<Ty>
+    ensures { option_map (λ ty. ty.0) result ≡ type_under (view.field_of field.now) (name_of name.now) }
+{
+    if same_name(&field.name, name) {
+        type_named(&field.ty)
+    } else {
+        None
+    }
+}
+
+/// Whether each item's type is declared. A line is that of the name of a type that is not.
+pub(crate) fn types_known<T: Typed>(items: &[T]) -> Result<(), Refusal>
+    ensures { Says result (list_all (is_type basic_table) (map T.tree items.now)) }
+{
+    for item in items {
+        let ty = &item.field().ty;
+        if type_named(ty).is_none() {
+            return Err(Refusal::UnknownName(ty.line));
+        }
+    }
+    Ok(())
+}

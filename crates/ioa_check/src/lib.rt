@@ -1,0 +1,16 @@
+//! Names, types and limits: which sources are well formed.
+#![tactic(auto)]
+
+mod automata;
+mod checked;
+mod declarations;
+mod expressions;
+mod fields;
+mod globals;
+mod names;
+mod scope;
+mod transitions;
+
+pub use checked::{Checked, check};
+pub use fields::type_named;
+pub use ioa_syntax::Refusal;

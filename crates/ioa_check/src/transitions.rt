@@ -1,0 +1,316 @@
+ghost use Rattle.std.specs.Prelude.{◌≡◌, ◌==◌, [], ◌||◌, ◌&&◌, not, map, filter, length, sum, nat_le};
+ghost use Rattle.std.specs.List.{list_all, list_any};
+ghost use Rattle.std.specs.Str.{bytes_eq};
+ghost use Rattle.ioa_syntax.specs.View.{automaton_of, entry_of, transition_of, stmt_of, proposal_of, name_of};
+ghost use Rattle.ioa_syntax.specs.View as view;
+ghost use Rattle.ioa_syntax.specs.Instances.{basic_table, type_named};
+ghost use Rattle.ioa_syntax.specs.WellFormed as well_formed;
+ghost use Rattle.ioa_check.specs.Verdicts.{Says};
+
+use crate::expressions::{expect_type, line_of, nodes};
+use crate::fields;
+use crate::fields::{Typed, find_type};
+use crate::names::{distinct, find_name, same_name};
+use crate::scope::Scope;
+use ioa_syntax::{Automaton, Entry, Field, Kind, Name, Proposal, Refusal, Statement, Transition};
+use ioa_value::Ty;
+
+/// The most nodes of a precondition, of a transition's proposals and of an effect.
+const MOST_NODES: u32 = 4096;
+
+/// Whether each entry has one transition of its kind and name, and each transition an entry. A line is that of a
+/// transition without entry, of an entry without transition, or of an entry's second transition.
+pub(crate) fn one_to_one(automaton: &Automaton) -> Result<(), Refusal>
+    ensures { Says result (well_formed.one_to_one basic_table [] (automaton_of automaton.now)) }
+{
+    each_has_entry(automaton)?;
+    each_has_transition(automaton)
+}
+
+/// Whether each transition has an entry.
+fn each_has_entry(automaton: &Automaton) -> Result<(), Refusal>
+    ensures { let a = automaton_of automaton.now in Says result (list_all (λ r. list_any (λ e. well_formed.matches basic_table [] a e r) a.entries) a.transitions) }
+{
+    for transition in &automaton.transitions {
+        if !has_entry(automaton, transition) {
+            return Err(Refusal::BadSignature(transition.name.line));
+        }
+    }
+    Ok(())
+}
+
+fn has_entry(automaton: &Automaton, transition: &Transition) -> bool
+    ensures { let a = automaton_of automaton.now in result ≡ list_any (λ e. well_formed.matches basic_table [] a e (transition_of transition.now)) a.entries }
+{
+    for entry in &automaton.entries {
+        if matches(entry, transition) {
+            return true;
+        }
+    }
+    false
+}
+
+/// Whether each entry has one transition and no second.
+fn each_has_transition(automaton: &Automaton) -> Result<(), Refusal>
+    ensures { let a = automaton_of automaton.now in Says result (list_all (λ e. length (filter (well_formed.matches basic_table [] a e) a.transitions) == 1) a.entries) }
+{
+    for entry in &automaton.entries {
+        one_transition(automaton, entry)?;
+    }
+    Ok(())
+}
+
+/// Whether the entry has one transition and no second.
+fn one_transition(automaton: &Automaton, entry: &Entry) -> Result<(), Refusal>
+    ensures { let a = automaton_of automaton.now in Says result (length (filter (well_formed.matches basic_table [] a (entry_of entry.now)) a.transitions) == 1) }
+{
+    let mut found = false;
+    for transition in &automaton.transitions {
+        if matches(entry, transition) {
+            if found {
+                return Err(Refusal::BadSignature(transition.name.line));
+            }
+            found = true;
+        }
+    }
+    if found {
+        Ok(())
+    } else {
+        Err(Refusal::BadSignature(entry.name.line))
+    }
+}
+
+/// Whether entry and transition are of one kind and one name.
+fn matches(entry: &Entry, transition: &Transition) -> bool
+    ensures { result ≡ (well_formed.same_kind entry.now.kind transition.now.kind && bytes_eq (name_of entry.now.name) (name_of transition.now.name)) }
+{
+    same_kind(entry.kind, transition.kind) && same_name(&entry.name, &transition.name)
+}
+
+fn same_kind(a: Kind, b: Kind) -> bool
+    ensures { result ≡ well_formed.same_kind a b }
+{
+    match a {
+        Kind::Input => is_input(b),
+        Kind::Output => matches!(b, Kind::Output),
+        Kind::Internal => matches!(b, Kind::Internal),
+    }
+}
+
+fn is_input(kind: Kind) -> bool
+    ensures { result ≡ well_formed.is_input kind }
+{
+    matches!(kind, Kind::Input)
+}
+
+/// Whether the transitions of each entry are well formed.
+pub(crate) fn transitions_fine(automaton: &Automaton) -> Result<(), Refusal>
+    ensures { let a = automaton_of automaton.now in Says result (list_all (λ e. list_all (λ r. not (well_formed.matches basic_table [] a e r) || well_formed.transition_fine basic_table [] a e r) a.transitions) a.entries) }
+{
+    for entry in &automaton.entries {
+        transitions_of_entry_fine(automaton, entry)?;
+    }
+    Ok(())
+}
+
+fn transitions_of_entry_fine(automaton: &Automaton, entry: &Entry) -> Result<(), Refusal>
+    ensures { let a = automaton_of automaton.now in let e = entry_of entry.now in Says result (list_all (λ r. not (well_formed.matches basic_table [] a e r) || well_formed.transition_fine basic_table [] a e r) a.transitions) }
+{
+    for transition in &automaton.transitions {
+        if matches(entry, transition) {
+            transition_fine(automaton, entry, transition)?;
+        }
+    }
+    Ok(())
+}
+
+fn transition_fine(
+    automaton: &Automaton,
+    entry: &Entry,
+    transition: &Transition,
+) -> Result<(), Refusal>
+    ensures { Says result (well_formed.transition_fine basic_table [] (automaton_of automaton.now) (entry_of entry.now) (transition_of transition.now)) }
+{
+    if is_input(transition.kind) {
+        input_fine(transition, automaton)?;
+    } else {
+        local_fine(automaton, entry, transition)?;
+    }
+    effect_fine(automaton, entry, transition)
+}
+
+/// Whether an input has neither precondition nor proposals.
+fn input_fine(transition: &Transition, _automaton: &Automaton) -> Result<(), Refusal>
+    ensures { Says result (well_formed.input_fine basic_table [] (automaton_of _automaton.now) (transition_of transition.now)) }
+{
+    if transition.pre.is_some() || transition.proposals.len() > 0 {
+        return Err(Refusal::BadSignature(transition.name.line));
+    }
+    Ok(())
+}
+
+/// Whether precondition and proposals of an output or internal transition are well formed.
+fn local_fine(automaton: &Automaton, entry: &Entry, transition: &Transition) -> Result<(), Refusal>
+    ensures { let a = automaton_of automaton.now in let e = entry_of entry.now in let r = transition_of transition.now in
+        Says result (well_formed.pre_fine basic_table [] a e r && well_formed.proposals_fine basic_table [] a e r && well_formed.all_proposed basic_table [] a e r) }
+{
+    pre_fine(automaton, entry, transition)?;
+    proposals_fine(automaton, entry, transition)?;
+    all_proposed(automaton, entry, transition)
+}
+
+fn pre_fine(automaton: &Automaton, entry: &Entry, transition: &Transition) -> Result<(), Refusal>
+    ensures { Says result (well_formed.pre_fine basic_table [] (automaton_of automaton.now) (entry_of entry.now) (transition_of transition.now)) }
+{
+    match &transition.pre {
+        None => Ok(()),
+        Some(pre) => {
+            expect_type(&Scope::of_entry(automaton, entry), pre, Ty::BOOL)?;
+            if nodes(pre) > MOST_NODES {
+                return Err(Refusal::TooMany(line_of(pre)));
+            }
+            Ok(())
+        }
+    }
+}
+
+#[tactic(auto, using(crate::proofs::ViewLemmas::views))]
+fn proposals_fine(
+    automaton: &Automaton,
+    entry: &Entry,
+    transition: &Transition,
+) -> Result<(), Refusal>
+    ensures { Says result (well_formed.proposals_fine basic_table [] (automaton_of automaton.now) (entry_of entry.now) (transition_of transition.now)) }
+{
+    each_proposal_fine(automaton, entry, transition)?;
+    distinct(&transition.proposals)?;
+    proposals_small(&transition.proposals)
+}
+
+fn each_proposal_fine(
+    automaton: &Automaton,
+    entry: &Entry,
+    transition: &Transition,
+) -> Result<(), Refusal>
+    ensures { Says result (list_all (well_formed.proposal_fine basic_table [] (automaton_of automaton.now) (entry_of entry.now)) (transition_of transition.now).proposals) }
+{
+    for proposal in &transition.proposals {
+        proposal_fine(automaton, entry, proposal)?;
+    }
+    Ok(())
+}
+
+/// Whether a proposal is for a parameter of the entry, and of its type.
+#[tactic(auto, using(crate::proofs::ViewLemmas::views))]
+fn proposal_fine(automaton: &Automaton, entry: &Entry, proposal: &Proposal) -> Result<(), Refusal>
+    ensures { Says result (well_formed.proposal_fine basic_table [] (automaton_of automaton.now) (entry_of entry.now) (proposal_of proposal.now)) }
+{
+    match find_type(&entry.positions, &proposal.name) {
+        Some(ty) => expect_type(&Scope::of_proposals(automaton), &proposal.value, ty),
+        None => Err(Refusal::UnknownName(proposal.name.line)),
+    }
+}
+
+/// Whether proposals together have no more nodes than the limit.
+fn proposals_small(proposals: &[Proposal]) -> Result<(), Refusal>
+    ensures { Says result (nat_le (sum (map (λ p. well_formed.nodes p.value) (map proposal_of proposals.now))) 4096) }
+{
+    let mut total = 0;
+    for proposal in proposals {
+        total += nodes(&proposal.value);
+        if total > MOST_NODES {
+            return Err(Refusal::TooMany(proposal.name.line));
+        }
+    }
+    Ok(())
+}
+
+/// Whether each parameter that is no Bool has a proposal.
+fn all_proposed(
+    _automaton: &Automaton,
+    entry: &Entry,
+    transition: &Transition,
+) -> Result<(), Refusal>
+    ensures { Says result (well_formed.all_proposed basic_table [] (automaton_of _automaton.now) (entry_of entry.now) (transition_of transition.now)) }
+{
+    for position in &entry.positions {
+        if !is_proposed(position.field(), transition) {
+            return Err(Refusal::NoProposal(transition.name.line));
+        }
+    }
+    Ok(())
+}
+
+/// Whether a parameter is a Bool or has a proposal.
+#[tactic(auto, using(crate::proofs::ViewLemmas::views))]
+fn is_proposed(field: &Field, transition: &Transition) -> bool
+    ensures { let f = view.field_of field.now in
+        result ≡ (well_formed.is_some_of (type_named basic_table f.ty) 0 || well_formed.contains (map (λ p. p.name) (transition_of transition.now).proposals) f.name) }
+{
+    is_bool(&field.ty) || find_name(&transition.proposals, &field.name).is_some()
+}
+
+/// Whether this is the name of the type of the truth values.
+fn is_bool(name: &Name) -> bool
+    ensures { result ≡ well_formed.is_some_of (type_named basic_table (name_of name.now)) 0 }
+{
+    match fields::type_named(name) {
+        Some(ty) => ty.0 == Ty::BOOL.0,
+        None => false,
+    }
+}
+
+fn effect_fine(automaton: &Automaton, entry: &Entry, transition: &Transition) -> Result<(), Refusal>
+    ensures { Says result (well_formed.effect_fine basic_table [] (automaton_of automaton.now) (entry_of entry.now) (transition_of transition.now)) }
+{
+    each_statement_fine(automaton, entry, transition)?;
+    effect_small(&transition.effect)
+}
+
+fn each_statement_fine(
+    automaton: &Automaton,
+    entry: &Entry,
+    transition: &Transition,
+) -> Result<(), Refusal>
+    ensures { Says result (list_all (well_formed.stmt_fine basic_table [] (automaton_of automaton.now) (entry_of entry.now)) (transition_of transition.now).effect) }
+{
+    for statement in &transition.effect {
+        statement_fine(automaton, entry, statement)?;
+    }
+    Ok(())
+}
+
+/// Whether an assignment is to a variable, and of its type.
+#[tactic(auto, using(crate::proofs::ViewLemmas::views))]
+fn statement_fine(
+    automaton: &Automaton,
+    entry: &Entry,
+    statement: &Statement,
+) -> Result<(), Refusal>
+    ensures { Says result (well_formed.stmt_fine basic_table [] (automaton_of automaton.now) (entry_of entry.now) (stmt_of statement.now)) }
+{
+    match statement {
+        Statement::Assign(name, value) => match find_type(&automaton.variables, name) {
+            Some(ty) => expect_type(&Scope::of_entry(automaton, entry), value, ty),
+            None => Err(Refusal::UnknownName(name.line)),
+        },
+    }
+}
+
+/// Whether statements together have no more nodes than the limit.
+fn effect_small(effect: &[Statement]) -> Result<(), Refusal>
+    ensures { Says result (nat_le (sum (map well_formed.stmt_nodes (map stmt_of effect.now))) 4096) }
+{
+    let mut total = 0;
+    for statement in effect {
+        match statement {
+            Statement::Assign(name, value) => {
+                total += nodes(value) + 1;
+                if total > MOST_NODES {
+                    return Err(Refusal::TooMany(name.line));
+                }
+            }
+        }
+    }
+    Ok(())
+}

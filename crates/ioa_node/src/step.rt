@@ -1,0 +1,94 @@
+ghost use Rattle.std.specs.Prelude.{◌≡◌, ◌≢◌, ◌∷◌, [], ◌++◌, ◌+◌, ◌<◌, ◌^◌, map, length, IfOk, OnOk};
+ghost use Rattle.ioa_value.specs.Plain.{plain};
+ghost use Rattle.ioa_code.specs.Machine.{act, stuck};
+ghost use Rattle.ioa_node.specs.Steps.{at, moved, Reads};
+
+use ioa_code::{Instr, Verified, operands};
+use ioa_value::{Fault, OutOfMemory, Value, apply};
+use std::alloc::Global;
+
+/// One instruction, which finds what it needs: the next place, or a fault.
+pub(crate) fn write(
+    alloc: Global,
+    code: &Verified,
+    instr: Instr,
+    place: usize,
+    stack: &mut Vec<Value>,
+    slots: &mut Vec<Value>,
+    values: &[Value],
+) -> Result<Result<usize, Fault>, OutOfMemory>
+    requires fine { act code.now.code.consts instr (at place stack.old.items slots.old.items values.now) ≢ stuck }
+    requires small { place + 1 < 2 ^ 64 }
+    ensures { IfOk result (λ r. moved r stack.new.items slots.new.items values.now ≡ act code.now.code.consts instr (at place stack.old.items slots.old.items values.now)) }
+{
+    match instr {
+        Instr::Store(i) => {
+            let value = pop(stack);
+            slots[i as usize] = value;
+            Ok(Ok(place + 1))
+        }
+        _ => read(alloc, code, instr, place, stack, slots, values),
+    }
+}
+
+/// One instruction, which finds what it needs and changes no variable: the next place, or a fault.
+pub(crate) fn read(
+    alloc: Global,
+    code: &Verified,
+    instr: Instr,
+    place: usize,
+    stack: &mut Vec<Value>,
+    slots: &[Value],
+    values: &[Value],
+) -> Result<Result<usize, Fault>, OutOfMemory>
+    requires fine { act code.now.code.consts instr (at place stack.old.items slots.now values.now) ≢ stuck }
+    requires reads { Reads instr }
+    requires small { place + 1 < 2 ^ 64 }
+    ensures { IfOk result (λ r. moved r stack.new.items slots.now values.now ≡ act code.now.code.consts instr (at place stack.old.items slots.now values.now)) }
+{
+    match instr {
+        Instr::Const(k) => {
+            push(alloc, stack, &code.consts()[k as usize])?;
+            Ok(Ok(place + 1))
+        }
+        Instr::Slot(i) => {
+            push(alloc, stack, &slots[i as usize])?;
+            Ok(Ok(place + 1))
+        }
+        Instr::Arg(i) => {
+            push(alloc, stack, &values[i as usize])?;
+            Ok(Ok(place + 1))
+        }
+        Instr::Store(_) => unreachable!(),
+        Instr::Apply(op) => {
+            let below = stack.len() - operands(op);
+            match apply(alloc, code.types(), op, &stack[below..])? {
+                Ok(value) => {
+                    stack.truncate(below);
+                    stack.push(value)?;
+                    Ok(Ok(place + 1))
+                }
+                Err(fault) => Ok(Err(fault)),
+            }
+        }
+    }
+}
+
+// A value that equals this one, on the stack.
+fn push(alloc: Global, stack: &mut Vec<Value>, value: &Value) -> Result<(), OutOfMemory>
+    ensures { OnOk result (map plain stack.new.items ≡ map plain stack.old.items ++ plain value.now ∷ []) }
+{
+    stack.push(value.try_copy(alloc)?)?;
+    Ok(())
+}
+
+// The top of the stack, which is there.
+fn pop(stack: &mut Vec<Value>) -> Value
+    requires { 0 < length stack.old.items }
+    ensures { stack.old.items ≡ stack.new.items ++ result ∷ [] }
+{
+    match stack.pop() {
+        Some(value) => value,
+        None => unreachable!(),
+    }
+}
