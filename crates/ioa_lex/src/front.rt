@@ -1,6 +1,6 @@
 //! What stands at the front of a text.
 
-ghost use Rattle.std.specs.Prelude.{◌≡◌, ◌≢◌, ◌<◌, IsTrue, IfOk, IfErr, MatchResult, length, slice_index, string_bytes};
+ghost use Rattle.std.specs.Prelude.{◌≡◌, ◌<◌, IsTrue, IfOk, IfErr, MatchResult, length, slice_index, string_bytes};
 ghost use Rattle.std.specs.List.{list_all};
 ghost use Rattle.ioa_value.specs.Names.{is_letter, is_digit, is_word_byte};
 ghost use Rattle.ioa_lex.specs.Fronts.{IsFront, NoFront, is_sign_part};

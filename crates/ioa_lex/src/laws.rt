@@ -3,8 +3,9 @@
 ghost use Rattle.std.specs.Prelude.{◌≡◌, ◌++◌, ◌∷◌, [], ℕ, List, map, IsTrue};
 ghost use Rattle.ioa_lex.specs.declared.terminal.Terminal.{Terminal};
 ghost use Rattle.ioa_lex.specs.Spelling.{spelling_of};
-ghost use Rattle.ioa_lex.specs.Tokens.{Tok};
-ghost use Rattle.ioa_lex.specs.Lexing.{Lexes, StopsOn, Writes, is_blank};
+ghost use Rattle.ioa_lex.specs.declared.token.Token.{Token};
+ghost use Rattle.ioa_lex.specs.Tokens.{Tok, tokens_shown};
+ghost use Rattle.ioa_lex.specs.Lexing.{Lexes, StopsOn, Writes, is_blank, placed};
 ghost use Rattle.ioa_lex.specs.Spaced.{Spaced, IsToken, text_of};
 
 /// A text has one list of tokens, or it stops on one line.
@@ -12,6 +13,11 @@ pub fn one_answer()
     ensures tokens { (text : List ℕ) (ts us : List (Tok × ℕ)) → Lexes text ts → Lexes text us → ts ≡ us }
     ensures stop { (text : List ℕ) (m n : ℕ) → StopsOn text m → StopsOn text n → m ≡ n }
     ensures apart { (text : List ℕ) (ts : List (Tok × ℕ)) (line : ℕ) → Lexes text ts → ¬ (StopsOn text line) }
+{}
+
+/// The tokens of a text without their lines are those that a grammar speaks of.
+pub fn tokens_alone()
+    ensures { (ts : List Token) → map (λ u. u.0) (placed ts) ≡ tokens_shown ts }
 {}
 
 /// Reserved words and signs are written in different ways, and a text is written for one token at most.

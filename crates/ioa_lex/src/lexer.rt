@@ -16,6 +16,7 @@ const LONGEST_TEXT: usize = 1048576;
 ///
 /// `TextTooLong` where it has more than 1,048,576 bytes; otherwise `BadByte` with the line of the first place where no
 /// token stands: a byte that begins none, or the first byte of a name or a number that is too long or too large.
+/// `OutOfMemory` where a growth of memory was refused.
 pub fn lex(alloc: Global, text: &[u8]) -> Result<Vec<Token>, Refusal>
     ensures ok { IfOk result (λ v. Lexes text.now (placed v.items)) }
     ensures refused { IfErr result (λ e. IsRefused text.now e) }

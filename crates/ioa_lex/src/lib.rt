@@ -10,7 +10,7 @@ mod spelling;
 mod terminal;
 mod token;
 
-pub use laws::{one_answer, spaced_tokens, written_once};
+pub use laws::{one_answer, spaced_tokens, tokens_alone, written_once};
 pub use lexer::lex;
 pub use refusal::Refusal;
 pub use terminal::Terminal;

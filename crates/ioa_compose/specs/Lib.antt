@@ -1,0 +1,4 @@
+pub mod Fine
+pub mod Held
+pub mod Starting
+pub mod Refusing

@@ -1,0 +1,201 @@
+ghost use Rattle.std.specs.Prelude.{◌≡◌, IfOk, map};
+ghost use Rattle.std.specs.Option.{option_map};
+ghost use Rattle.ioa_syntax.specs.View as view;
+
+use ioa_syntax::{
+    Automaton, Entry, Expression, Field, Name, Position, Proposal, Statement, Transition, Variable,
+};
+use ioa_value::OutOfMemory;
+use std::alloc::Global;
+
+fn copied_name(alloc: Global, name: &Name) -> Result<Name, OutOfMemory>
+    ensures { IfOk result (λ copy. view.name_of copy ≡ view.name_of name.now) }
+{
+    Ok(Name {
+        text: String::from_str(alloc, name.text.as_str())?,
+        line: name.line,
+    })
+}
+
+fn copied_expression(alloc: Global, expression: &Expression) -> Result<Expression, OutOfMemory>
+    ensures { IfOk result (λ copy. view.expr_of copy ≡ view.expr_of expression.now) }
+{
+    match expression {
+        Expression::Number(n, line) => Ok(Expression::Number(*n, *line)),
+        Expression::Truth(b, line) => Ok(Expression::Truth(*b, *line)),
+        Expression::Name(name) => Ok(Expression::Name(copied_name(alloc, name)?)),
+        Expression::Parentheses(inner, line) => {
+            let inner = copied_expression(alloc, inner)?;
+            Ok(Expression::Parentheses(Box::new(alloc, inner)?, *line))
+        }
+        Expression::Binary(left, operator, right) => {
+            let left = copied_expression(alloc, left)?;
+            let right = copied_expression(alloc, right)?;
+            let left = Box::new(alloc, left)?;
+            Ok(Expression::Binary(left, *operator, Box::new(alloc, right)?))
+        }
+    }
+}
+
+fn copied_option(
+    alloc: Global,
+    expression: &Option<Expression>,
+) -> Result<Option<Expression>, OutOfMemory>
+    ensures { IfOk result (λ copy. option_map view.expr_of copy ≡ option_map view.expr_of expression.now) }
+{
+    match expression {
+        Some(expression) => Ok(Some(copied_expression(alloc, expression)?)),
+        None => Ok(None),
+    }
+}
+
+fn copied_field(alloc: Global, field: &Field) -> Result<Field, OutOfMemory>
+    ensures { IfOk result (λ copy. view.field_of copy ≡ view.field_of field.now) }
+{
+    Ok(Field {
+        name: copied_name(alloc, &field.name)?,
+        ty: copied_name(alloc, &field.ty)?,
+    })
+}
+
+fn copied_fields(alloc: Global, fields: &[Field]) -> Result<Vec<Field>, OutOfMemory>
+    ensures { IfOk result (λ copies. map view.field_of copies.items ≡ map view.field_of fields.now) }
+{
+    let mut out = Vec::new(alloc);
+    for field in fields {
+        out.push(copied_field(alloc, field)?)?;
+    }
+    Ok(out)
+}
+
+fn copied_position(alloc: Global, position: &Position) -> Result<Position, OutOfMemory>
+    ensures { IfOk result (λ copy. view.position_of copy ≡ view.position_of position.now) }
+{
+    match position {
+        Position::Typed(field) => Ok(Position::Typed(copied_field(alloc, field)?)),
+    }
+}
+
+fn copied_positions(alloc: Global, positions: &[Position]) -> Result<Vec<Position>, OutOfMemory>
+    ensures { IfOk result (λ copies. map view.position_of copies.items ≡ map view.position_of positions.now) }
+{
+    let mut out = Vec::new(alloc);
+    for position in positions {
+        out.push(copied_position(alloc, position)?)?;
+    }
+    Ok(out)
+}
+
+fn copied_entries(alloc: Global, entries: &[Entry]) -> Result<Vec<Entry>, OutOfMemory>
+    ensures { IfOk result (λ copies. map view.entry_of copies.items ≡ map view.entry_of entries.now) }
+{
+    let mut out = Vec::new(alloc);
+    for entry in entries {
+        out.push(copied_entry(alloc, entry)?)?;
+    }
+    Ok(out)
+}
+
+fn copied_entry(alloc: Global, entry: &Entry) -> Result<Entry, OutOfMemory>
+    ensures { IfOk result (λ copy. view.entry_of copy ≡ view.entry_of entry.now) }
+{
+    Ok(Entry {
+        kind: entry.kind,
+        name: copied_name(alloc, &entry.name)?,
+        positions: copied_positions(alloc, &entry.positions)?,
+    })
+}
+
+fn copied_variable(alloc: Global, variable: &Variable) -> Result<Variable, OutOfMemory>
+    ensures { IfOk result (λ copy. view.variable_of copy ≡ view.variable_of variable.now) }
+{
+    Ok(Variable {
+        field: copied_field(alloc, &variable.field)?,
+        start: copied_option(alloc, &variable.start)?,
+    })
+}
+
+fn copied_variables(alloc: Global, variables: &[Variable]) -> Result<Vec<Variable>, OutOfMemory>
+    ensures { IfOk result (λ copies. map view.variable_of copies.items ≡ map view.variable_of variables.now) }
+{
+    let mut out = Vec::new(alloc);
+    for variable in variables {
+        out.push(copied_variable(alloc, variable)?)?;
+    }
+    Ok(out)
+}
+
+fn copied_proposals(alloc: Global, proposals: &[Proposal]) -> Result<Vec<Proposal>, OutOfMemory>
+    ensures { IfOk result (λ copies. map view.proposal_of copies.items ≡ map view.proposal_of proposals.now) }
+{
+    let mut out = Vec::new(alloc);
+    for proposal in proposals {
+        out.push(Proposal {
+            name: copied_name(alloc, &proposal.name)?,
+            value: copied_expression(alloc, &proposal.value)?,
+        })?;
+    }
+    Ok(out)
+}
+
+fn copied_statement(alloc: Global, statement: &Statement) -> Result<Statement, OutOfMemory>
+    ensures { IfOk result (λ copy. view.stmt_of copy ≡ view.stmt_of statement.now) }
+{
+    match statement {
+        Statement::Assign(name, value) => Ok(Statement::Assign(
+            copied_name(alloc, name)?,
+            copied_expression(alloc, value)?,
+        )),
+    }
+}
+
+fn copied_effect(alloc: Global, effect: &[Statement]) -> Result<Vec<Statement>, OutOfMemory>
+    ensures { IfOk result (λ copies. map view.stmt_of copies.items ≡ map view.stmt_of effect.now) }
+{
+    let mut out = Vec::new(alloc);
+    for statement in effect {
+        out.push(copied_statement(alloc, statement)?)?;
+    }
+    Ok(out)
+}
+
+fn copied_transition(alloc: Global, transition: &Transition) -> Result<Transition, OutOfMemory>
+    ensures { IfOk result (λ copy. view.transition_of copy ≡ view.transition_of transition.now) }
+{
+    Ok(Transition {
+        kind: transition.kind,
+        name: copied_name(alloc, &transition.name)?,
+        pre: copied_option(alloc, &transition.pre)?,
+        proposals: copied_proposals(alloc, &transition.proposals)?,
+        effect: copied_effect(alloc, &transition.effect)?,
+    })
+}
+
+fn copied_transitions(
+    alloc: Global,
+    transitions: &[Transition],
+) -> Result<Vec<Transition>, OutOfMemory>
+    ensures { IfOk result (λ copies. map view.transition_of copies.items ≡ map view.transition_of transitions.now) }
+{
+    let mut out = Vec::new(alloc);
+    for transition in transitions {
+        out.push(copied_transition(alloc, transition)?)?;
+    }
+    Ok(out)
+}
+
+/// An automaton with the same tree.
+pub(crate) fn copied_automaton(
+    alloc: Global,
+    automaton: &Automaton,
+) -> Result<Automaton, OutOfMemory>
+    ensures { IfOk result (λ copy. view.automaton_of copy ≡ view.automaton_of automaton.now) }
+{
+    Ok(Automaton {
+        name: copied_name(alloc, &automaton.name)?,
+        formals: copied_fields(alloc, &automaton.formals)?,
+        entries: copied_entries(alloc, &automaton.entries)?,
+        variables: copied_variables(alloc, &automaton.variables)?,
+        transitions: copied_transitions(alloc, &automaton.transitions)?,
+    })
+}

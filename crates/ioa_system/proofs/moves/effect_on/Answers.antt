@@ -1,0 +1,23 @@
+use Rattle.std.proofs.Common.{◌≡◌, map, subst, sym, List}
+use Rattle.ioa_value.specs.declared.value.Value.{Value}
+use Rattle.ioa_value.specs.Actions.{act_of}
+use Rattle.ioa_value.specs.Plain.{plain}
+use Rattle.ioa_value.specs.Typing.{HaveTypes, basic_types}
+use Rattle.ioa_compile.specs.Shown.{entry_code, member_code}
+use Rattle.ioa_system.proofs.Matching.{Acts, acts}
+use Rattle.ioa_system.proofs.moves.effect_on.Goals as goal
+
+acted : (c : goal.After-deref) → Acts (act_of c.args.action.now) c.args.state.now.types c.args.entry.now.effect
+acted c =
+    acts (member_code c.args.member.now) (act_of c.args.action.now) (entry_code c.args.entry.now) c.args.state.now.types
+    c.requires.sound c.requires.found c.requires.slots
+
+pub effect-requires-clause-kind : goal.effect-requires-clause-kind
+effect-requires-clause-kind c = (acted c).kind
+
+pub effect-requires-clause-slots : goal.effect-requires-clause-slots
+effect-requires-clause-slots c = (acted c).slots
+
+pub effect-requires-clause-arguments : goal.effect-requires-clause-arguments
+effect-requires-clause-arguments c =
+    subst (λ (vs : List Value). HaveTypes basic_types (map plain vs) c.args.entry.now.effect.args) (sym c.deref.ensures.value) (acted c).arguments

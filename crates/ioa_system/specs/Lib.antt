@@ -1,0 +1,6 @@
+pub mod Systems
+pub mod Participants
+pub mod Answers
+pub mod Endings
+pub mod Lent
+pub mod Records

@@ -1,0 +1,26 @@
+-- A running program: the program, and the state of each of its components.
+use Rattle.std.specs.Prelude.{◌≡◌, ℕ, List, map, refl}
+use Rattle.std.specs.Coded.{Coded, code_by, coded×, coded_list}
+use Rattle.ioa_value.specs.Plain.{Val}
+use Rattle.ioa_value.specs.Coded.{coded_vals}
+use Rattle.ioa_node.specs.Nodes.{Node}
+use Rattle.ioa_compile.specs.Programs.{MemberCode, Prog}
+use Rattle.ioa_compile.specs.Coded.{coded_prog}
+
+pub record Running : Type 0 where
+  pub program : Prog
+  pub states : List (List Val)
+
+abbrev pub coded_running : Coded Running
+coded_running =
+    code_by (Prog × List (List Val)) (coded× coded_prog (coded_list coded_vals)) (λ r. (r.program, r.states)) (λ p. record { program = p.0; states = p.1 }) (λ _. refl)
+
+abbrev pub types_of : List Node → List (List ℕ)
+types_of ns = map (λ n. n.types) ns
+
+abbrev pub values_of : List Node → List (List Val)
+values_of ns = map (λ n. n.values) ns
+
+-- the types of each component's variables
+abbrev pub slot_types : List MemberCode → List (List ℕ)
+slot_types ms = map (λ m. m.start.types) ms

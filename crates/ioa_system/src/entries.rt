@@ -1,0 +1,50 @@
+ghost use Rattle.std.specs.Prelude.{◌≡◌, map};
+ghost use Rattle.std.specs.Option.{option_map};
+ghost use Rattle.ioa_value.specs.Actions.{act_of};
+ghost use Rattle.ioa_value.specs.Plain.{plain};
+ghost use Rattle.ioa_compile.specs.Shown.{position_code, entry_code, member_code};
+ghost use Rattle.ioa_compile.specs.Tables as tables;
+
+use ioa_compile::{Entry, Member, Position};
+use ioa_value::{Action, Types, Value, has_type};
+
+/// The component's entry that has the action.
+pub(crate) fn entry_of<'a>(member: &'a Member, action: &Action) -> Option<&'a Entry>
+    ensures { option_map (λ e. entry_code e.now) result ≡ tables.entry_of (member_code member.now) (act_of action.now) }
+{
+    for entry in &member.entries {
+        if is_in(action, entry) {
+            return Some(entry);
+        }
+    }
+    None
+}
+
+fn is_in(action: &Action, entry: &Entry) -> bool
+    ensures { result ≡ tables.is_in (act_of action.now) (entry_code entry.now) }
+{
+    entry.name == action.name
+        && positions_hold(entry.effect.types(), &entry.positions, &action.vals)
+}
+
+fn positions_hold(types: &Types, positions: &[Position], values: &[Value]) -> bool
+    ensures { result ≡ tables.positions_hold (map position_code positions.now) (map plain values.now) }
+{
+    if positions.len() != values.len() {
+        return false;
+    }
+    for i in 0..positions.len() {
+        if !position_holds(types, positions[i], &values[i]) {
+            return false;
+        }
+    }
+    true
+}
+
+fn position_holds(types: &Types, position: Position, value: &Value) -> bool
+    ensures { result ≡ tables.position_holds (position_code position) (plain value.now) }
+{
+    match position {
+        Position::Typed(ty) => has_type(types, value, ty),
+    }
+}

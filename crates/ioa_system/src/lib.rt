@@ -1,0 +1,15 @@
+//! Steps of a program's components, and runs over lists of actions.
+#![tactic(auto)]
+
+mod answer;
+mod entries;
+mod moves;
+mod participation;
+mod runs;
+mod system;
+
+pub use answer::{End, Moved, Step};
+pub use moves::step_from;
+pub use participation::{is_external, owner, participants};
+pub use runs::{Run, run_list};
+pub use system::System;
