@@ -2,6 +2,10 @@ pub use Rattle.ioa_lex.specs.Tokens
 pub use Rattle.ioa_value.specs.Actions
 pub mod Tree
 pub mod View
+pub mod Depth
+pub mod Grammar
+pub mod Source
+pub mod Reading
 pub mod Meaning
 pub mod Components
 pub mod Steps

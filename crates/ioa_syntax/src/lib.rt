@@ -1,9 +1,25 @@
 //! Trees of the language, its parser and its printer.
 #![tactic(auto)]
 
+mod automata;
+mod compositions;
+mod cursor;
+mod expressions;
+mod fault;
+mod laws;
+mod measured;
+mod parsing;
+mod signatures;
+mod source;
+mod sources;
+mod states;
+mod transitions;
 mod tree;
 
 pub use ioa_lex::Refusal;
+pub use laws::one_tree;
+pub use parsing::parse;
+pub use source::Source;
 pub use tree::{
     Assembly, Automaton, Declaration, Entry, Expression, Field, Instance, Kind, Name, Operator,
     Position, Proposal, Statement, Transition, Variable,

@@ -1,0 +1,167 @@
+-- Stretches of code with the types on the stack at each of their places.
+use Rattle.std.proofs.Common.{◌≡◌, ℕ, zero, suc, ◌+◌, ◌<◌, ◌≤◌, inl, inr, ⊎_elim, true, false, cond, List, [], ◌∷◌, length, Some, Ok, refl, sym, ap, ◌∙◌, subst, arith}
+use Rattle.std.specs.Prelude.{slice_get, nat_le}
+use Rattle.std.proofs.lemmas.Bool.{cases_lt}
+use Rattle.std.proofs.lemmas.Bool.Decides.{nat_tests}
+use Rattle.std.proofs.lemmas.Option.{slice_get_within}
+use Rattle.ioa_code.specs.declared.instr.Instr.{Instr}
+use Rattle.ioa_code.specs.Valid.{Part, after, Leads, Valid}
+use Rattle.ioa_compile.specs.Placed.{At}
+
+-- a list from a function of the place
+rows : {X : Type 0} → (ℕ → X) → ℕ → ℕ → List X
+rows f p zero = []
+rows f p (suc n) = f p ∷ rows f (p + 1) n
+
+length-rows : {X : Type 0} (f : ℕ → X) (p n : ℕ) → length (rows f p n) ≡ n
+unfolding rows
+length-rows f p zero = refl
+length-rows f p (suc n) = let e = length-rows f (p + 1) n in omega arith
+
+rows-at : {X : Type 0} (f : ℕ → X) (p n k : ℕ) → k < n → slice_get (rows f p n) k ≡ Some (f (p + k))
+unfolding rows
+rows-at f p zero k lt = absurd (omega arith)
+rows-at f p (suc n) zero lt = let e : p ≡ p + 0 = omega arith in ap (λ i. Some (f i)) e
+rows-at f p (suc n) (suc k) lt = let e : p + 1 + k ≡ p + suc k = omega arith in rows-at f (p + 1) n k (omega arith) ∙ ap (λ i. Some (f i)) e
+
+module _ (part : Part) where
+  -- the instruction at k finds what it needs, and leads forward to at most q, where the types are those after it
+  pub record Step (types : ℕ → List ℕ) (q k : ℕ) : Type 0 where
+    pub instr : Instr
+    pub here : At part.code k instr
+    pub left : List ℕ
+    pub finds : after part instr (types k) ≡ Ok left
+    pub leads : (w : ℕ) → Leads k instr w → (k < w) × (w ≤ q) × (types w ≡ left)
+
+  -- an instruction from p on leads to k
+  pub record Way (p k : ℕ) : Type 0 where
+    pub from : ℕ
+    pub instr : Instr
+    pub after_start : p ≤ from
+    pub before : from < k
+    pub here : At part.code from instr
+    pub leads : Leads from instr k
+
+  -- code from p up to q, that comes with the types ts and ends with us
+  pub record Block (p q : ℕ) (ts us : List ℕ) : Type 0 where
+    pub types : ℕ → List ℕ
+    pub first : types p ≡ ts
+    pub last : types q ≡ us
+    pub along : p ≤ q
+    pub each : (k : ℕ) → p ≤ k → k < q → Step types q k
+    pub reached : (k : ℕ) → p < k → k ≤ q → Way p k
+
+  pub none : (p : ℕ) (ts : List ℕ) → Block p p ts ts
+  none p ts = record {
+    types = λ k. ts;
+    first = refl;
+    last = refl;
+    along = omega arith;
+    each = λ k a b. absurd (omega arith);
+    reached = λ k a b. absurd (omega arith);
+  }
+
+  -- the only place after an instruction
+  only_next : (k : ℕ) (i : Instr) (w : ℕ) → Leads k i w → w ≡ k + 1
+  only_next k i w (inl e) = e
+  only_next k i w (inr h) = absurd h
+
+  pub one : (p : ℕ) (i : Instr) (ts us : List ℕ) → At part.code p i → after part i ts ≡ Ok us → Block p (p + 1) ts us
+  one p i ts us here finds =
+      let f : ℕ → List ℕ = λ k. cond (nat_le k p) ts us in
+      let t : nat_le p p ≡ true = grind (arith, nat_tests) in
+      let u : nat_le (p + 1) p ≡ false = grind (arith, nat_tests) in
+      let at_p : f p ≡ ts = ap (λ b. cond b ts us) t in
+      let at_q : f (p + 1) ≡ us = ap (λ b. cond b ts us) u in
+      record {
+        types = f;
+        first = at_p;
+        last = at_q;
+        along = omega arith;
+        each = λ k a b.
+            let same : p ≡ k = omega arith in
+            subst (Step f (p + 1)) same record {
+              instr = i;
+              here = here;
+              left = us;
+              finds = ap (after part i) at_p ∙ finds;
+              leads = λ w h. let n = only_next p i w h in (omega arith, omega arith, ap f n ∙ at_q);
+            };
+        reached = λ k a b.
+            let same : k ≡ p + 1 = omega arith in
+            record { from = p; instr = i; after_start = omega arith; before = a; here = here; leads = inl same };
+      }
+
+  pub join : (p m q : ℕ) (ts us vs : List ℕ) → Block p m ts us → Block m q us vs → Block p q ts vs
+  join p m q ts us vs a b =
+      let f : ℕ → List ℕ = λ k. cond (nat_le k m) (a.types k) (b.types k) in
+      let low : (k : ℕ) → k ≤ m → f k ≡ a.types k = λ k le. let t : nat_le k m ≡ true = grind (arith, nat_tests) in ap (λ c. cond c (a.types k) (b.types k)) t in
+      let above : (k : ℕ) → m < k → f k ≡ b.types k = λ k lt. let t : nat_le k m ≡ false = grind (arith, nat_tests) in ap (λ c. cond c (a.types k) (b.types k)) t in
+      let at_m : f m ≡ b.types m = low m (omega arith) ∙ a.last ∙ sym b.first in
+      let high : (k : ℕ) → m ≤ k → f k ≡ b.types k = λ k le. ⊎_elim (λ lt. above k lt) (λ (ge : k ≤ m). let same : m ≡ k = omega arith in subst (λ n. f n ≡ b.types n) same at_m) (cases_lt m k) in
+      let pm = a.along in
+      let mq = b.along in
+      record {
+        types = f;
+        first = low p pm ∙ a.first;
+        last = high q mq ∙ b.last;
+        along = omega arith;
+        each = λ k from to. ⊎_elim
+            (λ (lt : k < m).
+            let s = a.each k from lt in
+            record {
+              instr = s.instr;
+              here = s.here;
+              left = s.left;
+              finds = ap (after part s.instr) (low k (omega arith)) ∙ s.finds;
+              leads = λ w h. let l = s.leads w h in (l.0, omega (arith, l.1), low w l.1 ∙ l.2);
+            })
+            (λ (ge : m ≤ k).
+            let s = b.each k ge to in
+            record {
+              instr = s.instr;
+              here = s.here;
+              left = s.left;
+              finds = ap (after part s.instr) (high k ge) ∙ s.finds;
+              leads = λ w h. let l = s.leads w h in (l.0, l.1, high w (omega (arith, l.0)) ∙ l.2);
+            })
+            (cases_lt k m);
+        reached = λ k from to. ⊎_elim
+            (λ (lt : m < k).
+            let w = b.reached k lt to in
+            record { from = w.from; instr = w.instr; after_start = omega (arith, w.after_start); before = w.before; here = w.here; leads = w.leads })
+            (λ (ge : k ≤ m).
+            let w = a.reached k from ge in
+            record { from = w.from; instr = w.instr; after_start = w.after_start; before = w.before; here = w.here; leads = w.leads })
+            (cases_lt m k);
+      }
+
+  some_same : {X : Type 0} (x y : X) → Some x ≡ Some y → x ≡ y
+  some_same x y e = cc
+
+  -- the whole code with its types is valid
+  pub valid : Block 0 (length part.code.instrs) [] part.result → Valid part
+  valid b =
+      let n = length part.code.instrs in
+      let table = rows b.types 0 (n + 1) in
+      let there : (k : ℕ) → k ≤ n → slice_get table k ≡ Some (b.types k) = λ k le. let e : 0 + k ≡ k = omega arith in rows-at b.types 0 (n + 1) k (omega arith) ∙ ap (λ i. Some (b.types i)) e in (
+        table,
+        record {
+          long = length-rows b.types 0 (n + 1);
+          start = there 0 (omega arith) ∙ ap Some b.first;
+          each = λ p i ts at_p types_p.
+              let lt = slice_get_within part.code.instrs p i at_p in
+              let s = b.each p (omega arith) lt in
+              let same : s.instr ≡ i = some_same s.instr i (sym s.here ∙ at_p) in
+              let types : b.types p ≡ ts = some_same (b.types p) ts (sym (there p (omega arith)) ∙ types_p) in
+              let back : (w : ℕ) → Leads p i w → Leads p s.instr w = λ w h. subst (λ j. Leads p j w) (sym same) h in
+              record {
+                types = s.left;
+                finds = ap (after part i) (sym types) ∙ ap (λ j. after part j (b.types p)) (sym same) ∙ s.finds;
+                forward = λ w h. let l = s.leads w (back w h) in (l.0, l.1);
+                brings = λ w h. let l = s.leads w (back w h) in there w l.1 ∙ ap Some l.2;
+              };
+          reached = λ q from to. let w = b.reached q from to in (w.from, w.instr, w.before, w.here, w.leads);
+          end = there n (omega arith) ∙ ap Some b.last;
+        },
+      )

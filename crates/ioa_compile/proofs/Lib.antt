@@ -1,0 +1,11 @@
+pub mod Named
+pub mod Emitted
+pub mod Paired
+pub mod Looks
+pub mod Fits
+pub mod Finds
+pub mod Fine
+pub mod Blocks
+pub mod Validity
+pub mod Assembled
+pub mod Twins

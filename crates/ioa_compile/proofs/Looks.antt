@@ -1,0 +1,179 @@
+-- What a name stands for, by its place among the names of a scope.
+use Rattle.std.proofs.Common.{◌≡◌, ℕ, zero, suc, ◌+◌, ◌⊎◌, inl, inr, Bool, true, false, cond, not, ◌||◌, IsTrue, List, [], ◌∷◌, ◌++◌, length, Option, Some, None, refl, sym, ap, ◌∙◌, subst, arith}
+use Rattle.std.specs.Prelude.{slice_get, slice_set}
+use Rattle.std.specs.Option.{option_map_or}
+use Rattle.std.specs.Str.{bytes_eq}
+use Rattle.std.proofs.lemmas.List.Folds.{list_any-append}
+use Rattle.std.proofs.lemmas.Slice.Eq.{bytes_eq-Decides}
+use Rattle.ioa_value.specs.Actions.{Name}
+use Rattle.ioa_value.specs.Plain.{Val}
+use Rattle.ioa_syntax.specs.Meaning.{values_of, or_else}
+use Rattle.ioa_syntax.specs.Instances.{place_from}
+use Rattle.ioa_syntax.specs.WellFormed.{contains, distinct, apart}
+use Rattle.ioa_compile.specs.Scopes.{Scope, Origin, slot, formal, parameter, unknown, origin}
+use Rattle.ioa_compile.proofs.Named.{place_from_below}
+use Rattle.ioa_compile.proofs.Paired.{both}
+
+pub same_name : (x y : Name) → bytes_eq x y ≡ true → x ≡ y
+same_name x y e = (bytes_eq-Decides x y).0 e
+
+pub name_same : (x y : Name) → x ≡ y → bytes_eq x y ≡ true
+name_same x y e = (bytes_eq-Decides x y).1 e
+
+true_false : {b : Bool} → b ≡ true → b ≡ false → ⊥
+true_false {b} e f = absurd (cc)
+
+-- the names, one after another, stand for these
+abbrev pub look : {V : Type 0} → List Name → List V → Name → Option V
+look [] vs x = None
+look (n ∷ ns) [] x = None
+look (n ∷ ns) (v ∷ vs) x = cond (bytes_eq n x) (Some v) (look ns vs x)
+
+pub values_look : (ns : List Name) (vs : List Val) (x : Name) → values_of ns vs x ≡ look ns vs x
+values_look [] vs x = refl
+values_look (n ∷ ns) [] x = refl
+values_look (n ∷ ns) (v ∷ vs) x = ap (cond (bytes_eq n x) (Some v)) (values_look ns vs x)
+
+pub or_else-none : {V : Type 0} (o : Option V) → or_else o None ≡ o
+or_else-none None = refl
+or_else-none (Some v) = refl
+
+pub or_else-assoc : {V : Type 0} (a b c : Option V) → or_else (or_else a b) c ≡ or_else a (or_else b c)
+or_else-assoc None b c = refl
+or_else-assoc (Some v) b c = refl
+
+-- the name has a place, and the item there
+pub record IsAt {V : Type 0} (i : ℕ) (place : Option ℕ) (vs : List V) (o : Option V) : Type 0 where
+  pub at : ℕ
+  pub value : V
+  pub place_is : place ≡ Some (i + at)
+  pub item_is : slice_get vs at ≡ Some value
+  pub look_is : o ≡ Some value
+
+pub record IsNowhere {V : Type 0} (place : Option ℕ) (o : Option V) : Type 0 where
+  pub no_place : place ≡ None
+  pub no_look : o ≡ None
+
+abbrev pub Looked : {V : Type 0} → ℕ → Option ℕ → List V → Option V → Type 0
+Looked i place vs o = IsAt i place vs o ⊎ IsNowhere place o
+
+pub looks : {V : Type 0} (i : ℕ) (ns : List Name) (vs : List V) (x : Name) → length ns ≡ length vs → Looked i (place_from i ns x) vs (look ns vs x)
+looks i [] vs x e = inr (record { no_place = refl; no_look = refl })
+looks i (n ∷ ns) [] x e = absurd (omega (arith, e))
+looks {V} i (n ∷ ns) (v ∷ vs) x e = go (bytes_eq n x) (looks (i + 1) ns vs x (omega arith))
+  where
+    go : (b : Bool) → Looked (i + 1) (place_from (i + 1) ns x) vs (look ns vs x) → Looked i (cond b (Some i) (place_from (i + 1) ns x)) (v ∷ vs) (cond b (Some v) (look ns vs x))
+    go true r = let k : i ≡ i + 0 = omega arith in inl (record { at = 0; value = v; place_is = ap Some k; item_is = refl; look_is = refl })
+    go false (inl r) = let k : i + 1 + r.at ≡ i + suc r.at = omega arith in inl (record { at = suc r.at; value = r.value; place_is = r.place_is ∙ ap Some k; item_is = r.item_is; look_is = r.look_is })
+    go false (inr r) = inr (record { no_place = r.no_place; no_look = r.no_look })
+
+-- what an origin has, of what stands for variables, formals and parameters
+abbrev pub at : {V : Type 0} → Origin → List V → List V → List V → Option V
+at (slot i) vs fs ps = slice_get vs i
+at (formal i) vs fs ps = slice_get fs i
+at (parameter i) vs fs ps = slice_get ps i
+at unknown vs fs ps = None
+
+-- what a name of the scope stands for
+abbrev pub stands : {V : Type 0} → Scope → List V → List V → List V → Name → Option V
+stands s vs fs ps x = or_else (look s.variables vs x) (or_else (look s.formals fs x) (look s.parameters ps x))
+
+step : {V : Type 0} (make : ℕ → Origin) (get : Origin → Option V) (vs : List V) (place : Option ℕ) (o rest : Option V) (other : Origin) → ((k : ℕ) → get (make k) ≡ slice_get vs k) → rest ≡ get other → Looked 0 place vs o → or_else o rest ≡ get (option_map_or make place other)
+step make get vs place o rest other k e (inl r) =
+    let n : 0 + r.at ≡ r.at = omega arith in
+    ap (λ l. or_else l rest) r.look_is
+    ∙ sym (ap (λ p. get (option_map_or make p other)) (r.place_is ∙ ap Some n) ∙ k r.at ∙ r.item_is)
+step make get vs place o rest other k e (inr r) =
+    ap (λ l. or_else l rest) r.no_look ∙ e ∙ sym (ap (λ p. get (option_map_or make p other)) r.no_place)
+
+pub stands_at : {V : Type 0} (s : Scope) (vs fs ps : List V) (x : Name) → length s.variables ≡ length vs → length s.formals ≡ length fs → length s.parameters ≡ length ps → stands s vs fs ps x ≡ at (origin s x) vs fs ps
+stands_at {V} s vs fs ps x lv lf lp =
+    let get : Origin → Option V = λ o. at o vs fs ps in
+    let three = step parameter get ps (place_from 0 s.parameters x) (look s.parameters ps x) None unknown (λ k. refl) refl (looks 0 s.parameters ps x lp) in
+    let two = step formal get fs (place_from 0 s.formals x) (look s.formals fs x) (look s.parameters ps x) _ (λ k. refl) (sym (or_else-none (look s.parameters ps x)) ∙ three) (looks 0 s.formals fs x lf) in
+    step slot get vs (place_from 0 s.variables x) (look s.variables vs x) _ _ (λ k. refl) two (looks 0 s.variables vs x lv)
+
+-- a name that is not among the names
+pub look_outside : {V : Type 0} (ns : List Name) (vs : List V) (x : Name) → contains ns x ≡ false → look ns vs x ≡ None
+look_outside [] vs x h = refl
+look_outside (n ∷ ns) [] x h = refl
+look_outside {V} (n ∷ ns) (v ∷ vs) x h = go (bytes_eq n x) h (look_outside ns vs x)
+  where
+    go : (b : Bool) → (b || contains ns x) ≡ false → (contains ns x ≡ false → look ns vs x ≡ None) → cond b (Some v) (look ns vs x) ≡ None
+    go true h r = absurd (cc)
+    go false h r = r h
+
+pub look_inside : {V : Type 0} (ns : List Name) (vs : List V) (x : Name) → length ns ≡ length vs → contains ns x ≡ true → (v : V) × (look ns vs x ≡ Some v)
+look_inside [] vs x e h = absurd (cc)
+look_inside (n ∷ ns) [] x e h = absurd (omega (arith, e))
+look_inside {V} (n ∷ ns) (v ∷ vs) x e h = go (bytes_eq n x) h (look_inside ns vs x (omega arith))
+  where
+    go : (b : Bool) → (b || contains ns x) ≡ true → (contains ns x ≡ true → (w : V) × (look ns vs x ≡ Some w)) → (w : V) × (cond b (Some v) (look ns vs x) ≡ Some w)
+    go true h r = (v, refl)
+    go false h r = r h
+
+pub place_inside : (i : ℕ) (ns : List Name) (x : Name) (k : ℕ) → place_from i ns x ≡ Some k → contains ns x ≡ true
+place_inside i [] x k e = absurd (cc)
+place_inside i (n ∷ ns) x k e = go (bytes_eq n x) e (place_inside (i + 1) ns x k)
+  where
+    go : (b : Bool) → cond b (Some i) (place_from (i + 1) ns x) ≡ Some k → (place_from (i + 1) ns x ≡ Some k → contains ns x ≡ true) → (b || contains ns x) ≡ true
+    go true e r = refl
+    go false e r = r e
+
+pub not_true : (b : Bool) → IsTrue (not b) → b ≡ false
+not_true true h = absurd (cc)
+not_true false h = refl
+
+or_false : (a b : Bool) → (a || b) ≡ false → (a ≡ false) × (b ≡ false)
+or_false true b h = absurd (cc)
+or_false false b h = (refl, h)
+
+pub outside_both : (ms bs : List Name) (x : Name) → contains (ms ++ bs) x ≡ false → (contains ms x ≡ false) × (contains bs x ≡ false)
+outside_both ms bs x h = or_false (contains ms x) (contains bs x) (sym (list_any-append (λ n. bytes_eq n x) ms bs) ∙ h)
+
+-- names that are distinct are in one of two parts
+pub distinct_apart : (ms bs : List Name) (x : Name) → IsTrue (distinct (ms ++ bs)) → contains ms x ≡ true → contains bs x ≡ false
+distinct_apart [] bs x h e = absurd (cc)
+distinct_apart (n ∷ ms) bs x h e =
+    let parts = both (not (contains (ms ++ bs) n)) (distinct (ms ++ bs)) h in
+    go (bytes_eq n x) refl e (not_true (contains (ms ++ bs) n) parts.0) (distinct_apart ms bs x parts.1)
+  where
+    go : (b : Bool) → bytes_eq n x ≡ b → (b || contains ms x) ≡ true → contains (ms ++ bs) n ≡ false → (contains ms x ≡ true → contains bs x ≡ false) → contains bs x ≡ false
+    go true t e h r = (outside_both ms bs x (subst (λ (y : Name). contains (ms ++ bs) y ≡ false) (same_name n x t) h)).1
+    go false t e h r = r e
+
+pub apart_outside : (ns ms : List Name) (x : Name) → IsTrue (apart ns ms) → contains ns x ≡ true → contains ms x ≡ false
+apart_outside [] ms x h e = absurd (cc)
+apart_outside (n ∷ ns) ms x h e =
+    let parts = both (not (contains ms n)) (apart ns ms) h in
+    go (bytes_eq n x) refl e (not_true (contains ms n) parts.0) (apart_outside ns ms x parts.1)
+  where
+    go : (b : Bool) → bytes_eq n x ≡ b → (b || contains ns x) ≡ true → contains ms n ≡ false → (contains ns x ≡ true → contains ms x ≡ false) → contains ms x ≡ false
+    go true t e h r = subst (λ (y : Name). contains ms y ≡ false) (same_name n x t) h
+    go false t e h r = r e
+
+-- a write at the place of a name
+pub look_set : {V : Type 0} (k : ℕ) (ns : List Name) (vs : List V) (x y : Name) (i : ℕ) (v : V) → length ns ≡ length vs → place_from k ns x ≡ Some (k + i) → look ns (slice_set vs i v) y ≡ cond (bytes_eq x y) (Some v) (look ns vs y)
+look_set k [] vs x y i v e h = absurd (cc)
+look_set k (n ∷ ns) [] x y i v e h = absurd (omega (arith, e))
+look_set {V} k (n ∷ ns) (w ∷ ws) x y i v e h = go (bytes_eq n x) refl i h (look_set (k + 1) ns ws x y)
+  where
+    here : (b c : Bool) (o : Option V) → c ≡ b → cond b (Some v) o ≡ cond c (Some v) (cond b (Some w) o)
+    here true true o t = refl
+    here false false o t = refl
+    here true false o t = absurd (cc)
+    here false true o t = absurd (cc)
+
+    there : (b c : Bool) (o : Option V) → (c ≡ true → b ≡ true → ⊥) → cond b (Some w) (cond c (Some v) o) ≡ cond c (Some v) (cond b (Some w) o)
+    there true true o t = absurd (t refl refl)
+    there true false o t = refl
+    there false c o t = refl
+
+    go : (b : Bool) → bytes_eq n x ≡ b → (i : ℕ) → cond b (Some k) (place_from (k + 1) ns x) ≡ Some (k + i) → ((j : ℕ) (u : V) → length ns ≡ length ws → place_from (k + 1) ns x ≡ Some (k + 1 + j) → look ns (slice_set ws j u) y ≡ cond (bytes_eq x y) (Some u) (look ns ws y)) → look (n ∷ ns) (slice_set (w ∷ ws) i v) y ≡ cond (bytes_eq x y) (Some v) (cond (bytes_eq n y) (Some w) (look ns ws y))
+    go true t zero h r = here (bytes_eq n y) (bytes_eq x y) (look ns ws y) (ap (λ z. bytes_eq z y) (sym (same_name n x t)))
+    go true t (suc i) h r = let k-is : k ≡ k + suc i = cc in absurd (omega arith)
+    go false t zero h r = let low = (place_from_below (k + 1) ns x (k + 0) h).0 in absurd (omega arith)
+    go false t (suc i) h r =
+        let next : k + suc i ≡ k + 1 + i = omega arith in
+        ap (cond (bytes_eq n y) (Some w)) (r i v (omega arith) (h ∙ ap Some next))
+        ∙ there (bytes_eq n y) (bytes_eq x y) (look ns ws y) (λ p q. true_false (name_same n x (same_name n y q ∙ sym (same_name x y p))) t)

@@ -1,0 +1,153 @@
+-- An action has the same entry, and so the same kind, in the table as in the automaton.
+use Rattle.std.proofs.Common.{◌≡◌, ℕ, zero, suc, ◌<◌, ◌⊎◌, inl, inr, Bool, true, false, cond, ◌&&◌, List, [], ◌∷◌, length, map, get_or, Option, Some, None, IfSome, refl, sym, ap, ◌∙◌, subst, arith}
+use Rattle.std.specs.Prelude.{slice_get}
+use Rattle.std.specs.List.{AllZip, find}
+use Rattle.std.specs.Option.{option_map, option_map_or}
+use Rattle.std.specs.Str.{bytes_eq}
+use Rattle.std.proofs.lemmas.Option.{slice_get-map}
+use Rattle.ioa_value.specs.Actions.{Act}
+use Rattle.ioa_value.specs.Plain.{Val}
+use Rattle.ioa_value.specs.Tests.{is_of}
+use Rattle.ioa_value.specs.Typing.{HaveTypes, basic_types}
+use Rattle.ioa_code.specs.declared.instr.PartKind.TheVariants.{Pre}
+use Rattle.ioa_code.specs.Valid.{Part}
+use Rattle.ioa_syntax.specs.declared.tree.Kind.{Kind}
+use Rattle.ioa_syntax.specs.declared.tree.Kind.TheVariants.{Input, Output, Internal}
+use Rattle.ioa_syntax.specs.Tree.{Expr, PositionTree, typed, EntryTree}
+use Rattle.ioa_syntax.specs.Instances.{basic_table, positions_have, entry_has, component_of}
+use Rattle.ioa_syntax.specs.Components.{Component, Compatible}
+use Rattle.ioa_syntax.specs.Compositions.{Member}
+use Rattle.ioa_syntax.specs.WellFormed.{position_fields, variable_fields}
+use Rattle.ioa_node.specs.Nodes.{Node}
+use Rattle.ioa_compile.proofs.Fits.{fit_have}
+use Rattle.ioa_compose.specs.declared.member.Member as held
+use Rattle.ioa_compose.specs.Held.{member_of}
+use Rattle.ioa_compose.specs.Fine.{IsFine, AllFine}
+use Rattle.ioa_compile.specs.Programs as codes
+use Rattle.ioa_compile.specs.Programs.{PositionCode, EntryCode, MemberCode}
+use Rattle.ioa_compile.specs.Tables.{positions_hold, is_in, table_component, position_types, HasPre, IsPartOf, IsEntry, AreEntries, AreMembers}
+use Rattle.ioa_compile.specs.Scopes.{Scope, scope_of}
+use Rattle.ioa_compile.specs.Translated.{AreTypesOf, IsGuardFor, IsFor, codes_of, IsTranslated, DoesSame}
+
+positions_same : (ps : List PositionTree) (qs : List PositionCode) (vs : List Val) → AreTypesOf (position_fields ps) (position_types qs) → positions_have basic_table ps vs ≡ positions_hold qs vs
+positions_same [] [] [] h = refl
+positions_same [] [] (v ∷ vs) h = refl
+positions_same [] (codes.typed n ∷ qs) vs h = absurd h
+positions_same (typed f ∷ ps) [] vs h = absurd h
+positions_same (typed f ∷ ps) (codes.typed n ∷ qs) [] h = refl
+positions_same (typed f ∷ ps) (codes.typed n ∷ qs) (v ∷ vs) h =
+    ap (λ o. option_map_or (λ k. is_of basic_types v k) o false && positions_have basic_table ps vs) h.0
+    ∙ ap (λ b. is_of basic_types v n && b) (positions_same ps qs vs h.1)
+
+module _ (m : Member) (slots : List ℕ) (a : Act) where
+  pub in_same : (e : EntryTree) (c : EntryCode) → IsTranslated m slots e c → entry_has basic_table a e ≡ is_in a c
+  in_same e c h =
+      ap (λ n. bytes_eq n a.name && positions_have basic_table e.positions a.vals) (sym h.name)
+      ∙ ap (λ b. bytes_eq c.name a.name && b) (positions_same e.positions c.positions a.vals h.positions)
+
+  -- the entries of the action in tree and table
+  pub record Both (es : List EntryTree) (o : Option EntryTree) (p : Option EntryCode) : Type 0 where
+    pub entry : EntryTree
+    pub code : EntryCode
+    pub entry_is : o ≡ Some entry
+    pub code_is : p ≡ Some code
+    pub same : IsTranslated m slots entry code
+    pub place : ℕ
+    pub here : slice_get es place ≡ Some entry
+    pub has : entry_has basic_table a entry ≡ true
+
+  pub record Neither (o : Option EntryTree) (p : Option EntryCode) : Type 0 where
+    pub no_entry : o ≡ None
+    pub no_code : p ≡ None
+
+  pub finds_same : (es : List EntryTree) (cs : List EntryCode) → AllZip (IsTranslated m slots) es cs → Both es (find (entry_has basic_table a) es) (find (is_in a) cs) ⊎ Neither (find (entry_has basic_table a) es) (find (is_in a) cs)
+  finds_same [] [] h = inr (record { no_entry = refl; no_code = refl })
+  finds_same [] (c ∷ cs) h = absurd h
+  finds_same (e ∷ es) [] h = absurd h
+  finds_same (e ∷ es) (c ∷ cs) h = go (entry_has basic_table a e) refl (is_in a c) (in_same e c h.0) (finds_same es cs h.1)
+    where
+      go : (b : Bool) → entry_has basic_table a e ≡ b → (d : Bool) → entry_has basic_table a e ≡ d → Both es (find (entry_has basic_table a) es) (find (is_in a) cs) ⊎ Neither (find (entry_has basic_table a) es) (find (is_in a) cs) → Both (e ∷ es) (cond b (Some e) (find (entry_has basic_table a) es)) (cond d (Some c) (find (is_in a) cs)) ⊎ Neither (cond b (Some e) (find (entry_has basic_table a) es)) (cond d (Some c) (find (is_in a) cs))
+      go true t true u r = inl (record { entry = e; code = c; entry_is = refl; code_is = refl; same = h.0; place = 0; here = refl; has = t })
+      go true t false u r = absurd (cc)
+      go false t true u r = absurd (cc)
+      go false t false u (inl r) = inl (record { entry = r.entry; code = r.code; entry_is = r.entry_is; code_is = r.code_is; same = r.same; place = suc r.place; here = r.here; has = r.has })
+      go false t false u (inr r) = inr (record { no_entry = r.no_entry; no_code = r.no_code })
+
+  pub kinds_same : (es : List EntryTree) (o : Option EntryTree) (p : Option EntryCode) → Both es o p ⊎ Neither o p → option_map (λ e. e.kind) o ≡ option_map (λ c. c.kind) p
+  kinds_same es o p (inl r) =
+      ap (option_map (λ e. e.kind)) r.entry_is ∙ ap Some (sym r.same.kind) ∙ sym (ap (option_map (λ c. c.kind)) r.code_is)
+  kinds_same es o p (inr r) = ap (option_map (λ e. e.kind)) r.no_entry ∙ sym (ap (option_map (λ c. c.kind)) r.no_code)
+
+-- the table's parts are for the component's variables
+module _ (m : Member) (c : MemberCode) where
+  part_of : (e : EntryCode) (p : Part) → IsFor p Pre c.start.types (position_types e.positions) → IsPartOf c e Pre p
+  part_of e p h = record { kind = h.kind; slots = h.slots; args = h.args }
+
+  has_pre : (e : EntryCode) (k : Kind) (o : Option Part) (s : Scope) (g : Option Expr) → IsGuardFor k (codes_of o) s g → IfSome o (λ p. IsFor p Pre c.start.types (position_types e.positions)) → HasPre c e k o
+  has_pre e Input None s g h f = tt
+  has_pre e Input (Some p) s g h f = absurd h
+  has_pre e Output None s g h f = absurd h
+  has_pre e Output (Some p) s g h f = part_of e p f
+  has_pre e Internal None s g h f = absurd h
+  has_pre e Internal (Some p) s g h f = part_of e p f
+
+  is_entry : (t : EntryTree) (e : EntryCode) → IsTranslated m c.start.types t e → IsEntry c e
+  is_entry t e h = record {
+    pre = subst (λ k. HasPre c e k e.pre) (sym h.kind) (has_pre e t.kind e.pre (scope_of m t) h.transition.0.pre h.transition.2.pre h.pre);
+    effect = record { kind = h.effect.kind; slots = h.effect.slots; args = h.effect.args };
+  }
+
+  pub are_entries : (ts : List EntryTree) (es : List EntryCode) → AllZip (IsTranslated m c.start.types) ts es → AreEntries c es
+  are_entries [] [] h = tt
+  are_entries [] (e ∷ es) h = absurd h
+  are_entries (t ∷ ts) [] h = absurd h
+  are_entries (t ∷ ts) (e ∷ es) h = (is_entry t e h.0, are_entries ts es h.1)
+
+-- ---- all components
+
+pub fine_at : (xs : List held.Member) (i : ℕ) (x : held.Member) → AllFine (map member_of xs) → i < length xs → x ≡ get_or xs i x → IsFine (member_of x)
+fine_at [] i x h lt e = absurd (omega arith)
+fine_at (y ∷ ys) zero x h lt e = subst (λ z. IsFine (member_of z)) (sym e) h.0
+fine_at (y ∷ ys) (suc i) x h lt e = fine_at ys i x h.1 (omega arith) e
+
+zip_back : {X Y : Type 0} (R : X → Y → Type 0) (xs : List X) (ys : List Y) (i : ℕ) (y : Y) → AllZip R xs ys → slice_get ys i ≡ Some y → (x : X) × (slice_get xs i ≡ Some x) × R x y
+zip_back R [] [] i y h e = absurd (cc)
+zip_back R [] (z ∷ zs) i y h e = absurd h
+zip_back R (x ∷ xs) [] i y h e = absurd h
+zip_back R (x ∷ xs) (z ∷ zs) zero y h e = let same : z ≡ y = cc in (x, refl, subst (R x) same h.0)
+zip_back R (x ∷ xs) (z ∷ zs) (suc i) y h e = zip_back R xs zs i y h.1 e
+
+mapped : {X Y : Type 0} (f : X → Y) (o : Option X) (y : Y) → option_map f o ≡ Some y → (x : X) × (o ≡ Some x) × (f x ≡ y)
+mapped f None y e = absurd (cc)
+mapped f (Some x) y e = let same : f x ≡ y = cc in (x, refl, same)
+
+module _ (ms : List Member) (cs : List MemberCode) (h : AllZip DoesSame ms cs) where
+  -- the component of the tree at the same place, with the same kinds
+  twin : (i : ℕ) (p : Component (List Val)) → slice_get (map table_component cs) i ≡ Some p → (m : Member) × (slice_get (map (λ m. component_of m.instance) ms) i ≡ Some (component_of m.instance)) × ((a : Act) → (component_of m.instance).kind_of a ≡ p.kind_of a)
+  twin i p e =
+      let c = mapped table_component (slice_get cs i) p (sym (slice_get-map table_component cs i) ∙ e) in
+      let z = zip_back DoesSame ms cs i c.0 h c.1 in
+      (z.0, slice_get-map (λ m. component_of m.instance) ms i ∙ ap (option_map (λ m. component_of m.instance)) z.1, λ a. z.2.kinds a ∙ ap (λ (q : Component (List Val)). q.kind_of a) c.2)
+
+  pub compatible_same : Compatible (map (λ m. component_of m.instance) ms) → Compatible (map table_component cs)
+  compatible_same k i j p q a ne ei ej =
+      let x = twin i p ei in
+      let y = twin j q ej in
+      let both = k i j _ _ a ne x.1 y.1 in
+      (λ internal. sym (y.2 a) ∙ both.0 (x.2 a ∙ internal), λ out other. both.1 (x.2 a ∙ out) (y.2 a ∙ other))
+
+pub are_members : (ms : List Member) (cs : List MemberCode) → AllZip DoesSame ms cs → AreMembers cs
+are_members [] [] h = tt
+are_members [] (c ∷ cs) h = absurd h
+are_members (m ∷ ms) [] h = absurd h
+are_members (m ∷ ms) (c ∷ cs) h = ((h.0.entries, h.0.typed), are_members ms cs h.1)
+
+pub does_same : (m : Member) (slots : List ℕ) (c : MemberCode) → IsFine m → AreTypesOf (variable_fields m.instance.automaton) slots → c.start ≡ record { types = slots; values = m.starts } → AllZip (IsTranslated m slots) m.instance.automaton.entries c.entries → DoesSame m c
+does_same m slots c h types start entries =
+    let es = m.instance.automaton.entries in
+    let types-are : slots ≡ c.start.types = sym (ap (λ (n : Node). n.types) start) in
+    record {
+      kinds = λ a. ap (λ t. option_map (λ e. e.kind) (find (entry_has t a) es)) h.types ∙ kinds_same m slots a es _ _ (finds_same m slots a es c.entries entries);
+      entries = are_entries m c es c.entries (subst (λ l. AllZip (IsTranslated m l) es c.entries) types-are entries);
+      typed = subst (λ (n : Node). HaveTypes basic_types n.values n.types) (sym start) (fit_have (variable_fields m.instance.automaton) m.starts slots h.starts types);
+    }

@@ -1,0 +1,15 @@
+use Rattle.std.proofs.Common.{arith}
+use Rattle.ioa_compose.specs.Held.{member_of}
+use Rattle.ioa_compile.specs.Shown.{member_code}
+use Rattle.ioa_compile.specs.Translated.{DoesSame}
+use Rattle.ioa_compile.proofs.Paired.{paired_next}
+use Rattle.ioa_compile.proofs.Twins.{fine_at}
+use Rattle.ioa_compile.proofs.compiler.compile_members.Goals as goal
+
+pub compile_member-requires-clause-fine : goal.compile_member-requires-clause-fine
+compile_member-requires-clause-fine c =
+    fine_at c.args.members.now c.loop-member.member-index c.member-item.result c.requires.fine (omega arith) c.member-item.is
+
+pub loop-member-preserved : goal.loop-member-preserved
+loop-member-preserved c =
+    paired_next DoesSame member_of member_code c.args.members.now c.loop-member.member-index c.member-item.result c.loop-member.codes.items c.push.new.self.items c.in_ok-compile_member.field-0 (omega arith) c.member-item.is c.in_ok-push.ensures.items c.in_ok-compile_member.ensures c.loop-member.invariant

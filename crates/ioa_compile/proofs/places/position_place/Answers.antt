@@ -1,0 +1,14 @@
+use Rattle.std.proofs.Common.{◌∙◌, rules, tests}
+use Rattle.std.specs.Str.{bytes_eq}
+use Rattle.std.proofs.lemmas.Iterator.{YieldsList-from_slice}
+use Rattle.std.proofs.lemmas.Iterator.Search.{position_from_yields_List}
+use Rattle.ioa_syntax.specs.View.{name_of, position_of}
+use Rattle.ioa_syntax.specs.Instances.{position_name}
+use Rattle.ioa_compile.proofs.Named.{position-place}
+use Rattle.ioa_compile.proofs.places.position_place.Goals as goal
+
+pub returns : goal.returns
+returns c =
+    let xs = c.args.positions.now in
+    position_from_yields_List (λ p. bytes_eq (position_name (position_of p)) (name_of c.args.name.now)) _ _ c.position.result c.position.ensures.ran (YieldsList-from_slice xs cc) (λ x b q k. search (rules, tests))
+    ∙ position-place position_of position_name (name_of c.args.name.now) xs

@@ -1,0 +1,37 @@
+-- Programs as plain data in a row, so that models can hold programs.
+use Rattle.std.specs.Prelude.{◌≡◌, ℕ, List, Option, refl}
+use Rattle.std.specs.Coded.{Coded, code_by, coded×, coded_ℕ, coded_list, coded_option}
+use Rattle.ioa_value.specs.Actions.{Name}
+use Rattle.ioa_code.specs.Coded.{coded_part}
+use Rattle.ioa_code.specs.Valid.{Part}
+use Rattle.ioa_node.specs.Coded.{coded_node}
+use Rattle.ioa_node.specs.Nodes.{Node}
+use Rattle.ioa_syntax.specs.declared.tree.Kind.{Kind}
+use Rattle.ioa_syntax.specs.contracts.tree.Kind as kinds
+use Rattle.ioa_compile.specs.Programs.{PositionCode, typed, EntryCode, MemberCode, Prog}
+
+abbrev pub type_of : PositionCode → ℕ
+type_of (typed ty) = ty
+
+pub typed-type_of : (p : PositionCode) → typed (type_of p) ≡ p
+typed-type_of (typed ty) = refl
+
+abbrev pub coded_name : Coded Name
+coded_name = coded_list coded_ℕ
+
+abbrev pub coded_position : Coded PositionCode
+coded_position = code_by ℕ coded_ℕ type_of typed typed-type_of
+
+abbrev pub coded_entry : Coded EntryCode
+coded_entry =
+    code_by (Kind × (Name × (List PositionCode × (Option Part × Part)))) (coded× kinds.the_row.coded (coded× coded_name (coded× (coded_list coded_position) (coded× (coded_option coded_part) coded_part))))
+    (λ e. (e.kind, (e.name, (e.positions, (e.pre, e.effect)))))
+    (λ p. record { kind = p.0; name = p.1.0; positions = p.1.1.0; pre = p.1.1.1.0; effect = p.1.1.1.1 }) (λ _. refl)
+
+abbrev pub coded_member : Coded MemberCode
+coded_member =
+    code_by (Name × (Node × List EntryCode)) (coded× coded_name (coded× coded_node (coded_list coded_entry))) (λ m. (m.name, (m.start, m.entries))) (λ p. record { name = p.0; start = p.1.0; entries = p.1.1 }) (λ _. refl)
+
+abbrev pub coded_prog : Coded Prog
+coded_prog =
+    code_by (Name × (List MemberCode × List Name)) (coded× coded_name (coded× (coded_list coded_member) (coded_list coded_name))) (λ p. (p.name, (p.members, p.hidden))) (λ p. record { name = p.0; members = p.1.0; hidden = p.1.1 }) (λ _. refl)

@@ -1,0 +1,49 @@
+-- What a step of the compiler adds to the code.
+use Rattle.std.specs.Prelude.{◌≡◌, ℕ, ◌+◌, ◌≤◌, List, length, map, sum, Option, Some, None, slice_get}
+use Rattle.ioa_value.specs.Plain.{Val}
+use Rattle.ioa_value.specs.Typing.{basic_types}
+use Rattle.ioa_code.specs.declared.instr.Instr.{Instr}
+use Rattle.ioa_code.specs.Machine.{Listing}
+use Rattle.ioa_code.specs.Valid.{OwnTypes}
+use Rattle.ioa_syntax.specs.Tree.{Expr, Stmt}
+use Rattle.ioa_syntax.specs.WellFormed.{nodes, stmt_nodes}
+use Rattle.ioa_compile.specs.Scopes.{Scope}
+use Rattle.ioa_compile.specs.Placed.{At, Pushes, HasExpr, HasGuard, HasStmt, HasStmts}
+
+-- what stands in the old code stands in the new one too
+pub record Keeps (old new : Listing) : Type 0 where
+  pub instr : (p : ℕ) (i : Instr) → At old p i → At new p i
+  pub const : (k : ℕ) (v : Val) → slice_get old.consts k ≡ Some v → slice_get new.consts k ≡ Some v
+  pub typed : OwnTypes basic_types old.consts → OwnTypes basic_types new.consts
+
+-- code that stands from the old end to the new one, with at most so many new constants
+pub record Adds (old new : Listing) (n : ℕ) (Has : Listing → ℕ → ℕ → Type 0) : Type 0 where
+  pub keeps : Keeps old new
+  pub has : Has new (length old.instrs) (length new.instrs)
+  pub few : length new.consts ≤ length old.consts + n
+
+abbrev pub AddsInstr : Listing → Listing → Instr → Type 0
+AddsInstr old new i = Adds old new 0 (λ code p q. At code p i × (q ≡ p + 1))
+
+abbrev pub AddsConst : Listing → Listing → Val → Type 0
+AddsConst old new v = Adds old new 1 (λ code p q. Pushes code p v × (q ≡ p + 1))
+
+abbrev pub AddsExpr : Listing → Listing → Scope → Expr → Type 0
+AddsExpr old new s e = Adds old new (nodes e) (λ code p q. HasExpr code s e p q)
+
+abbrev pub guard_nodes : Option Expr → ℕ
+guard_nodes None = 1
+guard_nodes (Some e) = nodes e
+
+abbrev pub AddsGuard : Listing → Listing → Scope → Option Expr → Type 0
+AddsGuard old new s e = Adds old new (guard_nodes e) (λ code p q. HasGuard code s e p q)
+
+abbrev pub AddsStmt : Listing → Listing → Scope → Stmt → Type 0
+AddsStmt old new s t = Adds old new (stmt_nodes t) (λ code p q. HasStmt code s t p q)
+
+abbrev pub AddsStmts : Listing → Listing → Scope → List Stmt → Type 0
+AddsStmts old new s ts = Adds old new (sum (map stmt_nodes ts)) (λ code p q. HasStmts code s ts p q)
+
+-- the first constants are these
+abbrev pub IsGrown : List Val → List Val → Type 0
+IsGrown old new = (k : ℕ) (v : Val) → slice_get old k ≡ Some v → slice_get new k ≡ Some v

@@ -1,0 +1,9 @@
+pub mod Programs
+pub mod Tables
+pub mod Shown
+pub mod Coded
+pub mod Means
+pub mod Scopes
+pub mod Placed
+pub mod Emitting
+pub mod Translated

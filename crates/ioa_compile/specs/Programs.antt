@@ -1,0 +1,29 @@
+-- Programs: what an object of a composition says, and no more. No tree is in them.
+use Rattle.std.specs.Prelude.{ℕ, List, Option}
+use Rattle.ioa_value.specs.Actions.{Name}
+use Rattle.ioa_code.specs.Valid.{Part}
+use Rattle.ioa_node.specs.Nodes.{Node}
+use Rattle.ioa_syntax.specs.declared.tree.Kind.{Kind}
+
+-- a position of an entry: any value of the type of this number
+pub data PositionCode : Type 0 where
+  typed : ℕ → PositionCode
+
+-- an entry with the code of its precondition, where it is locally controlled, and of its effect
+pub record EntryCode : Type 0 where
+  pub kind : Kind
+  pub name : Name
+  pub positions : List PositionCode
+  pub pre : Option Part
+  pub effect : Part
+
+-- a component: the types and start values of its variables, and its entries
+pub record MemberCode : Type 0 where
+  pub name : Name
+  pub start : Node
+  pub entries : List EntryCode
+
+pub record Prog : Type 0 where
+  pub name : Name
+  pub members : List MemberCode
+  pub hidden : List Name

@@ -1,0 +1,70 @@
+-- Where the value of a name comes from in the code of an entry.
+use Rattle.std.specs.Prelude.{◌≡◌, ℕ, ◌≤◌, List, [], ◌∷◌, map, length, Option, Some, None, IsSome, pos, IsTrue}
+use Rattle.std.specs.Option.{option_map_or}
+use Rattle.ioa_value.specs.Actions.{Name}
+use Rattle.ioa_value.specs.Arithmetic.{fits}
+use Rattle.ioa_value.specs.Plain.{Val}
+use Rattle.ioa_value.specs.Typing.{basic_types}
+use Rattle.ioa_code.specs.Valid.{OwnTypes}
+use Rattle.ioa_syntax.specs.Tree.{Expr, number, truth, named, parens, binary, Stmt, assign, EntryTree}
+use Rattle.ioa_syntax.specs.Instances.{place_from, field_names, variable_names, position_name}
+use Rattle.ioa_syntax.specs.Compositions.{Member}
+
+-- the names that an entry's code may use: variables, formals with their values, and the entry's parameters
+pub record Scope : Type 0 where
+  pub variables : List Name
+  pub formals : List Name
+  pub arguments : List Val
+  pub parameters : List Name
+
+abbrev pub scope_of : Member → EntryTree → Scope
+scope_of m e = record {
+  variables = variable_names m.instance.automaton;
+  formals = field_names m.instance.automaton.formals;
+  arguments = m.instance.arguments;
+  parameters = map position_name e.positions;
+}
+
+-- each by its place
+pub data Origin : Type 0 where
+  slot : ℕ → Origin
+  formal : ℕ → Origin
+  parameter : ℕ → Origin
+  unknown : Origin
+
+abbrev pub origin : Scope → Name → Origin
+origin s x =
+    option_map_or slot (place_from 0 s.variables x)
+    (option_map_or formal (place_from 0 s.formals x)
+    (option_map_or parameter (place_from 0 s.parameters x) unknown))
+
+abbrev pub IsOrigin : Origin → Type 0
+IsOrigin unknown = ⊥
+IsOrigin _ = Unit {0}
+
+-- each name is one of the scope's, and each number fits
+abbrev pub IsKnown : Scope → Expr → Type 0
+IsKnown s (number n) = IsTrue (fits (pos n))
+IsKnown s (truth b) = Unit {0}
+IsKnown s (named x) = IsOrigin (origin s x)
+IsKnown s (parens e) = IsKnown s e
+IsKnown s (binary l o r) = IsKnown s l × IsKnown s r
+
+-- what scopes of well-formed automata keep
+pub record IsScope (s : Scope) : Type 0 where
+  pub variables : length s.variables ≤ 64
+  pub parameters : length s.parameters ≤ 8
+  pub given : length s.formals ≡ length s.arguments
+  pub typed : OwnTypes basic_types s.arguments
+
+-- an assignment is to a variable
+abbrev pub IsKnownStmt : Scope → Stmt → Type 0
+IsKnownStmt s (assign x e) = IsSome (place_from 0 s.variables x) × IsKnown s e
+
+abbrev pub AreKnown : Scope → List Stmt → Type 0
+AreKnown s [] = Unit {0}
+AreKnown s (t ∷ ts) = IsKnownStmt s t × AreKnown s ts
+
+abbrev pub IsKnownGuard : Scope → Option Expr → Type 0
+IsKnownGuard s None = Unit {0}
+IsKnownGuard s (Some e) = IsKnown s e

@@ -1,0 +1,89 @@
+-- What a program's table does: the components that its composition's step is made of.
+use Rattle.std.specs.Prelude.{◌≡◌, ℕ, Bool, true, false, ◌&&◌, List, [], ◌∷◌, map, find, Option, Some, None, Result, Ok}
+use Rattle.std.specs.Option.{option_map, option_map_or}
+use Rattle.std.specs.Str.{bytes_eq}
+use Rattle.ioa_value.specs.declared.arithmetic.Fault.{Fault}
+use Rattle.ioa_value.specs.Actions.{Act}
+use Rattle.ioa_value.specs.Plain.{Val}
+use Rattle.ioa_value.specs.Typing.{basic_types, HaveTypes}
+use Rattle.ioa_value.specs.Tests.{is_of}
+use Rattle.ioa_code.specs.declared.instr.PartKind.{PartKind}
+use Rattle.ioa_code.specs.declared.instr.PartKind.TheVariants.{Pre, Eff}
+use Rattle.ioa_code.specs.Valid.{Part}
+use Rattle.ioa_node.specs.Runs.{guard_of, effect_of}
+use Rattle.ioa_syntax.specs.declared.tree.Kind.{Kind}
+use Rattle.ioa_syntax.specs.declared.tree.Kind.TheVariants.{Input}
+use Rattle.ioa_syntax.specs.Components.{Component, Compatible}
+use Rattle.ioa_compile.specs.Programs.{PositionCode, typed, EntryCode, MemberCode, Prog}
+
+abbrev pub position_holds : PositionCode → Val → Bool
+position_holds (typed ty) v = is_of basic_types v ty
+
+abbrev pub positions_hold : List PositionCode → List Val → Bool
+positions_hold [] [] = true
+positions_hold [] (v ∷ vs) = false
+positions_hold (p ∷ ps) [] = false
+positions_hold (p ∷ ps) (v ∷ vs) = position_holds p v && positions_hold ps vs
+
+-- the action is in the entry
+abbrev pub is_in : Act → EntryCode → Bool
+is_in a e = bytes_eq e.name a.name && positions_hold e.positions a.vals
+
+-- the entry that has the action
+abbrev pub entry_of : MemberCode → Act → Option EntryCode
+entry_of m a = find (is_in a) m.entries
+
+-- an entry without code for a precondition asks for nothing
+abbrev pub allows : Option Part → List Val → List Val → Result Bool Fault
+allows None slots args = Ok true
+allows (Some part) slots args = guard_of part slots args
+
+-- a component whose state is the values of its variables
+abbrev pub table_component : MemberCode → Component (List Val)
+table_component m = record {
+  kind_of = λ a. option_map (λ e. e.kind) (entry_of m a);
+  guard = λ a slots. option_map_or (λ e. allows e.pre slots a.vals) (entry_of m a) (Ok false);
+  effect = λ a slots. option_map_or (λ e. effect_of e.effect slots a.vals) (entry_of m a) (Ok slots);
+}
+
+-- the program's components in order
+abbrev pub tabled : Prog → List (Component (List Val))
+tabled p = map table_component p.members
+
+-- the states in which they start
+abbrev pub start_states : Prog → List (List Val)
+start_states p = map (λ m. m.start.values) p.members
+
+abbrev pub position_types : List PositionCode → List ℕ
+position_types [] = []
+position_types (typed ty ∷ ps) = ty ∷ position_types ps
+
+-- the part is of this kind, over the component's variables and the entry's values
+pub record IsPartOf (m : MemberCode) (e : EntryCode) (k : PartKind) (part : Part) : Type 0 where
+  pub kind : part.kind ≡ k
+  pub slots : part.slots ≡ m.start.types
+  pub args : part.args ≡ position_types e.positions
+
+-- an input has no precondition; any other entry has one
+abbrev pub HasPre : MemberCode → EntryCode → Kind → Option Part → Type 0
+HasPre m e Input None = Unit {0}
+HasPre m e Input (Some part) = ⊥
+HasPre m e k None = ⊥
+HasPre m e k (Some part) = IsPartOf m e Pre part
+
+pub record IsEntry (m : MemberCode) (e : EntryCode) : Type 0 where
+  pub pre : HasPre m e e.kind e.pre
+  pub effect : IsPartOf m e Eff e.effect
+
+abbrev pub AreEntries : MemberCode → List EntryCode → Type 0
+AreEntries m [] = Unit {0}
+AreEntries m (e ∷ es) = IsEntry m e × AreEntries m es
+
+abbrev pub AreMembers : List MemberCode → Type 0
+AreMembers [] = Unit {0}
+AreMembers (m ∷ ms) = (AreEntries m m.entries × HaveTypes basic_types m.start.values m.start.types) × AreMembers ms
+
+-- what a program keeps
+pub record IsProgram (p : Prog) : Type 0 where
+  pub members : AreMembers p.members
+  pub compatible : Compatible (tabled p)

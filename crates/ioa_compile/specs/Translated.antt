@@ -1,0 +1,84 @@
+-- What the compiler makes of an entry and of a component.
+use Rattle.std.specs.Prelude.{◌≡◌, ℕ, List, length, Option, Some, None, IfSome, slice_get}
+use Rattle.std.specs.List.{AllZip}
+use Rattle.ioa_value.specs.Actions.{Act}
+use Rattle.ioa_value.specs.Typing.{HaveTypes, basic_types}
+use Rattle.ioa_code.specs.declared.instr.PartKind.{PartKind}
+use Rattle.ioa_code.specs.declared.instr.PartKind.TheVariants.{Pre, Eff}
+use Rattle.ioa_code.specs.Machine.{Listing}
+use Rattle.ioa_code.specs.Valid.{Part, OwnTypes}
+use Rattle.ioa_syntax.specs.declared.tree.Kind.{Kind}
+use Rattle.ioa_syntax.specs.declared.tree.Kind.TheVariants.{Input, Output, Internal}
+use Rattle.ioa_syntax.specs.Tree.{Expr, Stmt, FieldTree, PositionTree, typed, EntryTree, TransitionTree}
+use Rattle.ioa_syntax.specs.Instances.{type_named, basic_table, transition_for, component_of}
+use Rattle.ioa_syntax.specs.WellFormed.{position_fields}
+use Rattle.ioa_syntax.specs.Compositions.{Member}
+use Rattle.ioa_compile.specs.Programs.{EntryCode, MemberCode}
+use Rattle.ioa_compile.specs.Tables.{AreEntries, table_component, position_types}
+use Rattle.ioa_compile.specs.Scopes.{Scope, scope_of}
+use Rattle.ioa_compile.specs.Placed.{HasGuard, HasStmts}
+
+-- the field's type has this number
+abbrev pub IsTypeOf : FieldTree → ℕ → Type 0
+IsTypeOf f n = type_named basic_table f.ty ≡ Some n
+
+abbrev pub AreTypesOf : List FieldTree → List ℕ → Type 0
+AreTypesOf fs ns = AllZip IsTypeOf fs ns
+
+abbrev pub position_field : PositionTree → FieldTree
+position_field (typed f) = f
+
+-- the whole code is the precondition's
+pub record IsGuard (code : Listing) (s : Scope) (g : Option Expr) : Type 0 where
+  pub has : HasGuard code s g 0 (length code.instrs)
+  pub typed : OwnTypes basic_types code.consts
+
+-- the whole code is the statements'
+pub record IsEffect (code : Listing) (s : Scope) (ts : List Stmt) : Type 0 where
+  pub has : HasStmts code s ts 0 (length code.instrs)
+  pub typed : OwnTypes basic_types code.consts
+
+-- an input has no code for a precondition
+abbrev pub IsGuardFor : Kind → Option Listing → Scope → Option Expr → Type 0
+IsGuardFor Input None s g = Unit {0}
+IsGuardFor Input (Some code) s g = ⊥
+IsGuardFor Output None s g = ⊥
+IsGuardFor Output (Some code) s g = IsGuard code s g
+IsGuardFor Internal None s g = ⊥
+IsGuardFor Internal (Some code) s g = IsGuard code s g
+
+-- the code of a transition: both parts carry one table of constants
+pub record IsTransition (m : Member) (e : EntryTree) (t : TransitionTree) (guard : Option Listing) (code : Listing) : Type 0 where
+  pub pre : IsGuardFor e.kind guard (scope_of m e) t.pre
+  pub effect : IsEffect code (scope_of m e) t.effect
+  pub consts : IfSome guard (λ g. g.consts ≡ code.consts)
+
+-- the part's kind and types
+pub record IsFor (part : Part) (k : PartKind) (variables values : List ℕ) : Type 0 where
+  pub kind : part.kind ≡ k
+  pub slots : part.slots ≡ variables
+  pub args : part.args ≡ values
+
+abbrev pub codes_of : Option Part → Option Listing
+codes_of None = None
+codes_of (Some p) = Some p.code
+
+-- the table's entry for an entry, over variables of these types
+pub record IsTranslated (m : Member) (slots : List ℕ) (e : EntryTree) (c : EntryCode) : Type 0 where
+  pub kind : c.kind ≡ e.kind
+  pub name : c.name ≡ e.name
+  pub positions : AreTypesOf (position_fields e.positions) (position_types c.positions)
+  pub transition : (t : TransitionTree) × (transition_for m.instance.automaton e ≡ Some t) × IsTransition m e t (codes_of c.pre) c.effect.code
+  pub pre : IfSome c.pre (λ p. IsFor p Pre slots (position_types c.positions))
+  pub effect : IsFor c.effect Eff slots (position_types c.positions)
+
+-- the entry is one of the automaton's
+pub record IsEntryOf (m : Member) (e : EntryTree) : Type 0 where
+  pub place : ℕ
+  pub here : slice_get m.instance.automaton.entries place ≡ Some e
+
+-- the component of the table has the same actions, and is sound
+pub record DoesSame (m : Member) (c : MemberCode) : Type 0 where
+  pub kinds : (a : Act) → (component_of m.instance).kind_of a ≡ (table_component c).kind_of a
+  pub entries : AreEntries c c.entries
+  pub typed : HaveTypes basic_types c.start.values c.start.types

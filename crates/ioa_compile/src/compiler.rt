@@ -1,0 +1,68 @@
+ghost use Rattle.std.specs.Prelude.{◌≡◌, map, IfOk};
+ghost use Rattle.std.specs.List.{AllZip};
+ghost use Rattle.std.specs.String.{string_bytes};
+ghost use Rattle.ioa_value.specs.Typing.{basic_types};
+ghost use Rattle.ioa_compose.specs.Fine.{IsFine, AllFine};
+ghost use Rattle.ioa_compose.specs.Held.{composed_of, member_of};
+ghost use Rattle.ioa_compile.specs.Shown.{member_code};
+ghost use Rattle.ioa_compile.specs.Translated.{DoesSame};
+
+use crate::entries::compile_entries;
+use crate::program::Program;
+use crate::table::Member;
+use crate::types::variable_types;
+use ioa_compose::{Composition, Member as MemberTree};
+use ioa_node::from_values;
+use ioa_value::{OutOfMemory, Types};
+use std::alloc::Global;
+
+/// The program that means the composition. It refuses nothing but for want of memory.
+pub fn compile(alloc: Global, composition: &Composition) -> Result<Program, OutOfMemory> {
+    let types = Types::new(alloc)?;
+    let members = compile_members(alloc, &types, composition.members())?;
+    let name = composition.name().to_string(alloc)?;
+    let hidden = names(alloc, composition.hidden())?;
+    Ok(Program::new(name, members, hidden))
+}
+
+/// The components, compiled, in order.
+fn compile_members(
+    alloc: Global,
+    types: &Types,
+    members: &[MemberTree],
+) -> Result<Vec<Member>, OutOfMemory>
+    requires fine { AllFine (map member_of members.now) }
+    requires types { types.now ≡ basic_types }
+    ensures { IfOk result (λ codes. AllZip DoesSame (map member_of members.now) (map member_code codes.items)) }
+{
+    let mut codes = Vec::new(alloc);
+    for member in members {
+        codes.push(compile_member(alloc, types, member)?)?;
+    }
+    Ok(codes)
+}
+
+/// A component, compiled.
+fn compile_member(alloc: Global, types: &Types, member: &MemberTree) -> Result<Member, OutOfMemory>
+    requires fine { IsFine (member_of member.now) }
+    requires types { types.now ≡ basic_types }
+    ensures { IfOk result (λ c. DoesSame (member_of member.now) (member_code c)) }
+{
+    let slots = variable_types(alloc, &member.automaton.variables)?;
+    Ok(Member {
+        name: member.name.clone()?,
+        start: from_values(alloc, types, &slots, &member.starts)?,
+        entries: compile_entries(alloc, types, member, &slots)?,
+    })
+}
+
+/// Names that equal these.
+fn names(alloc: Global, names: &[String]) -> Result<Vec<String>, OutOfMemory>
+    ensures { IfOk result (λ copies. map string_bytes copies.items ≡ map string_bytes names.now) }
+{
+    let mut copies = Vec::new(alloc);
+    for name in names {
+        copies.push(name.clone()?)?;
+    }
+    Ok(copies)
+}

@@ -1,0 +1,159 @@
+ghost use Rattle.std.specs.Prelude.{◌≡◌, ◌∷◌, [], map, Some, None, IfOk, IfSome, IsSome};
+ghost use Rattle.std.specs.List.{AllZip};
+ghost use Rattle.std.specs.Option.{option_map};
+ghost use Rattle.ioa_code.specs.declared.instr.PartKind.TheVariants.{Pre};
+ghost use Rattle.ioa_value.specs.Plain.{plain};
+ghost use Rattle.ioa_value.specs.Typing.{basic_types};
+ghost use Rattle.ioa_code.specs.Valid.{Valid, OwnTypes, Suits};
+ghost use Rattle.ioa_code.specs.Parts.{number, part};
+ghost use Rattle.ioa_syntax.specs.View.{entry_of, transition_of, automaton_of};
+ghost use Rattle.ioa_syntax.specs.Instances.{transition_for};
+ghost use Rattle.ioa_syntax.specs.WellFormed.{variable_fields};
+ghost use Rattle.ioa_compose.specs.Held.{member_of};
+ghost use Rattle.ioa_compose.specs.Fine.{IsFine};
+ghost use Rattle.ioa_compile.specs.Shown.{entry_code, position_code};
+ghost use Rattle.ioa_compile.specs.Tables.{position_types as types_of_positions};
+ghost use Rattle.ioa_compile.specs.Translated.{AreTypesOf, IsEntryOf, IsTranslated};
+
+use crate::table::{Entry, Position};
+use crate::transition::transition_code;
+use crate::types::position_types;
+use ioa_code::{Code, CodeErr, Env, PartKind, Verified, verify};
+use ioa_compose::Member;
+use ioa_syntax::{Automaton, Entry as EntryTree, Transition};
+use ioa_value::{OutOfMemory, Ty, Types};
+use std::alloc::Global;
+
+/// The entries of a component's table, over variables of these types.
+pub(crate) fn compile_entries(
+    alloc: Global,
+    types: &Types,
+    member: &Member,
+    slots: &[Ty],
+) -> Result<Vec<Entry>, OutOfMemory>
+    requires fine { IsFine (member_of member.now) }
+    requires types { types.now ≡ basic_types }
+    requires slots { AreTypesOf (variable_fields (automaton_of member.now.automaton)) (map number slots.now) }
+    ensures { IfOk result (λ entries. AllZip (IsTranslated (member_of member.now) (map number slots.now)) (automaton_of member.now.automaton).entries (map entry_code entries.items)) }
+{
+    let mut entries = Vec::new(alloc);
+    for entry in &member.automaton.entries {
+        entries.push(compile_entry(alloc, types, member, slots, entry)?)?;
+    }
+    Ok(entries)
+}
+
+/// An entry of a component's table: its positions, and the code of its transition.
+fn compile_entry(
+    alloc: Global,
+    types: &Types,
+    member: &Member,
+    slots: &[Ty],
+    entry: &EntryTree,
+) -> Result<Entry, OutOfMemory>
+    requires fine { IsFine (member_of member.now) }
+    requires types { types.now ≡ basic_types }
+    requires slots { AreTypesOf (variable_fields (automaton_of member.now.automaton)) (map number slots.now) }
+    requires own { IsEntryOf (member_of member.now) (entry_of entry.now) }
+    ensures { IfOk result (λ e. IsTranslated (member_of member.now) (map number slots.now) (entry_of entry.now) (entry_code e)) }
+{
+    let transition = transition_of(&member.automaton, entry);
+    let arguments = position_types(alloc, &entry.positions)?;
+    let (guard, effect) = transition_code(alloc, member, entry, transition)?;
+    Ok(Entry {
+        kind: entry.kind,
+        name: entry.name.text.clone()?,
+        positions: positions_of(alloc, &arguments)?,
+        pre: guard_part(alloc, types, guard, slots, &arguments)?,
+        effect: verified(alloc, types, effect, PartKind::Eff, slots, &arguments, &[])?,
+    })
+}
+
+/// The transition of an entry.
+fn transition_of<'a>(automaton: &'a Automaton, entry: &EntryTree) -> &'a Transition
+    requires { IsSome (transition_for (automaton_of automaton.now) (entry_of entry.now)) }
+    ensures { transition_for (automaton_of automaton.now) (entry_of entry.now) ≡ Some (transition_of result.now) }
+{
+    for transition in &automaton.transitions {
+        if transition.name.text.as_str() == entry.name.text.as_str() {
+            return transition;
+        }
+    }
+    unreachable!()
+}
+
+/// Positions that any value of their types takes.
+fn positions_of(alloc: Global, types: &[Ty]) -> Result<Vec<Position>, OutOfMemory>
+    ensures { IfOk result (λ positions. types_of_positions (map position_code positions.items) ≡ map number types.now) }
+{
+    let mut positions = Vec::new(alloc);
+    for ty in types {
+        positions.push(Position::Typed(*ty))?;
+    }
+    Ok(positions)
+}
+
+/// The code of a precondition, verified.
+fn guard_part(
+    alloc: Global,
+    types: &Types,
+    guard: Option<Code>,
+    slots: &[Ty],
+    arguments: &[Ty],
+) -> Result<Option<Verified>, OutOfMemory>
+    requires types { types.now ≡ basic_types }
+    requires typed { IfSome guard (λ code. OwnTypes basic_types (map plain code.consts.items)) }
+    requires valid { IfSome guard (λ code. Valid (part code Pre slots.now arguments.now (Ty.BOOL ∷ []))) }
+    ensures { IfOk result (λ p. p ≡ option_map (λ code. part code Pre slots.now arguments.now (Ty.BOOL ∷ [])) guard) }
+{
+    match guard {
+        Some(code) => Ok(Some(verified(
+            alloc,
+            types,
+            code,
+            PartKind::Pre,
+            slots,
+            arguments,
+            &[Ty::BOOL],
+        )?)),
+        None => Ok(None),
+    }
+}
+
+/// Valid code, verified.
+fn verified(
+    alloc: Global,
+    types: &Types,
+    code: Code,
+    kind: PartKind,
+    slots: &[Ty],
+    arguments: &[Ty],
+    stack: &[Ty],
+) -> Result<Verified, OutOfMemory>
+    requires types { types.now ≡ basic_types }
+    requires typed { OwnTypes basic_types (map plain code.consts.items) }
+    requires suits { Suits kind (map number stack.now) }
+    requires valid { Valid (part code kind slots.now arguments.now stack.now) }
+    ensures { IfOk result (λ v. v ≡ part code kind slots.now arguments.now stack.now) }
+{
+    let env = Env {
+        types,
+        kind,
+        slots,
+        arguments,
+        result: stack,
+    };
+    let answer = verify(alloc, code, &env);
+    let Env {
+        types: _,
+        kind: _,
+        slots: _,
+        arguments: _,
+        result: _,
+    } = env;
+    match answer {
+        Ok(part) => Ok(part),
+        Err(CodeErr::OutOfMemory) => Err(OutOfMemory),
+        Err(CodeErr::Bad { .. }) => unreachable!(),
+    }
+}

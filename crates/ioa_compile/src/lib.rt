@@ -1,0 +1,15 @@
+//! From compositions to programs: tables, start states and verified code.
+#![tactic(auto)]
+
+mod compiler;
+mod emitter;
+mod entries;
+mod places;
+mod program;
+mod table;
+mod transition;
+mod types;
+
+pub use compiler::compile;
+pub use program::Program;
+pub use table::{Entry, Member, Position};

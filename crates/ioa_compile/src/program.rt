@@ -1,0 +1,68 @@
+ghost use Rattle.std.specs.Prelude.{◌≡◌, map};
+ghost use Rattle.std.specs.String.{string_bytes};
+ghost use Rattle.ioa_compile.specs.Shown.{member_code};
+ghost use Rattle.ioa_compile.specs.Tables.{IsProgram};
+
+use crate::table::Member;
+use std::marker::Model;
+
+/// A program: tables, start states and verified code of a composition. It holds no tree.
+#[derive(Drop)]
+pub struct Program {
+    name: String,
+    members: Vec<Member>,
+    hidden: Vec<String>,
+}
+
+impl Model for Program {
+    ghost use Rattle.ioa_compile.specs.Programs.{Prog};
+    ghost use Rattle.ioa_compile.specs.Coded.{coded_prog};
+
+    ghost Value = { Prog };
+
+    ghost coded = { coded_prog };
+
+    ghost use Rattle.std.specs.Prelude.{map};
+    ghost use Rattle.std.specs.String.{string_bytes};
+    ghost use Rattle.ioa_compile.specs.Shown.{member_code};
+    ghost use Rattle.ioa_compile.specs.Tables.{IsProgram};
+
+    ghost view = { λ p. record { name = string_bytes p.name; members = map member_code p.members.items; hidden = map string_bytes p.hidden.items } };
+
+    ghost invariant = { λ p. IsProgram (record { name = string_bytes p.name; members = map member_code p.members.items; hidden = map string_bytes p.hidden.items }) };
+}
+
+impl Program {
+    pub(crate) fn new(name: String, members: Vec<Member>, hidden: Vec<String>) -> Program
+        requires { IsProgram (record { name = string_bytes name; members = map member_code members.items; hidden = map string_bytes hidden.items }) }
+        ensures { result ≡ record { name = string_bytes name; members = map member_code members.items; hidden = map string_bytes hidden.items } }
+    {
+        Program {
+            name,
+            members,
+            hidden,
+        }
+    }
+
+    /// The composition's name.
+    pub fn name(&self) -> &str
+        ensures { result.now ≡ self.now.name }
+    {
+        self.name.as_str()
+    }
+
+    /// The components in order.
+    pub fn members(&self) -> &[Member]
+        ensures value { map member_code result.now ≡ self.now.members }
+        ensures sound { IsProgram self.now }
+    {
+        self.members.as_slice()
+    }
+
+    /// The names that are hidden.
+    pub fn hidden(&self) -> &[String]
+        ensures { map string_bytes result.now ≡ self.now.hidden }
+    {
+        self.hidden.as_slice()
+    }
+}

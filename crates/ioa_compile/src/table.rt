@@ -1,0 +1,30 @@
+use ioa_code::Verified;
+use ioa_node::NodeState;
+use ioa_syntax::Kind;
+use ioa_value::Ty;
+
+/// A position of an entry.
+#[derive(Clone, Copy, Debug, PartialEq, Eq)]
+pub enum Position {
+    /// Any value of this type.
+    Typed(Ty),
+}
+
+/// An entry of a component's signature, with the code of its transition.
+#[derive(Drop)]
+pub struct Entry {
+    pub kind: Kind,
+    pub name: String,
+    pub positions: Vec<Position>,
+    /// The precondition of an output or internal entry.
+    pub pre: Option<Verified>,
+    pub effect: Verified,
+}
+
+/// A component: its name, its start state and its entries in order.
+#[derive(Drop)]
+pub struct Member {
+    pub name: String,
+    pub start: NodeState,
+    pub entries: Vec<Entry>,
+}

@@ -1,0 +1,40 @@
+ghost use Rattle.std.specs.Prelude.{◌≡◌, ◌≤◌, ℕ, OnErr};
+ghost use Rattle.std.specs.Io.KnownBytes.{ReadConsumes, WriteAppends};
+ghost use Rattle.std.specs.Io.{ReadsAtMost, WritesAtMost};
+ghost use Rattle.ioa_log.specs.Failing.{HasFailed, TakesSome};
+
+use std::io::{Read, Write};
+
+/// A call of a device failed, and its count says so.
+#[derive(Clone, Copy, Debug, PartialEq, Eq)]
+pub struct Failed;
+
+/// A reader or a writer that knows how many of its calls failed.
+pub trait Device {
+    ghost failure_count: { Self → ℕ };
+
+    /// How many calls failed so far.
+    fn failures(&self) -> u64
+        ensures { result ≡ failure_count self.now };
+}
+
+/// A reader whose failures are counted.
+pub trait InputDevice: Read + Device {
+    /// One read.
+    fn pull(&mut self, piece: &mut [u8]) -> Result<usize, Failed>
+        ensures bound { ReadsAtMost result piece.new }
+        ensures bytes { ReadConsumes (Self.remaining self.old) (Self.remaining self.new) result piece.new }
+        ensures failed { OnErr result (HasFailed (Self.failure_count self.old) (Self.failure_count self.new)) }
+        ensures counts { Self.failure_count self.old ≤ Self.failure_count self.new };
+}
+
+/// A writer whose failures are counted, a write that takes nothing of a piece among them.
+pub trait OutputDevice: Write + Device {
+    /// One write.
+    fn push(&mut self, piece: &[u8]) -> Result<usize, Failed>
+        ensures bound { WritesAtMost result piece.now }
+        ensures some { TakesSome result piece.now }
+        ensures bytes { WriteAppends (Self.contents self.old) (Self.contents self.new) result piece.now }
+        ensures failed { OnErr result (HasFailed (Self.failure_count self.old) (Self.failure_count self.new)) }
+        ensures counts { Self.failure_count self.old ≤ Self.failure_count self.new };
+}

@@ -1,0 +1,313 @@
+-- A fault of an expression hangs on the tokens up to the one that it names, and no greater depth mends it; and only more
+-- tokens than the depth allows go too deep.
+use Rattle.std.proofs.Common.{◌≡◌, ℕ, zero, suc, ◌+◌, ◌-◌, ◌<◌, ◌≤◌, ◌⊎◌, inl, inr, Bool, ◌&&◌, List, [], ◌∷◌, ◌++◌, length, refl, sym, ap, ◌∙◌, subst, arith, Option, Some, None, Result, Ok, Err, true, false, nat_le, nat_lt, if◌then◌else◌, length-append, append_assoc}
+use Rattle.std.proofs.lemmas.Bool.Decides.{nat_tests}
+use Rattle.ioa_lex.specs.declared.terminal.Terminal.{Terminal}
+use Rattle.ioa_lex.specs.declared.terminal.Terminal.TheVariants as terminals
+use Rattle.ioa_lex.specs.Tokens as tokens
+use Rattle.ioa_lex.specs.Tokens.{Tok, terminal}
+use Rattle.ioa_syntax.specs.declared.fault.Fault.{Fault}
+use Rattle.ioa_syntax.specs.declared.fault.Fault.TheVariants.{Syntax, TooDeep}
+use Rattle.ioa_syntax.specs.declared.tree.Operator.{Operator}
+use Rattle.ioa_syntax.specs.Tree.{Expr, number, truth, named, parens, binary}
+use Rattle.ioa_syntax.specs.Depth.{depth_of}
+use Rattle.ioa_syntax.specs.Grammar.{SpellsExpr, SameHead, level_of, left_of, right_of}
+use Rattle.ioa_syntax.specs.Reading.{climb, climb_by, stop_by, expr, expression, no_depth, operand, opened, operator_at, operator_in, terminal_at, terminal_in, allowed, after_of, rest, sign, Outcome, Reader, ◌>>=◌, ◌▸◌, built}
+use Rattle.ioa_syntax.proofs.Outcomes.{bind_ok, bind_err, ok_pair, AtMost, at_most_more, at_most_then, Shrinks, Alike, Past, past_at_most, alike_then, alike_rest, refused_at, went, front_length, same_head, LooksAhead, head_alike, rest_length}
+use Rattle.ioa_syntax.proofs.Exact.{Found, Exact}
+use Rattle.ioa_syntax.proofs.Singles.{sign_exact}
+use Rattle.ioa_syntax.proofs.Complete.{mark, Ends, complete, spelled_deep, depth_positive}
+use Rattle.ioa_syntax.proofs.Sound.{Next, next_cases, Opening, opening, opens_true, opens_false, opens_parens, opens_none, bracketed, opened_true, opened_false, opened_bracketed, le_of, sound, operand_sound}
+
+operator_alike : (least below : ℕ) → LooksAhead (operator_at least below)
+unfolding operator_at terminal_at
+operator_alike least below = head_alike (operator_at least below) None (λ x. allowed least below (operator_in (terminal_in x))) refl (λ x ts. refl)
+
+-- ---- operands
+
+bracketed_shrinks : (inner : Reader Expr) → Shrinks inner → Shrinks (bracketed inner)
+bracketed_shrinks inner shrinks ts =
+    at_most_then (length ts) ((inner ▸ sign terminals.Close) ts) (λ x. Ok (parens x.0.0, x.1))
+    (at_most_then (length ts) (inner ts) (λ x. sign terminals.Close x.1 >>= λ y. Ok ((x.0, y.0), y.1)) (shrinks ts)
+        (λ x h. at_most_then (length ts) (sign terminals.Close x.1) (λ y. Ok ((x.0, y.0), y.1)) (at_most_more (length x.1) (length ts) (sign terminals.Close x.1) h ((sign_exact terminals.Close).shrinks 0 x.1)) (λ y k. k)))
+    (λ x h. h)
+
+opened_shrinks : (inner : Reader Expr) → Shrinks inner → (t : Terminal) (ts : List Tok) → AtMost (suc (length ts)) (opened inner t ts)
+opened_shrinks inner shrinks t ts =
+    elim (opening inner t) [
+      | opens_true is ↦ subst (λ o. AtMost (suc (length ts)) o) (sym (ap (λ t. opened inner t ts) is ∙ opened_true inner ts)) (omega arith)
+      | opens_false is ↦ subst (λ o. AtMost (suc (length ts)) o) (sym (ap (λ t. opened inner t ts) is ∙ opened_false inner ts)) (omega arith)
+      | opens_parens is ↦ subst (λ o. AtMost (suc (length ts)) o) (sym (ap (λ t. opened inner t ts) is ∙ opened_bracketed inner ts)) (at_most_more (length ts) (suc (length ts)) (bracketed inner ts) (omega arith) (bracketed_shrinks inner shrinks ts))
+      | opens_none faults ↦ subst (λ o. AtMost (suc (length ts)) o) (sym (faults ts)) (omega arith)
+    ]
+
+operand_shrinks : (inner : Reader Expr) → Shrinks inner → Shrinks (operand inner)
+unfolding operand
+operand_shrinks inner shrinks [] = omega arith
+operand_shrinks inner shrinks (tokens.number n ∷ ts) = omega arith
+operand_shrinks inner shrinks (tokens.name n ∷ ts) = omega arith
+operand_shrinks inner shrinks (terminal t ∷ ts) = opened_shrinks inner shrinks t ts
+
+module _ (inner inner' : Reader Expr) (shrinks : Shrinks inner) (s s' : List Tok) (same : SameHead s s') (alike : (c : List Tok) → Alike s s' (inner (c ++ s)) (inner' (c ++ s'))) where
+  abbrev closed : Expr × List Tok → Outcome (Expr × Unit {0})
+  closed x = sign terminals.Close x.1 >>= λ y. Ok ((x.0, y.0), y.1)
+
+  close_past : (x : Expr × List Tok) → length x.1 < length s → Past s (closed x)
+  close_past x h =
+      past_at_most s (length x.1) (closed x) h (at_most_then (length x.1) (sign terminals.Close x.1) (λ y. Ok ((x.0, y.0), y.1)) ((sign_exact terminals.Close).shrinks 0 x.1) (λ y k. k))
+
+  bracketed_alike : (c : List Tok) → Alike s s' (bracketed inner (c ++ s)) (bracketed inner' (c ++ s'))
+  bracketed_alike c =
+      alike_then s s' ((inner ▸ sign terminals.Close) (c ++ s)) ((inner' ▸ sign terminals.Close) (c ++ s')) (λ x. Ok (parens x.0.0, x.1)) (λ x. Ok (parens x.0.0, x.1))
+      (alike_then s s' (inner (c ++ s)) (inner' (c ++ s')) closed closed (alike c) close_past
+          (λ x d was is. alike_then s s' (sign terminals.Close (d ++ s)) (sign terminals.Close (d ++ s')) (λ y. Ok ((x, y.0), y.1)) (λ y. Ok ((x, y.0), y.1)) ((sign_exact terminals.Close).alike 0 0 (omega arith) s s' same d) (λ y h. h) (λ y r was is. went s s' (x, y) r)))
+      (λ x h. h) (λ x d was is. went s s' (parens x.0) d)
+
+  alike_as : (o p o' p' : Outcome Expr) → o ≡ p → o' ≡ p' → Alike s s' p p' → Alike s s' o o'
+  alike_as o p o' p' e e' a = subst (λ z. Alike s s' z o') (sym e) (subst (λ z. Alike s s' p z) (sym e') a)
+
+  opened_alike : (t : Terminal) (c : List Tok) → Alike s s' (opened inner t (c ++ s)) (opened inner' t (c ++ s'))
+  opened_alike t c =
+      elim (opening inner t) [
+        | opens_true is ↦ alike_as (opened inner t (c ++ s)) (Ok (truth true, c ++ s)) (opened inner' t (c ++ s')) (Ok (truth true, c ++ s')) (ap (λ t. opened inner t (c ++ s)) is ∙ opened_true inner (c ++ s)) (ap (λ t. opened inner' t (c ++ s')) is ∙ opened_true inner' (c ++ s')) (went s s' (truth true) c)
+        | opens_false is ↦ alike_as (opened inner t (c ++ s)) (Ok (truth false, c ++ s)) (opened inner' t (c ++ s')) (Ok (truth false, c ++ s')) (ap (λ t. opened inner t (c ++ s)) is ∙ opened_false inner (c ++ s)) (ap (λ t. opened inner' t (c ++ s')) is ∙ opened_false inner' (c ++ s')) (went s s' (truth false) c)
+        | opens_parens is ↦ alike_as (opened inner t (c ++ s)) (bracketed inner (c ++ s)) (opened inner' t (c ++ s')) (bracketed inner' (c ++ s')) (ap (λ t. opened inner t (c ++ s)) is ∙ opened_bracketed inner (c ++ s)) (ap (λ t. opened inner' t (c ++ s')) is ∙ opened_bracketed inner' (c ++ s')) (bracketed_alike c)
+        | opens_none faults ↦ none (opening inner' t) faults
+      ]
+    where
+      none : Opening inner' t → ((ts : List Tok) → opened inner t ts ≡ Err (Syntax (suc (length ts)))) → Alike s s' (opened inner t (c ++ s)) (opened inner' t (c ++ s'))
+      none (opens_true is) faults = let never = sym (faults []) ∙ (ap (λ t. opened inner t []) is ∙ opened_true inner []) in absurd (cc)
+      none (opens_false is) faults = let never = sym (faults []) ∙ (ap (λ t. opened inner t []) is ∙ opened_false inner []) in absurd (cc)
+      none (opens_parens is) faults =
+          let here : opened inner t (c ++ s) ≡ Err (Syntax (suc (length (c ++ s)))) = faults (c ++ s) in
+          alike_as (opened inner t (c ++ s)) (bracketed inner (c ++ s)) (opened inner' t (c ++ s')) (bracketed inner' (c ++ s')) (ap (λ t. opened inner t (c ++ s)) is ∙ opened_bracketed inner (c ++ s)) (ap (λ t. opened inner' t (c ++ s')) is ∙ opened_bracketed inner' (c ++ s')) (bracketed_alike c)
+      none (opens_none faults') faults =
+          alike_as (opened inner t (c ++ s)) (Err (Syntax (suc (length (c ++ s))))) (opened inner' t (c ++ s')) (Err (Syntax (suc (length (c ++ s'))))) (faults (c ++ s)) (faults' (c ++ s')) (refused_at s s' (suc (length (c ++ s))) (suc (length (c ++ s'))) (omega (arith, front_length c s)))
+
+opened_here : (inner inner' : Reader Expr) → Shrinks inner → (t : Terminal) (r r' : List Tok) → Alike (terminal t ∷ r) (terminal t ∷ r') (opened inner t r) (opened inner' t r')
+opened_here inner inner' shrinks t r r' =
+    elim (opening inner t) [
+      | opens_true is ↦ inl (subst (λ o. Past (terminal t ∷ r) o) (sym (ap (λ t. opened inner t r) is ∙ opened_true inner r)) (omega arith))
+      | opens_false is ↦ inl (subst (λ o. Past (terminal t ∷ r) o) (sym (ap (λ t. opened inner t r) is ∙ opened_false inner r)) (omega arith))
+      | opens_parens is ↦ inl (subst (λ o. Past (terminal t ∷ r) o) (sym (ap (λ t. opened inner t r) is ∙ opened_bracketed inner r)) (past_at_most (terminal t ∷ r) (length r) (bracketed inner r) (omega arith) (bracketed_shrinks inner shrinks r)))
+      | opens_none faults ↦ none (opening inner' t) faults
+    ]
+  where
+    none : Opening inner' t → ((ts : List Tok) → opened inner t ts ≡ Err (Syntax (suc (length ts)))) → Alike (terminal t ∷ r) (terminal t ∷ r') (opened inner t r) (opened inner' t r')
+    none (opens_true is) faults = let never = sym (faults []) ∙ (ap (λ t. opened inner t []) is ∙ opened_true inner []) in absurd (cc)
+    none (opens_false is) faults = let never = sym (faults []) ∙ (ap (λ t. opened inner t []) is ∙ opened_false inner []) in absurd (cc)
+    none (opens_parens is) faults = inl (subst (λ o. Past (terminal t ∷ r) o) (sym (ap (λ t. opened inner t r) is ∙ opened_bracketed inner r)) (past_at_most (terminal t ∷ r) (length r) (bracketed inner r) (omega arith) (bracketed_shrinks inner shrinks r)))
+    none (opens_none faults') faults =
+        subst (λ o. Alike (terminal t ∷ r) (terminal t ∷ r') o (opened inner' t r')) (sym (faults r))
+        (subst (λ o. Alike (terminal t ∷ r) (terminal t ∷ r') (Err (Syntax (suc (length r)))) o) (sym (faults' r')) (refused_at (terminal t ∷ r) (terminal t ∷ r') (suc (length r)) (suc (length r')) (omega arith)))
+
+operand_here : (inner inner' : Reader Expr) → Shrinks inner → (s s' : List Tok) → SameHead s s' → Alike s s' (operand inner s) (operand inner' s')
+unfolding operand
+operand_here inner inner' shrinks [] [] h = refused_at [] [] 0 0 (omega arith)
+operand_here inner inner' shrinks [] (y ∷ r') h = absurd h
+operand_here inner inner' shrinks (x ∷ r) [] h = absurd h
+operand_here inner inner' shrinks (tokens.number n ∷ r) (y ∷ r') h = inl (omega arith)
+operand_here inner inner' shrinks (tokens.name n ∷ r) (y ∷ r') h = inl (omega arith)
+operand_here inner inner' shrinks (terminal t ∷ r) (y ∷ r') h = subst (λ y. Alike (terminal t ∷ r) (y ∷ r') (opened inner t r) (operand inner' (y ∷ r'))) h (opened_here inner inner' shrinks t r r')
+
+operand_alike : (inner inner' : Reader Expr) → Shrinks inner → (s s' : List Tok) → SameHead s s' → ((c : List Tok) → Alike s s' (inner (c ++ s)) (inner' (c ++ s'))) → (c : List Tok) → Alike s s' (operand inner (c ++ s)) (operand inner' (c ++ s'))
+unfolding operand
+operand_alike inner inner' shrinks s s' same alike [] = operand_here inner inner' shrinks s s' same
+operand_alike inner inner' shrinks s s' same alike (tokens.number n ∷ c) = went s s' (number n) c
+operand_alike inner inner' shrinks s s' same alike (tokens.name n ∷ c) = went s s' (named n) c
+operand_alike inner inner' shrinks s s' same alike (terminal t ∷ c) = opened_alike inner inner' shrinks s s' same alike t c
+
+-- ---- operators
+
+-- one operator more, at the same count of turns
+abbrev step : (b : ℕ) (e : ℕ → Reader Expr) (n least : ℕ) (left : Expr) (o : Operator) → Reader Expr
+step b e n least left o ts = if nat_le (depth_of left) b then (e (right_of o) ts >>= λ q. climb b e n least (after_of o) (binary left o q.0) q.1) else Err TooDeep
+
+abbrev EachShrinks : (ℕ → Reader Expr) → Type 0
+EachShrinks e = (k : ℕ) → Shrinks (e k)
+
+module _ (b : ℕ) (e : ℕ → Reader Expr) (shrinks_e : EachShrinks e) where
+  step_shrinks : (n least : ℕ) (left : Expr) (o : Operator) → ((below : ℕ) (left : Expr) (ts : List Tok) → AtMost (length ts) (climb b e n least below left ts)) → Shrinks (step b e n least left o)
+  step_shrinks n least left o again ts = by (nat_le (depth_of left) b)
+    where
+      by : (c : Bool) → AtMost (length ts) (if c then (e (right_of o) ts >>= λ q. climb b e n least (after_of o) (binary left o q.0) q.1) else Err TooDeep)
+      by false = tt
+      by true =
+          at_most_then (length ts) (e (right_of o) ts) (λ q. climb b e n least (after_of o) (binary left o q.0) q.1) (shrinks_e (right_of o) ts)
+          (λ q h. at_most_more (length q.1) (length ts) (climb b e n least (after_of o) (binary left o q.0) q.1) h (again (after_of o) (binary left o q.0) q.1))
+
+  climb_shrinks : (n least below : ℕ) (left : Expr) (ts : List Tok) → AtMost (length ts) (climb b e n least below left ts)
+  unfolding climb
+  climb_shrinks zero least below left ts = by (operator_at least below ts)
+    where
+      by : (o : Option Operator) → AtMost (length ts) (stop_by b e left ts o)
+      by None = omega arith
+      by (Some x) = tt
+  climb_shrinks (suc n) least below left ts =
+      let again = climb_shrinks n least in
+      elim (next_cases least below ts) [
+        | inl absent ↦ subst (λ o. AtMost (length ts) (climb_by b e (climb b e n least) left ts o)) (sym absent) (omega arith)
+        | inr present ↦ subst (λ o. AtMost (length ts) (climb_by b e (climb b e n least) left ts o)) (sym present.1) (at_most_more (length (rest ts)) (length ts) (step b e n least left present.0 (rest ts)) (rest_length ts) (step_shrinks n least left present.0 again (rest ts)))
+      ]
+
+climb_none : (b : ℕ) (e : ℕ → Reader Expr) (n least below : ℕ) (left : Expr) (ts : List Tok) → operator_at least below ts ≡ None → climb b e n least below left ts ≡ Ok (left, ts)
+unfolding climb
+climb_none b e zero least below left ts absent = rw absent refl
+climb_none b e (suc n) least below left ts absent = rw absent refl
+
+pub shrinks : (b : ℕ) → EachShrinks (expr b)
+unfolding expr
+shrinks zero k [] = omega arith
+shrinks zero k (x ∷ ts) = tt
+shrinks (suc b) k ts =
+    at_most_then (length ts) (operand (expr b 0) ts) (λ p. climb b (expr b) b k 10 p.0 p.1) (operand_shrinks (expr b 0) (shrinks b 0) ts)
+    (λ p h. at_most_more (length p.1) (length ts) (climb b (expr b) b k 10 p.0 p.1) h (climb_shrinks b (expr b) (shrinks b) b k 10 p.0 p.1))
+
+module _ (b b' : ℕ) (e e' : ℕ → Reader Expr) (deeper : b ≤ b') (shrinks_e : EachShrinks e) (s s' : List Tok) (same : SameHead s s') (inner : (k : ℕ) (c : List Tok) → Alike s s' (e k (c ++ s)) (e' k (c ++ s'))) where
+  abbrev Climbs : ℕ → ℕ → Type 0
+  Climbs n n' = (least below : ℕ) (left : Expr) (c : List Tok) → Alike s s' (climb b e n least below left (c ++ s)) (climb b' e' n' least below left (c ++ s'))
+
+  step_alike : (n n' : ℕ) → Climbs n n' → (least : ℕ) (left : Expr) (o : Operator) (c : List Tok) → Alike s s' (step b e n least left o (c ++ s)) (step b' e' n' least left o (c ++ s'))
+  step_alike n n' more_of least left o c = by (nat_le (depth_of left) b) refl
+    where
+      by : (x : Bool) → nat_le (depth_of left) b ≡ x → Alike s s' (step b e n least left o (c ++ s)) (step b' e' n' least left o (c ++ s'))
+      by false fails = rw fails (inl tt)
+      by true fits =
+          let wide : nat_le (depth_of left) b' ≡ true = grind (arith, nat_tests) in
+          rw (fits, wide) (alike_then s s' (e (right_of o) (c ++ s)) (e' (right_of o) (c ++ s')) (λ q. climb b e n least (after_of o) (binary left o q.0) q.1) (λ q. climb b' e' n' least (after_of o) (binary left o q.0) q.1) (inner (right_of o) c)
+          (λ q h. past_at_most s (length q.1) (climb b e n least (after_of o) (binary left o q.0) q.1) h (climb_shrinks b e shrinks_e n least (after_of o) (binary left o q.0) q.1))
+          (λ t d was is. more_of least (after_of o) (binary left o t) d))
+
+  over : (n n' least below : ℕ) (left : Expr) (c : List Tok) → operator_at least below (c ++ s) ≡ None → Alike s s' (climb b e n least below left (c ++ s)) (climb b' e' n' least below left (c ++ s'))
+  over n n' least below left c absent =
+      let absent' : operator_at least below (c ++ s') ≡ None = sym (operator_alike least below (c ++ s) (c ++ s') (same_head s s' same c)) ∙ absent in
+      inr (inr (record { found = left; front = c; was = climb_none b e n least below left (c ++ s) absent; is = climb_none b' e' n' least below left (c ++ s') absent' }))
+
+  climb_alike : (n n' : ℕ) → n ≤ n' → Climbs n n'
+  unfolding climb
+  climb_alike zero n' le least below left c =
+      elim (next_cases least below (c ++ s)) [
+        | inl absent ↦ over zero n' least below left c absent
+        | inr present ↦ inl (subst (λ o. Past s (stop_by b e left (c ++ s) o)) (sym present.1) tt)
+      ]
+  climb_alike (suc n) zero le least below left c = absurd (omega arith)
+  climb_alike (suc n) (suc n') le least below left c =
+      let more_of = climb_alike n n' (omega arith) in
+      elim (next_cases least below (c ++ s)) [
+        | inl absent ↦ over (suc n) (suc n') least below left c absent
+        | inr present ↦
+            let present' : operator_at least below (c ++ s') ≡ Some present.0 = sym (operator_alike least below (c ++ s) (c ++ s') (same_head s s' same c)) ∙ present.1 in
+            subst (λ o. Alike s s' (climb_by b e (climb b e n least) left (c ++ s) o) (climb_by b' e' (climb b' e' n' least) left (c ++ s') (operator_at least below (c ++ s')))) (sym present.1)
+            (subst (λ o. Alike s s' (step b e n least left present.0 (rest (c ++ s))) (climb_by b' e' (climb b' e' n' least) left (c ++ s') o)) (sym present')
+                (alike_rest s s' (step b e n least left present.0) (step b' e' n' least left present.0) same (step_shrinks b e shrinks_e n least left present.0 (climb_shrinks b e shrinks_e n least)) (step_alike n n' more_of least left present.0) c (omega (arith, ap length present.2))))
+      ]
+
+no_expr : (b k : ℕ) → expr b k [] ≡ Err (Syntax 0)
+unfolding expr operand
+no_expr zero k = refl
+no_expr (suc b) k = refl
+
+pub expr_alike : (b b' : ℕ) → b ≤ b' → (s s' : List Tok) → SameHead s s' → (k : ℕ) (c : List Tok) → Alike s s' (expr b k (c ++ s)) (expr b' k (c ++ s'))
+unfolding expr
+expr_alike zero b' le [] [] same k [] = subst (λ o. Alike [] [] (Err (Syntax 0)) o) (sym (no_expr b' k)) (refused_at [] [] 0 0 (omega arith))
+expr_alike zero b' le [] (y ∷ s') same k [] = absurd same
+expr_alike zero b' le (x ∷ s) s' same k [] = inl tt
+expr_alike zero b' le s s' same k (x ∷ c) = inl tt
+expr_alike (suc b) zero le s s' same k c = absurd (omega arith)
+expr_alike (suc b) (suc b') le s s' same k c =
+    let inner = expr_alike b b' (omega arith) s s' same in
+    let small : b ≤ b' = omega arith in
+    alike_then s s' (operand (expr b 0) (c ++ s)) (operand (expr b' 0) (c ++ s')) (λ p. climb b (expr b) b k 10 p.0 p.1) (λ p. climb b' (expr b') b' k 10 p.0 p.1)
+    (operand_alike (expr b 0) (expr b' 0) (shrinks b 0) s s' same (inner 0) c)
+    (λ p h. past_at_most s (length p.1) (climb b (expr b) b k 10 p.0 p.1) h (climb_shrinks b (expr b) (shrinks b) b k 10 p.0 p.1))
+    (λ t d was is. climb_alike b b' (expr b) (expr b') small (shrinks b) s s' same inner b b' small k 10 t d)
+
+-- ---- too deep
+
+module _ (b : ℕ) (e : ℕ → Reader Expr) (deep : (k : ℕ) (ts : List Tok) → e k ts ≡ Err TooDeep → b < length ts)
+    (reads : (k : ℕ) (ts : List Tok) (t : Expr) (left : List Tok) → e k ts ≡ Ok (t, left) → (front : List Tok) × (depth_of t ≤ length front) × (ts ≡ front ++ left)) where
+  bracketed_long : (ts : List Tok) → bracketed (e 0) ts ≡ Err TooDeep → b < length ts
+  bracketed_long ts h =
+      elim (bind_err ((e 0 ▸ sign terminals.Close) ts) (λ x. Ok (parens x.0.0, x.1)) TooDeep h) [
+        | inl inside ↦ elim (bind_err (e 0 ts) (λ x. sign terminals.Close x.1 >>= λ y. Ok ((x.0, y.0), y.1)) TooDeep inside) [
+          | inl first ↦ deep 0 ts first
+          | inr later ↦ elim (bind_err (sign terminals.Close later.0.1) (λ y. Ok ((later.0.0, y.0), y.1)) TooDeep later.2) [
+            | inl close ↦ absurd (omega (arith, (sign_exact terminals.Close).long (length later.0.1) later.0.1 close))
+            | inr never ↦ absurd (cc (never.2))
+          ]
+        ]
+        | inr never ↦ absurd (cc (never.2))
+      ]
+
+  operand_long : (ts : List Tok) → operand (e 0) ts ≡ Err TooDeep → suc b < length ts
+  unfolding operand
+  operand_long [] h = absurd (cc)
+  operand_long (tokens.number n ∷ ts) h = absurd (cc)
+  operand_long (tokens.name n ∷ ts) h = absurd (cc)
+  operand_long (terminal t ∷ ts) h =
+      elim (opening (e 0) t) [
+        | opens_true is ↦ let never = sym (ap (λ t. opened (e 0) t ts) is ∙ opened_true (e 0) ts) ∙ h in absurd (cc)
+        | opens_false is ↦ let never = sym (ap (λ t. opened (e 0) t ts) is ∙ opened_false (e 0) ts) ∙ h in absurd (cc)
+        | opens_parens is ↦ let far = bracketed_long ts (sym (ap (λ t. opened (e 0) t ts) is ∙ opened_bracketed (e 0) ts) ∙ h) in omega arith
+        | opens_none faults ↦ let never = sym (faults ts) ∙ h in absurd (cc)
+      ]
+
+  climb_long : (n least below : ℕ) (left : Expr) (a ts : List Tok) → depth_of left ≤ length a → b < n + depth_of left → climb b e n least below left ts ≡ Err TooDeep → suc b < length (a ++ ts)
+  unfolding climb
+  climb_long zero least below left a ts d fuel h =
+      elim (next_cases least below ts) [
+        | inl absent ↦ let never : ◌≡◌ {A = Outcome Expr} (Ok (left, ts)) (Err TooDeep) = subst (λ o. stop_by b e left ts o ≡ Err TooDeep) absent h in absurd (cc)
+        | inr present ↦ omega (arith, ap length present.2, length-append a ts)
+      ]
+  climb_long (suc n) least below left a ts d fuel h =
+      let again = climb_long n least in
+      elim (next_cases least below ts) [
+        | inl absent ↦ let never : ◌≡◌ {A = Outcome Expr} (Ok (left, ts)) (Err TooDeep) = subst (λ o. climb_by b e (climb b e n least) left ts o ≡ Err TooDeep) absent h in absurd (cc)
+        | inr present ↦ by (nat_le (depth_of left) b) refl present.0 present.2 again (subst (λ o. climb_by b e (climb b e n least) left ts o ≡ Err TooDeep) present.1 h)
+      ]
+    where
+      by : (x : Bool) → nat_le (depth_of left) b ≡ x → (o : Operator) → ts ≡ mark o ∷ rest ts →
+          ((below : ℕ) (left : Expr) (a ts : List Tok) → depth_of left ≤ length a → b < n + depth_of left → climb b e n least below left ts ≡ Err TooDeep → suc b < length (a ++ ts)) →
+          step b e n least left o (rest ts) ≡ Err TooDeep → suc b < length (a ++ ts)
+      by false fails o is again h = let far : b < depth_of left = grind (arith, nat_tests) in omega (arith, ap length is, length-append a ts)
+      by true fits o is again h =
+          let g : (e (right_of o) (rest ts) >>= λ q. climb b e n least (after_of o) (binary left o q.0) q.1) ≡ Err TooDeep =
+              subst (λ (x : Bool). (if x then (e (right_of o) (rest ts) >>= λ q. climb b e n least (after_of o) (binary left o q.0) q.1) else Err TooDeep) ≡ Err TooDeep) fits h in
+          elim (bind_err (e (right_of o) (rest ts)) (λ q. climb b e n least (after_of o) (binary left o q.0) q.1) TooDeep g) [
+            | inl first ↦ omega (arith, deep (right_of o) (rest ts) first, ap length is, length-append a ts, depth_positive left)
+            | inr later ↦
+                let r = reads (right_of o) (rest ts) later.0.0 later.0.1 later.1 in
+                let longer : List Tok = a ++ mark o ∷ r.0 in
+                let joined : a ++ ts ≡ longer ++ later.0.1 = ap (λ z. a ++ z) (is ∙ ap (λ z. mark o ∷ z) r.2) ∙ sym (append_assoc a (mark o ∷ r.0) later.0.1) in
+                let far = again (after_of o) (binary left o later.0.0) longer later.0.1 (omega (arith, r.1, length-append a (mark o ∷ r.0))) (omega arith) later.2 in
+                omega (arith, ap length joined)
+          ]
+
+pub expr_long : (b k : ℕ) (ts : List Tok) → expr b k ts ≡ Err TooDeep → b < length ts
+unfolding expr
+expr_long zero k [] h = absurd (cc)
+expr_long zero k (x ∷ ts) h = omega arith
+expr_long (suc b) k ts h =
+    let deep = expr_long b in
+    let reads : (k : ℕ) (ts : List Tok) (t : Expr) (left : List Tok) → expr b k ts ≡ Ok (t, left) → (front : List Tok) × (depth_of t ≤ length front) × (ts ≡ front ++ left) =
+        λ k ts t left h. let r = sound b k ts t left h in (r.front, spelled_deep t k r.front r.spells, r.apart) in
+    elim (bind_err (operand (expr b 0) ts) (λ p. climb b (expr b) b k 10 p.0 p.1) TooDeep h) [
+      | inl first ↦ operand_long b (expr b) deep reads ts first
+      | inr later ↦
+          let r = operand_sound b (expr b) (sound b) ts later.0.0 later.0.1 later.1 in
+          let far = climb_long b (expr b) deep reads b k 10 later.0.0 r.front later.0.1 (spelled_deep later.0.0 0 r.front (r.spells 0)) (omega (arith, depth_positive later.0.0)) later.2 in
+          omega (arith, ap length r.apart)
+    ]
+
+expression_sound : (b : ℕ) (ts : List Tok) (x : Expr) (left : List Tok) → expr b 0 ts ≡ Ok (x, left) → Found (SpellsExpr 0) depth_of b ts x left
+expression_sound b ts x left h = let r = sound b 0 ts x left h in record { front = r.front; spells = r.spells; apart = r.apart; within = r.within }
+
+pub expression_exact : Exact (SpellsExpr 0) depth_of (Ends 0) expression
+unfolding expression
+expression_exact = record {
+  complete = λ b x ts left s d f. complete b x 0 ts s d left f;
+  sound = expression_sound;
+  shrinks = λ b. shrinks b 0;
+  alike = λ b b' le s s' same c. expr_alike b b' le s s' same 0 c;
+  long = λ b ts h. expr_long b 0 ts h;
+}

@@ -1,0 +1,195 @@
+-- From the tokens of a text to the answer of the parser.
+use Rattle.std.proofs.Common.{◌≡◌, ℕ, suc, ◌+◌, ◌-◌, ◌<◌, ◌≤◌, ◌⊎◌, inl, inr, List, [], ◌∷◌, ◌++◌, length, drop, map, refl, sym, ap, ◌∙◌, subst, arith, Result, Ok, Err, IfOk, IfErr, MatchResult, length-append, Bool, true, false, nat_lt}
+use Rattle.std.proofs.lemmas.Bool.Decides.{nat_tests}
+use Rattle.std.proofs.lemmas.List.{length-map}
+use Rattle.std.proofs.Math.Seq.{drop-append_seam}
+use Rattle.ioa_lex.specs.declared.refusal.Refusal.{Refusal}
+use Rattle.ioa_lex.specs.declared.refusal.Refusal.TheVariants as refusals
+use Rattle.ioa_lex.specs.declared.token.Token.{Token}
+use Rattle.ioa_lex.specs.Tokens as tokens
+use Rattle.ioa_lex.specs.Tokens.{Tok, terminal, tokens_shown, kind_shown}
+use Rattle.ioa_lex.specs.Spaced.{IsToken}
+use Rattle.ioa_lex.specs.Lexing as lexing
+use Rattle.ioa_lex.specs.Lexing.{Lexes, Covers, Piece, blank, comment, token, Writes, placed, tokens_after, line_after, bytes_of}
+use Rattle.ioa_syntax.specs.declared.tree.Declaration.{Declaration}
+use Rattle.ioa_syntax.specs.Tree.{SourceTree}
+use Rattle.ioa_syntax.specs.Depth.{source_deep}
+use Rattle.ioa_syntax.specs.View.{tree_of}
+use Rattle.ioa_syntax.specs.Grammar.{SpellsSource, IsDeadEnd}
+use Rattle.ioa_syntax.specs.Source.{AreTokens, IsSource, plain, line_of, IsStuckOn, IsTooDeepOn, BeginsTooDeep, IsRefused}
+use Rattle.ioa_syntax.specs.Reading as reading
+use Rattle.ioa_syntax.specs.Reading.{source, line_at, Gives, Refuses}
+use Rattle.ioa_syntax.proofs.Whole as whole
+use Rattle.ioa_syntax.proofs.Whole.{source_found, source_only, source_stuck, source_deeper, source_refuses}
+
+-- ---- tokens with and without their lines
+
+plain-placed : (ts : List Token) → plain (placed ts) ≡ tokens_shown ts
+plain-placed [] = refl
+plain-placed (t ∷ ts) = ap (λ r. kind_shown t.kind ∷ r) (plain-placed ts)
+
+pub record Split (ts : List Token) (front rest : List Tok) : Type 0 where
+  pub before : List Token
+  pub after : List Token
+  pub apart : ts ≡ before ++ after
+  pub first : tokens_shown before ≡ front
+  pub second : tokens_shown after ≡ rest
+
+split : (ts : List Token) (front rest : List Tok) → tokens_shown ts ≡ front ++ rest → Split ts front rest
+split ts [] rest h = record { before = []; after = ts; apart = refl; first = refl; second = h }
+split [] (x ∷ front) rest h = absurd (cc (h))
+split (t ∷ ts) (x ∷ front) rest h =
+    let here : kind_shown t.kind ≡ x = cc in
+    let there : tokens_shown ts ≡ front ++ rest = cc in
+    let m = split ts front rest there in
+    record { before = t ∷ m.before; after = m.after; apart = ap (λ r. t ∷ r) m.apart; first = ap (λ y. y ∷ tokens_shown m.before) here ∙ ap (λ r. x ∷ r) m.first; second = m.second }
+
+placed-append : (a b : List Token) → placed (a ++ b) ≡ placed a ++ placed b
+placed-append [] b = refl
+placed-append (t ∷ a) b = ap (λ r. (kind_shown t.kind, t.line) ∷ r) (placed-append a b)
+
+line_head : (text : List ℕ) (ts : List Token) → reading.line_of (line_after text) ts ≡ line_of text (placed ts)
+line_head text [] = refl
+line_head text (t ∷ ts) = refl
+
+line_split : (text : List ℕ) (end : ℕ) (ts a b : List Token) (rest : List Tok) → end ≡ line_after text → ts ≡ a ++ b → tokens_shown b ≡ rest → line_at ts end (length rest) ≡ line_of text (placed b)
+line_split text end ts a b rest is apart second =
+    let size : length rest ≡ length b = sym (ap length second) ∙ length-map b (λ t. kind_shown t.kind) in
+    let gap : length (a ++ b) - length rest ≡ length a = omega (arith, length-append a b) in
+    ap (λ ts. line_at ts end (length rest)) apart ∙ ap (λ n. reading.line_of end (drop n (a ++ b))) gap ∙ ap (reading.line_of end) (drop-append_seam a b) ∙ ap (λ e. reading.line_of e b) is ∙ line_head text b
+
+-- the tokens of a text are tokens that a text can hold
+written : (w : List ℕ) (t : Tok) → Writes w t → IsToken t
+written w (tokens.number n) h = h.2
+written w (tokens.name s) h = subst IsToken-name (sym h.0) h.1
+  where
+    IsToken-name : List ℕ → Type 0
+    IsToken-name s = IsToken (tokens.name s)
+written w (terminal t) h = tt
+
+covered : (before : List ℕ) (ps : List Piece) (text rest : List ℕ) → Covers ps text rest → AreTokens (plain (tokens_after before ps))
+covered before [] text rest h = tt
+covered before (blank b ∷ ps) text rest h = covered (before ++ b ∷ []) ps h.0 rest h.3
+covered before (comment c ∷ ps) text rest h = covered (before ++ 37 ∷ c) ps h.0 rest h.3
+covered before (token w t ∷ ps) text rest h = (written w t h.2.0, covered (before ++ w) ps h.0 rest h.3)
+
+pub lexed_tokens : (text : List ℕ) (ts : List Token) → Lexes text (placed ts) → AreTokens (tokens_shown ts)
+lexed_tokens text ts h = subst AreTokens (sym (ap plain h.2) ∙ plain-placed ts) (covered [] h.0 text [] h.1)
+
+-- ---- the answer
+
+-- a text that was not refused as too long is not
+pub short_of : {T E : Type 0} (v : T) (e : E) (n : ℕ) → (1048576 < n → ◌≡◌ {A = Result T E} (Ok v) (Err e)) → n ≤ 1048576
+short_of {T} {E} v e n h = by (nat_lt 1048576 n) refl
+  where
+    by : (b : Bool) → nat_lt 1048576 n ≡ b → n ≤ 1048576
+    by true far = let long : 1048576 < n = grind (arith, nat_tests) in let never = h long in absurd (cc)
+    by false near = grind (arith, nat_tests)
+
+pub source_kept : (ts : List Token) (end : ℕ) (ds : List Declaration) → AreTokens (tokens_shown ts) → source 64 (line_at ts end) (tokens_shown ts) ≡ Ok (tree_of ds) → IsSource (tree_of ds)
+source_kept ts end ds legal h = let f = source_found 64 (line_at ts end) (tokens_shown ts) (tree_of ds) h in ((tokens_shown ts, legal, f.0), f.1)
+
+refused_by : (e : Refusal) (read : Result SourceTree Refusal) → Refuses e read → (e ≡ refusals.OutOfMemory) ⊎ (read ≡ Err e)
+refused_by refusals.OutOfMemory read h = inl refl
+refused_by refusals.TextTooLong read h = inr h
+refused_by (refusals.BadByte line) read h = inr h
+refused_by (refusals.Syntax line) read h = inr h
+refused_by (refusals.TooDeep line) read h = inr h
+refused_by (refusals.DuplicateName line) read h = inr h
+refused_by (refusals.UnknownName line) read h = inr h
+refused_by (refusals.TypeMismatch line) read h = inr h
+refused_by (refusals.BadSignature line) read h = inr h
+refused_by (refusals.NoProposal line) read h = inr h
+refused_by (refusals.TooMany line) read h = inr h
+refused_by (refusals.TooWide line) read h = inr h
+refused_by (refusals.ArgMismatch c) read h = inr h
+refused_by (refusals.CrashName c) read h = inr h
+refused_by (refusals.Clash c d name) read h = inr h
+refused_by (refusals.HiddenUnknown name) read h = inr h
+refused_by (refusals.StartFault c f) read h = inr h
+refused_by refusals.NoComposition read h = inr h
+
+module _ (text : List ℕ) (ts : List Token) (end : ℕ) (lexed : Lexes text (placed ts)) (last : end ≡ line_after text) (small : length text ≤ 1048576) where
+  abbrev read : Result SourceTree Refusal
+  read = source 64 (line_at ts end) (tokens_shown ts)
+
+  pub parsed_found : (result : Result (List Declaration) Refusal) → Gives tree_of result read → IfOk result (λ s. (us : List (Tok × ℕ)) × Lexes text us × SpellsSource (tree_of s) (plain us))
+  parsed_found (Ok s) h = (placed ts, lexed, subst (SpellsSource (tree_of s)) (sym (plain-placed ts)) (source_found 64 (line_at ts end) (tokens_shown ts) (tree_of s) h).0)
+  parsed_found (Err e) h = tt
+
+  parsed_stuck : (line : ℕ) → read ≡ Err (refusals.Syntax line) → IsRefused text (refusals.Syntax line)
+  parsed_stuck line h =
+      let s = source_stuck 64 (line_at ts end) (tokens_shown ts) line h in
+      let m = split ts s.front s.rest s.apart in
+      let here : Lexes text (placed m.before ++ placed m.after) = subst (Lexes text) (ap placed m.apart ∙ placed-append m.before m.after) lexed in
+      let on : line ≡ line_of text (placed m.after) = s.on ∙ line_split text end ts m.before m.after s.rest last m.apart m.second in
+      let front : s.front ≡ plain (placed m.before) = sym m.first ∙ sym (plain-placed m.before) in
+      let rest : s.rest ≡ plain (placed m.after) = sym m.second ∙ sym (plain-placed m.after) in
+      (small, (placed m.before, placed m.after, here, on, subst (IsDeadEnd (plain (placed m.before))) rest (subst (λ z. IsDeadEnd z s.rest) front s.dead)))
+
+  parsed_deep : (line : ℕ) → read ≡ Err (refusals.TooDeep line) → IsRefused text (refusals.TooDeep line)
+  parsed_deep line h =
+      let s = source_deeper 64 (line_at ts end) (tokens_shown ts) line h in
+      let many : 64 < length (placed ts) = omega (arith, s.0, length-map ts (λ t. kind_shown t.kind), length-map {B = Tok × ℕ} ts (λ t. (kind_shown t.kind, t.line))) in
+      (small, (placed ts, lexed, many, λ t spelled. by t (s.1 t (subst (SpellsSource t) (plain-placed ts) spelled))))
+    where
+      by : (t : SourceTree) → whole.Deep 64 (line_at ts end) (tokens_shown ts) t line → BeginsTooDeep text (placed ts) t line
+      by t d =
+          let m = split ts d.front d.rest d.apart in
+          record {
+            before = d.before;
+            too_deep = d.too_deep;
+            after = d.after;
+            front = placed m.before;
+            rest = placed m.after;
+            is = d.made;
+            apart = ap placed m.apart ∙ placed-append m.before m.after;
+            spells = subst (SpellsSource d.before) (sym m.first ∙ sym (plain-placed m.before)) d.spells;
+            within = d.within;
+            beyond = d.beyond;
+            on = d.on ∙ line_split text end ts m.before m.after d.rest last m.apart m.second;
+          }
+
+  parsed_err : (e : Refusal) → (e ≡ refusals.OutOfMemory) ⊎ (read ≡ Err e) → IsRefused text e
+  parsed_err e (inl is) = subst (IsRefused text) (sym is) small
+  parsed_err e (inr h) =
+      elim (source_refuses 64 (line_at ts end) (tokens_shown ts) e h) [
+        | inl s ↦ subst (IsRefused text) (sym s.1) (parsed_stuck s.0 (h ∙ ap Err s.1))
+        | inr d ↦ subst (IsRefused text) (sym d.1) (parsed_deep d.0 (h ∙ ap Err d.1))
+      ]
+
+  pub parsed_refused : (result : Result (List Declaration) Refusal) → Gives tree_of result read → IfErr result (λ e. IsRefused text e)
+  parsed_refused (Ok s) h = tt
+  parsed_refused (Err e) h = parsed_err e (refused_by e read h)
+
+  -- a tree that is spelled within the depth is the answer
+  pub parsed_only : (result : Result (List Declaration) Refusal) → Gives tree_of result read → (t : SourceTree) → SpellsSource t (plain (placed ts)) → source_deep t ≤ 64 →
+      MatchResult result (λ s. tree_of s ≡ t) (λ e. e ≡ refusals.OutOfMemory)
+  parsed_only result h t spelled d = by result h
+    where
+      ok : read ≡ Ok t
+      ok = source_only 64 (line_at ts end) (tokens_shown ts) t (subst (SpellsSource t) (plain-placed ts) spelled) d
+
+      none : (e : Refusal) → (e ≡ refusals.OutOfMemory) ⊎ (read ≡ Err e) → e ≡ refusals.OutOfMemory
+      none e (inl is) = is
+      none e (inr h) = let never = sym ok ∙ h in absurd (cc)
+
+      by : (result : Result (List Declaration) Refusal) → Gives tree_of result read → MatchResult result (λ s. tree_of s ≡ t) (λ e. e ≡ refusals.OutOfMemory)
+      by (Ok s) h = let both = sym h ∙ ok in cc
+      by (Err e) h = none e (refused_by e read h)
+
+  -- no answer is one of the lexer's
+  pub parsed_short : (result : Result (List Declaration) Refusal) → Gives tree_of result read → result ≡ Err refusals.TextTooLong → ⊥
+  parsed_short (Ok s) h is = absurd (cc (is))
+  parsed_short (Err e) h is = by (refused_by e read h)
+    where
+      long : e ≡ refusals.TextTooLong
+      long = cc
+
+      by : (e ≡ refusals.OutOfMemory) ⊎ (read ≡ Err e) → ⊥
+      by (inl memory) = let never = sym memory ∙ long in cc
+      by (inr h) =
+          elim (source_refuses 64 (line_at ts end) (tokens_shown ts) e h) [
+            | inl s ↦ let never = sym s.1 ∙ long in cc
+            | inr d ↦ let never = sym d.1 ∙ long in cc
+          ]

@@ -1,0 +1,538 @@
+-- Each reader of a production against its language.
+use Rattle.std.proofs.Common.{◌≡◌, ℕ, zero, suc, ◌+◌, ◌<◌, ◌≤◌, ◌⊎◌, inl, inr, Bool, true, false, List, [], ◌∷◌, ◌++◌, length, max, refl, sym, ap, ◌∙◌, subst, arith, Option, Some, None, Result, Ok, Err, length-append, is_some}
+use Rattle.ioa_lex.specs.declared.terminal.Terminal.{Terminal}
+use Rattle.ioa_lex.specs.declared.terminal.Terminal.TheVariants as terminals
+use Rattle.ioa_lex.specs.Tokens as tokens
+use Rattle.ioa_lex.specs.Tokens.{Tok, terminal}
+use Rattle.ioa_value.specs.Actions.{Name}
+use Rattle.ioa_syntax.specs.declared.fault.Fault.TheVariants.{TooDeep}
+use Rattle.ioa_syntax.specs.declared.tree.Kind.{Kind}
+use Rattle.ioa_syntax.specs.declared.tree.Kind.TheVariants.{Input, Output, Internal}
+use Rattle.ioa_syntax.specs.Tree.{Expr, FieldTree, PositionTree, typed, EntryTree, VariableTree, ProposalTree, Stmt, assign, TransitionTree, AutomatonTree, InstanceTree, CompositionTree, DeclarationTree, automaton, composition}
+use Rattle.ioa_syntax.specs.Depth.{depth_of, deepest, deep_option, deep_variable, deep_proposal, deep_stmt, deep_transition, deep_automaton, deep_instance, deep_composition, deep}
+use Rattle.ioa_syntax.specs.Grammar as grammar
+use Rattle.ioa_syntax.specs.Grammar.{Language, SameHead, ◌▹◌, single, word, called, nothing, empty, kind_word, SpellsExpr, SpellsField, SpellsFields, SpellsPosition, SpellsPositions, SpellsEntry, SpellsVariable, SpellsProposal, SpellsStmt, SpellsTransition, SpellsAutomaton, SpellsArguments, SpellsInstance, SpellsInstances, SpellsComposition, SpellsDeclaration}
+use Rattle.ioa_syntax.specs.Reading.{Outcome, Reader, ◌>>=◌, ◌▸◌, built, perhaps, optional, optional_list, sees, after, sees_name, sees_kind, kind_at, kind_of, terminal_at, same_terminal, is_name, operator_of, closing, separated, a_name, a_kind, sign, field, fields, position, positions, entry, entries, expression, variable, variables, proposal, proposals, statement, statements, transition, transitions, an_automaton, arguments, instance, instances, a_composition, many, rest, composed, declaration}
+use Rattle.ioa_syntax.proofs.Outcomes.{LooksAhead, head_alike, went, alike_rest, ok_pair, Alike, same_head}
+use Rattle.ioa_syntax.proofs.Exact.{Found, Exact, any, flat, deep_as, before, then, built_as, said_as}
+use Rattle.ioa_syntax.proofs.Singles.{sign_exact, name_exact, kind_exact, kind_is, kind_alike, sees_word, seen, sees_alike, after_seen, after_unseen, after_word, after_length, seen_some, either_exact, absent_exact}
+use Rattle.ioa_syntax.proofs.Absent.{into_exact, deep_some, optional_exact, optional_list_exact}
+use Rattle.ioa_syntax.proofs.Lists.{terminated_exact, separated_exact, separated_some, many_exact}
+use Rattle.ioa_syntax.proofs.Complete.{Ends, spelled_deep, depth_positive}
+use Rattle.ioa_syntax.proofs.Local.{expression_exact}
+
+-- ---- first tokens
+
+first_some : (x : Tok) (L : Language) (ts : List Tok) → (single x ▹ L) ts → 0 < length ts
+first_some x L ts s = omega (arith, ap length s.4, length-append s.0 s.1, ap length s.2)
+
+first_of_all : (x : Tok) (L : Language) (ts left : List Tok) → (single x ▹ L) ts → (z : List Tok) × (ts ++ left ≡ x ∷ z)
+first_of_all x L ts left s = (s.1 ++ left, ap (λ z. z ++ left) (s.4 ∙ ap (λ z. z ++ s.1) s.2))
+
+-- what holds of each text that begins with x
+leads : (F : Language) (x : Tok) (L : Language) (ts left : List Tok) → ((z : List Tok) → F (x ∷ z)) → (single x ▹ L) ts → F (ts ++ left)
+leads F x L ts left h s = let z = first_of_all x L ts left s in subst F (sym z.1) (h z.0)
+
+alone : (F : Language) (ts left : List Tok) → nothing ts → F left → F (ts ++ left)
+alone F ts left s h = subst (λ z. F (z ++ left)) (sym s) h
+
+-- a list that is absent, or begins with its word
+by_list : {A : Type 0} (F : Language) (t : Terminal) (L : List A → Language) (xs : List A) (ts left : List Tok) → ((z : List Tok) → F (terminal t ∷ z)) → F left → grammar.optional_list t L xs ts → F (ts ++ left)
+by_list F t L [] ts left h here s = alone F ts left s here
+by_list F t L (x ∷ xs) ts left h here s = leads F (terminal t) (L (x ∷ xs)) ts left h s
+
+by_option : {A : Type 0} (F : Language) (t : Terminal) (L : A → Language) (x : Option A) (ts left : List Tok) → ((z : List Tok) → F (terminal t ∷ z)) → F left → grammar.optional t L x ts → F (ts ++ left)
+by_option F t L None ts left h here s = alone F ts left s here
+by_option F t L (Some x) ts left h here s = leads F (terminal t) (L x) ts left h s
+
+-- one part and then another
+by_two : (F : Language) (L M : Language) (ts left : List Tok) → ((a b : List Tok) → L a → F (b ++ left) → F (a ++ (b ++ left))) → ((b : List Tok) → M b → F (b ++ left)) → (L ▹ M) ts → F (ts ++ left)
+by_two F L M ts left first second s = subst F (sym (ap (λ z. z ++ left) s.4 ∙ again s.0 s.1 left)) (first s.0 s.1 s.2 (second s.1 s.3))
+  where
+    again : (a b c : List Tok) → (a ++ b) ++ c ≡ a ++ (b ++ c)
+    again [] b c = refl
+    again (x ∷ a) b c = ap (λ z. x ∷ z) (again a b c)
+
+deepest_flat : {A : Type 0} (xs : List A) → deepest flat xs ≡ 0
+deepest_flat [] = refl
+deepest_flat (x ∷ xs) = omega (arith, deepest_flat xs)
+
+-- ---- fields and signatures
+
+pub field_exact : Exact SpellsField flat any (λ b. field)
+unfolding field
+field_exact =
+    deep_as flat (λ x. omega arith)
+    (built_as (λ p. record { name = p.0; ty = p.1.1 }) (λ f. (f.name, (tt, f.ty))) (λ f. refl) (λ p. refl)
+        (then name_exact (then (sign_exact terminals.Colon) name_exact (λ y ts left s g. tt)) (λ y ts left s g. tt)))
+
+field_some : (f : FieldTree) (ts : List Tok) → SpellsField f ts → 0 < length ts
+field_some f ts s = first_some (tokens.name f.name) (word terminals.Colon ▹ called f.ty) ts s
+
+closing_exact : {A : Type 0} {L : A → Language} {D : A → ℕ} {F : Language} {P : ℕ → Reader A} → Exact L D F P → ((z : List Tok) → F (terminal terminals.Close ∷ z)) → Exact (λ x. L x ▹ word terminals.Close) D any (λ b. closing (P b))
+unfolding closing
+closing_exact {L = L} {D = D} {F = F} p h =
+    deep_as D (λ x. omega arith)
+    (built_as (λ p. p.0) (λ x. (x, tt)) (λ x. refl) (λ p. refl)
+        (then p (sign_exact terminals.Close) (λ y ts left s g. subst (λ z. F (z ++ left)) (sym s) (h left))))
+
+comma_close : (z : List Tok) → sees terminals.Comma (terminal terminals.Close ∷ z) ≡ false
+unfolding sees same_terminal
+comma_close z = refl
+
+pub fields_exact : Exact SpellsFields flat any (λ b. fields)
+unfolding fields
+fields_exact = deep_as flat (λ x. sym (deepest_flat x)) (closing_exact (separated_exact terminals.Comma field_exact field_some (λ ts. tt)) (λ z. (tt, comma_close z)))
+
+pub position_exact : Exact SpellsPosition flat any (λ b. position)
+unfolding position
+position_exact = into_exact typed field_exact SpellsPosition flat of (λ f ts s. s) (λ f. refl)
+  where
+    of : (y : PositionTree) (ts : List Tok) → SpellsPosition y ts → (f : FieldTree) × (typed f ≡ y) × SpellsField f ts
+    of (typed f) ts s = (f, refl, s)
+
+position_some : (p : PositionTree) (ts : List Tok) → SpellsPosition p ts → 0 < length ts
+position_some (typed f) ts s = field_some f ts s
+
+pub positions_exact : Exact SpellsPositions flat any (λ b. positions)
+unfolding positions
+positions_exact = deep_as flat (λ x. sym (deepest_flat x)) (closing_exact (separated_exact terminals.Comma position_exact position_some (λ ts. tt)) (λ z. (tt, comma_close z)))
+
+closed_bare : {A : Type 0} (t u : Terminal) (L : A → Language) (ts : List Tok) → (grammar.separated t L [] ▹ word u) ts → ⊥
+closed_bare t u L ts s = s.2
+
+abbrev pub AfterEntry : Language
+AfterEntry left = any left × (sees terminals.Open left ≡ false)
+
+pub entry_exact : Exact SpellsEntry flat AfterEntry (λ b. entry)
+unfolding entry
+entry_exact =
+    deep_as flat (λ x. omega arith)
+    (built_as (λ p. record { kind = p.0; name = p.1.0; positions = p.1.1 }) (λ e. (e.kind, (e.name, e.positions))) (λ e. refl) (λ p. refl)
+        (then kind_exact (then name_exact (optional_list_exact terminals.Open positions_exact (closed_bare terminals.Comma terminals.Close SpellsPosition) refl) (λ y ts left s g. tt)) (λ y ts left s g. tt)))
+
+entry_some : (e : EntryTree) (ts : List Tok) → SpellsEntry e ts → 0 < length ts
+entry_some e ts s = first_some (terminal (kind_word e.kind)) (called e.name ▹ grammar.optional_list terminals.Open SpellsPositions e.positions) ts s
+
+pub sees_kind_alike : LooksAhead sees_kind
+unfolding sees_kind
+sees_kind_alike s s' h = ap is_some (kind_alike s s' h)
+
+pub sees_kind_word : (k : Kind) (z : List Tok) → sees_kind (terminal (kind_word k) ∷ z) ≡ true
+unfolding sees_kind
+sees_kind_word k z = ap is_some (kind_is k z)
+
+open_semicolon : (z : List Tok) → sees terminals.Open (terminal terminals.Semicolon ∷ z) ≡ false
+unfolding sees same_terminal
+open_semicolon z = refl
+
+entry_begins : (e : EntryTree) (ts left : List Tok) → SpellsEntry e ts → sees_kind (ts ++ left) ≡ true
+entry_begins e ts left s = leads (λ z. sees_kind z ≡ true) (terminal (kind_word e.kind)) (called e.name ▹ grammar.optional_list terminals.Open SpellsPositions e.positions) ts left (sees_kind_word e.kind) s
+
+abbrev AfterEntries : Language
+AfterEntries left = AfterEntry left × (sees terminals.Semicolon left ≡ false) × (sees_kind left ≡ false)
+
+pub entries_exact : Exact (grammar.terminated terminals.Semicolon SpellsEntry) flat AfterEntries (λ b. entries)
+unfolding entries
+entries_exact =
+    deep_as flat (λ x. sym (deepest_flat x)) (terminated_exact sees_kind sees_kind_alike terminals.Semicolon entry_exact entry_some (λ ts. (tt, open_semicolon ts)) entry_begins)
+
+-- ---- states
+
+deep_some_is : (x : Option Expr) → deep_option x ≡ deep_some depth_of x
+deep_some_is None = refl
+deep_some_is (Some e) = refl
+
+abbrev AfterVariable : Language
+AfterVariable left = Ends 0 left × (sees terminals.Becomes left ≡ false)
+
+pub variable_exact : Exact SpellsVariable deep_variable AfterVariable variable
+unfolding variable
+variable_exact =
+    deep_as deep_variable (λ v. omega (arith, deep_some_is v.start))
+    (built_as (λ p. record { field = p.0; start = p.1 }) (λ v. (v.field, v.start)) (λ v. refl) (λ p. refl)
+        (then field_exact (optional_exact terminals.Becomes expression_exact) (λ y ts left s g. tt)))
+
+variable_some : (v : VariableTree) (ts : List Tok) → SpellsVariable v ts → 0 < length ts
+variable_some v ts s = omega (arith, ap length s.4, length-append s.0 s.1, field_some v.field s.0 s.2)
+
+pub sees_name_alike : LooksAhead sees_name
+unfolding sees_name
+sees_name_alike = head_alike sees_name false is_name refl (λ x ts. refl)
+
+sees_name_called : (n : Name) (z : List Tok) → sees_name (tokens.name n ∷ z) ≡ true
+unfolding sees_name
+sees_name_called n z = refl
+
+variable_begins : (v : VariableTree) (ts left : List Tok) → SpellsVariable v ts → sees_name (ts ++ left) ≡ true
+variable_begins v ts left s =
+    let f = first_of_all (tokens.name v.field.name) (word terminals.Colon ▹ called v.field.ty) s.0 (s.1 ++ left) s.2 in
+    ap sees_name (ap (λ z. z ++ left) s.4 ∙ again s.0 s.1 left ∙ f.1) ∙ sees_name_called v.field.name f.0
+  where
+    again : (a b c : List Tok) → (a ++ b) ++ c ≡ a ++ (b ++ c)
+    again [] b c = refl
+    again (x ∷ a) b c = ap (λ z. x ∷ z) (again a b c)
+
+after_semicolon : (z : List Tok) → AfterVariable (terminal terminals.Semicolon ∷ z)
+unfolding sees same_terminal terminal_at operator_of
+after_semicolon z = (tt, refl)
+
+abbrev AfterVariables : Language
+AfterVariables left = AfterVariable left × (sees terminals.Semicolon left ≡ false) × (sees_name left ≡ false)
+
+pub variables_exact : Exact (grammar.terminated terminals.Semicolon SpellsVariable) (deepest deep_variable) AfterVariables variables
+unfolding variables
+variables_exact = terminated_exact sees_name sees_name_alike terminals.Semicolon variable_exact variable_some after_semicolon variable_begins
+
+-- ---- transitions
+
+pub proposal_exact : Exact SpellsProposal deep_proposal (Ends 0) proposal
+unfolding proposal
+proposal_exact =
+    deep_as deep_proposal (λ p. omega arith)
+    (built_as (λ p. record { name = p.0; value = p.1.1 }) (λ q. (q.name, (tt, q.value))) (λ q. refl) (λ p. refl)
+        (then name_exact (then (sign_exact terminals.Becomes) expression_exact (λ y ts left s g. tt)) (λ y ts left s g. tt)))
+
+proposal_some : (q : ProposalTree) (ts : List Tok) → SpellsProposal q ts → 0 < length ts
+proposal_some q ts s = first_some (tokens.name q.name) (word terminals.Becomes ▹ SpellsExpr 0 q.value) ts s
+
+ends_comma : (z : List Tok) → Ends 0 (terminal terminals.Comma ∷ z)
+unfolding terminal_at operator_of
+ends_comma z = tt
+
+abbrev AfterProposals : Language
+AfterProposals left = Ends 0 left × (sees terminals.Comma left ≡ false)
+
+pub proposals_exact : Exact (grammar.separated terminals.Comma SpellsProposal) (deepest deep_proposal) AfterProposals proposals
+unfolding proposals
+proposals_exact = separated_exact terminals.Comma proposal_exact proposal_some ends_comma
+
+pub statement_exact : Exact SpellsStmt deep_stmt (Ends 0) statement
+unfolding statement
+statement_exact =
+    into_exact (λ p. assign p.0 p.1.1) (then name_exact (then (sign_exact terminals.Becomes) expression_exact (λ y ts left s g. tt)) (λ y ts left s g. tt)) SpellsStmt deep_stmt of (λ x ts s. s) (λ x. omega arith)
+  where
+    of : (y : Stmt) (ts : List Tok) → SpellsStmt y ts → (x : Name × (Unit {0} × Expr)) × (assign x.0 x.1.1 ≡ y) × (called x.0 ▹ (word terminals.Becomes ▹ SpellsExpr 0 x.1.1)) ts
+    of (assign n e) ts s = ((n, (tt, e)), refl, s)
+
+statement_some : (q : Stmt) (ts : List Tok) → SpellsStmt q ts → 0 < length ts
+statement_some (assign n e) ts s = first_some (tokens.name n) (word terminals.Becomes ▹ SpellsExpr 0 e) ts s
+
+statement_begins : (q : Stmt) (ts left : List Tok) → SpellsStmt q ts → sees_name (ts ++ left) ≡ true
+statement_begins (assign n e) ts left s = leads (λ z. sees_name z ≡ true) (tokens.name n) (word terminals.Becomes ▹ SpellsExpr 0 e) ts left (sees_name_called n) s
+
+ends_semicolon : (z : List Tok) → Ends 0 (terminal terminals.Semicolon ∷ z)
+unfolding terminal_at operator_of
+ends_semicolon z = tt
+
+abbrev AfterStatements : Language
+AfterStatements left = Ends 0 left × (sees terminals.Semicolon left ≡ false) × (sees_name left ≡ false)
+
+pub statements_exact : Exact (grammar.terminated terminals.Semicolon SpellsStmt) (deepest deep_stmt) AfterStatements statements
+unfolding statements
+statements_exact = terminated_exact sees_name sees_name_alike terminals.Semicolon statement_exact statement_some ends_semicolon statement_begins
+
+pub record AfterTransition (left : List Tok) : Type 0 where
+  pub ends : Ends 0 left
+  pub semicolon : sees terminals.Semicolon left ≡ false
+  pub name : sees_name left ≡ false
+  pub comma : sees terminals.Comma left ≡ false
+  pub eff : sees terminals.Eff left ≡ false
+  pub propose : sees terminals.Propose left ≡ false
+  pub pre : sees terminals.Pre left ≡ false
+
+abbrev BeforeEffect : Language
+BeforeEffect left = AfterProposals left × (sees terminals.Propose left ≡ false)
+
+abbrev BeforeProposals : Language
+BeforeProposals left = Ends 0 left × (sees terminals.Pre left ≡ false)
+
+at_eff : (z : List Tok) → BeforeEffect (terminal terminals.Eff ∷ z)
+unfolding sees same_terminal terminal_at operator_of
+at_eff z = ((tt, refl), refl)
+
+pre_eff : (z : List Tok) → BeforeProposals (terminal terminals.Eff ∷ z)
+unfolding sees same_terminal terminal_at operator_of
+pre_eff z = (tt, refl)
+
+pre_propose : (z : List Tok) → BeforeProposals (terminal terminals.Propose ∷ z)
+unfolding sees same_terminal terminal_at operator_of
+pre_propose z = (tt, refl)
+
+parted_bare : {A : Type 0} (t : Terminal) (L : A → Language) (ts : List Tok) → grammar.separated t L [] ts → ⊥
+parted_bare t L ts s = s
+
+ended_bare : {A : Type 0} (t : Terminal) (L : A → Language) (ts : List Tok) → grammar.terminated t L [] ts → ⊥
+ended_bare t L ts s = s.2
+
+effect_exact : Exact (grammar.optional_list terminals.Eff (grammar.terminated terminals.Semicolon SpellsStmt)) (deepest deep_stmt) AfterTransition (λ b. optional_list terminals.Eff (statements b))
+effect_exact = before AfterTransition (λ ts a. ((a.ends, a.semicolon, a.name), a.eff)) (optional_list_exact terminals.Eff statements_exact (ended_bare terminals.Semicolon SpellsStmt) refl)
+
+abbrev Trials : List ProposalTree → Language
+Trials ps = grammar.optional_list terminals.Propose (grammar.separated terminals.Comma SpellsProposal) ps
+
+abbrev Effect : List Stmt → Language
+Effect ss = grammar.optional_list terminals.Eff (grammar.terminated terminals.Semicolon SpellsStmt) ss
+
+effect_follows : (ss : List Stmt) (ts left : List Tok) → Effect ss ts → AfterTransition left → BeforeEffect (ts ++ left)
+effect_follows ss ts left s a = by_list BeforeEffect terminals.Eff (grammar.terminated terminals.Semicolon SpellsStmt) ss ts left at_eff ((a.ends, a.comma), a.propose) s
+
+trials_follow : (y : List ProposalTree × List Stmt) (ts left : List Tok) → (Trials y.0 ▹ Effect y.1) ts → AfterTransition left → BeforeProposals (ts ++ left)
+trials_follow y ts left s a =
+    by_two BeforeProposals (Trials y.0) (Effect y.1) ts left
+    (λ u v t h. by_list BeforeProposals terminals.Propose (grammar.separated terminals.Comma SpellsProposal) y.0 u (v ++ left) pre_propose h t)
+    (λ v t. by_list BeforeProposals terminals.Eff (grammar.terminated terminals.Semicolon SpellsStmt) y.1 v left pre_eff (a.ends, a.pre) t) s
+
+pub transition_exact : Exact SpellsTransition deep_transition AfterTransition transition
+unfolding transition
+transition_exact =
+    deep_as deep_transition (λ t. omega (arith, deep_some_is t.pre))
+    (built_as (λ p. record { kind = p.0; name = p.1.0; pre = p.1.1.0; proposals = p.1.1.1.0; effect = p.1.1.1.1 }) (λ t. (t.kind, (t.name, (t.pre, (t.proposals, t.effect))))) (λ t. refl) (λ p. refl)
+        (then kind_exact (then name_exact (then (optional_exact terminals.Pre expression_exact) (then (optional_list_exact terminals.Propose proposals_exact (parted_bare terminals.Comma SpellsProposal) refl) effect_exact effect_follows) trials_follow) (λ y ts left s g. tt)) (λ y ts left s g. tt)))
+
+transition_some : (t : TransitionTree) (ts : List Tok) → SpellsTransition t ts → 0 < length ts
+transition_some t ts s = omega (arith, ap length s.4, length-append s.0 s.1, ap length s.2)
+
+at_kind : (k : Kind) (z : List Tok) → AfterTransition (terminal (kind_word k) ∷ z)
+unfolding sees same_terminal terminal_at operator_of sees_name
+at_kind Input z = record { ends = tt; semicolon = refl; name = refl; comma = refl; eff = refl; propose = refl; pre = refl }
+at_kind Output z = record { ends = tt; semicolon = refl; name = refl; comma = refl; eff = refl; propose = refl; pre = refl }
+at_kind Internal z = record { ends = tt; semicolon = refl; name = refl; comma = refl; eff = refl; propose = refl; pre = refl }
+
+first_kind : (F : Language) (t : TransitionTree) (ts left : List Tok) → ((z : List Tok) → F (terminal (kind_word t.kind) ∷ z)) → SpellsTransition t ts → F (ts ++ left)
+first_kind F t ts left h s =
+    leads F (terminal (kind_word t.kind))
+    (called t.name ▹ (grammar.optional terminals.Pre (SpellsExpr 0) t.pre ▹ (Trials t.proposals ▹ Effect t.effect))) ts left h s
+
+sees_kind_none : sees_kind [] ≡ false
+unfolding sees_kind kind_at terminal_at
+sees_kind_none = refl
+
+abbrev pub AfterTransitions : Language
+AfterTransitions left = AfterTransition left × (sees_kind left ≡ false)
+
+pub transitions_exact : Exact (grammar.many SpellsTransition) (deepest deep_transition) AfterTransitions transitions
+unfolding transitions
+transitions_exact =
+    many_exact sees_kind sees_kind_alike sees_kind_none transition_exact transition_some
+    (λ t ts left s. first_kind AfterTransition t ts left (at_kind t.kind) s) (λ t ts left s. first_kind (λ z. sees_kind z ≡ true) t ts left (sees_kind_word t.kind) s)
+
+-- ---- automata
+
+abbrev BeforeStates : Language
+BeforeStates left = AfterVariables left × (sees terminals.States left ≡ false)
+
+at_transitions : (z : List Tok) → BeforeStates (terminal terminals.Transitions ∷ z)
+unfolding sees same_terminal terminal_at operator_of sees_name
+at_transitions z = (((tt, refl), refl, refl), refl)
+
+entries_transitions : (z : List Tok) → AfterEntries (terminal terminals.Transitions ∷ z)
+unfolding sees same_terminal sees_kind kind_at terminal_at kind_of
+entries_transitions z = ((tt, refl), refl, refl)
+
+entries_states : (z : List Tok) → AfterEntries (terminal terminals.States ∷ z)
+unfolding sees same_terminal sees_kind kind_at terminal_at kind_of
+entries_states z = ((tt, refl), refl, refl)
+
+open_signature : (z : List Tok) → AfterEntry (terminal terminals.Signature ∷ z)
+unfolding sees same_terminal
+open_signature z = (tt, refl)
+
+abbrev States : List VariableTree → Language
+States vs = grammar.optional_list terminals.States (grammar.terminated terminals.Semicolon SpellsVariable) vs
+
+abbrev Rules : List TransitionTree → Language
+Rules rs = word terminals.Transitions ▹ grammar.many SpellsTransition rs
+
+rules_follow : (y : Unit {0} × List TransitionTree) (ts left : List Tok) → Rules y.1 ts → AfterTransitions left → BeforeStates (ts ++ left)
+rules_follow y ts left s a = leads BeforeStates (terminal terminals.Transitions) (grammar.many SpellsTransition y.1) ts left at_transitions s
+
+states_follow : (y : List VariableTree × (Unit {0} × List TransitionTree)) (ts left : List Tok) → (States y.0 ▹ Rules y.1.1) ts → AfterTransitions left → AfterEntries (ts ++ left)
+states_follow y ts left s a =
+    by_two AfterEntries (States y.0) (Rules y.1.1) ts left
+    (λ u v t h. by_list AfterEntries terminals.States (grammar.terminated terminals.Semicolon SpellsVariable) y.0 u (v ++ left) entries_states h t)
+    (λ v t. leads AfterEntries (terminal terminals.Transitions) (grammar.many SpellsTransition y.1.1) v left entries_transitions t) s
+
+signature_follows : (y : Unit {0} × (List EntryTree × (List VariableTree × (Unit {0} × List TransitionTree)))) (ts left : List Tok) →
+    (word terminals.Signature ▹ (grammar.terminated terminals.Semicolon SpellsEntry y.1.0 ▹ (States y.1.1.0 ▹ Rules y.1.1.1.1))) ts → AfterTransitions left → AfterEntry (ts ++ left)
+signature_follows y ts left s a = leads AfterEntry (terminal terminals.Signature) (grammar.terminated terminals.Semicolon SpellsEntry y.1.0 ▹ (States y.1.1.0 ▹ Rules y.1.1.1.1)) ts left open_signature s
+
+pub automaton_exact : Exact SpellsAutomaton deep_automaton AfterTransitions an_automaton
+unfolding an_automaton
+automaton_exact =
+    deep_as deep_automaton (λ a. omega arith)
+    (built_as (λ p. record { name = p.0; formals = p.1.0; entries = p.1.1.1.0; variables = p.1.1.1.1.0; transitions = p.1.1.1.1.1.1 }) (λ a. (a.name, (a.formals, (tt, (a.entries, (a.variables, (tt, a.transitions))))))) (λ a. refl) (λ p. refl)
+        (then name_exact (then (optional_list_exact terminals.Open fields_exact (closed_bare terminals.Comma terminals.Close SpellsField) refl)
+            (then (sign_exact terminals.Signature) (then entries_exact (then (optional_list_exact terminals.States variables_exact (ended_bare terminals.Semicolon SpellsVariable) refl)
+                (then (sign_exact terminals.Transitions) transitions_exact (λ y ts left s g. tt)) rules_follow) states_follow) (λ y ts left s g. tt)) signature_follows) (λ y ts left s g. tt)))
+
+-- ---- compositions
+
+ends_close : (z : List Tok) → Ends 0 (terminal terminals.Close ∷ z)
+unfolding terminal_at operator_of
+ends_close z = tt
+
+expression_some : (e : Expr) (ts : List Tok) → SpellsExpr 0 e ts → 0 < length ts
+expression_some e ts s = omega (arith, spelled_deep e 0 ts s, depth_positive e)
+
+pub arguments_exact : Exact SpellsArguments (deepest depth_of) any arguments
+unfolding arguments
+arguments_exact = closing_exact (separated_exact terminals.Comma expression_exact expression_some ends_comma) (λ z. (ends_close z, comma_close z))
+
+pub instance_exact : Exact SpellsInstance deep_instance AfterEntry instance
+unfolding instance
+instance_exact =
+    deep_as deep_instance (λ i. omega arith)
+    (built_as (λ p. record { name = p.0; automaton = p.1.1.0; arguments = p.1.1.1 }) (λ i. (i.name, (tt, (i.automaton, i.arguments)))) (λ i. refl) (λ p. refl)
+        (then name_exact (then (sign_exact terminals.Colon) (then name_exact (optional_list_exact terminals.Open arguments_exact (closed_bare terminals.Comma terminals.Close (SpellsExpr 0)) refl) (λ y ts left s g. tt)) (λ y ts left s g. tt)) (λ y ts left s g. tt)))
+
+perhaps_sound : (t : Terminal) (b : ℕ) (ts : List Tok) (x : Unit {0}) (left : List Tok) → perhaps t ts ≡ Ok (x, left) → Found (λ (u : Unit {0}). grammar.perhaps t) flat b ts x left
+perhaps_sound t b ts x left h = by (sees t ts) refl
+  where
+    same : after t ts ≡ left
+    same = (ok_pair tt x (after t ts) left h).1
+
+    by : (v : Bool) → sees t ts ≡ v → Found (λ (u : Unit {0}). grammar.perhaps t) flat b ts x left
+    by true e = record { front = terminal t ∷ []; spells = inl refl; apart = seen t ts e ∙ ap (λ z. terminal t ∷ z) (sym (after_seen t ts e) ∙ same); within = omega arith }
+    by false e = record { front = []; spells = inr refl; apart = sym (after_unseen t ts e) ∙ same; within = omega arith }
+
+abbrev pass : Reader (Unit {0})
+pass ts = Ok (tt, ts)
+
+perhaps_alike : (t : Terminal) (s s' : List Tok) → SameHead s s' → (c : List Tok) → Alike s s' (perhaps t (c ++ s)) (perhaps t (c ++ s'))
+perhaps_alike t s s' h c = by (sees t (c ++ s)) refl
+  where
+    same : sees t (c ++ s) ≡ sees t (c ++ s')
+    same = sees_alike t (c ++ s) (c ++ s') (same_head s s' h c)
+
+    by : (v : Bool) → sees t (c ++ s) ≡ v → Alike s s' (perhaps t (c ++ s)) (perhaps t (c ++ s'))
+    by true e =
+        subst (λ z. Alike s s' (Ok (tt, z)) (perhaps t (c ++ s'))) (sym (after_seen t (c ++ s) e))
+        (subst (λ z. Alike s s' (Ok (tt, rest (c ++ s))) (Ok (tt, z))) (sym (after_seen t (c ++ s') (sym same ∙ e)))
+            (alike_rest s s' pass pass h (λ ts. omega arith) (λ c. went s s' tt c) c (seen_some t (c ++ s) e)))
+    by false e =
+        subst (λ z. Alike s s' (Ok (tt, z)) (perhaps t (c ++ s'))) (sym (after_unseen t (c ++ s) e))
+        (subst (λ z. Alike s s' (Ok (tt, c ++ s)) (Ok (tt, z))) (sym (after_unseen t (c ++ s') (sym same ∙ e))) (went s s' tt c))
+
+perhaps_complete : (t : Terminal) (ts left : List Tok) → grammar.perhaps t ts → sees t left ≡ false → after t (ts ++ left) ≡ left
+perhaps_complete t ts left (inl s) f = ap (λ z. after t (z ++ left)) s ∙ after_word t left
+perhaps_complete t ts left (inr s) f = ap (λ z. after t (z ++ left)) s ∙ after_unseen t left f
+
+perhaps_exact : (t : Terminal) → Exact (λ (u : Unit {0}). grammar.perhaps t) flat (λ left. sees t left ≡ false) (λ b. perhaps t)
+perhaps_exact t = record {
+  complete = λ b x ts left s d f. ap (λ z. Ok (tt, z)) (perhaps_complete t ts left s f);
+  sound = perhaps_sound t;
+  shrinks = λ b ts. after_length t ts;
+  alike = λ b b' le s s' h c. perhaps_alike t s s' h c;
+  long = λ b ts h. absurd (cc (h));
+}
+
+abbrev pub AfterInstances : Language
+AfterInstances left = AfterEntry left × (sees terminals.Semicolon left ≡ false)
+
+perhaps_follows : (ts left : List Tok) → grammar.perhaps terminals.Semicolon ts → AfterInstances left → AfterEntry (ts ++ left)
+perhaps_follows ts left (inl s) a = subst (λ z. AfterEntry (z ++ left)) (sym s) (tt, open_semicolon left)
+perhaps_follows ts left (inr s) a = subst (λ z. AfterEntry (z ++ left)) (sym s) a.0
+
+pub instances_exact : Exact SpellsInstances (deepest deep_instance) AfterInstances instances
+unfolding instances
+instances_exact =
+    into_exact (λ p. p.0 ∷ []) (then instance_exact (before AfterInstances (λ left a. a.1) (perhaps_exact terminals.Semicolon)) (λ y ts left s a. perhaps_follows ts left s a)) SpellsInstances (deepest deep_instance) of (λ x ts s. s) (λ x. omega arith)
+  where
+    of : (y : List InstanceTree) (ts : List Tok) → SpellsInstances y ts → (x : InstanceTree × Unit {0}) × ((x.0 ∷ []) ≡ y) × (SpellsInstance x.0 ▹ grammar.perhaps terminals.Semicolon) ts
+    of [] ts s = absurd s
+    of (i ∷ []) ts s = ((i, tt), refl, s)
+    of (i ∷ j ∷ more) ts s = absurd s
+
+pub composition_exact : Exact SpellsComposition deep_composition AfterInstances a_composition
+unfolding a_composition
+composition_exact =
+    deep_as deep_composition (λ c. omega arith)
+    (built_as (λ p. record { name = p.0; instances = p.1.1 }) (λ c. (c.name, (tt, c.instances))) (λ c. refl) (λ p. refl)
+        (then name_exact (then (sign_exact terminals.Components) instances_exact (λ y ts left s g. tt)) (λ y ts left s g. tt)))
+
+-- ---- declarations
+
+abbrev ByAutomaton : DeclarationTree → Language
+ByAutomaton (automaton a) = SpellsAutomaton a
+ByAutomaton (composition c) = empty
+
+abbrev ByComposition : DeclarationTree → Language
+ByComposition (automaton a) = empty
+ByComposition (composition c) = word terminals.Composition ▹ SpellsComposition c
+
+by_automaton_exact : Exact ByAutomaton deep AfterTransitions (λ b. built automaton (an_automaton b))
+by_automaton_exact = into_exact automaton automaton_exact ByAutomaton deep of (λ x ts s. s) (λ x. refl)
+  where
+    of : (y : DeclarationTree) (ts : List Tok) → ByAutomaton y ts → (a : AutomatonTree) × (automaton a ≡ y) × SpellsAutomaton a ts
+    of (automaton a) ts s = (a, refl, s)
+    of (composition c) ts s = absurd s
+
+composed_exact : Exact ByComposition deep AfterInstances composed
+unfolding composed
+composed_exact = into_exact (λ p. composition p.1) (then (sign_exact terminals.Composition) composition_exact (λ y ts left s g. tt)) ByComposition deep of (λ x ts s. s) (λ x. omega arith)
+  where
+    of : (y : DeclarationTree) (ts : List Tok) → ByComposition y ts → (x : Unit {0} × CompositionTree) × (composition x.1 ≡ y) × (word terminals.Composition ▹ SpellsComposition x.1) ts
+    of (automaton a) ts s = absurd s
+    of (composition c) ts s = ((tt, c), refl, s)
+
+abbrev pub AfterDeclaration : Language
+AfterDeclaration left = AfterTransitions left × AfterInstances left
+
+automaton_composition : (z : List Tok) → sees terminals.Automaton (terminal terminals.Composition ∷ z) ≡ false
+unfolding sees same_terminal
+automaton_composition z = refl
+
+by_composition_unseen : (d : DeclarationTree) (ts left : List Tok) → ByComposition d ts → sees terminals.Automaton (ts ++ left) ≡ false
+by_composition_unseen (automaton a) ts left s = absurd s
+by_composition_unseen (composition c) ts left s = leads (λ z. sees terminals.Automaton z ≡ false) (terminal terminals.Composition) (SpellsComposition c) ts left automaton_composition s
+
+declaration_of : (d : DeclarationTree) (ts : List Tok) → SpellsDeclaration d ts → ((word terminals.Automaton ▹ ByAutomaton d) ts) ⊎ ByComposition d ts
+declaration_of (automaton a) ts s = inl s
+declaration_of (composition c) ts s = inr s
+
+declaration_to : (d : DeclarationTree) (ts : List Tok) → ((word terminals.Automaton ▹ ByAutomaton d) ts) ⊎ ByComposition d ts → SpellsDeclaration d ts
+declaration_to (automaton a) ts (inl s) = s
+declaration_to (automaton a) ts (inr s) = absurd s
+declaration_to (composition c) ts (inl s) = absurd (s.3)
+declaration_to (composition c) ts (inr s) = s
+
+pub declaration_exact : Exact SpellsDeclaration deep AfterDeclaration declaration
+unfolding declaration
+declaration_exact =
+    said_as SpellsDeclaration declaration_of declaration_to
+    (either_exact terminals.Automaton by_automaton_exact composed_exact AfterDeclaration (λ left f. f.0) (λ left f. f.1) (λ d ts left s f. by_composition_unseen d ts left s))
+
+pub declaration_some : (d : DeclarationTree) (ts : List Tok) → SpellsDeclaration d ts → 0 < length ts
+declaration_some (automaton a) ts s = first_some (terminal terminals.Automaton) (SpellsAutomaton a) ts s
+declaration_some (composition c) ts s = first_some (terminal terminals.Composition) (SpellsComposition c) ts s
+
+pub at_automaton : (z : List Tok) → AfterDeclaration (terminal terminals.Automaton ∷ z)
+unfolding sees same_terminal sees_kind kind_at terminal_at kind_of operator_of sees_name
+at_automaton z = ((record { ends = tt; semicolon = refl; name = refl; comma = refl; eff = refl; propose = refl; pre = refl }, refl), ((tt, refl), refl))
+
+pub at_composition : (z : List Tok) → AfterDeclaration (terminal terminals.Composition ∷ z)
+unfolding sees same_terminal sees_kind kind_at terminal_at kind_of operator_of sees_name
+at_composition z = ((record { ends = tt; semicolon = refl; name = refl; comma = refl; eff = refl; propose = refl; pre = refl }, refl), ((tt, refl), refl))
+
+pub at_end : AfterDeclaration []
+unfolding sees same_terminal sees_kind kind_at terminal_at kind_of operator_of sees_name
+at_end = ((record { ends = tt; semicolon = refl; name = refl; comma = refl; eff = refl; propose = refl; pre = refl }, refl), ((tt, refl), refl))
+
+pub declaration_leads : (F : Language) (d : DeclarationTree) (ts left : List Tok) → ((z : List Tok) → F (terminal terminals.Automaton ∷ z)) → ((z : List Tok) → F (terminal terminals.Composition ∷ z)) → SpellsDeclaration d ts → F (ts ++ left)
+declaration_leads F (automaton a) ts left h g s = leads F (terminal terminals.Automaton) (SpellsAutomaton a) ts left h s
+declaration_leads F (composition c) ts left h g s = leads F (terminal terminals.Composition) (SpellsComposition c) ts left g s
+
+-- ---- sources
+
+abbrev pub some_left : List Tok → Bool
+some_left [] = false
+some_left (x ∷ ts) = true
+
+pub some_left_alike : LooksAhead some_left
+some_left_alike = head_alike some_left false (λ x. true) refl (λ x ts. refl)
+
+pub all_exact : Exact (grammar.many SpellsDeclaration) (deepest deep) (λ left. AfterDeclaration left × (some_left left ≡ false)) (λ b. many some_left (declaration b))
+all_exact =
+    many_exact some_left some_left_alike refl declaration_exact declaration_some
+    (λ d ts left s. declaration_leads AfterDeclaration d ts left at_automaton at_composition s) (λ d ts left s. declaration_leads (λ z. some_left z ≡ true) d ts left (λ z. refl) (λ z. refl) s)

@@ -1,0 +1,291 @@
+-- Readers of one token, and of what may be absent.
+use Rattle.std.proofs.Common.{◌≡◌, ℕ, zero, suc, ◌+◌, ◌-◌, ◌<◌, ◌≤◌, ◌⊎◌, inl, inr, Bool, true, false, ◌&&◌, List, [], ◌∷◌, ◌++◌, length, max, refl, sym, ap, ◌∙◌, subst, arith, Option, Some, None, Result, Ok, Err, if◌then◌else◌, length-append, append_assoc, append-nil}
+use denote.Enum.Bare.{same_true, true_same}
+use Rattle.ioa_lex.specs.contracts.terminal.Terminal.{the_type}
+use Rattle.ioa_lex.specs.declared.terminal.Terminal.{Terminal}
+use Rattle.ioa_lex.specs.declared.terminal.Terminal.TheVariants as terminals
+use Rattle.ioa_lex.specs.Tokens as tokens
+use Rattle.ioa_lex.specs.Tokens.{Tok, terminal}
+use Rattle.ioa_value.specs.Actions as actions
+use Rattle.ioa_syntax.specs.declared.tree.Kind.{Kind}
+use Rattle.ioa_syntax.specs.declared.tree.Kind.TheVariants.{Input, Output, Internal}
+use Rattle.ioa_syntax.specs.declared.fault.Fault.{Fault}
+use Rattle.ioa_syntax.specs.declared.fault.Fault.TheVariants.{Syntax, TooDeep}
+use Rattle.ioa_syntax.specs.Grammar as grammar
+use Rattle.ioa_syntax.specs.Grammar.{Language, SameHead, ◌▹◌, single, word, called, nothing, empty, kind_word}
+use Rattle.ioa_syntax.specs.Reading.{Outcome, Reader, ◌>>=◌, ◌▸◌, built, rest, taken, sees, after, is_terminal, same_terminal, sign, a_name, a_kind, kind_at, kind_of, kind_in, terminal_at, terminal_in, optional, optional_list}
+use Rattle.ioa_syntax.proofs.Outcomes.{bind_ok, bind_err, ok_pair, AtMost, at_most_more, at_most_then, Shrinks, Alike, Past, past_at_most, alike_then, alike_rest, refused_at, went, front_length, same_head, LooksAhead, head_alike, rest_length}
+use Rattle.ioa_syntax.proofs.Exact.{Found, Exact, any, flat, built_as, said_as, deep_as}
+
+-- ---- tests
+
+pub sees_word : (t : Terminal) (ts : List Tok) → sees t (terminal t ∷ ts) ≡ true
+unfolding sees same_terminal
+sees_word t ts = true_same the_type t t refl
+
+pub seen : (t : Terminal) (ts : List Tok) → sees t ts ≡ true → ts ≡ terminal t ∷ rest ts
+unfolding sees same_terminal
+seen t [] h = absurd (cc)
+seen t (tokens.number n ∷ ts) h = absurd (cc)
+seen t (tokens.name n ∷ ts) h = absurd (cc)
+seen t (terminal u ∷ ts) h = ap (λ u. terminal u ∷ ts) (same_true the_type tt u t h)
+
+pub sees_alike : (t : Terminal) → LooksAhead (sees t)
+unfolding sees
+sees_alike t = head_alike (sees t) false (is_terminal t) refl (λ x ts. refl)
+
+pub after_seen : (t : Terminal) (ts : List Tok) → sees t ts ≡ true → after t ts ≡ rest ts
+unfolding after
+after_seen t ts h = rw h refl
+
+pub after_unseen : (t : Terminal) (ts : List Tok) → sees t ts ≡ false → after t ts ≡ ts
+unfolding after
+after_unseen t ts h = rw h refl
+
+pub after_word : (t : Terminal) (ts : List Tok) → after t (terminal t ∷ ts) ≡ ts
+after_word t ts = after_seen t (terminal t ∷ ts) (sees_word t ts)
+
+pub after_length : (t : Terminal) (ts : List Tok) → length (after t ts) ≤ length ts
+after_length t ts = by (sees t ts) refl
+  where
+    by : (v : Bool) → sees t ts ≡ v → length (after t ts) ≤ length ts
+    by true h = omega (arith, ap length (after_seen t ts h), rest_length ts)
+    by false h = omega (arith, ap length (after_unseen t ts h))
+
+pub seen_some : (t : Terminal) (ts : List Tok) → sees t ts ≡ true → 0 < length ts
+seen_some t ts h = omega (arith, ap length (seen t ts h))
+
+-- ---- one token, as f sees it
+
+taken_shrinks : {X : Type 0} (ts : List Tok) (x : Option X) → AtMost (length ts) (taken ts x)
+taken_shrinks ts None = omega arith
+taken_shrinks ts (Some x) = rest_length ts
+
+module _ {X : Type 0} (f : List Tok → Option X) (of : X → Tok) (P : Reader X)
+    (takes : (ts : List Tok) → P ts ≡ taken ts (f ts)) (look : LooksAhead f) (none : f [] ≡ None)
+    (is : (x : X) (ts : List Tok) → f (of x ∷ ts) ≡ Some x) (only : (ts : List Tok) (x : X) → f ts ≡ Some x → ts ≡ of x ∷ rest ts) where
+  abbrev One : X → Language
+  One x = single (of x)
+
+  token_sound : (b : ℕ) (ts : List Tok) (x : X) (left : List Tok) → P ts ≡ Ok (x, left) → Found One flat b ts x left
+  token_sound b ts x left h = by (f ts) refl (sym (takes ts) ∙ h)
+    where
+      by : (o : Option X) → f ts ≡ o → taken ts o ≡ Ok (x, left) → Found One flat b ts x left
+      by None e h = absurd (cc)
+      by (Some y) e h =
+          let same = ok_pair y x (rest ts) left h in
+          record { front = of x ∷ []; spells = refl; apart = only ts y e ∙ ap (λ y. of y ∷ rest ts) same.0 ∙ ap (λ r. of x ∷ r) same.1; within = omega arith }
+
+  taken_alike : (s s' : List Tok) → SameHead s s' → (c : List Tok) (o : Option X) → f (c ++ s) ≡ o → Alike s s' (taken (c ++ s) o) (taken (c ++ s') o)
+  taken_alike s s' h c None e = refused_at s s' (length (c ++ s)) (length (c ++ s')) (front_length c s)
+  taken_alike s s' h c (Some x) e =
+      alike_rest s s' (λ ts. Ok (x, ts)) (λ ts. Ok (x, ts)) h (λ ts. omega arith) (λ c. went s s' x c) c (omega (arith, ap length (only (c ++ s) x e)))
+
+  token_alike : (s s' : List Tok) → SameHead s s' → (c : List Tok) → Alike s s' (P (c ++ s)) (P (c ++ s'))
+  token_alike s s' h c =
+      let same : f (c ++ s) ≡ f (c ++ s') = look (c ++ s) (c ++ s') (same_head s s' h c) in
+      let other : P (c ++ s') ≡ taken (c ++ s') (f (c ++ s)) = takes (c ++ s') ∙ ap (taken (c ++ s')) (sym same) in
+      subst (λ o. Alike s s' o (P (c ++ s'))) (sym (takes (c ++ s))) (subst (λ o. Alike s s' (taken (c ++ s) (f (c ++ s))) o) (sym other) (taken_alike s s' h c (f (c ++ s)) refl))
+
+  token_long : (b : ℕ) (ts : List Tok) → P ts ≡ Err TooDeep → b < length ts
+  token_long b ts h = by (f ts) (sym (takes ts) ∙ h)
+    where
+      by : (o : Option X) → taken ts o ≡ Err TooDeep → b < length ts
+      by None h = absurd (cc)
+      by (Some y) h = absurd (cc)
+
+  pub token : Exact One flat any (λ b. P)
+  token = record {
+    complete = λ b x ts left s d h. ap (λ z. P (z ++ left)) s ∙ takes (of x ∷ left) ∙ ap (taken (of x ∷ left)) (is x left);
+    sound = token_sound;
+    shrinks = λ b ts. subst (AtMost (length ts)) (sym (takes ts)) (taken_shrinks ts (f ts));
+    alike = λ b b' le s s' h c. token_alike s s' h c;
+    long = token_long;
+  }
+
+-- ---- a word or sign, a name, a kind
+
+abbrev sign_at : Terminal → List Tok → Option (Unit {0})
+sign_at t ts = if sees t ts then Some tt else None
+
+sign_takes : (t : Terminal) (ts : List Tok) → sign t ts ≡ taken ts (sign_at t ts)
+unfolding sign
+sign_takes t ts = by (sees t ts) refl
+  where
+    by : (v : Bool) → sees t ts ≡ v → sign t ts ≡ taken ts (sign_at t ts)
+    by true h = rw h refl
+    by false h = rw h refl
+
+sign_only : (t : Terminal) (ts : List Tok) (x : Unit {0}) → sign_at t ts ≡ Some x → ts ≡ terminal t ∷ rest ts
+sign_only t ts x h = by (sees t ts) refl h
+  where
+    by : (v : Bool) → sees t ts ≡ v → (if v then Some tt else None) ≡ Some x → ts ≡ terminal t ∷ rest ts
+    by true e h = seen t ts e
+    by false e h = absurd (cc)
+
+sign_none : (t : Terminal) → sign_at t [] ≡ None
+unfolding sees
+sign_none t = refl
+
+pub sign_exact : (t : Terminal) → Exact (λ (u : Unit {0}). word t) flat any (λ b. sign t)
+sign_exact t =
+    token (sign_at t) (λ u. terminal t) (sign t) (sign_takes t) (λ s s' h. ap (λ (v : Bool). if v then Some tt else None) (sees_alike t s s' h)) (sign_none t)
+    (λ x ts. rw (sees_word t ts) refl) (sign_only t)
+
+abbrev name_in : Tok → Option actions.Name
+name_in (tokens.number n) = None
+name_in (tokens.name n) = Some n
+name_in (terminal t) = None
+
+abbrev name_at : List Tok → Option actions.Name
+name_at [] = None
+name_at (x ∷ ts) = name_in x
+
+name_takes : (ts : List Tok) → a_name ts ≡ taken ts (name_at ts)
+unfolding a_name
+name_takes [] = refl
+name_takes (tokens.number n ∷ ts) = refl
+name_takes (tokens.name n ∷ ts) = refl
+name_takes (terminal t ∷ ts) = refl
+
+name_only : (ts : List Tok) (n : actions.Name) → name_at ts ≡ Some n → ts ≡ tokens.name n ∷ rest ts
+name_only [] n h = absurd (cc)
+name_only (tokens.number m ∷ ts) n h = absurd (cc)
+name_only (tokens.name m ∷ ts) n h = let same : m ≡ n = cc in ap (λ m. tokens.name m ∷ ts) same
+name_only (terminal t ∷ ts) n h = absurd (cc)
+
+pub name_exact : Exact called flat any (λ b. a_name)
+name_exact = token name_at tokens.name a_name name_takes (head_alike name_at None name_in refl (λ x ts. refl)) refl (λ x ts. refl) name_only
+
+kind_only-terminal : (t : Terminal) (k : Kind) → kind_of t ≡ Some k → t ≡ kind_word k
+unfolding kind_of
+kind_only-terminal terminals.Input k h = let same : Input ≡ k = cc in ap kind_word same
+kind_only-terminal terminals.Output k h = let same : Output ≡ k = cc in ap kind_word same
+kind_only-terminal terminals.Internal k h = let same : Internal ≡ k = cc in ap kind_word same
+kind_only-terminal _ k h = absurd (cc)
+
+kind_only : (ts : List Tok) (k : Kind) → kind_at ts ≡ Some k → ts ≡ terminal (kind_word k) ∷ rest ts
+unfolding kind_at terminal_at
+kind_only [] k h = absurd (cc)
+kind_only (tokens.number m ∷ ts) k h = absurd (cc)
+kind_only (tokens.name m ∷ ts) k h = absurd (cc)
+kind_only (terminal t ∷ ts) k h = ap (λ t. terminal t ∷ ts) (kind_only-terminal t k h)
+
+kind_takes : (ts : List Tok) → a_kind ts ≡ taken ts (kind_at ts)
+unfolding a_kind
+kind_takes ts = refl
+
+pub kind_is : (k : Kind) (ts : List Tok) → kind_at (terminal (kind_word k) ∷ ts) ≡ Some k
+unfolding kind_at terminal_at kind_of
+kind_is Input ts = refl
+kind_is Output ts = refl
+kind_is Internal ts = refl
+
+kind_none : kind_at [] ≡ None
+unfolding kind_at terminal_at
+kind_none = refl
+
+abbrev kind_within : Tok → Option Kind
+kind_within x = kind_in (terminal_in x)
+
+pub kind_alike : LooksAhead kind_at
+unfolding kind_at terminal_at
+kind_alike = head_alike kind_at None kind_within refl (λ x ts. refl)
+
+pub kind_exact : Exact (λ k. word (kind_word k)) flat any (λ b. a_kind)
+kind_exact = token kind_at (λ k. terminal (kind_word k)) a_kind kind_takes kind_alike kind_none kind_is kind_only
+
+-- ---- what a word introduces, or else something that does not begin with it
+
+module _ {A : Type 0} (t : Terminal) {L M : A → Language} {D : A → ℕ} {F G : Language} {P Q : ℕ → Reader A} (p : Exact L D F P) (q : Exact M D G Q) (H : Language)
+    (first : (left : List Tok) → H left → F left) (second : (left : List Tok) → H left → G left) (unseen : (x : A) (ts left : List Tok) → M x ts → H left → sees t (ts ++ left) ≡ false) where
+  abbrev Either : A → Language
+  Either x = λ ts. ((word t ▹ L x) ts) ⊎ M x ts
+
+  abbrev pub either : ℕ → Reader A
+  either b ts = if sees t ts then P b (after t ts) else Q b (after t ts)
+
+  where_seen : (b : ℕ) (ts : List Tok) → sees t ts ≡ true → either b ts ≡ P b (rest ts)
+  where_seen b ts h = let e : either b ts ≡ P b (after t ts) = rw h refl in e ∙ ap (P b) (after_seen t ts h)
+
+  where_unseen : (b : ℕ) (ts : List Tok) → sees t ts ≡ false → either b ts ≡ Q b ts
+  where_unseen b ts h = let e : either b ts ≡ Q b (after t ts) = rw h refl in e ∙ ap (Q b) (after_unseen t ts h)
+
+  either_complete : (b : ℕ) (x : A) (ts left : List Tok) → Either x ts → D x ≤ b → H left → either b (ts ++ left) ≡ Ok (x, left)
+  either_complete b x ts left (inl s) d f =
+      let apart : ts ++ left ≡ terminal t ∷ (s.1 ++ left) = ap (λ z. z ++ left) (s.4 ∙ ap (λ z. z ++ s.1) s.2) in
+      ap (either b) apart ∙ where_seen b (terminal t ∷ (s.1 ++ left)) (sees_word t (s.1 ++ left)) ∙ p.complete b x s.1 left s.3 d (first left f)
+  either_complete b x ts left (inr s) d f = where_unseen b (ts ++ left) (unseen x ts left s f) ∙ q.complete b x ts left s d (second left f)
+
+  either_sound : (b : ℕ) (ts : List Tok) (x : A) (left : List Tok) → either b ts ≡ Ok (x, left) → Found Either D b ts x left
+  either_sound b ts x left h = by (sees t ts) refl
+    where
+      by : (v : Bool) → sees t ts ≡ v → Found Either D b ts x left
+      by true e =
+          let f = p.sound b (rest ts) x left (sym (where_seen b ts e) ∙ h) in
+          record { front = terminal t ∷ f.front; spells = inl (terminal t ∷ [], f.front, refl, f.spells, refl); apart = seen t ts e ∙ ap (λ z. terminal t ∷ z) f.apart; within = f.within }
+      by false e =
+          let f = q.sound b ts x left (sym (where_unseen b ts e) ∙ h) in
+          record { front = f.front; spells = inr f.spells; apart = f.apart; within = f.within }
+
+  either_shrinks : (b : ℕ) (ts : List Tok) → AtMost (length ts) (either b ts)
+  either_shrinks b ts = by (sees t ts) refl
+    where
+      by : (v : Bool) → sees t ts ≡ v → AtMost (length ts) (either b ts)
+      by true e = subst (AtMost (length ts)) (sym (where_seen b ts e)) (at_most_more (length (rest ts)) (length ts) (P b (rest ts)) (rest_length ts) (p.shrinks b (rest ts)))
+      by false e = subst (AtMost (length ts)) (sym (where_unseen b ts e)) (q.shrinks b ts)
+
+  either_alike : (b b' : ℕ) → b ≤ b' → (s s' : List Tok) → SameHead s s' → (c : List Tok) → Alike s s' (either b (c ++ s)) (either b' (c ++ s'))
+  either_alike b b' le s s' h c = by (sees t (c ++ s)) refl
+    where
+      same : sees t (c ++ s) ≡ sees t (c ++ s')
+      same = sees_alike t (c ++ s) (c ++ s') (same_head s s' h c)
+
+      by : (v : Bool) → sees t (c ++ s) ≡ v → Alike s s' (either b (c ++ s)) (either b' (c ++ s'))
+      by true e =
+          subst (λ o. Alike s s' o (either b' (c ++ s'))) (sym (where_seen b (c ++ s) e))
+          (subst (λ o. Alike s s' (P b (rest (c ++ s))) o) (sym (where_seen b' (c ++ s') (sym same ∙ e)))
+              (alike_rest s s' (P b) (P b') h (p.shrinks b) (p.alike b b' le s s' h) c (seen_some t (c ++ s) e)))
+      by false e =
+          subst (λ o. Alike s s' o (either b' (c ++ s'))) (sym (where_unseen b (c ++ s) e))
+          (subst (λ o. Alike s s' (Q b (c ++ s)) o) (sym (where_unseen b' (c ++ s') (sym same ∙ e))) (q.alike b b' le s s' h c))
+
+  either_long : (b : ℕ) (ts : List Tok) → either b ts ≡ Err TooDeep → b < length ts
+  either_long b ts h = by (sees t ts) refl
+    where
+      by : (v : Bool) → sees t ts ≡ v → b < length ts
+      by true e = let far = p.long b (rest ts) (sym (where_seen b ts e) ∙ h) in omega (arith, rest_length ts)
+      by false e = q.long b ts (sym (where_unseen b ts e) ∙ h)
+
+  pub either_exact : Exact Either D H either
+  either_exact = record { complete = either_complete; sound = either_sound; shrinks = either_shrinks; alike = either_alike; long = either_long }
+
+-- ---- nothing at all, which stands for one value
+
+module _ {A : Type 0} (absent : A) (D : A → ℕ) (shallow : D absent ≡ 0) where
+  abbrev pub Absent : A → Language
+  Absent x = λ ts. (x ≡ absent) × nothing ts
+
+  absent_sound : (b : ℕ) (ts : List Tok) (x : A) (left : List Tok) → ◌≡◌ {A = Outcome A} (Ok (absent, ts)) (Ok (x, left)) → Found Absent D b ts x left
+  absent_sound b ts x left h =
+      let same = ok_pair absent x ts left h in
+      record { front = []; spells = (sym same.0, refl); apart = same.1; within = let small : D x ≡ 0 = ap D (sym same.0) ∙ shallow in omega arith }
+
+  pub absent_exact : Exact Absent D any (λ b ts. Ok (absent, ts))
+  absent_exact = record {
+    complete = λ b x ts left s d f. ap (λ z. Ok (absent, z ++ left)) s.1 ∙ ap (λ y. Ok (y, left)) (sym s.0);
+    sound = absent_sound;
+    shrinks = λ b ts. omega arith;
+    alike = λ b b' le s s' h c. went s s' absent c;
+    long = λ b ts h. absurd (cc (h));
+  }
+
+module _ {A : Type 0} (t : Terminal) (absent : A) {L : A → Language} {D : A → ℕ} {F : Language} {P : ℕ → Reader A} (p : Exact L D F P) (shallow : D absent ≡ 0) where
+  abbrev pub Introduced : A → Language
+  Introduced x = λ ts. ((word t ▹ L x) ts) ⊎ ((x ≡ absent) × nothing ts)
+
+  abbrev Unseen : Language
+  Unseen ts = F ts × (sees t ts ≡ false)
+
+  pub introduced_exact : Exact Introduced D Unseen (λ b ts. if sees t ts then P b (after t ts) else Ok (absent, after t ts))
+  introduced_exact = either_exact t p (absent_exact absent D shallow) Unseen (λ left f. f.0) (λ left f. tt) (λ x ts left s f. ap (λ z. sees t (z ++ left)) s.1 ∙ f.1)

@@ -1,0 +1,204 @@
+-- An expression that is read is spelled so.
+use Rattle.std.proofs.Common.{◌≡◌, ℕ, zero, suc, ◌+◌, ◌-◌, ◌<◌, ◌≤◌, ◌⊎◌, inl, inr, Bool, ◌&&◌, List, [], ◌∷◌, ◌++◌, length, refl, sym, ap, ◌∙◌, subst, arith, Option, Some, None, Result, Ok, Err, true, false, nat_le, nat_lt, append_assoc, if◌then◌else◌, length-append}
+use Rattle.std.proofs.lemmas.Bool.Decides.{nat_tests}
+use Rattle.ioa_lex.specs.declared.terminal.Terminal.{Terminal}
+use Rattle.ioa_lex.specs.declared.terminal.Terminal.TheVariants as terminals
+use Rattle.ioa_lex.specs.Tokens as tokens
+use Rattle.ioa_lex.specs.Tokens.{Tok, terminal}
+use Rattle.ioa_syntax.specs.declared.fault.Fault.{Fault}
+use Rattle.ioa_syntax.specs.declared.fault.Fault.TheVariants.{Syntax, TooDeep}
+use Rattle.ioa_syntax.specs.declared.tree.Operator.{Operator}
+use Rattle.ioa_syntax.specs.declared.tree.Operator.TheVariants.{Equal, Plus, Minus}
+use Rattle.ioa_syntax.specs.Tree.{Expr, number, truth, named, parens, binary}
+use Rattle.ioa_syntax.specs.Depth.{depth_of}
+use Rattle.ioa_syntax.specs.Grammar.{SpellsExpr, level_of, left_of, right_of, operator_word}
+use Rattle.ioa_syntax.specs.Reading.{climb, climb_by, stop_by, expr, no_depth, operand, opened, operator_at, operator_in, operator_of, terminal_at, allowed, after_of, rest, sign, Outcome, Reader, ◌>>=◌, ◌▸◌, built}
+use Rattle.ioa_syntax.proofs.Outcomes.{bind_ok, bind_err, ok_pair, guard_ok}
+use Rattle.ioa_syntax.proofs.Singles.{sign_exact}
+use Rattle.ioa_syntax.proofs.Complete.{mark, parens_join, binary_join, spelled_deep}
+
+pub le_of : (a b : ℕ) → nat_le a b ≡ true → a ≤ b
+le_of a b h = grind (arith, nat_tests)
+
+lt_of : (a b : ℕ) → nat_lt a b ≡ true → a < b
+lt_of a b h = grind (arith, nat_tests)
+
+-- ---- the next token, seen as an operator of these levels
+
+operator_only : (t : Terminal) (o : Operator) → operator_of t ≡ Some o → t ≡ operator_word o
+unfolding operator_of
+operator_only terminals.Equal o h = let same : Equal ≡ o = cc in ap operator_word same
+operator_only terminals.Plus o h = let same : Plus ≡ o = cc in ap operator_word same
+operator_only terminals.Minus o h = let same : Minus ≡ o = cc in ap operator_word same
+operator_only _ o h = absurd (cc)
+
+next_only : (ts : List Tok) (o : Operator) → operator_in (terminal_at ts) ≡ Some o → ts ≡ mark o ∷ rest ts
+unfolding terminal_at
+next_only [] o h = absurd (cc)
+next_only (tokens.number n ∷ ts) o h = absurd (cc)
+next_only (tokens.name n ∷ ts) o h = absurd (cc)
+next_only (terminal t ∷ ts) o h = ap (λ t. terminal t ∷ ts) (operator_only t o h)
+
+abbrev pub Next : ℕ → ℕ → List Tok → Type 0
+Next least below ts = (operator_at least below ts ≡ None) ⊎ ((o : Operator) × (operator_at least below ts ≡ Some o) × (ts ≡ mark o ∷ rest ts) × (least ≤ level_of o) × (level_of o < below))
+
+pub next_cases : (least below : ℕ) (ts : List Tok) → Next least below ts
+unfolding operator_at
+next_cases least below ts = by (operator_in (terminal_at ts)) refl
+  where
+    tests : (o : Operator) → operator_in (terminal_at ts) ≡ Some o → (x y : Bool) → nat_le least (level_of o) ≡ x → nat_lt (level_of o) below ≡ y → Next least below ts
+    tests o e true true p q =
+        let here : allowed least below (Some o) ≡ Some o = rw (p, q) refl in
+        inr (o, ap (allowed least below) e ∙ here, next_only ts o e, le_of _ _ p, lt_of _ _ q)
+    tests o e true false p q = let here : allowed least below (Some o) ≡ None = rw (p, q) refl in inl (ap (allowed least below) e ∙ here)
+    tests o e false y p q = let here : allowed least below (Some o) ≡ None = rw p refl in inl (ap (allowed least below) e ∙ here)
+
+    by : (o : Option Operator) → operator_in (terminal_at ts) ≡ o → Next least below ts
+    by None e = inl (ap (allowed least below) e)
+    by (Some o) e = tests o e (nat_le least (level_of o)) (nat_lt (level_of o) below) refl refl
+
+-- ---- what begins an operand
+
+pub data Opening (inner : Reader Expr) (t : Terminal) : Type 0 where
+  opens_true : t ≡ terminals.True → Opening inner t
+  opens_false : t ≡ terminals.False → Opening inner t
+  opens_parens : t ≡ terminals.Open → Opening inner t
+  opens_none : ((ts : List Tok) → opened inner t ts ≡ Err (Syntax (suc (length ts)))) → Opening inner t
+
+pub opening : (inner : Reader Expr) (t : Terminal) → Opening inner t
+unfolding opened
+opening inner terminals.True = opens_true refl
+opening inner terminals.False = opens_false refl
+opening inner terminals.Open = opens_parens refl
+opening inner _ = opens_none (λ ts. refl)
+
+abbrev pub bracketed : Reader Expr → Reader Expr
+bracketed inner = built (λ p. parens p.0) (inner ▸ sign terminals.Close)
+
+pub opened_true : (inner : Reader Expr) (ts : List Tok) → opened inner terminals.True ts ≡ Ok (truth true, ts)
+unfolding opened
+opened_true inner ts = refl
+
+pub opened_false : (inner : Reader Expr) (ts : List Tok) → opened inner terminals.False ts ≡ Ok (truth false, ts)
+unfolding opened
+opened_false inner ts = refl
+
+pub opened_bracketed : (inner : Reader Expr) (ts : List Tok) → opened inner terminals.Open ts ≡ bracketed inner ts
+unfolding opened
+opened_bracketed inner ts = refl
+
+-- a front of the tokens spells the tree
+pub record Reads (b k : ℕ) (ts : List Tok) (t : Expr) (left : List Tok) : Type 0 where
+  pub front : List Tok
+  pub spells : SpellsExpr k t front
+  pub apart : ts ≡ front ++ left
+  pub within : depth_of t ≤ b
+
+-- the same at every level
+pub record ReadsOperand (b : ℕ) (ts : List Tok) (t : Expr) (left : List Tok) : Type 0 where
+  pub front : List Tok
+  pub spells : (k : ℕ) → SpellsExpr k t front
+  pub apart : ts ≡ front ++ left
+  pub within : depth_of t ≤ b
+
+-- an operator that may follow takes the tree as its left operand
+abbrev IsLeft : ℕ → Expr → List Tok → Type 0
+IsLeft below left a = (o : Operator) → level_of o < below → SpellsExpr (left_of o) left a
+
+left_again : (o p : Operator) → level_of p < after_of o → left_of p ≤ level_of o
+left_again Plus Plus h = omega arith
+left_again Plus Minus h = omega arith
+left_again Plus Equal h = omega arith
+left_again Minus Plus h = omega arith
+left_again Minus Minus h = omega arith
+left_again Minus Equal h = omega arith
+left_again Equal Plus h = absurd (omega arith)
+left_again Equal Minus h = absurd (omega arith)
+left_again Equal Equal h = absurd (omega arith)
+
+single_reads : (b : ℕ) (x : Tok) (e : Expr) (ts : List Tok) (t : Expr) (left : List Tok) → ((k : ℕ) → SpellsExpr k e (x ∷ [])) → depth_of e ≤ b → ◌≡◌ {A = Outcome Expr} (Ok (e, ts)) (Ok (t, left)) → ReadsOperand b (x ∷ ts) t left
+single_reads b x e ts t left s d h =
+    let p = ok_pair e t ts left h in
+    record { front = x ∷ []; spells = λ k. subst (λ t. SpellsExpr k t (x ∷ [])) p.0 (s k); apart = ap (λ r. x ∷ r) p.1; within = subst (λ t. depth_of t ≤ b) p.0 d }
+
+module _ (b : ℕ) (e : ℕ → Reader Expr) (inner : (k : ℕ) (ts : List Tok) (t : Expr) (left : List Tok) → e k ts ≡ Ok (t, left) → Reads b k ts t left) where
+  bracketed_sound : (ts : List Tok) (t : Expr) (left : List Tok) → bracketed (e 0) ts ≡ Ok (t, left) → ReadsOperand (suc b) (terminal terminals.Open ∷ ts) t left
+  bracketed_sound ts t left h =
+      let whole = bind_ok ((e 0 ▸ sign terminals.Close) ts) (λ x. Ok (parens x.0.0, x.1)) (t, left) h in
+      let one = bind_ok (e 0 ts) (λ x. sign terminals.Close x.1 >>= λ y. Ok ((x.0, y.0), y.1)) whole.0 whole.1 in
+      let two = bind_ok (sign terminals.Close one.0.1) (λ y. Ok ((one.0.0, y.0), y.1)) whole.0 one.2 in
+      let close = (sign_exact terminals.Close).sound 0 one.0.1 two.0.0 two.0.1 two.1 in
+      let in_it = inner 0 ts one.0.0 one.0.1 one.1 in
+      let pair = ok_pair (one.0.0, two.0.0) whole.0.0 two.0.1 whole.0.1 two.2 in
+      let same = ok_pair (parens whole.0.0.0) t whole.0.1 left whole.2 in
+      let is : parens one.0.0 ≡ t = ap (λ x. parens x.0) pair.0 ∙ same.0 in
+      let goes : two.0.1 ≡ left = pair.1 ∙ same.1 in
+      let front : List Tok = terminal terminals.Open ∷ (in_it.front ++ terminal terminals.Close ∷ []) in
+      record {
+        front = front;
+        spells = λ k. subst (λ t. SpellsExpr k t front) is (parens_join one.0.0 k in_it.front in_it.spells);
+        apart = ap (λ r. terminal terminals.Open ∷ r) (in_it.apart ∙ ap (λ r. in_it.front ++ r) (close.apart ∙ ap (λ z. z ++ two.0.1) close.spells ∙ ap (λ z. terminal terminals.Close ∷ z) goes) ∙ sym (append_assoc in_it.front (terminal terminals.Close ∷ []) left));
+        within = subst (λ t. depth_of t ≤ suc b) is (omega (arith, in_it.within));
+      }
+
+  pub operand_sound : (ts : List Tok) (t : Expr) (left : List Tok) → operand (e 0) ts ≡ Ok (t, left) → ReadsOperand (suc b) ts t left
+  unfolding operand
+  operand_sound [] t left h = absurd (cc)
+  operand_sound (tokens.number n ∷ ts) t left h = single_reads (suc b) (tokens.number n) (number n) ts t left (λ k. refl) (omega arith) h
+  operand_sound (tokens.name n ∷ ts) t left h = single_reads (suc b) (tokens.name n) (named n) ts t left (λ k. refl) (omega arith) h
+  operand_sound (terminal u ∷ ts) t left h =
+      elim (opening (e 0) u) [
+        | opens_true is ↦ subst (λ u. ReadsOperand (suc b) (terminal u ∷ ts) t left) (sym is) (single_reads (suc b) (terminal terminals.True) (truth true) ts t left (λ k. refl) (omega arith) (sym (opened_true (e 0) ts) ∙ ap (λ u. opened (e 0) u ts) (sym is) ∙ h))
+        | opens_false is ↦ subst (λ u. ReadsOperand (suc b) (terminal u ∷ ts) t left) (sym is) (single_reads (suc b) (terminal terminals.False) (truth false) ts t left (λ k. refl) (omega arith) (sym (opened_false (e 0) ts) ∙ ap (λ u. opened (e 0) u ts) (sym is) ∙ h))
+        | opens_parens is ↦ subst (λ u. ReadsOperand (suc b) (terminal u ∷ ts) t left) (sym is) (bracketed_sound ts t left (sym (opened_bracketed (e 0) ts) ∙ ap (λ u. opened (e 0) u ts) (sym is) ∙ h))
+        | opens_none faults ↦ let never = sym (faults ts) ∙ h in absurd (cc)
+      ]
+
+  abbrev Climbs : ℕ → Type 0
+  Climbs n = (least below : ℕ) (left : Expr) (ts : List Tok) (t : Expr) (end : List Tok) → climb b e n least below left ts ≡ Ok (t, end) →
+      (a : List Tok) → SpellsExpr least left a → IsLeft below left a → depth_of left ≤ suc b → Reads (suc b) least (a ++ ts) t end
+
+  stops : (least : ℕ) (left : Expr) (ts : List Tok) (t : Expr) (end : List Tok) → ◌≡◌ {A = Outcome Expr} (Ok (left, ts)) (Ok (t, end)) → (a : List Tok) → SpellsExpr least left a → depth_of left ≤ suc b → Reads (suc b) least (a ++ ts) t end
+  stops least left ts t end h a s d =
+      let p = ok_pair left t ts end h in
+      record { front = a; spells = subst (λ t. SpellsExpr least t a) p.0 s; apart = ap (λ r. a ++ r) p.1; within = subst (λ t. depth_of t ≤ suc b) p.0 d }
+
+  takes : (n : ℕ) → Climbs n → (least below : ℕ) (left : Expr) (ts : List Tok) (t : Expr) (end : List Tok) (o : Operator) →
+      climb_by b e (climb b e n least) left ts (Some o) ≡ Ok (t, end) →
+      (a : List Tok) → SpellsExpr least left a → IsLeft below left a → ts ≡ mark o ∷ rest ts → least ≤ level_of o → level_of o < below → Reads (suc b) least (a ++ ts) t end
+  takes n more_of least below left ts t end o h a s again is low high =
+      let g = guard_ok (nat_le (depth_of left) b) (e (right_of o) (rest ts) >>= λ q. climb b e n least (after_of o) (binary left o q.0) q.1) TooDeep (t, end) h in
+      let x = bind_ok (e (right_of o) (rest ts)) (λ q. climb b e n least (after_of o) (binary left o q.0) q.1) (t, end) g.1 in
+      let right = inner (right_of o) (rest ts) x.0.0 x.0.1 x.1 in
+      let longer : List Tok = a ++ mark o ∷ right.front in
+      let fits : depth_of left ≤ b = le_of _ _ g.0 in
+      let more = more_of least (after_of o) (binary left o x.0.0) x.0.1 t end x.2 longer
+      (binary_join least left o x.0.0 a right.front low (again o high) right.spells)
+      (λ p hp. binary_join (left_of p) left o x.0.0 a right.front (left_again o p hp) (again o high) right.spells)
+      (omega (arith, right.within)) in
+      let joined : a ++ ts ≡ longer ++ x.0.1 = ap (λ r. a ++ r) (is ∙ ap (λ r. mark o ∷ r) right.apart) ∙ sym (append_assoc a (mark o ∷ right.front) x.0.1) in
+      record { front = more.front; spells = more.spells; apart = joined ∙ more.apart; within = more.within }
+
+  climb_sound : (n : ℕ) → Climbs n
+  unfolding climb
+  climb_sound zero least below left ts t end h a s again d = by (operator_at least below ts) h
+    where
+      by : (o : Option Operator) → stop_by b e left ts o ≡ Ok (t, end) → Reads (suc b) least (a ++ ts) t end
+      by None h = stops least left ts t end h a s d
+      by (Some x) h = absurd (cc)
+  climb_sound (suc n) least below left ts t end h a s again d =
+      let more_of = climb_sound n in
+      elim (next_cases least below ts) [
+        | inl absent ↦ stops least left ts t end (subst (λ o. climb_by b e (climb b e n least) left ts o ≡ Ok (t, end)) absent h) a s d
+        | inr present ↦ takes n more_of least below left ts t end present.0 (subst (λ o. climb_by b e (climb b e n least) left ts o ≡ Ok (t, end)) present.1 h) a s again present.2 present.3 present.4
+      ]
+
+pub sound : (b k : ℕ) (ts : List Tok) (t : Expr) (left : List Tok) → expr b k ts ≡ Ok (t, left) → Reads b k ts t left
+unfolding expr
+sound zero k [] t left h = absurd (cc)
+sound zero k (x ∷ ts) t left h = absurd (cc)
+sound (suc b) k ts t left h =
+    let x = bind_ok (operand (expr b 0) ts) (λ p. climb b (expr b) b k 10 p.0 p.1) (t, left) h in
+    let first = operand_sound b (expr b) (sound b) ts x.0.0 x.0.1 x.1 in
+    let more = climb_sound b (expr b) (sound b) b k 10 x.0.0 x.0.1 t left x.2 first.front (first.spells k) (λ o _. first.spells (left_of o)) first.within in
+    record { front = more.front; spells = more.spells; apart = first.apart ∙ more.apart; within = more.within }

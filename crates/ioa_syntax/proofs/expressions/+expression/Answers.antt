@@ -1,0 +1,32 @@
+use Rattle.std.proofs.Common.{rules, arith, ◌≡◌, ◌≤◌, ◌-◌, ◌∙◌, Some, Ok, Result, ap, sym, subst}
+use Rattle.ioa_lex.specs.Tokens.{tokens_shown, Tok}
+use Rattle.ioa_syntax.specs.Reading as spec
+use Rattle.ioa_syntax.specs.Tree.{Expr}
+use Rattle.ioa_syntax.specs.View.{expr_of}
+use Rattle.ioa_syntax.specs.Depth.{depth_of}
+use Rattle.ioa_syntax.proofs.Climb.{climb_turn, climb_fails, expr_starts}
+use Rattle.ioa_syntax.proofs.expressions.+expression.Goals as goal
+
+pub climb-loop-turn-preserved : goal.climb-loop-turn-preserved
+climb-loop-turn-preserved t c = record {
+  same =
+      let at : spec.operator_at c.args.least c.loop-turn.below (tokens_shown c.loop-turn.cursor) ≡ Some c.in-Some.operator = search rules in
+      let fits : depth_of (expr_of c.loop-turn.left.expression) ≤ c.args.depth = omega (arith, c.loop-turn.left.exact) in
+      climb_turn c.args.depth c.loop-turn._turn c.args.least c.loop-turn.below _ _ _ (expr_of c.loop-turn.left.expression) _ _ (tokens_shown c.loop-turn.cursor) _ _ (omega arith) at c.skip.ensures fits c.in_ok-operand.ensures.read c.right.ensures c.after-below.ensures c.in_ok-left.ensures
+      ∙ c.loop-turn.invariant.same;
+  within = omega (arith, ap depth_of c.in_ok-left.ensures, c.in_ok-left.left.exact, c.loop-turn.left.exact, c.in_ok-operand.operand.exact, c.in_ok-operand.ensures.within);
+}
+
+pub climb-returns-in_err-operand-clause-read : goal.climb-returns-in_err-operand-clause-read
+climb-returns-in_err-operand-clause-read t c =
+    let at : spec.operator_at c.args.least c.loop-turn.below (tokens_shown c.loop-turn.cursor) ≡ Some c.in-Some.operator = search rules in
+    let fits : depth_of (expr_of c.loop-turn.left.expression) ≤ c.args.depth = omega (arith, c.loop-turn.left.exact) in
+    let failed : spec.Fails c.in_err-operand.field-0.0 (spec.climb c.args.depth (spec.expr c.args.depth) c.args.depth c.args.least 10 (expr_of c.args.first.expression) (tokens_shown c.args.cursor.now)) =
+    subst (spec.Fails c.in_err-operand.field-0.0) c.loop-turn.invariant.same
+    (climb_fails c.args.depth c.loop-turn._turn c.args.least c.loop-turn.below c.right.result c.in-Some.operator (expr_of c.loop-turn.left.expression) (tokens_shown c.loop-turn.cursor) (tokens_shown c.skip.new.self) _ (omega arith) at c.skip.ensures fits c.right.ensures c.in_err-operand.ensures.read) in
+    search rules
+
+pub expression-returns-clause-read : goal.expression-returns-clause-read
+expression-returns-clause-read t c =
+    let starts = expr_starts c.args.depth c.args.least (tokens_shown c.args.cursor.now) _ _ (omega arith) c.in_ok-left.ensures.read in
+    subst (λ (o : spec.Outcome Expr). spec.Reads (λ m. expr_of m.expression) o c.climb.result (tokens_shown c.climb.new.cursor)) (sym starts) c.climb.ensures.read

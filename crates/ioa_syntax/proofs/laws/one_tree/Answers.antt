@@ -1,0 +1,5 @@
+use Rattle.ioa_syntax.proofs.Whole.{one_source}
+use Rattle.ioa_syntax.proofs.laws.one_tree.Goals as goal
+
+pub returns : goal.returns
+returns c = one_source

@@ -1,0 +1,18 @@
+use Rattle.std.proofs.Common.{rules, arith, sym, ◌∙◌}
+use Rattle.ioa_lex.specs.declared.terminal.Terminal.TheVariants as terminals
+use Rattle.ioa_syntax.specs.Reading.{sees_name, variable, variables}
+use Rattle.ioa_syntax.specs.View.{variable_of}
+use Rattle.ioa_syntax.proofs.Turns.{items_close, items_last}
+use Rattle.ioa_syntax.proofs.states.variables.Goals as goal
+use Rattle.ioa_syntax.proofs.states.variables.Goals.{then-not-take-via-then-not-take, then-not-take-via-else-not-take+then-not-sees_name}
+
+pub returns-then-not-take : goal.returns-then-not-take
+returns-then-not-take c =
+    elim c.then-not-take.branch [
+      | then-not-take-via-then-not-take w ↦
+          sym c.loop-turn.invariant
+          ∙ items_close variable_of sees_name terminals.Semicolon (variable 64) _ _ _ _ _ _ _ _ c.loop-turn-test.true c.in_ok-variable.ensures c.take.ensures.after (sym c.take.ensures.found ∙ w.if-not-take.true) c.in_ok-push.ensures.items
+      | then-not-take-via-else-not-take+then-not-sees_name w ↦
+          sym c.loop-turn.invariant
+          ∙ items_last variable_of sees_name terminals.Semicolon (variable 64) _ _ _ _ _ _ _ _ c.loop-turn-test.true c.in_ok-variable.ensures c.take.ensures.after (sym w.sees_name.ensures ∙ w.if-not-sees_name.true) c.in_ok-push.ensures.items
+    ]

@@ -1,0 +1,191 @@
+-- Which tokens spell a tree: the grammar, production by production. A language is a set of token lists.
+use Rattle.std.specs.Prelude.{◌≡◌, ℕ, ◌≤◌, ◌⊎◌, true, false, List, [], ◌∷◌, ◌++◌, Option, Some, None}
+use Rattle.ioa_lex.specs.declared.terminal.Terminal.{Terminal}
+use Rattle.ioa_lex.specs.declared.terminal.Terminal.TheVariants as terminals
+use Rattle.ioa_lex.specs.Tokens as tokens
+use Rattle.ioa_lex.specs.Tokens.{Tok, terminal}
+use Rattle.ioa_value.specs.Actions.{Name}
+use Rattle.ioa_syntax.specs.declared.tree.Operator.{Operator}
+use Rattle.ioa_syntax.specs.declared.tree.Operator.TheVariants.{Equal, Plus, Minus}
+use Rattle.ioa_syntax.specs.declared.tree.Kind.{Kind}
+use Rattle.ioa_syntax.specs.declared.tree.Kind.TheVariants.{Input, Output, Internal}
+use Rattle.ioa_syntax.specs.Tree.{Expr, number, truth, named, parens, binary, FieldTree, PositionTree, typed, EntryTree, VariableTree, ProposalTree, Stmt, assign, TransitionTree, AutomatonTree, InstanceTree, CompositionTree, DeclarationTree, automaton, composition, SourceTree}
+
+abbrev pub Language : Type 1
+Language = List Tok → Type 0
+
+-- ---- languages
+
+abbrev pub nothing : Language
+nothing = λ ts. ts ≡ []
+
+-- no list at all
+abbrev pub empty : Language
+empty = λ ts. ⊥
+
+abbrev pub single : Tok → Language
+single x = λ ts. ts ≡ x ∷ []
+
+abbrev pub word : Terminal → Language
+word t = single (terminal t)
+
+abbrev pub called : Name → Language
+called n = single (tokens.name n)
+
+-- one after the other
+infixr 12 ◌▹◌
+abbrev pub ◌▹◌ : Language → Language → Language
+L ▹ M = λ ts. (a : List Tok) × (b : List Tok) × L a × M b × (ts ≡ a ++ b)
+
+-- the word or sign, or nothing
+abbrev pub perhaps : Terminal → Language
+perhaps t = λ ts. word t ts ⊎ nothing ts
+
+-- what may be absent is introduced by a word or sign
+abbrev pub optional : {A : Type 0} → Terminal → (A → Language) → Option A → Language
+optional t L None = nothing
+optional t L (Some x) = word t ▹ L x
+
+-- the same of a list, which is empty where it is absent
+abbrev pub optional_list : {A : Type 0} → Terminal → (List A → Language) → List A → Language
+optional_list t L [] = nothing
+optional_list t L (x ∷ xs) = word t ▹ L (x ∷ xs)
+
+-- each item after a separator
+abbrev pub each_after : {A : Type 0} → Terminal → (A → Language) → List A → Language
+each_after t L [] = nothing
+each_after t L (x ∷ xs) = word t ▹ (L x ▹ each_after t L xs)
+
+-- one item or more, with a separator between them
+abbrev pub separated : {A : Type 0} → Terminal → (A → Language) → List A → Language
+separated t L [] = empty
+separated t L (x ∷ xs) = L x ▹ each_after t L xs
+
+-- the same, and perhaps one separator at the end
+abbrev pub terminated : {A : Type 0} → Terminal → (A → Language) → List A → Language
+terminated t L xs = separated t L xs ▹ perhaps t
+
+-- any number of items
+abbrev pub many : {A : Type 0} → (A → Language) → List A → Language
+many L [] = nothing
+many L (x ∷ xs) = L x ▹ many L xs
+
+-- ---- expressions
+
+-- how tightly an operator binds: `=` on level 4, sums on level 5
+abbrev pub level_of : Operator → ℕ
+level_of Equal = 4
+level_of Plus = 5
+level_of Minus = 5
+
+-- the least level of its operands: sums group to the left, and `=` has no neighbour of its level
+abbrev pub left_of : Operator → ℕ
+left_of Equal = 5
+left_of Plus = 5
+left_of Minus = 5
+
+abbrev pub right_of : Operator → ℕ
+right_of Equal = 5
+right_of Plus = 6
+right_of Minus = 6
+
+abbrev pub operator_word : Operator → Terminal
+operator_word Equal = terminals.Equal
+operator_word Plus = terminals.Plus
+operator_word Minus = terminals.Minus
+
+-- an expression whose operators outside parentheses have at least this level
+abbrev pub SpellsExpr : ℕ → Expr → Language
+SpellsExpr k (number n) = single (tokens.number n)
+SpellsExpr k (truth true) = word terminals.True
+SpellsExpr k (truth false) = word terminals.False
+SpellsExpr k (named n) = called n
+SpellsExpr k (parens e) = word terminals.Open ▹ (SpellsExpr 0 e ▹ word terminals.Close)
+SpellsExpr k (binary l o r) = λ ts. (k ≤ level_of o) × (SpellsExpr (left_of o) l ▹ (word (operator_word o) ▹ SpellsExpr (right_of o) r)) ts
+
+-- ---- automata
+
+abbrev pub SpellsField : FieldTree → Language
+SpellsField f = called f.name ▹ (word terminals.Colon ▹ called f.ty)
+
+abbrev pub SpellsFields : List FieldTree → Language
+SpellsFields fs = separated terminals.Comma SpellsField fs ▹ word terminals.Close
+
+abbrev pub kind_word : Kind → Terminal
+kind_word Input = terminals.Input
+kind_word Output = terminals.Output
+kind_word Internal = terminals.Internal
+
+abbrev pub SpellsPosition : PositionTree → Language
+SpellsPosition (typed f) = SpellsField f
+
+abbrev pub SpellsPositions : List PositionTree → Language
+SpellsPositions ps = separated terminals.Comma SpellsPosition ps ▹ word terminals.Close
+
+abbrev pub SpellsEntry : EntryTree → Language
+SpellsEntry e = word (kind_word e.kind) ▹ (called e.name ▹ optional_list terminals.Open SpellsPositions e.positions)
+
+abbrev pub SpellsVariable : VariableTree → Language
+SpellsVariable v = SpellsField v.field ▹ optional terminals.Becomes (SpellsExpr 0) v.start
+
+abbrev pub SpellsProposal : ProposalTree → Language
+SpellsProposal p = called p.name ▹ (word terminals.Becomes ▹ SpellsExpr 0 p.value)
+
+abbrev pub SpellsStmt : Stmt → Language
+SpellsStmt (assign n e) = called n ▹ (word terminals.Becomes ▹ SpellsExpr 0 e)
+
+abbrev pub SpellsTransition : TransitionTree → Language
+SpellsTransition t =
+    word (kind_word t.kind) ▹ (called t.name
+    ▹ (optional terminals.Pre (SpellsExpr 0) t.pre
+    ▹ (optional_list terminals.Propose (separated terminals.Comma SpellsProposal) t.proposals
+    ▹ optional_list terminals.Eff (terminated terminals.Semicolon SpellsStmt) t.effect)))
+
+-- after the word `automaton`
+abbrev pub SpellsAutomaton : AutomatonTree → Language
+SpellsAutomaton a =
+    called a.name ▹ (optional_list terminals.Open SpellsFields a.formals
+    ▹ (word terminals.Signature ▹ (terminated terminals.Semicolon SpellsEntry a.entries
+    ▹ (optional_list terminals.States (terminated terminals.Semicolon SpellsVariable) a.variables
+    ▹ (word terminals.Transitions ▹ many SpellsTransition a.transitions)))))
+
+-- ---- compositions
+
+abbrev pub SpellsArguments : List Expr → Language
+SpellsArguments es = separated terminals.Comma (SpellsExpr 0) es ▹ word terminals.Close
+
+abbrev pub SpellsInstance : InstanceTree → Language
+SpellsInstance i = called i.name ▹ (word terminals.Colon ▹ (called i.automaton ▹ optional_list terminals.Open SpellsArguments i.arguments))
+
+-- one component, and no more
+abbrev pub SpellsInstances : List InstanceTree → Language
+SpellsInstances [] = empty
+SpellsInstances (i ∷ []) = SpellsInstance i ▹ perhaps terminals.Semicolon
+SpellsInstances (i ∷ j ∷ rest) = empty
+
+-- after the word `composition`
+abbrev pub SpellsComposition : CompositionTree → Language
+SpellsComposition c = called c.name ▹ (word terminals.Components ▹ SpellsInstances c.instances)
+
+-- ---- sources
+
+abbrev pub SpellsDeclaration : DeclarationTree → Language
+SpellsDeclaration (automaton a) = word terminals.Automaton ▹ SpellsAutomaton a
+SpellsDeclaration (composition c) = word terminals.Composition ▹ SpellsComposition c
+
+-- These tokens, all of them, spell the source.
+abbrev pub SpellsSource : SourceTree → Language
+SpellsSource ds = many SpellsDeclaration ds
+
+-- ---- beginnings
+
+-- both are at their end, or go on with one token
+abbrev pub SameHead : List Tok → List Tok → Type 0
+SameHead [] [] = Unit {0}
+SameHead [] (y ∷ ys) = ⊥
+SameHead (x ∷ xs) [] = ⊥
+SameHead (x ∷ xs) (y ∷ ys) = x ≡ y
+
+-- No source is spelled that begins with the front and then goes on, or ends, as the rest does with its first token.
+abbrev pub IsDeadEnd : List Tok → List Tok → Type 0
+IsDeadEnd front rest = (others : List Tok) (t : SourceTree) → SameHead rest others → SpellsSource t (front ++ others) → ⊥

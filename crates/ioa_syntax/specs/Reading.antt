@@ -1,0 +1,354 @@
+-- What the parser does, as a function on lists of tokens: an outcome is what was read and the tokens left, or a fault.
+use Rattle.std.specs.Prelude.{◌≡◌, ℕ, zero, suc, ◌+◌, ◌-◌, Bool, true, false, ◌&&◌, if◌then◌else◌, nat_lt, nat_le, is_some, List, [], ◌∷◌, ◌++◌, length, drop, Option, Some, None, Result, Ok, Err}
+use denote.Enum.Bare.{sameb}
+use Rattle.ioa_lex.specs.contracts.terminal.Terminal.{the_type}
+use Rattle.ioa_lex.specs.declared.terminal.Terminal.{Terminal}
+use Rattle.ioa_lex.specs.declared.terminal.Terminal.TheVariants as terminals
+use Rattle.ioa_lex.specs.Tokens.{Tok, number, name, terminal}
+use Rattle.ioa_lex.specs.declared.refusal.Refusal.{Refusal}
+use Rattle.ioa_lex.specs.declared.refusal.Refusal.TheVariants as refusals
+use Rattle.ioa_lex.specs.declared.token.Token.{Token}
+use Rattle.ioa_value.specs.Actions as actions
+use Rattle.ioa_syntax.specs.declared.tree.Declaration.{Declaration}
+use Rattle.ioa_syntax.specs.View.{tree_of}
+use Rattle.ioa_syntax.specs.declared.fault.Fault.{Fault}
+use Rattle.ioa_syntax.specs.declared.fault.Fault.TheVariants.{Syntax, TooDeep}
+use Rattle.ioa_syntax.specs.declared.fault.ReadError.{ReadError}
+use Rattle.ioa_syntax.specs.declared.fault.ReadError.TheVariants as errors
+use Rattle.ioa_syntax.specs.declared.tree.Operator.{Operator}
+use Rattle.ioa_syntax.specs.declared.tree.Operator.TheVariants.{Equal, Plus, Minus}
+use Rattle.ioa_syntax.specs.declared.tree.Kind.{Kind}
+use Rattle.ioa_syntax.specs.declared.tree.Kind.TheVariants as kinds
+use Rattle.ioa_syntax.specs.Tree as tree
+use Rattle.ioa_syntax.specs.Tree.{Expr, truth, named, parens, binary, FieldTree, PositionTree, typed, EntryTree, VariableTree, ProposalTree, Stmt, assign, TransitionTree, AutomatonTree, InstanceTree, CompositionTree, DeclarationTree, automaton, composition, SourceTree}
+use Rattle.ioa_syntax.specs.Depth.{depth_of}
+use Rattle.ioa_syntax.specs.Grammar.{level_of, right_of}
+
+abbrev pub Outcome : Type 0 → Type 0
+Outcome A = Result (A × List Tok) Fault
+
+abbrev pub Reader : Type 0 → Type 0
+Reader A = List Tok → Outcome A
+
+-- What a function returned, seen by view, with the tokens left is the outcome, unless memory ran out.
+abbrev pub Fails : {Y : Type 0} → ReadError → Result Y Fault → Type 0
+Fails errors.OutOfMemory read = Unit {0}
+Fails (errors.Fault f) read = read ≡ Err f
+
+abbrev pub Reads : {X Y : Type 0} → (X → Y) → Outcome Y → Result X ReadError → List Tok → Type 0
+Reads view read (Ok x) left = read ≡ Ok (view x, left)
+Reads view read (Err e) left = Fails e read
+
+infixl 10 ◌>>=◌
+abbrev pub ◌>>=◌ : {A B : Type 0} → Result A Fault → (A → Result B Fault) → Result B Fault
+(Ok x) >>= f = f x
+(Err e) >>= f = Err e
+
+-- one after the other
+infixr 12 ◌▸◌
+abbrev pub ◌▸◌ : {A B : Type 0} → Reader A → Reader B → Reader (A × B)
+p ▸ q = λ ts. p ts >>= λ x. q x.1 >>= λ y. Ok ((x.0, y.0), y.1)
+
+abbrev pub built : {A B : Type 0} → (A → B) → Reader A → Reader B
+built f p = λ ts. p ts >>= λ x. Ok (f x.0, x.1)
+
+-- ---- single tokens
+
+unfoldable pub same_terminal : Terminal → Terminal → Bool
+same_terminal = sameb the_type
+
+abbrev pub is_terminal : Terminal → Tok → Bool
+is_terminal t (number n) = false
+is_terminal t (name n) = false
+is_terminal t (terminal u) = same_terminal u t
+
+abbrev pub terminal_in : Tok → Option Terminal
+terminal_in (number n) = None
+terminal_in (name n) = None
+terminal_in (terminal t) = Some t
+
+-- the word or sign that comes next
+unfoldable pub terminal_at : List Tok → Option Terminal
+terminal_at [] = None
+terminal_at (x ∷ ts) = terminal_in x
+
+-- the next token is this word or sign
+unfoldable pub sees : Terminal → List Tok → Bool
+sees t [] = false
+sees t (x ∷ ts) = is_terminal t x
+
+abbrev pub rest : List Tok → List Tok
+rest [] = []
+rest (x ∷ ts) = ts
+
+-- what is left after it, where it comes next
+unfoldable pub after : Terminal → List Tok → List Tok
+after t ts = if sees t ts then rest ts else ts
+
+unfoldable pub sign : Terminal → Reader (Unit {0})
+sign t ts = if sees t ts then Ok (tt, rest ts) else Err (Syntax (length ts))
+
+unfoldable pub a_name : Reader actions.Name
+a_name [] = Err (Syntax 0)
+a_name (number n ∷ ts) = Err (Syntax (length (number n ∷ ts)))
+a_name (name n ∷ ts) = Ok (n, ts)
+a_name (terminal t ∷ ts) = Err (Syntax (length (terminal t ∷ ts)))
+
+unfoldable pub kind_of : Terminal → Option Kind
+kind_of terminals.Input = Some kinds.Input
+kind_of terminals.Output = Some kinds.Output
+kind_of terminals.Internal = Some kinds.Internal
+kind_of _ = None
+
+abbrev pub kind_in : Option Terminal → Option Kind
+kind_in None = None
+kind_in (Some t) = kind_of t
+
+-- the kind that the next token names
+unfoldable pub kind_at : List Tok → Option Kind
+kind_at ts = kind_in (terminal_at ts)
+
+abbrev pub taken : {A : Type 0} → List Tok → Option A → Outcome A
+taken ts None = Err (Syntax (length ts))
+taken ts (Some x) = Ok (x, rest ts)
+
+unfoldable pub a_kind : Reader Kind
+a_kind ts = taken ts (kind_at ts)
+
+-- ---- what may be absent, and lists
+
+-- what the word or sign introduces, where that comes next
+unfoldable pub optional : {A : Type 0} → Terminal → Reader A → Reader (Option A)
+optional t p ts = if sees t ts then built Some p (after t ts) else Ok (None, after t ts)
+
+-- the word or sign, where it comes next
+abbrev pub perhaps : Terminal → Reader (Unit {0})
+perhaps t ts = Ok (tt, after t ts)
+
+-- the same of a list, which is empty where it is absent
+unfoldable pub optional_list : {A : Type 0} → Terminal → Reader (List A) → Reader (List A)
+optional_list t p ts = if sees t ts then p (after t ts) else Ok ([], after t ts)
+
+-- Items with a separator between, as long as the tokens after it go on: at most so many more, after those found.
+unfoldable pub items_from : {A : Type 0} → (List Tok → Bool) → Terminal → Reader A → ℕ → List A → Reader (List A)
+items_from goes_on separator item zero found ts = Err (Syntax (length ts))
+items_from goes_on separator item (suc n) found ts =
+    item ts >>= λ x. if sees separator x.1 && goes_on (after separator x.1) then items_from goes_on separator item n (found ++ x.0 ∷ []) (after separator x.1) else Ok (found ++ x.0 ∷ [], after separator x.1)
+
+abbrev pub always : List Tok → Bool
+always ts = true
+
+-- after a separator another item has to follow
+unfoldable pub separated : {A : Type 0} → Terminal → Reader A → Reader (List A)
+separated separator item ts = items_from always separator item (length ts) [] ts
+
+-- after a separator another item follows where the tokens begin one
+unfoldable pub terminated : {A : Type 0} → (List Tok → Bool) → Terminal → Reader A → Reader (List A)
+terminated begins separator item ts = items_from begins separator item (length ts) [] ts
+
+-- items as long as the tokens begin one
+unfoldable pub many_from : {A : Type 0} → (List Tok → Bool) → Reader A → ℕ → List A → Reader (List A)
+many_from begins item zero found ts = Ok (found, ts)
+many_from begins item (suc n) found ts = if begins ts then (item ts >>= λ x. many_from begins item n (found ++ x.0 ∷ []) x.1) else Ok (found, ts)
+
+unfoldable pub many : {A : Type 0} → (List Tok → Bool) → Reader A → Reader (List A)
+many begins item ts = many_from begins item (length ts) [] ts
+
+abbrev pub is_name : Tok → Bool
+is_name (number n) = false
+is_name (name n) = true
+is_name (terminal t) = false
+
+unfoldable pub sees_name : List Tok → Bool
+sees_name [] = false
+sees_name (x ∷ ts) = is_name x
+
+unfoldable pub sees_kind : List Tok → Bool
+sees_kind ts = is_some (kind_at ts)
+
+-- ---- expressions
+
+-- after the right operand of this operator may come the operators below this level
+abbrev pub after_of : Operator → ℕ
+after_of Equal = 4
+after_of Plus = 6
+after_of Minus = 6
+
+unfoldable pub operator_of : Terminal → Option Operator
+operator_of terminals.Equal = Some Equal
+operator_of terminals.Plus = Some Plus
+operator_of terminals.Minus = Some Minus
+operator_of _ = None
+
+abbrev pub operator_in : Option Terminal → Option Operator
+operator_in None = None
+operator_in (Some t) = operator_of t
+
+abbrev pub allowed : ℕ → ℕ → Option Operator → Option Operator
+allowed least below None = None
+allowed least below (Some o) = if nat_le least (level_of o) && nat_lt (level_of o) below then Some o else None
+
+-- the next token as an operator of a level from least on and below the other
+unfoldable pub operator_at : ℕ → ℕ → List Tok → Option Operator
+operator_at least below ts = allowed least below (operator_in (terminal_at ts))
+
+-- an operand that begins with this word or sign
+unfoldable pub opened : Reader Expr → Terminal → Reader Expr
+opened inner terminals.True ts = Ok (truth true, ts)
+opened inner terminals.False ts = Ok (truth false, ts)
+opened inner terminals.Open ts = built (λ p. parens p.0) (inner ▸ sign terminals.Close) ts
+opened inner _ ts = Err (Syntax (suc (length ts)))
+
+-- an operand, whose inner expressions are read so
+unfoldable pub operand : Reader Expr → Reader Expr
+operand inner [] = Err (Syntax 0)
+operand inner (number n ∷ ts) = Ok (tree.number n, ts)
+operand inner (name n ∷ ts) = Ok (named n, ts)
+operand inner (terminal t ∷ ts) = opened inner t ts
+
+-- expr: an expression of at most depth levels, at the level that it is given
+module _ (depth : ℕ) (expr : ℕ → Reader Expr) where
+  abbrev pub climb_by : (ℕ → Expr → Reader Expr) → Expr → List Tok → Option Operator → Outcome Expr
+  climb_by more left ts None = Ok (left, ts)
+  climb_by more left ts (Some o) =
+      if nat_le (depth_of left) depth then (expr (right_of o) (rest ts) >>= λ q. more (after_of o) (binary left o q.0) q.1) else Err TooDeep
+
+  abbrev pub stop_by : Expr → List Tok → Option Operator → Outcome Expr
+  stop_by left ts None = Ok (left, ts)
+  stop_by left ts (Some o) = Err TooDeep
+
+  -- more operators, at most so many
+  unfoldable pub climb : ℕ → ℕ → ℕ → Expr → Reader Expr
+  climb zero least below left ts = stop_by left ts (operator_at least below ts)
+  climb (suc n) least below left ts = climb_by (climb n least) left ts (operator_at least below ts)
+
+-- At the end of the tokens there is no expression of any depth.
+abbrev pub no_depth : Reader Expr
+no_depth [] = Err (Syntax 0)
+no_depth (x ∷ ts) = Err TooDeep
+
+unfoldable pub expr : ℕ → ℕ → Reader Expr
+expr zero least ts = no_depth ts
+expr (suc depth) least ts = operand (expr depth 0) ts >>= λ p. climb depth (expr depth) depth least 10 p.0 p.1
+
+unfoldable pub expression : ℕ → Reader Expr
+expression depth = expr depth 0
+
+-- ---- declarations. The number bounds the depth of their expressions.
+
+unfoldable pub field : Reader FieldTree
+field = built (λ p. record { name = p.0; ty = p.1.1 }) (a_name ▸ (sign terminals.Colon ▸ a_name))
+
+-- what stands between parentheses, after the first of them
+unfoldable pub closing : {A : Type 0} → Reader A → Reader A
+closing p = built (λ p. p.0) (p ▸ sign terminals.Close)
+
+unfoldable pub fields : Reader (List FieldTree)
+fields = closing (separated terminals.Comma field)
+
+unfoldable pub position : Reader PositionTree
+position = built typed field
+
+unfoldable pub positions : Reader (List PositionTree)
+positions = closing (separated terminals.Comma position)
+
+unfoldable pub entry : Reader EntryTree
+entry = built (λ p. record { kind = p.0; name = p.1.0; positions = p.1.1 }) (a_kind ▸ (a_name ▸ optional_list terminals.Open positions))
+
+unfoldable pub entries : Reader (List EntryTree)
+entries = terminated sees_kind terminals.Semicolon entry
+
+unfoldable pub variable : ℕ → Reader VariableTree
+variable depth = built (λ p. record { field = p.0; start = p.1 }) (field ▸ optional terminals.Becomes (expression depth))
+
+unfoldable pub variables : ℕ → Reader (List VariableTree)
+variables depth = terminated sees_name terminals.Semicolon (variable depth)
+
+unfoldable pub proposal : ℕ → Reader ProposalTree
+proposal depth = built (λ p. record { name = p.0; value = p.1.1 }) (a_name ▸ (sign terminals.Becomes ▸ expression depth))
+
+unfoldable pub proposals : ℕ → Reader (List ProposalTree)
+proposals depth = separated terminals.Comma (proposal depth)
+
+unfoldable pub statement : ℕ → Reader Stmt
+statement depth = built (λ p. assign p.0 p.1.1) (a_name ▸ (sign terminals.Becomes ▸ expression depth))
+
+unfoldable pub statements : ℕ → Reader (List Stmt)
+statements depth = terminated sees_name terminals.Semicolon (statement depth)
+
+unfoldable pub transition : ℕ → Reader TransitionTree
+transition depth =
+    built (λ p. record { kind = p.0; name = p.1.0; pre = p.1.1.0; proposals = p.1.1.1.0; effect = p.1.1.1.1 })
+    (a_kind ▸ (a_name ▸ (optional terminals.Pre (expression depth) ▸ (optional_list terminals.Propose (proposals depth) ▸ optional_list terminals.Eff (statements depth)))))
+
+unfoldable pub transitions : ℕ → Reader (List TransitionTree)
+transitions depth = many sees_kind (transition depth)
+
+-- after the word `automaton`
+unfoldable pub an_automaton : ℕ → Reader AutomatonTree
+an_automaton depth =
+    built (λ p. record { name = p.0; formals = p.1.0; entries = p.1.1.1.0; variables = p.1.1.1.1.0; transitions = p.1.1.1.1.1.1 })
+    (a_name ▸ (optional_list terminals.Open fields ▸ (sign terminals.Signature ▸ (entries ▸ (optional_list terminals.States (variables depth) ▸ (sign terminals.Transitions ▸ transitions depth))))))
+
+unfoldable pub arguments : ℕ → Reader (List Expr)
+arguments depth = closing (separated terminals.Comma (expression depth))
+
+unfoldable pub instance : ℕ → Reader InstanceTree
+instance depth =
+    built (λ p. record { name = p.0; automaton = p.1.1.0; arguments = p.1.1.1 })
+    (a_name ▸ (sign terminals.Colon ▸ (a_name ▸ optional_list terminals.Open (arguments depth))))
+
+unfoldable pub instances : ℕ → Reader (List InstanceTree)
+instances depth = built (λ p. p.0 ∷ []) (instance depth ▸ perhaps terminals.Semicolon)
+
+-- after the word `composition`
+unfoldable pub a_composition : ℕ → Reader CompositionTree
+a_composition depth = built (λ p. record { name = p.0; instances = p.1.1 }) (a_name ▸ (sign terminals.Components ▸ instances depth))
+
+unfoldable pub composed : ℕ → Reader DeclarationTree
+composed depth = built (λ p. composition p.1) (sign terminals.Composition ▸ a_composition depth)
+
+unfoldable pub declaration : ℕ → Reader DeclarationTree
+declaration depth ts = if sees terminals.Automaton ts then built automaton (an_automaton depth) (after terminals.Automaton ts) else composed depth (after terminals.Automaton ts)
+
+-- ---- sources. A refusal names a line: lines gives that of the token before whose end so many tokens are left.
+
+abbrev pub refusal_of : (ℕ → ℕ) → ℕ → Fault → Refusal
+refusal_of lines first (Syntax left) = refusals.Syntax (lines left)
+refusal_of lines first TooDeep = refusals.TooDeep (lines first)
+
+abbrev pub RefusedBy : (ℕ → ℕ) → ℕ → ReadError → Refusal → Type 0
+RefusedBy lines first errors.OutOfMemory r = r ≡ refusals.OutOfMemory
+RefusedBy lines first (errors.Fault f) r = r ≡ refusal_of lines first f
+
+module _ (depth : ℕ) (lines : ℕ → ℕ) where
+  abbrev pub declared_by : (DeclarationTree → List Tok → Result SourceTree Refusal) → ℕ → Outcome DeclarationTree → Result SourceTree Refusal
+  declared_by more first (Ok p) = more p.0 p.1
+  declared_by more first (Err f) = Err (refusal_of lines first f)
+
+  -- declarations up to the end of the tokens: at most so many more, after those found
+  unfoldable pub source_from : ℕ → SourceTree → List Tok → Result SourceTree Refusal
+  source_from n found [] = Ok found
+  source_from zero found (x ∷ ts) = Ok found
+  source_from (suc n) found (x ∷ ts) = declared_by (λ d left. source_from n (found ++ d ∷ []) left) (length (x ∷ ts)) (declaration depth (x ∷ ts))
+
+  unfoldable pub source : List Tok → Result SourceTree Refusal
+  source ts = source_from (length ts) [] ts
+
+-- What a function returned, as a source, unless memory ran out.
+abbrev pub Refuses : Refusal → Result SourceTree Refusal → Type 0
+Refuses refusals.OutOfMemory read = Unit {0}
+Refuses e read = read ≡ Err e
+
+abbrev pub Gives : {X : Type 0} → (X → SourceTree) → Result X Refusal → Result SourceTree Refusal → Type 0
+Gives view (Ok x) read = read ≡ Ok (view x)
+Gives view (Err e) read = Refuses e read
+
+-- the line of the first token, or of the end
+abbrev pub line_of : ℕ → List Token → ℕ
+line_of end [] = end
+line_of end (t ∷ ts) = t.line
+
+-- the line of the token where so many are left
+abbrev pub line_at : List Token → ℕ → ℕ → ℕ
+line_at tokens end left = line_of end (drop (length tokens - left) tokens)

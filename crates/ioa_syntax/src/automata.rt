@@ -1,0 +1,36 @@
+//! Automata.
+
+ghost use Rattle.std.specs.Prelude.{◌≡◌};
+ghost use Rattle.ioa_lex.specs.Tokens.{tokens_shown};
+ghost use Rattle.ioa_syntax.specs.Reading as spec;
+ghost use Rattle.ioa_syntax.specs.Reading.{Reads};
+ghost use Rattle.ioa_syntax.specs.View.{automaton_of};
+
+use crate::cursor::Cursor;
+use crate::fault::ReadError;
+use crate::signatures::{entries, formals};
+use crate::states::states;
+use crate::transitions::transitions;
+use crate::tree::Automaton;
+use ioa_lex::Terminal;
+
+/// What stands after the word `automaton`.
+#[tactic(auto, unfolding(crate::specs::Reading::an_automaton))]
+pub(crate) fn automaton(cursor: &mut Cursor<'_>) -> Result<Automaton, ReadError>
+    ensures { Reads automaton_of (spec.an_automaton 64 (tokens_shown cursor.old)) result (tokens_shown cursor.new) }
+{
+    let name = cursor.name()?;
+    let formals = formals(cursor)?;
+    cursor.expect(Terminal::Signature)?;
+    let entries = entries(cursor)?;
+    let variables = states(cursor)?;
+    cursor.expect(Terminal::Transitions)?;
+    let transitions = transitions(cursor)?;
+    Ok(Automaton {
+        name,
+        formals,
+        entries,
+        variables,
+        transitions,
+    })
+}

@@ -1,0 +1,164 @@
+//! Expressions, by precedence climbing.
+
+ghost use Rattle.std.specs.Prelude.{◌≡◌, ◌≤◌, ◌<◌, ◌+◌, IfOk};
+ghost use Rattle.ioa_lex.specs.Tokens.{tokens_shown};
+ghost use Rattle.ioa_syntax.specs.Grammar as grammar;
+ghost use Rattle.ioa_syntax.specs.Reading as spec;
+ghost use Rattle.ioa_syntax.specs.Reading.{Reads};
+ghost use Rattle.ioa_syntax.specs.View.{expr_of};
+
+use crate::cursor::Cursor;
+use crate::fault::{Fault, ReadError};
+use crate::measured::Measured;
+use crate::tree::{Expression, Operator};
+use ioa_lex::{Kind, Terminal, Token};
+
+/// How deep an expression may be.
+pub(crate) const MAX_DEPTH: u32 = 64;
+
+fn level(operator: Operator) -> u32
+    ensures { result ≡ grammar.level_of operator }
+{
+    match operator {
+        Operator::Equal => 4,
+        Operator::Plus | Operator::Minus => 5,
+    }
+}
+
+/// The least level of its right operand.
+fn right(operator: Operator) -> u32
+    ensures { result ≡ grammar.right_of operator }
+{
+    match operator {
+        Operator::Equal => 5,
+        Operator::Plus | Operator::Minus => 6,
+    }
+}
+
+/// The operators below this level may follow its right operand.
+fn after(operator: Operator) -> u32
+    ensures { result ≡ spec.after_of operator }
+{
+    match operator {
+        Operator::Equal => 4,
+        Operator::Plus | Operator::Minus => 6,
+    }
+}
+
+#[tactic(auto, unfolding(crate::specs::Reading::operator_of))]
+fn operator_of(terminal: Terminal) -> Option<Operator>
+    ensures { result ≡ spec.operator_of terminal }
+{
+    match terminal {
+        Terminal::Equal => Some(Operator::Equal),
+        Terminal::Plus => Some(Operator::Plus),
+        Terminal::Minus => Some(Operator::Minus),
+        _ => None,
+    }
+}
+
+/// The operator that comes next, if its level is from `least` on and below `below`.
+#[tactic(auto, unfolding(crate::specs::Reading::operator_at))]
+fn operator_at(cursor: &Cursor<'_>, least: u32, below: u32) -> Option<Operator>
+    ensures { result ≡ spec.operator_at least below (tokens_shown cursor.now) }
+{
+    let operator = operator_of(cursor.terminal()?)?;
+    if least <= level(operator) && level(operator) < below {
+        Some(operator)
+    } else {
+        None
+    }
+}
+
+/// An expression of at most 64 levels.
+#[tactic(auto, unfolding(crate::specs::Reading::expression))]
+pub(crate) fn whole_expression(cursor: &mut Cursor<'_>) -> Result<Expression, ReadError>
+    ensures { Reads expr_of (spec.expression 64 (tokens_shown cursor.old)) result (tokens_shown cursor.new) }
+{
+    let Measured { expression, .. } = expression(cursor, MAX_DEPTH, 0)?;
+    Ok(expression)
+}
+
+/// An expression of at most `depth` levels, whose operators outside parentheses have a level from `least` on.
+#[cycle(expression)]
+#[tactic(auto, unfolding(crate::specs::Reading::expr))]
+fn expression(cursor: &mut Cursor<'_>, depth: u32, least: u32) -> Result<Measured, ReadError>
+    requires { depth < 1000 }
+    ensures read { Reads (λ m. expr_of m.expression) (spec.expr depth least (tokens_shown cursor.old)) result (tokens_shown cursor.new) }
+    ensures within { IfOk result (λ m. m.depth ≤ depth) }
+{
+    if depth == 0 {
+        return Err(cursor.too_deep());
+    }
+    let left = operand(cursor, depth - 1)?;
+    climb(cursor, left, depth - 1, least)
+}
+
+/// A number, a truth value, a name, or an expression of at most `depth` levels in parentheses.
+#[cycle(expression)]
+#[tactic(auto, unfolding(crate::specs::Reading::operand, crate::specs::Reading::opened, crate::specs::Reading::a_name))]
+fn operand(cursor: &mut Cursor<'_>, depth: u32) -> Result<Measured, ReadError>
+    requires { depth < 999 }
+    ensures read { Reads (λ m. expr_of m.expression) (spec.operand (spec.expr depth 0) (tokens_shown cursor.old)) result (tokens_shown cursor.new) }
+    ensures within { IfOk result (λ m. m.depth ≤ depth + 1) }
+{
+    let Some(Token { kind, line }) = cursor.peek() else {
+        return Err(cursor.fault());
+    };
+    match kind {
+        Kind::Number(n) => {
+            cursor.skip();
+            Ok(Measured::number(*n, *line))
+        }
+        Kind::Name(_) => Ok(Measured::name(cursor.name()?)),
+        Kind::Terminal(Terminal::True) => {
+            cursor.skip();
+            Ok(Measured::truth(true, *line))
+        }
+        Kind::Terminal(Terminal::False) => {
+            cursor.skip();
+            Ok(Measured::truth(false, *line))
+        }
+        Kind::Terminal(Terminal::Open) => {
+            cursor.skip();
+            let inner = expression(cursor, depth, 0)?;
+            cursor.expect(Terminal::Close)?;
+            Ok(inner.parentheses(cursor.alloc(), *line)?)
+        }
+        Kind::Terminal(_) => Err(cursor.fault()),
+    }
+}
+
+/// Operators of a level from `least` on, and their right operands, after this left operand.
+#[cycle(expression)]
+#[tactic(auto, unfolding(crate::specs::Reading::climb))]
+fn climb(
+    cursor: &mut Cursor<'_>,
+    first: Measured,
+    depth: u32,
+    least: u32,
+) -> Result<Measured, ReadError>
+    requires small { depth < 999 }
+    requires within { first.depth ≤ depth + 1 }
+    ensures read { Reads (λ m. expr_of m.expression) (spec.climb depth (spec.expr depth) depth least 10 (expr_of first.expression) (tokens_shown cursor.old)) result (tokens_shown cursor.new) }
+    ensures within { IfOk result (λ m. m.depth ≤ depth + 1) }
+{
+    let mut left = first;
+    let mut below = 10;
+    for _turn in 0..depth {
+        let Some(operator) = operator_at(cursor, least, below) else {
+            return Ok(left);
+        };
+        if left.depth > depth {
+            return Err(ReadError::Fault(Fault::TooDeep));
+        }
+        cursor.skip();
+        let operand = expression(cursor, depth, right(operator))?;
+        left = left.binary(cursor.alloc(), operator, operand)?;
+        below = after(operator);
+    }
+    match operator_at(cursor, least, below) {
+        None => Ok(left),
+        Some(_) => Err(ReadError::Fault(Fault::TooDeep)),
+    }
+}

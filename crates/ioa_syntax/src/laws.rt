@@ -1,0 +1,11 @@
+//! Laws of the grammar. The functions do nothing: what they say is in their contracts.
+
+ghost use Rattle.std.specs.Prelude.{◌≡◌, List};
+ghost use Rattle.ioa_lex.specs.Tokens.{Tok};
+ghost use Rattle.ioa_syntax.specs.Tree.{SourceTree};
+ghost use Rattle.ioa_syntax.specs.Grammar.{SpellsSource};
+
+/// Tokens spell one source at most, of any depth.
+pub fn one_tree()
+    ensures { (ts : List Tok) (t u : SourceTree) → SpellsSource t ts → SpellsSource u ts → t ≡ u }
+{}

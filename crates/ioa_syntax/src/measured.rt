@@ -1,0 +1,84 @@
+//! Expressions with their depth.
+
+ghost use Rattle.std.specs.Prelude.{◌≡◌, ◌<◌, ◌≤◌, ◌+◌, IfOk};
+ghost use Rattle.ioa_syntax.specs.Tree as spec;
+ghost use Rattle.ioa_syntax.specs.Tree.{truth, named, parens, binary};
+ghost use Rattle.ioa_syntax.specs.Depth.{depth_of};
+ghost use Rattle.ioa_syntax.specs.View.{expr_of, name_of};
+
+use crate::tree::{Expression, Name, Operator};
+use std::alloc::{AllocError, Global};
+
+/// An expression with its depth.
+#[derive(Drop)]
+pub(crate) struct Measured {
+    pub expression: Expression,
+    pub depth: u32,
+    ghost exact: { depth ≡ depth_of (expr_of expression) },
+}
+
+impl Measured {
+    pub fn number(n: u64, line: u32) -> Measured
+        ensures { expr_of result.expression ≡ spec.number n }
+    {
+        Measured {
+            expression: Expression::Number(n, line),
+            depth: 1,
+        }
+    }
+
+    pub fn truth(b: bool, line: u32) -> Measured
+        ensures { expr_of result.expression ≡ truth b }
+    {
+        Measured {
+            expression: Expression::Truth(b, line),
+            depth: 1,
+        }
+    }
+
+    pub fn name(name: Name) -> Measured
+        ensures { expr_of result.expression ≡ named (name_of name) }
+    {
+        Measured {
+            expression: Expression::Name(name),
+            depth: 1,
+        }
+    }
+
+    /// The expression between parentheses, the first of which stands on this line.
+    pub fn parentheses(self, alloc: Global, line: u32) -> Result<Measured, AllocError>
+        requires { self.depth < 1000 }
+        ensures { IfOk result (λ m. expr_of m.expression ≡ parens (expr_of self.expression)) }
+    {
+        let Measured { expression, depth } = self;
+        Ok(Measured {
+            expression: Expression::Parentheses(Box::new(alloc, expression)?, line),
+            depth: depth + 1,
+        })
+    }
+
+    pub fn binary(
+        self,
+        alloc: Global,
+        operator: Operator,
+        right: Measured,
+    ) -> Result<Measured, AllocError>
+        requires left { self.depth < 1000 }
+        requires right { right.depth < 1000 }
+        ensures { IfOk result (λ m. expr_of m.expression ≡ binary (expr_of self.expression) operator (expr_of right.expression)) }
+    {
+        let Measured { expression, depth } = self;
+        let Measured {
+            expression: other,
+            depth: other_depth,
+        } = right;
+        Ok(Measured {
+            expression: Expression::Binary(
+                Box::new(alloc, expression)?,
+                operator,
+                Box::new(alloc, other)?,
+            ),
+            depth: depth.max(other_depth) + 1,
+        })
+    }
+}

@@ -1,0 +1,60 @@
+//! From a text to a source.
+
+ghost use Rattle.std.specs.Prelude.{◌≡◌, ◌⊎◌, ℕ, ◌≤◌, ◌<◌, ◌↔◌, List, length, IfOk, IfErr, IsErrOf, MatchResult};
+ghost use Rattle.ioa_lex.specs.Tokens.{Tok, tokens_shown};
+ghost use Rattle.ioa_lex.specs.Lexing.{Lexes, StopsOn, line_after};
+ghost use Rattle.ioa_syntax.specs.Tree.{SourceTree};
+ghost use Rattle.ioa_syntax.specs.Depth.{source_deep};
+ghost use Rattle.ioa_syntax.specs.Grammar.{SpellsSource};
+ghost use Rattle.ioa_syntax.specs.Source.{AreTokens, plain, IsRefused};
+ghost use Rattle.ioa_syntax.specs.Reading as spec;
+ghost use Rattle.ioa_syntax.specs.Reading.{Gives, line_at};
+ghost use Rattle.ioa_syntax.specs.View.{tree_of};
+
+use crate::source::Source;
+use crate::sources::declarations;
+use ioa_lex::{Refusal, Token, lex};
+use std::alloc::Global;
+
+/// The source that a text is.
+///
+/// # Errors
+///
+/// `TextTooLong` for more than 1,048,576 bytes, and `BadByte` where the text is no list of tokens. `Syntax` where no
+/// tree of any depth spells the tokens, with the line of the first token, or of the end, with which the tokens so far
+/// begin no source. `TooDeep` where a declaration, which begins on the line, goes deeper than 64. `OutOfMemory` where a
+/// growth of memory was refused.
+pub fn parse(alloc: Global, text: &[u8]) -> Result<Source, Refusal>
+    // What is read is spelled so.
+    ensures found { IfOk result (λ s. (ts : List (Tok × ℕ)) × Lexes text.now ts × SpellsSource (tree_of s) (plain ts)) }
+    ensures refused { IfErr result (λ e. IsRefused text.now e) }
+    ensures long { IsErrOf result Refusal.TextTooLong ↔ (1048576 < length text.now) }
+    ensures stops { (line : ℕ) → StopsOn text.now line → length text.now ≤ 1048576 → MatchResult result (λ _. ⊥) (λ e. (e ≡ Refusal.BadByte line) ⊎ (e ≡ Refusal.OutOfMemory)) }
+
+    // What is spelled so, and not too deep, is read, unless memory runs out.
+    ensures only { (ts : List (Tok × ℕ)) (t : SourceTree) → Lexes text.now ts → SpellsSource t (plain ts) → source_deep t ≤ 64 → length text.now ≤ 1048576 → MatchResult result (λ s. tree_of s ≡ t) (λ e. e ≡ Refusal.OutOfMemory) }
+{
+    let tokens = lex(alloc, text)?;
+    parse_tokens(alloc, &tokens, last_line(text))
+}
+
+fn parse_tokens(alloc: Global, tokens: &[Token], end: u32) -> Result<Source, Refusal>
+    requires { AreTokens (tokens_shown tokens.now) }
+    ensures { Gives tree_of result (spec.source 64 (line_at tokens.now end) (tokens_shown tokens.now)) }
+{
+    Ok(Source::new(declarations(alloc, tokens, end)?))
+}
+
+/// The line on which the text ends, counted from 1.
+fn last_line(text: &[u8]) -> u32
+    requires { length text.now ≤ 1048576 }
+    ensures { result ≡ line_after text.now }
+{
+    let mut line = 1;
+    for byte in text {
+        if *byte == b'\n' {
+            line += 1;
+        }
+    }
+    line
+}

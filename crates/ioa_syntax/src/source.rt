@@ -1,0 +1,48 @@
+//! A source that was read.
+
+ghost use Rattle.std.specs.Prelude.{◌≡◌};
+ghost use Rattle.ioa_syntax.specs.Source.{IsSource};
+ghost use Rattle.ioa_syntax.specs.View.{tree_of};
+
+use crate::tree::Declaration;
+use std::marker::Model;
+
+/// A source: automata and compositions in order. Some text spells it, and no expression is more than 64 deep.
+#[derive(Drop)]
+pub struct Source {
+    declarations: Vec<Declaration>,
+}
+
+impl Model for Source {
+    ghost use Rattle.std.specs.Prelude.{List};
+    ghost use Rattle.std.specs.Coded.{coded_list};
+    ghost use Rattle.ioa_syntax.specs.declared.tree.Declaration.{Declaration};
+    ghost use Rattle.ioa_syntax.specs.contracts.tree.Declaration as d;
+    ghost use Rattle.ioa_syntax.specs.Source.{IsSource};
+    ghost use Rattle.ioa_syntax.specs.View.{tree_of};
+
+    ghost Value = { List Declaration };
+
+    ghost coded = { coded_list d.the_row.coded };
+
+    ghost view = { λ s. s.declarations.items };
+
+    ghost invariant = { λ s. IsSource (tree_of s.declarations.items) };
+}
+
+impl Source {
+    /// Keeps declarations that some tokens spell.
+    pub(crate) fn new(declarations: Vec<Declaration>) -> Source
+        requires { IsSource (tree_of declarations.items) }
+        ensures { result ≡ declarations.items }
+    {
+        Source { declarations }
+    }
+
+    /// The declarations in order.
+    pub fn declarations(&self) -> &[Declaration]
+        ensures { result.now ≡ self.now }
+    {
+        self.declarations.as_slice()
+    }
+}
