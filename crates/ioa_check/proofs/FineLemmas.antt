@@ -60,6 +60,13 @@ proposals-say r f ps xs ys p q h d s =
     says-last r _ _ (and_from _ _ h (ap distinct (names-of_proposals ps) ∙ ap (λ us. distinct (map (λ p. name_of p.name) us)) (sym p) ∙ d))
     (says-at r _ _ (ap (λ us. nat_le (sum (map (λ p. well_formed.nodes p.value) (map proposal_of us))) 4096) q) s)
 
+pub composition-says : {T : Type 0} (r : Result T Refusal) (before : SourceTree) (is xs ys : List Instance) → xs ≡ is → ys ≡ is → nat_le (length xs) 32 ≡ true → distinct (map (λ i. name_of i.name) ys) ≡ true →
+    Says r (list_all (well_formed.instance_fine before) (map instance_of is)) →
+    Says r (distinct (map (λ i. i.name) (map instance_of is)) && list_all (well_formed.instance_fine before) (map instance_of is) && nat_le (length (map instance_of is)) 32)
+composition-says r before is xs ys p q m d h =
+    says-first r _ _ (ap (λ k. nat_le k 32) (length-map is instance_of ∙ ap length (sym p)) ∙ m)
+    (says-last r _ _ (ap distinct (names-of_instances is) ∙ ap (λ us. distinct (map (λ i. name_of i.name) us)) (sym q) ∙ d) h)
+
 pub parameters-say-formals : {T : Type 0} (r : Result T Refusal) (g : List Name) (ps xs : List Position) (fs ys : List Field) (vs : List Variable) → xs ≡ ps → ys ≡ fs → IsErr r → Says r (apart (position_names xs) (formal_names ys)) →
     Says r (apart (map position_name (map position_of ps)) (g ++ (map (λ f. f.name) (map field_of fs) ++ map (λ v. v.field.name) (map variable_of vs))))
 parameters-say-formals r g ps xs fs ys vs p q bad h =

@@ -1,4 +1,4 @@
-ghost use Rattle.std.specs.Prelude.{◌≡◌, ◌==◌, [], map, length, true, false};
+ghost use Rattle.std.specs.Prelude.{◌≡◌, [], map, true, false};
 ghost use Rattle.std.specs.List.{list_all, list_any};
 ghost use Rattle.std.specs.Option.{option_map_or};
 ghost use Rattle.ioa_syntax.specs.View.{automaton_of, assembly_of, instance_of, declaration_of, tree_of, name_of, expr_of};
@@ -47,22 +47,14 @@ fn declaration_fine(
     }
 }
 
-/// Whether a composition has one component, which is well formed.
+/// Whether a composition's components have names of their own and are well formed.
+#[tactic(auto, using(crate::proofs::ViewLemmas::views))]
 fn composition_fine(before: &[Declaration], composition: &Assembly) -> Result<(), Refusal>
     ensures { Says result (well_formed.composition_fine (tree_of before.now) (assembly_of composition.now)) }
 {
-    one_component(composition)?;
+    at_most(&composition.instances, 32)?;
+    distinct(&composition.instances)?;
     each_instance_fine(before, composition)
-}
-
-fn one_component(composition: &Assembly) -> Result<(), Refusal>
-    ensures { Says result (length (assembly_of composition.now).instances == 1) }
-{
-    if composition.instances.len() == 1 {
-        Ok(())
-    } else {
-        Err(Refusal::TooMany(composition.name.line))
-    }
 }
 
 fn each_instance_fine(before: &[Declaration], composition: &Assembly) -> Result<(), Refusal>

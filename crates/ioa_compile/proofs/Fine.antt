@@ -252,7 +252,7 @@ module _ (m : Member) (e : EntryTree) (vs ps : List ℕ) (h : Setting m e vs ps)
     typed = have_own basic_types m.instance.arguments h.types h.given;
   }
 
-  variables_long : length (variable_names m.instance.automaton) ≡ length vs
+  pub variables_long : length (variable_names m.instance.automaton) ≡ length vs
   variables_long = ap length (sym (variables_names m.instance.automaton)) ∙ types_long (variable_fields m.instance.automaton) vs h.variables
 
   pub type_at : (x : Name) → type_in (scope basic_table h.globals m.instance.automaton e) x ≡ at (origin (scope_of m e) x) vs h.types ps

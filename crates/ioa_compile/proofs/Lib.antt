@@ -9,3 +9,6 @@ pub mod Blocks
 pub mod Validity
 pub mod Assembled
 pub mod Twins
+pub mod Running
+pub mod Alike
+pub mod Meant

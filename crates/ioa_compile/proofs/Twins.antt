@@ -8,8 +8,9 @@ use Rattle.std.proofs.lemmas.Option.{slice_get-map}
 use Rattle.ioa_value.specs.Actions.{Act}
 use Rattle.ioa_value.specs.Plain.{Val}
 use Rattle.ioa_value.specs.Tests.{is_of}
-use Rattle.ioa_value.specs.Typing.{HaveTypes, basic_types}
+use Rattle.ioa_value.specs.Typing.{basic_types}
 use Rattle.ioa_code.specs.declared.instr.PartKind.TheVariants.{Pre}
+use Rattle.ioa_code.specs.Machine.{Listing}
 use Rattle.ioa_code.specs.Valid.{Part}
 use Rattle.ioa_syntax.specs.declared.tree.Kind.{Kind}
 use Rattle.ioa_syntax.specs.declared.tree.Kind.TheVariants.{Input, Output, Internal}
@@ -17,9 +18,7 @@ use Rattle.ioa_syntax.specs.Tree.{Expr, PositionTree, typed, EntryTree}
 use Rattle.ioa_syntax.specs.Instances.{basic_table, positions_have, entry_has, component_of}
 use Rattle.ioa_syntax.specs.Components.{Component, Compatible}
 use Rattle.ioa_syntax.specs.Compositions.{Member}
-use Rattle.ioa_syntax.specs.WellFormed.{position_fields, variable_fields}
-use Rattle.ioa_node.specs.Nodes.{Node}
-use Rattle.ioa_compile.proofs.Fits.{fit_have}
+use Rattle.ioa_syntax.specs.WellFormed.{position_fields}
 use Rattle.ioa_compose.specs.declared.member.Member as held
 use Rattle.ioa_compose.specs.Held.{member_of}
 use Rattle.ioa_compose.specs.Fine.{IsFine, AllFine}
@@ -91,10 +90,15 @@ module _ (m : Member) (c : MemberCode) where
   has_pre e Internal None s g h f = absurd h
   has_pre e Internal (Some p) s g h f = part_of e p f
 
+  one_table : (o : Option Part) (k : Listing) → IfSome (codes_of o) (λ g. g.consts ≡ k.consts) → IfSome o (λ p. p.code.consts ≡ k.consts)
+  one_table None k h = tt
+  one_table (Some p) k h = h
+
   is_entry : (t : EntryTree) (e : EntryCode) → IsTranslated m c.start.types t e → IsEntry c e
   is_entry t e h = record {
     pre = subst (λ k. HasPre c e k e.pre) (sym h.kind) (has_pre e t.kind e.pre (scope_of m t) h.transition.0.pre h.transition.2.pre h.pre);
     effect = record { kind = h.effect.kind; slots = h.effect.slots; args = h.effect.args };
+    consts = one_table e.pre e.effect.code h.transition.2.consts;
   }
 
   pub are_entries : (ts : List EntryTree) (es : List EntryCode) → AllZip (IsTranslated m c.start.types) ts es → AreEntries c es
@@ -127,7 +131,7 @@ module _ (ms : List Member) (cs : List MemberCode) (h : AllZip DoesSame ms cs) w
   twin i p e =
       let c = mapped table_component (slice_get cs i) p (sym (slice_get-map table_component cs i) ∙ e) in
       let z = zip_back DoesSame ms cs i c.0 h c.1 in
-      (z.0, slice_get-map (λ m. component_of m.instance) ms i ∙ ap (option_map (λ m. component_of m.instance)) z.1, λ a. z.2.kinds a ∙ ap (λ (q : Component (List Val)). q.kind_of a) c.2)
+      (z.0, slice_get-map (λ m. component_of m.instance) ms i ∙ ap (option_map (λ m. component_of m.instance)) z.1, λ a. z.2.like.kinds a ∙ ap (λ (q : Component (List Val)). q.kind_of a) c.2)
 
   pub compatible_same : Compatible (map (λ m. component_of m.instance) ms) → Compatible (map table_component cs)
   compatible_same k i j p q a ne ei ej =
@@ -141,13 +145,3 @@ are_members [] [] h = tt
 are_members [] (c ∷ cs) h = absurd h
 are_members (m ∷ ms) [] h = absurd h
 are_members (m ∷ ms) (c ∷ cs) h = ((h.0.entries, h.0.typed), are_members ms cs h.1)
-
-pub does_same : (m : Member) (slots : List ℕ) (c : MemberCode) → IsFine m → AreTypesOf (variable_fields m.instance.automaton) slots → c.start ≡ record { types = slots; values = m.starts } → AllZip (IsTranslated m slots) m.instance.automaton.entries c.entries → DoesSame m c
-does_same m slots c h types start entries =
-    let es = m.instance.automaton.entries in
-    let types-are : slots ≡ c.start.types = sym (ap (λ (n : Node). n.types) start) in
-    record {
-      kinds = λ a. ap (λ t. option_map (λ e. e.kind) (find (entry_has t a) es)) h.types ∙ kinds_same m slots a es _ _ (finds_same m slots a es c.entries entries);
-      entries = are_entries m c es c.entries (subst (λ l. AllZip (IsTranslated m l) es c.entries) types-are entries);
-      typed = subst (λ (n : Node). HaveTypes basic_types n.values n.types) (sym start) (fit_have (variable_fields m.instance.automaton) m.starts slots h.starts types);
-    }

@@ -132,7 +132,7 @@ module _ (m : Member) (e : EntryTree) (vs ps : List ℕ) (h : Setting m e vs ps)
       let part : Part = record { code = code; kind = Pre; slots = vs; args = ps; result = 0 ∷ [] } in
       valid part (guard_block part (scope_of m e) (scope basic_table h.globals m.instance.automaton e) vs h.types ps (reads Pre (0 ∷ []) refl) g 0 (length code.instrs) t k.has)
 
-  found_slot : (x : Name) (ty i : ℕ) → type_in (context_of basic_table (variable_fields m.instance.automaton)) x ≡ Some ty → place_from 0 (scope_of m e).variables x ≡ Some i → slice_get vs i ≡ Some ty
+  pub found_slot : (x : Name) (ty i : ℕ) → type_in (context_of basic_table (variable_fields m.instance.automaton)) x ≡ Some ty → place_from 0 (scope_of m e).variables x ≡ Some i → slice_get vs i ≡ Some ty
   found_slot x ty i t k =
       let at_x = variable_at m e vs ps h x ty t in
       let both : Some at_x.0 ≡ Some i = sym at_x.1 ∙ k in

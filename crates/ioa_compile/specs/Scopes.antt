@@ -9,6 +9,10 @@ use Rattle.ioa_code.specs.Valid.{OwnTypes}
 use Rattle.ioa_syntax.specs.Tree.{Expr, number, truth, named, parens, binary, Stmt, assign, EntryTree}
 use Rattle.ioa_syntax.specs.Instances.{place_from, field_names, variable_names, position_name}
 use Rattle.ioa_syntax.specs.Compositions.{Member}
+use Rattle.ioa_syntax.specs.declared.tree.Entry as tree
+use Rattle.ioa_syntax.specs.View.{entry_of}
+use Rattle.ioa_compose.specs.declared.member.Member as held
+use Rattle.ioa_compose.specs.Held.{member_of}
 
 -- the names that an entry's code may use: variables, formals with their values, and the entry's parameters
 pub record Scope : Type 0 where
@@ -24,6 +28,10 @@ scope_of m e = record {
   arguments = m.instance.arguments;
   parameters = map position_name e.positions;
 }
+
+-- for what the program holds of them
+abbrev pub scope_in : held.Member → tree.Entry → Scope
+scope_in m e = scope_of (member_of m) (entry_of e)
 
 -- each by its place
 pub data Origin : Type 0 where

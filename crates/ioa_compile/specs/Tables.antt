@@ -1,5 +1,5 @@
 -- What a program's table does: the components that its composition's step is made of.
-use Rattle.std.specs.Prelude.{◌≡◌, ℕ, Bool, true, false, ◌&&◌, List, [], ◌∷◌, map, find, Option, Some, None, Result, Ok}
+use Rattle.std.specs.Prelude.{◌≡◌, ℕ, Bool, true, false, ◌&&◌, List, [], ◌∷◌, map, find, Option, Some, None, IfSome, Result, Ok}
 use Rattle.std.specs.Option.{option_map, option_map_or}
 use Rattle.std.specs.Str.{bytes_eq}
 use Rattle.ioa_value.specs.declared.arithmetic.Fault.{Fault}
@@ -71,9 +71,11 @@ HasPre m e Input (Some part) = ⊥
 HasPre m e k None = ⊥
 HasPre m e k (Some part) = IsPartOf m e Pre part
 
+-- the parts of an entry carry one table of constants
 pub record IsEntry (m : MemberCode) (e : EntryCode) : Type 0 where
   pub pre : HasPre m e e.kind e.pre
   pub effect : IsPartOf m e Eff e.effect
+  pub consts : IfSome e.pre (λ part. part.code.consts ≡ e.effect.code.consts)
 
 abbrev pub AreEntries : MemberCode → List EntryCode → Type 0
 AreEntries m [] = Unit {0}

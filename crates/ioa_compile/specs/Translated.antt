@@ -1,7 +1,6 @@
 -- What the compiler makes of an entry and of a component.
 use Rattle.std.specs.Prelude.{◌≡◌, ℕ, List, length, Option, Some, None, IfSome, slice_get}
 use Rattle.std.specs.List.{AllZip}
-use Rattle.ioa_value.specs.Actions.{Act}
 use Rattle.ioa_value.specs.Typing.{HaveTypes, basic_types}
 use Rattle.ioa_code.specs.declared.instr.PartKind.{PartKind}
 use Rattle.ioa_code.specs.declared.instr.PartKind.TheVariants.{Pre, Eff}
@@ -10,9 +9,11 @@ use Rattle.ioa_code.specs.Valid.{Part, OwnTypes}
 use Rattle.ioa_syntax.specs.declared.tree.Kind.{Kind}
 use Rattle.ioa_syntax.specs.declared.tree.Kind.TheVariants.{Input, Output, Internal}
 use Rattle.ioa_syntax.specs.Tree.{Expr, Stmt, FieldTree, PositionTree, typed, EntryTree, TransitionTree}
-use Rattle.ioa_syntax.specs.Instances.{type_named, basic_table, transition_for, component_of}
+use Rattle.ioa_syntax.specs.Instances.{type_named, basic_table, transition_for, component_of, state_of}
 use Rattle.ioa_syntax.specs.WellFormed.{position_fields}
 use Rattle.ioa_syntax.specs.Compositions.{Member}
+use Rattle.ioa_compile.specs.Means.{Corresponds}
+use Rattle.ioa_syntax.specs.Likes.{IsLike}
 use Rattle.ioa_compile.specs.Programs.{EntryCode, MemberCode}
 use Rattle.ioa_compile.specs.Tables.{AreEntries, table_component, position_types}
 use Rattle.ioa_compile.specs.Scopes.{Scope, scope_of}
@@ -77,8 +78,9 @@ pub record IsEntryOf (m : Member) (e : EntryTree) : Type 0 where
   pub place : ℕ
   pub here : slice_get m.instance.automaton.entries place ≡ Some e
 
--- the component of the table has the same actions, and is sound
+-- the component of the table does the same, starts alike, and is sound
 pub record DoesSame (m : Member) (c : MemberCode) : Type 0 where
-  pub kinds : (a : Act) → (component_of m.instance).kind_of a ≡ (table_component c).kind_of a
+  pub like : IsLike (Corresponds m.instance.automaton) (component_of m.instance) (table_component c)
+  pub start : Corresponds m.instance.automaton (state_of m.instance.automaton m.starts) c.start.values
   pub entries : AreEntries c c.entries
   pub typed : HaveTypes basic_types c.start.values c.start.types

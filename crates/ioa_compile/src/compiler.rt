@@ -4,6 +4,7 @@ ghost use Rattle.std.specs.String.{string_bytes};
 ghost use Rattle.ioa_value.specs.Typing.{basic_types};
 ghost use Rattle.ioa_compose.specs.Fine.{IsFine, AllFine};
 ghost use Rattle.ioa_compose.specs.Held.{composed_of, member_of};
+ghost use Rattle.ioa_compile.specs.Means.{Means};
 ghost use Rattle.ioa_compile.specs.Shown.{member_code};
 ghost use Rattle.ioa_compile.specs.Translated.{DoesSame};
 
@@ -17,7 +18,9 @@ use ioa_value::{OutOfMemory, Types};
 use std::alloc::Global;
 
 /// The program that means the composition. It refuses nothing but for want of memory.
-pub fn compile(alloc: Global, composition: &Composition) -> Result<Program, OutOfMemory> {
+pub fn compile(alloc: Global, composition: &Composition) -> Result<Program, OutOfMemory>
+    ensures { IfOk result (λ p. Means p (composed_of composition.now)) }
+{
     let types = Types::new(alloc)?;
     let members = compile_members(alloc, &types, composition.members())?;
     let name = composition.name().to_string(alloc)?;

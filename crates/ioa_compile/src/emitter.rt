@@ -9,7 +9,7 @@ ghost use Rattle.ioa_syntax.specs.Tree.{named, assign};
 ghost use Rattle.ioa_syntax.specs.Meaning.{op_of};
 ghost use Rattle.ioa_syntax.specs.WellFormed.{nodes, stmt_nodes};
 ghost use Rattle.ioa_compose.specs.Held.{member_of};
-ghost use Rattle.ioa_compile.specs.Scopes.{scope_of, IsScope, IsKnown, IsKnownStmt, AreKnown, IsKnownGuard, IsOrigin, origin};
+ghost use Rattle.ioa_compile.specs.Scopes.{scope_in, IsScope, IsKnown, IsKnownStmt, AreKnown, IsKnownGuard, IsOrigin, origin};
 ghost use Rattle.ioa_compile.specs.Emitting.{AddsInstr, AddsConst, AddsExpr, AddsGuard, AddsStmt, AddsStmts, guard_nodes};
 
 use crate::places::{field_place, position_place, variable_place};
@@ -27,10 +27,10 @@ pub(crate) fn emit_guard(
     entry: &Entry,
     guard: &Option<Expression>,
 ) -> Result<(), OutOfMemory>
-    requires scope { IsScope (scope_of (member_of member.now) (entry_of entry.now)) }
-    requires known { IsKnownGuard (scope_of (member_of member.now) (entry_of entry.now)) (option_map expr_of guard.now) }
+    requires scope { IsScope (scope_in member.now entry.now) }
+    requires known { IsKnownGuard (scope_in member.now entry.now) (option_map expr_of guard.now) }
     requires room { length out.old.consts.items + guard_nodes (option_map expr_of guard.now) < 2 ^ 16 }
-    ensures { OnOk result (AddsGuard (listing out.old) (listing out.new) (scope_of (member_of member.now) (entry_of entry.now)) (option_map expr_of guard.now)) }
+    ensures { OnOk result (AddsGuard (listing out.old) (listing out.new) (scope_in member.now entry.now) (option_map expr_of guard.now)) }
 {
     match guard {
         Some(e) => emit_expression(alloc, out, member, entry, e),
@@ -46,10 +46,10 @@ pub(crate) fn emit_effect(
     entry: &Entry,
     statements: &[Statement],
 ) -> Result<(), OutOfMemory>
-    requires scope { IsScope (scope_of (member_of member.now) (entry_of entry.now)) }
-    requires known { AreKnown (scope_of (member_of member.now) (entry_of entry.now)) (map stmt_of statements.now) }
+    requires scope { IsScope (scope_in member.now entry.now) }
+    requires known { AreKnown (scope_in member.now entry.now) (map stmt_of statements.now) }
     requires room { length out.old.consts.items + sum (map stmt_nodes (map stmt_of statements.now)) < 2 ^ 16 }
-    ensures { OnOk result (AddsStmts (listing out.old) (listing out.new) (scope_of (member_of member.now) (entry_of entry.now)) (map stmt_of statements.now)) }
+    ensures { OnOk result (AddsStmts (listing out.old) (listing out.new) (scope_in member.now entry.now) (map stmt_of statements.now)) }
 {
     for statement in statements {
         emit_statement(alloc, out, member, entry, statement)?;
@@ -65,10 +65,10 @@ fn emit_statement(
     entry: &Entry,
     statement: &Statement,
 ) -> Result<(), OutOfMemory>
-    requires scope { IsScope (scope_of (member_of member.now) (entry_of entry.now)) }
-    requires known { IsKnownStmt (scope_of (member_of member.now) (entry_of entry.now)) (stmt_of statement.now) }
+    requires scope { IsScope (scope_in member.now entry.now) }
+    requires known { IsKnownStmt (scope_in member.now entry.now) (stmt_of statement.now) }
     requires room { length out.old.consts.items + stmt_nodes (stmt_of statement.now) < 2 ^ 16 }
-    ensures { OnOk result (AddsStmt (listing out.old) (listing out.new) (scope_of (member_of member.now) (entry_of entry.now)) (stmt_of statement.now)) }
+    ensures { OnOk result (AddsStmt (listing out.old) (listing out.new) (scope_in member.now entry.now) (stmt_of statement.now)) }
 {
     match statement {
         Statement::Assign(name, e) => emit_assignment(alloc, out, member, entry, name, e),
@@ -84,10 +84,10 @@ fn emit_assignment(
     name: &Name,
     e: &Expression,
 ) -> Result<(), OutOfMemory>
-    requires scope { IsScope (scope_of (member_of member.now) (entry_of entry.now)) }
-    requires known { IsKnownStmt (scope_of (member_of member.now) (entry_of entry.now)) (assign (name_of name.now) (expr_of e.now)) }
+    requires scope { IsScope (scope_in member.now entry.now) }
+    requires known { IsKnownStmt (scope_in member.now entry.now) (assign (name_of name.now) (expr_of e.now)) }
     requires room { length out.old.consts.items + nodes (expr_of e.now) + 1 < 2 ^ 16 }
-    ensures { OnOk result (AddsStmt (listing out.old) (listing out.new) (scope_of (member_of member.now) (entry_of entry.now)) (assign (name_of name.now) (expr_of e.now))) }
+    ensures { OnOk result (AddsStmt (listing out.old) (listing out.new) (scope_in member.now entry.now) (assign (name_of name.now) (expr_of e.now))) }
 {
     emit_expression(alloc, out, member, entry, e)?;
     match variable_place(&member.automaton.variables, name) {
@@ -104,10 +104,10 @@ fn emit_expression(
     entry: &Entry,
     e: &Expression,
 ) -> Result<(), OutOfMemory>
-    requires scope { IsScope (scope_of (member_of member.now) (entry_of entry.now)) }
-    requires known { IsKnown (scope_of (member_of member.now) (entry_of entry.now)) (expr_of e.now) }
+    requires scope { IsScope (scope_in member.now entry.now) }
+    requires known { IsKnown (scope_in member.now entry.now) (expr_of e.now) }
     requires room { length out.old.consts.items + nodes (expr_of e.now) < 2 ^ 16 }
-    ensures { OnOk result (AddsExpr (listing out.old) (listing out.new) (scope_of (member_of member.now) (entry_of entry.now)) (expr_of e.now)) }
+    ensures { OnOk result (AddsExpr (listing out.old) (listing out.new) (scope_in member.now entry.now) (expr_of e.now)) }
 {
     match e {
         Expression::Number(n, _) => put_constant(out, Value::Num(*n as i64)),
@@ -130,10 +130,10 @@ fn emit_name(
     entry: &Entry,
     name: &Name,
 ) -> Result<(), OutOfMemory>
-    requires scope { IsScope (scope_of (member_of member.now) (entry_of entry.now)) }
-    requires known { IsOrigin (origin (scope_of (member_of member.now) (entry_of entry.now)) (name_of name.now)) }
+    requires scope { IsScope (scope_in member.now entry.now) }
+    requires known { IsOrigin (origin (scope_in member.now entry.now) (name_of name.now)) }
     requires room { length out.old.consts.items + 1 < 2 ^ 16 }
-    ensures { OnOk result (AddsExpr (listing out.old) (listing out.new) (scope_of (member_of member.now) (entry_of entry.now)) (named (name_of name.now))) }
+    ensures { OnOk result (AddsExpr (listing out.old) (listing out.new) (scope_in member.now entry.now) (named (name_of name.now))) }
 {
     if let Some(i) = variable_place(&member.automaton.variables, name) {
         return put(out, Instr::Slot(i as u16));

@@ -7,7 +7,7 @@ ghost use Rattle.ioa_code.specs.Parts.{listing};
 ghost use Rattle.ioa_syntax.specs.View.{expr_of, stmt_of, entry_of, transition_of};
 ghost use Rattle.ioa_syntax.specs.WellFormed.{stmt_nodes};
 ghost use Rattle.ioa_compose.specs.Held.{member_of};
-ghost use Rattle.ioa_compile.specs.Scopes.{scope_of, IsScope, AreKnown, IsKnownGuard};
+ghost use Rattle.ioa_compile.specs.Scopes.{scope_in, IsScope, AreKnown, IsKnownGuard};
 ghost use Rattle.ioa_compile.specs.Emitting.{guard_nodes, IsGrown};
 ghost use Rattle.ioa_compile.specs.Translated.{IsGuard, IsEffect, IsTransition};
 
@@ -25,9 +25,9 @@ pub(crate) fn transition_code(
     entry: &Entry,
     transition: &Transition,
 ) -> Result<(Option<Code>, Code), OutOfMemory>
-    requires scope { IsScope (scope_of (member_of member.now) (entry_of entry.now)) }
-    requires guard { IsKnownGuard (scope_of (member_of member.now) (entry_of entry.now)) (transition_of transition.now).pre }
-    requires effect { AreKnown (scope_of (member_of member.now) (entry_of entry.now)) (transition_of transition.now).effect }
+    requires scope { IsScope (scope_in member.now entry.now) }
+    requires guard { IsKnownGuard (scope_in member.now entry.now) (transition_of transition.now).pre }
+    requires effect { AreKnown (scope_in member.now entry.now) (transition_of transition.now).effect }
     requires guard_size { guard_nodes (transition_of transition.now).pre ≤ 4096 }
     requires effect_size { sum (map stmt_nodes (transition_of transition.now).effect) ≤ 4096 }
     ensures { IfOk result (λ codes. IsTransition (member_of member.now) (entry_of entry.now) (transition_of transition.now) (option_map listing codes.0) (listing codes.1)) }
@@ -53,10 +53,10 @@ fn guard_code(
     entry: &Entry,
     guard: &Option<Expression>,
 ) -> Result<Code, OutOfMemory>
-    requires scope { IsScope (scope_of (member_of member.now) (entry_of entry.now)) }
-    requires known { IsKnownGuard (scope_of (member_of member.now) (entry_of entry.now)) (option_map expr_of guard.now) }
+    requires scope { IsScope (scope_in member.now entry.now) }
+    requires known { IsKnownGuard (scope_in member.now entry.now) (option_map expr_of guard.now) }
     requires size { guard_nodes (option_map expr_of guard.now) ≤ 4096 }
-    ensures guard { IfOk result (λ code. IsGuard (listing code) (scope_of (member_of member.now) (entry_of entry.now)) (option_map expr_of guard.now)) }
+    ensures guard { IfOk result (λ code. IsGuard (listing code) (scope_in member.now entry.now) (option_map expr_of guard.now)) }
     ensures few { IfOk result (λ code. length code.consts.items ≤ 4096) }
 {
     let mut code = Code {
@@ -75,12 +75,12 @@ fn effect_code(
     entry: &Entry,
     statements: &[Statement],
 ) -> Result<Code, OutOfMemory>
-    requires scope { IsScope (scope_of (member_of member.now) (entry_of entry.now)) }
-    requires known { AreKnown (scope_of (member_of member.now) (entry_of entry.now)) (map stmt_of statements.now) }
+    requires scope { IsScope (scope_in member.now entry.now) }
+    requires known { AreKnown (scope_in member.now entry.now) (map stmt_of statements.now) }
     requires size { sum (map stmt_nodes (map stmt_of statements.now)) ≤ 4096 }
     requires few { length consts.items ≤ 4096 }
     requires typed { OwnTypes basic_types (map plain consts.items) }
-    ensures effect { IfOk result (λ code. IsEffect (listing code) (scope_of (member_of member.now) (entry_of entry.now)) (map stmt_of statements.now)) }
+    ensures effect { IfOk result (λ code. IsEffect (listing code) (scope_in member.now entry.now) (map stmt_of statements.now)) }
     ensures grown { IfOk result (λ code. IsGrown (map plain consts.items) (map plain code.consts.items)) }
 {
     let mut code = Code {

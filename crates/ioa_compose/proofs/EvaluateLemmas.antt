@@ -1,19 +1,12 @@
 -- The parts of a well typed expression, as the evaluator meets them.
-use Rattle.std.proofs.Common.{◌≡◌, ℕ, List, [], ◌∷◌, Option, Some, None, Result, Ok, Err, refl, sym, ap, subst, ◌∙◌, map}
-use Rattle.std.specs.Prelude.{Box}
-use Rattle.std.specs.Global.{Global}
-use Rattle.ioa_value.specs.declared.arithmetic.Fault.{Fault}
-use Rattle.ioa_value.specs.declared.value.Value.{Value}
-use Rattle.ioa_value.specs.Plain.{Val, plain}
+use Rattle.std.proofs.Common.{◌≡◌, ℕ, List, [], ◌∷◌, Option, Some, None, sym, subst}
+use Rattle.ioa_value.specs.Plain.{Val}
 use Rattle.ioa_value.specs.Typing.{Shape, HasType}
-use Rattle.ioa_value.specs.Operators.{Answer, gives, op_type, answer_of, Takes}
+use Rattle.ioa_value.specs.Operators.{Answer, gives, op_type, Takes}
 use Rattle.ioa_syntax.specs.declared.tree.Operator.{Operator}
-use Rattle.ioa_syntax.specs.declared.tree.Expression.{Expression}
-use Rattle.ioa_syntax.specs.declared.tree.Expression.TheVariants.{Binary}
 use Rattle.ioa_syntax.specs.Tree.{Expr, binary}
-use Rattle.ioa_syntax.specs.View.{expr_of}
 use Rattle.ioa_syntax.specs.Meaning.{Env, val, op_of}
-use Rattle.ioa_syntax.specs.WellFormed.{Context, type_of, both_types}
+use Rattle.ioa_syntax.specs.WellFormed.{Context, type_of}
 use Rattle.ioa_compose.proofs.ValTyped.{IsTyped, Stands, Suits, types_of_both, val_typed, takes_typed}
 
 -- the expression has a type

@@ -1,16 +1,16 @@
 -- Values that fit fields suit the fields' context.
-use Rattle.std.proofs.Common.{◌≡◌, ℕ, ◌&&◌, Bool, true, false, IsTrue, List, [], ◌∷◌, ◌++◌, Option, Some, None, refl, sym, ap, subst, ◌∙◌, arith, rules, cond, map}
+use Rattle.std.proofs.Common.{◌≡◌, ℕ, Bool, true, false, IsTrue, List, [], ◌∷◌, ◌++◌, Option, Some, None, refl, ap, subst, cond}
 use Rattle.std.specs.Option.{option_map_or}
 use Rattle.std.specs.Str.{bytes_eq}
 use Rattle.ioa_value.specs.Actions.{Name}
 use Rattle.ioa_value.specs.Plain.{Val}
-use Rattle.ioa_value.specs.Typing.{Shape, HasType, basic_types}
-use Rattle.ioa_value.specs.Tests.{is_of, are_of}
-use Rattle.ioa_value.proofs.TestLemmas.{is_of-HasType, are_of-HaveTypes}
+use Rattle.ioa_value.specs.Typing.{Shape, HasType}
+use Rattle.ioa_value.specs.Tests.{are_of}
+use Rattle.ioa_value.proofs.TestLemmas.{are_of-HaveTypes}
 use Rattle.ioa_syntax.specs.Tree.{FieldTree}
-use Rattle.ioa_syntax.specs.Meaning.{Env, values_of}
-use Rattle.ioa_syntax.specs.Instances.{TypeTable, type_named, basic_table, field_names}
-use Rattle.ioa_syntax.specs.WellFormed.{Context, type_in, typed_field, context_of}
+use Rattle.ioa_syntax.specs.Meaning.{values_of}
+use Rattle.ioa_syntax.specs.Instances.{TypeTable, type_named, field_names}
+use Rattle.ioa_syntax.specs.WellFormed.{type_in, typed_field, context_of}
 use Rattle.ioa_syntax.specs.Compositions.{Fit}
 use Rattle.ioa_compose.proofs.ValTyped.{Stands, Suits}
 

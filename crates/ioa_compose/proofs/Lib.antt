@@ -1,8 +1,11 @@
 pub mod ValTyped
 pub mod FitLemmas
 pub mod EvaluateLemmas
-pub mod Found
-pub mod Prepending
+pub mod ListLemmas
+pub mod PickLemmas
+pub mod BindingLemmas
 pub mod StartLemmas
-pub mod StartsFit
-pub mod MemberLemmas
+pub mod SourceLemmas
+pub mod FineLemmas
+pub mod ClashLemmas
+pub mod ComposeLemmas

@@ -1,13 +1,12 @@
 -- A well typed expression has a value of its type, or a fault.
-use Rattle.std.proofs.Common.{◌≡◌, ℕ, ◌==◌, ◌&&◌, Bool, true, false, IsTrue, ℤ, pos, ◌+ℤ◌, ◌-ℤ◌, List, [], ◌∷◌, Option, Some, None, Result, Ok, Err, refl, sym, ap, subst, ◌∙◌, arith, rules, cond}
+use Rattle.std.proofs.Common.{◌≡◌, ℕ, ◌==◌, ◌&&◌, Bool, true, false, ℤ, pos, ◌+ℤ◌, ◌-ℤ◌, List, [], ◌∷◌, Option, Some, None, Ok, Err, refl, sym, ap, subst, ◌∙◌, arith, cond}
 use Rattle.std.proofs.lemmas.Bool.Decides.{nat_tests}
-use Rattle.ioa_value.specs.declared.arithmetic.Fault.{Fault}
 use Rattle.ioa_value.specs.declared.arithmetic.Fault.TheVariants.{Overflow}
 use Rattle.ioa_value.specs.declared.operator.Op.{Op}
 use Rattle.ioa_value.specs.declared.operator.Op.TheVariants.{Add, Sub, Eq}
 use Rattle.ioa_value.specs.Actions.{Name}
 use Rattle.ioa_value.specs.Arithmetic.{fits, tested}
-use Rattle.ioa_value.specs.Plain.{Val, Vals, truth as truth_value, num, name, tuple, items}
+use Rattle.ioa_value.specs.Plain.{Val, truth as truth_value, num, name, tuple, items}
 use Rattle.ioa_value.specs.Operators.{Answer, gives, faults, nothing, of_number, on_numbers, compared, operate, of_numbers, of_alike, op_type, same, Takes}
 use Rattle.ioa_value.specs.Typing.{Shape, HasType, own}
 use Rattle.ioa_syntax.specs.Tree.{Expr, number, truth, named, parens, binary}

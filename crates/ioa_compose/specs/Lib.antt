@@ -1,4 +1,5 @@
 pub mod Fine
 pub mod Held
-pub mod Starting
-pub mod Refusing
+pub mod Bindings
+pub mod Clashes
+pub mod Refusals

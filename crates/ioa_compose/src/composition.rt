@@ -1,19 +1,23 @@
-ghost use Rattle.std.specs.Prelude.{◌≡◌, map, true, IfOk, IfErr, IfSome, IsSome, OnOk};
-ghost use Rattle.std.specs.List.{list_all};
-ghost use Rattle.std.specs.Option.{option_copied};
+ghost use Rattle.std.specs.Prelude.{◌≡◌, ◌≢◌, ◌↔◌, Some, None, IfOk, IfErr, IsErrOf, option_copied, map};
 ghost use Rattle.std.specs.String.{string_bytes};
+ghost use Rattle.ioa_lex.specs.declared.refusal.Refusal.TheVariants.{NoComposition, OutOfMemory};
+ghost use Rattle.ioa_syntax.specs.Tree.{CompositionTree};
 ghost use Rattle.ioa_syntax.specs.View.{tree_of, assembly_of};
-ghost use Rattle.ioa_syntax.specs.Compositions.{IsComposed, picked};
-ghost use Rattle.ioa_syntax.specs.WellFormed.{WellFormed, composition_fine};
+ghost use Rattle.ioa_syntax.specs.WellFormed.{WellFormed};
+ghost use Rattle.ioa_compose.specs.Bindings.{AllReady};
+ghost use Rattle.ioa_compose.specs.Refusals.{IsRefused};
+ghost use Rattle.ioa_syntax.specs.Compositions.{Composed, IsComposed, picked};
 ghost use Rattle.ioa_compose.specs.Fine.{IsSound};
 ghost use Rattle.ioa_compose.specs.Held.{composed_of};
-ghost use Rattle.ioa_compose.specs.Refusing.{Refuses, RefusesAt};
 
+use crate::binding::bind_all;
+use crate::clashes::compatible;
 use crate::member::Member;
-use crate::members::members;
-use crate::pick::pick;
+use crate::picks;
+use crate::starts::start_all;
 use ioa_check::Checked;
 use ioa_syntax::{Assembly, Declaration, Refusal};
+use ioa_value::Types;
 use std::alloc::Global;
 use std::marker::Model;
 
@@ -66,36 +70,40 @@ impl Composition {
 
 /// The composition of this name, or the source's last one where no name is given.
 ///
-/// `NoComposition` comes where there is none; `ArgMismatch` where a component's arguments are not those of its
-/// automaton's formals, in number or type; `StartFault` where an argument, or else a start expression, faults.
-pub fn compose(
-    alloc: Global,
-    checked: &Checked,
-    name: Option<&str>,
-) -> Result<Composition, Refusal>
-    ensures composed { IfOk result (λ c. IfSome (picked (tree_of checked.now) (option_copied name.entry)) (λ t. IsComposed (tree_of checked.now) t (composed_of c))) }
-    ensures there { OnOk result (IsSome (picked (tree_of checked.now) (option_copied name.entry))) }
-    ensures refused { IfErr result (Refuses (tree_of checked.now) (picked (tree_of checked.now) (option_copied name.entry))) }
+/// # Errors
+/// - `NoComposition`: there is no such composition.
+/// - `ArgMismatch`: a component's arguments are not of its formals' types, one for each.
+/// - `StartFault`: an argument of a component faults, or a start expression.
+/// - `Clash`: two components are not compatible.
+/// - `OutOfMemory`.
+pub fn compose(alloc: Global, checked: &Checked, name: Option<&str>) -> Result<Composition, Refusal>
+    ensures composed { IfOk result (λ c. (t : CompositionTree) × (picked (tree_of checked.now) (option_copied name.entry) ≡ Some t) × IsComposed (tree_of checked.now) t (composed_of c)) }
+    ensures missing { (picked (tree_of checked.now) (option_copied name.entry) ≡ None) ↔ IsErrOf result NoComposition }
+    ensures exact { IfErr result (λ r. r ≢ OutOfMemory → (t : CompositionTree) → picked (tree_of checked.now) (option_copied name.entry) ≡ Some t → (c : Composed) → IsComposed (tree_of checked.now) t c → ⊥) }
+    ensures refused { (t : CompositionTree) → picked (tree_of checked.now) (option_copied name.entry) ≡ Some t → IfErr result (λ r. IsRefused (tree_of checked.now) t.instances r) }
 {
     let declarations = checked.declarations();
-    match pick(declarations, name) {
+    match picks::picked(declarations, name) {
         Some(assembly) => composed(alloc, declarations, assembly),
         None => Err(Refusal::NoComposition),
     }
 }
 
-// The composition of this tree.
+/// The composition that a declaration of a well formed source stands for.
 fn composed(
     alloc: Global,
     declarations: &[Declaration],
     assembly: &Assembly,
 ) -> Result<Composition, Refusal>
     requires well_formed { WellFormed (tree_of declarations.now) }
-    requires fine { composition_fine (tree_of declarations.now) (assembly_of assembly.now) ≡ true }
+    requires ready { AllReady (tree_of declarations.now) (assembly_of assembly.now).instances }
     ensures composed { IfOk result (λ c. IsComposed (tree_of declarations.now) (assembly_of assembly.now) (composed_of c)) }
-    ensures refused { IfErr result (RefusesAt (tree_of declarations.now) (assembly_of assembly.now).instances) }
+    ensures refused { IfErr result (λ r. IsRefused (tree_of declarations.now) (assembly_of assembly.now).instances r) }
 {
-    let members = members(alloc, declarations, &assembly.instances)?;
+    let types = Types::new(alloc)?;
+    let bindings = bind_all(alloc, &types, declarations, &assembly.instances)?;
+    compatible(alloc, &bindings)?;
+    let members = start_all(alloc, &types, &bindings)?;
     let name = String::from_str(alloc, assembly.name.text.as_str())?;
     Ok(Composition {
         name,

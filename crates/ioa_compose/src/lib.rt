@@ -1,13 +1,14 @@
 //! Compositions: instances with their start values, compatible with one another.
 #![tactic(auto)]
 
+mod binding;
+mod clashes;
 mod composition;
 mod copies;
 mod evaluate;
 mod member;
-mod members;
-mod pick;
-mod starting;
+mod picks;
+mod starts;
 
 pub use composition::{Composition, compose};
 pub use ioa_syntax::Refusal;

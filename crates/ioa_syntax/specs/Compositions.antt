@@ -1,5 +1,5 @@
 -- The composition that a source declares under a name (Lynch 1996, section 8.2).
-use Rattle.std.specs.Prelude.{ℕ, Bool, List, [], ◌∷◌, map, find, Option, Some, None, Result, Ok, Err, IsTrue, ◌≡◌, slice_get}
+use Rattle.std.specs.Prelude.{ℕ, Bool, List, [], ◌∷◌, map, find, length, reverse, Option, Some, None, Result, Ok, Err, IsTrue, ◌≡◌, slice_get}
 use Rattle.std.specs.Str.{bytes_eq}
 use Rattle.ioa_value.specs.Actions.{Name}
 use Rattle.ioa_value.specs.Plain.{Val}
@@ -19,15 +19,14 @@ compositions [] = []
 compositions (automaton a ∷ ds) = compositions ds
 compositions (composition c ∷ ds) = c ∷ compositions ds
 
--- the last item of a list, and this where there is none
-abbrev pub last_or : {X : Type 0} → Option X → List X → Option X
-last_or o [] = o
-last_or o (x ∷ xs) = last_or (Some x) xs
+abbrev pub first_item : {X : Type 0} → List X → Option X
+first_item [] = None
+first_item (x ∷ xs) = Some x
 
 -- the composition of this name, or the last one where no name is given
 abbrev pub picked : SourceTree → Option Name → Option CompositionTree
 picked s (Some name) = find (λ c. bytes_eq c.name name) (compositions s)
-picked s None = last_or None (compositions s)
+picked s None = first_item (reverse (compositions s))
 
 -- the automaton of this name
 abbrev pub automaton_named : SourceTree → Name → Option AutomatonTree

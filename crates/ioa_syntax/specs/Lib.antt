@@ -5,6 +5,7 @@ pub mod View
 pub mod Depth
 pub mod Grammar
 pub mod Source
+pub mod Layout
 pub mod Reading
 pub mod Meaning
 pub mod Components

@@ -16,15 +16,14 @@ use Rattle.ioa_syntax.specs.Tree.{Expr, number, truth, named, parens, binary, St
 abbrev pub Env : Type 0
 Env = Name → Option Val
 
+abbrev pub nothing_known : Env
+nothing_known x = None
+
 -- the names, one after another, stand for the values
 abbrev pub values_of : List Name → List Val → Env
 values_of [] vs x = None
 values_of (n ∷ ns) [] x = None
 values_of (n ∷ ns) (v ∷ vs) x = if bytes_eq n x then Some v else values_of ns vs x
-
--- no name stands for anything
-abbrev pub nothing_known : Env
-nothing_known = values_of [] []
 
 abbrev pub or_else : {X : Type 0} → Option X → Option X → Option X
 or_else (Some v) o = Some v

@@ -186,9 +186,9 @@ abbrev pub instance_fine : SourceTree → InstanceTree → Bool
 instance_fine before i = list_any (is_automaton_of i.automaton) before
     && list_all (λ e. option_map_or (λ ty. true) (type_of [] e) false) i.arguments
 
--- a composition has one component
 abbrev pub composition_fine : SourceTree → CompositionTree → Bool
-composition_fine before c = (length c.instances == 1) && list_all (instance_fine before) c.instances
+composition_fine before c = distinct (map (λ i. i.name) c.instances) && list_all (instance_fine before) c.instances
+    && nat_le (length c.instances) 32
 
 module _ (globals : List Name) where
   abbrev pub declaration_fine : SourceTree → DeclarationTree → Bool

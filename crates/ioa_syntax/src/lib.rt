@@ -9,6 +9,7 @@ mod fault;
 mod laws;
 mod measured;
 mod parsing;
+mod printing;
 mod signatures;
 mod source;
 mod sources;
@@ -19,6 +20,7 @@ mod tree;
 pub use ioa_lex::Refusal;
 pub use laws::one_tree;
 pub use parsing::parse;
+pub use printing::print;
 pub use source::Source;
 pub use tree::{
     Assembly, Automaton, Declaration, Entry, Expression, Field, Instance, Kind, Name, Operator,

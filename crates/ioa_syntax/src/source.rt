@@ -41,7 +41,9 @@ impl Source {
 
     /// The declarations in order.
     pub fn declarations(&self) -> &[Declaration]
-        ensures { result.now ≡ self.now }
+        ensures value { result.now ≡ self.now }
+        // Every source is spelled by some tokens, and at most 64 deep.
+        ensures kept { IsSource (tree_of self.now) }
     {
         self.declarations.as_slice()
     }

@@ -1,8 +1,12 @@
-use Rattle.std.proofs.Common.{map, subst}
+use Rattle.std.proofs.Common.{◌∙◌, map, sym, subst}
 use Rattle.std.specs.List.{AllZip}
 use Rattle.ioa_compose.specs.Held.{composed_of, member_of}
 use Rattle.ioa_compile.specs.Shown.{member_code}
 use Rattle.ioa_compile.specs.Translated.{DoesSame}
+use Rattle.std.specs.String.{string_bytes}
+use Rattle.ioa_compile.specs.Programs.{Prog}
+use Rattle.ioa_compile.specs.Means.{Means}
+use Rattle.ioa_compile.proofs.Meant.{all_like, all_related, from_all}
 use Rattle.ioa_compile.proofs.Twins.{are_members, compatible_same}
 use Rattle.ioa_compile.proofs.compiler.compile.Goals as goal
 
@@ -15,3 +19,18 @@ new-requires-2 c =
       members = are_members ms cs all;
       compatible = compatible_same ms cs all c.members.ensures.sound.compatible;
     }
+
+pub returns : goal.returns
+returns c =
+    let composed = composed_of c.args.composition.now in
+    let ms = composed.members in
+    let cs = map member_code c.in_ok-members.members.items in
+    let all = subst (λ l. AllZip DoesSame (map member_of l) cs) c.members.ensures.value c.in_ok-members.ensures in
+    let made : Prog = record { name = string_bytes c.in_ok-name.name; members = cs; hidden = map string_bytes c.in_ok-hidden.hidden.items } in
+    let means : Means made composed = record {
+      name = c.in_ok-name.ensures.ok ∙ c.name.ensures;
+      hidden = c.in_ok-hidden.ensures ∙ c.hidden.ensures;
+      components = all_like ms 0 ms cs (from_all ms) all;
+      starts = all_related ms 0 ms cs (from_all ms) all;
+    } in
+    subst (λ (p : Prog). Means p composed) (sym c.new-2.ensures) means

@@ -7,7 +7,7 @@ use Rattle.ioa_syntax.specs.View.{variable_of}
 use Rattle.ioa_compose.specs.Held.{member_of}
 use Rattle.ioa_compile.specs.Shown.{member_code}
 use Rattle.ioa_compile.specs.Translated.{AreTypesOf, IsTranslated}
-use Rattle.ioa_compile.proofs.Twins.{does_same}
+use Rattle.ioa_compile.proofs.Meant.{does_same}
 use Rattle.ioa_compile.proofs.Fits.{fit_have}
 use Rattle.ioa_compile.proofs.compiler.compile_member.Goals as goal
 

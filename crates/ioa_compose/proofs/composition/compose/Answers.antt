@@ -1,12 +1,17 @@
-use Rattle.std.proofs.Common.{◌≡◌, true, Some, subst, sym}
-use Rattle.std.specs.Option.{option_copied}
+use Rattle.std.proofs.Common.{◌≡◌, true, sym, subst}
+use Rattle.std.specs.Prelude.{option_copied}
 use Rattle.ioa_syntax.specs.View.{tree_of, assembly_of}
 use Rattle.ioa_syntax.specs.WellFormed.{well_formed}
-use Rattle.ioa_compose.proofs.Found.{picked_fine, wider_fine}
+use Rattle.ioa_compose.proofs.SourceLemmas.{picked_ready}
+use Rattle.ioa_compose.proofs.ComposeLemmas.{exact-from}
 use Rattle.ioa_compose.proofs.composition.compose.Goals as goal
 
-pub composed-requires-clause-fine : goal.composed-requires-clause-fine
-composed-requires-clause-fine c =
-    let s = tree_of c.declarations-declarations.result.now in
-    let t = assembly_of c.in-Some.assembly.now in
-    wider_fine s t (picked_fine s (option_copied c.args.name) t (subst (λ ds. well_formed (tree_of ds) ≡ true) (sym c.declarations-declarations.ensures.value) c.declarations-declarations.ensures.well_formed) c.in-Some.ensures.found)
+pub composed-requires-clause-ready : goal.composed-requires-clause-ready
+composed-requires-clause-ready c =
+    picked_ready (tree_of c.declarations-declarations.result.now) (option_copied c.args.name) (assembly_of c.in-Some.assembly.now)
+    (subst (λ ds. well_formed (tree_of ds) ≡ true) (sym c.declarations-declarations.ensures.value) c.declarations-declarations.ensures.well_formed) (sym c.in-Some.ensures)
+
+pub returns-in-Some-clause-exact : goal.returns-in-Some-clause-exact
+returns-in-Some-clause-exact c =
+    exact-from c.composed.result c.declarations-declarations.result.now c.args.checked.now (option_copied c.args.name) (assembly_of c.in-Some.assembly.now)
+    c.declarations-declarations.ensures.value c.in-Some.ensures c.composed.ensures.refused

@@ -1,4 +1,4 @@
-use Rattle.std.proofs.Common.{◌≡◌, [], ◌∷◌, ap, sym, ◌∙◌, rules, arith, map, refl, subst}
+use Rattle.std.proofs.Common.{◌≡◌, [], ◌∷◌, ap, sym, ◌∙◌, arith, map, subst}
 use Rattle.ioa_value.specs.Plain.{plain}
 use Rattle.ioa_value.specs.Operators.{answer_of, Takes}
 use Rattle.ioa_value.specs.Typing.{basic_types}
@@ -6,7 +6,7 @@ use Rattle.ioa_syntax.specs.Tree.{named, binary}
 use Rattle.ioa_syntax.specs.View.{expr_of, name_of, field_of}
 use Rattle.ioa_syntax.specs.Meaning.{values_of, val}
 use Rattle.ioa_syntax.specs.Instances.{basic_table, field_names}
-use Rattle.ioa_syntax.specs.WellFormed.{context_of, type_of, nodes}
+use Rattle.ioa_syntax.specs.WellFormed.{context_of, nodes}
 use Rattle.ioa_compose.proofs.FitLemmas.{suits_of_fit}
 use Rattle.ioa_compose.proofs.EvaluateLemmas.{left_typed, right_typed, operands_taken, name_stands, HasSome}
 use Rattle.ioa_compose.proofs.evaluate.+evaluate.Goals as goal

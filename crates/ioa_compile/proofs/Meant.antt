@@ -1,0 +1,66 @@
+-- The program means the composition.
+use Rattle.std.proofs.Common.{◌≡◌, ℕ, suc, ◌+◌, List, [], ◌∷◌, map, Some, refl, sym, ap, ◌∙◌, subst, arith}
+use Rattle.std.specs.Prelude.{slice_get}
+use Rattle.std.specs.List.{AllZip, find}
+use Rattle.std.specs.Option.{option_map}
+use Rattle.ioa_value.specs.Typing.{HaveTypes, basic_types}
+use Rattle.ioa_node.specs.Nodes.{Node}
+use Rattle.ioa_syntax.specs.Instances.{entry_has, component_of, state_of}
+use Rattle.ioa_syntax.specs.Compositions.{Member}
+use Rattle.ioa_syntax.specs.Likes.{IsLike, AllLike, AllRelated}
+use Rattle.ioa_syntax.specs.WellFormed.{variable_fields}
+use Rattle.ioa_compose.specs.Fine.{IsFine}
+use Rattle.ioa_compile.specs.Programs.{MemberCode}
+use Rattle.ioa_compile.specs.Tables.{table_component}
+use Rattle.ioa_compile.specs.Means.{Corresponds, CorrespondsIn, CorrespondsAt}
+use Rattle.ioa_compile.specs.Translated.{AreTypesOf, IsTranslated, DoesSame}
+use Rattle.ioa_compile.proofs.Fits.{fit_have}
+use Rattle.ioa_compile.proofs.Twins.{finds_same, kinds_same, are_entries}
+use Rattle.ioa_compile.proofs.Alike.{guards, effects}
+
+pub does_same : (m : Member) (slots : List ℕ) (c : MemberCode) → IsFine m → AreTypesOf (variable_fields m.instance.automaton) slots → c.start ≡ record { types = slots; values = m.starts } → AllZip (IsTranslated m slots) m.instance.automaton.entries c.entries → DoesSame m c
+does_same m slots c h types start entries =
+    let es = m.instance.automaton.entries in
+    let types-are : slots ≡ c.start.types = sym (ap (λ (n : Node). n.types) start) in
+    let values-are : m.starts ≡ c.start.values = sym (ap (λ (n : Node). n.values) start) in
+    record {
+      like = record {
+        kinds = λ a. ap (λ t. option_map (λ e. e.kind) (find (entry_has t a) es)) h.types ∙ kinds_same m slots a es _ _ (finds_same m slots a es c.entries entries);
+        guards = λ a env vs local r. guards m slots c h types entries a env vs local r;
+        effects = λ a env vs has r. effects m slots c h types entries a env vs r;
+      };
+      start = subst (Corresponds m.instance.automaton (state_of m.instance.automaton m.starts)) values-are (record { values = λ x. refl; typed = h.starts });
+      entries = are_entries m c es c.entries (subst (λ l. AllZip (IsTranslated m l) es c.entries) types-are entries);
+      typed = subst (λ (n : Node). HaveTypes basic_types n.values n.types) (sym start) (fit_have (variable_fields m.instance.automaton) m.starts slots h.starts types);
+    }
+
+-- the members from place i on
+abbrev From : List Member → ℕ → List Member → Type 0
+From all i ms = (k : ℕ) (m : Member) → slice_get ms k ≡ Some m → slice_get all (i + k) ≡ Some m
+
+from_next : (all : List Member) (i : ℕ) (m : Member) (ms : List Member) → From all i (m ∷ ms) → From all (i + 1) ms
+from_next all i m ms h k n e = let same : i + suc k ≡ i + 1 + k = omega arith in ap (slice_get all) (sym same) ∙ h (suc k) n e
+
+from_here : (all : List Member) (i : ℕ) (m : Member) (ms : List Member) → From all i (m ∷ ms) → slice_get all i ≡ Some m
+from_here all i m ms h = let same : i ≡ i + 0 = omega arith in ap (slice_get all) same ∙ h 0 m refl
+
+pub all_like : (all : List Member) (i : ℕ) (ms : List Member) (cs : List MemberCode) → From all i ms → AllZip DoesSame ms cs → AllLike (CorrespondsAt all) i (map (λ m. component_of m.instance) ms) (map table_component cs)
+all_like all i [] [] f h = tt
+all_like all i [] (c ∷ cs) f h = absurd h
+all_like all i (m ∷ ms) [] f h = absurd h
+all_like all i (m ∷ ms) (c ∷ cs) f h = (
+  subst (λ o. IsLike (CorrespondsIn o) (component_of m.instance) (table_component c)) (sym (from_here all i m ms f)) h.0.like,
+  all_like all (i + 1) ms cs (from_next all i m ms f) h.1,
+)
+
+pub all_related : (all : List Member) (i : ℕ) (ms : List Member) (cs : List MemberCode) → From all i ms → AllZip DoesSame ms cs → AllRelated (CorrespondsAt all) i (map (λ m. state_of m.instance.automaton m.starts) ms) (map (λ c. c.start.values) cs)
+all_related all i [] [] f h = tt
+all_related all i [] (c ∷ cs) f h = absurd h
+all_related all i (m ∷ ms) [] f h = absurd h
+all_related all i (m ∷ ms) (c ∷ cs) f h = (
+  subst (λ o. CorrespondsIn o (state_of m.instance.automaton m.starts) c.start.values) (sym (from_here all i m ms f)) h.0.start,
+  all_related all (i + 1) ms cs (from_next all i m ms f) h.1,
+)
+
+pub from_all : (ms : List Member) → From ms 0 ms
+from_all ms k m e = let same : 0 + k ≡ k = omega arith in ap (slice_get ms) same ∙ e

@@ -1,0 +1,242 @@
+-- Automata that are clear of one another make compatible components.
+use Rattle.std.proofs.Common.{◌≡◌, ◌≢◌, ℕ, ◌<◌, ◌≤◌, ◌+◌, ◌==◌, length, get_or, ◌&&◌, Bool, true, false, not, cond, List, [], ◌∷◌, map, find, Option, Some, None, refl, sym, ap, subst, ◌∙◌, arith, slice_get, ◌⊎◌, inl, inr, zero, suc}
+use Rattle.std.specs.List.{list_all}
+use Rattle.std.specs.Str.{bytes_eq}
+use Rattle.std.specs.Option.{option_map, option_map_or}
+use Rattle.std.proofs.lemmas.Bool.{and_parts, and_from, or_left, or_right, not-true, both_ways, eqb-true, eq-eqb, cases_order, cases_lt}
+use Rattle.std.proofs.lemmas.Simd.{map-map}
+use Rattle.std.proofs.lemmas.Slice.Eq.{bytes_eq-Decides}
+use Rattle.ioa_value.specs.Actions.{Name, Act}
+use Rattle.ioa_value.specs.Arithmetic.{fits}
+use Rattle.ioa_value.specs.Plain.{Val, truth, num, name, tuple, items}
+use Rattle.ioa_value.specs.Tests.{is_of}
+use Rattle.ioa_syntax.specs.declared.tree.Kind.{Kind}
+use Rattle.ioa_syntax.specs.declared.tree.Kind.TheVariants.{Input, Output, Internal}
+use Rattle.ioa_syntax.specs.Tree.{PositionTree, typed, EntryTree, AutomatonTree}
+use Rattle.ioa_syntax.specs.View.{automaton_of}
+use Rattle.ioa_syntax.specs.Meaning.{Env}
+use Rattle.ioa_syntax.specs.Instances.{basic_table, type_named, is_named, positions_have, position_has, entry_has, entry_for, component_of, first_named}
+use Rattle.ioa_syntax.specs.Components.{Component, Compatible}
+use Rattle.ioa_syntax.specs.WellFormed.{same_type, is_type, position_fields, entry_fine, contains, distinct, automaton_fine}
+use Rattle.ioa_compose.specs.declared.binding.Binding.{Binding}
+use Rattle.ioa_compose.specs.Bindings.{instance_with, instance_in}
+use Rattle.ioa_compose.specs.Clashes.{alike, all_alike, kinds_clash, clash, clear, PairsClear, ClashAt}
+use Rattle.ioa_compose.specs.Refusals.{Clashing}
+use Rattle.ioa_compose.proofs.ListLemmas.{find-both, all-at, get-map, some-there}
+use Rattle.ioa_compose.proofs.BindingLemmas.{get-at}
+use Rattle.ioa_compose.proofs.FineLemmas.{fine-parts, first-typed}
+
+same-bytes : (xs ys zs : List ℕ) → bytes_eq xs zs ≡ true → bytes_eq ys zs ≡ true → bytes_eq xs ys ≡ true
+same-bytes xs ys zs h g = (bytes_eq-Decides xs ys).1 ((bytes_eq-Decides xs zs).0 h ∙ sym ((bytes_eq-Decides ys zs).0 g))
+
+-- a value is of one type
+one-type : (v : Val) (m n : ℕ) → is_of basic_table.shapes v m ≡ true → is_of basic_table.shapes v n ≡ true → n ≡ m
+one-type (truth b) m n h g = eqb-true n 0 g ∙ sym (eqb-true m 0 h)
+one-type (num z) m n h g = eqb-true n 1 (and_parts (n == 1) (fits z) g).0 ∙ sym (eqb-true m 1 (and_parts (m == 1) (fits z) h).0)
+one-type (name t i) m n h g = absurd (cc)
+one-type (tuple t vs) m n h g = absurd (cc)
+one-type (items t vs) m n h g = absurd (cc)
+
+named-alike : (o p : Option ℕ) (v : Val) → option_map_or (λ n. is_of basic_table.shapes v n) o false ≡ true → option_map_or (λ n. is_of basic_table.shapes v n) p false ≡ true → same_type o p ≡ true
+named-alike (Some m) (Some n) v h g = eq-eqb n m (one-type v m n h g)
+named-alike (Some m) None v h g = absurd (cc)
+named-alike None p v h g = absurd (cc)
+
+position-alike : (p q : PositionTree) (v : Val) → position_has basic_table p v ≡ true → position_has basic_table q v ≡ true → alike p q ≡ true
+position-alike (typed f) (typed g) v h k = named-alike (type_named basic_table f.ty) (type_named basic_table g.ty) v h k
+
+positions-alike : (ps qs : List PositionTree) (vs : List Val) → positions_have basic_table ps vs ≡ true → positions_have basic_table qs vs ≡ true → all_alike ps qs ≡ true
+positions-alike [] [] [] h g = refl
+positions-alike [] [] (v ∷ vs) h g = absurd (cc)
+positions-alike [] (q ∷ qs) [] h g = absurd (cc)
+positions-alike [] (q ∷ qs) (v ∷ vs) h g = absurd (cc)
+positions-alike (p ∷ ps) [] [] h g = absurd (cc)
+positions-alike (p ∷ ps) [] (v ∷ vs) h g = absurd (cc)
+positions-alike (p ∷ ps) (q ∷ qs) [] h g = absurd (cc)
+positions-alike (p ∷ ps) (q ∷ qs) (v ∷ vs) h g =
+    let hs = and_parts (position_has basic_table p v) (positions_have basic_table ps vs) h in
+    let gs = and_parts (position_has basic_table q v) (positions_have basic_table qs vs) g in
+    and_from _ _ (position-alike p q v hs.0 gs.0) (positions-alike ps qs vs hs.1 gs.1)
+
+third : (a b c : Bool) → a ≡ true → b ≡ true → (a && b && c) ≡ false → c ≡ false
+third true true c h g k = k
+third true false c h g k = absurd (cc)
+third false b c h g k = absurd (cc)
+
+-- entries of automata that are clear of one another, with an action in common
+common-clear : (a b : AutomatonTree) (vs ws : List Val) (act : Act) (e f : EntryTree) → clear a b ≡ true → entry_for (instance_with a vs) act ≡ Some e → entry_for (instance_with b ws) act ≡ Some f → kinds_clash e.kind f.kind ≡ false
+common-clear a b vs ws act e f h p q =
+    let first = find-both (entry_has basic_table act) (λ x. list_all (λ y. not (clash x y)) b.entries) a.entries e p h in
+    let second = find-both (entry_has basic_table act) (λ y. not (clash e y)) b.entries f q first.1 in
+    let mine = and_parts (bytes_eq e.name act.name) (positions_have basic_table e.positions act.vals) first.0 in
+    let theirs = and_parts (bytes_eq f.name act.name) (positions_have basic_table f.positions act.vals) second.0 in
+    third (bytes_eq e.name f.name) (all_alike e.positions f.positions) (kinds_clash e.kind f.kind) (same-bytes e.name f.name act.name mine.0 theirs.0) (positions-alike e.positions f.positions act.vals mine.1 theirs.1)
+    (not-true (clash e f) second.1)
+
+internal-right : (k : Kind) → kinds_clash k Internal ≡ true
+internal-right Input = refl
+internal-right Output = refl
+internal-right Internal = refl
+
+-- no action of one is internal to the other, and none is an output of both
+abbrev Apart : Option Kind → Option Kind → Type 0
+Apart k l = (k ≡ Some Internal → l ≡ None) × (l ≡ Some Internal → k ≡ None) × (k ≡ Some Output → l ≡ Some Output → ⊥)
+
+kinds-apart : (k l : Kind) → kinds_clash k l ≡ false → Apart (Some k) (Some l)
+kinds-apart k l h = (
+  (λ e. let q : k ≡ Internal = cc in absurd (both_ways (kinds_clash k l) h (ap (λ x. kinds_clash x l) q))),
+  (λ e. let q : l ≡ Internal = cc in absurd (both_ways (kinds_clash k l) h (ap (kinds_clash k) q ∙ internal-right k))),
+  (λ e g. let q : k ≡ Output = cc in let r : l ≡ Output = cc in both_ways (kinds_clash k l) h (ap (λ x. kinds_clash x l) q ∙ ap (kinds_clash Output) r)),
+)
+
+options-apart : (o p : Option EntryTree) → ((e f : EntryTree) → o ≡ Some e → p ≡ Some f → kinds_clash e.kind f.kind ≡ false) → Apart (option_map (λ e. e.kind) o) (option_map (λ e. e.kind) p)
+options-apart (Some e) (Some f) h = kinds-apart e.kind f.kind (h e f refl refl)
+options-apart (Some e) None h = ((λ k. refl), (λ k. absurd (cc)), (λ k l. absurd (cc)))
+options-apart None (Some f) h = ((λ k. absurd (cc)), (λ k. refl), (λ k l. absurd (cc)))
+options-apart None None h = ((λ k. refl), (λ k. refl), (λ k l. absurd (cc)))
+
+pair-apart : (a b : AutomatonTree) (vs ws : List Val) (act : Act) → clear a b ≡ true → Apart ((component_of (instance_with a vs)).kind_of act) ((component_of (instance_with b ws)).kind_of act)
+pair-apart a b vs ws act h = options-apart (entry_for (instance_with a vs) act) (entry_for (instance_with b ws) act) (λ e f p q. common-clear a b vs ws act e f h p q)
+
+abbrev Holds : Act → Component Env → Component Env → Type 0
+Holds act p q = (p.kind_of act ≡ Some Internal → q.kind_of act ≡ None) × (p.kind_of act ≡ Some Output → q.kind_of act ≡ Some Output → ⊥)
+
+pub compatible-from : (bs : List Binding) → PairsClear bs → Compatible (map component_of (map instance_in bs))
+compatible-from bs h = λ i j p q act apart e f.
+    let made = λ (b : Binding). component_of (instance_in b) in
+    let first = get-map made bs i p (sym (ap (λ cs. slice_get cs i) (map-map component_of instance_in bs)) ∙ e) in
+    let second = get-map made bs j q (sym (ap (λ cs. slice_get cs j) (map-map component_of instance_in bs)) ∙ f) in
+    let goes : Holds act (made first.0) (made second.0) = decide i j first.0 second.0 act apart first.1 second.1 (cases_order i j) in
+    subst (λ c. Holds act p c) second.2 (subst (λ c. Holds act c (made second.0)) first.2 goes)
+  where
+    decide : (i j : ℕ) (b c : Binding) (act : Act) → i ≢ j → slice_get bs i ≡ Some b → slice_get bs j ≡ Some c → (i ≡ j) ⊎ ((i < j) ⊎ (j < i)) → Holds act (component_of (instance_in b)) (component_of (instance_in c))
+    decide i j b c act apart e f (inl same) = absurd (apart same)
+    decide i j b c act apart e f (inr (inl less)) =
+        let r = pair-apart (instance_in b).automaton (instance_in c).automaton (instance_in b).arguments (instance_in c).arguments act (h i j b c less e f) in (r.0, r.2)
+    decide i j b c act apart e f (inr (inr more)) =
+        let r = pair-apart (instance_in c).automaton (instance_in b).automaton (instance_in c).arguments (instance_in b).arguments act (h j i c b more f e) in (r.1, (λ k l. r.2 l k))
+
+-- an action of the first values of an entry's positions
+abbrev first-in : PositionTree → Val
+first-in (typed f) = first_named basic_table f.ty
+
+abbrev firsts : List PositionTree → List Val
+firsts ps = map first-in ps
+
+abbrev example : EntryTree → Act
+example e = record { name = e.name; vals = firsts e.positions }
+
+named-first : (x : Name) → option_map_or (λ n. true) (type_named basic_table x) false ≡ true → is_named basic_table x (first_named basic_table x) ≡ true
+named-first x h =
+    let t = some-there (type_named basic_table x) h in
+    ap (λ o. option_map_or (λ n. is_of basic_table.shapes (first_named basic_table x) n) o false) t.1 ∙ first-typed x t.0 t.1
+
+has-firsts : (ps : List PositionTree) → list_all (is_type basic_table) (position_fields ps) ≡ true → positions_have basic_table ps (firsts ps) ≡ true
+has-firsts [] h = refl
+has-firsts (typed f ∷ ps) h =
+    let hs = and_parts (is_type basic_table f) (list_all (is_type basic_table) (position_fields ps)) h in
+    and_from _ _ (named-first f.ty hs.0) (has-firsts ps hs.1)
+
+types-alike : (o p : Option ℕ) (v : Val) → same_type o p ≡ true → option_map_or (λ n. is_of basic_table.shapes v n) o false ≡ true → option_map_or (λ n. is_of basic_table.shapes v n) p false ≡ true
+types-alike (Some m) (Some n) v h g = subst (λ k. is_of basic_table.shapes v k ≡ true) (sym (eqb-true n m h)) g
+types-alike (Some m) None v h g = absurd (cc)
+types-alike None p v h g = absurd (cc)
+
+position-too : (p q : PositionTree) (v : Val) → alike p q ≡ true → position_has basic_table p v ≡ true → position_has basic_table q v ≡ true
+position-too (typed f) (typed g) v h k = types-alike (type_named basic_table f.ty) (type_named basic_table g.ty) v h k
+
+positions-too : (ps qs : List PositionTree) (vs : List Val) → all_alike ps qs ≡ true → positions_have basic_table ps vs ≡ true → positions_have basic_table qs vs ≡ true
+positions-too [] [] vs h g = g
+positions-too [] (q ∷ qs) vs h g = absurd (cc)
+positions-too (p ∷ ps) [] vs h g = absurd (cc)
+positions-too (p ∷ ps) (q ∷ qs) [] h g = absurd (cc)
+positions-too (p ∷ ps) (q ∷ qs) (v ∷ vs) h g =
+    let hs = and_parts (alike p q) (all_alike ps qs) h in
+    let gs = and_parts (position_has basic_table p v) (positions_have basic_table ps vs) g in
+    and_from _ _ (position-too p q v hs.0 gs.0) (positions-too ps qs vs hs.1 gs.1)
+
+there : (es : List EntryTree) (k : ℕ) (e : EntryTree) (x : Name) → slice_get es k ≡ Some e → bytes_eq e.name x ≡ true → contains (map (λ d. d.name) es) x ≡ true
+there [] k e x h g = absurd (cc)
+there (d ∷ ds) zero e x h g = let q : d ≡ e = cc in or_left _ _ (ap (λ y. bytes_eq y.name x) q ∙ g)
+there (d ∷ ds) (suc k) e x h g = or_right _ _ (there ds k e x h g)
+
+-- among entries of different names a search by an action finds the one that has it
+find-named : (act : Act) (es : List EntryTree) (k : ℕ) (e : EntryTree) → distinct (map (λ d. d.name) es) ≡ true → slice_get es k ≡ Some e → entry_has basic_table act e ≡ true → find (entry_has basic_table act) es ≡ Some e
+find-named act [] k e d h g = absurd (cc)
+find-named act (x ∷ xs) zero e d h g =
+    let q : x ≡ e = cc in
+    ap (λ b. cond b (Some x) (find (entry_has basic_table act) xs)) (ap (entry_has basic_table act) q ∙ g) ∙ ap (λ y. Some y) q
+find-named act (x ∷ xs) (suc k) e d h g =
+    let ds = and_parts (not (contains (map (λ d. d.name) xs) x.name)) (distinct (map (λ d. d.name) xs)) d in
+    let mine = and_parts (bytes_eq e.name act.name) (positions_have basic_table e.positions act.vals) g in
+    split (entry_has basic_table act x) refl ds.0 mine.0 (find-named act xs k e ds.1 h g)
+  where
+    split : (b : Bool) → entry_has basic_table act x ≡ b → not (contains (map (λ d. d.name) xs) x.name) ≡ true → bytes_eq e.name act.name ≡ true → find (entry_has basic_table act) xs ≡ Some e → cond b (Some x) (find (entry_has basic_table act) xs) ≡ Some e
+    split false q n m later = later
+    split true q n m later =
+        let theirs = and_parts (bytes_eq x.name act.name) (positions_have basic_table x.positions act.vals) q in
+        absurd (both_ways (contains (map (λ d. d.name) xs) x.name) (not-true _ n) (there xs k e x.name h (same-bytes e.name x.name act.name m theirs.0)))
+
+kinds-clashing : (k l : Kind) (o p : Option Kind) → o ≡ Some k → p ≡ Some l → kinds_clash k l ≡ true → ((o ≡ Some Internal) × (p ≡ None → ⊥)) ⊎ (((p ≡ Some Internal) × (o ≡ None → ⊥)) ⊎ ((o ≡ Some Output) × (p ≡ Some Output)))
+kinds-clashing Internal l o p e f h = inl (e, λ n. absurd (cc))
+kinds-clashing Input Internal o p e f h = inr (inl (f, λ n. absurd (cc)))
+kinds-clashing Output Internal o p e f h = inr (inl (f, λ n. absurd (cc)))
+kinds-clashing Output Output o p e f h = inr (inr (e, f))
+kinds-clashing Input Input o p e f h = absurd (cc)
+kinds-clashing Input Output o p e f h = absurd (cc)
+kinds-clashing Output Input o p e f h = absurd (cc)
+
+-- entries that clash have an action in common, on which the instances clash
+pub clashing-from : (a b : AutomatonTree) (vs ws : List Val) (ga gb : List Name) (name : Name) → automaton_fine basic_table ga a ≡ true → automaton_fine basic_table gb b ≡ true → ClashAt a b name → Clashing name (instance_with a vs) (instance_with b ws)
+clashing-from a b vs ws ga gb x fa fb h =
+    let e = h.0 in
+    let f = h.1 in
+    let pa = fine-parts ga a fa in
+    let pb = fine-parts gb b fb in
+    let parts = and_parts (bytes_eq e.name f.name && all_alike e.positions f.positions) (kinds_clash e.kind f.kind) h.6 in
+    let front = and_parts (bytes_eq e.name f.name) (all_alike e.positions f.positions) parts.0 in
+    let fine = all-at (entry_fine basic_table ga a) a.entries h.2 e pa.entries h.4 in
+    let known = and_parts _ (list_all (is_type basic_table) (position_fields e.positions)) (and_parts _ _ fine).0 in
+    let itself : bytes_eq e.name e.name ≡ true = (bytes_eq-Decides e.name e.name).1 refl in
+    let has_mine = has-firsts e.positions known.1 in
+    let mine : entry_has basic_table (example e) e ≡ true = and_from _ _ itself has_mine in
+    let theirs : entry_has basic_table (example e) f ≡ true = and_from _ _ (same-bytes f.name e.name e.name ((bytes_eq-Decides f.name e.name).1 (sym ((bytes_eq-Decides e.name f.name).0 front.0))) itself) (positions-too e.positions f.positions (firsts e.positions) front.1 has_mine) in
+    let found_mine = find-named (example e) a.entries h.2 e pa.named h.4 mine in
+    let found_theirs = find-named (example e) b.entries h.3 f pb.named h.5 theirs in
+    (example e, sym h.7, kinds-clashing e.kind f.kind _ _ (ap (option_map (λ d. d.kind)) found_mine) (ap (option_map (λ d. d.kind)) found_theirs) parts.1)
+
+-- one more of the later ones is clear of the i-th
+abbrev pub ClearBelow : List Binding → ℕ → ℕ → Type 0
+ClearBelow bs i k = (j : ℕ) (b c : Binding) → j < k → i < j → slice_get bs i ≡ Some b → slice_get bs j ≡ Some c → clear (automaton_of b.automaton.now) (automaton_of c.automaton.now) ≡ true
+
+same-item : {X : Type 0} {x y : X} {o : Option X} → o ≡ Some x → o ≡ Some y → x ≡ y
+same-item {x = x} {y = y} e f = let q : Some x ≡ Some y = sym e ∙ f in cc
+
+abbrev ClearTwo : Binding → Binding → Type 0
+ClearTwo b c = clear (automaton_of b.automaton.now) (automaton_of c.automaton.now) ≡ true
+
+pub clear-more : (bs : List Binding) (i k : ℕ) (b c : Binding) → i < length bs → b ≡ get_or bs i b → k < length bs → c ≡ get_or bs k c → ClearTwo b c → ClearBelow bs i k → ClearBelow bs i (k + 1)
+clear-more bs i k b c li eb lk ec h below = λ j x y l m e f. split j x y l m e f (cases_lt j k)
+  where
+    split : (j : ℕ) (x y : Binding) → j < k + 1 → i < j → slice_get bs i ≡ Some x → slice_get bs j ≡ Some y → (j < k) ⊎ (k ≤ j) → ClearTwo x y
+    split j x y l m e f (inl less) = below j x y less m e f
+    split j x y l m e f (inr more) =
+        let at : j ≡ k = omega arith in
+        let first : b ≡ x = same-item (get-at bs i b li eb) e in
+        let second : c ≡ y = same-item (get-at bs k c lk ec) (ap (slice_get bs) (sym at) ∙ f) in
+        subst (λ z. ClearTwo x z) second (subst (λ z. ClearTwo z c) first h)
+
+got-within : {X : Type 0} (xs : List X) (i : ℕ) (x : X) → slice_get xs i ≡ Some x → i < length xs
+got-within [] i x e = absurd (cc)
+got-within (y ∷ ys) zero x e = omega arith
+got-within (y ∷ ys) (suc i) x e = let l = got-within ys i x e in omega arith
+
+pub clear-all : (bs : List Binding) (i k : ℕ) → length bs ≤ k → ClearBelow bs i k → (j : ℕ) (b c : Binding) → i < j → slice_get bs i ≡ Some b → slice_get bs j ≡ Some c → ClearTwo b c
+clear-all bs i k l below j b c m e f = let w = got-within bs j c f in below j b c (omega arith) m e f
+
+pub clear-moved : (b c b' c' : Binding) → b' ≡ b → c' ≡ c → ClearTwo b' c' → ClearTwo b c
+clear-moved b c b' c' p q h = subst (λ z. ClearTwo b z) q (subst (λ z. ClearTwo z c') p h)
+
+pub clash-moved : (b c b' c' : Binding) (x : Name) → b' ≡ b → c' ≡ c → ClashAt (automaton_of b'.automaton.now) (automaton_of c'.automaton.now) x → ClashAt (automaton_of b.automaton.now) (automaton_of c.automaton.now) x
+clash-moved b c b' c' x p q h =
+    subst (λ z. ClashAt (automaton_of b.automaton.now) (automaton_of z.automaton.now) x) q (subst (λ z. ClashAt (automaton_of z.automaton.now) (automaton_of c'.automaton.now) x) p h)

@@ -1,0 +1,245 @@
+-- A composition from its parts, and why there is none.
+use Rattle.std.proofs.Common.{◌≡◌, ◌≢◌, ℕ, ◌<◌, zero, suc, List, [], ◌∷◌, map, Option, Some, Result, Ok, Err, IfErr, refl, sym, ap, subst, ◌∙◌, arith, slice_get, inl, inr}
+use Rattle.std.specs.String.{string_bytes}
+use Rattle.std.proofs.lemmas.Simd.{map-map}
+use Rattle.ioa_value.specs.declared.arithmetic.Fault.{Fault}
+use Rattle.ioa_value.specs.Actions.{Name}
+use Rattle.ioa_value.specs.Plain.{Val}
+use Rattle.ioa_lex.specs.declared.refusal.Refusal.{Refusal}
+use Rattle.ioa_lex.specs.declared.refusal.Refusal.TheVariants.{TextTooLong, BadByte, Syntax, TooDeep, DuplicateName, UnknownName, TypeMismatch, BadSignature, NoProposal, TooMany, TooWide, ArgMismatch, CrashName, Clash, HiddenUnknown, StartFault, NoComposition, OutOfMemory}
+use Rattle.ioa_syntax.specs.declared.tree.Instance.{Instance as TreeInstance}
+use Rattle.ioa_syntax.specs.declared.tree.Declaration.{Declaration}
+use Rattle.ioa_syntax.specs.declared.tree.Assembly.{Assembly}
+use Rattle.ioa_syntax.specs.WellFormed.{WellFormed}
+use Rattle.ioa_compose.specs.Fine.{IsSound}
+use Rattle.ioa_compose.proofs.FineLemmas.{members-fine}
+use Rattle.ioa_syntax.specs.Tree.{InstanceTree, CompositionTree, SourceTree}
+use Rattle.ioa_syntax.specs.View.{name_of, instance_of, assembly_of, tree_of}
+use Rattle.ioa_syntax.specs.Components.{Compatible}
+use Rattle.ioa_syntax.specs.Instances.{basic_table, Instance, start_values, component_of}
+use Rattle.ioa_syntax.specs.Compositions.{Member, Composed, Fit, IsMember, AreMembers, IsComposed, components_of, picked}
+use Rattle.ioa_compose.specs.declared.binding.Binding.{Binding}
+use Rattle.ioa_compose.specs.declared.member.Member as held
+use Rattle.ioa_compose.specs.Held.{member_of}
+use Rattle.ioa_compose.specs.Bindings.{instance_in, IsBound, AreBound, AllStarted}
+use Rattle.ioa_compose.specs.Clashes.{PairsClear}
+use Rattle.ioa_compose.specs.Refusals.{Clashing, IsRefused, FaultsIn, ClashesIn}
+use Rattle.ioa_compose.proofs.ListLemmas.{image-at}
+use Rattle.ioa_compose.proofs.ClashLemmas.{compatible-from}
+
+members-from : (s : SourceTree) (is : List InstanceTree) (ms : List Member) → map (λ m. m.name) ms ≡ map (λ i. i.name) is → AreBound s is (map (λ m. m.instance) ms) → AllStarted ms → AreMembers s is ms
+members-from s [] [] n b t = tt
+members-from s [] (m ∷ ms) n b t = absurd b
+members-from s (i ∷ is) [] n b t = absurd b
+members-from s (i ∷ is) (m ∷ ms) n b t =
+    let here : m.name ≡ i.name = cc in
+    let rest : map (λ m. m.name) ms ≡ map (λ i. i.name) is = cc in
+    (record { name = here; types = b.0.types; automaton = b.0.automaton; arguments = b.0.arguments; fit = b.0.fit; starts = t.0 }, members-from s is ms rest b.1 t.1)
+
+-- the members that were started are those of the instances that were bound
+pub members-are : (s : SourceTree) (is : List TreeInstance) (bs : List Binding) (ms : List held.Member) → AreBound s (map instance_of is) (map instance_in bs) → map (λ b. name_of b.name.now) bs ≡ map (λ i. name_of i.name) is
+    → map (λ m. (member_of m).instance) ms ≡ map instance_in bs → map (λ m. (member_of m).name) ms ≡ map (λ b. name_of b.name.now) bs → AllStarted (map member_of ms) → AreMembers s (map instance_of is) (map member_of ms)
+members-are s is bs ms b n i m t =
+    members-from s (map instance_of is) (map member_of ms)
+    (map-map (λ x. x.name) member_of ms ∙ m ∙ n ∙ sym (map-map (λ x. x.name) instance_of is))
+    (subst (λ ns. AreBound s (map instance_of is) ns) (sym (map-map (λ x. x.instance) member_of ms ∙ i)) b) t
+
+pub members-compatible : (bs : List Binding) (ms : List held.Member) → map (λ m. (member_of m).instance) ms ≡ map instance_in bs → PairsClear bs → Compatible (map (λ m. component_of m.instance) (map member_of ms))
+members-compatible bs ms i h =
+    let e : map (λ m. component_of m.instance) (map member_of ms) ≡ map component_of (map instance_in bs) =
+    map-map (λ m. component_of m.instance) member_of ms ∙ sym (map-map component_of (λ m. (member_of m).instance) ms) ∙ ap (map component_of) i in
+    subst Compatible (sym e) (compatible-from bs h)
+
+-- the place of an instance, in both lists
+bound-place : (s : SourceTree) (is : List InstanceTree) (ns : List Instance) (k : ℕ) (n : Instance) → AreBound s is ns → slice_get ns k ≡ Some n → (i : InstanceTree) × (slice_get is k ≡ Some i) × IsBound s i n
+bound-place s [] [] k n b e = absurd (cc)
+bound-place s [] (m ∷ ms) k n b e = absurd b
+bound-place s (i ∷ is) [] k n b e = absurd b
+bound-place s (i ∷ is) (m ∷ ms) zero n b e = let q : m ≡ n = cc in (i, refl, subst (IsBound s i) q b.0)
+bound-place s (i ∷ is) (m ∷ ms) (suc k) n b e = bound-place s is ms k n b.1 e
+
+-- a start that faults, and a clash, refuse the composition
+pub start-refused : (s : SourceTree) (is : List InstanceTree) (ns : List Instance) (r : Refusal) → AreBound s is ns → FaultsIn ns r → IsRefused s is r
+start-refused s is ns (StartFault k f) b h =
+    let p = bound-place s is ns k h.0 b h.1 in
+    (p.0, p.1, inr (record { instance = h.0; bound = p.2; faulting = h.2 }))
+start-refused s is ns OutOfMemory b h = tt
+start-refused s is ns (ArgMismatch i) b h = absurd h
+start-refused s is ns TextTooLong b h = absurd h
+start-refused s is ns (BadByte l) b h = absurd h
+start-refused s is ns (Syntax l) b h = absurd h
+start-refused s is ns (TooDeep l) b h = absurd h
+start-refused s is ns (DuplicateName l) b h = absurd h
+start-refused s is ns (UnknownName l) b h = absurd h
+start-refused s is ns (TypeMismatch l) b h = absurd h
+start-refused s is ns (BadSignature l) b h = absurd h
+start-refused s is ns (NoProposal l) b h = absurd h
+start-refused s is ns (TooMany l) b h = absurd h
+start-refused s is ns (TooWide l) b h = absurd h
+start-refused s is ns (CrashName i) b h = absurd h
+start-refused s is ns (Clash i j m) b h = absurd h
+start-refused s is ns (HiddenUnknown m) b h = absurd h
+start-refused s is ns NoComposition b h = absurd h
+
+pub clash-refused : (s : SourceTree) (is : List InstanceTree) (ns : List Instance) (r : Refusal) → AreBound s is ns → ClashesIn ns r → IsRefused s is r
+clash-refused s is ns (Clash i j name) b h =
+    let p = bound-place s is ns i h.0 b h.3 in
+    let q = bound-place s is ns j h.1 b h.4 in
+    (p.0, q.0, h.2, p.1, q.1, record { first = h.0; second = h.1; first_bound = p.2; second_bound = q.2; clash = h.5 })
+clash-refused s is ns OutOfMemory b h = tt
+clash-refused s is ns (StartFault k f) b h = absurd h
+clash-refused s is ns (ArgMismatch i) b h = absurd h
+clash-refused s is ns TextTooLong b h = absurd h
+clash-refused s is ns (BadByte l) b h = absurd h
+clash-refused s is ns (Syntax l) b h = absurd h
+clash-refused s is ns (TooDeep l) b h = absurd h
+clash-refused s is ns (DuplicateName l) b h = absurd h
+clash-refused s is ns (UnknownName l) b h = absurd h
+clash-refused s is ns (TypeMismatch l) b h = absurd h
+clash-refused s is ns (BadSignature l) b h = absurd h
+clash-refused s is ns (NoProposal l) b h = absurd h
+clash-refused s is ns (TooMany l) b h = absurd h
+clash-refused s is ns (TooWide l) b h = absurd h
+clash-refused s is ns (CrashName i) b h = absurd h
+clash-refused s is ns (HiddenUnknown m) b h = absurd h
+clash-refused s is ns NoComposition b h = absurd h
+
+member-place : (s : SourceTree) (is : List InstanceTree) (ms : List Member) (k : ℕ) (i : InstanceTree) → AreMembers s is ms → slice_get is k ≡ Some i → (m : Member) × (slice_get ms k ≡ Some m) × IsMember s i m
+member-place s [] [] k i b e = absurd (cc)
+member-place s [] (m ∷ ms) k i b e = absurd b
+member-place s (j ∷ js) [] k i b e = absurd b
+member-place s (j ∷ js) (m ∷ ms) zero i b e = let q : j ≡ i = cc in (m, refl, subst (λ x. IsMember s x m) q b.0)
+member-place s (j ∷ js) (m ∷ ms) (suc k) i b e = member-place s js ms k i b.1 e
+
+values-of : Result (List Val) Fault → List Val → List Val
+values-of (Ok vs) d = vs
+values-of (Err f) d = d
+
+abbrev made : List Val → Result (List Val) Fault
+made vs = Ok vs
+
+same-ok : (vs ws : List Val) → made vs ≡ made ws → vs ≡ ws
+unfolding values-of
+same-ok vs ws e = ap (λ (r : Result (List Val) Fault). values-of r vs) e
+
+-- a tree is bound to one instance only
+one-instance : (s : SourceTree) (i : InstanceTree) (m : Member) (n : Instance) → IsMember s i m → IsBound s i n → n ≡ m.instance
+one-instance s i m n h b =
+    let p : Some n.automaton ≡ Some m.instance.automaton = sym b.automaton ∙ h.automaton in
+    let q : n.automaton ≡ m.instance.automaton = cc in
+    let r : Ok n.arguments ≡ Ok m.instance.arguments = sym b.arguments ∙ h.arguments in
+    let t : n.arguments ≡ m.instance.arguments = same-ok n.arguments m.instance.arguments r in
+    let u : n.types ≡ m.instance.types = b.types ∙ sym h.types in
+    ap (λ x. record { types = x; automaton = n.automaton; arguments = n.arguments }) u
+    ∙ ap (λ x. record { types = m.instance.types; automaton = x; arguments = n.arguments }) q
+    ∙ ap (λ x. record { types = m.instance.types; automaton = m.instance.automaton; arguments = x }) t
+
+-- what is made on the way to a composition
+pub record Parts (s : SourceTree) (is : List TreeInstance) (bs : List Binding) (ms : List held.Member) : Type 0 where
+  pub bound : AreBound s (map instance_of is) (map instance_in bs)
+  pub bound_names : map (λ b. name_of b.name.now) bs ≡ map (λ i. name_of i.name) is
+  pub instances : map (λ m. (member_of m).instance) ms ≡ map instance_in bs
+  pub names : map (λ m. (member_of m).name) ms ≡ map (λ b. name_of b.name.now) bs
+  pub started : AllStarted (map member_of ms)
+  pub clear : PairsClear bs
+
+pub parts-are : (s : SourceTree) (is : List TreeInstance) (bs : List Binding) (ms : List held.Member) → Parts s is bs ms → AreMembers s (map instance_of is) (map member_of ms)
+parts-are s is bs ms p = members-are s is bs ms p.bound p.bound_names p.instances p.names p.started
+
+pub parts-sound : (s : SourceTree) (is : List TreeInstance) (bs : List Binding) (ms : List held.Member) (name : Name) (hidden : List Name) → WellFormed s → Parts s is bs ms → IsSound (record { name = name; members = map member_of ms; hidden = hidden })
+parts-sound s is bs ms name hidden h p = record {
+  members = members-fine s (map instance_of is) (map member_of ms) h (parts-are s is bs ms p);
+  compatible = members-compatible bs ms p.instances p.clear;
+}
+
+pub parts-composed : (s : SourceTree) (a : Assembly) (bs : List Binding) (ms : List held.Member) (name : Name) (hidden : List Name) → name ≡ name_of a.name → hidden ≡ [] → Parts s a.instances.items bs ms → IsComposed s (assembly_of a) (record { name = name; members = map member_of ms; hidden = hidden })
+parts-composed s a bs ms name hidden e k p = record {
+  name = e;
+  members = parts-are s a.instances.items bs ms p;
+  hidden = k;
+  compatible = members-compatible bs ms p.instances p.clear;
+}
+
+pub clashes-refused : {X : Type 0} (r : Result X Refusal) (s : SourceTree) (is xs : List TreeInstance) (bs ys : List Binding) → xs ≡ is → ys ≡ bs → AreBound s (map instance_of xs) (map instance_in bs) → IfErr r (λ e. ClashesIn (map instance_in ys) e) → IfErr r (λ e. IsRefused s (map instance_of is) e)
+clashes-refused (Ok x) s is xs bs ys p q b h = tt
+clashes-refused (Err x) s is xs bs ys p q b h =
+    clash-refused s (map instance_of is) (map instance_in bs) x (subst (λ us. AreBound s (map instance_of us) (map instance_in bs)) p b) (subst (λ us. ClashesIn (map instance_in us) x) q h)
+
+pub starts-refused : {X : Type 0} (r : Result X Refusal) (s : SourceTree) (is xs : List TreeInstance) (bs ys : List Binding) → xs ≡ is → ys ≡ bs → AreBound s (map instance_of xs) (map instance_in bs) → IfErr r (λ e. FaultsIn (map instance_in ys) e) → IfErr r (λ e. IsRefused s (map instance_of is) e)
+starts-refused (Ok x) s is xs bs ys p q b h = tt
+starts-refused (Err x) s is xs bs ys p q b h =
+    start-refused s (map instance_of is) (map instance_in bs) x (subst (λ us. AreBound s (map instance_of us) (map instance_in bs)) p b) (subst (λ us. FaultsIn (map instance_in us) x) q h)
+
+ok-err : (vs : List Val) (f : Fault) → made vs ≡ Err f → ⊥
+ok-err vs f e = absurd (cc)
+
+different : (i j : ℕ) → i < j → i ≡ j → ⊥
+different i j l e = omega arith
+
+clash-not : (s : SourceTree) (c : Composed) (i j : ℕ) (m n : Member) (name : Name) → Compatible (components_of c) → i < j → slice_get c.members i ≡ Some m → slice_get c.members j ≡ Some n → Clashing name m.instance n.instance → ⊥
+clash-not s c i j m n name k l e f h =
+    let first = image-at (λ x. component_of x.instance) c.members i m e in
+    let second = image-at (λ x. component_of x.instance) c.members j n f in
+    let fore = k i j (component_of m.instance) (component_of n.instance) h.0 (different i j l) first second in
+    let back = k j i (component_of n.instance) (component_of m.instance) h.0 (λ q. different i j l (sym q)) second first in
+    elim h.2 [ inl x ↦ x.1 (fore.0 x.0) | inr y ↦ elim y [ inl x ↦ x.1 (back.0 x.0) | inr x ↦ fore.1 x.0 x.1 ] ]
+
+-- of what is refused there is no composition
+pub refused-none : (s : SourceTree) (t : CompositionTree) (r : Refusal) (c : Composed) → IsRefused s t.instances r → r ≢ OutOfMemory → IsComposed s t c → ⊥
+refused-none s t (ArgMismatch k) c h no_memory i =
+    let p = member-place s t.instances c.members k h.0 i.members h.1 in
+    let m = h.2 in
+    let q : Some m.automaton ≡ Some p.0.instance.automaton = sym m.declared ∙ p.2.automaton in
+    let q' : m.automaton ≡ p.0.instance.automaton = cc in
+    let v = same-ok m.arguments p.0.instance.arguments (sym m.valued ∙ p.2.arguments) in
+    m.unfit (subst (λ a. Fit basic_table a.formals m.arguments) (sym q') (subst (λ vs. Fit basic_table p.0.instance.automaton.formals vs) (sym v) p.2.fit))
+refused-none s t (StartFault k f) c h no_memory i =
+    let p = member-place s t.instances c.members k h.0 i.members h.1 in
+    elim h.2 [
+      | inl e ↦ ok-err p.0.instance.arguments f (sym p.2.arguments ∙ e)
+      | inr b ↦ ok-err p.0.starts f (sym p.2.starts ∙ ap start_values (sym (one-instance s h.0 p.0 b.instance p.2 b.bound)) ∙ b.faulting)
+    ]
+refused-none s t (Clash k l name) c h no_memory i =
+    let p = member-place s t.instances c.members k h.0 i.members h.3 in
+    let q = member-place s t.instances c.members l h.1 i.members h.4 in
+    let d = h.5 in
+    let e = one-instance s h.0 p.0 d.first p.2 d.first_bound in
+    let f = one-instance s h.1 q.0 d.second q.2 d.second_bound in
+    clash-not s c k l p.0 q.0 (string_bytes name) i.compatible h.2 p.1 q.1 (subst (λ n. Clashing (string_bytes name) p.0.instance n) f (subst (λ m. Clashing (string_bytes name) m d.second) e d.clash))
+refused-none s t OutOfMemory c h no_memory i = no_memory refl
+refused-none s t TextTooLong c h no_memory i = h
+refused-none s t (BadByte l) c h no_memory i = h
+refused-none s t (Syntax l) c h no_memory i = h
+refused-none s t (TooDeep l) c h no_memory i = h
+refused-none s t (DuplicateName l) c h no_memory i = h
+refused-none s t (UnknownName l) c h no_memory i = h
+refused-none s t (TypeMismatch l) c h no_memory i = h
+refused-none s t (BadSignature l) c h no_memory i = h
+refused-none s t (NoProposal l) c h no_memory i = h
+refused-none s t (TooMany l) c h no_memory i = h
+refused-none s t (TooWide l) c h no_memory i = h
+refused-none s t (CrashName k) c h no_memory i = h
+refused-none s t (HiddenUnknown m) c h no_memory i = h
+refused-none s t NoComposition c h no_memory i = h
+
+-- the parts, as the calls give them
+pub parts-of : (s : SourceTree) (is xs : List TreeInstance) (bs ys zs : List Binding) (ms : List held.Member) → xs ≡ is → ys ≡ bs → zs ≡ bs
+    → AreBound s (map instance_of xs) (map instance_in bs) → map (λ b. name_of b.name.now) bs ≡ map (λ i. name_of i.name) xs
+    → map (λ m. (member_of m).instance) ms ≡ map instance_in zs → map (λ m. (member_of m).name) ms ≡ map (λ b. name_of b.name.now) zs
+    → AllStarted (map member_of ms) → PairsClear ys → Parts s is bs ms
+parts-of s is xs bs ys zs ms p q r b n i m t k = record {
+  bound = subst (λ us. AreBound s (map instance_of us) (map instance_in bs)) p b;
+  bound_names = n ∙ ap (map (λ i. name_of i.name)) p;
+  instances = i ∙ ap (map instance_in) r;
+  names = m ∙ ap (map (λ b. name_of b.name.now)) r;
+  started = t;
+  clear = subst PairsClear q k;
+}
+
+pub exact-from : {X : Type 0} (r : Result X Refusal) (ds es : List Declaration) (o : Option Name) (t : CompositionTree) → ds ≡ es → Some t ≡ picked (tree_of ds) o → IfErr r (λ e. IsRefused (tree_of ds) t.instances e)
+    → IfErr r (λ e. e ≢ OutOfMemory → (u : CompositionTree) → picked (tree_of es) o ≡ Some u → (c : Composed) → IsComposed (tree_of es) u c → ⊥)
+exact-from (Ok x) ds es o t q e h = tt
+exact-from (Err x) ds es o t q e h = λ no_memory u f c i.
+    let p : Some t ≡ Some u = e ∙ ap (λ xs. picked (tree_of xs) o) q ∙ f in
+    let same : t ≡ u = cc in
+    refused-none (tree_of es) u x c (subst (λ v. IsRefused (tree_of es) v.instances x) same (subst (λ xs. IsRefused (tree_of xs) t.instances x) q h)) no_memory i

@@ -1,9 +1,0 @@
-use Rattle.std.proofs.Common.{◌≡◌, drop, find}
-use Rattle.std.specs.Str.{bytes_eq}
-use Rattle.ioa_syntax.specs.View.{tree_of}
-use Rattle.ioa_syntax.specs.Compositions.{compositions}
-use Rattle.ioa_compose.proofs.pick.composition_named.Given as goal
-
-abbrev pub invariant-loop-i : goal.invariant-loop-i
-invariant-loop-i l =
-    find (λ d. bytes_eq d.name l.name) (compositions (tree_of (drop l.i l.declarations))) ≡ find (λ d. bytes_eq d.name l.name) (compositions (tree_of l.declarations))

@@ -1,0 +1,90 @@
+-- Components on the way: instances with the values of their arguments, and what evaluations leave.
+use Rattle.std.specs.Prelude.{◌≡◌, Bool, true, false, ◌&&◌, List, [], ◌∷◌, map, Some, Result, Ok, Err, Vec}
+use Rattle.std.specs.List.{list_all}
+use Rattle.std.specs.Option.{option_map_or}
+use Rattle.std.specs.Global.{Global}
+use Rattle.ioa_value.specs.declared.arithmetic.Fault.{Fault}
+use Rattle.ioa_value.specs.declared.value.Value.{Value}
+use Rattle.ioa_value.specs.Actions.{Name}
+use Rattle.ioa_value.specs.Plain.{Val, plain}
+use Rattle.ioa_syntax.specs.Tree.{Expr, FieldTree, AutomatonTree, InstanceTree, SourceTree}
+use Rattle.ioa_syntax.specs.View.{automaton_of}
+use Rattle.ioa_syntax.specs.Instances.{basic_table, Instance, is_named, argument_values, start_values}
+use Rattle.ioa_syntax.specs.Compositions.{Member, Fit, automaton_named}
+use Rattle.ioa_syntax.specs.WellFormed.{type_of, start_fine, is_type, variable_fields, automaton_fine}
+use Rattle.ioa_compose.specs.declared.binding.Binding.{Binding}
+
+-- a value, or a fault
+abbrev pub value_in : Result Value Fault → Result Val Fault
+value_in (Ok v) = Ok (plain v)
+value_in (Err f) = Err f
+
+-- values in order, or a fault
+abbrev pub values_in : Result (Vec Value Global) Fault → Result (List Val) Fault
+values_in (Ok vs) = Ok (map plain vs.items)
+values_in (Err f) = Err f
+
+-- each value is of the type of the field in its place
+abbrev pub fit : List FieldTree → List Val → Bool
+fit [] [] = true
+fit [] (v ∷ vs) = false
+fit (f ∷ fs) [] = false
+fit (f ∷ fs) (v ∷ vs) = is_named basic_table f.ty v && fit fs vs
+
+-- the expression has a type without any name
+abbrev pub closed : Expr → Bool
+closed e = option_map_or (λ ty. true) (type_of [] e) false
+
+-- an automaton with arguments
+abbrev pub instance_with : AutomatonTree → List Val → Instance
+instance_with a vs = record { types = basic_table; automaton = a; arguments = vs }
+
+-- what a binding stands for
+abbrev pub instance_in : Binding → Instance
+instance_in b = instance_with (automaton_of b.automaton.now) (map plain b.arguments.items)
+
+-- what the instances of a well formed source have: a declared automaton, and arguments with types
+pub record IsReady (s : SourceTree) (i : InstanceTree) : Type 0 where
+  pub automaton : (a : AutomatonTree) × (automaton_named s i.automaton ≡ Some a)
+  pub arguments : list_all closed i.arguments ≡ true
+
+-- the instance is that of the tree
+pub record IsBound (s : SourceTree) (i : InstanceTree) (n : Instance) : Type 0 where
+  pub types : n.types ≡ basic_table
+  pub automaton : automaton_named s i.automaton ≡ Some n.automaton
+  pub arguments : argument_values i.arguments ≡ Ok n.arguments
+  pub fit : Fit basic_table n.automaton.formals n.arguments
+
+abbrev pub AreBound : SourceTree → List InstanceTree → List Instance → Type 0
+AreBound s [] [] = Unit {0}
+AreBound s [] (n ∷ ns) = ⊥
+AreBound s (i ∷ is) [] = ⊥
+AreBound s (i ∷ is) (n ∷ ns) = IsBound s i n × AreBound s is ns
+
+abbrev pub AllReady : SourceTree → List InstanceTree → Type 0
+AllReady s [] = Unit {0}
+AllReady s (i ∷ is) = IsReady s i × AllReady s is
+
+-- start expressions have their variables' types, which are known
+pub record StartsWell (a : AutomatonTree) : Type 0 where
+  pub fine : list_all (start_fine basic_table [] a) a.variables ≡ true
+  pub known : list_all (is_type basic_table) (variable_fields a) ≡ true
+
+-- an instance whose start can be evaluated
+pub record IsStartable (n : Instance) : Type 0 where
+  pub fit : Fit basic_table n.automaton.formals n.arguments
+  pub well : StartsWell n.automaton
+
+abbrev pub AllStartable : List Instance → Type 0
+AllStartable [] = Unit {0}
+AllStartable (n ∷ ns) = IsStartable n × AllStartable ns
+
+-- the components' start values are those of their instances
+abbrev pub AllStarted : List Member → Type 0
+AllStarted [] = Unit {0}
+AllStarted (m ∷ ms) = (start_values m.instance ≡ Ok m.starts) × AllStarted ms
+
+-- the instances' automata are well formed
+abbrev pub AllSound : List Instance → Type 0
+AllSound [] = Unit {0}
+AllSound (n ∷ ns) = ((globals : List Name) × (automaton_fine basic_table globals n.automaton ≡ true)) × AllSound ns

@@ -1,0 +1,74 @@
+-- Why a composition is refused.
+use Rattle.std.specs.Prelude.{◌≡◌, ℕ, ◌<◌, ◌⊎◌, List, Some, None, Ok, Err, slice_get}
+use Rattle.std.specs.String.{string_bytes}
+use Rattle.ioa_value.specs.declared.arithmetic.Fault.{Fault}
+use Rattle.ioa_value.specs.Actions.{Name, Act}
+use Rattle.ioa_value.specs.Plain.{Val}
+use Rattle.ioa_lex.specs.declared.refusal.Refusal.{Refusal}
+use Rattle.ioa_lex.specs.declared.refusal.Refusal.TheVariants.{ArgMismatch, Clash, StartFault, OutOfMemory}
+use Rattle.ioa_syntax.specs.declared.tree.Kind.TheVariants.{Internal, Output}
+use Rattle.ioa_syntax.specs.Tree.{AutomatonTree, InstanceTree, SourceTree}
+use Rattle.ioa_syntax.specs.Instances.{basic_table, Instance, argument_values, start_values, component_of}
+use Rattle.ioa_syntax.specs.Compositions.{Fit, automaton_named}
+use Rattle.ioa_compose.specs.Bindings.{IsBound}
+
+-- the arguments have values, and these are not of the formals' types, one for each
+pub record Misfits (s : SourceTree) (i : InstanceTree) : Type 0 where
+  pub automaton : AutomatonTree
+  pub declared : automaton_named s i.automaton ≡ Some automaton
+  pub arguments : List Val
+  pub valued : argument_values i.arguments ≡ Ok arguments
+  pub unfit : Fit basic_table automaton.formals arguments → ⊥
+
+-- a start expression faults
+pub record StartsWith (s : SourceTree) (i : InstanceTree) (f : Fault) : Type 0 where
+  pub instance : Instance
+  pub bound : IsBound s i instance
+  pub faulting : start_values instance ≡ Err f
+
+-- an action of this name is internal to one of two and of the other too, or an output of both
+abbrev pub Clashing : Name → Instance → Instance → Type 0
+Clashing name m n = (a : Act) × (a.name ≡ name)
+    × (((component_of m).kind_of a ≡ Some Internal × ((component_of n).kind_of a ≡ None → ⊥))
+    ⊎ (((component_of n).kind_of a ≡ Some Internal × ((component_of m).kind_of a ≡ None → ⊥))
+    ⊎ ((component_of m).kind_of a ≡ Some Output × (component_of n).kind_of a ≡ Some Output)))
+
+pub record ClashOn (s : SourceTree) (i j : InstanceTree) (name : Name) : Type 0 where
+  pub first : Instance
+  pub second : Instance
+  pub first_bound : IsBound s i first
+  pub second_bound : IsBound s j second
+  pub clash : Clashing name first second
+
+-- what holds of components that are refused so
+abbrev pub IsRefused : SourceTree → List InstanceTree → Refusal → Type 0
+IsRefused s is (ArgMismatch i) = (n : InstanceTree) × (slice_get is i ≡ Some n) × Misfits s n
+IsRefused s is (StartFault i f) = (n : InstanceTree) × (slice_get is i ≡ Some n) × ((argument_values n.arguments ≡ Err f) ⊎ StartsWith s n f)
+IsRefused s is (Clash i j name) = (m : InstanceTree) × (n : InstanceTree) × (i < j) × (slice_get is i ≡ Some m) × (slice_get is j ≡ Some n) × ClashOn s m n (string_bytes name)
+IsRefused s is OutOfMemory = Unit {0}
+IsRefused s is _ = ⊥
+
+-- what holds of one component that is refused in its place
+abbrev pub IsRefusedAt : SourceTree → ℕ → InstanceTree → Refusal → Type 0
+IsRefusedAt s k n (ArgMismatch i) = (i ≡ k) × Misfits s n
+IsRefusedAt s k n (StartFault i f) = (i ≡ k) × ((argument_values n.arguments ≡ Err f) ⊎ StartsWith s n f)
+IsRefusedAt s k n OutOfMemory = Unit {0}
+IsRefusedAt s k n _ = ⊥
+
+-- the start of the instance in this place faults
+abbrev pub FaultsAt : ℕ → Instance → Refusal → Type 0
+FaultsAt k n (StartFault i f) = (i ≡ k) × (start_values n ≡ Err f)
+FaultsAt k n OutOfMemory = Unit {0}
+FaultsAt k n _ = ⊥
+
+-- the start of one of the instances faults
+abbrev pub FaultsIn : List Instance → Refusal → Type 0
+FaultsIn ns (StartFault i f) = (n : Instance) × (slice_get ns i ≡ Some n) × (start_values n ≡ Err f)
+FaultsIn ns OutOfMemory = Unit {0}
+FaultsIn ns _ = ⊥
+
+-- two of the instances clash
+abbrev pub ClashesIn : List Instance → Refusal → Type 0
+ClashesIn ns (Clash i j name) = (m : Instance) × (n : Instance) × (i < j) × (slice_get ns i ≡ Some m) × (slice_get ns j ≡ Some n) × Clashing (string_bytes name) m n
+ClashesIn ns OutOfMemory = Unit {0}
+ClashesIn ns _ = ⊥

@@ -1,0 +1,131 @@
+ghost use Rattle.std.specs.Prelude.{◌≡◌, ◌&&◌, [], ◌∷◌, true, map, Some, Ok, Err, length, IfOk, IfErr};
+ghost use Rattle.std.specs.List.{list_all};
+ghost use Rattle.ioa_value.specs.Plain.{plain};
+ghost use Rattle.ioa_value.specs.Typing.{basic_types};
+ghost use Rattle.ioa_syntax.specs.View.{name_of, expr_of, field_of, instance_of, automaton_of, tree_of};
+ghost use Rattle.ioa_syntax.specs.Instances as instances;
+ghost use Rattle.ioa_syntax.specs.Tree.{AutomatonTree};
+ghost use Rattle.ioa_syntax.specs.Compositions as spec;
+ghost use Rattle.ioa_compose.specs.Bindings.{IsReady, AllReady, IsBound, AreBound, fit, closed, values_in, instance_in};
+ghost use Rattle.ioa_compose.specs.Refusals.{IsRefused, IsRefusedAt};
+
+use crate::evaluate::evaluate;
+use crate::picks::automaton_named;
+use ioa_check::type_named;
+use ioa_syntax::{Automaton, Declaration, Expression, Field, Instance, Name, Refusal};
+use ioa_value::{Fault, OutOfMemory, Types, Value, has_type};
+use std::alloc::Global;
+
+/// A component's automaton with the values of its formals.
+#[derive(Drop)]
+pub(crate) struct Binding<'a> {
+    pub(crate) name: &'a Name,
+    pub(crate) automaton: &'a Automaton,
+    pub(crate) arguments: Vec<Value>,
+}
+
+/// The components' automata with their arguments, in order. It asks for instances of a well formed source.
+pub(crate) fn bind_all<'a>(
+    alloc: Global,
+    types: &Types,
+    declarations: &'a [Declaration],
+    instances: &'a [Instance],
+) -> Result<Vec<Binding<'a>>, Refusal>
+    requires types { types.now ≡ basic_types }
+    requires ready { AllReady (tree_of declarations.now) (map instance_of instances.now) }
+    ensures bound { IfOk result (λ bs. AreBound (tree_of declarations.now) (map instance_of instances.now) (map instance_in bs.items)) }
+    ensures names { IfOk result (λ bs. map (λ b. name_of b.name.now) bs.items ≡ map (λ i. name_of i.name) instances.now) }
+    ensures refused { IfErr result (λ r. IsRefused (tree_of declarations.now) (map instance_of instances.now) r) }
+{
+    let mut bindings = Vec::new(alloc);
+    for index in 0..instances.len() {
+        bindings.push(bind(alloc, types, declarations, index, &instances[index])?)?;
+    }
+    Ok(bindings)
+}
+
+fn bind<'a>(
+    alloc: Global,
+    types: &Types,
+    declarations: &'a [Declaration],
+    index: usize,
+    instance: &'a Instance,
+) -> Result<Binding<'a>, Refusal>
+    requires types { types.now ≡ basic_types }
+    requires ready { IsReady (tree_of declarations.now) (instance_of instance.now) }
+    ensures bound { IfOk result (λ b. IsBound (tree_of declarations.now) (instance_of instance.now) (instance_in b)) }
+    ensures name { IfOk result (λ b. name_of b.name.now ≡ name_of instance.now.name) }
+    ensures refused { IfErr result (λ r. IsRefusedAt (tree_of declarations.now) index (instance_of instance.now) r) }
+{
+    let automaton = declared(declarations, &instance.automaton);
+    match argument_values(alloc, types, &instance.arguments)? {
+        Err(fault) => Err(Refusal::StartFault(index, fault)),
+        Ok(arguments) => {
+            if !fits(types, &automaton.formals, &arguments) {
+                return Err(Refusal::ArgMismatch(index));
+            }
+            Ok(Binding {
+                name: &instance.name,
+                automaton,
+                arguments,
+            })
+        }
+    }
+}
+
+/// The automaton of this name, which is declared.
+fn declared<'a>(declarations: &'a [Declaration], name: &Name) -> &'a Automaton
+    requires { (a : AutomatonTree) × (spec.automaton_named (tree_of declarations.now) (name_of name.now) ≡ Some a) }
+    ensures { spec.automaton_named (tree_of declarations.now) (name_of name.now) ≡ Some (automaton_of result.now) }
+{
+    match automaton_named(declarations, name) {
+        Some(automaton) => automaton,
+        None => unreachable!(),
+    }
+}
+
+/// The values of arguments in order, or the first fault.
+fn argument_values(
+    alloc: Global,
+    types: &Types,
+    arguments: &[Expression],
+) -> Result<Result<Vec<Value>, Fault>, OutOfMemory>
+    requires { list_all closed (map expr_of arguments.now) ≡ true }
+    ensures { IfOk result (λ r. values_in r ≡ instances.argument_values (map expr_of arguments.now)) }
+{
+    let mut values = Vec::new(alloc);
+    for argument in arguments {
+        match evaluate(alloc, types, &[], &[], argument)? {
+            Ok(value) => values.push(value)?,
+            Err(fault) => return Ok(Err(fault)),
+        }
+    }
+    Ok(Ok(values))
+}
+
+/// Whether the values are of the fields' types, one for each.
+fn fits(types: &Types, fields: &[Field], values: &[Value]) -> bool
+    requires { types.now ≡ basic_types }
+    ensures { result ≡ fit (map field_of fields.now) (map plain values.now) }
+{
+    if fields.len() != values.len() {
+        return false;
+    }
+    for i in 0..fields.len() {
+        if !is_named(types, &fields[i].ty, &values[i]) {
+            return false;
+        }
+    }
+    true
+}
+
+/// Whether the value is of the type of this name.
+fn is_named(types: &Types, name: &Name, value: &Value) -> bool
+    requires { types.now ≡ basic_types }
+    ensures { result ≡ instances.is_named instances.basic_table (name_of name.now) (plain value.now) }
+{
+    match type_named(name) {
+        Some(ty) => has_type(types, value, ty),
+        None => false,
+    }
+}

@@ -1,0 +1,117 @@
+ghost use Rattle.std.specs.Prelude.{◌≡◌, [], true, map, Ok, Err, IfOk, IfErr};
+ghost use Rattle.ioa_value.specs.Plain.{plain};
+ghost use Rattle.ioa_value.specs.Typing.{basic_types};
+ghost use Rattle.ioa_syntax.specs.View.{name_of, field_of, variable_of, automaton_of};
+ghost use Rattle.ioa_syntax.specs.Meaning.{values_of};
+ghost use Rattle.ioa_syntax.specs.Instances.{basic_table, field_names};
+ghost use Rattle.ioa_syntax.specs.Instances as instances;
+ghost use Rattle.ioa_syntax.specs.Compositions.{Fit};
+ghost use Rattle.ioa_syntax.specs.WellFormed.{start_fine, is_type};
+ghost use Rattle.ioa_compose.specs.Bindings.{value_in, values_in, instance_in, IsStartable, AllStartable, AllStarted};
+ghost use Rattle.ioa_compose.specs.Refusals.{FaultsAt, FaultsIn};
+ghost use Rattle.ioa_compose.specs.Held.{member_of};
+
+use crate::binding::Binding;
+use crate::copies::copied_automaton;
+use crate::evaluate::evaluate;
+use crate::member::Member;
+use ioa_check::type_named;
+use ioa_syntax::{Name, Refusal, Variable};
+use ioa_value::{Fault, OutOfMemory, Types, Value, copies, first};
+use std::alloc::Global;
+
+/// The components with the start values of their variables, in order.
+pub(crate) fn start_all(
+    alloc: Global,
+    types: &Types,
+    bindings: &[Binding],
+) -> Result<Vec<Member>, Refusal>
+    requires types { types.now ≡ basic_types }
+    requires startable { AllStartable (map instance_in bindings.now) }
+    ensures instances { IfOk result (λ ms. map (λ m. (member_of m).instance) ms.items ≡ map instance_in bindings.now) }
+    ensures names { IfOk result (λ ms. map (λ m. (member_of m).name) ms.items ≡ map (λ b. name_of b.name.now) bindings.now) }
+    ensures started { IfOk result (λ ms. AllStarted (map member_of ms.items)) }
+    ensures refused { IfErr result (λ r. FaultsIn (map instance_in bindings.now) r) }
+{
+    let mut members = Vec::new(alloc);
+    for index in 0..bindings.len() {
+        members.push(start(alloc, types, index, &bindings[index])?)?;
+    }
+    Ok(members)
+}
+
+fn start(alloc: Global, types: &Types, index: usize, binding: &Binding) -> Result<Member, Refusal>
+    requires types { types.now ≡ basic_types }
+    requires startable { IsStartable (instance_in binding.now) }
+    ensures instance { IfOk result (λ m. (member_of m).instance ≡ instance_in binding.now) }
+    ensures name { IfOk result (λ m. (member_of m).name ≡ name_of binding.now.name.now) }
+    ensures started { IfOk result (λ m. instances.start_values (instance_in binding.now) ≡ Ok (member_of m).starts) }
+    ensures refused { IfErr result (λ r. FaultsAt index (instance_in binding.now) r) }
+{
+    match start_values(alloc, types, binding)? {
+        Err(fault) => Err(Refusal::StartFault(index, fault)),
+        Ok(starts) => Ok(Member {
+            name: String::from_str(alloc, binding.name.text.as_str())?,
+            automaton: copied_automaton(alloc, binding.automaton)?,
+            arguments: copies(alloc, &binding.arguments)?,
+            starts,
+        }),
+    }
+}
+
+/// The start values of the variables in order, or the first fault.
+fn start_values(
+    alloc: Global,
+    types: &Types,
+    binding: &Binding,
+) -> Result<Result<Vec<Value>, Fault>, OutOfMemory>
+    requires types { types.now ≡ basic_types }
+    requires startable { IsStartable (instance_in binding.now) }
+    ensures { IfOk result (λ r. values_in r ≡ instances.start_values (instance_in binding.now)) }
+{
+    let mut values = Vec::new(alloc);
+    for variable in &binding.automaton.variables {
+        match start_value(alloc, types, binding, variable)? {
+            Ok(value) => values.push(value)?,
+            Err(fault) => return Ok(Err(fault)),
+        }
+    }
+    Ok(Ok(values))
+}
+
+/// A variable's start value: that of its start expression, or the first of its type.
+fn start_value(
+    alloc: Global,
+    types: &Types,
+    binding: &Binding,
+    variable: &Variable,
+) -> Result<Result<Value, Fault>, OutOfMemory>
+    requires types { types.now ≡ basic_types }
+    requires fit { Fit basic_table (instance_in binding.now).automaton.formals (instance_in binding.now).arguments }
+    requires fine { start_fine basic_table [] (automaton_of binding.now.automaton.now) (variable_of variable.now) ≡ true }
+    requires known { is_type basic_table (variable_of variable.now).field ≡ true }
+    ensures { let n = instance_in binding.now in IfOk result (λ r. value_in r ≡ instances.start_value n.types (values_of (field_names n.automaton.formals) n.arguments) (variable_of variable.now)) }
+{
+    match &variable.start {
+        Some(expression) => evaluate(
+            alloc,
+            types,
+            &binding.automaton.formals,
+            &binding.arguments,
+            expression,
+        ),
+        None => Ok(Ok(first_named(alloc, types, &variable.field.ty)?)),
+    }
+}
+
+/// The first value of the type of this name, which is known.
+fn first_named(alloc: Global, types: &Types, name: &Name) -> Result<Value, OutOfMemory>
+    requires types { types.now ≡ basic_types }
+    requires known { is_type basic_table (record { name = []; ty = name_of name.now }) ≡ true }
+    ensures { IfOk result (λ v. plain v ≡ instances.first_named basic_table (name_of name.now)) }
+{
+    match type_named(name) {
+        Some(ty) => first(alloc, types, ty),
+        None => unreachable!(),
+    }
+}

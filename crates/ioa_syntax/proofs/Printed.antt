@@ -1,0 +1,230 @@
+-- The text that is written of a tree lexes to tokens that spell the tree.
+use Rattle.std.proofs.Common.{◌≡◌, ℕ, ◌⊎◌, inl, inr, Bool, true, false, IsTrue, List, [], ◌∷◌, ◌++◌, map, Option, Some, None, refl, sym, ap, ◌∙◌, subst, append_assoc, append-nil}
+use Rattle.std.specs.List.{flat_map}
+use Rattle.ioa_lex.specs.declared.terminal.Terminal.{Terminal}
+use Rattle.ioa_lex.specs.declared.terminal.Terminal.TheVariants as terminals
+use Rattle.ioa_lex.specs.Tokens as tokens
+use Rattle.ioa_lex.specs.Tokens.{Tok, terminal}
+use Rattle.ioa_lex.specs.Lexing.{Lexes, is_blank}
+use Rattle.ioa_lex.specs.Spaced.{Spaced, IsToken, text_of}
+use Rattle.ioa_lex.proofs.SpacedLemmas.{spaced_lexes, spaced_append, spaced_one}
+use Rattle.ioa_syntax.specs.Tree.{Expr, number, truth, named, parens, binary, FieldTree, PositionTree, typed, EntryTree, VariableTree, ProposalTree, Stmt, assign, TransitionTree, AutomatonTree, InstanceTree, CompositionTree, DeclarationTree, automaton, composition, SourceTree}
+use Rattle.ioa_syntax.specs.Grammar.{Language, ◌▹◌, single, word, called, nothing, perhaps, optional, optional_list, each_after, separated, terminated, many, kind_word, operator_word, left_of, right_of, SpellsExpr, SpellsField, SpellsFields, SpellsPosition, SpellsPositions, SpellsEntry, SpellsVariable, SpellsProposal, SpellsStmt, SpellsTransition, SpellsAutomaton, SpellsArguments, SpellsInstance, SpellsInstances, SpellsComposition, SpellsDeclaration, SpellsSource}
+use Rattle.ioa_syntax.specs.Source.{AreTokens, IsSource, plain}
+use Rattle.ioa_syntax.specs.Layout.{space, line, text_word, text_name, text_number, text_more, text_list, text_all, text_optional_list, text_parens, before_list, before_option, text_expr, text_option, text_field, text_position, text_entry, text_variable, text_binding, text_proposal, text_stmt, text_transition, text_signature, text_behaviour, text_automaton, text_instance, text_composition, text_declaration, text_source}
+
+-- the text has tokens of the language
+abbrev Prints : Language → List ℕ → Type 0
+Prints L text = (us : List Tok) × L us × Spaced us text
+
+-- it has, if some tokens that a text can hold are of the language
+abbrev pub Reprints : Language → List ℕ → Type 0
+Reprints L text = (ts : List Tok) → L ts → AreTokens ts → Prints L text
+
+are_parts : (a b : List Tok) → AreTokens (a ++ b) → AreTokens a × AreTokens b
+are_parts [] b h = (tt, h)
+are_parts (x ∷ a) b h = let m = are_parts a b h.1 in ((h.0, m.0), m.1)
+
+then_reprints : (L M : Language) (a b : List ℕ) → Reprints L a → Reprints M b → Reprints (L ▹ M) (a ++ b)
+then_reprints L M a b p q ts s are =
+    let legal = are_parts s.0 s.1 (subst AreTokens s.4 are) in
+    let first = p s.0 s.2 legal.0 in
+    let second = q s.1 s.3 legal.1 in
+    (first.0 ++ second.0, (first.0, second.0, first.1, second.1, refl), spaced_append first.0 second.0 a b first.2 second.2)
+
+single_reprints : (x : Tok) (b : ℕ) → is_blank b ≡ true → Reprints (single x) (text_of x ++ b ∷ [])
+single_reprints x b blank ts s are = let legal : IsToken x = (subst AreTokens s are).0 in (x ∷ [], refl, spaced_one x b legal blank)
+
+word_reprints : (t : Terminal) (b : ℕ) → is_blank b ≡ true → Reprints (word t) (text_word b t)
+word_reprints t b blank = single_reprints (terminal t) b blank
+
+name_reprints : (n : List ℕ) (b : ℕ) → is_blank b ≡ true → Reprints (called n) (text_name b n)
+name_reprints n b blank = single_reprints (tokens.name n) b blank
+
+nothing_reprints : Reprints nothing []
+nothing_reprints ts s are = ([], refl, refl)
+
+-- the same text, put together in another way
+as_text : (L : Language) (a b : List ℕ) → a ≡ b → Reprints L a → Reprints L b
+as_text L a b same p = subst (Reprints L) same p
+
+space_blank : is_blank space ≡ true
+space_blank = refl
+
+line_blank : is_blank line ≡ true
+line_blank = refl
+
+list_blank : {A : Type 0} (xs : List A) → is_blank (before_list xs) ≡ true
+list_blank [] = refl
+list_blank (x ∷ xs) = refl
+
+option_blank : {A : Type 0} (x : Option A) → is_blank (before_option x) ≡ true
+option_blank None = refl
+option_blank (Some x) = refl
+
+-- ---- lists
+
+module _ {A : Type 0} (t : Terminal) (L : A → Language) (f : A → List ℕ) (each : (x : A) → Reprints (L x) (f x)) where
+  more_reprints : (xs : List A) → Reprints (each_after t L xs) (text_more t f xs)
+  more_reprints [] = nothing_reprints
+  more_reprints (x ∷ xs) =
+      as_text (each_after t L (x ∷ xs)) (text_word space t ++ (f x ++ text_more t f xs)) (text_more t f (x ∷ xs)) (sym (append_assoc (text_word space t) (f x) (text_more t f xs)))
+      (then_reprints (word t) (L x ▹ each_after t L xs) (text_word space t) (f x ++ text_more t f xs) (word_reprints t space space_blank) (then_reprints (L x) (each_after t L xs) (f x) (text_more t f xs) (each x) (more_reprints xs)))
+
+  list_reprints : (xs : List A) → Reprints (separated t L xs) (text_list t f xs)
+  list_reprints [] = λ ts s are. absurd s
+  list_reprints (x ∷ xs) = then_reprints (L x) (each_after t L xs) (f x) (text_more t f xs) (each x) (more_reprints xs)
+
+  terminated_reprints : (xs : List A) → Reprints (terminated t L xs) (text_list t f xs)
+  terminated_reprints xs = λ ts s are. let m = list_reprints xs s.0 s.2 (are_parts s.0 s.1 (subst AreTokens s.4 are)).0 in (m.0, (m.0, [], m.1, inr refl, sym (append-nil m.0)), m.2)
+
+all_reprints : {A : Type 0} (L : A → Language) (f : A → List ℕ) → ((x : A) → Reprints (L x) (f x)) → (xs : List A) → Reprints (many L xs) (text_all f xs)
+unfolding text_all
+all_reprints L f each [] = nothing_reprints
+all_reprints L f each (x ∷ xs) = then_reprints (L x) (many L xs) (f x) (text_all f xs) (each x) (all_reprints L f each xs)
+
+optional_reprints : {A : Type 0} (t : Terminal) (b : ℕ) (L : List A → Language) (f : List A → List ℕ) → is_blank b ≡ true → ((xs : List A) → Reprints (L xs) (f xs)) → (xs : List A) → Reprints (optional_list t L xs) (text_optional_list (text_word b t) f xs)
+optional_reprints t b L f blank each [] = nothing_reprints
+optional_reprints t b L f blank each (x ∷ xs) = then_reprints (word t) (L (x ∷ xs)) (text_word b t) (f (x ∷ xs)) (word_reprints t b blank) (each (x ∷ xs))
+
+parens_reprints : {A : Type 0} (L : A → Language) (f : A → List ℕ) → ((x : A) → Reprints (L x) (f x)) → (xs : List A) → Reprints (optional_list terminals.Open (λ xs. separated terminals.Comma L xs ▹ word terminals.Close) xs) (text_parens f xs)
+parens_reprints L f each xs =
+    optional_reprints terminals.Open space (λ xs. separated terminals.Comma L xs ▹ word terminals.Close) (λ xs. text_list terminals.Comma f xs ++ text_word line terminals.Close) space_blank
+    (λ xs. then_reprints (separated terminals.Comma L xs) (word terminals.Close) (text_list terminals.Comma f xs) (text_word line terminals.Close) (list_reprints terminals.Comma L f each xs) (word_reprints terminals.Close line line_blank)) xs
+
+-- ---- expressions
+
+expr_reprints : (e : Expr) (k b : ℕ) → is_blank b ≡ true → Reprints (SpellsExpr k e) (text_expr b e)
+expr_reprints (number n) k b blank = single_reprints (tokens.number n) b blank
+expr_reprints (truth true) k b blank = word_reprints terminals.True b blank
+expr_reprints (truth false) k b blank = word_reprints terminals.False b blank
+expr_reprints (named n) k b blank = name_reprints n b blank
+expr_reprints (parens e) k b blank =
+    then_reprints (word terminals.Open) (SpellsExpr 0 e ▹ word terminals.Close) (text_word space terminals.Open) (text_expr space e ++ text_word b terminals.Close) (word_reprints terminals.Open space space_blank)
+    (then_reprints (SpellsExpr 0 e) (word terminals.Close) (text_expr space e) (text_word b terminals.Close) (expr_reprints e 0 space space_blank) (word_reprints terminals.Close b blank))
+expr_reprints (binary l o r) k b blank =
+    let first = expr_reprints l (left_of o) space space_blank in
+    let second = expr_reprints r (right_of o) b blank in λ ts s are.
+    let m = then_reprints (SpellsExpr (left_of o) l) (word (operator_word o) ▹ SpellsExpr (right_of o) r) (text_expr space l) (text_word space (operator_word o) ++ text_expr b r) first
+        (then_reprints (word (operator_word o)) (SpellsExpr (right_of o) r) (text_word space (operator_word o)) (text_expr b r) (word_reprints (operator_word o) space space_blank) second) ts s.1 are in
+    (m.0, (s.0, m.1), m.2)
+
+option_reprints : (t : Terminal) (x : Option Expr) → Reprints (optional t (SpellsExpr 0) x) (text_option (text_word space t) x)
+option_reprints t None = nothing_reprints
+option_reprints t (Some e) = then_reprints (word t) (SpellsExpr 0 e) (text_word space t) (text_expr line e) (word_reprints t space space_blank) (expr_reprints e 0 line line_blank)
+
+-- ---- automata
+
+field_reprints : (b : ℕ) → is_blank b ≡ true → (f : FieldTree) → Reprints (SpellsField f) (text_field b f)
+field_reprints b blank f =
+    then_reprints (called f.name) (word terminals.Colon ▹ called f.ty) (text_name space f.name) (text_word space terminals.Colon ++ text_name b f.ty) (name_reprints f.name space space_blank)
+    (then_reprints (word terminals.Colon) (called f.ty) (text_word space terminals.Colon) (text_name b f.ty) (word_reprints terminals.Colon space space_blank) (name_reprints f.ty b blank))
+
+position_reprints : (p : PositionTree) → Reprints (SpellsPosition p) (text_position p)
+position_reprints (typed f) = field_reprints space space_blank f
+
+entry_reprints : (e : EntryTree) → Reprints (SpellsEntry e) (text_entry e)
+entry_reprints e =
+    then_reprints (word (kind_word e.kind)) (called e.name ▹ optional_list terminals.Open SpellsPositions e.positions) (text_word space (kind_word e.kind)) (text_name (before_list e.positions) e.name ++ text_parens text_position e.positions) (word_reprints (kind_word e.kind) space space_blank)
+    (then_reprints (called e.name) (optional_list terminals.Open SpellsPositions e.positions) (text_name (before_list e.positions) e.name) (text_parens text_position e.positions) (name_reprints e.name (before_list e.positions) (list_blank e.positions)) (parens_reprints SpellsPosition text_position position_reprints e.positions))
+
+variable_reprints : (v : VariableTree) → Reprints (SpellsVariable v) (text_variable v)
+variable_reprints v =
+    then_reprints (SpellsField v.field) (optional terminals.Becomes (SpellsExpr 0) v.start) (text_field (before_option v.start) v.field) (text_option (text_word space terminals.Becomes) v.start)
+    (field_reprints (before_option v.start) (option_blank v.start) v.field) (option_reprints terminals.Becomes v.start)
+
+binding_reprints : (n : List ℕ) (e : Expr) → Reprints (called n ▹ (word terminals.Becomes ▹ SpellsExpr 0 e)) (text_binding n e)
+binding_reprints n e =
+    then_reprints (called n) (word terminals.Becomes ▹ SpellsExpr 0 e) (text_name space n) (text_word space terminals.Becomes ++ text_expr line e) (name_reprints n space space_blank)
+    (then_reprints (word terminals.Becomes) (SpellsExpr 0 e) (text_word space terminals.Becomes) (text_expr line e) (word_reprints terminals.Becomes space space_blank) (expr_reprints e 0 line line_blank))
+
+stmt_reprints : (s : Stmt) → Reprints (SpellsStmt s) (text_stmt s)
+stmt_reprints (assign n e) = binding_reprints n e
+
+abbrev Trials : List ProposalTree → Language
+Trials ps = optional_list terminals.Propose (separated terminals.Comma SpellsProposal) ps
+
+abbrev Effect : List Stmt → Language
+Effect ss = optional_list terminals.Eff (terminated terminals.Semicolon SpellsStmt) ss
+
+abbrev text_trials : List ProposalTree → List ℕ
+text_trials ps = text_optional_list (text_word space terminals.Propose) (text_list terminals.Comma text_proposal) ps
+
+abbrev text_effect : List Stmt → List ℕ
+text_effect ss = text_optional_list (text_word space terminals.Eff) (text_list terminals.Semicolon text_stmt) ss
+
+trials_reprint : (ps : List ProposalTree) → Reprints (Trials ps) (text_trials ps)
+trials_reprint ps =
+    optional_reprints terminals.Propose space (separated terminals.Comma SpellsProposal) (text_list terminals.Comma text_proposal) space_blank
+    (list_reprints terminals.Comma SpellsProposal text_proposal (λ p. binding_reprints p.name p.value)) ps
+
+effect_reprints : (ss : List Stmt) → Reprints (Effect ss) (text_effect ss)
+effect_reprints ss = optional_reprints terminals.Eff space (terminated terminals.Semicolon SpellsStmt) (text_list terminals.Semicolon text_stmt) space_blank (terminated_reprints terminals.Semicolon SpellsStmt text_stmt stmt_reprints) ss
+
+transition_reprints : (t : TransitionTree) → Reprints (SpellsTransition t) (text_transition t)
+transition_reprints t =
+    let last = then_reprints (Trials t.proposals) (Effect t.effect) (text_trials t.proposals) (text_effect t.effect) (trials_reprint t.proposals) (effect_reprints t.effect) in
+    let parts = then_reprints (optional terminals.Pre (SpellsExpr 0) t.pre) (Trials t.proposals ▹ Effect t.effect) (text_option (text_word space terminals.Pre) t.pre) (text_trials t.proposals ++ text_effect t.effect) (option_reprints terminals.Pre t.pre) last in
+    let name = then_reprints (called t.name) (optional terminals.Pre (SpellsExpr 0) t.pre ▹ (Trials t.proposals ▹ Effect t.effect)) (text_name line t.name) (text_option (text_word space terminals.Pre) t.pre ++ (text_trials t.proposals ++ text_effect t.effect)) (name_reprints t.name line line_blank) parts in
+    then_reprints (word (kind_word t.kind)) (called t.name ▹ (optional terminals.Pre (SpellsExpr 0) t.pre ▹ (Trials t.proposals ▹ Effect t.effect))) (text_word space (kind_word t.kind)) (text_name line t.name ++ (text_option (text_word space terminals.Pre) t.pre ++ (text_trials t.proposals ++ text_effect t.effect))) (word_reprints (kind_word t.kind) space space_blank) name
+
+abbrev Entries : List EntryTree → Language
+Entries es = terminated terminals.Semicolon SpellsEntry es
+
+abbrev States : List VariableTree → Language
+States vs = optional_list terminals.States (terminated terminals.Semicolon SpellsVariable) vs
+
+abbrev Rules : List TransitionTree → Language
+Rules rs = word terminals.Transitions ▹ many SpellsTransition rs
+
+abbrev text_states : List VariableTree → List ℕ
+text_states vs = text_optional_list (text_word line terminals.States) (text_list terminals.Semicolon text_variable) vs
+
+abbrev text_rules : List TransitionTree → List ℕ
+text_rules rs = text_word line terminals.Transitions ++ text_all text_transition rs
+
+automaton_reprints : (a : AutomatonTree) → Reprints (SpellsAutomaton a) (text_automaton a)
+automaton_reprints a =
+    let rules = then_reprints (word terminals.Transitions) (many SpellsTransition a.transitions) (text_word line terminals.Transitions) (text_all text_transition a.transitions) (word_reprints terminals.Transitions line line_blank) (all_reprints SpellsTransition text_transition transition_reprints a.transitions) in
+    let states = optional_reprints terminals.States line (terminated terminals.Semicolon SpellsVariable) (text_list terminals.Semicolon text_variable) line_blank (terminated_reprints terminals.Semicolon SpellsVariable text_variable variable_reprints) a.variables in
+    let behaviour = then_reprints (States a.variables) (Rules a.transitions) (text_states a.variables) (text_rules a.transitions) states rules in
+    let entries = then_reprints (Entries a.entries) (States a.variables ▹ Rules a.transitions) (text_list terminals.Semicolon text_entry a.entries) (text_states a.variables ++ text_rules a.transitions) (terminated_reprints terminals.Semicolon SpellsEntry text_entry entry_reprints a.entries) behaviour in
+    let signature = then_reprints (word terminals.Signature) (Entries a.entries ▹ (States a.variables ▹ Rules a.transitions)) (text_word line terminals.Signature) (text_list terminals.Semicolon text_entry a.entries ++ (text_states a.variables ++ text_rules a.transitions)) (word_reprints terminals.Signature line line_blank) entries in
+    let formals = then_reprints (optional_list terminals.Open SpellsFields a.formals) (word terminals.Signature ▹ (Entries a.entries ▹ (States a.variables ▹ Rules a.transitions))) (text_parens (text_field space) a.formals) (text_word line terminals.Signature ++ (text_list terminals.Semicolon text_entry a.entries ++ (text_states a.variables ++ text_rules a.transitions))) (parens_reprints SpellsField (text_field space) (field_reprints space space_blank) a.formals) signature in
+    let name = then_reprints (called a.name) (optional_list terminals.Open SpellsFields a.formals ▹ (word terminals.Signature ▹ (Entries a.entries ▹ (States a.variables ▹ Rules a.transitions)))) (text_name (before_list a.formals) a.name) (text_parens (text_field space) a.formals ++ (text_word line terminals.Signature ++ (text_list terminals.Semicolon text_entry a.entries ++ (text_states a.variables ++ text_rules a.transitions)))) (name_reprints a.name (before_list a.formals) (list_blank a.formals)) formals in
+    as_text (SpellsAutomaton a) (text_name (before_list a.formals) a.name ++ (text_parens (text_field space) a.formals ++ (text_word line terminals.Signature ++ (text_list terminals.Semicolon text_entry a.entries ++ (text_states a.variables ++ text_rules a.transitions))))) (text_automaton a)
+    (sym (regroup (text_name (before_list a.formals) a.name) (text_parens (text_field space) a.formals) (text_word line terminals.Signature) (text_list terminals.Semicolon text_entry a.entries) (text_behaviour a))) name
+  where
+    regroup : (v w x y z : List ℕ) → (v ++ (w ++ (x ++ y))) ++ z ≡ v ++ (w ++ (x ++ (y ++ z)))
+    regroup v w x y z = simp append_assoc
+
+-- ---- compositions and sources
+
+instance_reprints : (i : InstanceTree) → Reprints (SpellsInstance i) (text_instance i)
+instance_reprints i =
+    let last = then_reprints (called i.automaton) (optional_list terminals.Open SpellsArguments i.arguments) (text_name (before_list i.arguments) i.automaton) (text_parens (text_expr space) i.arguments) (name_reprints i.automaton (before_list i.arguments) (list_blank i.arguments)) (parens_reprints (SpellsExpr 0) (text_expr space) (λ e. expr_reprints e 0 space space_blank) i.arguments) in
+    let colon = then_reprints (word terminals.Colon) (called i.automaton ▹ optional_list terminals.Open SpellsArguments i.arguments) (text_word space terminals.Colon) (text_name (before_list i.arguments) i.automaton ++ text_parens (text_expr space) i.arguments) (word_reprints terminals.Colon space space_blank) last in
+    then_reprints (called i.name) (word terminals.Colon ▹ (called i.automaton ▹ optional_list terminals.Open SpellsArguments i.arguments)) (text_name space i.name) (text_word space terminals.Colon ++ (text_name (before_list i.arguments) i.automaton ++ text_parens (text_expr space) i.arguments)) (name_reprints i.name space space_blank) colon
+
+instances_reprint : (is : List InstanceTree) → Reprints (SpellsInstances is) (text_all text_instance is)
+unfolding text_all
+instances_reprint [] = λ ts s are. absurd s
+instances_reprint (i ∷ []) = λ ts s are.
+    let m = instance_reprints i s.0 s.2 (are_parts s.0 s.1 (subst AreTokens s.4 are)).0 in
+    (m.0, (m.0, [], m.1, inr refl, sym (append-nil m.0)), subst (Spaced m.0) (sym (append-nil (text_instance i))) m.2)
+instances_reprint (i ∷ j ∷ more) = λ ts s are. absurd s
+
+composition_reprints : (c : CompositionTree) → Reprints (SpellsComposition c) (text_composition c)
+composition_reprints c =
+    then_reprints (called c.name) (word terminals.Components ▹ SpellsInstances c.instances) (text_name space c.name) (text_word line terminals.Components ++ text_all text_instance c.instances) (name_reprints c.name space space_blank)
+    (then_reprints (word terminals.Components) (SpellsInstances c.instances) (text_word line terminals.Components) (text_all text_instance c.instances) (word_reprints terminals.Components line line_blank) (instances_reprint c.instances))
+
+declaration_reprints : (d : DeclarationTree) → Reprints (SpellsDeclaration d) (text_declaration d)
+declaration_reprints (automaton a) = then_reprints (word terminals.Automaton) (SpellsAutomaton a) (text_word space terminals.Automaton) (text_automaton a) (word_reprints terminals.Automaton space space_blank) (automaton_reprints a)
+declaration_reprints (composition c) = then_reprints (word terminals.Composition) (SpellsComposition c) (text_word space terminals.Composition) (text_composition c) (word_reprints terminals.Composition space space_blank) (composition_reprints c)
+
+pub source_printed : (t : SourceTree) → IsSource t → (ts : List (Tok × ℕ)) × Lexes (text_source t) ts × SpellsSource t (plain ts)
+source_printed t source =
+    let m = all_reprints SpellsDeclaration text_declaration declaration_reprints t source.0.0 source.0.2 source.0.1 in
+    let lexed = spaced_lexes m.0 (text_source t) m.2 in
+    (lexed.0, lexed.1, subst (SpellsSource t) (sym lexed.2) m.1)

@@ -1,0 +1,134 @@
+-- The text that `print` writes: after each token stands a space, or LF at the end of a line.
+use Rattle.std.specs.Prelude.{ℕ, true, false, List, [], ◌∷◌, ◌++◌, Option, Some, None}
+use Rattle.std.specs.List.{flat_map}
+use Rattle.std.specs.Fmt.{decimal}
+use Rattle.ioa_lex.specs.declared.terminal.Terminal.{Terminal}
+use Rattle.ioa_lex.specs.declared.terminal.Terminal.TheVariants as terminals
+use Rattle.ioa_lex.specs.Spelling.{spelling_of}
+use Rattle.ioa_value.specs.Actions.{Name}
+use Rattle.ioa_syntax.specs.Tree as tree
+use Rattle.ioa_syntax.specs.Tree.{Expr, truth, named, parens, binary, FieldTree, PositionTree, typed, EntryTree, VariableTree, ProposalTree, Stmt, assign, TransitionTree, AutomatonTree, InstanceTree, CompositionTree, DeclarationTree, automaton, composition, SourceTree}
+use Rattle.ioa_syntax.specs.Grammar.{operator_word, kind_word}
+
+abbrev pub space : ℕ
+space = 32
+
+abbrev pub line : ℕ
+line = 10
+
+-- a word or sign, a name and a number, each with the byte after it
+abbrev pub text_word : ℕ → Terminal → List ℕ
+text_word b t = spelling_of t ++ b ∷ []
+
+abbrev pub text_name : ℕ → Name → List ℕ
+text_name b n = n ++ b ∷ []
+
+abbrev pub text_number : ℕ → ℕ → List ℕ
+text_number b n = decimal n ++ b ∷ []
+
+-- ---- lists
+
+-- the separator and an item, for each item
+abbrev pub text_more : {A : Type 0} → Terminal → (A → List ℕ) → List A → List ℕ
+text_more t f xs = flat_map (λ x. text_word space t ++ f x) xs
+
+abbrev pub text_list : {A : Type 0} → Terminal → (A → List ℕ) → List A → List ℕ
+text_list t f [] = []
+text_list t f (x ∷ xs) = f x ++ text_more t f xs
+
+-- each item
+unfoldable pub text_all : {A : Type 0} → (A → List ℕ) → List A → List ℕ
+text_all f xs = flat_map f xs
+
+-- a list after its word, or nothing
+abbrev pub text_optional_list : {A : Type 0} → List ℕ → (List A → List ℕ) → List A → List ℕ
+text_optional_list w f [] = []
+text_optional_list w f (x ∷ xs) = w ++ f (x ∷ xs)
+
+-- a list in parentheses, at the end of a line
+abbrev pub text_parens : {A : Type 0} → (A → List ℕ) → List A → List ℕ
+text_parens f xs = text_optional_list (text_word space terminals.Open) (λ xs. text_list terminals.Comma f xs ++ text_word line terminals.Close) xs
+
+-- what stands before a part that may be absent: a space, and else the end of the line
+abbrev pub before_list : {A : Type 0} → List A → ℕ
+before_list [] = line
+before_list (x ∷ xs) = space
+
+abbrev pub before_option : {A : Type 0} → Option A → ℕ
+before_option None = line
+before_option (Some x) = space
+
+-- ---- expressions, with the byte after the last token
+
+abbrev pub text_expr : ℕ → Expr → List ℕ
+text_expr b (tree.number n) = text_number b n
+text_expr b (truth true) = text_word b terminals.True
+text_expr b (truth false) = text_word b terminals.False
+text_expr b (named n) = text_name b n
+text_expr b (parens e) = text_word space terminals.Open ++ (text_expr space e ++ text_word b terminals.Close)
+text_expr b (binary l o r) = text_expr space l ++ (text_word space (operator_word o) ++ text_expr b r)
+
+abbrev pub text_option : List ℕ → Option Expr → List ℕ
+text_option w None = []
+text_option w (Some e) = w ++ text_expr line e
+
+-- ---- automata
+
+abbrev pub text_field : ℕ → FieldTree → List ℕ
+text_field b f = text_name space f.name ++ (text_word space terminals.Colon ++ text_name b f.ty)
+
+abbrev pub text_position : PositionTree → List ℕ
+text_position (typed f) = text_field space f
+
+abbrev pub text_entry : EntryTree → List ℕ
+text_entry e = text_word space (kind_word e.kind) ++ (text_name (before_list e.positions) e.name ++ text_parens text_position e.positions)
+
+abbrev pub text_variable : VariableTree → List ℕ
+text_variable v = text_field (before_option v.start) v.field ++ text_option (text_word space terminals.Becomes) v.start
+
+-- an assignment or a proposal
+abbrev pub text_binding : Name → Expr → List ℕ
+text_binding n e = text_name space n ++ (text_word space terminals.Becomes ++ text_expr line e)
+
+abbrev pub text_proposal : ProposalTree → List ℕ
+text_proposal p = text_binding p.name p.value
+
+abbrev pub text_stmt : Stmt → List ℕ
+text_stmt (assign n e) = text_binding n e
+
+abbrev pub text_transition : TransitionTree → List ℕ
+text_transition t =
+    text_word space (kind_word t.kind) ++ (text_name line t.name
+    ++ (text_option (text_word space terminals.Pre) t.pre
+    ++ (text_optional_list (text_word space terminals.Propose) (text_list terminals.Comma text_proposal) t.proposals
+    ++ text_optional_list (text_word space terminals.Eff) (text_list terminals.Semicolon text_stmt) t.effect)))
+
+-- up to the entries, and after them
+abbrev pub text_signature : AutomatonTree → List ℕ
+text_signature a =
+    text_name (before_list a.formals) a.name ++ (text_parens (text_field space) a.formals
+    ++ (text_word line terminals.Signature ++ text_list terminals.Semicolon text_entry a.entries))
+
+abbrev pub text_behaviour : AutomatonTree → List ℕ
+text_behaviour a =
+    text_optional_list (text_word line terminals.States) (text_list terminals.Semicolon text_variable) a.variables
+    ++ (text_word line terminals.Transitions ++ text_all text_transition a.transitions)
+
+abbrev pub text_automaton : AutomatonTree → List ℕ
+text_automaton a = text_signature a ++ text_behaviour a
+
+-- ---- compositions and sources
+
+abbrev pub text_instance : InstanceTree → List ℕ
+text_instance i = text_name space i.name ++ (text_word space terminals.Colon ++ (text_name (before_list i.arguments) i.automaton ++ text_parens (text_expr space) i.arguments))
+
+abbrev pub text_composition : CompositionTree → List ℕ
+text_composition c = text_name space c.name ++ (text_word line terminals.Components ++ text_all text_instance c.instances)
+
+abbrev pub text_declaration : DeclarationTree → List ℕ
+text_declaration (automaton a) = text_word space terminals.Automaton ++ text_automaton a
+text_declaration (composition c) = text_word space terminals.Composition ++ text_composition c
+
+-- the source's text
+abbrev pub text_source : SourceTree → List ℕ
+text_source ds = text_all text_declaration ds

@@ -1,0 +1,63 @@
+//! Compositions as they are printed.
+
+ghost use Rattle.std.specs.Prelude.{◌≡◌, ◌++◌, ◌<◌, map, OnOk};
+ghost use Rattle.std.specs.String.{string_bytes};
+ghost use Rattle.ioa_syntax.specs.Layout as spec;
+ghost use Rattle.ioa_syntax.specs.View.{expr_of, instance_of, assembly_of};
+
+use crate::printing::expressions::expression;
+use crate::printing::signatures::before;
+use crate::printing::words::{LINE, SPACE, name, word};
+use crate::tree::{Assembly, Expression, Instance};
+use ioa_lex::Terminal;
+use ioa_value::OutOfMemory;
+
+fn more_arguments(text: &mut String, arguments: &[Expression]) -> Result<(), OutOfMemory>
+    ensures { OnOk result (string_bytes text.new ≡ string_bytes text.old ++ spec.text_more Terminal.Comma (spec.text_expr spec.space) (map expr_of arguments.now)) }
+{
+    for argument in arguments {
+        word(text, Terminal::Comma, SPACE)?;
+        expression(text, argument, SPACE)?;
+    }
+    Ok(())
+}
+
+fn arguments(text: &mut String, arguments: &[Expression]) -> Result<(), OutOfMemory>
+    ensures { OnOk result (string_bytes text.new ≡ string_bytes text.old ++ spec.text_parens (spec.text_expr spec.space) (map expr_of arguments.now)) }
+{
+    let Some((first, more)) = arguments.split_first() else {
+        return Ok(());
+    };
+    word(text, Terminal::Open, SPACE)?;
+    expression(text, first, SPACE)?;
+    more_arguments(text, more)?;
+    word(text, Terminal::Close, LINE)
+}
+
+fn instance(text: &mut String, instance: &Instance) -> Result<(), OutOfMemory>
+    ensures { OnOk result (string_bytes text.new ≡ string_bytes text.old ++ spec.text_instance (instance_of instance.now)) }
+{
+    name(text, &instance.name, SPACE)?;
+    word(text, Terminal::Colon, SPACE)?;
+    name(text, &instance.automaton, before(&instance.arguments))?;
+    arguments(text, &instance.arguments)
+}
+
+#[tactic(auto, unfolding(crate::specs::Layout::text_all))]
+fn instances(text: &mut String, instances: &[Instance]) -> Result<(), OutOfMemory>
+    ensures { OnOk result (string_bytes text.new ≡ string_bytes text.old ++ spec.text_all spec.text_instance (map instance_of instances.now)) }
+{
+    for each in instances {
+        instance(text, each)?;
+    }
+    Ok(())
+}
+
+/// Writes what stands after the word `composition`.
+pub(crate) fn composition(text: &mut String, composition: &Assembly) -> Result<(), OutOfMemory>
+    ensures { OnOk result (string_bytes text.new ≡ string_bytes text.old ++ spec.text_composition (assembly_of composition.now)) }
+{
+    name(text, &composition.name, SPACE)?;
+    word(text, Terminal::Components, LINE)?;
+    instances(text, &composition.instances)
+}
