@@ -143,15 +143,7 @@ fn verified(
         arguments,
         result: stack,
     };
-    let answer = verify(alloc, code, &env);
-    let Env {
-        types: _,
-        kind: _,
-        slots: _,
-        arguments: _,
-        result: _,
-    } = env;
-    match answer {
+    match verify(alloc, code, &env) {
         Ok(part) => Ok(part),
         Err(CodeErr::OutOfMemory) => Err(OutOfMemory),
         Err(CodeErr::Bad { .. }) => unreachable!(),

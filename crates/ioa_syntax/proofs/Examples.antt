@@ -27,9 +27,12 @@ counter = record {
       ∷ record { kind = Input; name = codes "reset"; positions = [] } ∷ [];
   variables = record { field = field (codes "c") (codes "Int"); start = Some (named (codes "start")) } ∷ [];
   transitions = record {
-    kind = Output; name = codes "tick"; pre = Some (binary (named (codes "k")) Equal (named (codes "c")));
+    kind = Output;
+    name = codes "tick";
+    pre = Some (binary (named (codes "k")) Equal (named (codes "c")));
     proposals = record { name = codes "k"; value = named (codes "c") } ∷ [];
-    effect = assign (codes "c") (binary (named (codes "c")) Plus (number 1)) ∷ [] }
+    effect = assign (codes "c") (binary (named (codes "c")) Plus (number 1)) ∷ [];
+  }
       ∷ record { kind = Input; name = codes "reset"; pre = None; proposals = []; effect = assign (codes "c") (named (codes "start")) ∷ [] } ∷ [];
 }
 

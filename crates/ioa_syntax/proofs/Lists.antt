@@ -269,8 +269,8 @@ module _ (goes_on : List Tok → Bool) (look : LooksAhead goes_on) (separator : 
         let again = items_alike n n' in
         subst (λ o. Alike s s' o (items b' (suc n') found (c ++ s'))) (sym (items_suc b n found (c ++ s)))
         (subst (λ o. Alike s s' (P b (c ++ s) >>= next b n found) o) (sym (items_suc b' n' found (c ++ s')))
-            (alike_then s s' (P b (c ++ s)) (P b' (c ++ s')) (next b n found) (next b' n' found) (p.alike b b' le s s' same c) (λ x h. next_past n found x h)
-                (λ x d was is. next_alike n n' again found x d (omega (arith, shorter b (c ++ s) x (d ++ s) was)) (omega (arith, shorter b' (c ++ s') x (d ++ s') is)))))
+        (alike_then s s' (P b (c ++ s)) (P b' (c ++ s')) (next b n found) (next b' n' found) (p.alike b b' le s s' same c) (λ x h. next_past n found x h)
+        (λ x d was is. next_alike n n' again found x d (omega (arith, shorter b (c ++ s) x (d ++ s) was)) (omega (arith, shorter b' (c ++ s') x (d ++ s') is)))))
 
   items_long : (b n : ℕ) (found : List A) (ts : List Tok) → items b n found ts ≡ Err TooDeep → b < length ts
   items_long b zero found ts h = let never = sym (items_zero b found ts) ∙ h in absurd (cc)
@@ -416,14 +416,14 @@ module _ (begins : List Tok → Bool) (look : LooksAhead begins) (none : begins 
           let first = bind_ok (P b ts) (more_of b n found) (all, left) (sym (run_more b n found ts e) ∙ h) in
           let f = p.sound b ts first.0.0 first.0.1 first.1 in
           let m = again (found ++ first.0.0 ∷ []) first.0.1 all left first.2 in (
-              first.0.0 ∷ m.0,
-              m.1 ∙ append_assoc found (first.0.0 ∷ []) m.0,
-              record {
-                front = f.front ++ m.2.front;
-                spells = (f.front, m.2.front, f.spells, m.2.spells, refl);
-                apart = f.apart ∙ ap (λ z. f.front ++ z) m.2.apart ∙ sym (append_assoc f.front m.2.front left);
-                within = omega (arith, f.within, m.2.within);
-              },
+            first.0.0 ∷ m.0,
+            m.1 ∙ append_assoc found (first.0.0 ∷ []) m.0,
+            record {
+              front = f.front ++ m.2.front;
+              spells = (f.front, m.2.front, f.spells, m.2.spells, refl);
+              apart = f.apart ∙ ap (λ z. f.front ++ z) m.2.apart ∙ sym (append_assoc f.front m.2.front left);
+              within = omega (arith, f.within, m.2.within);
+            },
           )
 
   abbrev Over : Language
@@ -479,9 +479,9 @@ module _ (begins : List Tok → Bool) (look : LooksAhead begins) (none : begins 
             let e' : begins (c ++ s') ≡ true = sym (look (c ++ s) (c ++ s') (same_head s s' same c)) ∙ e in
             subst (λ o. Alike s s' o (run b' (suc n') found (c ++ s'))) (sym (run_more b n found (c ++ s) e))
             (subst (λ o. Alike s s' (P b (c ++ s) >>= more_of b n found) o) (sym (run_more b' n' found (c ++ s') e'))
-                (alike_then s s' (P b (c ++ s)) (P b' (c ++ s')) (more_of b n found) (more_of b' n' found) (p.alike b b' le s s' same c)
-                    (λ x h. past_at_most s (length x.1) (more_of b n found x) h (run_shrinks b n (found ++ x.0 ∷ []) x.1))
-                    (λ x d was is. again (found ++ x ∷ []) d (omega (arith, nearer b (c ++ s) x (d ++ s) was)) (omega (arith, nearer b' (c ++ s') x (d ++ s') is)))))
+            (alike_then s s' (P b (c ++ s)) (P b' (c ++ s')) (more_of b n found) (more_of b' n' found) (p.alike b b' le s s' same c)
+            (λ x h. past_at_most s (length x.1) (more_of b n found x) h (run_shrinks b n (found ++ x.0 ∷ []) x.1))
+            (λ x d was is. again (found ++ x ∷ []) d (omega (arith, nearer b (c ++ s) x (d ++ s) was)) (omega (arith, nearer b' (c ++ s') x (d ++ s') is)))))
 
   run_long : (b n : ℕ) (found : List A) (ts : List Tok) → run b n found ts ≡ Err TooDeep → b < length ts
   run_long b zero found ts h = let never = sym (run_zero b found ts) ∙ h in absurd (cc)

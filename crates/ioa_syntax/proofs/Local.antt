@@ -29,7 +29,7 @@ bracketed_shrinks : (inner : Reader Expr) → Shrinks inner → Shrinks (bracket
 bracketed_shrinks inner shrinks ts =
     at_most_then (length ts) ((inner ▸ sign terminals.Close) ts) (λ x. Ok (parens x.0.0, x.1))
     (at_most_then (length ts) (inner ts) (λ x. sign terminals.Close x.1 >>= λ y. Ok ((x.0, y.0), y.1)) (shrinks ts)
-        (λ x h. at_most_then (length ts) (sign terminals.Close x.1) (λ y. Ok ((x.0, y.0), y.1)) (at_most_more (length x.1) (length ts) (sign terminals.Close x.1) h ((sign_exact terminals.Close).shrinks 0 x.1)) (λ y k. k)))
+    (λ x h. at_most_then (length ts) (sign terminals.Close x.1) (λ y. Ok ((x.0, y.0), y.1)) (at_most_more (length x.1) (length ts) (sign terminals.Close x.1) h ((sign_exact terminals.Close).shrinks 0 x.1)) (λ y k. k)))
     (λ x h. h)
 
 opened_shrinks : (inner : Reader Expr) → Shrinks inner → (t : Terminal) (ts : List Tok) → AtMost (suc (length ts)) (opened inner t ts)
@@ -60,7 +60,7 @@ module _ (inner inner' : Reader Expr) (shrinks : Shrinks inner) (s s' : List Tok
   bracketed_alike c =
       alike_then s s' ((inner ▸ sign terminals.Close) (c ++ s)) ((inner' ▸ sign terminals.Close) (c ++ s')) (λ x. Ok (parens x.0.0, x.1)) (λ x. Ok (parens x.0.0, x.1))
       (alike_then s s' (inner (c ++ s)) (inner' (c ++ s')) closed closed (alike c) close_past
-          (λ x d was is. alike_then s s' (sign terminals.Close (d ++ s)) (sign terminals.Close (d ++ s')) (λ y. Ok ((x, y.0), y.1)) (λ y. Ok ((x, y.0), y.1)) ((sign_exact terminals.Close).alike 0 0 (omega arith) s s' same d) (λ y h. h) (λ y r was is. went s s' (x, y) r)))
+      (λ x d was is. alike_then s s' (sign terminals.Close (d ++ s)) (sign terminals.Close (d ++ s')) (λ y. Ok ((x, y.0), y.1)) (λ y. Ok ((x, y.0), y.1)) ((sign_exact terminals.Close).alike 0 0 (omega arith) s s' same d) (λ y h. h) (λ y r was is. went s s' (x, y) r)))
       (λ x h. h) (λ x d was is. went s s' (parens x.0) d)
 
   alike_as : (o p o' p' : Outcome Expr) → o ≡ p → o' ≡ p' → Alike s s' p p' → Alike s s' o o'
@@ -199,7 +199,7 @@ module _ (b b' : ℕ) (e e' : ℕ → Reader Expr) (deeper : b ≤ b') (shrinks_
             let present' : operator_at least below (c ++ s') ≡ Some present.0 = sym (operator_alike least below (c ++ s) (c ++ s') (same_head s s' same c)) ∙ present.1 in
             subst (λ o. Alike s s' (climb_by b e (climb b e n least) left (c ++ s) o) (climb_by b' e' (climb b' e' n' least) left (c ++ s') (operator_at least below (c ++ s')))) (sym present.1)
             (subst (λ o. Alike s s' (step b e n least left present.0 (rest (c ++ s))) (climb_by b' e' (climb b' e' n' least) left (c ++ s') o)) (sym present')
-                (alike_rest s s' (step b e n least left present.0) (step b' e' n' least left present.0) same (step_shrinks b e shrinks_e n least left present.0 (climb_shrinks b e shrinks_e n least)) (step_alike n n' more_of least left present.0) c (omega (arith, ap length present.2))))
+            (alike_rest s s' (step b e n least left present.0) (step b' e' n' least left present.0) same (step_shrinks b e shrinks_e n least left present.0 (climb_shrinks b e shrinks_e n least)) (step_alike n n' more_of least left present.0) c (omega (arith, ap length present.2))))
       ]
 
 no_expr : (b k : ℕ) → expr b k [] ≡ Err (Syntax 0)
@@ -272,7 +272,7 @@ module _ (b : ℕ) (e : ℕ → Reader Expr) (deep : (k : ℕ) (ts : List Tok) �
       by false fails o is again h = let far : b < depth_of left = grind (arith, nat_tests) in omega (arith, ap length is, length-append a ts)
       by true fits o is again h =
           let g : (e (right_of o) (rest ts) >>= λ q. climb b e n least (after_of o) (binary left o q.0) q.1) ≡ Err TooDeep =
-              subst (λ (x : Bool). (if x then (e (right_of o) (rest ts) >>= λ q. climb b e n least (after_of o) (binary left o q.0) q.1) else Err TooDeep) ≡ Err TooDeep) fits h in
+          subst (λ (x : Bool). (if x then (e (right_of o) (rest ts) >>= λ q. climb b e n least (after_of o) (binary left o q.0) q.1) else Err TooDeep) ≡ Err TooDeep) fits h in
           elim (bind_err (e (right_of o) (rest ts)) (λ q. climb b e n least (after_of o) (binary left o q.0) q.1) TooDeep g) [
             | inl first ↦ omega (arith, deep (right_of o) (rest ts) first, ap length is, length-append a ts, depth_positive left)
             | inr later ↦
@@ -290,7 +290,7 @@ expr_long zero k (x ∷ ts) h = omega arith
 expr_long (suc b) k ts h =
     let deep = expr_long b in
     let reads : (k : ℕ) (ts : List Tok) (t : Expr) (left : List Tok) → expr b k ts ≡ Ok (t, left) → (front : List Tok) × (depth_of t ≤ length front) × (ts ≡ front ++ left) =
-        λ k ts t left h. let r = sound b k ts t left h in (r.front, spelled_deep t k r.front r.spells, r.apart) in
+    λ k ts t left h. let r = sound b k ts t left h in (r.front, spelled_deep t k r.front r.spells, r.apart) in
     elim (bind_err (operand (expr b 0) ts) (λ p. climb b (expr b) b k 10 p.0 p.1) TooDeep h) [
       | inl first ↦ operand_long b (expr b) deep reads ts first
       | inr later ↦

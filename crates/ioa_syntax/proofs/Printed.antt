@@ -106,7 +106,7 @@ expr_reprints (binary l o r) k b blank =
     let first = expr_reprints l (left_of o) space space_blank in
     let second = expr_reprints r (right_of o) b blank in λ ts s are.
     let m = then_reprints (SpellsExpr (left_of o) l) (word (operator_word o) ▹ SpellsExpr (right_of o) r) (text_expr space l) (text_word space (operator_word o) ++ text_expr b r) first
-        (then_reprints (word (operator_word o)) (SpellsExpr (right_of o) r) (text_word space (operator_word o)) (text_expr b r) (word_reprints (operator_word o) space space_blank) second) ts s.1 are in
+    (then_reprints (word (operator_word o)) (SpellsExpr (right_of o) r) (text_word space (operator_word o)) (text_expr b r) (word_reprints (operator_word o) space space_blank) second) ts s.1 are in
     (m.0, (s.0, m.1), m.2)
 
 option_reprints : (t : Terminal) (x : Option Expr) → Reprints (optional t (SpellsExpr 0) x) (text_option (text_word space t) x)

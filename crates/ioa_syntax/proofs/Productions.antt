@@ -64,7 +64,7 @@ unfolding field
 field_exact =
     deep_as flat (λ x. omega arith)
     (built_as (λ p. record { name = p.0; ty = p.1.1 }) (λ f. (f.name, (tt, f.ty))) (λ f. refl) (λ p. refl)
-        (then name_exact (then (sign_exact terminals.Colon) name_exact (λ y ts left s g. tt)) (λ y ts left s g. tt)))
+    (then name_exact (then (sign_exact terminals.Colon) name_exact (λ y ts left s g. tt)) (λ y ts left s g. tt)))
 
 field_some : (f : FieldTree) (ts : List Tok) → SpellsField f ts → 0 < length ts
 field_some f ts s = first_some (tokens.name f.name) (word terminals.Colon ▹ called f.ty) ts s
@@ -74,7 +74,7 @@ unfolding closing
 closing_exact {L = L} {D = D} {F = F} p h =
     deep_as D (λ x. omega arith)
     (built_as (λ p. p.0) (λ x. (x, tt)) (λ x. refl) (λ p. refl)
-        (then p (sign_exact terminals.Close) (λ y ts left s g. subst (λ z. F (z ++ left)) (sym s) (h left))))
+    (then p (sign_exact terminals.Close) (λ y ts left s g. subst (λ z. F (z ++ left)) (sym s) (h left))))
 
 comma_close : (z : List Tok) → sees terminals.Comma (terminal terminals.Close ∷ z) ≡ false
 unfolding sees same_terminal
@@ -109,7 +109,7 @@ unfolding entry
 entry_exact =
     deep_as flat (λ x. omega arith)
     (built_as (λ p. record { kind = p.0; name = p.1.0; positions = p.1.1 }) (λ e. (e.kind, (e.name, e.positions))) (λ e. refl) (λ p. refl)
-        (then kind_exact (then name_exact (optional_list_exact terminals.Open positions_exact (closed_bare terminals.Comma terminals.Close SpellsPosition) refl) (λ y ts left s g. tt)) (λ y ts left s g. tt)))
+    (then kind_exact (then name_exact (optional_list_exact terminals.Open positions_exact (closed_bare terminals.Comma terminals.Close SpellsPosition) refl) (λ y ts left s g. tt)) (λ y ts left s g. tt)))
 
 entry_some : (e : EntryTree) (ts : List Tok) → SpellsEntry e ts → 0 < length ts
 entry_some e ts s = first_some (terminal (kind_word e.kind)) (called e.name ▹ grammar.optional_list terminals.Open SpellsPositions e.positions) ts s
@@ -151,7 +151,7 @@ unfolding variable
 variable_exact =
     deep_as deep_variable (λ v. omega (arith, deep_some_is v.start))
     (built_as (λ p. record { field = p.0; start = p.1 }) (λ v. (v.field, v.start)) (λ v. refl) (λ p. refl)
-        (then field_exact (optional_exact terminals.Becomes expression_exact) (λ y ts left s g. tt)))
+    (then field_exact (optional_exact terminals.Becomes expression_exact) (λ y ts left s g. tt)))
 
 variable_some : (v : VariableTree) (ts : List Tok) → SpellsVariable v ts → 0 < length ts
 variable_some v ts s = omega (arith, ap length s.4, length-append s.0 s.1, field_some v.field s.0 s.2)
@@ -191,7 +191,7 @@ unfolding proposal
 proposal_exact =
     deep_as deep_proposal (λ p. omega arith)
     (built_as (λ p. record { name = p.0; value = p.1.1 }) (λ q. (q.name, (tt, q.value))) (λ q. refl) (λ p. refl)
-        (then name_exact (then (sign_exact terminals.Becomes) expression_exact (λ y ts left s g. tt)) (λ y ts left s g. tt)))
+    (then name_exact (then (sign_exact terminals.Becomes) expression_exact (λ y ts left s g. tt)) (λ y ts left s g. tt)))
 
 proposal_some : (q : ProposalTree) (ts : List Tok) → SpellsProposal q ts → 0 < length ts
 proposal_some q ts s = first_some (tokens.name q.name) (word terminals.Becomes ▹ SpellsExpr 0 q.value) ts s
@@ -288,7 +288,7 @@ unfolding transition
 transition_exact =
     deep_as deep_transition (λ t. omega (arith, deep_some_is t.pre))
     (built_as (λ p. record { kind = p.0; name = p.1.0; pre = p.1.1.0; proposals = p.1.1.1.0; effect = p.1.1.1.1 }) (λ t. (t.kind, (t.name, (t.pre, (t.proposals, t.effect))))) (λ t. refl) (λ p. refl)
-        (then kind_exact (then name_exact (then (optional_exact terminals.Pre expression_exact) (then (optional_list_exact terminals.Propose proposals_exact (parted_bare terminals.Comma SpellsProposal) refl) effect_exact effect_follows) trials_follow) (λ y ts left s g. tt)) (λ y ts left s g. tt)))
+    (then kind_exact (then name_exact (then (optional_exact terminals.Pre expression_exact) (then (optional_list_exact terminals.Propose proposals_exact (parted_bare terminals.Comma SpellsProposal) refl) effect_exact effect_follows) trials_follow) (λ y ts left s g. tt)) (λ y ts left s g. tt)))
 
 transition_some : (t : TransitionTree) (ts : List Tok) → SpellsTransition t ts → 0 < length ts
 transition_some t ts s = omega (arith, ap length s.4, length-append s.0 s.1, ap length s.2)
@@ -362,9 +362,9 @@ unfolding an_automaton
 automaton_exact =
     deep_as deep_automaton (λ a. omega arith)
     (built_as (λ p. record { name = p.0; formals = p.1.0; entries = p.1.1.1.0; variables = p.1.1.1.1.0; transitions = p.1.1.1.1.1.1 }) (λ a. (a.name, (a.formals, (tt, (a.entries, (a.variables, (tt, a.transitions))))))) (λ a. refl) (λ p. refl)
-        (then name_exact (then (optional_list_exact terminals.Open fields_exact (closed_bare terminals.Comma terminals.Close SpellsField) refl)
-            (then (sign_exact terminals.Signature) (then entries_exact (then (optional_list_exact terminals.States variables_exact (ended_bare terminals.Semicolon SpellsVariable) refl)
-                (then (sign_exact terminals.Transitions) transitions_exact (λ y ts left s g. tt)) rules_follow) states_follow) (λ y ts left s g. tt)) signature_follows) (λ y ts left s g. tt)))
+    (then name_exact (then (optional_list_exact terminals.Open fields_exact (closed_bare terminals.Comma terminals.Close SpellsField) refl)
+    (then (sign_exact terminals.Signature) (then entries_exact (then (optional_list_exact terminals.States variables_exact (ended_bare terminals.Semicolon SpellsVariable) refl)
+    (then (sign_exact terminals.Transitions) transitions_exact (λ y ts left s g. tt)) rules_follow) states_follow) (λ y ts left s g. tt)) signature_follows) (λ y ts left s g. tt)))
 
 -- ---- compositions
 
@@ -384,7 +384,7 @@ unfolding instance
 instance_exact =
     deep_as deep_instance (λ i. omega arith)
     (built_as (λ p. record { name = p.0; automaton = p.1.1.0; arguments = p.1.1.1 }) (λ i. (i.name, (tt, (i.automaton, i.arguments)))) (λ i. refl) (λ p. refl)
-        (then name_exact (then (sign_exact terminals.Colon) (then name_exact (optional_list_exact terminals.Open arguments_exact (closed_bare terminals.Comma terminals.Close (SpellsExpr 0)) refl) (λ y ts left s g. tt)) (λ y ts left s g. tt)) (λ y ts left s g. tt)))
+    (then name_exact (then (sign_exact terminals.Colon) (then name_exact (optional_list_exact terminals.Open arguments_exact (closed_bare terminals.Comma terminals.Close (SpellsExpr 0)) refl) (λ y ts left s g. tt)) (λ y ts left s g. tt)) (λ y ts left s g. tt)))
 
 perhaps_sound : (t : Terminal) (b : ℕ) (ts : List Tok) (x : Unit {0}) (left : List Tok) → perhaps t ts ≡ Ok (x, left) → Found (λ (u : Unit {0}). grammar.perhaps t) flat b ts x left
 perhaps_sound t b ts x left h = by (sees t ts) refl
@@ -409,7 +409,7 @@ perhaps_alike t s s' h c = by (sees t (c ++ s)) refl
     by true e =
         subst (λ z. Alike s s' (Ok (tt, z)) (perhaps t (c ++ s'))) (sym (after_seen t (c ++ s) e))
         (subst (λ z. Alike s s' (Ok (tt, rest (c ++ s))) (Ok (tt, z))) (sym (after_seen t (c ++ s') (sym same ∙ e)))
-            (alike_rest s s' pass pass h (λ ts. omega arith) (λ c. went s s' tt c) c (seen_some t (c ++ s) e)))
+        (alike_rest s s' pass pass h (λ ts. omega arith) (λ c. went s s' tt c) c (seen_some t (c ++ s) e)))
     by false e =
         subst (λ z. Alike s s' (Ok (tt, z)) (perhaps t (c ++ s'))) (sym (after_unseen t (c ++ s) e))
         (subst (λ z. Alike s s' (Ok (tt, c ++ s)) (Ok (tt, z))) (sym (after_unseen t (c ++ s') (sym same ∙ e))) (went s s' tt c))
@@ -449,7 +449,7 @@ unfolding a_composition
 composition_exact =
     deep_as deep_composition (λ c. omega arith)
     (built_as (λ p. record { name = p.0; instances = p.1.1 }) (λ c. (c.name, (tt, c.instances))) (λ c. refl) (λ p. refl)
-        (then name_exact (then (sign_exact terminals.Components) instances_exact (λ y ts left s g. tt)) (λ y ts left s g. tt)))
+    (then name_exact (then (sign_exact terminals.Components) instances_exact (λ y ts left s g. tt)) (λ y ts left s g. tt)))
 
 -- ---- declarations
 

@@ -245,7 +245,7 @@ module _ {A : Type 0} (t : Terminal) {L M : A → Language} {D : A → ℕ} {F G
       by true e =
           subst (λ o. Alike s s' o (either b' (c ++ s'))) (sym (where_seen b (c ++ s) e))
           (subst (λ o. Alike s s' (P b (rest (c ++ s))) o) (sym (where_seen b' (c ++ s') (sym same ∙ e)))
-              (alike_rest s s' (P b) (P b') h (p.shrinks b) (p.alike b b' le s s' h) c (seen_some t (c ++ s) e)))
+          (alike_rest s s' (P b) (P b') h (p.shrinks b) (p.alike b b' le s s' h) c (seen_some t (c ++ s) e)))
       by false e =
           subst (λ o. Alike s s' o (either b' (c ++ s'))) (sym (where_unseen b (c ++ s) e))
           (subst (λ o. Alike s s' (Q b (c ++ s)) o) (sym (where_unseen b' (c ++ s') (sym same ∙ e))) (q.alike b b' le s s' h c))

@@ -10,6 +10,7 @@ mod laws;
 mod measured;
 mod parsing;
 mod printing;
+mod sameness;
 mod signatures;
 mod source;
 mod sources;

@@ -1,9 +1,10 @@
 //! A source that was read.
 
-ghost use Rattle.std.specs.Prelude.{◌≡◌};
+ghost use Rattle.std.specs.Prelude.{◌≡◌, ◌↔◌, IsTrue};
 ghost use Rattle.ioa_syntax.specs.Source.{IsSource};
 ghost use Rattle.ioa_syntax.specs.View.{tree_of};
 
+use crate::sameness::same_list;
 use crate::tree::Declaration;
 use std::marker::Model;
 
@@ -46,5 +47,12 @@ impl Source {
         ensures kept { IsSource (tree_of self.now) }
     {
         self.declarations.as_slice()
+    }
+
+    /// Whether the sources are equal but for lines.
+    pub fn same(&self, other: &Source) -> bool
+        ensures { IsTrue result ↔ (tree_of self.now ≡ tree_of other.now) }
+    {
+        same_list(&self.declarations, &other.declarations)
     }
 }

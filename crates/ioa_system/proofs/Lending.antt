@@ -1,11 +1,9 @@
 -- The states that a step gets, from a component on.
-use Rattle.std.proofs.Common.{◌≡◌, ℕ, zero, suc, ◌+◌, ◌<◌, ◌≤◌, List, [], ◌∷◌, ◌++◌, length, get_or, drop, map, append_assoc, Bool, true, false, cond, Option, None, Some, Result, Ok, Err, refl, sym, ◌∙◌, ap, subst, arith, length-append, length-drop}
+use Rattle.std.proofs.Common.{◌≡◌, ℕ, zero, suc, ◌+◌, ◌<◌, ◌≤◌, List, [], ◌∷◌, ◌++◌, length, get_or, drop, map, append_assoc, true, false, Option, None, Some, Result, Ok, Err, refl, sym, ◌∙◌, ap, subst, arith, length-append, length-drop}
 use Rattle.std.proofs.lemmas.List.{append-nil, drop_all, drop_more, get_or_default, length-map, map-append}
-use Rattle.std.specs.Option.{option_map}
 use Rattle.ioa_value.specs.declared.arithmetic.Fault.{Fault}
 use Rattle.ioa_value.specs.Actions.{Act}
 use Rattle.ioa_value.specs.Plain.{Val}
-use Rattle.ioa_value.specs.Typing.{HaveTypes, basic_types}
 use Rattle.ioa_node.specs.Nodes.{Node}
 use Rattle.ioa_syntax.specs.declared.tree.Kind.{Kind}
 use Rattle.ioa_syntax.specs.Components.{Component, has, owns, is_kind, is_local}
@@ -16,7 +14,7 @@ use Rattle.ioa_compile.specs.Shown.{member_code}
 use Rattle.ioa_compile.specs.Tables.{AreEntries, AreMembers, entry_of, table_component}
 use Rattle.ioa_system.specs.declared.moves.Whose.{Whose}
 use Rattle.ioa_system.specs.Lent.{Fits, lent, place_of}
-use Rattle.ioa_system.specs.Participants.{taken, rest, at_first, asked_of, effects_of}
+use Rattle.ioa_system.specs.Participants.{taken, asked_of, effects_of}
 use Rattle.ioa_system.specs.Systems.{types_of, values_of, slot_types}
 
 abbrev pub tables : List MemberCode → List (Component (List Val))

@@ -1,12 +1,12 @@
 -- A step depends on the participants' states alone.
-use Rattle.std.proofs.Common.{◌≡◌, ℕ, ◌+◌, List, [], ◌∷◌, length, map, Bool, true, false, cond, IsTrue, Option, None, Some, Result, Ok, Err, refl, sym, ◌∙◌, ap, arith}
+use Rattle.std.proofs.Common.{◌≡◌, ℕ, ◌+◌, List, [], ◌∷◌, length, map, Bool, true, false, cond, Option, None, Some, Result, Ok, Err, refl, sym, ◌∙◌, ap, arith}
 use Rattle.std.specs.List.{list_any}
 use Rattle.ioa_value.specs.declared.arithmetic.Fault.{Fault}
 use Rattle.ioa_value.specs.Actions.{Act}
 use Rattle.ioa_syntax.specs.declared.tree.Kind.{Kind}
 use Rattle.ioa_syntax.specs.Components.{Component, has, owns, is_kind, is_local}
 use Rattle.ioa_syntax.specs.Steps.{Moved, next, not_an_action, not_enabled, fault, Asked, free, owned, asked, with_state, then_rest, effects, allowed, step}
-use Rattle.ioa_system.specs.Participants.{taken, first_or, rest, put_back, all_back, at_first, asked_of, effects_of, step_from}
+use Rattle.ioa_system.specs.Participants.{taken, first_or, rest, put_back, all_back, asked_of, effects_of, step_from}
 
 local_is_kind : (k : Option Kind) → is_kind k ≡ false → is_local k ≡ false
 local_is_kind None h = refl

@@ -1,8 +1,8 @@
 -- A run, action by action.
-use Rattle.std.proofs.Common.{◌≡◌, ℕ, ◌+◌, ◌<◌, ◌≤◌, List, [], ◌∷◌, ◌++◌, length, get_or, take, drop, filter, map, Bool, true, false, Result, Ok, Err, IfOk, refl, sym, ◌∙◌, ap, subst, arith}
-use Rattle.std.proofs.lemmas.List.{append-nil, drop_all, take_all, take_more, length-map}
+use Rattle.std.proofs.Common.{◌≡◌, ℕ, ◌+◌, ◌<◌, ◌≤◌, List, [], ◌∷◌, ◌++◌, length, get_or, take, drop, filter, true, false, Result, Ok, Err, IfOk, refl, sym, ◌∙◌, ap, subst}
+use Rattle.std.proofs.lemmas.List.{append-nil, drop_all, take_more}
 use Rattle.std.proofs.lemmas.List.Elements.{filter-append}
-use Rattle.ioa_value.specs.Actions.{Name, Act, act_of}
+use Rattle.ioa_value.specs.Actions.{Name, Act}
 use Rattle.ioa_value.specs.Plain.{Val}
 use Rattle.ioa_syntax.specs.Components.{Component}
 use Rattle.ioa_syntax.specs.Steps.{Moved, next, step}
@@ -14,8 +14,7 @@ use Rattle.ioa_compile.specs.Programs.{Prog}
 use Rattle.ioa_compile.specs.Tables.{tabled, start_states}
 use Rattle.ioa_compile.specs.Means.{CorrespondsAt, Means}
 use Rattle.ioa_system.specs.declared.runs.Run.{Run}
-use Rattle.ioa_system.specs.Records.{IsTableRun, IsSourceRun, history_of, trace_of}
-use Rattle.ioa_system.specs.Systems.{Running}
+use Rattle.ioa_system.specs.Records.{IsTableRun, IsSourceRun}
 use Rattle.ioa_system.proofs.Lending.{drop_read}
 
 -- what stands where i actions are performed

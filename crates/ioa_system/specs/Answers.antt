@@ -1,6 +1,5 @@
 -- Answers of steps and runs without the memory that holds them.
-use Rattle.std.specs.Prelude.{◌≡◌, ℕ, List, map}
-use Rattle.ioa_value.specs.Actions.{Act, act_of}
+use Rattle.std.specs.Prelude.{◌≡◌, ℕ, List}
 use Rattle.ioa_value.specs.Plain.{Val}
 use Rattle.ioa_syntax.specs.Steps as steps
 use Rattle.ioa_syntax.specs.Steps.{next, not_an_action, not_enabled, fault}

@@ -1,6 +1,5 @@
 -- The participants' states, as a step gets them.
-use Rattle.std.specs.Prelude.{◌≡◌, ℕ, List, map, Result, Bool}
-use Rattle.ioa_value.specs.declared.arithmetic.Fault.{Fault}
+use Rattle.std.specs.Prelude.{◌≡◌, ℕ, List, map}
 use Rattle.ioa_value.specs.Actions.{Act}
 use Rattle.ioa_node.specs.Nodes.{Node}
 use Rattle.ioa_syntax.specs.Steps as steps

@@ -1,5 +1,5 @@
 -- Steps from the participants' states alone.
-use Rattle.std.specs.Prelude.{ℕ, ◌+◌, ◌≡◌, List, [], ◌∷◌, cond, length, Result, Ok, Err}
+use Rattle.std.specs.Prelude.{ℕ, ◌+◌, ◌≡◌, List, [], ◌∷◌, cond, length}
 use Rattle.std.specs.List.{list_any}
 use Rattle.ioa_value.specs.Actions.{Act}
 use Rattle.ioa_syntax.specs.Components.{Component, has, owns}

@@ -1,14 +1,13 @@
 -- Runs without the memory that holds them.
-use Rattle.std.specs.Prelude.{◌≡◌, ℕ, List, map}
+use Rattle.std.specs.Prelude.{◌≡◌, List, map}
 use Rattle.ioa_value.specs.Actions.{Act, act_of}
 use Rattle.ioa_value.specs.Plain.{Val}
-use Rattle.ioa_syntax.specs.Meaning.{Env}
 use Rattle.ioa_syntax.specs.Runs.{History, run, trace}
 use Rattle.ioa_syntax.specs.Likes.{RunsLike}
 use Rattle.ioa_syntax.specs.Compositions.{Composed, components_of, starts_of}
 use Rattle.ioa_compile.specs.Programs.{Prog}
 use Rattle.ioa_compile.specs.Tables.{tabled, start_states}
-use Rattle.ioa_compile.specs.Means.{CorrespondsAt, Means}
+use Rattle.ioa_compile.specs.Means.{CorrespondsAt}
 use Rattle.ioa_system.specs.declared.runs.Run.{Run}
 use Rattle.ioa_system.specs.Answers.{ending_of}
 use Rattle.ioa_system.specs.Systems.{values_of}

@@ -1,5 +1,5 @@
 -- A running program: the program, and the state of each of its components.
-use Rattle.std.specs.Prelude.{◌≡◌, ℕ, List, map, refl}
+use Rattle.std.specs.Prelude.{ℕ, List, map, refl}
 use Rattle.std.specs.Coded.{Coded, code_by, coded×, coded_list}
 use Rattle.ioa_value.specs.Plain.{Val}
 use Rattle.ioa_value.specs.Coded.{coded_vals}

@@ -69,7 +69,9 @@ pub(crate) fn moved(
         return Ok(Moved::NotAnAction);
     }
     match asked(alloc, members, action, whose, states)? {
-        Consent::Free | Consent::Owned(_, Ok(true)) => effects(alloc, members, action, whose, states),
+        Consent::Free | Consent::Owned(_, Ok(true)) => {
+            effects(alloc, members, action, whose, states)
+        }
         Consent::Owned(_, Ok(false)) => Ok(Moved::NotEnabled),
         Consent::Owned(component, Err(fault)) => Ok(Moved::Fault(component, fault)),
     }

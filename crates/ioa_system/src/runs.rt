@@ -27,11 +27,7 @@ pub struct Run {
 }
 
 /// The run of the program over the actions.
-pub fn run_list(
-    alloc: Global,
-    program: &Program,
-    actions: &[Action],
-) -> Result<Run, OutOfMemory>
+pub fn run_list(alloc: Global, program: &Program, actions: &[Action]) -> Result<Run, OutOfMemory>
     ensures machine { IfOk result (IsTableRun program.now (map act_of actions.now)) }
     ensures source { IfOk result (λ r. (c : Composed) → Means program.now c → IsSourceRun c (map act_of actions.now) r) }
 {

@@ -82,7 +82,7 @@ impl<'a> System<'a> {
         ensures values { values_of result.now ≡ self.now.states }
         ensures types { types_of result.now ≡ slot_types self.now.program.members }
     {
-        &self.states
+        self.states.as_slice()
     }
 
     /// The components' states in order, without the system.

@@ -28,7 +28,8 @@ pub are_of-HaveTypes : (types : List Shape) (vs : List Val) (tys : List ℕ) →
 are_of-HaveTypes types [] [] = (λ h. tt, λ h. refl)
 are_of-HaveTypes types [] (ty ∷ tys) = (λ h. absurd (cc), λ h. absurd h)
 are_of-HaveTypes types (v ∷ vs) [] = (λ h. absurd (cc), λ h. absurd h)
-are_of-HaveTypes types (v ∷ vs) (ty ∷ tys) =
-    (λ h. let p : IsTrue (is_of types v ty) × IsTrue (are_of types vs tys) = both (is_of types v ty) (are_of types vs tys) h in
+are_of-HaveTypes types (v ∷ vs) (ty ∷ tys) = (
+  λ h. let p : IsTrue (is_of types v ty) × IsTrue (are_of types vs tys) = both (is_of types v ty) (are_of types vs tys) h in
       ((is_of-HasType types v ty).0 p.0, (are_of-HaveTypes types vs tys).0 p.1),
-    λ h. joined (is_of types v ty) (are_of types vs tys) ((is_of-HasType types v ty).1 h.0) ((are_of-HaveTypes types vs tys).1 h.1))
+  λ h. joined (is_of types v ty) (are_of types vs tys) ((is_of-HasType types v ty).1 h.0) ((are_of-HaveTypes types vs tys).1 h.1),
+)

@@ -1,3 +1,8 @@
+ghost use Rattle.std.specs.Prelude.{IfOk, IfSome};
+ghost use Rattle.std.specs.Option.{option_copied};
+ghost use Rattle.ioa_system.specs.Answers.{ending_of};
+ghost use Rattle.ioac.specs.Headline.{IsReplay};
+
 use crate::failure::Failure;
 use ioa_check::check;
 use ioa_compile::compile;
@@ -9,16 +14,23 @@ use std::alloc::Global;
 
 /// Replays a list of actions in a composition of a source, both given as texts: writes the external trace and how
 /// the list ends, and answers that end.
+///
+/// Whatever the text and the list: where the answer is `Ok`, the text spells one tree, and what was written is the
+/// run of the automata of that tree, by their meaning alone.
 pub fn replay_text<R: InputDevice, W: OutputDevice>(
     alloc: Global,
     text: &[u8],
     composition: Option<&str>,
     input: &mut R,
     output: &mut W,
-) -> Result<End, Failure> {
+) -> Result<End, Failure>
+    ensures { IfOk result (λ end. IfSome (R.remaining input.old) (λ bytes.
+        IsReplay text.now (option_copied composition.entry) bytes (ending_of end) (W.contents output.old) (W.contents output.new))) }
+{
     let source = parse(alloc, text)?;
     let checked = check(alloc, source)?;
     let composed = compose(alloc, &checked, composition)?;
     let program = compile(alloc, &composed)?;
-    Ok(replay_list(alloc, &program, input, output)?)
+    let end = replay_list(alloc, &program, input, output)?;
+    Ok(end)
 }

@@ -19,10 +19,9 @@ fn file_argument<'a>(alloc: Global) -> Arg<'a> {
 }
 
 fn composition_option<'a>(alloc: Global) -> Arg<'a> {
-    Arg::new(alloc, "comp")
-        .long("comp")
-        .value_name("NAME")
-        .help("The composition to take; without it, the source's last one")
+    Arg::new(alloc, "comp").long("comp").value_name("NAME").help(
+        "The composition to take; without it, the source's last one",
+    )
 }
 
 fn replay_command<'a>(alloc: Global) -> Result<Command<'a>, AllocError> {

@@ -10,9 +10,7 @@ ghost use Rattle.ioa_syntax.specs.View.{expr_of, name_of, variable_of, proposal_
 use crate::printing::expressions::expression;
 use crate::printing::signatures::{before, entries, field, formals, word_of};
 use crate::printing::words::{LINE, SPACE, name, word};
-use crate::tree::{
-    Automaton, Expression, Name, Proposal, Statement, Transition, Variable,
-};
+use crate::tree::{Automaton, Expression, Name, Proposal, Statement, Transition, Variable};
 use ioa_lex::Terminal;
 use ioa_value::OutOfMemory;
 

@@ -178,18 +178,38 @@ fn reads_command_lines(rt: HostRuntime) -> Result<(), Fail> {
         errors: "E17\n",
         status: 1,
     };
-    expect(&rt, alloc, COUNTER.as_bytes(), unnamed.as_slice(), b"", &unknown)?;
+    expect(
+        &rt,
+        alloc,
+        COUNTER.as_bytes(),
+        unnamed.as_slice(),
+        b"",
+        &unknown,
+    )?;
     let absent: [&str; 3] = ["ioac", "replay", "g"];
     let unread = Wanted {
         output: "",
         errors: "io\n",
         status: 5,
     };
-    expect(&rt, alloc, COUNTER.as_bytes(), absent.as_slice(), b"", &unread)
+    expect(
+        &rt,
+        alloc,
+        COUNTER.as_bytes(),
+        absent.as_slice(),
+        b"",
+        &unread,
+    )
 }
 
 // A counter that starts at an expression.
-fn starting(alloc: Global, open: &str, middle: &str, close: &str, times: usize) -> Result<String, AllocError> {
+fn starting(
+    alloc: Global,
+    open: &str,
+    middle: &str,
+    close: &str,
+    times: usize,
+) -> Result<String, AllocError> {
     let mut expression = String::new(alloc);
     for _ in 0..times {
         expression.push_str(open)?;
@@ -198,7 +218,12 @@ fn starting(alloc: Global, open: &str, middle: &str, close: &str, times: usize) 
     for _ in 0..times {
         expression.push_str(close)?;
     }
-    replaced(alloc, COUNTER, ":= start", format!(in alloc; ":= {expression}")?.as_str())
+    replaced(
+        alloc,
+        COUNTER,
+        ":= start",
+        format!(in alloc; ":= {expression}")?.as_str(),
+    )
 }
 
 #[test]
@@ -218,7 +243,14 @@ fn bounds_depth(rt: HostRuntime) -> Result<(), Fail> {
             errors,
             status,
         };
-        expect(&rt, alloc, source.as_bytes(), REPLAY.as_slice(), b"", &wanted)?;
+        expect(
+            &rt,
+            alloc,
+            source.as_bytes(),
+            REPLAY.as_slice(),
+            b"",
+            &wanted,
+        )?;
     }
     Ok(())
 }
@@ -232,7 +264,14 @@ fn bounds_texts(rt: HostRuntime) -> Result<(), Fail> {
         errors: "E1\n",
         status: 1,
     };
-    expect(&rt, alloc, long.as_slice(), REPLAY.as_slice(), b"", &too_long)?;
+    expect(
+        &rt,
+        alloc,
+        long.as_slice(),
+        REPLAY.as_slice(),
+        b"",
+        &too_long,
+    )?;
     let empty = Wanted {
         output: "",
         errors: "E17\n",
@@ -267,5 +306,12 @@ fn bounds_texts(rt: HostRuntime) -> Result<(), Fail> {
         errors: "E10 line 1\n",
         status: 1,
     };
-    expect(&rt, alloc, crowded.as_bytes(), REPLAY.as_slice(), b"", &too_many)
+    expect(
+        &rt,
+        alloc,
+        crowded.as_bytes(),
+        REPLAY.as_slice(),
+        b"",
+        &too_many,
+    )
 }

@@ -6,7 +6,8 @@ use std::process::Abort;
 use std::test::Fail;
 
 /// The counter that most tests replay.
-pub const COUNTER: &str = "automaton Counter(start: Int) signature output tick(k: Int); input reset \
+pub const COUNTER: &str =
+    "automaton Counter(start: Int) signature output tick(k: Int); input reset \
     states c: Int := start transitions output tick pre k = c propose k := c eff c := c + 1 \
     input reset eff c := start composition One components A: Counter(5)";
 
@@ -27,6 +28,7 @@ impl<'a> Store for Shelf<'a> {
 }
 
 /// What a run of the program has to print, and its exit status.
+#[derive(Clone, Copy)]
 pub struct Wanted {
     pub output: &'static str,
     pub errors: &'static str,

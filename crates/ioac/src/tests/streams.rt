@@ -1,7 +1,7 @@
+use crate::failure::Failure;
 use crate::replay::replay_text;
 use crate::tests::shelf::COUNTER;
 use ioa_log::{Counted, Device, LogErr};
-use crate::failure::Failure;
 use std::io;
 use std::io::{Read, Write};
 use std::process::Abort;
@@ -73,6 +73,7 @@ impl<'a> Read for Dripping<'a> {
 }
 
 const LIST: &[u8; 22] = b"tick(5)\ntick(6)\nreset\n";
+
 const PRINTED: &[u8; 40] = b"tick(5)\ntick(6)\nreset\nend: done after 3\n";
 
 fn assert_failed_device<T>(rt: &impl Abort, answer: &Result<T, Failure>) {

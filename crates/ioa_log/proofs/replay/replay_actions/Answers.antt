@@ -1,4 +1,4 @@
-use Rattle.std.proofs.Common.{◌≡◌, ℕ, ◌+◌, ◌<◌, ◌≤◌, List, [], ◌∷◌, ◌++◌, length, get_or, map, codes, Bool, true, false, refl, sym, subst, ap, ◌∙◌, arith}
+use Rattle.std.proofs.Common.{◌≡◌, ℕ, ◌+◌, ◌<◌, List, [], ◌∷◌, ◌++◌, length, get_or, map, true, false, sym, subst, ap, ◌∙◌, arith}
 use Rattle.std.proofs.lemmas.List.{length-map}
 use Rattle.std.specs.String.{string_bytes}
 use Rattle.ioa_value.specs.Actions.{Act, act_of}
@@ -65,14 +65,14 @@ loop-i-preserved c =
     record {
       program = c.in_ok-step.ensures.program ∙ c.loop-i.invariant.program;
       writes = elim c.if-is_external.branch [
-        then-is_external+in_ok-push_action b ↦
-        let x : is_external p.hidden (tabled p) a ≡ true = sym c.is_external.ensures ∙ b.if-is_external.true in
-        let v : string_bytes c.if-is_external.text ≡ old ++ (written_action a ++ 10 ∷ []) = ap string_bytes b.text-is ∙ b.in_ok-push_action.ensures in
-        subst (λ (bs : List ℕ). Writes p acts (i + 1) ts bs) (sym v) (writes_external p acts i ss ts old a c.loop-i.invariant.writes l e s x)
+        | then-is_external+in_ok-push_action b ↦
+            let x : is_external p.hidden (tabled p) a ≡ true = sym c.is_external.ensures ∙ b.if-is_external.true in
+            let v : string_bytes c.if-is_external.text ≡ old ++ (written_action a ++ 10 ∷ []) = ap string_bytes b.text-is ∙ b.in_ok-push_action.ensures in
+            subst (λ (bs : List ℕ). Writes p acts (i + 1) ts bs) (sym v) (writes_external p acts i ss ts old a c.loop-i.invariant.writes l e s x)
         | else-is_external b ↦
-        let x : is_external p.hidden (tabled p) a ≡ false = sym c.is_external.ensures ∙ b.if-is_external.false in
-        let v : string_bytes c.if-is_external.text ≡ old = ap string_bytes b.text-is in
-        subst (λ (bs : List ℕ). Writes p acts (i + 1) ts bs) (sym v) (writes_hidden p acts i ss ts old a c.loop-i.invariant.writes l e s x)
+            let x : is_external p.hidden (tabled p) a ≡ false = sym c.is_external.ensures ∙ b.if-is_external.false in
+            let v : string_bytes c.if-is_external.text ≡ old = ap string_bytes b.text-is in
+            subst (λ (bs : List ℕ). Writes p acts (i + 1) ts bs) (sym v) (writes_hidden p acts i ss ts old a c.loop-i.invariant.writes l e s x)
       ];
     }
 

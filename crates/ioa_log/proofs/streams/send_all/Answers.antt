@@ -1,4 +1,4 @@
-use Rattle.std.proofs.Common.{◌-◌, ◌++◌, rules, take, drop, length, sym, ap, ◌∙◌, subst, le_trans, length-take, length-drop, arith}
+use Rattle.std.proofs.Common.{◌++◌, take, sym, ap, ◌∙◌, subst, le_trans, length-take, length-drop, arith}
 use Rattle.std.proofs.Math.Seq.{take-add}
 use Rattle.std.proofs.lemmas.List.{take_rest}
 use Rattle.std.specs.Io.KnownBytes.{Appends}

@@ -1,4 +1,4 @@
-use Rattle.std.proofs.Common.{◌≡◌, map, sym, arith}
+use Rattle.std.proofs.Common.{map, sym, arith}
 use Rattle.std.proofs.lemmas.List.{length-map}
 use Rattle.ioa_value.specs.Plain.{plain}
 use Rattle.ioa_compile.specs.Shown.{position_code}

@@ -1,10 +1,10 @@
-use Rattle.std.proofs.Common.{◌≡◌, ℕ, ◌+◌, ◌<◌, length, get_or, map, List, Bool, true, false, Some, refl, sym, subst, ◌∙◌, ap, arith}
+use Rattle.std.proofs.Common.{◌≡◌, ℕ, ◌+◌, ◌<◌, length, get_or, map, List, true, false, Some, refl, sym, subst, ◌∙◌, ap, arith}
 use Rattle.std.proofs.lemmas.List.{length-map}
 use Rattle.ioa_value.specs.Actions.{Act, act_of}
 use Rattle.ioa_node.specs.Nodes.{Node}
 use Rattle.ioa_syntax.specs.Components.{has, owns}
 use Rattle.ioa_syntax.specs.Steps.{owned}
-use Rattle.ioa_compile.specs.Programs.{EntryCode, MemberCode}
+use Rattle.ioa_compile.specs.Programs.{MemberCode}
 use Rattle.ioa_compile.specs.Shown.{entry_code, member_code}
 use Rattle.ioa_compile.specs.Tables.{entry_of, table_component}
 use Rattle.ioa_system.specs.declared.moves.Whose.{Whose}
@@ -76,14 +76,14 @@ loop-i-preserved c =
     let m : At c.args.members.now c.loop-i.i c.index-members-i.result = member_at c.args.members.now c.loop-i.i c.index-members-i.result c.loop-i-test.true c.index-members-i.is in
     let P : ℕ → Type 0 = λ k. AsksOn w a ms ns (c.loop-i.i + 1) k in
     elim c.match-entry_of.branch [
-      in-Some+else-is_local b ↦
-      let f : entry_of x a ≡ Some (entry_code b.in-Some.entry.now) = sym b.in-Some.ensures in
-      let h : has a (table_component x) ≡ true = has_found x a (entry_code b.in-Some.entry.now) f in
-      let o : owns a (table_component x) ≡ false = owns_found x a (entry_code b.in-Some.entry.now) f ∙ sym b.is_local.ensures ∙ b.if-is_local.false in
-      subst P (sym b.before-is) (asks_on_other w a ms ns c.loop-i.i c.loop-i.before x c.loop-i.invariant m.within m.is h o)
+      | in-Some+else-is_local b ↦
+          let f : entry_of x a ≡ Some (entry_code b.in-Some.entry.now) = sym b.in-Some.ensures in
+          let h : has a (table_component x) ≡ true = has_found x a (entry_code b.in-Some.entry.now) f in
+          let o : owns a (table_component x) ≡ false = owns_found x a (entry_code b.in-Some.entry.now) f ∙ sym b.is_local.ensures ∙ b.if-is_local.false in
+          subst P (sym b.before-is) (asks_on_other w a ms ns c.loop-i.i c.loop-i.before x c.loop-i.invariant m.within m.is h o)
       | in_default b ↦
-      let h : has a (table_component x) ≡ false = has_none x a (sym b.in_default.ensures) in
-      subst P (sym b.before-is) (asks_on_not w a ms ns c.loop-i.i c.loop-i.before x c.loop-i.invariant m.within m.is h)
+          let h : has a (table_component x) ≡ false = has_none x a (sym b.in_default.ensures) in
+          subst P (sym b.before-is) (asks_on_not w a ms ns c.loop-i.i c.loop-i.before x c.loop-i.invariant m.within m.is h)
     ]
 
 pub returns : goal.returns

@@ -1,4 +1,4 @@
-use Rattle.std.proofs.Common.{◌≡◌, map, subst, sym, List}
+use Rattle.std.proofs.Common.{map, subst, sym, List}
 use Rattle.ioa_value.specs.declared.value.Value.{Value}
 use Rattle.ioa_value.specs.Actions.{act_of}
 use Rattle.ioa_value.specs.Plain.{plain}

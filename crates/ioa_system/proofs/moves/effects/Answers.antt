@@ -1,14 +1,13 @@
-use Rattle.std.proofs.Common.{◌≡◌, ℕ, ◌+◌, ◌<◌, ◌++◌, [], ◌∷◌, length, get_or, map, List, Bool, true, false, Some, Ok, Err, IfOk, Result, refl, sym, subst, ◌∙◌, ap, arith, rules, vec_items, ◌≤◌}
+use Rattle.std.proofs.Common.{◌≡◌, ℕ, ◌+◌, ◌<◌, ◌++◌, [], ◌∷◌, length, get_or, map, List, true, false, Ok, Err, IfOk, Result, sym, subst, ◌∙◌, ap, arith, rules, vec_items, ◌≤◌}
 use Rattle.std.proofs.lemmas.List.{length-map}
 use Rattle.ioa_value.specs.declared.arithmetic.Fault.{Fault}
 use Rattle.ioa_value.specs.Actions.{Act, act_of}
-use Rattle.ioa_value.specs.Plain.{Val}
 use Rattle.ioa_node.specs.Nodes.{Node}
 use Rattle.ioa_node.specs.Runs.{changed}
-use Rattle.ioa_syntax.specs.Components.{has, owns}
-use Rattle.ioa_compile.specs.Programs.{EntryCode, MemberCode}
+use Rattle.ioa_syntax.specs.Components.{has}
+use Rattle.ioa_compile.specs.Programs.{MemberCode}
 use Rattle.ioa_compile.specs.Shown.{entry_code, member_code}
-use Rattle.ioa_compile.specs.Tables.{entry_of, table_component}
+use Rattle.ioa_compile.specs.Tables.{table_component}
 use Rattle.ioa_system.specs.declared.moves.Whose.{Whose}
 use Rattle.ioa_system.specs.Lent.{place_of}
 use Rattle.ioa_system.proofs.Lending.{At, ActsOn, Takes, member_at, has_found, has_none, lent_within, lent_takes, sound_at, acts_begin, acts_start, acts_end, types_end, acts_on_not, acts_on_next, acts_fault}
@@ -81,22 +80,22 @@ loop-i-preserved c =
     let m : At c.args.members.now c.loop-i.i c.index-members-i.result = member_at c.args.members.now c.loop-i.i c.index-members-i.result c.loop-i-test.true c.index-members-i.is in
     let P : List Node → Type 0 = λ xs. ActsOn w a ms ns xs (c.loop-i.i + 1) in
     elim c.match-entry_of.branch [
-      in-Some+in_ok-after+in-Ok+in_ok-push-in-Ok b ↦
-      let n : Node = b.index-states-place.result in
-      let h : has a (table_component x) ≡ true = has_found x a (entry_code b.in-Some.entry.now) (sym b.in-Some.ensures) in
-      let e : b.len.result ≡ length c.loop-i.next.items = search rules in
-      let p : b.place.result ≡ place_of w c.loop-i.i (length c.loop-i.next.items) = b.place.ensures ∙ ap (place_of w c.loop-i.i) e in
-      let g : n ≡ get_or ns (place_of w c.loop-i.i (length c.loop-i.next.items)) n = subst (λ (p : ℕ). n ≡ get_or ns p n) p b.index-states-place.is in
-      let t : Takes w a ms ns c.loop-i.i (length c.loop-i.next.items) x n = lent_takes w a ms ns c.loop-i.i (length c.loop-i.next.items) x n c.loop-i.invariant.fits m.within m.is h g in
-      let q : Ok b.in-Ok.after.values ≡ (table_component x).effect a n.values = sym (ap changed b.in-Ok.is) ∙ b.in_ok-after.ensures.value in
-      let F : Result Node Fault → Type 0 = λ r. IfOk r (λ after. after.types ≡ n.types) in
-      let ty : b.in-Ok.after.types ≡ n.types = subst F b.in-Ok.is b.in_ok-after.ensures.types in
-      let k : ActsOn w a ms ns (c.loop-i.next.items ++ b.in-Ok.after ∷ []) (c.loop-i.i + 1) = acts_on_next w a ms ns c.loop-i.next.items c.loop-i.i x n b.in-Ok.after c.loop-i.invariant t m.within m.is h q ty in
-      let v : c.match-entry_of.next.items ≡ c.loop-i.next.items ++ b.in-Ok.after ∷ [] = ap vec_items b.next-is ∙ b.in_ok-push-in-Ok.ensures.items in
-      subst P (sym v) k
+      | in-Some+in_ok-after+in-Ok+in_ok-push-in-Ok b ↦
+          let n : Node = b.index-states-place.result in
+          let h : has a (table_component x) ≡ true = has_found x a (entry_code b.in-Some.entry.now) (sym b.in-Some.ensures) in
+          let e : b.len.result ≡ length c.loop-i.next.items = search rules in
+          let p : b.place.result ≡ place_of w c.loop-i.i (length c.loop-i.next.items) = b.place.ensures ∙ ap (place_of w c.loop-i.i) e in
+          let g : n ≡ get_or ns (place_of w c.loop-i.i (length c.loop-i.next.items)) n = subst (λ (p : ℕ). n ≡ get_or ns p n) p b.index-states-place.is in
+          let t : Takes w a ms ns c.loop-i.i (length c.loop-i.next.items) x n = lent_takes w a ms ns c.loop-i.i (length c.loop-i.next.items) x n c.loop-i.invariant.fits m.within m.is h g in
+          let q : Ok b.in-Ok.after.values ≡ (table_component x).effect a n.values = sym (ap changed b.in-Ok.is) ∙ b.in_ok-after.ensures.value in
+          let F : Result Node Fault → Type 0 = λ r. IfOk r (λ after. after.types ≡ n.types) in
+          let ty : b.in-Ok.after.types ≡ n.types = subst F b.in-Ok.is b.in_ok-after.ensures.types in
+          let k : ActsOn w a ms ns (c.loop-i.next.items ++ b.in-Ok.after ∷ []) (c.loop-i.i + 1) = acts_on_next w a ms ns c.loop-i.next.items c.loop-i.i x n b.in-Ok.after c.loop-i.invariant t m.within m.is h q ty in
+          let v : c.match-entry_of.next.items ≡ c.loop-i.next.items ++ b.in-Ok.after ∷ [] = ap vec_items b.next-is ∙ b.in_ok-push-in-Ok.ensures.items in
+          subst P (sym v) k
       | in_default b ↦
-      let h : has a (table_component x) ≡ false = has_none x a (sym b.in_default.ensures) in
-      subst P (sym (ap vec_items b.next-is)) (acts_on_not w a ms ns c.loop-i.next.items c.loop-i.i x c.loop-i.invariant m.within m.is h)
+          let h : has a (table_component x) ≡ false = has_none x a (sym b.in_default.ensures) in
+          subst P (sym (ap vec_items b.next-is)) (acts_on_not w a ms ns c.loop-i.next.items c.loop-i.i x c.loop-i.invariant m.within m.is h)
     ]
 
 pub returns-clause-value : goal.returns-clause-value

@@ -1,6 +1,5 @@
-use Rattle.std.proofs.Common.{◌≡◌, ℕ, ◌+◌, ◌<◌, List, [], ◌∷◌, ◌++◌, length, get_or, drop, map, Bool, true, false, vec_items, refl, sym, subst, ap, ◌∙◌, arith}
+use Rattle.std.proofs.Common.{◌≡◌, ℕ, ◌+◌, ◌<◌, List, [], ◌∷◌, ◌++◌, length, get_or, drop, map, true, false, vec_items, sym, subst, ap, ◌∙◌, arith}
 use Rattle.std.proofs.lemmas.List.{length-map, map-append}
-use Rattle.ioa_value.specs.declared.action.Action.{Action}
 use Rattle.ioa_value.specs.Actions.{Act, act_of}
 use Rattle.ioa_value.specs.Plain.{Val}
 use Rattle.ioa_syntax.specs.Steps.{Moved, next, step}
@@ -56,15 +55,15 @@ loop-i-preserved c =
     record {
       program = c.in_ok-step.ensures.program ∙ c.loop-i.invariant.program;
       performs = elim c.if-is_external.branch [
-        then-is_external+in_ok-try_copy+in_ok-push b ↦
-        let x : is_external p.hidden (tabled p) a ≡ true = sym c.is_external.ensures ∙ b.if-is_external.true in
-        let v : map act_of c.if-is_external.trace.items ≡ old ++ a ∷ [] =
-        ap (map act_of) (ap vec_items b.trace-is ∙ b.in_ok-push.ensures.items) ∙ map-append act_of c.loop-i.trace.items (b.in_ok-try_copy.field-0 ∷ [])
-        ∙ ap (λ (y : Act). old ++ y ∷ []) b.in_ok-try_copy.ensures in
-        subst (λ (t : List Act). Performs p acts (i + 1) ts t) (sym v) (performs_external p acts i ss ts old a c.loop-i.invariant.performs l e s x)
+        | then-is_external+in_ok-try_copy+in_ok-push b ↦
+            let x : is_external p.hidden (tabled p) a ≡ true = sym c.is_external.ensures ∙ b.if-is_external.true in
+            let v : map act_of c.if-is_external.trace.items ≡ old ++ a ∷ [] =
+            ap (map act_of) (ap vec_items b.trace-is ∙ b.in_ok-push.ensures.items) ∙ map-append act_of c.loop-i.trace.items (b.in_ok-try_copy.field-0 ∷ [])
+            ∙ ap (λ (y : Act). old ++ y ∷ []) b.in_ok-try_copy.ensures in
+            subst (λ (t : List Act). Performs p acts (i + 1) ts t) (sym v) (performs_external p acts i ss ts old a c.loop-i.invariant.performs l e s x)
         | else-is_external b ↦
-        let x : is_external p.hidden (tabled p) a ≡ false = sym c.is_external.ensures ∙ b.if-is_external.false in
-        let v : map act_of c.if-is_external.trace.items ≡ old = ap (map act_of) (ap vec_items b.trace-is) in
-        subst (λ (t : List Act). Performs p acts (i + 1) ts t) (sym v) (performs_hidden p acts i ss ts old a c.loop-i.invariant.performs l e s x)
+            let x : is_external p.hidden (tabled p) a ≡ false = sym c.is_external.ensures ∙ b.if-is_external.false in
+            let v : map act_of c.if-is_external.trace.items ≡ old = ap (map act_of) (ap vec_items b.trace-is) in
+            subst (λ (t : List Act). Performs p acts (i + 1) ts t) (sym v) (performs_hidden p acts i ss ts old a c.loop-i.invariant.performs l e s x)
       ];
     }

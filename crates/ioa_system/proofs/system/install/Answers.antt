@@ -1,4 +1,4 @@
-use Rattle.std.proofs.Common.{◌≡◌, ℕ, zero, suc, ◌+◌, ◌<◌, List, ◌∷◌, [], length, map, set, Bool, true, false, Some, None, Global, refl, sym, subst, ap, ◌∙◌, arith, rules}
+use Rattle.std.proofs.Common.{◌≡◌, ℕ, zero, suc, ◌+◌, ◌<◌, List, ◌∷◌, [], length, map, set, true, false, Global, refl, sym, subst, ◌∙◌, arith, rules}
 use Rattle.std.specs.declared.vec.IntoIter.{IntoIter}
 use Rattle.std.proofs.lemmas.List.{nil_from_length}
 use Rattle.std.specs.Vec.Iter.{into_iter_items, into_iter_len}
@@ -30,26 +30,26 @@ loop-i-preserved c =
     let changed : List Node = c.args.changed.items in
     let P : List Node → IntoIter Node Global → Type 0 = λ now left. Puts a ms old changed now (into_iter_items left) (c.loop-i.i + 1) in
     elim c.if-has.branch [
-      then-has+in-Some b ↦
-      let h : has a (table_component x) ≡ true = sym c.has.ensures ∙ b.if-has.true in
-      let z : into_iter_items c.loop-i.rest ≡ b.in-Some.state ∷ into_iter_items b.next.new.self = b.in-Some.ensures.items in
-      let k : Puts a ms old changed (set c.loop-i.states c.loop-i.i b.in-Some.state) (into_iter_items b.next.new.self) (c.loop-i.i + 1) =
-      puts_next a ms old changed c.loop-i.states (into_iter_items c.loop-i.rest) c.loop-i.i x b.in-Some.state (into_iter_items b.next.new.self) c.loop-i.invariant m.within m.is h z in
-      both_are P c.if-has.states c.if-has.rest (set c.loop-i.states c.loop-i.i b.in-Some.state) b.next.new.self b.states-is b.rest-is k
+      | then-has+in-Some b ↦
+          let h : has a (table_component x) ≡ true = sym c.has.ensures ∙ b.if-has.true in
+          let z : into_iter_items c.loop-i.rest ≡ b.in-Some.state ∷ into_iter_items b.next.new.self = b.in-Some.ensures.items in
+          let k : Puts a ms old changed (set c.loop-i.states c.loop-i.i b.in-Some.state) (into_iter_items b.next.new.self) (c.loop-i.i + 1) =
+          puts_next a ms old changed c.loop-i.states (into_iter_items c.loop-i.rest) c.loop-i.i x b.in-Some.state (into_iter_items b.next.new.self) c.loop-i.invariant m.within m.is h z in
+          both_are P c.if-has.states c.if-has.rest (set c.loop-i.states c.loop-i.i b.in-Some.state) b.next.new.self b.states-is b.rest-is k
       | then-has+in_default b ↦
-      let h : has a (table_component x) ≡ true = sym c.has.ensures ∙ b.if-has.true in
-      let n : length (into_iter_items c.loop-i.rest) ≡ into_iter_len c.loop-i.rest = search rules in
-      let o : into_iter_len c.loop-i.rest ≡ 0 = none_left (into_iter_len c.loop-i.rest) (λ l. absurd (cc (b.in_default.ensures.variant.1 l))) in
-      let z : into_iter_items c.loop-i.rest ≡ [] = nil_from_length (into_iter_items c.loop-i.rest) (n ∙ o) in
-      let k : Puts a ms old changed c.loop-i.states [] (c.loop-i.i + 1) =
-      puts_none a ms old changed c.loop-i.states (into_iter_items c.loop-i.rest) c.loop-i.i x c.loop-i.invariant m.within m.is h z in
-      let y : into_iter_items b.next.new.self ≡ [] = sym b.in_default.ensures.items ∙ z in
-      let j : Puts a ms old changed c.loop-i.states (into_iter_items b.next.new.self) (c.loop-i.i + 1) =
-      subst (λ (us : List Node). Puts a ms old changed c.loop-i.states us (c.loop-i.i + 1)) (sym y) k in
-      both_are P c.if-has.states c.if-has.rest c.loop-i.states b.next.new.self b.states-is b.rest-is j
+          let h : has a (table_component x) ≡ true = sym c.has.ensures ∙ b.if-has.true in
+          let n : length (into_iter_items c.loop-i.rest) ≡ into_iter_len c.loop-i.rest = search rules in
+          let o : into_iter_len c.loop-i.rest ≡ 0 = none_left (into_iter_len c.loop-i.rest) (λ l. absurd (cc (b.in_default.ensures.variant.1 l))) in
+          let z : into_iter_items c.loop-i.rest ≡ [] = nil_from_length (into_iter_items c.loop-i.rest) (n ∙ o) in
+          let k : Puts a ms old changed c.loop-i.states [] (c.loop-i.i + 1) =
+          puts_none a ms old changed c.loop-i.states (into_iter_items c.loop-i.rest) c.loop-i.i x c.loop-i.invariant m.within m.is h z in
+          let y : into_iter_items b.next.new.self ≡ [] = sym b.in_default.ensures.items ∙ z in
+          let j : Puts a ms old changed c.loop-i.states (into_iter_items b.next.new.self) (c.loop-i.i + 1) =
+          subst (λ (us : List Node). Puts a ms old changed c.loop-i.states us (c.loop-i.i + 1)) (sym y) k in
+          both_are P c.if-has.states c.if-has.rest c.loop-i.states b.next.new.self b.states-is b.rest-is j
       | else-has b ↦
-      let h : has a (table_component x) ≡ false = sym c.has.ensures ∙ b.if-has.false in
-      let k : Puts a ms old changed c.loop-i.states (into_iter_items c.loop-i.rest) (c.loop-i.i + 1) =
-      puts_not a ms old changed c.loop-i.states (into_iter_items c.loop-i.rest) c.loop-i.i x c.loop-i.invariant m.within m.is h in
-      both_are P c.if-has.states c.if-has.rest c.loop-i.states c.loop-i.rest b.states-is b.rest-is k
+          let h : has a (table_component x) ≡ false = sym c.has.ensures ∙ b.if-has.false in
+          let k : Puts a ms old changed c.loop-i.states (into_iter_items c.loop-i.rest) (c.loop-i.i + 1) =
+          puts_not a ms old changed c.loop-i.states (into_iter_items c.loop-i.rest) c.loop-i.i x c.loop-i.invariant m.within m.is h in
+          both_are P c.if-has.states c.if-has.rest c.loop-i.states c.loop-i.rest b.states-is b.rest-is k
     ]

@@ -1,9 +1,8 @@
-use Rattle.std.proofs.Common.{◌≡◌, List, map, sym, ap, ◌∙◌}
+use Rattle.std.proofs.Common.{◌≡◌, List, map, ap, ◌∙◌}
 use Rattle.ioa_value.specs.Plain.{Val}
-use Rattle.ioa_node.specs.Nodes.{Node}
-use Rattle.ioa_compile.specs.Programs.{MemberCode, Prog}
+use Rattle.ioa_compile.specs.Programs.{MemberCode}
 use Rattle.ioa_compile.specs.Tables.{start_states}
-use Rattle.ioa_system.specs.Systems.{Running, types_of, values_of, slot_types}
+use Rattle.ioa_system.specs.Systems.{values_of}
 use Rattle.ioa_system.proofs.Installing.{start_types, start_values, running}
 use Rattle.ioa_system.proofs.system.System.start.Goals as goal
 

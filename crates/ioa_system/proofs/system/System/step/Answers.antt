@@ -1,12 +1,11 @@
-use Rattle.std.proofs.Common.{◌≡◌, List, length, map, sym, ap, subst, ◌∙◌, rules}
+use Rattle.std.proofs.Common.{◌≡◌, List, length, sym, ap, subst, ◌∙◌, rules}
 use Rattle.ioa_value.specs.Actions.{Act, act_of}
 use Rattle.ioa_value.specs.Plain.{Val}
 use Rattle.ioa_node.specs.Nodes.{Node}
 use Rattle.ioa_syntax.specs.Steps as steps
-use Rattle.ioa_compile.specs.Programs.{MemberCode, Prog}
-use Rattle.ioa_compile.specs.Tables.{table_component, tabled}
+use Rattle.ioa_compile.specs.Programs.{MemberCode}
+use Rattle.ioa_compile.specs.Tables.{tabled}
 use Rattle.ioa_system.specs.Answers.{AreOfTypes, moved_of}
-use Rattle.ioa_system.specs.declared.answer.Moved.{Moved}
 use Rattle.ioa_system.specs.Participants.{taken, put_back, step_from}
 use Rattle.ioa_system.specs.Systems.{Running, types_of, values_of, slot_types}
 use Rattle.ioa_system.proofs.Lending.{same_length, tables}

@@ -1,0 +1,248 @@
+//! Trees that are equal but for the lines on which their parts stand.
+
+ghost use Rattle.std.specs.Prelude.{◌≡◌, ◌↔◌, IsTrue, map};
+ghost use Rattle.std.specs.Option.{option_map};
+ghost use Rattle.ioa_syntax.specs.View.{expr_of};
+
+use crate::tree::{
+    Assembly, Automaton, Declaration, Entry, Expression, Field, Instance, Name, Position, Proposal,
+    Statement, Transition, Variable,
+};
+
+/// Values that stand for trees.
+pub(crate) trait Same {
+    ghost Tree: { Type 0 };
+
+    ghost tree: { Self → Tree };
+
+    /// Whether they stand for one tree.
+    fn same(&self, other: &Self) -> bool
+        ensures { IsTrue result ↔ (tree self.now ≡ tree other.now) };
+}
+
+/// Whether the items stand for the same trees, one by one.
+pub(crate) fn same_list<T: Same>(these: &[T], those: &[T]) -> bool
+    ensures { IsTrue result ↔ (map T.tree these.now ≡ map T.tree those.now) }
+{
+    if these.len() != those.len() {
+        return false;
+    }
+    for (i, this) in these.iter().enumerate() {
+        if !this.same(&those[i]) {
+            return false;
+        }
+    }
+    true
+}
+
+impl Same for Name {
+    ghost use Rattle.ioa_value.specs.Actions as actions;
+    ghost use Rattle.ioa_syntax.specs.View.{name_of};
+
+    ghost Tree = { actions.Name };
+
+    ghost tree = { name_of };
+
+    fn same(&self, other: &Name) -> bool {
+        self.text.as_str() == other.text.as_str()
+    }
+}
+
+fn same_expression(this: &Expression, that: &Expression) -> bool
+    ensures { IsTrue result ↔ (expr_of this.now ≡ expr_of that.now) }
+{
+    match (this, that) {
+        (Expression::Number(a, _), Expression::Number(b, _)) => a == b,
+        (Expression::Truth(a, _), Expression::Truth(b, _)) => a == b,
+        (Expression::Name(a), Expression::Name(b)) => a.same(b),
+        (Expression::Parentheses(a, _), Expression::Parentheses(b, _)) => same_expression(a, b),
+        (Expression::Binary(a, o, b), Expression::Binary(c, p, d)) => {
+            o == p && same_expression(a, c) && same_expression(b, d)
+        }
+        _ => false,
+    }
+}
+
+impl Same for Expression {
+    ghost use Rattle.ioa_syntax.specs.Tree.{Expr};
+    ghost use Rattle.ioa_syntax.specs.View.{expr_of};
+
+    ghost Tree = { Expr };
+
+    ghost tree = { expr_of };
+
+    fn same(&self, other: &Expression) -> bool {
+        same_expression(self, other)
+    }
+}
+
+fn same_option(this: &Option<Expression>, that: &Option<Expression>) -> bool
+    ensures { IsTrue result ↔ (option_map expr_of this.now ≡ option_map expr_of that.now) }
+{
+    match (this, that) {
+        (Some(a), Some(b)) => a.same(b),
+        (None, None) => true,
+        _ => false,
+    }
+}
+
+impl Same for Field {
+    ghost use Rattle.ioa_syntax.specs.Tree.{FieldTree};
+    ghost use Rattle.ioa_syntax.specs.View.{field_of};
+
+    ghost Tree = { FieldTree };
+
+    ghost tree = { field_of };
+
+    fn same(&self, other: &Field) -> bool {
+        self.name.same(&other.name) && self.ty.same(&other.ty)
+    }
+}
+
+impl Same for Position {
+    ghost use Rattle.ioa_syntax.specs.Tree.{PositionTree};
+    ghost use Rattle.ioa_syntax.specs.View.{position_of};
+
+    ghost Tree = { PositionTree };
+
+    ghost tree = { position_of };
+
+    fn same(&self, other: &Position) -> bool {
+        let (Position::Typed(this), Position::Typed(that)) = (self, other);
+        this.same(that)
+    }
+}
+
+impl Same for Entry {
+    ghost use Rattle.ioa_syntax.specs.Tree.{EntryTree};
+    ghost use Rattle.ioa_syntax.specs.View.{entry_of};
+
+    ghost Tree = { EntryTree };
+
+    ghost tree = { entry_of };
+
+    fn same(&self, other: &Entry) -> bool {
+        self.kind == other.kind
+            && self.name.same(&other.name)
+            && same_list(&self.positions, &other.positions)
+    }
+}
+
+impl Same for Variable {
+    ghost use Rattle.ioa_syntax.specs.Tree.{VariableTree};
+    ghost use Rattle.ioa_syntax.specs.View.{variable_of};
+
+    ghost Tree = { VariableTree };
+
+    ghost tree = { variable_of };
+
+    fn same(&self, other: &Variable) -> bool {
+        self.field.same(&other.field) && same_option(&self.start, &other.start)
+    }
+}
+
+impl Same for Proposal {
+    ghost use Rattle.ioa_syntax.specs.Tree.{ProposalTree};
+    ghost use Rattle.ioa_syntax.specs.View.{proposal_of};
+
+    ghost Tree = { ProposalTree };
+
+    ghost tree = { proposal_of };
+
+    fn same(&self, other: &Proposal) -> bool {
+        self.name.same(&other.name) && self.value.same(&other.value)
+    }
+}
+
+impl Same for Statement {
+    ghost use Rattle.ioa_syntax.specs.Tree.{Stmt};
+    ghost use Rattle.ioa_syntax.specs.View.{stmt_of};
+
+    ghost Tree = { Stmt };
+
+    ghost tree = { stmt_of };
+
+    fn same(&self, other: &Statement) -> bool {
+        let (Statement::Assign(name, value), Statement::Assign(that, other)) = (self, other);
+        name.same(that) && value.same(other)
+    }
+}
+
+impl Same for Transition {
+    ghost use Rattle.ioa_syntax.specs.Tree.{TransitionTree};
+    ghost use Rattle.ioa_syntax.specs.View.{transition_of};
+
+    ghost Tree = { TransitionTree };
+
+    ghost tree = { transition_of };
+
+    fn same(&self, other: &Transition) -> bool {
+        self.kind == other.kind
+            && self.name.same(&other.name)
+            && same_option(&self.pre, &other.pre)
+            && same_list(&self.proposals, &other.proposals)
+            && same_list(&self.effect, &other.effect)
+    }
+}
+
+impl Same for Automaton {
+    ghost use Rattle.ioa_syntax.specs.Tree.{AutomatonTree};
+    ghost use Rattle.ioa_syntax.specs.View.{automaton_of};
+
+    ghost Tree = { AutomatonTree };
+
+    ghost tree = { automaton_of };
+
+    fn same(&self, other: &Automaton) -> bool {
+        self.name.same(&other.name)
+            && same_list(&self.formals, &other.formals)
+            && same_list(&self.entries, &other.entries)
+            && same_list(&self.variables, &other.variables)
+            && same_list(&self.transitions, &other.transitions)
+    }
+}
+
+impl Same for Instance {
+    ghost use Rattle.ioa_syntax.specs.Tree.{InstanceTree};
+    ghost use Rattle.ioa_syntax.specs.View.{instance_of};
+
+    ghost Tree = { InstanceTree };
+
+    ghost tree = { instance_of };
+
+    fn same(&self, other: &Instance) -> bool {
+        self.name.same(&other.name)
+            && self.automaton.same(&other.automaton)
+            && same_list(&self.arguments, &other.arguments)
+    }
+}
+
+impl Same for Assembly {
+    ghost use Rattle.ioa_syntax.specs.Tree.{CompositionTree};
+    ghost use Rattle.ioa_syntax.specs.View.{assembly_of};
+
+    ghost Tree = { CompositionTree };
+
+    ghost tree = { assembly_of };
+
+    fn same(&self, other: &Assembly) -> bool {
+        self.name.same(&other.name) && same_list(&self.instances, &other.instances)
+    }
+}
+
+impl Same for Declaration {
+    ghost use Rattle.ioa_syntax.specs.Tree.{DeclarationTree};
+    ghost use Rattle.ioa_syntax.specs.View.{declaration_of};
+
+    ghost Tree = { DeclarationTree };
+
+    ghost tree = { declaration_of };
+
+    fn same(&self, other: &Declaration) -> bool {
+        match (self, other) {
+            (Declaration::Automaton(a), Declaration::Automaton(b)) => a.same(b),
+            (Declaration::Composition(a), Declaration::Composition(b)) => a.same(b),
+            _ => false,
+        }
+    }
+}
