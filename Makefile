@@ -10,7 +10,7 @@ EXAMPLE := examples/counter
 all: $(PROGRAM)
 
 $(PROGRAM): crates.txt $(wildcard crates/*/src/*.rt crates/*/src/*/*.rt)
-	cd crates/ioac && rt run -- replay counter.ioa < stdin > out/made.txt
+	cd crates/ioac && rt run -- replay $(CURDIR)/$(EXAMPLE)/counter.ioa < stdin
 
 # Shows the main job on an example. Until `make` has run, the program is tried without its proofs.
 demo:
@@ -18,7 +18,7 @@ demo:
 	  $(PROGRAM) replay $(EXAMPLE)/counter.ioa < $(EXAMPLE)/counts.list; \
 	else \
 	  echo "(the program is not proved here yet: this runs it unproved; 'make' proves it)" >&2; \
-	  cd crates/ioac && rt try -- replay counter.ioa < ../../$(EXAMPLE)/counts.list; \
+	  cd crates/ioac && rt try -- replay $(CURDIR)/$(EXAMPLE)/counter.ioa < ../../$(EXAMPLE)/counts.list; \
 	fi
 
 # The whole gate.
