@@ -1,3 +1,5 @@
+mod calls;
+mod code;
 mod rows;
 mod shelf;
 mod streams;
