@@ -255,10 +255,14 @@ fn bounds_depth(rt: HostRuntime) -> Result<(), Fail> {
     Ok(())
 }
 
+fn spaces(alloc: Global, count: usize) -> Result<Vec<u8>, AllocError> {
+    vec![in alloc; b' '; count]
+}
+
 #[test]
 fn bounds_texts(rt: HostRuntime) -> Result<(), Fail> {
     let alloc = rt.alloc();
-    let long = vec![in alloc; b' '; 1048577]?;
+    let long = spaces(alloc, 1048577)?;
     let too_long = Wanted {
         output: "",
         errors: "E1\n",
@@ -272,12 +276,13 @@ fn bounds_texts(rt: HostRuntime) -> Result<(), Fail> {
         b"",
         &too_long,
     )?;
+    let full = spaces(alloc, 1048576)?;
     let empty = Wanted {
         output: "",
         errors: "E17\n",
         status: 1,
     };
-    expect(&rt, alloc, &long[..1048576], REPLAY.as_slice(), b"", &empty)?;
+    expect(&rt, alloc, full.as_slice(), REPLAY.as_slice(), b"", &empty)?;
     let mut line = String::from_str(alloc, "tick(")?;
     for _ in 0..100000 {
         line.push_str("0000000000")?;
