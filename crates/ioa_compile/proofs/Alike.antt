@@ -26,13 +26,15 @@ use Rattle.ioa_syntax.specs.Compositions.{Member}
 use Rattle.ioa_syntax.specs.Likes.{AreLike}
 use Rattle.ioa_syntax.specs.WellFormed.{contains, local_names, position_fields, variable_fields, context_of, scope}
 use Rattle.ioa_compose.specs.Fine.{IsFine}
-use Rattle.ioa_compose.proofs.ValTyped.{val_typed, IsTyped}
+use Rattle.ioa_syntax.specs.Answers.{IsTyped}
+use Rattle.ioa_syntax.proofs.ValTyped.{val_typed}
 use Rattle.ioa_compile.specs.Programs.{EntryCode, MemberCode}
 use Rattle.ioa_compile.specs.Tables.{allows, entry_of, table_component, position_types}
 use Rattle.ioa_compile.specs.Means.{Corresponds}
 use Rattle.ioa_compile.specs.Scopes.{Scope, scope_of}
 use Rattle.ioa_compile.specs.Placed.{HasStmts}
-use Rattle.ioa_compile.specs.Translated.{AreTypesOf, IsGuard, IsGuardFor, codes_of, IsEntryOf, IsTranslated}
+use Rattle.ioa_compile.specs.Matching.{AreTypesOf}
+use Rattle.ioa_compile.specs.Translated.{IsGuard, IsGuardFor, codes_of, IsEntryOf, IsTranslated}
 use Rattle.ioa_compile.proofs.Paired.{both}
 use Rattle.ioa_compile.proofs.Looks.{look, values_look, or_else-none, stands, look_outside, look_inside, outside_both, distinct_apart, apart_outside}
 use Rattle.ioa_compile.proofs.Fits.{have_long, types_long, position_names, fit_have, have_fit}

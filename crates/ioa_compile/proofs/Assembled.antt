@@ -1,10 +1,10 @@
 -- The parts of a table's entry, put together.
-use Rattle.std.proofs.Common.{◌≡◌, List, [], map, Option, Some, None, IfSome, refl, sym, ap, ◌∙◌, subst}
+use Rattle.std.proofs.Common.{◌≡◌, List, [], ◌∷◌, map, Option, Some, None, IfSome, refl, sym, ap, ◌∙◌, subst}
 use Rattle.std.specs.Option.{option_map}
 use Rattle.ioa_value.specs.declared.value.Ty.{Ty}
 use Rattle.ioa_code.specs.declared.instr.Code.{Code}
 use Rattle.ioa_code.specs.declared.instr.PartKind.TheVariants.{Pre, Eff}
-use Rattle.ioa_code.specs.Parts.{listing, number, part}
+use Rattle.ioa_code.specs.Parts.{IsVerified, listing, number, part}
 use Rattle.ioa_code.specs.Valid.{Part}
 use Rattle.ioa_syntax.specs.declared.tree.Kind.{Kind}
 use Rattle.ioa_syntax.specs.declared.tree.Kind.TheVariants.{Input, Output, Internal}
@@ -15,7 +15,8 @@ use Rattle.ioa_syntax.specs.WellFormed.{position_fields}
 use Rattle.ioa_compile.specs.Programs.{EntryCode}
 use Rattle.ioa_compile.specs.Tables.{position_types}
 use Rattle.ioa_compile.specs.Scopes.{Scope}
-use Rattle.ioa_compile.specs.Translated.{IsGuard, IsGuardFor, IsTransition, IsFor, codes_of, IsTranslated, AreTypesOf}
+use Rattle.ioa_compile.specs.Matching.{AreTypesOf}
+use Rattle.ioa_compile.specs.Translated.{IsGuard, IsGuardFor, IsTransition, IsFor, codes_of, IsTranslated}
 
 pub on_guard : (P : Code → Type 0) (k : Kind) (o : Option Code) (s : Scope) (g : Option Expr) → IsGuardFor k (option_map listing o) s g → ((code : Code) → IsGuard (listing code) s g → P code) → IfSome o P
 on_guard P Input None s g h f = tt
@@ -25,7 +26,7 @@ on_guard P Output (Some code) s g h f = f code h
 on_guard P Internal None s g h f = absurd h
 on_guard P Internal (Some code) s g h f = f code h
 
-module _ (slots args result : List Ty) where
+module _ (slots args result : List Ty) (bool : map number result ≡ 0 ∷ []) where
   guard_part : Code → Part
   guard_part code = part code Pre slots args result
 
@@ -33,12 +34,12 @@ module _ (slots args result : List Ty) where
   codes_same None = refl
   codes_same (Some code) = refl
 
-  guard_for : (o : Option Code) → IfSome (option_map (λ code. part code Pre slots args result) o) (λ p. IsFor p Pre (map number slots) (map number args))
-  guard_for None = tt
-  guard_for (Some code) = record { kind = refl; slots = refl; args = refl }
+  guard_for : (o : Option Code) → IfSome (option_map (λ code. part code Pre slots args result) o) IsVerified → IfSome (option_map (λ code. part code Pre slots args result) o) (λ p. IsFor p Pre (0 ∷ []) (map number slots) (map number args))
+  guard_for None v = tt
+  guard_for (Some code) v = record { verified = v; kind = refl; result = bool; slots = refl; args = refl }
 
-  pub translated : (m : Member) (e : EntryTree) (c : EntryCode) (t : TransitionTree) (guard : Option Code) (effect : Code) → c.kind ≡ e.kind → c.name ≡ e.name → AreTypesOf (position_fields e.positions) (map number args) → position_types c.positions ≡ map number args → transition_for m.instance.automaton e ≡ Some t → IsTransition m e t (option_map listing guard) (listing effect) → c.pre ≡ option_map (λ code. part code Pre slots args result) guard → c.effect ≡ part effect Eff slots args [] → IsTranslated m (map number slots) e c
-  translated m e c t guard effect kind-is name-is types positions-are found both pre-is effect-is =
+  pub translated : (m : Member) (e : EntryTree) (c : EntryCode) (t : TransitionTree) (guard : Option Code) (effect : Code) → c.kind ≡ e.kind → c.name ≡ e.name → AreTypesOf (position_fields e.positions) (map number args) → position_types c.positions ≡ map number args → transition_for m.instance.automaton e ≡ Some t → IsTransition m e t (option_map listing guard) (listing effect) → c.pre ≡ option_map (λ code. part code Pre slots args result) guard → c.effect ≡ part effect Eff slots args [] → IfSome c.pre IsVerified → IsVerified c.effect → IsTranslated m (map number slots) e c
+  translated m e c t guard effect kind-is name-is types positions-are found both pre-is effect-is pre-fine effect-fine =
       let codes : codes_of c.pre ≡ option_map listing guard = ap codes_of pre-is ∙ codes_same guard in
       let code : c.effect.code ≡ listing effect = ap (λ (p : Part). p.code) effect-is in
       let pre = subst (λ l. IsTransition m e t l (listing effect)) (sym codes) both in
@@ -47,10 +48,12 @@ module _ (slots args result : List Ty) where
         name = name-is;
         positions = subst (AreTypesOf (position_fields e.positions)) (sym positions-are) types;
         transition = (t, found, subst (IsTransition m e t (codes_of c.pre)) (sym code) pre);
-        pre = subst (λ l. IfSome c.pre (λ p. IsFor p Pre (map number slots) l)) (sym positions-are)
-            (subst (λ o. IfSome o (λ p. IsFor p Pre (map number slots) (map number args))) (sym pre-is) (guard_for guard));
+        pre = subst (λ l. IfSome c.pre (λ p. IsFor p Pre (0 ∷ []) (map number slots) l)) (sym positions-are)
+            (subst (λ o. IfSome o (λ p. IsFor p Pre (0 ∷ []) (map number slots) (map number args))) (sym pre-is) (guard_for guard (subst (λ o. IfSome o IsVerified) pre-is pre-fine)));
         effect = record {
+          verified = effect-fine;
           kind = ap (λ (p : Part). p.kind) effect-is;
+          result = ap (λ (p : Part). p.result) effect-is;
           slots = ap (λ (p : Part). p.slots) effect-is;
           args = ap (λ (p : Part). p.args) effect-is ∙ sym positions-are;
         };

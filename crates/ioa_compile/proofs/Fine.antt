@@ -18,10 +18,11 @@ use Rattle.ioa_syntax.specs.Instances.{basic_table, place_from, variable_names, 
 use Rattle.ioa_syntax.specs.Compositions.{Member}
 use Rattle.ioa_syntax.specs.WellFormed.{Context, type_in, type_of, is_some_of, nodes, stmt_nodes, distinct, apart, is_type, context_of, position_fields, variable_fields, same_kind, is_input, scope, local_names, fields_fine, start_fine, entry_fine, matches, one_to_one, pre_fine, stmt_fine, effect_fine, input_fine, proposals_fine, all_proposed, transition_fine, automaton_fine}
 use Rattle.ioa_compose.specs.Fine.{IsFine}
-use Rattle.ioa_compose.proofs.ValTyped.{types_of_both}
+use Rattle.ioa_syntax.proofs.ValTyped.{types_of_both}
 use Rattle.ioa_compile.specs.Scopes.{scope_of, Origin, slot, formal, parameter, unknown, origin, IsOrigin, IsKnown, AreKnown, IsKnownGuard, IsScope}
 use Rattle.ioa_compile.specs.Emitting.{guard_nodes}
-use Rattle.ioa_compile.specs.Translated.{AreTypesOf, IsEntryOf}
+use Rattle.ioa_compile.specs.Matching.{AreTypesOf}
+use Rattle.ioa_compile.specs.Translated.{IsEntryOf}
 use Rattle.ioa_compile.proofs.Paired.{both, all_get}
 use Rattle.ioa_compile.proofs.Looks.{look, at, stands_at, looks, Looked, same_name, name_same}
 use Rattle.ioa_compile.proofs.Fits.{fit_types, have_own, have_long, types_long, scope_look, fields_look, variables_names, position_names}

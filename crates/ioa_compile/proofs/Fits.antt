@@ -15,10 +15,10 @@ use Rattle.ioa_syntax.specs.Instances.{type_named, basic_table, field_names, var
 use Rattle.ioa_syntax.specs.Compositions.{Fit, Member}
 use Rattle.ioa_syntax.specs.WellFormed.{Context, type_in, context_of, position_fields, variable_fields, scope}
 use Rattle.ioa_compile.specs.Scopes.{scope_of}
-use Rattle.ioa_compile.specs.Translated.{AreTypesOf}
+use Rattle.ioa_compile.specs.Matching.{AreTypesOf}
 use Rattle.ioa_compile.proofs.Looks.{look, stands, or_else-assoc}
 use Rattle.ioa_compile.proofs.Paired.{both, map-twice}
-use Rattle.ioa_compose.proofs.ValTyped.{Stands}
+use Rattle.ioa_syntax.specs.Answers.{Stands}
 
 pub own_is : (types : List Shape) (v : Val) (ty : ℕ) → HasType types v ty → own v ≡ ty
 own_is types (truth b) ty h = sym h

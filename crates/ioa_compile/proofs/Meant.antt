@@ -5,25 +5,39 @@ use Rattle.std.specs.List.{AllZip, find}
 use Rattle.std.specs.Option.{option_map}
 use Rattle.ioa_value.specs.Typing.{HaveTypes, basic_types}
 use Rattle.ioa_node.specs.Nodes.{Node}
+use Rattle.ioa_syntax.specs.Tree.{EntryTree}
 use Rattle.ioa_syntax.specs.Instances.{entry_has, component_of, state_of}
 use Rattle.ioa_syntax.specs.Compositions.{Member}
 use Rattle.ioa_syntax.specs.Likes.{IsLike, AllLike, AllRelated}
 use Rattle.ioa_syntax.specs.WellFormed.{variable_fields}
 use Rattle.ioa_compose.specs.Fine.{IsFine}
-use Rattle.ioa_compile.specs.Programs.{MemberCode}
+use Rattle.ioa_compile.specs.Programs.{EntryCode, MemberCode}
 use Rattle.ioa_compile.specs.Tables.{table_component}
 use Rattle.ioa_compile.specs.Means.{Corresponds, CorrespondsIn, CorrespondsAt}
-use Rattle.ioa_compile.specs.Translated.{AreTypesOf, IsTranslated, DoesSame}
+use Rattle.ioa_compile.specs.Matching.{AreTypesOf, MatchesEntry, MatchesMember}
+use Rattle.ioa_compile.specs.Translated.{IsTranslated, DoesSame}
 use Rattle.ioa_compile.proofs.Fits.{fit_have}
 use Rattle.ioa_compile.proofs.Twins.{finds_same, kinds_same, are_entries}
 use Rattle.ioa_compile.proofs.Alike.{guards, effects}
 
-pub does_same : (m : Member) (slots : List ℕ) (c : MemberCode) → IsFine m → AreTypesOf (variable_fields m.instance.automaton) slots → c.start ≡ record { types = slots; values = m.starts } → AllZip (IsTranslated m slots) m.instance.automaton.entries c.entries → DoesSame m c
-does_same m slots c h types start entries =
+entries_match : (m : Member) (slots : List ℕ) (es : List EntryTree) (cs : List EntryCode) → AllZip (IsTranslated m slots) es cs → AllZip MatchesEntry es cs
+entries_match m slots [] [] h = tt
+entries_match m slots [] (c ∷ cs) h = absurd h
+entries_match m slots (e ∷ es) [] h = absurd h
+entries_match m slots (e ∷ es) (c ∷ cs) h =
+    (record { kind = h.0.kind; name = h.0.name; positions = h.0.positions }, entries_match m slots es cs h.1)
+
+pub does_same : (m : Member) (slots : List ℕ) (c : MemberCode) → IsFine m → AreTypesOf (variable_fields m.instance.automaton) slots → c.name ≡ m.name → c.start ≡ record { types = slots; values = m.starts } → AllZip (IsTranslated m slots) m.instance.automaton.entries c.entries → DoesSame m c
+does_same m slots c h types name start entries =
     let es = m.instance.automaton.entries in
     let types-are : slots ≡ c.start.types = sym (ap (λ (n : Node). n.types) start) in
     let values-are : m.starts ≡ c.start.values = sym (ap (λ (n : Node). n.values) start) in
     record {
+      matches = record {
+        name = name;
+        variables = subst (AreTypesOf (variable_fields m.instance.automaton)) types-are types;
+        entries = entries_match m slots es c.entries entries;
+      };
       like = record {
         kinds = λ a. ap (λ t. option_map (λ e. e.kind) (find (entry_has t a) es)) h.types ∙ kinds_same m slots a es _ _ (finds_same m slots a es c.entries entries);
         guards = λ a env vs local r. guards m slots c h types entries a env vs local r;
@@ -52,6 +66,12 @@ all_like all i (m ∷ ms) (c ∷ cs) f h = (
   subst (λ o. IsLike (CorrespondsIn o) (component_of m.instance) (table_component c)) (sym (from_here all i m ms f)) h.0.like,
   all_like all (i + 1) ms cs (from_next all i m ms f) h.1,
 )
+
+pub all_match : (ms : List Member) (cs : List MemberCode) → AllZip DoesSame ms cs → AllZip MatchesMember ms cs
+all_match [] [] h = tt
+all_match [] (c ∷ cs) h = absurd h
+all_match (m ∷ ms) [] h = absurd h
+all_match (m ∷ ms) (c ∷ cs) h = (h.0.matches, all_match ms cs h.1)
 
 pub all_related : (all : List Member) (i : ℕ) (ms : List Member) (cs : List MemberCode) → From all i ms → AllZip DoesSame ms cs → AllRelated (CorrespondsAt all) i (map (λ m. state_of m.instance.automaton m.starts) ms) (map (λ c. c.start.values) cs)
 all_related all i [] [] f h = tt

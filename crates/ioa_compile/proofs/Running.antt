@@ -1,8 +1,8 @@
 -- The machine follows the tree.
-use Rattle.std.proofs.Common.{◌≡◌, ℕ, zero, suc, ◌+◌, ◌<◌, ◌≤◌, Bool, true, false, cond, List, [], ◌∷◌, ◌++◌, length, Option, Some, None, pos, refl, sym, ap, ◌∙◌, subst, arith, append_assoc}
+use Rattle.std.proofs.Common.{◌≡◌, ℕ, zero, suc, ◌+◌, ◌<◌, ◌≤◌, ◌==◌, Bool, true, false, cond, List, [], ◌∷◌, ◌++◌, length, Option, Some, None, pos, refl, sym, ap, ◌∙◌, subst, arith, append_assoc}
 use Rattle.std.specs.Prelude.{slice_get, slice_set}
 use Rattle.std.specs.Str.{bytes_eq}
-use Rattle.std.proofs.lemmas.Bool.{lt-ltb}
+use Rattle.std.proofs.lemmas.Bool.Decides.{nat_tests}
 use Rattle.std.proofs.lemmas.Option.{slice_get_within}
 use Rattle.ioa_value.specs.declared.arithmetic.Fault.{Fault}
 use Rattle.ioa_value.specs.declared.operator.Op.{Op}
@@ -10,21 +10,28 @@ use Rattle.ioa_value.specs.Actions.{Name}
 use Rattle.ioa_value.specs.Operators.{Answer, gives, faults, nothing, operate, arity}
 use Rattle.ioa_value.specs.Plain as plain
 use Rattle.ioa_value.specs.Plain.{Val}
-use Rattle.ioa_value.specs.Typing.{HasType, HaveTypes, basic_types}
+use Rattle.ioa_value.specs.Typing.{HasType, HaveTypes, basic_types, own}
 use Rattle.ioa_code.specs.declared.instr.Instr.{Instr}
 use Rattle.ioa_code.specs.declared.instr.Instr.TheVariants.{Const, Slot, Arg, Store, Apply}
-use Rattle.ioa_code.specs.Machine.{Listing, State, state, End, fault, Move, goes, faulted, stuck, act, next, pushed, stored, answered, fetched, move, After, Ends}
+use Rattle.ioa_code.specs.Machine.{Listing, State, state, End, fault, Move, goes, faulted, stuck, act, next, pushed, replaced, stored, answered, fetched, move, After, Ends}
 use Rattle.ioa_syntax.specs.Tree.{Expr, number, truth, named, parens, binary, Stmt, assign}
 use Rattle.ioa_syntax.specs.Meaning.{Env, val, then_value, value_of, op_of, Outcome, becomes, breaks, nowhere, assigned, then_do, does, eff, with_name, or_else}
 use Rattle.ioa_syntax.specs.Instances.{place_from}
 use Rattle.ioa_syntax.specs.WellFormed.{Context, type_in}
-use Rattle.ioa_compose.proofs.ValTyped.{val_typed, IsTyped, Stands, Suits}
+use Rattle.ioa_syntax.specs.Answers.{IsTyped, Stands, Suits}
+use Rattle.ioa_syntax.proofs.ValTyped.{own_type, val_typed}
 use Rattle.ioa_compile.specs.Scopes.{Scope, Origin, slot, formal, parameter, unknown, origin}
 use Rattle.ioa_compile.specs.Placed.{At, Pushes, Brings, HasExpr, HasStmt, HasStmts}
 use Rattle.ioa_compile.proofs.Fine.{StmtTyped, StmtsTyped}
 use Rattle.ioa_compile.proofs.Fits.{have_at, have_long}
 use Rattle.ioa_compile.proofs.Looks.{look, at, stands, stands_at, look_set}
 use Rattle.ioa_compile.proofs.Validity.{on_top-append}
+
+alike_own : (v w : Val) (ty : ℕ) → HasType basic_types v ty → HasType basic_types w ty → (own v == own w) ≡ true
+alike_own v w ty h k =
+    let a = own_type basic_types v ty h in
+    let b = own_type basic_types w ty k in
+    grind (arith, nat_tests)
 
 pub have_set : (vs : List Val) (tys : List ℕ) (i ty : ℕ) (v : Val) → HaveTypes basic_types vs tys → slice_get tys i ≡ Some ty → HasType basic_types v ty → HaveTypes basic_types (slice_set vs i v) tys
 have_set [] [] i ty v h e k = tt
@@ -180,12 +187,13 @@ module _ (code : Listing) (s : Scope) (args : List Val) where
     then_runs x m q (breaks f) go r k = r
     then_runs x m q nowhere go r k = absurd r
 
-    store_comes : (m i : ℕ) (slots : List Val) (w : Val) → At code m (Store i) → i < length slots → Comes (on m (w ∷ []) slots) (on (m + 1) [] (slice_set slots i w))
-    store_comes m i slots w h lt =
+    store_comes : (m i : ℕ) (slots : List Val) (w was : Val) → At code m (Store i) → slice_get slots i ≡ Some was → (own was == own w) ≡ true → Comes (on m (w ∷ []) slots) (on (m + 1) [] (slice_set slots i w))
+    store_comes m i slots w was h here-is alike =
         let here = on m (w ∷ []) slots in
         step _ _ refl (moves m (w ∷ []) slots (Store i) _ h
         (on_top-append 1 [] (w ∷ []) stuck (λ below top. stored i here below top) refl
-        ∙ ap (λ b. cond b (next here [] (slice_set slots i w)) stuck) (lt-ltb i (length slots) lt)))
+        ∙ ap (replaced i here [] w) here-is
+        ∙ ap (λ b. cond b (next here [] (slice_set slots i w)) stuck) alike))
 
     holds_set : (env : Env) (slots : List Val) (x : Name) (i ty : ℕ) (w : Val) → Holds env slots → place_from 0 s.variables x ≡ Some i → slice_get vs i ≡ Some ty → HasType basic_types w ty → Holds (with_name env x w) (slice_set slots i w)
     holds_set env slots x i ty w h place t k =
@@ -202,22 +210,22 @@ module _ (code : Listing) (s : Scope) (args : List Val) where
         go y true = refl
         go y false = h.agrees y
 
-    here_some : (slots : List Val) (i ty : ℕ) → HaveTypes basic_types slots vs → slice_get vs i ≡ Some ty → (w : Val) × (slice_get slots i ≡ Some w)
+    here_some : (slots : List Val) (i ty : ℕ) → HaveTypes basic_types slots vs → slice_get vs i ≡ Some ty → (w : Val) × (slice_get slots i ≡ Some w) × HasType basic_types w ty
     here_some slots i ty h e = go (slice_get slots i) refl (have_at basic_types slots vs i ty h e)
       where
-        go : (o : Option Val) → slice_get slots i ≡ o → Stands basic_types ty o → (w : Val) × (slice_get slots i ≡ Some w)
-        go (Some w) t k = (w, t)
+        go : (o : Option Val) → slice_get slots i ≡ o → Stands basic_types ty o → (w : Val) × (slice_get slots i ≡ Some w) × HasType basic_types w ty
+        go (Some w) t k = (w, t, k)
         go None t k = absurd k
 
     variable_origin : (x : Name) (i : ℕ) → place_from 0 s.variables x ≡ Some i → origin s x ≡ slot i
     variable_origin x i e = rw e refl
 
-    assigns : (m i ty : ℕ) (slots : List Val) (x : Name) (env : Env) (start : State) (a : Answer) (old : Option Val) (was : Val) → Holds env slots → At code m (Store i) → place_from 0 s.variables x ≡ Some i → slice_get vs i ≡ Some ty → i < length slots → old ≡ Some was → IsTyped basic_types ty a → Reaches start m [] slots a → RunsTo start (m + 1) (assigned x env a old)
-    assigns m i ty slots x env start (gives w) None was h k place t lt e typed r = absurd (cc)
-    assigns m i ty slots x env start (gives w) (Some old) was h k place t lt e typed r =
-        (slice_set slots i w, holds_set env slots x i ty w h place t typed, comes_on start (on m (w ∷ []) slots) _ r (store_comes m i slots w k lt))
-    assigns m i ty slots x env start (faults f) old was h k place t lt e typed r = r
-    assigns m i ty slots x env start nothing old was h k place t lt e typed r = absurd typed
+    assigns : (m i ty : ℕ) (slots : List Val) (x : Name) (env : Env) (start : State) (a : Answer) (old : Option Val) (was : Val) → Holds env slots → At code m (Store i) → place_from 0 s.variables x ≡ Some i → slice_get vs i ≡ Some ty → slice_get slots i ≡ Some was → HasType basic_types was ty → old ≡ Some was → IsTyped basic_types ty a → Reaches start m [] slots a → RunsTo start (m + 1) (assigned x env a old)
+    assigns m i ty slots x env start (gives w) None was h k place t now kept e typed r = absurd (cc)
+    assigns m i ty slots x env start (gives w) (Some old) was h k place t now kept e typed r =
+        (slice_set slots i w, holds_set env slots x i ty w h place t typed, comes_on start (on m (w ∷ []) slots) _ r (store_comes m i slots w was k now (alike_own was w ty kept typed)))
+    assigns m i ty slots x env start (faults f) old was h k place t now kept e typed r = r
+    assigns m i ty slots x env start nothing old was h k place t now kept e typed r = absurd typed
 
     stmt_runs : (u : Stmt) (p q : ℕ) (env : Env) (slots : List Val) → Holds env slots → StmtTyped c v u → HasStmt code s u p q → RunsTo (on p [] slots) q (does u env)
     stmt_runs (assign x e) p q env slots h t k =
@@ -226,12 +234,11 @@ module _ (code : Listing) (s : Scope) (args : List Val) where
         let i = k.1 in
         let slot_ty = found x ty i t.1 k.4 in
         let now = here_some slots i ty h.typed slot_ty in
-        let lt = slice_get_within slots i now.0 now.1 in
         let old : env x ≡ Some now.0 = agree env slots h x ∙ ap (λ o. at o slots s.arguments args) (variable_origin x i k.4) ∙ now.1 in
         let typed = val_typed basic_types c env e ty (suits env slots h) t.2 in
         let run = expr_runs e p m [] slots env (agree env slots h) k.2 in
         subst (λ n. RunsTo (on p [] slots) n (assigned x env (val e env) (env x))) (sym k.5)
-        (assigns m i ty slots x env (on p [] slots) (val e env) (env x) now.0 h k.3 k.4 slot_ty lt old typed run)
+        (assigns m i ty slots x env (on p [] slots) (val e env) (env x) now.0 h k.3 k.4 slot_ty now.1 now.2 old typed run)
 
     pub stmts_run : (us : List Stmt) (p q : ℕ) (env : Env) (slots : List Val) → Holds env slots → StmtsTyped c v us → HasStmts code s us p q → RunsTo (on p [] slots) q (eff us env)
     stmts_run [] p q env slots h t k =

@@ -26,7 +26,8 @@ use Rattle.ioa_compile.specs.Programs as codes
 use Rattle.ioa_compile.specs.Programs.{PositionCode, EntryCode, MemberCode}
 use Rattle.ioa_compile.specs.Tables.{positions_hold, is_in, table_component, position_types, HasPre, IsPartOf, IsEntry, AreEntries, AreMembers}
 use Rattle.ioa_compile.specs.Scopes.{Scope, scope_of}
-use Rattle.ioa_compile.specs.Translated.{AreTypesOf, IsGuardFor, IsFor, codes_of, IsTranslated, DoesSame}
+use Rattle.ioa_compile.specs.Matching.{AreTypesOf}
+use Rattle.ioa_compile.specs.Translated.{IsGuardFor, IsFor, codes_of, IsTranslated, DoesSame}
 
 positions_same : (ps : List PositionTree) (qs : List PositionCode) (vs : List Val) → AreTypesOf (position_fields ps) (position_types qs) → positions_have basic_table ps vs ≡ positions_hold qs vs
 positions_same [] [] [] h = refl
@@ -79,10 +80,10 @@ module _ (m : Member) (slots : List ℕ) (a : Act) where
 
 -- the table's parts are for the component's variables
 module _ (m : Member) (c : MemberCode) where
-  part_of : (e : EntryCode) (p : Part) → IsFor p Pre c.start.types (position_types e.positions) → IsPartOf c e Pre p
-  part_of e p h = record { kind = h.kind; slots = h.slots; args = h.args }
+  part_of : (e : EntryCode) (p : Part) → IsFor p Pre (0 ∷ []) c.start.types (position_types e.positions) → IsPartOf c e Pre (0 ∷ []) p
+  part_of e p h = record { verified = h.verified; kind = h.kind; result = h.result; slots = h.slots; args = h.args }
 
-  has_pre : (e : EntryCode) (k : Kind) (o : Option Part) (s : Scope) (g : Option Expr) → IsGuardFor k (codes_of o) s g → IfSome o (λ p. IsFor p Pre c.start.types (position_types e.positions)) → HasPre c e k o
+  has_pre : (e : EntryCode) (k : Kind) (o : Option Part) (s : Scope) (g : Option Expr) → IsGuardFor k (codes_of o) s g → IfSome o (λ p. IsFor p Pre (0 ∷ []) c.start.types (position_types e.positions)) → HasPre c e k o
   has_pre e Input None s g h f = tt
   has_pre e Input (Some p) s g h f = absurd h
   has_pre e Output None s g h f = absurd h
@@ -97,7 +98,7 @@ module _ (m : Member) (c : MemberCode) where
   is_entry : (t : EntryTree) (e : EntryCode) → IsTranslated m c.start.types t e → IsEntry c e
   is_entry t e h = record {
     pre = subst (λ k. HasPre c e k e.pre) (sym h.kind) (has_pre e t.kind e.pre (scope_of m t) h.transition.0.pre h.transition.2.pre h.pre);
-    effect = record { kind = h.effect.kind; slots = h.effect.slots; args = h.effect.args };
+    effect = record { verified = h.effect.verified; kind = h.effect.kind; result = h.effect.result; slots = h.effect.slots; args = h.effect.args };
     consts = one_table e.pre e.effect.code h.transition.2.consts;
   }
 

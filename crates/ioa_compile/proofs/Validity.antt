@@ -22,7 +22,8 @@ use Rattle.ioa_syntax.specs.Meaning.{op_of}
 use Rattle.ioa_syntax.specs.Instances.{basic_table, place_from}
 use Rattle.ioa_syntax.specs.Compositions.{Member}
 use Rattle.ioa_syntax.specs.WellFormed.{Context, type_in, type_of, scope, context_of, variable_fields}
-use Rattle.ioa_compose.proofs.ValTyped.{types_of_both, Stands}
+use Rattle.ioa_syntax.specs.Answers.{Stands}
+use Rattle.ioa_syntax.proofs.ValTyped.{types_of_both}
 use Rattle.ioa_compile.specs.Scopes.{Scope, scope_of, Origin, slot, formal, parameter, unknown, origin}
 use Rattle.ioa_compile.specs.Placed.{Pushes, Brings, HasExpr, HasGuard, HasStmt, HasStmts}
 use Rattle.ioa_compile.specs.Translated.{IsGuard, IsEffect}

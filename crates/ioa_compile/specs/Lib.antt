@@ -2,6 +2,7 @@ pub mod Programs
 pub mod Tables
 pub mod Shown
 pub mod Coded
+pub mod Matching
 pub mod Means
 pub mod Scopes
 pub mod Placed

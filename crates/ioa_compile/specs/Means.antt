@@ -1,5 +1,6 @@
 -- When a program means a composition: its components do the same, and start alike.
 use Rattle.std.specs.Prelude.{◌≡◌, ℕ, List, map, Option, Some, None, slice_get}
+use Rattle.std.specs.List.{AllZip}
 use Rattle.ioa_value.specs.Actions.{Name}
 use Rattle.ioa_value.specs.Plain.{Val}
 use Rattle.ioa_syntax.specs.Tree.{AutomatonTree}
@@ -7,6 +8,7 @@ use Rattle.ioa_syntax.specs.Meaning.{Env, values_of}
 use Rattle.ioa_syntax.specs.Instances.{basic_table, variable_names}
 use Rattle.ioa_syntax.specs.Compositions.{Member, Composed, Fit, components_of, starts_of}
 use Rattle.ioa_syntax.specs.Likes.{AllLike, AllRelated}
+use Rattle.ioa_compile.specs.Matching.{MatchesMember}
 use Rattle.ioa_compile.specs.Programs.{Prog}
 use Rattle.ioa_compile.specs.Tables.{tabled, start_states}
 
@@ -23,8 +25,11 @@ CorrespondsIn None env slots = ⊥
 abbrev pub CorrespondsAt : List Member → ℕ → Env → List Val → Type 0
 CorrespondsAt ms i env slots = CorrespondsIn (slice_get ms i) env slots
 
+-- the program has the composition's name, components and hidden names; its components do the same on corresponding
+-- states, and start in them
 pub record Means (p : Prog) (c : Composed) : Type 0 where
   pub name : p.name ≡ c.name
+  pub tables : AllZip MatchesMember c.members p.members
   pub hidden : p.hidden ≡ c.hidden
   pub components : AllLike (CorrespondsAt c.members) 0 (components_of c) (tabled p)
   pub starts : AllRelated (CorrespondsAt c.members) 0 (starts_of c) (start_states p)

@@ -9,6 +9,7 @@ use Rattle.ioa_value.specs.Typing.{basic_types, HaveTypes}
 use Rattle.ioa_value.specs.Tests.{is_of}
 use Rattle.ioa_code.specs.declared.instr.PartKind.{PartKind}
 use Rattle.ioa_code.specs.declared.instr.PartKind.TheVariants.{Pre, Eff}
+use Rattle.ioa_code.specs.Parts.{IsVerified}
 use Rattle.ioa_code.specs.Valid.{Part}
 use Rattle.ioa_node.specs.Runs.{guard_of, effect_of}
 use Rattle.ioa_syntax.specs.declared.tree.Kind.{Kind}
@@ -58,23 +59,26 @@ abbrev pub position_types : List PositionCode → List ℕ
 position_types [] = []
 position_types (typed ty ∷ ps) = ty ∷ position_types ps
 
--- the part is of this kind, over the component's variables and the entry's values
-pub record IsPartOf (m : MemberCode) (e : EntryCode) (k : PartKind) (part : Part) : Type 0 where
+-- the part is verified code of this kind, over the component's variables and the entry's values, and ends with values of
+-- these types on the stack
+pub record IsPartOf (m : MemberCode) (e : EntryCode) (k : PartKind) (end : List ℕ) (part : Part) : Type 0 where
+  pub verified : IsVerified part
   pub kind : part.kind ≡ k
+  pub result : part.result ≡ end
   pub slots : part.slots ≡ m.start.types
   pub args : part.args ≡ position_types e.positions
 
--- an input has no precondition; any other entry has one
+-- an input has no precondition; any other entry has one, which ends with one truth value
 abbrev pub HasPre : MemberCode → EntryCode → Kind → Option Part → Type 0
 HasPre m e Input None = Unit {0}
 HasPre m e Input (Some part) = ⊥
 HasPre m e k None = ⊥
-HasPre m e k (Some part) = IsPartOf m e Pre part
+HasPre m e k (Some part) = IsPartOf m e Pre (0 ∷ []) part
 
--- the parts of an entry carry one table of constants
+-- an effect ends with nothing; the parts of an entry carry one table of constants
 pub record IsEntry (m : MemberCode) (e : EntryCode) : Type 0 where
   pub pre : HasPre m e e.kind e.pre
-  pub effect : IsPartOf m e Eff e.effect
+  pub effect : IsPartOf m e Eff [] e.effect
   pub consts : IfSome e.pre (λ part. part.code.consts ≡ e.effect.code.consts)
 
 abbrev pub AreEntries : MemberCode → List EntryCode → Type 0

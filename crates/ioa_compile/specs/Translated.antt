@@ -1,30 +1,25 @@
 -- What the compiler makes of an entry and of a component.
-use Rattle.std.specs.Prelude.{◌≡◌, ℕ, List, length, Option, Some, None, IfSome, slice_get}
+use Rattle.std.specs.Prelude.{◌≡◌, ℕ, List, [], ◌∷◌, length, Option, Some, None, IfSome, slice_get}
 use Rattle.std.specs.List.{AllZip}
 use Rattle.ioa_value.specs.Typing.{HaveTypes, basic_types}
 use Rattle.ioa_code.specs.declared.instr.PartKind.{PartKind}
 use Rattle.ioa_code.specs.declared.instr.PartKind.TheVariants.{Pre, Eff}
 use Rattle.ioa_code.specs.Machine.{Listing}
+use Rattle.ioa_code.specs.Parts.{IsVerified}
 use Rattle.ioa_code.specs.Valid.{Part, OwnTypes}
 use Rattle.ioa_syntax.specs.declared.tree.Kind.{Kind}
 use Rattle.ioa_syntax.specs.declared.tree.Kind.TheVariants.{Input, Output, Internal}
 use Rattle.ioa_syntax.specs.Tree.{Expr, Stmt, FieldTree, PositionTree, typed, EntryTree, TransitionTree}
-use Rattle.ioa_syntax.specs.Instances.{type_named, basic_table, transition_for, component_of, state_of}
+use Rattle.ioa_syntax.specs.Instances.{transition_for, component_of, state_of}
 use Rattle.ioa_syntax.specs.WellFormed.{position_fields}
 use Rattle.ioa_syntax.specs.Compositions.{Member}
+use Rattle.ioa_compile.specs.Matching.{AreTypesOf, MatchesMember}
 use Rattle.ioa_compile.specs.Means.{Corresponds}
 use Rattle.ioa_syntax.specs.Likes.{IsLike}
 use Rattle.ioa_compile.specs.Programs.{EntryCode, MemberCode}
 use Rattle.ioa_compile.specs.Tables.{AreEntries, table_component, position_types}
 use Rattle.ioa_compile.specs.Scopes.{Scope, scope_of}
 use Rattle.ioa_compile.specs.Placed.{HasGuard, HasStmts}
-
--- the field's type has this number
-abbrev pub IsTypeOf : FieldTree → ℕ → Type 0
-IsTypeOf f n = type_named basic_table f.ty ≡ Some n
-
-abbrev pub AreTypesOf : List FieldTree → List ℕ → Type 0
-AreTypesOf fs ns = AllZip IsTypeOf fs ns
 
 abbrev pub position_field : PositionTree → FieldTree
 position_field (typed f) = f
@@ -54,9 +49,11 @@ pub record IsTransition (m : Member) (e : EntryTree) (t : TransitionTree) (guard
   pub effect : IsEffect code (scope_of m e) t.effect
   pub consts : IfSome guard (λ g. g.consts ≡ code.consts)
 
--- the part's kind and types
-pub record IsFor (part : Part) (k : PartKind) (variables values : List ℕ) : Type 0 where
+-- the part is verified, for this kind and these types
+pub record IsFor (part : Part) (k : PartKind) (end variables values : List ℕ) : Type 0 where
+  pub verified : IsVerified part
   pub kind : part.kind ≡ k
+  pub result : part.result ≡ end
   pub slots : part.slots ≡ variables
   pub args : part.args ≡ values
 
@@ -70,16 +67,17 @@ pub record IsTranslated (m : Member) (slots : List ℕ) (e : EntryTree) (c : Ent
   pub name : c.name ≡ e.name
   pub positions : AreTypesOf (position_fields e.positions) (position_types c.positions)
   pub transition : (t : TransitionTree) × (transition_for m.instance.automaton e ≡ Some t) × IsTransition m e t (codes_of c.pre) c.effect.code
-  pub pre : IfSome c.pre (λ p. IsFor p Pre slots (position_types c.positions))
-  pub effect : IsFor c.effect Eff slots (position_types c.positions)
+  pub pre : IfSome c.pre (λ p. IsFor p Pre (0 ∷ []) slots (position_types c.positions))
+  pub effect : IsFor c.effect Eff [] slots (position_types c.positions)
 
 -- the entry is one of the automaton's
 pub record IsEntryOf (m : Member) (e : EntryTree) : Type 0 where
   pub place : ℕ
   pub here : slice_get m.instance.automaton.entries place ≡ Some e
 
--- the component of the table does the same, starts alike, and is sound
+-- the component of the table is made like the composition's, does the same, starts alike, and is sound
 pub record DoesSame (m : Member) (c : MemberCode) : Type 0 where
+  pub matches : MatchesMember m c
   pub like : IsLike (Corresponds m.instance.automaton) (component_of m.instance) (table_component c)
   pub start : Corresponds m.instance.automaton (state_of m.instance.automaton m.starts) c.start.values
   pub entries : AreEntries c c.entries

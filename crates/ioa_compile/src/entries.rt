@@ -4,8 +4,8 @@ ghost use Rattle.std.specs.Option.{option_map};
 ghost use Rattle.ioa_code.specs.declared.instr.PartKind.TheVariants.{Pre};
 ghost use Rattle.ioa_value.specs.Plain.{plain};
 ghost use Rattle.ioa_value.specs.Typing.{basic_types};
-ghost use Rattle.ioa_code.specs.Valid.{Valid, OwnTypes, Suits};
-ghost use Rattle.ioa_code.specs.Parts.{number, part};
+ghost use Rattle.ioa_code.specs.Valid.{Valid, OwnTypes};
+ghost use Rattle.ioa_code.specs.Parts.{number, part, IsVerified};
 ghost use Rattle.ioa_syntax.specs.View.{entry_of, transition_of, automaton_of};
 ghost use Rattle.ioa_syntax.specs.Instances.{transition_for};
 ghost use Rattle.ioa_syntax.specs.WellFormed.{variable_fields};
@@ -13,7 +13,8 @@ ghost use Rattle.ioa_compose.specs.Held.{member_of};
 ghost use Rattle.ioa_compose.specs.Fine.{IsFine};
 ghost use Rattle.ioa_compile.specs.Shown.{entry_code, position_code};
 ghost use Rattle.ioa_compile.specs.Tables.{position_types as types_of_positions};
-ghost use Rattle.ioa_compile.specs.Translated.{AreTypesOf, IsEntryOf, IsTranslated};
+ghost use Rattle.ioa_compile.specs.Matching.{AreTypesOf};
+ghost use Rattle.ioa_compile.specs.Translated.{IsEntryOf, IsTranslated};
 
 use crate::table::{Entry, Position};
 use crate::transition::transition_code;
@@ -104,7 +105,8 @@ fn guard_part(
     requires types { types.now ≡ basic_types }
     requires typed { IfSome guard (λ code. OwnTypes basic_types (map plain code.consts.items)) }
     requires valid { IfSome guard (λ code. Valid (part code Pre slots.now arguments.now (Ty.BOOL ∷ []))) }
-    ensures { IfOk result (λ p. p ≡ option_map (λ code. part code Pre slots.now arguments.now (Ty.BOOL ∷ [])) guard) }
+    ensures value { IfOk result (λ p. p ≡ option_map (λ code. part code Pre slots.now arguments.now (Ty.BOOL ∷ [])) guard) }
+    ensures sound { IfOk result (λ p. IfSome p IsVerified) }
 {
     match guard {
         Some(code) => Ok(Some(verified(
@@ -132,9 +134,9 @@ fn verified(
 ) -> Result<Verified, OutOfMemory>
     requires types { types.now ≡ basic_types }
     requires typed { OwnTypes basic_types (map plain code.consts.items) }
-    requires suits { Suits kind (map number stack.now) }
     requires valid { Valid (part code kind slots.now arguments.now stack.now) }
-    ensures { IfOk result (λ v. v ≡ part code kind slots.now arguments.now stack.now) }
+    ensures value { IfOk result (λ v. v ≡ part code kind slots.now arguments.now stack.now) }
+    ensures sound { IfOk result IsVerified }
 {
     let env = Env {
         types,

@@ -4,7 +4,8 @@ ghost use Rattle.ioa_code.specs.Parts.{number};
 ghost use Rattle.ioa_syntax.specs.View.{name_of, field_of, position_of, variable_of};
 ghost use Rattle.ioa_syntax.specs.Instances.{basic_table, type_named};
 ghost use Rattle.ioa_syntax.specs.WellFormed.{is_type, position_fields};
-ghost use Rattle.ioa_compile.specs.Translated.{IsTypeOf, AreTypesOf, position_field};
+ghost use Rattle.ioa_compile.specs.Matching.{IsTypeOf, AreTypesOf};
+ghost use Rattle.ioa_compile.specs.Translated.{position_field};
 
 use ioa_syntax::{Field, Position, Variable};
 use ioa_value::{OutOfMemory, Ty};

@@ -7,7 +7,8 @@ use Rattle.ioa_syntax.specs.declared.tree.Operator.{Operator}
 use Rattle.ioa_syntax.specs.Tree.{Expr, binary}
 use Rattle.ioa_syntax.specs.Meaning.{Env, val, op_of}
 use Rattle.ioa_syntax.specs.WellFormed.{Context, type_of}
-use Rattle.ioa_compose.proofs.ValTyped.{IsTyped, Stands, Suits, types_of_both, val_typed, takes_typed}
+use Rattle.ioa_syntax.specs.Answers.{IsTyped, Stands, Suits}
+use Rattle.ioa_syntax.proofs.ValTyped.{types_of_both, val_typed, takes_typed}
 
 -- the expression has a type
 abbrev pub HasSome : Context → Expr → Type 0

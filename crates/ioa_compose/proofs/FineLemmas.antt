@@ -19,7 +19,8 @@ use Rattle.ioa_syntax.specs.Compositions.{Member, Fit, IsMember, AreMembers}
 use Rattle.ioa_syntax.specs.WellFormed.{automaton_fine, context_of, start_fine, is_type, entry_fine, distinct, variable_fields, global_names, well_formed}
 use Rattle.ioa_compose.specs.Bindings.{StartsWell, AllStartable, AllSound, AreBound}
 use Rattle.ioa_compose.specs.Fine.{IsFine, AllFine}
-use Rattle.ioa_compose.proofs.ValTyped.{IsTyped, val_typed}
+use Rattle.ioa_syntax.specs.Answers.{IsTyped}
+use Rattle.ioa_syntax.proofs.ValTyped.{val_typed}
 use Rattle.ioa_compose.proofs.FitLemmas.{suits_of_fit}
 use Rattle.ioa_compose.proofs.ListLemmas.{some-there}
 use Rattle.ioa_compose.proofs.StartLemmas.{start-typed}
@@ -120,6 +121,7 @@ member-fine s i m h b =
       automaton = (global_names s, fine);
       arguments = b.fit;
       starts = starts-fit m.instance.automaton m.instance.arguments b.fit m.instance.automaton.variables m.starts p.starts p.known started;
+      started = b.starts;
     }
 
 pub members-fine : (s : SourceTree) (is : List InstanceTree) (ms : List Member) → well_formed s ≡ true → AreMembers s is ms → AllFine ms

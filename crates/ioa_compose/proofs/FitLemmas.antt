@@ -12,7 +12,7 @@ use Rattle.ioa_syntax.specs.Meaning.{values_of}
 use Rattle.ioa_syntax.specs.Instances.{TypeTable, type_named, field_names}
 use Rattle.ioa_syntax.specs.WellFormed.{type_in, typed_field, context_of}
 use Rattle.ioa_syntax.specs.Compositions.{Fit}
-use Rattle.ioa_compose.proofs.ValTyped.{Stands, Suits}
+use Rattle.ioa_syntax.specs.Answers.{Stands, Suits}
 
 one_typed : (types : List Shape) (v : Val) (n : ℕ) → IsTrue (are_of types (v ∷ []) (n ∷ [])) → HasType types v n
 one_typed types v n h = ((are_of-HaveTypes types (v ∷ []) (n ∷ [])).0 h).0

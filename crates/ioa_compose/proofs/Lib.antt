@@ -1,4 +1,3 @@
-pub mod ValTyped
 pub mod FitLemmas
 pub mod EvaluateLemmas
 pub mod ListLemmas

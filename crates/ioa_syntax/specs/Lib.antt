@@ -14,4 +14,5 @@ pub mod Runs
 pub mod Likes
 pub mod Instances
 pub mod WellFormed
+pub mod Answers
 pub mod Compositions

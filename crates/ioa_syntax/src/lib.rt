@@ -19,7 +19,7 @@ mod transitions;
 mod tree;
 
 pub use ioa_lex::Refusal;
-pub use laws::one_tree;
+pub use laws::{one_tree, well_typed_answers};
 pub use parsing::parse;
 pub use printing::print;
 pub use source::Source;

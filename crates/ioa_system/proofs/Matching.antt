@@ -54,17 +54,18 @@ found_in : (m : MemberCode) (a : Act) (e : EntryCode) (es : List EntryCode) → 
 found_in m a e [] h k = absurd (cc)
 found_in m a e (x ∷ xs) h k = found_first m a x e (find (is_in a) xs) (is_in a x) refl h.0 (found_in m a e xs h.1) k
 
-pre_part : (m : MemberCode) (e : EntryCode) (k : Kind) (o : Option Part) (part : Part) → HasPre m e k o → o ≡ Some part → IsPartOf m e Pre part
+pre_part : (m : MemberCode) (e : EntryCode) (k : Kind) (o : Option Part) (part : Part) → HasPre m e k o → o ≡ Some part → IsPartOf m e Pre (0 ∷ []) part
 pre_part m e Input None part h q = absurd (cc)
 pre_part m e Input (Some x) part h q = absurd h
 pre_part m e Output None part h q = absurd h
-pre_part m e Output (Some x) part h q = let r : x ≡ part = cc in subst (IsPartOf m e Pre) r h
+pre_part m e Output (Some x) part h q = let r : x ≡ part = cc in subst (IsPartOf m e Pre (0 ∷ [])) r h
 pre_part m e Internal None part h q = absurd h
-pre_part m e Internal (Some x) part h q = let r : x ≡ part = cc in subst (IsPartOf m e Pre) r h
+pre_part m e Internal (Some x) part h q = let r : x ≡ part = cc in subst (IsPartOf m e Pre (0 ∷ [])) r h
 
 -- a precondition that may be run for the action in a state of these types
 pub record Asks (a : Act) (types : List ℕ) (part : Part) : Type 0 where
   pub kind : part.kind ≡ Pre
+  pub result : part.result ≡ 0 ∷ []
   pub slots : types ≡ part.slots
   pub arguments : HaveTypes basic_types a.vals part.args
 
@@ -72,12 +73,13 @@ pub asks : (m : MemberCode) (a : Act) (e : EntryCode) (part : Part) (types : Lis
     → AreEntries m m.entries → entry_of m a ≡ Some e → types ≡ m.start.types → e.pre ≡ Some part → Asks a types part
 asks m a e part types h k t q =
     let f : Found m a e = found_in m a e m.entries h k in
-    let p : IsPartOf m e Pre part = pre_part m e e.kind e.pre part f.entry.pre q in
-    record { kind = p.kind; slots = cc (t, p.slots); arguments = subst (HaveTypes basic_types a.vals) (sym p.args) f.typed }
+    let p : IsPartOf m e Pre (0 ∷ []) part = pre_part m e e.kind e.pre part f.entry.pre q in
+    record { kind = p.kind; result = p.result; slots = cc (t, p.slots); arguments = subst (HaveTypes basic_types a.vals) (sym p.args) f.typed }
 
 -- an effect that may be run for the action in a state of these types
 pub record Acts (a : Act) (types : List ℕ) (part : Part) : Type 0 where
   pub kind : part.kind ≡ Eff
+  pub result : part.result ≡ []
   pub slots : types ≡ part.slots
   pub arguments : HaveTypes basic_types a.vals part.args
 
@@ -85,5 +87,5 @@ pub acts : (m : MemberCode) (a : Act) (e : EntryCode) (types : List ℕ)
     → AreEntries m m.entries → entry_of m a ≡ Some e → types ≡ m.start.types → Acts a types e.effect
 acts m a e types h k t =
     let f : Found m a e = found_in m a e m.entries h k in
-    let p : IsPartOf m e Eff e.effect = f.entry.effect in
-    record { kind = p.kind; slots = cc (t, p.slots); arguments = subst (HaveTypes basic_types a.vals) (sym p.args) f.typed }
+    let p : IsPartOf m e Eff [] e.effect = f.entry.effect in
+    record { kind = p.kind; result = p.result; slots = cc (t, p.slots); arguments = subst (HaveTypes basic_types a.vals) (sym p.args) f.typed }

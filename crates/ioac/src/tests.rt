@@ -1,5 +1,7 @@
 mod calls;
 mod code;
+mod faults;
 mod rows;
 mod shelf;
 mod streams;
+mod tokens;

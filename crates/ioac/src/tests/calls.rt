@@ -1,11 +1,19 @@
+ghost use Rattle.std.specs.Prelude.{◌≡◌, ◌<◌, length, IfOk};
+ghost use Rattle.ioa_value.specs.Actions.{act_of};
+ghost use Rattle.ioa_compile.specs.Tables.{tabled};
+ghost use Rattle.ioa_system.specs.Participants.{taken};
+ghost use Rattle.ioa_system.specs.Systems.{slot_types, types_of};
+
 use crate::tests::shelf::COUNTER;
 use ioa_check::check;
 use ioa_compile::{Program, compile};
 use ioa_compose::compose;
+use ioa_node::NodeState;
 use ioa_syntax::{Refusal, parse, print};
-use ioa_system::{End, Step, System, is_external, owner, participants, run_list};
+use ioa_system::{End, Moved, Step, System, is_external, owner, participants, run_list, step_from};
 use ioa_value::{
-    Action, OutOfMemory, Ty, Types, Value, first, has_type, print_action, read_action, same,
+    Action, Fault, Op, OutOfMemory, Ty, Types, Value, apply, first, has_type, print_action,
+    read_action, same,
 };
 use std::alloc::Global;
 use std::test::Fail;
@@ -130,5 +138,70 @@ fn steps_a_program(rt: HostRuntime) -> Result<(), Fail> {
     assert_eq!(rt; system.step(&action(alloc, "tick", Some(5))?)?, Step::Next);
     assert_eq!(rt; system.step(&action(alloc, "tick", Some(6))?)?, Step::Next);
     assert_eq!(rt; system.states().len(), 1);
+    Ok(())
+}
+
+fn on_numbers(alloc: Global, op: Op, a: i64, b: i64) -> Result<Result<Value, Fault>, OutOfMemory> {
+    let types = Types::new(alloc)?;
+    apply(alloc, &types, op, &[Value::Num(a), Value::Num(b)])
+}
+
+#[test]
+fn operators_give_values_or_faults(rt: HostRuntime) -> Result<(), Fail> {
+    let alloc = rt.alloc();
+    let rows: [(Op, i64, i64, Option<Value>); 8] = [
+        (Op::Add, 2, 3, Some(Value::Num(5))),
+        (Op::Add, i64::MAX, 1, None),
+        (Op::Add, i64::MIN, -1, None),
+        (Op::Sub, 2, 3, Some(Value::Num(-1))),
+        (Op::Sub, i64::MIN, 1, None),
+        (Op::Sub, 0, i64::MIN, None),
+        (Op::Eq, 2, 2, Some(Value::Truth(true))),
+        (Op::Eq, 2, 3, Some(Value::Truth(false))),
+    ];
+    for (op, a, b, wanted) in rows {
+        match (on_numbers(alloc, op, a, b)?, wanted) {
+            (Ok(value), Some(wanted)) => assert!(rt; same(&value, &wanted)),
+            (Err(fault), None) => assert_eq!(rt; fault, Fault::Overflow),
+            _ => assert!(rt; false),
+        }
+    }
+    Ok(())
+}
+
+// Equals of the states of the action's participants, in order.
+fn lent(alloc: Global, system: &System<'_>, action: &Action) -> Result<Vec<NodeState>, OutOfMemory>
+    ensures { IfOk result (λ lent. types_of lent.items ≡ taken (act_of action.now) (tabled system.now.program) (slot_types system.now.program.members)) }
+{
+    let mut lent = Vec::new(alloc);
+    for i in &participants(alloc, system.program(), action)? {
+        if let Some(state) = system.states().get(*i) {
+            lent.push(state.try_copy(alloc)?)?;
+        }
+    }
+    Ok(lent)
+}
+
+fn moved(alloc: Global, system: &System<'_>, action: &Action) -> Result<Moved, OutOfMemory> {
+    let states = lent(alloc, system, action)?;
+    step_from(alloc, system.program(), action, &states)
+}
+
+#[test]
+fn steps_from_the_participants_states(rt: HostRuntime) -> Result<(), Fail> {
+    let alloc = rt.alloc();
+    let program = counter(alloc)?;
+    let system = System::start(alloc, &program)?;
+    match moved(alloc, &system, &action(alloc, "tick", Some(5))?)? {
+        Moved::Next(states) => {
+            assert_eq!(rt; states.len(), 1);
+            assert!(rt; same(&states[0].values()[0], &Value::Num(6)));
+        }
+        _ => assert!(rt; false),
+    }
+    let early = moved(alloc, &system, &action(alloc, "tick", Some(6))?)?;
+    assert!(rt; matches!(early, Moved::NotEnabled));
+    let unknown = moved(alloc, &system, &action(alloc, "tock", None)?)?;
+    assert!(rt; matches!(unknown, Moved::NotAnAction));
     Ok(())
 }

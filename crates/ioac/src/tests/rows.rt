@@ -66,6 +66,25 @@ fn ends_by_a_fault(rt: HostRuntime) -> Result<(), Fail> {
 }
 
 #[test]
+fn a_precondition_faults(rt: HostRuntime) -> Result<(), Fail> {
+    let adding = replaced(rt.alloc(), COUNTER, "pre k = c", "pre k + c = c")?;
+    let wanted = Wanted {
+        output: "tick(0)\nend: fault 1 in component 0 at 1\n",
+        errors: "",
+        status: 3,
+    };
+    let list = b"tick(0)\ntick(9223372036854775807)\ntick(0)\n";
+    expect(
+        &rt,
+        rt.alloc(),
+        adding.as_bytes(),
+        REPLAY.as_slice(),
+        list.as_slice(),
+        &wanted,
+    )
+}
+
+#[test]
 fn refuses_lists(rt: HostRuntime) -> Result<(), Fail> {
     let rows: [(&str, &str); 4] = [
         ("tick(5", "L2 line 1\n"),

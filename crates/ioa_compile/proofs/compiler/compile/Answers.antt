@@ -6,7 +6,7 @@ use Rattle.ioa_compile.specs.Translated.{DoesSame}
 use Rattle.std.specs.String.{string_bytes}
 use Rattle.ioa_compile.specs.Programs.{Prog}
 use Rattle.ioa_compile.specs.Means.{Means}
-use Rattle.ioa_compile.proofs.Meant.{all_like, all_related, from_all}
+use Rattle.ioa_compile.proofs.Meant.{all_like, all_match, all_related, from_all}
 use Rattle.ioa_compile.proofs.Twins.{are_members, compatible_same}
 use Rattle.ioa_compile.proofs.compiler.compile.Goals as goal
 
@@ -30,6 +30,7 @@ returns c =
     let means : Means made composed = record {
       name = c.in_ok-name.ensures.ok ∙ c.name.ensures;
       hidden = c.in_ok-hidden.ensures ∙ c.hidden.ensures;
+      tables = all_match ms cs all;
       components = all_like ms 0 ms cs (from_all ms) all;
       starts = all_related ms 0 ms cs (from_all ms) all;
     } in

@@ -1,4 +1,4 @@
-use Rattle.std.proofs.Common.{◌≡◌, List, map, sym, subst, ap, ◌∙◌}
+use Rattle.std.proofs.Common.{◌≡◌, List, map, sym, subst, ap, ◌∙◌, rules}
 use Rattle.std.specs.List.{AllZip}
 use Rattle.ioa_value.specs.Plain.{plain}
 use Rattle.ioa_value.specs.Typing.{Shape, HaveTypes, basic_types}
@@ -6,7 +6,8 @@ use Rattle.ioa_code.specs.Parts.{number}
 use Rattle.ioa_syntax.specs.View.{variable_of}
 use Rattle.ioa_compose.specs.Held.{member_of}
 use Rattle.ioa_compile.specs.Shown.{member_code}
-use Rattle.ioa_compile.specs.Translated.{AreTypesOf, IsTranslated}
+use Rattle.ioa_compile.specs.Matching.{AreTypesOf}
+use Rattle.ioa_compile.specs.Translated.{IsTranslated}
 use Rattle.ioa_compile.proofs.Meant.{does_same}
 use Rattle.ioa_compile.proofs.Fits.{fit_have}
 use Rattle.ioa_compile.proofs.compiler.compile_member.Goals as goal
@@ -33,4 +34,5 @@ returns c =
     ∙ ap (λ l. record { types = slots; values = map plain l }) c.deref-3.ensures.value in
     let slots-are : map number c.deref-4.result.now ≡ slots = ap (map number) c.deref-4.ensures.value in
     let entries = subst (λ l. AllZip (IsTranslated m l) m.instance.automaton.entries new.entries) slots-are c.in_ok-compile_entries.ensures in
-    does_same m slots new c.requires.fine types start entries
+    let name : new.name ≡ m.name = search rules in
+    does_same m slots new c.requires.fine types name start entries

@@ -11,7 +11,7 @@ use Rattle.ioa_syntax.specs.WellFormed.{is_type, position_fields}
 use Rattle.ioa_compose.specs.Held.{member_of}
 use Rattle.ioa_compile.specs.Shown.{entry_code}
 use Rattle.ioa_compile.specs.Scopes.{scope_of}
-use Rattle.ioa_compile.specs.Translated.{AreTypesOf}
+use Rattle.ioa_compile.specs.Matching.{AreTypesOf}
 use Rattle.ioa_compile.proofs.Fine as fine
 use Rattle.ioa_compile.proofs.Fine.{Setting, setting, found_of, fine_of, guard_typed, effect_typed, guard_few, is_scope, known_guard, known_stmts, is_some_of_found}
 use Rattle.ioa_compile.proofs.Validity.{guard_valid, effect_valid}
@@ -116,8 +116,9 @@ returns c =
     let t = transition_of c.transition_of-transition.result.now in
     let new = entry_code record { kind = c.args.entry.now.kind; name = c.in_ok-clone.field-0; positions = c.in_ok-positions_of.field-0; pre = c.in_ok-guard_part.field-0; effect = c.in_ok-verified.field-0 } in
     let name : new.name ≡ e.name = search rules in
-    translated slots ps bools m e new t c.in_ok-guard.guard c.in_ok-guard.effect refl name types
+    translated slots ps bools refl m e new t c.in_ok-guard.guard c.in_ok-guard.effect refl name types
     (c.in_ok-positions_of.ensures ∙ ap (map number) c.deref-2.ensures.value)
     c.transition_of-transition.ensures c.in_ok-guard.ensures
-    (c.in_ok-guard_part.ensures ∙ ap (λ l. option_map (λ code. part code Pre slots l bools) c.in_ok-guard.guard) c.deref-3.ensures.value)
-    (c.in_ok-verified.ensures ∙ ap (λ l. part c.in_ok-guard.effect Eff slots l none) c.deref-4.ensures.value)
+    (c.in_ok-guard_part.ensures.value ∙ ap (λ l. option_map (λ code. part code Pre slots l bools) c.in_ok-guard.guard) c.deref-3.ensures.value)
+    (c.in_ok-verified.ensures.value ∙ ap (λ l. part c.in_ok-guard.effect Eff slots l none) c.deref-4.ensures.value)
+    c.in_ok-guard_part.ensures.sound c.in_ok-verified.ensures.sound

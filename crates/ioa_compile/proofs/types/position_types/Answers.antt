@@ -6,7 +6,8 @@ use Rattle.ioa_code.specs.Parts.{number}
 use Rattle.ioa_syntax.specs.View.{position_of}
 use Rattle.ioa_syntax.specs.Instances.{basic_table}
 use Rattle.ioa_syntax.specs.WellFormed.{is_type}
-use Rattle.ioa_compile.specs.Translated.{IsTypeOf, AreTypesOf, position_field}
+use Rattle.ioa_compile.specs.Matching.{IsTypeOf, AreTypesOf}
+use Rattle.ioa_compile.specs.Translated.{position_field}
 use Rattle.ioa_compile.proofs.Paired.{paired_next, paired_all, map-twice, all_get, fields-map}
 use Rattle.ioa_compile.proofs.types.position_types.Goals as goal
 

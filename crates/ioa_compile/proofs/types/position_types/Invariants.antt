@@ -1,7 +1,8 @@
 use Rattle.std.proofs.Common.{map, take}
 use Rattle.ioa_code.specs.Parts.{number}
 use Rattle.ioa_syntax.specs.View.{position_of}
-use Rattle.ioa_compile.specs.Translated.{AreTypesOf, position_field}
+use Rattle.ioa_compile.specs.Matching.{AreTypesOf}
+use Rattle.ioa_compile.specs.Translated.{position_field}
 use Rattle.ioa_compile.proofs.types.position_types.Given as goal
 
 abbrev pub invariant-loop-position : goal.invariant-loop-position

@@ -1,7 +1,7 @@
 use Rattle.std.proofs.Common.{map, take}
 use Rattle.ioa_code.specs.Parts.{number}
 use Rattle.ioa_syntax.specs.View.{field_of}
-use Rattle.ioa_compile.specs.Translated.{AreTypesOf}
+use Rattle.ioa_compile.specs.Matching.{AreTypesOf}
 use Rattle.ioa_compile.proofs.types.variable_types.Given as goal
 
 abbrev pub invariant-loop-variable : goal.invariant-loop-variable

@@ -15,6 +15,9 @@ acted c =
 pub effect-requires-clause-kind : goal.effect-requires-clause-kind
 effect-requires-clause-kind c = (acted c).kind
 
+pub effect-requires-clause-result : goal.effect-requires-clause-result
+effect-requires-clause-result c = (acted c).result
+
 pub effect-requires-clause-slots : goal.effect-requires-clause-slots
 effect-requires-clause-slots c = (acted c).slots
 

@@ -15,6 +15,9 @@ asked c =
 pub enabled-requires-clause-kind : goal.enabled-requires-clause-kind
 enabled-requires-clause-kind c = (asked c).kind
 
+pub enabled-requires-clause-result : goal.enabled-requires-clause-result
+enabled-requires-clause-result c = (asked c).result
+
 pub enabled-requires-clause-slots : goal.enabled-requires-clause-slots
 enabled-requires-clause-slots c = (asked c).slots
 

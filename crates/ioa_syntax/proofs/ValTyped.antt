@@ -12,21 +12,7 @@ use Rattle.ioa_value.specs.Typing.{Shape, HasType, own}
 use Rattle.ioa_syntax.specs.Tree.{Expr, number, truth, named, parens, binary}
 use Rattle.ioa_syntax.specs.Meaning.{Env, val, value_of, then_value, op_of}
 use Rattle.ioa_syntax.specs.WellFormed.{Context, type_in, type_of, both_types}
-
--- a value of the type, or a fault
-abbrev pub IsTyped : List Shape → ℕ → Answer → Type 0
-IsTyped types ty (gives v) = HasType types v ty
-IsTyped types ty (faults f) = Unit {0}
-IsTyped types ty nothing = ⊥
-
--- the name stands for a value of the type
-abbrev pub Stands : List Shape → ℕ → Option Val → Type 0
-Stands types ty (Some v) = HasType types v ty
-Stands types ty None = ⊥
-
--- each name of the context stands for a value of its type
-abbrev pub Suits : List Shape → Context → Env → Type 0
-Suits types c env = (x : Name) (ty : ℕ) → type_in c x ≡ Some ty → Stands types ty (env x)
+use Rattle.ioa_syntax.specs.Answers.{IsTyped, Stands, Suits}
 
 stands_typed : (types : List Shape) (ty : ℕ) (o : Option Val) → Stands types ty o → IsTyped types ty (value_of o)
 stands_typed types ty (Some v) h = h
@@ -64,7 +50,7 @@ both_numbers a b c false q e f h = absurd (cc)
 number_types : (a b c : ℕ) → of_numbers 1 (a ∷ b ∷ []) ≡ Some c → (a ≡ 1) × (b ≡ 1) × (c ≡ 1)
 number_types a b c h = both_numbers a b c (a == 1) (b == 1) refl refl h
 
-own_type : (types : List Shape) (v : Val) (ty : ℕ) → HasType types v ty → own v ≡ ty
+pub own_type : (types : List Shape) (v : Val) (ty : ℕ) → HasType types v ty → own v ≡ ty
 own_type types (truth_value b) ty h = sym h
 own_type types (num z) ty h = sym h.0
 own_type types (name t n) ty h = absurd h
