@@ -5,7 +5,7 @@ use Rattle.ioa_value.specs.declared.arithmetic.Fault.{Fault}
 use Rattle.ioa_value.specs.Actions.{Name, Act}
 use Rattle.ioa_syntax.specs.Components.{Component, has, owns, is_kind, is_local, is_output}
 use Rattle.ioa_syntax.specs.Steps.{Moved, next, not_an_action, not_enabled, fault, Asked, free, owned, asked, effect_on, with_state, then_rest, effects, allowed, step}
-use Rattle.ioa_syntax.specs.Runs.{History, after, run_from, run, is_external, trace}
+use Rattle.ioa_syntax.specs.Runs.{Reached, after, run_from, run, is_external, trace}
 use Rattle.ioa_syntax.specs.Likes.{AreLike, IsLike, AllLike, AllRelated, MovesLike, RunsLike}
 
 cond_like : {X : Type 0} (b c : Bool) (x x' y y' : X) → b ≡ c → (IsTrue b → x ≡ x') → y ≡ y' → cond b x y ≡ cond c x' y'
@@ -98,7 +98,7 @@ step_like R ps qs a ss ts h r =
     (any_like R 0 ps qs a h) (subst P (asked_like R 0 ps qs a ss ts h r) k)
 
 after_like : {S T : Type 0} (R : ℕ → S → T → Type 0) (n : ℕ) (ss : List S) (ts : List T) (m : Moved S) (m' : Moved T)
-    (f : List S → History S) (g : List T → History T)
+    (f : List S → Reached S) (g : List T → Reached T)
     → MovesLike R 0 m m' → AllRelated R 0 ss ts
     → ((us : List S) (vs : List T) → AllRelated R 0 us vs → RunsLike R (f us) (g vs))
     → RunsLike R (after n ss m f) (after n ts m' g)

@@ -72,7 +72,8 @@ transition_for a e = find (λ t. bytes_eq t.name e.name) a.transitions
 abbrev pub position_name : PositionTree → Name
 position_name (typed f) = f.name
 
--- formals, the entry's parameters and the state's variables
+-- formals, the entry's parameters and the state's variables; in a well-formed automaton their names differ, so that none
+-- stands in front of another
 abbrev pub environment : Instance → EntryTree → List Val → Env → Env
 environment i e vs s =
     over (values_of (field_names i.automaton.formals) i.arguments) (over (values_of (map position_name e.positions) vs) s)

@@ -4,7 +4,7 @@ use Rattle.ioa_value.specs.declared.arithmetic.Fault.{Fault}
 use Rattle.ioa_value.specs.Actions.{Act}
 use Rattle.ioa_syntax.specs.Components.{Component, has, owns}
 use Rattle.ioa_syntax.specs.Steps.{Moved, next, not_an_action, not_enabled, fault}
-use Rattle.ioa_syntax.specs.Runs.{History}
+use Rattle.ioa_syntax.specs.Runs.{Reached}
 
 -- related states, or the same fault
 abbrev pub AreLike : {S T : Type 0} → (S → T → Type 0) → Result S Fault → Result T Fault → Type 0
@@ -41,7 +41,7 @@ MovesLike R i (fault c f) (fault d g) = (c ≡ d) × (f ≡ g)
 MovesLike R i _ _ = ⊥
 
 -- the same actions performed, the same end, and related states
-pub record RunsLike {S T : Type 0} (R : ℕ → S → T → Type 0) (r : History S) (q : History T) : Type 0 where
+pub record RunsLike {S T : Type 0} (R : ℕ → S → T → Type 0) (r : Reached S) (q : Reached T) : Type 0 where
   pub performed : r.performed ≡ q.performed
   pub ending : r.ending ≡ q.ending
   pub states : AllRelated R 0 r.states q.states

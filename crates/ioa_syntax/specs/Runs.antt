@@ -15,23 +15,23 @@ pub data Ending : Type 0 where
   fault_at : ℕ → Fault → ℕ → Ending
 
 -- how many actions in a row are performed, the states then reached, and the end
-pub record History (S : Type 0) : Type 0 where
+pub record Reached (S : Type 0) : Type 0 where
   pub performed : ℕ
   pub states : List S
   pub ending : Ending
 
-abbrev pub after : {S : Type 0} → ℕ → List S → Moved S → (List S → History S) → History S
+abbrev pub after : {S : Type 0} → ℕ → List S → Moved S → (List S → Reached S) → Reached S
 after n ss (next ts) more = more ts
 after n ss not_an_action more = record { performed = n; states = ss; ending = not_an_action_at n }
 after n ss not_enabled more = record { performed = n; states = ss; ending = not_enabled_at n }
 after n ss (fault i f) more = record { performed = n; states = ss; ending = fault_at i f n }
 
 -- the run from here, with n actions performed before
-abbrev pub run_from : {S : Type 0} → ℕ → List (Component S) → List Act → List S → History S
+abbrev pub run_from : {S : Type 0} → ℕ → List (Component S) → List Act → List S → Reached S
 run_from n ps [] ss = record { performed = n; states = ss; ending = done n }
 run_from n ps (a ∷ acts) ss = after n ss (step ps a ss) (λ ts. run_from (n + 1) ps acts ts)
 
-abbrev pub run : {S : Type 0} → List (Component S) → List Act → List S → History S
+abbrev pub run : {S : Type 0} → List (Component S) → List Act → List S → Reached S
 run ps acts ss = run_from 0 ps acts ss
 
 -- an action is external when it has no owner, or is its owner's output and is not hidden

@@ -6,7 +6,7 @@ use Rattle.ioa_value.specs.Actions.{Name, Act}
 use Rattle.ioa_value.specs.Plain.{Val}
 use Rattle.ioa_syntax.specs.Components.{Component}
 use Rattle.ioa_syntax.specs.Steps.{Moved, next, step}
-use Rattle.ioa_syntax.specs.Runs.{History, done, after, run_from, run, is_external, trace}
+use Rattle.ioa_syntax.specs.Runs.{Reached, done, after, run_from, run, is_external, trace}
 use Rattle.ioa_syntax.specs.Compositions.{Composed, components_of, starts_of}
 use Rattle.ioa_syntax.proofs.Simulation.{run_like, trace_like}
 use Rattle.ioa_syntax.specs.Likes.{RunsLike}
@@ -69,13 +69,13 @@ performs_end p acts i ss traced h l =
 -- what the table's run is, the source's run is
 pub source_run : (p : Prog) (acts : List Act) (r : Run) (c : Composed) → IsTableRun p acts r → Means p c → IsSourceRun c acts r
 source_run p acts r c t m =
-    let P : History (List Val) → Type 0 = λ h. RunsLike (CorrespondsAt c.members) (run (components_of c) acts (starts_of c)) h in
+    let P : Reached (List Val) → Type 0 = λ h. RunsLike (CorrespondsAt c.members) (run (components_of c) acts (starts_of c)) h in
     let like : P (run (tabled p) acts (start_states p)) = run_like (CorrespondsAt c.members) (components_of c) (tabled p) acts (starts_of c) (start_states p) m.components m.starts in
     let same : trace c.hidden (components_of c) acts r.performed ≡ trace c.hidden (tabled p) acts r.performed =
     trace_like (CorrespondsAt c.members) c.hidden (components_of c) (tabled p) acts r.performed m.components in
     let hid : trace p.hidden (tabled p) acts r.performed ≡ trace c.hidden (tabled p) acts r.performed =
     ap (λ (h : List Name). trace h (tabled p) acts r.performed) m.hidden in
-    record { history = subst P (sym t.history) like; trace = t.trace ∙ hid ∙ sym same }
+    record { reached = subst P (sym t.reached) like; trace = t.trace ∙ hid ∙ sym same }
 
 pub source_runs : {E : Type 0} (p : Prog) (acts : List Act) (r : Result Run E) → IfOk r (IsTableRun p acts)
     → IfOk r (λ x. (c : Composed) → Means p c → IsSourceRun c acts x)

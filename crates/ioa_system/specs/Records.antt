@@ -2,7 +2,7 @@
 use Rattle.std.specs.Prelude.{◌≡◌, List, map}
 use Rattle.ioa_value.specs.Actions.{Act, act_of}
 use Rattle.ioa_value.specs.Plain.{Val}
-use Rattle.ioa_syntax.specs.Runs.{History, run, trace}
+use Rattle.ioa_syntax.specs.Runs.{Reached, run, trace}
 use Rattle.ioa_syntax.specs.Likes.{RunsLike}
 use Rattle.ioa_syntax.specs.Compositions.{Composed, components_of, starts_of}
 use Rattle.ioa_compile.specs.Programs.{Prog}
@@ -12,18 +12,18 @@ use Rattle.ioa_system.specs.declared.runs.Run.{Run}
 use Rattle.ioa_system.specs.Answers.{ending_of}
 use Rattle.ioa_system.specs.Systems.{values_of}
 
-abbrev pub history_of : Run → History (List Val)
-history_of r = record { performed = r.performed; states = values_of r.states.items; ending = ending_of r.end }
+abbrev pub reached_of : Run → Reached (List Val)
+reached_of r = record { performed = r.performed; states = values_of r.states.items; ending = ending_of r.end }
 
 abbrev pub trace_of : Run → List Act
 trace_of r = map act_of r.trace.items
 
 -- the run of the program's own table, and its trace
 pub record IsTableRun (p : Prog) (acts : List Act) (r : Run) : Type 0 where
-  pub history : history_of r ≡ run (tabled p) acts (start_states p)
+  pub reached : reached_of r ≡ run (tabled p) acts (start_states p)
   pub trace : trace_of r ≡ trace p.hidden (tabled p) acts r.performed
 
 -- the same actions performed as in the composition, the same end, states that correspond, and the composition's trace
 pub record IsSourceRun (c : Composed) (acts : List Act) (r : Run) : Type 0 where
-  pub history : RunsLike (CorrespondsAt c.members) (run (components_of c) acts (starts_of c)) (history_of r)
+  pub reached : RunsLike (CorrespondsAt c.members) (run (components_of c) acts (starts_of c)) (reached_of r)
   pub trace : trace_of r ≡ trace c.hidden (components_of c) acts r.performed

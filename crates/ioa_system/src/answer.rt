@@ -1,6 +1,6 @@
 ghost use Rattle.std.specs.Prelude.{◌≡◌, List, Some, IfSome, IfNone};
 ghost use Rattle.ioa_value.specs.Plain.{Val};
-ghost use Rattle.ioa_syntax.specs.Runs.{History, after};
+ghost use Rattle.ioa_syntax.specs.Runs.{Reached, after};
 ghost use Rattle.ioa_system.specs.declared.answer.Step.TheVariants as variants;
 ghost use Rattle.ioa_system.specs.Answers.{KeepsUnlessNext, ending_of, step_of};
 ghost use Rattle.ioa_system.specs.Endings.{ending_text};
@@ -38,7 +38,7 @@ pub enum Step {
 impl Step {
     /// The end that this answer to the action of this index makes of a run, where the action is not performed.
     pub fn end_at(self, index: usize) -> Option<End>
-        ensures some { IfSome result (λ end. (ss ts : List (List Val)) → (more : List (List Val) → History (List Val))
+        ensures some { IfSome result (λ end. (ss ts : List (List Val)) → (more : List (List Val) → Reached (List Val))
             → after index ss (step_of self ts) more ≡ record { performed = index; states = ss; ending = ending_of end }) }
         ensures kept { IfSome result (λ _. (ss ts : List (List Val)) → KeepsUnlessNext self ss ts → ts ≡ ss) }
         ensures none { IfNone result (self ≡ variants.Next) }

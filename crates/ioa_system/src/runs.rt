@@ -3,7 +3,7 @@ ghost use Rattle.ioa_value.specs.Actions.{act_of};
 ghost use Rattle.ioa_syntax.specs.Compositions.{Composed};
 ghost use Rattle.ioa_compile.specs.Means.{Means};
 ghost use Rattle.ioa_system.specs.Answers.{ending_of};
-ghost use Rattle.ioa_system.specs.Records.{IsTableRun, IsSourceRun, history_of, trace_of};
+ghost use Rattle.ioa_system.specs.Records.{IsTableRun, IsSourceRun, reached_of, trace_of};
 
 use crate::answer::End;
 use crate::participation::is_external;
@@ -53,7 +53,7 @@ fn run_table(alloc: Global, program: &Program, actions: &[Action]) -> Result<Run
 }
 
 fn ended(performed: usize, system: System<'_>, end: End, trace: Vec<Action>) -> Run
-    ensures history { history_of result ≡ record { performed = performed; states = system.entry.states; ending = ending_of end } }
+    ensures reached { reached_of result ≡ record { performed = performed; states = system.entry.states; ending = ending_of end } }
     ensures performed { result.performed ≡ performed }
     ensures trace { trace_of result ≡ map act_of trace.items }
 {

@@ -62,7 +62,7 @@ operate Add vs = on_numbers (λ x y. of_number (tested (x +ℤ y))) vs
 operate Sub vs = on_numbers (λ x y. of_number (tested (x -ℤ y))) vs
 operate Eq vs = compared vs
 
--- how many operands the operator takes
+-- how many operands the operator takes: each of these takes two
 abbrev pub arity : Op → ℕ
 arity _ = 2
 

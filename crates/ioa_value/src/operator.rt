@@ -1,4 +1,4 @@
-ghost use Rattle.std.specs.Prelude.{◌≡◌, ◌∷◌, [], ℤ, map, IfOk};
+ghost use Rattle.std.specs.Prelude.{◌≡◌, ◌∷◌, [], ℤ, map, IfOk, IsOk};
 ghost use Rattle.ioa_value.specs.Plain.{plain, Val, num};
 ghost use Rattle.ioa_value.specs.Operators.{operate, Takes, answer_of, of_number, same};
 
@@ -16,7 +16,9 @@ pub enum Op {
     Eq,
 }
 
-/// The operator's value, or its fault. Operators on numbers and truth values grow no memory.
+/// The operator's value, or its fault. It asks that the operands are the operator's.
+///
+/// Operators on numbers and truth values grow no memory, and there are no others yet, so the answer is always there.
 pub fn apply(
     _alloc: Global,
     _types: &Types,
@@ -24,7 +26,8 @@ pub fn apply(
     operands: &[Value],
 ) -> Result<Result<Value, Fault>, OutOfMemory>
     requires { Takes op (map plain operands.now) }
-    ensures { IfOk result (λ r. answer_of r ≡ operate op (map plain operands.now)) }
+    ensures value { IfOk result (λ r. answer_of r ≡ operate op (map plain operands.now)) }
+    ensures memory { IsOk result }
 {
     Ok(applied(op, operands))
 }

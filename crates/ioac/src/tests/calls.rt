@@ -195,7 +195,9 @@ fn steps_from_the_participants_states(rt: HostRuntime) -> Result<(), Fail> {
     match moved(alloc, &system, &action(alloc, "tick", Some(5))?)? {
         Moved::Next(states) => {
             assert_eq!(rt; states.len(), 1);
-            assert!(rt; same(&states[0].values()[0], &Value::Num(6)));
+            let values = states[0].values();
+            assert_eq!(rt; values.len(), 1);
+            assert!(rt; same(&values[0], &Value::Num(6)));
         }
         _ => assert!(rt; false),
     }

@@ -30,7 +30,7 @@ returns-in_ok-push-in-Ok c =
     let k = c.len.result - c.operands.result in
     let k-is : k ≡ length st - arity c.in-Apply.op = omega arith in
     let top : take (length c.deref.result.now - k) (drop k c.deref.result.now) ≡ drop k st = to_end c.deref.result.now st k c.deref.ensures.value in
-    let answer : answer_of c.in_ok-value-in-Apply.field-0 ≡ operate c.in-Apply.op (map plain (drop k st)) = subst (λ l. answer_of c.in_ok-value-in-Apply.field-0 ≡ operate c.in-Apply.op (map plain l)) top c.in_ok-value-in-Apply.ensures in
+    let answer : answer_of c.in_ok-value-in-Apply.field-0 ≡ operate c.in-Apply.op (map plain (drop k st)) = subst (λ l. answer_of c.in_ok-value-in-Apply.field-0 ≡ operate c.in-Apply.op (map plain l)) top c.in_ok-value-in-Apply.ensures.value in
     apply_gives c.args.code.now.code.consts c.args.instr c.in-Apply.op c.args.place st c.args.slots.now c.args.values.now k c.requires.fine c.in-Apply.is k-is c.in_ok-value-in-Apply.field-0 c.in-Ok.value c.push-in-Ok.new.self.items answer c.in-Ok.is (c.in_ok-push-in-Ok.ensures.items ∙ ap (λ l. l ++ c.in-Ok.value ∷ []) c.truncate.ensures.items)
 
 pub returns-in-Err : goal.returns-in-Err
@@ -39,5 +39,5 @@ returns-in-Err c =
     let k = c.len.result - c.operands.result in
     let k-is : k ≡ length st - arity c.in-Apply.op = omega arith in
     let top : take (length c.deref.result.now - k) (drop k c.deref.result.now) ≡ drop k st = to_end c.deref.result.now st k c.deref.ensures.value in
-    let answer : answer_of c.in_ok-value-in-Apply.field-0 ≡ operate c.in-Apply.op (map plain (drop k st)) = subst (λ l. answer_of c.in_ok-value-in-Apply.field-0 ≡ operate c.in-Apply.op (map plain l)) top c.in_ok-value-in-Apply.ensures in
+    let answer : answer_of c.in_ok-value-in-Apply.field-0 ≡ operate c.in-Apply.op (map plain (drop k st)) = subst (λ l. answer_of c.in_ok-value-in-Apply.field-0 ≡ operate c.in-Apply.op (map plain l)) top c.in_ok-value-in-Apply.ensures.value in
     apply_faults c.args.code.now.code.consts c.args.instr c.in-Apply.op c.args.place st c.args.slots.now c.args.values.now k c.requires.fine c.in-Apply.is k-is c.in_ok-value-in-Apply.field-0 c.in-Err.fault answer c.in-Err.is

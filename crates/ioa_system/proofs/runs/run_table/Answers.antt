@@ -3,7 +3,7 @@ use Rattle.std.proofs.lemmas.List.{length-map, map-append}
 use Rattle.ioa_value.specs.Actions.{Act, act_of}
 use Rattle.ioa_value.specs.Plain.{Val}
 use Rattle.ioa_syntax.specs.Steps.{Moved, next, step}
-use Rattle.ioa_syntax.specs.Runs.{History, after, run_from, is_external, trace}
+use Rattle.ioa_syntax.specs.Runs.{Reached, after, run_from, is_external, trace}
 use Rattle.ioa_compile.specs.Programs.{Prog}
 use Rattle.ioa_compile.specs.Tables.{tabled}
 use Rattle.ioa_system.specs.declared.answer.Step.{Step}
@@ -14,7 +14,7 @@ use Rattle.ioa_system.proofs.Tracing.{Performs, performs_at, performs_external, 
 use Rattle.ioa_system.proofs.runs.run_table.Goals as goal
 use Rattle.ioa_system.proofs.runs.run_table.Goals.{then-is_external+in_ok-try_copy+in_ok-push, else-is_external}
 
-abbrev broken_off : ℕ → List (List Val) → End → History (List Val)
+abbrev broken_off : ℕ → List (List Val) → End → Reached (List Val)
 broken_off i ss end = record { performed = i; states = ss; ending = ending_of end }
 
 pub returns-in-Some : goal.returns-in-Some
@@ -27,13 +27,13 @@ returns-in-Some c =
     let ts : List (List Val) = c.step.new.self.states in
     let l : i < length acts = omega (arith, length-map c.args.actions.now act_of) in
     let e : a ≡ get_or acts i a = read_map act_of c.args.actions.now i c.index-actions-i.result c.index-actions-i.result c.index-actions-i.is in
-    let more : List (List Val) → History (List Val) = λ us. run_from (i + 1) (tabled p) (drop (i + 1) acts) us in
+    let more : List (List Val) → Reached (List Val) = λ us. run_from (i + 1) (tabled p) (drop (i + 1) acts) us in
     let s : step_of c.in_ok-step.field-0 ts ≡ step (tabled p) a ss =
     c.in_ok-step.ensures.step ∙ ap (λ (q : Prog). step (tabled q) a ss) c.loop-i.invariant.program in
     let k : ts ≡ ss = c.in-Some.ensures.kept ss ts c.in_ok-step.ensures.kept in
     record {
-      history =
-          c.ended.ensures.history ∙ ap (λ (us : List (List Val)). broken_off i us c.in-Some.end) k ∙ sym (c.in-Some.ensures.some ss ts more)
+      reached =
+          c.ended.ensures.reached ∙ ap (λ (us : List (List Val)). broken_off i us c.in-Some.end) k ∙ sym (c.in-Some.ensures.some ss ts more)
           ∙ ap (λ (m : Moved (List Val)). after i ss m more) s
           ∙ performs_at p acts i ss (map act_of c.loop-i.trace.items) a c.loop-i.invariant.performs l e;
       trace = c.ended.ensures.trace ∙ c.loop-i.invariant.performs.trace ∙ ap (trace p.hidden (tabled p) acts) (sym c.ended.ensures.performed);

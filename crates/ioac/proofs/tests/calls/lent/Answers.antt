@@ -18,22 +18,22 @@ use Rattle.ioac.proofs.tests.calls.lent.Goals as goal
 
 pub loop-i-preserved : goal.loop-i-preserved
 loop-i-preserved c = elim c.match-get.branch [
-    in-Some+in_ok-try_copy+in_ok-push w ↦
+  | in-Some+in_ok-try_copy+in_ok-push w ↦
       let i : ℕ = get_or is c.loop-i.i-index 0 in
       let x = w.in-Some.state.now in
       let at : slice_get states i ≡ Some x = slice_get-get_or states i x w.in-Some.ensures.lookup.3.0 ∙ ap Some (sym w.in-Some.ensures.lookup.1) in
       let here : slice_get (slot_types ms) i ≡ Some x.types = typed i ∙ ap (option_map (λ n. n.types)) at in
       let after : types_of c.match-get.lent.items ≡ types_of c.loop-i.lent.items ++ x.types ∷ [] =
-          ap (λ (l : Vec NodeState Global). types_of l.items) w.lent-is ∙ ap types_of w.in_ok-push.ensures.items
-          ∙ map-append (λ n. n.types) c.loop-i.lent.items (w.in_ok-try_copy.field-0 ∷ []) ∙ ap (λ n. types_of c.loop-i.lent.items ++ n.types ∷ []) w.in_ok-try_copy.ensures in
+      ap (λ (l : Vec NodeState Global). types_of l.items) w.lent-is ∙ ap types_of w.in_ok-push.ensures.items
+      ∙ map-append (λ n. n.types) c.loop-i.lent.items (w.in_ok-try_copy.field-0 ∷ []) ∙ ap (λ n. types_of c.loop-i.lent.items ++ n.types ∷ []) w.in_ok-try_copy.ensures in
       found_more (slot_types ms) (types_of c.loop-i.lent.items) (types_of c.match-get.lent.items) is c.loop-i.i-index i (Some x.types) (omega arith) refl here c.loop-i.invariant after
   | in_default w ↦
       let i : ℕ = get_or is c.loop-i.i-index 0 in
       let here : slice_get (slot_types ms) i ≡ None = typed i ∙ ap (option_map (λ n. n.types)) (slice_get_past states i w.in_default.ensures.lookup.3) in
       let after : types_of c.match-get.lent.items ≡ types_of c.loop-i.lent.items ++ [] =
-          ap (λ (l : Vec NodeState Global). types_of l.items) w.lent-is ∙ sym (append-nil (types_of c.loop-i.lent.items)) in
+      ap (λ (l : Vec NodeState Global). types_of l.items) w.lent-is ∙ sym (append-nil (types_of c.loop-i.lent.items)) in
       found_more (slot_types ms) (types_of c.loop-i.lent.items) (types_of c.match-get.lent.items) is c.loop-i.i-index i None (omega arith) refl here c.loop-i.invariant after
-  ]
+]
   where
     is : List ℕ
     is = c.deref-i-items.result.now
