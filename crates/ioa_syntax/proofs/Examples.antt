@@ -1,5 +1,5 @@
 -- Small sources, and what the definitions say of them: each answer is computed.
-use Rattle.std.proofs.Common.{◌≡◌, ℕ, List, [], ◌∷◌, Option, Some, None, Result, Ok, Err, true, false, pos, map, take, refl, codes}
+use Rattle.std.proofs.Common.{◌≡◌, ℕ, zero, suc, ◌+◌, List, [], ◌∷◌, Option, Some, None, Result, Ok, Err, true, false, pos, map, take, refl, codes}
 use Rattle.std.specs.Option.{option_map_or}
 use Rattle.ioa_value.specs.declared.arithmetic.Fault.{Fault}
 use Rattle.ioa_value.specs.declared.arithmetic.Fault.TheVariants.{Overflow}
@@ -8,7 +8,7 @@ use Rattle.ioa_value.specs.Plain.{Val, num}
 use Rattle.ioa_value.specs.Plain.{truth as truth_value}
 use Rattle.ioa_syntax.specs.declared.tree.Operator.TheVariants.{Equal, Plus}
 use Rattle.ioa_syntax.specs.declared.tree.Kind.TheVariants.{Input, Output}
-use Rattle.ioa_syntax.specs.Tree.{Expr, number, truth, named, parens, binary, FieldTree, typed, EntryTree, VariableTree, TransitionTree, assign, AutomatonTree, InstanceTree, CompositionTree, automaton, composition, SourceTree}
+use Rattle.ioa_syntax.specs.Tree.{Expr, number, truth, named, parens, binary, FieldTree, typed, EntryTree, VariableTree, ProposalTree, TransitionTree, Stmt, assign, AutomatonTree, InstanceTree, CompositionTree, automaton, composition, SourceTree}
 use Rattle.ioa_syntax.specs.Meaning.{Env, val, nothing_known}
 use Rattle.ioa_syntax.specs.Instances.{basic_table, Instance, component_of, argument_values, start_values, state_of}
 use Rattle.ioa_syntax.specs.Runs.{Ending, done, not_an_action_at, not_enabled_at, fault_at, run, trace}
@@ -18,26 +18,45 @@ use Rattle.ioa_syntax.specs.WellFormed.{well_formed}
 abbrev field : Name → Name → FieldTree
 field x t = record { name = x; ty = t }
 
+abbrev tick_entry : EntryTree
+tick_entry = record { kind = Output; name = codes "tick"; positions = typed (field (codes "k") (codes "Int")) ∷ [] }
+
+abbrev reset_entry : EntryTree
+reset_entry = record { kind = Input; name = codes "reset"; positions = [] }
+
+abbrev count_variable : VariableTree
+count_variable = record { field = field (codes "c") (codes "Int"); start = Some (named (codes "start")) }
+
+abbrev tick_proposal : ProposalTree
+tick_proposal = record { name = codes "k"; value = named (codes "c") }
+
+abbrev tick_transition : TransitionTree
+tick_transition = record {
+  kind = Output;
+  name = codes "tick";
+  pre = Some (binary (named (codes "k")) Equal (named (codes "c")));
+  proposals = tick_proposal ∷ [];
+  effect = assign (codes "c") (binary (named (codes "c")) Plus (number 1)) ∷ [];
+}
+
+abbrev reset_transition : TransitionTree
+reset_transition = record { kind = Input; name = codes "reset"; pre = None; proposals = []; effect = assign (codes "c") (named (codes "start")) ∷ [] }
+
 -- counts up from its start, and goes back to it
 abbrev counter : AutomatonTree
 counter = record {
   name = codes "Counter";
   formals = field (codes "start") (codes "Int") ∷ [];
-  entries = record { kind = Output; name = codes "tick"; positions = typed (field (codes "k") (codes "Int")) ∷ [] }
-      ∷ record { kind = Input; name = codes "reset"; positions = [] } ∷ [];
-  variables = record { field = field (codes "c") (codes "Int"); start = Some (named (codes "start")) } ∷ [];
-  transitions = record {
-    kind = Output;
-    name = codes "tick";
-    pre = Some (binary (named (codes "k")) Equal (named (codes "c")));
-    proposals = record { name = codes "k"; value = named (codes "c") } ∷ [];
-    effect = assign (codes "c") (binary (named (codes "c")) Plus (number 1)) ∷ [];
-  }
-      ∷ record { kind = Input; name = codes "reset"; pre = None; proposals = []; effect = assign (codes "c") (named (codes "start")) ∷ [] } ∷ [];
+  entries = tick_entry ∷ reset_entry ∷ [];
+  variables = count_variable ∷ [];
+  transitions = tick_transition ∷ reset_transition ∷ [];
 }
 
+abbrev component : List Expr → InstanceTree
+component arguments = record { name = codes "A"; automaton = codes "Counter"; arguments = arguments }
+
 abbrev one : List Expr → CompositionTree
-one arguments = record { name = codes "One"; instances = record { name = codes "A"; automaton = codes "Counter"; arguments = arguments } ∷ [] }
+one arguments = record { name = codes "One"; instances = component arguments ∷ [] }
 
 abbrev source : SourceTree
 source = automaton counter ∷ composition (one (number 5 ∷ [])) ∷ []
@@ -65,12 +84,163 @@ count (s ∷ ss) = s (codes "c")
 is_well_formed : well_formed source ≡ true
 is_well_formed = refl
 
--- a second declaration of a name, a name used before its declaration, an assignment of another type, a missing transition
+-- ---- one fault each: the counter's source is well formed, and each of these differs from it in one place
+
+-- a second declaration of a name
 declares_twice : well_formed (automaton counter ∷ source) ≡ false
 declares_twice = refl
 
+-- an automaton that is used before its declaration
 uses_before : well_formed (composition (one (number 5 ∷ [])) ∷ automaton counter ∷ []) ≡ false
 uses_before = refl
+
+-- the counter with other formals, entries, variables or transitions, and its composition
+abbrev with_formals : List FieldTree → SourceTree
+with_formals formals = automaton (record counter { formals = formals }) ∷ composition (one (number 5 ∷ [])) ∷ []
+
+abbrev with_entries : List EntryTree → SourceTree
+with_entries entries = automaton (record counter { entries = entries }) ∷ composition (one (number 5 ∷ [])) ∷ []
+
+abbrev with_variables : List VariableTree → SourceTree
+with_variables variables = automaton (record counter { variables = variables }) ∷ composition (one (number 5 ∷ [])) ∷ []
+
+abbrev with_transitions : List TransitionTree → SourceTree
+with_transitions transitions = automaton (record counter { transitions = transitions }) ∷ composition (one (number 5 ∷ [])) ∷ []
+
+-- tick with another precondition, other proposals or another effect
+abbrev with_pre : Option Expr → SourceTree
+with_pre pre = with_transitions (record tick_transition { pre = pre } ∷ reset_transition ∷ [])
+
+abbrev with_proposals : List ProposalTree → SourceTree
+with_proposals proposals = with_transitions (record tick_transition { proposals = proposals } ∷ reset_transition ∷ [])
+
+abbrev with_effect : List Stmt → SourceTree
+with_effect effect = with_transitions (record tick_transition { effect = effect } ∷ reset_transition ∷ [])
+
+-- a variable that has no start expression
+abbrev plain_variable : Name → VariableTree
+plain_variable x = record { field = field x (codes "Int"); start = None }
+
+-- a variable more is no fault, nor is a precondition less
+takes_more_variables : well_formed (with_variables (count_variable ∷ plain_variable (codes "d") ∷ [])) ≡ true
+takes_more_variables = refl
+
+needs_no_precondition : well_formed (with_pre None) ≡ true
+needs_no_precondition = refl
+
+-- a variable that is named as a formal
+names_twice : well_formed (with_variables (count_variable ∷ plain_variable (codes "start") ∷ [])) ≡ false
+names_twice = refl
+
+-- a variable that is named as a declaration
+names_a_declaration : well_formed (with_variables (count_variable ∷ plain_variable (codes "One") ∷ [])) ≡ false
+names_a_declaration = refl
+
+-- a parameter that is named as a variable
+hides_a_variable : well_formed (with_entries (tick_entry ∷ record reset_entry { positions = typed (field (codes "c") (codes "Int")) ∷ [] } ∷ [])) ≡ false
+hides_a_variable = refl
+
+-- a formal of a type that is not declared
+names_no_type : well_formed (with_formals (field (codes "start") (codes "Int") ∷ field (codes "d") (codes "Real") ∷ [])) ≡ false
+names_no_type = refl
+
+-- a start expression that names a variable
+starts_at_a_variable : well_formed (with_variables (count_variable ∷ record (plain_variable (codes "d")) { start = Some (named (codes "c")) } ∷ [])) ≡ false
+starts_at_a_variable = refl
+
+-- a start expression of another type
+starts_at_a_truth : well_formed (with_variables (count_variable ∷ record (plain_variable (codes "d")) { start = Some (truth true) } ∷ [])) ≡ false
+starts_at_a_truth = refl
+
+-- an unknown name in a precondition
+asks_for_nothing : well_formed (with_pre (Some (binary (named (codes "k")) Equal (named (codes "d"))))) ≡ false
+asks_for_nothing = refl
+
+-- a precondition that is an Int
+asks_for_a_number : well_formed (with_pre (Some (named (codes "c")))) ≡ false
+asks_for_a_number = refl
+
+-- an equation of an Int and a Bool
+compares_a_truth : well_formed (with_pre (Some (binary (named (codes "k")) Equal (truth true)))) ≡ false
+compares_a_truth = refl
+
+-- a number that is no Int
+asks_for_too_much : well_formed (with_pre (Some (binary (named (codes "k")) Equal (number 9223372036854775808)))) ≡ false
+asks_for_too_much = refl
+
+-- an assignment to a formal, which is no variable
+assigns_to_a_formal : well_formed (with_effect (assign (codes "start") (number 1) ∷ [])) ≡ false
+assigns_to_a_formal = refl
+
+-- an assignment of another type
+assigns_a_truth : well_formed (with_effect (assign (codes "c") (truth true) ∷ [])) ≡ false
+assigns_a_truth = refl
+
+-- a parameter that is an Int, and has no proposal
+proposes_nothing : well_formed (with_proposals []) ≡ false
+proposes_nothing = refl
+
+-- a proposal for no parameter
+proposes_for_a_variable : well_formed (with_proposals (tick_proposal ∷ record tick_proposal { name = codes "c" } ∷ [])) ≡ false
+proposes_for_a_variable = refl
+
+-- a proposal of another type
+proposes_a_truth : well_formed (with_proposals (record tick_proposal { value = truth true } ∷ [])) ≡ false
+proposes_a_truth = refl
+
+-- two proposals for one parameter
+proposes_twice : well_formed (with_proposals (tick_proposal ∷ tick_proposal ∷ [])) ≡ false
+proposes_twice = refl
+
+-- a proposal that names a parameter
+proposes_itself : well_formed (with_proposals (record tick_proposal { value = named (codes "k") } ∷ [])) ≡ false
+proposes_itself = refl
+
+-- two entries of one name
+enters_twice : well_formed (with_entries (tick_entry ∷ reset_entry ∷ reset_entry ∷ [])) ≡ false
+enters_twice = refl
+
+-- two transitions for one entry
+moves_twice : well_formed (with_transitions (tick_transition ∷ reset_transition ∷ reset_transition ∷ [])) ≡ false
+moves_twice = refl
+
+-- an entry without a transition
+moves_never : well_formed (with_transitions (tick_transition ∷ [])) ≡ false
+moves_never = refl
+
+-- a transition without an entry
+is_no_entry : well_formed (with_entries (tick_entry ∷ [])) ≡ false
+is_no_entry = refl
+
+-- a transition of another kind than its entry
+moves_otherwise : well_formed (with_transitions (tick_transition ∷ record reset_transition { kind = Output } ∷ [])) ≡ false
+moves_otherwise = refl
+
+-- an input with a precondition
+input_asks : well_formed (with_transitions (tick_transition ∷ record reset_transition { pre = Some (truth true) } ∷ [])) ≡ false
+input_asks = refl
+
+-- so many variables, each with a name of its own
+abbrev variables_from : ℕ → ℕ → List VariableTree
+variables_from zero n = []
+variables_from (suc more) n = plain_variable (118 ∷ n ∷ []) ∷ variables_from more (n + 1)
+
+-- with the counter's own 64 are allowed, and 65 are too many
+takes_many_variables : well_formed (with_variables (count_variable ∷ variables_from 63 0)) ≡ true
+takes_many_variables = refl
+
+takes_too_many_variables : well_formed (with_variables (count_variable ∷ variables_from 64 0)) ≡ false
+takes_too_many_variables = refl
+
+-- two components of one name
+composes_twice : well_formed (automaton counter ∷ composition (record (one []) { instances = component (number 5 ∷ []) ∷ component (number 6 ∷ []) ∷ [] }) ∷ []) ≡ false
+composes_twice = refl
+
+-- an argument that names something
+argument_has_a_name : well_formed (automaton counter ∷ composition (one (named (codes "c") ∷ [])) ∷ []) ≡ false
+argument_has_a_name = refl
+
+-- ---- what the composition does
 
 last_is_picked : picked source None ≡ Some (one (number 5 ∷ []))
 last_is_picked = refl
