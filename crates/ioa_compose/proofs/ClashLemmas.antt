@@ -21,7 +21,7 @@ use Rattle.ioa_syntax.specs.WellFormed.{same_type, is_type, position_fields, ent
 use Rattle.ioa_compose.specs.declared.binding.Binding.{Binding}
 use Rattle.ioa_compose.specs.Bindings.{instance_with, instance_in}
 use Rattle.ioa_compose.specs.Clashes.{alike, all_alike, kinds_clash, clash, clear, PairsClear, ClashAt}
-use Rattle.ioa_compose.specs.Refusals.{Clashing}
+use Rattle.ioa_compose.specs.Refusals.{Clashing, NoneClashes}
 use Rattle.ioa_compose.proofs.ListLemmas.{find-both, all-at, get-map, some-there}
 use Rattle.ioa_compose.proofs.BindingLemmas.{get-at}
 use Rattle.ioa_compose.proofs.FineLemmas.{fine-parts, first-typed}
@@ -240,3 +240,24 @@ clear-moved b c b' c' p q h = subst (λ z. ClearTwo b z) q (subst (λ z. ClearTw
 pub clash-moved : (b c b' c' : Binding) (x : Name) → b' ≡ b → c' ≡ c → ClashAt (automaton_of b'.automaton.now) (automaton_of c'.automaton.now) x → ClashAt (automaton_of b.automaton.now) (automaton_of c.automaton.now) x
 clash-moved b c b' c' x p q h =
     subst (λ z. ClashAt (automaton_of b.automaton.now) (automaton_of z.automaton.now) x) q (subst (λ z. ClashAt (automaton_of z.automaton.now) (automaton_of c'.automaton.now) x) p h)
+
+clear-apart : (a b : AutomatonTree) (vs ws : List Val) (x : Name) → clear a b ≡ true → Clashing x (instance_with a vs) (instance_with b ws) → ⊥
+clear-apart a b vs ws x h c =
+    let r = pair-apart a b vs ws c.0 h in
+    elim c.2 [ inl p ↦ p.1 (r.0 p.0) | inr y ↦ elim y [ inl p ↦ p.1 (r.1 p.0) | inr p ↦ r.2 p.0 p.1 ] ]
+
+-- all that stand before the i-th are clear of what comes after them
+abbrev pub ClearTill : List Binding → ℕ → Type 0
+ClearTill bs i = (k j : ℕ) (b c : Binding) → k < i → k < j → slice_get bs k ≡ Some b → slice_get bs j ≡ Some c → clear (automaton_of b.automaton.now) (automaton_of c.automaton.now) ≡ true
+
+pub none-before : (bs : List Binding) (i j : ℕ) → ClearTill bs i → ClearBelow bs i j → NoneClashes (map instance_in bs) i j
+none-before bs i j till below = λ k l m n x before e f clash.
+    let first = get-map instance_in bs k m e in
+    let second = get-map instance_in bs l n f in
+    clear-apart (instance_in first.0).automaton (instance_in second.0).automaton (instance_in first.0).arguments (instance_in second.0).arguments x
+    (two k l first.0 second.0 before.0 before.1 first.1 second.1)
+    (subst (λ z. Clashing x (instance_in first.0) z) (sym second.2) (subst (λ z. Clashing x z n) (sym first.2) clash))
+  where
+    two : (k l : ℕ) (b c : Binding) → k < l → (k < i) ⊎ ((k ≡ i) × (l < j)) → slice_get bs k ≡ Some b → slice_get bs l ≡ Some c → ClearTwo b c
+    two k l b c m (inl less) e f = till k l b c less m e f
+    two k l b c m (inr same) e f = below l b c same.1 (subst (λ z. z < l) same.0 m) (sym (ap (slice_get bs) same.0) ∙ e) f

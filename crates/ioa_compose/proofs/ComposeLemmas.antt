@@ -23,7 +23,7 @@ use Rattle.ioa_compose.specs.declared.member.Member as held
 use Rattle.ioa_compose.specs.Held.{member_of}
 use Rattle.ioa_compose.specs.Bindings.{instance_in, IsBound, AreBound, AllStarted}
 use Rattle.ioa_compose.specs.Clashes.{PairsClear}
-use Rattle.ioa_compose.specs.Refusals.{Clashing, IsRefused, FaultsIn, ClashesIn}
+use Rattle.ioa_compose.specs.Refusals.{Clashing, IsRefused, IsFirstClash, NoneClashes, FaultsIn, ClashesIn}
 use Rattle.ioa_compose.proofs.ListLemmas.{image-at}
 use Rattle.ioa_compose.proofs.ClashLemmas.{compatible-from}
 
@@ -81,11 +81,48 @@ start-refused s is ns (Clash i j m) b h = absurd h
 start-refused s is ns (HiddenUnknown m) b h = absurd h
 start-refused s is ns NoComposition b h = absurd h
 
+values-of : Result (List Val) Fault → List Val → List Val
+values-of (Ok vs) d = vs
+values-of (Err f) d = d
+
+abbrev made : List Val → Result (List Val) Fault
+made vs = Ok vs
+
+same-ok : (vs ws : List Val) → made vs ≡ made ws → vs ≡ ws
+unfolding values-of
+same-ok vs ws e = ap (λ (r : Result (List Val) Fault). values-of r vs) e
+
+-- a tree is bound to one instance only
+one-bound : (s : SourceTree) (i : InstanceTree) (m n : Instance) → IsBound s i m → IsBound s i n → m ≡ n
+one-bound s i m n h b =
+    let p : Some m.automaton ≡ Some n.automaton = sym h.automaton ∙ b.automaton in
+    let q : m.automaton ≡ n.automaton = cc in
+    let r : Ok m.arguments ≡ Ok n.arguments = sym h.arguments ∙ b.arguments in
+    let t : m.arguments ≡ n.arguments = same-ok m.arguments n.arguments r in
+    let u : m.types ≡ n.types = h.types ∙ sym b.types in
+    ap (λ x. record { types = x; automaton = m.automaton; arguments = m.arguments }) u
+    ∙ ap (λ x. record { types = n.types; automaton = x; arguments = m.arguments }) q
+    ∙ ap (λ x. record { types = n.types; automaton = n.automaton; arguments = x }) t
+
+bound-at : (s : SourceTree) (is : List InstanceTree) (ns : List Instance) (k : ℕ) (i : InstanceTree) → AreBound s is ns → slice_get is k ≡ Some i → (n : Instance) × (slice_get ns k ≡ Some n) × IsBound s i n
+bound-at s [] [] k i b e = absurd (cc)
+bound-at s [] (m ∷ ms) k i b e = absurd b
+bound-at s (j ∷ js) [] k i b e = absurd b
+bound-at s (j ∷ js) (m ∷ ms) zero i b e = let q : j ≡ i = cc in (m, refl, subst (λ t. IsBound s t m) q b.0)
+bound-at s (j ∷ js) (m ∷ ms) (suc k) i b e = bound-at s js ms k i b.1 e
+
+first-clash : (s : SourceTree) (is : List InstanceTree) (ns : List Instance) (i j : ℕ) → AreBound s is ns → NoneClashes ns i j → IsFirstClash s is i j
+first-clash s is ns i j b none = λ k l m n x before e f d.
+    let p = bound-at s is ns k m b e in
+    let q = bound-at s is ns l n b f in
+    none k l p.0 q.0 x before p.1 q.1
+    (subst (λ y. Clashing x p.0 y) (one-bound s n d.second q.0 d.second_bound q.2) (subst (λ y. Clashing x y d.second) (one-bound s m d.first p.0 d.first_bound p.2) d.clash))
+
 pub clash-refused : (s : SourceTree) (is : List InstanceTree) (ns : List Instance) (r : Refusal) → AreBound s is ns → ClashesIn ns r → IsRefused s is r
 clash-refused s is ns (Clash i j name) b h =
     let p = bound-place s is ns i h.0 b h.3 in
     let q = bound-place s is ns j h.1 b h.4 in
-    (p.0, q.0, h.2, p.1, q.1, record { first = h.0; second = h.1; first_bound = p.2; second_bound = q.2; clash = h.5 })
+    (p.0, q.0, h.2, p.1, q.1, record { first = h.0; second = h.1; first_bound = p.2; second_bound = q.2; clash = h.5 }, first-clash s is ns i j b h.6)
 clash-refused s is ns OutOfMemory b h = tt
 clash-refused s is ns (StartFault k f) b h = absurd h
 clash-refused s is ns (ArgMismatch i) b h = absurd h
@@ -111,18 +148,7 @@ member-place s (j ∷ js) [] k i b e = absurd b
 member-place s (j ∷ js) (m ∷ ms) zero i b e = let q : j ≡ i = cc in (m, refl, subst (λ x. IsMember s x m) q b.0)
 member-place s (j ∷ js) (m ∷ ms) (suc k) i b e = member-place s js ms k i b.1 e
 
-values-of : Result (List Val) Fault → List Val → List Val
-values-of (Ok vs) d = vs
-values-of (Err f) d = d
-
-abbrev made : List Val → Result (List Val) Fault
-made vs = Ok vs
-
-same-ok : (vs ws : List Val) → made vs ≡ made ws → vs ≡ ws
-unfolding values-of
-same-ok vs ws e = ap (λ (r : Result (List Val) Fault). values-of r vs) e
-
--- a tree is bound to one instance only
+-- the instance of a member is the one that its tree is bound to
 one-instance : (s : SourceTree) (i : InstanceTree) (m : Member) (n : Instance) → IsMember s i m → IsBound s i n → n ≡ m.instance
 one-instance s i m n h b =
     let p : Some n.automaton ≡ Some m.instance.automaton = sym b.automaton ∙ h.automaton in
@@ -243,3 +269,11 @@ exact-from (Err x) ds es o t q e h = λ no_memory u f c i.
     let p : Some t ≡ Some u = e ∙ ap (λ xs. picked (tree_of xs) o) q ∙ f in
     let same : t ≡ u = cc in
     refused-none (tree_of es) u x c (subst (λ v. IsRefused (tree_of es) v.instances x) same (subst (λ xs. IsRefused (tree_of xs) t.instances x) q h)) no_memory i
+
+pub refused-from : {X : Type 0} (r : Result X Refusal) (ds es : List Declaration) (o : Option Name) (t : CompositionTree) → ds ≡ es → Some t ≡ picked (tree_of ds) o → IfErr r (λ e. IsRefused (tree_of ds) t.instances e)
+    → (u : CompositionTree) → picked (tree_of es) o ≡ Some u → IfErr r (λ e. IsRefused (tree_of es) u.instances e)
+refused-from (Ok x) ds es o t q e h = λ u f. tt
+refused-from (Err x) ds es o t q e h = λ u f.
+    let p : Some t ≡ Some u = e ∙ ap (λ xs. picked (tree_of xs) o) q ∙ f in
+    let same : t ≡ u = cc in
+    subst (λ v. IsRefused (tree_of es) v.instances x) same (subst (λ xs. IsRefused (tree_of xs) t.instances x) q h)

@@ -40,11 +40,19 @@ pub record ClashOn (s : SourceTree) (i j : InstanceTree) (name : Name) : Type 0 
   pub second_bound : IsBound s j second
   pub clash : Clashing name first second
 
+-- a pair of places that stands before another: by its first place, then by its second
+abbrev pub Before : ℕ → ℕ → ℕ → ℕ → Type 0
+Before k l i j = (k < l) × ((k < i) ⊎ ((k ≡ i) × (l < j)))
+
+-- no pair before these two clashes
+abbrev pub IsFirstClash : SourceTree → List InstanceTree → ℕ → ℕ → Type 0
+IsFirstClash s is i j = (k l : ℕ) (m n : InstanceTree) (name : Name) → Before k l i j → slice_get is k ≡ Some m → slice_get is l ≡ Some n → ClashOn s m n name → ⊥
+
 -- what holds of components that are refused so
 abbrev pub IsRefused : SourceTree → List InstanceTree → Refusal → Type 0
 IsRefused s is (ArgMismatch i) = (n : InstanceTree) × (slice_get is i ≡ Some n) × Misfits s n
 IsRefused s is (StartFault i f) = (n : InstanceTree) × (slice_get is i ≡ Some n) × ((argument_values n.arguments ≡ Err f) ⊎ StartsWith s n f)
-IsRefused s is (Clash i j name) = (m : InstanceTree) × (n : InstanceTree) × (i < j) × (slice_get is i ≡ Some m) × (slice_get is j ≡ Some n) × ClashOn s m n (string_bytes name)
+IsRefused s is (Clash i j name) = (m : InstanceTree) × (n : InstanceTree) × (i < j) × (slice_get is i ≡ Some m) × (slice_get is j ≡ Some n) × ClashOn s m n (string_bytes name) × IsFirstClash s is i j
 IsRefused s is OutOfMemory = Unit {0}
 IsRefused s is _ = ⊥
 
@@ -67,8 +75,12 @@ FaultsIn ns (StartFault i f) = (n : Instance) × (slice_get ns i ≡ Some n) × 
 FaultsIn ns OutOfMemory = Unit {0}
 FaultsIn ns _ = ⊥
 
--- two of the instances clash
+-- no two of the instances before these two clash
+abbrev pub NoneClashes : List Instance → ℕ → ℕ → Type 0
+NoneClashes ns i j = (k l : ℕ) (m n : Instance) (name : Name) → Before k l i j → slice_get ns k ≡ Some m → slice_get ns l ≡ Some n → Clashing name m n → ⊥
+
+-- two of the instances clash, and none before them
 abbrev pub ClashesIn : List Instance → Refusal → Type 0
-ClashesIn ns (Clash i j name) = (m : Instance) × (n : Instance) × (i < j) × (slice_get ns i ≡ Some m) × (slice_get ns j ≡ Some n) × Clashing (string_bytes name) m n
+ClashesIn ns (Clash i j name) = (m : Instance) × (n : Instance) × (i < j) × (slice_get ns i ≡ Some m) × (slice_get ns j ≡ Some n) × Clashing (string_bytes name) m n × NoneClashes ns i j
 ClashesIn ns OutOfMemory = Unit {0}
 ClashesIn ns _ = ⊥

@@ -27,6 +27,7 @@ pub(crate) fn compatible(alloc: Global, bindings: &[Binding]) -> Result<(), Refu
 
 fn clear_of_later(alloc: Global, bindings: &[Binding], i: usize) -> Result<(), Refusal>
     requires within { i < length bindings.now }
+    requires before { (k j : ℕ) (b c : Binding) → k < i → k < j → slice_get bindings.now k ≡ Some b → slice_get bindings.now j ≡ Some c → clear (automaton_of b.automaton.now) (automaton_of c.automaton.now) ≡ true }
     requires sound { AllSound (map instance_in bindings.now) }
     ensures refused { IfErr result (λ r. ClashesIn (map instance_in bindings.now) r) }
     ensures ok { OnOk result ((j : ℕ) (b c : Binding) → i < j → slice_get bindings.now i ≡ Some b → slice_get bindings.now j ≡ Some c → clear (automaton_of b.automaton.now) (automaton_of c.automaton.now) ≡ true) }

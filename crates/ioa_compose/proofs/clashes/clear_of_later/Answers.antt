@@ -4,7 +4,7 @@ use Rattle.ioa_compose.specs.Bindings.{instance_in}
 use Rattle.ioa_compose.specs.Refusals.{Clashing}
 use Rattle.ioa_compose.proofs.ListLemmas.{at-map}
 use Rattle.ioa_compose.proofs.BindingLemmas.{sound-at}
-use Rattle.ioa_compose.proofs.ClashLemmas.{clashing-from, clear-more, clear-all, clear-moved, clash-moved}
+use Rattle.ioa_compose.proofs.ClashLemmas.{clashing-from, clear-more, clear-all, clear-moved, clash-moved, none-before}
 use Rattle.ioa_compose.proofs.clashes.clear_of_later.Goals as goal
 
 pub returns-in-Some-clause-refused : goal.returns-in-Some-clause-refused
@@ -20,6 +20,7 @@ returns-in-Some-clause-refused c =
       at-map instance_in c.args.bindings.now c.loop-j.j c.index-bindings-j.result c.loop-j-test.true c.index-bindings-j.is,
       subst (λ x. Clashing x m n) (sym (c.in_ok-from_str.ensures.ok ∙ c.as_str.ensures.value))
           (clashing-from m.automaton n.automaton m.arguments n.arguments fa.0 fb.0 (name_of c.in-Some.name.now) fa.1 fb.1 (clash-moved _ _ _ _ _ (sym c.index-bindings-i.is) (sym c.index-bindings-j.is) c.in-Some.ensures.clash)),
+      none-before c.args.bindings.now c.args.i c.loop-j.j c.requires.before c.loop-j.invariant,
     )
 
 pub loop-j-preserved : goal.loop-j-preserved

@@ -3,7 +3,7 @@ use Rattle.std.specs.Prelude.{option_copied}
 use Rattle.ioa_syntax.specs.View.{tree_of, assembly_of}
 use Rattle.ioa_syntax.specs.WellFormed.{well_formed}
 use Rattle.ioa_compose.proofs.SourceLemmas.{picked_ready}
-use Rattle.ioa_compose.proofs.ComposeLemmas.{exact-from}
+use Rattle.ioa_compose.proofs.ComposeLemmas.{exact-from, refused-from}
 use Rattle.ioa_compose.proofs.composition.compose.Goals as goal
 
 pub composed-requires-clause-ready : goal.composed-requires-clause-ready
@@ -14,4 +14,9 @@ composed-requires-clause-ready c =
 pub returns-in-Some-clause-exact : goal.returns-in-Some-clause-exact
 returns-in-Some-clause-exact c =
     exact-from c.composed.result c.declarations-declarations.result.now c.args.checked.now (option_copied c.args.name) (assembly_of c.in-Some.assembly.now)
+    c.declarations-declarations.ensures.value c.in-Some.ensures c.composed.ensures.refused
+
+pub returns-in-Some-clause-refused : goal.returns-in-Some-clause-refused
+returns-in-Some-clause-refused c =
+    refused-from c.composed.result c.declarations-declarations.result.now c.args.checked.now (option_copied c.args.name) (assembly_of c.in-Some.assembly.now)
     c.declarations-declarations.ensures.value c.in-Some.ensures c.composed.ensures.refused
