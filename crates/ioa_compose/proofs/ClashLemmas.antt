@@ -20,8 +20,8 @@ use Rattle.ioa_syntax.specs.Components.{Component, Compatible}
 use Rattle.ioa_syntax.specs.WellFormed.{same_type, is_type, position_fields, entry_fine, contains, distinct, automaton_fine}
 use Rattle.ioa_compose.specs.declared.binding.Binding.{Binding}
 use Rattle.ioa_compose.specs.Bindings.{instance_with, instance_in}
-use Rattle.ioa_compose.specs.Clashes.{alike, all_alike, kinds_clash, clash, clear, PairsClear, ClashAt}
-use Rattle.ioa_compose.specs.Refusals.{Clashing, NoneClashes}
+use Rattle.ioa_compose.specs.Clashes.{alike, all_alike, kinds_clash, clash, clear, PairsClear, ClashAt, NoneUpTo}
+use Rattle.ioa_compose.specs.Refusals.{Clashing, NoneClashes, IsFirstEntry}
 use Rattle.ioa_compose.proofs.ListLemmas.{find-both, all-at, get-map, some-there}
 use Rattle.ioa_compose.proofs.BindingLemmas.{get-at}
 use Rattle.ioa_compose.proofs.FineLemmas.{fine-parts, first-typed}
@@ -261,3 +261,63 @@ none-before bs i j till below = λ k l m n x before e f clash.
     two : (k l : ℕ) (b c : Binding) → k < l → (k < i) ⊎ ((k ≡ i) × (l < j)) → slice_get bs k ≡ Some b → slice_get bs l ≡ Some c → ClearTwo b c
     two k l b c m (inl less) e f = till k l b c less m e f
     two k l b c m (inr same) e f = below l b c same.1 (subst (λ z. z < l) same.0 m) (sym (ap (slice_get bs) same.0) ∙ e) f
+
+-- where a search finds an item, and that it passes the test
+find-at : {X : Type 0} (p : X → Bool) (xs : List X) (x : X) → find p xs ≡ Some x → (i : ℕ) × (slice_get xs i ≡ Some x) × (p x ≡ true)
+find-at p [] x h = absurd (cc)
+find-at {X = X} p (y ∷ ys) x h = split (p y) refl (λ k. find-at p ys x k) h
+  where
+    split : (b : Bool) → p y ≡ b → (find p ys ≡ Some x → (i : ℕ) × (slice_get ys i ≡ Some x) × (p x ≡ true)) → cond b (Some y) (find p ys) ≡ Some x → (i : ℕ) × (slice_get (y ∷ ys) i ≡ Some x) × (p x ≡ true)
+    split true e later g = let q : y ≡ x = cc in (0, g, subst (λ z. p z ≡ true) q e)
+    split false e later g = let r = later g in (suc r.0, r.1, r.2)
+
+-- among entries of different names each name stands in one place
+place-once : (es : List EntryTree) (k l : ℕ) (e d : EntryTree) → distinct (map (λ x. x.name) es) ≡ true → slice_get es k ≡ Some e → slice_get es l ≡ Some d → bytes_eq e.name d.name ≡ true → k ≡ l
+place-once [] k l e d h p q n = absurd (cc)
+place-once (x ∷ xs) zero zero e d h p q n = refl
+place-once (x ∷ xs) zero (suc l) e d h p q n =
+    let hs = and_parts (not (contains (map (λ y. y.name) xs) x.name)) (distinct (map (λ y. y.name) xs)) h in
+    let s : x ≡ e = cc in
+    let m : bytes_eq d.name x.name ≡ true = (bytes_eq-Decides d.name x.name).1 (sym ((bytes_eq-Decides e.name d.name).0 n) ∙ ap (λ y. y.name) (sym s)) in
+    absurd (both_ways (contains (map (λ y. y.name) xs) x.name) (not-true _ hs.0) (there xs l d x.name q m))
+place-once (x ∷ xs) (suc k) zero e d h p q n =
+    let hs = and_parts (not (contains (map (λ y. y.name) xs) x.name)) (distinct (map (λ y. y.name) xs)) h in
+    let s : x ≡ d = cc in
+    let m : bytes_eq e.name x.name ≡ true = (bytes_eq-Decides e.name x.name).1 ((bytes_eq-Decides e.name d.name).0 n ∙ ap (λ y. y.name) (sym s)) in
+    absurd (both_ways (contains (map (λ y. y.name) xs) x.name) (not-true _ hs.0) (there xs k e x.name p m))
+place-once (x ∷ xs) (suc k) (suc l) e d h p q n =
+    let hs = and_parts (not (contains (map (λ y. y.name) xs) x.name)) (distinct (map (λ y. y.name) xs)) h in
+    ap suc (place-once xs k l e d hs.1 p q n)
+
+-- an entry that is clear of the other's entries has no action on which the instances clash
+entry-apart : (a b : AutomatonTree) (vs ws : List Val) (l : ℕ) (d : EntryTree) → distinct (map (λ x. x.name) a.entries) ≡ true → slice_get a.entries l ≡ Some d → list_all (λ f. not (clash d f)) b.entries ≡ true → Clashing d.name (instance_with a vs) (instance_with b ws) → ⊥
+entry-apart a b vs ws l d apart at h c =
+    let r = options-apart (entry_for (instance_with a vs) c.0) (entry_for (instance_with b ws) c.0) (λ e f p q. one-clear c.0 e f c.1 p q) in
+    elim c.2 [ inl p ↦ p.1 (r.0 p.0) | inr y ↦ elim y [ inl p ↦ p.1 (r.1 p.0) | inr p ↦ r.2 p.0 p.1 ] ]
+  where
+    one-clear : (act : Act) (e f : EntryTree) → act.name ≡ d.name → entry_for (instance_with a vs) act ≡ Some e → entry_for (instance_with b ws) act ≡ Some f → kinds_clash e.kind f.kind ≡ false
+    one-clear act e f named p q =
+        let found = find-at (entry_has basic_table act) a.entries e p in
+        let mine = and_parts (bytes_eq e.name act.name) (positions_have basic_table e.positions act.vals) found.2 in
+        let place = place-once a.entries found.0 l e d apart found.1 at (subst (λ n. bytes_eq e.name n ≡ true) named mine.0) in
+        let same : e ≡ d = same-item found.1 (ap (slice_get a.entries) place ∙ at) in
+        let second = find-both (entry_has basic_table act) (λ y. not (clash d y)) b.entries f q h in
+        let theirs = and_parts (bytes_eq f.name act.name) (positions_have basic_table f.positions act.vals) second.0 in
+        third (bytes_eq e.name f.name) (all_alike e.positions f.positions) (kinds_clash e.kind f.kind) (same-bytes e.name f.name act.name mine.0 theirs.0) (positions-alike e.positions f.positions act.vals mine.1 theirs.1)
+        (not-true (clash e f) (subst (λ z. not (clash z f) ≡ true) (sym same) second.1))
+
+pub first-entry : (a b : AutomatonTree) (vs ws : List Val) (g : List Name) (x : Name) → automaton_fine basic_table g a ≡ true → ClashAt a b x → IsFirstEntry x (instance_with a vs) (instance_with b ws)
+first-entry a b vs ws g x fine h = λ k l e d at named less before c.
+    let pa = fine-parts g a fine in
+    let place = place-once a.entries k h.2 e h.0 pa.named at h.4 ((bytes_eq-Decides e.name h.0.name).1 (named ∙ h.7)) in
+    entry-apart a b vs ws l d pa.named before (h.8 l d (subst (λ z. l < z) place less) before) c
+
+pub none-more : (a b : AutomatonTree) (k : ℕ) (e : EntryTree) → slice_get a.entries k ≡ Some e → list_all (λ f. not (clash e f)) b.entries ≡ true → NoneUpTo a b k → NoneUpTo a b (k + 1)
+none-more a b k e at h none = λ n d less there. split n d less there (cases_lt n k)
+  where
+    split : (n : ℕ) (d : EntryTree) → n < k + 1 → slice_get a.entries n ≡ Some d → (n < k) ⊎ (k ≤ n) → list_all (λ f. not (clash d f)) b.entries ≡ true
+    split n d less there (inl l) = none n d l there
+    split n d less there (inr m) =
+        let place : n ≡ k = omega arith in
+        let same : e ≡ d = same-item at (ap (slice_get a.entries) (sym place) ∙ there) in
+        subst (λ z. list_all (λ f. not (clash z f)) b.entries ≡ true) same h

@@ -90,3 +90,10 @@ pub image-at : {X Y : Type 0} (f : X → Y) (xs : List X) (i : ℕ) (x : X) → 
 image-at f [] i x e = absurd (cc)
 image-at f (y ∷ ys) zero x e = let q : y ≡ x = cc in ap (λ z. Some (f z)) q
 image-at f (y ∷ ys) (suc i) x e = image-at f ys i x e
+
+-- a test of what is left goes on past an item that passes it
+pub all-goes-on : {X Y : Type 0} (p : Y → Bool) (v : X → Y) (xs ys : List X) (i : ℕ) (x : X) (b : Bool) → ys ≡ xs → i < length ys → x ≡ get_or ys i x → p (v x) ≡ true → list_all p (map v (drop i xs)) ≡ b → list_all p (map v (drop (i + 1) xs)) ≡ b
+all-goes-on p v xs ys i x b same l e h g =
+    let here : list_all p (map v (drop i ys)) ≡ b = subst (λ zs. list_all p (map v (drop i zs)) ≡ b) (sym same) g in
+    let more : list_all p (map v (x ∷ drop (i + 1) ys)) ≡ b = sym (ap (λ zs. list_all p (map v zs)) (turned ys i x l e)) ∙ here in
+    subst (λ zs. list_all p (map v (drop (i + 1) zs)) ≡ b) same (sym (ap (λ t. t && list_all p (map v (drop (i + 1) ys))) h) ∙ more)

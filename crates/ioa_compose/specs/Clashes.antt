@@ -38,9 +38,13 @@ clash e f = bytes_eq e.name f.name && all_alike e.positions f.positions && kinds
 abbrev pub clear : AutomatonTree → AutomatonTree → Bool
 clear a b = list_all (λ e. list_all (λ f. not (clash e f)) b.entries) a.entries
 
--- two entries clash, and the first has this name
+-- no entry of one before this place clashes with one of the other
+abbrev pub NoneUpTo : AutomatonTree → AutomatonTree → ℕ → Type 0
+NoneUpTo a b k = (n : ℕ) (d : EntryTree) → n < k → slice_get a.entries n ≡ Some d → list_all (λ f. not (clash d f)) b.entries ≡ true
+
+-- two entries clash, the first has this name, and none before it clashes
 abbrev pub ClashAt : AutomatonTree → AutomatonTree → Name → Type 0
-ClashAt a b name = (e : EntryTree) × (f : EntryTree) × (k : ℕ) × (l : ℕ) × (slice_get a.entries k ≡ Some e) × (slice_get b.entries l ≡ Some f) × (clash e f ≡ true) × (name ≡ e.name)
+ClashAt a b name = (e : EntryTree) × (f : EntryTree) × (k : ℕ) × (l : ℕ) × (slice_get a.entries k ≡ Some e) × (slice_get b.entries l ≡ Some f) × (clash e f ≡ true) × (name ≡ e.name) × NoneUpTo a b k
 
 -- the automata of any two of these are clear of one another
 abbrev pub PairsClear : List Binding → Type 0

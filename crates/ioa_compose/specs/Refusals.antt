@@ -7,7 +7,7 @@ use Rattle.ioa_value.specs.Plain.{Val}
 use Rattle.ioa_lex.specs.declared.refusal.Refusal.{Refusal}
 use Rattle.ioa_lex.specs.declared.refusal.Refusal.TheVariants.{ArgMismatch, Clash, StartFault, OutOfMemory}
 use Rattle.ioa_syntax.specs.declared.tree.Kind.TheVariants.{Internal, Output}
-use Rattle.ioa_syntax.specs.Tree.{AutomatonTree, InstanceTree, SourceTree}
+use Rattle.ioa_syntax.specs.Tree.{EntryTree, AutomatonTree, InstanceTree, SourceTree}
 use Rattle.ioa_syntax.specs.Instances.{basic_table, Instance, argument_values, start_values, component_of}
 use Rattle.ioa_syntax.specs.Compositions.{Fit, automaton_named}
 use Rattle.ioa_compose.specs.Bindings.{IsBound}
@@ -33,6 +33,10 @@ Clashing name m n = (a : Act) × (a.name ≡ name)
     ⊎ (((component_of n).kind_of a ≡ Some Internal × ((component_of m).kind_of a ≡ None → ⊥))
     ⊎ ((component_of m).kind_of a ≡ Some Output × (component_of n).kind_of a ≡ Some Output)))
 
+-- of the first one's entries none before that of this name has an action on which they clash
+abbrev pub IsFirstEntry : Name → Instance → Instance → Type 0
+IsFirstEntry name m n = (k l : ℕ) (e d : EntryTree) → slice_get m.automaton.entries k ≡ Some e → e.name ≡ name → l < k → slice_get m.automaton.entries l ≡ Some d → Clashing d.name m n → ⊥
+
 pub record ClashOn (s : SourceTree) (i j : InstanceTree) (name : Name) : Type 0 where
   pub first : Instance
   pub second : Instance
@@ -52,7 +56,7 @@ IsFirstClash s is i j = (k l : ℕ) (m n : InstanceTree) (name : Name) → Befor
 abbrev pub IsRefused : SourceTree → List InstanceTree → Refusal → Type 0
 IsRefused s is (ArgMismatch i) = (n : InstanceTree) × (slice_get is i ≡ Some n) × Misfits s n
 IsRefused s is (StartFault i f) = (n : InstanceTree) × (slice_get is i ≡ Some n) × ((argument_values n.arguments ≡ Err f) ⊎ StartsWith s n f)
-IsRefused s is (Clash i j name) = (m : InstanceTree) × (n : InstanceTree) × (i < j) × (slice_get is i ≡ Some m) × (slice_get is j ≡ Some n) × ClashOn s m n (string_bytes name) × IsFirstClash s is i j
+IsRefused s is (Clash i j name) = (m : InstanceTree) × (n : InstanceTree) × (i < j) × (slice_get is i ≡ Some m) × (slice_get is j ≡ Some n) × (c : ClashOn s m n (string_bytes name)) × IsFirstClash s is i j × IsFirstEntry (string_bytes name) c.first c.second
 IsRefused s is OutOfMemory = Unit {0}
 IsRefused s is _ = ⊥
 
@@ -81,6 +85,6 @@ NoneClashes ns i j = (k l : ℕ) (m n : Instance) (name : Name) → Before k l i
 
 -- two of the instances clash, and none before them
 abbrev pub ClashesIn : List Instance → Refusal → Type 0
-ClashesIn ns (Clash i j name) = (m : Instance) × (n : Instance) × (i < j) × (slice_get ns i ≡ Some m) × (slice_get ns j ≡ Some n) × Clashing (string_bytes name) m n × NoneClashes ns i j
+ClashesIn ns (Clash i j name) = (m : Instance) × (n : Instance) × (i < j) × (slice_get ns i ≡ Some m) × (slice_get ns j ≡ Some n) × Clashing (string_bytes name) m n × NoneClashes ns i j × IsFirstEntry (string_bytes name) m n
 ClashesIn ns OutOfMemory = Unit {0}
 ClashesIn ns _ = ⊥

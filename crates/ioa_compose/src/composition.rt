@@ -74,7 +74,8 @@ impl Composition {
 /// - `NoComposition`: there is no such composition.
 /// - `ArgMismatch`: a component's arguments are not of its formals' types, one for each.
 /// - `StartFault`: an argument of a component faults, or a start expression.
-/// - `Clash`: two components are not compatible.
+/// - `Clash`: two components are not compatible. They are the first two, by the first one's place and then the other's, and the
+///   name is that of the first one's first entry that clashes.
 /// - `OutOfMemory`.
 pub fn compose(alloc: Global, checked: &Checked, name: Option<&str>) -> Result<Composition, Refusal>
     ensures composed { IfOk result (λ c. (t : CompositionTree) × (picked (tree_of checked.now) (option_copied name.entry) ≡ Some t) × IsComposed (tree_of checked.now) t (composed_of c)) }

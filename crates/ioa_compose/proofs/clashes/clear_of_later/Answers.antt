@@ -1,10 +1,10 @@
 use Rattle.std.proofs.Common.{sym, subst, ◌∙◌, arith}
 use Rattle.ioa_syntax.specs.View.{name_of}
 use Rattle.ioa_compose.specs.Bindings.{instance_in}
-use Rattle.ioa_compose.specs.Refusals.{Clashing}
+use Rattle.ioa_compose.specs.Refusals.{Clashing, IsFirstEntry}
 use Rattle.ioa_compose.proofs.ListLemmas.{at-map}
 use Rattle.ioa_compose.proofs.BindingLemmas.{sound-at}
-use Rattle.ioa_compose.proofs.ClashLemmas.{clashing-from, clear-more, clear-all, clear-moved, clash-moved, none-before}
+use Rattle.ioa_compose.proofs.ClashLemmas.{clashing-from, clear-more, clear-all, clear-moved, clash-moved, none-before, first-entry}
 use Rattle.ioa_compose.proofs.clashes.clear_of_later.Goals as goal
 
 pub returns-in-Some-clause-refused : goal.returns-in-Some-clause-refused
@@ -21,6 +21,8 @@ returns-in-Some-clause-refused c =
       subst (λ x. Clashing x m n) (sym (c.in_ok-from_str.ensures.ok ∙ c.as_str.ensures.value))
           (clashing-from m.automaton n.automaton m.arguments n.arguments fa.0 fb.0 (name_of c.in-Some.name.now) fa.1 fb.1 (clash-moved _ _ _ _ _ (sym c.index-bindings-i.is) (sym c.index-bindings-j.is) c.in-Some.ensures.clash)),
       none-before c.args.bindings.now c.args.i c.loop-j.j c.requires.before c.loop-j.invariant,
+      subst (λ x. IsFirstEntry x m n) (sym (c.in_ok-from_str.ensures.ok ∙ c.as_str.ensures.value))
+          (first-entry m.automaton n.automaton m.arguments n.arguments fa.0 (name_of c.in-Some.name.now) fa.1 (clash-moved _ _ _ _ _ (sym c.index-bindings-i.is) (sym c.index-bindings-j.is) c.in-Some.ensures.clash)),
     )
 
 pub loop-j-preserved : goal.loop-j-preserved
