@@ -1,5 +1,5 @@
 -- Components on the way.
-use Rattle.std.proofs.Common.{◌≡◌, ℕ, zero, suc, ◌+◌, ◌<◌, Bool, true, false, ◌&&◌, List, [], ◌∷◌, ◌++◌, map, take, length, get_or, IfErr, Option, Some, None, Result, Ok, Err, refl, sym, ap, subst, ◌∙◌, arith, slice_get}
+use Rattle.std.proofs.Common.{◌≡◌, ℕ, zero, suc, ◌+◌, ◌<◌, Bool, true, false, ◌&&◌, List, [], ◌∷◌, ◌++◌, map, take, length, get_or, IfErr, Option, Some, None, Result, Ok, Err, refl, sym, ap, subst, ◌∙◌, arith, slice_get, inl}
 use Rattle.std.specs.Option.{option_map_or}
 use Rattle.ioa_value.specs.declared.value.Value.{Value}
 use Rattle.std.proofs.lemmas.Bool.{and_parts, and_from, both_ways}
@@ -107,7 +107,7 @@ started-push ms new m b n h i k =
 -- refused in its place, and so refused
 refused-one : (s : SourceTree) (is : List InstanceTree) (k : ℕ) (n : InstanceTree) (r : Refusal) → slice_get is k ≡ Some n → IsRefusedAt s k n r → IsRefused s is r
 refused-one s is k n (ArgMismatch i) e h = (n, ap (slice_get is) h.0 ∙ e, h.1)
-refused-one s is k n (StartFault i f) e h = (n, ap (slice_get is) h.0 ∙ e, h.1)
+refused-one s is k n (StartFault i f) e h = (n, ap (slice_get is) h.0 ∙ e, inl h.1)
 refused-one s is k n OutOfMemory e h = tt
 refused-one s is k n TextTooLong e h = absurd h
 refused-one s is k n (BadByte l) e h = absurd h

@@ -262,6 +262,10 @@ none-before bs i j till below = λ k l m n x before e f clash.
     two k l b c m (inl less) e f = till k l b c less m e f
     two k l b c m (inr same) e f = below l b c same.1 (subst (λ z. z < l) same.0 m) (sym (ap (slice_get bs) same.0) ∙ e) f
 
+-- no two instances of clear bindings clash
+pub none-at-all : (bs : List Binding) → PairsClear bs → (i j : ℕ) → NoneClashes (map instance_in bs) i j
+none-at-all bs h i j = none-before bs i j (λ k l b c less m e f. h k l b c m e f) (λ l b c less m e f. h i l b c m e f)
+
 -- where a search finds an item, and that it passes the test
 find-at : {X : Type 0} (p : X → Bool) (xs : List X) (x : X) → find p xs ≡ Some x → (i : ℕ) × (slice_get xs i ≡ Some x) × (p x ≡ true)
 find-at p [] x h = absurd (cc)

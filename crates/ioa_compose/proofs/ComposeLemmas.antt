@@ -23,9 +23,9 @@ use Rattle.ioa_compose.specs.declared.member.Member as held
 use Rattle.ioa_compose.specs.Held.{member_of}
 use Rattle.ioa_compose.specs.Bindings.{instance_in, IsBound, AreBound, AllStarted}
 use Rattle.ioa_compose.specs.Clashes.{PairsClear}
-use Rattle.ioa_compose.specs.Refusals.{Clashing, IsRefused, IsFirstClash, NoneClashes, FaultsIn, ClashesIn}
+use Rattle.ioa_compose.specs.Refusals.{Clashing, IsRefused, IsFirstClash, NoClash, NoneClashes, FaultsIn, ClashesIn}
 use Rattle.ioa_compose.proofs.ListLemmas.{image-at}
-use Rattle.ioa_compose.proofs.ClashLemmas.{compatible-from}
+use Rattle.ioa_compose.proofs.ClashLemmas.{compatible-from, none-at-all}
 
 members-from : (s : SourceTree) (is : List InstanceTree) (ms : List Member) → map (λ m. m.name) ms ≡ map (λ i. i.name) is → AreBound s is (map (λ m. m.instance) ms) → AllStarted ms → AreMembers s is ms
 members-from s [] [] n b t = tt
@@ -59,27 +59,27 @@ bound-place s (i ∷ is) (m ∷ ms) zero n b e = let q : m ≡ n = cc in (i, ref
 bound-place s (i ∷ is) (m ∷ ms) (suc k) n b e = bound-place s is ms k n b.1 e
 
 -- a start that faults, and a clash, refuse the composition
-pub start-refused : (s : SourceTree) (is : List InstanceTree) (ns : List Instance) (r : Refusal) → AreBound s is ns → FaultsIn ns r → IsRefused s is r
-start-refused s is ns (StartFault k f) b h =
+pub start-refused : (s : SourceTree) (is : List InstanceTree) (ns : List Instance) (r : Refusal) → AreBound s is ns → NoClash s is → FaultsIn ns r → IsRefused s is r
+start-refused s is ns (StartFault k f) b none h =
     let p = bound-place s is ns k h.0 b h.1 in
-    (p.0, p.1, inr (record { instance = h.0; bound = p.2; faulting = h.2 }))
-start-refused s is ns OutOfMemory b h = tt
-start-refused s is ns (ArgMismatch i) b h = absurd h
-start-refused s is ns TextTooLong b h = absurd h
-start-refused s is ns (BadByte l) b h = absurd h
-start-refused s is ns (Syntax l) b h = absurd h
-start-refused s is ns (TooDeep l) b h = absurd h
-start-refused s is ns (DuplicateName l) b h = absurd h
-start-refused s is ns (UnknownName l) b h = absurd h
-start-refused s is ns (TypeMismatch l) b h = absurd h
-start-refused s is ns (BadSignature l) b h = absurd h
-start-refused s is ns (NoProposal l) b h = absurd h
-start-refused s is ns (TooMany l) b h = absurd h
-start-refused s is ns (TooWide l) b h = absurd h
-start-refused s is ns (CrashName i) b h = absurd h
-start-refused s is ns (Clash i j m) b h = absurd h
-start-refused s is ns (HiddenUnknown m) b h = absurd h
-start-refused s is ns NoComposition b h = absurd h
+    (p.0, p.1, inr (record { instance = h.0; bound = p.2; faulting = h.2 }, none))
+start-refused s is ns OutOfMemory b none h = tt
+start-refused s is ns (ArgMismatch i) b none h = absurd h
+start-refused s is ns TextTooLong b none h = absurd h
+start-refused s is ns (BadByte l) b none h = absurd h
+start-refused s is ns (Syntax l) b none h = absurd h
+start-refused s is ns (TooDeep l) b none h = absurd h
+start-refused s is ns (DuplicateName l) b none h = absurd h
+start-refused s is ns (UnknownName l) b none h = absurd h
+start-refused s is ns (TypeMismatch l) b none h = absurd h
+start-refused s is ns (BadSignature l) b none h = absurd h
+start-refused s is ns (NoProposal l) b none h = absurd h
+start-refused s is ns (TooMany l) b none h = absurd h
+start-refused s is ns (TooWide l) b none h = absurd h
+start-refused s is ns (CrashName i) b none h = absurd h
+start-refused s is ns (Clash i j m) b none h = absurd h
+start-refused s is ns (HiddenUnknown m) b none h = absurd h
+start-refused s is ns NoComposition b none h = absurd h
 
 values-of : Result (List Val) Fault → List Val → List Val
 values-of (Ok vs) d = vs
@@ -117,6 +117,10 @@ first-clash s is ns i j b none = λ k l m n x before e f d.
     let q = bound-at s is ns l n b f in
     none k l p.0 q.0 x before p.1 q.1
     (subst (λ y. Clashing x p.0 y) (one-bound s n d.second q.0 d.second_bound q.2) (subst (λ y. Clashing x y d.second) (one-bound s m d.first p.0 d.first_bound p.2) d.clash))
+
+-- where no instances clash, no components do
+clash-free : (s : SourceTree) (is : List InstanceTree) (ns : List Instance) → AreBound s is ns → ((i j : ℕ) → NoneClashes ns i j) → NoClash s is
+clash-free s is ns b none = λ i j m n x less e f d. first-clash s is ns j j b (none j j) i j m n x (less, inl less) e f d
 
 pub clash-refused : (s : SourceTree) (is : List InstanceTree) (ns : List Instance) (r : Refusal) → AreBound s is ns → ClashesIn ns r → IsRefused s is r
 clash-refused s is ns (Clash i j name) b h =
@@ -191,10 +195,11 @@ clashes-refused (Ok x) s is xs bs ys p q b h = tt
 clashes-refused (Err x) s is xs bs ys p q b h =
     clash-refused s (map instance_of is) (map instance_in bs) x (subst (λ us. AreBound s (map instance_of us) (map instance_in bs)) p b) (subst (λ us. ClashesIn (map instance_in us) x) q h)
 
-pub starts-refused : {X : Type 0} (r : Result X Refusal) (s : SourceTree) (is xs : List TreeInstance) (bs ys : List Binding) → xs ≡ is → ys ≡ bs → AreBound s (map instance_of xs) (map instance_in bs) → IfErr r (λ e. FaultsIn (map instance_in ys) e) → IfErr r (λ e. IsRefused s (map instance_of is) e)
-starts-refused (Ok x) s is xs bs ys p q b h = tt
-starts-refused (Err x) s is xs bs ys p q b h =
-    start-refused s (map instance_of is) (map instance_in bs) x (subst (λ us. AreBound s (map instance_of us) (map instance_in bs)) p b) (subst (λ us. FaultsIn (map instance_in us) x) q h)
+pub starts-refused : {X : Type 0} (r : Result X Refusal) (s : SourceTree) (is xs : List TreeInstance) (bs ys : List Binding) → xs ≡ is → ys ≡ bs → AreBound s (map instance_of xs) (map instance_in bs) → PairsClear bs → IfErr r (λ e. FaultsIn (map instance_in ys) e) → IfErr r (λ e. IsRefused s (map instance_of is) e)
+starts-refused (Ok x) s is xs bs ys p q b k h = tt
+starts-refused (Err x) s is xs bs ys p q b k h =
+    let bound = subst (λ us. AreBound s (map instance_of us) (map instance_in bs)) p b in
+    start-refused s (map instance_of is) (map instance_in bs) x bound (clash-free s (map instance_of is) (map instance_in bs) bound (none-at-all bs k)) (subst (λ us. FaultsIn (map instance_in us) x) q h)
 
 ok-err : (vs : List Val) (f : Fault) → made vs ≡ Err f → ⊥
 ok-err vs f e = absurd (cc)
@@ -223,7 +228,7 @@ refused-none s t (StartFault k f) c h no_memory i =
     let p = member-place s t.instances c.members k h.0 i.members h.1 in
     elim h.2 [
       | inl e ↦ ok-err p.0.instance.arguments f (sym p.2.arguments ∙ e)
-      | inr b ↦ ok-err p.0.starts f (sym p.2.starts ∙ ap start_values (sym (one-instance s h.0 p.0 b.instance p.2 b.bound)) ∙ b.faulting)
+      | inr b ↦ ok-err p.0.starts f (sym p.2.starts ∙ ap start_values (sym (one-instance s h.0 p.0 b.0.instance p.2 b.0.bound)) ∙ b.0.faulting)
     ]
 refused-none s t (Clash k l name) c h no_memory i =
     let p = member-place s t.instances c.members k h.0 i.members h.3 in

@@ -52,18 +52,22 @@ Before k l i j = (k < l) × ((k < i) ⊎ ((k ≡ i) × (l < j)))
 abbrev pub IsFirstClash : SourceTree → List InstanceTree → ℕ → ℕ → Type 0
 IsFirstClash s is i j = (k l : ℕ) (m n : InstanceTree) (name : Name) → Before k l i j → slice_get is k ≡ Some m → slice_get is l ≡ Some n → ClashOn s m n name → ⊥
 
--- what holds of components that are refused so
+-- no two components clash
+abbrev pub NoClash : SourceTree → List InstanceTree → Type 0
+NoClash s is = (i j : ℕ) (m n : InstanceTree) (name : Name) → i < j → slice_get is i ≡ Some m → slice_get is j ≡ Some n → ClashOn s m n name → ⊥
+
+-- what holds of components that are refused so: a start expression's fault is told only where no components clash
 abbrev pub IsRefused : SourceTree → List InstanceTree → Refusal → Type 0
 IsRefused s is (ArgMismatch i) = (n : InstanceTree) × (slice_get is i ≡ Some n) × Misfits s n
-IsRefused s is (StartFault i f) = (n : InstanceTree) × (slice_get is i ≡ Some n) × ((argument_values n.arguments ≡ Err f) ⊎ StartsWith s n f)
+IsRefused s is (StartFault i f) = (n : InstanceTree) × (slice_get is i ≡ Some n) × ((argument_values n.arguments ≡ Err f) ⊎ (StartsWith s n f × NoClash s is))
 IsRefused s is (Clash i j name) = (m : InstanceTree) × (n : InstanceTree) × (i < j) × (slice_get is i ≡ Some m) × (slice_get is j ≡ Some n) × (c : ClashOn s m n (string_bytes name)) × IsFirstClash s is i j × IsFirstEntry (string_bytes name) c.first c.second
 IsRefused s is OutOfMemory = Unit {0}
 IsRefused s is _ = ⊥
 
--- what holds of one component that is refused in its place
+-- what holds of one component that is refused in its place, before it starts
 abbrev pub IsRefusedAt : SourceTree → ℕ → InstanceTree → Refusal → Type 0
 IsRefusedAt s k n (ArgMismatch i) = (i ≡ k) × Misfits s n
-IsRefusedAt s k n (StartFault i f) = (i ≡ k) × ((argument_values n.arguments ≡ Err f) ⊎ StartsWith s n f)
+IsRefusedAt s k n (StartFault i f) = (i ≡ k) × (argument_values n.arguments ≡ Err f)
 IsRefusedAt s k n OutOfMemory = Unit {0}
 IsRefusedAt s k n _ = ⊥
 

@@ -1,6 +1,7 @@
 use Rattle.std.proofs.Common.{map, sym, ap, subst, ◌∙◌, rules}
 use Rattle.std.specs.String.{string_bytes}
 use Rattle.ioa_syntax.specs.View.{tree_of, instance_of}
+use Rattle.ioa_compose.specs.Clashes.{PairsClear}
 use Rattle.ioa_compose.specs.Bindings.{instance_in, AllStartable, AllSound}
 use Rattle.ioa_compose.proofs.FineLemmas.{all-startable, all-sound}
 use Rattle.ioa_compose.proofs.ComposeLemmas.{parts-of, parts-sound, parts-composed, clashes-refused, starts-refused}
@@ -22,7 +23,7 @@ start_all-requires-clause-startable c =
 
 pub returns-in_err-members-clause-refused : goal.returns-in_err-members-clause-refused
 returns-in_err-members-clause-refused c =
-    starts-refused c.from_residual-in_err-members.result (tree_of c.args.declarations.now) c.args.assembly.now.instances.items _ _ _ c.deref.ensures.value c.deref-3.ensures.value c.in_ok-bindings.ensures.bound (search rules)
+    starts-refused c.from_residual-in_err-members.result (tree_of c.args.declarations.now) c.args.assembly.now.instances.items _ _ _ c.deref.ensures.value c.deref-3.ensures.value c.in_ok-bindings.ensures.bound (subst PairsClear c.deref-2.ensures.value c.in_ok-compatible.ensures.ok) (search rules)
 
 pub invariant_of-result : goal.invariant_of-result
 invariant_of-result c =
