@@ -1,12 +1,11 @@
 -- Readers of what may be absent.
-use Rattle.std.proofs.Common.{◌≡◌, ℕ, ◌+◌, ◌<◌, ◌≤◌, ◌⊎◌, inl, inr, Bool, true, false, List, [], ◌∷◌, ◌++◌, length, refl, sym, ap, ◌∙◌, subst, arith, Option, Some, None, Result, Ok, Err}
+use Rattle.std.proofs.Common.{◌≡◌, ℕ, ◌<◌, ◌≤◌, ◌⊎◌, inl, inr, false, List, [], ◌∷◌, ◌++◌, length, refl, sym, ap, ◌∙◌, subst, arith, Option, Some, None, Ok, Err}
 use Rattle.ioa_lex.specs.declared.terminal.Terminal.{Terminal}
-use Rattle.ioa_lex.specs.Tokens.{Tok, terminal}
-use Rattle.ioa_syntax.specs.declared.fault.Fault.{Fault}
-use Rattle.ioa_syntax.specs.declared.fault.Fault.TheVariants.{Syntax, TooDeep}
+use Rattle.ioa_lex.specs.Tokens.{Tok}
+use Rattle.ioa_syntax.specs.declared.fault.Fault.TheVariants.{TooDeep}
 use Rattle.ioa_syntax.specs.Grammar as grammar
 use Rattle.ioa_syntax.specs.Grammar.{Language, ◌▹◌, word, nothing, empty}
-use Rattle.ioa_syntax.specs.Reading.{Outcome, Reader, ◌>>=◌, built, sees, after, optional, optional_list}
+use Rattle.ioa_syntax.specs.Reading.{Outcome, Reader, ◌>>=◌, built, sees, optional, optional_list}
 use Rattle.ioa_syntax.proofs.Outcomes.{bind_ok, bind_err, ok_pair, at_most_then, alike_then, went}
 use Rattle.ioa_syntax.proofs.Exact.{Found, Exact, said_as}
 use Rattle.ioa_syntax.proofs.Singles.{introduced_exact}

@@ -1,5 +1,5 @@
 -- One operator more.
-use Rattle.std.proofs.Common.{◌≡◌, ℕ, suc, ◌+◌, ◌-◌, ◌<◌, ◌≤◌, List, refl, sym, ap, ◌∙◌, subst, arith, Option, Some, Result, Ok, Err, true, nat_le}
+use Rattle.std.proofs.Common.{◌≡◌, ℕ, suc, ◌+◌, ◌-◌, ◌<◌, ◌≤◌, List, refl, ap, ◌∙◌, arith, Some, Ok, Err, true, nat_le}
 use Rattle.std.proofs.lemmas.Bool.Decides.{nat_tests}
 use Rattle.ioa_lex.specs.Tokens.{Tok}
 use Rattle.ioa_syntax.specs.declared.tree.Operator.{Operator}
@@ -9,7 +9,7 @@ use Rattle.ioa_syntax.specs.Grammar.{right_of}
 use Rattle.ioa_syntax.specs.declared.fault.Fault.{Fault}
 use Rattle.ioa_syntax.specs.declared.fault.ReadError.{ReadError}
 use Rattle.ioa_syntax.specs.declared.fault.ReadError.TheVariants as errors
-use Rattle.ioa_syntax.specs.Reading.{climb, expr, operand, operator_at, after_of, rest, Reader, Outcome, Fails, ◌>>=◌}
+use Rattle.ioa_syntax.specs.Reading.{climb, expr, operand, operator_at, after_of, rest, Reader, Fails, ◌>>=◌}
 
 pub le_holds : (a b : ℕ) → a ≤ b → nat_le a b ≡ true
 le_holds a b h = grind (arith, nat_tests)

@@ -1,16 +1,14 @@
 -- An expression that is spelled is read.
-use Rattle.std.proofs.Common.{◌≡◌, ℕ, zero, suc, ◌+◌, ◌-◌, ◌<◌, ◌≤◌, List, [], ◌∷◌, ◌++◌, length, refl, sym, ap, ◌∙◌, subst, arith, Option, Some, None, Result, Ok, Err, true, false, nat_le, nat_lt, append_assoc, length-append}
+use Rattle.std.proofs.Common.{◌≡◌, ℕ, zero, suc, ◌+◌, ◌<◌, ◌≤◌, List, [], ◌∷◌, ◌++◌, length, refl, sym, ap, ◌∙◌, subst, arith, Option, Some, None, Ok, true, false, nat_le, nat_lt, append_assoc, length-append}
 use Rattle.std.proofs.lemmas.Bool.Decides.{nat_tests}
-use Rattle.ioa_lex.specs.declared.terminal.Terminal.{Terminal}
 use Rattle.ioa_lex.specs.declared.terminal.Terminal.TheVariants as terminals
-use Rattle.ioa_lex.specs.Tokens as tokens
 use Rattle.ioa_lex.specs.Tokens.{Tok, terminal}
 use Rattle.ioa_syntax.specs.declared.tree.Operator.{Operator}
 use Rattle.ioa_syntax.specs.declared.tree.Operator.TheVariants.{Equal, Plus, Minus}
 use Rattle.ioa_syntax.specs.Tree.{Expr, number, truth, named, parens, binary}
 use Rattle.ioa_syntax.specs.Depth.{depth_of}
 use Rattle.ioa_syntax.specs.Grammar.{SpellsExpr, level_of, left_of, right_of, operator_word}
-use Rattle.ioa_syntax.specs.Reading.{climb, expr, operand, opened, operator_at, operator_in, operator_of, terminal_at, allowed, after_of, rest, sign, Outcome, Reader, ◌>>=◌, ◌▸◌, built}
+use Rattle.ioa_syntax.specs.Reading.{climb, expr, operand, opened, operator_at, operator_in, operator_of, terminal_at, allowed, after_of, sign, Reader, ◌>>=◌}
 use Rattle.ioa_syntax.proofs.Climb.{climb_takes, le_holds}
 use Rattle.ioa_syntax.proofs.Singles.{sign_exact}
 

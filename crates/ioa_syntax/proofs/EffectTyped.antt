@@ -1,5 +1,5 @@
 -- Well typed statements leave an environment of the same types, or a fault.
-use Rattle.std.proofs.Common.{◌≡◌, ℕ, ◌==◌, ◌++◌, Bool, true, false, cond, List, [], ◌∷◌, Option, Some, None, refl, sym, ap, subst, ◌∙◌, arith}
+use Rattle.std.proofs.Common.{◌≡◌, ℕ, ◌++◌, Bool, true, false, cond, List, [], ◌∷◌, Option, Some, None, refl, ap, subst, ◌∙◌, arith}
 use Rattle.std.specs.List.{list_all}
 use Rattle.std.specs.Option.{option_map_or}
 use Rattle.std.specs.Str.{bytes_eq}
@@ -10,7 +10,7 @@ use Rattle.ioa_value.specs.Actions.{Name}
 use Rattle.ioa_value.specs.Operators.{Answer, gives, faults, nothing}
 use Rattle.ioa_value.specs.Plain.{Val}
 use Rattle.ioa_value.specs.Typing.{Shape, HasType}
-use Rattle.ioa_syntax.specs.Tree.{Expr, Stmt, assign, EntryTree, AutomatonTree}
+use Rattle.ioa_syntax.specs.Tree.{Stmt, assign, EntryTree, AutomatonTree}
 use Rattle.ioa_syntax.specs.Meaning.{Env, val, with_name, Outcome, becomes, breaks, nowhere, assigned, then_do, does, eff}
 use Rattle.ioa_syntax.specs.Instances.{TypeTable}
 use Rattle.ioa_syntax.specs.WellFormed.{Context, type_in, type_of, is_some_of, has_ty, context_of, variable_fields, scope, stmt_fine}

@@ -1,15 +1,11 @@
 -- A reader against its language: what is spelled is read, what is read is spelled, a fault hangs on the tokens up to the
 -- one that it names, and only more tokens than the depth allows go too deep.
-use Rattle.std.proofs.Common.{◌≡◌, ℕ, zero, suc, ◌+◌, ◌-◌, ◌<◌, ◌≤◌, ◌⊎◌, inl, inr, Bool, true, false, ◌&&◌, List, [], ◌∷◌, ◌++◌, length, max, refl, sym, ap, ◌∙◌, subst, arith, Option, Some, None, Result, Ok, Err, if◌then◌else◌, length-append, append_assoc, append-nil}
-use Rattle.ioa_lex.specs.declared.terminal.Terminal.{Terminal}
-use Rattle.ioa_lex.specs.Tokens as tokens
-use Rattle.ioa_lex.specs.Tokens.{Tok, terminal}
-use Rattle.ioa_syntax.specs.declared.fault.Fault.{Fault}
-use Rattle.ioa_syntax.specs.declared.fault.Fault.TheVariants.{Syntax, TooDeep}
-use Rattle.ioa_syntax.specs.Grammar as grammar
-use Rattle.ioa_syntax.specs.Grammar.{Language, SameHead, ◌▹◌, single, word, called, nothing}
-use Rattle.ioa_syntax.specs.Reading.{Outcome, Reader, ◌>>=◌, ◌▸◌, built, rest}
-use Rattle.ioa_syntax.proofs.Outcomes.{bind_ok, bind_err, ok_pair, AtMost, at_most_more, at_most_then, Shrinks, Alike, Past, past_at_most, alike_then, refused_at, went, front_length}
+use Rattle.std.proofs.Common.{◌≡◌, ℕ, ◌<◌, ◌≤◌, inl, inr, List, ◌++◌, length, max, refl, sym, ap, ◌∙◌, subst, arith, Ok, Err, length-append, append_assoc}
+use Rattle.ioa_lex.specs.Tokens.{Tok}
+use Rattle.ioa_syntax.specs.declared.fault.Fault.TheVariants.{TooDeep}
+use Rattle.ioa_syntax.specs.Grammar.{Language, SameHead, ◌▹◌}
+use Rattle.ioa_syntax.specs.Reading.{Outcome, Reader, ◌>>=◌, ◌▸◌, built}
+use Rattle.ioa_syntax.proofs.Outcomes.{bind_ok, bind_err, ok_pair, AtMost, at_most_more, at_most_then, Shrinks, Alike, past_at_most, alike_then, went}
 
 -- a front of the tokens spells it
 pub record Found {A : Type 0} (L : A → Language) (D : A → ℕ) (b : ℕ) (ts : List Tok) (x : A) (left : List Tok) : Type 0 where

@@ -1,18 +1,16 @@
 -- Small sources, and what the definitions say of them: each answer is computed.
-use Rattle.std.proofs.Common.{◌≡◌, ℕ, zero, suc, ◌+◌, List, [], ◌∷◌, Option, Some, None, Result, Ok, Err, true, false, pos, map, take, refl, codes}
-use Rattle.std.specs.Option.{option_map_or}
-use Rattle.ioa_value.specs.declared.arithmetic.Fault.{Fault}
+use Rattle.std.proofs.Common.{◌≡◌, ℕ, zero, suc, ◌+◌, List, [], ◌∷◌, Option, Some, None, Ok, Err, true, false, pos, refl, codes}
 use Rattle.ioa_value.specs.declared.arithmetic.Fault.TheVariants.{Overflow}
 use Rattle.ioa_value.specs.Actions.{Name, Act}
 use Rattle.ioa_value.specs.Plain.{Val, num}
 use Rattle.ioa_value.specs.Plain.{truth as truth_value}
 use Rattle.ioa_syntax.specs.declared.tree.Operator.TheVariants.{Equal, Plus}
 use Rattle.ioa_syntax.specs.declared.tree.Kind.TheVariants.{Input, Output}
-use Rattle.ioa_syntax.specs.Tree.{Expr, number, truth, named, parens, binary, FieldTree, typed, EntryTree, VariableTree, ProposalTree, TransitionTree, Stmt, assign, AutomatonTree, InstanceTree, CompositionTree, automaton, composition, SourceTree}
-use Rattle.ioa_syntax.specs.Meaning.{Env, val, nothing_known}
-use Rattle.ioa_syntax.specs.Instances.{basic_table, Instance, component_of, argument_values, start_values, state_of}
-use Rattle.ioa_syntax.specs.Runs.{Ending, done, not_an_action_at, not_enabled_at, fault_at, run, trace}
-use Rattle.ioa_syntax.specs.Compositions.{picked, Member, Composed, components_of, starts_of}
+use Rattle.ioa_syntax.specs.Tree.{Expr, number, truth, named, binary, FieldTree, typed, EntryTree, VariableTree, ProposalTree, TransitionTree, Stmt, assign, AutomatonTree, InstanceTree, CompositionTree, automaton, composition, SourceTree}
+use Rattle.ioa_syntax.specs.Meaning.{Env}
+use Rattle.ioa_syntax.specs.Instances.{basic_table, Instance, argument_values, start_values}
+use Rattle.ioa_syntax.specs.Runs.{done, not_an_action_at, not_enabled_at, fault_at, run, trace}
+use Rattle.ioa_syntax.specs.Compositions.{picked, Composed, components_of, starts_of}
 use Rattle.ioa_syntax.specs.WellFormed.{well_formed}
 
 abbrev field : Name → Name → FieldTree

@@ -1,14 +1,13 @@
 -- Readers of lists.
-use Rattle.std.proofs.Common.{◌≡◌, ℕ, zero, suc, ◌+◌, ◌-◌, ◌<◌, ◌≤◌, ◌⊎◌, inl, inr, Bool, true, false, ◌&&◌, List, [], ◌∷◌, ◌++◌, length, max, refl, sym, ap, ◌∙◌, subst, arith, Result, Ok, Err, if◌then◌else◌, length-append, append_assoc, append-nil}
+use Rattle.std.proofs.Common.{◌≡◌, ℕ, zero, suc, ◌<◌, ◌≤◌, ◌⊎◌, inl, inr, Bool, true, false, ◌&&◌, List, [], ◌∷◌, ◌++◌, length, refl, sym, ap, ◌∙◌, subst, arith, Ok, Err, if◌then◌else◌, length-append, append_assoc, append-nil}
 use Rattle.ioa_lex.specs.declared.terminal.Terminal.{Terminal}
 use Rattle.ioa_lex.specs.Tokens.{Tok, terminal}
-use Rattle.ioa_syntax.specs.declared.fault.Fault.{Fault}
 use Rattle.ioa_syntax.specs.declared.fault.Fault.TheVariants.{Syntax, TooDeep}
 use Rattle.ioa_syntax.specs.Depth.{deepest}
 use Rattle.ioa_syntax.specs.Grammar as grammar
 use Rattle.ioa_syntax.specs.Grammar.{Language, SameHead, ◌▹◌, word, perhaps, each_after}
 use Rattle.ioa_syntax.specs.Reading.{Outcome, Reader, ◌>>=◌, rest, sees, after, always, items_from, separated, terminated, many_from, many}
-use Rattle.ioa_syntax.proofs.Outcomes.{bind_ok, bind_err, ok_pair, AtMost, at_most_more, at_most_then, Shrinks, Alike, Past, past_at_most, alike_then, refused_at, went, front_length, same_head, LooksAhead, rest_length}
+use Rattle.ioa_syntax.proofs.Outcomes.{bind_ok, bind_err, ok_pair, AtMost, at_most_more, at_most_then, Alike, Past, past_at_most, alike_then, went, same_head, LooksAhead, rest_length}
 use Rattle.ioa_syntax.proofs.Exact.{Found, Exact}
 use Rattle.ioa_syntax.proofs.Singles.{sees_word, seen, sees_alike, after_seen, after_unseen}
 

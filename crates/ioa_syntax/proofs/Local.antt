@@ -1,23 +1,22 @@
 -- A fault of an expression hangs on the tokens up to the one that it names, and no greater depth mends it; and only more
 -- tokens than the depth allows go too deep.
-use Rattle.std.proofs.Common.{◌≡◌, ℕ, zero, suc, ◌+◌, ◌-◌, ◌<◌, ◌≤◌, ◌⊎◌, inl, inr, Bool, ◌&&◌, List, [], ◌∷◌, ◌++◌, length, refl, sym, ap, ◌∙◌, subst, arith, Option, Some, None, Result, Ok, Err, true, false, nat_le, nat_lt, if◌then◌else◌, length-append, append_assoc}
+use Rattle.std.proofs.Common.{◌≡◌, ℕ, zero, suc, ◌+◌, ◌<◌, ◌≤◌, inl, inr, Bool, List, [], ◌∷◌, ◌++◌, length, refl, sym, ap, ◌∙◌, subst, arith, Option, Some, None, Ok, Err, true, false, nat_le, if◌then◌else◌, length-append, append_assoc}
 use Rattle.std.proofs.lemmas.Bool.Decides.{nat_tests}
 use Rattle.ioa_lex.specs.declared.terminal.Terminal.{Terminal}
 use Rattle.ioa_lex.specs.declared.terminal.Terminal.TheVariants as terminals
 use Rattle.ioa_lex.specs.Tokens as tokens
 use Rattle.ioa_lex.specs.Tokens.{Tok, terminal}
-use Rattle.ioa_syntax.specs.declared.fault.Fault.{Fault}
 use Rattle.ioa_syntax.specs.declared.fault.Fault.TheVariants.{Syntax, TooDeep}
 use Rattle.ioa_syntax.specs.declared.tree.Operator.{Operator}
 use Rattle.ioa_syntax.specs.Tree.{Expr, number, truth, named, parens, binary}
 use Rattle.ioa_syntax.specs.Depth.{depth_of}
-use Rattle.ioa_syntax.specs.Grammar.{SpellsExpr, SameHead, level_of, left_of, right_of}
-use Rattle.ioa_syntax.specs.Reading.{climb, climb_by, stop_by, expr, expression, no_depth, operand, opened, operator_at, operator_in, terminal_at, terminal_in, allowed, after_of, rest, sign, Outcome, Reader, ◌>>=◌, ◌▸◌, built}
-use Rattle.ioa_syntax.proofs.Outcomes.{bind_ok, bind_err, ok_pair, AtMost, at_most_more, at_most_then, Shrinks, Alike, Past, past_at_most, alike_then, alike_rest, refused_at, went, front_length, same_head, LooksAhead, head_alike, rest_length}
+use Rattle.ioa_syntax.specs.Grammar.{SpellsExpr, SameHead, right_of}
+use Rattle.ioa_syntax.specs.Reading.{climb, climb_by, stop_by, expr, expression, operand, opened, operator_at, operator_in, terminal_at, terminal_in, allowed, after_of, rest, sign, Outcome, Reader, ◌>>=◌, ◌▸◌}
+use Rattle.ioa_syntax.proofs.Outcomes.{bind_err, AtMost, at_most_more, at_most_then, Shrinks, Alike, Past, past_at_most, alike_then, alike_rest, refused_at, went, front_length, same_head, LooksAhead, head_alike, rest_length}
 use Rattle.ioa_syntax.proofs.Exact.{Found, Exact}
 use Rattle.ioa_syntax.proofs.Singles.{sign_exact}
 use Rattle.ioa_syntax.proofs.Complete.{mark, Ends, complete, spelled_deep, depth_positive}
-use Rattle.ioa_syntax.proofs.Sound.{Next, next_cases, Opening, opening, opens_true, opens_false, opens_parens, opens_none, bracketed, opened_true, opened_false, opened_bracketed, le_of, sound, operand_sound}
+use Rattle.ioa_syntax.proofs.Sound.{next_cases, Opening, opening, opens_true, opens_false, opens_parens, opens_none, bracketed, opened_true, opened_false, opened_bracketed, sound, operand_sound}
 
 operator_alike : (least below : ℕ) → LooksAhead (operator_at least below)
 unfolding operator_at terminal_at

@@ -1,7 +1,6 @@
 -- Outcomes: their parts, the tokens that they leave, and how they hang on the tokens read.
-use Rattle.std.proofs.Common.{◌≡◌, ℕ, zero, suc, ◌+◌, ◌-◌, ◌<◌, ◌≤◌, ◌⊎◌, inl, inr, Bool, true, false, List, [], ◌∷◌, ◌++◌, length, refl, sym, ap, ◌∙◌, subst, arith, Result, Ok, Err, if◌then◌else◌, length-append}
-use Rattle.ioa_lex.specs.declared.terminal.Terminal.{Terminal}
-use Rattle.ioa_lex.specs.Tokens.{Tok, terminal}
+use Rattle.std.proofs.Common.{◌≡◌, ℕ, ◌<◌, ◌≤◌, ◌⊎◌, inl, inr, Bool, true, false, List, [], ◌∷◌, ◌++◌, length, refl, sym, ap, ◌∙◌, subst, arith, Result, Ok, Err, if◌then◌else◌, length-append}
+use Rattle.ioa_lex.specs.Tokens.{Tok}
 use Rattle.ioa_syntax.specs.declared.fault.Fault.{Fault}
 use Rattle.ioa_syntax.specs.declared.fault.Fault.TheVariants.{Syntax, TooDeep}
 use Rattle.ioa_syntax.specs.Grammar.{SameHead}

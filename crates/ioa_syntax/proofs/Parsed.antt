@@ -1,5 +1,5 @@
 -- From the tokens of a text to the answer of the parser.
-use Rattle.std.proofs.Common.{◌≡◌, ℕ, suc, ◌+◌, ◌-◌, ◌<◌, ◌≤◌, ◌⊎◌, inl, inr, List, [], ◌∷◌, ◌++◌, length, drop, map, refl, sym, ap, ◌∙◌, subst, arith, Result, Ok, Err, IfOk, IfErr, MatchResult, length-append, Bool, true, false, nat_lt}
+use Rattle.std.proofs.Common.{◌≡◌, ℕ, ◌-◌, ◌<◌, ◌≤◌, ◌⊎◌, inl, inr, List, [], ◌∷◌, ◌++◌, length, drop, refl, sym, ap, ◌∙◌, subst, arith, Result, Ok, Err, IfOk, IfErr, MatchResult, length-append, Bool, true, false, nat_lt}
 use Rattle.std.proofs.lemmas.Bool.Decides.{nat_tests}
 use Rattle.std.proofs.lemmas.List.{length-map}
 use Rattle.std.proofs.Math.Seq.{drop-append_seam}
@@ -9,14 +9,13 @@ use Rattle.ioa_lex.specs.declared.token.Token.{Token}
 use Rattle.ioa_lex.specs.Tokens as tokens
 use Rattle.ioa_lex.specs.Tokens.{Tok, terminal, tokens_shown, kind_shown}
 use Rattle.ioa_lex.specs.Spaced.{IsToken}
-use Rattle.ioa_lex.specs.Lexing as lexing
-use Rattle.ioa_lex.specs.Lexing.{Lexes, Covers, Piece, blank, comment, token, Writes, placed, tokens_after, line_after, bytes_of}
+use Rattle.ioa_lex.specs.Lexing.{Lexes, Covers, Piece, blank, comment, token, Writes, placed, tokens_after, line_after}
 use Rattle.ioa_syntax.specs.declared.tree.Declaration.{Declaration}
 use Rattle.ioa_syntax.specs.Tree.{SourceTree}
 use Rattle.ioa_syntax.specs.Depth.{source_deep}
 use Rattle.ioa_syntax.specs.View.{tree_of}
 use Rattle.ioa_syntax.specs.Grammar.{SpellsSource, IsDeadEnd}
-use Rattle.ioa_syntax.specs.Source.{AreTokens, IsSource, plain, line_of, IsStuckOn, IsTooDeepOn, BeginsTooDeep, IsRefused}
+use Rattle.ioa_syntax.specs.Source.{AreTokens, IsSource, plain, line_of, BeginsTooDeep, IsRefused}
 use Rattle.ioa_syntax.specs.Reading as reading
 use Rattle.ioa_syntax.specs.Reading.{source, line_at, Gives, Refuses}
 use Rattle.ioa_syntax.proofs.Whole as whole

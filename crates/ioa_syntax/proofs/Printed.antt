@@ -1,6 +1,5 @@
 -- The text that is written of a tree lexes to tokens that spell the tree.
-use Rattle.std.proofs.Common.{◌≡◌, ℕ, ◌⊎◌, inl, inr, Bool, true, false, IsTrue, List, [], ◌∷◌, ◌++◌, map, Option, Some, None, refl, sym, ap, ◌∙◌, subst, append_assoc, append-nil}
-use Rattle.std.specs.List.{flat_map}
+use Rattle.std.proofs.Common.{◌≡◌, ℕ, inr, true, false, List, [], ◌∷◌, ◌++◌, Option, Some, None, refl, sym, subst, append_assoc, append-nil}
 use Rattle.ioa_lex.specs.declared.terminal.Terminal.{Terminal}
 use Rattle.ioa_lex.specs.declared.terminal.Terminal.TheVariants as terminals
 use Rattle.ioa_lex.specs.Tokens as tokens
@@ -9,9 +8,9 @@ use Rattle.ioa_lex.specs.Lexing.{Lexes, is_blank}
 use Rattle.ioa_lex.specs.Spaced.{Spaced, IsToken, text_of}
 use Rattle.ioa_lex.proofs.SpacedLemmas.{spaced_lexes, spaced_append, spaced_one}
 use Rattle.ioa_syntax.specs.Tree.{Expr, number, truth, named, parens, binary, FieldTree, PositionTree, typed, EntryTree, VariableTree, ProposalTree, Stmt, assign, TransitionTree, AutomatonTree, InstanceTree, CompositionTree, DeclarationTree, automaton, composition, SourceTree}
-use Rattle.ioa_syntax.specs.Grammar.{Language, ◌▹◌, single, word, called, nothing, perhaps, optional, optional_list, each_after, separated, terminated, many, kind_word, operator_word, left_of, right_of, SpellsExpr, SpellsField, SpellsFields, SpellsPosition, SpellsPositions, SpellsEntry, SpellsVariable, SpellsProposal, SpellsStmt, SpellsTransition, SpellsAutomaton, SpellsArguments, SpellsInstance, SpellsInstances, SpellsComposition, SpellsDeclaration, SpellsSource}
+use Rattle.ioa_syntax.specs.Grammar.{Language, ◌▹◌, single, word, called, nothing, optional, optional_list, each_after, separated, terminated, many, kind_word, operator_word, left_of, right_of, SpellsExpr, SpellsField, SpellsFields, SpellsPosition, SpellsPositions, SpellsEntry, SpellsVariable, SpellsProposal, SpellsStmt, SpellsTransition, SpellsAutomaton, SpellsArguments, SpellsInstance, SpellsInstances, SpellsComposition, SpellsDeclaration, SpellsSource}
 use Rattle.ioa_syntax.specs.Source.{AreTokens, IsSource, plain}
-use Rattle.ioa_syntax.specs.Layout.{space, line, text_word, text_name, text_number, text_more, text_list, text_all, text_optional_list, text_parens, before_list, before_option, text_expr, text_option, text_field, text_position, text_entry, text_variable, text_binding, text_proposal, text_stmt, text_transition, text_signature, text_behaviour, text_automaton, text_instance, text_composition, text_declaration, text_source}
+use Rattle.ioa_syntax.specs.Layout.{space, line, text_word, text_name, text_more, text_list, text_all, text_optional_list, text_parens, before_list, before_option, text_expr, text_option, text_field, text_position, text_entry, text_variable, text_binding, text_proposal, text_stmt, text_transition, text_behaviour, text_automaton, text_instance, text_composition, text_declaration, text_source}
 
 -- the text has tokens of the language
 abbrev Prints : Language → List ℕ → Type 0

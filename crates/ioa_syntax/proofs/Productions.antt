@@ -1,23 +1,22 @@
 -- Each reader of a production against its language.
-use Rattle.std.proofs.Common.{◌≡◌, ℕ, zero, suc, ◌+◌, ◌<◌, ◌≤◌, ◌⊎◌, inl, inr, Bool, true, false, List, [], ◌∷◌, ◌++◌, length, max, refl, sym, ap, ◌∙◌, subst, arith, Option, Some, None, Result, Ok, Err, length-append, is_some}
+use Rattle.std.proofs.Common.{◌≡◌, ℕ, ◌<◌, ◌⊎◌, inl, inr, Bool, true, false, List, [], ◌∷◌, ◌++◌, length, refl, sym, ap, ◌∙◌, subst, arith, Option, Some, None, Ok, length-append, is_some}
 use Rattle.ioa_lex.specs.declared.terminal.Terminal.{Terminal}
 use Rattle.ioa_lex.specs.declared.terminal.Terminal.TheVariants as terminals
 use Rattle.ioa_lex.specs.Tokens as tokens
 use Rattle.ioa_lex.specs.Tokens.{Tok, terminal}
 use Rattle.ioa_value.specs.Actions.{Name}
-use Rattle.ioa_syntax.specs.declared.fault.Fault.TheVariants.{TooDeep}
 use Rattle.ioa_syntax.specs.declared.tree.Kind.{Kind}
 use Rattle.ioa_syntax.specs.declared.tree.Kind.TheVariants.{Input, Output, Internal}
 use Rattle.ioa_syntax.specs.Tree.{Expr, FieldTree, PositionTree, typed, EntryTree, VariableTree, ProposalTree, Stmt, assign, TransitionTree, AutomatonTree, InstanceTree, CompositionTree, DeclarationTree, automaton, composition}
 use Rattle.ioa_syntax.specs.Depth.{depth_of, deepest, deep_option, deep_variable, deep_proposal, deep_stmt, deep_transition, deep_automaton, deep_instance, deep_composition, deep}
 use Rattle.ioa_syntax.specs.Grammar as grammar
 use Rattle.ioa_syntax.specs.Grammar.{Language, SameHead, ◌▹◌, single, word, called, nothing, empty, kind_word, SpellsExpr, SpellsField, SpellsFields, SpellsPosition, SpellsPositions, SpellsEntry, SpellsVariable, SpellsProposal, SpellsStmt, SpellsTransition, SpellsAutomaton, SpellsArguments, SpellsInstance, SpellsInstances, SpellsComposition, SpellsDeclaration}
-use Rattle.ioa_syntax.specs.Reading.{Outcome, Reader, ◌>>=◌, ◌▸◌, built, perhaps, optional, optional_list, sees, after, sees_name, sees_kind, kind_at, kind_of, terminal_at, same_terminal, is_name, operator_of, closing, separated, a_name, a_kind, sign, field, fields, position, positions, entry, entries, expression, variable, variables, proposal, proposals, statement, statements, transition, transitions, an_automaton, arguments, instance, instances, a_composition, many, rest, composed, declaration}
+use Rattle.ioa_syntax.specs.Reading.{Reader, built, perhaps, optional_list, sees, after, sees_name, sees_kind, kind_at, kind_of, terminal_at, same_terminal, is_name, operator_of, closing, field, fields, position, positions, entry, entries, variable, variables, proposal, proposals, statement, statements, transition, transitions, an_automaton, arguments, instance, instances, a_composition, many, rest, composed, declaration}
 use Rattle.ioa_syntax.proofs.Outcomes.{LooksAhead, head_alike, went, alike_rest, ok_pair, Alike, same_head}
 use Rattle.ioa_syntax.proofs.Exact.{Found, Exact, any, flat, deep_as, before, then, built_as, said_as}
-use Rattle.ioa_syntax.proofs.Singles.{sign_exact, name_exact, kind_exact, kind_is, kind_alike, sees_word, seen, sees_alike, after_seen, after_unseen, after_word, after_length, seen_some, either_exact, absent_exact}
+use Rattle.ioa_syntax.proofs.Singles.{sign_exact, name_exact, kind_exact, kind_is, kind_alike, seen, sees_alike, after_seen, after_unseen, after_word, after_length, seen_some, either_exact}
 use Rattle.ioa_syntax.proofs.Absent.{into_exact, deep_some, optional_exact, optional_list_exact}
-use Rattle.ioa_syntax.proofs.Lists.{terminated_exact, separated_exact, separated_some, many_exact}
+use Rattle.ioa_syntax.proofs.Lists.{terminated_exact, separated_exact, many_exact}
 use Rattle.ioa_syntax.proofs.Complete.{Ends, spelled_deep, depth_positive}
 use Rattle.ioa_syntax.proofs.Local.{expression_exact}
 

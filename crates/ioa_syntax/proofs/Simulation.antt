@@ -1,9 +1,9 @@
 -- Compositions that are alike, component by component, do the same.
-use Rattle.std.proofs.Common.{◌≡◌, ℕ, ◌+◌, ◌==◌, List, [], ◌∷◌, Bool, true, false, cond, IsTrue, Result, Ok, Err, Option, None, Some, filter, take, refl, sym, ap, subst, ◌∙◌, arith}
+use Rattle.std.proofs.Common.{◌≡◌, ℕ, ◌+◌, List, [], ◌∷◌, Bool, true, false, cond, IsTrue, Result, Ok, Err, filter, take, refl, ap, subst}
 use Rattle.std.specs.List.{list_any}
 use Rattle.ioa_value.specs.declared.arithmetic.Fault.{Fault}
 use Rattle.ioa_value.specs.Actions.{Name, Act}
-use Rattle.ioa_syntax.specs.Components.{Component, has, owns, is_kind, is_local, is_output}
+use Rattle.ioa_syntax.specs.Components.{Component, has, owns, is_kind, is_local}
 use Rattle.ioa_syntax.specs.Steps.{Moved, next, not_an_action, not_enabled, fault, Asked, free, owned, asked, effect_on, with_state, then_rest, effects, allowed, step}
 use Rattle.ioa_syntax.specs.Runs.{Reached, after, run_from, run, is_external, trace}
 use Rattle.ioa_syntax.specs.Likes.{AreLike, IsLike, AllLike, AllRelated, MovesLike, RunsLike}

@@ -1,5 +1,5 @@
 -- Readers of one token, and of what may be absent.
-use Rattle.std.proofs.Common.{◌≡◌, ℕ, zero, suc, ◌+◌, ◌-◌, ◌<◌, ◌≤◌, ◌⊎◌, inl, inr, Bool, true, false, ◌&&◌, List, [], ◌∷◌, ◌++◌, length, max, refl, sym, ap, ◌∙◌, subst, arith, Option, Some, None, Result, Ok, Err, if◌then◌else◌, length-append, append_assoc, append-nil}
+use Rattle.std.proofs.Common.{◌≡◌, ℕ, ◌<◌, ◌≤◌, ◌⊎◌, inl, inr, Bool, true, false, List, [], ◌∷◌, ◌++◌, length, refl, sym, ap, ◌∙◌, subst, arith, Option, Some, None, Ok, Err, if◌then◌else◌}
 use denote.Enum.Bare.{same_true, true_same}
 use Rattle.ioa_lex.specs.contracts.terminal.Terminal.{the_type}
 use Rattle.ioa_lex.specs.declared.terminal.Terminal.{Terminal}
@@ -9,13 +9,11 @@ use Rattle.ioa_lex.specs.Tokens.{Tok, terminal}
 use Rattle.ioa_value.specs.Actions as actions
 use Rattle.ioa_syntax.specs.declared.tree.Kind.{Kind}
 use Rattle.ioa_syntax.specs.declared.tree.Kind.TheVariants.{Input, Output, Internal}
-use Rattle.ioa_syntax.specs.declared.fault.Fault.{Fault}
-use Rattle.ioa_syntax.specs.declared.fault.Fault.TheVariants.{Syntax, TooDeep}
-use Rattle.ioa_syntax.specs.Grammar as grammar
-use Rattle.ioa_syntax.specs.Grammar.{Language, SameHead, ◌▹◌, single, word, called, nothing, empty, kind_word}
-use Rattle.ioa_syntax.specs.Reading.{Outcome, Reader, ◌>>=◌, ◌▸◌, built, rest, taken, sees, after, is_terminal, same_terminal, sign, a_name, a_kind, kind_at, kind_of, kind_in, terminal_at, terminal_in, optional, optional_list}
-use Rattle.ioa_syntax.proofs.Outcomes.{bind_ok, bind_err, ok_pair, AtMost, at_most_more, at_most_then, Shrinks, Alike, Past, past_at_most, alike_then, alike_rest, refused_at, went, front_length, same_head, LooksAhead, head_alike, rest_length}
-use Rattle.ioa_syntax.proofs.Exact.{Found, Exact, any, flat, built_as, said_as, deep_as}
+use Rattle.ioa_syntax.specs.declared.fault.Fault.TheVariants.{TooDeep}
+use Rattle.ioa_syntax.specs.Grammar.{Language, SameHead, ◌▹◌, single, word, called, nothing, kind_word}
+use Rattle.ioa_syntax.specs.Reading.{Outcome, Reader, rest, taken, sees, after, is_terminal, same_terminal, sign, a_name, a_kind, kind_at, kind_of, kind_in, terminal_at, terminal_in}
+use Rattle.ioa_syntax.proofs.Outcomes.{ok_pair, AtMost, at_most_more, Alike, alike_rest, refused_at, went, front_length, same_head, LooksAhead, head_alike, rest_length}
+use Rattle.ioa_syntax.proofs.Exact.{Found, Exact, any, flat}
 
 -- ---- tests
 

@@ -1,21 +1,20 @@
 -- An expression that is read is spelled so.
-use Rattle.std.proofs.Common.{◌≡◌, ℕ, zero, suc, ◌+◌, ◌-◌, ◌<◌, ◌≤◌, ◌⊎◌, inl, inr, Bool, ◌&&◌, List, [], ◌∷◌, ◌++◌, length, refl, sym, ap, ◌∙◌, subst, arith, Option, Some, None, Result, Ok, Err, true, false, nat_le, nat_lt, append_assoc, if◌then◌else◌, length-append}
+use Rattle.std.proofs.Common.{◌≡◌, ℕ, zero, suc, ◌<◌, ◌≤◌, ◌⊎◌, inl, inr, Bool, List, [], ◌∷◌, ◌++◌, length, refl, sym, ap, ◌∙◌, subst, arith, Option, Some, None, Ok, Err, true, false, nat_le, nat_lt, append_assoc}
 use Rattle.std.proofs.lemmas.Bool.Decides.{nat_tests}
 use Rattle.ioa_lex.specs.declared.terminal.Terminal.{Terminal}
 use Rattle.ioa_lex.specs.declared.terminal.Terminal.TheVariants as terminals
 use Rattle.ioa_lex.specs.Tokens as tokens
 use Rattle.ioa_lex.specs.Tokens.{Tok, terminal}
-use Rattle.ioa_syntax.specs.declared.fault.Fault.{Fault}
 use Rattle.ioa_syntax.specs.declared.fault.Fault.TheVariants.{Syntax, TooDeep}
 use Rattle.ioa_syntax.specs.declared.tree.Operator.{Operator}
 use Rattle.ioa_syntax.specs.declared.tree.Operator.TheVariants.{Equal, Plus, Minus}
 use Rattle.ioa_syntax.specs.Tree.{Expr, number, truth, named, parens, binary}
 use Rattle.ioa_syntax.specs.Depth.{depth_of}
 use Rattle.ioa_syntax.specs.Grammar.{SpellsExpr, level_of, left_of, right_of, operator_word}
-use Rattle.ioa_syntax.specs.Reading.{climb, climb_by, stop_by, expr, no_depth, operand, opened, operator_at, operator_in, operator_of, terminal_at, allowed, after_of, rest, sign, Outcome, Reader, ◌>>=◌, ◌▸◌, built}
-use Rattle.ioa_syntax.proofs.Outcomes.{bind_ok, bind_err, ok_pair, guard_ok}
+use Rattle.ioa_syntax.specs.Reading.{climb, climb_by, stop_by, expr, operand, opened, operator_at, operator_in, operator_of, terminal_at, allowed, after_of, rest, sign, Outcome, Reader, ◌>>=◌, ◌▸◌, built}
+use Rattle.ioa_syntax.proofs.Outcomes.{bind_ok, ok_pair, guard_ok}
 use Rattle.ioa_syntax.proofs.Singles.{sign_exact}
-use Rattle.ioa_syntax.proofs.Complete.{mark, parens_join, binary_join, spelled_deep}
+use Rattle.ioa_syntax.proofs.Complete.{mark, parens_join, binary_join}
 
 pub le_of : (a b : ℕ) → nat_le a b ≡ true → a ≤ b
 le_of a b h = grind (arith, nat_tests)

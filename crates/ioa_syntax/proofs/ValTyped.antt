@@ -4,14 +4,13 @@ use Rattle.std.proofs.lemmas.Bool.Decides.{nat_tests}
 use Rattle.ioa_value.specs.declared.arithmetic.Fault.TheVariants.{Overflow}
 use Rattle.ioa_value.specs.declared.operator.Op.{Op}
 use Rattle.ioa_value.specs.declared.operator.Op.TheVariants.{Add, Sub, Eq}
-use Rattle.ioa_value.specs.Actions.{Name}
 use Rattle.ioa_value.specs.Arithmetic.{fits, tested}
 use Rattle.ioa_value.specs.Plain.{Val, truth as truth_value, num, name, tuple, items}
 use Rattle.ioa_value.specs.Operators.{Answer, gives, faults, nothing, of_number, on_numbers, compared, operate, of_numbers, of_alike, op_type, same, Takes}
 use Rattle.ioa_value.specs.Typing.{Shape, HasType, own}
 use Rattle.ioa_syntax.specs.Tree.{Expr, number, truth, named, parens, binary}
 use Rattle.ioa_syntax.specs.Meaning.{Env, val, value_of, then_value, op_of}
-use Rattle.ioa_syntax.specs.WellFormed.{Context, type_in, type_of, both_types}
+use Rattle.ioa_syntax.specs.WellFormed.{Context, type_of, both_types}
 use Rattle.ioa_syntax.specs.Answers.{IsTyped, Stands, Suits}
 
 stands_typed : (types : List Shape) (ty : ℕ) (o : Option Val) → Stands types ty o → IsTyped types ty (value_of o)

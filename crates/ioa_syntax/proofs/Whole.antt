@@ -1,5 +1,5 @@
 -- Sources: what the model answers, and what the tokens spell.
-use Rattle.std.proofs.Common.{◌≡◌, ℕ, zero, suc, ◌+◌, ◌-◌, ◌<◌, ◌≤◌, ◌⊎◌, inl, inr, Bool, true, false, nat_le, List, [], ◌∷◌, ◌++◌, length, take, drop, max, refl, sym, ap, ◌∙◌, subst, arith, Result, Ok, Err, length-append, append_assoc, append-nil}
+use Rattle.std.proofs.Common.{◌≡◌, ℕ, zero, suc, ◌+◌, ◌-◌, ◌<◌, ◌≤◌, ◌⊎◌, inl, inr, Bool, true, false, nat_le, List, [], ◌∷◌, ◌++◌, length, take, drop, refl, sym, ap, ◌∙◌, subst, arith, Result, Ok, Err, length-append, append_assoc, append-nil}
 use Rattle.std.proofs.lemmas.Bool.Decides.{nat_tests}
 use Rattle.std.proofs.lemmas.List.{take-append-drop, length-drop}
 use Rattle.ioa_lex.specs.declared.refusal.Refusal.{Refusal}
@@ -7,13 +7,11 @@ use Rattle.ioa_lex.specs.declared.refusal.Refusal.TheVariants as refusals
 use Rattle.ioa_lex.specs.Tokens.{Tok}
 use Rattle.ioa_syntax.specs.declared.fault.Fault.{Fault}
 use Rattle.ioa_syntax.specs.declared.fault.Fault.TheVariants.{Syntax, TooDeep}
-use Rattle.ioa_syntax.specs.Tree.{DeclarationTree, SourceTree, automaton, composition}
-use Rattle.ioa_syntax.specs.Depth.{deepest, deep, source_deep}
-use Rattle.ioa_syntax.specs.Grammar as grammar
-use Rattle.ioa_syntax.specs.Grammar.{SameHead, SpellsSource, SpellsDeclaration, IsDeadEnd}
+use Rattle.ioa_syntax.specs.Tree.{DeclarationTree, SourceTree}
+use Rattle.ioa_syntax.specs.Depth.{deep, source_deep}
+use Rattle.ioa_syntax.specs.Grammar.{SpellsSource, SpellsDeclaration, IsDeadEnd}
 use Rattle.ioa_syntax.specs.Reading.{Outcome, Reader, ◌>>=◌, many, many_from, declaration, source, source_from, declared_by, refusal_of}
-use Rattle.ioa_syntax.proofs.Outcomes.{bind_ok, ok_pair, Alike, Past, AtMost}
-use Rattle.ioa_syntax.proofs.Exact.{Found, Exact}
+use Rattle.ioa_syntax.proofs.Outcomes.{bind_ok, ok_pair, Past, AtMost}
 use Rattle.ioa_syntax.proofs.Sound.{le_of}
 use Rattle.ioa_syntax.proofs.Productions.{AfterDeclaration, some_left, declaration_exact, declaration_some, declaration_leads, at_automaton, at_composition, at_end, all_exact}
 

@@ -1,10 +1,10 @@
 -- The composition that a source declares under a name (Lynch 1996, section 8.2).
-use Rattle.std.specs.Prelude.{ℕ, Bool, List, [], ◌∷◌, map, find, length, reverse, Option, Some, None, Result, Ok, Err, IsTrue, ◌≡◌, slice_get}
+use Rattle.std.specs.Prelude.{ℕ, List, [], ◌∷◌, map, find, reverse, Option, Some, None, Ok, IsTrue, ◌≡◌}
 use Rattle.std.specs.Str.{bytes_eq}
 use Rattle.ioa_value.specs.Actions.{Name}
 use Rattle.ioa_value.specs.Plain.{Val}
 use Rattle.ioa_value.specs.Tests.{are_of}
-use Rattle.ioa_syntax.specs.Tree.{FieldTree, AutomatonTree, InstanceTree, CompositionTree, DeclarationTree, automaton, composition, SourceTree}
+use Rattle.ioa_syntax.specs.Tree.{FieldTree, AutomatonTree, InstanceTree, CompositionTree, automaton, composition, SourceTree}
 use Rattle.ioa_syntax.specs.Meaning.{Env}
 use Rattle.ioa_syntax.specs.Instances.{TypeTable, type_named, basic_table, Instance, component_of, argument_values, start_values, state_of}
 use Rattle.ioa_syntax.specs.Components.{Component, Compatible}

@@ -1,6 +1,6 @@
 -- How deep trees are: parentheses and operators are one deeper than the deepest part.
 use Rattle.std.specs.Prelude.{ℕ, ◌+◌, max, List, [], ◌∷◌, Option, Some, None}
-use Rattle.ioa_syntax.specs.Tree.{Expr, number, truth, named, parens, binary, EntryTree, VariableTree, ProposalTree, Stmt, assign, TransitionTree, AutomatonTree, InstanceTree, CompositionTree, DeclarationTree, automaton, composition, SourceTree}
+use Rattle.ioa_syntax.specs.Tree.{Expr, number, truth, named, parens, binary, VariableTree, ProposalTree, Stmt, assign, TransitionTree, AutomatonTree, InstanceTree, CompositionTree, DeclarationTree, automaton, composition, SourceTree}
 
 abbrev pub depth_of : Expr → ℕ
 depth_of (number n) = 1

@@ -4,11 +4,10 @@ use Rattle.std.specs.Option.{option_map, option_map_or}
 use Rattle.std.specs.Str.{bytes_eq}
 use Rattle.ioa_value.specs.declared.arithmetic.Fault.{Fault}
 use Rattle.ioa_value.specs.Actions.{Name, Act}
-use Rattle.ioa_value.specs.Plain.{Val, truth as truth_value, num}
+use Rattle.ioa_value.specs.Plain.{Val, truth as truth_value}
 use Rattle.ioa_value.specs.Operators.{Answer, gives, faults, nothing}
 use Rattle.ioa_value.specs.Typing.{Shape, basic_types, first_of}
 use Rattle.ioa_value.specs.Tests.{is_of}
-use Rattle.ioa_syntax.specs.declared.tree.Kind.{Kind}
 use Rattle.ioa_syntax.specs.Tree.{Expr, FieldTree, PositionTree, typed, EntryTree, VariableTree, TransitionTree, AutomatonTree}
 use Rattle.ioa_syntax.specs.Meaning.{Env, nothing_known, values_of, over, kept, val, Outcome, becomes, breaks, nowhere, eff}
 use Rattle.ioa_syntax.specs.Components.{Component}

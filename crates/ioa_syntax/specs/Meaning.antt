@@ -1,5 +1,5 @@
 -- What expressions and effects mean (effects of transitions: Lynch 1996, section 8.1; IOA's notation).
-use Rattle.std.specs.Prelude.{ℕ, Bool, true, false, if◌then◌else◌, List, [], ◌∷◌, Option, Some, None, pos}
+use Rattle.std.specs.Prelude.{if◌then◌else◌, List, [], ◌∷◌, Option, Some, None, pos}
 use Rattle.std.specs.List.{list_any}
 use Rattle.std.specs.Str.{bytes_eq}
 use Rattle.ioa_value.specs.declared.arithmetic.Fault.{Fault}

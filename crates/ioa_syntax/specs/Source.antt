@@ -1,5 +1,5 @@
 -- What a source is, and why a text is none.
-use Rattle.std.specs.Prelude.{◌≡◌, ◌⊎◌, ℕ, ◌<◌, ◌≤◌, List, [], ◌∷◌, ◌++◌, length, map}
+use Rattle.std.specs.Prelude.{◌≡◌, ℕ, ◌<◌, ◌≤◌, List, [], ◌∷◌, ◌++◌, length, map}
 use Rattle.ioa_lex.specs.declared.refusal.Refusal.{Refusal}
 use Rattle.ioa_lex.specs.declared.refusal.Refusal.TheVariants as refusals
 use Rattle.ioa_lex.specs.Tokens.{Tok}

@@ -1,5 +1,5 @@
 -- Trees without places in memory and without lines: what grammar, well-formedness and meaning speak of.
-use Rattle.std.specs.Prelude.{ℕ, ◌+◌, max, Bool, List, [], ◌∷◌, Option, map, fold}
+use Rattle.std.specs.Prelude.{ℕ, Bool, List, Option}
 use Rattle.ioa_value.specs.Actions.{Name}
 use Rattle.ioa_syntax.specs.declared.tree.Operator.{Operator}
 use Rattle.ioa_syntax.specs.declared.tree.Kind.{Kind}

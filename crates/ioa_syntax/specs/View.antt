@@ -1,5 +1,5 @@
 -- The tree that a value of the program is: no places in memory, no lines.
-use Rattle.std.specs.Prelude.{List, map, Option, Some, None}
+use Rattle.std.specs.Prelude.{List, map}
 use Rattle.std.specs.Option.{option_map}
 use Rattle.std.specs.String.{string_bytes}
 use Rattle.ioa_value.specs.Actions as actions

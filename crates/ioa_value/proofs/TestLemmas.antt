@@ -1,5 +1,5 @@
 -- The test of a value's type decides the fact.
-use Rattle.std.proofs.Common.{◌≡◌, ℕ, ◌↔◌, ◌==◌, ◌&&◌, Bool, true, false, IsTrue, ℤ, List, [], ◌∷◌, refl, arith, rules}
+use Rattle.std.proofs.Common.{ℕ, ◌↔◌, ◌==◌, ◌&&◌, Bool, true, false, IsTrue, List, [], ◌∷◌, refl, arith}
 use Rattle.std.proofs.lemmas.Bool.Decides.{nat_tests}
 use Rattle.ioa_value.specs.Arithmetic.{fits}
 use Rattle.ioa_value.specs.Plain.{Val, truth, num, name, tuple, items}

@@ -1,4 +1,4 @@
-use Rattle.std.proofs.Common.{rules, arith, sym, ◌∙◌}
+use Rattle.std.proofs.Common.{sym, ◌∙◌}
 use Rattle.ioa_lex.specs.declared.terminal.Terminal.TheVariants as terminals
 use Rattle.ioa_syntax.specs.Reading.{always, expression}
 use Rattle.ioa_syntax.specs.View.{expr_of}

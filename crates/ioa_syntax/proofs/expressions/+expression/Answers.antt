@@ -1,5 +1,5 @@
-use Rattle.std.proofs.Common.{rules, arith, ◌≡◌, ◌≤◌, ◌-◌, ◌∙◌, Some, Ok, Result, ap, sym, subst}
-use Rattle.ioa_lex.specs.Tokens.{tokens_shown, Tok}
+use Rattle.std.proofs.Common.{rules, arith, ◌≡◌, ◌≤◌, ◌∙◌, Some, ap, sym, subst}
+use Rattle.ioa_lex.specs.Tokens.{tokens_shown}
 use Rattle.ioa_syntax.specs.Reading as spec
 use Rattle.ioa_syntax.specs.Tree.{Expr}
 use Rattle.ioa_syntax.specs.View.{expr_of}

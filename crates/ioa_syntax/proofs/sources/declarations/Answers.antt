@@ -1,4 +1,4 @@
-use Rattle.std.proofs.Common.{rules, arith, sym, ◌∙◌, subst, Result}
+use Rattle.std.proofs.Common.{sym, ◌∙◌, subst, Result}
 use Rattle.ioa_lex.specs.declared.refusal.Refusal.{Refusal}
 use Rattle.ioa_lex.specs.Tokens.{tokens_shown}
 use Rattle.ioa_syntax.specs.Tree.{SourceTree}
