@@ -1,6 +1,5 @@
 -- The names of the global space, as they are gathered.
-use Rattle.std.proofs.Common.{◌≡◌, ℕ, ◌+◌, ◌<◌, Bool, true, false, not, cond, List, [], ◌∷◌, ◌++◌, map, take, drop, length, get_or, refl, sym, ap, ◌∙◌, arith}
-use Rattle.std.proofs.lemmas.Grind.{common_steps}
+use Rattle.std.proofs.Common.{◌≡◌, ℕ, ◌+◌, ◌<◌, Bool, true, false, not, cond, List, [], ◌∷◌, ◌++◌, map, take, drop, length, get_or, refl, sym, ap, ◌∙◌}
 use Rattle.std.specs.List.{list_any}
 use Rattle.std.specs.Str.{bytes_eq}
 use Rattle.std.proofs.lemmas.Bool.{not_from_false, and_from}
@@ -13,6 +12,7 @@ use Rattle.ioa_syntax.specs.View.{declaration_of, tree_of}
 use Rattle.ioa_syntax.specs.WellFormed.{contains, distinct, declared_name, global_names}
 use Rattle.ioa_check.proofs.NameLemmas.{contains-texts, distinct-again, distinct-append}
 use Rattle.ioa_check.proofs.SayLemmas.{split-at}
+use Rattle.ioa_value.proofs.ItemLemmas.{take_item}
 
 abbrev texts_of : List (Bor (List ℕ)) → List Name
 texts_of ks = map (λ k. k.now) ks
@@ -32,9 +32,6 @@ declared-append : (xs ys : List Declaration) → declared (xs ++ ys) ≡ declare
 declared-append [] ys = refl
 declared-append (x ∷ xs) ys = ap (λ ns. declared_name (declaration_of x) ∷ ns) (declared-append xs ys)
 
-front : {X : Type 0} (xs : List X) (i : ℕ) (x : X) → i < length xs → x ≡ get_or xs i x → take (i + 1) xs ≡ take i xs ++ x ∷ []
-front xs i x l e = grind (arith, common_steps)
-
 -- a new name goes last
 pub names-grow : (ks new : List (Bor (List ℕ))) (v : Bor (List ℕ)) (b : Bool) (ds : List Declaration) (i : ℕ) (d : Declaration) → i < length ds → d ≡ get_or ds i d → v.now ≡ declared_name (declaration_of d) →
     b ≡ not (list_any (λ k. bytes_eq v.now k.now) ks) → new ≡ cond (list_any (λ k. bytes_eq v.now k.now) ks) ks (ks ++ v ∷ []) → b ≡ true →
@@ -50,7 +47,7 @@ names-grow ks new v b ds i d l e v_is added keys fresh h = (texts, once)
 
     texts : texts_of new ≡ basic_table.names ++ declared (take (i + 1) ds)
     texts = longer ∙ ap (λ ns. ns ++ v.now ∷ []) h.0 ∙ ap (λ n. (basic_table.names ++ declared (take i ds)) ++ n ∷ []) v_is
-        ∙ ap (λ ns. basic_table.names ++ ns) (sym (declared-append (take i ds) (d ∷ []))) ∙ ap (λ xs. basic_table.names ++ declared xs) (sym (front ds i d l e))
+        ∙ ap (λ ns. basic_table.names ++ ns) (sym (declared-append (take i ds) (d ∷ []))) ∙ ap (λ xs. basic_table.names ++ declared xs) (sym (take_item ds i d l e))
 
     once : distinct (texts_of new) ≡ true
     once = ap distinct longer ∙ distinct-append (texts_of ks) (v.now ∷ [])

@@ -1,10 +1,11 @@
 -- What an answer says about tests that are joined.
-use Rattle.std.proofs.Common.{◌≡◌, ℕ, ◌+◌, ◌<◌, Bool, true, false, ◌&&◌, List, ◌∷◌, map, drop, length, get_or, take, ◌++◌, suc, Result, Ok, Err, IsErr, sym, ap, subst, ◌∙◌, add-one, drop-cons, take-append-drop, ◌≤◌}
+use Rattle.std.proofs.Common.{◌≡◌, ℕ, ◌+◌, ◌<◌, Bool, true, false, ◌&&◌, List, ◌∷◌, map, drop, length, get_or, take, ◌++◌, Result, Ok, Err, IsErr, sym, ap, subst, ◌∙◌, take-append-drop, ◌≤◌}
 use Rattle.std.proofs.lemmas.List.{drop_all}
 use Rattle.std.specs.List.{list_all}
 use Rattle.std.proofs.lemmas.Bool.{and_left, and_right, and_from}
 use Rattle.ioa_lex.specs.declared.refusal.Refusal.{Refusal}
 use Rattle.ioa_check.specs.Verdicts.{Says}
+use Rattle.ioa_value.proofs.ItemLemmas.{drop_item}
 
 -- the last of two tests decides
 pub says-last : {T : Type 0} (r : Result T Refusal) (a b : Bool) → a ≡ true → Says r b → Says r (a && b)
@@ -20,20 +21,17 @@ says-first (Err x) a b e h = (h.0, and_left a b h.1)
 pub says-at : {T : Type 0} (r : Result T Refusal) (a b : Bool) → a ≡ b → Says r a → Says r b
 says-at {T} r a b e h = let P : Bool → Type 0 = λ c. Says r c in subst P e h
 
-pub turned : {X : Type 0} (xs : List X) (i : ℕ) (x : X) → i < length xs → x ≡ get_or xs i x → drop i xs ≡ x ∷ drop (i + 1) xs
-turned xs i x l e = drop-cons xs i x l ∙ ap (λ y. y ∷ drop (suc i) xs) (sym e) ∙ ap (λ n. x ∷ drop n xs) (sym (add-one i))
-
 pub split-at : {X : Type 0} (xs : List X) (i : ℕ) (x : X) → i < length xs → x ≡ get_or xs i x → take i xs ++ x ∷ drop (i + 1) xs ≡ xs
-split-at xs i x l e = ap (λ ys. take i xs ++ ys) (sym (turned xs i x l e)) ∙ take-append-drop i xs
+split-at xs i x l e = ap (λ ys. take i xs ++ ys) (sym (drop_item xs i x l e)) ∙ take-append-drop i xs
 
 -- a loop over a list's tests: where one fails, and where it goes on
 pub all-fails : {X Y : Type 0} (f : Y → Bool) (v : X → Y) (xs ys : List X) (i : ℕ) (x : X) → ys ≡ xs → i < length ys → x ≡ get_or ys i x → list_all f (map v (drop i xs)) ≡ list_all f (map v xs) → f (v x) ≡ false → list_all f (map v xs) ≡ false
 all-fails f v xs ys i x q l e h k =
-    sym h ∙ ap (λ zs. list_all f (map v (drop i zs))) (sym q) ∙ ap (λ zs. list_all f (map v zs)) (turned ys i x l e) ∙ ap (λ b. b && list_all f (map v (drop (i + 1) ys))) k
+    sym h ∙ ap (λ zs. list_all f (map v (drop i zs))) (sym q) ∙ ap (λ zs. list_all f (map v zs)) (drop_item ys i x l e) ∙ ap (λ b. b && list_all f (map v (drop (i + 1) ys))) k
 
 pub all-goes-on : {X Y : Type 0} (f : Y → Bool) (v : X → Y) (xs ys : List X) (i : ℕ) (x : X) → ys ≡ xs → i < length ys → x ≡ get_or ys i x → list_all f (map v (drop i xs)) ≡ list_all f (map v xs) → f (v x) ≡ true → list_all f (map v (drop (i + 1) xs)) ≡ list_all f (map v xs)
 all-goes-on f v xs ys i x q l e h k =
-    ap (λ zs. list_all f (map v (drop (i + 1) zs))) (sym q) ∙ sym (ap (λ b. b && list_all f (map v (drop (i + 1) ys))) k) ∙ sym (ap (λ zs. list_all f (map v zs)) (turned ys i x l e))
+    ap (λ zs. list_all f (map v (drop (i + 1) zs))) (sym q) ∙ sym (ap (λ b. b && list_all f (map v (drop (i + 1) ys))) k) ∙ sym (ap (λ zs. list_all f (map v zs)) (drop_item ys i x l e))
     ∙ ap (λ zs. list_all f (map v (drop i zs))) q ∙ h
 
 -- an error at one item is one for the list

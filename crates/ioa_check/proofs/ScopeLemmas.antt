@@ -11,8 +11,8 @@ use Rattle.ioa_check.specs.declared.scope.Scope.{Scope}
 use Rattle.ioa_check.specs.Scopes.{context}
 use Rattle.ioa_check.specs.Fields.{field_in, type_under}
 use Rattle.ioa_syntax.specs.View.{variable_of, position_of}
-use Rattle.ioa_check.proofs.SayLemmas.{turned}
 use Rattle.ioa_check.proofs.ViewLemmas.{fields-of_variables, fields-of_positions}
+use Rattle.ioa_value.proofs.ItemLemmas.{drop_item}
 
 pub type_in-append : (c d : Context) (x : Name) → type_in (c ++ d) x ≡ option_or (type_in c x) (type_in d x)
 type_in-append [] d x = refl
@@ -35,11 +35,11 @@ type_in-field f fs x = split (type_named basic_table f.ty) (bytes_eq f.name x) r
 -- a loop over fields goes on past one that has not this name, or no type
 pub types-go-on : {T : Type 0} (tree : T → FieldTree) (xs : List T) (i : ℕ) (y : T) (x : Name) → i < length xs → y ≡ get_or xs i y → type_in (context_of basic_table (map tree (drop i xs))) x ≡ type_in (context_of basic_table (map tree xs)) x → type_under (tree y) x ≡ None → type_in (context_of basic_table (map tree (drop (i + 1) xs))) x ≡ type_in (context_of basic_table (map tree xs)) x
 types-go-on tree xs i y x l e h k =
-    sym (ap (λ zs. type_in (context_of basic_table (map tree zs)) x) (turned xs i y l e) ∙ type_in-field (tree y) (map tree (drop (i + 1) xs)) x ∙ ap (λ o. option_or o (type_in (context_of basic_table (map tree (drop (i + 1) xs))) x)) k) ∙ h
+    sym (ap (λ zs. type_in (context_of basic_table (map tree zs)) x) (drop_item xs i y l e) ∙ type_in-field (tree y) (map tree (drop (i + 1) xs)) x ∙ ap (λ o. option_or o (type_in (context_of basic_table (map tree (drop (i + 1) xs))) x)) k) ∙ h
 
 pub types-stop : {T : Type 0} (tree : T → FieldTree) (xs : List T) (i : ℕ) (y : T) (x : Name) (n : ℕ) → i < length xs → y ≡ get_or xs i y → type_in (context_of basic_table (map tree (drop i xs))) x ≡ type_in (context_of basic_table (map tree xs)) x → type_under (tree y) x ≡ Some n → Some n ≡ type_in (context_of basic_table (map tree xs)) x
 types-stop tree xs i y x n l e h k =
-    sym (ap (λ zs. type_in (context_of basic_table (map tree zs)) x) (turned xs i y l e) ∙ type_in-field (tree y) (map tree (drop (i + 1) xs)) x ∙ ap (λ o. option_or o (type_in (context_of basic_table (map tree (drop (i + 1) xs))) x)) k) ∙ h
+    sym (ap (λ zs. type_in (context_of basic_table (map tree zs)) x) (drop_item xs i y l e) ∙ type_in-field (tree y) (map tree (drop (i + 1) xs)) x ∙ ap (λ o. option_or o (type_in (context_of basic_table (map tree (drop (i + 1) xs))) x)) k) ∙ h
 
 chained : (a b c : Context) (x : Name) → type_in ((a ++ b) ++ c) x ≡ option_or (option_or (type_in a x) (type_in b x)) (type_in c x)
 chained a b c x = type_in-append (a ++ b) c x ∙ ap (λ o. option_or o (type_in c x)) (type_in-append a b x)

@@ -35,7 +35,6 @@ use Rattle.ioa_compile.specs.Scopes.{Scope, scope_of}
 use Rattle.ioa_compile.specs.Placed.{HasStmts}
 use Rattle.ioa_compile.specs.Matching.{AreTypesOf}
 use Rattle.ioa_compile.specs.Translated.{IsGuard, IsGuardFor, codes_of, IsEntryOf, IsTranslated}
-use Rattle.ioa_compile.proofs.Paired.{both}
 use Rattle.ioa_compile.proofs.Looks.{look, values_look, or_else-none, stands, look_outside, look_inside, outside_both, distinct_apart, apart_outside}
 use Rattle.ioa_compile.proofs.Fits.{have_long, types_long, position_names, fit_have, have_fit}
 use Rattle.ioa_compile.proofs.Fine.{Setting, setting, is_scope, variables_long, type_at, fine_of, guard_typed, effect_typed, GuardTyped, StmtsTyped}
@@ -43,6 +42,7 @@ use Rattle.ioa_compile.proofs.Validity.{found_slot}
 use Rattle.ioa_compile.proofs.Running as running
 use Rattle.ioa_compile.proofs.Running.{Comes, Breaks, Reaches, on, push_comes, expr_runs}
 use Rattle.ioa_compile.proofs.Twins.{Both, Neither, finds_same}
+use Rattle.std.proofs.lemmas.Bool.{and_parts}
 
 -- ---- the end of a run
 
@@ -82,7 +82,7 @@ args_typed (typed f ∷ ps) (v ∷ vs) [] h k = absurd k
 args_typed (typed f ∷ ps) (v ∷ vs) (t ∷ ts) h k =
     let one : Option ℕ → Bool = λ o. option_map_or (λ n. is_of basic_types v n) o false in
     let h2 = subst (λ o. IsTrue (one o && positions_have basic_table ps vs)) k.0 h in
-    let parts = both (is_of basic_types v t) (positions_have basic_table ps vs) h2 in
+    let parts = and_parts (is_of basic_types v t) (positions_have basic_table ps vs) h2 in
     ((is_of-HasType basic_types v t).0 parts.0, args_typed ps vs ts parts.1 k.1)
 
 module _ (m : Member) (e : EntryTree) (vs ps : List ℕ) (h : Setting m e vs ps) (args : List Val) (values : HaveTypes basic_types args ps) where
@@ -184,7 +184,7 @@ module _ (m : Member) (vs : List ℕ) (fine : IsFine m) (types : AreTypesOf (var
   all = setting m e vs (position_types c.positions) fine own types is.positions
 
   arguments : HaveTypes basic_types a.vals (position_types c.positions)
-  arguments = args_typed e.positions a.vals (position_types c.positions) (both (bytes_eq e.name a.name) (positions_have basic_table e.positions a.vals) has).1 is.positions
+  arguments = args_typed e.positions a.vals (position_types c.positions) (and_parts (bytes_eq e.name a.name) (positions_have basic_table e.positions a.vals) has).1 is.positions
 
   guard_same : (env : Env) (slots : List Val) → IsTrue (is_local (Some e.kind)) → Corresponds m.instance.automaton env slots → enabling is.transition.0.pre (environment m.instance e a.vals env) ≡ allows c.pre slots a.vals
   guard_same env slots local r =

@@ -5,8 +5,8 @@ use Rattle.std.specs.List.{find, filter, list_any}
 use Rattle.std.specs.Str.{bytes_eq}
 use Rattle.ioa_value.specs.Actions.{Name}
 use Rattle.ioa_syntax.specs.WellFormed.{contains, distinct}
-use Rattle.ioa_compile.proofs.Paired.{both}
 use Rattle.ioa_compile.proofs.Looks.{name_same, not_true}
+use Rattle.std.proofs.lemmas.Bool.{and_parts}
 
 -- the first item that passes
 pub record IsFirst {X : Type 0} (p : X → Bool) (xs : List X) (o : Option X) : Type 0 where
@@ -49,16 +49,16 @@ pub same_item : {X : Type 0} (name : X → Name) (xs : List X) (i k : ℕ) (x y 
 same_item name [] i k x y h e f g = absurd (cc)
 same_item name (z ∷ zs) zero zero x y h e f g = cc
 same_item name (z ∷ zs) zero (suc k) x y h e f g =
-    let parts = both (not (contains (map name zs) (name z))) (distinct (map name zs)) h in
+    let parts = and_parts (not (contains (map name zs) (name z))) (distinct (map name zs)) h in
     let no = not_true (contains (map name zs) (name z)) parts.0 in
     let same : z ≡ x = cc in
     let there = subst (λ n. contains (map name zs) n ≡ true) (sym g ∙ sym (ap name same)) (contains_at name zs k y f) in
     absurd (cc)
 same_item name (z ∷ zs) (suc i) zero x y h e f g =
-    let parts = both (not (contains (map name zs) (name z))) (distinct (map name zs)) h in
+    let parts = and_parts (not (contains (map name zs) (name z))) (distinct (map name zs)) h in
     let no = not_true (contains (map name zs) (name z)) parts.0 in
     let same : z ≡ y = cc in
     let there = subst (λ n. contains (map name zs) n ≡ true) (g ∙ sym (ap name same)) (contains_at name zs i x e) in
     absurd (cc)
 same_item name (z ∷ zs) (suc i) (suc k) x y h e f g =
-    same_item name zs i k x y (both (not (contains (map name zs) (name z))) (distinct (map name zs)) h).1 e f g
+    same_item name zs i k x y (and_parts (not (contains (map name zs) (name z))) (distinct (map name zs)) h).1 e f g

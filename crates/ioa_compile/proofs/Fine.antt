@@ -23,10 +23,11 @@ use Rattle.ioa_compile.specs.Scopes.{scope_of, Origin, slot, formal, parameter, 
 use Rattle.ioa_compile.specs.Emitting.{guard_nodes}
 use Rattle.ioa_compile.specs.Matching.{AreTypesOf}
 use Rattle.ioa_compile.specs.Translated.{IsEntryOf}
-use Rattle.ioa_compile.proofs.Paired.{both, all_get}
+use Rattle.ioa_compile.proofs.Paired.{all_get}
 use Rattle.ioa_compile.proofs.Looks.{look, at, stands_at, looks, Looked, same_name, name_same}
 use Rattle.ioa_compile.proofs.Fits.{fit_types, have_own, have_long, types_long, scope_look, fields_look, variables_names, position_names}
 use Rattle.ioa_compile.proofs.Finds.{IsFirst, finds, some_any, same_item}
+use Rattle.std.proofs.lemmas.Bool.{and_parts}
 
 -- ---- an automaton
 
@@ -54,19 +55,19 @@ parts g a h =
     let b7 = nat_le (length a.formals) 8 in
     let b8 = nat_le (length a.variables) 64 in
     let b9 = nat_le (length a.entries) 64 in
-    let p8 = (both (b1 && b2 && b3 && b4 && b5 && b6 && b7 && b8) b9 h).0 in
-    let p7 = both (b1 && b2 && b3 && b4 && b5 && b6 && b7) b8 p8 in
-    let p6 = (both (b1 && b2 && b3 && b4 && b5 && b6) b7 p7.0).0 in
-    let p5 = both (b1 && b2 && b3 && b4 && b5) b6 p6 in
-    let p4 = both (b1 && b2 && b3 && b4) b5 p5.0 in
-    let p3 = both (b1 && b2 && b3) b4 p4.0 in
-    let p2 = both (b1 && b2) b3 p3.0 in
-    let p1 = (both b1 b2 p2.0).0 in
+    let p8 = (and_parts (b1 && b2 && b3 && b4 && b5 && b6 && b7 && b8) b9 h).0 in
+    let p7 = and_parts (b1 && b2 && b3 && b4 && b5 && b6 && b7) b8 p8 in
+    let p6 = (and_parts (b1 && b2 && b3 && b4 && b5 && b6) b7 p7.0).0 in
+    let p5 = and_parts (b1 && b2 && b3 && b4 && b5) b6 p6 in
+    let p4 = and_parts (b1 && b2 && b3 && b4) b5 p5.0 in
+    let p3 = and_parts (b1 && b2 && b3) b4 p4.0 in
+    let p2 = and_parts (b1 && b2) b3 p3.0 in
+    let p1 = (and_parts b1 b2 p2.0).0 in
     let names = local_names t g a in
-    let f3 = both (distinct names && apart names g && list_all (is_type t) a.formals) (list_all (is_type t) (variable_fields a)) p1 in
-    let f2 = (both (distinct names && apart names g) (list_all (is_type t) a.formals) f3.0).0 in
+    let f3 = and_parts (distinct names && apart names g && list_all (is_type t) a.formals) (list_all (is_type t) (variable_fields a)) p1 in
+    let f2 = (and_parts (distinct names && apart names g) (list_all (is_type t) a.formals) f3.0).0 in
     record {
-      distinct_names = (both (distinct names) (apart names g) f2).0;
+      distinct_names = (and_parts (distinct names) (apart names g) f2).0;
       variable_types = f3.1;
       entry_names = p2.1;
       entries = p3.1;
@@ -88,10 +89,10 @@ entry_parts g a e h =
     let b1 = distinct names in
     let b2 = apart names (g ++ local_names basic_table g a) in
     let b3 = list_all (is_type basic_table) (position_fields e.positions) in
-    let p3 = both (b1 && b2 && b3) (nat_le (length e.positions) 8) h in
-    let p2 = both (b1 && b2) b3 p3.0 in
+    let p3 = and_parts (b1 && b2 && b3) (nat_le (length e.positions) 8) h in
+    let p2 = and_parts (b1 && b2) b3 p3.0 in
     record {
-      apart_names = (both b1 b2 p2.0).1;
+      apart_names = (and_parts b1 b2 p2.0).1;
       position_types = p2.1;
       few_positions = at_most (length e.positions) 8 p3.1;
     }
@@ -123,18 +124,18 @@ one_positive n h = grind (arith, nat_tests)
 
 module _ (g : List Name) (a : AutomatonTree) (p : Parts g a) (e : EntryTree) (i : ℕ) (here : slice_get a.entries i ≡ Some e) where
   each_one : IsTrue (list_all (λ e. length (filter (matches basic_table g a e) a.transitions) == 1) a.entries) × IsTrue (list_all (λ r. list_any (λ e. matches basic_table g a e r) a.entries) a.transitions)
-  each_one = both _ _ p.one_each
+  each_one = and_parts _ _ p.one_each
 
   first_named : IsFirst (λ t. bytes_eq t.name e.name) a.transitions (transition_for a e)
   first_named =
       let one = all_get (λ e. length (filter (matches basic_table g a e) a.transitions) == 1) a.entries i e each_one.0 here in
-      finds (λ t. bytes_eq t.name e.name) (matches basic_table g a e) (λ r h. name_same r.name e.name (sym (same_name e.name r.name (both (same_kind e.kind r.kind) (bytes_eq e.name r.name) h).1))) a.transitions (one_positive (length (filter (matches basic_table g a e) a.transitions)) one)
+      finds (λ t. bytes_eq t.name e.name) (matches basic_table g a e) (λ r h. name_same r.name e.name (sym (same_name e.name r.name (and_parts (same_kind e.kind r.kind) (bytes_eq e.name r.name) h).1))) a.transitions (one_positive (length (filter (matches basic_table g a e) a.transitions)) one)
 
   pub transition_found : Found g a e
   transition_found =
       let t = first_named.item in
       let owner = some_any (λ e. matches basic_table g a e t) a.entries (all_get (λ r. list_any (λ e. matches basic_table g a e r) a.entries) a.transitions first_named.place t each_one.1 first_named.here) in
-      let its_name = (both (same_kind owner.0.kind t.kind) (bytes_eq owner.0.name t.name) owner.3).1 in
+      let its_name = (and_parts (same_kind owner.0.kind t.kind) (bytes_eq owner.0.name t.name) owner.3).1 in
       let names : owner.0.name ≡ e.name = same_name owner.0.name t.name its_name ∙ same_name t.name e.name first_named.passes in
       let same = same_item (λ e. e.name) a.entries owner.1 i owner.0 e p.entry_names owner.2 here names in
       let match : matches basic_table g a e t ≡ true = subst (λ (x : EntryTree). matches basic_table g a x t ≡ true) same owner.3 in
@@ -169,7 +170,7 @@ module _ (g : List Name) (a : AutomatonTree) (e : EntryTree) where
   guard_tests : (o : Option Expr) → IsTrue (option_map_or (λ p. is_some_of (type_of (scope basic_table g a e) p) 0 && nat_le (nodes p) 4096) o true) → GuardTyped (scope basic_table g a e) o
   guard_tests None h = tt
   guard_tests (Some p) h =
-      let parts = both (is_some_of (type_of (scope basic_table g a e) p) 0) (nat_le (nodes p) 4096) h in
+      let parts = and_parts (is_some_of (type_of (scope basic_table g a e) p) 0) (nat_le (nodes p) 4096) h in
       (some_of (type_of (scope basic_table g a e) p) 0 parts.0, at_most (nodes p) 4096 parts.1)
 
   none_typed : (o : Option Expr) → IsTrue (option_map_or (λ p. false) o true) → GuardTyped (scope basic_table g a e) o
@@ -177,13 +178,13 @@ module _ (g : List Name) (a : AutomatonTree) (e : EntryTree) where
   none_typed (Some p) h = absurd (cc)
 
   guard_cases : (b : Bool) (r : TransitionTree) → IsTrue (if b then input_fine basic_table g a r else pre_fine basic_table g a e r && proposals_fine basic_table g a e r && all_proposed basic_table g a e r) → GuardTyped (scope basic_table g a e) r.pre
-  guard_cases true r h = none_typed r.pre (both (option_map_or (λ p. false) r.pre true) (length r.proposals == 0) h).0
+  guard_cases true r h = none_typed r.pre (and_parts (option_map_or (λ p. false) r.pre true) (length r.proposals == 0) h).0
   guard_cases false r h =
       let q = pre_fine basic_table g a e r in
-      guard_tests r.pre (both q (proposals_fine basic_table g a e r) (both (q && proposals_fine basic_table g a e r) (all_proposed basic_table g a e r) h).0).0
+      guard_tests r.pre (and_parts q (proposals_fine basic_table g a e r) (and_parts (q && proposals_fine basic_table g a e r) (all_proposed basic_table g a e r) h).0).0
 
   pub guard_typed : (r : TransitionTree) → IsTrue (transition_fine basic_table g a e r) → GuardTyped (scope basic_table g a e) r.pre
-  guard_typed r h = guard_cases (is_input r.kind) r (both (effect_fine basic_table g a e r) _ h).1
+  guard_typed r h = guard_cases (is_input r.kind) r (and_parts (effect_fine basic_table g a e r) _ h).1
 
   stmt_tests : (s : Stmt) → IsTrue (stmt_fine basic_table g a e s) → StmtTyped (scope basic_table g a e) (context_of basic_table (variable_fields a)) s
   stmt_tests (assign x v) h = go (type_in (context_of basic_table (variable_fields a)) x) refl h
@@ -195,12 +196,12 @@ module _ (g : List Name) (a : AutomatonTree) (e : EntryTree) where
   stmts_tests : (ss : List Stmt) → IsTrue (list_all (stmt_fine basic_table g a e) ss) → StmtsTyped (scope basic_table g a e) (context_of basic_table (variable_fields a)) ss
   stmts_tests [] h = tt
   stmts_tests (s ∷ ss) h =
-      let parts = both (stmt_fine basic_table g a e s) (list_all (stmt_fine basic_table g a e) ss) h in
+      let parts = and_parts (stmt_fine basic_table g a e s) (list_all (stmt_fine basic_table g a e) ss) h in
       (stmt_tests s parts.0, stmts_tests ss parts.1)
 
   pub effect_typed : (r : TransitionTree) → IsTrue (transition_fine basic_table g a e r) → StmtsTyped (scope basic_table g a e) (context_of basic_table (variable_fields a)) r.effect × (sum (map stmt_nodes r.effect) ≤ 4096)
   effect_typed r h =
-      let parts = both (list_all (stmt_fine basic_table g a e) r.effect) (nat_le (sum (map stmt_nodes r.effect)) 4096) (both (effect_fine basic_table g a e r) _ h).0 in
+      let parts = and_parts (list_all (stmt_fine basic_table g a e) r.effect) (nat_le (sum (map stmt_nodes r.effect)) 4096) (and_parts (effect_fine basic_table g a e r) _ h).0 in
       (stmts_tests r.effect parts.0, at_most (sum (map stmt_nodes r.effect)) 4096 parts.1)
 
 pub guard_few : (c : Context) (o : Option Expr) → GuardTyped c o → guard_nodes o ≤ 4096

@@ -4,7 +4,7 @@ use Rattle.std.specs.Prelude.{slice_get}
 use Rattle.std.specs.Option.{option_map_or}
 use Rattle.std.specs.Str.{bytes_eq}
 use Rattle.ioa_value.specs.Actions.{Name}
-use Rattle.ioa_value.specs.Plain.{Val, truth, num, name, tuple, items}
+use Rattle.ioa_value.specs.Plain.{Val}
 use Rattle.ioa_value.specs.Typing.{Shape, HasType, HaveTypes, basic_types, own}
 use Rattle.ioa_value.specs.Tests.{is_of}
 use Rattle.ioa_value.proofs.TestLemmas.{is_of-HasType}
@@ -17,18 +17,13 @@ use Rattle.ioa_syntax.specs.WellFormed.{Context, type_in, context_of, position_f
 use Rattle.ioa_compile.specs.Scopes.{scope_of}
 use Rattle.ioa_compile.specs.Matching.{AreTypesOf}
 use Rattle.ioa_compile.proofs.Looks.{look, stands, or_else-assoc}
-use Rattle.ioa_compile.proofs.Paired.{both, map-twice}
+use Rattle.ioa_compile.proofs.Paired.{map-twice}
 use Rattle.ioa_syntax.specs.Answers.{Stands}
-
-pub own_is : (types : List Shape) (v : Val) (ty : ℕ) → HasType types v ty → own v ≡ ty
-own_is types (truth b) ty h = sym h
-own_is types (num z) ty h = sym h.0
-own_is types (name t n) ty h = absurd h
-own_is types (tuple t vs) ty h = absurd h
-own_is types (items t vs) ty h = absurd h
+use Rattle.ioa_syntax.proofs.ValTyped.{own_type}
+use Rattle.std.proofs.lemmas.Bool.{and_parts}
 
 pub has_own : (types : List Shape) (v : Val) (ty : ℕ) → HasType types v ty → HasType types v (own v)
-has_own types v ty h = subst (HasType types v) (sym (own_is types v ty h)) h
+has_own types v ty h = subst (HasType types v) (sym (own_type types v ty h)) h
 
 pub have_own : (types : List Shape) (vs : List Val) (tys : List ℕ) → HaveTypes types vs tys → OwnTypes types vs
 have_own types [] [] h = tt
@@ -56,7 +51,7 @@ fit_types [] (v ∷ vs) h = absurd h
 fit_types (f ∷ fs) [] h = absurd h
 fit_types (f ∷ fs) (v ∷ vs) h =
     let rest = fit_types fs vs h.3 in
-    let is = both (is_of basic_types v h.0) true h.2 in
+    let is = and_parts (is_of basic_types v h.0) true h.2 in
     (h.0 ∷ rest.0, (h.1, rest.1), ((is_of-HasType basic_types v h.0).0 is.0, rest.2))
 
 some_same : {X : Type 0} (o : Option X) (x y : X) → o ≡ Some x → o ≡ Some y → x ≡ y
@@ -69,7 +64,7 @@ fit_have [] (v ∷ vs) tys h k = absurd h
 fit_have (f ∷ fs) [] tys h k = absurd h
 fit_have (f ∷ fs) (v ∷ vs) [] h k = absurd k
 fit_have (f ∷ fs) (v ∷ vs) (t ∷ ts) h k =
-    let is = both (is_of basic_types v h.0) true h.2 in
+    let is = and_parts (is_of basic_types v h.0) true h.2 in
     let same = some_same (type_named basic_table f.ty) h.0 t h.1 k.0 in
     (subst (HasType basic_types v) same ((is_of-HasType basic_types v h.0).0 is.0), fit_have fs vs ts h.3 k.1)
 

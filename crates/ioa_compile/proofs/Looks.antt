@@ -12,7 +12,7 @@ use Rattle.ioa_syntax.specs.Instances.{place_from}
 use Rattle.ioa_syntax.specs.WellFormed.{contains, distinct, apart}
 use Rattle.ioa_compile.specs.Scopes.{Scope, Origin, slot, formal, parameter, unknown, origin}
 use Rattle.ioa_compile.proofs.Named.{place_from_below}
-use Rattle.ioa_compile.proofs.Paired.{both}
+use Rattle.std.proofs.lemmas.Bool.{and_parts}
 
 pub same_name : (x y : Name) → bytes_eq x y ≡ true → x ≡ y
 same_name x y e = (bytes_eq-Decides x y).0 e
@@ -135,7 +135,7 @@ outside_both ms bs x h = or_false (contains ms x) (contains bs x) (sym (list_any
 pub distinct_apart : (ms bs : List Name) (x : Name) → IsTrue (distinct (ms ++ bs)) → contains ms x ≡ true → contains bs x ≡ false
 distinct_apart [] bs x h e = absurd (cc)
 distinct_apart (n ∷ ms) bs x h e =
-    let parts = both (not (contains (ms ++ bs) n)) (distinct (ms ++ bs)) h in
+    let parts = and_parts (not (contains (ms ++ bs) n)) (distinct (ms ++ bs)) h in
     go (bytes_eq n x) refl e (not_true (contains (ms ++ bs) n) parts.0) (distinct_apart ms bs x parts.1)
   where
     go : (b : Bool) → bytes_eq n x ≡ b → (b || contains ms x) ≡ true → contains (ms ++ bs) n ≡ false → (contains ms x ≡ true → contains bs x ≡ false) → contains bs x ≡ false
@@ -145,7 +145,7 @@ distinct_apart (n ∷ ms) bs x h e =
 pub apart_outside : (ns ms : List Name) (x : Name) → IsTrue (apart ns ms) → contains ns x ≡ true → contains ms x ≡ false
 apart_outside [] ms x h e = absurd (cc)
 apart_outside (n ∷ ns) ms x h e =
-    let parts = both (not (contains ms n)) (apart ns ms) h in
+    let parts = and_parts (not (contains ms n)) (apart ns ms) h in
     go (bytes_eq n x) refl e (not_true (contains ms n) parts.0) (apart_outside ns ms x parts.1)
   where
     go : (b : Bool) → bytes_eq n x ≡ b → (b || contains ns x) ≡ true → contains ms n ≡ false → (contains ns x ≡ true → contains ms x ≡ false) → contains ms x ≡ false

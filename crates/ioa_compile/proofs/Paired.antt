@@ -1,5 +1,5 @@
 -- Lists whose items are related place by place.
-use Rattle.std.proofs.Common.{◌≡◌, ℕ, zero, suc, ◌+◌, ◌<◌, ◌≤◌, Bool, true, false, ◌&&◌, IsTrue, List, [], ◌∷◌, ◌++◌, length, map, take, get_or, Some, refl, sym, ap, ◌∙◌, subst}
+use Rattle.std.proofs.Common.{◌≡◌, ℕ, zero, suc, ◌+◌, ◌<◌, ◌≤◌, Bool, IsTrue, List, [], ◌∷◌, ◌++◌, length, map, take, get_or, Some, refl, sym, ap, ◌∙◌, subst}
 use Rattle.std.specs.Prelude.{slice_get}
 use Rattle.std.specs.List.{AllZip, list_all}
 use Rattle.std.proofs.lemmas.List.{take_more, take_all, map-append}
@@ -15,6 +15,7 @@ use Rattle.ioa_compile.specs.declared.table.Position.TheVariants.{Typed}
 use Rattle.ioa_compile.specs.Shown.{position_code}
 use Rattle.ioa_compile.specs.Tables.{position_types}
 use Rattle.ioa_compile.specs.Translated.{position_field}
+use Rattle.std.proofs.lemmas.Bool.{and_parts}
 
 -- one item more of each
 pub paired_next : {A B X Y : Type 0} (R : X → Y → Type 0) (f : A → X) (g : B → Y) (xs : List A) (i : ℕ) (x : A) (ys zs : List B) (y : B) → i < length xs → x ≡ get_or xs i x → zs ≡ ys ++ y ∷ [] → R (f x) (g y) → AllZip R (map f (take i xs)) (map g ys) → AllZip R (map f (take (i + 1) xs)) (map g zs)
@@ -32,16 +33,11 @@ pub map-twice : {A B C : Type 0} (g : B → C) (f : A → B) (xs : List A) → m
 map-twice g f [] = refl
 map-twice g f (x ∷ xs) = ap (λ l. g (f x) ∷ l) (map-twice g f xs)
 
-pub both : (a b : Bool) → IsTrue (a && b) → IsTrue a × IsTrue b
-both true true h = (refl, refl)
-both true false h = absurd (cc)
-both false b h = absurd (cc)
-
 -- what a test says of one item
 pub all_get : {X : Type 0} (p : X → Bool) (xs : List X) (i : ℕ) (x : X) → IsTrue (list_all p xs) → slice_get xs i ≡ Some x → IsTrue (p x)
 all_get p [] i x h e = absurd (cc)
-all_get p (y ∷ ys) zero x h e = let same : y ≡ x = cc in subst (λ w. IsTrue (p w)) same (both (p y) (list_all p ys) h).0
-all_get p (y ∷ ys) (suc i) x h e = all_get p ys i x (both (p y) (list_all p ys) h).1 e
+all_get p (y ∷ ys) zero x h e = let same : y ≡ x = cc in subst (λ w. IsTrue (p w)) same (and_parts (p y) (list_all p ys) h).0
+all_get p (y ∷ ys) (suc i) x h e = all_get p ys i x (and_parts (p y) (list_all p ys) h).1 e
 
 pub fields-map : (ps : List PositionTree) → position_fields ps ≡ map position_field ps
 fields-map [] = refl

@@ -23,12 +23,12 @@ use Rattle.ioa_syntax.specs.Instances.{basic_table, place_from}
 use Rattle.ioa_syntax.specs.Compositions.{Member}
 use Rattle.ioa_syntax.specs.WellFormed.{Context, type_in, type_of, scope, context_of, variable_fields}
 use Rattle.ioa_syntax.specs.Answers.{Stands}
-use Rattle.ioa_syntax.proofs.ValTyped.{types_of_both}
+use Rattle.ioa_syntax.proofs.ValTyped.{types_of_both, own_type}
 use Rattle.ioa_compile.specs.Scopes.{Scope, scope_of, Origin, slot, formal, parameter, unknown, origin}
 use Rattle.ioa_compile.specs.Placed.{Pushes, Brings, HasExpr, HasGuard, HasStmt, HasStmts}
 use Rattle.ioa_compile.specs.Translated.{IsGuard, IsEffect}
 use Rattle.ioa_compile.proofs.Looks.{at}
-use Rattle.ioa_compile.proofs.Fits.{have_at, own_is}
+use Rattle.ioa_compile.proofs.Fits.{have_at}
 use Rattle.ioa_compile.proofs.Fine.{Setting, type_at, variable_at, GuardTyped, StmtTyped, StmtsTyped}
 use Rattle.ioa_compile.proofs.Blocks.{Block, none, one, join, valid}
 
@@ -58,7 +58,7 @@ module _ (part : Part) (s : Scope) (c : Context) (vs fs ps : List ℕ) (h : Read
 
   given_own : (o : Option Val) (v : Val) (ty : ℕ) → o ≡ Some v → Stands basic_types ty o → own v ≡ ty
   given_own None v ty e k = absurd (cc)
-  given_own (Some w) v ty e k = let same : w ≡ v = cc in own_is basic_types v ty (subst (λ x. HasType basic_types x ty) same k)
+  given_own (Some w) v ty e k = let same : w ≡ v = cc in own_type basic_types v ty (subst (λ x. HasType basic_types x ty) same k)
 
   brings_block : (p : ℕ) (o : Origin) (ty : ℕ) (ts : List ℕ) → at o vs fs ps ≡ Some ty → Brings part.code s p o → Block part p (p + 1) ts (ts ++ ty ∷ [])
   brings_block p (slot i) ty ts e k =

@@ -1,6 +1,5 @@
 -- What the compiler makes of an entry and of a component.
 use Rattle.std.specs.Prelude.{◌≡◌, ℕ, List, [], ◌∷◌, length, Option, Some, None, IfSome, slice_get}
-use Rattle.std.specs.List.{AllZip}
 use Rattle.ioa_value.specs.Typing.{HaveTypes, basic_types}
 use Rattle.ioa_code.specs.declared.instr.PartKind.{PartKind}
 use Rattle.ioa_code.specs.declared.instr.PartKind.TheVariants.{Pre, Eff}

@@ -1,5 +1,5 @@
 -- Components on the way.
-use Rattle.std.proofs.Common.{◌≡◌, ℕ, zero, suc, ◌+◌, ◌<◌, Bool, true, false, ◌&&◌, List, [], ◌∷◌, ◌++◌, map, take, length, get_or, IfErr, Option, Some, None, Result, Ok, Err, refl, sym, ap, subst, ◌∙◌, arith, slice_get, inl}
+use Rattle.std.proofs.Common.{◌≡◌, ℕ, zero, suc, ◌+◌, ◌<◌, true, false, List, [], ◌∷◌, ◌++◌, map, take, length, get_or, IfErr, Option, Some, None, Result, Ok, Err, refl, sym, ap, subst, ◌∙◌, arith, slice_get, inl}
 use Rattle.std.specs.Option.{option_map_or}
 use Rattle.ioa_value.specs.declared.value.Value.{Value}
 use Rattle.std.proofs.lemmas.Bool.{and_parts, and_from, both_ways}
@@ -20,14 +20,11 @@ use Rattle.ioa_compose.specs.Bindings.{fit, instance_with, instance_in, IsReady,
 use Rattle.ioa_compose.specs.declared.binding.Binding.{Binding}
 use Rattle.ioa_compose.specs.declared.member.Member as held
 use Rattle.ioa_compose.specs.Held.{member_of}
-use Rattle.ioa_compose.proofs.ListLemmas.{front}
 use Rattle.ioa_syntax.specs.WellFormed.{automaton_fine}
 use Rattle.ioa_compose.specs.Clashes.{all_alike}
 use Rattle.ioa_compose.specs.Refusals.{IsRefused, IsRefusedAt, FaultsAt, FaultsIn, Misfits}
-
-both_false : (a b : Bool) → false ≡ b → false ≡ a && b
-both_false true b e = e
-both_false false b e = refl
+use Rattle.ioa_value.proofs.ItemLemmas.{take_item}
+use Rattle.ioa_value.proofs.SameLemmas.{both_false}
 
 pub uneven-fit : (fs : List Field) (vs : List Value) → (length fs ≡ length vs → ⊥) → false ≡ fit (map field_of fs) (map plain vs)
 uneven-fit [] [] e = absurd (e refl)
@@ -93,7 +90,7 @@ bound-push s is k i bs new b l e n h g =
     let P : List InstanceTree → Type 0 = λ xs. AreBound s xs (map instance_in bs ++ instance_in b ∷ []) in
     let Q : List Instance → Type 0 = λ ns. AreBound s (map instance_of (take (k + 1) is)) ns in
     subst Q (sym (ap (map instance_in) n ∙ map-append instance_in bs (b ∷ [])))
-    (subst P (sym (ap (map instance_of) (front is k i l e) ∙ map-append instance_of (take k is) (i ∷ [])))
+    (subst P (sym (ap (map instance_of) (take_item is k i l e) ∙ map-append instance_of (take k is) (i ∷ [])))
     (bound-append s (map instance_of (take k is)) (map instance_in bs) (instance_of i) (instance_in b) h g))
 
 started-append : (ms : List Member) (m : Member) → AllStarted ms → start_values m.instance ≡ Ok m.starts → AllStarted (ms ++ m ∷ [])

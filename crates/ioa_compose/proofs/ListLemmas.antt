@@ -1,16 +1,13 @@
 -- Lists: the item at a loop's turn, and values before others.
-use Rattle.std.proofs.Common.{◌≡◌, ℕ, zero, suc, ◌+◌, ◌<◌, Bool, true, false, ◌&&◌, List, [], ◌∷◌, ◌++◌, map, take, drop, find, cond, slice_get, length, get_or, Option, Some, None, Result, Ok, Err, refl, sym, ap, subst, ◌∙◌, add-one, arith, drop-cons, append_assoc}
+use Rattle.std.proofs.Common.{◌≡◌, ℕ, zero, suc, ◌+◌, ◌<◌, Bool, true, false, ◌&&◌, List, [], ◌∷◌, ◌++◌, map, take, drop, find, cond, slice_get, length, get_or, Option, Some, None, Result, Ok, Err, refl, sym, ap, subst, ◌∙◌, arith, append_assoc}
 use Rattle.std.specs.List.{list_all}
 use Rattle.std.specs.Option.{option_map_or}
-use Rattle.std.proofs.lemmas.Grind.{common_steps}
 use Rattle.std.proofs.lemmas.List.{map-append}
 use Rattle.std.proofs.lemmas.Bool.{and_parts}
 use Rattle.ioa_value.specs.declared.arithmetic.Fault.{Fault}
 use Rattle.ioa_value.specs.Plain.{Val}
 use Rattle.ioa_syntax.specs.Instances.{all_values, with_value}
-
-pub turned : {X : Type 0} (xs : List X) (i : ℕ) (x : X) → i < length xs → x ≡ get_or xs i x → drop i xs ≡ x ∷ drop (i + 1) xs
-turned xs i x l e = drop-cons xs i x l ∙ ap (λ y. y ∷ drop (suc i) xs) (sym e) ∙ ap (λ n. x ∷ drop n xs) (sym (add-one i))
+use Rattle.ioa_value.proofs.ItemLemmas.{drop_item, take_item}
 
 -- each item of a list that passes a test passes it
 pub passes-at : {X Y : Type 0} (p : Y → Bool) (f : X → Y) (xs : List X) (i : ℕ) (x : X) → list_all p (map f xs) ≡ true → i < length xs → x ≡ get_or xs i x → p (f x) ≡ true
@@ -31,12 +28,9 @@ pub prepended-one : (vs : List Val) (v : Val) (r : Result (List Val) Fault) → 
 prepended-one vs v (Ok ws) = ap (λ us. Ok us) (sym (append_assoc vs (v ∷ []) ws))
 prepended-one vs v (Err f) = refl
 
-pub front : {X : Type 0} (xs : List X) (i : ℕ) (x : X) → i < length xs → x ≡ get_or xs i x → take (i + 1) xs ≡ take i xs ++ x ∷ []
-front xs i x l e = grind (arith, common_steps)
-
 pub map-push : {A B C : Type 0} (f : A → C) (g : B → C) (xs new : List A) (a : A) (bs : List B) (i : ℕ) (b : B) → i < length bs → b ≡ get_or bs i b → new ≡ xs ++ a ∷ [] → map f xs ≡ map g (take i bs) → f a ≡ g b → map f new ≡ map g (take (i + 1) bs)
 map-push f g xs new a bs i b l e n h k =
-    ap (map f) n ∙ map-append f xs (a ∷ []) ∙ ap (λ cs. cs ++ f a ∷ []) h ∙ ap (λ c. map g (take i bs) ++ c ∷ []) k ∙ sym (map-append g (take i bs) (b ∷ [])) ∙ ap (map g) (sym (front bs i b l e))
+    ap (map f) n ∙ map-append f xs (a ∷ []) ∙ ap (λ cs. cs ++ f a ∷ []) h ∙ ap (λ c. map g (take i bs) ++ c ∷ []) k ∙ sym (map-append g (take i bs) (b ∷ [])) ∙ ap (map g) (sym (take_item bs i b l e))
 
 -- the item at a loop's turn, through a view
 pub at-map : {X Y : Type 0} (v : X → Y) (xs : List X) (i : ℕ) (x : X) → i < length xs → x ≡ get_or xs i x → slice_get (map v xs) i ≡ Some (v x)
@@ -51,7 +45,7 @@ values-go-on f view xs ys i x vs v q l e h k =
     sym (prepended-one vs v (all_values f (map view (drop (i + 1) xs))))
     ∙ ap (λ zs. prepended vs (with_value (Ok v) (all_values f (map view (drop (i + 1) zs))))) (sym q)
     ∙ ap (λ r. prepended vs (with_value r (all_values f (map view (drop (i + 1) ys))))) (sym k)
-    ∙ ap (λ zs. prepended vs (all_values f (map view zs))) (sym (turned ys i x l e))
+    ∙ ap (λ zs. prepended vs (all_values f (map view zs))) (sym (drop_item ys i x l e))
     ∙ ap (λ zs. prepended vs (all_values f (map view (drop i zs)))) q ∙ h
 
 -- a test that not all items pass fails at some
@@ -95,5 +89,5 @@ image-at f (y ∷ ys) (suc i) x e = image-at f ys i x e
 pub all-goes-on : {X Y : Type 0} (p : Y → Bool) (v : X → Y) (xs ys : List X) (i : ℕ) (x : X) (b : Bool) → ys ≡ xs → i < length ys → x ≡ get_or ys i x → p (v x) ≡ true → list_all p (map v (drop i xs)) ≡ b → list_all p (map v (drop (i + 1) xs)) ≡ b
 all-goes-on p v xs ys i x b same l e h g =
     let here : list_all p (map v (drop i ys)) ≡ b = subst (λ zs. list_all p (map v (drop i zs)) ≡ b) (sym same) g in
-    let more : list_all p (map v (x ∷ drop (i + 1) ys)) ≡ b = sym (ap (λ zs. list_all p (map v zs)) (turned ys i x l e)) ∙ here in
+    let more : list_all p (map v (x ∷ drop (i + 1) ys)) ≡ b = sym (ap (λ zs. list_all p (map v zs)) (drop_item ys i x l e)) ∙ here in
     subst (λ zs. list_all p (map v (drop (i + 1) zs)) ≡ b) same (sym (ap (λ t. t && list_all p (map v (drop (i + 1) ys))) h) ∙ more)

@@ -10,8 +10,9 @@ use Rattle.ioa_compile.specs.Programs.{MemberCode, Prog}
 use Rattle.ioa_compile.specs.Tables.{table_component}
 use Rattle.ioa_system.specs.Participants.{taken, rest, put_back, all_back, step_from}
 use Rattle.ioa_system.specs.Systems.{Running, types_of, values_of, slot_types}
-use Rattle.ioa_system.proofs.Lending.{tables, drop_read}
+use Rattle.ioa_system.proofs.Lending.{tables}
 use Rattle.ioa_system.proofs.Participating.{map_taken, map_put_back, put_back-taken, step_taken}
+use Rattle.ioa_value.proofs.ItemLemmas.{drop_item}
 
 -- what stands where the components below i have their new states, and these are to come
 pub record Puts (a : Act) (ms : List MemberCode) (old changed now ts : List Node) (i : ℕ) : Type 0 where
@@ -43,7 +44,7 @@ pub puts_not : (a : Act) (ms : List MemberCode) (old changed now ts : List Node)
 puts_not a ms old changed now ts i x p l e h =
     let b : i < length now = let c : length now ≡ length ms = p.count in omega arith in
     let y : Node = get_or now i x.start in
-    let d : drop i ms ≡ x ∷ drop (i + 1) ms = drop_read ms i x l e in
+    let d : drop i ms ≡ x ∷ drop (i + 1) ms = drop_item ms i x l e in
     let n : drop i now ≡ y ∷ drop (i + 1) now = drop_more now i x.start b in
     let r : put_back a (tables (drop i ms)) (drop i now) ts ≡ y ∷ put_back a (tables (drop (i + 1) ms)) (drop (i + 1) now) ts =
     rw (d, n) (back_not a x (drop (i + 1) ms) y (drop (i + 1) now) ts h) in
@@ -57,7 +58,7 @@ pub puts_none : (a : Act) (ms : List MemberCode) (old changed now ts : List Node
 puts_none a ms old changed now ts i x p l e h z =
     let b : i < length now = let c : length now ≡ length ms = p.count in omega arith in
     let y : Node = get_or now i x.start in
-    let d : drop i ms ≡ x ∷ drop (i + 1) ms = drop_read ms i x l e in
+    let d : drop i ms ≡ x ∷ drop (i + 1) ms = drop_item ms i x l e in
     let n : drop i now ≡ y ∷ drop (i + 1) now = drop_more now i x.start b in
     let r : put_back a (tables (drop i ms)) (drop i now) ts ≡ y ∷ put_back a (tables (drop (i + 1) ms)) (drop (i + 1) now) [] =
     rw (d, n, z) (back_none a x (drop (i + 1) ms) y (drop (i + 1) now) h) in
@@ -72,7 +73,7 @@ pub puts_next : (a : Act) (ms : List MemberCode) (old changed now ts : List Node
 puts_next a ms old changed now ts i x t us p l e h z =
     let b : i < length now = let c : length now ≡ length ms = p.count in omega arith in
     let y : Node = get_or now i x.start in
-    let d : drop i ms ≡ x ∷ drop (i + 1) ms = drop_read ms i x l e in
+    let d : drop i ms ≡ x ∷ drop (i + 1) ms = drop_item ms i x l e in
     let n : drop i now ≡ y ∷ drop (i + 1) now = drop_more now i x.start b in
     let s : drop (i + 1) (set now i t) ≡ drop (i + 1) now = drop-set-lt (i + 1) now i t (omega arith) in
     let k : take (i + 1) (set now i t) ≡ take i now ++ t ∷ [] = take_more_set now i t b in

@@ -16,6 +16,7 @@ use Rattle.ioa_system.specs.declared.moves.Whose.{Whose}
 use Rattle.ioa_system.specs.Lent.{Fits, lent, place_of}
 use Rattle.ioa_system.specs.Participants.{taken, asked_of, effects_of}
 use Rattle.ioa_system.specs.Systems.{types_of, values_of, slot_types}
+use Rattle.ioa_value.proofs.ItemLemmas.{drop_item}
 
 abbrev pub tables : List MemberCode → List (Component (List Val))
 tables ms = map table_component ms
@@ -45,9 +46,6 @@ map_drop : {X Y : Type 0} (f : X → Y) (i : ℕ) (xs : List X) → drop i (map 
 map_drop f zero xs = refl
 map_drop f (suc i) [] = refl
 map_drop f (suc i) (x ∷ xs) = map_drop f i xs
-
-pub drop_read : {X : Type 0} (xs : List X) (i : ℕ) (x : X) → i < length xs → x ≡ get_or xs i x → drop i xs ≡ x ∷ drop (i + 1) xs
-drop_read xs i x l e = drop_more xs i x l ∙ ap (λ y. y ∷ drop (i + 1) xs) (sym e)
 
 pub sound_at : (ms : List MemberCode) (i : ℕ) (x : MemberCode) → AreMembers ms → i < length ms → x ≡ get_or ms i x → AreEntries x x.entries
 sound_at [] i x h l e = absurd (omega arith)
@@ -90,13 +88,13 @@ due a ms i = taken a (tables (drop i ms)) (slot_types (drop i ms))
 pub due_here : (a : Act) (ms : List MemberCode) (i : ℕ) (x : MemberCode) → i < length ms → x ≡ get_or ms i x → has a (table_component x) ≡ true
     → due a ms i ≡ x.start.types ∷ due a ms (i + 1)
 due_here a ms i x l e h =
-    let d : drop i ms ≡ x ∷ drop (i + 1) ms = drop_read ms i x l e in
+    let d : drop i ms ≡ x ∷ drop (i + 1) ms = drop_item ms i x l e in
     rw d (taken_here a x (drop (i + 1) ms) x.start.types (slot_types (drop (i + 1) ms)) h)
 
 pub due_not : (a : Act) (ms : List MemberCode) (i : ℕ) (x : MemberCode) → i < length ms → x ≡ get_or ms i x → has a (table_component x) ≡ false
     → due a ms i ≡ due a ms (i + 1)
 due_not a ms i x l e h =
-    let d : drop i ms ≡ x ∷ drop (i + 1) ms = drop_read ms i x l e in
+    let d : drop i ms ≡ x ∷ drop (i + 1) ms = drop_item ms i x l e in
     rw d (taken_not a x (drop (i + 1) ms) x.start.types (slot_types (drop (i + 1) ms)) h)
 
 pub same_length : (ms : List MemberCode) (ns : List Node) → types_of ns ≡ slot_types ms → length ns ≡ length ms
@@ -123,14 +121,14 @@ pub lent_takes : (w : Whose) (a : Act) (ms : List MemberCode) (ns : List Node) (
     → Takes w a ms ns i k x n
 lent_takes Whose.All a ms ns i k x n f l e h g =
     let b : i < length ns = omega (arith, same_length ms ns f) in
-    let d : drop i ms ≡ x ∷ drop (i + 1) ms = drop_read ms i x l e in
-    let c : drop i ns ≡ n ∷ drop (i + 1) ns = drop_read ns i n b g in
+    let d : drop i ms ≡ x ∷ drop (i + 1) ms = drop_item ms i x l e in
+    let c : drop i ns ≡ n ∷ drop (i + 1) ns = drop_item ns i n b g in
     let t : types_of (drop i ns) ≡ slot_types (drop i ms) = sym (map_drop (λ (y : Node). y.types) i ns) ∙ ap (drop i) f ∙ map_drop (λ (y : MemberCode). y.start.types) i ms in
     let u : n.types ∷ types_of (drop (i + 1) ns) ≡ x.start.types ∷ slot_types (drop (i + 1) ms) = sym (ap types_of c) ∙ t ∙ ap slot_types d in
     record { types = cc; states = rw (d, c) (taken_here a x (drop (i + 1) ms) n (drop (i + 1) ns) h); fits = f }
 lent_takes Whose.Participants a ms ns i k x n f l e h g =
     let b : k < length ns = lent_within Whose.Participants a ms ns i k x f l e h in
-    let c : drop k ns ≡ n ∷ drop (k + 1) ns = drop_read ns k n b g in
+    let c : drop k ns ≡ n ∷ drop (k + 1) ns = drop_item ns k n b g in
     let u : n.types ∷ types_of (drop (k + 1) ns) ≡ x.start.types ∷ due a ms (i + 1) = sym (ap types_of c) ∙ f ∙ due_here a ms i x l e h in
     record { types = cc; states = c; fits = cc }
 
@@ -142,7 +140,7 @@ pub lent_passes : (w : Whose) (a : Act) (ms : List MemberCode) (ns : List Node) 
     → FitsFrom w a ms ns i k → i < length ms → x ≡ get_or ms i x → has a (table_component x) ≡ false → Passes w a ms ns i k
 lent_passes Whose.All a ms ns i k x f l e h =
     let b : i < length ns = omega (arith, same_length ms ns f) in
-    let d : drop i ms ≡ x ∷ drop (i + 1) ms = drop_read ms i x l e in
+    let d : drop i ms ≡ x ∷ drop (i + 1) ms = drop_item ms i x l e in
     let c : drop i ns ≡ get_or ns i x.start ∷ drop (i + 1) ns = drop_more ns i x.start b in
     record { states = rw (d, c) (taken_not a x (drop (i + 1) ms) (get_or ns i x.start) (drop (i + 1) ns) h); fits = f }
 lent_passes Whose.Participants a ms ns i k x f l e h = record { states = refl; fits = f ∙ due_not a ms i x l e h }
@@ -171,7 +169,7 @@ pub asks_not : (w : Whose) (a : Act) (ms : List MemberCode) (ns : List Node) (i 
     → FitsFrom w a ms ns i k → i < length ms → x ≡ get_or ms i x → has a (table_component x) ≡ false
     → asks_from w a ms ns i k ≡ asks_from w a ms ns (i + 1) k
 asks_not w a ms ns i k x f l e h =
-    let d : drop i ms ≡ x ∷ drop (i + 1) ms = drop_read ms i x l e in
+    let d : drop i ms ≡ x ∷ drop (i + 1) ms = drop_item ms i x l e in
     let p : Passes w a ms ns i k = lent_passes w a ms ns i k x f l e h in
     rw (d, p.states) (asked_not i x (drop (i + 1) ms) a (values_of (lent_from w a ms ns (i + 1) k)) h)
 
@@ -179,7 +177,7 @@ pub asks_other : (w : Whose) (a : Act) (ms : List MemberCode) (ns : List Node) (
     → FitsFrom w a ms ns i k → i < length ms → x ≡ get_or ms i x → has a (table_component x) ≡ true → owns a (table_component x) ≡ false
     → asks_from w a ms ns i k ≡ asks_from w a ms ns (i + 1) (k + 1)
 asks_other w a ms ns i k x f l e h o =
-    let d : drop i ms ≡ x ∷ drop (i + 1) ms = drop_read ms i x l e in
+    let d : drop i ms ≡ x ∷ drop (i + 1) ms = drop_item ms i x l e in
     let b : place_of w i k < length ns = lent_within w a ms ns i k x f l e h in
     let n : Node = get_or ns (place_of w i k) x.start in
     let g : n ≡ get_or ns (place_of w i k) n = get_or_default ns (place_of w i k) x.start n b in
@@ -190,7 +188,7 @@ pub asks_here : (w : Whose) (a : Act) (ms : List MemberCode) (ns : List Node) (i
     → Takes w a ms ns i k x n → i < length ms → x ≡ get_or ms i x → owns a (table_component x) ≡ true
     → asks_from w a ms ns i k ≡ owned i ((table_component x).guard a n.values)
 asks_here w a ms ns i k x n p l e o =
-    let d : drop i ms ≡ x ∷ drop (i + 1) ms = drop_read ms i x l e in
+    let d : drop i ms ≡ x ∷ drop (i + 1) ms = drop_item ms i x l e in
     rw (d, p.states) (asked_here i x (drop (i + 1) ms) a n.values (values_of (lent_from w a ms ns (i + 1) (k + 1))) o)
 
 -- what stands where the owner is still looked for
@@ -240,7 +238,7 @@ pub acts_not : (w : Whose) (a : Act) (ms : List MemberCode) (ns : List Node) (i 
     → FitsFrom w a ms ns i k → i < length ms → x ≡ get_or ms i x → has a (table_component x) ≡ false
     → acts_from w a ms ns i k ≡ acts_from w a ms ns (i + 1) k
 acts_not w a ms ns i k x f l e h =
-    let d : drop i ms ≡ x ∷ drop (i + 1) ms = drop_read ms i x l e in
+    let d : drop i ms ≡ x ∷ drop (i + 1) ms = drop_item ms i x l e in
     let p : Passes w a ms ns i k = lent_passes w a ms ns i k x f l e h in
     rw (d, p.states) (effects_not i x (drop (i + 1) ms) a (values_of (lent_from w a ms ns (i + 1) k)) h)
 
@@ -248,7 +246,7 @@ pub acts_here : (w : Whose) (a : Act) (ms : List MemberCode) (ns : List Node) (i
     → Takes w a ms ns i k x n → i < length ms → x ≡ get_or ms i x → has a (table_component x) ≡ true
     → acts_from w a ms ns i k ≡ then_rest i ((table_component x).effect a n.values) (acts_from w a ms ns (i + 1) (k + 1))
 acts_here w a ms ns i k x n p l e h =
-    let d : drop i ms ≡ x ∷ drop (i + 1) ms = drop_read ms i x l e in
+    let d : drop i ms ≡ x ∷ drop (i + 1) ms = drop_item ms i x l e in
     rw (d, p.states) (effects_here i x (drop (i + 1) ms) a n.values (values_of (lent_from w a ms ns (i + 1) (k + 1))) h)
 
 -- an answer with states put before its own

@@ -12,15 +12,11 @@ use Rattle.ioa_syntax.specs.declared.tree.Kind.{Kind}
 use Rattle.ioa_syntax.specs.declared.tree.Kind.TheVariants.{Input, Output, Internal}
 use Rattle.ioa_compile.specs.Programs.{PositionCode, typed, EntryCode, MemberCode}
 use Rattle.ioa_compile.specs.Tables.{positions_hold, position_holds, position_types, is_in, entry_of, IsEntry, AreEntries, IsPartOf, HasPre}
+use Rattle.std.proofs.lemmas.Bool.{and_parts}
 
 and_false : (b : Bool) → b && false ≡ false
 and_false true = refl
 and_false false = refl
-
-both : (a b : Bool) → a && b ≡ true → (a ≡ true) × (b ≡ true)
-both true true h = (refl, refl)
-both true false h = absurd (cc)
-both false b h = absurd (cc)
 
 pub positions_unequal : (ps : List PositionCode) (vs : List Val) → length ps ≢ length vs → positions_hold ps vs ≡ false
 positions_unequal [] [] h = absurd (h refl)
@@ -35,7 +31,7 @@ positions_typed [] [] h = tt
 positions_typed [] (v ∷ vs) h = absurd (cc)
 positions_typed (typed ty ∷ ps) [] h = absurd (cc)
 positions_typed (typed ty ∷ ps) (v ∷ vs) h =
-    let k : (is_of basic_types v ty ≡ true) × (positions_hold ps vs ≡ true) = both (is_of basic_types v ty) (positions_hold ps vs) h in
+    let k : (is_of basic_types v ty ≡ true) × (positions_hold ps vs ≡ true) = and_parts (is_of basic_types v ty) (positions_hold ps vs) h in
     ((is_of-HasType basic_types v ty).0 k.0, positions_typed ps vs k.1)
 
 pub record Found (m : MemberCode) (a : Act) (e : EntryCode) : Type 0 where
@@ -43,7 +39,7 @@ pub record Found (m : MemberCode) (a : Act) (e : EntryCode) : Type 0 where
   pub typed : HaveTypes basic_types a.vals (position_types e.positions)
 
 found_here : (m : MemberCode) (a : Act) (x : EntryCode) → IsEntry m x → is_in a x ≡ true → Found m a x
-found_here m a x h k = record { entry = h; typed = positions_typed x.positions a.vals (both (bytes_eq x.name a.name) (positions_hold x.positions a.vals) k).1 }
+found_here m a x h k = record { entry = h; typed = positions_typed x.positions a.vals (and_parts (bytes_eq x.name a.name) (positions_hold x.positions a.vals) k).1 }
 
 found_first : (m : MemberCode) (a : Act) (x e : EntryCode) (more : Option EntryCode) (b : Bool) → is_in a x ≡ b → IsEntry m x
     → (more ≡ Some e → Found m a e) → cond b (Some x) more ≡ Some e → Found m a e

@@ -15,7 +15,7 @@ use Rattle.ioa_compile.specs.Tables.{tabled, start_states}
 use Rattle.ioa_compile.specs.Means.{CorrespondsAt, Means}
 use Rattle.ioa_system.specs.declared.runs.Run.{Run}
 use Rattle.ioa_system.specs.Records.{IsTableRun, IsSourceRun}
-use Rattle.ioa_system.proofs.Lending.{drop_read}
+use Rattle.ioa_value.proofs.ItemLemmas.{drop_item}
 
 -- what stands where i actions are performed
 pub record Performs (p : Prog) (acts : List Act) (i : ℕ) (ss : List (List Val)) (traced : List Act) : Type 0 where
@@ -30,7 +30,7 @@ pub performs_at : (p : Prog) (acts : List Act) (i : ℕ) (ss : List (List Val)) 
     → Performs p acts i ss traced → i < length acts → a ≡ get_or acts i a
     → after i ss (step (tabled p) a ss) (λ ts. run_from (i + 1) (tabled p) (drop (i + 1) acts) ts) ≡ run (tabled p) acts (start_states p)
 performs_at p acts i ss traced a h l e =
-    let d : drop i acts ≡ a ∷ drop (i + 1) acts = drop_read acts i a l e in
+    let d : drop i acts ≡ a ∷ drop (i + 1) acts = drop_item acts i a l e in
     sym (ap (λ (xs : List Act). run_from i (tabled p) xs ss) d) ∙ h.run
 
 trace_more : (hidden : List Name) (ps : List (Component (List Val))) (acts : List Act) (i : ℕ) (a : Act) → i < length acts → a ≡ get_or acts i a

@@ -10,3 +10,4 @@ pub mod WrittenLemmas
 pub mod ListLemmas
 pub mod OnceLemmas
 pub mod ListOnceLemmas
+pub mod ItemLemmas

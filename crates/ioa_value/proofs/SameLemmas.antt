@@ -21,7 +21,7 @@ sequences v w s t xs ys r e f g h =
     let whole : same v w ≡ same (items s xs) (items t ys) = ap (λ x. same x w) e ∙ ap (same (items s xs)) f in
     h ∙ sym (whole ∙ ap (λ b. b && same_all xs ys) (equal s t g))
 
-both_false : (a b : Bool) → false ≡ b → false ≡ a && b
+pub both_false : (a b : Bool) → false ≡ b → false ≡ a && b
 both_false true b e = e
 both_false false b e = refl
 

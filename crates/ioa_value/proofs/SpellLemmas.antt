@@ -11,6 +11,7 @@ use Rattle.ioa_value.specs.Names.{IsName, is_name, is_reserved, is_word_byte, be
 use Rattle.ioa_value.specs.Reads.{Spells, SpellsNumber}
 use Rattle.ioa_value.specs.Tokens.{is_inside}
 use Rattle.ioa_value.proofs.TokenLemmas.{IsWord}
+use Rattle.std.proofs.lemmas.Bool.{and_parts}
 
 digit_inside : (c : ℕ) → 48 ≤ c → c ≤ 57 → is_inside c ≡ true
 digit_inside c l h = grind (arith, nat_tests)
@@ -36,14 +37,10 @@ spelled_is_word w (items own vs) s = absurd s
 word_byte_inside : (c : ℕ) → is_word_byte c ≡ true → is_inside c ≡ true
 word_byte_inside c h = grind (arith, nat_tests)
 
-both : (a b : Bool) → a && b ≡ true → (a ≡ true) × (b ≡ true)
-both true b e = (refl, e)
-both false b e = absurd (cc)
-
 word_bytes_inside : (w : List ℕ) → list_all is_word_byte w ≡ true → list_all is_inside w ≡ true
 word_bytes_inside [] h = refl
 word_bytes_inside (c ∷ cs) h =
-    let p = both (is_word_byte c) (list_all is_word_byte cs) h in
+    let p = and_parts (is_word_byte c) (list_all is_word_byte cs) h in
     rw (word_byte_inside c p.0) (word_bytes_inside cs p.1)
 
 begun : (w : List ℕ) → begins_with_letter w ≡ true → 0 < length w
@@ -118,7 +115,7 @@ word_byte_ascii c h = grind (arith, nat_tests)
 word_bytes_ascii : (w : List ℕ) → list_all is_word_byte w ≡ true → IsAscii w
 word_bytes_ascii [] h = IsAscii-nil
 word_bytes_ascii (c ∷ cs) h =
-    let p = both (is_word_byte c) (list_all is_word_byte cs) h in
+    let p = and_parts (is_word_byte c) (list_all is_word_byte cs) h in
     IsAscii-cons c cs (word_byte_ascii c p.0) (word_bytes_ascii cs p.1)
 
 pub name_is_text : (w : List ℕ) → IsName w → IsUtf8 w

@@ -1,8 +1,9 @@
 -- A padded word is found again at the front of a text.
-use Rattle.std.proofs.Common.{◌≡◌, ℕ, ◌<◌, Bool, true, false, not, ◌&&◌, ◌||◌, List, [], ◌∷◌, ◌++◌, length, refl, sym, ap, ◌∙◌, append_assoc, append-nil, length-append, arith}
+use Rattle.std.proofs.Common.{◌≡◌, ℕ, ◌<◌, Bool, true, false, not, ◌||◌, List, [], ◌∷◌, ◌++◌, length, refl, sym, ap, ◌∙◌, append_assoc, append-nil, length-append, arith}
 use Rattle.std.specs.List.{list_all}
 use Rattle.ioa_value.specs.Reads.{is_blank, IsBlank, Padded}
 use Rattle.ioa_value.specs.Tokens.{is_mark, is_inside, after_blanks, word, after_word, first_word, after_first}
+use Rattle.std.proofs.lemmas.Bool.{and_parts}
 
 -- one byte or more, and no blank and no mark
 pub record IsWord (w : List ℕ) : Type 0 where
@@ -15,10 +16,6 @@ pub record IsEnd (text : List ℕ) : Type 0 where
   pub no_word : word text ≡ []
   pub stays : after_word text ≡ text
 
-both : (a b : Bool) → a && b ≡ true → (a ≡ true) × (b ≡ true)
-both true b e = (refl, e)
-both false b e = absurd (cc)
-
 not_blank : (m b : Bool) → not (b || m) ≡ true → b ≡ false
 not_blank m true e = absurd (cc)
 not_blank m false e = refl
@@ -29,39 +26,39 @@ not_inside m b e = rw e refl
 pub skip : (before rest : List ℕ) → list_all is_blank before ≡ true → after_blanks (before ++ rest) ≡ after_blanks rest
 skip [] rest e = refl
 skip (b ∷ bs) rest e =
-    let p = both (is_blank b) (list_all is_blank bs) e in
+    let p = and_parts (is_blank b) (list_all is_blank bs) e in
     rw p.0 (skip bs rest p.1)
 
 keep : (w rest : List ℕ) → IsWord w → after_blanks (w ++ rest) ≡ w ++ rest
 keep [] rest h = absurd (omega (arith, h.long))
 keep (b ∷ bs) rest h =
-    let p = both (is_inside b) (list_all is_inside bs) h.inside in
+    let p = and_parts (is_inside b) (list_all is_inside bs) h.inside in
     let q : is_blank b ≡ false = not_blank (is_mark b) (is_blank b) p.0 in
     rw q refl
 
 in_word : (w rest : List ℕ) → list_all is_inside w ≡ true → word (w ++ rest) ≡ w ++ word rest
 in_word [] rest e = refl
 in_word (b ∷ bs) rest e =
-    let p = both (is_inside b) (list_all is_inside bs) e in
+    let p = and_parts (is_inside b) (list_all is_inside bs) e in
     rw p.0 (ap (λ l. b ∷ l) (in_word bs rest p.1))
 
 past_word : (w rest : List ℕ) → list_all is_inside w ≡ true → after_word (w ++ rest) ≡ after_word rest
 past_word [] rest e = refl
 past_word (b ∷ bs) rest e =
-    let p = both (is_inside b) (list_all is_inside bs) e in
+    let p = and_parts (is_inside b) (list_all is_inside bs) e in
     rw p.0 (past_word bs rest p.1)
 
 no_word_in : (after rest : List ℕ) → list_all is_blank after ≡ true → IsEnd rest → word (after ++ rest) ≡ []
 no_word_in [] rest e h = h.no_word
 no_word_in (b ∷ bs) rest e h =
-    let p = both (is_blank b) (list_all is_blank bs) e in
+    let p = and_parts (is_blank b) (list_all is_blank bs) e in
     let q : is_inside b ≡ false = not_inside (is_mark b) (is_blank b) p.0 in
     rw q refl
 
 stays_in : (after rest : List ℕ) → list_all is_blank after ≡ true → IsEnd rest → after_word (after ++ rest) ≡ after ++ rest
 stays_in [] rest e h = h.stays
 stays_in (b ∷ bs) rest e h =
-    let p = both (is_blank b) (list_all is_blank bs) e in
+    let p = and_parts (is_blank b) (list_all is_blank bs) e in
     let q : is_inside b ≡ false = not_inside (is_mark b) (is_blank b) p.0 in
     rw q refl
 

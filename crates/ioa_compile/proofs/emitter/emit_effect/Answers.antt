@@ -8,8 +8,9 @@ use Rattle.ioa_syntax.specs.declared.tree.Statement.{Statement}
 use Rattle.ioa_compose.specs.Held.{member_of}
 use Rattle.ioa_compile.specs.Scopes.{scope_of, AreKnown}
 use Rattle.ioa_compile.specs.Emitting.{AddsStmts}
-use Rattle.ioa_compile.proofs.Emitted.{adds_first, adds_none, drop_next, nodes_next}
+use Rattle.ioa_compile.proofs.Emitted.{adds_first, adds_none, nodes_next}
 use Rattle.ioa_compile.proofs.emitter.emit_effect.Goals as goal
+use Rattle.ioa_value.proofs.ItemLemmas.{drop_item}
 
 pub loop-statement-preserved : goal.loop-statement-preserved
 loop-statement-preserved c =
@@ -19,7 +20,7 @@ loop-statement-preserved c =
     let x = c.statement-item.result in
     let c0 = listing c.loop-statement.out in
     let c1 = listing c.emit_statement.new.out in
-    let next : drop i xs ≡ x ∷ drop (i + 1) xs = drop_next xs i x (omega arith) c.statement-item.is in
+    let next : drop i xs ≡ x ∷ drop (i + 1) xs = drop_item xs i x (omega arith) c.statement-item.is in
     let inv = c.loop-statement.invariant in
     let known = subst (λ (l : List Statement). AreKnown s (map stmt_of l)) next inv.known in
     let room = subst (λ (l : List Statement). length c.loop-statement.out.consts.items + sum (map stmt_nodes (map stmt_of l)) < 65536) next inv.room in
