@@ -45,9 +45,9 @@ impl Checked {
 /// The source, if it is well formed.
 ///
 /// # Errors
-/// With the line at fault: `DuplicateName`, `UnknownName` (also a name used before its declaration, or where it may not
-/// stand), `TypeMismatch`, `BadSignature`, `NoProposal` and `TooMany`, each only where the source is not well formed;
-/// `OutOfMemory`.
+/// `DuplicateName`, `UnknownName` (also a name used before its declaration, or where it may not stand), `TypeMismatch`,
+/// `BadSignature`, `NoProposal` and `TooMany`, each only where the source is not well formed; which of them, and that its
+/// line is the one at fault, is tested, not proved. `OutOfMemory`.
 pub fn check(alloc: Global, source: Source) -> Result<Checked, Refusal>
     ensures same { IfOk result (λ c. tree_of c ≡ tree_of source) }
     ensures well_formed { OnOk result (WellFormed (tree_of source)) }

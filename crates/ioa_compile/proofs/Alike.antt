@@ -1,5 +1,5 @@
 -- A component of the table does what its instance does.
-use Rattle.std.proofs.Common.{◌≡◌, ℕ, ◌⊎◌, inl, inr, Bool, true, false, cond, ◌&&◌, ◌++◌, IsTrue, List, [], ◌∷◌, length, map, Option, Some, None, Result, Ok, Err, refl, sym, ap, ◌∙◌, subst, arith}
+use Rattle.std.proofs.Common.{◌≡◌, ℕ, ◌⊎◌, inl, inr, Bool, true, false, cond, ◌&&◌, ◌++◌, IsTrue, List, [], ◌∷◌, length, map, Option, Some, None, IfSome, Result, Ok, Err, refl, sym, ap, ◌∙◌, subst, arith}
 use Rattle.std.specs.List.{AllZip, find}
 use Rattle.std.specs.Option.{option_map, option_map_or}
 use Rattle.std.specs.Str.{bytes_eq}
@@ -15,6 +15,7 @@ use Rattle.ioa_code.specs.Machine.{Listing, done, fault}
 use Rattle.ioa_code.specs.Outcome.{outcome}
 use Rattle.ioa_code.specs.Valid.{Part}
 use Rattle.ioa_code.proofs.Ends.{outcome_is_end}
+use Rattle.ioa_node.specs.Runs as runs
 use Rattle.ioa_node.specs.Runs.{start, guard_answer, guard_of, effect_answer, effect_of}
 use Rattle.ioa_syntax.specs.declared.tree.Kind.{Kind}
 use Rattle.ioa_syntax.specs.declared.tree.Kind.TheVariants.{Input, Output, Internal}
@@ -30,10 +31,11 @@ use Rattle.ioa_syntax.specs.Answers.{IsTyped}
 use Rattle.ioa_syntax.proofs.ValTyped.{val_typed}
 use Rattle.ioa_compile.specs.Programs.{EntryCode, MemberCode}
 use Rattle.ioa_compile.specs.Tables.{allows, entry_of, table_component, position_types}
-use Rattle.ioa_compile.specs.Means.{Corresponds}
+use Rattle.ioa_compile.specs.Correspondence.{Corresponds}
 use Rattle.ioa_compile.specs.Scopes.{Scope, scope_of}
 use Rattle.ioa_compile.specs.Placed.{HasStmts}
-use Rattle.ioa_compile.specs.Matching.{AreTypesOf}
+use Rattle.ioa_compile.specs.CodeEnds.{required, GuardEnds, EffectEnds}
+use Rattle.ioa_compile.specs.Matching.{AreTypesOf, MatchesEntry}
 use Rattle.ioa_compile.specs.Translated.{IsGuard, IsGuardFor, codes_of, IsEntryOf, IsTranslated}
 use Rattle.ioa_compile.proofs.Looks.{look, values_look, or_else-none, stands, look_outside, look_inside, outside_both, distinct_apart, apart_outside}
 use Rattle.ioa_compile.proofs.Fits.{have_long, types_long, position_names, fit_have, have_fit}
@@ -47,14 +49,22 @@ use Rattle.std.proofs.lemmas.Bool.{and_parts}
 -- ---- the end of a run
 
 module _ (code : Listing) (s : Scope) (slots args : List Val) where
+  came : (stack after : List Val) → Comes code s args (on code s args 0 [] slots) (on code s args (length code.instrs) stack after) → runs.Comes code (start slots args) (done stack after [])
+  came stack after c = let r = c.by (done stack after []) 0 (refl, refl) in (r.0, omega (arith, r.1), r.2)
+
+  broke : (f : Fault) → Breaks code s args (on code s args 0 [] slots) f → runs.Comes code (start slots args) (fault f [])
+  broke f b = (b.count, omega (arith, b.within), b.ends)
+
   ended : (stack after : List Val) → Comes code s args (on code s args 0 [] slots) (on code s args (length code.instrs) stack after) → outcome code (start slots args) ≡ Some (done stack after [])
-  ended stack after c =
-      let r = c.by (done stack after []) 0 (refl, refl) in
-      (outcome_is_end code (start slots args) (done stack after [])).1 (r.0, omega (arith, r.1), r.2)
+  ended stack after c = (outcome_is_end code (start slots args) (done stack after [])).1 (came stack after c)
 
   broken : (f : Fault) → Breaks code s args (on code s args 0 [] slots) f → outcome code (start slots args) ≡ Some (fault f [])
-  broken f b =
-      (outcome_is_end code (start slots args) (fault f [])).1 (b.count, omega (arith, b.within), b.ends)
+  broken f b = (outcome_is_end code (start slots args) (fault f [])).1 (broke f b)
+
+  answer_comes : (a : Answer) → IsTyped basic_types 0 a → Reaches code s args (on code s args 0 [] slots) (length code.instrs) [] slots a → GuardEnds code slots args a
+  answer_comes (gives v) t r = came (v ∷ []) slots r
+  answer_comes (faults f) t r = broke f r
+  answer_comes nothing t r = absurd t
 
   guard_ends : (a : Answer) → IsTyped basic_types 0 a → Reaches code s args (on code s args 0 [] slots) (length code.instrs) [] slots a → truth_of a ≡ guard_answer (outcome code (start slots args))
   guard_ends (gives (plain.truth b)) t r = sym (ap guard_answer (ended (plain.truth b ∷ []) slots r))
@@ -141,6 +151,20 @@ module _ (m : Member) (e : EntryTree) (vs ps : List ℕ) (h : Setting m e vs ps)
         let agree = running.agree code s args names (context_of basic_table (variable_fields m.instance.automaton)) vs h.types ps (variables_long m e vs ps h) (is_scope m e vs ps h).given args_long h.given values (type_at m e vs ps h) (found_slot m e vs ps h code) inner slots own in
         guard_ends code s slots args (val x inner) (val_typed basic_types names inner x 0 suits t.0) (expr_runs code s args x 0 (length code.instrs) [] slots inner agree k.has)
 
+    guard_comes : (g : Option Expr) (env : Env) (slots : List Val) → Corresponds m.instance.automaton env slots → GuardTyped (scope basic_table h.globals m.instance.automaton e) g → IsGuard code (scope_of m e) g → GuardEnds code slots args (required g (environment m.instance e args env))
+    guard_comes None env slots c t k =
+        let s = scope_of m e in
+        let run = subst (λ n. Comes code s args (on code s args 0 [] slots) (on code s args n (plain.truth true ∷ []) slots)) (sym k.has.1) (push_comes code s args 0 [] slots (plain.truth true) k.has.0) in
+        came code s slots args (plain.truth true ∷ []) slots run
+    guard_comes (Some x) env slots c t k =
+        let s = scope_of m e in
+        let inner = environment m.instance e args env in
+        let names = scope basic_table h.globals m.instance.automaton e in
+        let own = holds env slots c in
+        let suits = running.suits code s args names (context_of basic_table (variable_fields m.instance.automaton)) vs h.types ps (variables_long m e vs ps h) (is_scope m e vs ps h).given args_long h.given values (type_at m e vs ps h) (found_slot m e vs ps h code) inner slots own in
+        let agree = running.agree code s args names (context_of basic_table (variable_fields m.instance.automaton)) vs h.types ps (variables_long m e vs ps h) (is_scope m e vs ps h).given args_long h.given values (type_at m e vs ps h) (found_slot m e vs ps h code) inner slots own in
+        answer_comes code s slots args (val x inner) (val_typed basic_types names inner x 0 suits t.0) (expr_runs code s args x 0 (length code.instrs) [] slots inner agree k.has)
+
     kept_corresponds : (env : Env) (slots : List Val) → Holds env slots → Corresponds m.instance.automaton (kept (variable_names m.instance.automaton) env) slots
     kept_corresponds env slots k = record {
       values = λ x. go x (contains (variable_names m.instance.automaton) x) refl ∙ sym (values_look (variable_names m.instance.automaton) slots x);
@@ -164,6 +188,16 @@ module _ (m : Member) (e : EntryTree) (vs ps : List ℕ) (h : Setting m e vs ps)
         let end = ap (effect_answer slots) (broken code (scope_of m e) slots args f r) in
         subst (AreLike (Corresponds m.instance.automaton) (Err f)) (sym end) refl
     effect_ends env slots nowhere r = absurd r
+
+    outcome_comes : (slots : List Val) (o : Outcome) → running.RunsTo code (scope_of m e) args (scope basic_table h.globals m.instance.automaton e) (context_of basic_table (variable_fields m.instance.automaton)) vs h.types ps (variables_long m e vs ps h) (is_scope m e vs ps h).given args_long h.given values (type_at m e vs ps h) (found_slot m e vs ps h code) (on code (scope_of m e) args 0 [] slots) (length code.instrs) o → EffectEnds m.instance.automaton code slots args o
+    outcome_comes slots (becomes after) r = (r.0, kept_corresponds after r.0 r.1, came code (scope_of m e) slots args [] r.0 r.2)
+    outcome_comes slots (breaks f) r = broke code (scope_of m e) slots args f r
+    outcome_comes slots nowhere r = absurd r
+
+    effect_comes : (ts : List Stmt) (env : Env) (slots : List Val) → Corresponds m.instance.automaton env slots → StmtsTyped (scope basic_table h.globals m.instance.automaton e) (context_of basic_table (variable_fields m.instance.automaton)) ts → HasStmts code (scope_of m e) ts 0 (length code.instrs) → EffectEnds m.instance.automaton code slots args (eff ts (environment m.instance e args env))
+    effect_comes ts env slots c t k =
+        outcome_comes slots (eff ts (environment m.instance e args env))
+        (running.stmts_run code (scope_of m e) args (scope basic_table h.globals m.instance.automaton e) (context_of basic_table (variable_fields m.instance.automaton)) vs h.types ps (variables_long m e vs ps h) (is_scope m e vs ps h).given args_long h.given values (type_at m e vs ps h) (found_slot m e vs ps h code) ts 0 (length code.instrs) (environment m.instance e args env) slots (holds env slots c) t k)
 
     effect_runs : (ts : List Stmt) (env : Env) (slots : List Val) → Corresponds m.instance.automaton env slots → StmtsTyped (scope basic_table h.globals m.instance.automaton e) (context_of basic_table (variable_fields m.instance.automaton)) ts → HasStmts code (scope_of m e) ts 0 (length code.instrs) → AreLike (Corresponds m.instance.automaton) (next_state m.instance.automaton env (eff ts (environment m.instance e args env))) (effect_answer slots (outcome code (start slots args)))
     effect_runs ts env slots c t k =
@@ -198,6 +232,32 @@ module _ (m : Member) (vs : List ℕ) (fine : IsFine m) (types : AreTypesOf (var
       let t = is.transition.0 in
       let ok = (effect_typed all.globals m.instance.automaton e t (fine_of all.globals m.instance.automaton e t all.transition is.transition.1)).0 in
       effect_runs m e vs (position_types c.positions) all a.vals arguments c.effect.code t.effect env slots r ok is.transition.2.effect.has
+
+on_part : (P : Part → Type 0) (k : Kind) (o : Option Part) (s : Scope) (g : Option Expr) → IsGuardFor k (codes_of o) s g → ((p : Part) → IsGuard p.code s g → P p) → IfSome o P
+on_part P Input None s g h f = tt
+on_part P Input (Some p) s g h f = absurd h
+on_part P Output None s g h f = absurd h
+on_part P Output (Some p) s g h f = f p h
+on_part P Internal None s g h f = absurd h
+on_part P Internal (Some p) s g h f = f p h
+
+-- what the compiler makes of an entry matches it
+pub entry_matches : (m : Member) (vs : List ℕ) (e : EntryTree) (c : EntryCode) → IsFine m → AreTypesOf (variable_fields m.instance.automaton) vs → IsTranslated m vs e c → IsEntryOf m e → MatchesEntry m e c
+entry_matches m vs e c fine types is own =
+    let ps = position_types c.positions in
+    let all = setting m e vs ps fine own types is.positions in
+    let t = is.transition.0 in
+    let ok = fine_of all.globals m.instance.automaton e t all.transition is.transition.1 in
+    record {
+      kind = is.kind;
+      name = is.name;
+      positions = is.positions;
+      transition = t;
+      found = is.transition.1;
+      guard = on_part _ e.kind c.pre (scope_of m e) t.pre is.transition.2.pre
+          (λ p k env slots args r values. guard_comes m e vs ps all args values p.code t.pre env slots r (guard_typed all.globals m.instance.automaton e t ok) k);
+      effect = λ env slots args r values. effect_comes m e vs ps all args values c.effect.code t.effect env slots r (effect_typed all.globals m.instance.automaton e t ok).0 is.transition.2.effect.has;
+    }
 
 -- ---- a component
 

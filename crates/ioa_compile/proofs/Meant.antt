@@ -13,19 +13,19 @@ use Rattle.ioa_syntax.specs.WellFormed.{variable_fields}
 use Rattle.ioa_compose.specs.Fine.{IsFine}
 use Rattle.ioa_compile.specs.Programs.{EntryCode, MemberCode}
 use Rattle.ioa_compile.specs.Tables.{table_component}
-use Rattle.ioa_compile.specs.Means.{Corresponds, CorrespondsIn, CorrespondsAt}
+use Rattle.ioa_compile.specs.Correspondence.{Corresponds, CorrespondsIn, CorrespondsAt}
 use Rattle.ioa_compile.specs.Matching.{AreTypesOf, MatchesEntry, MatchesMember}
-use Rattle.ioa_compile.specs.Translated.{IsTranslated, DoesSame}
+use Rattle.ioa_compile.specs.Translated.{IsEntryOf, IsTranslated, DoesSame}
 use Rattle.ioa_compile.proofs.Fits.{fit_have}
 use Rattle.ioa_compile.proofs.Twins.{finds_same, kinds_same, are_entries}
-use Rattle.ioa_compile.proofs.Alike.{guards, effects}
+use Rattle.ioa_compile.proofs.Alike.{guards, effects, entry_matches}
 
-entries_match : (m : Member) (slots : List ℕ) (es : List EntryTree) (cs : List EntryCode) → AllZip (IsTranslated m slots) es cs → AllZip MatchesEntry es cs
-entries_match m slots [] [] h = tt
-entries_match m slots [] (c ∷ cs) h = absurd h
-entries_match m slots (e ∷ es) [] h = absurd h
-entries_match m slots (e ∷ es) (c ∷ cs) h =
-    (record { kind = h.0.kind; name = h.0.name; positions = h.0.positions }, entries_match m slots es cs h.1)
+entries_match : (m : Member) (slots : List ℕ) (es : List EntryTree) (cs : List EntryCode) → IsFine m → AreTypesOf (variable_fields m.instance.automaton) slots → ((i : ℕ) (e : EntryTree) → slice_get es i ≡ Some e → IsEntryOf m e) → AllZip (IsTranslated m slots) es cs → AllZip (MatchesEntry m) es cs
+entries_match m slots [] [] h types own all = tt
+entries_match m slots [] (c ∷ cs) h types own all = absurd all
+entries_match m slots (e ∷ es) [] h types own all = absurd all
+entries_match m slots (e ∷ es) (c ∷ cs) h types own all =
+    (entry_matches m slots e c h types all.0 (own 0 e refl), entries_match m slots es cs h types (λ i x k. own (suc i) x k) all.1)
 
 pub does_same : (m : Member) (slots : List ℕ) (c : MemberCode) → IsFine m → AreTypesOf (variable_fields m.instance.automaton) slots → c.name ≡ m.name → c.start ≡ record { types = slots; values = m.starts } → AllZip (IsTranslated m slots) m.instance.automaton.entries c.entries → DoesSame m c
 does_same m slots c h types name start entries =
@@ -36,7 +36,7 @@ does_same m slots c h types name start entries =
       matches = record {
         name = name;
         variables = subst (AreTypesOf (variable_fields m.instance.automaton)) types-are types;
-        entries = entries_match m slots es c.entries entries;
+        entries = entries_match m slots es c.entries h types (λ i e k. record { place = i; here = k }) entries;
       };
       like = record {
         kinds = λ a. ap (λ t. option_map (λ e. e.kind) (find (entry_has t a) es)) h.types ∙ kinds_same m slots a es _ _ (finds_same m slots a es c.entries entries);

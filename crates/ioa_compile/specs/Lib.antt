@@ -2,6 +2,8 @@ pub mod Programs
 pub mod Tables
 pub mod Shown
 pub mod Coded
+pub mod Correspondence
+pub mod CodeEnds
 pub mod Matching
 pub mod Means
 pub mod Scopes

@@ -13,7 +13,7 @@ use Rattle.ioa_syntax.specs.Instances.{transition_for, component_of, state_of}
 use Rattle.ioa_syntax.specs.WellFormed.{position_fields}
 use Rattle.ioa_syntax.specs.Compositions.{Member}
 use Rattle.ioa_compile.specs.Matching.{AreTypesOf, MatchesMember}
-use Rattle.ioa_compile.specs.Means.{Corresponds}
+use Rattle.ioa_compile.specs.Correspondence.{Corresponds}
 use Rattle.ioa_syntax.specs.Likes.{IsLike}
 use Rattle.ioa_compile.specs.Programs.{EntryCode, MemberCode}
 use Rattle.ioa_compile.specs.Tables.{AreEntries, table_component, position_types}

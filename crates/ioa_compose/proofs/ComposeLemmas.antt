@@ -126,7 +126,7 @@ pub clash-refused : (s : SourceTree) (is : List InstanceTree) (ns : List Instanc
 clash-refused s is ns (Clash i j name) b h =
     let p = bound-place s is ns i h.0 b h.3 in
     let q = bound-place s is ns j h.1 b h.4 in
-    (p.0, q.0, h.2, p.1, q.1, record { first = h.0; second = h.1; first_bound = p.2; second_bound = q.2; clash = h.5 }, first-clash s is ns i j b h.6, h.7)
+    (p.0, q.0, h.2, p.1, q.1, record { first = h.0; second = h.1; first_bound = p.2; second_bound = q.2; clash = h.5 }, first-clash s is ns i j b h.6, h.7, (ns, b))
 clash-refused s is ns OutOfMemory b h = tt
 clash-refused s is ns (StartFault k f) b h = absurd h
 clash-refused s is ns (ArgMismatch i) b h = absurd h

@@ -10,7 +10,7 @@ use Rattle.ioa_syntax.specs.declared.tree.Kind.TheVariants.{Internal, Output}
 use Rattle.ioa_syntax.specs.Tree.{EntryTree, AutomatonTree, InstanceTree, SourceTree}
 use Rattle.ioa_syntax.specs.Instances.{basic_table, Instance, argument_values, start_values, component_of}
 use Rattle.ioa_syntax.specs.Compositions.{Fit, automaton_named}
-use Rattle.ioa_compose.specs.Bindings.{IsBound}
+use Rattle.ioa_compose.specs.Bindings.{IsBound, AreBound}
 
 -- the arguments have values, and these are not of the formals' types, one for each
 pub record Misfits (s : SourceTree) (i : InstanceTree) : Type 0 where
@@ -56,11 +56,16 @@ IsFirstClash s is i j = (k l : ℕ) (m n : InstanceTree) (name : Name) → Befor
 abbrev pub NoClash : SourceTree → List InstanceTree → Type 0
 NoClash s is = (i j : ℕ) (m n : InstanceTree) (name : Name) → i < j → slice_get is i ≡ Some m → slice_get is j ≡ Some n → ClashOn s m n name → ⊥
 
--- what holds of components that are refused so: a start expression's fault is told only where no components clash
+-- each component has its instance: its arguments have values, and these fit
+abbrev pub AllBound : SourceTree → List InstanceTree → Type 0
+AllBound s is = (ns : List Instance) × AreBound s is ns
+
+-- what holds of components that are refused so: a clash is told only where each has its instance, and a start expression's
+-- fault only where no components clash
 abbrev pub IsRefused : SourceTree → List InstanceTree → Refusal → Type 0
 IsRefused s is (ArgMismatch i) = (n : InstanceTree) × (slice_get is i ≡ Some n) × Misfits s n
 IsRefused s is (StartFault i f) = (n : InstanceTree) × (slice_get is i ≡ Some n) × ((argument_values n.arguments ≡ Err f) ⊎ (StartsWith s n f × NoClash s is))
-IsRefused s is (Clash i j name) = (m : InstanceTree) × (n : InstanceTree) × (i < j) × (slice_get is i ≡ Some m) × (slice_get is j ≡ Some n) × (c : ClashOn s m n (string_bytes name)) × IsFirstClash s is i j × IsFirstEntry (string_bytes name) c.first c.second
+IsRefused s is (Clash i j name) = (m : InstanceTree) × (n : InstanceTree) × (i < j) × (slice_get is i ≡ Some m) × (slice_get is j ≡ Some n) × (c : ClashOn s m n (string_bytes name)) × IsFirstClash s is i j × IsFirstEntry (string_bytes name) c.first c.second × AllBound s is
 IsRefused s is OutOfMemory = Unit {0}
 IsRefused s is _ = ⊥
 

@@ -12,7 +12,7 @@ pub enum Refusal {
     /// too large.
     #[error("line {0}: no token begins here")]
     BadByte(u32),
-    /// No source begins with the tokens up to this line.
+    /// No source begins with the tokens up to one on this line.
     #[error("line {0}: no declaration continues so")]
     Syntax(u32),
     /// An expression or a statement of the declaration on this line is more than 64 deep.

@@ -144,6 +144,7 @@ module _ (text : List ℕ) (ts : List Token) (end : ℕ) (lexed : Lexes text (pl
             is = d.made;
             apart = ap placed m.apart ∙ placed-append m.before m.after;
             spells = subst (SpellsSource d.before) (sym m.first ∙ sym (plain-placed m.before)) d.spells;
+            goes_on = subst (SpellsSource (d.too_deep ∷ d.after)) (sym m.second ∙ sym (plain-placed m.after)) d.goes_on;
             within = d.within;
             beyond = d.beyond;
             on = d.on ∙ line_split text end ts m.before m.after d.rest last m.apart m.second;

@@ -4,7 +4,7 @@ use Rattle.std.specs.List.{list_any}
 use Rattle.ioa_value.specs.declared.arithmetic.Fault.{Fault}
 use Rattle.ioa_value.specs.Actions.{Name, Act}
 use Rattle.ioa_syntax.specs.Components.{Component, has, owns, is_kind, is_local}
-use Rattle.ioa_syntax.specs.Steps.{Moved, next, not_an_action, not_enabled, fault, Asked, free, owned, asked, effect_on, with_state, then_rest, effects, allowed, step}
+use Rattle.ioa_syntax.specs.Steps.{Moved, next, not_an_action, not_enabled, fault, Asked, free, owned, asked, effect_on, with_state, then_rest, effects, allowed, step, participants_from, owner_from}
 use Rattle.ioa_syntax.specs.Runs.{Reached, after, run_from, run, is_external, trace}
 use Rattle.ioa_syntax.specs.Likes.{AreLike, IsLike, AllLike, AllRelated, MovesLike, RunsLike}
 
@@ -121,7 +121,27 @@ pub run_like : {S T : Type 0} (R : ℕ → S → T → Type 0) (ps : List (Compo
     → AllLike R 0 ps qs → AllRelated R 0 ss ts → RunsLike R (run ps acts ss) (run qs acts ts)
 run_like R ps qs acts ss ts h r = run_from_like R 0 ps qs acts ss ts h r
 
-external_like : {S T : Type 0} (R : ℕ → S → T → Type 0) (i : ℕ) (hidden : List Name) (ps : List (Component S)) (qs : List (Component T)) (a : Act)
+pub owner_like : {S T : Type 0} (R : ℕ → S → T → Type 0) (i : ℕ) (ps : List (Component S)) (qs : List (Component T)) (a : Act)
+    → AllLike R i ps qs → owner_from i ps a ≡ owner_from i qs a
+owner_like R i [] [] a h = refl
+owner_like R i [] (q ∷ qs) a h = absurd h
+owner_like R i (p ∷ ps) [] a h = absurd h
+owner_like R i (p ∷ ps) (q ∷ qs) a h =
+    let e : p.kind_of a ≡ q.kind_of a = h.0.kinds a in
+    let k : owner_from (i + 1) ps a ≡ owner_from (i + 1) qs a = owner_like R (i + 1) ps qs a h.1 in
+    rw (e, k) refl
+
+pub participants_like : {S T : Type 0} (R : ℕ → S → T → Type 0) (i : ℕ) (ps : List (Component S)) (qs : List (Component T)) (a : Act)
+    → AllLike R i ps qs → participants_from i ps a ≡ participants_from i qs a
+participants_like R i [] [] a h = refl
+participants_like R i [] (q ∷ qs) a h = absurd h
+participants_like R i (p ∷ ps) [] a h = absurd h
+participants_like R i (p ∷ ps) (q ∷ qs) a h =
+    let e : p.kind_of a ≡ q.kind_of a = h.0.kinds a in
+    let k : participants_from (i + 1) ps a ≡ participants_from (i + 1) qs a = participants_like R (i + 1) ps qs a h.1 in
+    rw (e, k) refl
+
+pub external_like : {S T : Type 0} (R : ℕ → S → T → Type 0) (i : ℕ) (hidden : List Name) (ps : List (Component S)) (qs : List (Component T)) (a : Act)
     → AllLike R i ps qs → is_external hidden ps a ≡ is_external hidden qs a
 external_like R i hidden [] [] a h = refl
 external_like R i hidden [] (q ∷ qs) a h = absurd h

@@ -114,6 +114,7 @@ module _ (b : ℕ) (lines : ℕ → ℕ) where
     made : t ≡ before ++ too_deep ∷ after
     apart : ts ≡ front ++ rest
     spells : SpellsSource before front
+    goes_on : SpellsSource (too_deep ∷ after) rest
     within : source_deep before ≤ b
     beyond : b < deep too_deep
     is : from n found ts ≡ Err (refusals.TooDeep (lines (length rest)))
@@ -148,6 +149,7 @@ module _ (b : ℕ) (lines : ℕ → ℕ) where
             made = ap (λ r. e ∷ r) m.made;
             apart = f.apart ∙ ap (λ z. f.front ++ z) m.apart ∙ sym (append_assoc f.front m.front m.rest);
             spells = (f.front, m.front, subst (λ d. SpellsDeclaration d f.front) same.0 f.spells, m.spells, refl);
+            goes_on = m.goes_on;
             within = omega (arith, m.within);
             beyond = m.beyond;
             is = from_some n found x ts ∙ ap (declared_by b lines (λ d left. from n (found ++ d ∷ []) left) (length (x ∷ ts))) read ∙ m.is;
@@ -163,6 +165,7 @@ module _ (b : ℕ) (lines : ℕ → ℕ) where
             made = refl;
             apart = refl;
             spells = refl;
+            goes_on = s;
             within = omega arith;
             beyond = too_far (read ∙ ap Err same) (nat_le (deep e) b) refl;
             is = from_some n found x ts ∙ ap (declared_by b lines (λ d left. from n (found ++ d ∷ []) left) (length (x ∷ ts))) (read ∙ ap Err same);
@@ -248,6 +251,7 @@ module _ (b : ℕ) (lines : ℕ → ℕ) where
     pub made : t ≡ before ++ too_deep ∷ after
     pub apart : ts ≡ front ++ rest
     pub spells : SpellsSource before front
+    pub goes_on : SpellsSource (too_deep ∷ after) rest
     pub within : source_deep before ≤ b
     pub beyond : b < deep too_deep
     pub on : line ≡ lines (length rest)
@@ -258,7 +262,7 @@ module _ (b : ℕ) (lines : ℕ → ℕ) where
       let f = first_deep (length ts) [] ts t (omega arith) e s in
       let both = sym f.is ∙ h in
       let same : lines (length f.rest) ≡ line = cc in
-      record { before = f.before; too_deep = f.too_deep; after = f.after; front = f.front; rest = f.rest; made = f.made; apart = f.apart; spells = f.spells; within = f.within; beyond = f.beyond; on = sym same }
+      record { before = f.before; too_deep = f.too_deep; after = f.after; front = f.front; rest = f.rest; made = f.made; apart = f.apart; spells = f.spells; goes_on = f.goes_on; within = f.within; beyond = f.beyond; on = sym same }
 
   pub source_deeper : (ts : List Tok) (line : ℕ) → source b lines ts ≡ Err (refusals.TooDeep line) → (b < length ts) × ((t : SourceTree) → SpellsSource t ts → Deep ts t line)
   source_deeper ts line h = by (all b ts) refl

@@ -42,6 +42,7 @@ pub record BeginsTooDeep (text : List ℕ) (ts : List (Tok × ℕ)) (t : SourceT
   pub is : t ≡ before ++ too_deep ∷ after
   pub apart : ts ≡ front ++ rest
   pub spells : SpellsSource before (plain front)
+  pub goes_on : SpellsSource (too_deep ∷ after) (plain rest)
   pub within : source_deep before ≤ 64
   pub beyond : 64 < deep too_deep
   pub on : line ≡ line_of text rest

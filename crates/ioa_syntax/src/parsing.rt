@@ -21,9 +21,10 @@ use std::alloc::Global;
 /// # Errors
 ///
 /// `TextTooLong` for more than 1,048,576 bytes, and `BadByte` where the text is no list of tokens. `Syntax` where no
-/// tree of any depth spells the tokens, with the line of the first token, or of the end, with which the tokens so far
-/// begin no source. `TooDeep` where a declaration, which begins on the line, goes deeper than 64. `OutOfMemory` where a
-/// growth of memory was refused.
+/// tree of any depth spells the tokens, with the line of a token, or of the end, with which the tokens so far begin no
+/// source; that it is the first such token is tested, not proved. `TooDeep` where the tokens are more than 64 and each tree
+/// that they spell is too deep, with the line on which its first declaration that goes deeper than 64 begins.
+/// `OutOfMemory` where a growth of memory was refused.
 pub fn parse(alloc: Global, text: &[u8]) -> Result<Source, Refusal>
     // What is read is spelled so.
     ensures found { IfOk result (λ s. (ts : List (Tok × ℕ)) × Lexes text.now ts × SpellsSource (tree_of s) (plain ts)) }

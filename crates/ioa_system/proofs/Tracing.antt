@@ -12,7 +12,8 @@ use Rattle.ioa_syntax.proofs.Simulation.{run_like, trace_like}
 use Rattle.ioa_syntax.specs.Likes.{RunsLike}
 use Rattle.ioa_compile.specs.Programs.{Prog}
 use Rattle.ioa_compile.specs.Tables.{tabled, start_states}
-use Rattle.ioa_compile.specs.Means.{CorrespondsAt, Means}
+use Rattle.ioa_compile.specs.Correspondence.{CorrespondsAt}
+use Rattle.ioa_compile.specs.Means.{Means}
 use Rattle.ioa_system.specs.declared.runs.Run.{Run}
 use Rattle.ioa_system.specs.Records.{IsTableRun, IsSourceRun}
 use Rattle.ioa_value.proofs.ItemLemmas.{drop_item}

@@ -4,3 +4,4 @@ pub mod Answers
 pub mod Endings
 pub mod Lent
 pub mod Records
+pub mod Sources

@@ -7,7 +7,7 @@ use Rattle.ioa_syntax.specs.Likes.{RunsLike}
 use Rattle.ioa_syntax.specs.Compositions.{Composed, components_of, starts_of}
 use Rattle.ioa_compile.specs.Programs.{Prog}
 use Rattle.ioa_compile.specs.Tables.{tabled, start_states}
-use Rattle.ioa_compile.specs.Means.{CorrespondsAt}
+use Rattle.ioa_compile.specs.Correspondence.{CorrespondsAt}
 use Rattle.ioa_system.specs.declared.runs.Run.{Run}
 use Rattle.ioa_system.specs.Answers.{ending_of}
 use Rattle.ioa_system.specs.Systems.{values_of}

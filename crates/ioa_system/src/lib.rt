@@ -3,12 +3,14 @@
 
 mod answer;
 mod entries;
+mod laws;
 mod moves;
 mod participation;
 mod runs;
 mod system;
 
 pub use answer::{End, Moved, Step};
+pub use laws::steps_are_the_sources;
 pub use moves::step_from;
 pub use participation::{is_external, owner, participants};
 pub use runs::{Run, run_list};

@@ -1,5 +1,5 @@
 -- Values without the memory that holds them: what definitions and contracts speak of.
-use Rattle.std.specs.Prelude.{ℕ, ℤ, Bool, List, [], ◌∷◌, map}
+use Rattle.std.specs.Prelude.{ℕ, ℤ, Bool, List, [], ◌∷◌}
 use Rattle.ioa_value.specs.declared.value.Value.{Value, Tuple', Items', Row_of-Value, end_of-Value, more_of-Value}
 use Rattle.ioa_value.specs.declared.value.Value.TheVariants.{Truth, Num, Name}
 
@@ -21,10 +21,6 @@ abbrev pub vals : List Val → Vals
 vals [] = none
 vals (v ∷ vs) = more v (vals vs)
 
-abbrev pub listed : Vals → List Val
-listed none = []
-listed (more v vs) = v ∷ listed vs
-
 abbrev mutual
   pub plain : Value → Val
   plain (Truth b) = truth b
@@ -40,7 +36,3 @@ abbrev mutual
 abbrev pub plain_all : List Value → Vals
 plain_all [] = none
 plain_all (v ∷ vs) = more (plain v) (plain_all vs)
-
--- the values of a list, as a list
-abbrev pub plain_list : List Value → List Val
-plain_list vs = map plain vs

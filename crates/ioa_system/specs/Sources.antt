@@ -1,0 +1,27 @@
+-- What a program's table does is what the composition does that it means.
+use Rattle.std.specs.Prelude.{◌≡◌, List}
+use Rattle.ioa_value.specs.Actions.{Act}
+use Rattle.ioa_value.specs.Plain.{Val}
+use Rattle.ioa_syntax.specs.Meaning.{Env}
+use Rattle.ioa_syntax.specs.Steps.{step, owner, participants}
+use Rattle.ioa_syntax.specs.Runs.{is_external}
+use Rattle.ioa_syntax.specs.Likes.{AllRelated, MovesLike}
+use Rattle.ioa_syntax.specs.Compositions.{Composed, components_of}
+use Rattle.ioa_compile.specs.Programs.{Prog}
+use Rattle.ioa_compile.specs.Tables.{tabled}
+use Rattle.ioa_compile.specs.Correspondence.{CorrespondsAt}
+use Rattle.ioa_compile.specs.Means.{Means}
+
+abbrev pub SameOwner : Type 0
+SameOwner = (p : Prog) (c : Composed) (a : Act) → Means p c → owner (tabled p) a ≡ owner (components_of c) a
+
+abbrev pub SameParticipants : Type 0
+SameParticipants = (p : Prog) (c : Composed) (a : Act) → Means p c → participants (tabled p) a ≡ participants (components_of c) a
+
+abbrev pub SameExternal : Type 0
+SameExternal = (p : Prog) (c : Composed) (a : Act) → Means p c → is_external p.hidden (tabled p) a ≡ is_external c.hidden (components_of c) a
+
+-- from corresponding states, the same answer with corresponding states
+abbrev pub SameStep : Type 0
+SameStep =
+    (p : Prog) (c : Composed) (a : Act) (es : List Env) (ss : List (List Val)) → Means p c → AllRelated (CorrespondsAt c.members) 0 es ss → MovesLike (CorrespondsAt c.members) 0 (step (components_of c) a es) (step (tabled p) a ss)
