@@ -92,18 +92,33 @@ impl From<StoreErr> for Failure {
 }
 
 impl From<Refusal> for Failure {
+    ghost use Rattle.std.specs.Prelude.{◌≡◌};
+    ghost use Rattle.ioac.specs.declared.failure.Failure.TheVariants as failures;
+
+    ghost from_gives = { λ r e. e ≡ failures.Refused r };
+
     fn from(refusal: Refusal) -> Failure {
         Failure::Refused(refusal)
     }
 }
 
 impl From<LogErr> for Failure {
+    ghost use Rattle.std.specs.Prelude.{◌≡◌};
+    ghost use Rattle.ioac.specs.declared.failure.Failure.TheVariants as failures;
+
+    ghost from_gives = { λ r e. e ≡ failures.List r };
+
     fn from(error: LogErr) -> Failure {
         Failure::List(error)
     }
 }
 
 impl From<ioa_value::OutOfMemory> for Failure {
+    ghost use Rattle.std.specs.Prelude.{◌≡◌};
+    ghost use Rattle.ioac.specs.declared.failure.Failure.TheVariants as failures;
+
+    ghost from_gives = { λ _ e. e ≡ failures.OutOfMemory };
+
     fn from(_error: ioa_value::OutOfMemory) -> Failure {
         Failure::OutOfMemory
     }

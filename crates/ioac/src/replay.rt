@@ -1,6 +1,8 @@
-ghost use Rattle.std.specs.Prelude.{IfOk, IfSome};
+ghost use Rattle.std.specs.Prelude.{◌⊎◌, IfOk, IfErr, IfSome};
 ghost use Rattle.std.specs.Option.{option_copied};
 ghost use Rattle.ioa_system.specs.Answers.{ending_of};
+ghost use Rattle.ioa_log.specs.Failing.{HasFailed};
+ghost use Rattle.ioac.specs.Failing.{IsFailure, IsUnwritten};
 ghost use Rattle.ioac.specs.Headline.{IsReplay};
 
 use crate::failure::Failure;
@@ -17,6 +19,11 @@ use std::alloc::Global;
 ///
 /// Whatever the text and the list: where the answer is `Ok`, the text spells one tree, and what was written is the
 /// run of the automata of that tree, by their meaning alone.
+///
+/// # Errors
+/// `Refused` where the text is no source, the source is not well formed, or it has no composition of the name, or one
+/// that is refused; `List` where a line of the list is no action, or a device failed in this call; or want of memory. Nothing
+/// was written then, but where a device failed (what may have been, `replay_list` says).
 pub fn replay_text<R: InputDevice, W: OutputDevice>(
     alloc: Global,
     text: &[u8],
@@ -24,8 +31,11 @@ pub fn replay_text<R: InputDevice, W: OutputDevice>(
     input: &mut R,
     output: &mut W,
 ) -> Result<End, Failure>
-    ensures { IfOk result (λ end. IfSome (R.remaining input.old) (λ bytes.
+    ensures replays { IfOk result (λ end. IfSome (R.remaining input.old) (λ bytes.
         IsReplay text.now (option_copied composition.entry) bytes (ending_of end) (W.contents output.old) (W.contents output.new))) }
+    ensures refused { IfErr result (λ e. IsFailure text.now (option_copied composition.entry) (R.remaining input.old)
+        (HasFailed (R.failure_count input.old) (R.failure_count input.new) ⊎ HasFailed (W.failure_count output.old) (W.failure_count output.new)) e) }
+    ensures unwritten { IfErr result (λ e. IsUnwritten (W.contents output.old) (W.contents output.new) e) }
 {
     let source = parse(alloc, text)?;
     let checked = check(alloc, source)?;

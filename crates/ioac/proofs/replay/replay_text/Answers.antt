@@ -1,12 +1,21 @@
 use Rattle.std.specs.Option.{option_copied}
 use Rattle.ioa_syntax.specs.View.{tree_of}
 use Rattle.ioa_compose.specs.Held.{composed_of}
+use Rattle.std.proofs.lemmas.Result.{err_from_is_err_and}
+use Rattle.ioac.proofs.Refused.{uncomposed, refused_so, same_refusal}
 use Rattle.ioac.proofs.Replayed.{replayed}
 use Rattle.ioac.proofs.replay.replay_text.Goals as goal
 
-pub returns : goal.returns
-returns g c =
+pub returns-clause-replays : goal.returns-clause-replays
+returns-clause-replays g c =
     replayed c.args.text.now (option_copied c.args.composition) _ _ _ _ (tree_of c.in_ok-source.source) (tree_of c.in_ok-checked.checked)
     (composed_of c.in_ok-composed.composed) c.in_ok-program.program
     c.in_ok-source.ensures.found c.in_ok-checked.ensures.same c.in_ok-checked.ensures.well_formed
     c.in_ok-composed.ensures.composed c.in_ok-program.ensures c.in_ok-end.ensures.source
+
+pub returns-in_err-composed-clause-refused : goal.returns-in_err-composed-clause-refused
+returns-in_err-composed-clause-refused g c =
+    let e = err_from_is_err_and c.from_residual-in_err-composed.result c.from_residual-in_err-composed.ensures.1 in
+    refused_so c.from_residual-in_err-composed.result e.0 c.in_err-composed.field-0.0 c.args.text.now (option_copied c.args.composition) _ _ e.1 e.2
+    (uncomposed c.args.text.now (option_copied c.args.composition) (tree_of c.in_ok-source.source) (tree_of c.in_ok-checked.checked) c.in_err-composed.field-0.0
+    c.in_ok-source.ensures.found c.in_ok-checked.ensures.same c.in_ok-checked.ensures.well_formed (λ n. same_refusal _ _ (c.in_err-composed.ensures.missing.0 n)) c.in_err-composed.ensures.refused)
