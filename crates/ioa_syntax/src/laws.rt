@@ -11,7 +11,8 @@ pub fn one_tree()
     ensures { (ts : List Tok) (t u : SourceTree) → SpellsSource t ts → SpellsSource u ts → t ≡ u }
 {}
 
-/// A well typed expression has a value of its type or a fault, and well typed statements leave a state of the same types or a fault.
+/// A well typed expression has a value of its type or a fault, and well typed statements leave a state of the same types
+/// or a fault.
 pub fn well_typed_answers()
     ensures expressions { ExpressionsAnswer }
     ensures effects { EffectsAnswer }
