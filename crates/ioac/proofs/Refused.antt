@@ -1,15 +1,18 @@
 -- From the clauses of the layers to why a replay does not come to an end.
-use Rattle.std.proofs.Common.{◌≡◌, ◌⊎◌, ℕ, inl, inr, List, Option, Some, None, Result, Err, IfErr, refl, sym, subst}
+use Rattle.std.proofs.Common.{◌≡◌, ◌⊎◌, ℕ, inl, inr, List, Option, Some, None, Result, Err, IfErr, IfSome, refl, sym, subst}
 use Rattle.std.specs.Result.{IsErrOf}
 use Rattle.ioa_value.specs.Actions.{Name}
 use Rattle.ioa_lex.specs.declared.refusal.Refusal.{Refusal}
 use Rattle.ioa_lex.specs.declared.refusal.Refusal.TheVariants as refusals
 use Rattle.ioa_syntax.specs.Tree.{SourceTree, CompositionTree}
 use Rattle.ioa_syntax.specs.WellFormed.{WellFormed}
-use Rattle.ioa_syntax.specs.Compositions.{picked}
+use Rattle.ioa_syntax.specs.Compositions.{Composed, picked, IsComposed, components_of, starts_of}
 use Rattle.ioa_compose.specs.Refusals as compositions
+use Rattle.std.specs.Io.KnownBytes.{Keeps}
+use Rattle.ioa_log.specs.declared.failure.LogErr.{LogErr}
+use Rattle.ioa_log.specs.Replays.{BeginsReplay}
 use Rattle.ioac.specs.declared.failure.Failure.{Failure}
-use Rattle.ioac.specs.Failing.{Spells, IsRefusedSource, IsFailure}
+use Rattle.ioac.specs.Failing.{Spells, IsRefusedSource, IsFailure, Begins, IsUnwritten}
 
 pub uncomposed : (text : List ℕ) (name : Option Name) (s u : SourceTree) (x : Refusal) → Spells text s → u ≡ s → WellFormed s
     → (picked u name ≡ None → x ≡ refusals.NoComposition)
@@ -29,3 +32,33 @@ refused_so r y x text name bytes failed is of h =
 
 pub same_refusal : {T : Type 0} (x y : Refusal) → IsErrOf {T = T} (Err x) y → x ≡ y
 same_refusal x y h = cc
+
+-- the clauses of the list's replay, put together
+pub unwritten_by : (text : List ℕ) (name : Option Name) (bytes before after : Option (List ℕ)) (s u : SourceTree) (c : Composed) (x : LogErr) {T : Type 0}
+    → Spells text s → u ≡ s → WellFormed s
+    → ((t : CompositionTree) × (picked u name ≡ Some t) × IsComposed u t c)
+    → ((n : ℕ) → IsErrOf {T = T} (Err x) (LogErr.BadLine n) → Keeps before after)
+    → (IsErrOf {T = T} (Err x) LogErr.OutOfMemory → Keeps before after)
+    → (IsErrOf {T = T} (Err x) LogErr.Io → Keeps before after ⊎ IfSome bytes (λ xs. BeginsReplay c.hidden (components_of c) (starts_of c) xs before after))
+    → IsUnwritten text name bytes before after (Failure.List x)
+unwritten_by text name bytes before after s u c (LogErr.BadLine n) found same well chosen bad memory io = bad n refl
+unwritten_by text name bytes before after s u c LogErr.OutOfMemory found same well chosen bad memory io = memory refl
+unwritten_by text name bytes before after s u c LogErr.Io found same well chosen bad memory io = elim (io refl) [ inl k ↦ inl k | inr b ↦ inr (go bytes b) ]
+  where
+    go : (o : Option (List ℕ)) → IfSome o (λ xs. BeginsReplay c.hidden (components_of c) (starts_of c) xs before after) → IfSome o (λ xs. Begins text name xs before after)
+    go None b = tt
+    go (Some xs) b = record {
+      source = s;
+      tree = chosen.0;
+      composed = c;
+      spells = found;
+      well_formed = well;
+      picks = subst (λ v. picked v name ≡ Some chosen.0) same chosen.1;
+      is_composed = subst (λ v. IsComposed v chosen.0 c) same chosen.2;
+      begins = b;
+    }
+
+pub unwritten_so : {T : Type 0} (r : Result T Failure) (y : Failure) (x : LogErr) (text : List ℕ) (name : Option Name) (bytes before after : Option (List ℕ))
+    → r ≡ Err y → y ≡ Failure.List x → IsUnwritten text name bytes before after (Failure.List x) → IfErr r (λ e. IsUnwritten text name bytes before after e)
+unwritten_so r y x text name bytes before after is of h =
+    subst (λ q. IfErr q (λ e. IsUnwritten text name bytes before after e)) (sym is) (subst (IsUnwritten text name bytes before after) (sym of) h)

@@ -13,10 +13,11 @@ use Rattle.ioa_syntax.specs.Source as texts
 use Rattle.ioa_syntax.specs.Source.{plain}
 use Rattle.ioa_syntax.specs.Grammar.{SpellsSource}
 use Rattle.ioa_syntax.specs.WellFormed.{WellFormed}
-use Rattle.ioa_syntax.specs.Compositions.{picked}
+use Rattle.ioa_syntax.specs.Compositions.{Composed, picked, IsComposed, components_of, starts_of}
 use Rattle.ioa_check.specs.Verdicts.{is_fault}
 use Rattle.ioa_compose.specs.Refusals as compositions
 use Rattle.ioa_log.specs.declared.failure.LogErr.{LogErr}
+use Rattle.ioa_log.specs.Replays.{BeginsReplay}
 use Rattle.ioac.specs.declared.failure.Failure.{Failure}
 
 -- the text spells the tree
@@ -47,7 +48,19 @@ IsFailure text name bytes failed (Failure.List LogErr.OutOfMemory) = Unit {0}
 IsFailure text name bytes failed Failure.Io = ⊥
 IsFailure text name bytes failed Failure.OutOfMemory = Unit {0}
 
--- nothing was written, but where a device failed
-abbrev pub IsUnwritten : Option (List ℕ) → Option (List ℕ) → Failure → Type 0
-IsUnwritten before after (Failure.List LogErr.Io) = Unit {0}
-IsUnwritten before after _ = Keeps before after
+-- what is written begins what a replay of the list in the source's composition writes
+pub record Begins (text : List ℕ) (name : Option Name) (bytes : List ℕ) (before after : Option (List ℕ)) : Type 0 where
+  pub source : SourceTree
+  pub tree : CompositionTree
+  pub composed : Composed
+  pub spells : Spells text source
+  pub well_formed : WellFormed source
+  pub picks : picked source name ≡ Some tree
+  pub is_composed : IsComposed source tree composed
+  pub begins : BeginsReplay composed.hidden (components_of composed) (starts_of composed) bytes before after
+
+-- nothing was written, or, where a device failed, no more than a beginning of the text
+abbrev pub IsUnwritten : List ℕ → Option Name → Option (List ℕ) → Option (List ℕ) → Option (List ℕ) → Failure → Type 0
+IsUnwritten text name bytes before after (Failure.List LogErr.Io) =
+    Keeps before after ⊎ IfSome bytes (λ xs. Begins text name xs before after)
+IsUnwritten text name bytes before after _ = Keeps before after

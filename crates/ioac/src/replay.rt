@@ -23,7 +23,7 @@ use std::alloc::Global;
 /// # Errors
 /// `Refused` where the text is no source, the source is not well formed, or it has no composition of the name, or one
 /// that is refused; `List` where a line of the list is no action, or a device failed in this call; or want of memory. Nothing
-/// was written then, but where a device failed (what may have been, `replay_list` says).
+/// was written then, or, where a device failed, no more than a beginning of the text.
 pub fn replay_text<R: InputDevice, W: OutputDevice>(
     alloc: Global,
     text: &[u8],
@@ -35,7 +35,7 @@ pub fn replay_text<R: InputDevice, W: OutputDevice>(
         IsReplay text.now (option_copied composition.entry) bytes (ending_of end) (W.contents output.old) (W.contents output.new))) }
     ensures refused { IfErr result (λ e. IsFailure text.now (option_copied composition.entry) (R.remaining input.old)
         (HasFailed (R.failure_count input.old) (R.failure_count input.new) ⊎ HasFailed (W.failure_count output.old) (W.failure_count output.new)) e) }
-    ensures unwritten { IfErr result (λ e. IsUnwritten (W.contents output.old) (W.contents output.new) e) }
+    ensures unwritten { IfErr result (λ e. IsUnwritten text.now (option_copied composition.entry) (R.remaining input.old) (W.contents output.old) (W.contents output.new) e) }
 {
     let source = parse(alloc, text)?;
     let checked = check(alloc, source)?;

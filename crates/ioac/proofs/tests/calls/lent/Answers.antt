@@ -1,4 +1,4 @@
-use Rattle.std.proofs.Common.{◌≡◌, ◌≤◌, ◌+◌, ℕ, List, [], ◌∷◌, ◌++◌, Vec, Some, None, length, map, get_or, append-nil, refl, sym, ap, ◌∙◌, arith}
+use Rattle.std.proofs.Common.{◌≡◌, ◌+◌, ℕ, List, [], ◌∷◌, ◌++◌, Vec, Some, None, get_or, append-nil, refl, sym, ap, ◌∙◌, arith}
 use Rattle.std.specs.Global.{Global}
 use Rattle.std.specs.Option.{option_map}
 use Rattle.std.specs.Prelude.{slice_get}
@@ -10,7 +10,6 @@ use Rattle.ioa_compile.specs.Programs.{MemberCode}
 use Rattle.ioa_value.specs.Actions.{act_of}
 use Rattle.ioa_syntax.specs.Steps.{participants}
 use Rattle.ioa_compile.specs.Tables.{tabled}
-use Rattle.ioa_system.specs.Participants.{taken}
 use Rattle.ioa_system.specs.Systems.{slot_types, types_of}
 use Rattle.ioac.proofs.Lent.{found, taken_found, found_more}
 use Rattle.ioac.proofs.tests.calls.lent.Goals.{in-Some+in_ok-try_copy+in_ok-push, in_default}
