@@ -4,9 +4,11 @@ ghost use Rattle.ioa_syntax.specs.View.{automaton_of, entry_of, variable_of};
 ghost use Rattle.ioa_syntax.specs.Instances.{basic_table, position_name};
 ghost use Rattle.ioa_syntax.specs.WellFormed as well_formed;
 ghost use Rattle.ioa_check.specs.Globals.{texts};
+ghost use Rattle.ioa_check.specs.Codes.{duplicate_name, too_many, tells};
+ghost use Rattle.ioa_check.specs.Reasons as reasons;
 ghost use Rattle.ioa_check.specs.Verdicts.{Says};
 
-use crate::expressions::{line_of, type_of};
+use crate::expressions::expect_type;
 use crate::fields::{type_named, types_known};
 use crate::globals::apart_from_globals;
 use crate::names::{apart, at_most, distinct};
@@ -17,7 +19,7 @@ use ioa_syntax::{Automaton, Entry, Refusal, Variable};
 
 /// Whether an automaton is well formed beside these global names.
 pub(crate) fn automaton_fine(automaton: &Automaton, globals: &IndexSet<&str>) -> Result<(), Refusal>
-    ensures { Says result (well_formed.automaton_fine basic_table (texts globals.now) (automaton_of automaton.now)) }
+    ensures { Says result (well_formed.automaton_fine basic_table (texts globals.now) (automaton_of automaton.now)) (reasons.in_automaton basic_table (texts globals.now) (automaton_of automaton.now)) }
 {
     limits_kept(automaton)?;
     fields_fine(automaton, globals)?;
@@ -29,7 +31,7 @@ pub(crate) fn automaton_fine(automaton: &Automaton, globals: &IndexSet<&str>) ->
 
 /// Whether there are no more formals, variables and entries than the limits.
 fn limits_kept(automaton: &Automaton) -> Result<(), Refusal>
-    ensures { let a = automaton_of automaton.now in Says result (nat_le (length a.formals) 8 && nat_le (length a.variables) 64 && nat_le (length a.entries) 64) }
+    ensures { let a = automaton_of automaton.now in Says result (nat_le (length a.formals) 8 && nat_le (length a.variables) 64 && nat_le (length a.entries) 64) (tells too_many) }
 {
     at_most(&automaton.formals, 8)?;
     at_most(&automaton.variables, 64)?;
@@ -39,7 +41,7 @@ fn limits_kept(automaton: &Automaton) -> Result<(), Refusal>
 /// Whether formals and variables have names of their own and known types.
 #[tactic(auto, using(crate::proofs::ViewLemmas::views))]
 fn fields_fine(automaton: &Automaton, globals: &IndexSet<&str>) -> Result<(), Refusal>
-    ensures { Says result (well_formed.fields_fine basic_table (texts globals.now) (automaton_of automaton.now)) }
+    ensures { Says result (well_formed.fields_fine basic_table (texts globals.now) (automaton_of automaton.now)) (reasons.in_fields basic_table (texts globals.now) (automaton_of automaton.now)) }
 {
     names_distinct(automaton)?;
     names_apart(automaton, globals)?;
@@ -49,7 +51,7 @@ fn fields_fine(automaton: &Automaton, globals: &IndexSet<&str>) -> Result<(), Re
 
 #[tactic(auto, using(crate::proofs::ViewLemmas::views, crate::proofs::NameLemmas::joins))]
 fn names_distinct(automaton: &Automaton) -> Result<(), Refusal>
-    ensures { Says result (well_formed.distinct (well_formed.local_names basic_table [] (automaton_of automaton.now))) }
+    ensures { Says result (well_formed.distinct (well_formed.local_names basic_table [] (automaton_of automaton.now))) (tells duplicate_name) }
 {
     distinct(&automaton.formals)?;
     distinct(&automaton.variables)?;
@@ -58,7 +60,7 @@ fn names_distinct(automaton: &Automaton) -> Result<(), Refusal>
 
 #[tactic(auto, using(crate::proofs::ViewLemmas::views, crate::proofs::NameLemmas::joins))]
 fn names_apart(automaton: &Automaton, globals: &IndexSet<&str>) -> Result<(), Refusal>
-    ensures { Says result (well_formed.apart (well_formed.local_names basic_table [] (automaton_of automaton.now)) (texts globals.now)) }
+    ensures { Says result (well_formed.apart (well_formed.local_names basic_table [] (automaton_of automaton.now)) (texts globals.now)) (tells duplicate_name) }
 {
     apart_from_globals(&automaton.formals, globals)?;
     apart_from_globals(&automaton.variables, globals)
@@ -66,7 +68,7 @@ fn names_apart(automaton: &Automaton, globals: &IndexSet<&str>) -> Result<(), Re
 
 /// Whether each start expression has its variable's type.
 fn starts_fine(automaton: &Automaton) -> Result<(), Refusal>
-    ensures { let a = automaton_of automaton.now in Says result (list_all (well_formed.start_fine basic_table [] a) a.variables) }
+    ensures { let a = automaton_of automaton.now in Says result (list_all (well_formed.start_fine basic_table [] a) a.variables) (reasons.in_any (reasons.in_start basic_table [] a) a.variables) }
 {
     for variable in &automaton.variables {
         start_fine(automaton, variable)?;
@@ -75,15 +77,15 @@ fn starts_fine(automaton: &Automaton) -> Result<(), Refusal>
 }
 
 fn start_fine(automaton: &Automaton, variable: &Variable) -> Result<(), Refusal>
-    ensures { Says result (well_formed.start_fine basic_table [] (automaton_of automaton.now) (variable_of variable.now)) }
+    ensures { let a = automaton_of automaton.now in let v = variable_of variable.now in Says result (well_formed.start_fine basic_table [] a v) (reasons.in_start basic_table [] a v) }
 {
     match &variable.start {
         None => Ok(()),
         Some(start) => {
-            let own = type_of(&Scope::of_starts(automaton), start)?;
-            match type_named(&variable.field.ty) {
-                Some(ty) if ty.0 == own.0 => Ok(()),
-                _ => Err(Refusal::TypeMismatch(line_of(start))),
+            let ty = &variable.field.ty;
+            match type_named(ty) {
+                Some(ty) => expect_type(&Scope::of_starts(automaton), start, ty),
+                None => Err(Refusal::UnknownName(ty.line)),
             }
         }
     }
@@ -92,14 +94,14 @@ fn start_fine(automaton: &Automaton, variable: &Variable) -> Result<(), Refusal>
 /// Whether entries have names of their own, and parameters with names of their own and known types.
 #[tactic(auto, using(crate::proofs::ViewLemmas::views))]
 fn entries_fine(automaton: &Automaton, globals: &IndexSet<&str>) -> Result<(), Refusal>
-    ensures { let a = automaton_of automaton.now in Says result (well_formed.distinct (map (λ e. e.name) a.entries) && list_all (well_formed.entry_fine basic_table (texts globals.now) a) a.entries) }
+    ensures { let a = automaton_of automaton.now in Says result (well_formed.distinct (map (λ e. e.name) a.entries) && list_all (well_formed.entry_fine basic_table (texts globals.now) a) a.entries) (reasons.in_entries basic_table (texts globals.now) a) }
 {
     distinct(&automaton.entries)?;
     each_entry_fine(automaton, globals)
 }
 
 fn each_entry_fine(automaton: &Automaton, globals: &IndexSet<&str>) -> Result<(), Refusal>
-    ensures { let a = automaton_of automaton.now in Says result (list_all (well_formed.entry_fine basic_table (texts globals.now) a) a.entries) }
+    ensures { let a = automaton_of automaton.now in Says result (list_all (well_formed.entry_fine basic_table (texts globals.now) a) a.entries) (reasons.in_any (reasons.in_entry basic_table (texts globals.now) a) a.entries) }
 {
     for entry in &automaton.entries {
         entry_fine(automaton, entry, globals)?;
@@ -109,7 +111,7 @@ fn each_entry_fine(automaton: &Automaton, globals: &IndexSet<&str>) -> Result<()
 
 #[tactic(auto, using(crate::proofs::ViewLemmas::views))]
 fn entry_fine(automaton: &Automaton, entry: &Entry, globals: &IndexSet<&str>) -> Result<(), Refusal>
-    ensures { Says result (well_formed.entry_fine basic_table (texts globals.now) (automaton_of automaton.now) (entry_of entry.now)) }
+    ensures { let a = automaton_of automaton.now in let e = entry_of entry.now in Says result (well_formed.entry_fine basic_table (texts globals.now) a e) (reasons.in_entry basic_table (texts globals.now) a e) }
 {
     at_most(&entry.positions, 8)?;
     distinct(&entry.positions)?;
@@ -124,7 +126,7 @@ fn parameters_apart(
     globals: &IndexSet<&str>,
 ) -> Result<(), Refusal>
     ensures { let a = automaton_of automaton.now in
-        Says result (well_formed.apart (map position_name (entry_of entry.now).positions) (texts globals.now ++ well_formed.local_names basic_table [] a)) }
+        Says result (well_formed.apart (map position_name (entry_of entry.now).positions) (texts globals.now ++ well_formed.local_names basic_table [] a)) (tells duplicate_name) }
 {
     apart_from_globals(&entry.positions, globals)?;
     apart(&entry.positions, &automaton.formals)?;

@@ -1,7 +1,7 @@
-ghost use Rattle.std.specs.Prelude.{◌≡◌, ◌≢◌, true, IfOk, IfErr, OnOk};
+ghost use Rattle.std.specs.Prelude.{◌≡◌, ◌≢◌, IsTrue, IfOk, IfErr, OnOk};
 ghost use Rattle.ioa_syntax.specs.View.{tree_of};
 ghost use Rattle.ioa_syntax.specs.WellFormed.{WellFormed};
-ghost use Rattle.ioa_check.specs.Verdicts.{is_fault};
+ghost use Rattle.ioa_check.specs.Reasons.{in_source};
 ghost use Rattle.ioa_lex.specs.declared.refusal.Refusal.TheVariants.{OutOfMemory};
 
 use crate::declarations::source_fine;
@@ -46,13 +46,13 @@ impl Checked {
 ///
 /// # Errors
 /// `DuplicateName`, `UnknownName` (also a name used before its declaration, or where it may not stand), `TypeMismatch`,
-/// `BadSignature`, `NoProposal` and `TooMany`, each only where the source is not well formed; which of them, and that its
-/// line is the one at fault, is tested, not proved. `OutOfMemory`.
+/// `BadSignature`, `NoProposal` and `TooMany`, each only where a rule of its own is broken somewhere in the source; which of
+/// several comes first, and that its line is the one at fault, is tested, not proved. `OutOfMemory`.
 pub fn check(alloc: Global, source: Source) -> Result<Checked, Refusal>
     ensures same { IfOk result (λ c. tree_of c ≡ tree_of source) }
     ensures well_formed { OnOk result (WellFormed (tree_of source)) }
     ensures refused { IfErr result (λ r. r ≢ OutOfMemory → WellFormed (tree_of source) → ⊥) }
-    ensures which { IfErr result (λ r. r ≢ OutOfMemory → is_fault r ≡ true) }
+    ensures reason { IfErr result (λ r. r ≢ OutOfMemory → IsTrue (in_source (tree_of source) r)) }
 {
     source_fine(alloc, source.declarations())?;
     Ok(Checked { source })

@@ -4,6 +4,7 @@ ghost use Rattle.std.specs.Option.{option_map_or};
 ghost use Rattle.ioa_syntax.specs.View.{automaton_of, assembly_of, instance_of, declaration_of, tree_of, name_of, expr_of};
 ghost use Rattle.ioa_syntax.specs.WellFormed as well_formed;
 ghost use Rattle.ioa_check.specs.Globals.{texts};
+ghost use Rattle.ioa_check.specs.Reasons as reasons;
 ghost use Rattle.ioa_check.specs.Verdicts.{Says, SaysOrMemory};
 
 use crate::automata::automaton_fine;
@@ -17,7 +18,7 @@ use std::alloc::Global;
 
 /// Whether declarations are a well formed source.
 pub(crate) fn source_fine(alloc: Global, declarations: &[Declaration]) -> Result<(), Refusal>
-    ensures { SaysOrMemory result (well_formed.well_formed (tree_of declarations.now)) }
+    ensures { SaysOrMemory result (well_formed.well_formed (tree_of declarations.now)) (reasons.in_source (tree_of declarations.now)) }
 {
     at_most(declarations, 256)?;
     let globals = global_names(alloc, declarations)?;
@@ -26,7 +27,7 @@ pub(crate) fn source_fine(alloc: Global, declarations: &[Declaration]) -> Result
 
 /// Whether each declaration is well formed over those before it.
 fn declarations_fine(declarations: &[Declaration], globals: &IndexSet<&str>) -> Result<(), Refusal>
-    ensures { Says result (well_formed.declarations_fine (texts globals.now) [] (tree_of declarations.now)) }
+    ensures { Says result (well_formed.declarations_fine (texts globals.now) [] (tree_of declarations.now)) (reasons.in_declarations (texts globals.now) [] (tree_of declarations.now)) }
 {
     for i in 0..declarations.len() {
         declaration_fine(&declarations[..i], &declarations[i], globals)?;
@@ -39,7 +40,7 @@ fn declaration_fine(
     declaration: &Declaration,
     globals: &IndexSet<&str>,
 ) -> Result<(), Refusal>
-    ensures { Says result (well_formed.declaration_fine (texts globals.now) (tree_of before.now) (declaration_of declaration.now)) }
+    ensures { let d = declaration_of declaration.now in Says result (well_formed.declaration_fine (texts globals.now) (tree_of before.now) d) (reasons.in_declaration (texts globals.now) (tree_of before.now) d) }
 {
     match declaration {
         Declaration::Automaton(automaton) => automaton_fine(automaton, globals),
@@ -50,7 +51,7 @@ fn declaration_fine(
 /// Whether a composition's components have names of their own and are well formed.
 #[tactic(auto, using(crate::proofs::ViewLemmas::views))]
 fn composition_fine(before: &[Declaration], composition: &Assembly) -> Result<(), Refusal>
-    ensures { Says result (well_formed.composition_fine (tree_of before.now) (assembly_of composition.now)) }
+    ensures { let c = assembly_of composition.now in Says result (well_formed.composition_fine (tree_of before.now) c) (reasons.in_composition (tree_of before.now) c) }
 {
     at_most(&composition.instances, 32)?;
     distinct(&composition.instances)?;
@@ -58,7 +59,7 @@ fn composition_fine(before: &[Declaration], composition: &Assembly) -> Result<()
 }
 
 fn each_instance_fine(before: &[Declaration], composition: &Assembly) -> Result<(), Refusal>
-    ensures { Says result (list_all (well_formed.instance_fine (tree_of before.now)) (assembly_of composition.now).instances) }
+    ensures { let is = (assembly_of composition.now).instances in Says result (list_all (well_formed.instance_fine (tree_of before.now)) is) (reasons.in_any (reasons.in_instance (tree_of before.now)) is) }
 {
     for instance in &composition.instances {
         instance_fine(before, instance)?;
@@ -68,7 +69,7 @@ fn each_instance_fine(before: &[Declaration], composition: &Assembly) -> Result<
 
 /// Whether a component is of an automaton declared before, and each argument has a type.
 fn instance_fine(before: &[Declaration], instance: &Instance) -> Result<(), Refusal>
-    ensures { Says result (well_formed.instance_fine (tree_of before.now) (instance_of instance.now)) }
+    ensures { let i = instance_of instance.now in Says result (well_formed.instance_fine (tree_of before.now) i) (reasons.in_instance (tree_of before.now) i) }
 {
     if !has_automaton(before, &instance.automaton) {
         return Err(Refusal::UnknownName(instance.automaton.line));
@@ -90,10 +91,18 @@ fn has_automaton(declarations: &[Declaration], name: &Name) -> bool
 }
 
 fn arguments_fine(arguments: &[Expression]) -> Result<(), Refusal>
-    ensures { Says result (list_all (λ e. option_map_or (λ ty. true) (well_formed.type_of [] e) false) (map expr_of arguments.now)) }
+    ensures { let es = map expr_of arguments.now in Says result (list_all (λ e. option_map_or (λ ty. true) (well_formed.type_of [] e) false) es) (reasons.in_any (reasons.in_expression []) es) }
 {
     for argument in arguments {
-        type_of(&Scope::empty(), argument)?;
+        argument_fine(argument)?;
     }
+    Ok(())
+}
+
+/// Whether an argument has a type.
+fn argument_fine(argument: &Expression) -> Result<(), Refusal>
+    ensures { let e = expr_of argument.now in Says result (option_map_or (λ ty. true) (well_formed.type_of [] e) false) (reasons.in_expression [] e) }
+{
+    type_of(&Scope::empty(), argument)?;
     Ok(())
 }

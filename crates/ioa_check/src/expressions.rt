@@ -1,4 +1,4 @@
-ghost use Rattle.std.specs.Prelude.{◌≡◌, [], ◌∷◌};
+ghost use Rattle.std.specs.Prelude.{◌≡◌, [], ◌∷◌, Some};
 ghost use Rattle.ioa_value.specs.Operators.{op_type};
 ghost use Rattle.ioa_syntax.specs.Meaning.{op_of};
 ghost use Rattle.ioa_syntax.specs.View.{expr_of};
@@ -6,6 +6,8 @@ ghost use Rattle.ioa_syntax.specs.Tree.{number};
 ghost use Rattle.ioa_syntax.specs.WellFormed as well_formed;
 ghost use Rattle.ioa_check.specs.Scopes.{context};
 ghost use Rattle.ioa_check.specs.Sizes.{counted};
+ghost use Rattle.ioa_check.specs.Codes.{type_mismatch, tells};
+ghost use Rattle.ioa_check.specs.Reasons as reasons;
 ghost use Rattle.ioa_check.specs.Verdicts.{Says, Finds};
 
 use crate::scope::Scope;
@@ -25,7 +27,7 @@ pub(crate) fn line_of(expression: &Expression) -> u32 {
 
 /// The type of an expression. A line is that of an unknown name, or of an operand whose type its operator does not take.
 pub(crate) fn type_of(scope: &Scope, expression: &Expression) -> Result<Ty, Refusal>
-    ensures { Finds result (well_formed.type_of (context scope.now) (expr_of expression.now)) }
+    ensures { Finds result (well_formed.type_of (context scope.now) (expr_of expression.now)) (reasons.in_expression (context scope.now) (expr_of expression.now)) }
 {
     match expression {
         Expression::Number(n, line) => number_type(*n, *line),
@@ -44,7 +46,7 @@ pub(crate) fn type_of(scope: &Scope, expression: &Expression) -> Result<Ty, Refu
 }
 
 fn number_type(n: u64, line: u32) -> Result<Ty, Refusal>
-    ensures { Finds result (well_formed.type_of [] (number n)) }
+    ensures { Finds result (well_formed.type_of [] (number n)) (tells type_mismatch) }
 {
     if n <= 0x7fff_ffff_ffff_ffff {
         Ok(Ty::INT)
@@ -61,7 +63,7 @@ fn operator_type(
     left_line: u32,
     right_line: u32,
 ) -> Result<Ty, Refusal>
-    ensures { Finds result (op_type (op_of operator) (left.0 ∷ right.0 ∷ [])) }
+    ensures { Finds result (op_type (op_of operator) (left.0 ∷ right.0 ∷ [])) (tells type_mismatch) }
 {
     match operator {
         Operator::Plus | Operator::Minus => {
@@ -84,7 +86,7 @@ fn operator_type(
 
 /// Whether an expression has this type. A line is that of the expression, or of what is wrong in it.
 pub(crate) fn expect_type(scope: &Scope, expression: &Expression, ty: Ty) -> Result<(), Refusal>
-    ensures { Says result (well_formed.has_ty (context scope.now) (expr_of expression.now) ty.0) }
+    ensures { Says result (well_formed.has_ty (context scope.now) (expr_of expression.now) ty.0) (reasons.in_place (Some ty.0) (context scope.now) (expr_of expression.now)) }
 {
     let own = type_of(scope, expression)?;
     if own.0 != ty.0 {

@@ -8,6 +8,7 @@ ghost use Rattle.ioa_syntax.specs.Instances.{basic_table};
 ghost use Rattle.ioa_syntax.specs.Instances as instances;
 ghost use Rattle.ioa_syntax.specs.WellFormed.{type_in, context_of, is_type};
 ghost use Rattle.ioa_check.specs.Fields.{type_under};
+ghost use Rattle.ioa_check.specs.Codes.{unknown_name, tells};
 ghost use Rattle.ioa_check.specs.Verdicts.{Says};
 
 use crate::names::same_name;
@@ -94,7 +95,7 @@ fn type_under(field: &Field, name: &Name) -> Option<Ty>
 
 /// Whether each item's type is declared. A line is that of the name of a type that is not.
 pub(crate) fn types_known<T: Typed>(items: &[T]) -> Result<(), Refusal>
-    ensures { Says result (list_all (is_type basic_table) (map T.tree items.now)) }
+    ensures { Says result (list_all (is_type basic_table) (map T.tree items.now)) (tells unknown_name) }
 {
     for item in items {
         let ty = &item.field().ty;

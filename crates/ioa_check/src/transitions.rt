@@ -1,10 +1,12 @@
-ghost use Rattle.std.specs.Prelude.{◌≡◌, ◌==◌, [], ◌||◌, ◌&&◌, not, map, filter, length, sum, nat_le};
+ghost use Rattle.std.specs.Prelude.{◌≡◌, ◌==◌, [], ◌||◌, ◌&&◌, not, map, filter, length, sum, nat_le, if◌then◌else◌};
 ghost use Rattle.std.specs.List.{list_all, list_any};
 ghost use Rattle.std.specs.Str.{bytes_eq};
 ghost use Rattle.ioa_syntax.specs.View.{automaton_of, entry_of, transition_of, stmt_of, proposal_of, name_of};
 ghost use Rattle.ioa_syntax.specs.View as view;
 ghost use Rattle.ioa_syntax.specs.Instances.{basic_table, type_named};
 ghost use Rattle.ioa_syntax.specs.WellFormed as well_formed;
+ghost use Rattle.ioa_check.specs.Codes.{bad_signature, no_proposal, too_many, tells};
+ghost use Rattle.ioa_check.specs.Reasons as reasons;
 ghost use Rattle.ioa_check.specs.Verdicts.{Says};
 
 use crate::expressions::{expect_type, line_of, nodes};
@@ -21,7 +23,7 @@ const MOST_NODES: u32 = 4096;
 /// Whether each entry has one transition of its kind and name, and each transition an entry. A line is that of a
 /// transition without entry, of an entry without transition, or of an entry's second transition.
 pub(crate) fn one_to_one(automaton: &Automaton) -> Result<(), Refusal>
-    ensures { Says result (well_formed.one_to_one basic_table [] (automaton_of automaton.now)) }
+    ensures { Says result (well_formed.one_to_one basic_table [] (automaton_of automaton.now)) (tells bad_signature) }
 {
     each_has_entry(automaton)?;
     each_has_transition(automaton)
@@ -29,7 +31,7 @@ pub(crate) fn one_to_one(automaton: &Automaton) -> Result<(), Refusal>
 
 /// Whether each transition has an entry.
 fn each_has_entry(automaton: &Automaton) -> Result<(), Refusal>
-    ensures { let a = automaton_of automaton.now in Says result (list_all (λ r. list_any (λ e. well_formed.matches basic_table [] a e r) a.entries) a.transitions) }
+    ensures { let a = automaton_of automaton.now in Says result (list_all (λ r. list_any (λ e. well_formed.matches basic_table [] a e r) a.entries) a.transitions) (tells bad_signature) }
 {
     for transition in &automaton.transitions {
         if !has_entry(automaton, transition) {
@@ -52,7 +54,7 @@ fn has_entry(automaton: &Automaton, transition: &Transition) -> bool
 
 /// Whether each entry has one transition and no second.
 fn each_has_transition(automaton: &Automaton) -> Result<(), Refusal>
-    ensures { let a = automaton_of automaton.now in Says result (list_all (λ e. length (filter (well_formed.matches basic_table [] a e) a.transitions) == 1) a.entries) }
+    ensures { let a = automaton_of automaton.now in Says result (list_all (λ e. length (filter (well_formed.matches basic_table [] a e) a.transitions) == 1) a.entries) (tells bad_signature) }
 {
     for entry in &automaton.entries {
         one_transition(automaton, entry)?;
@@ -62,7 +64,7 @@ fn each_has_transition(automaton: &Automaton) -> Result<(), Refusal>
 
 /// Whether the entry has one transition and no second.
 fn one_transition(automaton: &Automaton, entry: &Entry) -> Result<(), Refusal>
-    ensures { let a = automaton_of automaton.now in Says result (length (filter (well_formed.matches basic_table [] a (entry_of entry.now)) a.transitions) == 1) }
+    ensures { let a = automaton_of automaton.now in Says result (length (filter (well_formed.matches basic_table [] a (entry_of entry.now)) a.transitions) == 1) (tells bad_signature) }
 {
     let mut found = false;
     for transition in &automaton.transitions {
@@ -105,7 +107,7 @@ fn is_input(kind: Kind) -> bool
 
 /// Whether the transitions of each entry are well formed.
 pub(crate) fn transitions_fine(automaton: &Automaton) -> Result<(), Refusal>
-    ensures { let a = automaton_of automaton.now in Says result (list_all (λ e. list_all (λ r. not (well_formed.matches basic_table [] a e r) || well_formed.transition_fine basic_table [] a e r) a.transitions) a.entries) }
+    ensures { let a = automaton_of automaton.now in Says result (list_all (λ e. list_all (λ r. not (well_formed.matches basic_table [] a e r) || well_formed.transition_fine basic_table [] a e r) a.transitions) a.entries) (reasons.in_transitions basic_table [] a) }
 {
     for entry in &automaton.entries {
         transitions_of_entry_fine(automaton, entry)?;
@@ -114,14 +116,25 @@ pub(crate) fn transitions_fine(automaton: &Automaton) -> Result<(), Refusal>
 }
 
 fn transitions_of_entry_fine(automaton: &Automaton, entry: &Entry) -> Result<(), Refusal>
-    ensures { let a = automaton_of automaton.now in let e = entry_of entry.now in Says result (list_all (λ r. not (well_formed.matches basic_table [] a e r) || well_formed.transition_fine basic_table [] a e r) a.transitions) }
+    ensures { let a = automaton_of automaton.now in let e = entry_of entry.now in Says result (list_all (λ r. not (well_formed.matches basic_table [] a e r) || well_formed.transition_fine basic_table [] a e r) a.transitions)
+        (reasons.in_any (reasons.in_pair basic_table [] a e) a.transitions) }
 {
     for transition in &automaton.transitions {
-        if matches(entry, transition) {
-            transition_fine(automaton, entry, transition)?;
-        }
+        pair_fine(automaton, entry, transition)?;
     }
     Ok(())
+}
+
+/// Whether a transition is well formed, where it is one of this entry.
+fn pair_fine(automaton: &Automaton, entry: &Entry, transition: &Transition) -> Result<(), Refusal>
+    ensures { let a = automaton_of automaton.now in let e = entry_of entry.now in let r = transition_of transition.now in
+        Says result (not (well_formed.matches basic_table [] a e r) || well_formed.transition_fine basic_table [] a e r) (reasons.in_pair basic_table [] a e r) }
+{
+    if matches(entry, transition) {
+        transition_fine(automaton, entry, transition)
+    } else {
+        Ok(())
+    }
 }
 
 fn transition_fine(
@@ -129,19 +142,32 @@ fn transition_fine(
     entry: &Entry,
     transition: &Transition,
 ) -> Result<(), Refusal>
-    ensures { Says result (well_formed.transition_fine basic_table [] (automaton_of automaton.now) (entry_of entry.now) (transition_of transition.now)) }
+    ensures { let a = automaton_of automaton.now in let e = entry_of entry.now in let r = transition_of transition.now in Says result (well_formed.transition_fine basic_table [] a e r) (reasons.in_transition basic_table [] a e r) }
+{
+    before_effect_fine(automaton, entry, transition)?;
+    effect_fine(automaton, entry, transition)
+}
+
+/// Whether an input has neither precondition nor proposals, and those of an output or internal transition are well formed.
+fn before_effect_fine(
+    automaton: &Automaton,
+    entry: &Entry,
+    transition: &Transition,
+) -> Result<(), Refusal>
+    ensures { let a = automaton_of automaton.now in let e = entry_of entry.now in let r = transition_of transition.now in
+        Says result (if well_formed.is_input r.kind then well_formed.input_fine basic_table [] a r else well_formed.pre_fine basic_table [] a e r && well_formed.proposals_fine basic_table [] a e r && well_formed.all_proposed basic_table [] a e r)
+        (reasons.before_effect basic_table [] a e r) }
 {
     if is_input(transition.kind) {
-        input_fine(transition, automaton)?;
+        input_fine(transition, automaton)
     } else {
-        local_fine(automaton, entry, transition)?;
+        local_fine(automaton, entry, transition)
     }
-    effect_fine(automaton, entry, transition)
 }
 
 /// Whether an input has neither precondition nor proposals.
 fn input_fine(transition: &Transition, _automaton: &Automaton) -> Result<(), Refusal>
-    ensures { Says result (well_formed.input_fine basic_table [] (automaton_of _automaton.now) (transition_of transition.now)) }
+    ensures { Says result (well_formed.input_fine basic_table [] (automaton_of _automaton.now) (transition_of transition.now)) (tells bad_signature) }
 {
     if transition.pre.is_some() || transition.proposals.len() > 0 {
         return Err(Refusal::BadSignature(transition.name.line));
@@ -152,7 +178,7 @@ fn input_fine(transition: &Transition, _automaton: &Automaton) -> Result<(), Ref
 /// Whether precondition and proposals of an output or internal transition are well formed.
 fn local_fine(automaton: &Automaton, entry: &Entry, transition: &Transition) -> Result<(), Refusal>
     ensures { let a = automaton_of automaton.now in let e = entry_of entry.now in let r = transition_of transition.now in
-        Says result (well_formed.pre_fine basic_table [] a e r && well_formed.proposals_fine basic_table [] a e r && well_formed.all_proposed basic_table [] a e r) }
+        Says result (well_formed.pre_fine basic_table [] a e r && well_formed.proposals_fine basic_table [] a e r && well_formed.all_proposed basic_table [] a e r) (reasons.in_local basic_table [] a e r) }
 {
     pre_fine(automaton, entry, transition)?;
     proposals_fine(automaton, entry, transition)?;
@@ -160,7 +186,7 @@ fn local_fine(automaton: &Automaton, entry: &Entry, transition: &Transition) -> 
 }
 
 fn pre_fine(automaton: &Automaton, entry: &Entry, transition: &Transition) -> Result<(), Refusal>
-    ensures { Says result (well_formed.pre_fine basic_table [] (automaton_of automaton.now) (entry_of entry.now) (transition_of transition.now)) }
+    ensures { let a = automaton_of automaton.now in let e = entry_of entry.now in let r = transition_of transition.now in Says result (well_formed.pre_fine basic_table [] a e r) (reasons.in_some (reasons.in_pre basic_table [] a e) r.pre) }
 {
     match &transition.pre {
         None => Ok(()),
@@ -180,7 +206,7 @@ fn proposals_fine(
     entry: &Entry,
     transition: &Transition,
 ) -> Result<(), Refusal>
-    ensures { Says result (well_formed.proposals_fine basic_table [] (automaton_of automaton.now) (entry_of entry.now) (transition_of transition.now)) }
+    ensures { let a = automaton_of automaton.now in let e = entry_of entry.now in let r = transition_of transition.now in Says result (well_formed.proposals_fine basic_table [] a e r) (reasons.in_proposals basic_table [] a e r) }
 {
     each_proposal_fine(automaton, entry, transition)?;
     distinct(&transition.proposals)?;
@@ -192,7 +218,7 @@ fn each_proposal_fine(
     entry: &Entry,
     transition: &Transition,
 ) -> Result<(), Refusal>
-    ensures { Says result (list_all (well_formed.proposal_fine basic_table [] (automaton_of automaton.now) (entry_of entry.now)) (transition_of transition.now).proposals) }
+    ensures { let a = automaton_of automaton.now in let e = entry_of entry.now in let ps = (transition_of transition.now).proposals in Says result (list_all (well_formed.proposal_fine basic_table [] a e) ps) (reasons.in_any (reasons.in_proposal basic_table [] a e) ps) }
 {
     for proposal in &transition.proposals {
         proposal_fine(automaton, entry, proposal)?;
@@ -203,7 +229,7 @@ fn each_proposal_fine(
 /// Whether a proposal is for a parameter of the entry, and of its type.
 #[tactic(auto, using(crate::proofs::ViewLemmas::views))]
 fn proposal_fine(automaton: &Automaton, entry: &Entry, proposal: &Proposal) -> Result<(), Refusal>
-    ensures { Says result (well_formed.proposal_fine basic_table [] (automaton_of automaton.now) (entry_of entry.now) (proposal_of proposal.now)) }
+    ensures { let a = automaton_of automaton.now in let e = entry_of entry.now in let p = proposal_of proposal.now in Says result (well_formed.proposal_fine basic_table [] a e p) (reasons.in_proposal basic_table [] a e p) }
 {
     match find_type(&entry.positions, &proposal.name) {
         Some(ty) => expect_type(&Scope::of_proposals(automaton), &proposal.value, ty),
@@ -213,7 +239,7 @@ fn proposal_fine(automaton: &Automaton, entry: &Entry, proposal: &Proposal) -> R
 
 /// Whether proposals together have no more nodes than the limit.
 fn proposals_small(proposals: &[Proposal]) -> Result<(), Refusal>
-    ensures { Says result (nat_le (sum (map (λ p. well_formed.nodes p.value) (map proposal_of proposals.now))) 4096) }
+    ensures { Says result (nat_le (sum (map (λ p. well_formed.nodes p.value) (map proposal_of proposals.now))) 4096) (tells too_many) }
 {
     let mut total = 0;
     for proposal in proposals {
@@ -231,7 +257,7 @@ fn all_proposed(
     entry: &Entry,
     transition: &Transition,
 ) -> Result<(), Refusal>
-    ensures { Says result (well_formed.all_proposed basic_table [] (automaton_of _automaton.now) (entry_of entry.now) (transition_of transition.now)) }
+    ensures { Says result (well_formed.all_proposed basic_table [] (automaton_of _automaton.now) (entry_of entry.now) (transition_of transition.now)) (tells no_proposal) }
 {
     for position in &entry.positions {
         if !is_proposed(position.field(), transition) {
@@ -261,7 +287,7 @@ fn is_bool(name: &Name) -> bool
 }
 
 fn effect_fine(automaton: &Automaton, entry: &Entry, transition: &Transition) -> Result<(), Refusal>
-    ensures { Says result (well_formed.effect_fine basic_table [] (automaton_of automaton.now) (entry_of entry.now) (transition_of transition.now)) }
+    ensures { let a = automaton_of automaton.now in let e = entry_of entry.now in let r = transition_of transition.now in Says result (well_formed.effect_fine basic_table [] a e r) (reasons.in_effect basic_table [] a e r) }
 {
     each_statement_fine(automaton, entry, transition)?;
     effect_small(&transition.effect)
@@ -272,7 +298,7 @@ fn each_statement_fine(
     entry: &Entry,
     transition: &Transition,
 ) -> Result<(), Refusal>
-    ensures { Says result (list_all (well_formed.stmt_fine basic_table [] (automaton_of automaton.now) (entry_of entry.now)) (transition_of transition.now).effect) }
+    ensures { let a = automaton_of automaton.now in let e = entry_of entry.now in let ss = (transition_of transition.now).effect in Says result (list_all (well_formed.stmt_fine basic_table [] a e) ss) (reasons.in_any (reasons.in_stmt basic_table [] a e) ss) }
 {
     for statement in &transition.effect {
         statement_fine(automaton, entry, statement)?;
@@ -287,7 +313,7 @@ fn statement_fine(
     entry: &Entry,
     statement: &Statement,
 ) -> Result<(), Refusal>
-    ensures { Says result (well_formed.stmt_fine basic_table [] (automaton_of automaton.now) (entry_of entry.now) (stmt_of statement.now)) }
+    ensures { let a = automaton_of automaton.now in let e = entry_of entry.now in let st = stmt_of statement.now in Says result (well_formed.stmt_fine basic_table [] a e st) (reasons.in_stmt basic_table [] a e st) }
 {
     match statement {
         Statement::Assign(name, value) => match find_type(&automaton.variables, name) {
@@ -299,7 +325,7 @@ fn statement_fine(
 
 /// Whether statements together have no more nodes than the limit.
 fn effect_small(effect: &[Statement]) -> Result<(), Refusal>
-    ensures { Says result (nat_le (sum (map well_formed.stmt_nodes (map stmt_of effect.now))) 4096) }
+    ensures { Says result (nat_le (sum (map well_formed.stmt_nodes (map stmt_of effect.now))) 4096) (tells too_many) }
 {
     let mut total = 0;
     for statement in effect {
