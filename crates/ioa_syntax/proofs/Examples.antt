@@ -4,7 +4,7 @@ use Rattle.ioa_value.specs.declared.arithmetic.Fault.TheVariants.{Overflow}
 use Rattle.ioa_value.specs.Actions.{Name, Act}
 use Rattle.ioa_value.specs.Plain.{Val, num}
 use Rattle.ioa_value.specs.Plain.{truth as truth_value}
-use Rattle.ioa_syntax.specs.declared.tree.Operator.TheVariants.{Equal, Plus}
+use Rattle.ioa_value.specs.declared.operator.Op.TheVariants.{Eq, Add}
 use Rattle.ioa_syntax.specs.declared.tree.Kind.TheVariants.{Input, Output}
 use Rattle.ioa_syntax.specs.Tree.{Expr, number, truth, named, binary, FieldTree, typed, EntryTree, VariableTree, ProposalTree, TransitionTree, Stmt, assign, AutomatonTree, InstanceTree, CompositionTree, automaton, composition, SourceTree}
 use Rattle.ioa_syntax.specs.Meaning.{Env}
@@ -32,9 +32,9 @@ abbrev tick_transition : TransitionTree
 tick_transition = record {
   kind = Output;
   name = codes "tick";
-  pre = Some (binary (named (codes "k")) Equal (named (codes "c")));
+  pre = Some (binary (named (codes "k")) Eq (named (codes "c")));
   proposals = tick_proposal ∷ [];
-  effect = assign (codes "c") (binary (named (codes "c")) Plus (number 1)) ∷ [];
+  effect = assign (codes "c") (binary (named (codes "c")) Add (number 1)) ∷ [];
 }
 
 abbrev reset_transition : TransitionTree
@@ -151,7 +151,7 @@ starts_at_a_truth : well_formed (with_variables (count_variable ∷ record (plai
 starts_at_a_truth = refl
 
 -- an unknown name in a precondition
-asks_for_nothing : well_formed (with_pre (Some (binary (named (codes "k")) Equal (named (codes "d"))))) ≡ false
+asks_for_nothing : well_formed (with_pre (Some (binary (named (codes "k")) Eq (named (codes "d"))))) ≡ false
 asks_for_nothing = refl
 
 -- a precondition that is an Int
@@ -159,11 +159,11 @@ asks_for_a_number : well_formed (with_pre (Some (named (codes "c")))) ≡ false
 asks_for_a_number = refl
 
 -- an equation of an Int and a Bool
-compares_a_truth : well_formed (with_pre (Some (binary (named (codes "k")) Equal (truth true)))) ≡ false
+compares_a_truth : well_formed (with_pre (Some (binary (named (codes "k")) Eq (truth true)))) ≡ false
 compares_a_truth = refl
 
 -- a number that is no Int
-asks_for_too_much : well_formed (with_pre (Some (binary (named (codes "k")) Equal (number 9223372036854775808)))) ≡ false
+asks_for_too_much : well_formed (with_pre (Some (binary (named (codes "k")) Eq (number 9223372036854775808)))) ≡ false
 asks_for_too_much = refl
 
 -- an assignment to a formal, which is no variable
@@ -252,7 +252,7 @@ none_is_picked = refl
 argument_is_five : argument_values (number 5 ∷ []) ≡ Ok (num (pos 5) ∷ [])
 argument_is_five = refl
 
-argument_faults : argument_values (binary (number 9223372036854775807) Plus (number 1) ∷ []) ≡ Err Overflow
+argument_faults : argument_values (binary (number 9223372036854775807) Add (number 1) ∷ []) ≡ Err Overflow
 argument_faults = refl
 
 starts_at_five : start_values (from 5) ≡ Ok (num (pos 5) ∷ [])

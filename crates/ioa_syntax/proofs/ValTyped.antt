@@ -9,7 +9,7 @@ use Rattle.ioa_value.specs.Plain.{Val, truth as truth_value, num, name, tuple, i
 use Rattle.ioa_value.specs.Operators.{Answer, gives, faults, nothing, of_number, on_numbers, compared, operate, of_numbers, of_alike, op_type, same, Takes}
 use Rattle.ioa_value.specs.Typing.{Shape, HasType, own}
 use Rattle.ioa_syntax.specs.Tree.{Expr, number, truth, named, parens, binary}
-use Rattle.ioa_syntax.specs.Meaning.{Env, val, value_of, then_value, op_of}
+use Rattle.ioa_syntax.specs.Meaning.{Env, val, value_of, then_value}
 use Rattle.ioa_syntax.specs.WellFormed.{Context, type_of, both_types}
 use Rattle.ioa_syntax.specs.Answers.{IsTyped, Stands, Suits}
 
@@ -101,8 +101,8 @@ val_typed types c env (truth b) ty h e = let k : ty ≡ 0 = cc in k
 val_typed types c env (named x) ty h e = stands_typed types ty (env x) (h x ty e)
 val_typed types c env (parens e') ty h e = val_typed types c env e' ty h e
 val_typed types c env (binary l o r) ty h e =
-    let t = types_of_both (type_of c l) (type_of c r) (op_type (op_of o)) ty e in
-    then_typed types (op_of o) (val l env) (val r env) t.0 t.1 ty (val_typed types c env l t.0 h t.2) (val_typed types c env r t.1 h t.3) t.4
+    let t = types_of_both (type_of c l) (type_of c r) (op_type o) ty e in
+    then_typed types o (val l env) (val r env) t.0 t.1 ty (val_typed types c env l t.0 h t.2) (val_typed types c env r t.1 h t.3) t.4
 
 number_of_type : (types : List Shape) (v : Val) → HasType types v 1 → (x : ℤ) × (v ≡ num x)
 number_of_type types (num x) h = (x, refl)

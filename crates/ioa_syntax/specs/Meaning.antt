@@ -3,13 +3,9 @@ use Rattle.std.specs.Prelude.{if◌then◌else◌, List, [], ◌∷◌, Option, 
 use Rattle.std.specs.List.{list_any}
 use Rattle.std.specs.Str.{bytes_eq}
 use Rattle.ioa_value.specs.declared.arithmetic.Fault.{Fault}
-use Rattle.ioa_value.specs.declared.operator.Op.{Op}
-use Rattle.ioa_value.specs.declared.operator.Op.TheVariants as ops
 use Rattle.ioa_value.specs.Actions.{Name}
 use Rattle.ioa_value.specs.Plain.{Val, truth as truth_value, num}
 use Rattle.ioa_value.specs.Operators.{Answer, gives, faults, nothing, operate}
-use Rattle.ioa_syntax.specs.declared.tree.Operator.{Operator}
-use Rattle.ioa_syntax.specs.declared.tree.Operator.TheVariants.{Equal, Plus, Minus}
 use Rattle.ioa_syntax.specs.Tree.{Expr, number, truth, named, parens, binary, Stmt, assign}
 
 -- what each name stands for
@@ -51,18 +47,13 @@ abbrev pub value_of : Option Val → Answer
 value_of (Some v) = gives v
 value_of None = nothing
 
-abbrev pub op_of : Operator → Op
-op_of Equal = ops.Eq
-op_of Plus = ops.Add
-op_of Minus = ops.Sub
-
 -- the value of an expression, or its fault: operands go left to right and the first fault wins
 abbrev pub val : Expr → Env → Answer
 val (number n) env = gives (num (pos n))
 val (truth b) env = gives (truth_value b)
 val (named x) env = value_of (env x)
 val (parens e) env = val e env
-val (binary l o r) env = then_value (val l env) (λ x. then_value (val r env) (λ y. operate (op_of o) (x ∷ y ∷ [])))
+val (binary l o r) env = then_value (val l env) (λ x. then_value (val r env) (λ y. operate o (x ∷ y ∷ [])))
 
 -- what statements leave: an environment, a fault, or nothing, where a name or a value is missing
 pub data Outcome : Type 0 where

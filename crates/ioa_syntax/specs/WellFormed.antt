@@ -9,7 +9,6 @@ use Rattle.ioa_value.specs.Operators.{op_type}
 use Rattle.ioa_syntax.specs.declared.tree.Kind.{Kind}
 use Rattle.ioa_syntax.specs.declared.tree.Kind.TheVariants.{Input, Output, Internal}
 use Rattle.ioa_syntax.specs.Tree.{Expr, number, truth, named, parens, binary, FieldTree, PositionTree, typed, EntryTree, VariableTree, ProposalTree, Stmt, assign, TransitionTree, AutomatonTree, InstanceTree, CompositionTree, DeclarationTree, automaton, composition, SourceTree}
-use Rattle.ioa_syntax.specs.Meaning.{op_of}
 use Rattle.ioa_syntax.specs.Instances.{TypeTable, type_named, basic_table, field_names, variable_names, position_name}
 
 -- names with the numbers of their types
@@ -31,7 +30,7 @@ type_of c (number n) = if fits (pos n) then Some 1 else None
 type_of c (truth b) = Some 0
 type_of c (named x) = type_in c x
 type_of c (parens e) = type_of c e
-type_of c (binary l o r) = both_types (type_of c l) (type_of c r) (op_type (op_of o))
+type_of c (binary l o r) = both_types (type_of c l) (type_of c r) (op_type o)
 
 abbrev pub is_some_of : Option ℕ → ℕ → Bool
 is_some_of o ty = option_map_or (λ t. t == ty) o false

@@ -8,6 +8,7 @@ mod expressions;
 mod fault;
 mod laws;
 mod measured;
+mod operators;
 mod parsing;
 mod printing;
 mod sameness;
@@ -24,6 +25,6 @@ pub use parsing::parse;
 pub use printing::print;
 pub use source::Source;
 pub use tree::{
-    Assembly, Automaton, Declaration, Entry, Expression, Field, Instance, Kind, Name, Operator,
-    Position, Proposal, Statement, Transition, Variable,
+    Assembly, Automaton, Declaration, Entry, Expression, Field, Instance, Kind, Name, Position,
+    Proposal, Statement, Transition, Variable,
 };
