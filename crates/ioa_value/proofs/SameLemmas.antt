@@ -5,10 +5,11 @@ use Rattle.ioa_value.specs.declared.value.Value.{Value}
 use Rattle.ioa_value.specs.declared.operator.Op.{Op}
 use Rattle.ioa_value.specs.declared.operator.Op.TheVariants.{Eq}
 use Rattle.ioa_value.specs.Plain.{Val, Vals, truth, tuple, items, plain, plain_all}
+use Rattle.ioa_value.specs.Table.{Table}
 use Rattle.ioa_value.specs.Typing.{own}
 use Rattle.ioa_value.specs.Operators.{same, same_all, gives, operate, Takes}
 
-equal : (s t : ℕ) → s ≡ t → (s == t) ≡ true
+pub equal : (s t : ℕ) → s ≡ t → (s == t) ≡ true
 equal s t e = grind (arith, nat_tests)
 
 pub tuples : (v w : Val) (s t : ℕ) (xs ys : Vals) (r : Bool) → v ≡ tuple s xs → w ≡ tuple t ys → s ≡ t → r ≡ same_all xs ys → r ≡ same v w
@@ -32,13 +33,13 @@ uneven (x ∷ xs) [] e = refl
 uneven (x ∷ xs) (y ∷ ys) e = both_false _ _ (uneven xs ys (λ q. e (ap suc q)))
 
 -- two operands of one type are compared
-pub compares : (op : Op) (xs : List Value) (a b : Value) (r : Bool) → op ≡ Eq → Takes op (map plain xs) → a ≡ get_or xs 0 a → b ≡ get_or xs 1 b → r ≡ same (plain a) (plain b) → gives (truth r) ≡ operate op (map plain xs)
-compares op xs a b r e t f g h =
-    let t' : Takes Eq (map plain xs) = subst (λ o. Takes o (map plain xs)) e t in
-    let done : gives (truth r) ≡ operate Eq (map plain xs) = alike xs a b r t' f g h in
-    done ∙ ap (λ o. operate o (map plain xs)) (sym e)
+pub compares : (types : Table) (op : Op) (xs : List Value) (a b : Value) (r : Bool) → op ≡ Eq → Takes types op (map plain xs) → a ≡ get_or xs 0 a → b ≡ get_or xs 1 b → r ≡ same (plain a) (plain b) → gives (truth r) ≡ operate types op (map plain xs)
+compares types op xs a b r e t f g h =
+    let t' : Takes types Eq (map plain xs) = subst (λ o. Takes types o (map plain xs)) e t in
+    let done : gives (truth r) ≡ operate types Eq (map plain xs) = alike xs a b r t' f g h in
+    done ∙ ap (λ o. operate types o (map plain xs)) (sym e)
   where
-    alike : (xs : List Value) (a b : Value) (r : Bool) → Takes Eq (map plain xs) → a ≡ get_or xs 0 a → b ≡ get_or xs 1 b → r ≡ same (plain a) (plain b) → gives (truth r) ≡ operate Eq (map plain xs)
+    alike : (xs : List Value) (a b : Value) (r : Bool) → Takes types Eq (map plain xs) → a ≡ get_or xs 0 a → b ≡ get_or xs 1 b → r ≡ same (plain a) (plain b) → gives (truth r) ≡ operate types Eq (map plain xs)
     alike [] a b r t f g h = let e : [] ≡ t.0 ∷ t.1 ∷ [] = t.3 in absurd (cc)
     alike (x ∷ []) a b r t f g h = let e : plain x ∷ [] ≡ t.0 ∷ t.1 ∷ [] = t.3 in absurd (cc)
     alike (x ∷ y ∷ z ∷ zs) a b r t f g h = let e : plain x ∷ plain y ∷ map plain (z ∷ zs) ≡ t.0 ∷ t.1 ∷ [] = t.3 in absurd (cc)
