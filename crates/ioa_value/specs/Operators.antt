@@ -7,7 +7,7 @@ use Rattle.ioa_value.specs.declared.value.Value.{Value}
 use Rattle.ioa_value.specs.Arithmetic.{tested}
 use Rattle.ioa_value.specs.Plain.{Val, Vals, truth, num, name, tuple, items, none, more, plain}
 use Rattle.ioa_value.specs.Table.{Table}
-use Rattle.ioa_value.specs.Typing.{own}
+use Rattle.ioa_value.specs.Typing.{HasType, own}
 
 -- a value, a fault, or nothing, where the operands are not the operator's
 pub data Answer : Type 0 where
@@ -88,3 +88,9 @@ abbrev pub Takes : Table → Op → List Val → Type 0
 Takes types Add vs = (x : ℤ) × (y : ℤ) × (vs ≡ num x ∷ num y ∷ [])
 Takes types Sub vs = (x : ℤ) × (y : ℤ) × (vs ≡ num x ∷ num y ∷ [])
 Takes types Eq vs = (x : Val) × (y : Val) × (own x ≡ own y) × (vs ≡ x ∷ y ∷ [])
+
+-- a value of the type, or a fault
+abbrev pub IsTypedAnswer : Table → ℕ → Answer → Type 0
+IsTypedAnswer types ty (gives v) = HasType types v ty
+IsTypedAnswer types ty (faults f) = Unit {0}
+IsTypedAnswer types ty nothing = ⊥

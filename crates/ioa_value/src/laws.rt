@@ -1,8 +1,11 @@
 //! What follows from the definitions alone.
 
-ghost use Rattle.std.specs.Prelude.{◌≡◌, ℕ, ◌<◌, List, All, length};
+ghost use Rattle.std.specs.Prelude.{◌≡◌, ◌↔◌, ℕ, ◌<◌, List, All, length, Some, IsTrue};
+ghost use Rattle.ioa_value.specs.Plain.{Val};
 ghost use Rattle.ioa_value.specs.Table.{Table, AreTypes};
-ghost use Rattle.ioa_value.specs.Typing.{HasType, first_of};
+ghost use Rattle.ioa_value.specs.Typing.{HasType, HaveTypes, first_of};
+ghost use Rattle.ioa_value.specs.Operators.{same, operate, op_type, Takes, IsTypedAnswer};
+ghost use Rattle.ioa_value.specs.declared.operator.Op.{Op};
 ghost use Rattle.ioa_value.specs.Actions.{Act};
 ghost use Rattle.ioa_value.specs.Names.{IsName};
 ghost use Rattle.ioa_value.specs.Written.{written_action, HasText};
@@ -33,4 +36,15 @@ pub fn written_is_read()
 /// The first value of a type is one of the type's.
 pub fn first_is_typed()
     ensures { (types : Table) (ty : ℕ) → AreTypes types → ty < length types → HasType types (first_of types ty) ty }
+{}
+
+/// Operands of the types that an operator takes are its operands, and what it gives of them is of the stated type.
+pub fn operators_are_typed()
+    ensures takes { (types : Table) (op : Op) (vs : List Val) (tys : List ℕ) (ty : ℕ) → AreTypes types → HaveTypes types vs tys → op_type types op tys ≡ Some ty → Takes types op vs }
+    ensures gives { (types : Table) (op : Op) (vs : List Val) (tys : List ℕ) (ty : ℕ) → AreTypes types → HaveTypes types vs tys → op_type types op tys ≡ Some ty → IsTypedAnswer types ty (operate types op vs) }
+{}
+
+/// Two values are equal as computed exactly where they are equal.
+pub fn same_is_equal()
+    ensures { (v w : Val) → IsTrue (same v w) ↔ (v ≡ w) }
 {}
