@@ -9,6 +9,8 @@ pub mod Source
 pub mod Layout
 pub mod Reading
 pub mod Meaning
+pub mod Types
+pub mod Limits
 pub mod Components
 pub mod Steps
 pub mod Runs

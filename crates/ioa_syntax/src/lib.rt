@@ -20,7 +20,7 @@ mod transitions;
 mod tree;
 
 pub use ioa_lex::Refusal;
-pub use laws::{one_tree, well_typed_answers};
+pub use laws::{one_tree, well_formed_starts, well_typed_answers};
 pub use parsing::parse;
 pub use printing::print;
 pub use source::Source;
