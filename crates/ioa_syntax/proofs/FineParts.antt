@@ -67,7 +67,7 @@ module _ (types : Table) (globals : List Name) (a : AutomatonTree) where
 
 -- what an automaton within limits keeps
 pub record WithinParts (most : Limits) (a : AutomatonTree) : Type 0 where
-  pub formals : length a.formals ≤ most.formals
+  pub formals : length a.formals ≤ most.parameters
   pub variables : length a.variables ≤ most.variables
   pub entries : length a.entries ≤ most.entries
   pub each_entry : IsTrue (list_all (entry_within most) a.entries)
@@ -77,10 +77,10 @@ pub within_parts : (most : Limits) (a : AutomatonTree) → IsTrue (automaton_wit
 within_parts most a h =
     let p4 = and_parts _ _ h in
     let p3 = and_parts _ _ p4.0 in
-    let p2 = and_parts (nat_le (length a.formals) most.formals && nat_le (length a.variables) most.variables) (nat_le (length a.entries) most.entries) p3.0 in
-    let p1 = and_parts (nat_le (length a.formals) most.formals) (nat_le (length a.variables) most.variables) p2.0 in
+    let p2 = and_parts (nat_le (length a.formals) most.parameters && nat_le (length a.variables) most.variables) (nat_le (length a.entries) most.entries) p3.0 in
+    let p1 = and_parts (nat_le (length a.formals) most.parameters) (nat_le (length a.variables) most.variables) p2.0 in
     record {
-      formals = at_most (length a.formals) most.formals p1.0;
+      formals = at_most (length a.formals) most.parameters p1.0;
       variables = at_most (length a.variables) most.variables p1.1;
       entries = at_most (length a.entries) most.entries p2.1;
       each_entry = p3.1;
@@ -92,12 +92,12 @@ within_parts most a h =
 pub record SourceParts (s : SourceTree) : Type 0 where
   pub distinct_names : IsTrue (distinct (global_names s))
   pub declarations : IsTrue (declarations_fine (types_of s) (global_names s) [] s)
-  pub few : length (filter is_counted s) ≤ limits.declared
+  pub few : length (filter is_counted s) ≤ limits.automata
   pub within : IsTrue (list_all (declaration_within limits) s)
 
 pub source_parts : (s : SourceTree) → IsTrue (well_formed s) → SourceParts s
 source_parts s h =
     let p2 = and_parts (distinct (global_names s) && declarations_fine (types_of s) (global_names s) [] s) (source_within limits s) h in
     let p1 = and_parts (distinct (global_names s)) (declarations_fine (types_of s) (global_names s) [] s) p2.0 in
-    let w = and_parts (nat_le (length (filter is_counted s)) limits.declared) (list_all (declaration_within limits) s) p2.1 in
-    record { distinct_names = p1.0; declarations = p1.1; few = at_most (length (filter is_counted s)) limits.declared w.0; within = w.1 }
+    let w = and_parts (nat_le (length (filter is_counted s)) limits.automata) (list_all (declaration_within limits) s) p2.1 in
+    record { distinct_names = p1.0; declarations = p1.1; few = at_most (length (filter is_counted s)) limits.automata w.0; within = w.1 }

@@ -3,18 +3,17 @@ use Rattle.std.specs.Prelude.{ℕ}
 
 pub record Limits : Type 0 where
   -- automata and compositions of a source, together
-  pub declared : ℕ
+  pub automata : ℕ
   -- components of a composition
   pub components : ℕ
-  -- formals, variables and entries of an automaton
-  pub formals : ℕ
+  -- formals of an automaton, and positions of an entry
+  pub parameters : ℕ
+  -- variables and entries of an automaton
   pub variables : ℕ
   pub entries : ℕ
-  -- positions of an entry
-  pub positions : ℕ
   -- nodes of trees: of a precondition, of a transition's proposals together, of an effect
   pub nodes : ℕ
 
 -- those of what is declared
 abbrev pub limits : Limits
-limits = record { declared = 256; components = 32; formals = 8; variables = 64; entries = 64; positions = 8; nodes = 4096 }
+limits = record { automata = 256; components = 32; parameters = 8; variables = 64; entries = 64; nodes = 4096 }

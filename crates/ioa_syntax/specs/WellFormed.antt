@@ -208,10 +208,10 @@ module _ (most : Limits) where
   transition_within r = pre_within r && proposals_within r && effect_within r
 
   abbrev pub entry_within : EntryTree → Bool
-  entry_within e = nat_le (length e.positions) most.positions
+  entry_within e = nat_le (length e.positions) most.parameters
 
   abbrev pub automaton_within : AutomatonTree → Bool
-  automaton_within a = nat_le (length a.formals) most.formals && nat_le (length a.variables) most.variables && nat_le (length a.entries) most.entries
+  automaton_within a = nat_le (length a.formals) most.parameters && nat_le (length a.variables) most.variables && nat_le (length a.entries) most.entries
       && list_all entry_within a.entries && list_all transition_within a.transitions
 
   abbrev pub composition_within : CompositionTree → Bool
@@ -223,7 +223,7 @@ module _ (most : Limits) where
 
   -- automata and compositions are counted together
   abbrev pub source_within : SourceTree → Bool
-  source_within s = nat_le (length (filter is_counted s)) most.declared && list_all declaration_within s
+  source_within s = nat_le (length (filter is_counted s)) most.automata && list_all declaration_within s
 
 -- ---- sources
 
