@@ -9,7 +9,7 @@ use Rattle.ioa_lex.specs.declared.refusal.Refusal.{Refusal}
 use Rattle.ioa_check.specs.Codes.{Code, tells}
 use Rattle.ioa_check.specs.Reasons.{Reasons, broken, in_any}
 use Rattle.ioa_check.specs.Verdicts.{Says}
-use Rattle.ioa_value.proofs.ItemLemmas.{drop_item}
+use Rattle.ioa_value.proofs.ItemLemmas.{drop_item, all_fails}
 
 -- the last of two tests decides
 pub says-last : {T : Type 0} (r : Result T Refusal) (a b : Bool) (w : Reasons) → a ≡ true → Says r b w → Says r (a && b) w
@@ -44,16 +44,6 @@ any-at f v xs i x l e h =
     ap (λ ys. list_any f (map v ys)) (sym (split-at xs i x l e)) ∙ ap (list_any f) (map-append v (take i xs) (x ∷ drop (i + 1) xs))
     ∙ list_any-append f (map v (take i xs)) (v x ∷ map v (drop (i + 1) xs)) ∙ or_right _ _ (or_left _ _ h)
 
--- a loop over a list's tests: where one fails, and where it goes on
-pub all-fails : {X Y : Type 0} (f : Y → Bool) (v : X → Y) (xs ys : List X) (i : ℕ) (x : X) → ys ≡ xs → i < length ys → x ≡ get_or ys i x → list_all f (map v (drop i xs)) ≡ list_all f (map v xs) → f (v x) ≡ false → list_all f (map v xs) ≡ false
-all-fails f v xs ys i x q l e h k =
-    sym h ∙ ap (λ zs. list_all f (map v (drop i zs))) (sym q) ∙ ap (λ zs. list_all f (map v zs)) (drop_item ys i x l e) ∙ ap (λ b. b && list_all f (map v (drop (i + 1) ys))) k
-
-pub all-goes-on : {X Y : Type 0} (f : Y → Bool) (v : X → Y) (xs ys : List X) (i : ℕ) (x : X) → ys ≡ xs → i < length ys → x ≡ get_or ys i x → list_all f (map v (drop i xs)) ≡ list_all f (map v xs) → f (v x) ≡ true → list_all f (map v (drop (i + 1) xs)) ≡ list_all f (map v xs)
-all-goes-on f v xs ys i x q l e h k =
-    ap (λ zs. list_all f (map v (drop (i + 1) zs))) (sym q) ∙ sym (ap (λ b. b && list_all f (map v (drop (i + 1) ys))) k) ∙ sym (ap (λ zs. list_all f (map v zs)) (drop_item ys i x l e))
-    ∙ ap (λ zs. list_all f (map v (drop i zs))) q ∙ h
-
 -- an error that `?` hands on
 pub says-passed : {T U : Type 0} (q : Result T Refusal) (r : Result U Refusal) (e : Refusal) (b : Bool) (w : Reasons) → q ≡ Err e → IsErrAnd r (λ x. x ≡ e) → Says q b w → Says r b w
 says-passed {T} q (Ok y) e b w p h k = absurd h
@@ -70,7 +60,7 @@ says-in-list q r e f w v xs ys i x at l is h was bad k = fails r bad (says-passe
     fails : {U : Type 0} (r : Result U Refusal) → IsErrAnd r (λ y. y ≡ e) → Says r (f (v x)) (w (v x)) → Says r (list_all f (map v xs)) (in_any w (map v xs))
     fails (Ok y) bad k = absurd bad
     fails (Err y) bad k =
-        (ap (λ zs. list_any (λ z. w z y) (map v zs)) (sym at) ∙ any-at (λ z. w z y) v ys i x l is k.0, all-fails f v xs ys i x at l is h k.1)
+        (ap (λ zs. list_any (λ z. w z y) (map v zs)) (sym at) ∙ any-at (λ z. w z y) v ys i x l is k.0, all_fails f v xs ys i x _ at l is h k.1)
 
 -- an error at one of two tests is one for both
 pub err-first : {T : Type 0} (r : Result T Refusal) (a b : Bool) (w : Reasons) → IsErr r → Says r a w → Says r (a && b) w
@@ -80,7 +70,3 @@ err-first (Err x) a b w bad h = (h.0, and_left a b h.1)
 pub err-last : {T : Type 0} (r : Result T Refusal) (a b : Bool) (w : Reasons) → IsErr r → Says r b w → Says r (a && b) w
 err-last (Ok x) a b w bad h = absurd (cc)
 err-last (Err x) a b w bad h = (h.0, and_right a b h.1)
-
-pub all-done : {X Y : Type 0} (f : Y → Bool) (v : X → Y) (xs ys : List X) (i : ℕ) → ys ≡ xs → length ys ≤ i → list_all f (map v (drop i xs)) ≡ list_all f (map v xs) → list_all f (map v xs) ≡ true
-all-done f v xs ys i q l h =
-    sym h ∙ ap (λ zs. list_all f (map v (drop i zs))) (sym q) ∙ ap (λ zs. list_all f (map v zs)) (drop_all i ys l)

@@ -1,6 +1,6 @@
 use Rattle.ioa_syntax.specs.View.{stmt_of}
 use Rattle.ioa_check.proofs.SayLemmas.{says-in-list}
-use Rattle.ioa_check.proofs.transitions.each_statement_fine.Goals as goal
+use Rattle.ioa_check.proofs.transitions.effect_fine.Goals as goal
 
 pub returns-in_err-statement_fine : goal.returns-in_err-statement_fine
 returns-in_err-statement_fine c =
