@@ -1,5 +1,5 @@
 -- Compositions that are alike, component by component, do the same.
-use Rattle.std.proofs.Common.{◌≡◌, ℕ, ◌+◌, List, [], ◌∷◌, Bool, true, false, cond, IsTrue, Result, Ok, Err, filter, take, refl, ap, subst}
+use Rattle.std.proofs.Common.{◌≡◌, ℕ, ◌+◌, List, [], ◌∷◌, Bool, true, false, cond, IsTrue, Result, Ok, Err, filter, take, refl, sym, ap, subst}
 use Rattle.std.specs.List.{list_any}
 use Rattle.ioa_value.specs.declared.arithmetic.Fault.{Fault}
 use Rattle.ioa_value.specs.Actions.{Name, Act}
@@ -50,25 +50,24 @@ effect_on_like R p q a s t h r =
 
 with_like : {S T : Type 0} (R : ℕ → S → T → Type 0) (i : ℕ) (s : S) (t : T) (m : Moved S) (n : Moved T)
     → R i s t → MovesLike R (i + 1) m n → MovesLike R i (with_state s m) (with_state t n)
-with_like R i s t (next ss) (next ts) r h = (r, h)
-with_like R i s t not_an_action not_an_action r h = tt
-with_like R i s t not_enabled not_enabled r h = tt
-with_like R i s t (fault c f) (fault d g) r h = h
-with_like R i s t _ _ r h = absurd h
+with_like R i s t (next ss) n r (ts, e, h) = (t ∷ ts, ap (with_state t) e, (r, h))
+with_like R i s t not_an_action n r e = ap (with_state t) e
+with_like R i s t not_enabled n r e = ap (with_state t) e
+with_like R i s t (fault c f) n r e = ap (with_state t) e
 
 then_like : {S T : Type 0} (R : ℕ → S → T → Type 0) (i : ℕ) (x : Result S Fault) (y : Result T Fault) (m : Moved S) (n : Moved T)
     → AreLike (R i) x y → MovesLike R (i + 1) m n → MovesLike R i (then_rest i x m) (then_rest i y n)
 then_like R i (Ok s) (Ok t) m n r h = with_like R i s t m n r h
 then_like R i (Ok s) (Err g) m n r h = absurd r
 then_like R i (Err f) (Ok t) m n r h = absurd r
-then_like R i (Err f) (Err g) m n r h = (refl, r)
+then_like R i (Err f) (Err g) m n r h = ap (fault i) (sym r)
 
 effects_like : {S T : Type 0} (R : ℕ → S → T → Type 0) (i : ℕ) (ps : List (Component S)) (qs : List (Component T)) (a : Act) (ss : List S) (ts : List T)
     → AllLike R i ps qs → AllRelated R i ss ts → MovesLike R i (effects i ps a ss) (effects i qs a ts)
-effects_like R i [] [] a ss ts h r = tt
+effects_like R i [] [] a ss ts h r = ([], refl, tt)
 effects_like R i [] (q ∷ qs) a ss ts h r = absurd h
 effects_like R i (p ∷ ps) [] a ss ts h r = absurd h
-effects_like R i (p ∷ ps) (q ∷ qs) a [] [] h r = tt
+effects_like R i (p ∷ ps) (q ∷ qs) a [] [] h r = ([], refl, tt)
 effects_like R i (p ∷ ps) (q ∷ qs) a [] (t ∷ ts) h r = absurd r
 effects_like R i (p ∷ ps) (q ∷ qs) a (s ∷ ss) [] h r = absurd r
 effects_like R i (p ∷ ps) (q ∷ qs) a (s ∷ ss) (t ∷ ts) h r =
@@ -79,15 +78,15 @@ allowed_same : {S T : Type 0} (R : ℕ → S → T → Type 0) (g : Asked) (m : 
     → MovesLike R 0 m n → MovesLike R 0 (allowed g m) (allowed g n)
 allowed_same R free m n h = h
 allowed_same R (owned i (Ok true)) m n h = h
-allowed_same R (owned i (Ok false)) m n h = tt
-allowed_same R (owned i (Err f)) m n h = (refl, refl)
+allowed_same R (owned i (Ok false)) m n h = refl
+allowed_same R (owned i (Err f)) m n h = refl
 
 cond_moves : {S T : Type 0} (R : ℕ → S → T → Type 0) (b c : Bool) (m : Moved S) (n : Moved T)
     → b ≡ c → MovesLike R 0 m n → MovesLike R 0 (cond b m not_an_action) (cond c n not_an_action)
 cond_moves R true true m n e h = h
 cond_moves R true false m n e h = absurd (cc)
 cond_moves R false true m n e h = absurd (cc)
-cond_moves R false false m n e h = tt
+cond_moves R false false m n e h = refl
 
 pub step_like : {S T : Type 0} (R : ℕ → S → T → Type 0) (ps : List (Component S)) (qs : List (Component T)) (a : Act) (ss : List S) (ts : List T)
     → AllLike R 0 ps qs → AllRelated R 0 ss ts → MovesLike R 0 (step ps a ss) (step qs a ts)
@@ -102,12 +101,10 @@ after_like : {S T : Type 0} (R : ℕ → S → T → Type 0) (n : ℕ) (ss : Lis
     → MovesLike R 0 m m' → AllRelated R 0 ss ts
     → ((us : List S) (vs : List T) → AllRelated R 0 us vs → RunsLike R (f us) (g vs))
     → RunsLike R (after n ss m f) (after n ts m' g)
-after_like R n ss ts (next us) (next vs) f g h r k = k us vs h
-after_like R n ss ts not_an_action not_an_action f g h r k = record { performed = refl; ending = refl; states = r }
-after_like R n ss ts not_enabled not_enabled f g h r k = record { performed = refl; ending = refl; states = r }
-after_like R n ss ts (fault c x) (fault d y) f g h r k =
-    let p : c ≡ d = h.0 in let q : x ≡ y = h.1 in record { performed = refl; ending = cc; states = r }
-after_like R n ss ts _ _ f g h r k = absurd h
+after_like R n ss ts (next us) m' f g (vs, e, h) r k = rw e (k us vs h)
+after_like R n ss ts not_an_action m' f g e r k = rw e (record { performed = refl; ending = refl; states = r })
+after_like R n ss ts not_enabled m' f g e r k = rw e (record { performed = refl; ending = refl; states = r })
+after_like R n ss ts (fault c x) m' f g e r k = rw e (record { performed = refl; ending = refl; states = r })
 
 run_from_like : {S T : Type 0} (R : ℕ → S → T → Type 0) (n : ℕ) (ps : List (Component S)) (qs : List (Component T)) (acts : List Act) (ss : List S) (ts : List T)
     → AllLike R 0 ps qs → AllRelated R 0 ss ts → RunsLike R (run_from n ps acts ss) (run_from n qs acts ts)

@@ -34,11 +34,10 @@ AllRelated R i (s ∷ ss) (t ∷ ts) = R i s t × AllRelated R (i + 1) ss ts
 
 -- the same answer, with related states
 abbrev pub MovesLike : {S T : Type 0} → (ℕ → S → T → Type 0) → ℕ → Moved S → Moved T → Type 0
-MovesLike R i (next ss) (next ts) = AllRelated R i ss ts
-MovesLike R i not_an_action not_an_action = Unit {0}
-MovesLike R i not_enabled not_enabled = Unit {0}
-MovesLike R i (fault c f) (fault d g) = (c ≡ d) × (f ≡ g)
-MovesLike R i _ _ = ⊥
+MovesLike {T = T} R i (next ss) n = (ts : List T) × (n ≡ next ts) × AllRelated R i ss ts
+MovesLike R i not_an_action n = n ≡ not_an_action
+MovesLike R i not_enabled n = n ≡ not_enabled
+MovesLike R i (fault c f) n = n ≡ fault c f
 
 -- the same actions performed, the same end, and related states
 pub record RunsLike {S T : Type 0} (R : ℕ → S → T → Type 0) (r : Reached S) (q : Reached T) : Type 0 where

@@ -1,5 +1,7 @@
-pub mod Matching
 pub mod Participating
-pub mod Lending
-pub mod Installing
+pub mod Matching
+pub mod Finding
+pub mod Readying
+pub mod Stepping
+pub mod Running
 pub mod Tracing

@@ -1,133 +1,229 @@
--- A step depends on the participants' states alone.
-use Rattle.std.proofs.Common.{◌≡◌, ℕ, ◌+◌, List, [], ◌∷◌, length, map, Bool, true, false, cond, Option, None, Some, Result, Ok, Err, refl, sym, ◌∙◌, ap, arith}
+-- A step is its participants' step.
+use Rattle.std.proofs.Common.{◌≡◌, ℕ, zero, suc, ◌+◌, ◌<◌, List, [], ◌∷◌, ◌++◌, length, get_or, take, drop, map, filter, All, append_assoc, Bool, true, false, cond, Option, None, Some, Result, Ok, Err, refl, sym, ◌∙◌, ap, subst, arith, length-append, length-set}
+use Rattle.std.specs.Prelude.{slice_get, slice_index, slice_set}
 use Rattle.std.specs.List.{list_any}
+use Rattle.std.proofs.Math.Seq.{set-append_seam}
+use Rattle.std.proofs.lemmas.List.{append-nil, drop_all, map-set, take_all}
+use Rattle.std.proofs.lemmas.List.Elements.{All-head, All-tail}
+use Rattle.std.proofs.lemmas.Option.{slice_get-get_or}
 use Rattle.ioa_value.specs.declared.arithmetic.Fault.{Fault}
 use Rattle.ioa_value.specs.Actions.{Act}
 use Rattle.ioa_syntax.specs.declared.tree.Kind.{Kind}
 use Rattle.ioa_syntax.specs.Components.{Component, has, owns, is_kind, is_local}
-use Rattle.ioa_syntax.specs.Steps.{Moved, next, not_an_action, not_enabled, fault, Asked, free, owned, asked, with_state, then_rest, effects, allowed, step}
-use Rattle.ioa_system.specs.Participants.{taken, first_or, rest, put_back, all_back, asked_of, effects_of, step_from}
+use Rattle.ioa_syntax.specs.Steps.{Moved, next, not_an_action, not_enabled, fault, Asked, free, owned, asked, with_state, then_rest, effect_on, effects, allowed, step, participants_from, participants}
+use Rattle.ioa_system.specs.Participants.{taken, put_back, renumbered, all_back, step_from}
 
-local_is_kind : (k : Option Kind) → is_kind k ≡ false → is_local k ≡ false
-local_is_kind None h = refl
-local_is_kind (Some k) h = cc
+-- ---- items and their places
 
-asked_head : {S : Type 0} (i : ℕ) (p : Component S) (ps : List (Component S)) (a : Act) (s : S) (ss : List S) (b : Bool)
-    → has a p ≡ b → asked (i + 1) ps a ss ≡ asked_of (i + 1) ps a (taken a ps ss)
-    → asked i (p ∷ ps) a (s ∷ ss) ≡ asked_of i (p ∷ ps) a (taken a (p ∷ ps) (s ∷ ss))
-asked_head i p ps a s ss true e h = rw (e, h) refl
-asked_head i p ps a s ss false e h = let o : owns a p ≡ false = local_is_kind (p.kind_of a) e in rw (e, o, h) refl
+pub taken_some : {X : Type 0} (n : ℕ) (ns : List ℕ) (xs : List X) (x : X) → slice_get xs n ≡ Some x → taken (n ∷ ns) xs ≡ x ∷ taken ns xs
+taken_some n ns xs x e = rw e refl
 
-asked_taken : {S : Type 0} (i : ℕ) (ps : List (Component S)) (a : Act) (ss : List S) → length ss ≡ length ps
-    → asked i ps a ss ≡ asked_of i ps a (taken a ps ss)
-asked_taken i [] a ss h = refl
-asked_taken i (p ∷ ps) a [] h = absurd (omega arith)
-asked_taken i (p ∷ ps) a (s ∷ ss) h = asked_head i p ps a s ss (has a p) refl (asked_taken (i + 1) ps a ss (omega arith))
+set_got : {X : Type 0} (xs : List X) (n : ℕ) (x : X) → slice_get xs n ≡ Some x → slice_set xs n x ≡ xs
+set_got [] n x e = refl
+set_got (y ∷ ys) zero x e = cc
+set_got (y ∷ ys) (suc n) x e = ap (λ zs. y ∷ zs) (set_got ys n x e)
 
-back_skips : {S : Type 0} (a : Act) (p : Component S) (ps : List (Component S)) (s : S) (ss : List S) (m : Moved S)
-    → has a p ≡ false → with_state s (all_back a ps ss m) ≡ all_back a (p ∷ ps) (s ∷ ss) m
-back_skips a p ps s ss (next ts) e = rw e refl
-back_skips a p ps s ss not_an_action e = refl
-back_skips a p ps s ss not_enabled e = refl
-back_skips a p ps s ss (fault c f) e = refl
+got : {X : Type 0} (xs : List X) (n : ℕ) → n < length xs → (x : X) × (slice_get xs n ≡ Some x)
+got [] n l = absurd (omega arith)
+got (x ∷ xs) n l = (get_or (x ∷ xs) n x, slice_get-get_or (x ∷ xs) n x l)
 
-back_takes : {S : Type 0} (a : Act) (p : Component S) (ps : List (Component S)) (s : S) (ss : List S) (i : ℕ) (x : Result S Fault) (m : Moved S)
-    → has a p ≡ true → then_rest i x (all_back a ps ss m) ≡ all_back a (p ∷ ps) (s ∷ ss) (then_rest i x m)
-back_takes a p ps s ss i (Err f) m e = refl
-back_takes a p ps s ss i (Ok t) (next ts) e = rw e refl
-back_takes a p ps s ss i (Ok t) not_an_action e = refl
-back_takes a p ps s ss i (Ok t) not_enabled e = refl
-back_takes a p ps s ss i (Ok t) (fault c f) e = refl
+-- what was taken, put back
+pub put_back-taken : {X : Type 0} (ns : List ℕ) (xs : List X) → All (λ n. n < length xs) ns → put_back ns (taken ns xs) xs ≡ xs
+put_back-taken [] xs h = refl
+put_back-taken (n ∷ ns) xs h =
+    let g = got xs n (All-head (λ k. k < length xs) n ns h) in
+    rw (taken_some n ns xs g.0 g.1, set_got xs n g.0 g.1) (put_back-taken ns xs (All-tail (λ k. k < length xs) n ns h))
 
-effects_head : {S : Type 0} (i : ℕ) (p : Component S) (ps : List (Component S)) (a : Act) (s : S) (ss : List S) (b : Bool)
-    → has a p ≡ b → effects (i + 1) ps a ss ≡ all_back a ps ss (effects_of (i + 1) ps a (taken a ps ss))
-    → effects i (p ∷ ps) a (s ∷ ss) ≡ all_back a (p ∷ ps) (s ∷ ss) (effects_of i (p ∷ ps) a (taken a (p ∷ ps) (s ∷ ss)))
-effects_head i p ps a s ss true e h =
-    let k : then_rest i (p.effect a s) (effects (i + 1) ps a ss) ≡ all_back a (p ∷ ps) (s ∷ ss) (then_rest i (p.effect a s) (effects_of (i + 1) ps a (taken a ps ss))) =
-    ap (λ m. then_rest i (p.effect a s) m) h ∙ back_takes a p ps s ss i (p.effect a s) (effects_of (i + 1) ps a (taken a ps ss)) e in
-    let l : effects i (p ∷ ps) a (s ∷ ss) ≡ then_rest i (p.effect a s) (effects (i + 1) ps a ss) = rw e refl in
-    let r : effects_of i (p ∷ ps) a (taken a (p ∷ ps) (s ∷ ss)) ≡ then_rest i (p.effect a s) (effects_of (i + 1) ps a (taken a ps ss)) = rw e refl in
-    l ∙ k ∙ ap (all_back a (p ∷ ps) (s ∷ ss)) (sym r)
-effects_head i p ps a s ss false e h =
-    let k : with_state s (effects (i + 1) ps a ss) ≡ all_back a (p ∷ ps) (s ∷ ss) (effects_of (i + 1) ps a (taken a ps ss)) =
-    ap (with_state s) h ∙ back_skips a p ps s ss (effects_of (i + 1) ps a (taken a ps ss)) e in
-    let l : effects i (p ∷ ps) a (s ∷ ss) ≡ with_state s (effects (i + 1) ps a ss) = rw e refl in
-    let r : effects_of i (p ∷ ps) a (taken a (p ∷ ps) (s ∷ ss)) ≡ effects_of (i + 1) ps a (taken a ps ss) = rw e refl in
-    l ∙ k ∙ ap (all_back a (p ∷ ps) (s ∷ ss)) (sym r)
+pub map_put_back : {X Y : Type 0} (f : X → Y) (ns : List ℕ) (ys xs : List X) → map f (put_back ns ys xs) ≡ put_back ns (map f ys) (map f xs)
+map_put_back f [] ys xs = refl
+map_put_back f (n ∷ ns) [] xs = refl
+map_put_back f (n ∷ ns) (y ∷ ys) xs = map_put_back f ns ys (slice_set xs n y) ∙ ap (put_back ns (map f ys)) (map-set f xs n y)
 
-effects_taken : {S : Type 0} (i : ℕ) (ps : List (Component S)) (a : Act) (ss : List S) → length ss ≡ length ps
-    → effects i ps a ss ≡ all_back a ps ss (effects_of i ps a (taken a ps ss))
-effects_taken i [] a [] h = refl
-effects_taken i [] a (s ∷ ss) h = refl
-effects_taken i (p ∷ ps) a [] h = absurd (omega arith)
-effects_taken i (p ∷ ps) a (s ∷ ss) h = effects_head i p ps a s ss (has a p) refl (effects_taken (i + 1) ps a ss (omega arith))
+pub length-put_back : {X : Type 0} (ns : List ℕ) (ys xs : List X) → length (put_back ns ys xs) ≡ length xs
+length-put_back [] ys xs = refl
+length-put_back (n ∷ ns) [] xs = refl
+length-put_back (n ∷ ns) (y ∷ ys) xs = length-put_back ns ys (slice_set xs n y) ∙ length-set xs n y
 
-allowed_back : {S : Type 0} (a : Act) (ps : List (Component S)) (ss : List S) (g : Asked) (m : Moved S)
-    → allowed g (all_back a ps ss m) ≡ all_back a ps ss (allowed g m)
-allowed_back a ps ss free m = refl
-allowed_back a ps ss (owned i (Ok true)) m = refl
-allowed_back a ps ss (owned i (Ok false)) m = refl
-allowed_back a ps ss (owned i (Err f)) m = refl
+-- a vector whose items are all written anew
+pub written_anew : {X : Type 0} (n : ℕ) (xs ys : List X) → length xs ≡ length ys → n ≡ length ys → take n (xs ++ drop (length xs) ys) ≡ xs
+written_anew n xs ys e l =
+    let d : drop (length xs) ys ≡ [] = drop_all (length xs) ys (omega arith) in
+    rw (d, append-nil xs) (take_all n xs (omega arith))
 
-cond_back : {S : Type 0} (a : Act) (ps : List (Component S)) (ss : List S) (b : Bool) (m : Moved S)
-    → cond b (all_back a ps ss m) not_an_action ≡ all_back a ps ss (cond b m not_an_action)
-cond_back a ps ss true m = refl
-cond_back a ps ss false m = refl
+-- the item at k, and those after it
+pub record ItemAt {X : Type 0} (xs : List X) (k : ℕ) (x : X) (more : List X) : Type 0 where
+  pub within : k < length xs
+  pub is : (d : X) → get_or xs k d ≡ x
+  pub rest : drop (k + 1) xs ≡ more
+
+pub item_at : {X : Type 0} (xs : List X) (k : ℕ) (x : X) (more : List X) → drop k xs ≡ x ∷ more → ItemAt xs k x more
+item_at [] zero x more e = absurd (cc)
+item_at [] (suc k) x more e = absurd (cc)
+item_at (y ∷ ys) zero x more e = record { within = omega arith; is = λ d. cc; rest = cc }
+item_at (y ∷ ys) (suc k) x more e =
+    let r : ItemAt ys k x more = item_at ys k x more e in
+    let w : k < length ys = r.within in
+    let l : suc (k + 1) ≡ suc k + 1 = omega arith in
+    record { within = omega arith; is = r.is; rest = subst (λ j. drop j (y ∷ ys) ≡ more) l r.rest }
+
+-- ---- which components participate
+
+none_is_local : (k : Option Kind) → is_kind k ≡ false → is_local k ≡ false
+none_is_local None h = refl
+none_is_local (Some k) h = cc
+
+pub owns_none : {S : Type 0} (p : Component S) (a : Act) → has a p ≡ false → owns a p ≡ false
+owns_none p a h = none_is_local (p.kind_of a) h
+
+-- a component has the action or not, and its number and place among the participants are told so
+data Takes {S : Type 0} (a : Act) (p : Component S) (i : ℕ) (ps : List (Component S)) : Type 0 where
+  participates : has a p ≡ true → participants_from i (p ∷ ps) a ≡ i ∷ participants_from (i + 1) ps a → filter (has a) (p ∷ ps) ≡ p ∷ filter (has a) ps → Takes a p i ps
+  stays : has a p ≡ false → participants_from i (p ∷ ps) a ≡ participants_from (i + 1) ps a → filter (has a) (p ∷ ps) ≡ filter (has a) ps → Takes a p i ps
+
+takes : {S : Type 0} (a : Act) (p : Component S) (i : ℕ) (ps : List (Component S)) → Takes a p i ps
+takes a p i ps = by (has a p) refl
+  where
+    by : (b : Bool) → has a p ≡ b → Takes a p i ps
+    by true h = participates h (rw h refl) (rw h refl)
+    by false h = stays h (rw h refl) (rw h refl)
+
+any_filtered : {S : Type 0} (a : Act) (ps : List (Component S)) → list_any (has a) (filter (has a) ps) ≡ list_any (has a) ps
+any_filtered a [] = refl
+any_filtered a (p ∷ ps) = elim (takes a p 0 ps) [
+  | participates h n f ↦ rw (f, h) refl
+  | stays h n f ↦ rw (f, h) (any_filtered a ps)
+]
+
+-- the places of a list that come from i on in another
+abbrev Stands : {X : Type 0} → List X → ℕ → List X → Type 0
+Stands all i xs = (j : ℕ) → slice_get all (i + j) ≡ slice_get xs j
+
+stands_rest : {X : Type 0} (all : List X) (i : ℕ) (x : X) (xs : List X) → Stands all i (x ∷ xs) → Stands all (i + 1) xs
+stands_rest all i x xs h = λ j. let e : (i + 1) + j ≡ i + suc j = omega arith in ap (slice_get all) e ∙ h (suc j)
+
+stands_first : {X : Type 0} (all : List X) (i : ℕ) (x : X) (xs : List X) → Stands all i (x ∷ xs) → slice_get all i ≡ Some x
+stands_first all i x xs h = let e : i ≡ i + 0 = omega arith in ap (slice_get all) e ∙ h 0
+
+-- ---- the owner's answer
+
+abbrev pub asked_renumbered : List ℕ → Asked → Asked
+asked_renumbered ns free = free
+asked_renumbered ns (owned i r) = owned (slice_index ns i) r
+
+module _ {S : Type 0} (a : Act) (all : List S) (ns : List ℕ) where
+  abbrev among : ℕ → List (Component S) → List S → Asked
+  among k ps ts = asked_renumbered ns (asked k (filter (has a) ps) a ts)
+
+  asked_more : (i k : ℕ) (p : Component S) (ps : List (Component S)) (s : S) (ss ts : List S) (b : Bool) → owns a p ≡ b → slice_index ns k ≡ i
+      → asked (i + 1) ps a ss ≡ asked_renumbered ns (asked (k + 1) (filter (has a) ps) a ts)
+      → asked i (p ∷ ps) a (s ∷ ss) ≡ asked_renumbered ns (asked k (p ∷ filter (has a) ps) a (s ∷ ts))
+  asked_more i k p ps s ss ts true o e h = rw (o, e) refl
+  asked_more i k p ps s ss ts false o e h = rw o h
+
+  asked_taken : (i k : ℕ) (ps : List (Component S)) (ss : List S) → Stands all i ss → length ss ≡ length ps → drop k ns ≡ participants_from i ps a
+      → asked i ps a ss ≡ among k ps (taken (participants_from i ps a) all)
+  asked_taken i k [] ss st l d = refl
+  asked_taken i k (p ∷ ps) [] st l d = absurd (omega arith)
+  asked_taken i k (p ∷ ps) (s ∷ ss) st l d = elim (takes a p i ps) [
+    | participates h n f ↦
+        let r : ItemAt ns k i (participants_from (i + 1) ps a) = item_at ns k i (participants_from (i + 1) ps a) (d ∙ n) in
+        let ih = asked_taken (i + 1) (k + 1) ps ss (stands_rest all i s ss st) (omega arith) r.rest in
+        rw (n, f, taken_some i (participants_from (i + 1) ps a) all s (stands_first all i s ss st))
+        (asked_more i k p ps s ss (taken (participants_from (i + 1) ps a) all) (owns a p) refl (r.is 0) ih)
+    | stays h n f ↦
+        let o : owns a p ≡ false = owns_none p a h in
+        let ih = asked_taken (i + 1) k ps ss (stands_rest all i s ss st) (omega arith) (d ∙ n) in
+        rw (n, f, o) ih
+  ]
+
+-- ---- the effects' answer
+
+-- an answer with states put before its own
+abbrev pub put_before : {S : Type 0} → List S → Moved S → Moved S
+put_before xs (next ts) = next (xs ++ ts)
+put_before xs not_an_action = not_an_action
+put_before xs not_enabled = not_enabled
+put_before xs (fault c f) = fault c f
+
+pub put_before_more : {S : Type 0} (xs : List S) (t : S) (m : Moved S) → put_before xs (with_state t m) ≡ put_before (xs ++ t ∷ []) m
+put_before_more xs t (next ts) = rw append_assoc refl
+put_before_more xs t not_an_action = refl
+put_before_more xs t not_enabled = refl
+put_before_more xs t (fault c f) = refl
+
+pub put_before_none : {S : Type 0} (m : Moved S) → put_before [] m ≡ m
+put_before_none (next ts) = refl
+put_before_none not_an_action = refl
+put_before_none not_enabled = refl
+put_before_none (fault c f) = refl
+
+back_more : {S : Type 0} (ns : List ℕ) (i : ℕ) (more : List ℕ) (xs ys : List S) (t : S) (m : Moved S) → slice_set xs i t ≡ ys
+    → all_back (i ∷ more) xs (renumbered ns (with_state t m)) ≡ all_back more ys (renumbered ns m)
+back_more ns i more xs ys t (next ts) e = ap (λ zs. next (put_back more ts zs)) e
+back_more ns i more xs ys t not_an_action e = refl
+back_more ns i more xs ys t not_enabled e = refl
+back_more ns i more xs ys t (fault c f) e = refl
+
+set_here : {S : Type 0} (pre ss : List S) (s t : S) (i : ℕ) → length pre ≡ i → slice_set (pre ++ s ∷ ss) i t ≡ (pre ++ t ∷ []) ++ ss
+set_here pre ss s t i l =
+    subst (λ j. slice_set (pre ++ s ∷ ss) j t ≡ (pre ++ t ∷ []) ++ ss) l (set-append_seam pre s ss t ∙ sym (append_assoc pre (t ∷ []) ss))
+
+effects_more : {S : Type 0} (ns : List ℕ) (i k : ℕ) (more : List ℕ) (pre ss : List S) (s : S) (r : Result S Fault) (m n : Moved S)
+    → length pre ≡ i → slice_index ns k ≡ i
+    → ((t : S) → put_before (pre ++ t ∷ []) m ≡ all_back more ((pre ++ t ∷ []) ++ ss) (renumbered ns n))
+    → put_before pre (then_rest i r m) ≡ all_back (i ∷ more) (pre ++ s ∷ ss) (renumbered ns (then_rest k r n))
+effects_more ns i k more pre ss s (Ok t) m n l e h =
+    put_before_more pre t m ∙ h t ∙ sym (back_more ns i more (pre ++ s ∷ ss) ((pre ++ t ∷ []) ++ ss) t n (set_here pre ss s t i l))
+effects_more ns i k more pre ss s (Err f) m n l e h = ap (λ j. fault j f) (sym e)
+
+module _ {S : Type 0} (a : Act) (all : List S) (ns : List ℕ) where
+  longer : (i : ℕ) (pre : List S) (t : S) → length pre ≡ i → length (pre ++ t ∷ []) ≡ i + 1
+  longer i pre t l = omega (arith, length-append pre (t ∷ []))
+
+  effects_taken : (i k : ℕ) (ps : List (Component S)) (ss pre : List S) → Stands all i ss → length pre ≡ i → length ss ≡ length ps → drop k ns ≡ participants_from i ps a
+      → put_before pre (effects i ps a ss)
+      ≡ all_back (participants_from i ps a) (pre ++ ss) (renumbered ns (effects k (filter (has a) ps) a (taken (participants_from i ps a) all)))
+  effects_taken i k [] [] pre st p l d = refl
+  effects_taken i k [] (s ∷ ss) pre st p l d = absurd (omega arith)
+  effects_taken i k (p ∷ ps) [] pre st e l d = absurd (omega arith)
+  effects_taken i k (p ∷ ps) (s ∷ ss) pre st e l d = elim (takes a p i ps) [
+    | participates h n f ↦
+        let more : List ℕ = participants_from (i + 1) ps a in
+        let r : ItemAt ns k i more = item_at ns k i more (d ∙ n) in
+        rw (n, f, taken_some i more all s (stands_first all i s ss st))
+        (effects_more ns i k more pre ss s (effect_on p a s) (effects (i + 1) ps a ss) (effects (k + 1) (filter (has a) ps) a (taken more all)) e (r.is 0)
+        (λ t. effects_taken (i + 1) (k + 1) ps ss (pre ++ t ∷ []) (stands_rest all i s ss st) (longer i pre t e) (omega arith) r.rest))
+    | stays h n f ↦
+        let ih = effects_taken (i + 1) k ps ss (pre ++ s ∷ []) (stands_rest all i s ss st) (longer i pre s e) (omega arith) (d ∙ n) in
+        let j : (pre ++ s ∷ []) ++ ss ≡ pre ++ s ∷ ss = append_assoc pre (s ∷ []) ss in
+        rw (h, ← j) (put_before_more pre s (effects (i + 1) ps a ss) ∙ ih)
+  ]
+
+-- ---- the step
+
+allowed_back : {S : Type 0} (ns ms : List ℕ) (ss : List S) (g : Asked) (m : Moved S)
+    → allowed (asked_renumbered ns g) (all_back ms ss (renumbered ns m)) ≡ all_back ms ss (renumbered ns (allowed g m))
+allowed_back ns ms ss free m = refl
+allowed_back ns ms ss (owned i (Ok true)) m = refl
+allowed_back ns ms ss (owned i (Ok false)) m = refl
+allowed_back ns ms ss (owned i (Err f)) m = refl
+
+cond_back : {S : Type 0} (ns ms : List ℕ) (ss : List S) (b c : Bool) (m : Moved S) → b ≡ c
+    → cond b (all_back ms ss (renumbered ns m)) not_an_action ≡ all_back ms ss (renumbered ns (cond c m not_an_action))
+cond_back ns ms ss true true m e = refl
+cond_back ns ms ss true false m e = absurd (cc)
+cond_back ns ms ss false true m e = absurd (cc)
+cond_back ns ms ss false false m e = refl
 
 -- a step depends on the participants' states alone
 pub step_taken : {S : Type 0} (ps : List (Component S)) (a : Act) (ss : List S) → length ss ≡ length ps
-    → step ps a ss ≡ all_back a ps ss (step_from ps a (taken a ps ss))
+    → step ps a ss ≡ all_back (participants ps a) ss (step_from ps a (taken (participants ps a) ss))
 step_taken ps a ss h =
-    let e : allowed (asked 0 ps a ss) (effects 0 ps a ss) ≡ all_back a ps ss (allowed (asked_of 0 ps a (taken a ps ss)) (effects_of 0 ps a (taken a ps ss))) =
-    rw (asked_taken 0 ps a ss h, effects_taken 0 ps a ss h) (allowed_back a ps ss (asked_of 0 ps a (taken a ps ss)) (effects_of 0 ps a (taken a ps ss))) in
-    rw e (cond_back a ps ss (list_any (has a) ps) (allowed (asked_of 0 ps a (taken a ps ss)) (effects_of 0 ps a (taken a ps ss))))
-
-map_if : {X Y : Type 0} (f : X → Y) (b : Bool) (x : X) (xs ys : List X) (zs : List Y) → map f xs ≡ zs → map f ys ≡ zs
-    → map f (cond b (x ∷ xs) ys) ≡ cond b (f x ∷ zs) zs
-map_if f true x xs ys zs e g = rw e refl
-map_if f false x xs ys zs e g = g
-
-pub map_taken : {S X Y : Type 0} (f : X → Y) (a : Act) (ps : List (Component S)) (xs : List X)
-    → map f (taken a ps xs) ≡ taken a ps (map f xs)
-map_taken f a [] xs = refl
-map_taken f a (p ∷ ps) [] = refl
-map_taken f a (p ∷ ps) (x ∷ xs) =
-    map_if f (has a p) x (taken a ps xs) (taken a ps xs) (taken a ps (map f xs)) (map_taken f a ps xs) (map_taken f a ps xs)
-
-map_rest : {X Y : Type 0} (f : X → Y) (ys : List X) → map f (rest ys) ≡ rest (map f ys)
-map_rest f [] = refl
-map_rest f (y ∷ ys) = refl
-
-map_first : {X Y : Type 0} (f : X → Y) (x : X) (ys : List X) → f (first_or x ys) ≡ first_or (f x) (map f ys)
-map_first f x [] = refl
-map_first f x (y ∷ ys) = refl
-
-map_choice : {X Y : Type 0} (f : X → Y) (b : Bool) (x y : X) (xs ys : List X) (u v : Y) (us vs : List Y)
-    → f x ≡ u → map f xs ≡ us → f y ≡ v → map f ys ≡ vs → map f (cond b (x ∷ xs) (y ∷ ys)) ≡ cond b (u ∷ us) (v ∷ vs)
-map_choice f true x y xs ys u v us vs e g h k = rw (e, g) refl
-map_choice f false x y xs ys u v us vs e g h k = rw (h, k) refl
-
-pub map_put_back : {S X Y : Type 0} (f : X → Y) (a : Act) (ps : List (Component S)) (xs ys : List X)
-    → map f (put_back a ps xs ys) ≡ put_back a ps (map f xs) (map f ys)
-map_put_back f a [] xs ys = refl
-map_put_back f a (p ∷ ps) [] ys = refl
-map_put_back f a (p ∷ ps) (x ∷ xs) ys =
-    let r : map f (put_back a ps xs (rest ys)) ≡ put_back a ps (map f xs) (rest (map f ys)) =
-    map_put_back f a ps xs (rest ys) ∙ ap (put_back a ps (map f xs)) (map_rest f ys) in
-    map_choice f (has a p) (first_or x ys) x (put_back a ps xs (rest ys)) (put_back a ps xs ys)
-    (first_or (f x) (map f ys)) (f x) (put_back a ps (map f xs) (rest (map f ys))) (put_back a ps (map f xs) (map f ys))
-    (map_first f x ys) r refl (map_put_back f a ps xs ys)
-
-back_head : {S X : Type 0} (a : Act) (p : Component S) (ps : List (Component S)) (x : X) (xs : List X) (b : Bool) → has a p ≡ b
-    → put_back a ps xs (taken a ps xs) ≡ xs
-    → put_back a (p ∷ ps) (x ∷ xs) (taken a (p ∷ ps) (x ∷ xs)) ≡ x ∷ xs
-back_head a p ps x xs true e h = rw (e, h) refl
-back_head a p ps x xs false e h = rw (e, h) refl
-
--- what was taken, put back
-pub put_back-taken : {S X : Type 0} (a : Act) (ps : List (Component S)) (xs : List X) → length xs ≡ length ps
-    → put_back a ps xs (taken a ps xs) ≡ xs
-put_back-taken a [] [] h = refl
-put_back-taken a [] (x ∷ xs) h = absurd (omega arith)
-put_back-taken a (p ∷ ps) [] h = absurd (omega arith)
-put_back-taken a (p ∷ ps) (x ∷ xs) h = back_head a p ps x xs (has a p) refl (put_back-taken a ps xs (omega arith))
+    let ns : List ℕ = participants ps a in
+    let ts = taken ns ss in
+    let st : Stands ss 0 ss = λ j. let e : 0 + j ≡ j = omega arith in ap (slice_get ss) e in
+    let g : asked 0 ps a ss ≡ asked_renumbered ns (asked 0 (filter (has a) ps) a ts) = asked_taken a ss ns 0 0 ps ss st h refl in
+    let m : effects 0 ps a ss ≡ all_back ns ss (renumbered ns (effects 0 (filter (has a) ps) a ts)) =
+    sym (put_before_none (effects 0 ps a ss)) ∙ effects_taken a ss ns 0 0 ps ss [] st refl h refl in
+    rw (g, m, allowed_back ns ns ss (asked 0 (filter (has a) ps) a ts) (effects 0 (filter (has a) ps) a ts))
+    (cond_back ns ns ss (list_any (has a) ps) (list_any (has a) (filter (has a) ps)) (allowed (asked 0 (filter (has a) ps) a ts) (effects 0 (filter (has a) ps) a ts)) (sym (any_filtered a ps)))

@@ -1,12 +1,12 @@
 -- A run, action by action.
-use Rattle.std.proofs.Common.{◌≡◌, ℕ, ◌+◌, ◌<◌, ◌≤◌, List, [], ◌∷◌, ◌++◌, length, get_or, take, drop, filter, true, false, Result, Ok, Err, IfOk, refl, sym, ◌∙◌, ap, subst}
-use Rattle.std.proofs.lemmas.List.{append-nil, drop_all, take_more}
+use Rattle.std.proofs.Common.{◌≡◌, ℕ, ◌+◌, ◌≤◌, List, [], ◌∷◌, ◌++◌, length, take, filter, Bool, true, false, Result, Ok, Err, IfOk, refl, sym, ◌∙◌, ap, subst, arith, length-append, if◌then◌else◌}
+use Rattle.std.proofs.lemmas.List.{append-nil, take_all, take-append-le}
 use Rattle.std.proofs.lemmas.List.Elements.{filter-append}
 use Rattle.ioa_value.specs.Actions.{Name, Act}
 use Rattle.ioa_value.specs.Plain.{Val}
 use Rattle.ioa_syntax.specs.Components.{Component}
-use Rattle.ioa_syntax.specs.Steps.{Moved, next, step}
-use Rattle.ioa_syntax.specs.Runs.{Reached, done, after, run_from, run, is_external, trace}
+use Rattle.ioa_syntax.specs.Steps.{Moved, next, not_an_action, not_enabled, fault, step}
+use Rattle.ioa_syntax.specs.Runs.{Ending, Reached, done, not_an_action_at, not_enabled_at, fault_at, after, run_from, run, is_external, trace}
 use Rattle.ioa_syntax.specs.Compositions.{Composed, components_of, starts_of}
 use Rattle.ioa_syntax.proofs.Simulation.{run_like, trace_like}
 use Rattle.ioa_syntax.specs.Likes.{RunsLike}
@@ -14,58 +14,139 @@ use Rattle.ioa_compile.specs.Programs.{Prog}
 use Rattle.ioa_compile.specs.Tables.{tabled, start_states}
 use Rattle.ioa_compile.specs.Correspondence.{CorrespondsAt}
 use Rattle.ioa_compile.specs.Means.{Means}
+use Rattle.ioa_system.specs.declared.answer.End.{End}
 use Rattle.ioa_system.specs.declared.runs.Run.{Run}
+use Rattle.ioa_system.specs.Answers.{ending_of, performed_by}
+use Rattle.ioa_system.specs.Progress.{Progress, reached_by, IsRunOver}
 use Rattle.ioa_system.specs.Records.{IsTableRun, IsSourceRun}
-use Rattle.ioa_value.proofs.ItemLemmas.{drop_item}
 
--- what stands where i actions are performed
-pub record Performs (p : Prog) (acts : List Act) (i : ℕ) (ss : List (List Val)) (traced : List Act) : Type 0 where
-  pub run : run_from i (tabled p) (drop i acts) ss ≡ run (tabled p) acts (start_states p)
-  pub trace : traced ≡ trace p.hidden (tabled p) acts i
+-- ---- one action more
 
-pub performs_begin : (p : Prog) (acts : List Act) → Performs p acts 0 (start_states p) []
-performs_begin p acts = record { run = refl; trace = refl }
+-- a run goes on while all is performed
+abbrev goes_on : {X : Type 0} → Ending → X → X → X
+goes_on (done n) x y = x
+goes_on (not_an_action_at i) x y = y
+goes_on (not_enabled_at i) x y = y
+goes_on (fault_at c f i) x y = y
 
--- the run at an action, by its step
-pub performs_at : (p : Prog) (acts : List Act) (i : ℕ) (ss : List (List Val)) (traced : List Act) (a : Act)
-    → Performs p acts i ss traced → i < length acts → a ≡ get_or acts i a
-    → after i ss (step (tabled p) a ss) (λ ts. run_from (i + 1) (tabled p) (drop (i + 1) acts) ts) ≡ run (tabled p) acts (start_states p)
-performs_at p acts i ss traced a h l e =
-    let d : drop i acts ≡ a ∷ drop (i + 1) acts = drop_item acts i a l e in
-    sym (ap (λ (xs : List Act). run_from i (tabled p) xs ss) d) ∙ h.run
+abbrev with_next : {S : Type 0} → List (Component S) → Act → Reached S → Reached S
+with_next ps a r = goes_on r.ending (after r.performed r.states (step ps a r.states) (λ ts. run_from (r.performed + 1) ps [] ts)) r
 
-trace_more : (hidden : List Name) (ps : List (Component (List Val))) (acts : List Act) (i : ℕ) (a : Act) → i < length acts → a ≡ get_or acts i a
-    → trace hidden ps acts (i + 1) ≡ trace hidden ps acts i ++ filter (is_external hidden ps) (a ∷ [])
-trace_more hidden ps acts i a l e =
-    let t : take (i + 1) acts ≡ take i acts ++ a ∷ [] = take_more acts i a l ∙ ap (λ (y : Act). take i acts ++ y ∷ []) (sym e) in
-    ap (filter (is_external hidden ps)) t ∙ filter-append (is_external hidden ps) (take i acts) (a ∷ [])
+after_more : {S : Type 0} (n : ℕ) (ps : List (Component S)) (a : Act) (ss : List S) (m : Moved S) (f g : List S → Reached S) → ((ts : List S) → f ts ≡ with_next ps a (g ts))
+    → after n ss m f ≡ with_next ps a (after n ss m g)
+after_more n ps a ss (next ts) f g h = h ts
+after_more n ps a ss not_an_action f g h = refl
+after_more n ps a ss not_enabled f g h = refl
+after_more n ps a ss (fault c x) f g h = refl
 
-pub performs_external : (p : Prog) (acts : List Act) (i : ℕ) (ss ts : List (List Val)) (traced : List Act) (a : Act)
-    → Performs p acts i ss traced → i < length acts → a ≡ get_or acts i a → next ts ≡ step (tabled p) a ss
-    → is_external p.hidden (tabled p) a ≡ true → Performs p acts (i + 1) ts (traced ++ a ∷ [])
-performs_external p acts i ss ts traced a h l e s x = record {
-  run = subst (λ (m : Moved (List Val)). after i ss m (λ us. run_from (i + 1) (tabled p) (drop (i + 1) acts) us) ≡ run (tabled p) acts (start_states p)) (sym s) (performs_at p acts i ss traced a h l e);
-  trace =
-      let f : filter (is_external p.hidden (tabled p)) (a ∷ []) ≡ a ∷ [] = rw x refl in
-      rw (h.trace, ← f) (sym (trace_more p.hidden (tabled p) acts i a l e));
+run_more : {S : Type 0} (n : ℕ) (ps : List (Component S)) (acts : List Act) (ss : List S) (a : Act) → run_from n ps (acts ++ a ∷ []) ss ≡ with_next ps a (run_from n ps acts ss)
+run_more n ps [] ss a = refl
+run_more n ps (b ∷ acts) ss a =
+    after_more n ps a ss (step ps b ss) (λ ts. run_from (n + 1) ps (acts ++ a ∷ []) ts) (λ ts. run_from (n + 1) ps acts ts) (λ ts. run_more (n + 1) ps acts ts a)
+
+-- ---- how many are performed
+
+record Counts {S : Type 0} (most : ℕ) (r : Reached S) : Type 0 where
+  within : r.performed ≤ most
+  all : (k : ℕ) → r.ending ≡ done k → r.performed ≡ most
+
+counts_after : {S : Type 0} (n most : ℕ) (ss : List S) (m : Moved S) (f : List S → Reached S) → n ≤ most → ((ts : List S) → Counts most (f ts)) → Counts most (after n ss m f)
+counts_after n most ss (next ts) f l h = h ts
+counts_after n most ss not_an_action f l h = record { within = l; all = λ k e. absurd (cc) }
+counts_after n most ss not_enabled f l h = record { within = l; all = λ k e. absurd (cc) }
+counts_after n most ss (fault c x) f l h = record { within = l; all = λ k e. absurd (cc) }
+
+counts_from : {S : Type 0} (n most : ℕ) (ps : List (Component S)) (acts : List Act) (ss : List S) → n + length acts ≡ most → Counts most (run_from n ps acts ss)
+counts_from n most ps [] ss e = let l : n ≡ most = omega arith in record { within = omega arith; all = λ k q. l }
+counts_from n most ps (a ∷ acts) ss e =
+    counts_after n most ss (step ps a ss) (λ ts. run_from (n + 1) ps acts ts) (omega arith) (λ ts. counts_from (n + 1) most ps acts ts (omega arith))
+
+counts : {S : Type 0} (ps : List (Component S)) (acts : List Act) (ss : List S) → Counts (length acts) (run ps acts ss)
+counts ps acts ss = counts_from 0 (length acts) ps acts ss (omega arith)
+
+trace_same : {S : Type 0} (hidden : List Name) (ps : List (Component S)) (acts : List Act) (a : Act) (n : ℕ) → n ≤ length acts
+    → trace hidden ps acts n ≡ trace hidden ps (acts ++ a ∷ []) n
+trace_same hidden ps acts a n l = ap (filter (is_external hidden ps)) (sym (take-append-le n acts (a ∷ []) l))
+
+filter_one : (f : Act → Bool) (a : Act) (b : Bool) → f a ≡ b → filter f (a ∷ []) ≡ (if b then a ∷ [] else [])
+filter_one f a true e = rw e refl
+filter_one f a false e = rw e refl
+
+trace_more : {S : Type 0} (hidden : List Name) (ps : List (Component S)) (acts : List Act) (a : Act) (n : ℕ) (b : Bool) → n ≡ length acts → is_external hidden ps a ≡ b
+    → trace hidden ps acts n ++ (if b then a ∷ [] else []) ≡ trace hidden ps (acts ++ a ∷ []) (n + 1)
+trace_more hidden ps acts a n b l x =
+    let t : take (n + 1) (acts ++ a ∷ []) ≡ acts ++ a ∷ [] = take_all (n + 1) (acts ++ a ∷ []) (omega (arith, length-append acts (a ∷ []))) in
+    let u : take n acts ≡ acts = take_all n acts (omega arith) in
+    rw (t, u, ← filter_one (is_external hidden ps) a b x) (sym (filter-append (is_external hidden ps) acts (a ∷ [])))
+
+-- ---- a run whose actions come one by one
+
+pub over_begin : (p : Prog) (r : Progress) → r ≡ record { program = p; states = start_states p; end = End.Done 0 } → IsRunOver p [] [] r
+over_begin p r e = record {
+  program = ap (λ (q : Progress). q.program) e;
+  reached = ap reached_by e;
+  trace = sym (ap (λ (q : Progress). trace p.hidden (tabled p) [] (performed_by q.end)) e);
 }
 
-pub performs_hidden : (p : Prog) (acts : List Act) (i : ℕ) (ss ts : List (List Val)) (traced : List Act) (a : Act)
-    → Performs p acts i ss traced → i < length acts → a ≡ get_or acts i a → next ts ≡ step (tabled p) a ss
-    → is_external p.hidden (tabled p) a ≡ false → Performs p acts (i + 1) ts traced
-performs_hidden p acts i ss ts traced a h l e s x = record {
-  run = subst (λ (m : Moved (List Val)). after i ss m (λ us. run_from (i + 1) (tabled p) (drop (i + 1) acts) us) ≡ run (tabled p) acts (start_states p)) (sym s) (performs_at p acts i ss traced a h l e);
-  trace =
-      let f : filter (is_external p.hidden (tabled p)) (a ∷ []) ≡ [] = rw x refl in
-      let g : trace p.hidden (tabled p) acts (i + 1) ≡ trace p.hidden (tabled p) acts i ++ [] = trace_more p.hidden (tabled p) acts i a l e ∙ ap (λ (xs : List Act). trace p.hidden (tabled p) acts i ++ xs) f in
-      h.trace ∙ sym (append-nil (trace p.hidden (tabled p) acts i)) ∙ sym g;
-}
+module _ (p : Prog) (acts traced : List Act) (a : Act) (r : Progress) (over : IsRunOver p acts traced r) where
+  within : performed_by r.end ≤ length acts
+  within = let c : Counts (length acts) (run (tabled p) acts (start_states p)) = counts (tabled p) acts (start_states p) in
+      subst (λ (x : Reached (List Val)). x.performed ≤ length acts) (sym over.reached) c.within
 
-pub performs_end : (p : Prog) (acts : List Act) (i : ℕ) (ss : List (List Val)) (traced : List Act) → Performs p acts i ss traced → length acts ≤ i
-    → record { performed = i; states = ss; ending = done i } ≡ run (tabled p) acts (start_states p)
-performs_end p acts i ss traced h l =
-    let d : drop i acts ≡ [] = drop_all i acts l in
-    sym (ap (λ (xs : List Act). run_from i (tabled p) xs ss) d) ∙ h.run
+  more : run (tabled p) (acts ++ a ∷ []) (start_states p) ≡ with_next (tabled p) a (reached_by r)
+  more = run_more 0 (tabled p) acts (start_states p) a ∙ ap (with_next (tabled p) a) (sym over.reached)
+
+  kept : traced ++ [] ≡ trace p.hidden (tabled p) (acts ++ a ∷ []) (performed_by r.end)
+  kept = append-nil traced ∙ over.trace ∙ trace_same p.hidden (tabled p) acts a (performed_by r.end) within
+
+  -- the run has ended
+  pub over_ended : ((k : ℕ) → r.end ≡ End.Done k → ⊥) → IsRunOver p (acts ++ a ∷ []) (traced ++ []) r
+  over_ended h = record {
+    program = over.program;
+    reached = ended r.end refl ∙ sym more;
+    trace = kept;
+  }
+    where
+      ended : (e : End) → r.end ≡ e → reached_by r ≡ with_next (tabled p) a (reached_by r)
+      ended (End.Done k) e = absurd (h k e)
+      ended (End.NotAnAction i) e = rw e refl
+      ended (End.NotEnabled i) e = rw e refl
+      ended (End.Fault c f i) e = rw e refl
+
+  -- the action is not performed
+  pub over_refused : (n : ℕ) (end : End) (m : Moved (List Val)) (now : Progress) → r.end ≡ End.Done n → m ≡ step (tabled p) a r.states
+      → ((ts : List (List Val)) (f : List (List Val) → Reached (List Val)) → after n r.states m f ≡ record { performed = n; states = r.states; ending = ending_of end })
+      → performed_by end ≡ n → now.program ≡ p → now.states ≡ r.states → now.end ≡ end → IsRunOver p (acts ++ a ∷ []) (traced ++ []) now
+  over_refused n end m now d s f k q t e = record {
+    program = q;
+    reached =
+        let w : with_next (tabled p) a (reached_by r) ≡ after n r.states (step (tabled p) a r.states) (λ ts. run_from (n + 1) (tabled p) [] ts) = rw d refl in
+        let v : after n r.states (step (tabled p) a r.states) (λ ts. run_from (n + 1) (tabled p) [] ts) ≡ record { performed = n; states = r.states; ending = ending_of end } =
+        ap (λ x. after n r.states x (λ ts. run_from (n + 1) (tabled p) [] ts)) (sym s) ∙ f r.states (λ ts. run_from (n + 1) (tabled p) [] ts) in
+        let u : reached_by now ≡ record { performed = n; states = r.states; ending = ending_of end } = rw (e, t, k) refl in
+        u ∙ sym (more ∙ w ∙ v);
+    trace = let j : performed_by now.end ≡ performed_by r.end = ap performed_by e ∙ k ∙ sym (ap performed_by d) in
+        kept ∙ ap (trace p.hidden (tabled p) (acts ++ a ∷ [])) (sym j);
+  }
+
+  -- the action is performed
+  pub over_next : (n : ℕ) (b : Bool) (now : Progress) → r.end ≡ End.Done n → next now.states ≡ step (tabled p) a r.states → is_external p.hidden (tabled p) a ≡ b
+      → now.program ≡ p → now.end ≡ End.Done (n + 1) → IsRunOver p (acts ++ a ∷ []) (traced ++ (if b then a ∷ [] else [])) now
+  over_next n b now d s x q e = record {
+    program = q;
+    reached =
+        let w : with_next (tabled p) a (reached_by r) ≡ after n r.states (step (tabled p) a r.states) (λ ts. run_from (n + 1) (tabled p) [] ts) = rw d refl in
+        let v : after n r.states (step (tabled p) a r.states) (λ ts. run_from (n + 1) (tabled p) [] ts) ≡ run_from (n + 1) (tabled p) [] now.states =
+        ap (λ m. after n r.states m (λ ts. run_from (n + 1) (tabled p) [] ts)) (sym s) in
+        let u : reached_by now ≡ run_from (n + 1) (tabled p) [] now.states = rw e refl in
+        u ∙ sym (more ∙ w ∙ v);
+    trace =
+        let c : Counts (length acts) (run (tabled p) acts (start_states p)) = counts (tabled p) acts (start_states p) in
+        let all : performed_by r.end ≡ length acts = subst (λ (y : Reached (List Val)). ((k : ℕ) → y.ending ≡ done k → y.performed ≡ length acts)) (sym over.reached) c.all n (ap ending_of d) in
+        let g : n ≡ length acts = sym (ap performed_by d) ∙ all in
+        let t : traced ≡ trace p.hidden (tabled p) acts n = over.trace ∙ ap (trace p.hidden (tabled p) acts) (ap performed_by d) in
+        ap (λ ts. ts ++ (if b then a ∷ [] else [])) t ∙ trace_more p.hidden (tabled p) acts a n b g x ∙ ap (trace p.hidden (tabled p) (acts ++ a ∷ [])) (sym (ap performed_by e));
+  }
 
 -- what the table's run is, the source's run is
 pub source_run : (p : Prog) (acts : List Act) (r : Run) (c : Composed) → IsTableRun p acts r → Means p c → IsSourceRun c acts r

@@ -18,7 +18,9 @@ moved_of (Moved.Fault c f) = fault c f
 -- the new states are of these types
 abbrev pub AreOfTypes : List (List ℕ) → Moved → Type 0
 AreOfTypes types (Moved.Next v) = types_of v.items ≡ types
-AreOfTypes types _ = Unit {0}
+AreOfTypes types Moved.NotAnAction = Unit {0}
+AreOfTypes types Moved.NotEnabled = Unit {0}
+AreOfTypes types (Moved.Fault c f) = Unit {0}
 
 -- the answer, with the states that then stand
 abbrev pub step_of : {S : Type 0} → Step → List S → steps.Moved S
@@ -30,10 +32,19 @@ step_of (Step.Fault c f) ss = fault c f
 -- the states that stand where the answer is not Next
 abbrev pub KeepsUnlessNext : {S : Type 0} → Step → List S → List S → Type 0
 KeepsUnlessNext Step.Next before after = Unit {0}
-KeepsUnlessNext _ before after = after ≡ before
+KeepsUnlessNext Step.NotAnAction before after = after ≡ before
+KeepsUnlessNext Step.NotEnabled before after = after ≡ before
+KeepsUnlessNext (Step.Fault c f) before after = after ≡ before
 
 abbrev pub ending_of : End → Ending
 ending_of (End.Done n) = done n
 ending_of (End.NotAnAction i) = not_an_action_at i
 ending_of (End.NotEnabled i) = not_enabled_at i
 ending_of (End.Fault c f i) = fault_at c f i
+
+-- how many actions were performed
+abbrev pub performed_by : End → ℕ
+performed_by (End.Done n) = n
+performed_by (End.NotAnAction i) = i
+performed_by (End.NotEnabled i) = i
+performed_by (End.Fault c f i) = i

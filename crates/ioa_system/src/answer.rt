@@ -2,7 +2,7 @@ ghost use Rattle.std.specs.Prelude.{◌≡◌, List, Some, IfSome, IfNone};
 ghost use Rattle.ioa_value.specs.Plain.{Val};
 ghost use Rattle.ioa_syntax.specs.Runs.{Reached, after};
 ghost use Rattle.ioa_system.specs.declared.answer.Step.TheVariants as variants;
-ghost use Rattle.ioa_system.specs.Answers.{KeepsUnlessNext, ending_of, step_of};
+ghost use Rattle.ioa_system.specs.Answers.{KeepsUnlessNext, ending_of, performed_by, step_of};
 ghost use Rattle.ioa_system.specs.Endings.{ending_text};
 
 use ioa_node::NodeState;
@@ -40,6 +40,7 @@ impl Step {
     pub fn end_at(self, index: usize) -> Option<End>
         ensures some { IfSome result (λ end. (ss ts : List (List Val)) → (more : List (List Val) → Reached (List Val))
             → after index ss (step_of self ts) more ≡ record { performed = index; states = ss; ending = ending_of end }) }
+        ensures performed { IfSome result (λ end. performed_by end ≡ index) }
         ensures kept { IfSome result (λ _. (ss ts : List (List Val)) → KeepsUnlessNext self ss ts → ts ≡ ss) }
         ensures none { IfNone result (self ≡ variants.Next) }
     {
@@ -63,6 +64,18 @@ pub enum End {
     NotEnabled(usize),
     /// The component faults at the action of this index.
     Fault(usize, Fault, usize),
+}
+
+impl End {
+    /// How many actions were performed.
+    pub fn performed(self) -> usize
+        ensures { result ≡ performed_by self }
+    {
+        match self {
+            End::Done(count) => count,
+            End::NotAnAction(index) | End::NotEnabled(index) | End::Fault(_, _, index) => index,
+        }
+    }
 }
 
 impl fmt::Display for End {

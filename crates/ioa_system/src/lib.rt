@@ -6,6 +6,7 @@ mod entries;
 mod laws;
 mod moves;
 mod participation;
+mod runner;
 mod runs;
 mod system;
 
@@ -13,5 +14,6 @@ pub use answer::{End, Moved, Step};
 pub use laws::steps_are_the_sources;
 pub use moves::step_from;
 pub use participation::{is_external, owner, participants};
+pub use runner::Runner;
 pub use runs::{Run, run_list};
 pub use system::System;

@@ -2,38 +2,31 @@ ghost use Rattle.std.specs.Prelude.{◌≡◌, List, IfOk, map, Some};
 ghost use Rattle.ioa_value.specs.Plain.{Val};
 ghost use Rattle.ioa_value.specs.Actions.{act_of};
 ghost use Rattle.ioa_node.specs.Runs.{changed};
+ghost use Rattle.ioa_syntax.specs.Steps as steps;
 ghost use Rattle.ioa_compile.specs.Shown.{entry_code, member_code};
 ghost use Rattle.ioa_compile.specs.Tables as tables;
-ghost use Rattle.ioa_compile.specs.Tables.{AreEntries, AreMembers, IsProgram, table_component, tabled};
+ghost use Rattle.ioa_compile.specs.Tables.{AreEntries, table_component, tabled};
 ghost use Rattle.ioa_system.specs.Answers.{AreOfTypes, moved_of};
-ghost use Rattle.ioa_system.specs.Lent.{Fits, asked_of, lent, place_of};
+ghost use Rattle.ioa_system.specs.Found.{AreReady, components_of, consented, lent, lent_types, numbers_of, placed};
 ghost use Rattle.ioa_system.specs.Participants as spec;
 ghost use Rattle.ioa_system.specs.Systems.{slot_types, types_of, values_of};
 
 use crate::answer::Moved;
-use crate::entries::entry_of;
-use crate::participation::{is_action, is_local};
+use crate::participation::{Participant, find, is_local};
 use ioa_compile::{Entry, Member, Program};
 use ioa_node::{NodeState, effect, enabled};
 use ioa_value::{Action, Fault, OutOfMemory};
 use std::alloc::Global;
 
-/// Whose states are at hand.
-#[derive(Clone, Copy)]
-pub(crate) enum Whose {
-    /// One for each component.
-    All,
-    /// One for each participant of the action, in order.
-    Participants,
-}
-
-/// What the owner's precondition answers.
+/// Whether the owner lets its action be performed.
 #[derive(Clone, Copy)]
 enum Consent {
-    /// The action has no owner.
-    Free,
-    /// The owner's number, and its answer.
-    Owned(usize, Result<bool, Fault>),
+    /// Its precondition holds, or the action has no owner.
+    Given,
+    /// Its precondition does not hold.
+    Denied,
+    /// The precondition of the component of this number faults.
+    Faulted(usize, Fault),
 }
 
 /// What a step answers from these states of the action's participants, one for each in order and of its
@@ -44,101 +37,99 @@ pub fn step_from(
     action: &Action,
     states: &[NodeState],
 ) -> Result<Moved, OutOfMemory>
-    requires { types_of states.now ≡ spec.taken (act_of action.now) (tabled program.now) (slot_types program.now.members) }
+    requires { types_of states.now ≡ spec.taken (steps.participants (tabled program.now) (act_of action.now)) (slot_types program.now.members) }
     ensures value { IfOk result (λ m. moved_of m ≡ spec.step_from (tabled program.now) (act_of action.now) (values_of states.now)) }
     ensures types { IfOk result (AreOfTypes (types_of states.now)) }
     ensures alone { (ss : List (List Val)) → spec.DependsOnParticipants (tabled program.now) (act_of action.now) ss }
 {
-    moved(alloc, program, action, Whose::Participants, states)
+    let mut participants = Vec::new(alloc);
+    find(program.members(), action, &mut participants)?;
+    place_in_order(&mut participants);
+    moved(alloc, &participants, action, states)
 }
 
-/// What a step answers from the states at hand.
+/// Says of the participants' states that they alone are at hand, in order.
+fn place_in_order(participants: &mut [Participant<'_>])
+    ensures { participants.new ≡ placed 0 participants.old }
+{
+    for i in 0..participants.len() {
+        participants[i].place = i;
+    }
+}
+
+/// What the participants' step answers from the states at hand.
 pub(crate) fn moved(
     alloc: Global,
-    program: &Program,
+    participants: &[Participant<'_>],
     action: &Action,
-    whose: Whose,
     states: &[NodeState],
 ) -> Result<Moved, OutOfMemory>
-    requires { Fits whose (act_of action.now) program.now.members states.now }
-    ensures value { IfOk result (λ m. moved_of m ≡ spec.step_from (tabled program.now) (act_of action.now) (values_of (lent whose (act_of action.now) program.now.members states.now))) }
-    ensures types { IfOk result (AreOfTypes (spec.taken (act_of action.now) (tabled program.now) (slot_types program.now.members))) }
+    requires { AreReady (act_of action.now) states.now participants.now }
+    ensures value { IfOk result (λ m. moved_of m ≡ spec.renumbered (numbers_of participants.now) (steps.step (components_of participants.now) (act_of action.now) (lent states.now participants.now))) }
+    ensures types { IfOk result (AreOfTypes (lent_types participants.now)) }
 {
-    let members = program.members();
-    if !is_action(members, action) {
+    if participants.is_empty() {
         return Ok(Moved::NotAnAction);
     }
-    match asked(alloc, members, action, whose, states)? {
-        Consent::Free | Consent::Owned(_, Ok(true)) => {
-            effects(alloc, members, action, whose, states)
-        }
-        Consent::Owned(_, Ok(false)) => Ok(Moved::NotEnabled),
-        Consent::Owned(component, Err(fault)) => Ok(Moved::Fault(component, fault)),
+    match asked(alloc, participants, action, states)? {
+        Consent::Given => effects(alloc, participants, action, states),
+        Consent::Denied => Ok(Moved::NotEnabled),
+        Consent::Faulted(component, fault) => Ok(Moved::Fault(component, fault)),
     }
 }
 
-/// What the owner's precondition answers.
+/// Whether the owner lets the action be performed.
 fn asked(
     alloc: Global,
-    members: &[Member],
+    participants: &[Participant<'_>],
     action: &Action,
-    whose: Whose,
     states: &[NodeState],
 ) -> Result<Consent, OutOfMemory>
-    requires sound { AreMembers (map member_code members.now) }
-    requires fits { Fits whose (act_of action.now) (map member_code members.now) states.now }
-    ensures { IfOk result (λ r. asked_of r ≡ spec.asked_of 0 (map table_component (map member_code members.now)) (act_of action.now) (values_of (lent whose (act_of action.now) (map member_code members.now) states.now))) }
+    requires { AreReady (act_of action.now) states.now participants.now }
+    ensures { IfOk result (λ r. (m : steps.Moved (List Val)) → consented r (spec.renumbered (numbers_of participants.now) m)
+        ≡ spec.renumbered (numbers_of participants.now) (steps.allowed (steps.asked 0 (components_of participants.now) (act_of action.now) (lent states.now participants.now)) m)) }
 {
-    let mut before = 0;
-    for i in 0..members.len() {
-        let member = &members[i];
-        if let Some(entry) = entry_of(member, action) {
-            if is_local(entry.kind) {
-                let state = &states[place(whose, i, before)];
-                let answer = guard(alloc, member, entry, action, state)?;
-                return Ok(Consent::Owned(i, answer));
-            }
-            before += 1;
+    for participant in participants {
+        if is_local(participant.entry.kind) {
+            let state = &states[participant.place];
+            let answer = guard(alloc, participant.member, participant.entry, action, state)?;
+            return Ok(consent_by(participant.component, answer));
         }
     }
-    Ok(Consent::Free)
+    Ok(Consent::Given)
+}
+
+/// What the answer of its owner's precondition says of an action.
+fn consent_by(owner: usize, answer: Result<bool, Fault>) -> Consent
+    ensures { (m : steps.Moved (List Val)) → consented result m ≡ steps.allowed (steps.owned owner answer) m }
+{
+    match answer {
+        Ok(true) => Consent::Given,
+        Ok(false) => Consent::Denied,
+        Err(fault) => Consent::Faulted(owner, fault),
+    }
 }
 
 /// The participants' effects in order, each on its own state, up to the first fault.
 fn effects(
     alloc: Global,
-    members: &[Member],
+    participants: &[Participant<'_>],
     action: &Action,
-    whose: Whose,
     states: &[NodeState],
 ) -> Result<Moved, OutOfMemory>
-    requires sound { AreMembers (map member_code members.now) }
-    requires fits { Fits whose (act_of action.now) (map member_code members.now) states.now }
-    ensures value { IfOk result (λ m. moved_of m ≡ spec.effects_of 0 (map table_component (map member_code members.now)) (act_of action.now) (values_of (lent whose (act_of action.now) (map member_code members.now) states.now))) }
-    ensures types { IfOk result (AreOfTypes (spec.taken (act_of action.now) (map table_component (map member_code members.now)) (slot_types (map member_code members.now)))) }
+    requires { AreReady (act_of action.now) states.now participants.now }
+    ensures value { IfOk result (λ m. moved_of m ≡ spec.renumbered (numbers_of participants.now) (steps.effects 0 (components_of participants.now) (act_of action.now) (lent states.now participants.now))) }
+    ensures types { IfOk result (AreOfTypes (lent_types participants.now)) }
 {
     let mut next = Vec::new(alloc);
-    for i in 0..members.len() {
-        let member = &members[i];
-        if let Some(entry) = entry_of(member, action) {
-            let state = &states[place(whose, i, next.len())];
-            match effect_on(alloc, member, entry, action, state)? {
-                Ok(after) => next.push(after)?,
-                Err(fault) => return Ok(Moved::Fault(i, fault)),
-            }
+    for participant in participants {
+        let state = &states[participant.place];
+        match effect_on(alloc, participant.member, participant.entry, action, state)? {
+            Ok(after) => next.push(after)?,
+            Err(fault) => return Ok(Moved::Fault(participant.component, fault)),
         }
     }
     Ok(Moved::Next(next))
-}
-
-/// Where the state of this component stands, before which so many participants come.
-fn place(whose: Whose, component: usize, before: usize) -> usize
-    ensures { result ≡ place_of whose component before }
-{
-    match whose {
-        Whose::All => component,
-        Whose::Participants => before,
-    }
 }
 
 /// What the component's precondition answers in this state. An entry without one allows its action.

@@ -1,4 +1,4 @@
-ghost use Rattle.std.specs.Prelude.{◌≡◌, IfOk, map, Some};
+ghost use Rattle.std.specs.Prelude.{◌≡◌, ◌&&◌, not, All, IfOk, OnOk, Some, map};
 ghost use Rattle.std.specs.List.{list_any};
 ghost use Rattle.std.specs.Str.{bytes_eq};
 ghost use Rattle.std.specs.String.{string_bytes};
@@ -7,13 +7,65 @@ ghost use Rattle.ioa_syntax.specs.Components as components;
 ghost use Rattle.ioa_syntax.specs.Runs as runs;
 ghost use Rattle.ioa_syntax.specs.Steps as steps;
 ghost use Rattle.ioa_compile.specs.Shown.{member_code};
-ghost use Rattle.ioa_compile.specs.Tables.{table_component, tabled};
+ghost use Rattle.ioa_compile.specs.Tables.{tabled};
+ghost use Rattle.ioa_system.specs.Found as found;
+ghost use Rattle.ioa_system.specs.Found.{AreParticipants};
 
 use crate::entries::entry_of;
-use ioa_compile::{Member, Program};
+use ioa_compile::{Entry, Member, Program};
 use ioa_syntax::Kind;
 use ioa_value::{Action, OutOfMemory};
 use std::alloc::Global;
+
+/// A component that has an action.
+#[derive(Clone, Copy)]
+pub(crate) struct Participant<'a> {
+    /// The component's number.
+    pub component: usize,
+    /// Where its state stands among those at hand.
+    pub place: usize,
+    pub member: &'a Member,
+    /// The entry that has the action.
+    pub entry: &'a Entry,
+}
+
+/// The action's participants in ascending order, in place of what the list held. Their states' places are those among
+/// the states of all components.
+pub(crate) fn find<'a>(
+    members: &'a [Member],
+    action: &Action,
+    participants: &mut Vec<Participant<'a>>,
+) -> Result<(), OutOfMemory>
+    ensures found { OnOk result (AreParticipants (act_of action.now) (map member_code members.now) participants.new.items) }
+    ensures places { OnOk result (All (λ q. q.place ≡ q.component) participants.new.items) }
+{
+    participants.clear();
+    for i in 0..members.len() {
+        let member = &members[i];
+        if let Some(entry) = entry_of(member, action) {
+            participants.push(Participant {
+                component: i,
+                place: i,
+                member,
+                entry,
+            })?;
+        }
+    }
+    Ok(())
+}
+
+/// Whether the action of these participants is external.
+pub(crate) fn shows(hidden: &[String], participants: &[Participant<'_>], action: &Action) -> bool
+    requires { found.HaveEntries (act_of action.now) participants.now }
+    ensures { result ≡ runs.is_external (map string_bytes hidden.now) (found.components_of participants.now) (act_of action.now) }
+{
+    for participant in participants {
+        if is_local(participant.entry.kind) {
+            return is_shown(hidden, participant.entry.kind, action);
+        }
+    }
+    true
+}
 
 /// The number of the component that has the action as output or internal.
 pub fn owner(program: &Program, action: &Action) -> Option<usize>
@@ -21,8 +73,9 @@ pub fn owner(program: &Program, action: &Action) -> Option<usize>
 {
     let members = program.members();
     for i in 0..members.len() {
-        if owns(&members[i], action) {
-            return Some(i);
+        match entry_of(&members[i], action) {
+            Some(entry) if is_local(entry.kind) => return Some(i),
+            _ => {}
         }
     }
     None
@@ -39,7 +92,7 @@ pub fn participants(
     let members = program.members();
     let mut found = Vec::new(alloc);
     for i in 0..members.len() {
-        if has(&members[i], action) {
+        if entry_of(&members[i], action).is_some() {
             found.push(i)?;
         }
     }
@@ -51,24 +104,14 @@ pub fn is_external(program: &Program, action: &Action) -> bool
     ensures { result ≡ runs.is_external program.now.hidden (tabled program.now) (act_of action.now) }
 {
     for member in program.members() {
-        match kind_of(member, action) {
-            Some(Kind::Output) => return !is_hidden(program.hidden(), action),
-            Some(Kind::Internal) => return false,
-            Some(Kind::Input) | None => {}
+        match entry_of(member, action) {
+            Some(entry) if is_local(entry.kind) => {
+                return is_shown(program.hidden(), entry.kind, action);
+            }
+            _ => {}
         }
     }
     true
-}
-
-pub(crate) fn is_action(members: &[Member], action: &Action) -> bool
-    ensures { result ≡ list_any (components.has (act_of action.now)) (map table_component (map member_code members.now)) }
-{
-    for member in members {
-        if has(member, action) {
-            return true;
-        }
-    }
-    false
 }
 
 pub(crate) fn is_local(kind: Kind) -> bool
@@ -80,27 +123,13 @@ pub(crate) fn is_local(kind: Kind) -> bool
     }
 }
 
-pub(crate) fn has(member: &Member, action: &Action) -> bool
-    ensures { result ≡ components.has (act_of action.now) (table_component (member_code member.now)) }
+/// Whether the action of an owner of this kind is external.
+fn is_shown(hidden: &[String], kind: Kind, action: &Action) -> bool
+    ensures { result ≡ (components.is_output (Some kind) && not (list_any (λ h. bytes_eq h (act_of action.now).name) (map string_bytes hidden.now))) }
 {
-    kind_of(member, action).is_some()
-}
-
-fn owns(member: &Member, action: &Action) -> bool
-    ensures { result ≡ components.owns (act_of action.now) (table_component (member_code member.now)) }
-{
-    match kind_of(member, action) {
-        Some(kind) => is_local(kind),
-        None => false,
-    }
-}
-
-fn kind_of(member: &Member, action: &Action) -> Option<Kind>
-    ensures { result ≡ (table_component (member_code member.now)).kind_of (act_of action.now) }
-{
-    match entry_of(member, action) {
-        Some(entry) => Some(entry.kind),
-        None => None,
+    match kind {
+        Kind::Output => !is_hidden(hidden, action),
+        Kind::Input | Kind::Internal => false,
     }
 }
 

@@ -1,20 +1,29 @@
-ghost use Rattle.std.specs.Prelude.{◌≡◌, IfOk, OnErr, length, map};
+ghost use Rattle.std.specs.Prelude.{◌≡◌, ◌<◌, All, IfOk, OnErr, length, map};
 ghost use Rattle.ioa_value.specs.Actions.{act_of};
+ghost use Rattle.ioa_syntax.specs.Runs as runs;
 ghost use Rattle.ioa_syntax.specs.Steps as steps;
 ghost use Rattle.ioa_compile.specs.Shown.{member_code};
-ghost use Rattle.ioa_compile.specs.Tables.{start_states, table_component, tabled};
-ghost use Rattle.ioa_system.specs.Answers.{KeepsUnlessNext, step_of};
-ghost use Rattle.ioa_system.specs.Participants.{put_back};
+ghost use Rattle.ioa_compile.specs.Tables.{start_states, tabled};
+ghost use Rattle.ioa_system.specs.Answers.{AreOfTypes, KeepsUnlessNext, moved_of, step_of};
+ghost use Rattle.ioa_system.specs.Found.{numbers_of};
+ghost use Rattle.ioa_system.specs.Participants.{all_back, put_back, taken};
 ghost use Rattle.ioa_system.specs.Systems.{slot_types, types_of, values_of};
 
 use crate::answer::{Moved, Step};
-use crate::moves::{Whose, moved};
-use crate::participation::has;
+use crate::moves::moved;
+use crate::participation::{Participant, find, shows};
 use ioa_compile::{Member, Program};
 use ioa_node::NodeState;
 use ioa_value::{Action, OutOfMemory};
 use std::alloc::Global;
 use std::marker::Model;
+
+/// What a step answers to an action, and whether the action is external.
+#[derive(Clone, Copy)]
+pub(crate) struct Performed {
+    pub step: Step,
+    pub external: bool,
+}
 
 /// A running program: the program, and one state for each of its components.
 #[derive(Drop)]
@@ -22,6 +31,8 @@ pub struct System<'a> {
     alloc: Global,
     program: &'a Program,
     states: Vec<NodeState>,
+    /// Room for the participants of one action, kept from step to step.
+    participants: Vec<Participant<'a>>,
 }
 
 impl<'a> Model for System<'a> {
@@ -47,6 +58,7 @@ impl<'a> System<'a> {
             alloc,
             program,
             states,
+            participants: Vec::new(alloc),
         })
     }
 
@@ -58,16 +70,23 @@ impl<'a> System<'a> {
         ensures program { self.new.program ≡ self.old.program }
         ensures memory { OnErr result (self.new ≡ self.old) }
     {
+        Ok(self.perform(action)?.step)
+    }
+
+    /// Performs the action as `step` does, and says whether it is external.
+    pub(crate) fn perform(&mut self, action: &Action) -> Result<Performed, OutOfMemory>
+        ensures step { IfOk result (λ r. step_of r.step self.new.states ≡ steps.step (tabled self.old.program) (act_of action.now) self.old.states) }
+        ensures kept { IfOk result (λ r. KeepsUnlessNext r.step self.old.states self.new.states) }
+        ensures external { IfOk result (λ r. r.external ≡ runs.is_external self.old.program.hidden (tabled self.old.program) (act_of action.now)) }
+        ensures program { self.new.program ≡ self.old.program }
+        ensures memory { OnErr result (self.new ≡ self.old) }
+    {
         let program = self.program;
-        match moved(self.alloc, program, action, Whose::All, &self.states)? {
-            Moved::Next(changed) => {
-                install(program.members(), action, &mut self.states, changed);
-                Ok(Step::Next)
-            }
-            Moved::NotAnAction => Ok(Step::NotAnAction),
-            Moved::NotEnabled => Ok(Step::NotEnabled),
-            Moved::Fault(component, fault) => Ok(Step::Fault(component, fault)),
-        }
+        find(program.members(), action, &mut self.participants)?;
+        let external = shows(program.hidden(), &self.participants, action);
+        let moved = moved(self.alloc, &self.participants, action, &self.states)?;
+        let step = settle(&self.participants, &mut self.states, moved);
+        Ok(Performed { step, external })
     }
 
     /// The program that runs.
@@ -105,17 +124,33 @@ fn start_of(alloc: Global, members: &[Member]) -> Result<Vec<NodeState>, OutOfMe
     Ok(states)
 }
 
+/// What the participants' answer makes of the components' states.
+fn settle(participants: &[Participant<'_>], states: &mut [NodeState], moved: Moved) -> Step
+    requires { All (λ n. n < length states.old) (numbers_of participants.now) }
+    ensures step { step_of result (values_of states.new) ≡ all_back (numbers_of participants.now) (values_of states.old) (moved_of moved) }
+    ensures kept { KeepsUnlessNext result states.old states.new }
+    ensures types { AreOfTypes (taken (numbers_of participants.now) (types_of states.old)) moved → types_of states.new ≡ types_of states.old }
+{
+    match moved {
+        Moved::Next(changed) => {
+            install(participants, states, changed);
+            Step::Next
+        }
+        Moved::NotAnAction => Step::NotAnAction,
+        Moved::NotEnabled => Step::NotEnabled,
+        Moved::Fault(component, fault) => Step::Fault(component, fault),
+    }
+}
+
 /// Puts the participants' new states in their components' places.
-fn install(members: &[Member], action: &Action, states: &mut [NodeState], changed: Vec<NodeState>)
-    requires { length states.old ≡ length members.now }
-    ensures { states.new ≡ put_back (act_of action.now) (map table_component (map member_code members.now)) states.old changed.items }
+fn install(participants: &[Participant<'_>], states: &mut [NodeState], changed: Vec<NodeState>)
+    requires { All (λ n. n < length states.old) (numbers_of participants.now) }
+    ensures { states.new ≡ put_back (numbers_of participants.now) changed.items states.old }
 {
     let mut rest = changed.into_iter();
-    for i in 0..members.len() {
-        if has(&members[i], action) {
-            if let Some(state) = rest.next() {
-                states[i] = state;
-            }
+    for participant in participants {
+        if let Some(state) = rest.next() {
+            states[participant.component] = state;
         }
     }
 }

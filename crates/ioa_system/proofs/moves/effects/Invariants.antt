@@ -1,8 +1,6 @@
-use Rattle.std.proofs.Common.{map}
 use Rattle.ioa_value.specs.Actions.{act_of}
-use Rattle.ioa_compile.specs.Shown.{member_code}
-use Rattle.ioa_system.proofs.Lending.{ActsOn}
+use Rattle.ioa_system.proofs.Stepping.{ActsOn}
 use Rattle.ioa_system.proofs.moves.effects.Given as goal
 
-abbrev pub invariant-loop-i : goal.invariant-loop-i
-invariant-loop-i l = ActsOn l.whose (act_of l.action) (map member_code l.members) l.states l.next.items l.i
+abbrev pub invariant-loop-participant : goal.invariant-loop-participant
+invariant-loop-participant l = ActsOn (act_of l.action) l.states l.participants l.next.items l.participant-index

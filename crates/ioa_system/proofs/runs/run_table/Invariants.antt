@@ -1,10 +1,7 @@
-use Rattle.std.proofs.Common.{◌≡◌, map}
+use Rattle.std.proofs.Common.{map, take}
 use Rattle.ioa_value.specs.Actions.{act_of}
-use Rattle.ioa_system.proofs.Tracing.{Performs}
+use Rattle.ioa_system.specs.Progress.{IsRunOver}
 use Rattle.ioa_system.proofs.runs.run_table.Given as goal
 
-abbrev pub invariant-loop-i : goal.invariant-loop-i
-invariant-loop-i l = record {
-  program : l.system.program ≡ l.program;
-  performs : Performs l.program (map act_of l.actions) l.i l.system.states (map act_of l.trace.items);
-}
+abbrev pub invariant-loop-action : goal.invariant-loop-action
+invariant-loop-action l = IsRunOver l.program (map act_of (take l.action-index l.actions)) (map act_of l.trace.items) l.runner

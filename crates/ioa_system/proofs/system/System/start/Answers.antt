@@ -3,7 +3,7 @@ use Rattle.ioa_value.specs.Plain.{Val}
 use Rattle.ioa_compile.specs.Programs.{MemberCode}
 use Rattle.ioa_compile.specs.Tables.{start_states}
 use Rattle.ioa_system.specs.Systems.{values_of}
-use Rattle.ioa_system.proofs.Installing.{start_types, start_values, running}
+use Rattle.ioa_system.proofs.Running.{start_types, start_values, running}
 use Rattle.ioa_system.proofs.system.System.start.Goals as goal
 
 pub invariant_of-result : goal.invariant_of-result

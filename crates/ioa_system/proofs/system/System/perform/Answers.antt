@@ -1,0 +1,75 @@
+use Rattle.std.proofs.Common.{◌≡◌, ◌++◌, List, length, drop, take, map, ap, subst, ◌∙◌, rules}
+use Rattle.std.specs.String.{string_bytes}
+use Rattle.ioa_value.specs.Actions.{Act, act_of}
+use Rattle.ioa_node.specs.Nodes.{Node}
+use Rattle.ioa_syntax.specs.Runs.{is_external}
+use Rattle.ioa_syntax.specs.Steps as steps
+use Rattle.ioa_compile.specs.Programs.{Prog}
+use Rattle.ioa_compile.specs.Tables.{tabled}
+use Rattle.ioa_system.specs.declared.participation.Participant.{Participant}
+use Rattle.ioa_system.specs.Answers.{KeepsUnlessNext}
+use Rattle.ioa_system.specs.Found.{AreParticipants}
+use Rattle.ioa_system.specs.Systems.{Running, values_of}
+use Rattle.ioa_system.proofs.Participating.{written_anew}
+use Rattle.ioa_system.proofs.Readying.{ready_all, within_all}
+use Rattle.ioa_system.proofs.Running.{Runs, Settled, external_found, settled}
+use Rattle.ioa_system.proofs.system.System.perform.Goals as goal
+use Rattle.ioa_system.proofs.system.System.perform.Goals.{In_ok-find, After-settle-step}
+
+runs : (c : In_ok-find) → Runs c.self.inside.program.now (act_of c.args.action.now) c.self.inside.states.items c.find.new.participants.items
+runs c = record {
+  found = subst (λ ms. AreParticipants (act_of c.args.action.now) ms c.find.new.participants.items) c.members.ensures.value c.in_ok-find.ensures.found;
+  places = c.in_ok-find.ensures.places;
+  types = c.self.invariant;
+}
+
+pub moved-requires : goal.moved-requires
+moved-requires c =
+    let r = runs ((goal.at.moved-requires c).In_ok-find) in
+    let p : Prog = c.self.inside.program.now in
+    rw (c.deref-3.ensures.value, c.deref-2.ensures.value)
+    (ready_all (act_of c.args.action.now) p.members c.self.inside.states.items c.find.new.participants.items r.found r.places c.members.ensures.sound.members r.types)
+
+pub settle-step-requires : goal.settle-step-requires
+settle-step-requires c =
+    let r = runs ((goal.at.settle-step-requires c).In_ok-find) in
+    rw (c.deref-4.ensures.value, c.deref_mut.ensures.value)
+    (within_all (act_of c.args.action.now) c.self.inside.program.now.members c.self.inside.states.items c.find.new.participants.items r.found r.types)
+
+after : (c : After-settle-step) → Settled c.self.inside.program.now (act_of c.args.action.now) c.self.inside.states.items c.settle-step.new.states c.settle-step.result
+after c =
+    let a : Act = act_of c.args.action.now in
+    let ns : List Node = c.self.inside.states.items in
+    let qs : List Participant = c.find.new.participants.items in
+    let v = rw (c.deref-2.ensures.value, c.deref-3.ensures.value) at c.in_ok-moved.ensures.value in
+    let t = rw c.deref-2.ensures.value at c.in_ok-moved.ensures.types in
+    let s = rw (c.deref-4.ensures.value, c.deref_mut.ensures.value) at c.settle-step.ensures.step in
+    let k = rw c.deref_mut.ensures.value at c.settle-step.ensures.kept in
+    let f = rw (c.deref-4.ensures.value, c.deref_mut.ensures.value) at c.settle-step.ensures.types in
+    settled c.self.inside.program.now a ns c.settle-step.new.states qs c.in_ok-moved.moved c.settle-step.result (runs ((goal.at.After-settle-step c).In_ok-find)) v t s k f
+
+whole : (c : After-settle-step) → take c.self.inside.states.len (c.settle-step.new.states ++ drop (length c.settle-step.new.states) c.self.inside.states.items) ≡ c.settle-step.new.states
+whole c = written_anew c.self.inside.states.len c.settle-step.new.states c.self.inside.states.items (after c).count (search rules)
+
+pub invariant_of-self-2 : goal.invariant_of-self-2
+invariant_of-self-2 c =
+    let at = (goal.at.invariant_of-self-2 c).After-settle-step in
+    rw (whole at) (after at).types
+
+pub returns-clause-step : goal.returns-clause-step
+returns-clause-step c =
+    let at = (goal.at.returns-clause-step c).After-settle-step in
+    rw (whole at) ((after at).answer ∙ ap (λ (r : Running). steps.step (tabled r.program) (act_of c.args.action.now) r.states) c.self.view_is)
+
+pub returns-clause-kept : goal.returns-clause-kept
+returns-clause-kept c =
+    let at = (goal.at.returns-clause-kept c).After-settle-step in
+    rw (whole at) (subst (λ (r : Running). KeepsUnlessNext c.settle-step.result r.states (values_of c.settle-step.new.states)) c.self.view_is (after at).kept)
+
+pub returns-clause-external : goal.returns-clause-external
+returns-clause-external c =
+    let p : Prog = c.self.inside.program.now in
+    let r = runs ((goal.at.returns-clause-external c).In_ok-find) in
+    let e = rw c.deref.ensures.value at c.shows-external.ensures in
+    e ∙ external_found p (act_of c.args.action.now) c.find.new.participants.items (map string_bytes c.hidden.result.now) r.found c.hidden.ensures
+    ∙ ap (λ (r : Running). is_external r.program.hidden (tabled r.program) (act_of c.args.action.now)) c.self.view_is

@@ -1,0 +1,83 @@
+ghost use Rattle.std.specs.Prelude.{◌≡◌, ◌++◌, ◌∷◌, [], List, IfOk, OnErr, if◌then◌else◌};
+ghost use Rattle.ioa_value.specs.Actions.{Act, act_of};
+ghost use Rattle.ioa_compile.specs.Programs.{Prog};
+ghost use Rattle.ioa_system.specs.Progress.{IsRunOver};
+ghost use Rattle.ioa_system.specs.Systems.{values_of};
+
+use crate::answer::End;
+use crate::system::System;
+use ioa_compile::Program;
+use ioa_node::NodeState;
+use ioa_value::{Action, OutOfMemory};
+use std::alloc::Global;
+use std::marker::Model;
+
+/// A run from the start states whose actions come one by one: up to the first that cannot be performed.
+#[derive(Drop)]
+pub struct Runner<'a> {
+    system: System<'a>,
+    end: End,
+}
+
+impl<'a> Model for Runner<'a> {
+    ghost use Rattle.ioa_system.specs.Progress.{Progress, coded_progress};
+
+    ghost Value = { Progress };
+
+    ghost coded = { coded_progress };
+
+    ghost view = { λ r. record { program = r.system.program; states = r.system.states; end = r.end } };
+}
+
+impl<'a> Runner<'a> {
+    /// The run over no action.
+    pub fn start(alloc: Global, program: &'a Program) -> Result<Runner<'a>, OutOfMemory>
+        ensures { IfOk result (IsRunOver program.now [] []) }
+    {
+        Ok(Runner {
+            system: System::start(alloc, program)?,
+            end: End::Done(0),
+        })
+    }
+
+    /// Hands the run its next action, and says whether the trace goes on with it: whether it is performed and external.
+    /// Where the run has ended, nothing changes. A refusal of memory changes nothing; an action past the greatest
+    /// count is refused so.
+    pub fn take(&mut self, action: &Action) -> Result<bool, OutOfMemory>
+        ensures run { IfOk result (λ goes_on. (p : Prog) (acts traced : List Act) → IsRunOver p acts traced self.old
+            → IsRunOver p (acts ++ act_of action.now ∷ []) (traced ++ (if goes_on then act_of action.now ∷ [] else [])) self.new) }
+        ensures memory { OnErr result (self.new ≡ self.old) }
+    {
+        let End::Done(count) = self.end else {
+            return Ok(false);
+        };
+        let Some(next) = count.checked_add(1) else {
+            return Err(OutOfMemory);
+        };
+        let performed = self.system.perform(action)?;
+        match performed.step.end_at(count) {
+            Some(end) => {
+                self.end = end;
+                Ok(false)
+            }
+            None => {
+                self.end = End::Done(next);
+                Ok(performed.external)
+            }
+        }
+    }
+
+    /// How the run over the actions so far ends.
+    pub fn end(&self) -> End
+        ensures { result ≡ self.now.end }
+    {
+        self.end
+    }
+
+    /// The components' states that are reached, in order, without the run.
+    pub fn into_states(self) -> Vec<NodeState>
+        ensures { values_of result.items ≡ self.entry.states }
+    {
+        self.system.into_states()
+    }
+}
