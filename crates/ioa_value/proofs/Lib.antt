@@ -14,3 +14,4 @@ pub mod ListOnceLemmas
 pub mod ItemLemmas
 pub mod PlaceLemmas
 pub mod TypingLemmas
+pub mod Spellings
