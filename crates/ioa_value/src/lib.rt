@@ -36,4 +36,4 @@ pub use terminal::Terminal;
 pub use types::{Declarations, Declared, Field, Form, Types};
 pub use typing::has_type;
 pub use value::{Ty, Value, copies, same};
-pub use writing::print_action;
+pub use writing::{print_action, push_action};
