@@ -15,3 +15,4 @@ pub mod ItemLemmas
 pub mod PlaceLemmas
 pub mod TypingLemmas
 pub mod Spellings
+pub mod WholeLemmas
