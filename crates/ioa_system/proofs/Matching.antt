@@ -2,9 +2,10 @@
 use Rattle.std.proofs.Common.{◌≡◌, ◌≢◌, ℕ, ◌&&◌, Bool, true, false, cond, List, [], ◌∷◌, length, find, Option, Some, None, refl, ap, sym, subst, suc}
 use Rattle.ioa_value.specs.Actions.{Act}
 use Rattle.ioa_value.specs.Plain.{Val}
-use Rattle.ioa_value.specs.Typing.{HaveTypes, basic_types}
-use Rattle.ioa_value.specs.Tests.{is_of}
-use Rattle.ioa_value.proofs.TestLemmas.{is_of-HasType}
+use Rattle.ioa_value.specs.Table.{Table}
+use Rattle.ioa_value.specs.Typing.{is_of, HaveTypes}
+use Rattle.ioa_node.specs.Nodes.{Node}
+use Rattle.ioa_system.specs.Systems.{Slots, slots_of}
 use Rattle.std.specs.Str.{bytes_eq}
 use Rattle.ioa_code.specs.declared.instr.PartKind.TheVariants.{Pre, Eff}
 use Rattle.ioa_code.specs.Valid.{Part}
@@ -18,37 +19,41 @@ and_false : (b : Bool) → b && false ≡ false
 and_false true = refl
 and_false false = refl
 
-pub positions_unequal : (ps : List PositionCode) (vs : List Val) → length ps ≢ length vs → positions_hold ps vs ≡ false
-positions_unequal [] [] h = absurd (h refl)
-positions_unequal [] (v ∷ vs) h = refl
-positions_unequal (p ∷ ps) [] h = refl
-positions_unequal (p ∷ ps) (v ∷ vs) h =
-    let e : positions_hold ps vs ≡ false = positions_unequal ps vs (λ k. h (ap suc k)) in rw e (and_false (position_holds p v))
+pub positions_unequal : (types : Table) (ps : List PositionCode) (vs : List Val) → length ps ≢ length vs → positions_hold types ps vs ≡ false
+positions_unequal types [] [] h = absurd (h refl)
+positions_unequal types [] (v ∷ vs) h = refl
+positions_unequal types (p ∷ ps) [] h = refl
+positions_unequal types (p ∷ ps) (v ∷ vs) h =
+    let e : positions_hold types ps vs ≡ false = positions_unequal types ps vs (λ k. h (ap suc k)) in rw e (and_false (position_holds types p v))
 
 -- values that fit an entry's positions have their types
-pub positions_typed : (ps : List PositionCode) (vs : List Val) → positions_hold ps vs ≡ true → HaveTypes basic_types vs (position_types ps)
-positions_typed [] [] h = tt
-positions_typed [] (v ∷ vs) h = absurd (cc)
-positions_typed (typed ty ∷ ps) [] h = absurd (cc)
-positions_typed (typed ty ∷ ps) (v ∷ vs) h =
-    let k : (is_of basic_types v ty ≡ true) × (positions_hold ps vs ≡ true) = and_parts (is_of basic_types v ty) (positions_hold ps vs) h in
-    ((is_of-HasType basic_types v ty).0 k.0, positions_typed ps vs k.1)
+pub positions_typed : (types : Table) (ps : List PositionCode) (vs : List Val) → positions_hold types ps vs ≡ true → HaveTypes types vs (position_types ps)
+positions_typed types [] [] h = tt
+positions_typed types [] (v ∷ vs) h = absurd (cc)
+positions_typed types (typed ty ∷ ps) [] h = absurd (cc)
+positions_typed types (typed ty ∷ ps) (v ∷ vs) h =
+    let k : (is_of types v ty ≡ true) × (positions_hold types ps vs ≡ true) = and_parts (is_of types v ty) (positions_hold types ps vs) h in
+    (k.0, positions_typed types ps vs k.1)
+
+-- values of types that are the part's
+fit : {code types : Table} {vs : List Val} {args tys : List ℕ} → code ≡ types → args ≡ tys → HaveTypes types vs tys → HaveTypes code vs args
+fit {vs = vs} e f h = rw (e, f) h
 
 pub record Found (m : MemberCode) (a : Act) (e : EntryCode) : Type 0 where
   pub entry : IsEntry m e
-  pub typed : HaveTypes basic_types a.vals (position_types e.positions)
+  pub typed : HaveTypes m.start.table a.vals (position_types e.positions)
 
-found_here : (m : MemberCode) (a : Act) (x : EntryCode) → IsEntry m x → is_in a x ≡ true → Found m a x
-found_here m a x h k = record { entry = h; typed = positions_typed x.positions a.vals (and_parts (bytes_eq x.name a.name) (positions_hold x.positions a.vals) k).1 }
+found_here : (m : MemberCode) (a : Act) (x : EntryCode) → IsEntry m x → is_in m.start.table a x ≡ true → Found m a x
+found_here m a x h k = record { entry = h; typed = positions_typed m.start.table x.positions a.vals (and_parts (bytes_eq x.name a.name) (positions_hold m.start.table x.positions a.vals) k).1 }
 
-found_first : (m : MemberCode) (a : Act) (x e : EntryCode) (more : Option EntryCode) (b : Bool) → is_in a x ≡ b → IsEntry m x
+found_first : (m : MemberCode) (a : Act) (x e : EntryCode) (more : Option EntryCode) (b : Bool) → is_in m.start.table a x ≡ b → IsEntry m x
     → (more ≡ Some e → Found m a e) → cond b (Some x) more ≡ Some e → Found m a e
 found_first m a x e more true i h k g = let q : x ≡ e = cc in subst (Found m a) q (found_here m a x h i)
 found_first m a x e more false i h k g = k g
 
-found_in : (m : MemberCode) (a : Act) (e : EntryCode) (es : List EntryCode) → AreEntries m es → find (is_in a) es ≡ Some e → Found m a e
+found_in : (m : MemberCode) (a : Act) (e : EntryCode) (es : List EntryCode) → AreEntries m es → find (is_in m.start.table a) es ≡ Some e → Found m a e
 found_in m a e [] h k = absurd (cc)
-found_in m a e (x ∷ xs) h k = found_first m a x e (find (is_in a) xs) (is_in a x) refl h.0 (found_in m a e xs h.1) k
+found_in m a e (x ∷ xs) h k = found_first m a x e (find (is_in m.start.table a) xs) (is_in m.start.table a x) refl h.0 (found_in m a e xs h.1) k
 
 pre_part : (m : MemberCode) (e : EntryCode) (k : Kind) (o : Option Part) (part : Part) → HasPre m e k o → o ≡ Some part → IsPartOf m e Pre (0 ∷ []) part
 pre_part m e Input None part h q = absurd (cc)
@@ -59,29 +64,43 @@ pre_part m e Internal None part h q = absurd h
 pre_part m e Internal (Some x) part h q = let r : x ≡ part = cc in subst (IsPartOf m e Pre (0 ∷ [])) r h
 
 -- a precondition that may be run for the action in a state of these types
-pub record Asks (a : Act) (types : List ℕ) (part : Part) : Type 0 where
+pub record Asks (a : Act) (slots : Slots) (part : Part) : Type 0 where
+  pub types : slots.table ≡ part.code.types
   pub kind : part.kind ≡ Pre
   pub result : part.result ≡ 0 ∷ []
-  pub slots : types ≡ part.slots
-  pub arguments : HaveTypes basic_types a.vals part.args
+  pub slots_are : slots.types ≡ part.slots
+  pub arguments : HaveTypes part.code.types a.vals part.args
 
-pub asks : (m : MemberCode) (a : Act) (e : EntryCode) (part : Part) (types : List ℕ)
-    → AreEntries m m.entries → entry_of m a ≡ Some e → types ≡ m.start.types → e.pre ≡ Some part → Asks a types part
-asks m a e part types h k t q =
+pub asks : (m : MemberCode) (a : Act) (e : EntryCode) (part : Part) (slots : Slots)
+    → AreEntries m m.entries → entry_of m a ≡ Some e → slots ≡ slots_of m.start → e.pre ≡ Some part → Asks a slots part
+asks m a e part slots h k t q =
     let f : Found m a e = found_in m a e m.entries h k in
     let p : IsPartOf m e Pre (0 ∷ []) part = pre_part m e e.kind e.pre part f.entry.pre q in
-    record { kind = p.kind; result = p.result; slots = cc (t, p.slots); arguments = subst (HaveTypes basic_types a.vals) (sym p.args) f.typed }
+    record {
+      types = cc (ap (λ (s : Slots). s.table) t, p.types);
+      kind = p.kind;
+      result = p.result;
+      slots_are = cc (ap (λ (s : Slots). s.types) t, p.slots);
+      arguments = fit p.types p.args f.typed;
+    }
 
 -- an effect that may be run for the action in a state of these types
-pub record Acts (a : Act) (types : List ℕ) (part : Part) : Type 0 where
+pub record Acts (a : Act) (slots : Slots) (part : Part) : Type 0 where
+  pub types : slots.table ≡ part.code.types
   pub kind : part.kind ≡ Eff
   pub result : part.result ≡ []
-  pub slots : types ≡ part.slots
-  pub arguments : HaveTypes basic_types a.vals part.args
+  pub slots_are : slots.types ≡ part.slots
+  pub arguments : HaveTypes part.code.types a.vals part.args
 
-pub acts : (m : MemberCode) (a : Act) (e : EntryCode) (types : List ℕ)
-    → AreEntries m m.entries → entry_of m a ≡ Some e → types ≡ m.start.types → Acts a types e.effect
-acts m a e types h k t =
+pub acts : (m : MemberCode) (a : Act) (e : EntryCode) (slots : Slots)
+    → AreEntries m m.entries → entry_of m a ≡ Some e → slots ≡ slots_of m.start → Acts a slots e.effect
+acts m a e slots h k t =
     let f : Found m a e = found_in m a e m.entries h k in
     let p : IsPartOf m e Eff [] e.effect = f.entry.effect in
-    record { kind = p.kind; result = p.result; slots = cc (t, p.slots); arguments = subst (HaveTypes basic_types a.vals) (sym p.args) f.typed }
+    record {
+      types = cc (ap (λ (s : Slots). s.table) t, p.types);
+      kind = p.kind;
+      result = p.result;
+      slots_are = cc (ap (λ (s : Slots). s.types) t, p.slots);
+      arguments = fit p.types p.args f.typed;
+    }

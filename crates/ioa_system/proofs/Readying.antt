@@ -14,12 +14,12 @@ use Rattle.ioa_compile.specs.Tables.{AreEntries, AreMembers, entry_of, tabled}
 use Rattle.ioa_system.specs.declared.participation.Participant.{Participant}
 use Rattle.ioa_system.specs.Found.{member_of, components_of, numbers_of, placed, AreParticipants, state_of, lent, lent_types, IsLent, AreReady}
 use Rattle.ioa_system.specs.Participants.{taken, renumbered, step_from}
-use Rattle.ioa_system.specs.Systems.{types_of, values_of, slot_types}
+use Rattle.ioa_system.specs.Systems.{types_of, values_of, slot_types, slots_of}
 use Rattle.ioa_system.proofs.Participating.{ItemAt, item_at, taken_some}
 use Rattle.ioa_system.proofs.Finding.{tables, got_map}
 
 pub same_length : (ms : List MemberCode) (ns : List Node) → types_of ns ≡ slot_types ms → length ns ≡ length ms
-same_length ms ns h = sym (length-map ns (λ (n : Node). n.types)) ∙ ap length h ∙ length-map ms (λ (m : MemberCode). m.start.types)
+same_length ms ns h = sym (length-map ns slots_of) ∙ ap length h ∙ length-map ms (λ (m : MemberCode). slots_of m.start)
 
 sound_got : (ms : List MemberCode) (i : ℕ) (m : MemberCode) → AreMembers ms → slice_get ms i ≡ Some m → AreEntries m m.entries
 sound_got [] i m h e = absurd (cc)
@@ -40,22 +40,22 @@ taken_map f xs (q ∷ qs) h =
 pub types_taken : (a : Act) (ms : List MemberCode) (qs : List Participant) → AreParticipants a ms qs → taken (participants (tables ms) a) (slot_types ms) ≡ lent_types qs
 types_taken a ms qs p =
     ap (λ ns. taken ns (slot_types ms)) (sym p.numbers)
-    ∙ taken_map (λ q. (member_of q).start.types) (slot_types ms) qs
-    (λ k d l. let q : Participant = get_or qs k d in got_map (λ (m : MemberCode). m.start.types) ms q.component (member_of q) (p.members k d l))
+    ∙ taken_map (λ q. slots_of (member_of q).start) (slot_types ms) qs
+    (λ k d l. let q : Participant = get_or qs k d in got_map (λ (m : MemberCode). slots_of m.start) ms q.component (member_of q) (p.members k d l))
 
 -- ---- all components' states at hand
 
 record Stands (ns : List Node) (i : ℕ) (m : MemberCode) : Type 0 where
   within : i < length ns
-  types : (get_or ns i m.start).types ≡ m.start.types
+  types : slots_of (get_or ns i m.start) ≡ slots_of m.start
 
 stands : (ms : List MemberCode) (ns : List Node) (i : ℕ) (m : MemberCode) → types_of ns ≡ slot_types ms → slice_get ms i ≡ Some m → Stands ns i m
 stands [] ns i m h e = absurd (cc)
 stands (x ∷ ms) [] i m h e = absurd (cc)
 stands (x ∷ ms) (n ∷ ns) zero m h e =
-    let t : n.types ≡ x.start.types = cc in
+    let t : slots_of n ≡ slots_of x.start = cc in
     let q : x ≡ m = cc in
-    record { within = omega arith; types = t ∙ ap (λ (y : MemberCode). y.start.types) q }
+    record { within = omega arith; types = t ∙ ap (λ (y : MemberCode). slots_of y.start) q }
 stands (x ∷ ms) (n ∷ ns) (suc i) m h e =
     let t : types_of ns ≡ slot_types ms = cc in
     let r : Stands ns i m = stands ms ns i m t e in
@@ -70,7 +70,7 @@ ready_all a ms ns qs p places h t = record {
   states = λ k d l.
       let q : Participant = get_or qs k d in
       let s : Stands ns q.component (member_of q) = stands ms ns q.component (member_of q) t (p.members k d l) in
-      subst (λ j. (j < length ns) × ((get_or ns j (member_of q).start).types ≡ (member_of q).start.types)) (sym (places k d l)) (s.within, s.types);
+      subst (λ j. (j < length ns) × (slots_of (get_or ns j (member_of q).start) ≡ slots_of (member_of q).start)) (sym (places k d l)) (s.within, s.types);
 }
 
 pub lent_all : (a : Act) (ms : List MemberCode) (ns : List Node) (qs : List Participant) → AreParticipants a ms qs → All (λ q. q.place ≡ q.component) qs
@@ -126,10 +126,10 @@ lent_alone_from all i (n ∷ ns) [] d t = absurd (cc)
 lent_alone_from all i (n ∷ ns) (q ∷ qs) d t =
     let r : ItemAt all i n ns = item_at all i n ns d in
     let g : get_or all i (member_of q).start ≡ n = r.is (member_of q).start in
-    let u : n.types ≡ (member_of q).start.types = cc in
+    let u : slots_of n ≡ slots_of (member_of q).start = cc in
     let v : types_of ns ≡ lent_types qs = cc in
     let more = lent_alone_from all (i + 1) ns qs r.rest v in (
-      All-cons (IsLent all) (record q { place = i }) (placed (i + 1) qs) (r.within, ap (λ (y : Node). y.types) g ∙ u) more.0,
+      All-cons (IsLent all) (record q { place = i }) (placed (i + 1) qs) (r.within, ap slots_of g ∙ u) more.0,
       rw (g, more.1) refl,
     )
 

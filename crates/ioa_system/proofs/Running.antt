@@ -14,7 +14,7 @@ use Rattle.ioa_system.specs.declared.answer.Step.{Step}
 use Rattle.ioa_system.specs.Answers.{AreOfTypes, KeepsUnlessNext, moved_of, step_of}
 use Rattle.ioa_system.specs.Found.{components_of, numbers_of, AreParticipants, lent, lent_types}
 use Rattle.ioa_system.specs.Participants.{taken, put_back, renumbered, all_back}
-use Rattle.ioa_system.specs.Systems.{Running, types_of, values_of, slot_types}
+use Rattle.ioa_system.specs.Systems.{Running, types_of, values_of, slot_types, slots_of}
 use Rattle.ioa_system.proofs.Participating.{put_back-taken, map_put_back, step_taken}
 use Rattle.ioa_system.proofs.Finding.{external_filtered, read_map}
 use Rattle.ioa_value.proofs.ItemLemmas.{drop_item}
@@ -25,7 +25,7 @@ start_map f [] = refl
 start_map f (m ∷ ms) = let e : map f (map (λ (k : MemberCode). k.start) ms) ≡ map (λ (k : MemberCode). f k.start) ms = start_map f ms in rw e refl
 
 pub start_types : (ms : List MemberCode) (ns : List Node) → ns ≡ map (λ (m : MemberCode). m.start) ms → types_of ns ≡ slot_types ms
-start_types ms ns e = ap types_of e ∙ start_map (λ (n : Node). n.types) ms
+start_types ms ns e = ap types_of e ∙ start_map slots_of ms
 
 pub start_values : (ms : List MemberCode) (ns : List Node) → ns ≡ map (λ (m : MemberCode). m.start) ms → values_of ns ≡ map (λ (m : MemberCode). m.start.values) ms
 start_values ms ns e = ap values_of e ∙ start_map (λ (n : Node). n.values) ms
@@ -59,8 +59,8 @@ values_put ns changed before after e = ap (λ (xs : List (List Val)). next xs) (
 pub types_put : (ns : List ℕ) (changed before after : List Node) → All (λ n. n < length before) ns → after ≡ put_back ns changed before
     → types_of changed ≡ taken ns (types_of before) → types_of after ≡ types_of before
 types_put ns changed before after w e t =
-    let v : All (λ n. n < length (types_of before)) ns = subst (λ j. All (λ n. n < j) ns) (sym (length-map before (λ (n : Node). n.types))) w in
-    ap types_of e ∙ map_put_back (λ (n : Node). n.types) ns changed before ∙ rw t (put_back-taken ns (types_of before) v)
+    let v : All (λ n. n < length (types_of before)) ns = subst (λ j. All (λ n. n < j) ns) (sym (length-map before slots_of)) w in
+    ap types_of e ∙ map_put_back slots_of ns changed before ∙ rw t (put_back-taken ns (types_of before) v)
 
 pub kept_values : (s : Step) (before after : List Node) → KeepsUnlessNext s before after → KeepsUnlessNext s (values_of before) (values_of after)
 kept_values Step.Next before after k = tt
@@ -114,5 +114,5 @@ settled p a before after qs m s r e t b k f =
       answer = b ∙ step_put p a before qs (moved_of m) r e;
       types = types ∙ r.types;
       kept = kept_values s before after k;
-      count = sym (length-map after (λ (n : Node). n.types)) ∙ ap length types ∙ length-map before (λ (n : Node). n.types);
+      count = sym (length-map after slots_of) ∙ ap length types ∙ length-map before slots_of;
     }

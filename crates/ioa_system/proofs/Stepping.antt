@@ -18,7 +18,7 @@ use Rattle.ioa_system.specs.declared.moves.Consent.{Consent}
 use Rattle.ioa_system.specs.Answers.{AreOfTypes, moved_of}
 use Rattle.ioa_system.specs.Found.{member_of, component_of, components_of, consented, numbers_of, state_of, lent, lent_types, IsLent, AreReady}
 use Rattle.ioa_system.specs.Participants.{renumbered}
-use Rattle.ioa_system.specs.Systems.{types_of, values_of}
+use Rattle.ioa_system.specs.Systems.{types_of, values_of, Slots, slots_of}
 use Rattle.ioa_system.proofs.Participating.{asked_renumbered, put_before, put_before_more, put_before_none}
 use Rattle.ioa_system.proofs.Finding.{has_found, owns_found, read_map}
 
@@ -82,14 +82,14 @@ acts_here : (a : Act) (ns : List Node) (qs : List Participant) (k : ℕ) (q : Pa
 acts_here a ns qs k q t = let h : has a (component_of q) ≡ true = t.has in rw (t.rest, h) refl
 
 pub acts_next : (a : Act) (ns : List Node) (qs : List Participant) (after : List Node) (k : ℕ) (q : Participant) (new : Node) → ActsOn a ns qs after k → AtTurn a ns qs k q
-    → Ok new.values ≡ (component_of q).effect a (state_of ns q).values → new.types ≡ (state_of ns q).types → ActsOn a ns qs (after ++ new ∷ []) (k + 1)
+    → Ok new.values ≡ (component_of q).effect a (state_of ns q).values → slots_of new ≡ slots_of (state_of ns q) → ActsOn a ns qs (after ++ new ∷ []) (k + 1)
 acts_next a ns qs after k q new s t e ty =
     let more : Moved (List Val) = acts_from a ns qs (k + 1) in
     let r : acts_from a ns qs k ≡ with_state new.values more = acts_here a ns qs k q t ∙ ap (λ (y : Result (List Val) Fault). then_rest k y more) (sym e) in
     let v : values_of (after ++ new ∷ []) ≡ values_of after ++ new.values ∷ [] = map-append (λ (y : Node). y.values) after (new ∷ []) in
-    let u : types_of (after ++ new ∷ []) ≡ types_of after ++ new.types ∷ [] = map-append (λ (y : Node). y.types) after (new ∷ []) in
-    let d : new.types ∷ lent_types (drop (k + 1) qs) ≡ lent_types (drop k qs) =
-    ap (λ (y : List ℕ). y ∷ lent_types (drop (k + 1) qs)) (ty ∙ t.lent.1) ∙ sym (ap lent_types t.rest) in
+    let u : types_of (after ++ new ∷ []) ≡ types_of after ++ slots_of new ∷ [] = map-append slots_of after (new ∷ []) in
+    let d : slots_of new ∷ lent_types (drop (k + 1) qs) ≡ lent_types (drop k qs) =
+    ap (λ (y : Slots). y ∷ lent_types (drop (k + 1) qs)) (ty ∙ t.lent.1) ∙ sym (ap lent_types t.rest) in
     record {
       rest = rw v (sym (put_before_more (values_of after) new.values more) ∙ ap (put_before (values_of after)) (sym r) ∙ s.rest);
       types = rw (u, append_assoc) (ap (λ ts. types_of after ++ ts) d ∙ s.types);

@@ -7,7 +7,7 @@ use Rattle.ioa_syntax.specs.Runs.{Ending, done, not_an_action_at, not_enabled_at
 use Rattle.ioa_system.specs.declared.answer.Moved.{Moved}
 use Rattle.ioa_system.specs.declared.answer.Step.{Step}
 use Rattle.ioa_system.specs.declared.answer.End.{End}
-use Rattle.ioa_system.specs.Systems.{types_of, values_of}
+use Rattle.ioa_system.specs.Systems.{Slots, types_of, values_of}
 
 abbrev pub moved_of : Moved → steps.Moved (List Val)
 moved_of (Moved.Next v) = next (values_of v.items)
@@ -16,7 +16,7 @@ moved_of Moved.NotEnabled = not_enabled
 moved_of (Moved.Fault c f) = fault c f
 
 -- the new states are of these types
-abbrev pub AreOfTypes : List (List ℕ) → Moved → Type 0
+abbrev pub AreOfTypes : List Slots → Moved → Type 0
 AreOfTypes types (Moved.Next v) = types_of v.items ≡ types
 AreOfTypes types Moved.NotAnAction = Unit {0}
 AreOfTypes types Moved.NotEnabled = Unit {0}

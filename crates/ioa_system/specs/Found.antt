@@ -10,6 +10,7 @@ use Rattle.ioa_compile.specs.Programs.{MemberCode}
 use Rattle.ioa_compile.specs.Shown.{entry_code, member_code}
 use Rattle.ioa_compile.specs.Tables.{AreEntries, entry_of, table_component}
 use Rattle.ioa_system.specs.declared.participation.Participant.{Participant}
+use Rattle.ioa_system.specs.Systems.{Slots, slots_of}
 use Rattle.ioa_system.specs.declared.moves.Consent.{Consent}
 
 abbrev pub member_of : Participant → MemberCode
@@ -49,11 +50,11 @@ abbrev pub lent : List Node → List Participant → List (List Val)
 lent ns qs = map (λ q. (state_of ns q).values) qs
 
 -- the types of the participants' variables
-abbrev pub lent_types : List Participant → List (List ℕ)
-lent_types qs = map (λ q. (member_of q).start.types) qs
+abbrev pub lent_types : List Participant → List Slots
+lent_types qs = map (λ q. slots_of (member_of q).start) qs
 
 abbrev pub IsLent : List Node → Participant → Type 0
-IsLent ns q = (q.place < length ns) × ((state_of ns q).types ≡ (member_of q).start.types)
+IsLent ns q = (q.place < length ns) × (slots_of (state_of ns q) ≡ slots_of (member_of q).start)
 
 -- the participants' entries have the action and are sound, and their states are at hand
 pub record AreReady (a : Act) (ns : List Node) (qs : List Participant) : Type 0 where

@@ -12,23 +12,23 @@ use ioa_value::{Action, Types, Value, has_type};
 pub(crate) fn entry_of<'a>(member: &'a Member, action: &Action) -> Option<&'a Entry>
     ensures { option_map (λ e. entry_code e.now) result ≡ tables.entry_of (member_code member.now) (act_of action.now) }
 {
+    let types = member.start.declared();
     for entry in &member.entries {
-        if is_in(action, entry) {
+        if is_in(types, action, entry) {
             return Some(entry);
         }
     }
     None
 }
 
-fn is_in(action: &Action, entry: &Entry) -> bool
-    ensures { result ≡ tables.is_in (act_of action.now) (entry_code entry.now) }
+fn is_in(types: &Types, action: &Action, entry: &Entry) -> bool
+    ensures { result ≡ tables.is_in types.now (act_of action.now) (entry_code entry.now) }
 {
-    entry.name == action.name
-        && positions_hold(entry.effect.types(), &entry.positions, &action.vals)
+    entry.name == action.name && positions_hold(types, &entry.positions, &action.vals)
 }
 
 fn positions_hold(types: &Types, positions: &[Position], values: &[Value]) -> bool
-    ensures { result ≡ tables.positions_hold (map position_code positions.now) (map plain values.now) }
+    ensures { result ≡ tables.positions_hold types.now (map position_code positions.now) (map plain values.now) }
 {
     if positions.len() != values.len() {
         return false;
@@ -42,7 +42,7 @@ fn positions_hold(types: &Types, positions: &[Position], values: &[Value]) -> bo
 }
 
 fn position_holds(types: &Types, position: Position, value: &Value) -> bool
-    ensures { result ≡ tables.position_holds (position_code position) (plain value.now) }
+    ensures { result ≡ tables.position_holds types.now (position_code position) (plain value.now) }
 {
     match position {
         Position::Typed(ty) => has_type(types, value, ty),

@@ -9,7 +9,7 @@ ghost use Rattle.ioa_compile.specs.Tables.{AreEntries, table_component, tabled};
 ghost use Rattle.ioa_system.specs.Answers.{AreOfTypes, moved_of};
 ghost use Rattle.ioa_system.specs.Found.{AreReady, components_of, consented, lent, lent_types, numbers_of, placed};
 ghost use Rattle.ioa_system.specs.Participants as spec;
-ghost use Rattle.ioa_system.specs.Systems.{slot_types, types_of, values_of};
+ghost use Rattle.ioa_system.specs.Systems.{slot_types, slots_of, types_of, values_of};
 
 use crate::answer::Moved;
 use crate::participation::{Participant, find, is_local};
@@ -142,7 +142,7 @@ fn guard(
 ) -> Result<Result<bool, Fault>, OutOfMemory>
     requires sound { AreEntries (member_code member.now) (member_code member.now).entries }
     requires found { tables.entry_of (member_code member.now) (act_of action.now) ≡ Some (entry_code entry.now) }
-    requires slots { state.now.types ≡ (member_code member.now).start.types }
+    requires slots { slots_of state.now ≡ slots_of (member_code member.now).start }
     ensures { IfOk result (λ r. r ≡ (table_component (member_code member.now)).guard (act_of action.now) state.now.values) }
 {
     match &entry.pre {
@@ -161,9 +161,9 @@ fn effect_on(
 ) -> Result<Result<NodeState, Fault>, OutOfMemory>
     requires sound { AreEntries (member_code member.now) (member_code member.now).entries }
     requires found { tables.entry_of (member_code member.now) (act_of action.now) ≡ Some (entry_code entry.now) }
-    requires slots { state.now.types ≡ (member_code member.now).start.types }
+    requires slots { slots_of state.now ≡ slots_of (member_code member.now).start }
     ensures value { IfOk result (λ r. changed r ≡ (table_component (member_code member.now)).effect (act_of action.now) state.now.values) }
-    ensures types { IfOk result (λ r. IfOk r (λ after. after.types ≡ state.now.types)) }
+    ensures types { IfOk result (λ r. IfOk r (λ after. slots_of after ≡ slots_of state.now)) }
 {
     effect(alloc, &entry.effect, state, &action.vals)
 }

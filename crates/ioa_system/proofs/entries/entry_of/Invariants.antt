@@ -6,5 +6,5 @@ use Rattle.ioa_system.proofs.entries.entry_of.Given as goal
 
 abbrev pub invariant-loop-entry : goal.invariant-loop-entry
 invariant-loop-entry l =
-    find (is_in (act_of l.action)) (map entry_code (drop l.entry-index l.entry-items))
-    ≡ find (is_in (act_of l.action)) (map entry_code l.entry-items)
+    find (is_in l.types (act_of l.action)) (map entry_code (drop l.entry-index l.entry-items))
+    ≡ find (is_in l.types (act_of l.action)) (map entry_code l.entry-items)

@@ -9,4 +9,4 @@ pub returns-then-positions-values : goal.returns-then-positions-values
 returns-then-positions-values c =
     let ps = c.args.positions.now in
     let vs = c.args.values.now in
-    sym (positions_unequal (map position_code ps) (map plain vs) (λ e. omega (arith, e, length-map ps position_code, length-map vs plain)))
+    sym (positions_unequal c.args.types.now (map position_code ps) (map plain vs) (λ e. omega (arith, e, length-map ps position_code, length-map vs plain)))

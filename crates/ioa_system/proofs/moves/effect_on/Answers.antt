@@ -2,15 +2,19 @@ use Rattle.std.proofs.Common.{map, subst, sym, List}
 use Rattle.ioa_value.specs.declared.value.Value.{Value}
 use Rattle.ioa_value.specs.Actions.{act_of}
 use Rattle.ioa_value.specs.Plain.{plain}
-use Rattle.ioa_value.specs.Typing.{HaveTypes, basic_types}
+use Rattle.ioa_value.specs.Typing.{HaveTypes}
 use Rattle.ioa_compile.specs.Shown.{entry_code, member_code}
+use Rattle.ioa_system.specs.Systems.{slots_of}
 use Rattle.ioa_system.proofs.Matching.{Acts, acts}
 use Rattle.ioa_system.proofs.moves.effect_on.Goals as goal
 
-acted : (c : goal.After-deref) → Acts (act_of c.args.action.now) c.args.state.now.types c.args.entry.now.effect
+acted : (c : goal.After-deref) → Acts (act_of c.args.action.now) (slots_of c.args.state.now) c.args.entry.now.effect
 acted c =
-    acts (member_code c.args.member.now) (act_of c.args.action.now) (entry_code c.args.entry.now) c.args.state.now.types
+    acts (member_code c.args.member.now) (act_of c.args.action.now) (entry_code c.args.entry.now) (slots_of c.args.state.now)
     c.requires.sound c.requires.found c.requires.slots
+
+pub effect-requires-clause-types : goal.effect-requires-clause-types
+effect-requires-clause-types c = (acted c).types
 
 pub effect-requires-clause-kind : goal.effect-requires-clause-kind
 effect-requires-clause-kind c = (acted c).kind
@@ -19,8 +23,8 @@ pub effect-requires-clause-result : goal.effect-requires-clause-result
 effect-requires-clause-result c = (acted c).result
 
 pub effect-requires-clause-slots : goal.effect-requires-clause-slots
-effect-requires-clause-slots c = (acted c).slots
+effect-requires-clause-slots c = (acted c).slots_are
 
 pub effect-requires-clause-arguments : goal.effect-requires-clause-arguments
 effect-requires-clause-arguments c =
-    subst (λ (vs : List Value). HaveTypes basic_types (map plain vs) c.args.entry.now.effect.args) (sym c.deref.ensures.value) (acted c).arguments
+    subst (λ (vs : List Value). HaveTypes c.args.entry.now.effect.code.types (map plain vs) c.args.entry.now.effect.args) (sym c.deref.ensures.value) (acted c).arguments
