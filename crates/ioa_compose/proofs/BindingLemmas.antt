@@ -8,7 +8,6 @@ use Rattle.ioa_value.specs.Actions.{Name}
 use Rattle.ioa_value.specs.Plain.{Val, plain}
 use Rattle.ioa_value.specs.Tests.{is_of}
 use Rattle.ioa_lex.specs.declared.refusal.Refusal.{Refusal}
-use Rattle.ioa_lex.specs.declared.refusal.Refusal.TheVariants.{TextTooLong, BadByte, Syntax, TooDeep, DuplicateName, UnknownName, TypeMismatch, BadSignature, NoProposal, TooMany, TooWide, ArgMismatch, CrashName, Clash, HiddenUnknown, StartFault, NoComposition, OutOfMemory}
 use Rattle.ioa_syntax.specs.declared.tree.Field.{Field}
 use Rattle.ioa_syntax.specs.declared.tree.Instance.{Instance as TreeInstance}
 use Rattle.ioa_syntax.specs.declared.tree.Position.{Position}
@@ -22,7 +21,7 @@ use Rattle.ioa_compose.specs.declared.member.Member as held
 use Rattle.ioa_compose.specs.Held.{member_of}
 use Rattle.ioa_syntax.specs.WellFormed.{automaton_fine}
 use Rattle.ioa_compose.specs.Clashes.{all_alike}
-use Rattle.ioa_compose.specs.Refusals.{IsRefused, IsRefusedAt, FaultsAt, FaultsIn, Misfits}
+use Rattle.ioa_compose.specs.Refusals.{Reason, misfit, faulty, clashing, no_memory, other, reason_of, IsRefusedFor, IsRefused, IsRefusedAt, FaultsAt, FaultsIn, Misfits}
 use Rattle.ioa_value.proofs.ItemLemmas.{take_item}
 use Rattle.ioa_value.proofs.SameLemmas.{both_false}
 
@@ -102,53 +101,27 @@ started-push ms new m b n h i k =
     subst AllStarted (sym (ap (map member_of) n ∙ map-append member_of ms (m ∷ []))) (started-append (map member_of ms) (member_of m) h (ap start_values i ∙ k))
 
 -- refused in its place, and so refused
-refused-one : (s : SourceTree) (is : List InstanceTree) (k : ℕ) (n : InstanceTree) (r : Refusal) → slice_get is k ≡ Some n → IsRefusedAt s k n r → IsRefused s is r
-refused-one s is k n (ArgMismatch i) e h = (n, ap (slice_get is) h.0 ∙ e, h.1)
-refused-one s is k n (StartFault i f) e h = (n, ap (slice_get is) h.0 ∙ e, inl h.1)
-refused-one s is k n OutOfMemory e h = tt
-refused-one s is k n TextTooLong e h = absurd h
-refused-one s is k n (BadByte l) e h = absurd h
-refused-one s is k n (Syntax l) e h = absurd h
-refused-one s is k n (TooDeep l) e h = absurd h
-refused-one s is k n (DuplicateName l) e h = absurd h
-refused-one s is k n (UnknownName l) e h = absurd h
-refused-one s is k n (TypeMismatch l) e h = absurd h
-refused-one s is k n (BadSignature l) e h = absurd h
-refused-one s is k n (NoProposal l) e h = absurd h
-refused-one s is k n (TooMany l) e h = absurd h
-refused-one s is k n (TooWide l) e h = absurd h
-refused-one s is k n (CrashName i) e h = absurd h
-refused-one s is k n (Clash i j m) e h = absurd h
-refused-one s is k n (HiddenUnknown m) e h = absurd h
-refused-one s is k n NoComposition e h = absurd h
+refused-one : (s : SourceTree) (is : List InstanceTree) (k : ℕ) (n : InstanceTree) (r : Reason) → slice_get is k ≡ Some n → IsRefusedAt s k n r → IsRefusedFor s is r
+refused-one s is k n (misfit i) e h = (n, ap (slice_get is) h.0 ∙ e, h.1)
+refused-one s is k n (faulty i f) e h = (n, ap (slice_get is) h.0 ∙ e, inl h.1)
+refused-one s is k n (clashing i j m) e h = absurd h
+refused-one s is k n no_memory e h = tt
+refused-one s is k n other e h = absurd h
 
-pub refused-in : {X : Type 0} (r : Result X Refusal) (s : SourceTree) (is : List InstanceTree) (k : ℕ) (n : InstanceTree) → slice_get is k ≡ Some n → IfErr r (λ e. IsRefusedAt s k n e) → IfErr r (λ e. IsRefused s is e)
+pub refused-in : {X : Type 0} (r : Result X Refusal) (s : SourceTree) (is : List InstanceTree) (k : ℕ) (n : InstanceTree) → slice_get is k ≡ Some n → IfErr r (λ e. IsRefusedAt s k n (reason_of e)) → IfErr r (λ e. IsRefused s is e)
 refused-in (Ok x) s is k n e h = tt
-refused-in (Err x) s is k n e h = refused-one s is k n x e h
+refused-in (Err x) s is k n e h = refused-one s is k n (reason_of x) e h
 
-faults-one : (ns : List Instance) (k : ℕ) (n : Instance) (r : Refusal) → slice_get ns k ≡ Some n → FaultsAt k n r → FaultsIn ns r
-faults-one ns k n (StartFault i f) e h = (n, ap (slice_get ns) h.0 ∙ e, h.1)
-faults-one ns k n OutOfMemory e h = tt
-faults-one ns k n (ArgMismatch i) e h = absurd h
-faults-one ns k n TextTooLong e h = absurd h
-faults-one ns k n (BadByte l) e h = absurd h
-faults-one ns k n (Syntax l) e h = absurd h
-faults-one ns k n (TooDeep l) e h = absurd h
-faults-one ns k n (DuplicateName l) e h = absurd h
-faults-one ns k n (UnknownName l) e h = absurd h
-faults-one ns k n (TypeMismatch l) e h = absurd h
-faults-one ns k n (BadSignature l) e h = absurd h
-faults-one ns k n (NoProposal l) e h = absurd h
-faults-one ns k n (TooMany l) e h = absurd h
-faults-one ns k n (TooWide l) e h = absurd h
-faults-one ns k n (CrashName i) e h = absurd h
-faults-one ns k n (Clash i j m) e h = absurd h
-faults-one ns k n (HiddenUnknown m) e h = absurd h
-faults-one ns k n NoComposition e h = absurd h
+faults-one : (ns : List Instance) (k : ℕ) (n : Instance) (r : Reason) → slice_get ns k ≡ Some n → FaultsAt k n r → FaultsIn ns r
+faults-one ns k n (misfit i) e h = absurd h
+faults-one ns k n (faulty i f) e h = (n, ap (slice_get ns) h.0 ∙ e, h.1)
+faults-one ns k n (clashing i j m) e h = absurd h
+faults-one ns k n no_memory e h = tt
+faults-one ns k n other e h = absurd h
 
-pub faults-in : {X : Type 0} (r : Result X Refusal) (ns : List Instance) (k : ℕ) (n : Instance) → slice_get ns k ≡ Some n → IfErr r (λ e. FaultsAt k n e) → IfErr r (λ e. FaultsIn ns e)
+pub faults-in : {X : Type 0} (r : Result X Refusal) (ns : List Instance) (k : ℕ) (n : Instance) → slice_get ns k ≡ Some n → IfErr r (λ e. FaultsAt k n (reason_of e)) → IfErr r (λ e. FaultsIn ns (reason_of e))
 faults-in (Ok x) ns k n e h = tt
-faults-in (Err x) ns k n e h = faults-one ns k n x e h
+faults-in (Err x) ns k n e h = faults-one ns k n (reason_of x) e h
 
 pub sound-at : (bs : List Binding) (k : ℕ) (b : Binding) → AllSound (map instance_in bs) → k < length bs → b ≡ get_or bs k b → (g : List Name) × (automaton_fine basic_table g (instance_in b).automaton ≡ true)
 sound-at [] k b h l e = absurd (omega arith)

@@ -1,6 +1,5 @@
 -- A composition from its parts, and why there is none.
 use Rattle.std.proofs.Common.{◌≡◌, ◌≢◌, ℕ, ◌<◌, zero, suc, List, [], ◌∷◌, map, Option, Some, Result, Ok, Err, IfErr, refl, sym, ap, subst, ◌∙◌, arith, slice_get, inl, inr}
-use Rattle.std.specs.String.{string_bytes}
 use Rattle.std.proofs.lemmas.Simd.{map-map}
 use Rattle.ioa_value.specs.declared.arithmetic.Fault.{Fault}
 use Rattle.ioa_value.specs.Actions.{Name}
@@ -23,7 +22,7 @@ use Rattle.ioa_compose.specs.declared.member.Member as held
 use Rattle.ioa_compose.specs.Held.{member_of}
 use Rattle.ioa_compose.specs.Bindings.{instance_in, IsBound, AreBound, AllStarted}
 use Rattle.ioa_compose.specs.Clashes.{PairsClear}
-use Rattle.ioa_compose.specs.Refusals.{Clashing, IsRefused, IsFirstClash, NoClash, NoneClashes, FaultsIn, ClashesIn}
+use Rattle.ioa_compose.specs.Refusals.{Clashing, Reason, misfit, faulty, clashing, no_memory, other, reason_of, IsRefusedFor, IsRefused, IsFirstClash, NoClash, NoneClashes, FaultsIn, ClashesIn}
 use Rattle.ioa_compose.proofs.ListLemmas.{image-at}
 use Rattle.ioa_compose.proofs.ClashLemmas.{compatible-from, none-at-all}
 
@@ -59,27 +58,14 @@ bound-place s (i ∷ is) (m ∷ ms) zero n b e = let q : m ≡ n = cc in (i, ref
 bound-place s (i ∷ is) (m ∷ ms) (suc k) n b e = bound-place s is ms k n b.1 e
 
 -- a start that faults, and a clash, refuse the composition
-pub start-refused : (s : SourceTree) (is : List InstanceTree) (ns : List Instance) (r : Refusal) → AreBound s is ns → NoClash s is → FaultsIn ns r → IsRefused s is r
-start-refused s is ns (StartFault k f) b none h =
+start-refused : (s : SourceTree) (is : List InstanceTree) (ns : List Instance) (r : Reason) → AreBound s is ns → NoClash s is → FaultsIn ns r → IsRefusedFor s is r
+start-refused s is ns (misfit i) b none h = absurd h
+start-refused s is ns (faulty k f) b none h =
     let p = bound-place s is ns k h.0 b h.1 in
     (p.0, p.1, inr (record { instance = h.0; bound = p.2; faulting = h.2 }, none))
-start-refused s is ns OutOfMemory b none h = tt
-start-refused s is ns (ArgMismatch i) b none h = absurd h
-start-refused s is ns TextTooLong b none h = absurd h
-start-refused s is ns (BadByte l) b none h = absurd h
-start-refused s is ns (Syntax l) b none h = absurd h
-start-refused s is ns (TooDeep l) b none h = absurd h
-start-refused s is ns (DuplicateName l) b none h = absurd h
-start-refused s is ns (UnknownName l) b none h = absurd h
-start-refused s is ns (TypeMismatch l) b none h = absurd h
-start-refused s is ns (BadSignature l) b none h = absurd h
-start-refused s is ns (NoProposal l) b none h = absurd h
-start-refused s is ns (TooMany l) b none h = absurd h
-start-refused s is ns (TooWide l) b none h = absurd h
-start-refused s is ns (CrashName i) b none h = absurd h
-start-refused s is ns (Clash i j m) b none h = absurd h
-start-refused s is ns (HiddenUnknown m) b none h = absurd h
-start-refused s is ns NoComposition b none h = absurd h
+start-refused s is ns (clashing i j m) b none h = absurd h
+start-refused s is ns no_memory b none h = tt
+start-refused s is ns other b none h = absurd h
 
 values-of : Result (List Val) Fault → List Val → List Val
 values-of (Ok vs) d = vs
@@ -122,28 +108,15 @@ first-clash s is ns i j b none = λ k l m n x before e f d.
 clash-free : (s : SourceTree) (is : List InstanceTree) (ns : List Instance) → AreBound s is ns → ((i j : ℕ) → NoneClashes ns i j) → NoClash s is
 clash-free s is ns b none = λ i j m n x less e f d. first-clash s is ns j j b (none j j) i j m n x (less, inl less) e f d
 
-pub clash-refused : (s : SourceTree) (is : List InstanceTree) (ns : List Instance) (r : Refusal) → AreBound s is ns → ClashesIn ns r → IsRefused s is r
-clash-refused s is ns (Clash i j name) b h =
+clash-refused : (s : SourceTree) (is : List InstanceTree) (ns : List Instance) (r : Reason) → AreBound s is ns → ClashesIn ns r → IsRefusedFor s is r
+clash-refused s is ns (misfit i) b h = absurd h
+clash-refused s is ns (faulty k f) b h = absurd h
+clash-refused s is ns (clashing i j name) b h =
     let p = bound-place s is ns i h.0 b h.3 in
     let q = bound-place s is ns j h.1 b h.4 in
     (p.0, q.0, h.2, p.1, q.1, record { first = h.0; second = h.1; first_bound = p.2; second_bound = q.2; clash = h.5 }, first-clash s is ns i j b h.6, h.7, (ns, b))
-clash-refused s is ns OutOfMemory b h = tt
-clash-refused s is ns (StartFault k f) b h = absurd h
-clash-refused s is ns (ArgMismatch i) b h = absurd h
-clash-refused s is ns TextTooLong b h = absurd h
-clash-refused s is ns (BadByte l) b h = absurd h
-clash-refused s is ns (Syntax l) b h = absurd h
-clash-refused s is ns (TooDeep l) b h = absurd h
-clash-refused s is ns (DuplicateName l) b h = absurd h
-clash-refused s is ns (UnknownName l) b h = absurd h
-clash-refused s is ns (TypeMismatch l) b h = absurd h
-clash-refused s is ns (BadSignature l) b h = absurd h
-clash-refused s is ns (NoProposal l) b h = absurd h
-clash-refused s is ns (TooMany l) b h = absurd h
-clash-refused s is ns (TooWide l) b h = absurd h
-clash-refused s is ns (CrashName i) b h = absurd h
-clash-refused s is ns (HiddenUnknown m) b h = absurd h
-clash-refused s is ns NoComposition b h = absurd h
+clash-refused s is ns no_memory b h = tt
+clash-refused s is ns other b h = absurd h
 
 member-place : (s : SourceTree) (is : List InstanceTree) (ms : List Member) (k : ℕ) (i : InstanceTree) → AreMembers s is ms → slice_get is k ≡ Some i → (m : Member) × (slice_get ms k ≡ Some m) × IsMember s i m
 member-place s [] [] k i b e = absurd (cc)
@@ -190,16 +163,16 @@ parts-composed s a bs ms name hidden e k p = record {
   compatible = members-compatible bs ms p.instances p.clear;
 }
 
-pub clashes-refused : {X : Type 0} (r : Result X Refusal) (s : SourceTree) (is xs : List TreeInstance) (bs ys : List Binding) → xs ≡ is → ys ≡ bs → AreBound s (map instance_of xs) (map instance_in bs) → IfErr r (λ e. ClashesIn (map instance_in ys) e) → IfErr r (λ e. IsRefused s (map instance_of is) e)
+pub clashes-refused : {X : Type 0} (r : Result X Refusal) (s : SourceTree) (is xs : List TreeInstance) (bs ys : List Binding) → xs ≡ is → ys ≡ bs → AreBound s (map instance_of xs) (map instance_in bs) → IfErr r (λ e. ClashesIn (map instance_in ys) (reason_of e)) → IfErr r (λ e. IsRefused s (map instance_of is) e)
 clashes-refused (Ok x) s is xs bs ys p q b h = tt
 clashes-refused (Err x) s is xs bs ys p q b h =
-    clash-refused s (map instance_of is) (map instance_in bs) x (subst (λ us. AreBound s (map instance_of us) (map instance_in bs)) p b) (subst (λ us. ClashesIn (map instance_in us) x) q h)
+    clash-refused s (map instance_of is) (map instance_in bs) (reason_of x) (subst (λ us. AreBound s (map instance_of us) (map instance_in bs)) p b) (subst (λ us. ClashesIn (map instance_in us) (reason_of x)) q h)
 
-pub starts-refused : {X : Type 0} (r : Result X Refusal) (s : SourceTree) (is xs : List TreeInstance) (bs ys : List Binding) → xs ≡ is → ys ≡ bs → AreBound s (map instance_of xs) (map instance_in bs) → PairsClear bs → IfErr r (λ e. FaultsIn (map instance_in ys) e) → IfErr r (λ e. IsRefused s (map instance_of is) e)
+pub starts-refused : {X : Type 0} (r : Result X Refusal) (s : SourceTree) (is xs : List TreeInstance) (bs ys : List Binding) → xs ≡ is → ys ≡ bs → AreBound s (map instance_of xs) (map instance_in bs) → PairsClear bs → IfErr r (λ e. FaultsIn (map instance_in ys) (reason_of e)) → IfErr r (λ e. IsRefused s (map instance_of is) e)
 starts-refused (Ok x) s is xs bs ys p q b k h = tt
 starts-refused (Err x) s is xs bs ys p q b k h =
     let bound = subst (λ us. AreBound s (map instance_of us) (map instance_in bs)) p b in
-    start-refused s (map instance_of is) (map instance_in bs) x bound (clash-free s (map instance_of is) (map instance_in bs) bound (none-at-all bs k)) (subst (λ us. FaultsIn (map instance_in us) x) q h)
+    start-refused s (map instance_of is) (map instance_in bs) (reason_of x) bound (clash-free s (map instance_of is) (map instance_in bs) bound (none-at-all bs k)) (subst (λ us. FaultsIn (map instance_in us) (reason_of x)) q h)
 
 ok-err : (vs : List Val) (f : Fault) → made vs ≡ Err f → ⊥
 ok-err vs f e = absurd (cc)
@@ -216,42 +189,53 @@ clash-not s c i j m n name k l e f h =
     elim h.2 [ inl x ↦ x.1 (fore.0 x.0) | inr y ↦ elim y [ inl x ↦ x.1 (back.0 x.0) | inr x ↦ fore.1 x.0 x.1 ] ]
 
 -- of what is refused there is no composition
-pub refused-none : (s : SourceTree) (t : CompositionTree) (r : Refusal) (c : Composed) → IsRefused s t.instances r → r ≢ OutOfMemory → IsComposed s t c → ⊥
-refused-none s t (ArgMismatch k) c h no_memory i =
+none-for : (s : SourceTree) (t : CompositionTree) (r : Reason) (c : Composed) → IsRefusedFor s t.instances r → r ≢ no_memory → IsComposed s t c → ⊥
+none-for s t (misfit k) c h memory i =
     let p = member-place s t.instances c.members k h.0 i.members h.1 in
     let m = h.2 in
     let q : Some m.automaton ≡ Some p.0.instance.automaton = sym m.declared ∙ p.2.automaton in
     let q' : m.automaton ≡ p.0.instance.automaton = cc in
     let v = same-ok m.arguments p.0.instance.arguments (sym m.valued ∙ p.2.arguments) in
     m.unfit (subst (λ a. Fit basic_table a.formals m.arguments) (sym q') (subst (λ vs. Fit basic_table p.0.instance.automaton.formals vs) (sym v) p.2.fit))
-refused-none s t (StartFault k f) c h no_memory i =
+none-for s t (faulty k f) c h memory i =
     let p = member-place s t.instances c.members k h.0 i.members h.1 in
     elim h.2 [
       | inl e ↦ ok-err p.0.instance.arguments f (sym p.2.arguments ∙ e)
       | inr b ↦ ok-err p.0.starts f (sym p.2.starts ∙ ap start_values (sym (one-instance s h.0 p.0 b.0.instance p.2 b.0.bound)) ∙ b.0.faulting)
     ]
-refused-none s t (Clash k l name) c h no_memory i =
+none-for s t (clashing k l name) c h memory i =
     let p = member-place s t.instances c.members k h.0 i.members h.3 in
     let q = member-place s t.instances c.members l h.1 i.members h.4 in
     let d = h.5 in
     let e = one-instance s h.0 p.0 d.first p.2 d.first_bound in
     let f = one-instance s h.1 q.0 d.second q.2 d.second_bound in
-    clash-not s c k l p.0 q.0 (string_bytes name) i.compatible h.2 p.1 q.1 (subst (λ n. Clashing (string_bytes name) p.0.instance n) f (subst (λ m. Clashing (string_bytes name) m d.second) e d.clash))
-refused-none s t OutOfMemory c h no_memory i = no_memory refl
-refused-none s t TextTooLong c h no_memory i = h
-refused-none s t (BadByte l) c h no_memory i = h
-refused-none s t (Syntax l) c h no_memory i = h
-refused-none s t (TooDeep l) c h no_memory i = h
-refused-none s t (DuplicateName l) c h no_memory i = h
-refused-none s t (UnknownName l) c h no_memory i = h
-refused-none s t (TypeMismatch l) c h no_memory i = h
-refused-none s t (BadSignature l) c h no_memory i = h
-refused-none s t (NoProposal l) c h no_memory i = h
-refused-none s t (TooMany l) c h no_memory i = h
-refused-none s t (TooWide l) c h no_memory i = h
-refused-none s t (CrashName k) c h no_memory i = h
-refused-none s t (HiddenUnknown m) c h no_memory i = h
-refused-none s t NoComposition c h no_memory i = h
+    clash-not s c k l p.0 q.0 name i.compatible h.2 p.1 q.1 (subst (λ n. Clashing name p.0.instance n) f (subst (λ m. Clashing name m d.second) e d.clash))
+none-for s t no_memory c h memory i = memory refl
+none-for s t other c h memory i = h
+
+-- no other refusal is for want of memory
+memory-is : (r : Refusal) → reason_of r ≡ no_memory → r ≡ OutOfMemory
+memory-is OutOfMemory e = refl
+memory-is (ArgMismatch i) e = absurd (cc)
+memory-is (StartFault i f) e = absurd (cc)
+memory-is (Clash i j name) e = absurd (cc)
+memory-is TextTooLong e = absurd (cc)
+memory-is (BadByte l) e = absurd (cc)
+memory-is (Syntax l) e = absurd (cc)
+memory-is (TooDeep l) e = absurd (cc)
+memory-is (DuplicateName l) e = absurd (cc)
+memory-is (UnknownName l) e = absurd (cc)
+memory-is (TypeMismatch l) e = absurd (cc)
+memory-is (BadSignature l) e = absurd (cc)
+memory-is (NoProposal l) e = absurd (cc)
+memory-is (TooMany l) e = absurd (cc)
+memory-is (TooWide l) e = absurd (cc)
+memory-is (CrashName i) e = absurd (cc)
+memory-is (HiddenUnknown name) e = absurd (cc)
+memory-is NoComposition e = absurd (cc)
+
+pub refused-none : (s : SourceTree) (t : CompositionTree) (r : Refusal) (c : Composed) → IsRefused s t.instances r → r ≢ OutOfMemory → IsComposed s t c → ⊥
+refused-none s t r c h memory i = none-for s t (reason_of r) c h (λ e. memory (memory-is r e)) i
 
 -- the parts, as the calls give them
 pub parts-of : (s : SourceTree) (is xs : List TreeInstance) (bs ys zs : List Binding) (ms : List held.Member) → xs ≡ is → ys ≡ bs → zs ≡ bs

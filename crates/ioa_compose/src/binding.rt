@@ -7,7 +7,7 @@ ghost use Rattle.ioa_syntax.specs.Instances as instances;
 ghost use Rattle.ioa_syntax.specs.Tree.{AutomatonTree};
 ghost use Rattle.ioa_syntax.specs.Compositions as spec;
 ghost use Rattle.ioa_compose.specs.Bindings.{IsReady, AllReady, IsBound, AreBound, fit, closed, values_in, instance_in};
-ghost use Rattle.ioa_compose.specs.Refusals.{IsRefused, IsRefusedAt};
+ghost use Rattle.ioa_compose.specs.Refusals.{IsRefused, IsRefusedAt, reason_of};
 
 use crate::evaluate::evaluate;
 use crate::picks::automaton_named;
@@ -55,7 +55,7 @@ fn bind<'a>(
     requires ready { IsReady (tree_of declarations.now) (instance_of instance.now) }
     ensures bound { IfOk result (λ b. IsBound (tree_of declarations.now) (instance_of instance.now) (instance_in b)) }
     ensures name { IfOk result (λ b. name_of b.name.now ≡ name_of instance.now.name) }
-    ensures refused { IfErr result (λ r. IsRefusedAt (tree_of declarations.now) index (instance_of instance.now) r) }
+    ensures refused { IfErr result (λ r. IsRefusedAt (tree_of declarations.now) index (instance_of instance.now) (reason_of r)) }
 {
     let automaton = declared(declarations, &instance.automaton);
     match argument_values(alloc, types, &instance.arguments)? {

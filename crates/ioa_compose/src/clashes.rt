@@ -3,7 +3,7 @@ ghost use Rattle.std.specs.List.{list_all};
 ghost use Rattle.std.specs.Str.{bytes_eq};
 ghost use Rattle.ioa_syntax.specs.View.{name_of, entry_of, position_of, automaton_of};
 ghost use Rattle.ioa_compose.specs.Bindings.{instance_in, AllSound};
-ghost use Rattle.ioa_compose.specs.Refusals.{ClashesIn};
+ghost use Rattle.ioa_compose.specs.Refusals.{ClashesIn, reason_of};
 ghost use Rattle.ioa_compose.specs.Clashes as spec;
 ghost use Rattle.ioa_compose.specs.Clashes.{PairsClear, ClashAt, clear};
 ghost use Rattle.ioa_compose.specs.declared.binding.Binding.{Binding};
@@ -17,7 +17,7 @@ use std::alloc::Global;
 pub(crate) fn compatible(alloc: Global, bindings: &[Binding]) -> Result<(), Refusal>
     requires { AllSound (map instance_in bindings.now) }
     ensures ok { OnOk result (PairsClear bindings.now) }
-    ensures refused { IfErr result (λ r. ClashesIn (map instance_in bindings.now) r) }
+    ensures refused { IfErr result (λ r. ClashesIn (map instance_in bindings.now) (reason_of r)) }
 {
     for i in 0..bindings.len() {
         clear_of_later(alloc, bindings, i)?;
@@ -29,7 +29,7 @@ fn clear_of_later(alloc: Global, bindings: &[Binding], i: usize) -> Result<(), R
     requires within { i < length bindings.now }
     requires before { (k j : ℕ) (b c : Binding) → k < i → k < j → slice_get bindings.now k ≡ Some b → slice_get bindings.now j ≡ Some c → clear (automaton_of b.automaton.now) (automaton_of c.automaton.now) ≡ true }
     requires sound { AllSound (map instance_in bindings.now) }
-    ensures refused { IfErr result (λ r. ClashesIn (map instance_in bindings.now) r) }
+    ensures refused { IfErr result (λ r. ClashesIn (map instance_in bindings.now) (reason_of r)) }
     ensures ok { OnOk result ((j : ℕ) (b c : Binding) → i < j → slice_get bindings.now i ≡ Some b → slice_get bindings.now j ≡ Some c → clear (automaton_of b.automaton.now) (automaton_of c.automaton.now) ≡ true) }
 {
     for j in i + 1..bindings.len() {

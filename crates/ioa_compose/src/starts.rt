@@ -8,7 +8,7 @@ ghost use Rattle.ioa_syntax.specs.Instances as instances;
 ghost use Rattle.ioa_syntax.specs.Compositions.{Fit};
 ghost use Rattle.ioa_syntax.specs.WellFormed.{start_fine, is_type};
 ghost use Rattle.ioa_compose.specs.Bindings.{value_in, values_in, instance_in, IsStartable, AllStartable, AllStarted};
-ghost use Rattle.ioa_compose.specs.Refusals.{FaultsAt, FaultsIn};
+ghost use Rattle.ioa_compose.specs.Refusals.{FaultsAt, FaultsIn, reason_of};
 ghost use Rattle.ioa_compose.specs.Held.{member_of};
 
 use crate::binding::Binding;
@@ -31,7 +31,7 @@ pub(crate) fn start_all(
     ensures instances { IfOk result (λ ms. map (λ m. (member_of m).instance) ms.items ≡ map instance_in bindings.now) }
     ensures names { IfOk result (λ ms. map (λ m. (member_of m).name) ms.items ≡ map (λ b. name_of b.name.now) bindings.now) }
     ensures started { IfOk result (λ ms. AllStarted (map member_of ms.items)) }
-    ensures refused { IfErr result (λ r. FaultsIn (map instance_in bindings.now) r) }
+    ensures refused { IfErr result (λ r. FaultsIn (map instance_in bindings.now) (reason_of r)) }
 {
     let mut members = Vec::new(alloc);
     for index in 0..bindings.len() {
@@ -46,7 +46,7 @@ fn start(alloc: Global, types: &Types, index: usize, binding: &Binding) -> Resul
     ensures instance { IfOk result (λ m. (member_of m).instance ≡ instance_in binding.now) }
     ensures name { IfOk result (λ m. (member_of m).name ≡ name_of binding.now.name.now) }
     ensures started { IfOk result (λ m. instances.start_values (instance_in binding.now) ≡ Ok (member_of m).starts) }
-    ensures refused { IfErr result (λ r. FaultsAt index (instance_in binding.now) r) }
+    ensures refused { IfErr result (λ r. FaultsAt index (instance_in binding.now) (reason_of r)) }
 {
     match start_values(alloc, types, binding)? {
         Err(fault) => Err(Refusal::StartFault(index, fault)),
