@@ -1,6 +1,7 @@
 -- A composition from its parts, and why there is none.
-use Rattle.std.proofs.Common.{◌≡◌, ◌≢◌, ℕ, ◌<◌, zero, suc, List, [], ◌∷◌, map, Option, Some, Result, Ok, Err, IfErr, refl, sym, ap, subst, ◌∙◌, arith, slice_get, inl, inr}
+use Rattle.std.proofs.Common.{◌≡◌, ◌≢◌, ℕ, ◌<◌, ◌≤◌, length, zero, suc, List, [], ◌∷◌, map, Option, Some, Result, Ok, Err, IfErr, refl, sym, ap, subst, ◌∙◌, arith, slice_get, inl, inr}
 use Rattle.std.proofs.lemmas.Simd.{map-map}
+use Rattle.std.proofs.lemmas.List.{length-map}
 use Rattle.ioa_value.specs.declared.arithmetic.Fault.{Fault}
 use Rattle.ioa_value.specs.Actions.{Name}
 use Rattle.ioa_value.specs.Plain.{Val}
@@ -9,7 +10,7 @@ use Rattle.ioa_lex.specs.declared.refusal.Refusal.TheVariants.{TextTooLong, BadB
 use Rattle.ioa_syntax.specs.declared.tree.Instance.{Instance as TreeInstance}
 use Rattle.ioa_syntax.specs.declared.tree.Declaration.{Declaration}
 use Rattle.ioa_syntax.specs.declared.tree.Assembly.{Assembly}
-use Rattle.ioa_syntax.specs.WellFormed.{WellFormed}
+use Rattle.ioa_syntax.specs.WellFormed.{WellFormed, distinct}
 use Rattle.ioa_compose.specs.Fine.{IsSound}
 use Rattle.ioa_compose.proofs.FineLemmas.{members-fine}
 use Rattle.ioa_syntax.specs.Tree.{InstanceTree, CompositionTree, SourceTree}
@@ -20,7 +21,7 @@ use Rattle.ioa_syntax.specs.Compositions.{Member, Composed, Fit, IsMember, AreMe
 use Rattle.ioa_compose.specs.declared.binding.Binding.{Binding}
 use Rattle.ioa_compose.specs.declared.member.Member as held
 use Rattle.ioa_compose.specs.Held.{member_of}
-use Rattle.ioa_compose.specs.Bindings.{instance_in, IsBound, AreBound, AllStarted}
+use Rattle.ioa_compose.specs.Bindings.{IsComposable, instance_in, IsBound, AreBound, AllStarted}
 use Rattle.ioa_compose.specs.Clashes.{PairsClear}
 use Rattle.ioa_compose.specs.Refusals.{Clashing, Reason, misfit, faulty, clashing, no_memory, other, reason_of, IsRefusedFor, IsRefused, IsFirstClash, NoClash, NoneClashes, FaultsIn, ClashesIn}
 use Rattle.ioa_compose.proofs.ListLemmas.{image-at}
@@ -149,11 +150,28 @@ pub record Parts (s : SourceTree) (is : List TreeInstance) (bs : List Binding) (
 pub parts-are : (s : SourceTree) (is : List TreeInstance) (bs : List Binding) (ms : List held.Member) → Parts s is bs ms → AreMembers s (map instance_of is) (map member_of ms)
 parts-are s is bs ms p = members-are s is bs ms p.bound p.bound_names p.instances p.names p.started
 
-pub parts-sound : (s : SourceTree) (is : List TreeInstance) (bs : List Binding) (ms : List held.Member) (name : Name) (hidden : List Name) → WellFormed s → Parts s is bs ms → IsSound (record { name = name; members = map member_of ms; hidden = hidden })
-parts-sound s is bs ms name hidden h p = record {
-  members = members-fine s (map instance_of is) (map member_of ms) h (parts-are s is bs ms p);
-  compatible = members-compatible bs ms p.instances p.clear;
-}
+members-named : (s : SourceTree) (is : List InstanceTree) (ms : List Member) → AreMembers s is ms → map (λ m. m.name) ms ≡ map (λ i. i.name) is
+members-named s [] [] h = refl
+members-named s [] (m ∷ ms) h = absurd h
+members-named s (i ∷ is) [] h = absurd h
+members-named s (i ∷ is) (m ∷ ms) h = ap (λ ns. m.name ∷ ns) (members-named s is ms h.1) ∙ ap (λ n. n ∷ map (λ j. j.name) is) h.0.name
+
+pub parts-sound : (s : SourceTree) (a : Assembly) (bs : List Binding) (ms : List held.Member) (name : Name) (hidden : List Name) → WellFormed s → IsComposable s (assembly_of a) → hidden ≡ [] → Parts s a.instances.items bs ms → IsSound (record { name = name; members = map member_of ms; hidden = hidden })
+parts-sound s a bs ms name hidden h k e p =
+    let members = parts-are s a.instances.items bs ms p in
+    let is = (assembly_of a).instances in
+    let named = members-named s is (map member_of ms) members in
+    let long : length (map member_of ms) ≡ length is = sym (length-map (map member_of ms) (λ m. m.name)) ∙ ap length named ∙ length-map is (λ i. i.name) in
+    let sound : IsSound (record { name = name; members = map member_of ms; hidden = [] }) = record {
+      names = ap distinct named ∙ k.names;
+      few = subst (λ n. n ≤ 32) (sym long) k.few;
+      hidden = refl;
+      few_hidden = omega arith;
+      outputs = refl;
+      members = members-fine s is (map member_of ms) h members;
+      compatible = members-compatible bs ms p.instances p.clear;
+    } in
+    subst (λ ns. IsSound (record { name = name; members = map member_of ms; hidden = ns })) (sym e) sound
 
 pub parts-composed : (s : SourceTree) (a : Assembly) (bs : List Binding) (ms : List held.Member) (name : Name) (hidden : List Name) → name ≡ name_of a.name → hidden ≡ [] → Parts s a.instances.items bs ms → IsComposed s (assembly_of a) (record { name = name; members = map member_of ms; hidden = hidden })
 parts-composed s a bs ms name hidden e k p = record {

@@ -1,14 +1,15 @@
 -- What a well formed source says of the declarations that are picked from it.
-use Rattle.std.proofs.Common.{◌≡◌, ◌&&◌, ◌||◌, Bool, true, false, List, [], ◌∷◌, ◌++◌, Option, Some, None, refl, sym, subst, ◌∙◌, cond, append_assoc, find}
+use Rattle.std.proofs.Common.{◌≡◌, ◌&&◌, ◌||◌, Bool, true, false, List, [], ◌∷◌, ◌++◌, Option, Some, None, refl, sym, subst, ◌∙◌, cond, append_assoc, find, map, length, nat_le, arith}
 use Rattle.std.specs.List.{list_any, list_all}
 use Rattle.std.specs.Str.{bytes_eq}
+use Rattle.std.proofs.lemmas.Bool.Decides.{nat_tests}
 use Rattle.ioa_value.specs.Actions.{Name}
 use Rattle.ioa_syntax.specs.Tree.{AutomatonTree, InstanceTree, CompositionTree, DeclarationTree, automaton, composition, SourceTree}
 use Rattle.ioa_syntax.specs.Instances.{basic_table}
 use Rattle.ioa_syntax.specs.Compositions.{automata, compositions, picked, automaton_named}
-use Rattle.ioa_compose.specs.Bindings.{closed, AllReady}
+use Rattle.ioa_compose.specs.Bindings.{closed, AllReady, IsComposable}
 use Rattle.ioa_compose.proofs.PickLemmas.{last_or, last-first}
-use Rattle.ioa_syntax.specs.WellFormed.{automaton_fine, is_automaton_of, instance_fine, composition_fine, declaration_fine, declarations_fine, global_names, well_formed}
+use Rattle.ioa_syntax.specs.WellFormed.{distinct, automaton_fine, is_automaton_of, instance_fine, composition_fine, declaration_fine, declarations_fine, global_names, well_formed}
 
 pub both : (a b : Bool) → (a && b) ≡ true → (a ≡ true) × (b ≡ true)
 both true true h = (refl, refl)
@@ -111,10 +112,11 @@ ready_from s before among (i ∷ is) h =
     let parts = both (list_any (is_automaton_of i.automaton) before) (list_all closed i.arguments) hs.0 in
     (record { automaton = declared_found s i.automaton (among (is_automaton_of i.automaton) parts.0); arguments = parts.1 }, ready_from s before among is hs.1)
 
--- the instances of a composition that is picked from a well formed source
-pub picked_ready : (s : SourceTree) (name : Option Name) (c : CompositionTree) → well_formed s ≡ true → picked s name ≡ Some c → AllReady s c.instances
-picked_ready s name c h e =
+-- a composition that is picked from a well formed source
+pub picked_composable : (s : SourceTree) (name : Option Name) (c : CompositionTree) → well_formed s ≡ true → picked s name ≡ Some c → IsComposable s c
+picked_composable s name c h e =
     let f = picked_fine s name c h e in
     let outer = both _ _ f.fine in
-    let inner = both _ (list_all (instance_fine f.before) c.instances) outer.0 in
-    ready_from s f.before f.among c.instances inner.1
+    let inner = both (distinct (map (λ i. i.name) c.instances)) (list_all (instance_fine f.before) c.instances) outer.0 in
+    let test : nat_le (length c.instances) 32 ≡ true = outer.1 in
+    record { names = inner.0; few = grind (arith, nat_tests); ready = ready_from s f.before f.among c.instances inner.1 }

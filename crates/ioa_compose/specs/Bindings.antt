@@ -1,5 +1,5 @@
 -- Components on the way: instances with the values of their arguments, and what evaluations leave.
-use Rattle.std.specs.Prelude.{◌≡◌, Bool, true, false, ◌&&◌, List, [], ◌∷◌, map, Some, Result, Ok, Err, Vec}
+use Rattle.std.specs.Prelude.{◌≡◌, ◌≤◌, Bool, true, false, ◌&&◌, IsTrue, List, [], ◌∷◌, map, length, Some, Result, Ok, Err, Vec}
 use Rattle.std.specs.List.{list_all}
 use Rattle.std.specs.Option.{option_map_or}
 use Rattle.std.specs.Global.{Global}
@@ -7,11 +7,11 @@ use Rattle.ioa_value.specs.declared.arithmetic.Fault.{Fault}
 use Rattle.ioa_value.specs.declared.value.Value.{Value}
 use Rattle.ioa_value.specs.Actions.{Name}
 use Rattle.ioa_value.specs.Plain.{Val, plain}
-use Rattle.ioa_syntax.specs.Tree.{Expr, FieldTree, AutomatonTree, InstanceTree, SourceTree}
+use Rattle.ioa_syntax.specs.Tree.{Expr, FieldTree, AutomatonTree, InstanceTree, CompositionTree, SourceTree}
 use Rattle.ioa_syntax.specs.View.{automaton_of}
 use Rattle.ioa_syntax.specs.Instances.{basic_table, Instance, is_named, argument_values, start_values}
 use Rattle.ioa_syntax.specs.Compositions.{Member, Fit, automaton_named}
-use Rattle.ioa_syntax.specs.WellFormed.{type_of, start_fine, is_type, variable_fields, automaton_fine}
+use Rattle.ioa_syntax.specs.WellFormed.{distinct, type_of, start_fine, is_type, variable_fields, automaton_fine}
 use Rattle.ioa_compose.specs.declared.binding.Binding.{Binding}
 
 -- a value, or a fault
@@ -64,6 +64,12 @@ AreBound s (i ∷ is) (n ∷ ns) = IsBound s i n × AreBound s is ns
 abbrev pub AllReady : SourceTree → List InstanceTree → Type 0
 AllReady s [] = Unit {0}
 AllReady s (i ∷ is) = IsReady s i × AllReady s is
+
+-- what a composition of a well formed source has: components of different names, not too many, and each is ready
+pub record IsComposable (s : SourceTree) (c : CompositionTree) : Type 0 where
+  pub names : IsTrue (distinct (map (λ i. i.name) c.instances))
+  pub few : length c.instances ≤ 32
+  pub ready : AllReady s c.instances
 
 -- start expressions have their variables' types, which are known
 pub record StartsWell (a : AutomatonTree) : Type 0 where

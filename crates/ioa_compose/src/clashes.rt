@@ -106,6 +106,6 @@ fn kinds_clash(a: Kind, b: Kind) -> bool
     match (a, b) {
         (Kind::Internal, _) | (_, Kind::Internal) => true,
         (Kind::Output, Kind::Output) => true,
-        _ => false,
+        (Kind::Input, Kind::Input | Kind::Output) | (Kind::Output, Kind::Input) => false,
     }
 }

@@ -4,7 +4,7 @@ ghost use Rattle.ioa_lex.specs.declared.refusal.Refusal.TheVariants.{NoCompositi
 ghost use Rattle.ioa_syntax.specs.Tree.{CompositionTree};
 ghost use Rattle.ioa_syntax.specs.View.{tree_of, assembly_of};
 ghost use Rattle.ioa_syntax.specs.WellFormed.{WellFormed};
-ghost use Rattle.ioa_compose.specs.Bindings.{AllReady};
+ghost use Rattle.ioa_compose.specs.Bindings.{IsComposable};
 ghost use Rattle.ioa_compose.specs.Refusals.{IsRefused};
 ghost use Rattle.ioa_syntax.specs.Compositions.{Composed, IsComposed, picked};
 ghost use Rattle.ioa_compose.specs.Fine.{IsSound};
@@ -97,7 +97,7 @@ fn composed(
     assembly: &Assembly,
 ) -> Result<Composition, Refusal>
     requires well_formed { WellFormed (tree_of declarations.now) }
-    requires ready { AllReady (tree_of declarations.now) (assembly_of assembly.now).instances }
+    requires composable { IsComposable (tree_of declarations.now) (assembly_of assembly.now) }
     ensures composed { IfOk result (λ c. IsComposed (tree_of declarations.now) (assembly_of assembly.now) (composed_of c)) }
     ensures refused { IfErr result (λ r. IsRefused (tree_of declarations.now) (assembly_of assembly.now).instances r) }
 {

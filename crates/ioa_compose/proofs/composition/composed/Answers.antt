@@ -27,7 +27,7 @@ returns-in_err-members-clause-refused c =
 
 pub invariant_of-result : goal.invariant_of-result
 invariant_of-result c =
-    parts-sound (tree_of c.args.declarations.now) c.args.assembly.now.instances.items c.in_ok-bindings.bindings.items c.in_ok-members.members.items _ _ c.requires.well_formed (parts-of (tree_of c.args.declarations.now) c.args.assembly.now.instances.items _ _ _ _ _ c.deref.ensures.value c.deref-2.ensures.value c.deref-3.ensures.value c.in_ok-bindings.ensures.bound c.in_ok-bindings.ensures.names c.in_ok-members.ensures.instances c.in_ok-members.ensures.names c.in_ok-members.ensures.started c.in_ok-compatible.ensures.ok)
+    parts-sound (tree_of c.args.declarations.now) c.args.assembly.now c.in_ok-bindings.bindings.items c.in_ok-members.members.items _ _ c.requires.well_formed c.requires.composable (ap (map string_bytes) c.new-2.ensures.items) (parts-of (tree_of c.args.declarations.now) c.args.assembly.now.instances.items _ _ _ _ _ c.deref.ensures.value c.deref-2.ensures.value c.deref-3.ensures.value c.in_ok-bindings.ensures.bound c.in_ok-bindings.ensures.names c.in_ok-members.ensures.instances c.in_ok-members.ensures.names c.in_ok-members.ensures.started c.in_ok-compatible.ensures.ok)
 
 pub returns-clause-composed : goal.returns-clause-composed
 returns-clause-composed c =
