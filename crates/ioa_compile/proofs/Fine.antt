@@ -39,6 +39,7 @@ pub record Parts (g : List Name) (a : AutomatonTree) : Type 0 where
   pub one_each : IsTrue (one_to_one basic_table g a)
   pub transitions : IsTrue (list_all (λ e. list_all (λ r. not (matches basic_table g a e r) || transition_fine basic_table g a e r) a.transitions) a.entries)
   pub few_variables : length a.variables ≤ 64
+  pub few_entries : length a.entries ≤ 64
 
 at_most : (n m : ℕ) → IsTrue (nat_le n m) → n ≤ m
 at_most n m h = grind (arith, nat_tests)
@@ -55,8 +56,8 @@ parts g a h =
     let b7 = nat_le (length a.formals) 8 in
     let b8 = nat_le (length a.variables) 64 in
     let b9 = nat_le (length a.entries) 64 in
-    let p8 = (and_parts (b1 && b2 && b3 && b4 && b5 && b6 && b7 && b8) b9 h).0 in
-    let p7 = and_parts (b1 && b2 && b3 && b4 && b5 && b6 && b7) b8 p8 in
+    let p8 = and_parts (b1 && b2 && b3 && b4 && b5 && b6 && b7 && b8) b9 h in
+    let p7 = and_parts (b1 && b2 && b3 && b4 && b5 && b6 && b7) b8 p8.0 in
     let p6 = (and_parts (b1 && b2 && b3 && b4 && b5 && b6) b7 p7.0).0 in
     let p5 = and_parts (b1 && b2 && b3 && b4 && b5) b6 p6 in
     let p4 = and_parts (b1 && b2 && b3 && b4) b5 p5.0 in
@@ -74,6 +75,7 @@ parts g a h =
       one_each = p4.1;
       transitions = p5.1;
       few_variables = at_most (length a.variables) 64 p7.1;
+      few_entries = at_most (length a.entries) 64 p8.1;
     }
 
 -- ---- an entry

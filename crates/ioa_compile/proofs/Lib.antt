@@ -8,6 +8,7 @@ pub mod Fine
 pub mod Blocks
 pub mod Validity
 pub mod Assembled
+pub mod Sizes
 pub mod Twins
 pub mod Running
 pub mod Alike

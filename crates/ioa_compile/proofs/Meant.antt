@@ -17,7 +17,7 @@ use Rattle.ioa_compile.specs.Correspondence.{Corresponds, CorrespondsIn, Corresp
 use Rattle.ioa_compile.specs.Matching.{AreTypesOf, MatchesEntry, MatchesMember}
 use Rattle.ioa_compile.specs.Translated.{IsEntryOf, IsTranslated, DoesSame}
 use Rattle.ioa_compile.proofs.Fits.{fit_have}
-use Rattle.ioa_compile.proofs.Twins.{finds_same, kinds_same, are_entries}
+use Rattle.ioa_compile.proofs.Twins.{finds_same, kinds_same, is_member}
 use Rattle.ioa_compile.proofs.Alike.{guards, effects, entry_matches}
 
 entries_match : (m : Member) (slots : List ℕ) (es : List EntryTree) (cs : List EntryCode) → IsFine m → AreTypesOf (variable_fields m.instance.automaton) slots → ((i : ℕ) (e : EntryTree) → slice_get es i ≡ Some e → IsEntryOf m e) → AllZip (IsTranslated m slots) es cs → AllZip (MatchesEntry m) es cs
@@ -44,8 +44,9 @@ does_same m slots c h types name start entries =
         effects = λ a env vs has r. effects m slots c h types entries a env vs r;
       };
       start = subst (Corresponds m.instance.automaton (state_of m.instance.automaton m.starts)) values-are (record { values = λ x. refl; typed = h.starts });
-      entries = are_entries m c es c.entries (subst (λ l. AllZip (IsTranslated m l) es c.entries) types-are entries);
-      typed = subst (λ (n : Node). HaveTypes basic_types n.values n.types) (sym start) (fit_have (variable_fields m.instance.automaton) m.starts slots h.starts types);
+      sound = is_member m c h (subst (AreTypesOf (variable_fields m.instance.automaton)) types-are types)
+          (subst (λ (n : Node). HaveTypes basic_types n.values n.types) (sym start) (fit_have (variable_fields m.instance.automaton) m.starts slots h.starts types))
+          (subst (λ l. AllZip (IsTranslated m l) es c.entries) types-are entries);
     }
 
 -- the members from place i on

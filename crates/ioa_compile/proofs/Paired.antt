@@ -1,7 +1,7 @@
 -- Lists whose items are related place by place.
-use Rattle.std.proofs.Common.{◌≡◌, ℕ, zero, suc, ◌+◌, ◌<◌, ◌≤◌, Bool, IsTrue, List, [], ◌∷◌, ◌++◌, length, map, take, get_or, Some, refl, sym, ap, ◌∙◌, subst}
+use Rattle.std.proofs.Common.{◌≡◌, ℕ, zero, suc, ◌+◌, ◌<◌, ◌≤◌, Bool, ◌&&◌, ◌||◌, IsTrue, List, [], ◌∷◌, ◌++◌, length, map, take, get_or, Some, refl, sym, ap, ◌∙◌, subst}
 use Rattle.std.specs.Prelude.{slice_get}
-use Rattle.std.specs.List.{AllZip, list_all}
+use Rattle.std.specs.List.{AllZip, list_all, list_any}
 use Rattle.std.proofs.lemmas.List.{take_more, take_all, map-append}
 use Rattle.std.proofs.lemmas.Slice.Zip.{all_zipped_more}
 use Rattle.ioa_syntax.specs.Tree.{PositionTree, typed}
@@ -27,6 +27,25 @@ paired_next R f g xs i x ys zs y lt x-is zs-is r all =
 
 pub paired_all : {A X Y : Type 0} (R : X → Y → Type 0) (f : A → X) (xs : List A) (i : ℕ) (ys : List Y) → length xs ≤ i → AllZip R (map f (take i xs)) ys → AllZip R (map f xs) ys
 paired_all R f xs i ys le all = subst (λ l. AllZip R (map f l) ys) (take_all i xs le) all
+
+-- views that agree on related items
+pub paired_map : {X Y Z : Type 0} (R : X → Y → Type 0) (f : X → Z) (g : Y → Z) → ((x : X) (y : Y) → R x y → g y ≡ f x) → (xs : List X) (ys : List Y) → AllZip R xs ys → map g ys ≡ map f xs
+paired_map R f g k [] [] h = refl
+paired_map R f g k [] (y ∷ ys) h = absurd h
+paired_map R f g k (x ∷ xs) [] h = absurd h
+paired_map R f g k (x ∷ xs) (y ∷ ys) h = ap (λ z. z ∷ map g ys) (k x y h.0) ∙ ap (λ l. f x ∷ l) (paired_map R f g k xs ys h.1)
+
+-- tests that agree on related items
+pub paired_any : {X Y : Type 0} (R : X → Y → Type 0) (p : X → Bool) (q : Y → Bool) → ((x : X) (y : Y) → R x y → q y ≡ p x) → (xs : List X) (ys : List Y) → AllZip R xs ys → list_any q ys ≡ list_any p xs
+paired_any R p q k [] [] h = refl
+paired_any R p q k [] (y ∷ ys) h = absurd h
+paired_any R p q k (x ∷ xs) [] h = absurd h
+paired_any R p q k (x ∷ xs) (y ∷ ys) h = ap (λ b. b || list_any q ys) (k x y h.0) ∙ ap (λ b. p x || b) (paired_any R p q k xs ys h.1)
+
+-- tests that agree everywhere
+pub all_same : {X : Type 0} (p q : X → Bool) → ((x : X) → p x ≡ q x) → (xs : List X) → list_all p xs ≡ list_all q xs
+all_same p q k [] = refl
+all_same p q k (x ∷ xs) = ap (λ b. b && list_all p xs) (k x) ∙ ap (λ b. q x && b) (all_same p q k xs)
 
 -- two views, one after the other
 pub map-twice : {A B C : Type 0} (g : B → C) (f : A → B) (xs : List A) → map g (map f xs) ≡ map (λ x. g (f x)) xs

@@ -1,33 +1,41 @@
 -- An action has the same entry, and so the same kind, in the table as in the automaton.
-use Rattle.std.proofs.Common.{◌≡◌, ℕ, zero, suc, ◌<◌, ◌⊎◌, inl, inr, Bool, true, false, cond, ◌&&◌, List, [], ◌∷◌, length, map, get_or, Option, Some, None, IfSome, refl, sym, ap, ◌∙◌, subst, arith}
+use Rattle.std.proofs.Common.{◌≡◌, ℕ, zero, suc, ◌<◌, ◌≤◌, ◌⊎◌, inl, inr, Bool, true, false, cond, ◌&&◌, List, [], ◌∷◌, length, map, get_or, Option, Some, None, IfSome, refl, sym, ap, ◌∙◌, subst, arith}
 use Rattle.std.specs.Prelude.{slice_get}
-use Rattle.std.specs.List.{AllZip, find}
+use Rattle.std.specs.List.{AllZip, find, list_any, list_all}
 use Rattle.std.specs.Option.{option_map, option_map_or}
 use Rattle.std.specs.Str.{bytes_eq}
+use Rattle.std.proofs.lemmas.List.{length-map}
 use Rattle.std.proofs.lemmas.Option.{slice_get-map}
-use Rattle.ioa_value.specs.Actions.{Act}
+use Rattle.ioa_value.specs.Actions.{Name, Act}
 use Rattle.ioa_value.specs.Plain.{Val}
 use Rattle.ioa_value.specs.Tests.{is_of}
-use Rattle.ioa_value.specs.Typing.{basic_types}
-use Rattle.ioa_code.specs.declared.instr.PartKind.TheVariants.{Pre}
+use Rattle.ioa_value.specs.Typing.{HaveTypes, basic_types}
+use Rattle.ioa_code.specs.declared.instr.PartKind.{PartKind}
+use Rattle.ioa_code.specs.declared.instr.PartKind.TheVariants.{Pre, Eff}
 use Rattle.ioa_code.specs.Machine.{Listing}
 use Rattle.ioa_code.specs.Valid.{Part}
 use Rattle.ioa_syntax.specs.declared.tree.Kind.{Kind}
 use Rattle.ioa_syntax.specs.declared.tree.Kind.TheVariants.{Input, Output, Internal}
 use Rattle.ioa_syntax.specs.Tree.{Expr, PositionTree, typed, EntryTree}
 use Rattle.ioa_syntax.specs.Instances.{basic_table, positions_have, entry_has, component_of}
-use Rattle.ioa_syntax.specs.Components.{Component, Compatible}
-use Rattle.ioa_syntax.specs.Compositions.{Member}
-use Rattle.ioa_syntax.specs.WellFormed.{position_fields}
+use Rattle.ioa_syntax.specs.Components.{Component, Compatible, is_output}
+use Rattle.ioa_syntax.specs.Compositions.{Member, Composed}
+use Rattle.ioa_syntax.specs.WellFormed.{distinct, position_fields, variable_fields}
 use Rattle.ioa_compose.specs.declared.member.Member as held
 use Rattle.ioa_compose.specs.Held.{member_of}
-use Rattle.ioa_compose.specs.Fine.{IsFine, AllFine}
+use Rattle.ioa_compose.specs.Fine.{IsFine, AllFine, IsSound, is_output_of}
 use Rattle.ioa_compile.specs.Programs as codes
-use Rattle.ioa_compile.specs.Programs.{PositionCode, EntryCode, MemberCode}
-use Rattle.ioa_compile.specs.Tables.{positions_hold, is_in, table_component, position_types, HasPre, IsPartOf, IsEntry, AreEntries, AreMembers}
+use Rattle.ioa_compile.specs.Programs.{PositionCode, EntryCode, MemberCode, Prog}
+use Rattle.ioa_compile.specs.Tables as programs
+use Rattle.ioa_compile.specs.Tables.{positions_hold, is_in, table_component, position_types, HasPre, IsPartOf, IsEntry, AreEntries, IsMember, AreMembers, IsProgram}
 use Rattle.ioa_compile.specs.Scopes.{Scope, scope_of}
-use Rattle.ioa_compile.specs.Matching.{AreTypesOf}
-use Rattle.ioa_compile.specs.Translated.{IsGuardFor, IsFor, codes_of, IsTranslated, DoesSame}
+use Rattle.ioa_compile.specs.Matching.{AreTypesOf, MatchesEntry}
+use Rattle.ioa_compile.specs.Emitting.{guard_nodes}
+use Rattle.ioa_compile.specs.Translated.{IsGuard, IsGuardFor, IsFor, codes_of, IsTranslated, IsEntryOf, DoesSame}
+use Rattle.ioa_compile.proofs.Fine.{parts, entry_of, found_of, fine_of, guard_typed, effect_typed, guard_few}
+use Rattle.ioa_compile.proofs.Fits.{types_long, variables_names}
+use Rattle.ioa_compile.proofs.Paired.{paired_map, paired_any, all_same}
+use Rattle.ioa_compile.proofs.Sizes.{guard_short, stmts_short, positions_long}
 
 positions_same : (ps : List PositionTree) (qs : List PositionCode) (vs : List Val) → AreTypesOf (position_fields ps) (position_types qs) → positions_have basic_table ps vs ≡ positions_hold qs vs
 positions_same [] [] [] h = refl
@@ -78,35 +86,65 @@ module _ (m : Member) (slots : List ℕ) (a : Act) where
       ap (option_map (λ e. e.kind)) r.entry_is ∙ ap Some (sym r.same.kind) ∙ sym (ap (option_map (λ c. c.kind)) r.code_is)
   kinds_same es o p (inr r) = ap (option_map (λ e. e.kind)) r.no_entry ∙ sym (ap (option_map (λ c. c.kind)) r.no_code)
 
--- the table's parts are for the component's variables
-module _ (m : Member) (c : MemberCode) where
-  part_of : (e : EntryCode) (p : Part) → IsFor p Pre (0 ∷ []) c.start.types (position_types e.positions) → IsPartOf c e Pre (0 ∷ []) p
-  part_of e p h = record { verified = h.verified; kind = h.kind; result = h.result; slots = h.slots; args = h.args }
+-- the table's parts are for the component's variables, and short, since the trees are small
+module _ (m : Member) (c : MemberCode) (fine : IsFine m) where
+  part_of : (e : EntryCode) (k : PartKind) (end : List ℕ) (p : Part) → IsFor p k end c.start.types (position_types e.positions) → length p.code.instrs ≤ 4096 → IsPartOf c e k end p
+  part_of e k end p h short = record { verified = h.verified; kind = h.kind; result = h.result; slots = h.slots; args = h.args; short = omega arith }
 
-  has_pre : (e : EntryCode) (k : Kind) (o : Option Part) (s : Scope) (g : Option Expr) → IsGuardFor k (codes_of o) s g → IfSome o (λ p. IsFor p Pre (0 ∷ []) c.start.types (position_types e.positions)) → HasPre c e k o
-  has_pre e Input None s g h f = tt
-  has_pre e Input (Some p) s g h f = absurd h
-  has_pre e Output None s g h f = absurd h
-  has_pre e Output (Some p) s g h f = part_of e p f
-  has_pre e Internal None s g h f = absurd h
-  has_pre e Internal (Some p) s g h f = part_of e p f
+  guard_part : (e : EntryCode) (p : Part) (s : Scope) (g : Option Expr) → guard_nodes g ≤ 4096 → IsGuard p.code s g → IsFor p Pre (0 ∷ []) c.start.types (position_types e.positions) → IsPartOf c e Pre (0 ∷ []) p
+  guard_part e p s g few h f = part_of e Pre (0 ∷ []) p f (omega (arith, guard_short p.code s g 0 (length p.code.instrs) h.has))
+
+  has_pre : (e : EntryCode) (k : Kind) (o : Option Part) (s : Scope) (g : Option Expr) → guard_nodes g ≤ 4096 → IsGuardFor k (codes_of o) s g → IfSome o (λ p. IsFor p Pre (0 ∷ []) c.start.types (position_types e.positions)) → HasPre c e k o
+  has_pre e Input None s g few h f = tt
+  has_pre e Input (Some p) s g few h f = absurd h
+  has_pre e Output None s g few h f = absurd h
+  has_pre e Output (Some p) s g few h f = guard_part e p s g few h f
+  has_pre e Internal None s g few h f = absurd h
+  has_pre e Internal (Some p) s g few h f = guard_part e p s g few h f
 
   one_table : (o : Option Part) (k : Listing) → IfSome (codes_of o) (λ g. g.consts ≡ k.consts) → IfSome o (λ p. p.code.consts ≡ k.consts)
   one_table None k h = tt
   one_table (Some p) k h = h
 
-  is_entry : (t : EntryTree) (e : EntryCode) → IsTranslated m c.start.types t e → IsEntry c e
-  is_entry t e h = record {
-    pre = subst (λ k. HasPre c e k e.pre) (sym h.kind) (has_pre e t.kind e.pre (scope_of m t) h.transition.0.pre h.transition.2.pre h.pre);
-    effect = record { verified = h.effect.verified; kind = h.effect.kind; result = h.effect.result; slots = h.effect.slots; args = h.effect.args };
-    consts = one_table e.pre e.effect.code h.transition.2.consts;
-  }
+  is_entry : (t : EntryTree) (e : EntryCode) → IsEntryOf m t → IsTranslated m c.start.types t e → IsEntry c e
+  is_entry t e own h =
+      let g = fine.automaton.0 in
+      let a = m.instance.automaton in
+      let r = h.transition.0 in
+      let is_fine = fine_of g a t r (found_of m t fine own) h.transition.1 in
+      let guard = guard_few _ r.pre (guard_typed g a t r is_fine) in
+      let effect = (effect_typed g a t r is_fine).1 in
+      let made = h.transition.2 in
+      let code = e.effect.code in
+      let positions = (entry_of m t fine own).few_positions in
+      let as_many = positions_long t.positions e.positions h.positions in
+      record {
+        few_positions = omega arith;
+        pre = subst (λ k. HasPre c e k e.pre) (sym h.kind) (has_pre e t.kind e.pre (scope_of m t) r.pre guard made.pre h.pre);
+        effect = part_of e Eff [] e.effect h.effect (omega (arith, stmts_short code (scope_of m t) r.effect 0 (length code.instrs) made.effect.has));
+        consts = one_table e.pre code made.consts;
+        few_consts = omega (arith, made.few);
+      }
 
-  pub are_entries : (ts : List EntryTree) (es : List EntryCode) → AllZip (IsTranslated m c.start.types) ts es → AreEntries c es
-  are_entries [] [] h = tt
-  are_entries [] (e ∷ es) h = absurd h
-  are_entries (t ∷ ts) [] h = absurd h
-  are_entries (t ∷ ts) (e ∷ es) h = (is_entry t e h.0, are_entries ts es h.1)
+  are_entries : (ts : List EntryTree) (es : List EntryCode) → ((i : ℕ) (t : EntryTree) → slice_get ts i ≡ Some t → IsEntryOf m t) → AllZip (IsTranslated m c.start.types) ts es → AreEntries c es
+  are_entries [] [] own h = tt
+  are_entries [] (e ∷ es) own h = absurd h
+  are_entries (t ∷ ts) [] own h = absurd h
+  are_entries (t ∷ ts) (e ∷ es) own h = (is_entry t e (own 0 t refl) h.0, are_entries ts es (λ i u k. own (suc i) u k) h.1)
+
+  pub is_member : AreTypesOf (variable_fields m.instance.automaton) c.start.types → HaveTypes basic_types c.start.values c.start.types → AllZip (IsTranslated m c.start.types) m.instance.automaton.entries c.entries → IsMember c
+  is_member types start all =
+      let a = m.instance.automaton in
+      let whole = parts fine.automaton.0 a fine.automaton.1 in
+      let names : map (λ e. e.name) c.entries ≡ map (λ t. t.name) a.entries =
+      paired_map (IsTranslated m c.start.types) (λ t. t.name) (λ e. e.name) (λ t e h. h.name) a.entries c.entries all in
+      record {
+        few_variables = omega (arith, types_long (variable_fields a) c.start.types types, ap length (variables_names a), length-map a.variables (λ v. v.field.name), whole.few_variables);
+        typed = start;
+        few_entries = omega (arith, ap length names, length-map c.entries (λ e. e.name), length-map a.entries (λ t. t.name), whole.few_entries);
+        names = ap distinct names ∙ whole.entry_names;
+        entries = are_entries a.entries c.entries (λ i t k. record { place = i; here = k }) all;
+      }
 
 -- ---- all components
 
@@ -141,8 +179,29 @@ module _ (ms : List Member) (cs : List MemberCode) (h : AllZip DoesSame ms cs) w
       let both = k i j _ _ a ne x.1 y.1 in
       (λ internal. sym (y.2 a) ∙ both.0 (x.2 a ∙ internal), λ out other. both.1 (x.2 a ∙ out) (y.2 a ∙ other))
 
-pub are_members : (ms : List Member) (cs : List MemberCode) → AllZip DoesSame ms cs → AreMembers cs
+are_members : (ms : List Member) (cs : List MemberCode) → AllZip DoesSame ms cs → AreMembers cs
 are_members [] [] h = tt
 are_members [] (c ∷ cs) h = absurd h
 are_members (m ∷ ms) [] h = absurd h
-are_members (m ∷ ms) (c ∷ cs) h = ((h.0.entries, h.0.typed), are_members ms cs h.1)
+are_members (m ∷ ms) (c ∷ cs) h = (h.0.sound, are_members ms cs h.1)
+
+-- the program of a composition keeps what programs keep
+pub is_program : (c : Composed) (p : Prog) → IsSound c → p.hidden ≡ c.hidden → AllZip DoesSame c.members p.members → IsProgram p
+is_program c p h hides all =
+    let names : map (λ m. m.name) p.members ≡ map (λ m. m.name) c.members =
+    paired_map DoesSame (λ m. m.name) (λ m. m.name) (λ m n k. k.matches.name) c.members p.members all in
+    let labels : (x : Name) (e : EntryTree) (d : EntryCode) (m : Member) → MatchesEntry m e d → (is_output (Some d.kind) && bytes_eq d.name x) ≡ (is_output (Some e.kind) && bytes_eq e.name x) =
+    λ x e d m k. ap (λ l. is_output (Some l) && bytes_eq d.name x) k.kind ∙ ap (λ n. is_output (Some e.kind) && bytes_eq n x) k.name in
+    let outputs : (x : Name) → programs.is_output_of p x ≡ is_output_of c x =
+    λ x. paired_any DoesSame (λ m. list_any (λ e. is_output (Some e.kind) && bytes_eq e.name x) m.instance.automaton.entries) (λ m. list_any (λ e. is_output (Some e.kind) && bytes_eq e.name x) m.entries)
+    (λ m n k. paired_any (MatchesEntry m) (λ e. is_output (Some e.kind) && bytes_eq e.name x) (λ e. is_output (Some e.kind) && bytes_eq e.name x) (λ e d j. labels x e d m j) m.instance.automaton.entries n.entries k.matches.entries)
+    c.members p.members all in
+    record {
+      few_members = omega (arith, ap length names, length-map p.members (λ m. m.name), length-map c.members (λ m. m.name), h.few);
+      names = ap distinct names ∙ h.names;
+      members = are_members c.members p.members all;
+      compatible = compatible_same c.members p.members all h.compatible;
+      few_hidden = subst (λ ns. length ns ≤ 64) (sym hides) h.few_hidden;
+      hidden = ap distinct hides ∙ h.hidden;
+      outputs = all_same (programs.is_output_of p) (is_output_of c) outputs p.hidden ∙ ap (list_all (is_output_of c)) hides ∙ h.outputs;
+    }

@@ -47,8 +47,10 @@ origin s x =
     (option_map_or parameter (place_from 0 s.parameters x) unknown))
 
 abbrev pub IsOrigin : Origin → Type 0
+IsOrigin (slot i) = Unit {0}
+IsOrigin (formal i) = Unit {0}
+IsOrigin (parameter i) = Unit {0}
 IsOrigin unknown = ⊥
-IsOrigin _ = Unit {0}
 
 -- each name is one of the scope's, and each number fits
 abbrev pub IsKnown : Scope → Expr → Type 0

@@ -1,9 +1,10 @@
 -- What a program's table does: the components that its composition's step is made of.
-use Rattle.std.specs.Prelude.{◌≡◌, ℕ, Bool, true, false, ◌&&◌, List, [], ◌∷◌, map, find, Option, Some, None, IfSome, Result, Ok}
+use Rattle.std.specs.Prelude.{◌≡◌, ◌≤◌, IsTrue, length, ℕ, Bool, true, false, ◌&&◌, List, [], ◌∷◌, map, find, Option, Some, None, IfSome, Result, Ok}
+use Rattle.std.specs.List.{list_any, list_all}
 use Rattle.std.specs.Option.{option_map, option_map_or}
 use Rattle.std.specs.Str.{bytes_eq}
 use Rattle.ioa_value.specs.declared.arithmetic.Fault.{Fault}
-use Rattle.ioa_value.specs.Actions.{Act}
+use Rattle.ioa_value.specs.Actions.{Name, Act}
 use Rattle.ioa_value.specs.Plain.{Val}
 use Rattle.ioa_value.specs.Typing.{basic_types, HaveTypes}
 use Rattle.ioa_value.specs.Tests.{is_of}
@@ -13,8 +14,9 @@ use Rattle.ioa_code.specs.Parts.{IsVerified}
 use Rattle.ioa_code.specs.Valid.{Part}
 use Rattle.ioa_node.specs.Runs.{guard_of, effect_of}
 use Rattle.ioa_syntax.specs.declared.tree.Kind.{Kind}
-use Rattle.ioa_syntax.specs.declared.tree.Kind.TheVariants.{Input}
-use Rattle.ioa_syntax.specs.Components.{Component, Compatible}
+use Rattle.ioa_syntax.specs.declared.tree.Kind.TheVariants.{Input, Output, Internal}
+use Rattle.ioa_syntax.specs.Components.{Component, Compatible, is_output}
+use Rattle.ioa_syntax.specs.WellFormed.{distinct}
 use Rattle.ioa_compile.specs.Programs.{PositionCode, typed, EntryCode, MemberCode, Prog}
 
 abbrev pub position_holds : PositionCode → Val → Bool
@@ -59,6 +61,18 @@ abbrev pub position_types : List PositionCode → List ℕ
 position_types [] = []
 position_types (typed ty ∷ ps) = ty ∷ position_types ps
 
+-- how much of each a program may have; the places of a part's instructions, and of an entry's constants, fit 16 bits
+pub record Limits : Type 0 where
+  pub components : ℕ
+  pub hidden : ℕ
+  pub variables : ℕ
+  pub entries : ℕ
+  pub positions : ℕ
+  pub places : ℕ
+
+abbrev pub limits : Limits
+limits = record { components = 32; hidden = 64; variables = 64; entries = 64; positions = 8; places = 65535 }
+
 -- the part is verified code of this kind, over the component's variables and the entry's values, and ends with values of
 -- these types on the stack
 pub record IsPartOf (m : MemberCode) (e : EntryCode) (k : PartKind) (end : List ℕ) (part : Part) : Type 0 where
@@ -67,29 +81,51 @@ pub record IsPartOf (m : MemberCode) (e : EntryCode) (k : PartKind) (end : List 
   pub result : part.result ≡ end
   pub slots : part.slots ≡ m.start.types
   pub args : part.args ≡ position_types e.positions
+  pub short : length part.code.instrs ≤ limits.places
 
 -- an input has no precondition; any other entry has one, which ends with one truth value
 abbrev pub HasPre : MemberCode → EntryCode → Kind → Option Part → Type 0
 HasPre m e Input None = Unit {0}
 HasPre m e Input (Some part) = ⊥
-HasPre m e k None = ⊥
-HasPre m e k (Some part) = IsPartOf m e Pre (0 ∷ []) part
+HasPre m e Output None = ⊥
+HasPre m e Output (Some part) = IsPartOf m e Pre (0 ∷ []) part
+HasPre m e Internal None = ⊥
+HasPre m e Internal (Some part) = IsPartOf m e Pre (0 ∷ []) part
 
 -- an effect ends with nothing; the parts of an entry carry one table of constants
 pub record IsEntry (m : MemberCode) (e : EntryCode) : Type 0 where
+  pub few_positions : length e.positions ≤ limits.positions
   pub pre : HasPre m e e.kind e.pre
   pub effect : IsPartOf m e Eff [] e.effect
   pub consts : IfSome e.pre (λ part. part.code.consts ≡ e.effect.code.consts)
+  pub few_consts : length e.effect.code.consts ≤ limits.places
 
 abbrev pub AreEntries : MemberCode → List EntryCode → Type 0
 AreEntries m [] = Unit {0}
 AreEntries m (e ∷ es) = IsEntry m e × AreEntries m es
 
+-- the variables start with values of their types, and the entries have different names
+pub record IsMember (m : MemberCode) : Type 0 where
+  pub few_variables : length m.start.types ≤ limits.variables
+  pub typed : HaveTypes basic_types m.start.values m.start.types
+  pub few_entries : length m.entries ≤ limits.entries
+  pub names : IsTrue (distinct (map (λ e. e.name) m.entries))
+  pub entries : AreEntries m m.entries
+
 abbrev pub AreMembers : List MemberCode → Type 0
 AreMembers [] = Unit {0}
-AreMembers (m ∷ ms) = (AreEntries m m.entries × HaveTypes basic_types m.start.values m.start.types) × AreMembers ms
+AreMembers (m ∷ ms) = IsMember m × AreMembers ms
 
--- what a program keeps
+-- an output of one of the components has this name
+abbrev pub is_output_of : Prog → Name → Bool
+is_output_of p x = list_any (λ m. list_any (λ e. is_output (Some e.kind) && bytes_eq e.name x) m.entries) p.members
+
+-- what a program keeps: the components have different names and are compatible, and the hidden names are different outputs'
 pub record IsProgram (p : Prog) : Type 0 where
+  pub few_members : length p.members ≤ limits.components
+  pub names : IsTrue (distinct (map (λ m. m.name) p.members))
   pub members : AreMembers p.members
   pub compatible : Compatible (tabled p)
+  pub few_hidden : length p.hidden ≤ limits.hidden
+  pub hidden : IsTrue (distinct p.hidden)
+  pub outputs : IsTrue (list_all (is_output_of p) p.hidden)

@@ -1,6 +1,6 @@
 -- What the compiler makes of an entry and of a component.
-use Rattle.std.specs.Prelude.{◌≡◌, ℕ, List, [], ◌∷◌, length, Option, Some, None, IfSome, slice_get}
-use Rattle.ioa_value.specs.Typing.{HaveTypes, basic_types}
+use Rattle.std.specs.Prelude.{◌≡◌, ◌≤◌, ◌+◌, ℕ, List, [], ◌∷◌, length, map, sum, Option, Some, None, IfSome, slice_get}
+use Rattle.ioa_value.specs.Typing.{basic_types}
 use Rattle.ioa_code.specs.declared.instr.PartKind.{PartKind}
 use Rattle.ioa_code.specs.declared.instr.PartKind.TheVariants.{Pre, Eff}
 use Rattle.ioa_code.specs.Machine.{Listing}
@@ -10,13 +10,14 @@ use Rattle.ioa_syntax.specs.declared.tree.Kind.{Kind}
 use Rattle.ioa_syntax.specs.declared.tree.Kind.TheVariants.{Input, Output, Internal}
 use Rattle.ioa_syntax.specs.Tree.{Expr, Stmt, FieldTree, PositionTree, typed, EntryTree, TransitionTree}
 use Rattle.ioa_syntax.specs.Instances.{transition_for, component_of, state_of}
-use Rattle.ioa_syntax.specs.WellFormed.{position_fields}
+use Rattle.ioa_syntax.specs.WellFormed.{position_fields, stmt_nodes}
 use Rattle.ioa_syntax.specs.Compositions.{Member}
 use Rattle.ioa_compile.specs.Matching.{AreTypesOf, MatchesMember}
 use Rattle.ioa_compile.specs.Correspondence.{Corresponds}
 use Rattle.ioa_syntax.specs.Likes.{IsLike}
 use Rattle.ioa_compile.specs.Programs.{EntryCode, MemberCode}
-use Rattle.ioa_compile.specs.Tables.{AreEntries, table_component, position_types}
+use Rattle.ioa_compile.specs.Tables.{IsMember, table_component, position_types}
+use Rattle.ioa_compile.specs.Emitting.{guard_nodes}
 use Rattle.ioa_compile.specs.Scopes.{Scope, scope_of}
 use Rattle.ioa_compile.specs.Placed.{HasGuard, HasStmts}
 
@@ -42,11 +43,12 @@ IsGuardFor Output (Some code) s g = IsGuard code s g
 IsGuardFor Internal None s g = ⊥
 IsGuardFor Internal (Some code) s g = IsGuard code s g
 
--- the code of a transition: both parts carry one table of constants
+-- the code of a transition: both parts carry one table of constants, which has at most one for each node of the trees
 pub record IsTransition (m : Member) (e : EntryTree) (t : TransitionTree) (guard : Option Listing) (code : Listing) : Type 0 where
   pub pre : IsGuardFor e.kind guard (scope_of m e) t.pre
   pub effect : IsEffect code (scope_of m e) t.effect
   pub consts : IfSome guard (λ g. g.consts ≡ code.consts)
+  pub few : length code.consts ≤ guard_nodes t.pre + sum (map stmt_nodes t.effect)
 
 -- the part is verified, for this kind and these types
 pub record IsFor (part : Part) (k : PartKind) (end variables values : List ℕ) : Type 0 where
@@ -79,5 +81,4 @@ pub record DoesSame (m : Member) (c : MemberCode) : Type 0 where
   pub matches : MatchesMember m c
   pub like : IsLike (Corresponds m.instance.automaton) (component_of m.instance) (table_component c)
   pub start : Corresponds m.instance.automaton (state_of m.instance.automaton m.starts) c.start.values
-  pub entries : AreEntries c c.entries
-  pub typed : HaveTypes basic_types c.start.values c.start.types
+  pub sound : IsMember c

@@ -1,4 +1,4 @@
-ghost use Rattle.std.specs.Prelude.{◌≡◌, ◌≤◌, map, sum, length, Some, None, IfOk};
+ghost use Rattle.std.specs.Prelude.{◌≡◌, ◌≤◌, ◌+◌, map, sum, length, Some, None, IfOk};
 ghost use Rattle.std.specs.Option.{option_map};
 ghost use Rattle.ioa_value.specs.Plain.{plain};
 ghost use Rattle.ioa_value.specs.Typing.{basic_types};
@@ -57,7 +57,7 @@ fn guard_code(
     requires known { IsKnownGuard (scope_in member.now entry.now) (option_map expr_of guard.now) }
     requires size { guard_nodes (option_map expr_of guard.now) ≤ 4096 }
     ensures guard { IfOk result (λ code. IsGuard (listing code) (scope_in member.now entry.now) (option_map expr_of guard.now)) }
-    ensures few { IfOk result (λ code. length code.consts.items ≤ 4096) }
+    ensures few { IfOk result (λ code. length code.consts.items ≤ guard_nodes (option_map expr_of guard.now)) }
 {
     let mut code = Code {
         instrs: Vec::new(alloc),
@@ -82,6 +82,7 @@ fn effect_code(
     requires typed { OwnTypes basic_types (map plain consts.items) }
     ensures effect { IfOk result (λ code. IsEffect (listing code) (scope_in member.now entry.now) (map stmt_of statements.now)) }
     ensures grown { IfOk result (λ code. IsGrown (map plain consts.items) (map plain code.consts.items)) }
+    ensures few { IfOk result (λ code. length code.consts.items ≤ length consts.items + sum (map stmt_nodes (map stmt_of statements.now))) }
 {
     let mut code = Code {
         instrs: Vec::new(alloc),

@@ -49,7 +49,7 @@ map_drop f (suc i) (x ∷ xs) = map_drop f i xs
 
 pub sound_at : (ms : List MemberCode) (i : ℕ) (x : MemberCode) → AreMembers ms → i < length ms → x ≡ get_or ms i x → AreEntries x x.entries
 sound_at [] i x h l e = absurd (omega arith)
-sound_at (m ∷ ms) zero x h l e = subst (λ (y : MemberCode). AreEntries y y.entries) (sym e) h.0.0
+sound_at (m ∷ ms) zero x h l e = subst (λ (y : MemberCode). AreEntries y y.entries) (sym e) h.0.entries
 sound_at (m ∷ ms) (suc i) x h l e = sound_at ms i x h.1 (omega arith) e
 
 -- a component by its number, without the memory that holds it

@@ -7,18 +7,15 @@ use Rattle.std.specs.String.{string_bytes}
 use Rattle.ioa_compile.specs.Programs.{Prog}
 use Rattle.ioa_compile.specs.Means.{Means}
 use Rattle.ioa_compile.proofs.Meant.{all_like, all_match, all_related, from_all}
-use Rattle.ioa_compile.proofs.Twins.{are_members, compatible_same}
+use Rattle.ioa_compile.proofs.Twins.{is_program}
 use Rattle.ioa_compile.proofs.compiler.compile.Goals as goal
 
 pub new-requires-2 : goal.new-requires-2
 new-requires-2 c =
-    let ms = (composed_of c.args.composition.now).members in
+    let composed = composed_of c.args.composition.now in
     let cs = map member_code c.in_ok-members.members.items in
     let all = subst (λ l. AllZip DoesSame (map member_of l) cs) c.members.ensures.value c.in_ok-members.ensures in
-    record {
-      members = are_members ms cs all;
-      compatible = compatible_same ms cs all c.members.ensures.sound.compatible;
-    }
+    is_program composed (record { name = string_bytes c.in_ok-name.name; members = cs; hidden = map string_bytes c.in_ok-hidden.hidden.items }) c.members.ensures.sound (c.in_ok-hidden.ensures ∙ c.hidden.ensures) all
 
 pub returns : goal.returns
 returns c =

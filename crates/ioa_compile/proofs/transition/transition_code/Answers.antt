@@ -1,4 +1,6 @@
-use Rattle.std.proofs.Common.{◌≡◌, ap, ◌∙◌, map, subst, sym}
+use Rattle.std.proofs.Common.{◌≡◌, ap, ◌∙◌, map, sum, subst, sym, arith}
+use Rattle.std.proofs.lemmas.List.{length-map}
+use Rattle.ioa_syntax.specs.WellFormed.{stmt_nodes}
 use Rattle.std.specs.Option.{option_map}
 use Rattle.ioa_value.specs.Plain.{plain}
 use Rattle.ioa_value.specs.Typing.{basic_types}
@@ -21,9 +23,11 @@ returns-in_ok-consts-in-Output c =
     let same : copy ≡ code.consts = c.in_ok-consts-in-Output.ensures ∙ ap (map plain) c.deref-in-Output-2.ensures.value in
     let effect = subst (λ l. IsEffect code s (map stmt_of l)) c.deref-in-Output.ensures.value c.in_ok-effect-in-Output.ensures.effect in
     let grown = subst (IsGrown old.consts) (sym same) c.in_ok-effect-in-Output.ensures.grown in
+    let stmts = ap (λ l. sum (map stmt_nodes (map stmt_of l))) c.deref-in-Output.ensures.value in
     let typed = subst (OwnTypes basic_types) (sym same) effect.typed in
     record {
       pre = grown_guard c.args.entry.now.kind s (option_map expr_of c.args.transition.now.pre) old copy c.in-Output.is c.in_ok-instrs-in-Output.ensures.guard grown typed;
       effect = effect;
       consts = same;
+      few = omega (arith, c.in_ok-instrs-in-Output.ensures.few, c.in_ok-effect-in-Output.ensures.few, stmts, length-map c.in_ok-effect-in-Output.effect.consts.items plain);
     }
