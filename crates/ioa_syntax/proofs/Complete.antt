@@ -3,16 +3,17 @@ use Rattle.std.proofs.Common.{◌≡◌, ℕ, zero, suc, ◌+◌, ◌<◌, ◌�
 use Rattle.std.proofs.lemmas.Bool.Decides.{nat_tests}
 use Rattle.ioa_lex.specs.declared.terminal.Terminal.TheVariants as terminals
 use Rattle.ioa_lex.specs.Tokens.{Tok, terminal}
-use Rattle.ioa_syntax.specs.declared.tree.Operator.{Operator}
-use Rattle.ioa_syntax.specs.declared.tree.Operator.TheVariants.{Equal, Plus, Minus}
+use Rattle.ioa_value.specs.declared.operator.Op.{Op}
 use Rattle.ioa_syntax.specs.Tree.{Expr, number, truth, named, parens, binary}
 use Rattle.ioa_syntax.specs.Depth.{depth_of}
-use Rattle.ioa_syntax.specs.Grammar.{SpellsExpr, level_of, left_of, right_of, operator_word}
-use Rattle.ioa_syntax.specs.Reading.{climb, expr, operand, opened, operator_at, operator_in, operator_of, terminal_at, allowed, after_of, sign, Reader, ◌>>=◌}
+use Rattle.ioa_syntax.specs.Operators.{level_of, left_of, right_of, after_of, operator_word, tightest}
+use Rattle.ioa_syntax.specs.Grammar.{SpellsExpr}
+use Rattle.ioa_syntax.specs.Reading.{climb, expr, operand, opened, operator_at, operator_in, operator_of, same_terminal, terminal_at, allowed, sign, Reader, ◌>>=◌}
+use Rattle.ioa_syntax.proofs.Binding.{word_found, fits_left, level_bounds}
 use Rattle.ioa_syntax.proofs.Climb.{climb_takes, le_holds}
 use Rattle.ioa_syntax.proofs.Singles.{sign_exact}
 
-abbrev pub mark : Operator → Tok
+abbrev pub mark : Op → Tok
 mark o = terminal (operator_word o)
 
 -- ---- the parts of a spelling, with the tokens between them
@@ -23,7 +24,7 @@ parens_split e k ts s = let m = s.3 in (m.0, m.2, s.4 ∙ ap (λ z. z ++ s.1) s.
 pub parens_join : (e : Expr) (k : ℕ) (a : List Tok) → SpellsExpr 0 e a → SpellsExpr k (parens e) (terminal terminals.Open ∷ (a ++ terminal terminals.Close ∷ []))
 parens_join e k a s = (terminal terminals.Open ∷ [], a ++ terminal terminals.Close ∷ [], refl, (a, terminal terminals.Close ∷ [], s, refl, refl), refl)
 
-pub record Operands (k : ℕ) (l : Expr) (o : Operator) (r : Expr) (ts : List Tok) : Type 0 where
+pub record Operands (k : ℕ) (l : Expr) (o : Op) (r : Expr) (ts : List Tok) : Type 0 where
   pub left : List Tok
   pub right : List Tok
   pub low : k ≤ level_of o
@@ -31,18 +32,18 @@ pub record Operands (k : ℕ) (l : Expr) (o : Operator) (r : Expr) (ts : List To
   pub second : SpellsExpr (right_of o) r right
   pub apart : ts ≡ left ++ mark o ∷ right
 
-pub binary_split : (k : ℕ) (l : Expr) (o : Operator) (r : Expr) (ts : List Tok) → SpellsExpr k (binary l o r) ts → Operands k l o r ts
+pub binary_split : (k : ℕ) (l : Expr) (o : Op) (r : Expr) (ts : List Tok) → SpellsExpr k (binary l o r) ts → Operands k l o r ts
 binary_split k l o r ts s =
     let m = s.1.3 in
     record { left = s.1.0; right = m.1; low = s.0; first = s.1.2; second = m.3; apart = s.1.4 ∙ ap (λ z. s.1.0 ++ z) (m.4 ∙ ap (λ z. z ++ m.1) m.2) }
 
-pub binary_join : (k : ℕ) (l : Expr) (o : Operator) (r : Expr) (a b : List Tok) → k ≤ level_of o → SpellsExpr (left_of o) l a → SpellsExpr (right_of o) r b → SpellsExpr k (binary l o r) (a ++ mark o ∷ b)
+pub binary_join : (k : ℕ) (l : Expr) (o : Op) (r : Expr) (a b : List Tok) → k ≤ level_of o → SpellsExpr (left_of o) l a → SpellsExpr (right_of o) r b → SpellsExpr k (binary l o r) (a ++ mark o ∷ b)
 binary_join k l o r a b low s t = (low, (a, mark o ∷ b, s, (mark o ∷ [], b, refl, t, refl), refl))
 
 -- ---- what may follow
 
 -- What comes next is no operator of this level or a tighter one.
-abbrev pub EndsAt : ℕ → Option Operator → Type 0
+abbrev pub EndsAt : ℕ → Option Op → Type 0
 EndsAt k None = Unit {0}
 EndsAt k (Some o) = level_of o < k
 
@@ -58,10 +59,10 @@ EdgeEnds (parens t) ts = Unit {0}
 EdgeEnds (binary l o r) ts = Ends (right_of o) ts
 
 abbrev pub most_of : Expr → ℕ
-most_of (number n) = 10
-most_of (truth b) = 10
-most_of (named n) = 10
-most_of (parens t) = 10
+most_of (number n) = tightest
+most_of (truth b) = tightest
+most_of (named n) = tightest
+most_of (parens t) = tightest
 most_of (binary l o r) = after_of o
 
 pub depth_positive : (t : Expr) → 0 < depth_of t
@@ -77,13 +78,11 @@ le_fails a b h = grind (arith, nat_tests)
 pub lt_holds : (a b : ℕ) → a < b → nat_lt a b ≡ true
 lt_holds a b h = grind (arith, nat_tests)
 
-pub mark_is : (o : Operator) (ts : List Tok) → operator_in (terminal_at (mark o ∷ ts)) ≡ Some o
-unfolding terminal_at operator_of
-mark_is Equal ts = refl
-mark_is Plus ts = refl
-mark_is Minus ts = refl
+pub mark_is : (o : Op) (ts : List Tok) → operator_in (terminal_at (mark o ∷ ts)) ≡ Some o
+unfolding terminal_at
+mark_is o ts = word_found o
 
-pub mark_at : (o : Operator) (least below : ℕ) (ts : List Tok) → least ≤ level_of o → level_of o < below → operator_at least below (mark o ∷ ts) ≡ Some o
+pub mark_at : (o : Op) (least below : ℕ) (ts : List Tok) → least ≤ level_of o → level_of o < below → operator_at least below (mark o ∷ ts) ≡ Some o
 unfolding operator_at
 mark_at o least below ts low high =
     let a = le_holds least (level_of o) low in
@@ -95,7 +94,7 @@ none_at : (least below : ℕ) (ts : List Tok) → Ends least ts → operator_at 
 unfolding operator_at
 none_at least below ts h = by (operator_in (terminal_at ts)) h
   where
-    by : (o : Option Operator) → EndsAt least o → allowed least below o ≡ None
+    by : (o : Option Op) → EndsAt least o → allowed least below o ≡ None
     by None h = refl
     by (Some o) h = let a = le_fails least (level_of o) h in rw a refl
 
@@ -104,39 +103,22 @@ unfolding climb
 climb_ends depth e zero least below t ts h = let a = none_at least below ts h in rw a refl
 climb_ends depth e (suc n) least below t ts h = let a = none_at least below ts h in rw a refl
 
--- of two operators side by side, the second takes the first as its left operand
-fits_left : (o p : Operator) → left_of o ≤ level_of p → (level_of o < right_of p) × (level_of o < after_of p)
-fits_left Plus Plus h = (omega arith, omega arith)
-fits_left Plus Minus h = (omega arith, omega arith)
-fits_left Plus Equal h = absurd (omega arith)
-fits_left Minus Plus h = (omega arith, omega arith)
-fits_left Minus Minus h = (omega arith, omega arith)
-fits_left Minus Equal h = absurd (omega arith)
-fits_left Equal Plus h = (omega arith, omega arith)
-fits_left Equal Minus h = (omega arith, omega arith)
-fits_left Equal Equal h = absurd (omega arith)
-
-pub level_bounds : (o : Operator) → (level_of o ≤ left_of o) × (level_of o ≤ right_of o) × (level_of o < 10)
-level_bounds Plus = (omega arith, omega arith, omega arith)
-level_bounds Minus = (omega arith, omega arith, omega arith)
-level_bounds Equal = (omega arith, omega arith, omega arith)
-
 ends_weaker : (k j : ℕ) (ts : List Tok) → k ≤ j → Ends k ts → Ends j ts
 ends_weaker k j ts le h = at (operator_in (terminal_at ts)) h
   where
-    at : (o : Option Operator) → EndsAt k o → EndsAt j o
+    at : (o : Option Op) → EndsAt k o → EndsAt j o
     at None h = tt
     at (Some o) h = omega arith
 
 -- a left operand, before its operator
-edge_before : (l : Expr) (o : Operator) (a ts : List Tok) → SpellsExpr (left_of o) l a → EdgeEnds l (mark o ∷ ts)
+edge_before : (l : Expr) (o : Op) (a ts : List Tok) → SpellsExpr (left_of o) l a → EdgeEnds l (mark o ∷ ts)
 edge_before (number n) o a ts s = tt
 edge_before (truth b) o a ts s = tt
 edge_before (named n) o a ts s = tt
 edge_before (parens t) o a ts s = tt
 edge_before (binary l p r) o a ts s = subst (EndsAt (right_of p)) (sym (mark_is o ts)) (fits_left o p s.0).0
 
-most_before : (l : Expr) (o : Operator) (a : List Tok) → SpellsExpr (left_of o) l a → level_of o < most_of l
+most_before : (l : Expr) (o : Op) (a : List Tok) → SpellsExpr (left_of o) l a → level_of o < most_of l
 most_before (number n) o a s = (level_bounds o).2
 most_before (truth b) o a s = (level_bounds o).2
 most_before (named n) o a s = (level_bounds o).2
@@ -151,11 +133,11 @@ edge_after (parens t) k a ts s h = tt
 edge_after (binary l o r) k a ts s h = let wide : k ≤ right_of o = omega (arith, s.0, (level_bounds o).1) in ends_weaker k (right_of o) ts wide h
 
 pub close_ends : (k : ℕ) (ts : List Tok) → Ends k (terminal terminals.Close ∷ ts)
-unfolding terminal_at operator_of
+unfolding terminal_at operator_of same_terminal
 close_ends k ts = tt
 
 abbrev start : ℕ → ℕ → Reader Expr
-start b least ts = operand (expr b 0) ts >>= λ p. climb b (expr b) b least 10 p.0 p.1
+start b least ts = operand (expr b 0) ts >>= λ p. climb b (expr b) b least tightest p.0 p.1
 
 abbrev Completes : ℕ → Type 0
 Completes b = (t : Expr) (k : ℕ) (a : List Tok) → SpellsExpr k t a → depth_of t ≤ b → (left : List Tok) → Ends k left → expr b k (a ++ left) ≡ Ok (t, left)
@@ -171,7 +153,7 @@ opened_parens inner t ts left read =
     rw (read, close) refl
 
 module _ (b : ℕ) (inner : Completes b) where
-  goes_further : (least n : ℕ) (l : Expr) (o : Operator) (r : Expr) (a ts left : List Tok) → SpellsExpr (left_of o) l a → least ≤ level_of o → depth_of l ≤ b → b < n + depth_of l →
+  goes_further : (least n : ℕ) (l : Expr) (o : Op) (r : Expr) (a ts left : List Tok) → SpellsExpr (left_of o) l a → least ≤ level_of o → depth_of l ≤ b → b < n + depth_of l →
       expr b (right_of o) ts ≡ Ok (r, left) → (n' : ℕ) × (b < n' + depth_of (binary l o r)) × (climb b (expr b) n least (most_of l) l (mark o ∷ ts) ≡ climb b (expr b) n' least (after_of o) (binary l o r) left)
   goes_further least zero l o r a ts left s low fits fuel read = absurd (omega arith)
   goes_further least (suc n) l o r a ts left s low fits fuel read =
@@ -187,7 +169,7 @@ module _ (b : ℕ) (inner : Completes b) where
       let m = parens_split t k a s in
       let apart : a ++ left ≡ terminal terminals.Open ∷ (m.0 ++ terminal terminals.Close ∷ left) = ap (λ a. a ++ left) m.2 ∙ ap (λ ts. terminal terminals.Open ∷ ts) (append_assoc m.0 (terminal terminals.Close ∷ []) left) in
       let read : expr b 0 (m.0 ++ terminal terminals.Close ∷ left) ≡ Ok (t, terminal terminals.Close ∷ left) = inner t 0 m.0 m.1 (omega arith) (terminal terminals.Close ∷ left) (close_ends 0 left) in
-      (b, omega arith, ap (start b least) apart ∙ ap (λ o. o >>= λ p. climb b (expr b) b least 10 p.0 p.1) (opened_parens (expr b 0) t (m.0 ++ terminal terminals.Close ∷ left) left read))
+      (b, omega arith, ap (start b least) apart ∙ ap (λ o. o >>= λ p. climb b (expr b) b least tightest p.0 p.1) (opened_parens (expr b 0) t (m.0 ++ terminal terminals.Close ∷ left) left read))
   reach (binary l o r) k least a s le d left h =
       let m = binary_split k l o r a s in
       let apart : a ++ left ≡ m.left ++ mark o ∷ (m.right ++ left) = ap (λ a. a ++ left) m.apart ∙ append_assoc m.left (mark o ∷ m.right) left in

@@ -7,17 +7,17 @@ use Rattle.std.proofs.lemmas.Bool.{and_parts}
 use Rattle.std.proofs.lemmas.Bool.Decides.{nat_tests}
 use Rattle.std.proofs.lemmas.Slice.Eq.{bytes_eq-Decides}
 use Rattle.ioa_value.specs.Actions.{Name}
-use Rattle.ioa_value.specs.Operators.{Answer, gives, faults, nothing}
+use Rattle.ioa_value.specs.Operators.{Answer, gives, faults, nothing, IsTypedAnswer}
 use Rattle.ioa_value.specs.Plain.{Val}
-use Rattle.ioa_value.specs.Typing.{Shape, HasType}
+use Rattle.ioa_value.specs.Table.{Table, AreTypes}
+use Rattle.ioa_value.specs.Typing.{HasType}
 use Rattle.ioa_syntax.specs.Tree.{Stmt, assign, EntryTree, AutomatonTree}
 use Rattle.ioa_syntax.specs.Meaning.{Env, val, with_name, Outcome, becomes, breaks, nowhere, assigned, then_do, does, eff}
-use Rattle.ioa_syntax.specs.Instances.{TypeTable}
 use Rattle.ioa_syntax.specs.WellFormed.{Context, type_in, type_of, is_some_of, has_ty, context_of, variable_fields, scope, stmt_fine}
-use Rattle.ioa_syntax.specs.Answers.{IsTyped, Stands, Suits, IsTypedOutcome}
+use Rattle.ioa_syntax.specs.Answers.{Stands, Suits, IsTypedOutcome}
 use Rattle.ioa_syntax.proofs.ValTyped.{val_typed}
 
-some_type : (o : Option ℕ) (ty : ℕ) → is_some_of o ty ≡ true → o ≡ Some ty
+pub some_type : (o : Option ℕ) (ty : ℕ) → is_some_of o ty ≡ true → o ≡ Some ty
 some_type (Some t) ty h = let same : t ≡ ty = grind (arith, nat_tests) in ap Some same
 some_type None ty h = absurd (cc)
 
@@ -29,7 +29,7 @@ first_type (p ∷ ps) d x ty h = go (bytes_eq p.0 x) h (first_type ps d x ty)
     go true k more = k
     go false k more = more k
 
-module _ (types : List Shape) (c : Context) where
+module _ (types : Table) (c : Context) where
   replaced_suits : (env : Env) (x : Name) (ty : ℕ) (v : Val) → Suits types c env → type_in c x ≡ Some ty → HasType types v ty → Suits types c (with_name env x v)
   replaced_suits env x ty v h t k y u e = go (bytes_eq x y) refl
     where
@@ -41,7 +41,7 @@ module _ (types : List Shape) (c : Context) where
           subst (HasType types v) alike k
       go false same = h y u e
 
-  assigned_typed : (env : Env) (x : Name) (ty : ℕ) (a : Answer) (old : Option Val) → Suits types c env → type_in c x ≡ Some ty → IsTyped types ty a → Stands types ty old → IsTypedOutcome types c (assigned x env a old)
+  assigned_typed : (env : Env) (x : Name) (ty : ℕ) (a : Answer) (old : Option Val) → Suits types c env → type_in c x ≡ Some ty → IsTypedAnswer types ty a → Stands types ty old → IsTypedOutcome types c (assigned x env a old)
   assigned_typed env x ty (gives v) (Some w) h t k o = replaced_suits env x ty v h t k
   assigned_typed env x ty (gives v) None h t k o = absurd o
   assigned_typed env x ty (faults f) old h t k o = tt
@@ -52,20 +52,20 @@ module _ (types : List Shape) (c : Context) where
   then_typed (breaks f) go h k = tt
   then_typed nowhere go h k = absurd h
 
-module _ (t : TypeTable) (globals : List Name) (a : AutomatonTree) (e : EntryTree) where
-  stmt_typed : (s : Stmt) (env : Env) → stmt_fine t globals a e s ≡ true → Suits t.shapes (scope t globals a e) env → IsTypedOutcome t.shapes (scope t globals a e) (does s env)
-  stmt_typed (assign x v) env h suits = go (type_in (context_of t (variable_fields a)) x) refl h
+module _ (types : Table) (declared : AreTypes types) (globals : List Name) (a : AutomatonTree) (e : EntryTree) where
+  stmt_typed : (s : Stmt) (env : Env) → stmt_fine types globals a e s ≡ true → Suits types (scope types globals a e) env → IsTypedOutcome types (scope types globals a e) (does types s env)
+  stmt_typed (assign x v) env h suits = go (type_in (context_of types (variable_fields a)) x) refl h
     where
-      go : (o : Option ℕ) → type_in (context_of t (variable_fields a)) x ≡ o → option_map_or (λ ty. has_ty (scope t globals a e) v ty) o false ≡ true → IsTypedOutcome t.shapes (scope t globals a e) (does (assign x v) env)
+      go : (o : Option ℕ) → type_in (context_of types (variable_fields a)) x ≡ o → option_map_or (λ ty. has_ty types (scope types globals a e) v ty) o false ≡ true → IsTypedOutcome types (scope types globals a e) (does types (assign x v) env)
       go None q k = absurd (cc)
       go (Some ty) q k =
-          let here : type_in (scope t globals a e) x ≡ Some ty = first_type _ _ x ty (first_type _ _ x ty q) in
-          assigned_typed t.shapes (scope t globals a e) env x ty (val v env) (env x) suits here
-          (val_typed t.shapes (scope t globals a e) env v ty suits (some_type (type_of (scope t globals a e) v) ty k))
+          let here : type_in (scope types globals a e) x ≡ Some ty = first_type _ _ x ty (first_type _ _ x ty q) in
+          assigned_typed types (scope types globals a e) env x ty (val types v env) (env x) suits here
+          (val_typed types declared (scope types globals a e) env v ty suits (some_type (type_of types (scope types globals a e) v) ty k))
           (suits x ty here)
 
-  pub effect_typed : (ss : List Stmt) (env : Env) → list_all (stmt_fine t globals a e) ss ≡ true → Suits t.shapes (scope t globals a e) env → IsTypedOutcome t.shapes (scope t globals a e) (eff ss env)
+  pub effect_typed : (ss : List Stmt) (env : Env) → list_all (stmt_fine types globals a e) ss ≡ true → Suits types (scope types globals a e) env → IsTypedOutcome types (scope types globals a e) (eff types ss env)
   effect_typed [] env h suits = suits
   effect_typed (s ∷ ss) env h suits =
-      let parts = and_parts (stmt_fine t globals a e s) (list_all (stmt_fine t globals a e) ss) h in
-      then_typed t.shapes (scope t globals a e) (does s env) (eff ss) (stmt_typed s env parts.0 suits) (λ next k. effect_typed ss next parts.1 k)
+      let parts = and_parts (stmt_fine types globals a e s) (list_all (stmt_fine types globals a e) ss) h in
+      then_typed types (scope types globals a e) (does types s env) (eff types ss) (stmt_typed s env parts.0 suits) (λ next k. effect_typed ss next parts.1 k)

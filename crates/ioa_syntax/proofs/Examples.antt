@@ -4,11 +4,12 @@ use Rattle.ioa_value.specs.declared.arithmetic.Fault.TheVariants.{Overflow}
 use Rattle.ioa_value.specs.Actions.{Name, Act}
 use Rattle.ioa_value.specs.Plain.{Val, num}
 use Rattle.ioa_value.specs.Plain.{truth as truth_value}
-use Rattle.ioa_syntax.specs.declared.tree.Operator.TheVariants.{Equal, Plus}
+use Rattle.ioa_value.specs.declared.operator.Op.TheVariants.{Eq, Add}
 use Rattle.ioa_syntax.specs.declared.tree.Kind.TheVariants.{Input, Output}
 use Rattle.ioa_syntax.specs.Tree.{Expr, number, truth, named, binary, FieldTree, typed, EntryTree, VariableTree, ProposalTree, TransitionTree, Stmt, assign, AutomatonTree, InstanceTree, CompositionTree, automaton, composition, SourceTree}
 use Rattle.ioa_syntax.specs.Meaning.{Env}
-use Rattle.ioa_syntax.specs.Instances.{basic_table, Instance, argument_values, start_values}
+use Rattle.ioa_value.specs.Table.{basic}
+use Rattle.ioa_syntax.specs.Instances.{Instance, argument_values, start_values}
 use Rattle.ioa_syntax.specs.Runs.{done, not_an_action_at, not_enabled_at, fault_at, run, trace}
 use Rattle.ioa_syntax.specs.Compositions.{picked, Composed, components_of, starts_of}
 use Rattle.ioa_syntax.specs.WellFormed.{well_formed}
@@ -32,9 +33,9 @@ abbrev tick_transition : TransitionTree
 tick_transition = record {
   kind = Output;
   name = codes "tick";
-  pre = Some (binary (named (codes "k")) Equal (named (codes "c")));
+  pre = Some (binary (named (codes "k")) Eq (named (codes "c")));
   proposals = tick_proposal ∷ [];
-  effect = assign (codes "c") (binary (named (codes "c")) Plus (number 1)) ∷ [];
+  effect = assign (codes "c") (binary (named (codes "c")) Add (number 1)) ∷ [];
 }
 
 abbrev reset_transition : TransitionTree
@@ -60,10 +61,10 @@ abbrev source : SourceTree
 source = automaton counter ∷ composition (one (number 5 ∷ [])) ∷ []
 
 abbrev from : ℕ → Instance
-from n = record { types = basic_table; automaton = counter; arguments = num (pos n) ∷ [] }
+from n = record { types = basic; automaton = counter; arguments = num (pos n) ∷ [] }
 
 abbrev composed : ℕ → Composed
-composed n = record { name = codes "One"; members = record { name = codes "A"; instance = from n; starts = num (pos n) ∷ [] } ∷ []; hidden = [] }
+composed n = record { types = basic; name = codes "One"; members = record { name = codes "A"; instance = from n; starts = num (pos n) ∷ [] } ∷ []; hidden = [] }
 
 abbrev tick : ℕ → Act
 tick k = record { name = codes "tick"; vals = num (pos k) ∷ [] }
@@ -151,7 +152,7 @@ starts_at_a_truth : well_formed (with_variables (count_variable ∷ record (plai
 starts_at_a_truth = refl
 
 -- an unknown name in a precondition
-asks_for_nothing : well_formed (with_pre (Some (binary (named (codes "k")) Equal (named (codes "d"))))) ≡ false
+asks_for_nothing : well_formed (with_pre (Some (binary (named (codes "k")) Eq (named (codes "d"))))) ≡ false
 asks_for_nothing = refl
 
 -- a precondition that is an Int
@@ -159,11 +160,11 @@ asks_for_a_number : well_formed (with_pre (Some (named (codes "c")))) ≡ false
 asks_for_a_number = refl
 
 -- an equation of an Int and a Bool
-compares_a_truth : well_formed (with_pre (Some (binary (named (codes "k")) Equal (truth true)))) ≡ false
+compares_a_truth : well_formed (with_pre (Some (binary (named (codes "k")) Eq (truth true)))) ≡ false
 compares_a_truth = refl
 
 -- a number that is no Int
-asks_for_too_much : well_formed (with_pre (Some (binary (named (codes "k")) Equal (number 9223372036854775808)))) ≡ false
+asks_for_too_much : well_formed (with_pre (Some (binary (named (codes "k")) Eq (number 9223372036854775808)))) ≡ false
 asks_for_too_much = refl
 
 -- an assignment to a formal, which is no variable
@@ -249,10 +250,10 @@ named_is_picked = refl
 none_is_picked : picked source (Some (codes "Nine")) ≡ None
 none_is_picked = refl
 
-argument_is_five : argument_values (number 5 ∷ []) ≡ Ok (num (pos 5) ∷ [])
+argument_is_five : argument_values basic (number 5 ∷ []) ≡ Ok (num (pos 5) ∷ [])
 argument_is_five = refl
 
-argument_faults : argument_values (binary (number 9223372036854775807) Plus (number 1) ∷ []) ≡ Err Overflow
+argument_faults : argument_values basic (binary (number 9223372036854775807) Add (number 1) ∷ []) ≡ Err Overflow
 argument_faults = refl
 
 starts_at_five : start_values (from 5) ≡ Ok (num (pos 5) ∷ [])

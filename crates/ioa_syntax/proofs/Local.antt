@@ -7,11 +7,12 @@ use Rattle.ioa_lex.specs.declared.terminal.Terminal.TheVariants as terminals
 use Rattle.ioa_lex.specs.Tokens as tokens
 use Rattle.ioa_lex.specs.Tokens.{Tok, terminal}
 use Rattle.ioa_syntax.specs.declared.fault.Fault.TheVariants.{Syntax, TooDeep}
-use Rattle.ioa_syntax.specs.declared.tree.Operator.{Operator}
+use Rattle.ioa_value.specs.declared.operator.Op.{Op}
 use Rattle.ioa_syntax.specs.Tree.{Expr, number, truth, named, parens, binary}
 use Rattle.ioa_syntax.specs.Depth.{depth_of}
-use Rattle.ioa_syntax.specs.Grammar.{SpellsExpr, SameHead, right_of}
-use Rattle.ioa_syntax.specs.Reading.{climb, climb_by, stop_by, expr, expression, operand, opened, operator_at, operator_in, terminal_at, terminal_in, allowed, after_of, rest, sign, Outcome, Reader, ◌>>=◌, ◌▸◌}
+use Rattle.ioa_syntax.specs.Operators.{right_of, after_of, tightest}
+use Rattle.ioa_syntax.specs.Grammar.{SpellsExpr, SameHead}
+use Rattle.ioa_syntax.specs.Reading.{climb, climb_by, stop_by, expr, expression, operand, opened, operator_at, operator_in, terminal_at, terminal_in, allowed, rest, sign, Outcome, Reader, ◌>>=◌, ◌▸◌}
 use Rattle.ioa_syntax.proofs.Outcomes.{bind_err, AtMost, at_most_more, at_most_then, Shrinks, Alike, Past, past_at_most, alike_then, alike_rest, refused_at, went, front_length, same_head, LooksAhead, head_alike, rest_length}
 use Rattle.ioa_syntax.proofs.Exact.{Found, Exact}
 use Rattle.ioa_syntax.proofs.Singles.{sign_exact}
@@ -119,14 +120,14 @@ operand_alike inner inner' shrinks s s' same alike (terminal t ∷ c) = opened_a
 -- ---- operators
 
 -- one operator more, at the same count of turns
-abbrev step : (b : ℕ) (e : ℕ → Reader Expr) (n least : ℕ) (left : Expr) (o : Operator) → Reader Expr
+abbrev step : (b : ℕ) (e : ℕ → Reader Expr) (n least : ℕ) (left : Expr) (o : Op) → Reader Expr
 step b e n least left o ts = if nat_le (depth_of left) b then (e (right_of o) ts >>= λ q. climb b e n least (after_of o) (binary left o q.0) q.1) else Err TooDeep
 
 abbrev EachShrinks : (ℕ → Reader Expr) → Type 0
 EachShrinks e = (k : ℕ) → Shrinks (e k)
 
 module _ (b : ℕ) (e : ℕ → Reader Expr) (shrinks_e : EachShrinks e) where
-  step_shrinks : (n least : ℕ) (left : Expr) (o : Operator) → ((below : ℕ) (left : Expr) (ts : List Tok) → AtMost (length ts) (climb b e n least below left ts)) → Shrinks (step b e n least left o)
+  step_shrinks : (n least : ℕ) (left : Expr) (o : Op) → ((below : ℕ) (left : Expr) (ts : List Tok) → AtMost (length ts) (climb b e n least below left ts)) → Shrinks (step b e n least left o)
   step_shrinks n least left o again ts = by (nat_le (depth_of left) b)
     where
       by : (c : Bool) → AtMost (length ts) (if c then (e (right_of o) ts >>= λ q. climb b e n least (after_of o) (binary left o q.0) q.1) else Err TooDeep)
@@ -139,7 +140,7 @@ module _ (b : ℕ) (e : ℕ → Reader Expr) (shrinks_e : EachShrinks e) where
   unfolding climb
   climb_shrinks zero least below left ts = by (operator_at least below ts)
     where
-      by : (o : Option Operator) → AtMost (length ts) (stop_by b e left ts o)
+      by : (o : Option Op) → AtMost (length ts) (stop_by b e left ts o)
       by None = omega arith
       by (Some x) = tt
   climb_shrinks (suc n) least below left ts =
@@ -159,14 +160,14 @@ unfolding expr
 shrinks zero k [] = omega arith
 shrinks zero k (x ∷ ts) = tt
 shrinks (suc b) k ts =
-    at_most_then (length ts) (operand (expr b 0) ts) (λ p. climb b (expr b) b k 10 p.0 p.1) (operand_shrinks (expr b 0) (shrinks b 0) ts)
-    (λ p h. at_most_more (length p.1) (length ts) (climb b (expr b) b k 10 p.0 p.1) h (climb_shrinks b (expr b) (shrinks b) b k 10 p.0 p.1))
+    at_most_then (length ts) (operand (expr b 0) ts) (λ p. climb b (expr b) b k tightest p.0 p.1) (operand_shrinks (expr b 0) (shrinks b 0) ts)
+    (λ p h. at_most_more (length p.1) (length ts) (climb b (expr b) b k tightest p.0 p.1) h (climb_shrinks b (expr b) (shrinks b) b k tightest p.0 p.1))
 
 module _ (b b' : ℕ) (e e' : ℕ → Reader Expr) (deeper : b ≤ b') (shrinks_e : EachShrinks e) (s s' : List Tok) (same : SameHead s s') (inner : (k : ℕ) (c : List Tok) → Alike s s' (e k (c ++ s)) (e' k (c ++ s'))) where
   abbrev Climbs : ℕ → ℕ → Type 0
   Climbs n n' = (least below : ℕ) (left : Expr) (c : List Tok) → Alike s s' (climb b e n least below left (c ++ s)) (climb b' e' n' least below left (c ++ s'))
 
-  step_alike : (n n' : ℕ) → Climbs n n' → (least : ℕ) (left : Expr) (o : Operator) (c : List Tok) → Alike s s' (step b e n least left o (c ++ s)) (step b' e' n' least left o (c ++ s'))
+  step_alike : (n n' : ℕ) → Climbs n n' → (least : ℕ) (left : Expr) (o : Op) (c : List Tok) → Alike s s' (step b e n least left o (c ++ s)) (step b' e' n' least left o (c ++ s'))
   step_alike n n' more_of least left o c = by (nat_le (depth_of left) b) refl
     where
       by : (x : Bool) → nat_le (depth_of left) b ≡ x → Alike s s' (step b e n least left o (c ++ s)) (step b' e' n' least left o (c ++ s'))
@@ -216,10 +217,10 @@ expr_alike (suc b) zero le s s' same k c = absurd (omega arith)
 expr_alike (suc b) (suc b') le s s' same k c =
     let inner = expr_alike b b' (omega arith) s s' same in
     let small : b ≤ b' = omega arith in
-    alike_then s s' (operand (expr b 0) (c ++ s)) (operand (expr b' 0) (c ++ s')) (λ p. climb b (expr b) b k 10 p.0 p.1) (λ p. climb b' (expr b') b' k 10 p.0 p.1)
+    alike_then s s' (operand (expr b 0) (c ++ s)) (operand (expr b' 0) (c ++ s')) (λ p. climb b (expr b) b k tightest p.0 p.1) (λ p. climb b' (expr b') b' k tightest p.0 p.1)
     (operand_alike (expr b 0) (expr b' 0) (shrinks b 0) s s' same (inner 0) c)
-    (λ p h. past_at_most s (length p.1) (climb b (expr b) b k 10 p.0 p.1) h (climb_shrinks b (expr b) (shrinks b) b k 10 p.0 p.1))
-    (λ t d was is. climb_alike b b' (expr b) (expr b') small (shrinks b) s s' same inner b b' small k 10 t d)
+    (λ p h. past_at_most s (length p.1) (climb b (expr b) b k tightest p.0 p.1) h (climb_shrinks b (expr b) (shrinks b) b k tightest p.0 p.1))
+    (λ t d was is. climb_alike b b' (expr b) (expr b') small (shrinks b) s s' same inner b b' small k tightest t d)
 
 -- ---- too deep
 
@@ -265,7 +266,7 @@ module _ (b : ℕ) (e : ℕ → Reader Expr) (deep : (k : ℕ) (ts : List Tok) �
         | inr present ↦ by (nat_le (depth_of left) b) refl present.0 present.2 again (subst (λ o. climb_by b e (climb b e n least) left ts o ≡ Err TooDeep) present.1 h)
       ]
     where
-      by : (x : Bool) → nat_le (depth_of left) b ≡ x → (o : Operator) → ts ≡ mark o ∷ rest ts →
+      by : (x : Bool) → nat_le (depth_of left) b ≡ x → (o : Op) → ts ≡ mark o ∷ rest ts →
           ((below : ℕ) (left : Expr) (a ts : List Tok) → depth_of left ≤ length a → b < n + depth_of left → climb b e n least below left ts ≡ Err TooDeep → suc b < length (a ++ ts)) →
           step b e n least left o (rest ts) ≡ Err TooDeep → suc b < length (a ++ ts)
       by false fails o is again h = let far : b < depth_of left = grind (arith, nat_tests) in omega (arith, ap length is, length-append a ts)
@@ -290,11 +291,11 @@ expr_long (suc b) k ts h =
     let deep = expr_long b in
     let reads : (k : ℕ) (ts : List Tok) (t : Expr) (left : List Tok) → expr b k ts ≡ Ok (t, left) → (front : List Tok) × (depth_of t ≤ length front) × (ts ≡ front ++ left) =
     λ k ts t left h. let r = sound b k ts t left h in (r.front, spelled_deep t k r.front r.spells, r.apart) in
-    elim (bind_err (operand (expr b 0) ts) (λ p. climb b (expr b) b k 10 p.0 p.1) TooDeep h) [
+    elim (bind_err (operand (expr b 0) ts) (λ p. climb b (expr b) b k tightest p.0 p.1) TooDeep h) [
       | inl first ↦ operand_long b (expr b) deep reads ts first
       | inr later ↦
           let r = operand_sound b (expr b) (sound b) ts later.0.0 later.0.1 later.1 in
-          let far = climb_long b (expr b) deep reads b k 10 later.0.0 r.front later.0.1 (spelled_deep later.0.0 0 r.front (r.spells 0)) (omega (arith, depth_positive later.0.0)) later.2 in
+          let far = climb_long b (expr b) deep reads b k tightest later.0.0 r.front later.0.1 (spelled_deep later.0.0 0 r.front (r.spells 0)) (omega (arith, depth_positive later.0.0)) later.2 in
           omega (arith, ap length r.apart)
     ]
 

@@ -8,7 +8,8 @@ use Rattle.ioa_lex.specs.Lexing.{Lexes, is_blank}
 use Rattle.ioa_lex.specs.Spaced.{Spaced, IsToken, text_of}
 use Rattle.ioa_lex.proofs.SpacedLemmas.{spaced_lexes, spaced_append, spaced_one}
 use Rattle.ioa_syntax.specs.Tree.{Expr, number, truth, named, parens, binary, FieldTree, PositionTree, typed, EntryTree, VariableTree, ProposalTree, Stmt, assign, TransitionTree, AutomatonTree, InstanceTree, CompositionTree, DeclarationTree, automaton, composition, SourceTree}
-use Rattle.ioa_syntax.specs.Grammar.{Language, ◌▹◌, single, word, called, nothing, optional, optional_list, each_after, separated, terminated, many, kind_word, operator_word, left_of, right_of, SpellsExpr, SpellsField, SpellsFields, SpellsPosition, SpellsPositions, SpellsEntry, SpellsVariable, SpellsProposal, SpellsStmt, SpellsTransition, SpellsAutomaton, SpellsArguments, SpellsInstance, SpellsInstances, SpellsComposition, SpellsDeclaration, SpellsSource}
+use Rattle.ioa_syntax.specs.Operators.{operator_word, left_of, right_of}
+use Rattle.ioa_syntax.specs.Grammar.{Language, ◌▹◌, single, word, called, nothing, optional, optional_list, each_after, separated, terminated, many, kind_word, SpellsExpr, SpellsField, SpellsFields, SpellsPosition, SpellsPositions, SpellsEntry, SpellsVariable, SpellsProposal, SpellsStmt, SpellsTransition, SpellsAutomaton, SpellsArguments, SpellsInstance, SpellsInstances, SpellsComposition, SpellsDeclaration, SpellsSource}
 use Rattle.ioa_syntax.specs.Source.{AreTokens, IsSource, plain}
 use Rattle.ioa_syntax.specs.Layout.{space, line, text_word, text_name, text_more, text_list, text_all, text_optional_list, text_parens, before_list, before_option, text_expr, text_option, text_field, text_position, text_entry, text_variable, text_binding, text_proposal, text_stmt, text_transition, text_behaviour, text_automaton, text_instance, text_composition, text_declaration, text_source}
 

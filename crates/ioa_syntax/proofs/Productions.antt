@@ -196,7 +196,7 @@ proposal_some : (q : ProposalTree) (ts : List Tok) → SpellsProposal q ts → 0
 proposal_some q ts s = first_some (tokens.name q.name) (word terminals.Becomes ▹ SpellsExpr 0 q.value) ts s
 
 ends_comma : (z : List Tok) → Ends 0 (terminal terminals.Comma ∷ z)
-unfolding terminal_at operator_of
+unfolding terminal_at operator_of same_terminal
 ends_comma z = tt
 
 abbrev AfterProposals : Language
@@ -221,7 +221,7 @@ statement_begins : (q : Stmt) (ts left : List Tok) → SpellsStmt q ts → sees_
 statement_begins (assign n e) ts left s = leads (λ z. sees_name z ≡ true) (tokens.name n) (word terminals.Becomes ▹ SpellsExpr 0 e) ts left (sees_name_called n) s
 
 ends_semicolon : (z : List Tok) → Ends 0 (terminal terminals.Semicolon ∷ z)
-unfolding terminal_at operator_of
+unfolding terminal_at operator_of same_terminal
 ends_semicolon z = tt
 
 abbrev AfterStatements : Language
@@ -368,7 +368,7 @@ automaton_exact =
 -- ---- compositions
 
 ends_close : (z : List Tok) → Ends 0 (terminal terminals.Close ∷ z)
-unfolding terminal_at operator_of
+unfolding terminal_at operator_of same_terminal
 ends_close z = tt
 
 expression_some : (e : Expr) (ts : List Tok) → SpellsExpr 0 e ts → 0 < length ts

@@ -6,14 +6,15 @@ use Rattle.ioa_lex.specs.declared.terminal.Terminal.TheVariants as terminals
 use Rattle.ioa_lex.specs.Tokens as tokens
 use Rattle.ioa_lex.specs.Tokens.{Tok, terminal}
 use Rattle.ioa_syntax.specs.declared.fault.Fault.TheVariants.{Syntax, TooDeep}
-use Rattle.ioa_syntax.specs.declared.tree.Operator.{Operator}
-use Rattle.ioa_syntax.specs.declared.tree.Operator.TheVariants.{Equal, Plus, Minus}
+use Rattle.ioa_value.specs.declared.operator.Op.{Op}
 use Rattle.ioa_syntax.specs.Tree.{Expr, number, truth, named, parens, binary}
 use Rattle.ioa_syntax.specs.Depth.{depth_of}
-use Rattle.ioa_syntax.specs.Grammar.{SpellsExpr, level_of, left_of, right_of, operator_word}
-use Rattle.ioa_syntax.specs.Reading.{climb, climb_by, stop_by, expr, operand, opened, operator_at, operator_in, operator_of, terminal_at, allowed, after_of, rest, sign, Outcome, Reader, ◌>>=◌, ◌▸◌, built}
+use Rattle.ioa_syntax.specs.Operators.{level_of, left_of, right_of, after_of, tightest}
+use Rattle.ioa_syntax.specs.Grammar.{SpellsExpr}
+use Rattle.ioa_syntax.specs.Reading.{climb, climb_by, stop_by, expr, operand, opened, operator_at, operator_in, terminal_at, allowed, rest, sign, Outcome, Reader, ◌>>=◌, ◌▸◌, built}
 use Rattle.ioa_syntax.proofs.Outcomes.{bind_ok, ok_pair, guard_ok}
 use Rattle.ioa_syntax.proofs.Singles.{sign_exact}
+use Rattle.ioa_syntax.proofs.Binding.{found_only, left_again}
 use Rattle.ioa_syntax.proofs.Complete.{mark, parens_join, binary_join}
 
 pub le_of : (a b : ℕ) → nat_le a b ≡ true → a ≤ b
@@ -24,35 +25,28 @@ lt_of a b h = grind (arith, nat_tests)
 
 -- ---- the next token, seen as an operator of these levels
 
-operator_only : (t : Terminal) (o : Operator) → operator_of t ≡ Some o → t ≡ operator_word o
-unfolding operator_of
-operator_only terminals.Equal o h = let same : Equal ≡ o = cc in ap operator_word same
-operator_only terminals.Plus o h = let same : Plus ≡ o = cc in ap operator_word same
-operator_only terminals.Minus o h = let same : Minus ≡ o = cc in ap operator_word same
-operator_only _ o h = absurd (cc)
-
-next_only : (ts : List Tok) (o : Operator) → operator_in (terminal_at ts) ≡ Some o → ts ≡ mark o ∷ rest ts
+next_only : (ts : List Tok) (o : Op) → operator_in (terminal_at ts) ≡ Some o → ts ≡ mark o ∷ rest ts
 unfolding terminal_at
 next_only [] o h = absurd (cc)
 next_only (tokens.number n ∷ ts) o h = absurd (cc)
 next_only (tokens.name n ∷ ts) o h = absurd (cc)
-next_only (terminal t ∷ ts) o h = ap (λ t. terminal t ∷ ts) (operator_only t o h)
+next_only (terminal t ∷ ts) o h = ap (λ t. terminal t ∷ ts) (found_only t o h)
 
 abbrev pub Next : ℕ → ℕ → List Tok → Type 0
-Next least below ts = (operator_at least below ts ≡ None) ⊎ ((o : Operator) × (operator_at least below ts ≡ Some o) × (ts ≡ mark o ∷ rest ts) × (least ≤ level_of o) × (level_of o < below))
+Next least below ts = (operator_at least below ts ≡ None) ⊎ ((o : Op) × (operator_at least below ts ≡ Some o) × (ts ≡ mark o ∷ rest ts) × (least ≤ level_of o) × (level_of o < below))
 
 pub next_cases : (least below : ℕ) (ts : List Tok) → Next least below ts
 unfolding operator_at
 next_cases least below ts = by (operator_in (terminal_at ts)) refl
   where
-    tests : (o : Operator) → operator_in (terminal_at ts) ≡ Some o → (x y : Bool) → nat_le least (level_of o) ≡ x → nat_lt (level_of o) below ≡ y → Next least below ts
+    tests : (o : Op) → operator_in (terminal_at ts) ≡ Some o → (x y : Bool) → nat_le least (level_of o) ≡ x → nat_lt (level_of o) below ≡ y → Next least below ts
     tests o e true true p q =
         let here : allowed least below (Some o) ≡ Some o = rw (p, q) refl in
         inr (o, ap (allowed least below) e ∙ here, next_only ts o e, le_of _ _ p, lt_of _ _ q)
     tests o e true false p q = let here : allowed least below (Some o) ≡ None = rw (p, q) refl in inl (ap (allowed least below) e ∙ here)
     tests o e false y p q = let here : allowed least below (Some o) ≡ None = rw p refl in inl (ap (allowed least below) e ∙ here)
 
-    by : (o : Option Operator) → operator_in (terminal_at ts) ≡ o → Next least below ts
+    by : (o : Option Op) → operator_in (terminal_at ts) ≡ o → Next least below ts
     by None e = inl (ap (allowed least below) e)
     by (Some o) e = tests o e (nat_le least (level_of o)) (nat_lt (level_of o) below) refl refl
 
@@ -102,18 +96,7 @@ pub record ReadsOperand (b : ℕ) (ts : List Tok) (t : Expr) (left : List Tok) :
 
 -- an operator that may follow takes the tree as its left operand
 abbrev IsLeft : ℕ → Expr → List Tok → Type 0
-IsLeft below left a = (o : Operator) → level_of o < below → SpellsExpr (left_of o) left a
-
-left_again : (o p : Operator) → level_of p < after_of o → left_of p ≤ level_of o
-left_again Plus Plus h = omega arith
-left_again Plus Minus h = omega arith
-left_again Plus Equal h = omega arith
-left_again Minus Plus h = omega arith
-left_again Minus Minus h = omega arith
-left_again Minus Equal h = omega arith
-left_again Equal Plus h = absurd (omega arith)
-left_again Equal Minus h = absurd (omega arith)
-left_again Equal Equal h = absurd (omega arith)
+IsLeft below left a = (o : Op) → level_of o < below → SpellsExpr (left_of o) left a
 
 single_reads : (b : ℕ) (x : Tok) (e : Expr) (ts : List Tok) (t : Expr) (left : List Tok) → ((k : ℕ) → SpellsExpr k e (x ∷ [])) → depth_of e ≤ b → ◌≡◌ {A = Outcome Expr} (Ok (e, ts)) (Ok (t, left)) → ReadsOperand b (x ∷ ts) t left
 single_reads b x e ts t left s d h =
@@ -162,7 +145,7 @@ module _ (b : ℕ) (e : ℕ → Reader Expr) (inner : (k : ℕ) (ts : List Tok) 
       let p = ok_pair left t ts end h in
       record { front = a; spells = subst (λ t. SpellsExpr least t a) p.0 s; apart = ap (λ r. a ++ r) p.1; within = subst (λ t. depth_of t ≤ suc b) p.0 d }
 
-  takes : (n : ℕ) → Climbs n → (least below : ℕ) (left : Expr) (ts : List Tok) (t : Expr) (end : List Tok) (o : Operator) →
+  takes : (n : ℕ) → Climbs n → (least below : ℕ) (left : Expr) (ts : List Tok) (t : Expr) (end : List Tok) (o : Op) →
       climb_by b e (climb b e n least) left ts (Some o) ≡ Ok (t, end) →
       (a : List Tok) → SpellsExpr least left a → IsLeft below left a → ts ≡ mark o ∷ rest ts → least ≤ level_of o → level_of o < below → Reads (suc b) least (a ++ ts) t end
   takes n more_of least below left ts t end o h a s again is low high =
@@ -182,7 +165,7 @@ module _ (b : ℕ) (e : ℕ → Reader Expr) (inner : (k : ℕ) (ts : List Tok) 
   unfolding climb
   climb_sound zero least below left ts t end h a s again d = by (operator_at least below ts) h
     where
-      by : (o : Option Operator) → stop_by b e left ts o ≡ Ok (t, end) → Reads (suc b) least (a ++ ts) t end
+      by : (o : Option Op) → stop_by b e left ts o ≡ Ok (t, end) → Reads (suc b) least (a ++ ts) t end
       by None h = stops least left ts t end h a s d
       by (Some x) h = absurd (cc)
   climb_sound (suc n) least below left ts t end h a s again d =
@@ -197,7 +180,7 @@ unfolding expr
 sound zero k [] t left h = absurd (cc)
 sound zero k (x ∷ ts) t left h = absurd (cc)
 sound (suc b) k ts t left h =
-    let x = bind_ok (operand (expr b 0) ts) (λ p. climb b (expr b) b k 10 p.0 p.1) (t, left) h in
+    let x = bind_ok (operand (expr b 0) ts) (λ p. climb b (expr b) b k tightest p.0 p.1) (t, left) h in
     let first = operand_sound b (expr b) (sound b) ts x.0.0 x.0.1 x.1 in
-    let more = climb_sound b (expr b) (sound b) b k 10 x.0.0 x.0.1 t left x.2 first.front (first.spells k) (λ o _. first.spells (left_of o)) first.within in
+    let more = climb_sound b (expr b) (sound b) b k tightest x.0.0 x.0.1 t left x.2 first.front (first.spells k) (λ o _. first.spells (left_of o)) first.within in
     record { front = more.front; spells = more.spells; apart = first.apart ∙ more.apart; within = more.within }

@@ -1,32 +1,27 @@
 -- Well typed expressions and statements have a meaning: a value or a state of the right types, or a fault.
-use Rattle.std.specs.Prelude.{◌≡◌, ℕ, List, Option, Some, None, IsTrue}
+use Rattle.std.specs.Prelude.{◌≡◌, ℕ, List, All, Option, Some, None, IsTrue}
 use Rattle.std.specs.List.{list_all}
 use Rattle.ioa_value.specs.Actions.{Name}
-use Rattle.ioa_value.specs.Operators.{Answer, gives, faults, nothing}
+use Rattle.ioa_value.specs.Operators.{IsTypedAnswer}
 use Rattle.ioa_value.specs.Plain.{Val}
-use Rattle.ioa_value.specs.Typing.{Shape, HasType}
-use Rattle.ioa_syntax.specs.Tree.{Expr, Stmt, EntryTree, AutomatonTree}
-use Rattle.ioa_syntax.specs.Meaning.{Env, val, Outcome, becomes, breaks, nowhere, eff}
-use Rattle.ioa_syntax.specs.Instances.{TypeTable}
-use Rattle.ioa_syntax.specs.WellFormed.{Context, type_in, type_of, scope, stmt_fine}
-
--- a value of the type, or a fault
-abbrev pub IsTyped : List Shape → ℕ → Answer → Type 0
-IsTyped types ty (gives v) = HasType types v ty
-IsTyped types ty (faults f) = Unit {0}
-IsTyped types ty nothing = ⊥
+use Rattle.ioa_value.specs.Table.{Table, AreTypes, type_named}
+use Rattle.ioa_value.specs.Typing.{HasType}
+use Rattle.ioa_syntax.specs.Tree.{Expr, Stmt, EntryTree, VariableTree, AutomatonTree, InstanceTree, SourceTree}
+use Rattle.ioa_syntax.specs.Meaning.{Env, nothing_known, values_of, val, Outcome, becomes, breaks, nowhere, eff}
+use Rattle.ioa_syntax.specs.Instances.{field_names, Fit, start_answer}
+use Rattle.ioa_syntax.specs.WellFormed.{Context, type_in, type_of, scope, stmt_fine, automaton_fine, instance_fine}
 
 -- the name stands for a value of the type
-abbrev pub Stands : List Shape → ℕ → Option Val → Type 0
+abbrev pub Stands : Table → ℕ → Option Val → Type 0
 Stands types ty (Some v) = HasType types v ty
 Stands types ty None = ⊥
 
 -- each name of the context stands for a value of its type
-abbrev pub Suits : List Shape → Context → Env → Type 0
+abbrev pub Suits : Table → Context → Env → Type 0
 Suits types c env = (x : Name) (ty : ℕ) → type_in c x ≡ Some ty → Stands types ty (env x)
 
 -- an environment of the context's types, or a fault
-abbrev pub IsTypedOutcome : List Shape → Context → Outcome → Type 0
+abbrev pub IsTypedOutcome : Table → Context → Outcome → Type 0
 IsTypedOutcome types c (becomes env) = Suits types c env
 IsTypedOutcome types c (breaks f) = Unit {0}
 IsTypedOutcome types c nowhere = ⊥
@@ -34,9 +29,27 @@ IsTypedOutcome types c nowhere = ⊥
 -- an expression with a type has a value of it, or a fault
 abbrev pub ExpressionsAnswer : Type 0
 ExpressionsAnswer =
-    (types : List Shape) (c : Context) (env : Env) (e : Expr) (ty : ℕ) → Suits types c env → type_of c e ≡ Some ty → IsTyped types ty (val e env)
+    (types : Table) (c : Context) (env : Env) (e : Expr) (ty : ℕ) → AreTypes types → Suits types c env → type_of types c e ≡ Some ty → IsTypedAnswer types ty (val types e env)
 
 -- an entry's statements, where each is well typed, leave an environment of the same types, or a fault
 abbrev pub EffectsAnswer : Type 0
 EffectsAnswer =
-    (t : TypeTable) (globals : List Name) (a : AutomatonTree) (e : EntryTree) (ss : List Stmt) (env : Env) → IsTrue (list_all (stmt_fine t globals a e) ss) → Suits t.shapes (scope t globals a e) env → IsTypedOutcome t.shapes (scope t globals a e) (eff ss env)
+    (types : Table) (globals : List Name) (a : AutomatonTree) (e : EntryTree) (ss : List Stmt) (env : Env) → AreTypes types → IsTrue (list_all (stmt_fine types globals a e) ss) → Suits types (scope types globals a e) env → IsTypedOutcome types (scope types globals a e) (eff types ss env)
+
+-- the variable starts with a value of its type, or a fault
+abbrev pub StartIsTyped : Table → Env → VariableTree → Type 0
+StartIsTyped types env v = (ty : ℕ) × (type_named types v.field.ty ≡ Some ty) × IsTypedAnswer types ty (start_answer types env v)
+
+-- over values that fit its formals, each variable of a fine automaton starts with a value of its type, or a fault
+abbrev pub StartsAnswer : Type 0
+StartsAnswer =
+    (types : Table) (globals : List Name) (a : AutomatonTree) (vs : List Val) → AreTypes types → IsTrue (automaton_fine types globals a) → Fit types a.formals vs → All (StartIsTyped types (values_of (field_names a.formals) vs)) a.variables
+
+-- the argument has a value of some type, or a fault
+abbrev pub ArgumentIsTyped : Table → Expr → Type 0
+ArgumentIsTyped types e = (ty : ℕ) × IsTypedAnswer types ty (val types e nothing_known)
+
+-- so has each argument of a fine instance
+abbrev pub ArgumentsAnswer : Type 0
+ArgumentsAnswer =
+    (types : Table) (before : SourceTree) (i : InstanceTree) → AreTypes types → IsTrue (instance_fine types before i) → All (ArgumentIsTyped types) i.arguments

@@ -1,12 +1,13 @@
 -- The composition that a source declares under a name (Lynch 1996, section 8.2).
-use Rattle.std.specs.Prelude.{ℕ, List, [], ◌∷◌, map, find, reverse, Option, Some, None, Ok, IsTrue, ◌≡◌}
+use Rattle.std.specs.Prelude.{List, [], ◌∷◌, map, find, reverse, Option, Some, None, Ok, ◌≡◌}
 use Rattle.std.specs.Str.{bytes_eq}
 use Rattle.ioa_value.specs.Actions.{Name}
 use Rattle.ioa_value.specs.Plain.{Val}
-use Rattle.ioa_value.specs.Tests.{are_of}
-use Rattle.ioa_syntax.specs.Tree.{FieldTree, AutomatonTree, InstanceTree, CompositionTree, automaton, composition, SourceTree}
+use Rattle.ioa_value.specs.Table.{Table}
+use Rattle.ioa_syntax.specs.Tree.{AutomatonTree, InstanceTree, CompositionTree, automaton, composition, SourceTree}
 use Rattle.ioa_syntax.specs.Meaning.{Env}
-use Rattle.ioa_syntax.specs.Instances.{TypeTable, type_named, basic_table, Instance, component_of, argument_values, start_values, state_of}
+use Rattle.ioa_syntax.specs.Types.{types_of}
+use Rattle.ioa_syntax.specs.Instances.{Instance, component_of, argument_values, start_values, Fit, state_of}
 use Rattle.ioa_syntax.specs.Components.{Component, Compatible}
 
 abbrev pub automata : SourceTree → List AutomatonTree
@@ -38,26 +39,20 @@ pub record Member : Type 0 where
   pub instance : Instance
   pub starts : List Val
 
--- a composition: its name, its components in order, and the names that are hidden
+-- a composition: its types, its name, its components in order, and the names that are hidden
 pub record Composed : Type 0 where
+  pub types : Table
   pub name : Name
   pub members : List Member
   pub hidden : List Name
 
--- the values are of the types of the fields, one for each
-abbrev pub Fit : TypeTable → List FieldTree → List Val → Type 0
-Fit t [] [] = Unit {0}
-Fit t [] (v ∷ vs) = ⊥
-Fit t (f ∷ fs) [] = ⊥
-Fit t (f ∷ fs) (v ∷ vs) = (n : ℕ) × (type_named t f.ty ≡ Some n) × IsTrue (are_of t.shapes (v ∷ []) (n ∷ [])) × Fit t fs vs
-
 -- what an instance's tree stands for: its automaton, its arguments' values, which fit the formals, and the start
 pub record IsMember (s : SourceTree) (i : InstanceTree) (m : Member) : Type 0 where
   pub name : m.name ≡ i.name
-  pub types : m.instance.types ≡ basic_table
+  pub types : m.instance.types ≡ types_of s
   pub automaton : automaton_named s i.automaton ≡ Some m.instance.automaton
-  pub arguments : argument_values i.arguments ≡ Ok m.instance.arguments
-  pub fit : Fit basic_table m.instance.automaton.formals m.instance.arguments
+  pub arguments : argument_values (types_of s) i.arguments ≡ Ok m.instance.arguments
+  pub fit : Fit (types_of s) m.instance.automaton.formals m.instance.arguments
   pub starts : start_values m.instance ≡ Ok m.starts
 
 abbrev pub AreMembers : SourceTree → List InstanceTree → List Member → Type 0
@@ -76,6 +71,7 @@ starts_of c = map (λ m. state_of m.instance.automaton m.starts) c.members
 
 -- the composition that the source's tree stands for; nothing can be hidden yet
 pub record IsComposed (s : SourceTree) (t : CompositionTree) (c : Composed) : Type 0 where
+  pub types : c.types ≡ types_of s
   pub name : c.name ≡ t.name
   pub members : AreMembers s t.instances c.members
   pub hidden : c.hidden ≡ []

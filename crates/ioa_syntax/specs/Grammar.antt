@@ -5,10 +5,9 @@ use Rattle.ioa_lex.specs.declared.terminal.Terminal.TheVariants as terminals
 use Rattle.ioa_lex.specs.Tokens as tokens
 use Rattle.ioa_lex.specs.Tokens.{Tok, terminal}
 use Rattle.ioa_value.specs.Actions.{Name}
-use Rattle.ioa_syntax.specs.declared.tree.Operator.{Operator}
-use Rattle.ioa_syntax.specs.declared.tree.Operator.TheVariants.{Equal, Plus, Minus}
 use Rattle.ioa_syntax.specs.declared.tree.Kind.{Kind}
 use Rattle.ioa_syntax.specs.declared.tree.Kind.TheVariants.{Input, Output, Internal}
+use Rattle.ioa_syntax.specs.Operators.{level_of, left_of, right_of, operator_word}
 use Rattle.ioa_syntax.specs.Tree.{Expr, number, truth, named, parens, binary, FieldTree, PositionTree, typed, EntryTree, VariableTree, ProposalTree, Stmt, assign, TransitionTree, AutomatonTree, InstanceTree, CompositionTree, DeclarationTree, automaton, composition, SourceTree}
 
 abbrev pub Language : Type 1
@@ -71,28 +70,6 @@ many L [] = nothing
 many L (x ∷ xs) = L x ▹ many L xs
 
 -- ---- expressions
-
--- how tightly an operator binds: `=` on level 4, sums on level 5
-abbrev pub level_of : Operator → ℕ
-level_of Equal = 4
-level_of Plus = 5
-level_of Minus = 5
-
--- the least level of its operands: sums group to the left, and `=` has no neighbour of its level
-abbrev pub left_of : Operator → ℕ
-left_of Equal = 5
-left_of Plus = 5
-left_of Minus = 5
-
-abbrev pub right_of : Operator → ℕ
-right_of Equal = 5
-right_of Plus = 6
-right_of Minus = 6
-
-abbrev pub operator_word : Operator → Terminal
-operator_word Equal = terminals.Equal
-operator_word Plus = terminals.Plus
-operator_word Minus = terminals.Minus
 
 -- an expression whose operators outside parentheses have at least this level
 abbrev pub SpellsExpr : ℕ → Expr → Language

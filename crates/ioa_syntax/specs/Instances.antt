@@ -1,38 +1,21 @@
 -- Automata with argument values: their signatures, starts and steps (Lynch 1996, section 8.1).
-use Rattle.std.specs.Prelude.{ℕ, Bool, true, false, ◌&&◌, List, [], ◌∷◌, map, find, ◌+◌, if◌then◌else◌, slice_get, Option, Some, None, Result, Ok, Err, codes}
+use Rattle.std.specs.Prelude.{◌≡◌, ℕ, Bool, true, false, ◌&&◌, List, [], ◌∷◌, map, find, Option, Some, None, Result, Ok, Err}
 use Rattle.std.specs.Option.{option_map, option_map_or}
 use Rattle.std.specs.Str.{bytes_eq}
 use Rattle.ioa_value.specs.declared.arithmetic.Fault.{Fault}
 use Rattle.ioa_value.specs.Actions.{Name, Act}
-use Rattle.ioa_value.specs.Plain.{Val, truth as truth_value}
+use Rattle.ioa_value.specs.Plain.{Val, truth as truth_value, num, name, tuple, items}
+use Rattle.ioa_value.specs.Table.{Table, type_named}
 use Rattle.ioa_value.specs.Operators.{Answer, gives, faults, nothing}
-use Rattle.ioa_value.specs.Typing.{Shape, basic_types, first_of}
-use Rattle.ioa_value.specs.Tests.{is_of}
+use Rattle.ioa_value.specs.Typing.{HasType}
 use Rattle.ioa_syntax.specs.Tree.{Expr, FieldTree, PositionTree, typed, EntryTree, VariableTree, TransitionTree, AutomatonTree}
 use Rattle.ioa_syntax.specs.Meaning.{Env, nothing_known, values_of, over, kept, val, Outcome, becomes, breaks, nowhere, eff}
+use Rattle.ioa_syntax.specs.Types.{is_named, first_named}
 use Rattle.ioa_syntax.specs.Components.{Component}
-
--- the types of a source: their names, and what they are, by number
-pub record TypeTable : Type 0 where
-  pub names : List Name
-  pub shapes : List Shape
-
--- the types that are there without a declaration
-abbrev pub basic_table : TypeTable
-basic_table = record { names = codes "Bool" ∷ codes "Int" ∷ []; shapes = basic_types }
-
--- the place of a name in a list
-abbrev pub place_from : ℕ → List Name → Name → Option ℕ
-place_from i [] x = None
-place_from i (n ∷ ns) x = if bytes_eq n x then Some i else place_from (i + 1) ns x
-
--- the number of the type of this name
-abbrev pub type_named : TypeTable → Name → Option ℕ
-type_named t x = place_from 0 t.names x
 
 -- an automaton with values for its formals
 pub record Instance : Type 0 where
-  pub types : TypeTable
+  pub types : Table
   pub automaton : AutomatonTree
   pub arguments : List Val
 
@@ -42,22 +25,18 @@ field_names fs = map (λ f. f.name) fs
 abbrev pub variable_names : AutomatonTree → List Name
 variable_names a = map (λ v. v.field.name) a.variables
 
--- the value is of the type of this name
-abbrev pub is_named : TypeTable → Name → Val → Bool
-is_named t ty v = option_map_or (λ n. is_of t.shapes v n) (type_named t ty) false
-
 -- a parameter stands for each value of its type
-abbrev pub position_has : TypeTable → PositionTree → Val → Bool
+abbrev pub position_has : Table → PositionTree → Val → Bool
 position_has t (typed f) v = is_named t f.ty v
 
-abbrev pub positions_have : TypeTable → List PositionTree → List Val → Bool
+abbrev pub positions_have : Table → List PositionTree → List Val → Bool
 positions_have t [] [] = true
 positions_have t [] (v ∷ vs) = false
 positions_have t (p ∷ ps) [] = false
 positions_have t (p ∷ ps) (v ∷ vs) = position_has t p v && positions_have t ps vs
 
 -- the action is in the entry: the names agree, the number of positions agrees, and each value is one of its position's
-abbrev pub entry_has : TypeTable → Act → EntryTree → Bool
+abbrev pub entry_has : Table → Act → EntryTree → Bool
 entry_has t a e = bytes_eq e.name a.name && positions_have t e.positions a.vals
 
 -- the entry that has the action
@@ -80,13 +59,17 @@ environment i e vs s =
 -- a precondition's answer; it is a truth value or a fault, since it has the type Bool
 abbrev pub truth_of : Answer → Result Bool Fault
 truth_of (gives (truth_value b)) = Ok b
+truth_of (gives (num z)) = Ok false
+truth_of (gives (name ty n)) = Ok false
+truth_of (gives (tuple ty vs)) = Ok false
+truth_of (gives (items ty vs)) = Ok false
 truth_of (faults f) = Err f
-truth_of _ = Ok false
+truth_of nothing = Ok false
 
 -- an omitted precondition is true
-abbrev pub enabling : Option Expr → Env → Result Bool Fault
-enabling None env = Ok true
-enabling (Some e) env = truth_of (val e env)
+abbrev pub enabling : Table → Option Expr → Env → Result Bool Fault
+enabling types None env = Ok true
+enabling types (Some e) env = truth_of (val types e env)
 
 -- the next state: the variables alone; statements that are well typed leave an environment or a fault
 abbrev pub next_state : AutomatonTree → Env → Outcome → Result Env Fault
@@ -99,10 +82,10 @@ abbrev pub with_transition : {X : Type 0} → Instance → Act → X → (EntryT
 with_transition i a none f = option_map_or (λ e. option_map_or (λ t. f e t) (transition_for i.automaton e) none) (entry_for i a) none
 
 abbrev pub guard_in : Instance → Act → Env → Result Bool Fault
-guard_in i a s = with_transition i a (Ok false) (λ e t. enabling t.pre (environment i e a.vals s))
+guard_in i a s = with_transition i a (Ok false) (λ e t. enabling i.types t.pre (environment i e a.vals s))
 
 abbrev pub effect_in : Instance → Act → Env → Result Env Fault
-effect_in i a s = with_transition i a (Ok s) (λ e t. next_state i.automaton s (eff t.effect (environment i e a.vals s)))
+effect_in i a s = with_transition i a (Ok s) (λ e t. next_state i.automaton s (eff i.types t.effect (environment i e a.vals s)))
 
 -- an instance as its composition sees it; a state is an environment of the variables
 abbrev pub component_of : Instance → Component Env
@@ -118,13 +101,12 @@ settled (gives v) = Ok v
 settled (faults f) = Err f
 settled nothing = Ok (truth_value false)
 
--- the first value of the type of this name
-abbrev pub first_named : TypeTable → Name → Val
-first_named t ty = option_map_or (λ n. option_map_or first_of (slice_get t.shapes n) (truth_value false)) (type_named t ty) (truth_value false)
-
 -- a variable's start: the value of its start expression, or the first value of its type
-abbrev pub start_value : TypeTable → Env → VariableTree → Result Val Fault
-start_value t env v = option_map_or (λ e. settled (val e env)) v.start (Ok (first_named t v.field.ty))
+abbrev pub start_answer : Table → Env → VariableTree → Answer
+start_answer types env v = option_map_or (λ e. val types e env) v.start (gives (first_named types v.field.ty))
+
+abbrev pub start_value : Table → Env → VariableTree → Result Val Fault
+start_value types env v = settled (start_answer types env v)
 
 abbrev pub with_value : Result Val Fault → Result (List Val) Fault → Result (List Val) Fault
 with_value (Ok v) (Ok vs) = Ok (v ∷ vs)
@@ -137,12 +119,19 @@ all_values f [] = Ok []
 all_values f (x ∷ xs) = with_value (f x) (all_values f xs)
 
 -- the values of arguments: no name stands for anything
-abbrev pub argument_values : List Expr → Result (List Val) Fault
-argument_values es = all_values (λ e. settled (val e nothing_known)) es
+abbrev pub argument_values : Table → List Expr → Result (List Val) Fault
+argument_values types es = all_values (λ e. settled (val types e nothing_known)) es
 
 -- the variables' start values in order, or the first fault
 abbrev pub start_values : Instance → Result (List Val) Fault
 start_values i = all_values (start_value i.types (values_of (field_names i.automaton.formals) i.arguments)) i.automaton.variables
+
+-- the values are of the types of the fields, one for each
+abbrev pub Fit : Table → List FieldTree → List Val → Type 0
+Fit types [] [] = Unit {0}
+Fit types [] (v ∷ vs) = ⊥
+Fit types (f ∷ fs) [] = ⊥
+Fit types (f ∷ fs) (v ∷ vs) = (ty : ℕ) × (type_named types f.ty ≡ Some ty) × HasType types v ty × Fit types fs vs
 
 -- the state in which the variables have these values
 abbrev pub state_of : AutomatonTree → List Val → Env

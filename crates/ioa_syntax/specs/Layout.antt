@@ -8,7 +8,8 @@ use Rattle.ioa_lex.specs.Spelling.{spelling_of}
 use Rattle.ioa_value.specs.Actions.{Name}
 use Rattle.ioa_syntax.specs.Tree as tree
 use Rattle.ioa_syntax.specs.Tree.{Expr, truth, named, parens, binary, FieldTree, PositionTree, typed, EntryTree, VariableTree, ProposalTree, Stmt, assign, TransitionTree, AutomatonTree, InstanceTree, CompositionTree, DeclarationTree, automaton, composition, SourceTree}
-use Rattle.ioa_syntax.specs.Grammar.{operator_word, kind_word}
+use Rattle.ioa_syntax.specs.Operators.{operator_word}
+use Rattle.ioa_syntax.specs.Grammar.{kind_word}
 
 abbrev pub space : ℕ
 space = 32

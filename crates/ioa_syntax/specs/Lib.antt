@@ -3,11 +3,14 @@ pub use Rattle.ioa_value.specs.Actions
 pub mod Tree
 pub mod View
 pub mod Depth
+pub mod Operators
 pub mod Grammar
 pub mod Source
 pub mod Layout
 pub mod Reading
 pub mod Meaning
+pub mod Types
+pub mod Limits
 pub mod Components
 pub mod Steps
 pub mod Runs

@@ -3,13 +3,10 @@ use Rattle.std.specs.Prelude.{if◌then◌else◌, List, [], ◌∷◌, Option, 
 use Rattle.std.specs.List.{list_any}
 use Rattle.std.specs.Str.{bytes_eq}
 use Rattle.ioa_value.specs.declared.arithmetic.Fault.{Fault}
-use Rattle.ioa_value.specs.declared.operator.Op.{Op}
-use Rattle.ioa_value.specs.declared.operator.Op.TheVariants as ops
 use Rattle.ioa_value.specs.Actions.{Name}
 use Rattle.ioa_value.specs.Plain.{Val, truth as truth_value, num}
+use Rattle.ioa_value.specs.Table.{Table}
 use Rattle.ioa_value.specs.Operators.{Answer, gives, faults, nothing, operate}
-use Rattle.ioa_syntax.specs.declared.tree.Operator.{Operator}
-use Rattle.ioa_syntax.specs.declared.tree.Operator.TheVariants.{Equal, Plus, Minus}
 use Rattle.ioa_syntax.specs.Tree.{Expr, number, truth, named, parens, binary, Stmt, assign}
 
 -- what each name stands for
@@ -51,18 +48,14 @@ abbrev pub value_of : Option Val → Answer
 value_of (Some v) = gives v
 value_of None = nothing
 
-abbrev pub op_of : Operator → Op
-op_of Equal = ops.Eq
-op_of Plus = ops.Add
-op_of Minus = ops.Sub
-
 -- the value of an expression, or its fault: operands go left to right and the first fault wins
-abbrev pub val : Expr → Env → Answer
-val (number n) env = gives (num (pos n))
-val (truth b) env = gives (truth_value b)
-val (named x) env = value_of (env x)
-val (parens e) env = val e env
-val (binary l o r) env = then_value (val l env) (λ x. then_value (val r env) (λ y. operate (op_of o) (x ∷ y ∷ [])))
+abbrev pub val : Table → Expr → Env → Answer
+val types (number n) env = gives (num (pos n))
+val types (truth b) env = gives (truth_value b)
+val types (named x) env = value_of (env x)
+val types (parens e) env = val types e env
+val types (binary l o r) env =
+    then_value (val types l env) (λ x. then_value (val types r env) (λ y. operate types o (x ∷ y ∷ [])))
 
 -- what statements leave: an environment, a fault, or nothing, where a name or a value is missing
 pub data Outcome : Type 0 where
@@ -82,10 +75,10 @@ then_do (becomes env) go = go env
 then_do (breaks f) go = breaks f
 then_do nowhere go = nowhere
 
-abbrev pub does : Stmt → Env → Outcome
-does (assign x e) env = assigned x env (val e env) (env x)
+abbrev pub does : Table → Stmt → Env → Outcome
+does types (assign x e) env = assigned x env (val types e env) (env x)
 
 -- statements in sequence
-abbrev pub eff : List Stmt → Env → Outcome
-eff [] env = becomes env
-eff (s ∷ ss) env = then_do (does s env) (λ next. eff ss next)
+abbrev pub eff : Table → List Stmt → Env → Outcome
+eff types [] env = becomes env
+eff types (s ∷ ss) env = then_do (does types s env) (λ next. eff types ss next)

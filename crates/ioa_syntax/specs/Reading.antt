@@ -1,5 +1,5 @@
 -- What the parser does, as a function on lists of tokens: an outcome is what was read and the tokens left, or a fault.
-use Rattle.std.specs.Prelude.{◌≡◌, ℕ, zero, suc, ◌-◌, Bool, true, false, ◌&&◌, if◌then◌else◌, nat_lt, nat_le, is_some, List, [], ◌∷◌, ◌++◌, length, drop, Option, Some, None, Result, Ok, Err}
+use Rattle.std.specs.Prelude.{◌≡◌, ℕ, zero, suc, ◌-◌, Bool, true, false, ◌&&◌, if◌then◌else◌, find, nat_lt, nat_le, is_some, List, [], ◌∷◌, ◌++◌, length, drop, Option, Some, None, Result, Ok, Err}
 use denote.Enum.Bare.{sameb}
 use Rattle.ioa_lex.specs.contracts.terminal.Terminal.{the_type}
 use Rattle.ioa_lex.specs.declared.terminal.Terminal.{Terminal}
@@ -9,18 +9,17 @@ use Rattle.ioa_lex.specs.declared.refusal.Refusal.{Refusal}
 use Rattle.ioa_lex.specs.declared.refusal.Refusal.TheVariants as refusals
 use Rattle.ioa_lex.specs.declared.token.Token.{Token}
 use Rattle.ioa_value.specs.Actions as actions
+use Rattle.ioa_value.specs.declared.operator.Op.{Op}
 use Rattle.ioa_syntax.specs.declared.fault.Fault.{Fault}
 use Rattle.ioa_syntax.specs.declared.fault.Fault.TheVariants.{Syntax, TooDeep}
 use Rattle.ioa_syntax.specs.declared.fault.ReadError.{ReadError}
 use Rattle.ioa_syntax.specs.declared.fault.ReadError.TheVariants as errors
-use Rattle.ioa_syntax.specs.declared.tree.Operator.{Operator}
-use Rattle.ioa_syntax.specs.declared.tree.Operator.TheVariants.{Equal, Plus, Minus}
 use Rattle.ioa_syntax.specs.declared.tree.Kind.{Kind}
 use Rattle.ioa_syntax.specs.declared.tree.Kind.TheVariants as kinds
 use Rattle.ioa_syntax.specs.Tree as tree
 use Rattle.ioa_syntax.specs.Tree.{Expr, truth, named, parens, binary, FieldTree, PositionTree, typed, EntryTree, VariableTree, ProposalTree, Stmt, assign, TransitionTree, AutomatonTree, InstanceTree, CompositionTree, DeclarationTree, automaton, composition, SourceTree}
 use Rattle.ioa_syntax.specs.Depth.{depth_of}
-use Rattle.ioa_syntax.specs.Grammar.{level_of, right_of}
+use Rattle.ioa_syntax.specs.Operators.{operators, operator_word, level_of, right_of, after_of, tightest}
 
 abbrev pub Outcome : Type 0 → Type 0
 Outcome A = Result (A × List Tok) Fault
@@ -166,28 +165,20 @@ sees_kind ts = is_some (kind_at ts)
 
 -- ---- expressions
 
--- after the right operand of this operator may come the operators below this level
-abbrev pub after_of : Operator → ℕ
-after_of Equal = 4
-after_of Plus = 6
-after_of Minus = 6
+-- the operator that is written so
+unfoldable pub operator_of : Terminal → Option Op
+operator_of t = find (λ o. same_terminal (operator_word o) t) operators
 
-unfoldable pub operator_of : Terminal → Option Operator
-operator_of terminals.Equal = Some Equal
-operator_of terminals.Plus = Some Plus
-operator_of terminals.Minus = Some Minus
-operator_of _ = None
-
-abbrev pub operator_in : Option Terminal → Option Operator
+abbrev pub operator_in : Option Terminal → Option Op
 operator_in None = None
 operator_in (Some t) = operator_of t
 
-abbrev pub allowed : ℕ → ℕ → Option Operator → Option Operator
+abbrev pub allowed : ℕ → ℕ → Option Op → Option Op
 allowed least below None = None
 allowed least below (Some o) = if nat_le least (level_of o) && nat_lt (level_of o) below then Some o else None
 
 -- the next token as an operator of a level from least on and below the other
-unfoldable pub operator_at : ℕ → ℕ → List Tok → Option Operator
+unfoldable pub operator_at : ℕ → ℕ → List Tok → Option Op
 operator_at least below ts = allowed least below (operator_in (terminal_at ts))
 
 -- an operand that begins with this word or sign
@@ -206,12 +197,12 @@ operand inner (terminal t ∷ ts) = opened inner t ts
 
 -- expr: an expression of at most depth levels, at the level that it is given
 module _ (depth : ℕ) (expr : ℕ → Reader Expr) where
-  abbrev pub climb_by : (ℕ → Expr → Reader Expr) → Expr → List Tok → Option Operator → Outcome Expr
+  abbrev pub climb_by : (ℕ → Expr → Reader Expr) → Expr → List Tok → Option Op → Outcome Expr
   climb_by more left ts None = Ok (left, ts)
   climb_by more left ts (Some o) =
       if nat_le (depth_of left) depth then (expr (right_of o) (rest ts) >>= λ q. more (after_of o) (binary left o q.0) q.1) else Err TooDeep
 
-  abbrev pub stop_by : Expr → List Tok → Option Operator → Outcome Expr
+  abbrev pub stop_by : Expr → List Tok → Option Op → Outcome Expr
   stop_by left ts None = Ok (left, ts)
   stop_by left ts (Some o) = Err TooDeep
 
@@ -227,7 +218,7 @@ no_depth (x ∷ ts) = Err TooDeep
 
 unfoldable pub expr : ℕ → ℕ → Reader Expr
 expr zero least ts = no_depth ts
-expr (suc depth) least ts = operand (expr depth 0) ts >>= λ p. climb depth (expr depth) depth least 10 p.0 p.1
+expr (suc depth) least ts = operand (expr depth 0) ts >>= λ p. climb depth (expr depth) depth least tightest p.0 p.1
 
 unfoldable pub expression : ℕ → Reader Expr
 expression depth = expr depth 0

@@ -1,7 +1,7 @@
 -- Trees without places in memory and without lines: what grammar, well-formedness and meaning speak of.
 use Rattle.std.specs.Prelude.{ℕ, Bool, List, Option}
 use Rattle.ioa_value.specs.Actions.{Name}
-use Rattle.ioa_syntax.specs.declared.tree.Operator.{Operator}
+use Rattle.ioa_value.specs.declared.operator.Op.{Op}
 use Rattle.ioa_syntax.specs.declared.tree.Kind.{Kind}
 
 -- an expression
@@ -10,7 +10,7 @@ pub data Expr : Type 0 where
   truth : Bool → Expr
   named : Name → Expr
   parens : Expr → Expr
-  binary : Expr → Operator → Expr → Expr
+  binary : Expr → Op → Expr → Expr
 
 -- a name and the name of its type: a formal, a variable or a parameter
 pub record FieldTree : Type 0 where

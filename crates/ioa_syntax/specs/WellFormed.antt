@@ -6,11 +6,13 @@ use Rattle.std.specs.Str.{bytes_eq}
 use Rattle.ioa_value.specs.Actions.{Name}
 use Rattle.ioa_value.specs.Arithmetic.{fits}
 use Rattle.ioa_value.specs.Operators.{op_type}
+use Rattle.ioa_value.specs.Table.{Table, basic, type_named}
 use Rattle.ioa_syntax.specs.declared.tree.Kind.{Kind}
 use Rattle.ioa_syntax.specs.declared.tree.Kind.TheVariants.{Input, Output, Internal}
 use Rattle.ioa_syntax.specs.Tree.{Expr, number, truth, named, parens, binary, FieldTree, PositionTree, typed, EntryTree, VariableTree, ProposalTree, Stmt, assign, TransitionTree, AutomatonTree, InstanceTree, CompositionTree, DeclarationTree, automaton, composition, SourceTree}
-use Rattle.ioa_syntax.specs.Meaning.{op_of}
-use Rattle.ioa_syntax.specs.Instances.{TypeTable, type_named, basic_table, field_names, variable_names, position_name}
+use Rattle.ioa_syntax.specs.Types.{types_of}
+use Rattle.ioa_syntax.specs.Limits.{Limits, limits}
+use Rattle.ioa_syntax.specs.Instances.{field_names, variable_names, position_name}
 
 -- names with the numbers of their types
 abbrev pub Context : Type 0
@@ -26,12 +28,12 @@ both_types (Some a) None f = None
 both_types None o f = None
 
 -- the type of an expression, where it has one
-abbrev pub type_of : Context → Expr → Option ℕ
-type_of c (number n) = if fits (pos n) then Some 1 else None
-type_of c (truth b) = Some 0
-type_of c (named x) = type_in c x
-type_of c (parens e) = type_of c e
-type_of c (binary l o r) = both_types (type_of c l) (type_of c r) (op_type (op_of o))
+abbrev pub type_of : Table → Context → Expr → Option ℕ
+type_of types c (number n) = if fits (pos n) then Some 1 else None
+type_of types c (truth b) = Some 0
+type_of types c (named x) = type_in c x
+type_of types c (parens e) = type_of types c e
+type_of types c (binary l o r) = both_types (type_of types c l) (type_of types c r) (op_type types o)
 
 abbrev pub is_some_of : Option ℕ → ℕ → Bool
 is_some_of o ty = option_map_or (λ t. t == ty) o false
@@ -42,19 +44,8 @@ same_type (Some a) o = is_some_of o a
 same_type None o = false
 
 -- the expression has this type
-abbrev pub has_ty : Context → Expr → ℕ → Bool
-has_ty c e ty = is_some_of (type_of c e) ty
-
--- the nodes of a tree; a pair of parentheses is one
-abbrev pub nodes : Expr → ℕ
-nodes (number n) = 1
-nodes (truth b) = 1
-nodes (named x) = 1
-nodes (parens e) = nodes e + 1
-nodes (binary l o r) = nodes l + nodes r + 1
-
-abbrev pub stmt_nodes : Stmt → ℕ
-stmt_nodes (assign x e) = nodes e + 1
+abbrev pub has_ty : Table → Context → Expr → ℕ → Bool
+has_ty types c e ty = is_some_of (type_of types c e) ty
 
 abbrev pub contains : List Name → Name → Bool
 contains ns x = list_any (λ n. bytes_eq n x) ns
@@ -74,17 +65,17 @@ declared_name (composition c) = c.name
 
 -- the names of the one global space
 abbrev pub global_names : SourceTree → List Name
-global_names s = basic_table.names ++ map declared_name s
+global_names s = map (λ d. d.name) basic ++ map declared_name s
 
 -- a type is declared
-abbrev pub is_type : TypeTable → FieldTree → Bool
+abbrev pub is_type : Table → FieldTree → Bool
 is_type t f = option_map_or (λ n. true) (type_named t f.ty) false
 
-abbrev pub typed_field : TypeTable → FieldTree → List (Name × ℕ)
+abbrev pub typed_field : Table → FieldTree → List (Name × ℕ)
 typed_field t f = option_map_or (λ n. (f.name, n) ∷ []) (type_named t f.ty) []
 
 -- the fields' names with their types
-abbrev pub context_of : TypeTable → List FieldTree → Context
+abbrev pub context_of : Table → List FieldTree → Context
 context_of t fs = flat_map (typed_field t) fs
 
 abbrev pub position_fields : List PositionTree → List FieldTree
@@ -96,14 +87,19 @@ variable_fields a = map (λ v. v.field) a.variables
 
 abbrev pub same_kind : Kind → Kind → Bool
 same_kind Input Input = true
+same_kind Input Output = false
+same_kind Input Internal = false
+same_kind Output Input = false
 same_kind Output Output = true
+same_kind Output Internal = false
+same_kind Internal Input = false
+same_kind Internal Output = false
 same_kind Internal Internal = true
-same_kind _ _ = false
 
 abbrev pub is_input : Kind → Bool
 is_input k = same_kind k Input
 
-module _ (t : TypeTable) (globals : List Name) (a : AutomatonTree) where
+module _ (t : Table) (globals : List Name) (a : AutomatonTree) where
   abbrev pub formals : Context
   formals = context_of t a.formals
 
@@ -125,12 +121,12 @@ module _ (t : TypeTable) (globals : List Name) (a : AutomatonTree) where
 
   -- a start expression has its variable's type, and names formals alone
   abbrev pub start_fine : VariableTree → Bool
-  start_fine v = option_map_or (λ e. same_type (type_of formals e) (type_named t v.field.ty)) v.start true
+  start_fine v = option_map_or (λ e. same_type (type_of t formals e) (type_named t v.field.ty)) v.start true
 
   -- the parameters of an entry have names of their own and known types
   abbrev pub entry_fine : EntryTree → Bool
   entry_fine e = distinct (map position_name e.positions) && apart (map position_name e.positions) (globals ++ local_names)
-      && list_all (is_type t) (position_fields e.positions) && nat_le (length e.positions) 8
+      && list_all (is_type t) (position_fields e.positions)
 
   -- entry and transition are of one kind and one name
   abbrev pub matches : EntryTree → TransitionTree → Bool
@@ -143,15 +139,14 @@ module _ (t : TypeTable) (globals : List Name) (a : AutomatonTree) where
 
   -- a precondition is a Bool over variables, formals and parameters
   abbrev pub pre_fine : EntryTree → TransitionTree → Bool
-  pre_fine e r = option_map_or (λ p. has_ty (scope e) p 0 && nat_le (nodes p) 4096) r.pre true
+  pre_fine e r = option_map_or (λ p. has_ty t (scope e) p 0) r.pre true
 
   -- a proposal is for a parameter of the entry, of its type, over variables and formals
   abbrev pub proposal_fine : EntryTree → ProposalTree → Bool
-  proposal_fine e p = option_map_or (λ ty. has_ty held p.value ty) (type_in (context_of t (position_fields e.positions)) p.name) false
+  proposal_fine e p = option_map_or (λ ty. has_ty t held p.value ty) (type_in (context_of t (position_fields e.positions)) p.name) false
 
   abbrev pub proposals_fine : EntryTree → TransitionTree → Bool
   proposals_fine e r = list_all (proposal_fine e) r.proposals && distinct (map (λ p. p.name) r.proposals)
-      && nat_le (sum (map (λ p. nodes p.value) r.proposals)) 4096
 
   -- each parameter that is no Bool has a proposal
   abbrev pub all_proposed : EntryTree → TransitionTree → Bool
@@ -159,10 +154,10 @@ module _ (t : TypeTable) (globals : List Name) (a : AutomatonTree) where
 
   -- an assignment is to a variable, of its type
   abbrev pub stmt_fine : EntryTree → Stmt → Bool
-  stmt_fine e (assign x v) = option_map_or (λ ty. has_ty (scope e) v ty) (type_in (context_of t (variable_fields a)) x) false
+  stmt_fine e (assign x v) = option_map_or (λ ty. has_ty t (scope e) v ty) (type_in (context_of t (variable_fields a)) x) false
 
   abbrev pub effect_fine : EntryTree → TransitionTree → Bool
-  effect_fine e r = list_all (stmt_fine e) r.effect && nat_le (sum (map stmt_nodes r.effect)) 4096
+  effect_fine e r = list_all (stmt_fine e) r.effect
 
   -- an input has neither precondition nor proposals
   abbrev pub input_fine : TransitionTree → Bool
@@ -171,37 +166,88 @@ module _ (t : TypeTable) (globals : List Name) (a : AutomatonTree) where
   abbrev pub transition_fine : EntryTree → TransitionTree → Bool
   transition_fine e r = effect_fine e r && (if is_input r.kind then input_fine r else pre_fine e r && proposals_fine e r && all_proposed e r)
 
+  -- what composing and compiling need: names are apart, and what is written has the types of its places
   abbrev pub automaton_fine : Bool
   automaton_fine = fields_fine && list_all start_fine a.variables
       && distinct (map (λ e. e.name) a.entries) && list_all entry_fine a.entries
       && one_to_one && list_all (λ e. list_all (λ r. not (matches e r) || transition_fine e r) a.transitions) a.entries
-      && nat_le (length a.formals) 8 && nat_le (length a.variables) 64 && nat_le (length a.entries) 64
 
 abbrev pub is_automaton_of : Name → DeclarationTree → Bool
 is_automaton_of x (automaton a) = bytes_eq a.name x
 is_automaton_of x (composition c) = false
 
--- an instance is of an automaton declared before, and its arguments have types without any name
-abbrev pub instance_fine : SourceTree → InstanceTree → Bool
-instance_fine before i = list_any (is_automaton_of i.automaton) before
-    && list_all (λ e. option_map_or (λ ty. true) (type_of [] e) false) i.arguments
+-- ---- limits
 
-abbrev pub composition_fine : SourceTree → CompositionTree → Bool
-composition_fine before c = distinct (map (λ i. i.name) c.instances) && list_all (instance_fine before) c.instances
-    && nat_le (length c.instances) 32
+-- automata and compositions count
+abbrev pub is_counted : DeclarationTree → Bool
+is_counted (automaton a) = true
+is_counted (composition c) = true
 
-module _ (globals : List Name) where
-  abbrev pub declaration_fine : SourceTree → DeclarationTree → Bool
-  declaration_fine before (automaton a) = automaton_fine basic_table globals a
-  declaration_fine before (composition c) = composition_fine before c
+-- the nodes of a tree; a pair of parentheses is one
+abbrev pub nodes : Expr → ℕ
+nodes (number n) = 1
+nodes (truth b) = 1
+nodes (named x) = 1
+nodes (parens e) = nodes e + 1
+nodes (binary l o r) = nodes l + nodes r + 1
+
+abbrev pub stmt_nodes : Stmt → ℕ
+stmt_nodes (assign x e) = nodes e + 1
+
+module _ (most : Limits) where
+  abbrev pub pre_within : TransitionTree → Bool
+  pre_within r = option_map_or (λ p. nat_le (nodes p) most.nodes) r.pre true
+
+  abbrev pub proposals_within : TransitionTree → Bool
+  proposals_within r = nat_le (sum (map (λ p. nodes p.value) r.proposals)) most.nodes
+
+  abbrev pub effect_within : TransitionTree → Bool
+  effect_within r = nat_le (sum (map stmt_nodes r.effect)) most.nodes
+
+  abbrev pub transition_within : TransitionTree → Bool
+  transition_within r = pre_within r && proposals_within r && effect_within r
+
+  abbrev pub entry_within : EntryTree → Bool
+  entry_within e = nat_le (length e.positions) most.parameters
+
+  abbrev pub automaton_within : AutomatonTree → Bool
+  automaton_within a = nat_le (length a.formals) most.parameters && nat_le (length a.variables) most.variables && nat_le (length a.entries) most.entries
+      && list_all entry_within a.entries && list_all transition_within a.transitions
+
+  abbrev pub composition_within : CompositionTree → Bool
+  composition_within c = nat_le (length c.instances) most.components
+
+  abbrev pub declaration_within : DeclarationTree → Bool
+  declaration_within (automaton a) = automaton_within a
+  declaration_within (composition c) = composition_within c
+
+  -- automata and compositions are counted together
+  abbrev pub source_within : SourceTree → Bool
+  source_within s = nat_le (length (filter is_counted s)) most.automata && list_all declaration_within s
+
+-- ---- sources
+
+module _ (types : Table) where
+  -- an instance is of an automaton declared before, and its arguments have types without any name
+  abbrev pub instance_fine : SourceTree → InstanceTree → Bool
+  instance_fine before i = list_any (is_automaton_of i.automaton) before
+      && list_all (λ e. option_map_or (λ ty. true) (type_of types [] e) false) i.arguments
+
+  abbrev pub composition_fine : SourceTree → CompositionTree → Bool
+  composition_fine before c = distinct (map (λ i. i.name) c.instances) && list_all (instance_fine before) c.instances
+
+  abbrev pub declaration_fine : List Name → SourceTree → DeclarationTree → Bool
+  declaration_fine globals before (automaton a) = automaton_fine types globals a
+  declaration_fine globals before (composition c) = composition_fine before c
 
   -- each declaration is fine over those before it
-  abbrev pub declarations_fine : SourceTree → SourceTree → Bool
-  declarations_fine before [] = true
-  declarations_fine before (d ∷ ds) = declaration_fine before d && declarations_fine (before ++ d ∷ []) ds
+  abbrev pub declarations_fine : List Name → SourceTree → SourceTree → Bool
+  declarations_fine globals before [] = true
+  declarations_fine globals before (d ∷ ds) = declaration_fine globals before d && declarations_fine globals (before ++ d ∷ []) ds
 
+-- each name is declared once and before its use, each part is fine, and none passes the limits
 abbrev pub well_formed : SourceTree → Bool
-well_formed s = distinct (global_names s) && nat_le (length s) 256 && declarations_fine (global_names s) [] s
+well_formed s = distinct (global_names s) && declarations_fine (types_of s) (global_names s) [] s && source_within limits s
 
 abbrev pub WellFormed : SourceTree → Type 0
 WellFormed s = IsTrue (well_formed s)

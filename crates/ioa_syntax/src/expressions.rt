@@ -2,7 +2,6 @@
 
 ghost use Rattle.std.specs.Prelude.{◌≡◌, ◌≤◌, ◌<◌, ◌+◌, IfOk};
 ghost use Rattle.ioa_lex.specs.Tokens.{tokens_shown};
-ghost use Rattle.ioa_syntax.specs.Grammar as grammar;
 ghost use Rattle.ioa_syntax.specs.Reading as spec;
 ghost use Rattle.ioa_syntax.specs.Reading.{Reads};
 ghost use Rattle.ioa_syntax.specs.View.{expr_of};
@@ -10,60 +9,21 @@ ghost use Rattle.ioa_syntax.specs.View.{expr_of};
 use crate::cursor::Cursor;
 use crate::fault::{Fault, ReadError};
 use crate::measured::Measured;
-use crate::tree::{Expression, Operator};
+use crate::operators::{TIGHTEST, after_of, level_of, operator_of, right_of};
+use crate::tree::Expression;
 use ioa_lex::{Kind, Terminal, Token};
+use ioa_value::Op;
 
 /// How deep an expression may be.
 pub(crate) const MAX_DEPTH: u32 = 64;
 
-fn level(operator: Operator) -> u32
-    ensures { result ≡ grammar.level_of operator }
-{
-    match operator {
-        Operator::Equal => 4,
-        Operator::Plus | Operator::Minus => 5,
-    }
-}
-
-/// The least level of its right operand.
-fn right(operator: Operator) -> u32
-    ensures { result ≡ grammar.right_of operator }
-{
-    match operator {
-        Operator::Equal => 5,
-        Operator::Plus | Operator::Minus => 6,
-    }
-}
-
-/// The operators below this level may follow its right operand.
-fn after(operator: Operator) -> u32
-    ensures { result ≡ spec.after_of operator }
-{
-    match operator {
-        Operator::Equal => 4,
-        Operator::Plus | Operator::Minus => 6,
-    }
-}
-
-#[tactic(auto, unfolding(crate::specs::Reading::operator_of))]
-fn operator_of(terminal: Terminal) -> Option<Operator>
-    ensures { result ≡ spec.operator_of terminal }
-{
-    match terminal {
-        Terminal::Equal => Some(Operator::Equal),
-        Terminal::Plus => Some(Operator::Plus),
-        Terminal::Minus => Some(Operator::Minus),
-        _ => None,
-    }
-}
-
 /// The operator that comes next, if its level is from `least` on and below `below`.
 #[tactic(auto, unfolding(crate::specs::Reading::operator_at))]
-fn operator_at(cursor: &Cursor<'_>, least: u32, below: u32) -> Option<Operator>
+fn operator_at(cursor: &Cursor<'_>, least: u32, below: u32) -> Option<Op>
     ensures { result ≡ spec.operator_at least below (tokens_shown cursor.now) }
 {
     let operator = operator_of(cursor.terminal()?)?;
-    if least <= level(operator) && level(operator) < below {
+    if least <= level_of(operator) && level_of(operator) < below {
         Some(operator)
     } else {
         None
@@ -140,11 +100,11 @@ fn climb(
 ) -> Result<Measured, ReadError>
     requires small { depth < 999 }
     requires within { first.depth ≤ depth + 1 }
-    ensures read { Reads (λ m. expr_of m.expression) (spec.climb depth (spec.expr depth) depth least 10 (expr_of first.expression) (tokens_shown cursor.old)) result (tokens_shown cursor.new) }
+    ensures read { Reads (λ m. expr_of m.expression) (spec.climb depth (spec.expr depth) depth least TIGHTEST (expr_of first.expression) (tokens_shown cursor.old)) result (tokens_shown cursor.new) }
     ensures within { IfOk result (λ m. m.depth ≤ depth + 1) }
 {
     let mut left = first;
-    let mut below = 10;
+    let mut below = TIGHTEST;
     for _turn in 0..depth {
         let Some(operator) = operator_at(cursor, least, below) else {
             return Ok(left);
@@ -153,9 +113,9 @@ fn climb(
             return Err(ReadError::Fault(Fault::TooDeep));
         }
         cursor.skip();
-        let operand = expression(cursor, depth, right(operator))?;
+        let operand = expression(cursor, depth, right_of(operator))?;
         left = left.binary(cursor.alloc(), operator, operand)?;
-        below = after(operator);
+        below = after_of(operator);
     }
     match operator_at(cursor, least, below) {
         None => Ok(left),

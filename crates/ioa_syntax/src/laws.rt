@@ -4,7 +4,7 @@ ghost use Rattle.std.specs.Prelude.{◌≡◌, List};
 ghost use Rattle.ioa_lex.specs.Tokens.{Tok};
 ghost use Rattle.ioa_syntax.specs.Tree.{SourceTree};
 ghost use Rattle.ioa_syntax.specs.Grammar.{SpellsSource};
-ghost use Rattle.ioa_syntax.specs.Answers.{ExpressionsAnswer, EffectsAnswer};
+ghost use Rattle.ioa_syntax.specs.Answers.{ExpressionsAnswer, EffectsAnswer, StartsAnswer, ArgumentsAnswer};
 
 /// Tokens spell one source at most, of any depth.
 pub fn one_tree()
@@ -16,4 +16,11 @@ pub fn one_tree()
 pub fn well_typed_answers()
     ensures expressions { ExpressionsAnswer }
     ensures effects { EffectsAnswer }
+{}
+
+/// Variables of a well formed automaton start with a value of their type or a fault, and arguments of a well formed
+/// component are one: never nothing.
+pub fn well_formed_starts()
+    ensures variables { StartsAnswer }
+    ensures arguments { ArgumentsAnswer }
 {}

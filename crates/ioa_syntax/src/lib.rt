@@ -8,6 +8,7 @@ mod expressions;
 mod fault;
 mod laws;
 mod measured;
+mod operators;
 mod parsing;
 mod printing;
 mod sameness;
@@ -19,11 +20,11 @@ mod transitions;
 mod tree;
 
 pub use ioa_lex::Refusal;
-pub use laws::{one_tree, well_typed_answers};
+pub use laws::{one_tree, well_formed_starts, well_typed_answers};
 pub use parsing::parse;
 pub use printing::print;
 pub use source::Source;
 pub use tree::{
-    Assembly, Automaton, Declaration, Entry, Expression, Field, Instance, Kind, Name, Operator,
-    Position, Proposal, Statement, Transition, Variable,
+    Assembly, Automaton, Declaration, Entry, Expression, Field, Instance, Kind, Name, Position,
+    Proposal, Statement, Transition, Variable,
 };

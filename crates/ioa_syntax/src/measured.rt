@@ -6,7 +6,8 @@ ghost use Rattle.ioa_syntax.specs.Tree.{truth, named, parens, binary};
 ghost use Rattle.ioa_syntax.specs.Depth.{depth_of};
 ghost use Rattle.ioa_syntax.specs.View.{expr_of, name_of};
 
-use crate::tree::{Expression, Name, Operator};
+use crate::tree::{Expression, Name};
+use ioa_value::Op;
 use std::alloc::{AllocError, Global};
 
 /// An expression with its depth.
@@ -60,7 +61,7 @@ impl Measured {
     pub fn binary(
         self,
         alloc: Global,
-        operator: Operator,
+        operator: Op,
         right: Measured,
     ) -> Result<Measured, AllocError>
         requires left { self.depth < 1000 }

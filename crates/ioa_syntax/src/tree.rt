@@ -1,16 +1,10 @@
+use ioa_value::Op;
+
 /// A name as it stands in a source, with its line (from 1).
 #[derive(Drop)]
 pub struct Name {
     pub text: String,
     pub line: u32,
-}
-
-/// An operator between two expressions.
-#[derive(Clone, Copy, PartialEq, Eq, Debug)]
-pub enum Operator {
-    Equal,
-    Plus,
-    Minus,
 }
 
 /// An expression. Each form that can begin an expression keeps the line of its first token.
@@ -20,7 +14,7 @@ pub enum Expression {
     Truth(bool, u32),
     Name(Name),
     Parentheses(Box<Expression>, u32),
-    Binary(Box<Expression>, Operator, Box<Expression>),
+    Binary(Box<Expression>, Op, Box<Expression>),
 }
 
 /// A name and the name of its type: a formal parameter, a variable or a parameter of an entry.

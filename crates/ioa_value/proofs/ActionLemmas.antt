@@ -1,7 +1,7 @@
 -- An action's text begins with its name.
 use Rattle.std.proofs.Common.{◌≡◌, ℕ, List, [], ◌∷◌, Option, Some, None, Result, Ok, Err, IfOk, IfNone, refl, sym, ap, subst, ◌∙◌}
 use Rattle.ioa_value.specs.Plain.{Val}
-use Rattle.ioa_value.specs.Typing.{Shape}
+use Rattle.ioa_value.specs.Table.{Table}
 use Rattle.ioa_value.specs.Actions.{Act}
 use Rattle.ioa_value.specs.Names.{IsName}
 use Rattle.ioa_value.specs.Reads.{Padded, Reads, ReadsValues, ReadsArguments}
@@ -9,16 +9,16 @@ use Rattle.ioa_value.specs.Tokens.{first_word, after_first}
 use Rattle.ioa_value.proofs.TokenLemmas.{IsEnd, finds_word, finds_rest, front}
 use Rattle.ioa_value.proofs.SpellLemmas.{name_is_word}
 
-ends : (types : List Shape) (rest : List ℕ) (vs : List Val) → ReadsArguments types rest vs → IsEnd rest
+ends : (types : Table) (rest : List ℕ) (vs : List Val) → ReadsArguments types rest vs → IsEnd rest
 ends types rest [] e = subst IsEnd (sym e) (record { no_blank = refl; no_word = refl; stays = refl })
 ends types rest (v ∷ vs) (inner, r, e) = subst IsEnd (sym e) (record { no_blank = refl; no_word = refl; stays = refl })
 
-pub record Named (types : List Shape) (text : List ℕ) (a : Act) : Type 0 where
+pub record Named (types : Table) (text : List ℕ) (a : Act) : Type 0 where
   pub legal : IsName a.name
   pub name : first_word text ≡ a.name
   pub arguments : ReadsArguments types (after_first text) a.vals
 
-pub named : (types : List Shape) (text : List ℕ) (a : Act) → Reads types text a → Named types text a
+pub named : (types : Table) (text : List ℕ) (a : Act) → Reads types text a → Named types text a
 unfolding Reads
 named types text a (n, (first, rest, p, r, e)) =
     let h = name_is_word a.name n in
@@ -29,14 +29,14 @@ named types text a (n, (first, rest, p, r, e)) =
       arguments = subst (λ x. ReadsArguments types x a.vals) (sym (ap after_first e ∙ finds_rest a.name first rest h p end)) r;
     }
 
-pub reads : (types : List Shape) (text : List ℕ) (a : Act) → IsName a.name → first_word text ≡ a.name → ReadsArguments types (after_first text) a.vals → Reads types text a
+pub reads : (types : Table) (text : List ℕ) (a : Act) → IsName a.name → first_word text ≡ a.name → ReadsArguments types (after_first text) a.vals → Reads types text a
 unfolding Reads
 reads types text a n e r =
     let f = front text in
     (n, (f.0, after_first text, subst (λ w. Padded w f.0) e f.1, r, f.2))
 
 -- what follows a `(` is all that arguments can be
-pub inner : (types : List Shape) (rest : List ℕ) (vs : List Val) → ReadsArguments types (40 ∷ rest) vs → ReadsValues types rest vs
+pub inner : (types : Table) (rest : List ℕ) (vs : List Val) → ReadsArguments types (40 ∷ rest) vs → ReadsValues types rest vs
 inner types rest [] e = absurd (cc)
 inner types rest (v ∷ vs) (more, r, e) =
     let k : more ≡ rest = cc in

@@ -1,6 +1,7 @@
 pub mod PlainLemmas
 pub mod SameLemmas
-pub mod TestLemmas
+pub mod TableLemmas
+pub mod FirstLemmas
 pub mod NumberLemmas
 pub mod TokenLemmas
 pub mod SpellLemmas
@@ -11,3 +12,5 @@ pub mod ListLemmas
 pub mod OnceLemmas
 pub mod ListOnceLemmas
 pub mod ItemLemmas
+pub mod PlaceLemmas
+pub mod TypingLemmas

@@ -4,7 +4,7 @@ use Rattle.std.specs.List.{onto_first}
 use Rattle.std.proofs.lemmas.List.Elements.{All-nil, All-cons}
 use Rattle.std.proofs.lemmas.Bool.{false≢true}
 use Rattle.std.proofs.lemmas.Bool.Decides.{nat_tests}
-use Rattle.ioa_value.specs.Typing.{Shape}
+use Rattle.ioa_value.specs.Table.{Table}
 use Rattle.ioa_value.specs.Actions.{Act}
 use Rattle.ioa_value.specs.Reads.{Reads}
 use Rattle.ioa_value.specs.Lists.{lines, is_skipped, ReadsLines, ReadsList, IsLine, BadLine, first_line, after_line}
@@ -39,27 +39,27 @@ cut_lines [] h = absurd (omega arith)
 cut_lines (b ∷ bs) h = cut b bs
 
 -- the lines up to a place have been read
-pub record ReadTo (types : List Shape) (text : List ℕ) (count : ℕ) (acts : List Act) (rest : List ℕ) : Type 0 where
+pub record ReadTo (types : Table) (text : List ℕ) (count : ℕ) (acts : List Act) (rest : List ℕ) : Type 0 where
   pub before : List (List ℕ)
   pub whole : lines text ≡ before ++ lines rest
   pub counted : length before ≡ count
   pub read : ReadsLines types before acts
 
-pub nothing_read : (types : List Shape) (text : List ℕ) → ReadTo types text 0 [] text
+pub nothing_read : (types : Table) (text : List ℕ) → ReadTo types text 0 [] text
 nothing_read types text = record { before = []; whole = refl; counted = refl; read = refl }
 
-one_more : (types : List Shape) (ls ks : List (List ℕ)) (xs ys : List Act) → ReadsLines types ls xs → ReadsLines types ks ys → ReadsLines types (ls ++ ks) (xs ++ ys)
+one_more : (types : Table) (ls ks : List (List ℕ)) (xs ys : List Act) → ReadsLines types ls xs → ReadsLines types ks ys → ReadsLines types (ls ++ ks) (xs ++ ys)
 one_more types [] ks xs ys e r = subst (λ zs. ReadsLines types ks (zs ++ ys)) (sym e) r
 one_more types (l ∷ ls) ks xs ys (inl h) r = inl (h.0, one_more types ls ks xs ys h.1 r)
 one_more types (l ∷ ls) ks xs ys (inr (a, more, h, m, e)) r =
     inr (a, more ++ ys, h, one_more types ls ks more ys m r, ap (λ zs. zs ++ ys) e)
 
-pub good : (types : List Shape) (ls : List (List ℕ)) (acts : List Act) → ReadsLines types ls acts → All (IsLine types) ls
+pub good : (types : Table) (ls : List (List ℕ)) (acts : List Act) → ReadsLines types ls acts → All (IsLine types) ls
 good types [] acts r = All-nil (IsLine types)
 good types (l ∷ ls) acts (inl h) = All-cons (IsLine types) l ls (inl h.0) (good types ls acts h.1)
 good types (l ∷ ls) acts (inr (a, more, h, m, e)) = All-cons (IsLine types) l ls (inr (a, h)) (good types ls more m)
 
-module _ (types : List Shape) (text : List ℕ) (count : ℕ) (acts : List Act) (rest : List ℕ) where
+module _ (types : Table) (text : List ℕ) (count : ℕ) (acts : List Act) (rest : List ℕ) where
   next : ReadTo types text count acts rest → 0 < length rest → (more : List Act) → ReadsLines types (first_line rest ∷ []) more → ReadTo types text (count + 1) (acts ++ more) (after_line rest)
   next h long more r =
       let line = first_line rest in

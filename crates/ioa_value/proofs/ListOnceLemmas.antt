@@ -4,7 +4,7 @@ use Rattle.std.specs.List.{list_all}
 use Rattle.std.proofs.lemmas.Bool.{false≢true}
 use Rattle.std.proofs.lemmas.Bool.Decides.{nat_tests}
 use Rattle.std.proofs.lemmas.List.Elements.{All-head, All-tail, All-same}
-use Rattle.ioa_value.specs.Typing.{Shape}
+use Rattle.ioa_value.specs.Table.{Table}
 use Rattle.ioa_value.specs.Actions.{Act}
 use Rattle.ioa_value.specs.Names.{begins_with_letter}
 use Rattle.ioa_value.specs.Reads.{is_blank, Reads}
@@ -16,7 +16,7 @@ use Rattle.ioa_value.proofs.ActionLemmas.{named}
 use Rattle.ioa_value.proofs.OnceLemmas.{reads_once}
 use Rattle.ioa_value.proofs.ListLemmas.{good}
 
-blank_unread : (types : List Shape) (l : List ℕ) (a : Act) → list_all is_blank l ≡ true → Reads types l a → ⊥
+blank_unread : (types : Table) (l : List ℕ) (a : Act) → list_all is_blank l ≡ true → Reads types l a → ⊥
 blank_unread types l a b r =
     let n = named types l a r in
     let none : first_word l ≡ [] = ap word (ap after_blanks (sym (append-nil l)) ∙ skip l [] b) in
@@ -26,7 +26,7 @@ blank_unread types l a b r =
 percent : (b : ℕ) → (b == 37) ≡ true → b ≡ 37
 percent b e = grind (arith, nat_tests)
 
-comment_unread : (types : List Shape) (l : List ℕ) (a : Act) → begins_comment l ≡ true → Reads types l a → ⊥
+comment_unread : (types : Table) (l : List ℕ) (a : Act) → begins_comment l ≡ true → Reads types l a → ⊥
 comment_unread types [] a c r = false≢true c
 comment_unread types (b ∷ bs) a c r =
     let n = named types (b ∷ bs) a r in
@@ -38,14 +38,14 @@ either : (b c : Bool) → b || c ≡ true → (b ≡ true) ⊎ (c ≡ true)
 either true c e = inl refl
 either false c e = inr e
 
-pub unread : (types : List Shape) (l : List ℕ) (a : Act) → is_skipped l ≡ true → Reads types l a → ⊥
+pub unread : (types : Table) (l : List ℕ) (a : Act) → is_skipped l ≡ true → Reads types l a → ⊥
 unread types l a s r = by_case (either (list_all is_blank l) (begins_comment l) s)
   where
     by_case : (list_all is_blank l ≡ true) ⊎ (begins_comment l ≡ true) → ⊥
     by_case (inl b) = blank_unread types l a b r
     by_case (inr c) = comment_unread types l a c r
 
-pub lines_once : (types : List Shape) (ls : List (List ℕ)) (xs ys : List Act) → ReadsLines types ls xs → ReadsLines types ls ys → xs ≡ ys
+pub lines_once : (types : Table) (ls : List (List ℕ)) (xs ys : List Act) → ReadsLines types ls xs → ReadsLines types ls ys → xs ≡ ys
 lines_once types [] xs ys r s = r ∙ sym s
 lines_once types (l ∷ ls) xs ys (inl r) (inl s) = lines_once types ls xs ys r.1 s.1
 lines_once types (l ∷ ls) xs ys (inl r) (inr (b, more, h, m, e)) = absurd (unread types l b r.0 h)
@@ -53,15 +53,15 @@ lines_once types (l ∷ ls) xs ys (inr (a, more, h, m, e)) (inl s) = absurd (unr
 lines_once types (l ∷ ls) xs ys (inr (a, more, h, m, e)) (inr (b, rest, k, n, f)) =
     e ∙ ap₂ (λ z zs. z ∷ zs) (reads_once types l a b h k) (lines_once types ls more rest m n) ∙ sym f
 
-within : (types : List Shape) (before after : List (List ℕ)) (l : List ℕ) → All (IsLine types) (before ++ l ∷ after) → IsLine types l
+within : (types : Table) (before after : List (List ℕ)) (l : List ℕ) → All (IsLine types) (before ++ l ∷ after) → IsLine types l
 within types [] after l h = All-head (IsLine types) l after h
 within types (k ∷ before) after l h = within types before after l (All-tail (IsLine types) k (before ++ l ∷ after) h)
 
-pub no_bad_line : (types : List Shape) (text : List ℕ) (acts : List Act) (n : ℕ) → ReadsList types text acts → BadLine types text n → ⊥
+pub no_bad_line : (types : Table) (text : List ℕ) (acts : List Act) (n : ℕ) → ReadsList types text acts → BadLine types text n → ⊥
 no_bad_line types text acts n r (before, bad, after, h, none, whole, e) =
     none (within types before after bad (All-same (IsLine types) (before ++ bad ∷ after) (lines text) (sym whole) (good types (lines text) acts r)))
 
-one_place : (types : List Shape) (bs cs ds es : List (List ℕ)) (b c : List ℕ) → All (IsLine types) bs → All (IsLine types) cs → (IsLine types b → ⊥) → (IsLine types c → ⊥) → bs ++ b ∷ ds ≡ cs ++ c ∷ es → length bs ≡ length cs
+one_place : (types : Table) (bs cs ds es : List (List ℕ)) (b c : List ℕ) → All (IsLine types) bs → All (IsLine types) cs → (IsLine types b → ⊥) → (IsLine types c → ⊥) → bs ++ b ∷ ds ≡ cs ++ c ∷ es → length bs ≡ length cs
 one_place types [] [] ds es b c g h m n e = refl
 one_place types [] (y ∷ cs) ds es b c g h m n e =
     let k : b ≡ y = cc in
@@ -73,6 +73,6 @@ one_place types (x ∷ bs) (y ∷ cs) ds es b c g h m n e =
     let k : bs ++ b ∷ ds ≡ cs ++ c ∷ es = cc in
     ap suc (one_place types bs cs ds es b c (All-tail (IsLine types) x bs g) (All-tail (IsLine types) y cs h) m n k)
 
-pub one_bad_line : (types : List Shape) (text : List ℕ) (m n : ℕ) → BadLine types text m → BadLine types text n → m ≡ n
+pub one_bad_line : (types : Table) (text : List ℕ) (m n : ℕ) → BadLine types text m → BadLine types text n → m ≡ n
 one_bad_line types text m n (bs, b, ds, g, p, e, i) (cs, c, es, h, q, f, j) =
     i ∙ ap (λ k. k + 1) (one_place types bs cs ds es b c g h p q (sym e ∙ f)) ∙ sym j

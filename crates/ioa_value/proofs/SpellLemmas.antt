@@ -7,6 +7,7 @@ use Rattle.std.proofs.lemmas.Str.{IsUtf8-from_ascii}
 use Rattle.std.proofs.lemmas.Str.Ascii.{IsAscii-nil, IsAscii-cons}
 use Rattle.std.proofs.lemmas.Bool.Decides.{nat_tests}
 use Rattle.ioa_value.specs.Plain.{Val, truth, num, name, tuple, items}
+use Rattle.ioa_value.specs.Table.{Table}
 use Rattle.ioa_value.specs.Names.{IsName, is_name, is_reserved, is_word_byte, begins_with_letter}
 use Rattle.ioa_value.specs.Reads.{Spells, SpellsNumber}
 use Rattle.ioa_value.specs.Tokens.{is_inside}
@@ -26,13 +27,13 @@ number_is_word : (w : List ℕ) (z : ℤ) → SpellsNumber w z → IsWord w
 number_is_word w z (ds, n, inl q) = subst IsWord (sym q.0) (record { long = n.0; inside = digits_inside ds n.1 })
 number_is_word w z (ds, n, inr q) = subst IsWord (sym q.0) (record { long = omega arith; inside = digits_inside ds n.1 })
 
-pub spelled_is_word : (w : List ℕ) (v : Val) → Spells w v → IsWord w
-spelled_is_word w (truth true) e = subst IsWord (sym e) (record { long = omega arith; inside = refl })
-spelled_is_word w (truth false) e = subst IsWord (sym e) (record { long = omega arith; inside = refl })
-spelled_is_word w (num z) s = number_is_word w z s
-spelled_is_word w (name own n) s = absurd s
-spelled_is_word w (tuple own vs) s = absurd s
-spelled_is_word w (items own vs) s = absurd s
+pub spelled_is_word : (types : Table) (w : List ℕ) (v : Val) → Spells types w v → IsWord w
+spelled_is_word types w (truth true) e = subst IsWord (sym e) (record { long = omega arith; inside = refl })
+spelled_is_word types w (truth false) e = subst IsWord (sym e) (record { long = omega arith; inside = refl })
+spelled_is_word types w (num z) s = number_is_word w z s
+spelled_is_word types w (name own n) s = absurd s
+spelled_is_word types w (tuple own vs) s = absurd s
+spelled_is_word types w (items own vs) s = absurd s
 
 word_byte_inside : (c : ℕ) → is_word_byte c ≡ true → is_inside c ≡ true
 word_byte_inside c h = grind (arith, nat_tests)
@@ -89,25 +90,25 @@ starts_with_t w z (ds, n, inr q) c cs e h =
     let k' : 45 ≡ c = cc in
     omega arith
 
-pub spells_once : (w : List ℕ) (u v : Val) → Spells w u → Spells w v → u ≡ v
-spells_once w (truth true) (truth true) s t = refl
-spells_once w (truth true) (truth false) s t = let e : codes "true" ≡ codes "false" = sym s ∙ t in absurd (cc)
-spells_once w (truth true) (num z) s t = absurd (starts_with_t w z t _ _ s (omega arith))
-spells_once w (truth false) (truth true) s t = let e : codes "true" ≡ codes "false" = sym t ∙ s in absurd (cc)
-spells_once w (truth false) (truth false) s t = refl
-spells_once w (truth false) (num z) s t = absurd (starts_with_t w z t _ _ s (omega arith))
-spells_once w (num y) (truth true) s t = absurd (starts_with_t w y s _ _ t (omega arith))
-spells_once w (num y) (truth false) s t = absurd (starts_with_t w y s _ _ t (omega arith))
-spells_once w (num y) (num z) s t = ap num (number_once w y z s t)
-spells_once w (name own n) v s t = absurd s
-spells_once w (tuple own vs) v s t = absurd s
-spells_once w (items own vs) v s t = absurd s
-spells_once w (truth b) (name own n) s t = absurd t
-spells_once w (truth b) (tuple own vs) s t = absurd t
-spells_once w (truth b) (items own vs) s t = absurd t
-spells_once w (num y) (name own n) s t = absurd t
-spells_once w (num y) (tuple own vs) s t = absurd t
-spells_once w (num y) (items own vs) s t = absurd t
+pub spells_once : (types : Table) (w : List ℕ) (u v : Val) → Spells types w u → Spells types w v → u ≡ v
+spells_once types w (truth true) (truth true) s t = refl
+spells_once types w (truth true) (truth false) s t = let e : codes "true" ≡ codes "false" = sym s ∙ t in absurd (cc)
+spells_once types w (truth true) (num z) s t = absurd (starts_with_t w z t _ _ s (omega arith))
+spells_once types w (truth false) (truth true) s t = let e : codes "true" ≡ codes "false" = sym t ∙ s in absurd (cc)
+spells_once types w (truth false) (truth false) s t = refl
+spells_once types w (truth false) (num z) s t = absurd (starts_with_t w z t _ _ s (omega arith))
+spells_once types w (num y) (truth true) s t = absurd (starts_with_t w y s _ _ t (omega arith))
+spells_once types w (num y) (truth false) s t = absurd (starts_with_t w y s _ _ t (omega arith))
+spells_once types w (num y) (num z) s t = ap num (number_once w y z s t)
+spells_once types w (name own n) v s t = absurd s
+spells_once types w (tuple own vs) v s t = absurd s
+spells_once types w (items own vs) v s t = absurd s
+spells_once types w (truth b) (name own n) s t = absurd t
+spells_once types w (truth b) (tuple own vs) s t = absurd t
+spells_once types w (truth b) (items own vs) s t = absurd t
+spells_once types w (num y) (name own n) s t = absurd t
+spells_once types w (num y) (tuple own vs) s t = absurd t
+spells_once types w (num y) (items own vs) s t = absurd t
 
 word_byte_ascii : (c : ℕ) → is_word_byte c ≡ true → c < 128
 word_byte_ascii c h = grind (arith, nat_tests)

@@ -3,19 +3,20 @@ use Rattle.std.proofs.Common.{◌≡◌, ℕ, ◌+◌, ◌<◌, List, [], ◌∷
 use Rattle.std.proofs.lemmas.List.{map-append, take_more}
 use Rattle.ioa_value.specs.declared.value.Value.{Value}
 use Rattle.ioa_value.specs.Plain.{Val, plain}
+use Rattle.ioa_value.specs.Table.{Table}
 use Rattle.ioa_value.specs.Written.{written_value, written_after}
 
-after_push : (vs : List Val) (v : Val) → written_after (vs ++ v ∷ []) ≡ written_after vs ++ (codes ", " ++ written_value v)
-after_push [] v = ap (λ l. codes ", " ++ l) (append-nil (written_value v))
-after_push (u ∷ vs) v =
-    let r = after_push vs v in
-    ap (λ l. codes ", " ++ (written_value u ++ l)) r ∙ sym (ap (λ l. codes ", " ++ l) (append_assoc (written_value u) (written_after vs) (codes ", " ++ written_value v)))
+after_push : (types : Table) (vs : List Val) (v : Val) → written_after types (vs ++ v ∷ []) ≡ written_after types vs ++ (codes ", " ++ written_value types v)
+after_push types [] v = ap (λ l. codes ", " ++ l) (append-nil (written_value types v))
+after_push types (u ∷ vs) v =
+    let r = after_push types vs v in
+    ap (λ l. codes ", " ++ (written_value types u ++ l)) r ∙ sym (ap (λ l. codes ", " ++ l) (append_assoc (written_value types u) (written_after types vs) (codes ", " ++ written_value types v)))
 
 -- one more value
-pub after_more : (xs : List Value) (i : ℕ) (x : Value) → i < length xs → x ≡ get_or xs i x → written_after (map plain (take (i + 1) xs)) ≡ written_after (map plain (take i xs)) ++ (codes ", " ++ written_value (plain x))
-after_more xs i x h e =
-    ap (λ l. written_after (map plain l)) (take_more xs i x h ∙ ap (λ y. take i xs ++ y ∷ []) (sym e))
-    ∙ ap written_after (map-append plain (take i xs) (x ∷ [])) ∙ after_push (map plain (take i xs)) (plain x)
+pub after_more : (types : Table) (xs : List Value) (i : ℕ) (x : Value) → i < length xs → x ≡ get_or xs i x → written_after types (map plain (take (i + 1) xs)) ≡ written_after types (map plain (take i xs)) ++ (codes ", " ++ written_value types (plain x))
+after_more types xs i x h e =
+    ap (λ l. written_after types (map plain l)) (take_more xs i x h ∙ ap (λ y. take i xs ++ y ∷ []) (sym e))
+    ∙ ap (written_after types) (map-append plain (take i xs) (x ∷ [])) ∙ after_push types (map plain (take i xs)) (plain x)
 
 pub extended : (s w w' sep v t0 t1 t2 : List ℕ) → t0 ≡ s ++ w → t1 ≡ t0 ++ sep → t2 ≡ t1 ++ v → w' ≡ w ++ (sep ++ v) → t2 ≡ s ++ w'
 extended s w w' sep v t0 t1 t2 a b c d =

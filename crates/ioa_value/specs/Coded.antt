@@ -1,7 +1,8 @@
 -- Values as plain data in a row, so that models can hold values: each value as its parts in prefix order.
-use Rattle.std.specs.Prelude.{◌≡◌, ◌⊎◌, ℕ, ℤ, Bool, false, List, [], ◌∷◌}
+use Rattle.std.specs.Prelude.{◌≡◌, ◌⊎◌, ℕ, ℤ, Bool, true, false, List, [], ◌∷◌}
 use Rattle.std.specs.Coded.{Coded, code_by, coded×, coded⊎, coded_ℕ, coded_ℤ, coded_bool, coded_list}
 use Rattle.ioa_value.specs.Plain.{Val, Vals, truth, num, name, tuple, items, none, more}
+use Rattle.ioa_value.specs.Table.{TupleField, Shape, truths, numbers, names, fields, sequence, Declaration, Table}
 use base.Stored.{coded_unit}
 use mathlib.Core.Logic.{inl, inr}
 use mathlib.Core.Path.{refl, ap, ◌∙◌}
@@ -82,3 +83,43 @@ coded_val = code_by (List Part) (coded_list coded_part) parts_of value_of value_
 -- the code of values in a list
 abbrev pub coded_vals : Coded (List Val)
 coded_vals = coded_list coded_val
+
+-- the code of a declaration, and of a table of them
+abbrev pub coded_tuple_field : Coded TupleField
+coded_tuple_field =
+    code_by (List ℕ × ℕ) (coded× (coded_list coded_ℕ) coded_ℕ) (λ e. (e.name, e.ty)) (λ p. record { name = p.0; ty = p.1 }) (λ _. refl)
+
+abbrev pub Form : Type 0
+Form = Bool ⊎ (List (List ℕ) ⊎ (List TupleField ⊎ (ℕ × ℕ)))
+
+abbrev pub form_of : Shape → Form
+form_of truths = inl true
+form_of numbers = inl false
+form_of (names ns) = inr (inl ns)
+form_of (fields fs) = inr (inr (inl fs))
+form_of (sequence most of) = inr (inr (inr (most, of)))
+
+abbrev pub shape_from : Form → Shape
+shape_from (inl true) = truths
+shape_from (inl false) = numbers
+shape_from (inr (inl ns)) = names ns
+shape_from (inr (inr (inl fs))) = fields fs
+shape_from (inr (inr (inr p))) = sequence p.0 p.1
+
+pub shape_from-form_of : (s : Shape) → shape_from (form_of s) ≡ s
+shape_from-form_of truths = refl
+shape_from-form_of numbers = refl
+shape_from-form_of (names ns) = refl
+shape_from-form_of (fields fs) = refl
+shape_from-form_of (sequence most of) = refl
+
+abbrev pub coded_shape : Coded Shape
+coded_shape =
+    code_by Form (coded⊎ coded_bool (coded⊎ (coded_list (coded_list coded_ℕ)) (coded⊎ (coded_list coded_tuple_field) (coded× coded_ℕ coded_ℕ)))) form_of shape_from shape_from-form_of
+
+abbrev pub coded_declaration : Coded Declaration
+coded_declaration =
+    code_by (List ℕ × Shape) (coded× (coded_list coded_ℕ) coded_shape) (λ d. (d.name, d.shape)) (λ p. record { name = p.0; shape = p.1 }) (λ _. refl)
+
+abbrev pub coded_table : Coded Table
+coded_table = coded_list coded_declaration

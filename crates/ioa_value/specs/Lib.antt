@@ -1,11 +1,11 @@
 pub mod Arithmetic
 pub mod Plain
-pub mod Typing
+pub mod Table
 pub mod Shapes
+pub mod Typing
 pub mod Operators
 pub mod Actions
 pub mod Coded
-pub mod Tests
 pub mod Names
 pub mod Written
 pub mod Reads

@@ -6,7 +6,8 @@ use Rattle.ioa_value.specs.declared.operator.Op.TheVariants.{Add, Sub, Eq}
 use Rattle.ioa_value.specs.declared.value.Value.{Value}
 use Rattle.ioa_value.specs.Arithmetic.{tested}
 use Rattle.ioa_value.specs.Plain.{Val, Vals, truth, num, name, tuple, items, none, more, plain}
-use Rattle.ioa_value.specs.Typing.{own}
+use Rattle.ioa_value.specs.Table.{Table}
+use Rattle.ioa_value.specs.Typing.{HasType, own}
 
 -- a value, a fault, or nothing, where the operands are not the operator's
 pub data Answer : Type 0 where
@@ -57,14 +58,16 @@ compared (x ∷ y ∷ []) = if own x == own y then gives (truth (same x y)) else
 compared _ = nothing
 
 -- the operator's value or fault, of the operands in order
-abbrev pub operate : Op → List Val → Answer
-operate Add vs = on_numbers (λ x y. of_number (tested (x +ℤ y))) vs
-operate Sub vs = on_numbers (λ x y. of_number (tested (x -ℤ y))) vs
-operate Eq vs = compared vs
+abbrev pub operate : Table → Op → List Val → Answer
+operate types Add vs = on_numbers (λ x y. of_number (tested (x +ℤ y))) vs
+operate types Sub vs = on_numbers (λ x y. of_number (tested (x -ℤ y))) vs
+operate types Eq vs = compared vs
 
--- how many operands the operator takes: each of these takes two
-abbrev pub arity : Op → ℕ
-arity _ = 2
+-- how many operands the operator takes
+abbrev pub arity : Table → Op → ℕ
+arity types Add = 2
+arity types Sub = 2
+arity types Eq = 2
 
 abbrev pub of_numbers : ℕ → List ℕ → Option ℕ
 of_numbers ty (a ∷ b ∷ []) = if (a == 1) && (b == 1) then Some ty else None
@@ -75,13 +78,19 @@ of_alike ty (a ∷ b ∷ []) = if a == b then Some ty else None
 of_alike ty _ = None
 
 -- the type of what the operator gives, where it takes operands of these types
-abbrev pub op_type : Op → List ℕ → Option ℕ
-op_type Add tys = of_numbers 1 tys
-op_type Sub tys = of_numbers 1 tys
-op_type Eq tys = of_alike 0 tys
+abbrev pub op_type : Table → Op → List ℕ → Option ℕ
+op_type types Add tys = of_numbers 1 tys
+op_type types Sub tys = of_numbers 1 tys
+op_type types Eq tys = of_alike 0 tys
 
 -- the operands are the operator's
-abbrev pub Takes : Op → List Val → Type 0
-Takes Add vs = (x : ℤ) × (y : ℤ) × (vs ≡ num x ∷ num y ∷ [])
-Takes Sub vs = (x : ℤ) × (y : ℤ) × (vs ≡ num x ∷ num y ∷ [])
-Takes Eq vs = (x : Val) × (y : Val) × (own x ≡ own y) × (vs ≡ x ∷ y ∷ [])
+abbrev pub Takes : Table → Op → List Val → Type 0
+Takes types Add vs = (x : ℤ) × (y : ℤ) × (vs ≡ num x ∷ num y ∷ [])
+Takes types Sub vs = (x : ℤ) × (y : ℤ) × (vs ≡ num x ∷ num y ∷ [])
+Takes types Eq vs = (x : Val) × (y : Val) × (own x ≡ own y) × (vs ≡ x ∷ y ∷ [])
+
+-- a value of the type, or a fault
+abbrev pub IsTypedAnswer : Table → ℕ → Answer → Type 0
+IsTypedAnswer types ty (gives v) = HasType types v ty
+IsTypedAnswer types ty (faults f) = Unit {0}
+IsTypedAnswer types ty nothing = ⊥

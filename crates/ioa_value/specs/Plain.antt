@@ -1,5 +1,6 @@
 -- Values without the memory that holds them: what definitions and contracts speak of.
-use Rattle.std.specs.Prelude.{ℕ, ℤ, Bool, List, [], ◌∷◌}
+use Rattle.std.specs.Prelude.{ℕ, suc, ℤ, Bool, List, [], ◌∷◌}
+use Rattle.ioa_value.specs.declared.value.Ty.{Ty}
 use Rattle.ioa_value.specs.declared.value.Value.{Value, Tuple', Items', Row_of-Value, end_of-Value, more_of-Value}
 use Rattle.ioa_value.specs.declared.value.Value.TheVariants.{Truth, Num, Name}
 
@@ -15,6 +16,15 @@ mutual
   pub data Vals : Type 0 where
     none : Vals
     more : Val → Vals → Vals
+
+-- a type's number
+abbrev pub number : Ty → ℕ
+number ty = ty.0
+
+-- how many values there are
+abbrev pub count : Vals → ℕ
+count none = 0
+count (more v vs) = suc (count vs)
 
 -- values in a row, as a list
 abbrev pub vals : List Val → Vals

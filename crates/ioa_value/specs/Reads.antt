@@ -3,7 +3,8 @@ use Rattle.std.specs.Prelude.{◌≡◌, ◌⊎◌, ℕ, ℤ, pos, neg_ℤ, Bool
 use Rattle.std.specs.List.{list_all}
 use Rattle.std.specs.Str.Parse.{IsNumeral, digits_value}
 use Rattle.ioa_value.specs.Plain.{Val, truth, num, name, tuple, items}
-use Rattle.ioa_value.specs.Typing.{Shape, HasType}
+use Rattle.ioa_value.specs.Table.{Table}
+use Rattle.ioa_value.specs.Typing.{HasType}
 use Rattle.ioa_value.specs.Names.{IsName}
 use Rattle.ioa_value.specs.Actions.{Act}
 
@@ -24,39 +25,40 @@ SpellsNumber word z =
     (digits : List ℕ) × IsNumeral 10 digits
     × (((word ≡ digits) × (z ≡ pos (digits_value 10 digits))) ⊎ ((word ≡ 45 ∷ digits) × (z ≡ neg_ℤ (pos (digits_value 10 digits)))))
 
-abbrev pub Spells : List ℕ → Val → Type 0
-Spells word (truth true) = word ≡ codes "true"
-Spells word (truth false) = word ≡ codes "false"
-Spells word (num z) = SpellsNumber word z
-Spells word (name own n) = ⊥
-Spells word (tuple own vs) = ⊥
-Spells word (items own vs) = ⊥
+-- `true`, `false`, or a number; names, tuples and sequences have no text yet
+abbrev pub Spells : Table → List ℕ → Val → Type 0
+Spells types word (truth true) = word ≡ codes "true"
+Spells types word (truth false) = word ≡ codes "false"
+Spells types word (num z) = SpellsNumber word z
+Spells types word (name own n) = ⊥
+Spells types word (tuple own vs) = ⊥
+Spells types word (items own vs) = ⊥
 
-abbrev pub IsTyped : List Shape → Val → Type 0
+abbrev pub IsTyped : Table → Val → Type 0
 IsTyped types v = (ty : ℕ) × HasType types v ty
 
 -- blanks, a spelling of a value of one of the types, blanks
-abbrev pub ReadsValue : List Shape → List ℕ → Val → Type 0
-ReadsValue types text v = (word : List ℕ) × Spells word v × IsTyped types v × Padded word text
+abbrev pub ReadsValue : Table → List ℕ → Val → Type 0
+ReadsValue types text v = (word : List ℕ) × Spells types word v × IsTyped types v × Padded word text
 
 -- after a value: each further value after a `,`, and then `)` and blanks
-abbrev pub ReadsMore : List Shape → List ℕ → List Val → Type 0
+abbrev pub ReadsMore : Table → List ℕ → List Val → Type 0
 ReadsMore types text [] = (after : List ℕ) × IsBlank after × (text ≡ 41 ∷ after)
 ReadsMore types text (v ∷ vs) =
     (first : List ℕ) × (rest : List ℕ) × ReadsValue types first v × ReadsMore types rest vs × (text ≡ 44 ∷ (first ++ rest))
 
 -- one value or more
-abbrev pub ReadsValues : List Shape → List ℕ → List Val → Type 0
+abbrev pub ReadsValues : Table → List ℕ → List Val → Type 0
 ReadsValues types text [] = ⊥
 ReadsValues types text (v ∷ vs) =
     (first : List ℕ) × (rest : List ℕ) × ReadsValue types first v × ReadsMore types rest vs × (text ≡ first ++ rest)
 
 -- nothing, or one value or more after a `(`
-abbrev pub ReadsArguments : List Shape → List ℕ → List Val → Type 0
+abbrev pub ReadsArguments : Table → List ℕ → List Val → Type 0
 ReadsArguments types text [] = text ≡ []
 ReadsArguments types text (v ∷ vs) = (rest : List ℕ) × ReadsValues types rest (v ∷ vs) × (text ≡ 40 ∷ rest)
 
 -- the name, and where there are values, they in parentheses
-unfoldable pub Reads : List Shape → List ℕ → Act → Type 0
+unfoldable pub Reads : Table → List ℕ → Act → Type 0
 Reads types text a =
     IsName a.name × ((first : List ℕ) × (rest : List ℕ) × Padded a.name first × ReadsArguments types rest a.vals × (text ≡ first ++ rest))

@@ -1,8 +1,21 @@
--- What a type is, without the memory that holds it.
+-- Declarations without the memory that holds them.
+use Rattle.std.specs.Prelude.{map}
+use Rattle.std.specs.String.{string_bytes}
+use Rattle.ioa_value.specs.declared.types.Field.{Field}
 use Rattle.ioa_value.specs.declared.types.Form.{Form}
-use Rattle.ioa_value.specs.declared.types.Form.TheVariants.{Truths, Numbers}
-use Rattle.ioa_value.specs.Typing.{Shape, truths, numbers}
+use Rattle.ioa_value.specs.declared.types.Form.TheVariants.{Truths, Numbers, Names, Fields, Sequence}
+use Rattle.ioa_value.specs.declared.types.Declared.{Declared}
+use Rattle.ioa_value.specs.Table.{TupleField, Shape, truths, numbers, names, fields, sequence, Declaration}
 
-abbrev pub shape_of : Form → Shape
-shape_of Truths = truths
-shape_of Numbers = numbers
+abbrev pub tuple_field : Field → TupleField
+tuple_field f = record { name = string_bytes f.name; ty = f.ty.0 }
+
+abbrev pub shape : Form → Shape
+shape Truths = truths
+shape Numbers = numbers
+shape (Names ns) = names (map string_bytes ns.items)
+shape (Fields fs) = fields (map tuple_field fs.items)
+shape (Sequence most of) = sequence most of.0
+
+abbrev pub declaration : Declared → Declaration
+declaration d = record { name = string_bytes d.name; shape = shape d.form }

@@ -2,27 +2,36 @@
 use Rattle.std.specs.Prelude.{ℕ, true, false, List, [], ◌∷◌, ◌++◌, codes}
 use Rattle.std.specs.Fmt.{signed_decimal}
 use Rattle.ioa_value.specs.Plain.{Val, truth, num, name, tuple, items}
+use Rattle.ioa_value.specs.Table.{Table}
 use Rattle.ioa_value.specs.Actions.{Act}
 
--- `true`, `false`, or a number in decimal; no type has names, tuples or sequences yet
-abbrev pub written_value : Val → List ℕ
-written_value (truth true) = codes "true"
-written_value (truth false) = codes "false"
-written_value (num z) = signed_decimal z
-written_value (name own n) = []
-written_value (tuple own vs) = []
-written_value (items own vs) = []
+-- `true`, `false`, or a number in decimal; nothing of names, tuples and sequences, which have no text yet
+abbrev pub written_value : Table → Val → List ℕ
+written_value types (truth true) = codes "true"
+written_value types (truth false) = codes "false"
+written_value types (num z) = signed_decimal z
+written_value types (name own n) = []
+written_value types (tuple own vs) = []
+written_value types (items own vs) = []
+
+-- a value that has a text: a truth value or a number
+abbrev pub HasText : Val → Type 0
+HasText (truth b) = Unit {0}
+HasText (num z) = Unit {0}
+HasText (name own n) = ⊥
+HasText (tuple own vs) = ⊥
+HasText (items own vs) = ⊥
 
 -- the values, each after the first with `, ` before it
-abbrev pub written_after : List Val → List ℕ
-written_after [] = []
-written_after (v ∷ vs) = codes ", " ++ (written_value v ++ written_after vs)
+abbrev pub written_after : Table → List Val → List ℕ
+written_after types [] = []
+written_after types (v ∷ vs) = codes ", " ++ (written_value types v ++ written_after types vs)
 
 -- one value or more in parentheses, parted by `, `
-abbrev pub written_values : List Val → List ℕ
-written_values [] = []
-written_values (v ∷ vs) = codes "(" ++ (written_value v ++ (written_after vs ++ codes ")"))
+abbrev pub written_values : Table → List Val → List ℕ
+written_values types [] = []
+written_values types (v ∷ vs) = codes "(" ++ (written_value types v ++ (written_after types vs ++ codes ")"))
 
 -- the name, and the values where there are any
-unfoldable pub written_action : Act → List ℕ
-written_action a = a.name ++ written_values a.vals
+unfoldable pub written_action : Table → Act → List ℕ
+written_action types a = a.name ++ written_values types a.vals

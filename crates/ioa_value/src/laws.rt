@@ -1,29 +1,50 @@
 //! What follows from the definitions alone.
 
-ghost use Rattle.std.specs.Prelude.{◌≡◌, ℕ, List, All};
-ghost use Rattle.ioa_value.specs.Typing.{Shape};
+ghost use Rattle.std.specs.Prelude.{◌≡◌, ◌↔◌, ℕ, ◌<◌, List, All, length, Some, IsTrue};
+ghost use Rattle.ioa_value.specs.Plain.{Val};
+ghost use Rattle.ioa_value.specs.Table.{Table, AreTypes};
+ghost use Rattle.ioa_value.specs.Typing.{HasType, HaveTypes, first_of};
+ghost use Rattle.ioa_value.specs.Operators.{same, operate, op_type, Takes, IsTypedAnswer};
+ghost use Rattle.ioa_value.specs.declared.operator.Op.{Op};
 ghost use Rattle.ioa_value.specs.Actions.{Act};
 ghost use Rattle.ioa_value.specs.Names.{IsName};
-ghost use Rattle.ioa_value.specs.Written.{written_action};
+ghost use Rattle.ioa_value.specs.Written.{written_action, HasText};
 ghost use Rattle.ioa_value.specs.Lists.{ReadsList, BadLine};
 ghost use Rattle.ioa_value.specs.Reads.{Reads, IsTyped};
 
 /// A list text has no bad line.
 pub fn no_bad_line()
-    ensures { (types : List Shape) (text : List ℕ) (acts : List Act) (n : ℕ) → ReadsList types text acts → BadLine types text n → ⊥ }
+    ensures { (types : Table) (text : List ℕ) (acts : List Act) (n : ℕ) → ReadsList types text acts → BadLine types text n → ⊥ }
 {}
 
 /// A text is read as at most one action.
 pub fn one_action()
-    ensures { (types : List Shape) (text : List ℕ) (a b : Act) → Reads types text a → Reads types text b → a ≡ b }
+    ensures { (types : Table) (text : List ℕ) (a b : Act) → Reads types text a → Reads types text b → a ≡ b }
 {}
 
 /// A list text has one list of actions at most.
 pub fn one_list()
-    ensures { (types : List Shape) (text : List ℕ) (xs ys : List Act) → ReadsList types text xs → ReadsList types text ys → xs ≡ ys }
+    ensures { (types : Table) (text : List ℕ) (xs ys : List Act) → ReadsList types text xs → ReadsList types text ys → xs ≡ ys }
 {}
 
-/// What is written of an action with a legal name and typed values is read as that action.
+/// What is written of an action with a legal name and typed values is read as that action, where each value is one that has
+/// a text.
 pub fn written_is_read()
-    ensures { (types : List Shape) (a : Act) → IsName a.name → All (IsTyped types) a.vals → Reads types (written_action a) a }
+    ensures { (types : Table) (a : Act) → IsName a.name → All (IsTyped types) a.vals → All HasText a.vals → Reads types (written_action types a) a }
+{}
+
+/// The first value of a type is one of the type's.
+pub fn first_is_typed()
+    ensures { (types : Table) (ty : ℕ) → AreTypes types → ty < length types → HasType types (first_of types ty) ty }
+{}
+
+/// Operands of the types that an operator takes are its operands, and what it gives of them is of the stated type.
+pub fn operators_are_typed()
+    ensures takes { (types : Table) (op : Op) (vs : List Val) (tys : List ℕ) (ty : ℕ) → AreTypes types → HaveTypes types vs tys → op_type types op tys ≡ Some ty → Takes types op vs }
+    ensures gives { (types : Table) (op : Op) (vs : List Val) (tys : List ℕ) (ty : ℕ) → AreTypes types → HaveTypes types vs tys → op_type types op tys ≡ Some ty → IsTypedAnswer types ty (operate types op vs) }
+{}
+
+/// Two values are equal as computed exactly where they are equal.
+pub fn same_is_equal()
+    ensures { (v w : Val) → IsTrue (same v w) ↔ (v ≡ w) }
 {}

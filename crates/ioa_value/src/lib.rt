@@ -3,6 +3,7 @@
 
 mod action;
 mod arithmetic;
+mod initial;
 mod laws;
 mod listing;
 mod memory;
@@ -11,17 +12,22 @@ mod operator;
 mod reading;
 mod tokens;
 mod types;
+mod typing;
 mod value;
 mod writing;
 
 pub use action::Action;
 pub use arithmetic::Fault;
-pub use laws::{no_bad_line, one_action, one_list, written_is_read};
+pub use initial::first;
+pub use laws::{
+    first_is_typed, no_bad_line, one_action, one_list, operators_are_typed, same_is_equal, written_is_read,
+};
 pub use listing::{is_skipped, read_list};
 pub use memory::OutOfMemory;
 pub use names::is_name;
-pub use operator::{Op, apply};
+pub use operator::{Op, apply, op_type};
 pub use reading::read_action;
-pub use types::{Types, first, has_type};
+pub use types::{Declarations, Declared, Field, Form, Types};
+pub use typing::has_type;
 pub use value::{Ty, Value, copies, same};
 pub use writing::print_action;

@@ -1,11 +1,13 @@
 ghost use Rattle.std.specs.Prelude.{◌≡◌, ◌∷◌, [], ℤ, map, IfOk, IsOk};
-ghost use Rattle.ioa_value.specs.Plain.{plain, Val, num};
+ghost use Rattle.std.specs.Option.{option_map};
+ghost use Rattle.ioa_value.specs.Plain.{plain, number as number_of_type, Val, num};
+ghost use Rattle.ioa_value.specs.Operators as spec;
 ghost use Rattle.ioa_value.specs.Operators.{operate, Takes, answer_of, of_number, same};
 
 use crate::arithmetic::{Fault, add, subtract};
 use crate::memory::OutOfMemory;
 use crate::types::Types;
-use crate::value::{Value, same};
+use crate::value::{Ty, Value, same};
 use std::alloc::Global;
 
 /// An operator on values.
@@ -16,25 +18,52 @@ pub enum Op {
     Eq,
 }
 
+impl Op {
+    /// How many operands the operator takes.
+    pub fn arity(self, _types: &Types) -> usize
+        ensures { result ≡ spec.arity _types.now self }
+    {
+        match self {
+            Op::Add | Op::Sub | Op::Eq => 2,
+        }
+    }
+}
+
+/// The type of what the operator gives, where it takes operands of these types.
+pub fn op_type(_types: &Types, op: Op, operands: &[Ty]) -> Option<Ty>
+    ensures { option_map number_of_type result ≡ spec.op_type _types.now op (map number_of_type operands.now) }
+{
+    match op {
+        Op::Add | Op::Sub => match operands {
+            [a, b] if *a == Ty::INT && *b == Ty::INT => Some(Ty::INT),
+            _ => None,
+        },
+        Op::Eq => match operands {
+            [a, b] if *a == *b => Some(Ty::BOOL),
+            _ => None,
+        },
+    }
+}
+
 /// The operator's value, or its fault. It asks that the operands are the operator's.
 ///
 /// Operators on numbers and truth values grow no memory, and there are no others yet, so the answer is always there.
 pub fn apply(
     _alloc: Global,
-    _types: &Types,
+    types: &Types,
     op: Op,
     operands: &[Value],
 ) -> Result<Result<Value, Fault>, OutOfMemory>
-    requires { Takes op (map plain operands.now) }
-    ensures value { IfOk result (λ r. answer_of r ≡ operate op (map plain operands.now)) }
+    requires { Takes types.now op (map plain operands.now) }
+    ensures value { IfOk result (λ r. answer_of r ≡ operate types.now op (map plain operands.now)) }
     ensures memory { IsOk result }
 {
-    Ok(applied(op, operands))
+    Ok(applied(types, op, operands))
 }
 
-fn applied(op: Op, operands: &[Value]) -> Result<Value, Fault>
-    requires { Takes op (map plain operands.now) }
-    ensures { answer_of result ≡ operate op (map plain operands.now) }
+fn applied(_types: &Types, op: Op, operands: &[Value]) -> Result<Value, Fault>
+    requires { Takes _types.now op (map plain operands.now) }
+    ensures { answer_of result ≡ operate _types.now op (map plain operands.now) }
 {
     match op {
         Op::Add => {

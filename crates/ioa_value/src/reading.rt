@@ -82,8 +82,8 @@ fn read_values(alloc: Global, types: &Types, text: &[u8]) -> Result<Option<Vec<V
 
 /// The value of a type among these that the word spells.
 fn value_of(_types: &Types, word: &[u8]) -> Option<Value>
-    ensures found { IfSome result (λ v. Spells word.now (plain v) × IsTyped _types.now (plain v)) }
-    ensures none { IfNone result ((v : Val) → Spells word.now v → IsTyped _types.now v → ⊥) }
+    ensures found { IfSome result (λ v. Spells _types.now word.now (plain v) × IsTyped _types.now (plain v)) }
+    ensures none { IfNone result ((v : Val) → Spells _types.now word.now v → IsTyped _types.now v → ⊥) }
 {
     if word == b"true".as_slice() {
         return Some(Value::Truth(true));

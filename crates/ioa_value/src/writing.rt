@@ -11,39 +11,39 @@ use std::alloc::Global;
 
 /// The one spelling of an action: its name, and for one value or more `(`, the values parted by
 /// `, `, and `)`.
-pub fn print_action(alloc: Global, _types: &Types, action: &Action) -> Result<String, OutOfMemory>
-    ensures { IfOk result (λ text. string_bytes text ≡ written_action (act_of action.now)) }
+pub fn print_action(alloc: Global, types: &Types, action: &Action) -> Result<String, OutOfMemory>
+    ensures { IfOk result (λ text. string_bytes text ≡ written_action types.now (act_of action.now)) }
 {
     let mut text = String::from_str(alloc, action.name.as_str())?;
-    push_values(&mut text, &action.vals)?;
+    push_values(types, &mut text, &action.vals)?;
     Ok(text)
 }
 
-fn push_values(text: &mut String, values: &[Value]) -> Result<(), OutOfMemory>
-    ensures { OnOk result (string_bytes text.new ≡ string_bytes text.old ++ written_values (map plain values.now)) }
+fn push_values(types: &Types, text: &mut String, values: &[Value]) -> Result<(), OutOfMemory>
+    ensures { OnOk result (string_bytes text.new ≡ string_bytes text.old ++ written_values types.now (map plain values.now)) }
 {
     let Some((first, more)) = values.split_first() else {
         return Ok(());
     };
     text.push_str("(")?;
-    push_value(text, first)?;
-    push_more(text, more)?;
+    push_value(types, text, first)?;
+    push_more(types, text, more)?;
     text.push_str(")")?;
     Ok(())
 }
 
-fn push_more(text: &mut String, values: &[Value]) -> Result<(), OutOfMemory>
-    ensures { OnOk result (string_bytes text.new ≡ string_bytes text.old ++ written_after (map plain values.now)) }
+fn push_more(types: &Types, text: &mut String, values: &[Value]) -> Result<(), OutOfMemory>
+    ensures { OnOk result (string_bytes text.new ≡ string_bytes text.old ++ written_after types.now (map plain values.now)) }
 {
     for value in values {
         text.push_str(", ")?;
-        push_value(text, value)?;
+        push_value(types, text, value)?;
     }
     Ok(())
 }
 
-fn push_value(text: &mut String, value: &Value) -> Result<(), OutOfMemory>
-    ensures { OnOk result (string_bytes text.new ≡ string_bytes text.old ++ written_value (plain value.now)) }
+fn push_value(_types: &Types, text: &mut String, value: &Value) -> Result<(), OutOfMemory>
+    ensures { OnOk result (string_bytes text.new ≡ string_bytes text.old ++ written_value _types.now (plain value.now)) }
 {
     match value {
         Value::Truth(true) => text.push_str("true")?,

@@ -2,24 +2,14 @@
 
 ghost use Rattle.std.specs.Prelude.{◌≡◌, ◌++◌, ◌<◌, OnOk};
 ghost use Rattle.std.specs.String.{string_bytes};
-ghost use Rattle.ioa_syntax.specs.Grammar.{operator_word};
 ghost use Rattle.ioa_syntax.specs.Layout.{text_expr};
 ghost use Rattle.ioa_syntax.specs.View.{expr_of};
 
+use crate::operators::word_of;
 use crate::printing::words::{SPACE, name, number, word};
-use crate::tree::{Expression, Operator};
+use crate::tree::Expression;
 use ioa_lex::Terminal;
 use ioa_value::OutOfMemory;
-
-fn word_of(operator: Operator) -> Terminal
-    ensures { result ≡ operator_word operator }
-{
-    match operator {
-        Operator::Equal => Terminal::Equal,
-        Operator::Plus => Terminal::Plus,
-        Operator::Minus => Terminal::Minus,
-    }
-}
 
 /// Writes an expression.
 pub(crate) fn expression(

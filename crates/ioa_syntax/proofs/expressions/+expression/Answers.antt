@@ -12,7 +12,7 @@ climb-loop-turn-preserved t c = record {
   same =
       let at : spec.operator_at c.args.least c.loop-turn.below (tokens_shown c.loop-turn.cursor) ≡ Some c.in-Some.operator = search rules in
       let fits : depth_of (expr_of c.loop-turn.left.expression) ≤ c.args.depth = omega (arith, c.loop-turn.left.exact) in
-      climb_turn c.args.depth c.loop-turn._turn c.args.least c.loop-turn.below _ _ _ (expr_of c.loop-turn.left.expression) _ _ (tokens_shown c.loop-turn.cursor) _ _ (omega arith) at c.skip.ensures fits c.in_ok-operand.ensures.read c.right.ensures c.after-below.ensures c.in_ok-left.ensures
+      climb_turn c.args.depth c.loop-turn._turn c.args.least c.loop-turn.below _ _ _ (expr_of c.loop-turn.left.expression) _ _ (tokens_shown c.loop-turn.cursor) _ _ (omega arith) at c.skip.ensures fits c.in_ok-operand.ensures.read c.right_of.ensures c.after_of-below.ensures c.in_ok-left.ensures
       ∙ c.loop-turn.invariant.same;
   within = omega (arith, ap depth_of c.in_ok-left.ensures, c.in_ok-left.left.exact, c.loop-turn.left.exact, c.in_ok-operand.operand.exact, c.in_ok-operand.ensures.within);
 }
@@ -23,7 +23,7 @@ climb-returns-in_err-operand-clause-read t c =
     let fits : depth_of (expr_of c.loop-turn.left.expression) ≤ c.args.depth = omega (arith, c.loop-turn.left.exact) in
     let failed : spec.Fails c.in_err-operand.field-0.0 (spec.climb c.args.depth (spec.expr c.args.depth) c.args.depth c.args.least 10 (expr_of c.args.first.expression) (tokens_shown c.args.cursor.now)) =
     subst (spec.Fails c.in_err-operand.field-0.0) c.loop-turn.invariant.same
-    (climb_fails c.args.depth c.loop-turn._turn c.args.least c.loop-turn.below c.right.result c.in-Some.operator (expr_of c.loop-turn.left.expression) (tokens_shown c.loop-turn.cursor) (tokens_shown c.skip.new.self) _ (omega arith) at c.skip.ensures fits c.right.ensures c.in_err-operand.ensures.read) in
+    (climb_fails c.args.depth c.loop-turn._turn c.args.least c.loop-turn.below c.right_of.result c.in-Some.operator (expr_of c.loop-turn.left.expression) (tokens_shown c.loop-turn.cursor) (tokens_shown c.skip.new.self) _ (omega arith) at c.skip.ensures fits c.right_of.ensures c.in_err-operand.ensures.read) in
     search rules
 
 pub expression-returns-clause-read : goal.expression-returns-clause-read

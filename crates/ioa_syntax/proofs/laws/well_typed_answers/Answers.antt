@@ -3,7 +3,7 @@ use Rattle.ioa_syntax.proofs.EffectTyped.{effect_typed}
 use Rattle.ioa_syntax.proofs.laws.well_typed_answers.Goals as goal
 
 pub returns-clause-expressions : goal.returns-clause-expressions
-returns-clause-expressions c = val_typed
+returns-clause-expressions c = λ types ctx env e ty declared suits has. val_typed types declared ctx env e ty suits has
 
 pub returns-clause-effects : goal.returns-clause-effects
-returns-clause-effects c = effect_typed
+returns-clause-effects c = λ types globals a e ss env declared fine suits. effect_typed types declared globals a e ss env fine suits

@@ -14,7 +14,7 @@ loop-value-init c =
 pub returns-in_default-clause-none : goal.returns-in_default-clause-none
 returns-in_default-clause-none c =
     stops c.args.types.now c.args.text.now c.loop-value.rest.now (map plain c.loop-value.vals.items) c.loop-value.invariant
-    (no_value c.args.types.now c.loop-value.rest.now (λ v s t. c.in_default.ensures.none v (subst (λ w. Spells w v) (sym c.first_word-front.ensures.word) s) t))
+    (no_value c.args.types.now c.loop-value.rest.now (λ v s t. c.in_default.ensures.none v (subst (λ w. Spells c.args.types.now w v) (sym c.first_word-front.ensures.word) s) t))
 
 pub returns-then-is_blank_text-clause-found : goal.returns-then-is_blank_text-clause-found
 returns-then-is_blank_text-clause-found c =
@@ -22,7 +22,7 @@ returns-then-is_blank_text-clause-found c =
     let all = ap (map plain) c.in_ok-push.ensures.items ∙ map-append plain c.loop-value.vals.items (c.in-Some.value ∷ []) in
     subst (ReadsValues c.args.types.now c.args.text.now) (sym all)
     (last_value c.args.types.now c.args.text.now c.loop-value.rest.now c.in-Some-after_mark.after.now (map plain c.loop-value.vals.items) value c.loop-value.invariant
-    (subst (λ w. Spells w value) c.first_word-front.ensures.word c.in-Some.ensures.found.0)
+    (subst (λ w. Spells c.args.types.now w value) c.first_word-front.ensures.word c.in-Some.ensures.found.0)
     c.in-Some.ensures.found.1
     (sym c.first_word-front.ensures.rest ∙ c.in-Some-after_mark.ensures.found)
     (sym c.is_blank_text.ensures ∙ c.if-is_blank_text.true))
@@ -51,6 +51,6 @@ loop-value-preserved c =
     let all = ap (map plain) c.in_ok-push.ensures.items ∙ map-append plain c.loop-value.vals.items (c.in-Some.value ∷ []) in
     subst (λ vs. Reaches c.args.types.now c.args.text.now vs c.in-Some-after_mark-2.after.now) (sym all)
     (next_value c.args.types.now c.args.text.now c.loop-value.rest.now c.in-Some-after_mark-2.after.now (map plain c.loop-value.vals.items) value c.loop-value.invariant
-    (subst (λ w. Spells w value) c.first_word-front.ensures.word c.in-Some.ensures.found.0)
+    (subst (λ w. Spells c.args.types.now w value) c.first_word-front.ensures.word c.in-Some.ensures.found.0)
     c.in-Some.ensures.found.1
     (sym c.first_word-front.ensures.rest ∙ c.in-Some-after_mark-2.ensures.found))

@@ -1,0 +1,103 @@
+-- What fine automata and sources keep, part by part.
+use Rattle.std.proofs.Common.{ℕ, ◌≤◌, not, ◌&&◌, ◌||◌, ◌++◌, nat_le, IsTrue, List, [], map, filter, length, arith}
+use Rattle.std.specs.List.{list_all}
+use Rattle.std.proofs.lemmas.Bool.{and_parts}
+use Rattle.std.proofs.lemmas.Bool.Decides.{nat_tests}
+use Rattle.ioa_value.specs.Actions.{Name}
+use Rattle.ioa_value.specs.Table.{Table}
+use Rattle.ioa_syntax.specs.Tree.{AutomatonTree, EntryTree, SourceTree}
+use Rattle.ioa_syntax.specs.Types.{types_of}
+use Rattle.ioa_syntax.specs.Limits.{Limits, limits}
+use Rattle.ioa_syntax.specs.Instances.{position_name}
+use Rattle.ioa_syntax.specs.WellFormed.{distinct, apart, is_type, position_fields, variable_fields, local_names, fields_fine, start_fine, entry_fine, matches, one_to_one, transition_fine, automaton_fine, transition_within, entry_within, automaton_within, declarations_fine, declaration_within, source_within, global_names, is_counted, well_formed}
+
+at_most : (n m : ℕ) → IsTrue (nat_le n m) → n ≤ m
+at_most n m h = grind (arith, nat_tests)
+
+module _ (types : Table) (globals : List Name) (a : AutomatonTree) where
+  -- what a fine automaton keeps
+  pub record FineParts : Type 0 where
+    pub distinct_names : IsTrue (distinct (local_names types globals a))
+    pub apart_names : IsTrue (apart (local_names types globals a) globals)
+    pub formal_types : IsTrue (list_all (is_type types) a.formals)
+    pub variable_types : IsTrue (list_all (is_type types) (variable_fields a))
+    pub starts : IsTrue (list_all (start_fine types globals a) a.variables)
+    pub entry_names : IsTrue (distinct (map (λ e. e.name) a.entries))
+    pub entries : IsTrue (list_all (entry_fine types globals a) a.entries)
+    pub one_each : IsTrue (one_to_one types globals a)
+    pub transitions : IsTrue (list_all (λ e. list_all (λ r. not (matches types globals a e r) || transition_fine types globals a e r) a.transitions) a.entries)
+
+  pub fine_parts : IsTrue (automaton_fine types globals a) → FineParts
+  fine_parts h =
+      let p5 = and_parts _ _ h in
+      let p4 = and_parts _ _ p5.0 in
+      let p3 = and_parts _ _ p4.0 in
+      let p2 = and_parts _ _ p3.0 in
+      let p1 = and_parts (fields_fine types globals a) (list_all (start_fine types globals a) a.variables) p2.0 in
+      let names = local_names types globals a in
+      let f3 = and_parts (distinct names && apart names globals && list_all (is_type types) a.formals) (list_all (is_type types) (variable_fields a)) p1.0 in
+      let f2 = and_parts (distinct names && apart names globals) (list_all (is_type types) a.formals) f3.0 in
+      let f1 = and_parts (distinct names) (apart names globals) f2.0 in
+      record {
+        distinct_names = f1.0;
+        apart_names = f1.1;
+        formal_types = f2.1;
+        variable_types = f3.1;
+        starts = p1.1;
+        entry_names = p2.1;
+        entries = p3.1;
+        one_each = p4.1;
+        transitions = p5.1;
+      }
+
+  -- what a fine entry keeps
+  pub record EntryParts (e : EntryTree) : Type 0 where
+    pub distinct_names : IsTrue (distinct (map position_name e.positions))
+    pub apart_names : IsTrue (apart (map position_name e.positions) (globals ++ local_names types globals a))
+    pub position_types : IsTrue (list_all (is_type types) (position_fields e.positions))
+
+  pub entry_parts : (e : EntryTree) → IsTrue (entry_fine types globals a e) → EntryParts e
+  entry_parts e h =
+      let names = map position_name e.positions in
+      let p2 = and_parts (distinct names && apart names (globals ++ local_names types globals a)) (list_all (is_type types) (position_fields e.positions)) h in
+      let p1 = and_parts (distinct names) (apart names (globals ++ local_names types globals a)) p2.0 in
+      record { distinct_names = p1.0; apart_names = p1.1; position_types = p2.1 }
+
+-- ---- limits
+
+-- what an automaton within limits keeps
+pub record WithinParts (most : Limits) (a : AutomatonTree) : Type 0 where
+  pub formals : length a.formals ≤ most.parameters
+  pub variables : length a.variables ≤ most.variables
+  pub entries : length a.entries ≤ most.entries
+  pub each_entry : IsTrue (list_all (entry_within most) a.entries)
+  pub each_transition : IsTrue (list_all (transition_within most) a.transitions)
+
+pub within_parts : (most : Limits) (a : AutomatonTree) → IsTrue (automaton_within most a) → WithinParts most a
+within_parts most a h =
+    let p4 = and_parts _ _ h in
+    let p3 = and_parts _ _ p4.0 in
+    let p2 = and_parts (nat_le (length a.formals) most.parameters && nat_le (length a.variables) most.variables) (nat_le (length a.entries) most.entries) p3.0 in
+    let p1 = and_parts (nat_le (length a.formals) most.parameters) (nat_le (length a.variables) most.variables) p2.0 in
+    record {
+      formals = at_most (length a.formals) most.parameters p1.0;
+      variables = at_most (length a.variables) most.variables p1.1;
+      entries = at_most (length a.entries) most.entries p2.1;
+      each_entry = p3.1;
+      each_transition = p4.1;
+    }
+
+-- ---- sources
+
+pub record SourceParts (s : SourceTree) : Type 0 where
+  pub distinct_names : IsTrue (distinct (global_names s))
+  pub declarations : IsTrue (declarations_fine (types_of s) (global_names s) [] s)
+  pub few : length (filter is_counted s) ≤ limits.automata
+  pub within : IsTrue (list_all (declaration_within limits) s)
+
+pub source_parts : (s : SourceTree) → IsTrue (well_formed s) → SourceParts s
+source_parts s h =
+    let p2 = and_parts (distinct (global_names s) && declarations_fine (types_of s) (global_names s) [] s) (source_within limits s) h in
+    let p1 = and_parts (distinct (global_names s)) (declarations_fine (types_of s) (global_names s) [] s) p2.0 in
+    let w = and_parts (nat_le (length (filter is_counted s)) limits.automata) (list_all (declaration_within limits) s) p2.1 in
+    record { distinct_names = p1.0; declarations = p1.1; few = at_most (length (filter is_counted s)) limits.automata w.0; within = w.1 }
