@@ -11,7 +11,7 @@ use Rattle.ioa_value.specs.Arithmetic.{fits, tested}
 use Rattle.ioa_value.specs.Plain.{Val, Vals, truth, num, name, tuple, items, plain_all, count}
 use Rattle.ioa_value.specs.Table.{Table, Shape, truths, numbers, shape_at, AreTypes}
 use Rattle.ioa_value.specs.Typing.{is_name_of, of_fields, of_sequence, is_of, parts_are, items_are, HasType, HaveTypes, OwnTypes, own}
-use Rattle.ioa_value.specs.Operators.{gives, faults, nothing, of_number, on_numbers, compared, operate, same, of_numbers, of_alike, op_type, Takes, IsTypedAnswer}
+use Rattle.ioa_value.specs.Operators.{gives, nothing, of_number, on_numbers, compared, operate, same, of_numbers, of_alike, op_type, Takes, IsTypedAnswer}
 use Rattle.ioa_value.specs.Reads.{IsTyped}
 use Rattle.ioa_value.proofs.SameLemmas.{equal, equal_numbers, both_false}
 

@@ -20,7 +20,8 @@ pub use action::Action;
 pub use arithmetic::Fault;
 pub use initial::first;
 pub use laws::{
-    first_is_typed, no_bad_line, one_action, one_list, operators_are_typed, same_is_equal, written_is_read,
+    first_is_typed, no_bad_line, one_action, one_list, operators_are_typed, same_is_equal,
+    written_is_read,
 };
 pub use listing::{is_skipped, read_list};
 pub use memory::OutOfMemory;
