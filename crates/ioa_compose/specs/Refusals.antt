@@ -8,8 +8,9 @@ use Rattle.ioa_lex.specs.declared.refusal.Refusal.{Refusal}
 use Rattle.ioa_lex.specs.declared.refusal.Refusal.TheVariants.{TextTooLong, BadByte, Syntax, TooDeep, DuplicateName, UnknownName, TypeMismatch, BadSignature, NoProposal, TooMany, TooWide, ArgMismatch, CrashName, Clash, HiddenUnknown, StartFault, NoComposition, OutOfMemory}
 use Rattle.ioa_syntax.specs.declared.tree.Kind.TheVariants.{Internal, Output}
 use Rattle.ioa_syntax.specs.Tree.{EntryTree, AutomatonTree, InstanceTree, SourceTree}
-use Rattle.ioa_syntax.specs.Instances.{basic_table, Instance, argument_values, start_values, component_of}
-use Rattle.ioa_syntax.specs.Compositions.{Fit, automaton_named}
+use Rattle.ioa_syntax.specs.Types.{types_of}
+use Rattle.ioa_syntax.specs.Instances.{Instance, Fit, argument_values, start_values, component_of}
+use Rattle.ioa_syntax.specs.Compositions.{automaton_named}
 use Rattle.ioa_compose.specs.Bindings.{IsBound, AreBound}
 
 -- the arguments have values, and these are not of the formals' types, one for each
@@ -17,8 +18,8 @@ pub record Misfits (s : SourceTree) (i : InstanceTree) : Type 0 where
   pub automaton : AutomatonTree
   pub declared : automaton_named s i.automaton ≡ Some automaton
   pub arguments : List Val
-  pub valued : argument_values i.arguments ≡ Ok arguments
-  pub unfit : Fit basic_table automaton.formals arguments → ⊥
+  pub valued : argument_values (types_of s) i.arguments ≡ Ok arguments
+  pub unfit : Fit (types_of s) automaton.formals arguments → ⊥
 
 -- a start expression faults
 pub record StartsWith (s : SourceTree) (i : InstanceTree) (f : Fault) : Type 0 where
@@ -92,7 +93,7 @@ reason_of NoComposition = other
 -- fault only where no components clash
 abbrev pub IsRefusedFor : SourceTree → List InstanceTree → Reason → Type 0
 IsRefusedFor s is (misfit i) = (n : InstanceTree) × (slice_get is i ≡ Some n) × Misfits s n
-IsRefusedFor s is (faulty i f) = (n : InstanceTree) × (slice_get is i ≡ Some n) × ((argument_values n.arguments ≡ Err f) ⊎ (StartsWith s n f × NoClash s is))
+IsRefusedFor s is (faulty i f) = (n : InstanceTree) × (slice_get is i ≡ Some n) × ((argument_values (types_of s) n.arguments ≡ Err f) ⊎ (StartsWith s n f × NoClash s is))
 IsRefusedFor s is (clashing i j name) = (m : InstanceTree) × (n : InstanceTree) × (i < j) × (slice_get is i ≡ Some m) × (slice_get is j ≡ Some n) × (c : ClashOn s m n name) × IsFirstClash s is i j × IsFirstEntry name c.first c.second × AllBound s is
 IsRefusedFor s is no_memory = Unit {0}
 IsRefusedFor s is other = ⊥
@@ -103,7 +104,7 @@ IsRefused s is r = IsRefusedFor s is (reason_of r)
 -- what holds of one component that is refused in its place, before it starts
 abbrev pub IsRefusedAt : SourceTree → ℕ → InstanceTree → Reason → Type 0
 IsRefusedAt s k n (misfit i) = (i ≡ k) × Misfits s n
-IsRefusedAt s k n (faulty i f) = (i ≡ k) × (argument_values n.arguments ≡ Err f)
+IsRefusedAt s k n (faulty i f) = (i ≡ k) × (argument_values (types_of s) n.arguments ≡ Err f)
 IsRefusedAt s k n (clashing i j name) = ⊥
 IsRefusedAt s k n no_memory = Unit {0}
 IsRefusedAt s k n other = ⊥
