@@ -11,8 +11,8 @@ use Rattle.ioa_syntax.specs.declared.tree.Instance.{Instance as TreeInstance}
 use Rattle.ioa_syntax.specs.declared.tree.Declaration.{Declaration}
 use Rattle.ioa_syntax.specs.declared.tree.Assembly.{Assembly}
 use Rattle.ioa_syntax.specs.WellFormed.{WellFormed, distinct}
-use Rattle.ioa_compose.specs.Fine.{IsSound, AllFine, component_limits}
-use Rattle.ioa_compose.proofs.FineLemmas.{members-fine}
+use Rattle.ioa_compose.specs.Fine.{IsSound, AreOver, component_limits}
+use Rattle.ioa_compose.proofs.FineLemmas.{members-fine, members-over}
 use Rattle.ioa_syntax.specs.Tree.{InstanceTree, CompositionTree, SourceTree}
 use Rattle.ioa_syntax.specs.View.{name_of, instance_of, assembly_of, tree_of}
 use Rattle.ioa_syntax.specs.Components.{Compatible}
@@ -171,7 +171,8 @@ parts-sound s types a bs ms name hidden d t h k e p =
       hidden = refl;
       few_hidden = omega arith;
       outputs = refl;
-      members = subst (λ l. AllFine component_limits l (map member_of ms)) (sym t) (members-fine s is (map member_of ms) (subst AreTypes t d) h members);
+      over = subst (λ l. AreOver l (map member_of ms)) (sym t) (members-over s is (map member_of ms) members);
+      members = members-fine s is (map member_of ms) (subst AreTypes t d) h members;
       compatible = members-compatible types bs ms p.instances p.clear;
     } in
     subst (λ ns. IsSound (record { types = types; name = name; members = map member_of ms; hidden = ns })) (sym e) sound

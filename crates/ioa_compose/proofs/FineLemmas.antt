@@ -7,15 +7,15 @@ use Rattle.ioa_syntax.specs.Meaning.{values_of}
 use Rattle.ioa_syntax.specs.Types.{types_of}
 use Rattle.ioa_syntax.specs.Instances.{Instance, Fit, field_names, start_value, all_values}
 use Rattle.ioa_syntax.specs.Compositions.{Member, IsMember, AreMembers}
-use Rattle.ioa_syntax.specs.WellFormed.{automaton_fine, global_names, well_formed}
+use Rattle.ioa_syntax.specs.WellFormed.{variable_fields, automaton_fine, global_names, well_formed}
 use Rattle.ioa_syntax.proofs.FineParts.{fine_parts}
 use Rattle.ioa_syntax.proofs.Starts.{starts_fit}
 use Rattle.ioa_compose.specs.Bindings.{StartsWell, AllStartable, AllSound, IsBound, AreBound}
-use Rattle.ioa_compose.specs.Fine.{IsFine, AllFine, component_limits}
+use Rattle.ioa_compose.specs.Fine.{IsFine, AllFine, AreOver, component_limits}
 use Rattle.ioa_compose.proofs.SourceLemmas.{named_fine, named_within}
 
 -- a component of a well formed source is fine
-pub member-fine : (s : SourceTree) (i : InstanceTree) (m : Member) → AreTypes (types_of s) → well_formed s ≡ true → IsMember s i m → IsFine component_limits (types_of s) m
+pub member-fine : (s : SourceTree) (i : InstanceTree) (m : Member) → AreTypes (types_of s) → well_formed s ≡ true → IsMember s i m → IsFine component_limits m
 member-fine s i m d h b =
     let types = types_of s in
     let a = m.instance.automaton in
@@ -24,19 +24,24 @@ member-fine s i m d h b =
     let started : all_values (start_value types (values_of (field_names a.formals) m.instance.arguments)) a.variables ≡ Ok m.starts =
     ap (λ t. all_values (start_value t (values_of (field_names a.formals) m.instance.arguments)) a.variables) (sym b.types) ∙ b.starts in
     record {
-      types_are = b.types;
-      automaton = (global_names s, fine);
+      automaton = (global_names s, subst (λ t. automaton_fine t (global_names s) a ≡ true) (sym b.types) fine);
       within = named_within s i.automaton a h b.automaton;
-      arguments = b.fit;
-      starts = starts_fit types d (global_names s) a m.instance.arguments b.fit a.variables m.starts p.starts p.variable_types started;
+      arguments = subst (λ t. Fit t a.formals m.instance.arguments) (sym b.types) b.fit;
+      starts = subst (λ t. Fit t (variable_fields a) m.starts) (sym b.types) (starts_fit types d (global_names s) a m.instance.arguments b.fit a.variables m.starts p.starts p.variable_types started);
       started = b.starts;
     }
 
-pub members-fine : (s : SourceTree) (is : List InstanceTree) (ms : List Member) → AreTypes (types_of s) → well_formed s ≡ true → AreMembers s is ms → AllFine component_limits (types_of s) ms
+pub members-fine : (s : SourceTree) (is : List InstanceTree) (ms : List Member) → AreTypes (types_of s) → well_formed s ≡ true → AreMembers s is ms → AllFine component_limits ms
 members-fine s [] [] d h b = tt
 members-fine s [] (m ∷ ms) d h b = absurd b
 members-fine s (i ∷ is) [] d h b = absurd b
 members-fine s (i ∷ is) (m ∷ ms) d h b = (member-fine s i m d h b.0, members-fine s is ms d h b.1)
+
+pub members-over : (s : SourceTree) (is : List InstanceTree) (ms : List Member) → AreMembers s is ms → AreOver (types_of s) ms
+members-over s [] [] b = tt
+members-over s [] (m ∷ ms) b = absurd b
+members-over s (i ∷ is) [] b = absurd b
+members-over s (i ∷ is) (m ∷ ms) b = (b.0.types, members-over s is ms b.1)
 
 -- a fine automaton of bound instances
 bound-fine : (s : SourceTree) (i : InstanceTree) (n : Instance) → well_formed s ≡ true → IsBound s i n → automaton_fine n.types (global_names s) n.automaton ≡ true

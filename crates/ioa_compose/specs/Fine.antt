@@ -10,19 +10,23 @@ use Rattle.ioa_syntax.specs.Components.{Compatible, is_output}
 use Rattle.ioa_syntax.specs.Compositions.{Member, Composed, components_of}
 use Rattle.ioa_syntax.specs.WellFormed.{distinct, variable_fields, automaton_fine, automaton_within}
 
--- the automaton is well formed over these types, within these limits, the arguments are of the formals' types, and the start
--- values, of the variables' types, are those of the start expressions
-pub record IsFine (most : Limits) (types : Table) (m : Member) : Type 0 where
-  pub types_are : m.instance.types ≡ types
-  pub automaton : (globals : List Name) × IsTrue (automaton_fine types globals m.instance.automaton)
+-- the automaton is well formed, within these limits, the arguments are of the formals' types, and the start values, of the
+-- variables' types, are those of the start expressions
+pub record IsFine (most : Limits) (m : Member) : Type 0 where
+  pub automaton : (globals : List Name) × IsTrue (automaton_fine m.instance.types globals m.instance.automaton)
   pub within : IsTrue (automaton_within most m.instance.automaton)
-  pub arguments : Fit types m.instance.automaton.formals m.instance.arguments
-  pub starts : Fit types (variable_fields m.instance.automaton) m.starts
+  pub arguments : Fit m.instance.types m.instance.automaton.formals m.instance.arguments
+  pub starts : Fit m.instance.types (variable_fields m.instance.automaton) m.starts
   pub started : start_values m.instance ≡ Ok m.starts
 
-abbrev pub AllFine : Limits → Table → List Member → Type 0
-AllFine most types [] = Unit {0}
-AllFine most types (m ∷ ms) = IsFine most types m × AllFine most types ms
+abbrev pub AllFine : Limits → List Member → Type 0
+AllFine most [] = Unit {0}
+AllFine most (m ∷ ms) = IsFine most m × AllFine most ms
+
+-- the instances have these types
+abbrev pub AreOver : Table → List Member → Type 0
+AreOver types [] = Unit {0}
+AreOver types (m ∷ ms) = (m.instance.types ≡ types) × AreOver types ms
 
 -- what a composition's automata keep within: the limits of what is declared
 abbrev pub component_limits : Limits
@@ -44,5 +48,6 @@ pub record IsSound (c : Composed) : Type 0 where
   pub hidden : IsTrue (distinct c.hidden)
   pub few_hidden : length c.hidden ≤ most_hidden
   pub outputs : IsTrue (list_all (is_output_of c) c.hidden)
-  pub members : AllFine component_limits c.types c.members
+  pub over : AreOver c.types c.members
+  pub members : AllFine component_limits c.members
   pub compatible : Compatible (components_of c)
