@@ -5,6 +5,7 @@ use Rattle.std.proofs.lemmas.Bool.{and_from, both_ways, not-false, eq-eqb, eqb-t
 use Rattle.std.proofs.lemmas.List.{take_at, take-append-drop, length-append, length-take-le, drop-drop}
 use Rattle.std.proofs.lemmas.List.Sums.{prefix_len-le-length, take_while-cons}
 use Rattle.std.proofs.lemmas.List.Folds.{length-prefix_len}
+use Rattle.ioa_value.specs.declared.limits.TheConstants.{LIMITS}
 use Rattle.ioa_value.specs.Names.{is_letter, is_digit, is_word_byte}
 use Rattle.ioa_lex.specs.declared.token.Kind.{Kind}
 use Rattle.ioa_lex.specs.declared.token.Kind.TheVariants as kinds
@@ -95,20 +96,20 @@ pub terminal_front : (text : List ℕ) (t : Terminal) → is_letter (head text) 
 terminal_front text t letter written =
     token_front text (prefix_len is_word_byte text) (kinds.Terminal t) (prefix_len-le-length is_word_byte text) written (word_longest text letter)
 
-pub name_front : (text : List ℕ) (k : Kind) → 0 < length text → is_letter (head text) ≡ true → kind_shown k ≡ name (take (prefix_len is_word_byte text) text) → ¬ (IsReserved (take (prefix_len is_word_byte text) text)) → prefix_len is_word_byte text ≤ 64 → IsFront text (Some k) (prefix_len is_word_byte text)
+pub name_front : (text : List ℕ) (k : Kind) → 0 < length text → is_letter (head text) ≡ true → kind_shown k ≡ name (take (prefix_len is_word_byte text) text) → ¬ (IsReserved (take (prefix_len is_word_byte text) text)) → prefix_len is_word_byte text ≤ LIMITS.name → IsFront text (Some k) (prefix_len is_word_byte text)
 name_front text k some letter shown free short =
     let n = prefix_len is_word_byte text in
-    let small : length (take n text) ≤ 64 = omega (arith, length-prefix_len is_word_byte text) in
+    let small : length (take n text) ≤ LIMITS.name = omega (arith, length-prefix_len is_word_byte text) in
     let writes : Writes (take n text) (name (take n text)) = (refl, name_of_word (take n text) (word_at text some letter) small free) in
     token_front text n k (prefix_len-le-length is_word_byte text) (subst (λ t. Writes (take n text) t) (sym shown) writes) (word_longest text letter)
 
-pub word_too_long : (text : List ℕ) → 0 < length text → is_letter (head text) ≡ true → 64 < prefix_len is_word_byte text → NoneStands text
+pub word_too_long : (text : List ℕ) → 0 < length text → is_letter (head text) ≡ true → LIMITS.name < prefix_len is_word_byte text → NoneStands text
 word_too_long text some letter long = none_front text (first_of_letter (head text) letter) (λ w rest t e writes longest.
     let n = prefix_len is_word_byte text in
     let it = text_of_token w t writes in
     let word : is_word (take n text) ≡ true = word_at text some letter in
     let same : w ≡ take n text = longest_is text w rest n e it longest (prefix_len-le-length is_word_byte text) (by_word word) (word_longest text letter w rest e it) in
-    let short : length (take n text) ≤ 64 = token_of_word (take n text) t word (subst (λ x. Writes x t) same writes) in
+    let short : length (take n text) ≤ LIMITS.name = token_of_word (take n text) t word (subst (λ x. Writes x t) same writes) in
     omega (arith, length-prefix_len is_word_byte text))
 
 -- a number

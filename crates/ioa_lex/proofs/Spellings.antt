@@ -4,6 +4,7 @@ use Rattle.std.specs.Str.{bytes_eq}
 use Rattle.std.specs.List.{list_all, list_any}
 use Rattle.std.proofs.lemmas.Slice.Eq.{bytes_eq-Decides}
 use Rattle.std.proofs.lemmas.Bool.{cases_Bool, and_parts, or_cases, false≢true}
+use Rattle.ioa_value.specs.declared.limits.TheConstants.{LIMITS}
 use Rattle.ioa_lex.specs.declared.terminal.Terminal.{Terminal}
 use Rattle.ioa_lex.specs.declared.terminal.Terminal.TheVariants as terminals
 use Rattle.ioa_value.specs.Names.{is_name, is_reserved, reserved}
@@ -45,7 +46,7 @@ pub word_or_sign : (t : Terminal) → (is_word (spelling_of t) || is_sign (spell
 word_or_sign terminals.Type = refl
 word_or_sign _ = refl
 
-pub is_short : (t : Terminal) → nat_le (length (spelling_of t)) 64 ≡ true
+pub is_short : (t : Terminal) → nat_le (length (spelling_of t)) LIMITS.name ≡ true
 is_short terminals.Type = refl
 is_short _ = refl
 

@@ -5,6 +5,7 @@ use Rattle.std.proofs.lemmas.List.{append_cancel_right, length-append, take-appe
 use Rattle.std.proofs.lemmas.Bool.{cond-true, cond-false, eq-eqb, ne_eqb}
 use Rattle.std.proofs.lemmas.List.Sums.{sum_by-append}
 use Rattle.std.proofs.Math.Seq.{take-add}
+use Rattle.ioa_value.specs.declared.limits.TheConstants.{LIMITS}
 use Rattle.ioa_lex.specs.declared.token.Kind.{Kind}
 use Rattle.ioa_lex.specs.declared.token.Token.{Token}
 use Rattle.ioa_lex.specs.declared.refusal.Refusal.{Refusal}
@@ -100,7 +101,7 @@ kept_some ts us t kind is e =
 pub kept_none : (ts us : List Token) (line : ℕ) (kind : Option Kind) → kind ≡ None → us ≡ ts → placed us ≡ placed ts ++ found_on line kind
 kept_none ts us line kind is e = ap placed e ∙ sym (append-nil (placed ts)) ∙ ap (λ k. placed ts ++ found_on line k) (sym is)
 
-pub refused_by : (text : List ℕ) (at line : ℕ) (ts : List (Tok × ℕ)) (e : Refusal) → length text ≤ 1048576 → at < length text → IsLexedTo text at ts → line ≡ line_after (take at text) → NoFront (drop at text) line e → IsRefused text e
+pub refused_by : (text : List ℕ) (at line : ℕ) (ts : List (Tok × ℕ)) (e : Refusal) → length text ≤ LIMITS.text → at < length text → IsLexedTo text at ts → line ≡ line_after (take at text) → NoFront (drop at text) line e → IsRefused text e
 refused_by text at line ts (refusals.BadByte n) short within h here none = (short, subst (StopsOn text) (sym none.0) (stopped_at text at line ts within h here none.1))
 refused_by text at line ts refusals.OutOfMemory short within h here none = short
 refused_by text at line ts refusals.TextTooLong short within h here none = absurd none

@@ -2,6 +2,7 @@
 use Rattle.std.proofs.Common.{◌≡◌, ℕ, ◌≤◌, ◌<◌, true, false, ◌&&◌, not, nat_le, List, [], ◌∷◌, ◌++◌, length, get_or, refl, sym, ap, ◌∙◌, ⊎_elim, arith}
 use Rattle.std.specs.List.{list_all}
 use Rattle.std.proofs.lemmas.Bool.{and_parts, and_from, or_cases, both_ways, leb-true, le-leb, not-true, not_from_false, false_from_ne_true, false≢true}
+use Rattle.ioa_value.specs.declared.limits.TheConstants.{LIMITS}
 use Rattle.ioa_value.specs.Names.{begins_with_letter, is_name, is_reserved, is_letter, is_digit, is_word_byte, IsName}
 use Rattle.ioa_lex.specs.Spelling.{spelling_of, IsReserved}
 use Rattle.ioa_lex.specs.Tokens.{Tok, number, name, terminal}
@@ -104,14 +105,14 @@ text_of_sign w h s = let p = sign_part (head w) s in elim (text_kind w h) [
 pub record NameParts (w : List ℕ) : Type 0 where
   pub first : begins_with_letter w ≡ true
   pub parts : list_all is_word_byte w ≡ true
-  pub short : nat_le (length w) 64 ≡ true
+  pub short : nat_le (length w) LIMITS.name ≡ true
   pub free : is_reserved w ≡ false
 
 name_parts : (w : List ℕ) → IsName w → NameParts w
 unfolding is_name
 name_parts w h =
-    let a = and_parts (begins_with_letter w && list_all is_word_byte w && nat_le (length w) 64) (not (is_reserved w)) h in
-    let b = and_parts (begins_with_letter w && list_all is_word_byte w) (nat_le (length w) 64) a.0 in
+    let a = and_parts (begins_with_letter w && list_all is_word_byte w && nat_le (length w) LIMITS.name) (not (is_reserved w)) h in
+    let b = and_parts (begins_with_letter w && list_all is_word_byte w) (nat_le (length w) LIMITS.name) a.0 in
     let c = and_parts (begins_with_letter w) (list_all is_word_byte w) b.0 in
     record { first = c.0; parts = c.1; short = b.1; free = not-true (is_reserved w) a.1 }
 
@@ -121,22 +122,22 @@ word_of_name (b ∷ bs) h =
     let k = name_parts (b ∷ bs) h in
     and_from (is_letter b) (list_all is_word_byte bs) k.first (and_parts (is_word_byte b) (list_all is_word_byte bs) k.parts).1
 
-name_short : (w : List ℕ) → IsName w → length w ≤ 64
-name_short w h = leb-true (length w) 64 (name_parts w h).short
+name_short : (w : List ℕ) → IsName w → length w ≤ LIMITS.name
+name_short w h = leb-true (length w) LIMITS.name (name_parts w h).short
 
 name_not_reserved : (w : List ℕ) → IsName w → IsReserved w → ⊥
 name_not_reserved w h r = both_ways (is_name w) (ap is_name r.1 ∙ no_name r.0) h
 
-pub name_of_word : (w : List ℕ) → is_word w ≡ true → length w ≤ 64 → ¬ (IsReserved w) → IsName w
+pub name_of_word : (w : List ℕ) → is_word w ≡ true → length w ≤ LIMITS.name → ¬ (IsReserved w) → IsName w
 unfolding is_name
 name_of_word [] h short free = absurd (false≢true h)
 name_of_word (b ∷ bs) h short free =
     let w = b ∷ bs in
     let k = and_parts (is_letter b) (list_all is_word_byte bs) h in
     let parts : list_all is_word_byte w ≡ true = and_from (is_word_byte b) (list_all is_word_byte bs) (part_of_letter b k.0) k.1 in
-    let small : nat_le (length w) 64 ≡ true = le-leb (length w) 64 short in
+    let small : nat_le (length w) LIMITS.name ≡ true = le-leb (length w) LIMITS.name short in
     let other : not (is_reserved w) ≡ true = not_from_false (is_reserved w) (false_from_ne_true (is_reserved w) (λ yes'. free (reserved_word w yes'))) in
-    and_from (is_letter b && list_all is_word_byte w && nat_le (length w) 64) (not (is_reserved w)) (and_from (is_letter b && list_all is_word_byte w) (nat_le (length w) 64) (and_from (is_letter b) (list_all is_word_byte w) k.0 parts) small) other
+    and_from (is_letter b && list_all is_word_byte w && nat_le (length w) LIMITS.name) (not (is_reserved w)) (and_from (is_letter b && list_all is_word_byte w) (nat_le (length w) LIMITS.name) (and_from (is_letter b) (list_all is_word_byte w) k.0 parts) small) other
 
 -- what a token is written as is a token's text
 pub text_of_token : (w : List ℕ) (t : Tok) → Writes w t → IsTokenText w
@@ -165,10 +166,10 @@ same_token w (terminal t) (number n) h k = absurd (digits_no_terminal w k.0 (t, 
 same_token w (terminal t) (name s) h k = absurd (name_not_reserved w k.1 (t, h))
 same_token w (terminal t) (terminal u) h k = ap terminal (same_terminal t u (sym h ∙ k))
 
-pub token_of_word : (w : List ℕ) (t : Tok) → is_word w ≡ true → Writes w t → length w ≤ 64
+pub token_of_word : (w : List ℕ) (t : Tok) → is_word w ≡ true → Writes w t → length w ≤ LIMITS.name
 token_of_word w (number n) h k = absurd (digits_no_word w k.0 h)
 token_of_word w (name s) h k = name_short w k.1
-token_of_word w (terminal t) h k = rw k (leb-true (length (spelling_of t)) 64 (is_short t))
+token_of_word w (terminal t) h k = rw k (leb-true (length (spelling_of t)) LIMITS.name (is_short t))
 
 pub token_of_digits : (w : List ℕ) (t : Tok) → is_digits w ≡ true → Writes w t → value_of w ≤ 9223372036854775807
 token_of_digits w (number n) h k = omega (arith, k.1, k.2)

@@ -1,6 +1,7 @@
 -- What the tokens of a text are.
 use Rattle.std.specs.Prelude.{◌≡◌, ◌≢◌, ℕ, ◌+◌, ◌*◌, ◌-◌, ◌<◌, ◌≤◌, ◌==◌, ◌||◌, ◌&&◌, not, Bool, false, IsTrue, List, [], ◌∷◌, ◌++◌, length, map, fold, count_by}
 use Rattle.std.specs.List.{flat_map, list_all}
+use Rattle.ioa_value.specs.declared.limits.TheConstants.{LIMITS}
 use Rattle.ioa_value.specs.Names.{is_letter, is_digit, is_word_byte, IsName}
 use Rattle.ioa_lex.specs.declared.refusal.Refusal.{Refusal}
 use Rattle.ioa_lex.specs.declared.refusal.Refusal.TheVariants as refusals
@@ -99,9 +100,9 @@ StopsOn text line =
 
 -- why a text is refused: it is too long, or stops, or memory ran out
 abbrev pub IsRefused : List ℕ → Refusal → Type 0
-IsRefused text refusals.TextTooLong = 1048576 < length text
-IsRefused text (refusals.BadByte line) = (length text ≤ 1048576) × StopsOn text line
-IsRefused text refusals.OutOfMemory = length text ≤ 1048576
+IsRefused text refusals.TextTooLong = LIMITS.text < length text
+IsRefused text (refusals.BadByte line) = (length text ≤ LIMITS.text) × StopsOn text line
+IsRefused text refusals.OutOfMemory = length text ≤ LIMITS.text
 IsRefused text _ = ⊥
 
 abbrev pub placed : List Token → List (Tok × ℕ)

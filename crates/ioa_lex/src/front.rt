@@ -9,10 +9,8 @@ use crate::refusal::Refusal;
 use crate::scan::{digits_len, is_blank, line_len, value_of, word_len};
 use crate::terminal::Terminal;
 use crate::token::Kind;
+use ioa_value::LIMITS;
 use std::alloc::Global;
-
-/// The most bytes that a name has.
-const LONGEST_NAME: usize = 64;
 
 /// A blank, a comment or a token at the front of a text.
 #[derive(Drop)]
@@ -58,7 +56,7 @@ fn word(alloc: Global, text: &[u8], line: u32) -> Result<Front, Refusal>
             len,
         });
     }
-    if len > LONGEST_NAME {
+    if len > LIMITS.name {
         return Err(Refusal::BadByte(line));
     }
     let name = name_of(alloc, word)?;

@@ -7,10 +7,8 @@ ghost use Rattle.ioa_lex.specs.Lexing.{Lexes, StopsOn, IsRefused, placed};
 use crate::front::{Front, front_of};
 use crate::refusal::Refusal;
 use crate::token::Token;
+use ioa_value::LIMITS;
 use std::alloc::Global;
-
-/// The most bytes that a text has.
-const LONGEST_TEXT: usize = 1048576;
 
 /// The tokens of a text, each with the line on which it begins.
 ///
@@ -20,20 +18,20 @@ const LONGEST_TEXT: usize = 1048576;
 pub fn lex(alloc: Global, text: &[u8]) -> Result<Vec<Token>, Refusal>
     ensures ok { IfOk result (λ v. Lexes text.now (placed v.items)) }
     ensures refused { IfErr result (λ e. IsRefused text.now e) }
-    ensures long { IsErrOf result Refusal.TextTooLong ↔ (1048576 < length text.now) }
+    ensures long { IsErrOf result Refusal.TextTooLong ↔ (LIMITS.text < length text.now) }
 
     // Where there are tokens they are the answer, and where there are none their want is.
-    ensures only { (ts : List (Tok × ℕ)) → Lexes text.now ts → length text.now ≤ 1048576 → MatchResult result (λ v. placed v.items ≡ ts) (λ e. e ≡ Refusal.OutOfMemory) }
-    ensures stops { (line : ℕ) → StopsOn text.now line → length text.now ≤ 1048576 → MatchResult result (λ _. ⊥) (λ e. (e ≡ Refusal.BadByte line) ⊎ (e ≡ Refusal.OutOfMemory)) }
+    ensures only { (ts : List (Tok × ℕ)) → Lexes text.now ts → length text.now ≤ LIMITS.text → MatchResult result (λ v. placed v.items ≡ ts) (λ e. e ≡ Refusal.OutOfMemory) }
+    ensures stops { (line : ℕ) → StopsOn text.now line → length text.now ≤ LIMITS.text → MatchResult result (λ _. ⊥) (λ e. (e ≡ Refusal.BadByte line) ⊎ (e ≡ Refusal.OutOfMemory)) }
 {
-    if text.len() > LONGEST_TEXT {
+    if text.len() > LIMITS.text {
         return Err(Refusal::TextTooLong);
     }
     tokens_of(alloc, text)
 }
 
 fn tokens_of(alloc: Global, text: &[u8]) -> Result<Vec<Token>, Refusal>
-    requires { length text.now ≤ 1048576 }
+    requires { length text.now ≤ LIMITS.text }
     ensures { MatchResult result (λ v. Lexes text.now (placed v.items)) (λ e. IsRefused text.now e) }
 {
     let mut tokens = Vec::new(alloc);

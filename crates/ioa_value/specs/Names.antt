@@ -1,6 +1,7 @@
--- Names: a letter, then letters, digits or `_`, at most 64 bytes in all, and no reserved word.
+-- Names: a letter, then letters, digits or `_`, within the limit of bytes, and no reserved word.
 use Rattle.std.specs.Prelude.{ℕ, Bool, false, not, ◌&&◌, ◌||◌, ◌==◌, nat_le, IsTrue, List, [], ◌∷◌, length, codes, bytes_eq}
 use Rattle.std.specs.List.{list_any, list_all}
+use Rattle.ioa_value.specs.declared.limits.TheConstants.{LIMITS}
 
 abbrev pub is_letter : ℕ → Bool
 is_letter b = (nat_le 65 b && nat_le b 90) || (nat_le 97 b && nat_le b 122)
@@ -30,7 +31,7 @@ begins_with_letter (b ∷ bs) = is_letter b
 
 -- whether the bytes are a name
 unfoldable pub is_name : List ℕ → Bool
-is_name text = begins_with_letter text && list_all is_word_byte text && nat_le (length text) 64 && not (is_reserved text)
+is_name text = begins_with_letter text && list_all is_word_byte text && nat_le (length text) LIMITS.name && not (is_reserved text)
 
 abbrev pub IsName : List ℕ → Type 0
 IsName text = IsTrue (is_name text)

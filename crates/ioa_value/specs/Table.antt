@@ -2,6 +2,7 @@
 use Rattle.std.specs.Prelude.{◌≡◌, ℕ, ◌+◌, ◌<◌, ◌≤◌, List, [], ◌∷◌, length, map, All, Option, Some, None, if◌then◌else◌, slice_get, codes}
 use Rattle.std.specs.Option.{option_map}
 use Rattle.std.specs.Str.{bytes_eq}
+use Rattle.ioa_value.specs.declared.limits.TheConstants.{LIMITS}
 use Rattle.ioa_value.specs.Actions.{Name}
 
 -- a field of a tuple: its name, and its type's number
@@ -57,17 +58,17 @@ type_named types x = place_from 0 (map (λ d. d.name) types) x
 abbrev pub MayStand : ℕ → Shape → Type 0
 MayStand ty truths = ty ≡ 0
 MayStand ty numbers = ty ≡ 1
-MayStand ty (names ns) = (0 < length ns) × (length ns ≤ 256)
-MayStand ty (fields fs) = (0 < length fs) × (length fs ≤ 16) × All (λ t. t < ty) (types_of fs)
-MayStand ty (sequence most of) = (0 < most) × (most ≤ 256) × (of < ty)
+MayStand ty (names ns) = (0 < length ns) × (length ns ≤ LIMITS.names)
+MayStand ty (fields fs) = (0 < length fs) × (length fs ≤ LIMITS.fields) × All (λ t. t < ty) (types_of fs)
+MayStand ty (sequence most of) = (0 < most) × (most ≤ LIMITS.capacity) × (of < ty)
 
--- one more type may be this: there are fewer than 1,024 declared ones
+-- one more type may be this: there is room among the declared ones
 abbrev pub MayFollow : Table → Shape → Type 0
-MayFollow types shape = (length types < 2 + 1024) × MayStand (length types) shape
+MayFollow types shape = (length types < 2 + LIMITS.types) × MayStand (length types) shape
 
--- Bool and Int come first, each type may stand where it does, and 1,024 at most are declared
+-- Bool and Int come first, each type may stand where it does, and no more are declared than may be
 pub record AreTypes (types : Table) : Type 0 where
   pub first : slice_get types 0 ≡ Some bool
   pub second : slice_get types 1 ≡ Some int
   pub each : (ty : ℕ) (d : Declaration) → slice_get types ty ≡ Some d → MayStand ty d.shape
-  pub few : length types ≤ 2 + 1024
+  pub few : length types ≤ 2 + LIMITS.types

@@ -5,6 +5,7 @@ mod action;
 mod arithmetic;
 mod initial;
 mod laws;
+mod limits;
 mod listing;
 mod memory;
 mod names;
@@ -23,6 +24,7 @@ pub use laws::{
     first_is_typed, no_bad_line, one_action, one_list, operators_are_typed, same_is_equal,
     written_is_read,
 };
+pub use limits::{LIMITS, Limits};
 pub use listing::{is_skipped, read_list};
 pub use memory::OutOfMemory;
 pub use names::is_name;

@@ -2,6 +2,8 @@ ghost use Rattle.std.specs.Prelude.{◌≡◌, bytes_eq};
 ghost use Rattle.std.specs.List.{list_all, list_any};
 ghost use Rattle.ioa_value.specs.Names as spec;
 
+use crate::limits::LIMITS;
+
 const RESERVED: [&str; 47] = [
     "type",
     "enum",
@@ -57,7 +59,10 @@ const RESERVED: [&str; 47] = [
 pub fn is_name(text: &[u8]) -> bool
     ensures { result ≡ spec.is_name text.now }
 {
-    begins_with_letter(text) && all_word_bytes(text) && text.len() <= 64 && !is_reserved(text)
+    begins_with_letter(text)
+        && all_word_bytes(text)
+        && text.len() <= LIMITS.name
+        && !is_reserved(text)
 }
 
 fn begins_with_letter(text: &[u8]) -> bool

@@ -14,14 +14,14 @@ returns-in-Some c =
     let written = rw c.word_len-len.ensures at c.in-Some.ensures.found in
     rw c.word_len-len.ensures (terminal_front c.args.text.now c.in-Some.terminal c.requires.letter written)
 
-pub returns-then-len-gt-LONGEST_NAME : goal.returns-then-len-gt-LONGEST_NAME
-returns-then-len-gt-LONGEST_NAME c =
-    let long = rw c.word_len-len.ensures at c.if-len-gt-LONGEST_NAME.true in
+pub returns-then-len : goal.returns-then-len
+returns-then-len c =
+    let long = rw c.word_len-len.ensures at c.if-len.true in
     (refl, word_too_long c.args.text.now c.requires.some c.requires.letter long)
 
 pub returns : goal.returns
 returns c =
     let free = rw c.word_len-len.ensures at c.in_default.ensures.free in
-    let short = rw c.word_len-len.ensures at c.if-len-gt-LONGEST_NAME.false in
+    let short = rw c.word_len-len.ensures at c.if-len.false in
     let kept = rw c.word_len-len.ensures at c.in_ok-name.ensures.kept in
     rw c.word_len-len.ensures (name_front c.args.text.now (kinds.Name c.in_ok-name.name) c.requires.some c.requires.letter (ap name kept) free short)

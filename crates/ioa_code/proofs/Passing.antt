@@ -1,0 +1,96 @@
+-- One instruction, on the number of a stack.
+use Rattle.std.proofs.Common.{◌≡◌, ℕ, suc, ◌+◌, ◌-◌, ◌<◌, ◌≤◌, ◌==◌, Bool, true, false, List, [], ◌∷◌, ◌++◌, length, map, take, drop, get_or, Option, Some, None, Result, Ok, Err, refl, sym, ap, ◌∙◌, subst, arith, if◌then◌else◌}
+use Rattle.std.specs.Prelude.{nat_le, reverse}
+use Rattle.std.proofs.lemmas.Bool.{le-leb}
+use Rattle.std.proofs.lemmas.Bool.Decides.{nat_tests}
+use Rattle.std.proofs.lemmas.List.{length-append, length-reverse, reverse-append, reverse-reverse, map-append}
+use Rattle.std.proofs.Math.Seq.{take-suc, take-append_seam, drop-append_seam}
+use Rattle.ioa_value.specs.declared.value.Ty.{Ty}
+use Rattle.ioa_value.specs.declared.operator.Op.{Op}
+use Rattle.ioa_value.specs.Table.{Table}
+use Rattle.ioa_value.specs.Operators.{arity, op_type}
+use Rattle.ioa_code.specs.declared.reason.Reason.{Reason}
+use Rattle.ioa_code.specs.declared.reason.Reason.TheVariants.{TooShort, Mistyped}
+use Rattle.ioa_code.specs.declared.stacks.Stacks.{Stacks}
+use Rattle.ioa_value.specs.Plain.{number}
+use Rattle.ioa_code.specs.Machine.{on_top}
+use Rattle.ioa_code.specs.Valid.{wanted, popped}
+use Rattle.ioa_code.specs.Stacks.{node_at, Spells, IsStack, IsNumbered, Grows, from_node, topmost, Agrees, Passes}
+use Rattle.ioa_code.proofs.Lists.{on_top-append, on_top-short}
+use Rattle.ioa_code.proofs.Numbered.{grows_refl, stack_kept, one_more, Taken, Takes, takes}
+
+pub spelled_more : (old new : Stacks) (k j : ℕ) (xs : List Ty) (i : ℕ) (d : Ty) → Grows old new → i < length xs → IsStack old.nodes.items k (map number (take i xs)) → node_at new.nodes.items j ≡ Some (k, number (get_or xs i d)) → IsStack new.nodes.items j (map number (take (i + 1) xs))
+spelled_more old new k j xs i d g lt h e =
+    let n : i + 1 ≡ suc i = omega arith in
+    let whole : map number (take (i + 1) xs) ≡ map number (take i xs) ++ number (get_or xs i d) ∷ [] =
+    ap (λ m. map number (take m xs)) n ∙ ap (map number) (take-suc xs i d lt) ∙ map-append number (take i xs) (get_or xs i d ∷ []) in
+    subst (IsStack new.nodes.items j) (sym whole)
+    (one_more new.nodes.items k j (number (get_or xs i d)) (map number (take i xs)) (stack_kept old new g.keeps k (map number (take i xs)) h) e)
+
+pub passes_same : (old new : Stacks) (k : ℕ) (r : Result ℕ Reason) (f g : List ℕ → Result (List ℕ) Reason) → ((ts : List ℕ) → f ts ≡ g ts) → Passes old new k r f → Passes old new k r g
+passes_same old new k r f g e h = (h.0, λ ts x. subst (Agrees new.nodes.items r) (e ts) (h.1 ts x))
+
+pub push_passes : (old new : Stacks) (below k t : ℕ) → Grows old new → node_at new.nodes.items k ≡ Some (below, t) → Passes old new below (Ok k) (λ ts. Ok (ts ++ t ∷ []))
+push_passes old new below k t g e =
+    (g, λ ts h. one_more new.nodes.items below k t ts (stack_kept old new g.keeps below ts h) e)
+
+-- ---- the topmost types
+
+record Parts (nodes : List (ℕ × ℕ)) (ts : List ℕ) (n rest : ℕ) (types : List ℕ) : Type 0 where
+  below : List ℕ
+  parts : ts ≡ below ++ types
+  long : length types ≡ n
+  stack : IsStack nodes rest below
+
+parts : (nodes : List (ℕ × ℕ)) (k n : ℕ) (ts : List ℕ) (r : ℕ × List ℕ) → IsStack nodes k ts → topmost nodes k n ≡ Some r → Parts nodes ts n r.0 r.1
+parts nodes k n ts r h e =
+    let t : Taken nodes (reverse ts) n r.0 r.1 = subst (Takes nodes (reverse ts) n) e (takes nodes k n (reverse ts) h) in
+    record {
+      below = reverse t.below;
+      parts = sym (reverse-reverse ts) ∙ ap reverse t.parts ∙ reverse-append (reverse r.1) t.below ∙ ap (λ l. reverse t.below ++ l) (reverse-reverse r.1);
+      long = t.long;
+      stack = subst (Spells nodes r.0) (sym (reverse-reverse t.below)) t.stack;
+    }
+
+pub top_there : {B : Type 0} (nodes : List (ℕ × ℕ)) (k n : ℕ) (ts : List ℕ) (r : ℕ × List ℕ) (P : B → Type 0) (x : B) (f : List ℕ → List ℕ → B) → IsStack nodes k ts → topmost nodes k n ≡ Some r → ((below : List ℕ) → IsStack nodes r.0 below → P (f below r.1)) → P (on_top n ts x f)
+top_there nodes k n ts r P x f h e go =
+    let p = parts nodes k n ts r h e in
+    subst P (sym (ap (λ l. on_top n l x f) p.parts ∙ on_top-append n p.below r.1 x f p.long)) (go p.below p.stack)
+
+pub top_missing : {B : Type 0} (nodes : List (ℕ × ℕ)) (k n : ℕ) (ts : List ℕ) (x : B) (f : List ℕ → List ℕ → B) → IsStack nodes k ts → topmost nodes k n ≡ None → on_top n ts x f ≡ x
+top_missing nodes k n ts x f h e =
+    let lt : length (reverse ts) < n = subst (Takes nodes (reverse ts) n) e (takes nodes k n (reverse ts) h) in
+    on_top-short n ts x f (omega (arith, length-reverse ts))
+
+one_top : (nodes : List (ℕ × ℕ)) (k : ℕ) (o : Option (ℕ × ℕ)) → node_at nodes k ≡ o → topmost nodes k 1 ≡ from_node o (λ key. Some (key.0, key.1 ∷ []))
+one_top nodes k o e = ap (λ x. from_node x (λ key. Some (key.0, key.1 ∷ []))) e
+
+-- the top has this type, or not, or is missing
+pub pop_there : (nodes : List (ℕ × ℕ)) (k ty : ℕ) (key : ℕ × ℕ) (b : Bool) → node_at nodes k ≡ Some key → (key.1 == ty) ≡ b → (ts : List ℕ) → IsStack nodes k ts → Agrees nodes (if b then Ok key.0 else Err Mistyped) (on_top 1 ts (Err TooShort) (λ below top. popped ty below top))
+pop_there nodes k ty key b e t ts h =
+    top_there nodes k 1 ts (key.0, key.1 ∷ []) (Agrees nodes (if b then Ok key.0 else Err Mistyped)) (Err TooShort) (λ below top. popped ty below top) h (one_top nodes k (Some key) e)
+    (λ below s. subst (λ c. Agrees nodes (if b then Ok key.0 else Err Mistyped) (if c then Ok below else Err Mistyped)) (sym t) (go b below s))
+  where
+    go : (c : Bool) (below : List ℕ) → IsStack nodes key.0 below → Agrees nodes (if c then Ok key.0 else Err Mistyped) (if c then Ok below else Err Mistyped)
+    go true below s = s
+    go false below s = refl
+
+pub pop_missing : (nodes : List (ℕ × ℕ)) (k ty : ℕ) → node_at nodes k ≡ None → (ts : List ℕ) → IsStack nodes k ts → Agrees nodes (Err TooShort) (on_top 1 ts (Err TooShort) (λ below top. popped ty below top))
+pop_missing nodes k ty e ts h =
+    subst (Agrees nodes (Err TooShort)) (sym (top_missing nodes k 1 ts (Err TooShort) (λ below top. popped ty below top) h (one_top nodes k None e))) refl
+
+-- an operator
+abbrev pub operator : Table → Op → List ℕ → Result (List ℕ) Reason
+operator types op ts =
+    on_top (arity types op) ts (Err TooShort) (λ below operands. wanted Mistyped (op_type types op operands) (λ ty. Ok (below ++ ty ∷ [])))
+
+pub apply_passes : (types : Table) (old new : Stacks) (op : Op) (k : ℕ) (r : ℕ × List ℕ) (o : Option ℕ) (x : Result ℕ Reason) → topmost old.nodes.items k (arity types op) ≡ Some r → o ≡ op_type types op r.1 → Passes old new r.0 x (λ ts. wanted Mistyped o (λ ty. Ok (ts ++ ty ∷ []))) → Passes old new k x (operator types op)
+apply_passes types old new op k r o x e t p = (
+  p.0,
+  λ ts h. top_there old.nodes.items k (arity types op) ts r (Agrees new.nodes.items x) (Err TooShort) (λ below operands. wanted Mistyped (op_type types op operands) (λ ty. Ok (below ++ ty ∷ []))) h e
+      (λ below s. subst (λ y. Agrees new.nodes.items x (wanted Mistyped y (λ ty. Ok (below ++ ty ∷ [])))) t (p.1 below s)),
+)
+
+pub apply_short : (types : Table) (s : Stacks) (op : Op) (k : ℕ) → IsNumbered s → topmost s.nodes.items k (arity types op) ≡ None → Passes s s k (Err TooShort) (operator types op)
+apply_short types s op k n e =
+    (grows_refl s n, λ ts h. subst (Agrees s.nodes.items (Err TooShort)) (sym (top_missing s.nodes.items k (arity types op) ts (Err TooShort) (λ below operands. wanted Mistyped (op_type types op operands) (λ ty. Ok (below ++ ty ∷ []))) h e)) refl)

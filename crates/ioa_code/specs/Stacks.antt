@@ -1,0 +1,109 @@
+-- Stacks of types, each known by a number.
+use Rattle.std.specs.Prelude.{◌≡◌, ℕ, zero, suc, ◌+◌, List, [], ◌∷◌, ◌++◌, map, reverse, Vec, Option, Some, None, Result, Ok, Err, slice_get}
+use Rattle.std.specs.BTreeMap as tree
+use Rattle.std.specs.Ordering.{nat_cmp, ordering_then}
+use Rattle.std.specs.declared.cmp.Ordering.{Ordering}
+use Rattle.std.specs.Global.{Global}
+use Rattle.ioa_value.specs.declared.value.Ty.{Ty}
+use Rattle.ioa_value.specs.Plain.{number}
+use Rattle.ioa_code.specs.declared.reason.Reason.{Reason}
+use Rattle.ioa_code.specs.declared.stacks.Stacks.{Stacks}
+use Rattle.ioa_code.specs.declared.exits.Exit.{Exit}
+use Rattle.ioa_code.specs.declared.exits.Exits.{Exits}
+use Rattle.ioa_code.specs.declared.exits.Exits.TheVariants.{One, Two}
+use Rattle.ioa_code.specs.Valid.{Way}
+
+-- stack 0 is empty; stack k + 1 has the number of a stack, and on it a type
+abbrev pub node_at : List (ℕ × ℕ) → ℕ → Option (ℕ × ℕ)
+node_at nodes zero = None
+node_at nodes (suc k) = slice_get nodes k
+
+-- the stack of this number has these types, from the top down
+abbrev pub Spells : List (ℕ × ℕ) → ℕ → List ℕ → Type 0
+Spells nodes k [] = k ≡ 0
+Spells nodes k (t ∷ ts) = (below : ℕ) × (node_at nodes k ≡ Some (below, t)) × Spells nodes below ts
+
+-- the same with the top last
+abbrev pub IsStack : List (ℕ × ℕ) → ℕ → List ℕ → Type 0
+IsStack nodes k ts = Spells nodes k (reverse ts)
+
+-- the order of the keys
+abbrev pub by_parts : ℕ × ℕ → ℕ × ℕ → Ordering
+by_parts a b = ordering_then (nat_cmp a.0 b.0) (nat_cmp a.1 b.1)
+
+-- the map has each stack's number
+pub record IsNumbered (s : Stacks) : Type 0 where
+  pub found : (key : ℕ × ℕ) (k : ℕ) → tree.get by_parts s.numbers key ≡ Some k → node_at s.nodes.items k ≡ Some key
+  pub each : (key : ℕ × ℕ) (k : ℕ) → node_at s.nodes.items k ≡ Some key → tree.get by_parts s.numbers key ≡ Some k
+
+-- no stack has changed its types
+abbrev pub Keeps : Stacks → Stacks → Type 0
+Keeps old new = (k : ℕ) (key : ℕ × ℕ) → node_at old.nodes.items k ≡ Some key → node_at new.nodes.items k ≡ Some key
+
+pub record Grows (old new : Stacks) : Type 0 where
+  pub numbered : IsNumbered new
+  pub keeps : Keeps old new
+
+-- the n topmost types with the last on top, and the stack below them, if there are so many
+abbrev pub on : Option (ℕ × List ℕ) → ℕ → Option (ℕ × List ℕ)
+on (Some r) ty = Some (r.0, r.1 ++ ty ∷ [])
+on None ty = None
+
+abbrev pub from_node : Option (ℕ × ℕ) → (ℕ × ℕ → Option (ℕ × List ℕ)) → Option (ℕ × List ℕ)
+from_node (Some key) next = next key
+from_node None next = None
+
+abbrev pub topmost : List (ℕ × ℕ) → ℕ → ℕ → Option (ℕ × List ℕ)
+topmost nodes k zero = Some (k, [])
+topmost nodes k (suc n) = from_node (node_at nodes k) (λ key. on (topmost nodes key.0 n) key.1)
+
+abbrev pub taken : Option (ℕ × Vec Ty Global) → Option (ℕ × List ℕ)
+taken (Some r) = Some (r.0, map number r.1.items)
+taken None = None
+
+-- the stack has these types, or the reasons agree
+abbrev pub Agrees : List (ℕ × ℕ) → Result ℕ Reason → Result (List ℕ) Reason → Type 0
+Agrees nodes (Ok k) (Ok ts) = IsStack nodes k ts
+Agrees nodes (Ok k) (Err reason) = ⊥
+Agrees nodes (Err why) (Ok ts) = ⊥
+Agrees nodes (Err why) (Err reason) = why ≡ reason
+
+-- of each stack of these types, what comes of it
+abbrev pub Passes : Stacks → Stacks → ℕ → Result ℕ Reason → (List ℕ → Result (List ℕ) Reason) → Type 0
+Passes old new k r after = Grows old new × ((ts : List ℕ) → IsStack old.nodes.items k ts → Agrees new.nodes.items r (after ts))
+
+-- the exits in order
+abbrev pub listed : Exits → List Exit
+listed (One e) = e ∷ []
+listed (Two e f) = e ∷ f ∷ []
+
+abbrev pub exit : ℕ → ℕ → Exit
+exit to stack = record { to = to; stack = stack }
+
+-- the exits lead where the ways do, with stacks of their types
+abbrev pub AreWays : List (ℕ × ℕ) → List Exit → List Way → Type 0
+AreWays nodes [] [] = Unit {0}
+AreWays nodes [] (w ∷ ws) = ⊥
+AreWays nodes (e ∷ es) [] = ⊥
+AreWays nodes (e ∷ es) (w ∷ ws) = (e.to ≡ w.to) × IsStack nodes e.stack w.types × AreWays nodes es ws
+
+-- the exits are the ways, or the reasons agree
+abbrev pub AgreeOn : List (ℕ × ℕ) → Result Exits Reason → Result (List Way) Reason → Type 0
+AgreeOn nodes (Ok exits) (Ok ways) = AreWays nodes (listed exits) ways
+AgreeOn nodes (Ok exits) (Err reason) = ⊥
+AgreeOn nodes (Err why) (Ok ways) = ⊥
+AgreeOn nodes (Err why) (Err reason) = why ≡ reason
+
+-- of each stack of these types, where the instruction leads
+abbrev pub LeadsOn : Stacks → Stacks → ℕ → Result Exits Reason → (List ℕ → Result (List Way) Reason) → Type 0
+LeadsOn old new k r after = Grows old new × ((ts : List ℕ) → IsStack old.nodes.items k ts → AgreeOn new.nodes.items r (after ts))
+
+-- with this stack to the place after p
+abbrev pub next_exit : ℕ → Result ℕ Reason → Result Exits Reason
+next_exit p (Ok k) = Ok (One (exit (p + 1) k))
+next_exit p (Err why) = Err why
+
+-- with this stack to place t, and to the place after p
+abbrev pub both_exits : ℕ → ℕ → Result ℕ Reason → Result Exits Reason
+both_exits t p (Ok k) = Ok (Two (exit t k) (exit (p + 1) k))
+both_exits t p (Err why) = Err why
