@@ -1,9 +1,9 @@
-ghost use Rattle.std.specs.Prelude.{◌≡◌, ◌≢◌, ◌∷◌, [], ◌++◌, ◌+◌, ◌<◌, ◌^◌, map, length, IfOk, OnOk};
-ghost use Rattle.ioa_value.specs.Plain.{plain};
+ghost use Rattle.std.specs.Prelude.{◌≡◌, ◌≢◌, Bool, ◌∷◌, [], ◌++◌, ◌+◌, ◌<◌, ◌^◌, map, length, IfOk, OnOk};
+ghost use Rattle.ioa_value.specs.Plain.{plain, truth};
 ghost use Rattle.ioa_code.specs.Machine.{act, stuck};
 ghost use Rattle.ioa_node.specs.Steps.{at, moved, Reads};
 
-use ioa_code::{Instr, Verified, operands};
+use ioa_code::{Instr, Verified};
 use ioa_value::{Fault, OutOfMemory, Value, apply};
 use std::alloc::Global;
 
@@ -17,9 +17,9 @@ pub(crate) fn write(
     slots: &mut Vec<Value>,
     values: &[Value],
 ) -> Result<Result<usize, Fault>, OutOfMemory>
-    requires fine { act code.now.code.consts instr (at place stack.old.items slots.old.items values.now) ≢ stuck }
+    requires fine { act code.now.code instr (at place stack.old.items slots.old.items values.now) ≢ stuck }
     requires small { place + 1 < 2 ^ 64 }
-    ensures { IfOk result (λ r. moved r stack.new.items slots.new.items values.now ≡ act code.now.code.consts instr (at place stack.old.items slots.old.items values.now)) }
+    ensures { IfOk result (λ r. moved r stack.new.items slots.new.items values.now ≡ act code.now.code instr (at place stack.old.items slots.old.items values.now)) }
 {
     match instr {
         Instr::Store(i) => {
@@ -27,7 +27,12 @@ pub(crate) fn write(
             slots[i as usize] = value;
             Ok(Ok(place + 1))
         }
-        _ => read(alloc, code, instr, place, stack, slots, values),
+        Instr::Const(_)
+        | Instr::Slot(_)
+        | Instr::Arg(_)
+        | Instr::Jump(_)
+        | Instr::JumpIfFalse(_)
+        | Instr::Apply(_) => read(alloc, code, instr, place, stack, slots, values),
     }
 }
 
@@ -41,10 +46,10 @@ pub(crate) fn read(
     slots: &[Value],
     values: &[Value],
 ) -> Result<Result<usize, Fault>, OutOfMemory>
-    requires fine { act code.now.code.consts instr (at place stack.old.items slots.now values.now) ≢ stuck }
+    requires fine { act code.now.code instr (at place stack.old.items slots.now values.now) ≢ stuck }
     requires reads { Reads instr }
     requires small { place + 1 < 2 ^ 64 }
-    ensures { IfOk result (λ r. moved r stack.new.items slots.now values.now ≡ act code.now.code.consts instr (at place stack.old.items slots.now values.now)) }
+    ensures { IfOk result (λ r. moved r stack.new.items slots.now values.now ≡ act code.now.code instr (at place stack.old.items slots.now values.now)) }
 {
     match instr {
         Instr::Const(k) => {
@@ -60,9 +65,18 @@ pub(crate) fn read(
             Ok(Ok(place + 1))
         }
         Instr::Store(_) => unreachable!(),
+        Instr::Jump(t) => Ok(Ok(t as usize)),
+        Instr::JumpIfFalse(t) => {
+            if truth_of(&pop(stack)) {
+                Ok(Ok(place + 1))
+            } else {
+                Ok(Ok(t as usize))
+            }
+        }
         Instr::Apply(op) => {
-            let below = stack.len() - operands(op);
-            match apply(alloc, code.types(), op, &stack[below..])? {
+            let types = code.types();
+            let below = stack.len() - op.arity(types);
+            match apply(alloc, types, op, &stack[below..])? {
                 Ok(value) => {
                     stack.truncate(below);
                     stack.push(value)?;
@@ -90,5 +104,16 @@ fn pop(stack: &mut Vec<Value>) -> Value
     match stack.pop() {
         Some(value) => value,
         None => unreachable!(),
+    }
+}
+
+/// The truth value, which it is.
+pub(crate) fn truth_of(value: &Value) -> bool
+    requires { (b : Bool) × (plain value.now ≡ truth b) }
+    ensures { plain value.now ≡ truth result }
+{
+    match value {
+        Value::Truth(b) => *b,
+        Value::Num(_) | Value::Name(..) | Value::Tuple(..) | Value::Items(..) => unreachable!(),
     }
 }
