@@ -7,7 +7,7 @@ use Rattle.std.proofs.lemmas.List.{map-append}
 use denote.Ref.{Bor}
 use Rattle.ioa_value.specs.Actions.{Name}
 use Rattle.ioa_syntax.specs.declared.tree.Declaration.{Declaration}
-use Rattle.ioa_syntax.specs.Instances.{basic_table}
+use Rattle.ioa_value.specs.Table.{basic}
 use Rattle.ioa_syntax.specs.View.{declaration_of, tree_of}
 use Rattle.ioa_syntax.specs.WellFormed.{contains, distinct, declared_name, global_names}
 use Rattle.ioa_check.proofs.NameLemmas.{contains-texts, distinct-again, distinct-append}
@@ -35,8 +35,8 @@ declared-append (x ∷ xs) ys = ap (λ ns. declared_name (declaration_of x) ∷ 
 -- a new name goes last
 pub names-grow : (ks new : List (Bor (List ℕ))) (v : Bor (List ℕ)) (b : Bool) (ds : List Declaration) (i : ℕ) (d : Declaration) → i < length ds → d ≡ get_or ds i d → v.now ≡ declared_name (declaration_of d) →
     b ≡ not (list_any (λ k. bytes_eq v.now k.now) ks) → new ≡ cond (list_any (λ k. bytes_eq v.now k.now) ks) ks (ks ++ v ∷ []) → b ≡ true →
-    (texts_of ks ≡ basic_table.names ++ declared (take i ds)) × (distinct (texts_of ks) ≡ true) →
-    (texts_of new ≡ basic_table.names ++ declared (take (i + 1) ds)) × (distinct (texts_of new) ≡ true)
+    (texts_of ks ≡ map (λ d. d.name) basic ++ declared (take i ds)) × (distinct (texts_of ks) ≡ true) →
+    (texts_of new ≡ map (λ d. d.name) basic ++ declared (take (i + 1) ds)) × (distinct (texts_of new) ≡ true)
 names-grow ks new v b ds i d l e v_is added keys fresh h = (texts, once)
   where
     absent : list_any (λ k. bytes_eq v.now k.now) ks ≡ false
@@ -45,9 +45,9 @@ names-grow ks new v b ds i d l e v_is added keys fresh h = (texts, once)
     longer : texts_of new ≡ texts_of ks ++ v.now ∷ []
     longer = ap texts_of (keys ∙ ap (λ c. cond c ks (ks ++ v ∷ [])) absent) ∙ map-append (λ (k : Bor (List ℕ)). k.now) ks (v ∷ [])
 
-    texts : texts_of new ≡ basic_table.names ++ declared (take (i + 1) ds)
-    texts = longer ∙ ap (λ ns. ns ++ v.now ∷ []) h.0 ∙ ap (λ n. (basic_table.names ++ declared (take i ds)) ++ n ∷ []) v_is
-        ∙ ap (λ ns. basic_table.names ++ ns) (sym (declared-append (take i ds) (d ∷ []))) ∙ ap (λ xs. basic_table.names ++ declared xs) (sym (take_item ds i d l e))
+    texts : texts_of new ≡ map (λ d. d.name) basic ++ declared (take (i + 1) ds)
+    texts = longer ∙ ap (λ ns. ns ++ v.now ∷ []) h.0 ∙ ap (λ n. (map (λ d. d.name) basic ++ declared (take i ds)) ++ n ∷ []) v_is
+        ∙ ap (λ ns. map (λ d. d.name) basic ++ ns) (sym (declared-append (take i ds) (d ∷ []))) ∙ ap (λ xs. map (λ d. d.name) basic ++ declared xs) (sym (take_item ds i d l e))
 
     once : distinct (texts_of new) ≡ true
     once = ap distinct longer ∙ distinct-append (texts_of ks) (v.now ∷ [])
@@ -55,10 +55,10 @@ names-grow ks new v b ds i d l e v_is added keys fresh h = (texts, once)
 
 -- a name that is there already
 pub names-again : (ks : List (Bor (List ℕ))) (v : Bor (List ℕ)) (b : Bool) (ds : List Declaration) (i : ℕ) (d : Declaration) → i < length ds → d ≡ get_or ds i d → v.now ≡ declared_name (declaration_of d) →
-    b ≡ not (list_any (λ k. bytes_eq v.now k.now) ks) → b ≡ false → texts_of ks ≡ basic_table.names ++ declared (take i ds) → distinct (global_names (tree_of ds)) ≡ false
+    b ≡ not (list_any (λ k. bytes_eq v.now k.now) ks) → b ≡ false → texts_of ks ≡ map (λ d. d.name) basic ++ declared (take i ds) → distinct (global_names (tree_of ds)) ≡ false
 names-again ks v b ds i d l e v_is added taken h =
     let there : contains (texts_of ks) v.now ≡ true = sym (contains-texts ks v.now) ∙ has _ (sym taken ∙ added) in
-    let front : contains (basic_table.names ++ declared (take i ds)) (declared_name (declaration_of d)) ≡ true = ap (λ ns. contains ns (declared_name (declaration_of d))) (sym h) ∙ ap (contains (texts_of ks)) (sym v_is) ∙ there in
-    ap (λ xs. distinct (basic_table.names ++ declared xs)) (sym (split-at ds i d l e))
-    ∙ ap (λ ns. distinct (basic_table.names ++ ns)) (declared-append (take i ds) (d ∷ drop (i + 1) ds))
-    ∙ distinct-again (basic_table.names ++ declared (take i ds)) (declared_name (declaration_of d)) (declared (drop (i + 1) ds)) front
+    let front : contains (map (λ d. d.name) basic ++ declared (take i ds)) (declared_name (declaration_of d)) ≡ true = ap (λ ns. contains ns (declared_name (declaration_of d))) (sym h) ∙ ap (contains (texts_of ks)) (sym v_is) ∙ there in
+    ap (λ xs. distinct (map (λ d. d.name) basic ++ declared xs)) (sym (split-at ds i d l e))
+    ∙ ap (λ ns. distinct (map (λ d. d.name) basic ++ ns)) (declared-append (take i ds) (d ∷ drop (i + 1) ds))
+    ∙ distinct-again (map (λ d. d.name) basic ++ declared (take i ds)) (declared_name (declaration_of d)) (declared (drop (i + 1) ds)) front

@@ -4,3 +4,4 @@ pub mod SayLemmas
 pub mod ScopeLemmas
 pub mod FineLemmas
 pub mod GlobalLemmas
+pub mod DeclarationLemmas

@@ -5,7 +5,7 @@ use Rattle.std.specs.Str.{bytes_eq}
 use Rattle.ioa_value.specs.Actions.{Name}
 use Rattle.ioa_syntax.specs.Tree.{FieldTree}
 use Rattle.ioa_syntax.specs.View.{field_of}
-use Rattle.ioa_syntax.specs.Instances.{type_named, basic_table}
+use Rattle.ioa_value.specs.Table.{Table, type_named}
 use Rattle.ioa_syntax.specs.WellFormed.{Context, type_in, context_of, position_fields}
 use Rattle.ioa_check.specs.declared.scope.Scope.{Scope}
 use Rattle.ioa_check.specs.Scopes.{context}
@@ -23,41 +23,41 @@ type_in-append (p ∷ c) d x = split (bytes_eq p.0 x) (type_in-append c d x)
     split false h = h
 
 -- the first field's type, where it has the name and a type, and else that of the later ones
-pub type_in-field : (f : FieldTree) (fs : List FieldTree) (x : Name) → type_in (context_of basic_table (f ∷ fs)) x ≡ option_or (type_under f x) (type_in (context_of basic_table fs) x)
-type_in-field f fs x = split (type_named basic_table f.ty) (bytes_eq f.name x) refl
+pub type_in-field : (t : Table) (f : FieldTree) (fs : List FieldTree) (x : Name) → type_in (context_of t (f ∷ fs)) x ≡ option_or (type_under t f x) (type_in (context_of t fs) x)
+type_in-field t f fs x = split (type_named t f.ty) (bytes_eq f.name x) refl
   where
-    split : (o : Option ℕ) (b : Bool) → bytes_eq f.name x ≡ b → type_in (option_map_or (λ n. (f.name, n) ∷ []) o [] ++ context_of basic_table fs) x ≡ option_or (cond b o None) (type_in (context_of basic_table fs) x)
+    split : (o : Option ℕ) (b : Bool) → bytes_eq f.name x ≡ b → type_in (option_map_or (λ n. (f.name, n) ∷ []) o [] ++ context_of t fs) x ≡ option_or (cond b o None) (type_in (context_of t fs) x)
     split None true e = refl
     split None false e = refl
-    split (Some n) true e = ap (λ c. cond c (Some n) (type_in (context_of basic_table fs) x)) e
-    split (Some n) false e = ap (λ c. cond c (Some n) (type_in (context_of basic_table fs) x)) e
+    split (Some n) true e = ap (λ c. cond c (Some n) (type_in (context_of t fs) x)) e
+    split (Some n) false e = ap (λ c. cond c (Some n) (type_in (context_of t fs) x)) e
 
 -- a loop over fields goes on past one that has not this name, or no type
-pub types-go-on : {T : Type 0} (tree : T → FieldTree) (xs : List T) (i : ℕ) (y : T) (x : Name) → i < length xs → y ≡ get_or xs i y → type_in (context_of basic_table (map tree (drop i xs))) x ≡ type_in (context_of basic_table (map tree xs)) x → type_under (tree y) x ≡ None → type_in (context_of basic_table (map tree (drop (i + 1) xs))) x ≡ type_in (context_of basic_table (map tree xs)) x
-types-go-on tree xs i y x l e h k =
-    sym (ap (λ zs. type_in (context_of basic_table (map tree zs)) x) (drop_item xs i y l e) ∙ type_in-field (tree y) (map tree (drop (i + 1) xs)) x ∙ ap (λ o. option_or o (type_in (context_of basic_table (map tree (drop (i + 1) xs))) x)) k) ∙ h
+pub types-go-on : {T : Type 0} (t : Table) (tree : T → FieldTree) (xs : List T) (i : ℕ) (y : T) (x : Name) → i < length xs → y ≡ get_or xs i y → type_in (context_of t (map tree (drop i xs))) x ≡ type_in (context_of t (map tree xs)) x → type_under t (tree y) x ≡ None → type_in (context_of t (map tree (drop (i + 1) xs))) x ≡ type_in (context_of t (map tree xs)) x
+types-go-on t tree xs i y x l e h k =
+    sym (ap (λ zs. type_in (context_of t (map tree zs)) x) (drop_item xs i y l e) ∙ type_in-field t (tree y) (map tree (drop (i + 1) xs)) x ∙ ap (λ o. option_or o (type_in (context_of t (map tree (drop (i + 1) xs))) x)) k) ∙ h
 
-pub types-stop : {T : Type 0} (tree : T → FieldTree) (xs : List T) (i : ℕ) (y : T) (x : Name) (n : ℕ) → i < length xs → y ≡ get_or xs i y → type_in (context_of basic_table (map tree (drop i xs))) x ≡ type_in (context_of basic_table (map tree xs)) x → type_under (tree y) x ≡ Some n → Some n ≡ type_in (context_of basic_table (map tree xs)) x
-types-stop tree xs i y x n l e h k =
-    sym (ap (λ zs. type_in (context_of basic_table (map tree zs)) x) (drop_item xs i y l e) ∙ type_in-field (tree y) (map tree (drop (i + 1) xs)) x ∙ ap (λ o. option_or o (type_in (context_of basic_table (map tree (drop (i + 1) xs))) x)) k) ∙ h
+pub types-stop : {T : Type 0} (t : Table) (tree : T → FieldTree) (xs : List T) (i : ℕ) (y : T) (x : Name) (n : ℕ) → i < length xs → y ≡ get_or xs i y → type_in (context_of t (map tree (drop i xs))) x ≡ type_in (context_of t (map tree xs)) x → type_under t (tree y) x ≡ Some n → Some n ≡ type_in (context_of t (map tree xs)) x
+types-stop t tree xs i y x n l e h k =
+    sym (ap (λ zs. type_in (context_of t (map tree zs)) x) (drop_item xs i y l e) ∙ type_in-field t (tree y) (map tree (drop (i + 1) xs)) x ∙ ap (λ o. option_or o (type_in (context_of t (map tree (drop (i + 1) xs))) x)) k) ∙ h
 
 chained : (a b c : Context) (x : Name) → type_in ((a ++ b) ++ c) x ≡ option_or (option_or (type_in a x) (type_in b x)) (type_in c x)
 chained a b c x = type_in-append (a ++ b) c x ∙ ap (λ o. option_or o (type_in c x)) (type_in-append a b x)
 
 -- a name of a scope is a variable, or else a formal, or else a parameter
-pub lookup-is : (s : Scope) (x : Name) → type_in (context s) x ≡ option_or (option_or (type_in (context_of basic_table (map (λ v. field_of v.field) s.variables.now)) x) (type_in (context_of basic_table (map field_of s.formals.now)) x)) (type_in (context_of basic_table (map (λ p. field_in (position_of p)) s.positions.now)) x)
+pub lookup-is : (s : Scope) (x : Name) → type_in (context s) x ≡ option_or (option_or (type_in (context_of s.types.now (map (λ v. field_of v.field) s.variables.now)) x) (type_in (context_of s.types.now (map field_of s.formals.now)) x)) (type_in (context_of s.types.now (map (λ p. field_in (position_of p)) s.positions.now)) x)
 lookup-is s x =
-    chained (context_of basic_table (map (λ v. v.field) (map variable_of s.variables.now))) (context_of basic_table (map field_of s.formals.now)) (context_of basic_table (position_fields (map position_of s.positions.now))) x
-    ∙ ap (λ fs. option_or (option_or (type_in (context_of basic_table fs) x) (type_in (context_of basic_table (map field_of s.formals.now)) x)) (type_in (context_of basic_table (position_fields (map position_of s.positions.now))) x)) (fields-of_variables s.variables.now)
-    ∙ ap (λ fs. option_or (option_or (type_in (context_of basic_table (map (λ v. field_of v.field) s.variables.now)) x) (type_in (context_of basic_table (map field_of s.formals.now)) x)) (type_in (context_of basic_table fs) x)) (fields-of_positions s.positions.now)
+    chained (context_of s.types.now (map (λ v. v.field) (map variable_of s.variables.now))) (context_of s.types.now (map field_of s.formals.now)) (context_of s.types.now (position_fields (map position_of s.positions.now))) x
+    ∙ ap (λ fs. option_or (option_or (type_in (context_of s.types.now fs) x) (type_in (context_of s.types.now (map field_of s.formals.now)) x)) (type_in (context_of s.types.now (position_fields (map position_of s.positions.now))) x)) (fields-of_variables s.variables.now)
+    ∙ ap (λ fs. option_or (option_or (type_in (context_of s.types.now (map (λ v. field_of v.field) s.variables.now)) x) (type_in (context_of s.types.now (map field_of s.formals.now)) x)) (type_in (context_of s.types.now fs) x)) (fields-of_positions s.positions.now)
 
-pub lookup-variable : (s : Scope) (x : Name) (n : ℕ) → Some n ≡ type_in (context_of basic_table (map (λ v. field_of v.field) s.variables.now)) x → Some n ≡ type_in (context s) x
-lookup-variable s x n h = ap (λ o. option_or (option_or o (type_in (context_of basic_table (map field_of s.formals.now)) x)) (type_in (context_of basic_table (map (λ p. field_in (position_of p)) s.positions.now)) x)) h ∙ sym (lookup-is s x)
+pub lookup-variable : (s : Scope) (x : Name) (n : ℕ) → Some n ≡ type_in (context_of s.types.now (map (λ v. field_of v.field) s.variables.now)) x → Some n ≡ type_in (context s) x
+lookup-variable s x n h = ap (λ o. option_or (option_or o (type_in (context_of s.types.now (map field_of s.formals.now)) x)) (type_in (context_of s.types.now (map (λ p. field_in (position_of p)) s.positions.now)) x)) h ∙ sym (lookup-is s x)
 
-pub lookup-formal : (s : Scope) (x : Name) (n : ℕ) → None ≡ type_in (context_of basic_table (map (λ v. field_of v.field) s.variables.now)) x → Some n ≡ type_in (context_of basic_table (map field_of s.formals.now)) x → Some n ≡ type_in (context s) x
-lookup-formal s x n g h = ap (λ o. option_or (option_or None o) (type_in (context_of basic_table (map (λ p. field_in (position_of p)) s.positions.now)) x)) h
-    ∙ ap (λ o. option_or (option_or o (type_in (context_of basic_table (map field_of s.formals.now)) x)) (type_in (context_of basic_table (map (λ p. field_in (position_of p)) s.positions.now)) x)) g ∙ sym (lookup-is s x)
+pub lookup-formal : (s : Scope) (x : Name) (n : ℕ) → None ≡ type_in (context_of s.types.now (map (λ v. field_of v.field) s.variables.now)) x → Some n ≡ type_in (context_of s.types.now (map field_of s.formals.now)) x → Some n ≡ type_in (context s) x
+lookup-formal s x n g h = ap (λ o. option_or (option_or None o) (type_in (context_of s.types.now (map (λ p. field_in (position_of p)) s.positions.now)) x)) h
+    ∙ ap (λ o. option_or (option_or o (type_in (context_of s.types.now (map field_of s.formals.now)) x)) (type_in (context_of s.types.now (map (λ p. field_in (position_of p)) s.positions.now)) x)) g ∙ sym (lookup-is s x)
 
-pub lookup-parameter : (s : Scope) (x : Name) (r : Option ℕ) → None ≡ type_in (context_of basic_table (map (λ v. field_of v.field) s.variables.now)) x → None ≡ type_in (context_of basic_table (map field_of s.formals.now)) x → r ≡ type_in (context_of basic_table (map (λ p. field_in (position_of p)) s.positions.now)) x → r ≡ type_in (context s) x
-lookup-parameter s x r f g h = h ∙ ap (λ o. option_or (option_or None o) (type_in (context_of basic_table (map (λ p. field_in (position_of p)) s.positions.now)) x)) g
-    ∙ ap (λ o. option_or (option_or o (type_in (context_of basic_table (map field_of s.formals.now)) x)) (type_in (context_of basic_table (map (λ p. field_in (position_of p)) s.positions.now)) x)) f ∙ sym (lookup-is s x)
+pub lookup-parameter : (s : Scope) (x : Name) (r : Option ℕ) → None ≡ type_in (context_of s.types.now (map (λ v. field_of v.field) s.variables.now)) x → None ≡ type_in (context_of s.types.now (map field_of s.formals.now)) x → r ≡ type_in (context_of s.types.now (map (λ p. field_in (position_of p)) s.positions.now)) x → r ≡ type_in (context s) x
+lookup-parameter s x r f g h = h ∙ ap (λ o. option_or (option_or None o) (type_in (context_of s.types.now (map (λ p. field_in (position_of p)) s.positions.now)) x)) g
+    ∙ ap (λ o. option_or (option_or o (type_in (context_of s.types.now (map field_of s.formals.now)) x)) (type_in (context_of s.types.now (map (λ p. field_in (position_of p)) s.positions.now)) x)) f ∙ sym (lookup-is s x)

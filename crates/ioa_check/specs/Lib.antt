@@ -1,3 +1,5 @@
+pub mod Codes
+pub mod Reasons
 pub mod Verdicts
 pub mod Globals
 pub mod Fields

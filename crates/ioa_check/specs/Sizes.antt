@@ -1,7 +1,8 @@
 -- Nodes of trees, counted no further than one past the limit.
-use Rattle.std.specs.Prelude.{ℕ, min}
+use Rattle.std.specs.Prelude.{ℕ, ◌+◌, min}
+use Rattle.ioa_syntax.specs.Limits.{limits}
 use Rattle.ioa_syntax.specs.Tree.{Expr}
 use Rattle.ioa_syntax.specs.WellFormed.{nodes}
 
 abbrev pub counted : Expr → ℕ
-counted e = min (nodes e) 4097
+counted e = min (nodes e) (limits.nodes + 1)

@@ -1,25 +1,30 @@
-ghost use Rattle.std.specs.Prelude.{◌≡◌, ◌≢◌, true, IfOk, IfErr, OnOk};
+ghost use Rattle.std.specs.Prelude.{◌≡◌, ◌≢◌, IsTrue, IfOk, IfErr, OnOk};
+ghost use Rattle.ioa_syntax.specs.Names.{LegalNames};
+ghost use Rattle.ioa_syntax.specs.Types.{types_of};
 ghost use Rattle.ioa_syntax.specs.View.{tree_of};
 ghost use Rattle.ioa_syntax.specs.WellFormed.{WellFormed};
-ghost use Rattle.ioa_check.specs.Verdicts.{is_fault};
+ghost use Rattle.ioa_check.specs.Reasons.{in_source};
 ghost use Rattle.ioa_lex.specs.declared.refusal.Refusal.TheVariants.{OutOfMemory};
 
 use crate::declarations::source_fine;
 use ioa_syntax::{Declaration, Refusal, Source};
+use ioa_value::{Declarations, Types};
 use std::alloc::Global;
 use std::marker::Model;
 
-/// A source that is well formed.
+/// A source that is well formed, with its types.
 #[derive(Drop)]
 pub struct Checked {
     source: Source,
+    types: Types,
 }
 
 impl Model for Checked {
-    ghost use Rattle.std.specs.Prelude.{List};
+    ghost use Rattle.std.specs.Prelude.{◌≡◌, List};
     ghost use Rattle.std.specs.Coded.{coded_list};
     ghost use Rattle.ioa_syntax.specs.declared.tree.Declaration.{Declaration};
     ghost use Rattle.ioa_syntax.specs.contracts.tree.Declaration as declaration;
+    ghost use Rattle.ioa_syntax.specs.Types.{types_of};
     ghost use Rattle.ioa_syntax.specs.View.{tree_of};
     ghost use Rattle.ioa_syntax.specs.WellFormed.{WellFormed};
 
@@ -29,7 +34,7 @@ impl Model for Checked {
 
     ghost view = { λ c. c.source };
 
-    ghost invariant = { λ c. WellFormed (tree_of c.source) };
+    ghost invariant = { λ c. WellFormed (tree_of c.source) × (c.types ≡ types_of (tree_of c.source)) };
 }
 
 impl Checked {
@@ -37,8 +42,16 @@ impl Checked {
     pub fn declarations(&self) -> &[Declaration]
         ensures value { result.now ≡ self.now }
         ensures well_formed { WellFormed (tree_of self.now) }
+        ensures legal { LegalNames (tree_of self.now) }
     {
         self.source.declarations()
+    }
+
+    /// The source's types.
+    pub fn types(&self) -> &Types
+        ensures { result.now ≡ types_of (tree_of self.now) }
+    {
+        &self.types
     }
 }
 
@@ -46,14 +59,15 @@ impl Checked {
 ///
 /// # Errors
 /// `DuplicateName`, `UnknownName` (also a name used before its declaration, or where it may not stand), `TypeMismatch`,
-/// `BadSignature`, `NoProposal` and `TooMany`, each only where the source is not well formed; which of them, and that its
-/// line is the one at fault, is tested, not proved. `OutOfMemory`.
+/// `BadSignature`, `NoProposal` and `TooMany`, each only where a rule of its own is broken somewhere in the source; which of
+/// several comes first, and that its line is the one at fault, is tested, not proved. `OutOfMemory`.
 pub fn check(alloc: Global, source: Source) -> Result<Checked, Refusal>
     ensures same { IfOk result (λ c. tree_of c ≡ tree_of source) }
     ensures well_formed { OnOk result (WellFormed (tree_of source)) }
     ensures refused { IfErr result (λ r. r ≢ OutOfMemory → WellFormed (tree_of source) → ⊥) }
-    ensures which { IfErr result (λ r. r ≢ OutOfMemory → is_fault r ≡ true) }
+    ensures reason { IfErr result (λ r. r ≢ OutOfMemory → IsTrue (in_source (tree_of source) r)) }
 {
-    source_fine(alloc, source.declarations())?;
-    Ok(Checked { source })
+    let types = Declarations::new(alloc)?.finish(alloc)?;
+    source_fine(alloc, &types, source.declarations())?;
+    Ok(Checked { source, types })
 }

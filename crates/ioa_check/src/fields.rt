@@ -4,15 +4,17 @@ ghost use Rattle.std.specs.Option.{option_map};
 ghost use Rattle.ioa_syntax.specs.Tree.{FieldTree, typed};
 ghost use Rattle.ioa_syntax.specs.View.{name_of, position_of};
 ghost use Rattle.ioa_syntax.specs.View as view;
-ghost use Rattle.ioa_syntax.specs.Instances.{basic_table};
-ghost use Rattle.ioa_syntax.specs.Instances as instances;
+ghost use Rattle.ioa_value.specs.Plain.{number};
+ghost use Rattle.ioa_value.specs.Table as table;
+ghost use Rattle.ioa_value.specs.Table.{AreTypes};
 ghost use Rattle.ioa_syntax.specs.WellFormed.{type_in, context_of, is_type};
 ghost use Rattle.ioa_check.specs.Fields.{type_under};
+ghost use Rattle.ioa_check.specs.Codes.{unknown_name, tells};
 ghost use Rattle.ioa_check.specs.Verdicts.{Says};
 
 use crate::names::same_name;
 use ioa_syntax::{Field, Name, Position, Refusal, Variable};
-use ioa_value::Ty;
+use ioa_value::{Ty, Types};
 
 /// What has a name and the name of a type in a source.
 pub(crate) trait Typed {
@@ -56,25 +58,20 @@ impl Typed for Position {
 }
 
 /// The type of this name, where there is one.
-pub fn type_named(name: &Name) -> Option<Ty>
-    ensures value { option_map (λ ty. ty.0) result ≡ instances.type_named basic_table (name_of name.now) }
-    ensures within { IfSome result (λ ty. ty.0 < length basic_table.shapes) }
+pub fn type_named(types: &Types, name: &Name) -> Option<Ty>
+    ensures value { option_map number result ≡ table.type_named types.now (name_of name.now) }
+    ensures within { IfSome result (λ ty. ty.0 < length types.now) }
+    ensures types { AreTypes types.now }
 {
-    if "Bool" == name.text.as_str() {
-        Some(Ty::BOOL)
-    } else if "Int" == name.text.as_str() {
-        Some(Ty::INT)
-    } else {
-        None
-    }
+    types.named(name.text.as_str())
 }
 
 /// The type of the first of the items that has this name and a type.
-pub(crate) fn find_type<T: Typed>(items: &[T], name: &Name) -> Option<Ty>
-    ensures { option_map (λ ty. ty.0) result ≡ type_in (context_of basic_table (map T.tree items.now)) (name_of name.now) }
+pub(crate) fn find_type<T: Typed>(types: &Types, items: &[T], name: &Name) -> Option<Ty>
+    ensures { option_map number result ≡ type_in (context_of types.now (map T.tree items.now)) (name_of name.now) }
 {
     for item in items {
-        if let Some(ty) = type_under(item.field(), name) {
+        if let Some(ty) = type_under(types, item.field(), name) {
             return Some(ty);
         }
     }
@@ -82,23 +79,23 @@ pub(crate) fn find_type<T: Typed>(items: &[T], name: &Name) -> Option<Ty>
 }
 
 /// The type of a field, where it has this name.
-fn type_under(field: &Field, name: &Name) -> Option<Ty>
-    ensures { option_map (λ ty. ty.0) result ≡ type_under (view.field_of field.now) (name_of name.now) }
+fn type_under(types: &Types, field: &Field, name: &Name) -> Option<Ty>
+    ensures { option_map number result ≡ type_under types.now (view.field_of field.now) (name_of name.now) }
 {
     if same_name(&field.name, name) {
-        type_named(&field.ty)
+        type_named(types, &field.ty)
     } else {
         None
     }
 }
 
 /// Whether each item's type is declared. A line is that of the name of a type that is not.
-pub(crate) fn types_known<T: Typed>(items: &[T]) -> Result<(), Refusal>
-    ensures { Says result (list_all (is_type basic_table) (map T.tree items.now)) }
+pub(crate) fn types_known<T: Typed>(types: &Types, items: &[T]) -> Result<(), Refusal>
+    ensures { Says result (list_all (is_type types.now) (map T.tree items.now)) (tells unknown_name) }
 {
     for item in items {
         let ty = &item.field().ty;
-        if type_named(ty).is_none() {
+        if type_named(types, ty).is_none() {
             return Err(Refusal::UnknownName(ty.line));
         }
     }

@@ -1,6 +1,7 @@
 ghost use Rattle.std.specs.Prelude.{◌≡◌, IfOk, map};
 ghost use Rattle.ioa_syntax.specs.View.{name_of, tree_of};
 ghost use Rattle.ioa_syntax.specs.WellFormed as well_formed;
+ghost use Rattle.ioa_check.specs.Codes.{duplicate_name, tells};
 ghost use Rattle.ioa_check.specs.Verdicts.{Says, SaysOrMemory};
 ghost use Rattle.ioa_check.specs.Globals.{texts};
 
@@ -14,7 +15,7 @@ pub(crate) fn global_names(
     alloc: Global,
     declarations: &[Declaration],
 ) -> Result<IndexSet<&str>, Refusal>
-    ensures distinct { SaysOrMemory result (well_formed.distinct (well_formed.global_names (tree_of declarations.now))) }
+    ensures distinct { SaysOrMemory result (well_formed.distinct (well_formed.global_names (tree_of declarations.now))) (tells duplicate_name) }
     ensures names { IfOk result (λ names. texts names ≡ well_formed.global_names (tree_of declarations.now)) }
 {
     let mut names = IndexSet::new(alloc);
@@ -34,7 +35,7 @@ pub(crate) fn apart_from_globals<T: Named>(
     items: &[T],
     globals: &IndexSet<&str>,
 ) -> Result<(), Refusal>
-    ensures { Says result (well_formed.apart (map T.called items.now) (texts globals.now)) }
+    ensures { Says result (well_formed.apart (map T.called items.now) (texts globals.now)) (tells duplicate_name) }
 {
     for item in items {
         if is_global(item.name(), globals) {

@@ -7,6 +7,7 @@ mod declarations;
 mod expressions;
 mod fields;
 mod globals;
+mod limits;
 mod names;
 mod scope;
 mod transitions;

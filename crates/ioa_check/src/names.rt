@@ -4,6 +4,7 @@ ghost use Rattle.ioa_syntax.specs.View.{name_of, position_of};
 ghost use Rattle.ioa_syntax.specs.View as view;
 ghost use Rattle.ioa_syntax.specs.WellFormed as well_formed;
 ghost use Rattle.std.specs.Str.{bytes_eq};
+ghost use Rattle.ioa_check.specs.Codes.{duplicate_name, too_many, tells};
 ghost use Rattle.ioa_check.specs.Verdicts.{Says};
 
 use ioa_syntax::{
@@ -123,7 +124,7 @@ pub(crate) fn find_name<'a, T: Named>(items: &'a [T], name: &Name) -> Option<&'a
 
 /// Whether no name stands twice.
 pub(crate) fn distinct<T: Named>(items: &[T]) -> Result<(), Refusal>
-    ensures { Says result (well_formed.distinct (map T.called items.now)) }
+    ensures { Says result (well_formed.distinct (map T.called items.now)) (tells duplicate_name) }
 {
     let mut rest = items;
     while let [first, later @ ..] = rest {
@@ -137,7 +138,7 @@ pub(crate) fn distinct<T: Named>(items: &[T]) -> Result<(), Refusal>
 
 /// Whether no item has the name of one of the others. A line is that of the item.
 pub(crate) fn apart<T: Named, U: Named>(items: &[T], others: &[U]) -> Result<(), Refusal>
-    ensures { Says result (well_formed.apart (map T.called items.now) (map U.called others.now)) }
+    ensures { Says result (well_formed.apart (map T.called items.now) (map U.called others.now)) (tells duplicate_name) }
 {
     for item in items {
         let name = item.name();
@@ -150,7 +151,7 @@ pub(crate) fn apart<T: Named, U: Named>(items: &[T], others: &[U]) -> Result<(),
 
 /// Whether there are no more items than this. A line is that of the first item that is too many.
 pub(crate) fn at_most<T: Named>(items: &[T], most: usize) -> Result<(), Refusal>
-    ensures { Says result (nat_le (length items.now) most) }
+    ensures { Says result (nat_le (length items.now) most) (tells too_many) }
 {
     if items.len() <= most {
         return Ok(());

@@ -1,27 +1,26 @@
-ghost use Rattle.std.specs.Prelude.{◌≡◌, ◌==◌, [], ◌||◌, ◌&&◌, not, map, filter, length, sum, nat_le};
+ghost use Rattle.std.specs.Prelude.{◌≡◌, ◌==◌, [], ◌||◌, ◌&&◌, not, map, filter, length, if◌then◌else◌};
 ghost use Rattle.std.specs.List.{list_all, list_any};
 ghost use Rattle.std.specs.Str.{bytes_eq};
 ghost use Rattle.ioa_syntax.specs.View.{automaton_of, entry_of, transition_of, stmt_of, proposal_of, name_of};
 ghost use Rattle.ioa_syntax.specs.View as view;
-ghost use Rattle.ioa_syntax.specs.Instances.{basic_table, type_named};
+ghost use Rattle.ioa_value.specs.Table as table;
 ghost use Rattle.ioa_syntax.specs.WellFormed as well_formed;
+ghost use Rattle.ioa_check.specs.Codes.{bad_signature, no_proposal, tells};
+ghost use Rattle.ioa_check.specs.Reasons as reasons;
 ghost use Rattle.ioa_check.specs.Verdicts.{Says};
 
-use crate::expressions::{expect_type, line_of, nodes};
+use crate::expressions::expect_type;
 use crate::fields;
 use crate::fields::{Typed, find_type};
 use crate::names::{distinct, find_name, same_name};
 use crate::scope::Scope;
 use ioa_syntax::{Automaton, Entry, Field, Kind, Name, Proposal, Refusal, Statement, Transition};
-use ioa_value::Ty;
-
-/// The most nodes of a precondition, of a transition's proposals and of an effect.
-const MOST_NODES: u32 = 4096;
+use ioa_value::{Ty, Types};
 
 /// Whether each entry has one transition of its kind and name, and each transition an entry. A line is that of a
 /// transition without entry, of an entry without transition, or of an entry's second transition.
 pub(crate) fn one_to_one(automaton: &Automaton) -> Result<(), Refusal>
-    ensures { Says result (well_formed.one_to_one basic_table [] (automaton_of automaton.now)) }
+    ensures { Says result (well_formed.one_to_one [] [] (automaton_of automaton.now)) (tells bad_signature) }
 {
     each_has_entry(automaton)?;
     each_has_transition(automaton)
@@ -29,7 +28,7 @@ pub(crate) fn one_to_one(automaton: &Automaton) -> Result<(), Refusal>
 
 /// Whether each transition has an entry.
 fn each_has_entry(automaton: &Automaton) -> Result<(), Refusal>
-    ensures { let a = automaton_of automaton.now in Says result (list_all (λ r. list_any (λ e. well_formed.matches basic_table [] a e r) a.entries) a.transitions) }
+    ensures { let a = automaton_of automaton.now in Says result (list_all (λ r. list_any (λ e. well_formed.matches [] [] a e r) a.entries) a.transitions) (tells bad_signature) }
 {
     for transition in &automaton.transitions {
         if !has_entry(automaton, transition) {
@@ -40,7 +39,7 @@ fn each_has_entry(automaton: &Automaton) -> Result<(), Refusal>
 }
 
 fn has_entry(automaton: &Automaton, transition: &Transition) -> bool
-    ensures { let a = automaton_of automaton.now in result ≡ list_any (λ e. well_formed.matches basic_table [] a e (transition_of transition.now)) a.entries }
+    ensures { let a = automaton_of automaton.now in result ≡ list_any (λ e. well_formed.matches [] [] a e (transition_of transition.now)) a.entries }
 {
     for entry in &automaton.entries {
         if matches(entry, transition) {
@@ -52,7 +51,7 @@ fn has_entry(automaton: &Automaton, transition: &Transition) -> bool
 
 /// Whether each entry has one transition and no second.
 fn each_has_transition(automaton: &Automaton) -> Result<(), Refusal>
-    ensures { let a = automaton_of automaton.now in Says result (list_all (λ e. length (filter (well_formed.matches basic_table [] a e) a.transitions) == 1) a.entries) }
+    ensures { let a = automaton_of automaton.now in Says result (list_all (λ e. length (filter (well_formed.matches [] [] a e) a.transitions) == 1) a.entries) (tells bad_signature) }
 {
     for entry in &automaton.entries {
         one_transition(automaton, entry)?;
@@ -62,7 +61,7 @@ fn each_has_transition(automaton: &Automaton) -> Result<(), Refusal>
 
 /// Whether the entry has one transition and no second.
 fn one_transition(automaton: &Automaton, entry: &Entry) -> Result<(), Refusal>
-    ensures { let a = automaton_of automaton.now in Says result (length (filter (well_formed.matches basic_table [] a (entry_of entry.now)) a.transitions) == 1) }
+    ensures { let a = automaton_of automaton.now in Says result (length (filter (well_formed.matches [] [] a (entry_of entry.now)) a.transitions) == 1) (tells bad_signature) }
 {
     let mut found = false;
     for transition in &automaton.transitions {
@@ -104,44 +103,79 @@ fn is_input(kind: Kind) -> bool
 }
 
 /// Whether the transitions of each entry are well formed.
-pub(crate) fn transitions_fine(automaton: &Automaton) -> Result<(), Refusal>
-    ensures { let a = automaton_of automaton.now in Says result (list_all (λ e. list_all (λ r. not (well_formed.matches basic_table [] a e r) || well_formed.transition_fine basic_table [] a e r) a.transitions) a.entries) }
+pub(crate) fn transitions_fine(types: &Types, automaton: &Automaton) -> Result<(), Refusal>
+    ensures { let a = automaton_of automaton.now in Says result (list_all (λ e. list_all (λ r. not (well_formed.matches types.now [] a e r) || well_formed.transition_fine types.now [] a e r) a.transitions) a.entries) (reasons.in_transitions types.now [] a) }
 {
     for entry in &automaton.entries {
-        transitions_of_entry_fine(automaton, entry)?;
+        transitions_of_entry_fine(types, automaton, entry)?;
     }
     Ok(())
 }
 
-fn transitions_of_entry_fine(automaton: &Automaton, entry: &Entry) -> Result<(), Refusal>
-    ensures { let a = automaton_of automaton.now in let e = entry_of entry.now in Says result (list_all (λ r. not (well_formed.matches basic_table [] a e r) || well_formed.transition_fine basic_table [] a e r) a.transitions) }
+fn transitions_of_entry_fine(
+    types: &Types,
+    automaton: &Automaton,
+    entry: &Entry,
+) -> Result<(), Refusal>
+    ensures { let a = automaton_of automaton.now in let e = entry_of entry.now in Says result (list_all (λ r. not (well_formed.matches types.now [] a e r) || well_formed.transition_fine types.now [] a e r) a.transitions)
+        (reasons.in_any (reasons.in_pair types.now [] a e) a.transitions) }
 {
     for transition in &automaton.transitions {
-        if matches(entry, transition) {
-            transition_fine(automaton, entry, transition)?;
-        }
+        pair_fine(types, automaton, entry, transition)?;
     }
     Ok(())
 }
 
-fn transition_fine(
+/// Whether a transition is well formed, where it is one of this entry.
+fn pair_fine(
+    types: &Types,
     automaton: &Automaton,
     entry: &Entry,
     transition: &Transition,
 ) -> Result<(), Refusal>
-    ensures { Says result (well_formed.transition_fine basic_table [] (automaton_of automaton.now) (entry_of entry.now) (transition_of transition.now)) }
+    ensures { let a = automaton_of automaton.now in let e = entry_of entry.now in let r = transition_of transition.now in
+        Says result (not (well_formed.matches types.now [] a e r) || well_formed.transition_fine types.now [] a e r) (reasons.in_pair types.now [] a e r) }
+{
+    if matches(entry, transition) {
+        transition_fine(types, automaton, entry, transition)
+    } else {
+        Ok(())
+    }
+}
+
+fn transition_fine(
+    types: &Types,
+    automaton: &Automaton,
+    entry: &Entry,
+    transition: &Transition,
+) -> Result<(), Refusal>
+    ensures { let a = automaton_of automaton.now in let e = entry_of entry.now in let r = transition_of transition.now in Says result (well_formed.transition_fine types.now [] a e r) (reasons.in_transition types.now [] a e r) }
+{
+    before_effect_fine(types, automaton, entry, transition)?;
+    effect_fine(types, automaton, entry, transition)
+}
+
+/// Whether an input has neither precondition nor proposals, and those of an output or internal transition are well formed.
+fn before_effect_fine(
+    types: &Types,
+    automaton: &Automaton,
+    entry: &Entry,
+    transition: &Transition,
+) -> Result<(), Refusal>
+    ensures { let a = automaton_of automaton.now in let e = entry_of entry.now in let r = transition_of transition.now in
+        Says result (if well_formed.is_input r.kind then well_formed.input_fine types.now [] a r else well_formed.pre_fine types.now [] a e r && well_formed.proposals_fine types.now [] a e r && well_formed.all_proposed types.now [] a e r)
+        (reasons.before_effect types.now [] a e r) }
 {
     if is_input(transition.kind) {
-        input_fine(transition, automaton)?;
+        input_fine(transition, automaton)
     } else {
-        local_fine(automaton, entry, transition)?;
+        local_fine(types, automaton, entry, transition)
     }
-    effect_fine(automaton, entry, transition)
 }
 
 /// Whether an input has neither precondition nor proposals.
 fn input_fine(transition: &Transition, _automaton: &Automaton) -> Result<(), Refusal>
-    ensures { Says result (well_formed.input_fine basic_table [] (automaton_of _automaton.now) (transition_of transition.now)) }
+    ensures { Says result (well_formed.input_fine [] [] (automaton_of _automaton.now) (transition_of transition.now)) (tells bad_signature) }
 {
     if transition.pre.is_some() || transition.proposals.len() > 0 {
         return Err(Refusal::BadSignature(transition.name.line));
@@ -150,91 +184,88 @@ fn input_fine(transition: &Transition, _automaton: &Automaton) -> Result<(), Ref
 }
 
 /// Whether precondition and proposals of an output or internal transition are well formed.
-fn local_fine(automaton: &Automaton, entry: &Entry, transition: &Transition) -> Result<(), Refusal>
+fn local_fine(
+    types: &Types,
+    automaton: &Automaton,
+    entry: &Entry,
+    transition: &Transition,
+) -> Result<(), Refusal>
     ensures { let a = automaton_of automaton.now in let e = entry_of entry.now in let r = transition_of transition.now in
-        Says result (well_formed.pre_fine basic_table [] a e r && well_formed.proposals_fine basic_table [] a e r && well_formed.all_proposed basic_table [] a e r) }
+        Says result (well_formed.pre_fine types.now [] a e r && well_formed.proposals_fine types.now [] a e r && well_formed.all_proposed types.now [] a e r) (reasons.in_local types.now [] a e r) }
 {
-    pre_fine(automaton, entry, transition)?;
-    proposals_fine(automaton, entry, transition)?;
-    all_proposed(automaton, entry, transition)
+    pre_fine(types, automaton, entry, transition)?;
+    proposals_fine(types, automaton, entry, transition)?;
+    all_proposed(types, automaton, entry, transition)
 }
 
-fn pre_fine(automaton: &Automaton, entry: &Entry, transition: &Transition) -> Result<(), Refusal>
-    ensures { Says result (well_formed.pre_fine basic_table [] (automaton_of automaton.now) (entry_of entry.now) (transition_of transition.now)) }
+fn pre_fine(
+    types: &Types,
+    automaton: &Automaton,
+    entry: &Entry,
+    transition: &Transition,
+) -> Result<(), Refusal>
+    ensures { let a = automaton_of automaton.now in let e = entry_of entry.now in let r = transition_of transition.now in Says result (well_formed.pre_fine types.now [] a e r) (reasons.in_some (reasons.in_pre types.now [] a e) r.pre) }
 {
     match &transition.pre {
         None => Ok(()),
-        Some(pre) => {
-            expect_type(&Scope::of_entry(automaton, entry), pre, Ty::BOOL)?;
-            if nodes(pre) > MOST_NODES {
-                return Err(Refusal::TooMany(line_of(pre)));
-            }
-            Ok(())
-        }
+        Some(pre) => expect_type(&Scope::of_entry(types, automaton, entry), pre, Ty::BOOL),
     }
 }
 
 #[tactic(auto, using(crate::proofs::ViewLemmas::views))]
 fn proposals_fine(
+    types: &Types,
     automaton: &Automaton,
     entry: &Entry,
     transition: &Transition,
 ) -> Result<(), Refusal>
-    ensures { Says result (well_formed.proposals_fine basic_table [] (automaton_of automaton.now) (entry_of entry.now) (transition_of transition.now)) }
+    ensures { let a = automaton_of automaton.now in let e = entry_of entry.now in let r = transition_of transition.now in Says result (well_formed.proposals_fine types.now [] a e r) (reasons.in_proposals types.now [] a e r) }
 {
-    each_proposal_fine(automaton, entry, transition)?;
-    distinct(&transition.proposals)?;
-    proposals_small(&transition.proposals)
+    each_proposal_fine(types, automaton, entry, transition)?;
+    distinct(&transition.proposals)
 }
 
 fn each_proposal_fine(
+    types: &Types,
     automaton: &Automaton,
     entry: &Entry,
     transition: &Transition,
 ) -> Result<(), Refusal>
-    ensures { Says result (list_all (well_formed.proposal_fine basic_table [] (automaton_of automaton.now) (entry_of entry.now)) (transition_of transition.now).proposals) }
+    ensures { let a = automaton_of automaton.now in let e = entry_of entry.now in let ps = (transition_of transition.now).proposals in Says result (list_all (well_formed.proposal_fine types.now [] a e) ps) (reasons.in_any (reasons.in_proposal types.now [] a e) ps) }
 {
     for proposal in &transition.proposals {
-        proposal_fine(automaton, entry, proposal)?;
+        proposal_fine(types, automaton, entry, proposal)?;
     }
     Ok(())
 }
 
 /// Whether a proposal is for a parameter of the entry, and of its type.
 #[tactic(auto, using(crate::proofs::ViewLemmas::views))]
-fn proposal_fine(automaton: &Automaton, entry: &Entry, proposal: &Proposal) -> Result<(), Refusal>
-    ensures { Says result (well_formed.proposal_fine basic_table [] (automaton_of automaton.now) (entry_of entry.now) (proposal_of proposal.now)) }
+fn proposal_fine(
+    types: &Types,
+    automaton: &Automaton,
+    entry: &Entry,
+    proposal: &Proposal,
+) -> Result<(), Refusal>
+    ensures { let a = automaton_of automaton.now in let e = entry_of entry.now in let p = proposal_of proposal.now in Says result (well_formed.proposal_fine types.now [] a e p) (reasons.in_proposal types.now [] a e p) }
 {
-    match find_type(&entry.positions, &proposal.name) {
-        Some(ty) => expect_type(&Scope::of_proposals(automaton), &proposal.value, ty),
+    match find_type(types, &entry.positions, &proposal.name) {
+        Some(ty) => expect_type(&Scope::of_proposals(types, automaton), &proposal.value, ty),
         None => Err(Refusal::UnknownName(proposal.name.line)),
     }
 }
 
-/// Whether proposals together have no more nodes than the limit.
-fn proposals_small(proposals: &[Proposal]) -> Result<(), Refusal>
-    ensures { Says result (nat_le (sum (map (λ p. well_formed.nodes p.value) (map proposal_of proposals.now))) 4096) }
-{
-    let mut total = 0;
-    for proposal in proposals {
-        total += nodes(&proposal.value);
-        if total > MOST_NODES {
-            return Err(Refusal::TooMany(proposal.name.line));
-        }
-    }
-    Ok(())
-}
-
 /// Whether each parameter that is no Bool has a proposal.
 fn all_proposed(
+    types: &Types,
     _automaton: &Automaton,
     entry: &Entry,
     transition: &Transition,
 ) -> Result<(), Refusal>
-    ensures { Says result (well_formed.all_proposed basic_table [] (automaton_of _automaton.now) (entry_of entry.now) (transition_of transition.now)) }
+    ensures { Says result (well_formed.all_proposed types.now [] (automaton_of _automaton.now) (entry_of entry.now) (transition_of transition.now)) (tells no_proposal) }
 {
     for position in &entry.positions {
-        if !is_proposed(position.field(), transition) {
+        if !is_proposed(types, position.field(), transition) {
             return Err(Refusal::NoProposal(transition.name.line));
         }
     }
@@ -243,39 +274,33 @@ fn all_proposed(
 
 /// Whether a parameter is a Bool or has a proposal.
 #[tactic(auto, using(crate::proofs::ViewLemmas::views))]
-fn is_proposed(field: &Field, transition: &Transition) -> bool
+fn is_proposed(types: &Types, field: &Field, transition: &Transition) -> bool
     ensures { let f = view.field_of field.now in
-        result ≡ (well_formed.is_some_of (type_named basic_table f.ty) 0 || well_formed.contains (map (λ p. p.name) (transition_of transition.now).proposals) f.name) }
+        result ≡ (well_formed.is_some_of (table.type_named types.now f.ty) 0 || well_formed.contains (map (λ p. p.name) (transition_of transition.now).proposals) f.name) }
 {
-    is_bool(&field.ty) || find_name(&transition.proposals, &field.name).is_some()
+    is_bool(types, &field.ty) || find_name(&transition.proposals, &field.name).is_some()
 }
 
 /// Whether this is the name of the type of the truth values.
-fn is_bool(name: &Name) -> bool
-    ensures { result ≡ well_formed.is_some_of (type_named basic_table (name_of name.now)) 0 }
+fn is_bool(types: &Types, name: &Name) -> bool
+    ensures { result ≡ well_formed.is_some_of (table.type_named types.now (name_of name.now)) 0 }
 {
-    match fields::type_named(name) {
+    match fields::type_named(types, name) {
         Some(ty) => ty.0 == Ty::BOOL.0,
         None => false,
     }
 }
 
-fn effect_fine(automaton: &Automaton, entry: &Entry, transition: &Transition) -> Result<(), Refusal>
-    ensures { Says result (well_formed.effect_fine basic_table [] (automaton_of automaton.now) (entry_of entry.now) (transition_of transition.now)) }
-{
-    each_statement_fine(automaton, entry, transition)?;
-    effect_small(&transition.effect)
-}
-
-fn each_statement_fine(
+fn effect_fine(
+    types: &Types,
     automaton: &Automaton,
     entry: &Entry,
     transition: &Transition,
 ) -> Result<(), Refusal>
-    ensures { Says result (list_all (well_formed.stmt_fine basic_table [] (automaton_of automaton.now) (entry_of entry.now)) (transition_of transition.now).effect) }
+    ensures { let a = automaton_of automaton.now in let e = entry_of entry.now in let r = transition_of transition.now in Says result (well_formed.effect_fine types.now [] a e r) (reasons.in_any (reasons.in_stmt types.now [] a e) r.effect) }
 {
     for statement in &transition.effect {
-        statement_fine(automaton, entry, statement)?;
+        statement_fine(types, automaton, entry, statement)?;
     }
     Ok(())
 }
@@ -283,34 +308,17 @@ fn each_statement_fine(
 /// Whether an assignment is to a variable, and of its type.
 #[tactic(auto, using(crate::proofs::ViewLemmas::views))]
 fn statement_fine(
+    types: &Types,
     automaton: &Automaton,
     entry: &Entry,
     statement: &Statement,
 ) -> Result<(), Refusal>
-    ensures { Says result (well_formed.stmt_fine basic_table [] (automaton_of automaton.now) (entry_of entry.now) (stmt_of statement.now)) }
+    ensures { let a = automaton_of automaton.now in let e = entry_of entry.now in let st = stmt_of statement.now in Says result (well_formed.stmt_fine types.now [] a e st) (reasons.in_stmt types.now [] a e st) }
 {
     match statement {
-        Statement::Assign(name, value) => match find_type(&automaton.variables, name) {
-            Some(ty) => expect_type(&Scope::of_entry(automaton, entry), value, ty),
+        Statement::Assign(name, value) => match find_type(types, &automaton.variables, name) {
+            Some(ty) => expect_type(&Scope::of_entry(types, automaton, entry), value, ty),
             None => Err(Refusal::UnknownName(name.line)),
         },
     }
-}
-
-/// Whether statements together have no more nodes than the limit.
-fn effect_small(effect: &[Statement]) -> Result<(), Refusal>
-    ensures { Says result (nat_le (sum (map well_formed.stmt_nodes (map stmt_of effect.now))) 4096) }
-{
-    let mut total = 0;
-    for statement in effect {
-        match statement {
-            Statement::Assign(name, value) => {
-                total += nodes(value) + 1;
-                if total > MOST_NODES {
-                    return Err(Refusal::TooMany(name.line));
-                }
-            }
-        }
-    }
-    Ok(())
 }

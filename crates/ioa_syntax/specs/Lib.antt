@@ -3,6 +3,7 @@ pub use Rattle.ioa_value.specs.Actions
 pub mod Tree
 pub mod View
 pub mod Depth
+pub mod Names
 pub mod Operators
 pub mod Grammar
 pub mod Source

@@ -1,6 +1,7 @@
 //! A source that was read.
 
 ghost use Rattle.std.specs.Prelude.{◌≡◌, ◌↔◌, IsTrue};
+ghost use Rattle.ioa_syntax.specs.Names.{LegalNames};
 ghost use Rattle.ioa_syntax.specs.Source.{IsSource};
 ghost use Rattle.ioa_syntax.specs.View.{tree_of};
 
@@ -45,6 +46,7 @@ impl Source {
         ensures value { result.now ≡ self.now }
         // Every source is spelled by some tokens, and at most 64 deep.
         ensures kept { IsSource (tree_of self.now) }
+        ensures legal { LegalNames (tree_of self.now) }
     {
         self.declarations.as_slice()
     }

@@ -1,5 +1,5 @@
 -- Why a replay in a source does not come to an end, from the bytes of the source and of the list.
-use Rattle.std.specs.Prelude.{◌≡◌, ℕ, ◌⊎◌, true, List, Option, Some, None, IfSome}
+use Rattle.std.specs.Prelude.{◌≡◌, ℕ, ◌⊎◌, IsTrue, List, Option, Some, None, IfSome}
 use Rattle.std.specs.Io.KnownBytes.{Keeps}
 use Rattle.ioa_value.specs.Actions.{Name}
 use Rattle.ioa_value.specs.Typing.{basic_types}
@@ -14,7 +14,7 @@ use Rattle.ioa_syntax.specs.Source.{plain}
 use Rattle.ioa_syntax.specs.Grammar.{SpellsSource}
 use Rattle.ioa_syntax.specs.WellFormed.{WellFormed}
 use Rattle.ioa_syntax.specs.Compositions.{Composed, picked, IsComposed, components_of, starts_of}
-use Rattle.ioa_check.specs.Verdicts.{is_fault}
+use Rattle.ioa_check.specs.Reasons.{in_source}
 use Rattle.ioa_compose.specs.Refusals as compositions
 use Rattle.ioa_log.specs.declared.failure.LogErr.{LogErr}
 use Rattle.ioa_log.specs.Replays.{BeginsReplay}
@@ -24,9 +24,9 @@ use Rattle.ioac.specs.declared.failure.Failure.{Failure}
 abbrev pub Spells : List ℕ → SourceTree → Type 0
 Spells text s = (ts : List (Tok × ℕ)) × Lexes text ts × SpellsSource s (plain ts)
 
--- the text spells a tree that is not well formed
+-- the text spells a tree that is not well formed, where the refusal has its reason
 abbrev pub IsIllFormed : List ℕ → Refusal → Type 0
-IsIllFormed text r = (s : SourceTree) × Spells text s × (WellFormed s → ⊥) × (is_fault r ≡ true)
+IsIllFormed text r = (s : SourceTree) × Spells text s × (WellFormed s → ⊥) × IsTrue (in_source s r)
 
 -- the text spells a well-formed tree, which has no composition of the name, or one that is refused
 abbrev pub IsUncomposed : List ℕ → Option Name → Refusal → Type 0

@@ -5,4 +5,4 @@ use Rattle.ioa_check.proofs.automata.entry_fine.Goals as goal
 
 pub returns : goal.returns
 returns c =
-    entry-says _ (texts c.args.globals.now) (automaton_of c.args.automaton.now) c.args.entry.now _ _ _ c.deref.ensures.value c.deref-2.ensures.value c.deref-3.ensures.value c.in_ok-at_most.ensures c.in_ok-distinct.ensures c.in_ok-parameters_apart.ensures c.types_known.ensures
+    entry-says _ c.args.types.now (texts c.args.globals.now) (automaton_of c.args.automaton.now) c.args.entry.now _ _ c.deref.ensures.value c.deref-2.ensures.value c.in_ok-distinct.ensures c.in_ok-parameters_apart.ensures c.types_known.ensures

@@ -6,4 +6,4 @@ use Rattle.ioa_syntax.specs.WellFormed as well_formed
 use Rattle.ioa_check.proofs.declarations.arguments_fine.Given as goal
 
 abbrev pub invariant-loop-argument : goal.invariant-loop-argument
-invariant-loop-argument l = list_all (λ e. option_map_or (λ ty. true) (well_formed.type_of [] e) false) (map expr_of (drop l.argument-index l.arguments)) ≡ list_all (λ e. option_map_or (λ ty. true) (well_formed.type_of [] e) false) (map expr_of l.arguments)
+invariant-loop-argument l = list_all (λ e. option_map_or (λ ty. true) (well_formed.type_of l.types [] e) false) (map expr_of (drop l.argument-index l.arguments)) ≡ list_all (λ e. option_map_or (λ ty. true) (well_formed.type_of l.types [] e) false) (map expr_of l.arguments)

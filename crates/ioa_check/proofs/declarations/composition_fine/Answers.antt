@@ -3,4 +3,4 @@ use Rattle.ioa_check.proofs.FineLemmas.{composition-says}
 use Rattle.ioa_check.proofs.declarations.composition_fine.Goals as goal
 
 pub returns : goal.returns
-returns c = composition-says _ (tree_of c.args.before.now) _ _ _ c.deref.ensures.value c.deref-2.ensures.value c.in_ok-at_most.ensures c.in_ok-distinct.ensures c.each_instance_fine.ensures
+returns c = composition-says _ c.args.types.now (tree_of c.args.before.now) _ _ c.deref.ensures.value c.in_ok-distinct.ensures c.each_instance_fine.ensures

@@ -5,4 +5,4 @@ use Rattle.ioa_syntax.specs.WellFormed as well_formed
 use Rattle.ioa_check.proofs.declarations.each_instance_fine.Given as goal
 
 abbrev pub invariant-loop-instance : goal.invariant-loop-instance
-invariant-loop-instance l = list_all (well_formed.instance_fine (tree_of l.before)) (map instance_of (drop l.instance-index l.composition.instances.items)) ≡ list_all (well_formed.instance_fine (tree_of l.before)) (map instance_of l.composition.instances.items)
+invariant-loop-instance l = list_all (well_formed.instance_fine l.types (tree_of l.before)) (map instance_of (drop l.instance-index l.composition.instances.items)) ≡ list_all (well_formed.instance_fine l.types (tree_of l.before)) (map instance_of l.composition.instances.items)

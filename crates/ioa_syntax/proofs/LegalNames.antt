@@ -1,0 +1,258 @@
+-- The names of a source that some tokens spell are legal.
+use Rattle.std.proofs.Common.{◌≡◌, ℕ, Bool, true, false, cond, List, [], ◌∷◌, ◌++◌, Option, Some, None, All, subst}
+use Rattle.std.specs.List.{flat_map, find}
+use Rattle.std.specs.Prelude.{reverse}
+use Rattle.std.proofs.lemmas.List.{reverse-append}
+use Rattle.std.specs.Str.{bytes_eq}
+use Rattle.std.proofs.lemmas.List.Elements.{All-nil, All-cons, All-append, All-head, All-tail, All-same, All-push, All-weaker}
+use Rattle.ioa_lex.specs.declared.terminal.Terminal.{Terminal}
+use Rattle.ioa_lex.specs.declared.terminal.Terminal.TheVariants as terminals
+use Rattle.ioa_lex.specs.Tokens as tokens
+use Rattle.ioa_lex.specs.Tokens.{Tok}
+use Rattle.ioa_value.specs.Actions.{Name}
+use Rattle.ioa_value.specs.Names.{IsName}
+use Rattle.ioa_syntax.specs.Tree.{Expr, number, truth, named, parens, binary, FieldTree, PositionTree, typed, EntryTree, VariableTree, Stmt, assign, TransitionTree, AutomatonTree, InstanceTree, CompositionTree, DeclarationTree, automaton, composition, SourceTree}
+use Rattle.ioa_syntax.specs.Operators.{left_of, right_of, operator_word}
+use Rattle.ioa_syntax.specs.Grammar.{Language, ◌▹◌, word, called, perhaps, optional, optional_list, each_after, separated, terminated, many, kind_word, SpellsExpr, SpellsField, SpellsFields, SpellsPosition, SpellsPositions, SpellsEntry, SpellsVariable, SpellsProposal, SpellsStmt, SpellsTransition, SpellsAutomaton, SpellsArguments, SpellsInstance, SpellsInstances, SpellsComposition, SpellsDeclaration}
+use Rattle.ioa_syntax.specs.Source.{AreTokens, IsSource}
+use Rattle.ioa_syntax.specs.Compositions.{automata, compositions, first_item, picked, automaton_named}
+use Rattle.ioa_syntax.specs.Names.{names_of_expr, names_of_option, names_of_field, names_of_position, names_of_entry, names_of_variable, names_of_proposal, names_of_stmt, names_of_transition, names_of_automaton, names_of_instance, names_of_composition, names_of_declaration, LegalNames}
+
+abbrev AreNames : List Name → Type 0
+AreNames ns = All IsName ns
+
+tokens_apart : (a b : List Tok) → AreTokens (a ++ b) → AreTokens a × AreTokens b
+tokens_apart [] b h = (tt, h)
+tokens_apart (t ∷ a) b h = let r = tokens_apart a b h.1 in ((h.0, r.0), r.1)
+
+-- where tokens of the language are legal, so are these names
+abbrev Lawful : Language → List Name → Type 0
+Lawful L ns = (ts : List Tok) → AreTokens ts → L ts → AreNames ns
+
+-- ---- languages
+
+none_lawful : (L : Language) → Lawful L []
+none_lawful L ts h s = All-nil IsName
+
+called_lawful : (n : Name) → Lawful (called n) (n ∷ [])
+called_lawful n ts h s = let k : AreTokens (tokens.name n ∷ []) = subst AreTokens s h in All-cons IsName n [] k.0 (All-nil IsName)
+
+then_lawful : (L M : Language) (ns ms : List Name) → Lawful L ns → Lawful M ms → Lawful (L ▹ M) (ns ++ ms)
+then_lawful L M ns ms first second ts h s =
+    let p = tokens_apart s.0 s.1 (subst AreTokens s.4 h) in
+    All-append IsName ns ms (first s.0 p.0 s.2) (second s.1 p.1 s.3)
+
+after_word : (t : Terminal) (M : Language) (ms : List Name) → Lawful M ms → Lawful (word t ▹ M) ms
+after_word t M ms second = then_lawful (word t) M [] ms (none_lawful (word t)) second
+
+before_lawful : (L M : Language) (ns : List Name) → Lawful L ns → Lawful (L ▹ M) ns
+before_lawful L M ns first ts h s = let p = tokens_apart s.0 s.1 (subst AreTokens s.4 h) in first s.0 p.0 s.2
+
+-- a name, and what comes after it
+name_then : (n : Name) (M : Language) (ms : List Name) → Lawful M ms → Lawful (called n ▹ M) (n ∷ ms)
+name_then n M ms second = then_lawful (called n) M (n ∷ []) ms (called_lawful n) second
+
+optional_lawful : (t : Terminal) (L : Expr → Language) (o : Option Expr) → ((e : Expr) → Lawful (L e) (names_of_expr e)) → Lawful (optional t L o) (names_of_option o)
+optional_lawful t L None inner = none_lawful (optional t L None)
+optional_lawful t L (Some e) inner = after_word t (L e) (names_of_expr e) (inner e)
+
+module _ {A : Type 0} (f : A → List Name) where
+  optional_list_lawful : (t : Terminal) (L : List A → Language) (xs : List A) → ((ys : List A) → Lawful (L ys) (flat_map f ys)) → Lawful (optional_list t L xs) (flat_map f xs)
+  optional_list_lawful t L [] inner = none_lawful (optional_list t L [])
+  optional_list_lawful t L (x ∷ xs) inner = after_word t (L (x ∷ xs)) (flat_map f (x ∷ xs)) (inner (x ∷ xs))
+
+  module _ (L : A → Language) (inner : (x : A) → Lawful (L x) (f x)) where
+    each_lawful : (t : Terminal) (xs : List A) → Lawful (each_after t L xs) (flat_map f xs)
+    each_lawful t [] = none_lawful (each_after t L [])
+    each_lawful t (x ∷ xs) =
+        after_word t (L x ▹ each_after t L xs) (flat_map f (x ∷ xs)) (then_lawful (L x) (each_after t L xs) (f x) (flat_map f xs) (inner x) (each_lawful t xs))
+
+    separated_lawful : (t : Terminal) (xs : List A) → Lawful (separated t L xs) (flat_map f xs)
+    separated_lawful t [] = λ ts h s. absurd s
+    separated_lawful t (x ∷ xs) = then_lawful (L x) (each_after t L xs) (f x) (flat_map f xs) (inner x) (each_lawful t xs)
+
+    terminated_lawful : (t : Terminal) (xs : List A) → Lawful (terminated t L xs) (flat_map f xs)
+    terminated_lawful t xs = before_lawful (separated t L xs) (perhaps t) (flat_map f xs) (separated_lawful t xs)
+
+    closed_lawful : (xs : List A) → Lawful (separated terminals.Comma L xs ▹ word terminals.Close) (flat_map f xs)
+    closed_lawful xs = before_lawful (separated terminals.Comma L xs) (word terminals.Close) (flat_map f xs) (separated_lawful terminals.Comma xs)
+
+    many_lawful : (xs : List A) → Lawful (many L xs) (flat_map f xs)
+    many_lawful [] = none_lawful (many L [])
+    many_lawful (x ∷ xs) = then_lawful (L x) (many L xs) (f x) (flat_map f xs) (inner x) (many_lawful xs)
+
+-- ---- productions
+
+expr_lawful : (k : ℕ) (e : Expr) → Lawful (SpellsExpr k e) (names_of_expr e)
+expr_lawful k (number n) = none_lawful (SpellsExpr k (number n))
+expr_lawful k (truth b) = none_lawful (SpellsExpr k (truth b))
+expr_lawful k (named x) = called_lawful x
+expr_lawful k (parens e) =
+    after_word terminals.Open (SpellsExpr 0 e ▹ word terminals.Close) (names_of_expr e) (before_lawful (SpellsExpr 0 e) (word terminals.Close) (names_of_expr e) (expr_lawful 0 e))
+expr_lawful k (binary l o r) = λ ts h s.
+    then_lawful (SpellsExpr (left_of o) l) (word (operator_word o) ▹ SpellsExpr (right_of o) r) (names_of_expr l) (names_of_expr r) (expr_lawful (left_of o) l)
+    (after_word (operator_word o) (SpellsExpr (right_of o) r) (names_of_expr r) (expr_lawful (right_of o) r)) ts h s.1
+
+field_lawful : (f : FieldTree) → Lawful (SpellsField f) (names_of_field f)
+field_lawful f =
+    name_then f.name (word terminals.Colon ▹ called f.ty) (f.ty ∷ []) (after_word terminals.Colon (called f.ty) (f.ty ∷ []) (called_lawful f.ty))
+
+position_lawful : (p : PositionTree) → Lawful (SpellsPosition p) (names_of_position p)
+position_lawful (typed f) = field_lawful f
+
+entry_lawful : (e : EntryTree) → Lawful (SpellsEntry e) (names_of_entry e)
+entry_lawful e =
+    after_word (kind_word e.kind) (called e.name ▹ optional_list terminals.Open SpellsPositions e.positions) (names_of_entry e)
+    (name_then e.name (optional_list terminals.Open SpellsPositions e.positions) (flat_map names_of_position e.positions)
+    (optional_list_lawful names_of_position terminals.Open SpellsPositions e.positions (closed_lawful names_of_position SpellsPosition position_lawful)))
+
+variable_lawful : (v : VariableTree) → Lawful (SpellsVariable v) (names_of_variable v)
+variable_lawful v =
+    then_lawful (SpellsField v.field) (optional terminals.Becomes (SpellsExpr 0) v.start) (names_of_field v.field) (names_of_option v.start)
+    (field_lawful v.field) (optional_lawful terminals.Becomes (SpellsExpr 0) v.start (expr_lawful 0))
+
+bound_lawful : (x : Name) (e : Expr) → Lawful (called x ▹ (word terminals.Becomes ▹ SpellsExpr 0 e)) (x ∷ names_of_expr e)
+bound_lawful x e =
+    name_then x (word terminals.Becomes ▹ SpellsExpr 0 e) (names_of_expr e) (after_word terminals.Becomes (SpellsExpr 0 e) (names_of_expr e) (expr_lawful 0 e))
+
+stmt_lawful : (s : Stmt) → Lawful (SpellsStmt s) (names_of_stmt s)
+stmt_lawful (assign x e) = bound_lawful x e
+
+transition_lawful : (t : TransitionTree) → Lawful (SpellsTransition t) (names_of_transition t)
+transition_lawful t =
+    let pre = optional terminals.Pre (SpellsExpr 0) t.pre in
+    let proposals = optional_list terminals.Propose (separated terminals.Comma SpellsProposal) t.proposals in
+    let effect = optional_list terminals.Eff (terminated terminals.Semicolon SpellsStmt) t.effect in
+    let proposed = flat_map names_of_proposal t.proposals in
+    let done = flat_map names_of_stmt t.effect in
+    after_word (kind_word t.kind) (called t.name ▹ (pre ▹ (proposals ▹ effect))) (names_of_transition t)
+    (name_then t.name (pre ▹ (proposals ▹ effect)) (names_of_option t.pre ++ (proposed ++ done))
+    (then_lawful pre (proposals ▹ effect) (names_of_option t.pre) (proposed ++ done) (optional_lawful terminals.Pre (SpellsExpr 0) t.pre (expr_lawful 0))
+    (then_lawful proposals effect proposed done
+    (optional_list_lawful names_of_proposal terminals.Propose (separated terminals.Comma SpellsProposal) t.proposals (separated_lawful names_of_proposal SpellsProposal (λ p. bound_lawful p.name p.value) terminals.Comma))
+    (optional_list_lawful names_of_stmt terminals.Eff (terminated terminals.Semicolon SpellsStmt) t.effect (terminated_lawful names_of_stmt SpellsStmt stmt_lawful terminals.Semicolon)))))
+
+automaton_lawful : (a : AutomatonTree) → Lawful (SpellsAutomaton a) (names_of_automaton a)
+automaton_lawful a =
+    let formals = optional_list terminals.Open SpellsFields a.formals in
+    let entries = terminated terminals.Semicolon SpellsEntry a.entries in
+    let variables = optional_list terminals.States (terminated terminals.Semicolon SpellsVariable) a.variables in
+    let transitions = word terminals.Transitions ▹ many SpellsTransition a.transitions in
+    let of_formals = flat_map names_of_field a.formals in
+    let of_entries = flat_map names_of_entry a.entries in
+    let of_variables = flat_map names_of_variable a.variables in
+    let of_transitions = flat_map names_of_transition a.transitions in
+    name_then a.name (formals ▹ (word terminals.Signature ▹ (entries ▹ (variables ▹ transitions)))) (of_formals ++ (of_entries ++ (of_variables ++ of_transitions)))
+    (then_lawful formals (word terminals.Signature ▹ (entries ▹ (variables ▹ transitions))) of_formals (of_entries ++ (of_variables ++ of_transitions))
+    (optional_list_lawful names_of_field terminals.Open SpellsFields a.formals (closed_lawful names_of_field SpellsField field_lawful))
+    (after_word terminals.Signature (entries ▹ (variables ▹ transitions)) (of_entries ++ (of_variables ++ of_transitions))
+    (then_lawful entries (variables ▹ transitions) of_entries (of_variables ++ of_transitions) (terminated_lawful names_of_entry SpellsEntry entry_lawful terminals.Semicolon a.entries)
+    (then_lawful variables transitions of_variables of_transitions
+    (optional_list_lawful names_of_variable terminals.States (terminated terminals.Semicolon SpellsVariable) a.variables (terminated_lawful names_of_variable SpellsVariable variable_lawful terminals.Semicolon))
+    (after_word terminals.Transitions (many SpellsTransition a.transitions) of_transitions (many_lawful names_of_transition SpellsTransition transition_lawful a.transitions))))))
+
+instance_lawful : (i : InstanceTree) → Lawful (SpellsInstance i) (names_of_instance i)
+instance_lawful i =
+    let arguments = optional_list terminals.Open SpellsArguments i.arguments in
+    name_then i.name (word terminals.Colon ▹ (called i.automaton ▹ arguments)) (i.automaton ∷ flat_map names_of_expr i.arguments)
+    (after_word terminals.Colon (called i.automaton ▹ arguments) (i.automaton ∷ flat_map names_of_expr i.arguments)
+    (name_then i.automaton arguments (flat_map names_of_expr i.arguments)
+    (optional_list_lawful names_of_expr terminals.Open SpellsArguments i.arguments (closed_lawful names_of_expr (SpellsExpr 0) (expr_lawful 0)))))
+
+instances_lawful : (is : List InstanceTree) → Lawful (SpellsInstances is) (flat_map names_of_instance is)
+instances_lawful [] ts h s = absurd s
+instances_lawful (i ∷ []) ts h s =
+    All-append IsName (names_of_instance i) [] (before_lawful (SpellsInstance i) (perhaps terminals.Semicolon) (names_of_instance i) (instance_lawful i) ts h s) (All-nil IsName)
+instances_lawful (i ∷ j ∷ rest) ts h s = absurd s
+
+composition_lawful : (c : CompositionTree) → Lawful (SpellsComposition c) (names_of_composition c)
+composition_lawful c =
+    name_then c.name (word terminals.Components ▹ SpellsInstances c.instances) (flat_map names_of_instance c.instances)
+    (after_word terminals.Components (SpellsInstances c.instances) (flat_map names_of_instance c.instances) (instances_lawful c.instances))
+
+declaration_lawful : (d : DeclarationTree) → Lawful (SpellsDeclaration d) (names_of_declaration d)
+declaration_lawful (automaton a) = after_word terminals.Automaton (SpellsAutomaton a) (names_of_automaton a) (automaton_lawful a)
+declaration_lawful (composition c) = after_word terminals.Composition (SpellsComposition c) (names_of_composition c) (composition_lawful c)
+
+-- a source has legal names alone
+pub source_legal : (s : SourceTree) → IsSource s → LegalNames s
+source_legal s h = many_lawful names_of_declaration SpellsDeclaration declaration_lawful s h.0.0 h.0.1 h.0.2
+
+-- ---- the names of parts
+
+module _ {X : Type 0} (P : X → Type 0) where
+  pub all_left : (xs ys : List X) → All P (xs ++ ys) → All P xs
+  all_left [] ys h = All-nil P
+  all_left (x ∷ xs) ys h = All-cons P x xs (All-head P x (xs ++ ys) h) (all_left xs ys (All-tail P x (xs ++ ys) h))
+
+  pub all_right : (xs ys : List X) → All P (xs ++ ys) → All P ys
+  all_right [] ys h = h
+  all_right (x ∷ xs) ys h = all_right xs ys (All-tail P x (xs ++ ys) h)
+
+  pub all_each : {A : Type 0} (f : A → List X) (items : List A) → All P (flat_map f items) → All (λ a. All P (f a)) items
+  all_each f [] h = All-nil (λ a. All P (f a))
+  all_each f (a ∷ items) h = All-cons (λ a. All P (f a)) a items (all_left (f a) (flat_map f items) h) (all_each f items (all_right (f a) (flat_map f items) h))
+
+  all_reverse : (xs : List X) → All P xs → All P (reverse xs)
+  all_reverse [] h = All-nil P
+  all_reverse (x ∷ xs) h =
+      let rest = all_reverse xs (All-tail P x xs h) in
+      All-same P (reverse (x ∷ xs)) (reverse xs ++ x ∷ []) (reverse-append (x ∷ []) xs) (All-push P (reverse xs) x rest (All-head P x xs h))
+
+  -- what is found is one of them
+  pub all_found : (test : X → Bool) (xs : List X) (x : X) → find test xs ≡ Some x → All P xs → P x
+  all_found test [] x e h = absurd (cc)
+  all_found test (y ∷ xs) x e h = go (test y) e (λ k. all_found test xs x k (All-tail P y xs h))
+    where
+      go : (b : Bool) → cond b (Some y) (find test xs) ≡ Some x → (find test xs ≡ Some x → P x) → P x
+      go true e later = let same : y ≡ x = cc in subst P same (All-head P y xs h)
+      go false e later = later e
+
+legal_automata : (s : SourceTree) → All (λ d. AreNames (names_of_declaration d)) s → All (λ a. AreNames (names_of_automaton a)) (automata s)
+legal_automata [] h = All-nil (λ a. AreNames (names_of_automaton a))
+legal_automata (automaton a ∷ ds) h =
+    let D : DeclarationTree → Type 0 = λ d. AreNames (names_of_declaration d) in
+    All-cons (λ a. AreNames (names_of_automaton a)) a (automata ds) (All-head D (automaton a) ds h) (legal_automata ds (All-tail D (automaton a) ds h))
+legal_automata (composition c ∷ ds) h = legal_automata ds (All-tail (λ d. AreNames (names_of_declaration d)) (composition c) ds h)
+
+legal_compositions : (s : SourceTree) → All (λ d. AreNames (names_of_declaration d)) s → All (λ c. AreNames (names_of_composition c)) (compositions s)
+legal_compositions [] h = All-nil (λ c. AreNames (names_of_composition c))
+legal_compositions (automaton a ∷ ds) h = legal_compositions ds (All-tail (λ d. AreNames (names_of_declaration d)) (automaton a) ds h)
+legal_compositions (composition c ∷ ds) h =
+    let D : DeclarationTree → Type 0 = λ d. AreNames (names_of_declaration d) in
+    All-cons (λ c. AreNames (names_of_composition c)) c (compositions ds) (All-head D (composition c) ds h) (legal_compositions ds (All-tail D (composition c) ds h))
+
+pub legal_automaton : (s : SourceTree) (x : Name) (a : AutomatonTree) → LegalNames s → automaton_named s x ≡ Some a → All IsName (names_of_automaton a)
+legal_automaton s x a h e =
+    all_found (λ a. AreNames (names_of_automaton a)) (λ a. bytes_eq a.name x) (automata s) a e (legal_automata s (all_each IsName names_of_declaration s h))
+
+-- the names of an automaton's entries
+pub legal_entries : (a : AutomatonTree) → All IsName (names_of_automaton a) → All (λ e. IsName e.name) a.entries
+legal_entries a h =
+    let formals = flat_map names_of_field a.formals in
+    let entries = flat_map names_of_entry a.entries in
+    let variables = flat_map names_of_variable a.variables in
+    let transitions = flat_map names_of_transition a.transitions in
+    let inside = All-tail IsName a.name (formals ++ (entries ++ (variables ++ transitions))) h in
+    let of_entries = all_left IsName entries (variables ++ transitions) (all_right IsName formals (entries ++ (variables ++ transitions)) inside) in
+    All-weaker (λ (e : EntryTree). AreNames (names_of_entry e)) (λ e. IsName e.name) (λ e k. All-head IsName e.name (flat_map names_of_position e.positions) k) a.entries
+    (all_each IsName names_of_entry a.entries of_entries)
+
+pub legal_composition : (s : SourceTree) (o : Option Name) (c : CompositionTree) → LegalNames s → picked s o ≡ Some c → All IsName (names_of_composition c)
+legal_composition s (Some x) c h e =
+    all_found (λ c. AreNames (names_of_composition c)) (λ c. bytes_eq c.name x) (compositions s) c e (legal_compositions s (all_each IsName names_of_declaration s h))
+legal_composition s None c h e =
+    let all = legal_compositions s (all_each IsName names_of_declaration s h) in
+    first_legal (reverse (compositions s)) c e (all_reverse (λ c. AreNames (names_of_composition c)) (compositions s) all)
+  where
+    first_legal : (cs : List CompositionTree) (c : CompositionTree) → first_item cs ≡ Some c → All (λ c. AreNames (names_of_composition c)) cs → AreNames (names_of_composition c)
+    first_legal [] c e h = absurd (cc)
+    first_legal (d ∷ cs) c e h =
+        let same : d ≡ c = cc in
+        subst (λ c. AreNames (names_of_composition c)) same (All-head (λ c. AreNames (names_of_composition c)) d cs h)
+
+-- the names of a composition's components
+pub legal_instances : (c : CompositionTree) → All IsName (names_of_composition c) → All (λ i. IsName i.name) c.instances
+legal_instances c h =
+    All-weaker (λ (i : InstanceTree). AreNames (names_of_instance i)) (λ i. IsName i.name) (λ i k. All-head IsName i.name (i.automaton ∷ flat_map names_of_expr i.arguments) k) c.instances
+    (all_each IsName names_of_instance c.instances (All-tail IsName c.name (flat_map names_of_instance c.instances) h))

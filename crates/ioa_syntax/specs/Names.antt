@@ -1,0 +1,60 @@
+-- The names that stand in a tree: those that it declares, those that it uses, and those of types.
+use Rattle.std.specs.Prelude.{List, [], ◌∷◌, ◌++◌, Option, Some, None, All}
+use Rattle.std.specs.List.{flat_map}
+use Rattle.ioa_value.specs.Actions.{Name}
+use Rattle.ioa_value.specs.Names.{IsName}
+use Rattle.ioa_syntax.specs.Tree.{Expr, number, truth, named, parens, binary, FieldTree, PositionTree, typed, EntryTree, VariableTree, ProposalTree, Stmt, assign, TransitionTree, AutomatonTree, InstanceTree, CompositionTree, DeclarationTree, automaton, composition, SourceTree}
+
+abbrev pub names_of_expr : Expr → List Name
+names_of_expr (number n) = []
+names_of_expr (truth b) = []
+names_of_expr (named x) = x ∷ []
+names_of_expr (parens e) = names_of_expr e
+names_of_expr (binary l o r) = names_of_expr l ++ names_of_expr r
+
+abbrev pub names_of_option : Option Expr → List Name
+names_of_option None = []
+names_of_option (Some e) = names_of_expr e
+
+abbrev pub names_of_field : FieldTree → List Name
+names_of_field f = f.name ∷ f.ty ∷ []
+
+abbrev pub names_of_position : PositionTree → List Name
+names_of_position (typed f) = names_of_field f
+
+abbrev pub names_of_entry : EntryTree → List Name
+names_of_entry e = e.name ∷ flat_map names_of_position e.positions
+
+abbrev pub names_of_variable : VariableTree → List Name
+names_of_variable v = names_of_field v.field ++ names_of_option v.start
+
+abbrev pub names_of_proposal : ProposalTree → List Name
+names_of_proposal p = p.name ∷ names_of_expr p.value
+
+abbrev pub names_of_stmt : Stmt → List Name
+names_of_stmt (assign x e) = x ∷ names_of_expr e
+
+abbrev pub names_of_transition : TransitionTree → List Name
+names_of_transition t = t.name ∷ (names_of_option t.pre ++ (flat_map names_of_proposal t.proposals ++ flat_map names_of_stmt t.effect))
+
+abbrev pub names_of_automaton : AutomatonTree → List Name
+names_of_automaton a =
+    a.name ∷ (flat_map names_of_field a.formals ++ (flat_map names_of_entry a.entries
+    ++ (flat_map names_of_variable a.variables ++ flat_map names_of_transition a.transitions)))
+
+abbrev pub names_of_instance : InstanceTree → List Name
+names_of_instance i = i.name ∷ i.automaton ∷ flat_map names_of_expr i.arguments
+
+abbrev pub names_of_composition : CompositionTree → List Name
+names_of_composition c = c.name ∷ flat_map names_of_instance c.instances
+
+abbrev pub names_of_declaration : DeclarationTree → List Name
+names_of_declaration (automaton a) = names_of_automaton a
+names_of_declaration (composition c) = names_of_composition c
+
+abbrev pub names_in : SourceTree → List Name
+names_in s = flat_map names_of_declaration s
+
+-- each name of the source is a letter, then letters, digits or `_`, of at most 64 bytes, and no reserved word
+abbrev pub LegalNames : SourceTree → Type 0
+LegalNames s = All IsName (names_in s)
