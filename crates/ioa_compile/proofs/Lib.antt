@@ -1,4 +1,3 @@
-pub mod Named
 pub mod Emitted
 pub mod Paired
 pub mod Looks

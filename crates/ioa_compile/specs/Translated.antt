@@ -1,11 +1,12 @@
 -- What the compiler makes of an entry and of a component.
 use Rattle.std.specs.Prelude.{◌≡◌, ◌≤◌, ◌+◌, ℕ, List, [], ◌∷◌, length, map, sum, Option, Some, None, IfSome, slice_get}
-use Rattle.ioa_value.specs.Typing.{basic_types}
+use Rattle.ioa_value.specs.Table.{Table}
+use Rattle.ioa_value.specs.Typing.{OwnTypes}
 use Rattle.ioa_code.specs.declared.instr.PartKind.{PartKind}
 use Rattle.ioa_code.specs.declared.instr.PartKind.TheVariants.{Pre, Eff}
 use Rattle.ioa_code.specs.Machine.{Listing}
 use Rattle.ioa_code.specs.Parts.{IsVerified}
-use Rattle.ioa_code.specs.Valid.{Part, OwnTypes}
+use Rattle.ioa_code.specs.Valid.{Part}
 use Rattle.ioa_syntax.specs.declared.tree.Kind.{Kind}
 use Rattle.ioa_syntax.specs.declared.tree.Kind.TheVariants.{Input, Output, Internal}
 use Rattle.ioa_syntax.specs.Tree.{Expr, Stmt, FieldTree, PositionTree, typed, EntryTree, TransitionTree}
@@ -27,12 +28,12 @@ position_field (typed f) = f
 -- the whole code is the precondition's
 pub record IsGuard (code : Listing) (s : Scope) (g : Option Expr) : Type 0 where
   pub has : HasGuard code s g 0 (length code.instrs)
-  pub typed : OwnTypes basic_types code.consts
+  pub typed : OwnTypes code.types code.consts
 
 -- the whole code is the statements'
 pub record IsEffect (code : Listing) (s : Scope) (ts : List Stmt) : Type 0 where
   pub has : HasStmts code s ts 0 (length code.instrs)
-  pub typed : OwnTypes basic_types code.consts
+  pub typed : OwnTypes code.types code.consts
 
 -- an input has no code for a precondition
 abbrev pub IsGuardFor : Kind → Option Listing → Scope → Option Expr → Type 0
@@ -50,8 +51,9 @@ pub record IsTransition (m : Member) (e : EntryTree) (t : TransitionTree) (guard
   pub consts : IfSome guard (λ g. g.consts ≡ code.consts)
   pub few : length code.consts ≤ guard_nodes t.pre + sum (map stmt_nodes t.effect)
 
--- the part is verified, for this kind and these types
-pub record IsFor (part : Part) (k : PartKind) (end variables values : List ℕ) : Type 0 where
+-- the part is verified, over the declared types, for this kind and these types
+pub record IsFor (part : Part) (types : Table) (k : PartKind) (end variables values : List ℕ) : Type 0 where
+  pub types_are : part.code.types ≡ types
   pub verified : IsVerified part
   pub kind : part.kind ≡ k
   pub result : part.result ≡ end
@@ -66,10 +68,10 @@ codes_of (Some p) = Some p.code
 pub record IsTranslated (m : Member) (slots : List ℕ) (e : EntryTree) (c : EntryCode) : Type 0 where
   pub kind : c.kind ≡ e.kind
   pub name : c.name ≡ e.name
-  pub positions : AreTypesOf (position_fields e.positions) (position_types c.positions)
+  pub positions : AreTypesOf m.instance.types (position_fields e.positions) (position_types c.positions)
   pub transition : (t : TransitionTree) × (transition_for m.instance.automaton e ≡ Some t) × IsTransition m e t (codes_of c.pre) c.effect.code
-  pub pre : IfSome c.pre (λ p. IsFor p Pre (0 ∷ []) slots (position_types c.positions))
-  pub effect : IsFor c.effect Eff [] slots (position_types c.positions)
+  pub pre : IfSome c.pre (λ p. IsFor p m.instance.types Pre (0 ∷ []) slots (position_types c.positions))
+  pub effect : IsFor c.effect m.instance.types Eff [] slots (position_types c.positions)
 
 -- the entry is one of the automaton's
 pub record IsEntryOf (m : Member) (e : EntryTree) : Type 0 where
@@ -79,6 +81,6 @@ pub record IsEntryOf (m : Member) (e : EntryTree) : Type 0 where
 -- the component of the table is made like the composition's, does the same, starts alike, and is sound
 pub record DoesSame (m : Member) (c : MemberCode) : Type 0 where
   pub matches : MatchesMember m c
-  pub like : IsLike (Corresponds m.instance.automaton) (component_of m.instance) (table_component c)
-  pub start : Corresponds m.instance.automaton (state_of m.instance.automaton m.starts) c.start.values
-  pub sound : IsMember c
+  pub like : IsLike (Corresponds m.instance) (component_of m.instance) (table_component c)
+  pub start : Corresponds m.instance (state_of m.instance.automaton m.starts) c.start.values
+  pub sound : IsMember m.instance.types c
