@@ -45,7 +45,7 @@ does_same m slots c h types name start entries =
         effects = λ a env vs has r. effects m slots c h table-is types entries a env vs r;
       };
       start = subst (Corresponds m.instance (state_of m.instance.automaton m.starts)) values-are (record { values = λ x. refl; typed = h.starts });
-      sound = is_member m c h table-is (subst (AreTypesOf m.instance.types (variable_fields m.instance.automaton)) types-are types)
+      sound = is_member m c h table-is name (subst (AreTypesOf m.instance.types (variable_fields m.instance.automaton)) types-are types)
           (subst (λ (n : Node). HaveTypes m.instance.types n.values n.types) (sym start) (fit_have m.instance.types (variable_fields m.instance.automaton) m.starts slots h.starts types))
           (subst (λ l. AllZip (IsTranslated m l) es c.entries) types-are entries);
     }

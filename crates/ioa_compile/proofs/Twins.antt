@@ -1,12 +1,14 @@
 -- An action has the same entry, and so the same kind, in the table as in the automaton.
-use Rattle.std.proofs.Common.{◌≡◌, ℕ, zero, suc, ◌<◌, ◌≤◌, ◌⊎◌, inl, inr, Bool, true, false, cond, ◌&&◌, List, [], ◌∷◌, length, map, get_or, Option, Some, None, IfSome, refl, sym, ap, ◌∙◌, subst, arith}
+use Rattle.std.proofs.Common.{All, ◌≡◌, ℕ, zero, suc, ◌<◌, ◌≤◌, ◌⊎◌, inl, inr, Bool, true, false, cond, ◌&&◌, List, [], ◌∷◌, length, map, get_or, Option, Some, None, IfSome, refl, sym, ap, ◌∙◌, subst, arith}
 use Rattle.std.specs.Prelude.{slice_get}
 use Rattle.std.specs.List.{AllZip, find, list_any, list_all}
 use Rattle.std.specs.Option.{option_map, option_map_or}
 use Rattle.std.specs.Str.{bytes_eq}
 use Rattle.std.proofs.lemmas.List.{length-map}
-use Rattle.std.proofs.lemmas.Option.{slice_get-map}
+use Rattle.std.proofs.lemmas.List.Elements.{All-get_or}
+use Rattle.std.proofs.lemmas.Option.{slice_get-map, slice_get_within, get_or_from_slice_get}
 use Rattle.ioa_value.specs.Actions.{Name, Act}
+use Rattle.ioa_value.specs.Names.{IsName}
 use Rattle.ioa_value.specs.Plain.{Val}
 use Rattle.ioa_value.specs.Table.{Table, AreTypes}
 use Rattle.ioa_value.specs.Typing.{HaveTypes, is_of}
@@ -88,6 +90,10 @@ module _ (m : Member) (slots : List ℕ) (a : Act) where
       ap (option_map (λ e. e.kind)) r.entry_is ∙ ap Some (sym r.same.kind) ∙ sym (ap (option_map (λ c. c.kind)) r.code_is)
   kinds_same es o p (inr r) = ap (option_map (λ e. e.kind)) r.no_entry ∙ sym (ap (option_map (λ c. c.kind)) r.no_code)
 
+-- what holds of all items, at one
+all_item : {X : Type 0} (P : X → Type 0) (xs : List X) (i : ℕ) (x : X) → All P xs → slice_get xs i ≡ Some x → P x
+all_item P xs i x h e = subst P (get_or_from_slice_get xs i x x e) (All-get_or P xs i x (slice_get_within xs i x e) h)
+
 -- the table's parts are for the component's variables, and short, since the trees are small
 module _ (m : Member) (c : MemberCode) (fine : IsFine component_limits m) (same_types : c.start.table ≡ m.instance.types) where
   part_of : (e : EntryCode) (k : PartKind) (end : List ℕ) (p : Part) → IsFor p m.instance.types k end c.start.types (position_types e.positions) → length p.code.instrs ≤ component_limits.nodes → IsPartOf c e k end p
@@ -125,6 +131,7 @@ module _ (m : Member) (c : MemberCode) (fine : IsFine component_limits m) (same_
       let positions = few_positions_of m t fine own in
       let as_many = positions_long m.instance.types t.positions e.positions h.positions in
       record {
+        legal = subst IsName (sym h.name) (all_item (λ u. IsName u.name) m.instance.automaton.entries own.place t fine.legal_entries own.here);
         few_positions = omega arith;
         positions = subst (λ l. AreDeclared l (position_types e.positions)) (sym same_types) (types_declared m.instance.types (position_fields t.positions) (position_types e.positions) h.positions);
         pre = subst (λ k. HasPre c e k e.pre) (sym h.kind) (has_pre e t.kind e.pre (scope_of m t) r.pre few.guard made.pre h.pre);
@@ -139,14 +146,15 @@ module _ (m : Member) (c : MemberCode) (fine : IsFine component_limits m) (same_
   are_entries (t ∷ ts) [] own h = absurd h
   are_entries (t ∷ ts) (e ∷ es) own h = (is_entry t e (own 0 t refl) h.0, are_entries ts es (λ i u k. own (suc i) u k) h.1)
 
-  pub is_member : AreTypesOf m.instance.types (variable_fields m.instance.automaton) c.start.types → HaveTypes m.instance.types c.start.values c.start.types → AllZip (IsTranslated m c.start.types) m.instance.automaton.entries c.entries → IsMember m.instance.types c
-  is_member types start all =
+  pub is_member : c.name ≡ m.name → AreTypesOf m.instance.types (variable_fields m.instance.automaton) c.start.types → HaveTypes m.instance.types c.start.values c.start.types → AllZip (IsTranslated m c.start.types) m.instance.automaton.entries c.entries → IsMember m.instance.types c
+  is_member name types start all =
       let a = m.instance.automaton in
       let whole = fine_parts m.instance.types fine.automaton.0 a fine.automaton.1 in
       let few = within_parts component_limits a fine.within in
       let names : map (λ e. e.name) c.entries ≡ map (λ t. t.name) a.entries =
       paired_map (IsTranslated m c.start.types) (λ t. t.name) (λ e. e.name) (λ t e h. h.name) a.entries c.entries all in
       record {
+        legal = subst IsName (sym name) fine.legal;
         types_are = same_types;
         few_variables = omega (arith, types_long m.instance.types (variable_fields a) c.start.types types, ap length (variables_names a), length-map a.variables (λ v. v.field.name), few.variables);
         typed = start;
@@ -195,8 +203,8 @@ are_members types (m ∷ ms) [] o h = absurd h
 are_members types (m ∷ ms) (c ∷ cs) o h = (subst (λ t. IsMember t c) o.0 h.0.sound, are_members types ms cs o.1 h.1)
 
 -- the program of a composition keeps what programs keep
-pub is_program : (c : Composed) (p : Prog) → IsSound c → p.types ≡ c.types → p.hidden ≡ c.hidden → AllZip DoesSame c.members p.members → IsProgram p
-is_program c p h typed_so hides all =
+pub is_program : (c : Composed) (p : Prog) → IsSound c → p.name ≡ c.name → p.types ≡ c.types → p.hidden ≡ c.hidden → AllZip DoesSame c.members p.members → IsProgram p
+is_program c p h name typed_so hides all =
     let names : map (λ m. m.name) p.members ≡ map (λ m. m.name) c.members =
     paired_map DoesSame (λ m. m.name) (λ m. m.name) (λ m n k. k.matches.name) c.members p.members all in
     let labels : (x : Name) (e : EntryTree) (d : EntryCode) (m : Member) → MatchesEntry m e d → (is_output (Some d.kind) && bytes_eq d.name x) ≡ (is_output (Some e.kind) && bytes_eq e.name x) =
@@ -207,6 +215,7 @@ is_program c p h typed_so hides all =
     c.members p.members all in
     record {
       types = subst AreTypes (sym typed_so) h.types;
+      legal = subst IsName (sym name) h.legal;
       few_members = omega (arith, ap length names, length-map p.members (λ m. m.name), length-map c.members (λ m. m.name), h.few);
       names = ap distinct names ∙ h.names;
       members = subst (λ t. AreMembers t p.members) (sym typed_so) (are_members c.types c.members p.members h.over all);

@@ -5,6 +5,7 @@ use Rattle.std.specs.Option.{option_map, option_map_or}
 use Rattle.std.specs.Str.{bytes_eq}
 use Rattle.ioa_value.specs.declared.arithmetic.Fault.{Fault}
 use Rattle.ioa_value.specs.Actions.{Name, Act}
+use Rattle.ioa_value.specs.Names.{IsName}
 use Rattle.ioa_value.specs.Plain.{Val}
 use Rattle.ioa_value.specs.Table.{Table, AreTypes}
 use Rattle.ioa_value.specs.Typing.{HaveTypes, is_of}
@@ -90,8 +91,10 @@ HasPre m e Output (Some part) = IsPartOf m e Pre (0 ∷ []) part
 HasPre m e Internal None = ⊥
 HasPre m e Internal (Some part) = IsPartOf m e Pre (0 ∷ []) part
 
--- an effect ends with nothing; the parts of an entry carry one table of constants
+-- the name is legal, and the positions are of declared types; an effect ends with nothing; the parts of an entry carry one
+-- table of constants
 pub record IsEntry (m : MemberCode) (e : EntryCode) : Type 0 where
+  pub legal : IsName e.name
   pub few_positions : length e.positions ≤ component_limits.parameters
   pub positions : AreDeclared m.start.table (position_types e.positions)
   pub pre : HasPre m e e.kind e.pre
@@ -103,8 +106,9 @@ abbrev pub AreEntries : MemberCode → List EntryCode → Type 0
 AreEntries m [] = Unit {0}
 AreEntries m (e ∷ es) = IsEntry m e × AreEntries m es
 
--- the component has these types, its variables start with values of theirs, and its entries have different names
+-- the component's name is legal, it has these types, its variables start with values of theirs, and its entries have different names
 pub record IsMember (types : Table) (m : MemberCode) : Type 0 where
+  pub legal : IsName m.name
   pub types_are : m.start.table ≡ types
   pub few_variables : length m.start.types ≤ component_limits.variables
   pub typed : HaveTypes types m.start.values m.start.types
@@ -120,10 +124,11 @@ AreMembers types (m ∷ ms) = IsMember types m × AreMembers types ms
 abbrev pub is_output_of : Prog → Name → Bool
 is_output_of p x = list_any (λ m. list_any (λ e. is_output (Some e.kind) && bytes_eq e.name x) m.entries) p.members
 
--- what a program keeps: the components have one table of types and different names and are compatible, and the hidden names
+-- what a program keeps: its name is legal, the components have one table of types and different names and are compatible, and the hidden names
 -- are different outputs'
 pub record IsProgram (p : Prog) : Type 0 where
   pub types : AreTypes p.types
+  pub legal : IsName p.name
   pub few_members : length p.members ≤ component_limits.components
   pub names : IsTrue (distinct (map (λ m. m.name) p.members))
   pub members : AreMembers p.types p.members

@@ -17,6 +17,8 @@ use Rattle.ioa_syntax.specs.Tree.{InstanceTree, CompositionTree, SourceTree}
 use Rattle.ioa_syntax.specs.View.{name_of, instance_of, assembly_of, tree_of}
 use Rattle.ioa_syntax.specs.Components.{Compatible}
 use Rattle.ioa_value.specs.Table.{Table, AreTypes}
+use Rattle.ioa_value.specs.Names.{IsName}
+use Rattle.ioa_syntax.specs.Names.{LegalNames}
 use Rattle.ioa_syntax.specs.Types.{types_of}
 use Rattle.ioa_syntax.specs.Instances.{Instance, Fit, start_values, component_of}
 use Rattle.ioa_syntax.specs.Compositions.{Member, Composed, IsMember, AreMembers, IsComposed, components_of, picked}
@@ -158,21 +160,22 @@ members-named s [] (m ∷ ms) h = absurd h
 members-named s (i ∷ is) [] h = absurd h
 members-named s (i ∷ is) (m ∷ ms) h = ap (λ ns. m.name ∷ ns) (members-named s is ms h.1) ∙ ap (λ n. n ∷ map (λ j. j.name) is) h.0.name
 
-pub parts-sound : (s : SourceTree) (types : Table) (a : Assembly) (bs : List Binding) (ms : List held.Member) (name : Name) (hidden : List Name) → AreTypes types → types ≡ types_of s → WellFormed s → IsComposable s (assembly_of a) → hidden ≡ [] → Parts s types a.instances.items bs ms → IsSound (record { types = types; name = name; members = map member_of ms; hidden = hidden })
-parts-sound s types a bs ms name hidden d t h k e p =
+pub parts-sound : (s : SourceTree) (types : Table) (a : Assembly) (bs : List Binding) (ms : List held.Member) (name : Name) (hidden : List Name) → name ≡ name_of a.name → AreTypes types → types ≡ types_of s → WellFormed s → LegalNames s → IsComposable s (assembly_of a) → hidden ≡ [] → Parts s types a.instances.items bs ms → IsSound (record { types = types; name = name; members = map member_of ms; hidden = hidden })
+parts-sound s types a bs ms name hidden named_so d t h l k e p =
     let members = parts-are s types a.instances.items bs ms p in
     let is = (assembly_of a).instances in
     let named = members-named s is (map member_of ms) members in
     let long : length (map member_of ms) ≡ length is = sym (length-map (map member_of ms) (λ m. m.name)) ∙ ap length named ∙ length-map is (λ i. i.name) in
     let sound : IsSound (record { types = types; name = name; members = map member_of ms; hidden = [] }) = record {
       types = d;
+      legal = subst IsName (sym named_so) k.legal;
       names = ap distinct named ∙ k.names;
       few = subst (λ n. n ≤ component_limits.components) (sym long) k.few;
       hidden = refl;
       few_hidden = omega arith;
       outputs = refl;
       over = subst (λ l. AreOver l (map member_of ms)) (sym t) (members-over s is (map member_of ms) members);
-      members = members-fine s is (map member_of ms) (subst AreTypes t d) h members;
+      members = members-fine s is (map member_of ms) (subst AreTypes t d) l k.legal_names h members;
       compatible = members-compatible types bs ms p.instances p.clear;
     } in
     subst (λ ns. IsSound (record { types = types; name = name; members = map member_of ms; hidden = ns })) (sym e) sound

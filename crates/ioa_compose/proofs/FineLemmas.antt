@@ -1,9 +1,13 @@
 -- What the components of a well formed source keep.
-use Rattle.std.proofs.Common.{◌≡◌, true, List, [], ◌∷◌, Ok, sym, ap, subst, ◌∙◌}
+use Rattle.std.proofs.Common.{All, ◌≡◌, true, List, [], ◌∷◌, Ok, sym, ap, subst, ◌∙◌}
 use Rattle.ioa_value.specs.Actions.{Name}
+use Rattle.ioa_value.specs.Names.{IsName}
 use Rattle.ioa_value.specs.Table.{Table, AreTypes}
 use Rattle.ioa_syntax.specs.Tree.{AutomatonTree, InstanceTree, SourceTree}
 use Rattle.ioa_syntax.specs.Meaning.{values_of}
+use Rattle.ioa_syntax.specs.Names.{LegalNames}
+use Rattle.ioa_syntax.proofs.LegalNames.{legal_automaton, legal_entries}
+use Rattle.std.proofs.lemmas.List.Elements.{All-head, All-tail}
 use Rattle.ioa_syntax.specs.Types.{types_of}
 use Rattle.ioa_syntax.specs.Instances.{Instance, Fit, field_names, start_value, all_values}
 use Rattle.ioa_syntax.specs.Compositions.{Member, IsMember, AreMembers}
@@ -15,8 +19,8 @@ use Rattle.ioa_compose.specs.Fine.{IsFine, AllFine, AreOver, component_limits}
 use Rattle.ioa_compose.proofs.SourceLemmas.{named_fine, named_within}
 
 -- a component of a well formed source is fine
-pub member-fine : (s : SourceTree) (i : InstanceTree) (m : Member) → AreTypes (types_of s) → well_formed s ≡ true → IsMember s i m → IsFine component_limits m
-member-fine s i m d h b =
+pub member-fine : (s : SourceTree) (i : InstanceTree) (m : Member) → AreTypes (types_of s) → LegalNames s → IsName i.name → well_formed s ≡ true → IsMember s i m → IsFine component_limits m
+member-fine s i m d legal named h b =
     let types = types_of s in
     let a = m.instance.automaton in
     let fine = named_fine s i.automaton a h b.automaton in
@@ -24,6 +28,8 @@ member-fine s i m d h b =
     let started : all_values (start_value types (values_of (field_names a.formals) m.instance.arguments)) a.variables ≡ Ok m.starts =
     ap (λ t. all_values (start_value t (values_of (field_names a.formals) m.instance.arguments)) a.variables) (sym b.types) ∙ b.starts in
     record {
+      legal = subst IsName (sym b.name) named;
+      legal_entries = legal_entries a (legal_automaton s i.automaton a legal b.automaton);
       automaton = (global_names s, subst (λ t. automaton_fine t (global_names s) a ≡ true) (sym b.types) fine);
       within = named_within s i.automaton a h b.automaton;
       arguments = subst (λ t. Fit t a.formals m.instance.arguments) (sym b.types) b.fit;
@@ -31,11 +37,12 @@ member-fine s i m d h b =
       started = b.starts;
     }
 
-pub members-fine : (s : SourceTree) (is : List InstanceTree) (ms : List Member) → AreTypes (types_of s) → well_formed s ≡ true → AreMembers s is ms → AllFine component_limits ms
-members-fine s [] [] d h b = tt
-members-fine s [] (m ∷ ms) d h b = absurd b
-members-fine s (i ∷ is) [] d h b = absurd b
-members-fine s (i ∷ is) (m ∷ ms) d h b = (member-fine s i m d h b.0, members-fine s is ms d h b.1)
+pub members-fine : (s : SourceTree) (is : List InstanceTree) (ms : List Member) → AreTypes (types_of s) → LegalNames s → All (λ i. IsName i.name) is → well_formed s ≡ true → AreMembers s is ms → AllFine component_limits ms
+members-fine s [] [] d l n h b = tt
+members-fine s [] (m ∷ ms) d l n h b = absurd b
+members-fine s (i ∷ is) [] d l n h b = absurd b
+members-fine s (i ∷ is) (m ∷ ms) d l n h b =
+    (member-fine s i m d l (All-head (λ i. IsName i.name) i is n) h b.0, members-fine s is ms d l (All-tail (λ i. IsName i.name) i is n) h b.1)
 
 pub members-over : (s : SourceTree) (is : List InstanceTree) (ms : List Member) → AreMembers s is ms → AreOver (types_of s) ms
 members-over s [] [] b = tt

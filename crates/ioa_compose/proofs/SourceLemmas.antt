@@ -1,7 +1,11 @@
 -- What a well formed source says of the declarations that are picked from it.
 use Rattle.std.proofs.Common.{◌≡◌, ◌&&◌, ◌||◌, Bool, true, false, List, [], ◌∷◌, ◌++◌, Option, Some, None, refl, sym, subst, ◌∙◌, cond, append_assoc, find, map, length, nat_le, arith}
-use Rattle.std.specs.List.{list_any, list_all}
+use Rattle.std.specs.List.{list_any, list_all, flat_map}
 use Rattle.std.specs.Str.{bytes_eq}
+use Rattle.std.proofs.lemmas.List.Elements.{All-head}
+use Rattle.ioa_value.specs.Names.{IsName}
+use Rattle.ioa_syntax.specs.Names.{LegalNames, names_of_instance}
+use Rattle.ioa_syntax.proofs.LegalNames.{legal_composition, legal_instances}
 use Rattle.std.proofs.lemmas.Bool.{and_from}
 use Rattle.std.proofs.lemmas.Bool.Decides.{nat_tests}
 use Rattle.ioa_value.specs.Actions.{Name}
@@ -154,9 +158,10 @@ composition_small (composition c ∷ ds) h =
     let hs = both (composition_within limits c) (list_all (declaration_within limits) ds) h in and_from _ _ hs.0 (composition_small ds hs.1)
 
 -- a composition that is picked from a well formed source
-pub picked_composable : (s : SourceTree) (name : Option Name) (c : CompositionTree) → well_formed s ≡ true → picked s name ≡ Some c → IsComposable s c
-picked_composable s name c h e =
+pub picked_composable : (s : SourceTree) (name : Option Name) (c : CompositionTree) → well_formed s ≡ true → LegalNames s → picked s name ≡ Some c → IsComposable s c
+picked_composable s name c h legal e =
     let f = picked_fine s name c h e in
     let inner = both (distinct (map (λ i. i.name) c.instances)) (list_all (instance_fine (types_of s) f.before) c.instances) f.fine in
     let test : nat_le (length c.instances) 32 ≡ true = picked_passes (composition_within limits) s name c (composition_small s (declared_within s h)) e in
-    record { names = inner.0; few = grind (arith, nat_tests); ready = ready_from s f.before f.among c.instances inner.1 }
+    let names = legal_composition s name c legal e in
+    record { legal = All-head IsName c.name (flat_map names_of_instance c.instances) names; legal_names = legal_instances c names; names = inner.0; few = grind (arith, nat_tests); ready = ready_from s f.before f.among c.instances inner.1 }

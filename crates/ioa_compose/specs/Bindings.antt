@@ -1,11 +1,12 @@
 -- Components on the way: instances with the values of their arguments, and what evaluations leave.
-use Rattle.std.specs.Prelude.{◌≡◌, ◌≤◌, Bool, true, false, ◌&&◌, IsTrue, List, [], ◌∷◌, map, length, Some, Result, Ok, Err, Vec}
+use Rattle.std.specs.Prelude.{◌≡◌, ◌≤◌, Bool, true, false, ◌&&◌, All, IsTrue, List, [], ◌∷◌, map, length, Some, Result, Ok, Err, Vec}
 use Rattle.std.specs.List.{list_all}
 use Rattle.std.specs.Option.{option_map_or}
 use Rattle.std.specs.Global.{Global}
 use Rattle.ioa_value.specs.declared.arithmetic.Fault.{Fault}
 use Rattle.ioa_value.specs.declared.value.Value.{Value}
 use Rattle.ioa_value.specs.Actions.{Name}
+use Rattle.ioa_value.specs.Names.{IsName}
 use Rattle.ioa_value.specs.Plain.{Val, plain}
 use Rattle.ioa_value.specs.Table.{Table}
 use Rattle.ioa_syntax.specs.Tree.{Expr, FieldTree, AutomatonTree, InstanceTree, CompositionTree, SourceTree}
@@ -68,8 +69,11 @@ abbrev pub AllReady : SourceTree → List InstanceTree → Type 0
 AllReady s [] = Unit {0}
 AllReady s (i ∷ is) = IsReady s i × AllReady s is
 
--- what a composition of a well formed source has: components of different names, not too many, and each is ready
+-- what a composition of a well formed source has: a legal name, components of different legal names, not too many, and each is
+-- ready
 pub record IsComposable (s : SourceTree) (c : CompositionTree) : Type 0 where
+  pub legal : IsName c.name
+  pub legal_names : All (λ i. IsName i.name) c.instances
   pub names : IsTrue (distinct (map (λ i. i.name) c.instances))
   pub few : length c.instances ≤ limits.components
   pub ready : AllReady s c.instances

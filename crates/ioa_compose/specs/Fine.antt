@@ -1,8 +1,9 @@
 -- What each component of a composition keeps.
-use Rattle.std.specs.Prelude.{◌≡◌, ℕ, ◌≤◌, Bool, ◌&&◌, IsTrue, List, [], ◌∷◌, Some, Ok, map, length}
+use Rattle.std.specs.Prelude.{◌≡◌, ℕ, ◌≤◌, Bool, ◌&&◌, All, IsTrue, List, [], ◌∷◌, Some, Ok, map, length}
 use Rattle.std.specs.List.{list_any, list_all}
 use Rattle.std.specs.Str.{bytes_eq}
 use Rattle.ioa_value.specs.Actions.{Name}
+use Rattle.ioa_value.specs.Names.{IsName}
 use Rattle.ioa_value.specs.Table.{Table, AreTypes}
 use Rattle.ioa_syntax.specs.Limits.{Limits, limits}
 use Rattle.ioa_syntax.specs.Instances.{Fit, start_values}
@@ -10,9 +11,11 @@ use Rattle.ioa_syntax.specs.Components.{Compatible, is_output}
 use Rattle.ioa_syntax.specs.Compositions.{Member, Composed, components_of}
 use Rattle.ioa_syntax.specs.WellFormed.{distinct, variable_fields, automaton_fine, automaton_within}
 
--- the automaton is well formed, within these limits, the arguments are of the formals' types, and the start values, of the
+-- the component's name and those of its entries are legal, the automaton is well formed, within these limits, the arguments are of the formals' types, and the start values, of the
 -- variables' types, are those of the start expressions
 pub record IsFine (most : Limits) (m : Member) : Type 0 where
+  pub legal : IsName m.name
+  pub legal_entries : All (λ e. IsName e.name) m.instance.automaton.entries
   pub automaton : (globals : List Name) × IsTrue (automaton_fine m.instance.types globals m.instance.automaton)
   pub within : IsTrue (automaton_within most m.instance.automaton)
   pub arguments : Fit m.instance.types m.instance.automaton.formals m.instance.arguments
@@ -40,9 +43,10 @@ most_hidden = 64
 abbrev pub is_output_of : Composed → Name → Bool
 is_output_of c x = list_any (λ m. list_any (λ e. is_output (Some e.kind) && bytes_eq e.name x) m.instance.automaton.entries) c.members
 
--- what a composition keeps: the components have one table of types and different names, and so have the hidden outputs
+-- what a composition keeps: its name is legal, the components have one table of types and different names, and so have the hidden outputs
 pub record IsSound (c : Composed) : Type 0 where
   pub types : AreTypes c.types
+  pub legal : IsName c.name
   pub names : IsTrue (distinct (map (λ m. m.name) c.members))
   pub few : length c.members ≤ component_limits.components
   pub hidden : IsTrue (distinct c.hidden)

@@ -3,6 +3,7 @@ ghost use Rattle.std.specs.String.{string_bytes};
 ghost use Rattle.ioa_lex.specs.declared.refusal.Refusal.TheVariants.{NoComposition, OutOfMemory};
 ghost use Rattle.ioa_syntax.specs.Tree.{CompositionTree};
 ghost use Rattle.ioa_syntax.specs.View.{tree_of, assembly_of};
+ghost use Rattle.ioa_syntax.specs.Names.{LegalNames};
 ghost use Rattle.ioa_syntax.specs.Types.{types_of};
 ghost use Rattle.ioa_syntax.specs.WellFormed.{WellFormed};
 ghost use Rattle.ioa_compose.specs.Bindings.{IsComposable};
@@ -109,6 +110,7 @@ fn composed(
 ) -> Result<Composition, Refusal>
     requires types { types.now ≡ types_of (tree_of declarations.now) }
     requires well_formed { WellFormed (tree_of declarations.now) }
+    requires legal { LegalNames (tree_of declarations.now) }
     requires composable { IsComposable (tree_of declarations.now) (assembly_of assembly.now) }
     ensures composed { IfOk result (λ c. IsComposed (tree_of declarations.now) (assembly_of assembly.now) (composed_of c)) }
     ensures refused { IfErr result (λ r. IsRefused (tree_of declarations.now) (assembly_of assembly.now).instances r) }

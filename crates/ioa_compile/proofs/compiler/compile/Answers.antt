@@ -15,7 +15,7 @@ new-requires c =
     let composed = composed_of c.args.composition.now in
     let cs = map member_code c.in_ok-members.members.items in
     let all = subst (λ l. AllZip DoesSame (map member_of l) cs) c.members.ensures.value c.in_ok-members.ensures in
-    is_program composed (record { types = c.in_ok-types.types; name = string_bytes c.in_ok-name.name; members = cs; hidden = map string_bytes c.in_ok-hidden.hidden.items }) c.members.ensures.sound (c.in_ok-types.ensures.same ∙ c.types.ensures.value) (c.in_ok-hidden.ensures ∙ c.hidden.ensures) all
+    is_program composed (record { types = c.in_ok-types.types; name = string_bytes c.in_ok-name.name; members = cs; hidden = map string_bytes c.in_ok-hidden.hidden.items }) c.members.ensures.sound (c.in_ok-name.ensures.ok ∙ c.name.ensures) (c.in_ok-types.ensures.same ∙ c.types.ensures.value) (c.in_ok-hidden.ensures ∙ c.hidden.ensures) all
 
 pub returns : goal.returns
 returns c =

@@ -28,7 +28,7 @@ returns-in_err-members-clause-refused c =
 
 pub invariant_of-result : goal.invariant_of-result
 invariant_of-result c =
-    parts-sound (tree_of c.args.declarations.now) c.in_ok-shared.shared c.args.assembly.now c.in_ok-bindings.bindings.items c.in_ok-members.members.items _ _ (subst AreTypes (sym c.in_ok-shared.ensures.same) c.in_ok-shared.ensures.types) (c.in_ok-shared.ensures.same ∙ c.requires.types) c.requires.well_formed c.requires.composable (ap (map string_bytes) c.new.ensures.items) (parts-of (tree_of c.args.declarations.now) c.in_ok-shared.shared c.args.assembly.now.instances.items _ _ _ _ _ c.deref.ensures.value c.deref-2.ensures.value c.deref-3.ensures.value c.in_ok-bindings.ensures.bound c.in_ok-bindings.ensures.names c.in_ok-members.ensures.instances c.in_ok-members.ensures.names c.in_ok-members.ensures.started c.in_ok-compatible.ensures.ok)
+    parts-sound (tree_of c.args.declarations.now) c.in_ok-shared.shared c.args.assembly.now c.in_ok-bindings.bindings.items c.in_ok-members.members.items _ _ (c.in_ok-name.ensures.ok ∙ c.as_str.ensures.value) (subst AreTypes (sym c.in_ok-shared.ensures.same) c.in_ok-shared.ensures.types) (c.in_ok-shared.ensures.same ∙ c.requires.types) c.requires.well_formed c.requires.legal c.requires.composable (ap (map string_bytes) c.new.ensures.items) (parts-of (tree_of c.args.declarations.now) c.in_ok-shared.shared c.args.assembly.now.instances.items _ _ _ _ _ c.deref.ensures.value c.deref-2.ensures.value c.deref-3.ensures.value c.in_ok-bindings.ensures.bound c.in_ok-bindings.ensures.names c.in_ok-members.ensures.instances c.in_ok-members.ensures.names c.in_ok-members.ensures.started c.in_ok-compatible.ensures.ok)
 
 pub returns-clause-composed : goal.returns-clause-composed
 returns-clause-composed c =
