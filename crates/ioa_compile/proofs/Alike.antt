@@ -1,17 +1,18 @@
--- A component of the table does what its instance does.
+-- The parts of a table's entry end as the transition says, and so the table's component does what its instance does.
 use Rattle.std.proofs.Common.{◌≡◌, ℕ, ◌⊎◌, inl, inr, Bool, true, false, cond, ◌&&◌, ◌++◌, IsTrue, List, [], ◌∷◌, length, map, Option, Some, None, IfSome, Result, Ok, Err, refl, sym, ap, ◌∙◌, subst, arith}
 use Rattle.std.specs.List.{AllZip, find}
 use Rattle.std.specs.Option.{option_map, option_map_or}
 use Rattle.std.specs.Str.{bytes_eq}
+use Rattle.std.proofs.lemmas.Bool.{and_parts}
 use Rattle.ioa_value.specs.declared.arithmetic.Fault.{Fault}
 use Rattle.ioa_value.specs.Actions.{Name, Act}
-use Rattle.ioa_value.specs.Operators.{Answer, gives, faults, nothing}
+use Rattle.ioa_value.specs.Operators.{Answer, gives, faults, nothing, IsTypedAnswer}
 use Rattle.ioa_value.specs.Plain as plain
 use Rattle.ioa_value.specs.Plain.{Val}
-use Rattle.ioa_value.specs.Tests.{is_of}
-use Rattle.ioa_value.specs.Typing.{HaveTypes, basic_types}
-use Rattle.ioa_value.proofs.TestLemmas.{is_of-HasType}
-use Rattle.ioa_code.specs.Machine.{Listing, done, fault}
+use Rattle.ioa_value.specs.Table.{Table, AreTypes}
+use Rattle.ioa_value.specs.Typing.{HaveTypes, is_of}
+use Rattle.ioa_value.proofs.TypingLemmas.{HaveTypes-length}
+use Rattle.ioa_code.specs.Machine.{State, End, done, fault}
 use Rattle.ioa_code.specs.Outcome.{outcome}
 use Rattle.ioa_code.specs.Valid.{Part}
 use Rattle.ioa_code.proofs.Ends.{outcome_is_end}
@@ -21,14 +22,14 @@ use Rattle.ioa_syntax.specs.declared.tree.Kind.{Kind}
 use Rattle.ioa_syntax.specs.declared.tree.Kind.TheVariants.{Input, Output, Internal}
 use Rattle.ioa_syntax.specs.Tree.{Expr, Stmt, PositionTree, typed, EntryTree}
 use Rattle.ioa_syntax.specs.Meaning.{Env, values_of, or_else, kept, val, Outcome, becomes, breaks, nowhere, eff}
-use Rattle.ioa_syntax.specs.Instances.{basic_table, field_names, variable_names, position_name, positions_have, entry_has, entry_for, transition_for, environment, truth_of, enabling, next_state, component_of}
+use Rattle.ioa_syntax.specs.Instances.{Instance, field_names, variable_names, position_name, positions_have, entry_has, transition_for, environment, truth_of, enabling, next_state, component_of}
 use Rattle.ioa_syntax.specs.Components.{is_local}
 use Rattle.ioa_syntax.specs.Compositions.{Member}
 use Rattle.ioa_syntax.specs.Likes.{AreLike}
-use Rattle.ioa_syntax.specs.WellFormed.{contains, local_names, position_fields, variable_fields, context_of, scope}
-use Rattle.ioa_compose.specs.Fine.{IsFine}
-use Rattle.ioa_syntax.specs.Answers.{IsTyped}
+use Rattle.ioa_syntax.specs.WellFormed.{Context, contains, local_names, position_fields, variable_fields, context_of, scope}
 use Rattle.ioa_syntax.proofs.ValTyped.{val_typed}
+use Rattle.ioa_compose.specs.Fine.{IsFine, component_limits}
+use Rattle.ioa_code.specs.declared.instr.PartKind.TheVariants.{Pre}
 use Rattle.ioa_compile.specs.Programs.{EntryCode, MemberCode}
 use Rattle.ioa_compile.specs.Tables.{allows, entry_of, table_component, position_types}
 use Rattle.ioa_compile.specs.Correspondence.{Corresponds}
@@ -36,44 +37,53 @@ use Rattle.ioa_compile.specs.Scopes.{Scope, scope_of}
 use Rattle.ioa_compile.specs.Placed.{HasStmts}
 use Rattle.ioa_compile.specs.CodeEnds.{required, GuardEnds, EffectEnds}
 use Rattle.ioa_compile.specs.Matching.{AreTypesOf, MatchesEntry}
-use Rattle.ioa_compile.specs.Translated.{IsGuard, IsGuardFor, codes_of, IsEntryOf, IsTranslated}
+use Rattle.ioa_compile.specs.Translated.{IsGuard, IsGuardFor, codes_of, IsEntryOf, IsTranslated, IsFor}
 use Rattle.ioa_compile.proofs.Looks.{look, values_look, or_else-none, stands, look_outside, look_inside, outside_both, distinct_apart, apart_outside}
-use Rattle.ioa_compile.proofs.Fits.{have_long, types_long, position_names, fit_have, have_fit}
+use Rattle.ioa_compile.proofs.Fits.{types_long, position_names, fit_have, have_fit}
 use Rattle.ioa_compile.proofs.Fine.{Setting, setting, is_scope, variables_long, type_at, fine_of, guard_typed, effect_typed, GuardTyped, StmtsTyped}
 use Rattle.ioa_compile.proofs.Validity.{found_slot}
 use Rattle.ioa_compile.proofs.Running as running
-use Rattle.ioa_compile.proofs.Running.{Comes, Breaks, Reaches, on, push_comes, expr_runs}
+use Rattle.ioa_compile.proofs.Running.{Comes, Breaks, Reaches, Knows, on, push_comes, expr_runs}
 use Rattle.ioa_compile.proofs.Twins.{Both, Neither, finds_same}
-use Rattle.std.proofs.lemmas.Bool.{and_parts}
 
 -- ---- the end of a run
 
-module _ (code : Listing) (s : Scope) (slots args : List Val) where
-  came : (stack after : List Val) → Comes code s args (on code s args 0 [] slots) (on code s args (length code.instrs) stack after) → runs.Comes code (start slots args) (done stack after [])
-  came stack after c = let r = c.by (done stack after []) 0 (refl, refl) in (r.0, omega (arith, r.1), r.2)
+module _ (part : Part) (s : Scope) (slots args : List Val) where
+  came : (stack after : List Val) → Comes part.code s args (on part.code s args 0 [] slots) (on part.code s args (length part.code.instrs) stack after) → runs.Comes part (start slots args) (done stack after 0)
+  came stack after c = let r = c.by (done stack after 0) 0 (refl, refl) in (r.0, omega (arith, r.1), r.2)
 
-  broke : (f : Fault) → Breaks code s args (on code s args 0 [] slots) f → runs.Comes code (start slots args) (fault f [])
+  broke : (f : Fault) → Breaks part.code s args (on part.code s args 0 [] slots) f → runs.Comes part (start slots args) (fault f 0)
   broke f b = (b.count, omega (arith, b.within), b.ends)
 
-  ended : (stack after : List Val) → Comes code s args (on code s args 0 [] slots) (on code s args (length code.instrs) stack after) → outcome code (start slots args) ≡ Some (done stack after [])
-  ended stack after c = (outcome_is_end code (start slots args) (done stack after [])).1 (came stack after c)
-
-  broken : (f : Fault) → Breaks code s args (on code s args 0 [] slots) f → outcome code (start slots args) ≡ Some (fault f [])
-  broken f b = (outcome_is_end code (start slots args) (fault f [])).1 (broke f b)
-
-  answer_comes : (a : Answer) → IsTyped basic_types 0 a → Reaches code s args (on code s args 0 [] slots) (length code.instrs) [] slots a → GuardEnds code slots args a
+  answer_comes : (v : Answer) → (v ≡ nothing → ⊥) → Reaches part.code s args (on part.code s args 0 [] slots) (length part.code.instrs) [] slots v → GuardEnds part slots args v
   answer_comes (gives v) t r = came (v ∷ []) slots r
   answer_comes (faults f) t r = broke f r
-  answer_comes nothing t r = absurd t
+  answer_comes nothing t r = absurd (t refl)
 
-  guard_ends : (a : Answer) → IsTyped basic_types 0 a → Reaches code s args (on code s args 0 [] slots) (length code.instrs) [] slots a → truth_of a ≡ guard_answer (outcome code (start slots args))
-  guard_ends (gives (plain.truth b)) t r = sym (ap guard_answer (ended (plain.truth b ∷ []) slots r))
-  guard_ends (gives (plain.num z)) t r = absurd (omega (arith, t))
-  guard_ends (gives (plain.name ty n)) t r = absurd t
-  guard_ends (gives (plain.tuple ty vs)) t r = absurd t
-  guard_ends (gives (plain.items ty vs)) t r = absurd t
-  guard_ends (faults f) t r = sym (ap guard_answer (broken f r))
-  guard_ends nothing t r = absurd t
+-- ---- what the end of a run says of the answer
+
+end_is : (part : Part) (s : State) (r : End) → runs.Comes part s r → outcome part s ≡ Some r
+end_is part s r c = (outcome_is_end part s r).1 c
+
+guard_says : (part : Part) (slots args : List Val) (v : Answer) → GuardEnds part slots args v → truth_of v ≡ guard_of part slots args
+guard_says part slots args (gives (plain.truth b)) c = sym (ap guard_answer (end_is part (start slots args) _ c))
+guard_says part slots args (gives (plain.num z)) c = sym (ap guard_answer (end_is part (start slots args) _ c))
+guard_says part slots args (gives (plain.name ty n)) c = sym (ap guard_answer (end_is part (start slots args) _ c))
+guard_says part slots args (gives (plain.tuple ty vs)) c = sym (ap guard_answer (end_is part (start slots args) _ c))
+guard_says part slots args (gives (plain.items ty vs)) c = sym (ap guard_answer (end_is part (start slots args) _ c))
+guard_says part slots args (faults f) c = sym (ap guard_answer (end_is part (start slots args) _ c))
+guard_says part slots args nothing c = absurd c
+
+effect_says : (i : Instance) (part : Part) (slots args : List Val) (env : Env) (o : Outcome) → EffectEnds i part slots args o → AreLike (Corresponds i) (next_state i.automaton env o) (effect_of part slots args)
+effect_says i part slots args env (becomes after) c =
+    subst (AreLike (Corresponds i) (Ok (kept (variable_names i.automaton) after))) (sym (ap (effect_answer slots) (end_is part (start slots args) _ c.2))) c.1
+effect_says i part slots args env (breaks f) c =
+    subst (AreLike (Corresponds i) (Err f)) (sym (ap (effect_answer slots) (end_is part (start slots args) _ c))) refl
+effect_says i part slots args env nowhere c = absurd c
+
+enabling-required : (types : Table) (g : Option Expr) (env : Env) → enabling types g env ≡ truth_of (required types g env)
+enabling-required types None env = refl
+enabling-required types (Some e) env = refl
 
 -- ---- the environment of an entry
 
@@ -83,19 +93,19 @@ swapped f p v (inl e) =
 swapped f p v (inr e) =
     ap (λ o. or_else o (or_else p v)) e.0 ∙ ap (λ o. or_else o v) e.1 ∙ sym (ap (λ o. or_else v (or_else o p)) e.0 ∙ ap (or_else v) e.1 ∙ or_else-none v)
 
-args_typed : (ps : List PositionTree) (vs : List Val) (ts : List ℕ) → IsTrue (positions_have basic_table ps vs) → AreTypesOf (position_fields ps) ts → HaveTypes basic_types vs ts
-args_typed [] [] [] h k = tt
-args_typed [] [] (t ∷ ts) h k = absurd k
-args_typed [] (v ∷ vs) ts h k = absurd (cc)
-args_typed (typed f ∷ ps) [] ts h k = absurd (cc)
-args_typed (typed f ∷ ps) (v ∷ vs) [] h k = absurd k
-args_typed (typed f ∷ ps) (v ∷ vs) (t ∷ ts) h k =
-    let one : Option ℕ → Bool = λ o. option_map_or (λ n. is_of basic_types v n) o false in
-    let h2 = subst (λ o. IsTrue (one o && positions_have basic_table ps vs)) k.0 h in
-    let parts = and_parts (is_of basic_types v t) (positions_have basic_table ps vs) h2 in
-    ((is_of-HasType basic_types v t).0 parts.0, args_typed ps vs ts parts.1 k.1)
+args_typed : (types : Table) (ps : List PositionTree) (vs : List Val) (ts : List ℕ) → IsTrue (positions_have types ps vs) → AreTypesOf types (position_fields ps) ts → HaveTypes types vs ts
+args_typed types [] [] [] h k = tt
+args_typed types [] [] (t ∷ ts) h k = absurd k
+args_typed types [] (v ∷ vs) ts h k = absurd (cc)
+args_typed types (typed f ∷ ps) [] ts h k = absurd (cc)
+args_typed types (typed f ∷ ps) (v ∷ vs) [] h k = absurd k
+args_typed types (typed f ∷ ps) (v ∷ vs) (t ∷ ts) h k =
+    let one : Option ℕ → Bool = λ o. option_map_or (λ n. is_of types v n) o false in
+    let h2 = subst (λ o. IsTrue (one o && positions_have types ps vs)) k.0 h in
+    let parts = and_parts (is_of types v t) (positions_have types ps vs) h2 in
+    (parts.0, args_typed types ps vs ts parts.1 k.1)
 
-module _ (m : Member) (e : EntryTree) (vs ps : List ℕ) (h : Setting m e vs ps) (args : List Val) (values : HaveTypes basic_types args ps) where
+module _ (m : Member) (e : EntryTree) (vs ps : List ℕ) (h : Setting m e vs ps) (args : List Val) (values : HaveTypes m.instance.types args ps) where
   separate : (x : Name) → (contains (variable_names m.instance.automaton) x ≡ false) ⊎ ((contains (field_names m.instance.automaton.formals) x ≡ false) × (contains (map position_name e.positions) x ≡ false))
   separate x = go (contains (variable_names m.instance.automaton) x) refl (contains (field_names m.instance.automaton.formals) x) refl (contains (map position_name e.positions) x) refl
     where
@@ -105,8 +115,8 @@ module _ (m : Member) (e : EntryTree) (vs ps : List ℕ) (h : Setting m e vs ps)
       go true v-is true f-is p p-is =
           let no = distinct_apart (field_names m.instance.automaton.formals) (variable_names m.instance.automaton) x h.parts.distinct_names f-is in absurd (cc)
       go true v-is false f-is true p-is =
-          let out = apart_outside (map position_name e.positions) (h.globals ++ local_names basic_table h.globals m.instance.automaton) x h.entry.apart_names p-is in
-          let local = (outside_both h.globals (local_names basic_table h.globals m.instance.automaton) x out).1 in
+          let out = apart_outside (map position_name e.positions) (h.globals ++ local_names m.instance.types h.globals m.instance.automaton) x h.entry.apart_names p-is in
+          let local = (outside_both h.globals (local_names m.instance.types h.globals m.instance.automaton) x out).1 in
           let no = (outside_both (field_names m.instance.automaton.formals) (variable_names m.instance.automaton) x local).1 in absurd (cc)
 
   stood : (slots : List Val) (x : Name) → or_else (look (field_names m.instance.automaton.formals) m.instance.arguments x) (or_else (look (map position_name e.positions) args x) (look (variable_names m.instance.automaton) slots x)) ≡ stands (scope_of m e) slots m.instance.arguments args x
@@ -119,60 +129,71 @@ module _ (m : Member) (e : EntryTree) (vs ps : List ℕ) (h : Setting m e vs ps)
 
   args_long : length (map position_name e.positions) ≡ length args
   args_long =
-      ap length (sym (position_names e.positions)) ∙ types_long (position_fields e.positions) ps h.parameters ∙ sym (have_long basic_types args ps values)
+      ap length (sym (position_names e.positions)) ∙ types_long m.instance.types (position_fields e.positions) ps h.parameters ∙ sym (HaveTypes-length m.instance.types args ps values)
 
-  module _ (code : Listing) where
+  module _ (part : Part) (over : part.code.types ≡ m.instance.types) (declared : AreTypes m.instance.types) where
+    -- the types of the names in this entry, and of the variables
+    abbrev names_in : Context
+    names_in = scope m.instance.types h.globals m.instance.automaton e
+
+    abbrev variables_in : Context
+    variables_in = context_of m.instance.types (variable_fields m.instance.automaton)
+
+    knows : Knows part.code (scope_of m e) args m.instance.types names_in variables_in vs h.types ps
+    knows = record {
+      same_types = over;
+      declared = declared;
+      variables = variables_long m e vs ps h;
+      formals = (is_scope m e vs ps h).given;
+      parameters = args_long;
+      given = h.given;
+      values = values;
+      names = type_at m e vs ps h;
+      found = found_slot m e vs ps h part.code;
+    }
+
     -- what statements keep, in this entry
     abbrev Holds : Env → List Val → Type 0
-    Holds env slots =
-        running.Holds code (scope_of m e) args (scope basic_table h.globals m.instance.automaton e) (context_of basic_table (variable_fields m.instance.automaton)) vs h.types ps (variables_long m e vs ps h) (is_scope m e vs ps h).given args_long h.given values (type_at m e vs ps h) (found_slot m e vs ps h code) env slots
+    Holds env slots = running.Holds part.code (scope_of m e) args m.instance.types names_in variables_in vs h.types ps knows env slots
 
-    holds : (env : Env) (slots : List Val) → Corresponds m.instance.automaton env slots → Holds (environment m.instance e args env) slots
+    holds : (env : Env) (slots : List Val) → Corresponds m.instance env slots → Holds (environment m.instance e args env) slots
     holds env slots c = record {
       agrees = λ x.
           ap (λ o. or_else o (or_else (values_of (map position_name e.positions) args x) (env x))) (values_look (field_names m.instance.automaton.formals) m.instance.arguments x)
           ∙ ap (λ o. or_else (look (field_names m.instance.automaton.formals) m.instance.arguments x) (or_else o (env x))) (values_look (map position_name e.positions) args x)
           ∙ ap (λ o. or_else (look (field_names m.instance.automaton.formals) m.instance.arguments x) (or_else (look (map position_name e.positions) args x) o)) (c.values x ∙ values_look (variable_names m.instance.automaton) slots x)
           ∙ stood slots x;
-      typed = fit_have (variable_fields m.instance.automaton) slots vs c.typed h.variables;
+      typed = fit_have m.instance.types (variable_fields m.instance.automaton) slots vs c.typed h.variables;
     }
 
-    guard_runs : (g : Option Expr) (env : Env) (slots : List Val) → Corresponds m.instance.automaton env slots → GuardTyped (scope basic_table h.globals m.instance.automaton e) g → IsGuard code (scope_of m e) g → enabling g (environment m.instance e args env) ≡ guard_answer (outcome code (start slots args))
-    guard_runs None env slots c t k =
-        let s = scope_of m e in
-        let run = subst (λ n. Comes code s args (on code s args 0 [] slots) (on code s args n (plain.truth true ∷ []) slots)) (sym k.has.1) (push_comes code s args 0 [] slots (plain.truth true) k.has.0) in
-        guard_ends code s slots args (gives (plain.truth true)) refl run
-    guard_runs (Some x) env slots c t k =
-        let s = scope_of m e in
-        let inner = environment m.instance e args env in
-        let names = scope basic_table h.globals m.instance.automaton e in
-        let own = holds env slots c in
-        let suits = running.suits code s args names (context_of basic_table (variable_fields m.instance.automaton)) vs h.types ps (variables_long m e vs ps h) (is_scope m e vs ps h).given args_long h.given values (type_at m e vs ps h) (found_slot m e vs ps h code) inner slots own in
-        let agree = running.agree code s args names (context_of basic_table (variable_fields m.instance.automaton)) vs h.types ps (variables_long m e vs ps h) (is_scope m e vs ps h).given args_long h.given values (type_at m e vs ps h) (found_slot m e vs ps h code) inner slots own in
-        guard_ends code s slots args (val x inner) (val_typed basic_types names inner x 0 suits t.0) (expr_runs code s args x 0 (length code.instrs) [] slots inner agree k.has)
+    some_answer : (ty : ℕ) (v : Answer) → IsTypedAnswer m.instance.types ty v → v ≡ nothing → ⊥
+    some_answer ty (gives v) t n = absurd (cc)
+    some_answer ty (faults f) t n = absurd (cc)
+    some_answer ty nothing t n = t
 
-    guard_comes : (g : Option Expr) (env : Env) (slots : List Val) → Corresponds m.instance.automaton env slots → GuardTyped (scope basic_table h.globals m.instance.automaton e) g → IsGuard code (scope_of m e) g → GuardEnds code slots args (required g (environment m.instance e args env))
+    guard_comes : (g : Option Expr) (env : Env) (slots : List Val) → Corresponds m.instance env slots → GuardTyped m.instance.types names_in g → IsGuard part.code (scope_of m e) g → GuardEnds part slots args (required m.instance.types g (environment m.instance e args env))
     guard_comes None env slots c t k =
         let s = scope_of m e in
+        let code = part.code in
         let run = subst (λ n. Comes code s args (on code s args 0 [] slots) (on code s args n (plain.truth true ∷ []) slots)) (sym k.has.1) (push_comes code s args 0 [] slots (plain.truth true) k.has.0) in
-        came code s slots args (plain.truth true ∷ []) slots run
+        came part s slots args (plain.truth true ∷ []) slots run
     guard_comes (Some x) env slots c t k =
         let s = scope_of m e in
+        let types = m.instance.types in
         let inner = environment m.instance e args env in
-        let names = scope basic_table h.globals m.instance.automaton e in
         let own = holds env slots c in
-        let suits = running.suits code s args names (context_of basic_table (variable_fields m.instance.automaton)) vs h.types ps (variables_long m e vs ps h) (is_scope m e vs ps h).given args_long h.given values (type_at m e vs ps h) (found_slot m e vs ps h code) inner slots own in
-        let agree = running.agree code s args names (context_of basic_table (variable_fields m.instance.automaton)) vs h.types ps (variables_long m e vs ps h) (is_scope m e vs ps h).given args_long h.given values (type_at m e vs ps h) (found_slot m e vs ps h code) inner slots own in
-        answer_comes code s slots args (val x inner) (val_typed basic_types names inner x 0 suits t.0) (expr_runs code s args x 0 (length code.instrs) [] slots inner agree k.has)
+        let suits = running.suits part.code s args types names_in variables_in vs h.types ps knows inner slots own in
+        let agree = running.agree part.code s args types names_in variables_in vs h.types ps knows inner slots own in
+        answer_comes part s slots args (val types x inner) (some_answer 0 (val types x inner) (val_typed types declared names_in inner x 0 suits t)) (expr_runs part.code s args types over x 0 (length part.code.instrs) [] slots inner agree k.has)
 
-    kept_corresponds : (env : Env) (slots : List Val) → Holds env slots → Corresponds m.instance.automaton (kept (variable_names m.instance.automaton) env) slots
+    kept_corresponds : (env : Env) (slots : List Val) → Holds env slots → Corresponds m.instance (kept (variable_names m.instance.automaton) env) slots
     kept_corresponds env slots k = record {
       values = λ x. go x (contains (variable_names m.instance.automaton) x) refl ∙ sym (values_look (variable_names m.instance.automaton) slots x);
-      typed = have_fit (variable_fields m.instance.automaton) slots vs k.typed h.variables;
+      typed = have_fit m.instance.types (variable_fields m.instance.automaton) slots vs k.typed h.variables;
     }
       where
         long : length (variable_names m.instance.automaton) ≡ length slots
-        long = variables_long m e vs ps h ∙ sym (have_long basic_types slots vs k.typed)
+        long = variables_long m e vs ps h ∙ sym (HaveTypes-length m.instance.types slots vs k.typed)
 
         go : (x : Name) (b : Bool) → contains (variable_names m.instance.automaton) x ≡ b → cond b (env x) None ≡ look (variable_names m.instance.automaton) slots x
         go x true t =
@@ -180,123 +201,118 @@ module _ (m : Member) (e : EntryTree) (vs ps : List ℕ) (h : Setting m e vs ps)
             k.agrees x ∙ ap (λ o. or_else o (or_else (look (field_names m.instance.automaton.formals) m.instance.arguments x) (look (map position_name e.positions) args x))) there.1 ∙ sym there.1
         go x false t = sym (look_outside (variable_names m.instance.automaton) slots x t)
 
-    effect_ends : (env : Env) (slots : List Val) (o : Outcome) → running.RunsTo code (scope_of m e) args (scope basic_table h.globals m.instance.automaton e) (context_of basic_table (variable_fields m.instance.automaton)) vs h.types ps (variables_long m e vs ps h) (is_scope m e vs ps h).given args_long h.given values (type_at m e vs ps h) (found_slot m e vs ps h code) (on code (scope_of m e) args 0 [] slots) (length code.instrs) o → AreLike (Corresponds m.instance.automaton) (next_state m.instance.automaton env o) (effect_answer slots (outcome code (start slots args)))
-    effect_ends env slots (becomes after) r =
-        let end = ap (effect_answer slots) (ended code (scope_of m e) slots args [] r.0 r.2) in
-        subst (AreLike (Corresponds m.instance.automaton) (Ok (kept (variable_names m.instance.automaton) after))) (sym end) (kept_corresponds after r.0 r.1)
-    effect_ends env slots (breaks f) r =
-        let end = ap (effect_answer slots) (broken code (scope_of m e) slots args f r) in
-        subst (AreLike (Corresponds m.instance.automaton) (Err f)) (sym end) refl
-    effect_ends env slots nowhere r = absurd r
-
-    outcome_comes : (slots : List Val) (o : Outcome) → running.RunsTo code (scope_of m e) args (scope basic_table h.globals m.instance.automaton e) (context_of basic_table (variable_fields m.instance.automaton)) vs h.types ps (variables_long m e vs ps h) (is_scope m e vs ps h).given args_long h.given values (type_at m e vs ps h) (found_slot m e vs ps h code) (on code (scope_of m e) args 0 [] slots) (length code.instrs) o → EffectEnds m.instance.automaton code slots args o
-    outcome_comes slots (becomes after) r = (r.0, kept_corresponds after r.0 r.1, came code (scope_of m e) slots args [] r.0 r.2)
-    outcome_comes slots (breaks f) r = broke code (scope_of m e) slots args f r
+    outcome_comes : (slots : List Val) (o : Outcome) → running.RunsTo part.code (scope_of m e) args m.instance.types names_in variables_in vs h.types ps knows (on part.code (scope_of m e) args 0 [] slots) (length part.code.instrs) o → EffectEnds m.instance part slots args o
+    outcome_comes slots (becomes after) r = (r.0, kept_corresponds after r.0 r.1, came part (scope_of m e) slots args [] r.0 r.2)
+    outcome_comes slots (breaks f) r = broke part (scope_of m e) slots args f r
     outcome_comes slots nowhere r = absurd r
 
-    effect_comes : (ts : List Stmt) (env : Env) (slots : List Val) → Corresponds m.instance.automaton env slots → StmtsTyped (scope basic_table h.globals m.instance.automaton e) (context_of basic_table (variable_fields m.instance.automaton)) ts → HasStmts code (scope_of m e) ts 0 (length code.instrs) → EffectEnds m.instance.automaton code slots args (eff ts (environment m.instance e args env))
+    effect_comes : (ts : List Stmt) (env : Env) (slots : List Val) → Corresponds m.instance env slots → StmtsTyped m.instance.types names_in variables_in ts → HasStmts part.code (scope_of m e) ts 0 (length part.code.instrs) → EffectEnds m.instance part slots args (eff m.instance.types ts (environment m.instance e args env))
     effect_comes ts env slots c t k =
-        outcome_comes slots (eff ts (environment m.instance e args env))
-        (running.stmts_run code (scope_of m e) args (scope basic_table h.globals m.instance.automaton e) (context_of basic_table (variable_fields m.instance.automaton)) vs h.types ps (variables_long m e vs ps h) (is_scope m e vs ps h).given args_long h.given values (type_at m e vs ps h) (found_slot m e vs ps h code) ts 0 (length code.instrs) (environment m.instance e args env) slots (holds env slots c) t k)
-
-    effect_runs : (ts : List Stmt) (env : Env) (slots : List Val) → Corresponds m.instance.automaton env slots → StmtsTyped (scope basic_table h.globals m.instance.automaton e) (context_of basic_table (variable_fields m.instance.automaton)) ts → HasStmts code (scope_of m e) ts 0 (length code.instrs) → AreLike (Corresponds m.instance.automaton) (next_state m.instance.automaton env (eff ts (environment m.instance e args env))) (effect_answer slots (outcome code (start slots args)))
-    effect_runs ts env slots c t k =
-        effect_ends env slots (eff ts (environment m.instance e args env))
-        (running.stmts_run code (scope_of m e) args (scope basic_table h.globals m.instance.automaton e) (context_of basic_table (variable_fields m.instance.automaton)) vs h.types ps (variables_long m e vs ps h) (is_scope m e vs ps h).given args_long h.given values (type_at m e vs ps h) (found_slot m e vs ps h code) ts 0 (length code.instrs) (environment m.instance e args env) slots (holds env slots c) t k)
+        outcome_comes slots (eff m.instance.types ts (environment m.instance e args env))
+        (running.stmts_run part.code (scope_of m e) args m.instance.types names_in variables_in vs h.types ps knows ts 0 (length part.code.instrs) (environment m.instance e args env) slots (holds env slots c) t k)
 
 -- ---- an entry
 
-guard_cases : (x : Result Bool Fault) (k : Kind) (o : Option Part) (s : Scope) (g : Option Expr) (slots args : List Val) → IsTrue (is_local (Some k)) → IsGuardFor k (codes_of o) s g → ((p : Part) → IsGuard p.code s g → x ≡ guard_of p slots args) → x ≡ allows o slots args
-guard_cases x Input o s g slots args l h f = absurd (cc)
-guard_cases x Output None s g slots args l h f = absurd h
-guard_cases x Output (Some p) s g slots args l h f = f p h
-guard_cases x Internal None s g slots args l h f = absurd h
-guard_cases x Internal (Some p) s g slots args l h f = f p h
-
-module _ (m : Member) (vs : List ℕ) (fine : IsFine m) (types : AreTypesOf (variable_fields m.instance.automaton) vs) (a : Act) (e : EntryTree) (c : EntryCode) (is : IsTranslated m vs e c) (own : IsEntryOf m e) (has : entry_has basic_table a e ≡ true) where
-  all : Setting m e vs (position_types c.positions)
-  all = setting m e vs (position_types c.positions) fine own types is.positions
-
-  arguments : HaveTypes basic_types a.vals (position_types c.positions)
-  arguments = args_typed e.positions a.vals (position_types c.positions) (and_parts (bytes_eq e.name a.name) (positions_have basic_table e.positions a.vals) has).1 is.positions
-
-  guard_same : (env : Env) (slots : List Val) → IsTrue (is_local (Some e.kind)) → Corresponds m.instance.automaton env slots → enabling is.transition.0.pre (environment m.instance e a.vals env) ≡ allows c.pre slots a.vals
-  guard_same env slots local r =
-      let t = is.transition.0 in
-      let ok = guard_typed all.globals m.instance.automaton e t (fine_of all.globals m.instance.automaton e t all.transition is.transition.1) in
-      guard_cases _ e.kind c.pre (scope_of m e) t.pre slots a.vals local is.transition.2.pre
-      (λ p k. guard_runs m e vs (position_types c.positions) all a.vals arguments p.code t.pre env slots r ok k)
-
-  effect_same : (env : Env) (slots : List Val) → Corresponds m.instance.automaton env slots → AreLike (Corresponds m.instance.automaton) (next_state m.instance.automaton env (eff is.transition.0.effect (environment m.instance e a.vals env))) (effect_of c.effect slots a.vals)
-  effect_same env slots r =
-      let t = is.transition.0 in
-      let ok = (effect_typed all.globals m.instance.automaton e t (fine_of all.globals m.instance.automaton e t all.transition is.transition.1)).0 in
-      effect_runs m e vs (position_types c.positions) all a.vals arguments c.effect.code t.effect env slots r ok is.transition.2.effect.has
-
-on_part : (P : Part → Type 0) (k : Kind) (o : Option Part) (s : Scope) (g : Option Expr) → IsGuardFor k (codes_of o) s g → ((p : Part) → IsGuard p.code s g → P p) → IfSome o P
-on_part P Input None s g h f = tt
-on_part P Input (Some p) s g h f = absurd h
-on_part P Output None s g h f = absurd h
-on_part P Output (Some p) s g h f = f p h
-on_part P Internal None s g h f = absurd h
-on_part P Internal (Some p) s g h f = f p h
+on_part : (P Q : Part → Type 0) (k : Kind) (o : Option Part) (s : Scope) (g : Option Expr) → IsGuardFor k (codes_of o) s g → IfSome o Q → ((p : Part) → IsGuard p.code s g → Q p → P p) → IfSome o P
+on_part P Q Input None s g h q f = tt
+on_part P Q Input (Some p) s g h q f = absurd h
+on_part P Q Output None s g h q f = absurd h
+on_part P Q Output (Some p) s g h q f = f p h q
+on_part P Q Internal None s g h q f = absurd h
+on_part P Q Internal (Some p) s g h q f = f p h q
 
 -- what the compiler makes of an entry matches it
-pub entry_matches : (m : Member) (vs : List ℕ) (e : EntryTree) (c : EntryCode) → IsFine m → AreTypesOf (variable_fields m.instance.automaton) vs → IsTranslated m vs e c → IsEntryOf m e → MatchesEntry m e c
+pub entry_matches : (m : Member) (vs : List ℕ) (e : EntryTree) (c : EntryCode) → IsFine component_limits m → AreTypesOf m.instance.types (variable_fields m.instance.automaton) vs → IsTranslated m vs e c → IsEntryOf m e → MatchesEntry m e c
 entry_matches m vs e c fine types is own =
     let ps = position_types c.positions in
-    let all = setting m e vs ps fine own types is.positions in
+    let all = setting m e fine own vs ps types is.positions in
     let t = is.transition.0 in
-    let ok = fine_of all.globals m.instance.automaton e t all.transition is.transition.1 in
+    let ok = fine_of m e fine own t is.transition.1 in
+    let declared = subst AreTypes is.effect.types_are is.effect.verified.types in
     record {
       kind = is.kind;
       name = is.name;
       positions = is.positions;
       transition = t;
       found = is.transition.1;
-      guard = on_part _ e.kind c.pre (scope_of m e) t.pre is.transition.2.pre
-          (λ p k env slots args r values. guard_comes m e vs ps all args values p.code t.pre env slots r (guard_typed all.globals m.instance.automaton e t ok) k);
-      effect = λ env slots args r values. effect_comes m e vs ps all args values c.effect.code t.effect env slots r (effect_typed all.globals m.instance.automaton e t ok).0 is.transition.2.effect.has;
+      guard = on_part _ (λ p. IsFor p m.instance.types Pre (0 ∷ []) vs ps) e.kind c.pre (scope_of m e) t.pre is.transition.2.pre is.pre
+          (λ p k q env slots args r values. guard_comes m e vs ps all args values p q.types_are declared t.pre env slots r (guard_typed m.instance.types all.globals m.instance.automaton e t ok) k);
+      effect = λ env slots args r values. effect_comes m e vs ps all args values c.effect is.effect.types_are declared t.effect env slots r (effect_typed m.instance.types all.globals m.instance.automaton e t ok) is.transition.2.effect.has;
     }
+
+guard_cases : (x : Result Bool Fault) (k : Kind) (o : Option Part) (s : Scope) (g : Option Expr) (slots args : List Val) → IsTrue (is_local (Some k)) → IsGuardFor k (codes_of o) s g → IfSome o (λ p. x ≡ guard_of p slots args) → x ≡ allows o slots args
+guard_cases x Input o s g slots args l h f = absurd (cc)
+guard_cases x Output None s g slots args l h f = absurd h
+guard_cases x Output (Some p) s g slots args l h f = f
+guard_cases x Internal None s g slots args l h f = absurd h
+guard_cases x Internal (Some p) s g slots args l h f = f
+
+if_some : (P Q : Part → Type 0) (o : Option Part) → ((p : Part) → P p → Q p) → IfSome o P → IfSome o Q
+if_some P Q None f h = tt
+if_some P Q (Some p) f h = f p h
+
+module _ (m : Member) (vs : List ℕ) (fine : IsFine component_limits m) (types : AreTypesOf m.instance.types (variable_fields m.instance.automaton) vs) (a : Act) (e : EntryTree) (c : EntryCode) (is : IsTranslated m vs e c) (own : IsEntryOf m e) (has : entry_has m.instance.types a e ≡ true) where
+  matched : MatchesEntry m e c
+  matched = entry_matches m vs e c fine types is own
+
+  arguments : HaveTypes m.instance.types a.vals (position_types c.positions)
+  arguments = args_typed m.instance.types e.positions a.vals (position_types c.positions) (and_parts (bytes_eq e.name a.name) (positions_have m.instance.types e.positions a.vals) has).1 is.positions
+
+  guard_same : (env : Env) (slots : List Val) → IsTrue (is_local (Some e.kind)) → Corresponds m.instance env slots → enabling m.instance.types matched.transition.pre (environment m.instance e a.vals env) ≡ allows c.pre slots a.vals
+  guard_same env slots local r =
+      let pre = matched.transition.pre in
+      let inner = environment m.instance e a.vals env in
+      guard_cases _ e.kind c.pre (scope_of m e) is.transition.0.pre slots a.vals local is.transition.2.pre
+      (if_some _ (λ p. enabling m.instance.types pre inner ≡ guard_of p slots a.vals) c.pre (λ p says. enabling-required m.instance.types pre inner ∙ guard_says p slots a.vals (required m.instance.types pre inner) (says env slots a.vals r arguments)) matched.guard)
+
+  effect_same : (env : Env) (slots : List Val) → Corresponds m.instance env slots → AreLike (Corresponds m.instance) (next_state m.instance.automaton env (eff m.instance.types matched.transition.effect (environment m.instance e a.vals env))) (effect_of c.effect slots a.vals)
+  effect_same env slots r =
+      effect_says m.instance c.effect slots a.vals env (eff m.instance.types matched.transition.effect (environment m.instance e a.vals env)) (matched.effect env slots a.vals r arguments)
 
 -- ---- a component
 
-module _ (m : Member) (vs : List ℕ) (c : MemberCode) (fine : IsFine m) (types : AreTypesOf (variable_fields m.instance.automaton) vs) (entries : AllZip (IsTranslated m vs) m.instance.automaton.entries c.entries) where
+module _ (m : Member) (vs : List ℕ) (c : MemberCode) (fine : IsFine component_limits m) (same_types : c.start.table ≡ m.instance.types) (types : AreTypesOf m.instance.types (variable_fields m.instance.automaton) vs) (entries : AllZip (IsTranslated m vs) m.instance.automaton.entries c.entries) where
   module _ (a : Act) where
-    basic : entry_for m.instance a ≡ find (entry_has basic_table a) m.instance.automaton.entries
-    basic = ap (λ t. find (entry_has t a) m.instance.automaton.entries) fine.types
+    abbrev tree_entry : Option EntryTree
+    tree_entry = find (entry_has m.instance.types a) m.instance.automaton.entries
 
-    own_of : (r : Both m vs a m.instance.automaton.entries (find (entry_has basic_table a) m.instance.automaton.entries) (entry_of c a)) → IsEntryOf m r.entry
+    own_of : (r : Both m vs a m.instance.automaton.entries tree_entry (entry_of c a)) → IsEntryOf m r.entry
     own_of r = record { place = r.place; here = r.here }
 
-    pub guards : (env : Env) (slots : List Val) → IsTrue (is_local ((component_of m.instance).kind_of a)) → Corresponds m.instance.automaton env slots → (component_of m.instance).guard a env ≡ (table_component c).guard a slots
-    guards env slots local r = go (finds_same m vs a m.instance.automaton.entries c.entries entries)
+    same_entry : Both m vs a m.instance.automaton.entries tree_entry (entry_of c a) ⊎ Neither m vs a tree_entry (entry_of c a)
+    same_entry = finds_same m vs a c.start.table same_types m.instance.automaton.entries c.entries entries
+
+    found_transition : (r : Both m vs a m.instance.automaton.entries tree_entry (entry_of c a)) → transition_for m.instance.automaton r.entry ≡ Some (matched m vs fine types a r.entry r.code r.same (own_of r) r.has).transition
+    found_transition r = (matched m vs fine types a r.entry r.code r.same (own_of r) r.has).found
+
+    pub guards : (env : Env) (slots : List Val) → IsTrue (is_local ((component_of m.instance).kind_of a)) → Corresponds m.instance env slots → (component_of m.instance).guard a env ≡ (table_component c).guard a slots
+    guards env slots local r = go same_entry
       where
-        go : Both m vs a m.instance.automaton.entries (find (entry_has basic_table a) m.instance.automaton.entries) (entry_of c a) ⊎ Neither m vs a (find (entry_has basic_table a) m.instance.automaton.entries) (entry_of c a) → (component_of m.instance).guard a env ≡ (table_component c).guard a slots
+        go : Both m vs a m.instance.automaton.entries tree_entry (entry_of c a) ⊎ Neither m vs a tree_entry (entry_of c a) → (component_of m.instance).guard a env ≡ (table_component c).guard a slots
         go (inl b) =
-            let found = basic ∙ b.entry_is in
-            let is_there = subst (λ o. IsTrue (is_local (option_map (λ e. e.kind) o))) found local in
-            ap (λ o. option_map_or (λ e. option_map_or (λ t. enabling t.pre (environment m.instance e a.vals env)) (transition_for m.instance.automaton e) (Ok false)) o (Ok false)) found
-            ∙ ap (λ o. option_map_or (λ t. enabling t.pre (environment m.instance b.entry a.vals env)) o (Ok false)) b.same.transition.1
+            let is_there = subst (λ o. IsTrue (is_local (option_map (λ e. e.kind) o))) b.entry_is local in
+            ap (λ o. option_map_or (λ e. option_map_or (λ t. enabling m.instance.types t.pre (environment m.instance e a.vals env)) (transition_for m.instance.automaton e) (Ok false)) o (Ok false)) b.entry_is
+            ∙ ap (λ o. option_map_or (λ t. enabling m.instance.types t.pre (environment m.instance b.entry a.vals env)) o (Ok false)) (found_transition b)
             ∙ guard_same m vs fine types a b.entry b.code b.same (own_of b) b.has env slots is_there r
             ∙ sym (ap (λ o. option_map_or (λ e. allows e.pre slots a.vals) o (Ok false)) b.code_is)
         go (inr n) =
-            ap (λ o. option_map_or (λ e. option_map_or (λ t. enabling t.pre (environment m.instance e a.vals env)) (transition_for m.instance.automaton e) (Ok false)) o (Ok false)) (basic ∙ n.no_entry)
+            ap (λ o. option_map_or (λ e. option_map_or (λ t. enabling m.instance.types t.pre (environment m.instance e a.vals env)) (transition_for m.instance.automaton e) (Ok false)) o (Ok false)) n.no_entry
             ∙ sym (ap (λ o. option_map_or (λ e. allows e.pre slots a.vals) o (Ok false)) n.no_code)
 
-    pub effects : (env : Env) (slots : List Val) → Corresponds m.instance.automaton env slots → AreLike (Corresponds m.instance.automaton) ((component_of m.instance).effect a env) ((table_component c).effect a slots)
-    effects env slots r = go (finds_same m vs a m.instance.automaton.entries c.entries entries)
+    pub effects : (env : Env) (slots : List Val) → Corresponds m.instance env slots → AreLike (Corresponds m.instance) ((component_of m.instance).effect a env) ((table_component c).effect a slots)
+    effects env slots r = go same_entry
       where
-        go : Both m vs a m.instance.automaton.entries (find (entry_has basic_table a) m.instance.automaton.entries) (entry_of c a) ⊎ Neither m vs a (find (entry_has basic_table a) m.instance.automaton.entries) (entry_of c a) → AreLike (Corresponds m.instance.automaton) ((component_of m.instance).effect a env) ((table_component c).effect a slots)
+        go : Both m vs a m.instance.automaton.entries tree_entry (entry_of c a) ⊎ Neither m vs a tree_entry (entry_of c a) → AreLike (Corresponds m.instance) ((component_of m.instance).effect a env) ((table_component c).effect a slots)
         go (inl b) =
-            let tree = ap (λ o. option_map_or (λ e. option_map_or (λ t. next_state m.instance.automaton env (eff t.effect (environment m.instance e a.vals env))) (transition_for m.instance.automaton e) (Ok env)) o (Ok env)) (basic ∙ b.entry_is)
-            ∙ ap (λ o. option_map_or (λ t. next_state m.instance.automaton env (eff t.effect (environment m.instance b.entry a.vals env))) o (Ok env)) b.same.transition.1 in
+            let effect = (matched m vs fine types a b.entry b.code b.same (own_of b) b.has).transition.effect in
+            let tree = ap (λ o. option_map_or (λ e. option_map_or (λ t. next_state m.instance.automaton env (eff m.instance.types t.effect (environment m.instance e a.vals env))) (transition_for m.instance.automaton e) (Ok env)) o (Ok env)) b.entry_is
+            ∙ ap (λ o. option_map_or (λ t. next_state m.instance.automaton env (eff m.instance.types t.effect (environment m.instance b.entry a.vals env))) o (Ok env)) (found_transition b) in
             let table = ap (λ o. option_map_or (λ e. effect_of e.effect slots a.vals) o (Ok slots)) b.code_is in
-            subst (λ x. AreLike (Corresponds m.instance.automaton) x ((table_component c).effect a slots)) (sym tree)
-            (subst (AreLike (Corresponds m.instance.automaton) (next_state m.instance.automaton env (eff b.same.transition.0.effect (environment m.instance b.entry a.vals env)))) (sym table)
+            subst (λ x. AreLike (Corresponds m.instance) x ((table_component c).effect a slots)) (sym tree)
+            (subst (AreLike (Corresponds m.instance) (next_state m.instance.automaton env (eff m.instance.types effect (environment m.instance b.entry a.vals env)))) (sym table)
             (effect_same m vs fine types a b.entry b.code b.same (own_of b) b.has env slots r))
         go (inr n) =
-            let tree = ap (λ o. option_map_or (λ e. option_map_or (λ t. next_state m.instance.automaton env (eff t.effect (environment m.instance e a.vals env))) (transition_for m.instance.automaton e) (Ok env)) o (Ok env)) (basic ∙ n.no_entry) in
+            let tree = ap (λ o. option_map_or (λ e. option_map_or (λ t. next_state m.instance.automaton env (eff m.instance.types t.effect (environment m.instance e a.vals env))) (transition_for m.instance.automaton e) (Ok env)) o (Ok env)) n.no_entry in
             let table = ap (λ o. option_map_or (λ e. effect_of e.effect slots a.vals) o (Ok slots)) n.no_code in
-            subst (λ x. AreLike (Corresponds m.instance.automaton) x ((table_component c).effect a slots)) (sym tree)
-            (subst (AreLike (Corresponds m.instance.automaton) (Ok env)) (sym table) r)
+            subst (λ x. AreLike (Corresponds m.instance) x ((table_component c).effect a slots)) (sym tree)
+            (subst (AreLike (Corresponds m.instance) (Ok env)) (sym table) r)

@@ -5,7 +5,7 @@ use Rattle.std.proofs.lemmas.Bool.{cases_lt}
 use Rattle.std.proofs.lemmas.Bool.Decides.{nat_tests}
 use Rattle.std.proofs.lemmas.Option.{slice_get_within}
 use Rattle.ioa_code.specs.declared.instr.Instr.{Instr}
-use Rattle.ioa_code.specs.Valid.{Part, after, Leads, Valid}
+use Rattle.ioa_code.specs.Valid.{Part, Way, way, after, Leads, Valid}
 use Rattle.ioa_compile.specs.Placed.{At}
 
 -- a list from a function of the place
@@ -25,22 +25,25 @@ rows-at f p (suc n) zero lt = let e : p ≡ p + 0 = omega arith in ap (λ i. Som
 rows-at f p (suc n) (suc k) lt = let e : p + 1 + k ≡ p + suc k = omega arith in rows-at f (p + 1) n k (omega arith) ∙ ap (λ i. Some (f i)) e
 
 module _ (part : Part) where
-  -- the instruction at k finds what it needs, and leads forward to at most q, where the types are those after it
+  -- the instruction at k finds what it needs, and leads forward to at most q, each way with the types there
   pub record Step (types : ℕ → List ℕ) (q k : ℕ) : Type 0 where
     pub instr : Instr
     pub here : At part.code k instr
-    pub left : List ℕ
-    pub finds : after part instr (types k) ≡ Ok left
-    pub leads : (w : ℕ) → Leads k instr w → (k < w) × (w ≤ q) × (types w ≡ left)
+    pub ways : List Way
+    pub finds : after part k instr (types k) ≡ Ok ways
+    pub leads : (w : ℕ) (us : List ℕ) → Leads ways w us → (k < w) × (w ≤ q) × (types w ≡ us)
 
   -- an instruction from p on leads to k
-  pub record Way (p k : ℕ) : Type 0 where
+  pub record Entered (types : ℕ → List ℕ) (p k : ℕ) : Type 0 where
     pub from : ℕ
     pub instr : Instr
+    pub ways : List Way
+    pub brought : List ℕ
     pub after_start : p ≤ from
     pub before : from < k
     pub here : At part.code from instr
-    pub leads : Leads from instr k
+    pub finds : after part from instr (types from) ≡ Ok ways
+    pub leads : Leads ways k brought
 
   -- code from p up to q, that comes with the types ts and ends with us
   pub record Block (p q : ℕ) (ts us : List ℕ) : Type 0 where
@@ -49,7 +52,7 @@ module _ (part : Part) where
     pub last : types q ≡ us
     pub along : p ≤ q
     pub each : (k : ℕ) → p ≤ k → k < q → Step types q k
-    pub reached : (k : ℕ) → p < k → k ≤ q → Way p k
+    pub reached : (k : ℕ) → p < k → k ≤ q → Entered types p k
 
   pub none : (p : ℕ) (ts : List ℕ) → Block p p ts ts
   none p ts = record {
@@ -61,18 +64,19 @@ module _ (part : Part) where
     reached = λ k a b. absurd (omega arith);
   }
 
-  -- the only place after an instruction
-  only_next : (k : ℕ) (i : Instr) (w : ℕ) → Leads k i w → w ≡ k + 1
-  only_next k i w (inl e) = e
-  only_next k i w (inr h) = absurd h
+  -- the only way of an instruction that leads to the next place
+  only_next : (k w : ℕ) (ts us : List ℕ) → Leads (way (k + 1) ts ∷ []) w us → (w ≡ k + 1) × (us ≡ ts)
+  only_next k w ts us (inl e) = e
+  only_next k w ts us (inr h) = absurd h
 
-  pub one : (p : ℕ) (i : Instr) (ts us : List ℕ) → At part.code p i → after part i ts ≡ Ok us → Block p (p + 1) ts us
+  pub one : (p : ℕ) (i : Instr) (ts us : List ℕ) → At part.code p i → after part p i ts ≡ Ok (way (p + 1) us ∷ []) → Block p (p + 1) ts us
   one p i ts us here finds =
       let f : ℕ → List ℕ = λ k. cond (nat_le k p) ts us in
       let t : nat_le p p ≡ true = grind (arith, nat_tests) in
       let u : nat_le (p + 1) p ≡ false = grind (arith, nat_tests) in
       let at_p : f p ≡ ts = ap (λ b. cond b ts us) t in
       let at_q : f (p + 1) ≡ us = ap (λ b. cond b ts us) u in
+      let there : after part p i (f p) ≡ Ok (way (p + 1) us ∷ []) = ap (after part p i) at_p ∙ finds in
       record {
         types = f;
         first = at_p;
@@ -83,13 +87,13 @@ module _ (part : Part) where
             subst (Step f (p + 1)) same record {
               instr = i;
               here = here;
-              left = us;
-              finds = ap (after part i) at_p ∙ finds;
-              leads = λ w h. let n = only_next p i w h in (omega arith, omega arith, ap f n ∙ at_q);
+              ways = way (p + 1) us ∷ [];
+              finds = there;
+              leads = λ w vs h. let n = only_next p w us vs h in (omega (arith, n.0), omega (arith, n.0), ap f n.0 ∙ at_q ∙ sym n.1);
             };
         reached = λ k a b.
             let same : k ≡ p + 1 = omega arith in
-            record { from = p; instr = i; after_start = omega arith; before = a; here = here; leads = inl same };
+            record { from = p; instr = i; ways = way (p + 1) us ∷ []; brought = us; after_start = omega arith; before = a; here = here; finds = there; leads = inl (same, refl) };
       }
 
   pub join : (p m q : ℕ) (ts us vs : List ℕ) → Block p m ts us → Block m q us vs → Block p q ts vs
@@ -112,27 +116,27 @@ module _ (part : Part) where
             record {
               instr = s.instr;
               here = s.here;
-              left = s.left;
-              finds = ap (after part s.instr) (low k (omega arith)) ∙ s.finds;
-              leads = λ w h. let l = s.leads w h in (l.0, omega (arith, l.1), low w l.1 ∙ l.2);
+              ways = s.ways;
+              finds = ap (after part k s.instr) (low k (omega arith)) ∙ s.finds;
+              leads = λ w us h. let l = s.leads w us h in (l.0, omega (arith, l.1), low w l.1 ∙ l.2);
             })
             (λ (ge : m ≤ k).
             let s = b.each k ge to in
             record {
               instr = s.instr;
               here = s.here;
-              left = s.left;
-              finds = ap (after part s.instr) (high k ge) ∙ s.finds;
-              leads = λ w h. let l = s.leads w h in (l.0, l.1, high w (omega (arith, l.0)) ∙ l.2);
+              ways = s.ways;
+              finds = ap (after part k s.instr) (high k ge) ∙ s.finds;
+              leads = λ w us h. let l = s.leads w us h in (l.0, l.1, high w (omega (arith, l.0)) ∙ l.2);
             })
             (cases_lt k m);
         reached = λ k from to. ⊎_elim
             (λ (lt : m < k).
             let w = b.reached k lt to in
-            record { from = w.from; instr = w.instr; after_start = omega (arith, w.after_start); before = w.before; here = w.here; leads = w.leads })
+            record { from = w.from; instr = w.instr; ways = w.ways; brought = w.brought; after_start = omega (arith, w.after_start); before = w.before; here = w.here; finds = ap (after part w.from w.instr) (high w.from w.after_start) ∙ w.finds; leads = w.leads })
             (λ (ge : k ≤ m).
             let w = a.reached k from ge in
-            record { from = w.from; instr = w.instr; after_start = w.after_start; before = w.before; here = w.here; leads = w.leads })
+            record { from = w.from; instr = w.instr; ways = w.ways; brought = w.brought; after_start = omega (arith, w.after_start); before = w.before; here = w.here; finds = ap (after part w.from w.instr) (low w.from (omega (arith, w.before))) ∙ w.finds; leads = w.leads })
             (cases_lt m k);
       }
 
@@ -154,14 +158,15 @@ module _ (part : Part) where
               let s = b.each p (omega arith) lt in
               let same : s.instr ≡ i = some_same s.instr i (sym s.here ∙ at_p) in
               let types : b.types p ≡ ts = some_same (b.types p) ts (sym (there p (omega arith)) ∙ types_p) in
-              let back : (w : ℕ) → Leads p i w → Leads p s.instr w = λ w h. subst (λ j. Leads p j w) (sym same) h in
               record {
-                types = s.left;
-                finds = ap (after part i) (sym types) ∙ ap (λ j. after part j (b.types p)) (sym same) ∙ s.finds;
-                forward = λ w h. let l = s.leads w (back w h) in (l.0, l.1);
-                brings = λ w h. let l = s.leads w (back w h) in there w l.1 ∙ ap Some l.2;
+                ways = s.ways;
+                finds = ap (after part p i) (sym types) ∙ ap (λ j. after part p j (b.types p)) (sym same) ∙ s.finds;
+                forward = λ w us h. let l = s.leads w us h in (l.0, l.1);
+                brings = λ w us h. let l = s.leads w us h in there w l.1 ∙ ap Some l.2;
               };
-          reached = λ q from to. let w = b.reached q from to in (w.from, w.instr, w.before, w.here, w.leads);
+          reached = λ q from to.
+              let w = b.reached q from to in
+              (w.brought, record { from = w.from; instr = w.instr; had = b.types w.from; ways = w.ways; before = w.before; there = w.here; types = there w.from (omega (arith, w.before)); finds = w.finds; leads = w.leads });
           end = there n (omega arith) ∙ ap Some b.last;
         },
       )

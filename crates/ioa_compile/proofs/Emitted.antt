@@ -2,73 +2,57 @@
 use Rattle.ioa_syntax.specs.declared.tree.Kind.{Kind}
 use Rattle.ioa_syntax.specs.declared.tree.Kind.TheVariants.{Output, Internal}
 use Rattle.ioa_compile.specs.Translated.{IsGuard, IsGuardFor}
-use Rattle.std.proofs.Common.{◌≡◌, ◌⊎◌, ⊎_elim, ℕ, zero, suc, ◌+◌, ◌<◌, List, [], ◌∷◌, ◌++◌, length, map, sum, Option, Some, None, refl, sym, ap, ◌∙◌, subst, arith, length-append}
+use Rattle.std.proofs.Common.{◌≡◌, ◌⊎◌, ⊎_elim, ℕ, ◌+◌, ◌<◌, List, [], ◌∷◌, ◌++◌, length, map, sum, Option, Some, None, refl, sym, ap, ◌∙◌, subst, arith, length-append}
 use Rattle.std.specs.Prelude.{slice_get}
-use Rattle.std.proofs.Math.Seq.{get_or-append_seam}
 use Rattle.std.proofs.lemmas.List.Sums.{sum_by-cons}
 use Rattle.ioa_syntax.specs.WellFormed.{stmt_nodes}
-use Rattle.std.proofs.lemmas.List.{get_or_append_left}
-use Rattle.std.proofs.lemmas.Option.{slice_get-get_or, slice_get_within, get_or_from_slice_get, slice_get-map, slice_get_read}
+use Rattle.std.proofs.lemmas.Option.{slice_get-map, slice_get_read}
 use Rattle.std.specs.Option.{option_map, option_map_or}
 use Rattle.std.specs.Prelude.{get_or}
 use Rattle.ioa_value.specs.declared.value.Value.{Value}
 use Rattle.ioa_value.specs.Plain.{Val, plain}
 use Rattle.ioa_value.specs.Actions.{Name}
-use Rattle.ioa_value.specs.Typing.{Shape, HasType, basic_types, own}
-use Rattle.ioa_code.specs.declared.instr.Instr.TheVariants.{Const, Store, Apply}
+use Rattle.ioa_value.specs.declared.operator.Op.{Op}
+use Rattle.ioa_value.specs.Table.{place_from}
+use Rattle.ioa_value.specs.Typing.{HasType, OwnTypes, own}
+use Rattle.ioa_value.proofs.ItemLemmas.{get_append, get_last}
+use Rattle.ioa_value.proofs.TypingLemmas.{OwnTypes-push}
+use Rattle.ioa_code.specs.declared.instr.Instr.TheVariants.{Const, Slot, Arg, Store, Apply}
 use Rattle.ioa_code.specs.Machine.{Listing}
-use Rattle.ioa_code.specs.Valid.{OwnTypes}
-use Rattle.ioa_syntax.specs.declared.tree.Operator.{Operator}
 use Rattle.ioa_syntax.specs.Tree.{Expr, number, truth, named, parens, binary, Stmt, assign}
-use Rattle.ioa_syntax.specs.Meaning.{op_of}
-use Rattle.ioa_syntax.specs.Instances.{place_from}
 use Rattle.ioa_compile.specs.Scopes.{Scope, Origin, slot, formal, parameter, unknown, origin}
 use Rattle.ioa_compile.specs.Placed.{Pushes, Brings, HasExpr, HasGuard, HasStmt, HasStmts}
 use Rattle.ioa_compile.specs.Emitting.{Keeps, AddsInstr, AddsConst, AddsExpr, AddsStmt, AddsStmts, IsGrown}
 
-slice_get-append : {A : Type 0} (xs ys : List A) (i : ℕ) (x : A) → slice_get xs i ≡ Some x → slice_get (xs ++ ys) i ≡ Some x
-slice_get-append xs ys i x h =
-    let lt = slice_get_within xs i x h in
-    let lt' : i < length (xs ++ ys) = omega (arith, length-append xs ys) in
-    slice_get-get_or (xs ++ ys) i x lt' ∙ ap Some (get_or_append_left xs ys x i lt ∙ get_or_from_slice_get xs i x x h)
-
-slice_get-seam : {A : Type 0} (xs : List A) (y : A) → slice_get (xs ++ y ∷ []) (length xs) ≡ Some y
-slice_get-seam xs y =
-    let lt : length xs < length (xs ++ y ∷ []) = omega (arith, length-append xs (y ∷ [])) in
-    slice_get-get_or (xs ++ y ∷ []) (length xs) y lt ∙ ap Some (get_or-append_seam xs y [] y)
-
-pub OwnTypes-append : (types : List Shape) (vs : List Val) (v : Val) → OwnTypes types vs → HasType types v (own v) → OwnTypes types (vs ++ v ∷ [])
-OwnTypes-append types [] v h k = (k, tt)
-OwnTypes-append types (w ∷ ws) v h k = (h.0, OwnTypes-append types ws v h.1 k)
-
-pub OwnTypes-at : (types : List Shape) (vs : List Val) (i : ℕ) (v : Val) → OwnTypes types vs → slice_get vs i ≡ Some v → HasType types v (own v)
-OwnTypes-at types [] i v h e = absurd (cc)
-OwnTypes-at types (w ∷ ws) zero v h e = let same : w ≡ v = cc in subst (λ x. HasType types x (own x)) same h.0
-OwnTypes-at types (w ∷ ws) (suc i) v h e = OwnTypes-at types ws i v h.1 e
+pub none_from : {X : Type 0} (o : Option X) → ((x : X) → o ≡ Some x → ⊥) → o ≡ None
+none_from None h = refl
+none_from (Some x) h = absurd (h x refl)
 
 pub Keeps-self : (a : Listing) → Keeps a a
-Keeps-self a = record { instr = λ p i e. e; const = λ k v e. e; typed = λ h. h }
+Keeps-self a = record { instr = λ p i e. e; const = λ k v e. e; types = refl; typed = λ h. h }
 
 pub Keeps-trans : (a b c : Listing) → Keeps a b → Keeps b c → Keeps a c
 Keeps-trans a b c h k = record {
   instr = λ p i e. k.instr p i (h.instr p i e);
   const = λ n v e. k.const n v (h.const n v e);
+  types = k.types ∙ h.types;
   typed = λ t. k.typed (h.typed t);
 }
 
 -- one constant more, and the instruction that pushes it
-pub adds_const : (c d : Listing) (v : Val) (k : ℕ) → k ≡ length c.consts → d.instrs ≡ c.instrs ++ Const k ∷ [] → d.consts ≡ c.consts ++ v ∷ [] → HasType basic_types v (own v) → AddsConst c d v
-adds_const c d v k k-is i-is c-is ty = record {
+pub adds_const : (c d : Listing) (v : Val) (k : ℕ) → k ≡ length c.consts → d.types ≡ c.types → d.instrs ≡ c.instrs ++ Const k ∷ [] → d.consts ≡ c.consts ++ v ∷ [] → HasType c.types v (own v) → AddsConst c d v
+adds_const c d v k k-is t-is i-is c-is ty = record {
   keeps = record {
-    instr = λ p j e. subst (λ l. slice_get l p ≡ Some j) (sym i-is) (slice_get-append c.instrs (Const k ∷ []) p j e);
-    const = λ n w e. subst (λ l. slice_get l n ≡ Some w) (sym c-is) (slice_get-append c.consts (v ∷ []) n w e);
-    typed = λ h. subst (OwnTypes basic_types) (sym c-is) (OwnTypes-append basic_types c.consts v h ty);
+    instr = λ p j e. subst (λ l. slice_get l p ≡ Some j) (sym i-is) (get_append c.instrs (Const k ∷ []) p j e);
+    const = λ n w e. subst (λ l. slice_get l n ≡ Some w) (sym c-is) (get_append c.consts (v ∷ []) n w e);
+    types = t-is;
+    typed = λ h. subst (λ t. OwnTypes t d.consts) (sym t-is) (subst (OwnTypes c.types) (sym c-is) (OwnTypes-push c.types c.consts v h ty));
   };
   has = (
     (
       k,
-      subst (λ l. slice_get l (length c.instrs) ≡ Some (Const k)) (sym i-is) (slice_get-seam c.instrs (Const k)),
-      subst (λ n. slice_get d.consts n ≡ Some v) (sym k-is) (subst (λ l. slice_get l (length c.consts) ≡ Some v) (sym c-is) (slice_get-seam c.consts v)),
+      subst (λ l. slice_get l (length c.instrs) ≡ Some (Const k)) (sym i-is) (get_last c.instrs (Const k)),
+      subst (λ n. slice_get d.consts n ≡ Some v) (sym k-is) (subst (λ l. slice_get l (length c.consts) ≡ Some v) (sym c-is) (get_last c.consts v)),
     ),
     ap length i-is ∙ length-append c.instrs (Const k ∷ []),
   );
@@ -80,6 +64,21 @@ origin_formal s x i e f =
     let third : Origin = option_map_or parameter (place_from 0 s.parameters x) unknown in
     let second : Option ℕ → Origin = λ o. option_map_or formal o third in
     ap (λ o. option_map_or slot o (second (place_from 0 s.formals x))) e ∙ ap second f
+
+pub origin_slot : (s : Scope) (x : Name) (i : ℕ) → place_from 0 s.variables x ≡ Some i → origin s x ≡ slot i
+origin_slot s x i e = rw e refl
+
+pub origin_parameter : (s : Scope) (x : Name) (i : ℕ) → place_from 0 s.variables x ≡ None → place_from 0 s.formals x ≡ None → place_from 0 s.parameters x ≡ Some i → origin s x ≡ parameter i
+origin_parameter s x i e f g = rw e (rw f (rw g refl))
+
+-- an instruction that brings the name's value
+pub adds_slot : (c d : Listing) (s : Scope) (x : Name) (i : ℕ) → origin s x ≡ slot i → AddsInstr c d (Slot i) → AddsExpr c d s (named x)
+adds_slot c d s x i e h =
+    record { keeps = h.keeps; has = (subst (Brings d s (length c.instrs)) (sym e) h.has.0, h.has.1); few = omega (arith, h.few) }
+
+pub adds_argument : (c d : Listing) (s : Scope) (x : Name) (i : ℕ) → origin s x ≡ parameter i → AddsInstr c d (Arg i) → AddsExpr c d s (named x)
+adds_argument c d s x i e h =
+    record { keeps = h.keeps; has = (subst (Brings d s (length c.instrs)) (sym e) h.has.0, h.has.1); few = omega (arith, h.few) }
 
 pub adds_named : (c d : Listing) (s : Scope) (x : Name) (i : ℕ) (v : Val) → origin s x ≡ formal i → slice_get s.arguments i ≡ Some v → AddsConst c d v → AddsExpr c d s (named x)
 adds_named c d s x i v e f h = record {
@@ -123,7 +122,7 @@ module _ (c d : Listing) (k : Keeps c d) where
   HasStmts-keeps s [] p q h = h
   HasStmts-keeps s (t ∷ ts) p q h = (h.0, HasStmt-keeps s t p h.0 h.1, HasStmts-keeps s ts h.0 q h.2)
 
-pub adds_binary : (c0 c1 c2 c3 : Listing) (s : Scope) (l r : Expr) (o : Operator) → AddsExpr c0 c1 s l → AddsExpr c1 c2 s r → AddsInstr c2 c3 (Apply (op_of o)) → AddsExpr c0 c3 s (binary l o r)
+pub adds_binary : (c0 c1 c2 c3 : Listing) (s : Scope) (l r : Expr) (o : Op) → AddsExpr c0 c1 s l → AddsExpr c1 c2 s r → AddsInstr c2 c3 (Apply o) → AddsExpr c0 c3 s (binary l o r)
 adds_binary c0 c1 c2 c3 s l r o x y z =
     let k13 = Keeps-trans c1 c2 c3 y.keeps z.keeps in
     record {
@@ -156,11 +155,11 @@ pub nodes_next : (t : Stmt) (ts : List Stmt) → sum (map stmt_nodes (t ∷ ts))
 nodes_next t ts = sum_by-cons (λ n. n) (stmt_nodes t) (map stmt_nodes ts)
 
 -- the guard's code, with constants after its own
-pub grown_guard : (k : Kind) (s : Scope) (g : Option Expr) (old : Listing) (consts : List Val) → (k ≡ Output) ⊎ (k ≡ Internal) → IsGuard old s g → IsGrown old.consts consts → OwnTypes basic_types consts → IsGuardFor k (Some (record { instrs = old.instrs; consts = consts })) s g
+pub grown_guard : (k : Kind) (s : Scope) (g : Option Expr) (old : Listing) (consts : List Val) → (k ≡ Output) ⊎ (k ≡ Internal) → IsGuard old s g → IsGrown old.consts consts → OwnTypes old.types consts → IsGuardFor k (Some (record { types = old.types; instrs = old.instrs; consts = consts })) s g
 grown_guard k s g old consts is h grown typed =
-    let new : Listing = record { instrs = old.instrs; consts = consts } in
+    let new : Listing = record { types = old.types; instrs = old.instrs; consts = consts } in
     let all : IsGuard new s g = record {
-      has = HasGuard-keeps old new (record { instr = λ p i e. e; const = grown; typed = λ t. typed }) s g 0 (length old.instrs) h.has;
+      has = HasGuard-keeps old new (record { instr = λ p i e. e; const = grown; types = refl; typed = λ t. typed }) s g 0 (length old.instrs) h.has;
       typed = typed;
     } in
     ⊎_elim (λ (e : k ≡ Output). subst (λ x. IsGuardFor x (Some new) s g) (sym e) all) (λ (e : k ≡ Internal). subst (λ x. IsGuardFor x (Some new) s g) (sym e) all) is

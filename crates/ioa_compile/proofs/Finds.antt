@@ -1,7 +1,7 @@
 -- Items of a list that pass a test.
 use Rattle.std.proofs.Common.{◌≡◌, ℕ, zero, suc, ◌<◌, Bool, true, false, cond, not, ◌||◌, IsTrue, List, [], ◌∷◌, length, map, Option, Some, refl, sym, ap, ◌∙◌, subst, arith}
 use Rattle.std.specs.Prelude.{slice_get}
-use Rattle.std.specs.List.{find, filter, list_any}
+use Rattle.std.specs.List.{find, filter}
 use Rattle.std.specs.Str.{bytes_eq}
 use Rattle.ioa_value.specs.Actions.{Name}
 use Rattle.ioa_syntax.specs.WellFormed.{contains, distinct}
@@ -24,14 +24,6 @@ finds {X} p q k (x ∷ xs) h = go (p x) refl (q x) refl h (finds p q k xs)
     go true t c u h r = record { item = x; place = 0; found = refl; here = refl; passes = t }
     go false t true u h r = let yes = k x u in absurd (cc)
     go false t false u h r = let s = r h in record { item = s.item; place = suc s.place; found = s.found; here = s.here; passes = s.passes }
-
-pub some_any : {X : Type 0} (p : X → Bool) (xs : List X) → list_any p xs ≡ true → (y : X) × (j : ℕ) × (slice_get xs j ≡ Some y) × (p y ≡ true)
-some_any p [] h = absurd (cc)
-some_any {X} p (x ∷ xs) h = go (p x) refl h (some_any p xs)
-  where
-    go : (b : Bool) → p x ≡ b → (b || list_any p xs) ≡ true → (list_any p xs ≡ true → (y : X) × (j : ℕ) × (slice_get xs j ≡ Some y) × (p y ≡ true)) → (y : X) × (j : ℕ) × (slice_get (x ∷ xs) j ≡ Some y) × (p y ≡ true)
-    go true t h r = (x, 0, refl, t)
-    go false t h r = let s = r h in (s.0, suc s.1, s.2, s.3)
 
 contains_at : {X : Type 0} (name : X → Name) (xs : List X) (k : ℕ) (y : X) → slice_get xs k ≡ Some y → contains (map name xs) (name y) ≡ true
 contains_at name [] k y e = absurd (cc)

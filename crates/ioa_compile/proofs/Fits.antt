@@ -1,90 +1,65 @@
 -- Values and fields: their types by number.
-use Rattle.std.proofs.Common.{◌≡◌, ℕ, zero, suc, Bool, true, false, cond, ◌&&◌, IsTrue, List, [], ◌∷◌, ◌++◌, length, map, Option, Some, refl, sym, ap, ◌∙◌, subst, arith}
-use Rattle.std.specs.Prelude.{slice_get}
+use Rattle.std.proofs.Common.{◌≡◌, ◌<◌, ℕ, Bool, true, false, cond, List, [], ◌∷◌, ◌++◌, length, map, Option, Some, refl, sym, ap, ◌∙◌, subst, arith}
 use Rattle.std.specs.Option.{option_map_or}
 use Rattle.std.specs.Str.{bytes_eq}
 use Rattle.ioa_value.specs.Actions.{Name}
 use Rattle.ioa_value.specs.Plain.{Val}
-use Rattle.ioa_value.specs.Typing.{Shape, HasType, HaveTypes, basic_types, own}
-use Rattle.ioa_value.specs.Tests.{is_of}
-use Rattle.ioa_value.proofs.TestLemmas.{is_of-HasType}
-use Rattle.ioa_code.specs.Valid.{OwnTypes}
+use Rattle.ioa_value.specs.Table.{Table, type_named}
+use Rattle.ioa_value.specs.Typing.{HasType, HaveTypes}
+use Rattle.ioa_value.proofs.PlaceLemmas.{type_below}
+use Rattle.std.proofs.lemmas.List.Elements.{All-nil, All-cons}
+use Rattle.std.proofs.lemmas.Simd.{map-map}
+use Rattle.ioa_compile.specs.Tables.{AreDeclared}
 use Rattle.ioa_syntax.specs.Tree.{FieldTree, PositionTree, typed, AutomatonTree, EntryTree}
 use Rattle.ioa_syntax.specs.Meaning.{or_else}
-use Rattle.ioa_syntax.specs.Instances.{type_named, basic_table, field_names, variable_names, position_name}
-use Rattle.ioa_syntax.specs.Compositions.{Fit, Member}
+use Rattle.ioa_syntax.specs.Instances.{Fit, field_names, variable_names, position_name}
+use Rattle.ioa_syntax.specs.Compositions.{Member}
 use Rattle.ioa_syntax.specs.WellFormed.{Context, type_in, context_of, position_fields, variable_fields, scope}
 use Rattle.ioa_compile.specs.Scopes.{scope_of}
 use Rattle.ioa_compile.specs.Matching.{AreTypesOf}
 use Rattle.ioa_compile.proofs.Looks.{look, stands, or_else-assoc}
-use Rattle.ioa_compile.proofs.Paired.{map-twice}
-use Rattle.ioa_syntax.specs.Answers.{Stands}
-use Rattle.ioa_syntax.proofs.ValTyped.{own_type}
-use Rattle.std.proofs.lemmas.Bool.{and_parts}
 
-pub has_own : (types : List Shape) (v : Val) (ty : ℕ) → HasType types v ty → HasType types v (own v)
-has_own types v ty h = subst (HasType types v) (sym (own_type types v ty h)) h
+module _ (types : Table) where
+  -- the types that values which fit have
+  pub fit_types : (fs : List FieldTree) (vs : List Val) → Fit types fs vs → (tys : List ℕ) × AreTypesOf types fs tys × HaveTypes types vs tys
+  fit_types [] [] h = ([], tt, tt)
+  fit_types [] (v ∷ vs) h = absurd h
+  fit_types (f ∷ fs) [] h = absurd h
+  fit_types (f ∷ fs) (v ∷ vs) h = let rest = fit_types fs vs h.3 in (h.0 ∷ rest.0, (h.1, rest.1), (h.2, rest.2))
 
-pub have_own : (types : List Shape) (vs : List Val) (tys : List ℕ) → HaveTypes types vs tys → OwnTypes types vs
-have_own types [] [] h = tt
-have_own types [] (t ∷ ts) h = absurd h
-have_own types (v ∷ vs) [] h = absurd h
-have_own types (v ∷ vs) (t ∷ ts) h = (has_own types v t h.0, have_own types vs ts h.1)
+  some_same : {X : Type 0} (o : Option X) (x y : X) → o ≡ Some x → o ≡ Some y → x ≡ y
+  some_same o x y e f = let g : Some x ≡ Some y = sym e ∙ f in cc
 
-pub have_long : (types : List Shape) (vs : List Val) (tys : List ℕ) → HaveTypes types vs tys → length vs ≡ length tys
-have_long types [] [] h = refl
-have_long types [] (t ∷ ts) h = absurd h
-have_long types (v ∷ vs) [] h = absurd h
-have_long types (v ∷ vs) (t ∷ ts) h = let e = have_long types vs ts h.1 in omega arith
+  pub fit_have : (fs : List FieldTree) (vs : List Val) (tys : List ℕ) → Fit types fs vs → AreTypesOf types fs tys → HaveTypes types vs tys
+  fit_have [] [] [] h k = tt
+  fit_have [] [] (t ∷ ts) h k = absurd k
+  fit_have [] (v ∷ vs) tys h k = absurd h
+  fit_have (f ∷ fs) [] tys h k = absurd h
+  fit_have (f ∷ fs) (v ∷ vs) [] h k = absurd k
+  fit_have (f ∷ fs) (v ∷ vs) (t ∷ ts) h k =
+      (subst (HasType types v) (some_same (type_named types f.ty) h.0 t h.1 k.0) h.2, fit_have fs vs ts h.3 k.1)
 
-pub have_at : (types : List Shape) (vs : List Val) (tys : List ℕ) (i ty : ℕ) → HaveTypes types vs tys → slice_get tys i ≡ Some ty → Stands types ty (slice_get vs i)
-have_at types [] [] i ty h e = absurd (cc)
-have_at types [] (t ∷ ts) i ty h e = absurd h
-have_at types (v ∷ vs) [] i ty h e = absurd h
-have_at types (v ∷ vs) (t ∷ ts) zero ty h e = let same : t ≡ ty = cc in subst (HasType types v) same h.0
-have_at types (v ∷ vs) (t ∷ ts) (suc i) ty h e = have_at types vs ts i ty h.1 e
+  pub have_fit : (fs : List FieldTree) (vs : List Val) (tys : List ℕ) → HaveTypes types vs tys → AreTypesOf types fs tys → Fit types fs vs
+  have_fit [] [] [] h k = tt
+  have_fit [] [] (t ∷ ts) h k = absurd k
+  have_fit [] (v ∷ vs) [] h k = absurd h
+  have_fit [] (v ∷ vs) (t ∷ ts) h k = absurd k
+  have_fit (f ∷ fs) vs [] h k = absurd k
+  have_fit (f ∷ fs) [] (t ∷ ts) h k = absurd h
+  have_fit (f ∷ fs) (v ∷ vs) (t ∷ ts) h k = (t, k.0, h.0, have_fit fs vs ts h.1 k.1)
 
--- the types that values which fit have
-pub fit_types : (fs : List FieldTree) (vs : List Val) → Fit basic_table fs vs → (tys : List ℕ) × AreTypesOf fs tys × HaveTypes basic_types vs tys
-fit_types [] [] h = ([], tt, tt)
-fit_types [] (v ∷ vs) h = absurd h
-fit_types (f ∷ fs) [] h = absurd h
-fit_types (f ∷ fs) (v ∷ vs) h =
-    let rest = fit_types fs vs h.3 in
-    let is = and_parts (is_of basic_types v h.0) true h.2 in
-    (h.0 ∷ rest.0, (h.1, rest.1), ((is_of-HasType basic_types v h.0).0 is.0, rest.2))
+  pub types_long : (fs : List FieldTree) (tys : List ℕ) → AreTypesOf types fs tys → length (field_names fs) ≡ length tys
+  types_long [] [] h = refl
+  types_long [] (t ∷ ts) h = absurd h
+  types_long (f ∷ fs) [] h = absurd h
+  types_long (f ∷ fs) (t ∷ ts) h = let e = types_long fs ts h.1 in omega arith
 
-some_same : {X : Type 0} (o : Option X) (x y : X) → o ≡ Some x → o ≡ Some y → x ≡ y
-some_same o x y e f = let g : Some x ≡ Some y = sym e ∙ f in cc
-
-pub fit_have : (fs : List FieldTree) (vs : List Val) (tys : List ℕ) → Fit basic_table fs vs → AreTypesOf fs tys → HaveTypes basic_types vs tys
-fit_have [] [] [] h k = tt
-fit_have [] [] (t ∷ ts) h k = absurd k
-fit_have [] (v ∷ vs) tys h k = absurd h
-fit_have (f ∷ fs) [] tys h k = absurd h
-fit_have (f ∷ fs) (v ∷ vs) [] h k = absurd k
-fit_have (f ∷ fs) (v ∷ vs) (t ∷ ts) h k =
-    let is = and_parts (is_of basic_types v h.0) true h.2 in
-    let same = some_same (type_named basic_table f.ty) h.0 t h.1 k.0 in
-    (subst (HasType basic_types v) same ((is_of-HasType basic_types v h.0).0 is.0), fit_have fs vs ts h.3 k.1)
-
-pub have_fit : (fs : List FieldTree) (vs : List Val) (tys : List ℕ) → HaveTypes basic_types vs tys → AreTypesOf fs tys → Fit basic_table fs vs
-have_fit [] [] [] h k = tt
-have_fit [] [] (t ∷ ts) h k = absurd k
-have_fit [] (v ∷ vs) [] h k = absurd h
-have_fit [] (v ∷ vs) (t ∷ ts) h k = absurd k
-have_fit (f ∷ fs) vs [] h k = absurd k
-have_fit (f ∷ fs) [] (t ∷ ts) h k = absurd h
-have_fit (f ∷ fs) (v ∷ vs) (t ∷ ts) h k =
-    let is : IsTrue (is_of basic_types v t) = (is_of-HasType basic_types v t).1 h.0 in
-    let all : IsTrue (is_of basic_types v t && true) = rw is refl in
-    (t, k.0, all, have_fit fs vs ts h.1 k.1)
-
-pub types_long : (fs : List FieldTree) (tys : List ℕ) → AreTypesOf fs tys → length (field_names fs) ≡ length tys
-types_long [] [] h = refl
-types_long [] (t ∷ ts) h = absurd h
-types_long (f ∷ fs) [] h = absurd h
-types_long (f ∷ fs) (t ∷ ts) h = let e = types_long fs ts h.1 in omega arith
+  -- types of fields are declared
+  pub types_declared : (fs : List FieldTree) (tys : List ℕ) → AreTypesOf types fs tys → AreDeclared types tys
+  types_declared [] [] h = All-nil (λ ty. ty < length types)
+  types_declared [] (t ∷ ts) h = absurd h
+  types_declared (f ∷ fs) [] h = absurd h
+  types_declared (f ∷ fs) (t ∷ ts) h = All-cons (λ ty. ty < length types) t ts (type_below types f.ty t h.0) (types_declared fs ts h.1)
 
 pub type_in-append : (c d : Context) (x : Name) → type_in (c ++ d) x ≡ or_else (type_in c x) (type_in d x)
 type_in-append [] d x = refl
@@ -95,32 +70,32 @@ type_in-append (p ∷ ps) d x = go (bytes_eq p.0 x) (type_in-append ps d x)
     go false e = e
 
 -- a context is the fields' names with their types
-pub fields_look : (fs : List FieldTree) (tys : List ℕ) (x : Name) → AreTypesOf fs tys → type_in (context_of basic_table fs) x ≡ look (field_names fs) tys x
-fields_look [] [] x h = refl
-fields_look [] (t ∷ ts) x h = absurd h
-fields_look (f ∷ fs) [] x h = absurd h
-fields_look (f ∷ fs) (t ∷ ts) x h =
-    let rest = context_of basic_table fs in
+pub fields_look : (types : Table) (fs : List FieldTree) (tys : List ℕ) (x : Name) → AreTypesOf types fs tys → type_in (context_of types fs) x ≡ look (field_names fs) tys x
+fields_look types [] [] x h = refl
+fields_look types [] (t ∷ ts) x h = absurd h
+fields_look types (f ∷ fs) [] x h = absurd h
+fields_look types (f ∷ fs) (t ∷ ts) x h =
+    let rest = context_of types fs in
     let one : Option ℕ → Context = λ o. option_map_or (λ n. (f.name, n) ∷ []) o [] in
-    ap (λ o. type_in (one o ++ rest) x) h.0 ∙ ap (cond (bytes_eq f.name x) (Some t)) (fields_look fs ts x h.1)
+    ap (λ o. type_in (one o ++ rest) x) h.0 ∙ ap (cond (bytes_eq f.name x) (Some t)) (fields_look types fs ts x h.1)
 
 pub position_names : (ps : List PositionTree) → field_names (position_fields ps) ≡ map position_name ps
 position_names [] = refl
 position_names (typed f ∷ ps) = ap (λ l. f.name ∷ l) (position_names ps)
 
 pub variables_names : (a : AutomatonTree) → field_names (variable_fields a) ≡ variable_names a
-variables_names a = map-twice (λ f. f.name) (λ v. v.field) a.variables
+variables_names a = map-map (λ f. f.name) (λ v. v.field) a.variables
 
 -- the types of the names that code may use
-pub scope_look : (globals : List Name) (m : Member) (e : EntryTree) (vs fs ps : List ℕ) (x : Name) → AreTypesOf (variable_fields m.instance.automaton) vs → AreTypesOf m.instance.automaton.formals fs → AreTypesOf (position_fields e.positions) ps → type_in (scope basic_table globals m.instance.automaton e) x ≡ stands (scope_of m e) vs fs ps x
+pub scope_look : (globals : List Name) (m : Member) (e : EntryTree) (vs fs ps : List ℕ) (x : Name) → AreTypesOf m.instance.types (variable_fields m.instance.automaton) vs → AreTypesOf m.instance.types m.instance.automaton.formals fs → AreTypesOf m.instance.types (position_fields e.positions) ps → type_in (scope m.instance.types globals m.instance.automaton e) x ≡ stands (scope_of m e) vs fs ps x
 scope_look globals m e vs fs ps x hv hf hp =
     let a = m.instance.automaton in
-    let v = context_of basic_table (variable_fields a) in
-    let f = context_of basic_table a.formals in
-    let p = context_of basic_table (position_fields e.positions) in
-    let v-is : type_in v x ≡ look (variable_names a) vs x = fields_look (variable_fields a) vs x hv ∙ ap (λ ns. look ns vs x) (variables_names a) in
-    let f-is : type_in f x ≡ look (field_names a.formals) fs x = fields_look a.formals fs x hf in
-    let p-is : type_in p x ≡ look (map position_name e.positions) ps x = fields_look (position_fields e.positions) ps x hp ∙ ap (λ ns. look ns ps x) (position_names e.positions) in
+    let v = context_of m.instance.types (variable_fields a) in
+    let f = context_of m.instance.types a.formals in
+    let p = context_of m.instance.types (position_fields e.positions) in
+    let v-is : type_in v x ≡ look (variable_names a) vs x = fields_look m.instance.types (variable_fields a) vs x hv ∙ ap (λ ns. look ns vs x) (variables_names a) in
+    let f-is : type_in f x ≡ look (field_names a.formals) fs x = fields_look m.instance.types a.formals fs x hf in
+    let p-is : type_in p x ≡ look (map position_name e.positions) ps x = fields_look m.instance.types (position_fields e.positions) ps x hp ∙ ap (λ ns. look ns ps x) (position_names e.positions) in
     type_in-append (v ++ f) p x
     ∙ ap (λ o. or_else o (type_in p x)) (type_in-append v f x)
     ∙ or_else-assoc (type_in v x) (type_in f x) (type_in p x)

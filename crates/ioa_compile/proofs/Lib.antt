@@ -1,4 +1,3 @@
-pub mod Named
 pub mod Emitted
 pub mod Paired
 pub mod Looks
@@ -8,6 +7,7 @@ pub mod Fine
 pub mod Blocks
 pub mod Validity
 pub mod Assembled
+pub mod Sizes
 pub mod Twins
 pub mod Running
 pub mod Alike

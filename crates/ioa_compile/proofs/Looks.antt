@@ -8,10 +8,10 @@ use Rattle.std.proofs.lemmas.Slice.Eq.{bytes_eq-Decides}
 use Rattle.ioa_value.specs.Actions.{Name}
 use Rattle.ioa_value.specs.Plain.{Val}
 use Rattle.ioa_syntax.specs.Meaning.{values_of, or_else}
-use Rattle.ioa_syntax.specs.Instances.{place_from}
+use Rattle.ioa_value.specs.Table.{place_from}
 use Rattle.ioa_syntax.specs.WellFormed.{contains, distinct, apart}
 use Rattle.ioa_compile.specs.Scopes.{Scope, Origin, slot, formal, parameter, unknown, origin}
-use Rattle.ioa_compile.proofs.Named.{place_from_below}
+use Rattle.ioa_value.proofs.PlaceLemmas.{place_from_below}
 use Rattle.std.proofs.lemmas.Bool.{and_parts}
 
 pub same_name : (x y : Name) → bytes_eq x y ≡ true → x ≡ y

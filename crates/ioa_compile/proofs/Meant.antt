@@ -1,51 +1,53 @@
 -- The program means the composition.
 use Rattle.std.proofs.Common.{◌≡◌, ℕ, suc, ◌+◌, List, [], ◌∷◌, map, Some, refl, sym, ap, ◌∙◌, subst, arith}
 use Rattle.std.specs.Prelude.{slice_get}
-use Rattle.std.specs.List.{AllZip, find}
-use Rattle.std.specs.Option.{option_map}
-use Rattle.ioa_value.specs.Typing.{HaveTypes, basic_types}
+use Rattle.std.specs.List.{AllZip}
+use Rattle.ioa_value.specs.Typing.{HaveTypes}
 use Rattle.ioa_node.specs.Nodes.{Node}
 use Rattle.ioa_syntax.specs.Tree.{EntryTree}
-use Rattle.ioa_syntax.specs.Instances.{entry_has, component_of, state_of}
+use Rattle.ioa_syntax.specs.Instances.{component_of, state_of}
 use Rattle.ioa_syntax.specs.Compositions.{Member}
 use Rattle.ioa_syntax.specs.Likes.{IsLike, AllLike, AllRelated}
 use Rattle.ioa_syntax.specs.WellFormed.{variable_fields}
-use Rattle.ioa_compose.specs.Fine.{IsFine}
+use Rattle.ioa_compose.specs.Fine.{IsFine, component_limits}
 use Rattle.ioa_compile.specs.Programs.{EntryCode, MemberCode}
 use Rattle.ioa_compile.specs.Tables.{table_component}
 use Rattle.ioa_compile.specs.Correspondence.{Corresponds, CorrespondsIn, CorrespondsAt}
 use Rattle.ioa_compile.specs.Matching.{AreTypesOf, MatchesEntry, MatchesMember}
 use Rattle.ioa_compile.specs.Translated.{IsEntryOf, IsTranslated, DoesSame}
 use Rattle.ioa_compile.proofs.Fits.{fit_have}
-use Rattle.ioa_compile.proofs.Twins.{finds_same, kinds_same, are_entries}
+use Rattle.ioa_compile.proofs.Twins.{finds_same, kinds_same, is_member}
 use Rattle.ioa_compile.proofs.Alike.{guards, effects, entry_matches}
 
-entries_match : (m : Member) (slots : List ℕ) (es : List EntryTree) (cs : List EntryCode) → IsFine m → AreTypesOf (variable_fields m.instance.automaton) slots → ((i : ℕ) (e : EntryTree) → slice_get es i ≡ Some e → IsEntryOf m e) → AllZip (IsTranslated m slots) es cs → AllZip (MatchesEntry m) es cs
+entries_match : (m : Member) (slots : List ℕ) (es : List EntryTree) (cs : List EntryCode) → IsFine component_limits m → AreTypesOf m.instance.types (variable_fields m.instance.automaton) slots → ((i : ℕ) (e : EntryTree) → slice_get es i ≡ Some e → IsEntryOf m e) → AllZip (IsTranslated m slots) es cs → AllZip (MatchesEntry m) es cs
 entries_match m slots [] [] h types own all = tt
 entries_match m slots [] (c ∷ cs) h types own all = absurd all
 entries_match m slots (e ∷ es) [] h types own all = absurd all
 entries_match m slots (e ∷ es) (c ∷ cs) h types own all =
     (entry_matches m slots e c h types all.0 (own 0 e refl), entries_match m slots es cs h types (λ i x k. own (suc i) x k) all.1)
 
-pub does_same : (m : Member) (slots : List ℕ) (c : MemberCode) → IsFine m → AreTypesOf (variable_fields m.instance.automaton) slots → c.name ≡ m.name → c.start ≡ record { types = slots; values = m.starts } → AllZip (IsTranslated m slots) m.instance.automaton.entries c.entries → DoesSame m c
+pub does_same : (m : Member) (slots : List ℕ) (c : MemberCode) → IsFine component_limits m → AreTypesOf m.instance.types (variable_fields m.instance.automaton) slots → c.name ≡ m.name → c.start ≡ record { table = m.instance.types; types = slots; values = m.starts } → AllZip (IsTranslated m slots) m.instance.automaton.entries c.entries → DoesSame m c
 does_same m slots c h types name start entries =
     let es = m.instance.automaton.entries in
+    let table-is : c.start.table ≡ m.instance.types = ap (λ (n : Node). n.table) start in
     let types-are : slots ≡ c.start.types = sym (ap (λ (n : Node). n.types) start) in
     let values-are : m.starts ≡ c.start.values = sym (ap (λ (n : Node). n.values) start) in
     record {
       matches = record {
         name = name;
-        variables = subst (AreTypesOf (variable_fields m.instance.automaton)) types-are types;
+        types = table-is;
+        variables = subst (AreTypesOf m.instance.types (variable_fields m.instance.automaton)) types-are types;
         entries = entries_match m slots es c.entries h types (λ i e k. record { place = i; here = k }) entries;
       };
       like = record {
-        kinds = λ a. ap (λ t. option_map (λ e. e.kind) (find (entry_has t a) es)) h.types ∙ kinds_same m slots a es _ _ (finds_same m slots a es c.entries entries);
-        guards = λ a env vs local r. guards m slots c h types entries a env vs local r;
-        effects = λ a env vs has r. effects m slots c h types entries a env vs r;
+        kinds = λ a. kinds_same m slots a es _ _ (finds_same m slots a c.start.table table-is es c.entries entries);
+        guards = λ a env vs local r. guards m slots c h table-is types entries a env vs local r;
+        effects = λ a env vs has r. effects m slots c h table-is types entries a env vs r;
       };
-      start = subst (Corresponds m.instance.automaton (state_of m.instance.automaton m.starts)) values-are (record { values = λ x. refl; typed = h.starts });
-      entries = are_entries m c es c.entries (subst (λ l. AllZip (IsTranslated m l) es c.entries) types-are entries);
-      typed = subst (λ (n : Node). HaveTypes basic_types n.values n.types) (sym start) (fit_have (variable_fields m.instance.automaton) m.starts slots h.starts types);
+      start = subst (Corresponds m.instance (state_of m.instance.automaton m.starts)) values-are (record { values = λ x. refl; typed = h.starts });
+      sound = is_member m c h table-is name (subst (AreTypesOf m.instance.types (variable_fields m.instance.automaton)) types-are types)
+          (subst (λ (n : Node). HaveTypes m.instance.types n.values n.types) (sym start) (fit_have m.instance.types (variable_fields m.instance.automaton) m.starts slots h.starts types))
+          (subst (λ l. AllZip (IsTranslated m l) es c.entries) types-are entries);
     }
 
 -- the members from place i on

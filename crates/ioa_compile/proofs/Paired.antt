@@ -1,7 +1,6 @@
 -- Lists whose items are related place by place.
-use Rattle.std.proofs.Common.{◌≡◌, ℕ, zero, suc, ◌+◌, ◌<◌, ◌≤◌, Bool, IsTrue, List, [], ◌∷◌, ◌++◌, length, map, take, get_or, Some, refl, sym, ap, ◌∙◌, subst}
-use Rattle.std.specs.Prelude.{slice_get}
-use Rattle.std.specs.List.{AllZip, list_all}
+use Rattle.std.proofs.Common.{◌≡◌, ℕ, ◌+◌, ◌<◌, ◌≤◌, Bool, ◌&&◌, ◌||◌, List, [], ◌∷◌, ◌++◌, length, map, take, get_or, refl, sym, ap, ◌∙◌, subst}
+use Rattle.std.specs.List.{AllZip, list_all, list_any}
 use Rattle.std.proofs.lemmas.List.{take_more, take_all, map-append}
 use Rattle.std.proofs.lemmas.Slice.Zip.{all_zipped_more}
 use Rattle.ioa_syntax.specs.Tree.{PositionTree, typed}
@@ -9,13 +8,12 @@ use Rattle.ioa_syntax.specs.WellFormed.{position_fields}
 use Rattle.ioa_compile.specs.Programs as codes
 use Rattle.ioa_compile.specs.Programs.{PositionCode}
 use Rattle.ioa_value.specs.declared.value.Ty.{Ty}
-use Rattle.ioa_code.specs.Parts.{number}
+use Rattle.ioa_value.specs.Plain.{number}
 use Rattle.ioa_compile.specs.declared.table.Position.{Position}
 use Rattle.ioa_compile.specs.declared.table.Position.TheVariants.{Typed}
 use Rattle.ioa_compile.specs.Shown.{position_code}
 use Rattle.ioa_compile.specs.Tables.{position_types}
 use Rattle.ioa_compile.specs.Translated.{position_field}
-use Rattle.std.proofs.lemmas.Bool.{and_parts}
 
 -- one item more of each
 pub paired_next : {A B X Y : Type 0} (R : X → Y → Type 0) (f : A → X) (g : B → Y) (xs : List A) (i : ℕ) (x : A) (ys zs : List B) (y : B) → i < length xs → x ≡ get_or xs i x → zs ≡ ys ++ y ∷ [] → R (f x) (g y) → AllZip R (map f (take i xs)) (map g ys) → AllZip R (map f (take (i + 1) xs)) (map g zs)
@@ -28,16 +26,24 @@ paired_next R f g xs i x ys zs y lt x-is zs-is r all =
 pub paired_all : {A X Y : Type 0} (R : X → Y → Type 0) (f : A → X) (xs : List A) (i : ℕ) (ys : List Y) → length xs ≤ i → AllZip R (map f (take i xs)) ys → AllZip R (map f xs) ys
 paired_all R f xs i ys le all = subst (λ l. AllZip R (map f l) ys) (take_all i xs le) all
 
--- two views, one after the other
-pub map-twice : {A B C : Type 0} (g : B → C) (f : A → B) (xs : List A) → map g (map f xs) ≡ map (λ x. g (f x)) xs
-map-twice g f [] = refl
-map-twice g f (x ∷ xs) = ap (λ l. g (f x) ∷ l) (map-twice g f xs)
+-- views that agree on related items
+pub paired_map : {X Y Z : Type 0} (R : X → Y → Type 0) (f : X → Z) (g : Y → Z) → ((x : X) (y : Y) → R x y → g y ≡ f x) → (xs : List X) (ys : List Y) → AllZip R xs ys → map g ys ≡ map f xs
+paired_map R f g k [] [] h = refl
+paired_map R f g k [] (y ∷ ys) h = absurd h
+paired_map R f g k (x ∷ xs) [] h = absurd h
+paired_map R f g k (x ∷ xs) (y ∷ ys) h = ap (λ z. z ∷ map g ys) (k x y h.0) ∙ ap (λ l. f x ∷ l) (paired_map R f g k xs ys h.1)
 
--- what a test says of one item
-pub all_get : {X : Type 0} (p : X → Bool) (xs : List X) (i : ℕ) (x : X) → IsTrue (list_all p xs) → slice_get xs i ≡ Some x → IsTrue (p x)
-all_get p [] i x h e = absurd (cc)
-all_get p (y ∷ ys) zero x h e = let same : y ≡ x = cc in subst (λ w. IsTrue (p w)) same (and_parts (p y) (list_all p ys) h).0
-all_get p (y ∷ ys) (suc i) x h e = all_get p ys i x (and_parts (p y) (list_all p ys) h).1 e
+-- tests that agree on related items
+pub paired_any : {X Y : Type 0} (R : X → Y → Type 0) (p : X → Bool) (q : Y → Bool) → ((x : X) (y : Y) → R x y → q y ≡ p x) → (xs : List X) (ys : List Y) → AllZip R xs ys → list_any q ys ≡ list_any p xs
+paired_any R p q k [] [] h = refl
+paired_any R p q k [] (y ∷ ys) h = absurd h
+paired_any R p q k (x ∷ xs) [] h = absurd h
+paired_any R p q k (x ∷ xs) (y ∷ ys) h = ap (λ b. b || list_any q ys) (k x y h.0) ∙ ap (λ b. p x || b) (paired_any R p q k xs ys h.1)
+
+-- tests that agree everywhere
+pub all_same : {X : Type 0} (p q : X → Bool) → ((x : X) → p x ≡ q x) → (xs : List X) → list_all p xs ≡ list_all q xs
+all_same p q k [] = refl
+all_same p q k (x ∷ xs) = ap (λ b. b && list_all p xs) (k x) ∙ ap (λ b. q x && b) (all_same p q k xs)
 
 pub fields-map : (ps : List PositionTree) → position_fields ps ≡ map position_field ps
 fields-map [] = refl

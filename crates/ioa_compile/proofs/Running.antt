@@ -1,49 +1,37 @@
 -- The machine follows the tree.
-use Rattle.std.proofs.Common.{◌≡◌, ℕ, zero, suc, ◌+◌, ◌<◌, ◌≤◌, ◌==◌, Bool, true, false, cond, List, [], ◌∷◌, ◌++◌, length, Option, Some, None, pos, refl, sym, ap, ◌∙◌, subst, arith, append_assoc}
+use Rattle.std.proofs.Common.{◌≡◌, ℕ, suc, ◌+◌, ◌<◌, ◌≤◌, ◌==◌, Bool, true, false, cond, List, [], ◌∷◌, ◌++◌, length, Option, Some, None, pos, refl, sym, ap, ◌∙◌, subst, arith, append_assoc}
 use Rattle.std.specs.Prelude.{slice_get, slice_set}
 use Rattle.std.specs.Str.{bytes_eq}
-use Rattle.std.proofs.lemmas.Bool.Decides.{nat_tests}
 use Rattle.std.proofs.lemmas.Option.{slice_get_within}
 use Rattle.ioa_value.specs.declared.arithmetic.Fault.{Fault}
 use Rattle.ioa_value.specs.declared.operator.Op.{Op}
 use Rattle.ioa_value.specs.Actions.{Name}
-use Rattle.ioa_value.specs.Operators.{Answer, gives, faults, nothing, operate, arity}
+use Rattle.ioa_value.specs.Operators.{Answer, gives, faults, nothing, IsTypedAnswer, operate, arity}
 use Rattle.ioa_value.specs.Plain as plain
 use Rattle.ioa_value.specs.Plain.{Val}
-use Rattle.ioa_value.specs.Typing.{HasType, HaveTypes, basic_types, own}
+use Rattle.ioa_value.specs.Table.{Table, AreTypes, place_from}
+use Rattle.ioa_value.specs.Typing.{HasType, HaveTypes, own}
+use Rattle.ioa_value.proofs.TypingLemmas.{alike_own, HaveTypes-length, HaveTypes-get, HaveTypes-set}
 use Rattle.ioa_code.specs.declared.instr.Instr.{Instr}
 use Rattle.ioa_code.specs.declared.instr.Instr.TheVariants.{Const, Slot, Arg, Store, Apply}
-use Rattle.ioa_code.specs.Machine.{Listing, State, state, End, fault, Move, goes, faulted, stuck, act, next, pushed, replaced, stored, answered, fetched, move, After, Ends}
+use Rattle.ioa_code.specs.Machine.{Listing, State, state, End, fault, Move, goes, over, stuck, act, next, pushed, replaced, stored, answered, fetched, move, After, Ends}
+use Rattle.ioa_code.proofs.Lists.{on_top-append}
+use Rattle.ioa_node.specs.Runs.{no_words}
 use Rattle.ioa_syntax.specs.Tree.{Expr, number, truth, named, parens, binary, Stmt, assign}
-use Rattle.ioa_syntax.specs.Meaning.{Env, val, then_value, value_of, op_of, Outcome, becomes, breaks, nowhere, assigned, then_do, does, eff, with_name, or_else}
-use Rattle.ioa_syntax.specs.Instances.{place_from}
+use Rattle.ioa_syntax.specs.Meaning.{Env, val, then_value, value_of, Outcome, becomes, breaks, nowhere, assigned, then_do, does, eff, with_name, or_else}
 use Rattle.ioa_syntax.specs.WellFormed.{Context, type_in}
-use Rattle.ioa_syntax.specs.Answers.{IsTyped, Stands, Suits}
-use Rattle.ioa_syntax.proofs.ValTyped.{own_type, val_typed}
+use Rattle.ioa_syntax.specs.Answers.{Stands, Suits}
+use Rattle.ioa_syntax.proofs.ValTyped.{val_typed}
 use Rattle.ioa_compile.specs.Scopes.{Scope, Origin, slot, formal, parameter, unknown, origin}
 use Rattle.ioa_compile.specs.Placed.{At, Pushes, Brings, HasExpr, HasStmt, HasStmts}
 use Rattle.ioa_compile.proofs.Fine.{StmtTyped, StmtsTyped}
-use Rattle.ioa_compile.proofs.Fits.{have_at, have_long}
 use Rattle.ioa_compile.proofs.Looks.{look, at, stands, stands_at, look_set}
-use Rattle.ioa_compile.proofs.Validity.{on_top-append}
-
-alike_own : (v w : Val) (ty : ℕ) → HasType basic_types v ty → HasType basic_types w ty → (own v == own w) ≡ true
-alike_own v w ty h k =
-    let a = own_type basic_types v ty h in
-    let b = own_type basic_types w ty k in
-    grind (arith, nat_tests)
-
-pub have_set : (vs : List Val) (tys : List ℕ) (i ty : ℕ) (v : Val) → HaveTypes basic_types vs tys → slice_get tys i ≡ Some ty → HasType basic_types v ty → HaveTypes basic_types (slice_set vs i v) tys
-have_set [] [] i ty v h e k = tt
-have_set [] (t ∷ ts) i ty v h e k = absurd h
-have_set (w ∷ ws) [] i ty v h e k = absurd h
-have_set (w ∷ ws) (t ∷ ts) zero ty v h e k = let same : ty ≡ t = cc in (subst (HasType basic_types v) same k, h.1)
-have_set (w ∷ ws) (t ∷ ts) (suc i) ty v h e k = (h.0, have_set ws ts i ty v h.1 e k)
+use Rattle.ioa_compile.proofs.Validity.{takes_two}
 
 module _ (code : Listing) (s : Scope) (args : List Val) where
   -- the machine at a place
   abbrev pub on : ℕ → List Val → List Val → State
-  on p stack slots = state p stack slots args []
+  on p stack slots = state p stack slots args no_words 0
 
   -- the machine comes from one state to another: as that ends, so does this, after as many steps more as it is further on
   pub record Comes (x y : State) : Type 0 where
@@ -57,20 +45,20 @@ module _ (code : Listing) (s : Scope) (args : List Val) where
 
   step : (x y : State) → y.place ≡ x.place + 1 → move code x ≡ goes y → Comes x y
   step x y p e = record {
-    by = λ r n h. (suc n, omega arith, subst (λ m. After m (λ z. Ends code n z r) (λ f. (n ≡ 0) × (r ≡ fault f x.words))) (sym e) h);
+    by = λ r n h. (suc n, omega arith, subst (λ m. After m (λ z. Ends code n z r) (λ z. (n ≡ 0) × (r ≡ z))) (sym e) h);
   }
 
-  moves : (p : ℕ) (stack slots : List Val) (i : Instr) (m : Move) → At code p i → act code.consts i (on p stack slots) ≡ m → move code (on p stack slots) ≡ m
-  moves p stack slots i m h e = ap (λ o. fetched code.consts o (on p stack slots)) h ∙ e
+  moves : (p : ℕ) (stack slots : List Val) (i : Instr) (m : Move) → At code p i → act code i (on p stack slots) ≡ m → move code (on p stack slots) ≡ m
+  moves p stack slots i m h e = ap (λ o. fetched code o (on p stack slots)) h ∙ e
 
   -- the machine ends by the fault, before the code does
   pub record Breaks (x : State) (f : Fault) : Type 0 where
     pub count : ℕ
     pub within : count + x.place ≤ length code.instrs
-    pub ends : Ends code count x (fault f [])
+    pub ends : Ends code count x (fault f 0)
 
   breaks_on : (x y : State) (f : Fault) → Comes x y → y.place ≤ length code.instrs → Breaks y f → Breaks x f
-  breaks_on x y f c le b = let r = c.by (fault f []) b.count b.ends in record { count = r.0; within = omega (arith, r.1, b.within); ends = r.2 }
+  breaks_on x y f c le b = let r = c.by (fault f 0) b.count b.ends in record { count = r.0; within = omega (arith, r.1, b.within); ends = r.2 }
 
   -- the machine comes from x to q with the answer's value on the stack, or ends by its fault
   abbrev pub Reaches : State → ℕ → List Val → List Val → Answer → Type 0
@@ -79,7 +67,7 @@ module _ (code : Listing) (s : Scope) (args : List Val) where
   Reaches x q stack slots nothing = Unit {0}
 
   breaks_after : (x y : State) (f : Fault) → Comes x y → Breaks y f → Breaks x f
-  breaks_after x y f c b = let r = c.by (fault f []) b.count b.ends in record { count = r.0; within = omega (arith, r.1, b.within); ends = r.2 }
+  breaks_after x y f c b = let r = c.by (fault f 0) b.count b.ends in record { count = r.0; within = omega (arith, r.1, b.within); ends = r.2 }
 
   after_comes : (x y : State) (q : ℕ) (stack slots : List Val) (a : Answer) → Comes x y → Reaches y q stack slots a → Reaches x q stack slots a
   after_comes x y q stack slots (gives v) c r = comes_on x y _ c r
@@ -91,25 +79,20 @@ module _ (code : Listing) (s : Scope) (args : List Val) where
   then_reaches x m q below stack slots (faults f) go r k = r
   then_reaches x m q below stack slots nothing go r k = tt
 
-  ends_fault : (p : ℕ) (stack slots : List Val) (f : Fault) → move code (on p stack slots) ≡ faulted f → Ends code 1 (on p stack slots) (fault f [])
+  ends_fault : (p : ℕ) (stack slots : List Val) (f : Fault) → move code (on p stack slots) ≡ over (fault f 0) → Ends code 1 (on p stack slots) (fault f 0)
   ends_fault p stack slots f e =
-      let P : Move → Type 0 = λ m. After m (λ z. Ends code 0 z (fault f [])) (λ g. (◌≡◌ {A = ℕ} 0 0) × (fault f [] ≡ fault g [])) in subst P (sym e) (refl, refl)
+      let P : Move → Type 0 = λ m. After m (λ z. Ends code 0 z (fault f 0)) (λ g. (◌≡◌ {A = ℕ} 0 0) × (fault f 0 ≡ g)) in subst P (sym e) (refl, refl)
 
   answer_reaches : (p : ℕ) (full stack slots : List Val) (a : Answer) → p < length code.instrs → move code (on p full slots) ≡ answered a (on p full slots) stack → Reaches (on p full slots) (p + 1) stack slots a
   answer_reaches p full stack slots (gives v) lt e = step _ _ refl e
   answer_reaches p full stack slots (faults f) lt e = record { count = 1; within = omega arith; ends = ends_fault p full slots f e }
   answer_reaches p full stack slots nothing lt e = tt
 
-  apply_reaches : (p : ℕ) (stack operands slots : List Val) (op : Op) → At code p (Apply op) → length operands ≡ arity op → Reaches (on p (stack ++ operands) slots) (p + 1) stack slots (operate op operands)
-  apply_reaches p stack operands slots op h e =
-      answer_reaches p (stack ++ operands) stack slots (operate op operands) (slice_get_within code.instrs p (Apply op) h)
-      (moves p (stack ++ operands) slots (Apply op) _ h (on_top-append (arity op) stack operands stuck (λ below top. answered (operate op top) (on p (stack ++ operands) slots) below) e))
-
   pub push_comes : (p : ℕ) (stack slots : List Val) (v : Val) → Pushes code p v → Comes (on p stack slots) (on (p + 1) (stack ++ v ∷ []) slots)
   push_comes p stack slots v h =
       step _ _ refl (moves p stack slots (Const h.0) _ h.1 (ap (λ o. pushed o (on p stack slots)) h.2))
 
-  read_comes : (p : ℕ) (stack slots : List Val) (i : Instr) (o : Option Val) (v : Val) → At code p i → act code.consts i (on p stack slots) ≡ pushed o (on p stack slots) → o ≡ Some v → Comes (on p stack slots) (on (p + 1) (stack ++ v ∷ []) slots)
+  read_comes : (p : ℕ) (stack slots : List Val) (i : Instr) (o : Option Val) (v : Val) → At code p i → act code i (on p stack slots) ≡ pushed o (on p stack slots) → o ≡ Some v → Comes (on p stack slots) (on (p + 1) (stack ++ v ∷ []) slots)
   read_comes p stack slots i o v h e k = step _ _ refl (moves p stack slots i _ h (e ∙ ap (λ x. pushed x (on p stack slots)) k))
 
   brings_comes : (p : ℕ) (stack slots : List Val) (o : Origin) (v : Val) → at o slots s.arguments args ≡ Some v → Brings code s p o → Comes (on p stack slots) (on (p + 1) (stack ++ v ∷ []) slots)
@@ -129,47 +112,67 @@ module _ (code : Listing) (s : Scope) (args : List Val) where
   abbrev pub Agrees : Env → List Val → Type 0
   Agrees env slots = (x : Name) → env x ≡ at (origin s x) slots s.arguments args
 
-  pub expr_runs : (e : Expr) (p q : ℕ) (stack slots : List Val) (env : Env) → Agrees env slots → HasExpr code s e p q → Reaches (on p stack slots) q stack slots (val e env)
-  expr_runs (number n) p q stack slots env c h =
-      subst (λ k. Comes (on p stack slots) (on k (stack ++ plain.num (pos n) ∷ []) slots)) (sym h.1) (push_comes p stack slots (plain.num (pos n)) h.0)
-  expr_runs (truth b) p q stack slots env c h =
-      subst (λ k. Comes (on p stack slots) (on k (stack ++ plain.truth b ∷ []) slots)) (sym h.1) (push_comes p stack slots (plain.truth b) h.0)
-  expr_runs (named x) p q stack slots env c h =
-      subst (λ k. Reaches (on p stack slots) k stack slots (value_of (env x))) (sym h.1) (brings_reaches p stack slots (env x) (origin s x) (c x) h.0)
-  expr_runs (parens e) p q stack slots env c h = expr_runs e p q stack slots env c h
-  expr_runs (binary l o r) p q stack slots env c h =
-      let go : Val → Val → Answer = λ x y. operate (op_of o) (x ∷ y ∷ []) in
-      let second = λ (x : Val). then_reaches (on h.0 (stack ++ x ∷ []) slots) h.1 (h.1 + 1) (stack ++ x ∷ []) stack slots (val r env) (go x) (expr_runs r h.0 h.1 (stack ++ x ∷ []) slots env c h.3)
-      (λ y. subst (λ l. Reaches (on h.1 l slots) (h.1 + 1) stack slots (go x y)) (sym (append_assoc stack (x ∷ []) (y ∷ []))) (apply_reaches h.1 stack (x ∷ y ∷ []) slots (op_of o) h.4 refl)) in
-      let both : Val → Answer = λ x. then_value (val r env) (go x) in
-      let here = then_reaches (on p stack slots) h.0 (h.1 + 1) stack stack slots (val l env) both (expr_runs l p h.0 stack slots env c h.2) second in
-      subst (λ k. Reaches (on p stack slots) k stack slots (then_value (val l env) both)) (sym h.5) here
+  module _ (types : Table) (same_types : code.types ≡ types) where
+    apply_reaches : (p : ℕ) (stack operands slots : List Val) (op : Op) → At code p (Apply op) → length operands ≡ arity types op → Reaches (on p (stack ++ operands) slots) (p + 1) stack slots (operate types op operands)
+    apply_reaches p stack operands slots op h e =
+        let takes : length operands ≡ arity code.types op = e ∙ ap (λ t. arity t op) (sym same_types) in
+        let here : Reaches (on p (stack ++ operands) slots) (p + 1) stack slots (operate code.types op operands) =
+        answer_reaches p (stack ++ operands) stack slots (operate code.types op operands) (slice_get_within code.instrs p (Apply op) h)
+        (moves p (stack ++ operands) slots (Apply op) _ h (on_top-append (arity code.types op) stack operands stuck (λ below top. answered (operate code.types op top) (on p (stack ++ operands) slots) below) takes)) in
+        subst (λ t. Reaches (on p (stack ++ operands) slots) (p + 1) stack slots (operate t op operands)) same_types here
+
+    pub expr_runs : (e : Expr) (p q : ℕ) (stack slots : List Val) (env : Env) → Agrees env slots → HasExpr code s e p q → Reaches (on p stack slots) q stack slots (val types e env)
+    expr_runs (number n) p q stack slots env c h =
+        subst (λ k. Comes (on p stack slots) (on k (stack ++ plain.num (pos n) ∷ []) slots)) (sym h.1) (push_comes p stack slots (plain.num (pos n)) h.0)
+    expr_runs (truth b) p q stack slots env c h =
+        subst (λ k. Comes (on p stack slots) (on k (stack ++ plain.truth b ∷ []) slots)) (sym h.1) (push_comes p stack slots (plain.truth b) h.0)
+    expr_runs (named x) p q stack slots env c h =
+        subst (λ k. Reaches (on p stack slots) k stack slots (value_of (env x))) (sym h.1) (brings_reaches p stack slots (env x) (origin s x) (c x) h.0)
+    expr_runs (parens e) p q stack slots env c h = expr_runs e p q stack slots env c h
+    expr_runs (binary l o r) p q stack slots env c h =
+        let go : Val → Val → Answer = λ x y. operate types o (x ∷ y ∷ []) in
+        let second = λ (x : Val). then_reaches (on h.0 (stack ++ x ∷ []) slots) h.1 (h.1 + 1) (stack ++ x ∷ []) stack slots (val types r env) (go x) (expr_runs r h.0 h.1 (stack ++ x ∷ []) slots env c h.3)
+        (λ y. subst (λ l. Reaches (on h.1 l slots) (h.1 + 1) stack slots (go x y)) (sym (append_assoc stack (x ∷ []) (y ∷ []))) (apply_reaches h.1 stack (x ∷ y ∷ []) slots o h.4 (sym (takes_two types o)))) in
+        let both : Val → Answer = λ x. then_value (val types r env) (go x) in
+        let here = then_reaches (on p stack slots) h.0 (h.1 + 1) stack stack slots (val types l env) both (expr_runs l p h.0 stack slots env c h.2) second in
+        subst (λ k. Reaches (on p stack slots) k stack slots (then_value (val types l env) both)) (sym h.5) here
 
   -- ---- statements, where the code is typed
 
-  module _ (c v : Context) (vs fs ps : List ℕ)
-      (lv : length s.variables ≡ length vs) (lf : length s.formals ≡ length s.arguments) (lp : length s.parameters ≡ length args)
-      (given : HaveTypes basic_types s.arguments fs) (values : HaveTypes basic_types args ps)
-      (types : (x : Name) → type_in c x ≡ at (origin s x) vs fs ps)
-      (found : (x : Name) (ty i : ℕ) → type_in v x ≡ Some ty → place_from 0 s.variables x ≡ Some i → slice_get vs i ≡ Some ty) where
+  -- what is known of a scope's typed code: the types of its names, and that its values have them
+  pub record Knows (types : Table) (c v : Context) (vs fs ps : List ℕ) : Type 0 where
+    pub same_types : code.types ≡ types
+    pub declared : AreTypes types
+    pub variables : length s.variables ≡ length vs
+    pub formals : length s.formals ≡ length s.arguments
+    pub parameters : length s.parameters ≡ length args
+    pub given : HaveTypes types s.arguments fs
+    pub values : HaveTypes types args ps
+    pub names : (x : Name) → type_in c x ≡ at (origin s x) vs fs ps
+    pub found : (x : Name) (ty i : ℕ) → type_in v x ≡ Some ty → place_from 0 s.variables x ≡ Some i → slice_get vs i ≡ Some ty
+
+  module _ (types : Table) (c v : Context) (vs fs ps : List ℕ) (known : Knows types c v vs fs ps) where
     -- each name stands for its value, and the variables have their types
     pub record Holds (env : Env) (slots : List Val) : Type 0 where
       pub agrees : (x : Name) → env x ≡ stands s slots s.arguments args x
-      pub typed : HaveTypes basic_types slots vs
+      pub typed : HaveTypes types slots vs
 
     pub agree : (env : Env) (slots : List Val) → Holds env slots → Agrees env slots
     agree env slots h x =
-        h.agrees x ∙ stands_at s slots s.arguments args x (lv ∙ sym (have_long basic_types slots vs h.typed)) lf lp
+        h.agrees x ∙ stands_at s slots s.arguments args x (known.variables ∙ sym (HaveTypes-length types slots vs h.typed)) known.formals known.parameters
 
-    at_typed : (o : Origin) (slots : List Val) (ty : ℕ) → HaveTypes basic_types slots vs → at o vs fs ps ≡ Some ty → Stands basic_types ty (at o slots s.arguments args)
-    at_typed (slot i) slots ty h e = have_at basic_types slots vs i ty h e
-    at_typed (formal i) slots ty h e = have_at basic_types s.arguments fs i ty given e
-    at_typed (parameter i) slots ty h e = have_at basic_types args ps i ty values e
+    stood : (xs : List Val) (tys : List ℕ) (i ty : ℕ) → HaveTypes types xs tys → slice_get tys i ≡ Some ty → Stands types ty (slice_get xs i)
+    stood xs tys i ty h e = let at_i = HaveTypes-get types xs tys i ty h e in subst (Stands types ty) (sym at_i.1) at_i.2
+
+    at_typed : (o : Origin) (slots : List Val) (ty : ℕ) → HaveTypes types slots vs → at o vs fs ps ≡ Some ty → Stands types ty (at o slots s.arguments args)
+    at_typed (slot i) slots ty h e = stood slots vs i ty h e
+    at_typed (formal i) slots ty h e = stood s.arguments fs i ty known.given e
+    at_typed (parameter i) slots ty h e = stood args ps i ty known.values e
     at_typed unknown slots ty h e = absurd (cc)
 
-    pub suits : (env : Env) (slots : List Val) → Holds env slots → Suits basic_types c env
+    pub suits : (env : Env) (slots : List Val) → Holds env slots → Suits types c env
     suits env slots h x ty t =
-        subst (Stands basic_types ty) (sym (agree env slots h x)) (at_typed (origin s x) slots ty h.typed (sym (types x) ∙ t))
+        subst (Stands types ty) (sym (agree env slots h x)) (at_typed (origin s x) slots ty h.typed (sym (known.names x) ∙ t))
 
     -- the machine comes to q with the new variables, or ends by the fault
     abbrev pub RunsTo : State → ℕ → Outcome → Type 0
@@ -195,53 +198,46 @@ module _ (code : Listing) (s : Scope) (args : List Val) where
         ∙ ap (replaced i here [] w) here-is
         ∙ ap (λ b. cond b (next here [] (slice_set slots i w)) stuck) alike))
 
-    holds_set : (env : Env) (slots : List Val) (x : Name) (i ty : ℕ) (w : Val) → Holds env slots → place_from 0 s.variables x ≡ Some i → slice_get vs i ≡ Some ty → HasType basic_types w ty → Holds (with_name env x w) (slice_set slots i w)
+    holds_set : (env : Env) (slots : List Val) (x : Name) (i ty : ℕ) (w : Val) → Holds env slots → place_from 0 s.variables x ≡ Some i → slice_get vs i ≡ Some ty → HasType types w ty → Holds (with_name env x w) (slice_set slots i w)
     holds_set env slots x i ty w h place t k =
-        let long = lv ∙ sym (have_long basic_types slots vs h.typed) in
+        let long = known.variables ∙ sym (HaveTypes-length types slots vs h.typed) in
         let n : i ≡ 0 + i = omega arith in
         record {
           agrees = λ y.
               go y (bytes_eq x y)
               ∙ sym (ap (λ o. or_else o (or_else (look s.formals s.arguments y) (look s.parameters args y))) (look_set 0 s.variables slots x y i w long (place ∙ ap Some n)));
-          typed = have_set slots vs i ty w h.typed t k;
+          typed = HaveTypes-set types slots vs i ty w h.typed t k;
         }
       where
         go : (y : Name) (b : Bool) → cond b (Some w) (env y) ≡ or_else (cond b (Some w) (look s.variables slots y)) (or_else (look s.formals s.arguments y) (look s.parameters args y))
         go y true = refl
         go y false = h.agrees y
 
-    here_some : (slots : List Val) (i ty : ℕ) → HaveTypes basic_types slots vs → slice_get vs i ≡ Some ty → (w : Val) × (slice_get slots i ≡ Some w) × HasType basic_types w ty
-    here_some slots i ty h e = go (slice_get slots i) refl (have_at basic_types slots vs i ty h e)
-      where
-        go : (o : Option Val) → slice_get slots i ≡ o → Stands basic_types ty o → (w : Val) × (slice_get slots i ≡ Some w) × HasType basic_types w ty
-        go (Some w) t k = (w, t, k)
-        go None t k = absurd k
-
     variable_origin : (x : Name) (i : ℕ) → place_from 0 s.variables x ≡ Some i → origin s x ≡ slot i
     variable_origin x i e = rw e refl
 
-    assigns : (m i ty : ℕ) (slots : List Val) (x : Name) (env : Env) (start : State) (a : Answer) (old : Option Val) (was : Val) → Holds env slots → At code m (Store i) → place_from 0 s.variables x ≡ Some i → slice_get vs i ≡ Some ty → slice_get slots i ≡ Some was → HasType basic_types was ty → old ≡ Some was → IsTyped basic_types ty a → Reaches start m [] slots a → RunsTo start (m + 1) (assigned x env a old)
+    assigns : (m i ty : ℕ) (slots : List Val) (x : Name) (env : Env) (start : State) (a : Answer) (old : Option Val) (was : Val) → Holds env slots → At code m (Store i) → place_from 0 s.variables x ≡ Some i → slice_get vs i ≡ Some ty → slice_get slots i ≡ Some was → HasType types was ty → old ≡ Some was → IsTypedAnswer types ty a → Reaches start m [] slots a → RunsTo start (m + 1) (assigned x env a old)
     assigns m i ty slots x env start (gives w) None was h k place t now kept e typed r = absurd (cc)
     assigns m i ty slots x env start (gives w) (Some old) was h k place t now kept e typed r =
-        (slice_set slots i w, holds_set env slots x i ty w h place t typed, comes_on start (on m (w ∷ []) slots) _ r (store_comes m i slots w was k now (alike_own was w ty kept typed)))
+        (slice_set slots i w, holds_set env slots x i ty w h place t typed, comes_on start (on m (w ∷ []) slots) _ r (store_comes m i slots w was k now (alike_own types was w ty kept typed)))
     assigns m i ty slots x env start (faults f) old was h k place t now kept e typed r = r
     assigns m i ty slots x env start nothing old was h k place t now kept e typed r = absurd typed
 
-    stmt_runs : (u : Stmt) (p q : ℕ) (env : Env) (slots : List Val) → Holds env slots → StmtTyped c v u → HasStmt code s u p q → RunsTo (on p [] slots) q (does u env)
+    stmt_runs : (u : Stmt) (p q : ℕ) (env : Env) (slots : List Val) → Holds env slots → StmtTyped types c v u → HasStmt code s u p q → RunsTo (on p [] slots) q (does types u env)
     stmt_runs (assign x e) p q env slots h t k =
         let ty = t.0 in
         let m = k.0 in
         let i = k.1 in
-        let slot_ty = found x ty i t.1 k.4 in
-        let now = here_some slots i ty h.typed slot_ty in
+        let slot_ty = known.found x ty i t.1 k.4 in
+        let now = HaveTypes-get types slots vs i ty h.typed slot_ty in
         let old : env x ≡ Some now.0 = agree env slots h x ∙ ap (λ o. at o slots s.arguments args) (variable_origin x i k.4) ∙ now.1 in
-        let typed = val_typed basic_types c env e ty (suits env slots h) t.2 in
-        let run = expr_runs e p m [] slots env (agree env slots h) k.2 in
-        subst (λ n. RunsTo (on p [] slots) n (assigned x env (val e env) (env x))) (sym k.5)
-        (assigns m i ty slots x env (on p [] slots) (val e env) (env x) now.0 h k.3 k.4 slot_ty now.1 now.2 old typed run)
+        let typed = val_typed types known.declared c env e ty (suits env slots h) t.2 in
+        let run = expr_runs types known.same_types e p m [] slots env (agree env slots h) k.2 in
+        subst (λ n. RunsTo (on p [] slots) n (assigned x env (val types e env) (env x))) (sym k.5)
+        (assigns m i ty slots x env (on p [] slots) (val types e env) (env x) now.0 h k.3 k.4 slot_ty now.1 now.2 old typed run)
 
-    pub stmts_run : (us : List Stmt) (p q : ℕ) (env : Env) (slots : List Val) → Holds env slots → StmtsTyped c v us → HasStmts code s us p q → RunsTo (on p [] slots) q (eff us env)
+    pub stmts_run : (us : List Stmt) (p q : ℕ) (env : Env) (slots : List Val) → Holds env slots → StmtsTyped types c v us → HasStmts code s us p q → RunsTo (on p [] slots) q (eff types us env)
     stmts_run [] p q env slots h t k =
         (slots, h, subst (λ n. Comes (on p [] slots) (on n [] slots)) (sym k) (stays (on p [] slots)))
     stmts_run (u ∷ us) p q env slots h t k =
-        then_runs (on p [] slots) k.0 q (does u env) (eff us) (stmt_runs u p k.0 env slots h t.0 k.1) (λ env2 slots2 h2. stmts_run us k.0 q env2 slots2 h2 t.1 k.2)
+        then_runs (on p [] slots) k.0 q (does types u env) (eff types us) (stmt_runs u p k.0 env slots h t.0 k.1) (λ env2 slots2 h2. stmts_run us k.0 q env2 slots2 h2 t.1 k.2)

@@ -1,49 +1,61 @@
 -- An action has the same entry, and so the same kind, in the table as in the automaton.
-use Rattle.std.proofs.Common.{◌≡◌, ℕ, zero, suc, ◌<◌, ◌⊎◌, inl, inr, Bool, true, false, cond, ◌&&◌, List, [], ◌∷◌, length, map, get_or, Option, Some, None, IfSome, refl, sym, ap, ◌∙◌, subst, arith}
+use Rattle.std.proofs.Common.{All, ◌≡◌, ℕ, zero, suc, ◌<◌, ◌≤◌, ◌⊎◌, inl, inr, Bool, true, false, cond, ◌&&◌, List, [], ◌∷◌, length, map, get_or, Option, Some, None, IfSome, refl, sym, ap, ◌∙◌, subst, arith}
 use Rattle.std.specs.Prelude.{slice_get}
-use Rattle.std.specs.List.{AllZip, find}
+use Rattle.std.specs.List.{AllZip, find, list_any, list_all}
 use Rattle.std.specs.Option.{option_map, option_map_or}
 use Rattle.std.specs.Str.{bytes_eq}
-use Rattle.std.proofs.lemmas.Option.{slice_get-map}
-use Rattle.ioa_value.specs.Actions.{Act}
+use Rattle.std.proofs.lemmas.List.{length-map}
+use Rattle.std.proofs.lemmas.List.Elements.{All-get_or}
+use Rattle.std.proofs.lemmas.Option.{slice_get-map, slice_get_within, get_or_from_slice_get}
+use Rattle.ioa_value.specs.Actions.{Name, Act}
+use Rattle.ioa_value.specs.Names.{IsName}
 use Rattle.ioa_value.specs.Plain.{Val}
-use Rattle.ioa_value.specs.Tests.{is_of}
-use Rattle.ioa_value.specs.Typing.{basic_types}
-use Rattle.ioa_code.specs.declared.instr.PartKind.TheVariants.{Pre}
+use Rattle.ioa_value.specs.Table.{Table, AreTypes}
+use Rattle.ioa_value.specs.Typing.{HaveTypes, is_of}
+use Rattle.ioa_code.specs.declared.instr.PartKind.{PartKind}
+use Rattle.ioa_code.specs.declared.instr.PartKind.TheVariants.{Pre, Eff}
 use Rattle.ioa_code.specs.Machine.{Listing}
 use Rattle.ioa_code.specs.Valid.{Part}
 use Rattle.ioa_syntax.specs.declared.tree.Kind.{Kind}
 use Rattle.ioa_syntax.specs.declared.tree.Kind.TheVariants.{Input, Output, Internal}
 use Rattle.ioa_syntax.specs.Tree.{Expr, PositionTree, typed, EntryTree}
-use Rattle.ioa_syntax.specs.Instances.{basic_table, positions_have, entry_has, component_of}
-use Rattle.ioa_syntax.specs.Components.{Component, Compatible}
-use Rattle.ioa_syntax.specs.Compositions.{Member}
-use Rattle.ioa_syntax.specs.WellFormed.{position_fields}
+use Rattle.ioa_syntax.specs.Instances.{positions_have, entry_has, component_of}
+use Rattle.ioa_syntax.specs.Components.{Component, Compatible, is_output}
+use Rattle.ioa_syntax.specs.Compositions.{Member, Composed}
+use Rattle.ioa_syntax.specs.WellFormed.{distinct, position_fields, variable_fields}
 use Rattle.ioa_compose.specs.declared.member.Member as held
 use Rattle.ioa_compose.specs.Held.{member_of}
-use Rattle.ioa_compose.specs.Fine.{IsFine, AllFine}
+use Rattle.ioa_compose.specs.Fine.{IsFine, AllFine, AreOver, IsSound, is_output_of, component_limits, most_hidden}
 use Rattle.ioa_compile.specs.Programs as codes
-use Rattle.ioa_compile.specs.Programs.{PositionCode, EntryCode, MemberCode}
-use Rattle.ioa_compile.specs.Tables.{positions_hold, is_in, table_component, position_types, HasPre, IsPartOf, IsEntry, AreEntries, AreMembers}
+use Rattle.ioa_compile.specs.Programs.{PositionCode, EntryCode, MemberCode, Prog}
+use Rattle.ioa_compile.specs.Tables as programs
+use Rattle.ioa_compile.specs.Tables.{positions_hold, is_in, table_component, position_types, HasPre, AreDeclared, IsPartOf, IsEntry, AreEntries, IsMember, AreMembers, IsProgram}
 use Rattle.ioa_compile.specs.Scopes.{Scope, scope_of}
-use Rattle.ioa_compile.specs.Matching.{AreTypesOf}
-use Rattle.ioa_compile.specs.Translated.{IsGuardFor, IsFor, codes_of, IsTranslated, DoesSame}
+use Rattle.ioa_compile.specs.Matching.{AreTypesOf, MatchesEntry}
+use Rattle.ioa_compile.specs.Emitting.{guard_nodes}
+use Rattle.ioa_compile.specs.Translated.{IsGuard, IsGuardFor, IsFor, codes_of, IsTranslated, IsEntryOf, DoesSame}
+use Rattle.ioa_compile.proofs.Fine.{small_of, few_positions_of}
+use Rattle.ioa_syntax.proofs.FineParts.{fine_parts, within_parts}
+use Rattle.ioa_compile.proofs.Fits.{types_long, types_declared, variables_names}
+use Rattle.ioa_compile.proofs.Paired.{paired_map, paired_any, all_same}
+use Rattle.ioa_compile.proofs.Sizes.{guard_short, stmts_short, positions_long}
 
-positions_same : (ps : List PositionTree) (qs : List PositionCode) (vs : List Val) → AreTypesOf (position_fields ps) (position_types qs) → positions_have basic_table ps vs ≡ positions_hold qs vs
-positions_same [] [] [] h = refl
-positions_same [] [] (v ∷ vs) h = refl
-positions_same [] (codes.typed n ∷ qs) vs h = absurd h
-positions_same (typed f ∷ ps) [] vs h = absurd h
-positions_same (typed f ∷ ps) (codes.typed n ∷ qs) [] h = refl
-positions_same (typed f ∷ ps) (codes.typed n ∷ qs) (v ∷ vs) h =
-    ap (λ o. option_map_or (λ k. is_of basic_types v k) o false && positions_have basic_table ps vs) h.0
-    ∙ ap (λ b. is_of basic_types v n && b) (positions_same ps qs vs h.1)
+positions_same : (types : Table) (ps : List PositionTree) (qs : List PositionCode) (vs : List Val) → AreTypesOf types (position_fields ps) (position_types qs) → positions_have types ps vs ≡ positions_hold types qs vs
+positions_same types [] [] [] h = refl
+positions_same types [] [] (v ∷ vs) h = refl
+positions_same types [] (codes.typed n ∷ qs) vs h = absurd h
+positions_same types (typed f ∷ ps) [] vs h = absurd h
+positions_same types (typed f ∷ ps) (codes.typed n ∷ qs) [] h = refl
+positions_same types (typed f ∷ ps) (codes.typed n ∷ qs) (v ∷ vs) h =
+    ap (λ o. option_map_or (λ k. is_of types v k) o false && positions_have types ps vs) h.0
+    ∙ ap (λ b. is_of types v n && b) (positions_same types ps qs vs h.1)
 
 module _ (m : Member) (slots : List ℕ) (a : Act) where
-  pub in_same : (e : EntryTree) (c : EntryCode) → IsTranslated m slots e c → entry_has basic_table a e ≡ is_in a c
-  in_same e c h =
-      ap (λ n. bytes_eq n a.name && positions_have basic_table e.positions a.vals) (sym h.name)
-      ∙ ap (λ b. bytes_eq c.name a.name && b) (positions_same e.positions c.positions a.vals h.positions)
+  in_same : (types : Table) → types ≡ m.instance.types → (e : EntryTree) (c : EntryCode) → IsTranslated m slots e c → entry_has m.instance.types a e ≡ is_in types a c
+  in_same types same e c h =
+      ap (λ n. bytes_eq n a.name && positions_have m.instance.types e.positions a.vals) (sym h.name)
+      ∙ ap (λ b. bytes_eq c.name a.name && b) (positions_same m.instance.types e.positions c.positions a.vals h.positions)
+      ∙ ap (λ l. is_in l a c) (sym same)
 
   -- the entries of the action in tree and table
   pub record Both (es : List EntryTree) (o : Option EntryTree) (p : Option EntryCode) : Type 0 where
@@ -54,19 +66,19 @@ module _ (m : Member) (slots : List ℕ) (a : Act) where
     pub same : IsTranslated m slots entry code
     pub place : ℕ
     pub here : slice_get es place ≡ Some entry
-    pub has : entry_has basic_table a entry ≡ true
+    pub has : entry_has m.instance.types a entry ≡ true
 
   pub record Neither (o : Option EntryTree) (p : Option EntryCode) : Type 0 where
     pub no_entry : o ≡ None
     pub no_code : p ≡ None
 
-  pub finds_same : (es : List EntryTree) (cs : List EntryCode) → AllZip (IsTranslated m slots) es cs → Both es (find (entry_has basic_table a) es) (find (is_in a) cs) ⊎ Neither (find (entry_has basic_table a) es) (find (is_in a) cs)
-  finds_same [] [] h = inr (record { no_entry = refl; no_code = refl })
-  finds_same [] (c ∷ cs) h = absurd h
-  finds_same (e ∷ es) [] h = absurd h
-  finds_same (e ∷ es) (c ∷ cs) h = go (entry_has basic_table a e) refl (is_in a c) (in_same e c h.0) (finds_same es cs h.1)
+  pub finds_same : (types : Table) → types ≡ m.instance.types → (es : List EntryTree) (cs : List EntryCode) → AllZip (IsTranslated m slots) es cs → Both es (find (entry_has m.instance.types a) es) (find (is_in types a) cs) ⊎ Neither (find (entry_has m.instance.types a) es) (find (is_in types a) cs)
+  finds_same types same [] [] h = inr (record { no_entry = refl; no_code = refl })
+  finds_same types same [] (c ∷ cs) h = absurd h
+  finds_same types same (e ∷ es) [] h = absurd h
+  finds_same types same (e ∷ es) (c ∷ cs) h = go (entry_has m.instance.types a e) refl (is_in types a c) (in_same types same e c h.0) (finds_same types same es cs h.1)
     where
-      go : (b : Bool) → entry_has basic_table a e ≡ b → (d : Bool) → entry_has basic_table a e ≡ d → Both es (find (entry_has basic_table a) es) (find (is_in a) cs) ⊎ Neither (find (entry_has basic_table a) es) (find (is_in a) cs) → Both (e ∷ es) (cond b (Some e) (find (entry_has basic_table a) es)) (cond d (Some c) (find (is_in a) cs)) ⊎ Neither (cond b (Some e) (find (entry_has basic_table a) es)) (cond d (Some c) (find (is_in a) cs))
+      go : (b : Bool) → entry_has m.instance.types a e ≡ b → (d : Bool) → entry_has m.instance.types a e ≡ d → Both es (find (entry_has m.instance.types a) es) (find (is_in types a) cs) ⊎ Neither (find (entry_has m.instance.types a) es) (find (is_in types a) cs) → Both (e ∷ es) (cond b (Some e) (find (entry_has m.instance.types a) es)) (cond d (Some c) (find (is_in types a) cs)) ⊎ Neither (cond b (Some e) (find (entry_has m.instance.types a) es)) (cond d (Some c) (find (is_in types a) cs))
       go true t true u r = inl (record { entry = e; code = c; entry_is = refl; code_is = refl; same = h.0; place = 0; here = refl; has = t })
       go true t false u r = absurd (cc)
       go false t true u r = absurd (cc)
@@ -78,41 +90,84 @@ module _ (m : Member) (slots : List ℕ) (a : Act) where
       ap (option_map (λ e. e.kind)) r.entry_is ∙ ap Some (sym r.same.kind) ∙ sym (ap (option_map (λ c. c.kind)) r.code_is)
   kinds_same es o p (inr r) = ap (option_map (λ e. e.kind)) r.no_entry ∙ sym (ap (option_map (λ c. c.kind)) r.no_code)
 
--- the table's parts are for the component's variables
-module _ (m : Member) (c : MemberCode) where
-  part_of : (e : EntryCode) (p : Part) → IsFor p Pre (0 ∷ []) c.start.types (position_types e.positions) → IsPartOf c e Pre (0 ∷ []) p
-  part_of e p h = record { verified = h.verified; kind = h.kind; result = h.result; slots = h.slots; args = h.args }
+-- what holds of all items, at one
+all_item : {X : Type 0} (P : X → Type 0) (xs : List X) (i : ℕ) (x : X) → All P xs → slice_get xs i ≡ Some x → P x
+all_item P xs i x h e = subst P (get_or_from_slice_get xs i x x e) (All-get_or P xs i x (slice_get_within xs i x e) h)
 
-  has_pre : (e : EntryCode) (k : Kind) (o : Option Part) (s : Scope) (g : Option Expr) → IsGuardFor k (codes_of o) s g → IfSome o (λ p. IsFor p Pre (0 ∷ []) c.start.types (position_types e.positions)) → HasPre c e k o
-  has_pre e Input None s g h f = tt
-  has_pre e Input (Some p) s g h f = absurd h
-  has_pre e Output None s g h f = absurd h
-  has_pre e Output (Some p) s g h f = part_of e p f
-  has_pre e Internal None s g h f = absurd h
-  has_pre e Internal (Some p) s g h f = part_of e p f
+-- the table's parts are for the component's variables, and short, since the trees are small
+module _ (m : Member) (c : MemberCode) (fine : IsFine component_limits m) (same_types : c.start.table ≡ m.instance.types) where
+  part_of : (e : EntryCode) (k : PartKind) (end : List ℕ) (p : Part) → IsFor p m.instance.types k end c.start.types (position_types e.positions) → length p.code.instrs ≤ component_limits.nodes → IsPartOf c e k end p
+  part_of e k end p h short = record {
+    verified = h.verified;
+    types = h.types_are ∙ sym same_types;
+    kind = h.kind;
+    result = h.result;
+    slots = h.slots;
+    args = h.args;
+    short = omega arith;
+  }
+
+  guard_part : (e : EntryCode) (p : Part) (s : Scope) (g : Option Expr) → guard_nodes g ≤ component_limits.nodes → IsGuard p.code s g → IsFor p m.instance.types Pre (0 ∷ []) c.start.types (position_types e.positions) → IsPartOf c e Pre (0 ∷ []) p
+  guard_part e p s g few h f = part_of e Pre (0 ∷ []) p f (omega (arith, guard_short p.code s g 0 (length p.code.instrs) h.has))
+
+  has_pre : (e : EntryCode) (k : Kind) (o : Option Part) (s : Scope) (g : Option Expr) → guard_nodes g ≤ component_limits.nodes → IsGuardFor k (codes_of o) s g → IfSome o (λ p. IsFor p m.instance.types Pre (0 ∷ []) c.start.types (position_types e.positions)) → HasPre c e k o
+  has_pre e Input None s g few h f = tt
+  has_pre e Input (Some p) s g few h f = absurd h
+  has_pre e Output None s g few h f = absurd h
+  has_pre e Output (Some p) s g few h f = guard_part e p s g few h f
+  has_pre e Internal None s g few h f = absurd h
+  has_pre e Internal (Some p) s g few h f = guard_part e p s g few h f
 
   one_table : (o : Option Part) (k : Listing) → IfSome (codes_of o) (λ g. g.consts ≡ k.consts) → IfSome o (λ p. p.code.consts ≡ k.consts)
   one_table None k h = tt
   one_table (Some p) k h = h
 
-  is_entry : (t : EntryTree) (e : EntryCode) → IsTranslated m c.start.types t e → IsEntry c e
-  is_entry t e h = record {
-    pre = subst (λ k. HasPre c e k e.pre) (sym h.kind) (has_pre e t.kind e.pre (scope_of m t) h.transition.0.pre h.transition.2.pre h.pre);
-    effect = record { verified = h.effect.verified; kind = h.effect.kind; result = h.effect.result; slots = h.effect.slots; args = h.effect.args };
-    consts = one_table e.pre e.effect.code h.transition.2.consts;
-  }
+  is_entry : (t : EntryTree) (e : EntryCode) → IsEntryOf m t → IsTranslated m c.start.types t e → IsEntry c e
+  is_entry t e own h =
+      let r = h.transition.0 in
+      let few = small_of m t fine own r h.transition.1 in
+      let made = h.transition.2 in
+      let code = e.effect.code in
+      let positions = few_positions_of m t fine own in
+      let as_many = positions_long m.instance.types t.positions e.positions h.positions in
+      record {
+        legal = subst IsName (sym h.name) (all_item (λ u. IsName u.name) m.instance.automaton.entries own.place t fine.legal_entries own.here);
+        few_positions = omega arith;
+        positions = subst (λ l. AreDeclared l (position_types e.positions)) (sym same_types) (types_declared m.instance.types (position_fields t.positions) (position_types e.positions) h.positions);
+        pre = subst (λ k. HasPre c e k e.pre) (sym h.kind) (has_pre e t.kind e.pre (scope_of m t) r.pre few.guard made.pre h.pre);
+        effect = part_of e Eff [] e.effect h.effect (omega (arith, few.effect, stmts_short code (scope_of m t) r.effect 0 (length code.instrs) made.effect.has));
+        consts = one_table e.pre code made.consts;
+        few_consts = omega (arith, few.guard, few.effect, made.few);
+      }
 
-  pub are_entries : (ts : List EntryTree) (es : List EntryCode) → AllZip (IsTranslated m c.start.types) ts es → AreEntries c es
-  are_entries [] [] h = tt
-  are_entries [] (e ∷ es) h = absurd h
-  are_entries (t ∷ ts) [] h = absurd h
-  are_entries (t ∷ ts) (e ∷ es) h = (is_entry t e h.0, are_entries ts es h.1)
+  are_entries : (ts : List EntryTree) (es : List EntryCode) → ((i : ℕ) (t : EntryTree) → slice_get ts i ≡ Some t → IsEntryOf m t) → AllZip (IsTranslated m c.start.types) ts es → AreEntries c es
+  are_entries [] [] own h = tt
+  are_entries [] (e ∷ es) own h = absurd h
+  are_entries (t ∷ ts) [] own h = absurd h
+  are_entries (t ∷ ts) (e ∷ es) own h = (is_entry t e (own 0 t refl) h.0, are_entries ts es (λ i u k. own (suc i) u k) h.1)
+
+  pub is_member : c.name ≡ m.name → AreTypesOf m.instance.types (variable_fields m.instance.automaton) c.start.types → HaveTypes m.instance.types c.start.values c.start.types → AllZip (IsTranslated m c.start.types) m.instance.automaton.entries c.entries → IsMember m.instance.types c
+  is_member name types start all =
+      let a = m.instance.automaton in
+      let whole = fine_parts m.instance.types fine.automaton.0 a fine.automaton.1 in
+      let few = within_parts component_limits a fine.within in
+      let names : map (λ e. e.name) c.entries ≡ map (λ t. t.name) a.entries =
+      paired_map (IsTranslated m c.start.types) (λ t. t.name) (λ e. e.name) (λ t e h. h.name) a.entries c.entries all in
+      record {
+        legal = subst IsName (sym name) fine.legal;
+        types_are = same_types;
+        few_variables = omega (arith, types_long m.instance.types (variable_fields a) c.start.types types, ap length (variables_names a), length-map a.variables (λ v. v.field.name), few.variables);
+        typed = start;
+        few_entries = omega (arith, ap length names, length-map c.entries (λ e. e.name), length-map a.entries (λ t. t.name), few.entries);
+        names = ap distinct names ∙ whole.entry_names;
+        entries = are_entries a.entries c.entries (λ i t k. record { place = i; here = k }) all;
+      }
 
 -- ---- all components
 
-pub fine_at : (xs : List held.Member) (i : ℕ) (x : held.Member) → AllFine (map member_of xs) → i < length xs → x ≡ get_or xs i x → IsFine (member_of x)
+pub fine_at : (xs : List held.Member) (i : ℕ) (x : held.Member) → AllFine component_limits (map member_of xs) → i < length xs → x ≡ get_or xs i x → IsFine component_limits (member_of x)
 fine_at [] i x h lt e = absurd (omega arith)
-fine_at (y ∷ ys) zero x h lt e = subst (λ z. IsFine (member_of z)) (sym e) h.0
+fine_at (y ∷ ys) zero x h lt e = subst (λ z. IsFine component_limits (member_of z)) (sym e) h.0
 fine_at (y ∷ ys) (suc i) x h lt e = fine_at ys i x h.1 (omega arith) e
 
 zip_back : {X Y : Type 0} (R : X → Y → Type 0) (xs : List X) (ys : List Y) (i : ℕ) (y : Y) → AllZip R xs ys → slice_get ys i ≡ Some y → (x : X) × (slice_get xs i ≡ Some x) × R x y
@@ -141,8 +196,31 @@ module _ (ms : List Member) (cs : List MemberCode) (h : AllZip DoesSame ms cs) w
       let both = k i j _ _ a ne x.1 y.1 in
       (λ internal. sym (y.2 a) ∙ both.0 (x.2 a ∙ internal), λ out other. both.1 (x.2 a ∙ out) (y.2 a ∙ other))
 
-pub are_members : (ms : List Member) (cs : List MemberCode) → AllZip DoesSame ms cs → AreMembers cs
-are_members [] [] h = tt
-are_members [] (c ∷ cs) h = absurd h
-are_members (m ∷ ms) [] h = absurd h
-are_members (m ∷ ms) (c ∷ cs) h = ((h.0.entries, h.0.typed), are_members ms cs h.1)
+are_members : (types : Table) (ms : List Member) (cs : List MemberCode) → AreOver types ms → AllZip DoesSame ms cs → AreMembers types cs
+are_members types [] [] o h = tt
+are_members types [] (c ∷ cs) o h = absurd h
+are_members types (m ∷ ms) [] o h = absurd h
+are_members types (m ∷ ms) (c ∷ cs) o h = (subst (λ t. IsMember t c) o.0 h.0.sound, are_members types ms cs o.1 h.1)
+
+-- the program of a composition keeps what programs keep
+pub is_program : (c : Composed) (p : Prog) → IsSound c → p.name ≡ c.name → p.types ≡ c.types → p.hidden ≡ c.hidden → AllZip DoesSame c.members p.members → IsProgram p
+is_program c p h name typed_so hides all =
+    let names : map (λ m. m.name) p.members ≡ map (λ m. m.name) c.members =
+    paired_map DoesSame (λ m. m.name) (λ m. m.name) (λ m n k. k.matches.name) c.members p.members all in
+    let labels : (x : Name) (e : EntryTree) (d : EntryCode) (m : Member) → MatchesEntry m e d → (is_output (Some d.kind) && bytes_eq d.name x) ≡ (is_output (Some e.kind) && bytes_eq e.name x) =
+    λ x e d m k. ap (λ l. is_output (Some l) && bytes_eq d.name x) k.kind ∙ ap (λ n. is_output (Some e.kind) && bytes_eq n x) k.name in
+    let outputs : (x : Name) → programs.is_output_of p x ≡ is_output_of c x =
+    λ x. paired_any DoesSame (λ m. list_any (λ e. is_output (Some e.kind) && bytes_eq e.name x) m.instance.automaton.entries) (λ m. list_any (λ e. is_output (Some e.kind) && bytes_eq e.name x) m.entries)
+    (λ m n k. paired_any (MatchesEntry m) (λ e. is_output (Some e.kind) && bytes_eq e.name x) (λ e. is_output (Some e.kind) && bytes_eq e.name x) (λ e d j. labels x e d m j) m.instance.automaton.entries n.entries k.matches.entries)
+    c.members p.members all in
+    record {
+      types = subst AreTypes (sym typed_so) h.types;
+      legal = subst IsName (sym name) h.legal;
+      few_members = omega (arith, ap length names, length-map p.members (λ m. m.name), length-map c.members (λ m. m.name), h.few);
+      names = ap distinct names ∙ h.names;
+      members = subst (λ t. AreMembers t p.members) (sym typed_so) (are_members c.types c.members p.members h.over all);
+      compatible = compatible_same c.members p.members all h.compatible;
+      few_hidden = subst (λ ns. length ns ≤ most_hidden) (sym hides) h.few_hidden;
+      hidden = ap distinct hides ∙ h.hidden;
+      outputs = all_same (programs.is_output_of p) (is_output_of c) outputs p.hidden ∙ ap (list_all (is_output_of c)) hides ∙ h.outputs;
+    }

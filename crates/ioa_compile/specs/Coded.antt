@@ -2,6 +2,8 @@
 use Rattle.std.specs.Prelude.{◌≡◌, ℕ, List, Option, refl}
 use Rattle.std.specs.Coded.{Coded, code_by, coded×, coded_ℕ, coded_list, coded_option}
 use Rattle.ioa_value.specs.Actions.{Name}
+use Rattle.ioa_value.specs.Table.{Table}
+use Rattle.ioa_value.specs.Coded.{coded_table}
 use Rattle.ioa_code.specs.Coded.{coded_part}
 use Rattle.ioa_code.specs.Valid.{Part}
 use Rattle.ioa_node.specs.Coded.{coded_node}
@@ -34,4 +36,4 @@ coded_member =
 
 abbrev pub coded_prog : Coded Prog
 coded_prog =
-    code_by (Name × (List MemberCode × List Name)) (coded× coded_name (coded× (coded_list coded_member) (coded_list coded_name))) (λ p. (p.name, (p.members, p.hidden))) (λ p. record { name = p.0; members = p.1.0; hidden = p.1.1 }) (λ _. refl)
+    code_by (Table × (Name × (List MemberCode × List Name))) (coded× coded_table (coded× coded_name (coded× (coded_list coded_member) (coded_list coded_name)))) (λ p. (p.types, (p.name, (p.members, p.hidden)))) (λ p. record { types = p.0; name = p.1.0; members = p.1.1.0; hidden = p.1.1.1 }) (λ _. refl)

@@ -1,10 +1,9 @@
 -- What a step of the compiler adds to the code.
 use Rattle.std.specs.Prelude.{◌≡◌, ℕ, ◌+◌, ◌≤◌, List, length, map, sum, Option, Some, None, slice_get}
 use Rattle.ioa_value.specs.Plain.{Val}
-use Rattle.ioa_value.specs.Typing.{basic_types}
+use Rattle.ioa_value.specs.Typing.{OwnTypes}
 use Rattle.ioa_code.specs.declared.instr.Instr.{Instr}
 use Rattle.ioa_code.specs.Machine.{Listing}
-use Rattle.ioa_code.specs.Valid.{OwnTypes}
 use Rattle.ioa_syntax.specs.Tree.{Expr, Stmt}
 use Rattle.ioa_syntax.specs.WellFormed.{nodes, stmt_nodes}
 use Rattle.ioa_compile.specs.Scopes.{Scope}
@@ -14,7 +13,8 @@ use Rattle.ioa_compile.specs.Placed.{At, Pushes, HasExpr, HasGuard, HasStmt, Has
 pub record Keeps (old new : Listing) : Type 0 where
   pub instr : (p : ℕ) (i : Instr) → At old p i → At new p i
   pub const : (k : ℕ) (v : Val) → slice_get old.consts k ≡ Some v → slice_get new.consts k ≡ Some v
-  pub typed : OwnTypes basic_types old.consts → OwnTypes basic_types new.consts
+  pub types : new.types ≡ old.types
+  pub typed : OwnTypes old.types old.consts → OwnTypes new.types new.consts
 
 -- code that stands from the old end to the new one, with at most so many new constants
 pub record Adds (old new : Listing) (n : ℕ) (Has : Listing → ℕ → ℕ → Type 0) : Type 0 where

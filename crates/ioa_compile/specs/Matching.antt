@@ -2,10 +2,11 @@
 use Rattle.std.specs.Prelude.{◌≡◌, ℕ, List, Some, IfSome}
 use Rattle.std.specs.List.{AllZip}
 use Rattle.ioa_value.specs.Plain.{Val}
-use Rattle.ioa_value.specs.Typing.{HaveTypes, basic_types}
+use Rattle.ioa_value.specs.Table.{Table, type_named}
+use Rattle.ioa_value.specs.Typing.{HaveTypes}
 use Rattle.ioa_syntax.specs.Tree.{FieldTree, EntryTree, TransitionTree}
 use Rattle.ioa_syntax.specs.Meaning.{Env, eff}
-use Rattle.ioa_syntax.specs.Instances.{type_named, basic_table, transition_for, environment}
+use Rattle.ioa_syntax.specs.Instances.{transition_for, environment}
 use Rattle.ioa_syntax.specs.WellFormed.{position_fields, variable_fields}
 use Rattle.ioa_syntax.specs.Compositions.{Member}
 use Rattle.ioa_compile.specs.CodeEnds.{required, GuardEnds, EffectEnds}
@@ -14,25 +15,26 @@ use Rattle.ioa_compile.specs.Programs.{EntryCode, MemberCode}
 use Rattle.ioa_compile.specs.Tables.{position_types}
 
 -- the field's type has this number
-abbrev pub IsTypeOf : FieldTree → ℕ → Type 0
-IsTypeOf f n = type_named basic_table f.ty ≡ Some n
+abbrev pub IsTypeOf : Table → FieldTree → ℕ → Type 0
+IsTypeOf types f n = type_named types f.ty ≡ Some n
 
-abbrev pub AreTypesOf : List FieldTree → List ℕ → Type 0
-AreTypesOf fs ns = AllZip IsTypeOf fs ns
+abbrev pub AreTypesOf : Table → List FieldTree → List ℕ → Type 0
+AreTypesOf types fs ns = AllZip (IsTypeOf types) fs ns
 
 -- The entry of the table has the kind, the name and the positions of the automaton's. On corresponding variables, and
--- values of the positions' types, its code ends as the entry's transition says.
+-- values of the positions' types, its parts end as the entry's transition says.
 pub record MatchesEntry (m : Member) (e : EntryTree) (c : EntryCode) : Type 0 where
   pub kind : c.kind ≡ e.kind
   pub name : c.name ≡ e.name
-  pub positions : AreTypesOf (position_fields e.positions) (position_types c.positions)
+  pub positions : AreTypesOf m.instance.types (position_fields e.positions) (position_types c.positions)
   pub transition : TransitionTree
   pub found : transition_for m.instance.automaton e ≡ Some transition
-  pub guard : IfSome c.pre (λ p. (env : Env) (slots args : List Val) → Corresponds m.instance.automaton env slots → HaveTypes basic_types args (position_types c.positions) → GuardEnds p.code slots args (required transition.pre (environment m.instance e args env)))
-  pub effect : (env : Env) (slots args : List Val) → Corresponds m.instance.automaton env slots → HaveTypes basic_types args (position_types c.positions) → EffectEnds m.instance.automaton c.effect.code slots args (eff transition.effect (environment m.instance e args env))
+  pub guard : IfSome c.pre (λ p. (env : Env) (slots args : List Val) → Corresponds m.instance env slots → HaveTypes m.instance.types args (position_types c.positions) → GuardEnds p slots args (required m.instance.types transition.pre (environment m.instance e args env)))
+  pub effect : (env : Env) (slots args : List Val) → Corresponds m.instance env slots → HaveTypes m.instance.types args (position_types c.positions) → EffectEnds m.instance c.effect slots args (eff m.instance.types transition.effect (environment m.instance e args env))
 
--- the component of the table has the name, the types of variables and the entries of the composition's
+-- the component of the table has the name, the types, the types of variables and the entries of the composition's
 pub record MatchesMember (m : Member) (c : MemberCode) : Type 0 where
   pub name : c.name ≡ m.name
-  pub variables : AreTypesOf (variable_fields m.instance.automaton) c.start.types
+  pub types : c.start.table ≡ m.instance.types
+  pub variables : AreTypesOf m.instance.types (variable_fields m.instance.automaton) c.start.types
   pub entries : AllZip (MatchesEntry m) m.instance.automaton.entries c.entries

@@ -8,9 +8,10 @@ use Rattle.ioa_compile.specs.Matching.{MatchesMember}
 use Rattle.ioa_compile.specs.Programs.{Prog}
 use Rattle.ioa_compile.specs.Tables.{tabled, start_states}
 
--- the program has the composition's name, components and hidden names; its components do the same on corresponding
+-- the program has the composition's types, name, components and hidden names; its components do the same on corresponding
 -- states, and start in them
 pub record Means (p : Prog) (c : Composed) : Type 0 where
+  pub types : p.types ≡ c.types
   pub name : p.name ≡ c.name
   pub tables : AllZip MatchesMember c.members p.members
   pub hidden : p.hidden ≡ c.hidden

@@ -6,8 +6,7 @@ use Rattle.ioa_code.specs.declared.instr.Instr.{Instr}
 use Rattle.ioa_code.specs.declared.instr.Instr.TheVariants.{Const, Slot, Arg, Store, Apply}
 use Rattle.ioa_code.specs.Machine.{Listing}
 use Rattle.ioa_syntax.specs.Tree.{Expr, number, truth, named, parens, binary, Stmt, assign}
-use Rattle.ioa_syntax.specs.Meaning.{op_of}
-use Rattle.ioa_syntax.specs.Instances.{place_from}
+use Rattle.ioa_value.specs.Table.{place_from}
 use Rattle.ioa_compile.specs.Scopes.{Scope, Origin, slot, formal, parameter, unknown, origin}
 
 -- the instruction stands at this place
@@ -32,7 +31,7 @@ HasExpr code s (truth b) p q = Pushes code p (plain.truth b) × (q ≡ p + 1)
 HasExpr code s (named x) p q = Brings code s p (origin s x) × (q ≡ p + 1)
 HasExpr code s (parens e) p q = HasExpr code s e p q
 HasExpr code s (binary l o r) p q =
-    (m : ℕ) × (n : ℕ) × HasExpr code s l p m × HasExpr code s r m n × At code n (Apply (op_of o)) × (q ≡ n + 1)
+    (m : ℕ) × (n : ℕ) × HasExpr code s l p m × HasExpr code s r m n × At code n (Apply o) × (q ≡ n + 1)
 
 -- an omitted precondition is the constant true
 abbrev pub HasGuard : Listing → Scope → Option Expr → ℕ → ℕ → Type 0

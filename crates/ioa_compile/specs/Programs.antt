@@ -1,6 +1,7 @@
 -- Programs: what an object of a composition says, and no more. No tree is in them.
 use Rattle.std.specs.Prelude.{ℕ, List, Option}
 use Rattle.ioa_value.specs.Actions.{Name}
+use Rattle.ioa_value.specs.Table.{Table}
 use Rattle.ioa_code.specs.Valid.{Part}
 use Rattle.ioa_node.specs.Nodes.{Node}
 use Rattle.ioa_syntax.specs.declared.tree.Kind.{Kind}
@@ -23,7 +24,9 @@ pub record MemberCode : Type 0 where
   pub start : Node
   pub entries : List EntryCode
 
+-- the declared types, the composition's name, its components in order, and the names that are hidden
 pub record Prog : Type 0 where
+  pub types : Table
   pub name : Name
   pub members : List MemberCode
   pub hidden : List Name

@@ -4,15 +4,16 @@ use Rattle.std.specs.Option.{option_map_or}
 use Rattle.ioa_value.specs.Actions.{Name}
 use Rattle.ioa_value.specs.Arithmetic.{fits}
 use Rattle.ioa_value.specs.Plain.{Val}
-use Rattle.ioa_value.specs.Typing.{basic_types}
-use Rattle.ioa_code.specs.Valid.{OwnTypes}
+use Rattle.ioa_value.specs.Table.{Table, place_from}
+use Rattle.ioa_value.specs.Typing.{OwnTypes}
 use Rattle.ioa_syntax.specs.Tree.{Expr, number, truth, named, parens, binary, Stmt, assign, EntryTree}
-use Rattle.ioa_syntax.specs.Instances.{place_from, field_names, variable_names, position_name}
+use Rattle.ioa_syntax.specs.Instances.{field_names, variable_names, position_name}
 use Rattle.ioa_syntax.specs.Compositions.{Member}
 use Rattle.ioa_syntax.specs.declared.tree.Entry as tree
 use Rattle.ioa_syntax.specs.View.{entry_of}
 use Rattle.ioa_compose.specs.declared.member.Member as held
 use Rattle.ioa_compose.specs.Held.{member_of}
+use Rattle.ioa_compose.specs.Fine.{component_limits}
 
 -- the names that an entry's code may use: variables, formals with their values, and the entry's parameters
 pub record Scope : Type 0 where
@@ -47,8 +48,10 @@ origin s x =
     (option_map_or parameter (place_from 0 s.parameters x) unknown))
 
 abbrev pub IsOrigin : Origin → Type 0
+IsOrigin (slot i) = Unit {0}
+IsOrigin (formal i) = Unit {0}
+IsOrigin (parameter i) = Unit {0}
 IsOrigin unknown = ⊥
-IsOrigin _ = Unit {0}
 
 -- each name is one of the scope's, and each number fits
 abbrev pub IsKnown : Scope → Expr → Type 0
@@ -59,11 +62,11 @@ IsKnown s (parens e) = IsKnown s e
 IsKnown s (binary l o r) = IsKnown s l × IsKnown s r
 
 -- what scopes of well-formed automata keep
-pub record IsScope (s : Scope) : Type 0 where
-  pub variables : length s.variables ≤ 64
-  pub parameters : length s.parameters ≤ 8
+pub record IsScope (types : Table) (s : Scope) : Type 0 where
+  pub variables : length s.variables ≤ component_limits.variables
+  pub parameters : length s.parameters ≤ component_limits.parameters
   pub given : length s.formals ≡ length s.arguments
-  pub typed : OwnTypes basic_types s.arguments
+  pub typed : OwnTypes types s.arguments
 
 -- an assignment is to a variable
 abbrev pub IsKnownStmt : Scope → Stmt → Type 0

@@ -1,38 +1,42 @@
 -- What a program's table does: the components that its composition's step is made of.
-use Rattle.std.specs.Prelude.{◌≡◌, ℕ, Bool, true, false, ◌&&◌, List, [], ◌∷◌, map, find, Option, Some, None, IfSome, Result, Ok}
+use Rattle.std.specs.Prelude.{◌≡◌, ◌<◌, ◌≤◌, All, IsTrue, length, ℕ, Bool, true, false, ◌&&◌, List, [], ◌∷◌, map, find, Option, Some, None, IfSome, Result, Ok}
+use Rattle.std.specs.List.{list_any, list_all}
 use Rattle.std.specs.Option.{option_map, option_map_or}
 use Rattle.std.specs.Str.{bytes_eq}
 use Rattle.ioa_value.specs.declared.arithmetic.Fault.{Fault}
-use Rattle.ioa_value.specs.Actions.{Act}
+use Rattle.ioa_value.specs.Actions.{Name, Act}
+use Rattle.ioa_value.specs.Names.{IsName}
 use Rattle.ioa_value.specs.Plain.{Val}
-use Rattle.ioa_value.specs.Typing.{basic_types, HaveTypes}
-use Rattle.ioa_value.specs.Tests.{is_of}
+use Rattle.ioa_value.specs.Table.{Table, AreTypes}
+use Rattle.ioa_value.specs.Typing.{HaveTypes, is_of}
 use Rattle.ioa_code.specs.declared.instr.PartKind.{PartKind}
 use Rattle.ioa_code.specs.declared.instr.PartKind.TheVariants.{Pre, Eff}
 use Rattle.ioa_code.specs.Parts.{IsVerified}
 use Rattle.ioa_code.specs.Valid.{Part}
 use Rattle.ioa_node.specs.Runs.{guard_of, effect_of}
 use Rattle.ioa_syntax.specs.declared.tree.Kind.{Kind}
-use Rattle.ioa_syntax.specs.declared.tree.Kind.TheVariants.{Input}
-use Rattle.ioa_syntax.specs.Components.{Component, Compatible}
+use Rattle.ioa_syntax.specs.declared.tree.Kind.TheVariants.{Input, Output, Internal}
+use Rattle.ioa_syntax.specs.Components.{Component, Compatible, is_output}
+use Rattle.ioa_syntax.specs.WellFormed.{distinct}
+use Rattle.ioa_compose.specs.Fine.{component_limits, most_hidden}
 use Rattle.ioa_compile.specs.Programs.{PositionCode, typed, EntryCode, MemberCode, Prog}
 
-abbrev pub position_holds : PositionCode → Val → Bool
-position_holds (typed ty) v = is_of basic_types v ty
+abbrev pub position_holds : Table → PositionCode → Val → Bool
+position_holds types (typed ty) v = is_of types v ty
 
-abbrev pub positions_hold : List PositionCode → List Val → Bool
-positions_hold [] [] = true
-positions_hold [] (v ∷ vs) = false
-positions_hold (p ∷ ps) [] = false
-positions_hold (p ∷ ps) (v ∷ vs) = position_holds p v && positions_hold ps vs
+abbrev pub positions_hold : Table → List PositionCode → List Val → Bool
+positions_hold types [] [] = true
+positions_hold types [] (v ∷ vs) = false
+positions_hold types (p ∷ ps) [] = false
+positions_hold types (p ∷ ps) (v ∷ vs) = position_holds types p v && positions_hold types ps vs
 
 -- the action is in the entry
-abbrev pub is_in : Act → EntryCode → Bool
-is_in a e = bytes_eq e.name a.name && positions_hold e.positions a.vals
+abbrev pub is_in : Table → Act → EntryCode → Bool
+is_in types a e = bytes_eq e.name a.name && positions_hold types e.positions a.vals
 
 -- the entry that has the action
 abbrev pub entry_of : MemberCode → Act → Option EntryCode
-entry_of m a = find (is_in a) m.entries
+entry_of m a = find (is_in m.start.table a) m.entries
 
 -- an entry without code for a precondition asks for nothing
 abbrev pub allows : Option Part → List Val → List Val → Result Bool Fault
@@ -59,37 +63,76 @@ abbrev pub position_types : List PositionCode → List ℕ
 position_types [] = []
 position_types (typed ty ∷ ps) = ty ∷ position_types ps
 
--- the part is verified code of this kind, over the component's variables and the entry's values, and ends with values of
--- these types on the stack
+-- the places of a part's instructions, and of an entry's constants, fit 16 bits
+abbrev pub most_places : ℕ
+most_places = 65535
+
+-- each of these is one of the declared types
+abbrev pub AreDeclared : Table → List ℕ → Type 0
+AreDeclared types tys = All (λ ty. ty < length types) tys
+
+-- the part is verified code of this kind, over the component's types and variables and the entry's values, and ends with
+-- values of these types on the stack
 pub record IsPartOf (m : MemberCode) (e : EntryCode) (k : PartKind) (end : List ℕ) (part : Part) : Type 0 where
   pub verified : IsVerified part
+  pub types : part.code.types ≡ m.start.table
   pub kind : part.kind ≡ k
   pub result : part.result ≡ end
   pub slots : part.slots ≡ m.start.types
   pub args : part.args ≡ position_types e.positions
+  pub short : length part.code.instrs ≤ most_places
 
 -- an input has no precondition; any other entry has one, which ends with one truth value
 abbrev pub HasPre : MemberCode → EntryCode → Kind → Option Part → Type 0
 HasPre m e Input None = Unit {0}
 HasPre m e Input (Some part) = ⊥
-HasPre m e k None = ⊥
-HasPre m e k (Some part) = IsPartOf m e Pre (0 ∷ []) part
+HasPre m e Output None = ⊥
+HasPre m e Output (Some part) = IsPartOf m e Pre (0 ∷ []) part
+HasPre m e Internal None = ⊥
+HasPre m e Internal (Some part) = IsPartOf m e Pre (0 ∷ []) part
 
--- an effect ends with nothing; the parts of an entry carry one table of constants
+-- the name is legal, and the positions are of declared types; an effect ends with nothing; the parts of an entry carry one
+-- table of constants
 pub record IsEntry (m : MemberCode) (e : EntryCode) : Type 0 where
+  pub legal : IsName e.name
+  pub few_positions : length e.positions ≤ component_limits.parameters
+  pub positions : AreDeclared m.start.table (position_types e.positions)
   pub pre : HasPre m e e.kind e.pre
   pub effect : IsPartOf m e Eff [] e.effect
   pub consts : IfSome e.pre (λ part. part.code.consts ≡ e.effect.code.consts)
+  pub few_consts : length e.effect.code.consts ≤ most_places
 
 abbrev pub AreEntries : MemberCode → List EntryCode → Type 0
 AreEntries m [] = Unit {0}
 AreEntries m (e ∷ es) = IsEntry m e × AreEntries m es
 
-abbrev pub AreMembers : List MemberCode → Type 0
-AreMembers [] = Unit {0}
-AreMembers (m ∷ ms) = (AreEntries m m.entries × HaveTypes basic_types m.start.values m.start.types) × AreMembers ms
+-- the component's name is legal, it has these types, its variables start with values of theirs, and its entries have different names
+pub record IsMember (types : Table) (m : MemberCode) : Type 0 where
+  pub legal : IsName m.name
+  pub types_are : m.start.table ≡ types
+  pub few_variables : length m.start.types ≤ component_limits.variables
+  pub typed : HaveTypes types m.start.values m.start.types
+  pub few_entries : length m.entries ≤ component_limits.entries
+  pub names : IsTrue (distinct (map (λ e. e.name) m.entries))
+  pub entries : AreEntries m m.entries
 
--- what a program keeps
+abbrev pub AreMembers : Table → List MemberCode → Type 0
+AreMembers types [] = Unit {0}
+AreMembers types (m ∷ ms) = IsMember types m × AreMembers types ms
+
+-- an output of one of the components has this name
+abbrev pub is_output_of : Prog → Name → Bool
+is_output_of p x = list_any (λ m. list_any (λ e. is_output (Some e.kind) && bytes_eq e.name x) m.entries) p.members
+
+-- what a program keeps: its name is legal, the components have one table of types and different names and are compatible, and the hidden names
+-- are different outputs'
 pub record IsProgram (p : Prog) : Type 0 where
-  pub members : AreMembers p.members
+  pub types : AreTypes p.types
+  pub legal : IsName p.name
+  pub few_members : length p.members ≤ component_limits.components
+  pub names : IsTrue (distinct (map (λ m. m.name) p.members))
+  pub members : AreMembers p.types p.members
   pub compatible : Compatible (tabled p)
+  pub few_hidden : length p.hidden ≤ most_hidden
+  pub hidden : IsTrue (distinct p.hidden)
+  pub outputs : IsTrue (list_all (is_output_of p) p.hidden)

@@ -1,22 +1,24 @@
 -- What the compiler makes of an entry and of a component.
-use Rattle.std.specs.Prelude.{◌≡◌, ℕ, List, [], ◌∷◌, length, Option, Some, None, IfSome, slice_get}
-use Rattle.ioa_value.specs.Typing.{HaveTypes, basic_types}
+use Rattle.std.specs.Prelude.{◌≡◌, ◌≤◌, ◌+◌, ℕ, List, [], ◌∷◌, length, map, sum, Option, Some, None, IfSome, slice_get}
+use Rattle.ioa_value.specs.Table.{Table}
+use Rattle.ioa_value.specs.Typing.{OwnTypes}
 use Rattle.ioa_code.specs.declared.instr.PartKind.{PartKind}
 use Rattle.ioa_code.specs.declared.instr.PartKind.TheVariants.{Pre, Eff}
 use Rattle.ioa_code.specs.Machine.{Listing}
 use Rattle.ioa_code.specs.Parts.{IsVerified}
-use Rattle.ioa_code.specs.Valid.{Part, OwnTypes}
+use Rattle.ioa_code.specs.Valid.{Part}
 use Rattle.ioa_syntax.specs.declared.tree.Kind.{Kind}
 use Rattle.ioa_syntax.specs.declared.tree.Kind.TheVariants.{Input, Output, Internal}
 use Rattle.ioa_syntax.specs.Tree.{Expr, Stmt, FieldTree, PositionTree, typed, EntryTree, TransitionTree}
 use Rattle.ioa_syntax.specs.Instances.{transition_for, component_of, state_of}
-use Rattle.ioa_syntax.specs.WellFormed.{position_fields}
+use Rattle.ioa_syntax.specs.WellFormed.{position_fields, stmt_nodes}
 use Rattle.ioa_syntax.specs.Compositions.{Member}
 use Rattle.ioa_compile.specs.Matching.{AreTypesOf, MatchesMember}
 use Rattle.ioa_compile.specs.Correspondence.{Corresponds}
 use Rattle.ioa_syntax.specs.Likes.{IsLike}
 use Rattle.ioa_compile.specs.Programs.{EntryCode, MemberCode}
-use Rattle.ioa_compile.specs.Tables.{AreEntries, table_component, position_types}
+use Rattle.ioa_compile.specs.Tables.{IsMember, table_component, position_types}
+use Rattle.ioa_compile.specs.Emitting.{guard_nodes}
 use Rattle.ioa_compile.specs.Scopes.{Scope, scope_of}
 use Rattle.ioa_compile.specs.Placed.{HasGuard, HasStmts}
 
@@ -26,12 +28,12 @@ position_field (typed f) = f
 -- the whole code is the precondition's
 pub record IsGuard (code : Listing) (s : Scope) (g : Option Expr) : Type 0 where
   pub has : HasGuard code s g 0 (length code.instrs)
-  pub typed : OwnTypes basic_types code.consts
+  pub typed : OwnTypes code.types code.consts
 
 -- the whole code is the statements'
 pub record IsEffect (code : Listing) (s : Scope) (ts : List Stmt) : Type 0 where
   pub has : HasStmts code s ts 0 (length code.instrs)
-  pub typed : OwnTypes basic_types code.consts
+  pub typed : OwnTypes code.types code.consts
 
 -- an input has no code for a precondition
 abbrev pub IsGuardFor : Kind → Option Listing → Scope → Option Expr → Type 0
@@ -42,14 +44,16 @@ IsGuardFor Output (Some code) s g = IsGuard code s g
 IsGuardFor Internal None s g = ⊥
 IsGuardFor Internal (Some code) s g = IsGuard code s g
 
--- the code of a transition: both parts carry one table of constants
+-- the code of a transition: both parts carry one table of constants, which has at most one for each node of the trees
 pub record IsTransition (m : Member) (e : EntryTree) (t : TransitionTree) (guard : Option Listing) (code : Listing) : Type 0 where
   pub pre : IsGuardFor e.kind guard (scope_of m e) t.pre
   pub effect : IsEffect code (scope_of m e) t.effect
   pub consts : IfSome guard (λ g. g.consts ≡ code.consts)
+  pub few : length code.consts ≤ guard_nodes t.pre + sum (map stmt_nodes t.effect)
 
--- the part is verified, for this kind and these types
-pub record IsFor (part : Part) (k : PartKind) (end variables values : List ℕ) : Type 0 where
+-- the part is verified, over the declared types, for this kind and these types
+pub record IsFor (part : Part) (types : Table) (k : PartKind) (end variables values : List ℕ) : Type 0 where
+  pub types_are : part.code.types ≡ types
   pub verified : IsVerified part
   pub kind : part.kind ≡ k
   pub result : part.result ≡ end
@@ -64,10 +68,10 @@ codes_of (Some p) = Some p.code
 pub record IsTranslated (m : Member) (slots : List ℕ) (e : EntryTree) (c : EntryCode) : Type 0 where
   pub kind : c.kind ≡ e.kind
   pub name : c.name ≡ e.name
-  pub positions : AreTypesOf (position_fields e.positions) (position_types c.positions)
+  pub positions : AreTypesOf m.instance.types (position_fields e.positions) (position_types c.positions)
   pub transition : (t : TransitionTree) × (transition_for m.instance.automaton e ≡ Some t) × IsTransition m e t (codes_of c.pre) c.effect.code
-  pub pre : IfSome c.pre (λ p. IsFor p Pre (0 ∷ []) slots (position_types c.positions))
-  pub effect : IsFor c.effect Eff [] slots (position_types c.positions)
+  pub pre : IfSome c.pre (λ p. IsFor p m.instance.types Pre (0 ∷ []) slots (position_types c.positions))
+  pub effect : IsFor c.effect m.instance.types Eff [] slots (position_types c.positions)
 
 -- the entry is one of the automaton's
 pub record IsEntryOf (m : Member) (e : EntryTree) : Type 0 where
@@ -77,7 +81,6 @@ pub record IsEntryOf (m : Member) (e : EntryTree) : Type 0 where
 -- the component of the table is made like the composition's, does the same, starts alike, and is sound
 pub record DoesSame (m : Member) (c : MemberCode) : Type 0 where
   pub matches : MatchesMember m c
-  pub like : IsLike (Corresponds m.instance.automaton) (component_of m.instance) (table_component c)
-  pub start : Corresponds m.instance.automaton (state_of m.instance.automaton m.starts) c.start.values
-  pub entries : AreEntries c c.entries
-  pub typed : HaveTypes basic_types c.start.values c.start.types
+  pub like : IsLike (Corresponds m.instance) (component_of m.instance) (table_component c)
+  pub start : Corresponds m.instance (state_of m.instance.automaton m.starts) c.start.values
+  pub sound : IsMember m.instance.types c

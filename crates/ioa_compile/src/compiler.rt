@@ -1,8 +1,7 @@
 ghost use Rattle.std.specs.Prelude.{◌≡◌, map, IfOk};
 ghost use Rattle.std.specs.List.{AllZip};
 ghost use Rattle.std.specs.String.{string_bytes};
-ghost use Rattle.ioa_value.specs.Typing.{basic_types};
-ghost use Rattle.ioa_compose.specs.Fine.{IsFine, AllFine};
+ghost use Rattle.ioa_compose.specs.Fine.{IsFine, AllFine, component_limits};
 ghost use Rattle.ioa_compose.specs.Held.{composed_of, member_of};
 ghost use Rattle.ioa_compile.specs.Means.{Means};
 ghost use Rattle.ioa_compile.specs.Shown.{member_code};
@@ -14,48 +13,42 @@ use crate::table::Member;
 use crate::types::variable_types;
 use ioa_compose::{Composition, Member as MemberTree};
 use ioa_node::from_values;
-use ioa_value::{OutOfMemory, Types};
+use ioa_value::OutOfMemory;
 use std::alloc::Global;
 
 /// The program that means the composition. It refuses nothing but for want of memory.
 pub fn compile(alloc: Global, composition: &Composition) -> Result<Program, OutOfMemory>
     ensures { IfOk result (λ p. Means p (composed_of composition.now)) }
 {
-    let types = Types::new(alloc)?;
-    let members = compile_members(alloc, &types, composition.members())?;
+    let types = composition.types().share()?;
+    let members = compile_members(alloc, composition.members())?;
     let name = composition.name().to_string(alloc)?;
     let hidden = names(alloc, composition.hidden())?;
-    Ok(Program::new(name, members, hidden))
+    Ok(Program::new(types, name, members, hidden))
 }
 
 /// The components, compiled, in order.
-fn compile_members(
-    alloc: Global,
-    types: &Types,
-    members: &[MemberTree],
-) -> Result<Vec<Member>, OutOfMemory>
-    requires fine { AllFine (map member_of members.now) }
-    requires types { types.now ≡ basic_types }
+fn compile_members(alloc: Global, members: &[MemberTree]) -> Result<Vec<Member>, OutOfMemory>
+    requires { AllFine component_limits (map member_of members.now) }
     ensures { IfOk result (λ codes. AllZip DoesSame (map member_of members.now) (map member_code codes.items)) }
 {
     let mut codes = Vec::new(alloc);
     for member in members {
-        codes.push(compile_member(alloc, types, member)?)?;
+        codes.push(compile_member(alloc, member)?)?;
     }
     Ok(codes)
 }
 
 /// A component, compiled.
-fn compile_member(alloc: Global, types: &Types, member: &MemberTree) -> Result<Member, OutOfMemory>
-    requires fine { IsFine (member_of member.now) }
-    requires types { types.now ≡ basic_types }
+fn compile_member(alloc: Global, member: &MemberTree) -> Result<Member, OutOfMemory>
+    requires { IsFine component_limits (member_of member.now) }
     ensures { IfOk result (λ c. DoesSame (member_of member.now) (member_code c)) }
 {
-    let slots = variable_types(alloc, &member.automaton.variables)?;
+    let slots = variable_types(alloc, &member.types, &member.automaton.variables)?;
     Ok(Member {
         name: member.name.clone()?,
-        start: from_values(alloc, types, &slots, &member.starts)?,
-        entries: compile_entries(alloc, types, member, &slots)?,
+        start: from_values(alloc, &member.types, &slots, &member.starts)?,
+        entries: compile_entries(alloc, member, &slots)?,
     })
 }
 

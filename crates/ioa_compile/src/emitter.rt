@@ -1,12 +1,12 @@
+ghost use Rattle.ioa_value.specs.Table.{Table};
 ghost use Rattle.std.specs.Prelude.{◌≡◌, ◌+◌, ◌<◌, ◌^◌, length, map, sum, pos, IsTrue, OnOk, IsSome, Some};
 ghost use Rattle.std.specs.Option.{option_map};
 ghost use Rattle.std.specs.String.{string_bytes};
 ghost use Rattle.ioa_value.specs.Plain.{plain};
-ghost use Rattle.ioa_value.specs.Typing.{HasType, basic_types, own};
+ghost use Rattle.ioa_value.specs.Typing.{HasType, own};
 ghost use Rattle.ioa_code.specs.Parts.{listing};
 ghost use Rattle.ioa_syntax.specs.View.{name_of, expr_of, stmt_of, entry_of};
 ghost use Rattle.ioa_syntax.specs.Tree.{named, assign};
-ghost use Rattle.ioa_syntax.specs.Meaning.{op_of};
 ghost use Rattle.ioa_syntax.specs.WellFormed.{nodes, stmt_nodes};
 ghost use Rattle.ioa_compose.specs.Held.{member_of};
 ghost use Rattle.ioa_compile.specs.Scopes.{scope_in, IsScope, IsKnown, IsKnownStmt, AreKnown, IsKnownGuard, IsOrigin, origin};
@@ -15,8 +15,8 @@ ghost use Rattle.ioa_compile.specs.Emitting.{AddsInstr, AddsConst, AddsExpr, Add
 use crate::places::{field_place, position_place, variable_place};
 use ioa_code::{Code, Instr};
 use ioa_compose::Member;
-use ioa_syntax::{Entry, Expression, Name, Operator, Statement};
-use ioa_value::{Op, OutOfMemory, Value};
+use ioa_syntax::{Entry, Expression, Name, Statement};
+use ioa_value::{OutOfMemory, Value};
 use std::alloc::Global;
 
 /// The code of a precondition. An omitted one is the constant true.
@@ -27,10 +27,10 @@ pub(crate) fn emit_guard(
     entry: &Entry,
     guard: &Option<Expression>,
 ) -> Result<(), OutOfMemory>
-    requires scope { IsScope (scope_in member.now entry.now) }
+    requires scope { IsScope member.now.types (scope_in member.now entry.now) }
     requires known { IsKnownGuard (scope_in member.now entry.now) (option_map expr_of guard.now) }
     requires room { length out.old.consts.items + guard_nodes (option_map expr_of guard.now) < 2 ^ 16 }
-    ensures { OnOk result (AddsGuard (listing out.old) (listing out.new) (scope_in member.now entry.now) (option_map expr_of guard.now)) }
+    ensures { OnOk result (AddsGuard (listing member.now.types out.old) (listing member.now.types out.new) (scope_in member.now entry.now) (option_map expr_of guard.now)) }
 {
     match guard {
         Some(e) => emit_expression(alloc, out, member, entry, e),
@@ -46,10 +46,10 @@ pub(crate) fn emit_effect(
     entry: &Entry,
     statements: &[Statement],
 ) -> Result<(), OutOfMemory>
-    requires scope { IsScope (scope_in member.now entry.now) }
+    requires scope { IsScope member.now.types (scope_in member.now entry.now) }
     requires known { AreKnown (scope_in member.now entry.now) (map stmt_of statements.now) }
     requires room { length out.old.consts.items + sum (map stmt_nodes (map stmt_of statements.now)) < 2 ^ 16 }
-    ensures { OnOk result (AddsStmts (listing out.old) (listing out.new) (scope_in member.now entry.now) (map stmt_of statements.now)) }
+    ensures { OnOk result (AddsStmts (listing member.now.types out.old) (listing member.now.types out.new) (scope_in member.now entry.now) (map stmt_of statements.now)) }
 {
     for statement in statements {
         emit_statement(alloc, out, member, entry, statement)?;
@@ -65,10 +65,10 @@ fn emit_statement(
     entry: &Entry,
     statement: &Statement,
 ) -> Result<(), OutOfMemory>
-    requires scope { IsScope (scope_in member.now entry.now) }
+    requires scope { IsScope member.now.types (scope_in member.now entry.now) }
     requires known { IsKnownStmt (scope_in member.now entry.now) (stmt_of statement.now) }
     requires room { length out.old.consts.items + stmt_nodes (stmt_of statement.now) < 2 ^ 16 }
-    ensures { OnOk result (AddsStmt (listing out.old) (listing out.new) (scope_in member.now entry.now) (stmt_of statement.now)) }
+    ensures { OnOk result (AddsStmt (listing member.now.types out.old) (listing member.now.types out.new) (scope_in member.now entry.now) (stmt_of statement.now)) }
 {
     match statement {
         Statement::Assign(name, e) => emit_assignment(alloc, out, member, entry, name, e),
@@ -84,10 +84,10 @@ fn emit_assignment(
     name: &Name,
     e: &Expression,
 ) -> Result<(), OutOfMemory>
-    requires scope { IsScope (scope_in member.now entry.now) }
+    requires scope { IsScope member.now.types (scope_in member.now entry.now) }
     requires known { IsKnownStmt (scope_in member.now entry.now) (assign (name_of name.now) (expr_of e.now)) }
     requires room { length out.old.consts.items + nodes (expr_of e.now) + 1 < 2 ^ 16 }
-    ensures { OnOk result (AddsStmt (listing out.old) (listing out.new) (scope_in member.now entry.now) (assign (name_of name.now) (expr_of e.now))) }
+    ensures { OnOk result (AddsStmt (listing member.now.types out.old) (listing member.now.types out.new) (scope_in member.now entry.now) (assign (name_of name.now) (expr_of e.now))) }
 {
     emit_expression(alloc, out, member, entry, e)?;
     match variable_place(&member.automaton.variables, name) {
@@ -104,20 +104,20 @@ fn emit_expression(
     entry: &Entry,
     e: &Expression,
 ) -> Result<(), OutOfMemory>
-    requires scope { IsScope (scope_in member.now entry.now) }
+    requires scope { IsScope member.now.types (scope_in member.now entry.now) }
     requires known { IsKnown (scope_in member.now entry.now) (expr_of e.now) }
     requires room { length out.old.consts.items + nodes (expr_of e.now) < 2 ^ 16 }
-    ensures { OnOk result (AddsExpr (listing out.old) (listing out.new) (scope_in member.now entry.now) (expr_of e.now)) }
+    ensures { OnOk result (AddsExpr (listing member.now.types out.old) (listing member.now.types out.new) (scope_in member.now entry.now) (expr_of e.now)) }
 {
     match e {
         Expression::Number(n, _) => put_constant(out, Value::Num(*n as i64)),
         Expression::Truth(b, _) => put_constant(out, Value::Truth(*b)),
         Expression::Name(name) => emit_name(alloc, out, member, entry, name),
         Expression::Parentheses(inner, _) => emit_expression(alloc, out, member, entry, inner),
-        Expression::Binary(left, operator, right) => {
+        Expression::Binary(left, op, right) => {
             emit_expression(alloc, out, member, entry, left)?;
             emit_expression(alloc, out, member, entry, right)?;
-            put(out, Instr::Apply(applied(*operator)))
+            put(out, Instr::Apply(*op))
         }
     }
 }
@@ -130,10 +130,10 @@ fn emit_name(
     entry: &Entry,
     name: &Name,
 ) -> Result<(), OutOfMemory>
-    requires scope { IsScope (scope_in member.now entry.now) }
+    requires scope { IsScope member.now.types (scope_in member.now entry.now) }
     requires known { IsOrigin (origin (scope_in member.now entry.now) (name_of name.now)) }
     requires room { length out.old.consts.items + 1 < 2 ^ 16 }
-    ensures { OnOk result (AddsExpr (listing out.old) (listing out.new) (scope_in member.now entry.now) (named (name_of name.now))) }
+    ensures { OnOk result (AddsExpr (listing member.now.types out.old) (listing member.now.types out.new) (scope_in member.now entry.now) (named (name_of name.now))) }
 {
     if let Some(i) = variable_place(&member.automaton.variables, name) {
         return put(out, Instr::Slot(i as u16));
@@ -147,30 +147,18 @@ fn emit_name(
     }
 }
 
-/// The machine's operator.
-fn applied(operator: Operator) -> Op
-    ensures { result ≡ op_of operator }
-{
-    match operator {
-        Operator::Equal => Op::Eq,
-        Operator::Plus => Op::Add,
-        Operator::Minus => Op::Sub,
-    }
-}
-
-/// One instruction more.
+/// One instruction more, over any types.
 fn put(out: &mut Code, instr: Instr) -> Result<(), OutOfMemory>
-    ensures { OnOk result (AddsInstr (listing out.old) (listing out.new) instr) }
+    ensures { OnOk result ((types : Table) → AddsInstr (listing types out.old) (listing types out.new) instr) }
 {
     out.instrs.push(instr)?;
     Ok(())
 }
 
-/// One constant more, and the instruction that pushes it.
+/// One constant more, and the instruction that pushes it, over any types that the constant is of.
 fn put_constant(out: &mut Code, value: Value) -> Result<(), OutOfMemory>
-    requires room { length out.old.consts.items < 2 ^ 16 }
-    requires typed { HasType basic_types (plain value) (own (plain value)) }
-    ensures { OnOk result (AddsConst (listing out.old) (listing out.new) (plain value)) }
+    requires { length out.old.consts.items < 2 ^ 16 }
+    ensures { OnOk result ((types : Table) → HasType types (plain value) (own (plain value)) → AddsConst (listing types out.old) (listing types out.new) (plain value)) }
 {
     let number = out.consts.len() as u16;
     out.consts.push(value)?;

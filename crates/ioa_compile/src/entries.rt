@@ -2,15 +2,15 @@ ghost use Rattle.std.specs.Prelude.{◌≡◌, ◌∷◌, [], map, Some, None, I
 ghost use Rattle.std.specs.List.{AllZip};
 ghost use Rattle.std.specs.Option.{option_map};
 ghost use Rattle.ioa_code.specs.declared.instr.PartKind.TheVariants.{Pre};
-ghost use Rattle.ioa_value.specs.Plain.{plain};
-ghost use Rattle.ioa_value.specs.Typing.{basic_types};
-ghost use Rattle.ioa_code.specs.Valid.{Valid, OwnTypes};
-ghost use Rattle.ioa_code.specs.Parts.{number, part, IsVerified};
+ghost use Rattle.ioa_value.specs.Plain.{plain, number};
+ghost use Rattle.ioa_value.specs.Typing.{OwnTypes};
+ghost use Rattle.ioa_code.specs.Valid.{Valid};
+ghost use Rattle.ioa_code.specs.Parts.{part, IsVerified};
 ghost use Rattle.ioa_syntax.specs.View.{entry_of, transition_of, automaton_of};
 ghost use Rattle.ioa_syntax.specs.Instances.{transition_for};
 ghost use Rattle.ioa_syntax.specs.WellFormed.{variable_fields};
 ghost use Rattle.ioa_compose.specs.Held.{member_of};
-ghost use Rattle.ioa_compose.specs.Fine.{IsFine};
+ghost use Rattle.ioa_compose.specs.Fine.{IsFine, component_limits};
 ghost use Rattle.ioa_compile.specs.Shown.{entry_code, position_code};
 ghost use Rattle.ioa_compile.specs.Tables.{position_types as types_of_positions};
 ghost use Rattle.ioa_compile.specs.Matching.{AreTypesOf};
@@ -28,18 +28,16 @@ use std::alloc::Global;
 /// The entries of a component's table, over variables of these types.
 pub(crate) fn compile_entries(
     alloc: Global,
-    types: &Types,
     member: &Member,
     slots: &[Ty],
 ) -> Result<Vec<Entry>, OutOfMemory>
-    requires fine { IsFine (member_of member.now) }
-    requires types { types.now ≡ basic_types }
-    requires slots { AreTypesOf (variable_fields (automaton_of member.now.automaton)) (map number slots.now) }
+    requires fine { IsFine component_limits (member_of member.now) }
+    requires slots { AreTypesOf member.now.types (variable_fields (automaton_of member.now.automaton)) (map number slots.now) }
     ensures { IfOk result (λ entries. AllZip (IsTranslated (member_of member.now) (map number slots.now)) (automaton_of member.now.automaton).entries (map entry_code entries.items)) }
 {
     let mut entries = Vec::new(alloc);
     for entry in &member.automaton.entries {
-        entries.push(compile_entry(alloc, types, member, slots, entry)?)?;
+        entries.push(compile_entry(alloc, member, slots, entry)?)?;
     }
     Ok(entries)
 }
@@ -47,19 +45,18 @@ pub(crate) fn compile_entries(
 /// An entry of a component's table: its positions, and the code of its transition.
 fn compile_entry(
     alloc: Global,
-    types: &Types,
     member: &Member,
     slots: &[Ty],
     entry: &EntryTree,
 ) -> Result<Entry, OutOfMemory>
-    requires fine { IsFine (member_of member.now) }
-    requires types { types.now ≡ basic_types }
-    requires slots { AreTypesOf (variable_fields (automaton_of member.now.automaton)) (map number slots.now) }
+    requires fine { IsFine component_limits (member_of member.now) }
+    requires slots { AreTypesOf member.now.types (variable_fields (automaton_of member.now.automaton)) (map number slots.now) }
     requires own { IsEntryOf (member_of member.now) (entry_of entry.now) }
     ensures { IfOk result (λ e. IsTranslated (member_of member.now) (map number slots.now) (entry_of entry.now) (entry_code e)) }
 {
     let transition = transition_of(&member.automaton, entry);
-    let arguments = position_types(alloc, &entry.positions)?;
+    let types = &member.types;
+    let arguments = position_types(alloc, types, &entry.positions)?;
     let (guard, effect) = transition_code(alloc, member, entry, transition)?;
     Ok(Entry {
         kind: entry.kind,
@@ -102,10 +99,9 @@ fn guard_part(
     slots: &[Ty],
     arguments: &[Ty],
 ) -> Result<Option<Verified>, OutOfMemory>
-    requires types { types.now ≡ basic_types }
-    requires typed { IfSome guard (λ code. OwnTypes basic_types (map plain code.consts.items)) }
-    requires valid { IfSome guard (λ code. Valid (part code Pre slots.now arguments.now (Ty.BOOL ∷ []))) }
-    ensures value { IfOk result (λ p. p ≡ option_map (λ code. part code Pre slots.now arguments.now (Ty.BOOL ∷ [])) guard) }
+    requires typed { IfSome guard (λ code. OwnTypes types.now (map plain code.consts.items)) }
+    requires valid { IfSome guard (λ code. Valid (part types.now code Pre slots.now arguments.now (Ty.BOOL ∷ []))) }
+    ensures value { IfOk result (λ p. p ≡ option_map (λ code. part types.now code Pre slots.now arguments.now (Ty.BOOL ∷ [])) guard) }
     ensures sound { IfOk result (λ p. IfSome p IsVerified) }
 {
     match guard {
@@ -132,10 +128,9 @@ fn verified(
     arguments: &[Ty],
     stack: &[Ty],
 ) -> Result<Verified, OutOfMemory>
-    requires types { types.now ≡ basic_types }
-    requires typed { OwnTypes basic_types (map plain code.consts.items) }
-    requires valid { Valid (part code kind slots.now arguments.now stack.now) }
-    ensures value { IfOk result (λ v. v ≡ part code kind slots.now arguments.now stack.now) }
+    requires typed { OwnTypes types.now (map plain code.consts.items) }
+    requires valid { Valid (part types.now code kind slots.now arguments.now stack.now) }
+    ensures value { IfOk result (λ v. v ≡ part types.now code kind slots.now arguments.now stack.now) }
     ensures sound { IfOk result IsVerified }
 {
     let env = Env {

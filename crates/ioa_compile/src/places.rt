@@ -1,6 +1,7 @@
 ghost use Rattle.std.specs.Prelude.{◌≡◌, map};
 ghost use Rattle.ioa_syntax.specs.View.{name_of, field_of, position_of, variable_of};
-ghost use Rattle.ioa_syntax.specs.Instances.{place_from, field_names, position_name};
+ghost use Rattle.ioa_value.specs.Table.{place_from};
+ghost use Rattle.ioa_syntax.specs.Instances.{field_names, position_name};
 
 use ioa_syntax::{Field, Name, Position, Variable};
 

@@ -4,11 +4,13 @@ ghost use Rattle.ioa_compile.specs.Shown.{member_code};
 ghost use Rattle.ioa_compile.specs.Tables.{IsProgram};
 
 use crate::table::Member;
+use ioa_value::Types;
 use std::marker::Model;
 
 /// A program: tables, start states and verified code of a composition. It holds no tree.
 #[derive(Drop)]
 pub struct Program {
+    types: Types,
     name: String,
     members: Vec<Member>,
     hidden: Vec<String>,
@@ -27,21 +29,35 @@ impl Model for Program {
     ghost use Rattle.ioa_compile.specs.Shown.{member_code};
     ghost use Rattle.ioa_compile.specs.Tables.{IsProgram};
 
-    ghost view = { λ p. record { name = string_bytes p.name; members = map member_code p.members.items; hidden = map string_bytes p.hidden.items } };
+    ghost view = { λ p. record { types = p.types; name = string_bytes p.name; members = map member_code p.members.items; hidden = map string_bytes p.hidden.items } };
 
-    ghost invariant = { λ p. IsProgram (record { name = string_bytes p.name; members = map member_code p.members.items; hidden = map string_bytes p.hidden.items }) };
+    ghost invariant = { λ p. IsProgram (record { types = p.types; name = string_bytes p.name; members = map member_code p.members.items; hidden = map string_bytes p.hidden.items }) };
 }
 
 impl Program {
-    pub(crate) fn new(name: String, members: Vec<Member>, hidden: Vec<String>) -> Program
-        requires { IsProgram (record { name = string_bytes name; members = map member_code members.items; hidden = map string_bytes hidden.items }) }
-        ensures { result ≡ record { name = string_bytes name; members = map member_code members.items; hidden = map string_bytes hidden.items } }
+    pub(crate) fn new(
+        types: Types,
+        name: String,
+        members: Vec<Member>,
+        hidden: Vec<String>,
+    ) -> Program
+        requires { IsProgram (record { types = types; name = string_bytes name; members = map member_code members.items; hidden = map string_bytes hidden.items }) }
+        ensures { result ≡ record { types = types; name = string_bytes name; members = map member_code members.items; hidden = map string_bytes hidden.items } }
     {
         Program {
+            types,
             name,
             members,
             hidden,
         }
+    }
+
+    /// The types of the program's values.
+    pub fn types(&self) -> &Types
+        ensures value { result.now ≡ self.now.types }
+        ensures sound { IsProgram self.now }
+    {
+        &self.types
     }
 
     /// The composition's name.

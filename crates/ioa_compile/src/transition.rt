@@ -1,12 +1,12 @@
-ghost use Rattle.std.specs.Prelude.{◌≡◌, ◌≤◌, map, sum, length, Some, None, IfOk};
+ghost use Rattle.std.specs.Prelude.{◌≡◌, ◌≤◌, ◌+◌, map, sum, length, Some, None, IfOk};
 ghost use Rattle.std.specs.Option.{option_map};
 ghost use Rattle.ioa_value.specs.Plain.{plain};
-ghost use Rattle.ioa_value.specs.Typing.{basic_types};
-ghost use Rattle.ioa_code.specs.Valid.{OwnTypes};
+ghost use Rattle.ioa_value.specs.Typing.{OwnTypes};
 ghost use Rattle.ioa_code.specs.Parts.{listing};
 ghost use Rattle.ioa_syntax.specs.View.{expr_of, stmt_of, entry_of, transition_of};
 ghost use Rattle.ioa_syntax.specs.WellFormed.{stmt_nodes};
 ghost use Rattle.ioa_compose.specs.Held.{member_of};
+ghost use Rattle.ioa_compose.specs.Fine.{component_limits};
 ghost use Rattle.ioa_compile.specs.Scopes.{scope_in, IsScope, AreKnown, IsKnownGuard};
 ghost use Rattle.ioa_compile.specs.Emitting.{guard_nodes, IsGrown};
 ghost use Rattle.ioa_compile.specs.Translated.{IsGuard, IsEffect, IsTransition};
@@ -25,12 +25,12 @@ pub(crate) fn transition_code(
     entry: &Entry,
     transition: &Transition,
 ) -> Result<(Option<Code>, Code), OutOfMemory>
-    requires scope { IsScope (scope_in member.now entry.now) }
+    requires scope { IsScope member.now.types (scope_in member.now entry.now) }
     requires guard { IsKnownGuard (scope_in member.now entry.now) (transition_of transition.now).pre }
     requires effect { AreKnown (scope_in member.now entry.now) (transition_of transition.now).effect }
-    requires guard_size { guard_nodes (transition_of transition.now).pre ≤ 4096 }
-    requires effect_size { sum (map stmt_nodes (transition_of transition.now).effect) ≤ 4096 }
-    ensures { IfOk result (λ codes. IsTransition (member_of member.now) (entry_of entry.now) (transition_of transition.now) (option_map listing codes.0) (listing codes.1)) }
+    requires guard_size { guard_nodes (transition_of transition.now).pre ≤ component_limits.nodes }
+    requires effect_size { sum (map stmt_nodes (transition_of transition.now).effect) ≤ component_limits.nodes }
+    ensures { IfOk result (λ codes. IsTransition (member_of member.now) (entry_of entry.now) (transition_of transition.now) (option_map (listing member.now.types) codes.0) (listing member.now.types codes.1)) }
 {
     match entry.kind {
         Kind::Input => {
@@ -53,11 +53,11 @@ fn guard_code(
     entry: &Entry,
     guard: &Option<Expression>,
 ) -> Result<Code, OutOfMemory>
-    requires scope { IsScope (scope_in member.now entry.now) }
+    requires scope { IsScope member.now.types (scope_in member.now entry.now) }
     requires known { IsKnownGuard (scope_in member.now entry.now) (option_map expr_of guard.now) }
-    requires size { guard_nodes (option_map expr_of guard.now) ≤ 4096 }
-    ensures guard { IfOk result (λ code. IsGuard (listing code) (scope_in member.now entry.now) (option_map expr_of guard.now)) }
-    ensures few { IfOk result (λ code. length code.consts.items ≤ 4096) }
+    requires size { guard_nodes (option_map expr_of guard.now) ≤ component_limits.nodes }
+    ensures guard { IfOk result (λ code. IsGuard (listing member.now.types code) (scope_in member.now entry.now) (option_map expr_of guard.now)) }
+    ensures few { IfOk result (λ code. length code.consts.items ≤ guard_nodes (option_map expr_of guard.now)) }
 {
     let mut code = Code {
         instrs: Vec::new(alloc),
@@ -75,13 +75,14 @@ fn effect_code(
     entry: &Entry,
     statements: &[Statement],
 ) -> Result<Code, OutOfMemory>
-    requires scope { IsScope (scope_in member.now entry.now) }
+    requires scope { IsScope member.now.types (scope_in member.now entry.now) }
     requires known { AreKnown (scope_in member.now entry.now) (map stmt_of statements.now) }
-    requires size { sum (map stmt_nodes (map stmt_of statements.now)) ≤ 4096 }
-    requires few { length consts.items ≤ 4096 }
-    requires typed { OwnTypes basic_types (map plain consts.items) }
-    ensures effect { IfOk result (λ code. IsEffect (listing code) (scope_in member.now entry.now) (map stmt_of statements.now)) }
+    requires size { sum (map stmt_nodes (map stmt_of statements.now)) ≤ component_limits.nodes }
+    requires few { length consts.items ≤ component_limits.nodes }
+    requires typed { OwnTypes member.now.types (map plain consts.items) }
+    ensures effect { IfOk result (λ code. IsEffect (listing member.now.types code) (scope_in member.now entry.now) (map stmt_of statements.now)) }
     ensures grown { IfOk result (λ code. IsGrown (map plain consts.items) (map plain code.consts.items)) }
+    ensures few { IfOk result (λ code. length code.consts.items ≤ length consts.items + sum (map stmt_nodes (map stmt_of statements.now))) }
 {
     let mut code = Code {
         instrs: Vec::new(alloc),

@@ -1,58 +1,64 @@
 ghost use Rattle.std.specs.Prelude.{◌≡◌, map, IfOk, IsTrue};
 ghost use Rattle.std.specs.List.{list_all};
-ghost use Rattle.ioa_code.specs.Parts.{number};
+ghost use Rattle.ioa_value.specs.Plain.{number};
 ghost use Rattle.ioa_syntax.specs.View.{name_of, field_of, position_of, variable_of};
-ghost use Rattle.ioa_syntax.specs.Instances.{basic_table, type_named};
 ghost use Rattle.ioa_syntax.specs.WellFormed.{is_type, position_fields};
 ghost use Rattle.ioa_compile.specs.Matching.{IsTypeOf, AreTypesOf};
 ghost use Rattle.ioa_compile.specs.Translated.{position_field};
 
 use ioa_syntax::{Field, Position, Variable};
-use ioa_value::{OutOfMemory, Ty};
+use ioa_value::{OutOfMemory, Ty, Types};
 use std::alloc::Global;
 
 /// The types of variables, in order.
-pub(crate) fn variable_types(alloc: Global, variables: &[Variable]) -> Result<Vec<Ty>, OutOfMemory>
-    requires { IsTrue (list_all (is_type basic_table) (map (λ v. v.field) (map variable_of variables.now))) }
-    ensures { IfOk result (λ types. AreTypesOf (map (λ v. v.field) (map variable_of variables.now)) (map number types.items)) }
+pub(crate) fn variable_types(
+    alloc: Global,
+    types: &Types,
+    variables: &[Variable],
+) -> Result<Vec<Ty>, OutOfMemory>
+    requires { IsTrue (list_all (is_type types.now) (map (λ v. v.field) (map variable_of variables.now))) }
+    ensures { IfOk result (λ found. AreTypesOf types.now (map (λ v. v.field) (map variable_of variables.now)) (map number found.items)) }
 {
-    let mut types = Vec::new(alloc);
+    let mut found = Vec::new(alloc);
     for variable in variables {
-        types.push(type_of(&variable.field))?;
+        found.push(type_of(types, &variable.field))?;
     }
-    Ok(types)
+    Ok(found)
 }
 
 /// The types of an entry's positions, in order.
-pub(crate) fn position_types(alloc: Global, positions: &[Position]) -> Result<Vec<Ty>, OutOfMemory>
-    requires { IsTrue (list_all (is_type basic_table) (position_fields (map position_of positions.now))) }
-    ensures { IfOk result (λ types. AreTypesOf (position_fields (map position_of positions.now)) (map number types.items)) }
+pub(crate) fn position_types(
+    alloc: Global,
+    types: &Types,
+    positions: &[Position],
+) -> Result<Vec<Ty>, OutOfMemory>
+    requires { IsTrue (list_all (is_type types.now) (position_fields (map position_of positions.now))) }
+    ensures { IfOk result (λ found. AreTypesOf types.now (position_fields (map position_of positions.now)) (map number found.items)) }
 {
-    let mut types = Vec::new(alloc);
+    let mut found = Vec::new(alloc);
     for position in positions {
-        types.push(type_of_position(position))?;
+        found.push(type_of_position(types, position))?;
     }
-    Ok(types)
+    Ok(found)
 }
 
 /// The type of a position whose type is declared.
-fn type_of_position(position: &Position) -> Ty
-    requires { IsTrue (is_type basic_table (position_field (position_of position.now))) }
-    ensures { IsTypeOf (position_field (position_of position.now)) (number result) }
+fn type_of_position(types: &Types, position: &Position) -> Ty
+    requires { IsTrue (is_type types.now (position_field (position_of position.now))) }
+    ensures { IsTypeOf types.now (position_field (position_of position.now)) (number result) }
 {
     match position {
-        Position::Typed(field) => type_of(field),
+        Position::Typed(field) => type_of(types, field),
     }
 }
 
 /// The type of a field whose type is declared.
-fn type_of(field: &Field) -> Ty
-    requires { IsTrue (is_type basic_table (field_of field.now)) }
-    ensures { IsTypeOf (field_of field.now) (number result) }
+fn type_of(types: &Types, field: &Field) -> Ty
+    requires { IsTrue (is_type types.now (field_of field.now)) }
+    ensures { IsTypeOf types.now (field_of field.now) (number result) }
 {
-    if "Bool" == field.ty.text.as_str() {
-        Ty::BOOL
-    } else {
-        Ty::INT
+    match types.named(field.ty.text.as_str()) {
+        Some(ty) => ty,
+        None => unreachable!(),
     }
 }

@@ -6,65 +6,64 @@ use Rattle.std.proofs.lemmas.Bool.{and_parts, and_from, both_ways}
 use Rattle.std.proofs.lemmas.List.{map-append}
 use Rattle.ioa_value.specs.Actions.{Name}
 use Rattle.ioa_value.specs.Plain.{Val, plain}
-use Rattle.ioa_value.specs.Tests.{is_of}
+use Rattle.ioa_value.specs.Table.{Table, type_named}
+use Rattle.ioa_value.specs.Typing.{is_of}
 use Rattle.ioa_lex.specs.declared.refusal.Refusal.{Refusal}
-use Rattle.ioa_lex.specs.declared.refusal.Refusal.TheVariants.{TextTooLong, BadByte, Syntax, TooDeep, DuplicateName, UnknownName, TypeMismatch, BadSignature, NoProposal, TooMany, TooWide, ArgMismatch, CrashName, Clash, HiddenUnknown, StartFault, NoComposition, OutOfMemory}
 use Rattle.ioa_syntax.specs.declared.tree.Field.{Field}
 use Rattle.ioa_syntax.specs.declared.tree.Instance.{Instance as TreeInstance}
 use Rattle.ioa_syntax.specs.declared.tree.Position.{Position}
 use Rattle.ioa_syntax.specs.Tree.{FieldTree, AutomatonTree, InstanceTree, SourceTree}
 use Rattle.ioa_syntax.specs.View.{field_of, position_of, instance_of}
-use Rattle.ioa_syntax.specs.Instances.{Instance, basic_table, type_named, is_named, argument_values, start_values}
-use Rattle.ioa_syntax.specs.Compositions.{Member, Fit, automaton_named}
+use Rattle.ioa_syntax.specs.Types.{types_of, is_named}
+use Rattle.ioa_syntax.specs.Instances.{Instance, Fit, argument_values, start_values}
+use Rattle.ioa_syntax.specs.Compositions.{Member, automaton_named}
 use Rattle.ioa_compose.specs.Bindings.{fit, instance_with, instance_in, IsReady, AllReady, IsBound, AreBound, IsStartable, AllStartable, AllStarted, AllSound}
 use Rattle.ioa_compose.specs.declared.binding.Binding.{Binding}
 use Rattle.ioa_compose.specs.declared.member.Member as held
 use Rattle.ioa_compose.specs.Held.{member_of}
 use Rattle.ioa_syntax.specs.WellFormed.{automaton_fine}
 use Rattle.ioa_compose.specs.Clashes.{all_alike}
-use Rattle.ioa_compose.specs.Refusals.{IsRefused, IsRefusedAt, FaultsAt, FaultsIn, Misfits}
+use Rattle.ioa_compose.specs.Refusals.{Reason, misfit, faulty, clashing, no_memory, other, reason_of, IsRefusedFor, IsRefused, IsRefusedAt, FaultsAt, FaultsIn, Misfits}
 use Rattle.ioa_value.proofs.ItemLemmas.{take_item}
 use Rattle.ioa_value.proofs.SameLemmas.{both_false}
 
-pub uneven-fit : (fs : List Field) (vs : List Value) → (length fs ≡ length vs → ⊥) → false ≡ fit (map field_of fs) (map plain vs)
-uneven-fit [] [] e = absurd (e refl)
-uneven-fit [] (v ∷ vs) e = refl
-uneven-fit (f ∷ fs) [] e = refl
-uneven-fit (f ∷ fs) (v ∷ vs) e = both_false _ _ (uneven-fit fs vs (λ q. e (ap suc q)))
+pub uneven-fit : (types : Table) (fs : List Field) (vs : List Value) → (length fs ≡ length vs → ⊥) → false ≡ fit types (map field_of fs) (map plain vs)
+uneven-fit types [] [] e = absurd (e refl)
+uneven-fit types [] (v ∷ vs) e = refl
+uneven-fit types (f ∷ fs) [] e = refl
+uneven-fit types (f ∷ fs) (v ∷ vs) e = both_false _ _ (uneven-fit types fs vs (λ q. e (ap suc q)))
 
-pub uneven-alike : (ps qs : List Position) → (length ps ≡ length qs → ⊥) → false ≡ all_alike (map position_of ps) (map position_of qs)
-uneven-alike [] [] e = absurd (e refl)
-uneven-alike [] (q ∷ qs) e = refl
-uneven-alike (p ∷ ps) [] e = refl
-uneven-alike (p ∷ ps) (q ∷ qs) e = both_false _ _ (uneven-alike ps qs (λ r. e (ap suc r)))
+pub uneven-alike : (types : Table) (ps qs : List Position) → (length ps ≡ length qs → ⊥) → false ≡ all_alike types (map position_of ps) (map position_of qs)
+uneven-alike types [] [] e = absurd (e refl)
+uneven-alike types [] (q ∷ qs) e = refl
+uneven-alike types (p ∷ ps) [] e = refl
+uneven-alike types (p ∷ ps) (q ∷ qs) e = both_false _ _ (uneven-alike types ps qs (λ r. e (ap suc r)))
 
 -- the test that values fit, and the fact
-pub fit-Fit : (fs : List FieldTree) (vs : List Val) → fit fs vs ≡ true → Fit basic_table fs vs
-fit-Fit [] [] h = tt
-fit-Fit [] (v ∷ vs) h = absurd (cc)
-fit-Fit (f ∷ fs) [] h = absurd (cc)
-fit-Fit (f ∷ fs) (v ∷ vs) h =
-    let hs = and_parts (is_named basic_table f.ty v) (fit fs vs) h in
-    let n = named v (type_named basic_table f.ty) hs.0 in
-    (n.0, n.1, and_from _ _ n.2 refl, fit-Fit fs vs hs.1)
+pub fit-Fit : (types : Table) (fs : List FieldTree) (vs : List Val) → fit types fs vs ≡ true → Fit types fs vs
+fit-Fit types [] [] h = tt
+fit-Fit types [] (v ∷ vs) h = absurd (cc)
+fit-Fit types (f ∷ fs) [] h = absurd (cc)
+fit-Fit types (f ∷ fs) (v ∷ vs) h =
+    let hs = and_parts (is_named types f.ty v) (fit types fs vs) h in
+    let n = named v (type_named types f.ty) hs.0 in
+    (n.0, n.1, n.2, fit-Fit types fs vs hs.1)
   where
-    named : (v : Val) (o : Option ℕ) → option_map_or (λ n. is_of basic_table.shapes v n) o false ≡ true → (n : ℕ) × (o ≡ Some n) × (is_of basic_table.shapes v n ≡ true)
+    named : (v : Val) (o : Option ℕ) → option_map_or (λ n. is_of types v n) o false ≡ true → (n : ℕ) × (o ≡ Some n) × (is_of types v n ≡ true)
     named v (Some n) e = (n, refl, e)
     named v None e = absurd (cc)
 
-pub Fit-fit : (fs : List FieldTree) (vs : List Val) → Fit basic_table fs vs → fit fs vs ≡ true
-Fit-fit [] [] h = refl
-Fit-fit [] (v ∷ vs) h = absurd h
-Fit-fit (f ∷ fs) [] h = absurd h
-Fit-fit (f ∷ fs) (v ∷ vs) h =
-    let one : is_of basic_table.shapes v h.0 ≡ true = (and_parts (is_of basic_table.shapes v h.0) true h.2).0 in
-    and_from _ _ (ap (λ o. option_map_or (λ n. is_of basic_table.shapes v n) o false) h.1 ∙ one) (Fit-fit fs vs h.3)
+pub Fit-fit : (types : Table) (fs : List FieldTree) (vs : List Val) → Fit types fs vs → fit types fs vs ≡ true
+Fit-fit types [] [] h = refl
+Fit-fit types [] (v ∷ vs) h = absurd h
+Fit-fit types (f ∷ fs) [] h = absurd h
+Fit-fit types (f ∷ fs) (v ∷ vs) h = and_from _ _ (ap (λ o. option_map_or (λ n. is_of types v n) o false) h.1 ∙ h.2) (Fit-fit types fs vs h.3)
 
-pub misfit-at : (s : SourceTree) (i : InstanceTree) (a : AutomatonTree) (vs : List Val) → automaton_named s i.automaton ≡ Some a → argument_values i.arguments ≡ Ok vs → fit a.formals vs ≡ false → Misfits s i
-misfit-at s i a vs d v u = record { automaton = a; declared = d; arguments = vs; valued = v; unfit = λ h. both_ways (fit a.formals vs) u (Fit-fit a.formals vs h) }
+pub misfit-at : (s : SourceTree) (i : InstanceTree) (a : AutomatonTree) (vs : List Val) → automaton_named s i.automaton ≡ Some a → argument_values (types_of s) i.arguments ≡ Ok vs → fit (types_of s) a.formals vs ≡ false → Misfits s i
+misfit-at s i a vs d v u = record { automaton = a; declared = d; arguments = vs; valued = v; unfit = λ h. both_ways (fit (types_of s) a.formals vs) u (Fit-fit (types_of s) a.formals vs h) }
 
-pub bound-at : (s : SourceTree) (i : InstanceTree) (a : AutomatonTree) (vs : List Val) → automaton_named s i.automaton ≡ Some a → argument_values i.arguments ≡ Ok vs → fit a.formals vs ≡ true → IsBound s i (instance_with a vs)
-bound-at s i a vs d v u = record { types = refl; automaton = d; arguments = v; fit = fit-Fit a.formals vs u }
+pub bound-at : (s : SourceTree) (i : InstanceTree) (types : Table) (a : AutomatonTree) (vs : List Val) → types ≡ types_of s → automaton_named s i.automaton ≡ Some a → argument_values (types_of s) i.arguments ≡ Ok vs → fit (types_of s) a.formals vs ≡ true → IsBound s i (instance_with types a vs)
+bound-at s i types a vs t d v u = record { types = t; automaton = d; arguments = v; fit = fit-Fit (types_of s) a.formals vs u }
 
 -- one of many
 pub ready-at : (s : SourceTree) (is : List TreeInstance) (k : ℕ) (i : TreeInstance) → AllReady s (map instance_of is) → k < length is → i ≡ get_or is k i → IsReady s (instance_of i)
@@ -72,10 +71,10 @@ ready-at s [] k i h l e = absurd (omega arith)
 ready-at s (j ∷ js) zero i h l e = subst (λ x. IsReady s (instance_of x)) (sym e) h.0
 ready-at s (j ∷ js) (suc k) i h l e = ready-at s js k i h.1 (omega arith) e
 
-pub startable-at : (bs : List Binding) (k : ℕ) (b : Binding) → AllStartable (map instance_in bs) → k < length bs → b ≡ get_or bs k b → IsStartable (instance_in b)
-startable-at [] k b h l e = absurd (omega arith)
-startable-at (c ∷ cs) zero b h l e = subst (λ x. IsStartable (instance_in x)) (sym e) h.0
-startable-at (c ∷ cs) (suc k) b h l e = startable-at cs k b h.1 (omega arith) e
+pub startable-at : (types : Table) (bs : List Binding) (k : ℕ) (b : Binding) → AllStartable (map (instance_in types) bs) → k < length bs → b ≡ get_or bs k b → IsStartable (instance_in types b)
+startable-at types [] k b h l e = absurd (omega arith)
+startable-at types (c ∷ cs) zero b h l e = subst (λ x. IsStartable (instance_in types x)) (sym e) h.0
+startable-at types (c ∷ cs) (suc k) b h l e = startable-at types cs k b h.1 (omega arith) e
 
 -- one more
 bound-append : (s : SourceTree) (is : List InstanceTree) (ns : List Instance) (i : InstanceTree) (n : Instance) → AreBound s is ns → IsBound s i n → AreBound s (is ++ i ∷ []) (ns ++ n ∷ [])
@@ -84,78 +83,47 @@ bound-append s [] (m ∷ ms) i n h k = absurd h
 bound-append s (j ∷ js) [] i n h k = absurd h
 bound-append s (j ∷ js) (m ∷ ms) i n h k = (h.0, bound-append s js ms i n h.1 k)
 
-pub bound-push : (s : SourceTree) (is : List TreeInstance) (k : ℕ) (i : TreeInstance) (bs new : List Binding) (b : Binding) → k < length is → i ≡ get_or is k i → new ≡ bs ++ b ∷ []
-    → AreBound s (map instance_of (take k is)) (map instance_in bs) → IsBound s (instance_of i) (instance_in b) → AreBound s (map instance_of (take (k + 1) is)) (map instance_in new)
-bound-push s is k i bs new b l e n h g =
-    let P : List InstanceTree → Type 0 = λ xs. AreBound s xs (map instance_in bs ++ instance_in b ∷ []) in
+pub bound-push : (s : SourceTree) (types : Table) (is : List TreeInstance) (k : ℕ) (i : TreeInstance) (bs new : List Binding) (b : Binding) → k < length is → i ≡ get_or is k i → new ≡ bs ++ b ∷ []
+    → AreBound s (map instance_of (take k is)) (map (instance_in types) bs) → IsBound s (instance_of i) (instance_in types b) → AreBound s (map instance_of (take (k + 1) is)) (map (instance_in types) new)
+bound-push s types is k i bs new b l e n h g =
+    let P : List InstanceTree → Type 0 = λ xs. AreBound s xs (map (instance_in types) bs ++ instance_in types b ∷ []) in
     let Q : List Instance → Type 0 = λ ns. AreBound s (map instance_of (take (k + 1) is)) ns in
-    subst Q (sym (ap (map instance_in) n ∙ map-append instance_in bs (b ∷ [])))
+    subst Q (sym (ap (map (instance_in types)) n ∙ map-append (instance_in types) bs (b ∷ [])))
     (subst P (sym (ap (map instance_of) (take_item is k i l e) ∙ map-append instance_of (take k is) (i ∷ [])))
-    (bound-append s (map instance_of (take k is)) (map instance_in bs) (instance_of i) (instance_in b) h g))
+    (bound-append s (map instance_of (take k is)) (map (instance_in types) bs) (instance_of i) (instance_in types b) h g))
 
 started-append : (ms : List Member) (m : Member) → AllStarted ms → start_values m.instance ≡ Ok m.starts → AllStarted (ms ++ m ∷ [])
 started-append [] m h k = (k, tt)
 started-append (n ∷ ns) m h k = (h.0, started-append ns m h.1 k)
 
-pub started-push : (ms new : List held.Member) (m : held.Member) (b : Binding) → new ≡ ms ++ m ∷ [] → AllStarted (map member_of ms) → (member_of m).instance ≡ instance_in b → start_values (instance_in b) ≡ Ok (member_of m).starts → AllStarted (map member_of new)
-started-push ms new m b n h i k =
+pub started-push : (types : Table) (ms new : List held.Member) (m : held.Member) (b : Binding) → new ≡ ms ++ m ∷ [] → AllStarted (map member_of ms) → (member_of m).instance ≡ instance_in types b → start_values (instance_in types b) ≡ Ok (member_of m).starts → AllStarted (map member_of new)
+started-push types ms new m b n h i k =
     subst AllStarted (sym (ap (map member_of) n ∙ map-append member_of ms (m ∷ []))) (started-append (map member_of ms) (member_of m) h (ap start_values i ∙ k))
 
 -- refused in its place, and so refused
-refused-one : (s : SourceTree) (is : List InstanceTree) (k : ℕ) (n : InstanceTree) (r : Refusal) → slice_get is k ≡ Some n → IsRefusedAt s k n r → IsRefused s is r
-refused-one s is k n (ArgMismatch i) e h = (n, ap (slice_get is) h.0 ∙ e, h.1)
-refused-one s is k n (StartFault i f) e h = (n, ap (slice_get is) h.0 ∙ e, inl h.1)
-refused-one s is k n OutOfMemory e h = tt
-refused-one s is k n TextTooLong e h = absurd h
-refused-one s is k n (BadByte l) e h = absurd h
-refused-one s is k n (Syntax l) e h = absurd h
-refused-one s is k n (TooDeep l) e h = absurd h
-refused-one s is k n (DuplicateName l) e h = absurd h
-refused-one s is k n (UnknownName l) e h = absurd h
-refused-one s is k n (TypeMismatch l) e h = absurd h
-refused-one s is k n (BadSignature l) e h = absurd h
-refused-one s is k n (NoProposal l) e h = absurd h
-refused-one s is k n (TooMany l) e h = absurd h
-refused-one s is k n (TooWide l) e h = absurd h
-refused-one s is k n (CrashName i) e h = absurd h
-refused-one s is k n (Clash i j m) e h = absurd h
-refused-one s is k n (HiddenUnknown m) e h = absurd h
-refused-one s is k n NoComposition e h = absurd h
+refused-one : (s : SourceTree) (is : List InstanceTree) (k : ℕ) (n : InstanceTree) (r : Reason) → slice_get is k ≡ Some n → IsRefusedAt s k n r → IsRefusedFor s is r
+refused-one s is k n (misfit i) e h = (n, ap (slice_get is) h.0 ∙ e, h.1)
+refused-one s is k n (faulty i f) e h = (n, ap (slice_get is) h.0 ∙ e, inl h.1)
+refused-one s is k n (clashing i j m) e h = absurd h
+refused-one s is k n no_memory e h = tt
+refused-one s is k n other e h = absurd h
 
-pub refused-in : {X : Type 0} (r : Result X Refusal) (s : SourceTree) (is : List InstanceTree) (k : ℕ) (n : InstanceTree) → slice_get is k ≡ Some n → IfErr r (λ e. IsRefusedAt s k n e) → IfErr r (λ e. IsRefused s is e)
+pub refused-in : {X : Type 0} (r : Result X Refusal) (s : SourceTree) (is : List InstanceTree) (k : ℕ) (n : InstanceTree) → slice_get is k ≡ Some n → IfErr r (λ e. IsRefusedAt s k n (reason_of e)) → IfErr r (λ e. IsRefused s is e)
 refused-in (Ok x) s is k n e h = tt
-refused-in (Err x) s is k n e h = refused-one s is k n x e h
+refused-in (Err x) s is k n e h = refused-one s is k n (reason_of x) e h
 
-faults-one : (ns : List Instance) (k : ℕ) (n : Instance) (r : Refusal) → slice_get ns k ≡ Some n → FaultsAt k n r → FaultsIn ns r
-faults-one ns k n (StartFault i f) e h = (n, ap (slice_get ns) h.0 ∙ e, h.1)
-faults-one ns k n OutOfMemory e h = tt
-faults-one ns k n (ArgMismatch i) e h = absurd h
-faults-one ns k n TextTooLong e h = absurd h
-faults-one ns k n (BadByte l) e h = absurd h
-faults-one ns k n (Syntax l) e h = absurd h
-faults-one ns k n (TooDeep l) e h = absurd h
-faults-one ns k n (DuplicateName l) e h = absurd h
-faults-one ns k n (UnknownName l) e h = absurd h
-faults-one ns k n (TypeMismatch l) e h = absurd h
-faults-one ns k n (BadSignature l) e h = absurd h
-faults-one ns k n (NoProposal l) e h = absurd h
-faults-one ns k n (TooMany l) e h = absurd h
-faults-one ns k n (TooWide l) e h = absurd h
-faults-one ns k n (CrashName i) e h = absurd h
-faults-one ns k n (Clash i j m) e h = absurd h
-faults-one ns k n (HiddenUnknown m) e h = absurd h
-faults-one ns k n NoComposition e h = absurd h
+faults-one : (ns : List Instance) (k : ℕ) (n : Instance) (r : Reason) → slice_get ns k ≡ Some n → FaultsAt k n r → FaultsIn ns r
+faults-one ns k n (misfit i) e h = absurd h
+faults-one ns k n (faulty i f) e h = (n, ap (slice_get ns) h.0 ∙ e, h.1)
+faults-one ns k n (clashing i j m) e h = absurd h
+faults-one ns k n no_memory e h = tt
+faults-one ns k n other e h = absurd h
 
-pub faults-in : {X : Type 0} (r : Result X Refusal) (ns : List Instance) (k : ℕ) (n : Instance) → slice_get ns k ≡ Some n → IfErr r (λ e. FaultsAt k n e) → IfErr r (λ e. FaultsIn ns e)
+pub faults-in : {X : Type 0} (r : Result X Refusal) (ns : List Instance) (k : ℕ) (n : Instance) → slice_get ns k ≡ Some n → IfErr r (λ e. FaultsAt k n (reason_of e)) → IfErr r (λ e. FaultsIn ns (reason_of e))
 faults-in (Ok x) ns k n e h = tt
-faults-in (Err x) ns k n e h = faults-one ns k n x e h
+faults-in (Err x) ns k n e h = faults-one ns k n (reason_of x) e h
 
-pub sound-at : (bs : List Binding) (k : ℕ) (b : Binding) → AllSound (map instance_in bs) → k < length bs → b ≡ get_or bs k b → (g : List Name) × (automaton_fine basic_table g (instance_in b).automaton ≡ true)
-sound-at [] k b h l e = absurd (omega arith)
-sound-at (c ∷ cs) zero b h l e = subst (λ x. (g : List Name) × (automaton_fine basic_table g (instance_in x).automaton ≡ true)) (sym e) h.0
-sound-at (c ∷ cs) (suc k) b h l e = sound-at cs k b h.1 (omega arith) e
-
-pub get-at : {X : Type 0} (xs : List X) (i : ℕ) (x : X) → i < length xs → x ≡ get_or xs i x → slice_get xs i ≡ Some x
-get-at [] i x l e = absurd (omega arith)
-get-at (y ∷ ys) zero x l e = ap (λ z. Some z) (sym e)
-get-at (y ∷ ys) (suc i) x l e = get-at ys i x (omega arith) e
+pub sound-at : (types : Table) (bs : List Binding) (k : ℕ) (b : Binding) → AllSound (map (instance_in types) bs) → k < length bs → b ≡ get_or bs k b → (g : List Name) × (automaton_fine types g (instance_in types b).automaton ≡ true)
+sound-at types [] k b h l e = absurd (omega arith)
+sound-at types (c ∷ cs) zero b h l e = subst (λ x. (g : List Name) × (automaton_fine types g (instance_in types x).automaton ≡ true)) (sym e) h.0
+sound-at types (c ∷ cs) (suc k) b h l e = sound-at types cs k b h.1 (omega arith) e

@@ -1,6 +1,5 @@
-pub mod FitLemmas
 pub mod EvaluateLemmas
-pub mod ListLemmas
+pub mod ValueLemmas
 pub mod PickLemmas
 pub mod BindingLemmas
 pub mod StartLemmas

@@ -1,17 +1,21 @@
 -- Components on the way: instances with the values of their arguments, and what evaluations leave.
-use Rattle.std.specs.Prelude.{◌≡◌, Bool, true, false, ◌&&◌, List, [], ◌∷◌, map, Some, Result, Ok, Err, Vec}
+use Rattle.std.specs.Prelude.{◌≡◌, ◌≤◌, Bool, true, false, ◌&&◌, All, IsTrue, List, [], ◌∷◌, map, length, Some, Result, Ok, Err, Vec}
 use Rattle.std.specs.List.{list_all}
 use Rattle.std.specs.Option.{option_map_or}
 use Rattle.std.specs.Global.{Global}
 use Rattle.ioa_value.specs.declared.arithmetic.Fault.{Fault}
 use Rattle.ioa_value.specs.declared.value.Value.{Value}
 use Rattle.ioa_value.specs.Actions.{Name}
+use Rattle.ioa_value.specs.Names.{IsName}
 use Rattle.ioa_value.specs.Plain.{Val, plain}
-use Rattle.ioa_syntax.specs.Tree.{Expr, FieldTree, AutomatonTree, InstanceTree, SourceTree}
+use Rattle.ioa_value.specs.Table.{Table}
+use Rattle.ioa_syntax.specs.Tree.{Expr, FieldTree, AutomatonTree, InstanceTree, CompositionTree, SourceTree}
 use Rattle.ioa_syntax.specs.View.{automaton_of}
-use Rattle.ioa_syntax.specs.Instances.{basic_table, Instance, is_named, argument_values, start_values}
-use Rattle.ioa_syntax.specs.Compositions.{Member, Fit, automaton_named}
-use Rattle.ioa_syntax.specs.WellFormed.{type_of, start_fine, is_type, variable_fields, automaton_fine}
+use Rattle.ioa_syntax.specs.Types.{types_of, is_named}
+use Rattle.ioa_syntax.specs.Limits.{limits}
+use Rattle.ioa_syntax.specs.Instances.{Instance, Fit, argument_values, start_values}
+use Rattle.ioa_syntax.specs.Compositions.{Member, automaton_named}
+use Rattle.ioa_syntax.specs.WellFormed.{distinct, type_of, start_fine, is_type, variable_fields, automaton_fine}
 use Rattle.ioa_compose.specs.declared.binding.Binding.{Binding}
 
 -- a value, or a fault
@@ -25,35 +29,35 @@ values_in (Ok vs) = Ok (map plain vs.items)
 values_in (Err f) = Err f
 
 -- each value is of the type of the field in its place
-abbrev pub fit : List FieldTree → List Val → Bool
-fit [] [] = true
-fit [] (v ∷ vs) = false
-fit (f ∷ fs) [] = false
-fit (f ∷ fs) (v ∷ vs) = is_named basic_table f.ty v && fit fs vs
+abbrev pub fit : Table → List FieldTree → List Val → Bool
+fit types [] [] = true
+fit types [] (v ∷ vs) = false
+fit types (f ∷ fs) [] = false
+fit types (f ∷ fs) (v ∷ vs) = is_named types f.ty v && fit types fs vs
 
 -- the expression has a type without any name
-abbrev pub closed : Expr → Bool
-closed e = option_map_or (λ ty. true) (type_of [] e) false
+abbrev pub closed : Table → Expr → Bool
+closed types e = option_map_or (λ ty. true) (type_of types [] e) false
 
 -- an automaton with arguments
-abbrev pub instance_with : AutomatonTree → List Val → Instance
-instance_with a vs = record { types = basic_table; automaton = a; arguments = vs }
+abbrev pub instance_with : Table → AutomatonTree → List Val → Instance
+instance_with types a vs = record { types = types; automaton = a; arguments = vs }
 
 -- what a binding stands for
-abbrev pub instance_in : Binding → Instance
-instance_in b = instance_with (automaton_of b.automaton.now) (map plain b.arguments.items)
+abbrev pub instance_in : Table → Binding → Instance
+instance_in types b = instance_with types (automaton_of b.automaton.now) (map plain b.arguments.items)
 
 -- what the instances of a well formed source have: a declared automaton, and arguments with types
 pub record IsReady (s : SourceTree) (i : InstanceTree) : Type 0 where
   pub automaton : (a : AutomatonTree) × (automaton_named s i.automaton ≡ Some a)
-  pub arguments : list_all closed i.arguments ≡ true
+  pub arguments : list_all (closed (types_of s)) i.arguments ≡ true
 
 -- the instance is that of the tree
 pub record IsBound (s : SourceTree) (i : InstanceTree) (n : Instance) : Type 0 where
-  pub types : n.types ≡ basic_table
+  pub types : n.types ≡ types_of s
   pub automaton : automaton_named s i.automaton ≡ Some n.automaton
-  pub arguments : argument_values i.arguments ≡ Ok n.arguments
-  pub fit : Fit basic_table n.automaton.formals n.arguments
+  pub arguments : argument_values (types_of s) i.arguments ≡ Ok n.arguments
+  pub fit : Fit (types_of s) n.automaton.formals n.arguments
 
 abbrev pub AreBound : SourceTree → List InstanceTree → List Instance → Type 0
 AreBound s [] [] = Unit {0}
@@ -65,15 +69,24 @@ abbrev pub AllReady : SourceTree → List InstanceTree → Type 0
 AllReady s [] = Unit {0}
 AllReady s (i ∷ is) = IsReady s i × AllReady s is
 
+-- what a composition of a well formed source has: a legal name, components of different legal names, not too many, and each is
+-- ready
+pub record IsComposable (s : SourceTree) (c : CompositionTree) : Type 0 where
+  pub legal : IsName c.name
+  pub legal_names : All (λ i. IsName i.name) c.instances
+  pub names : IsTrue (distinct (map (λ i. i.name) c.instances))
+  pub few : length c.instances ≤ limits.components
+  pub ready : AllReady s c.instances
+
 -- start expressions have their variables' types, which are known
-pub record StartsWell (a : AutomatonTree) : Type 0 where
-  pub fine : list_all (start_fine basic_table [] a) a.variables ≡ true
-  pub known : list_all (is_type basic_table) (variable_fields a) ≡ true
+pub record StartsWell (types : Table) (a : AutomatonTree) : Type 0 where
+  pub fine : list_all (start_fine types [] a) a.variables ≡ true
+  pub known : list_all (is_type types) (variable_fields a) ≡ true
 
 -- an instance whose start can be evaluated
 pub record IsStartable (n : Instance) : Type 0 where
-  pub fit : Fit basic_table n.automaton.formals n.arguments
-  pub well : StartsWell n.automaton
+  pub fit : Fit n.types n.automaton.formals n.arguments
+  pub well : StartsWell n.types n.automaton
 
 abbrev pub AllStartable : List Instance → Type 0
 AllStartable [] = Unit {0}
@@ -87,4 +100,4 @@ AllStarted (m ∷ ms) = (start_values m.instance ≡ Ok m.starts) × AllStarted 
 -- the instances' automata are well formed
 abbrev pub AllSound : List Instance → Type 0
 AllSound [] = Unit {0}
-AllSound (n ∷ ns) = ((globals : List Name) × (automaton_fine basic_table globals n.automaton ≡ true)) × AllSound ns
+AllSound (n ∷ ns) = ((globals : List Name) × (automaton_fine n.types globals n.automaton ≡ true)) × AllSound ns

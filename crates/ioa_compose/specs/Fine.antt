@@ -1,25 +1,57 @@
 -- What each component of a composition keeps.
-use Rattle.std.specs.Prelude.{◌≡◌, IsTrue, List, [], ◌∷◌, Ok, map}
+use Rattle.std.specs.Prelude.{◌≡◌, ℕ, ◌≤◌, Bool, ◌&&◌, All, IsTrue, List, [], ◌∷◌, Some, Ok, map, length}
+use Rattle.std.specs.List.{list_any, list_all}
+use Rattle.std.specs.Str.{bytes_eq}
 use Rattle.ioa_value.specs.Actions.{Name}
-use Rattle.ioa_syntax.specs.Instances.{basic_table, start_values}
-use Rattle.ioa_syntax.specs.Components.{Compatible}
-use Rattle.ioa_syntax.specs.Compositions.{Member, Composed, Fit, components_of}
-use Rattle.ioa_syntax.specs.WellFormed.{automaton_fine}
+use Rattle.ioa_value.specs.Names.{IsName}
+use Rattle.ioa_value.specs.Table.{Table, AreTypes}
+use Rattle.ioa_syntax.specs.Limits.{Limits, limits}
+use Rattle.ioa_syntax.specs.Instances.{Fit, start_values}
+use Rattle.ioa_syntax.specs.Components.{Compatible, is_output}
+use Rattle.ioa_syntax.specs.Compositions.{Member, Composed, components_of}
+use Rattle.ioa_syntax.specs.WellFormed.{distinct, variable_fields, automaton_fine, automaton_within}
 
--- the automaton is well formed, the arguments are of the formals' types, and the start values, of the variables' types, are
--- those of the start expressions
-pub record IsFine (m : Member) : Type 0 where
-  pub types : m.instance.types ≡ basic_table
-  pub automaton : (globals : List Name) × IsTrue (automaton_fine basic_table globals m.instance.automaton)
-  pub arguments : Fit basic_table m.instance.automaton.formals m.instance.arguments
-  pub starts : Fit basic_table (map (λ v. v.field) m.instance.automaton.variables) m.starts
+-- the component's name and those of its entries are legal, the automaton is well formed, within these limits, the arguments are of the formals' types, and the start values, of the
+-- variables' types, are those of the start expressions
+pub record IsFine (most : Limits) (m : Member) : Type 0 where
+  pub legal : IsName m.name
+  pub legal_entries : All (λ e. IsName e.name) m.instance.automaton.entries
+  pub automaton : (globals : List Name) × IsTrue (automaton_fine m.instance.types globals m.instance.automaton)
+  pub within : IsTrue (automaton_within most m.instance.automaton)
+  pub arguments : Fit m.instance.types m.instance.automaton.formals m.instance.arguments
+  pub starts : Fit m.instance.types (variable_fields m.instance.automaton) m.starts
   pub started : start_values m.instance ≡ Ok m.starts
 
-abbrev pub AllFine : List Member → Type 0
-AllFine [] = Unit {0}
-AllFine (m ∷ ms) = IsFine m × AllFine ms
+abbrev pub AllFine : Limits → List Member → Type 0
+AllFine most [] = Unit {0}
+AllFine most (m ∷ ms) = IsFine most m × AllFine most ms
 
--- what a composition keeps
+-- the instances have these types
+abbrev pub AreOver : Table → List Member → Type 0
+AreOver types [] = Unit {0}
+AreOver types (m ∷ ms) = (m.instance.types ≡ types) × AreOver types ms
+
+-- what a composition's automata keep within: the limits of what is declared
+abbrev pub component_limits : Limits
+component_limits = limits
+
+-- the names that may be hidden
+abbrev pub most_hidden : ℕ
+most_hidden = 64
+
+-- an output of one of the components has this name
+abbrev pub is_output_of : Composed → Name → Bool
+is_output_of c x = list_any (λ m. list_any (λ e. is_output (Some e.kind) && bytes_eq e.name x) m.instance.automaton.entries) c.members
+
+-- what a composition keeps: its name is legal, the components have one table of types and different names, and so have the hidden outputs
 pub record IsSound (c : Composed) : Type 0 where
-  pub members : AllFine c.members
+  pub types : AreTypes c.types
+  pub legal : IsName c.name
+  pub names : IsTrue (distinct (map (λ m. m.name) c.members))
+  pub few : length c.members ≤ component_limits.components
+  pub hidden : IsTrue (distinct c.hidden)
+  pub few_hidden : length c.hidden ≤ most_hidden
+  pub outputs : IsTrue (list_all (is_output_of c) c.hidden)
+  pub over : AreOver c.types c.members
+  pub members : AllFine component_limits c.members
   pub compatible : Compatible (components_of c)

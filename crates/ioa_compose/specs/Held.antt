@@ -4,29 +4,31 @@ use Rattle.std.specs.String.{string_bytes}
 use Rattle.std.specs.Coded.{Coded, code_by, coded×, coded_list, coded_ℕ}
 use Rattle.ioa_value.specs.Plain.{plain}
 use Rattle.ioa_syntax.specs.View.{automaton_of}
-use Rattle.ioa_syntax.specs.Instances.{basic_table}
+use Rattle.ioa_value.specs.Table.{Table}
+use Rattle.ioa_value.specs.Coded.{coded_table}
 use Rattle.ioa_syntax.specs.Compositions as compositions
 use Rattle.ioa_compose.specs.declared.member.Member.{Member}
 use Rattle.ioa_compose.specs.contracts.member.Member as member
 
 -- what the program holds of a composition
 pub record Held : Type 0 where
+  pub types : Table
   pub name : List ℕ
   pub members : List Member
   pub hidden : List (List ℕ)
 
 abbrev pub held_code : Coded Held
 held_code =
-    code_by (List ℕ × (List Member × List (List ℕ))) (coded× (coded_list coded_ℕ) (coded× (coded_list member.the_row.coded) (coded_list (coded_list coded_ℕ))))
-    (λ h. (h.name, (h.members, h.hidden))) (λ p. record { name = p.0; members = p.1.0; hidden = p.1.1 }) (λ _. refl)
+    code_by (Table × (List ℕ × (List Member × List (List ℕ)))) (coded× coded_table (coded× (coded_list coded_ℕ) (coded× (coded_list member.the_row.coded) (coded_list (coded_list coded_ℕ)))))
+    (λ h. (h.types, (h.name, (h.members, h.hidden)))) (λ p. record { types = p.0; name = p.1.0; members = p.1.1.0; hidden = p.1.1.1 }) (λ _. refl)
 
 abbrev pub member_of : Member → compositions.Member
 member_of m = record {
   name = string_bytes m.name;
-  instance = record { types = basic_table; automaton = automaton_of m.automaton; arguments = map plain m.arguments.items };
+  instance = record { types = m.types; automaton = automaton_of m.automaton; arguments = map plain m.arguments.items };
   starts = map plain m.starts.items;
 }
 
 -- the composition of the definitions
 abbrev pub composed_of : Held → compositions.Composed
-composed_of h = record { name = h.name; members = map member_of h.members; hidden = h.hidden }
+composed_of h = record { types = h.types; name = h.name; members = map member_of h.members; hidden = h.hidden }

@@ -5,11 +5,12 @@ use Rattle.ioa_value.specs.declared.arithmetic.Fault.{Fault}
 use Rattle.ioa_value.specs.Actions.{Name, Act}
 use Rattle.ioa_value.specs.Plain.{Val}
 use Rattle.ioa_lex.specs.declared.refusal.Refusal.{Refusal}
-use Rattle.ioa_lex.specs.declared.refusal.Refusal.TheVariants.{ArgMismatch, Clash, StartFault, OutOfMemory}
+use Rattle.ioa_lex.specs.declared.refusal.Refusal.TheVariants.{TextTooLong, BadByte, Syntax, TooDeep, DuplicateName, UnknownName, TypeMismatch, BadSignature, NoProposal, TooMany, TooWide, ArgMismatch, CrashName, Clash, HiddenUnknown, StartFault, NoComposition, OutOfMemory}
 use Rattle.ioa_syntax.specs.declared.tree.Kind.TheVariants.{Internal, Output}
 use Rattle.ioa_syntax.specs.Tree.{EntryTree, AutomatonTree, InstanceTree, SourceTree}
-use Rattle.ioa_syntax.specs.Instances.{basic_table, Instance, argument_values, start_values, component_of}
-use Rattle.ioa_syntax.specs.Compositions.{Fit, automaton_named}
+use Rattle.ioa_syntax.specs.Types.{types_of}
+use Rattle.ioa_syntax.specs.Instances.{Instance, Fit, argument_values, start_values, component_of}
+use Rattle.ioa_syntax.specs.Compositions.{automaton_named}
 use Rattle.ioa_compose.specs.Bindings.{IsBound, AreBound}
 
 -- the arguments have values, and these are not of the formals' types, one for each
@@ -17,8 +18,8 @@ pub record Misfits (s : SourceTree) (i : InstanceTree) : Type 0 where
   pub automaton : AutomatonTree
   pub declared : automaton_named s i.automaton ≡ Some automaton
   pub arguments : List Val
-  pub valued : argument_values i.arguments ≡ Ok arguments
-  pub unfit : Fit basic_table automaton.formals arguments → ⊥
+  pub valued : argument_values (types_of s) i.arguments ≡ Ok arguments
+  pub unfit : Fit (types_of s) automaton.formals arguments → ⊥
 
 -- a start expression faults
 pub record StartsWith (s : SourceTree) (i : InstanceTree) (f : Fault) : Type 0 where
@@ -60,40 +61,78 @@ NoClash s is = (i j : ℕ) (m n : InstanceTree) (name : Name) → i < j → slic
 abbrev pub AllBound : SourceTree → List InstanceTree → Type 0
 AllBound s is = (ns : List Instance) × AreBound s is ns
 
+-- what composing can refuse
+pub data Reason : Type 0 where
+  misfit : ℕ → Reason
+  faulty : ℕ → Fault → Reason
+  clashing : ℕ → ℕ → Name → Reason
+  no_memory : Reason
+  other : Reason
+
+abbrev pub reason_of : Refusal → Reason
+reason_of (ArgMismatch i) = misfit i
+reason_of (StartFault i f) = faulty i f
+reason_of (Clash i j name) = clashing i j (string_bytes name)
+reason_of OutOfMemory = no_memory
+reason_of TextTooLong = other
+reason_of (BadByte line) = other
+reason_of (Syntax line) = other
+reason_of (TooDeep line) = other
+reason_of (DuplicateName line) = other
+reason_of (UnknownName line) = other
+reason_of (TypeMismatch line) = other
+reason_of (BadSignature line) = other
+reason_of (NoProposal line) = other
+reason_of (TooMany line) = other
+reason_of (TooWide line) = other
+reason_of (CrashName i) = other
+reason_of (HiddenUnknown name) = other
+reason_of NoComposition = other
+
 -- what holds of components that are refused so: a clash is told only where each has its instance, and a start expression's
 -- fault only where no components clash
+abbrev pub IsRefusedFor : SourceTree → List InstanceTree → Reason → Type 0
+IsRefusedFor s is (misfit i) = (n : InstanceTree) × (slice_get is i ≡ Some n) × Misfits s n
+IsRefusedFor s is (faulty i f) = (n : InstanceTree) × (slice_get is i ≡ Some n) × ((argument_values (types_of s) n.arguments ≡ Err f) ⊎ (StartsWith s n f × NoClash s is))
+IsRefusedFor s is (clashing i j name) = (m : InstanceTree) × (n : InstanceTree) × (i < j) × (slice_get is i ≡ Some m) × (slice_get is j ≡ Some n) × (c : ClashOn s m n name) × IsFirstClash s is i j × IsFirstEntry name c.first c.second × AllBound s is
+IsRefusedFor s is no_memory = Unit {0}
+IsRefusedFor s is other = ⊥
+
 abbrev pub IsRefused : SourceTree → List InstanceTree → Refusal → Type 0
-IsRefused s is (ArgMismatch i) = (n : InstanceTree) × (slice_get is i ≡ Some n) × Misfits s n
-IsRefused s is (StartFault i f) = (n : InstanceTree) × (slice_get is i ≡ Some n) × ((argument_values n.arguments ≡ Err f) ⊎ (StartsWith s n f × NoClash s is))
-IsRefused s is (Clash i j name) = (m : InstanceTree) × (n : InstanceTree) × (i < j) × (slice_get is i ≡ Some m) × (slice_get is j ≡ Some n) × (c : ClashOn s m n (string_bytes name)) × IsFirstClash s is i j × IsFirstEntry (string_bytes name) c.first c.second × AllBound s is
-IsRefused s is OutOfMemory = Unit {0}
-IsRefused s is _ = ⊥
+IsRefused s is r = IsRefusedFor s is (reason_of r)
 
 -- what holds of one component that is refused in its place, before it starts
-abbrev pub IsRefusedAt : SourceTree → ℕ → InstanceTree → Refusal → Type 0
-IsRefusedAt s k n (ArgMismatch i) = (i ≡ k) × Misfits s n
-IsRefusedAt s k n (StartFault i f) = (i ≡ k) × (argument_values n.arguments ≡ Err f)
-IsRefusedAt s k n OutOfMemory = Unit {0}
-IsRefusedAt s k n _ = ⊥
+abbrev pub IsRefusedAt : SourceTree → ℕ → InstanceTree → Reason → Type 0
+IsRefusedAt s k n (misfit i) = (i ≡ k) × Misfits s n
+IsRefusedAt s k n (faulty i f) = (i ≡ k) × (argument_values (types_of s) n.arguments ≡ Err f)
+IsRefusedAt s k n (clashing i j name) = ⊥
+IsRefusedAt s k n no_memory = Unit {0}
+IsRefusedAt s k n other = ⊥
 
 -- the start of the instance in this place faults
-abbrev pub FaultsAt : ℕ → Instance → Refusal → Type 0
-FaultsAt k n (StartFault i f) = (i ≡ k) × (start_values n ≡ Err f)
-FaultsAt k n OutOfMemory = Unit {0}
-FaultsAt k n _ = ⊥
+abbrev pub FaultsAt : ℕ → Instance → Reason → Type 0
+FaultsAt k n (misfit i) = ⊥
+FaultsAt k n (faulty i f) = (i ≡ k) × (start_values n ≡ Err f)
+FaultsAt k n (clashing i j name) = ⊥
+FaultsAt k n no_memory = Unit {0}
+FaultsAt k n other = ⊥
 
 -- the start of one of the instances faults
-abbrev pub FaultsIn : List Instance → Refusal → Type 0
-FaultsIn ns (StartFault i f) = (n : Instance) × (slice_get ns i ≡ Some n) × (start_values n ≡ Err f)
-FaultsIn ns OutOfMemory = Unit {0}
-FaultsIn ns _ = ⊥
+abbrev pub FaultsIn : List Instance → Reason → Type 0
+FaultsIn ns (misfit i) = ⊥
+FaultsIn ns (faulty i f) = (n : Instance) × (slice_get ns i ≡ Some n) × (start_values n ≡ Err f)
+FaultsIn ns (clashing i j name) = ⊥
+FaultsIn ns no_memory = Unit {0}
+FaultsIn ns other = ⊥
 
 -- no two of the instances before these two clash
 abbrev pub NoneClashes : List Instance → ℕ → ℕ → Type 0
 NoneClashes ns i j = (k l : ℕ) (m n : Instance) (name : Name) → Before k l i j → slice_get ns k ≡ Some m → slice_get ns l ≡ Some n → Clashing name m n → ⊥
 
 -- two of the instances clash, and none before them
-abbrev pub ClashesIn : List Instance → Refusal → Type 0
-ClashesIn ns (Clash i j name) = (m : Instance) × (n : Instance) × (i < j) × (slice_get ns i ≡ Some m) × (slice_get ns j ≡ Some n) × Clashing (string_bytes name) m n × NoneClashes ns i j × IsFirstEntry (string_bytes name) m n
-ClashesIn ns OutOfMemory = Unit {0}
-ClashesIn ns _ = ⊥
+abbrev pub ClashesIn : List Instance → Reason → Type 0
+ClashesIn ns (misfit i) = ⊥
+ClashesIn ns (faulty i f) = ⊥
+ClashesIn ns (clashing i j name) = (m : Instance) × (n : Instance) × (i < j) × (slice_get ns i ≡ Some m) × (slice_get ns j ≡ Some n) × Clashing name m n × NoneClashes ns i j × IsFirstEntry name m n
+ClashesIn ns no_memory = Unit {0}
+ClashesIn ns other = ⊥

@@ -1,17 +1,18 @@
 ghost use Rattle.std.specs.Prelude.{◌≡◌, ◌&&◌, [], ◌∷◌, true, map, Some, Ok, Err, length, IfOk, IfErr};
 ghost use Rattle.std.specs.List.{list_all};
 ghost use Rattle.ioa_value.specs.Plain.{plain};
-ghost use Rattle.ioa_value.specs.Typing.{basic_types};
+ghost use Rattle.ioa_value.specs.Table.{AreTypes};
+ghost use Rattle.ioa_syntax.specs.Types as named;
+ghost use Rattle.ioa_syntax.specs.Types.{types_of};
 ghost use Rattle.ioa_syntax.specs.View.{name_of, expr_of, field_of, instance_of, automaton_of, tree_of};
 ghost use Rattle.ioa_syntax.specs.Instances as instances;
 ghost use Rattle.ioa_syntax.specs.Tree.{AutomatonTree};
 ghost use Rattle.ioa_syntax.specs.Compositions as spec;
 ghost use Rattle.ioa_compose.specs.Bindings.{IsReady, AllReady, IsBound, AreBound, fit, closed, values_in, instance_in};
-ghost use Rattle.ioa_compose.specs.Refusals.{IsRefused, IsRefusedAt};
+ghost use Rattle.ioa_compose.specs.Refusals.{IsRefused, IsRefusedAt, reason_of};
 
 use crate::evaluate::evaluate;
 use crate::picks::automaton_named;
-use ioa_check::type_named;
 use ioa_syntax::{Automaton, Declaration, Expression, Field, Instance, Name, Refusal};
 use ioa_value::{Fault, OutOfMemory, Types, Value, has_type};
 use std::alloc::Global;
@@ -31,9 +32,10 @@ pub(crate) fn bind_all<'a>(
     declarations: &'a [Declaration],
     instances: &'a [Instance],
 ) -> Result<Vec<Binding<'a>>, Refusal>
-    requires types { types.now ≡ basic_types }
+    requires types { types.now ≡ types_of (tree_of declarations.now) }
+    requires declared { AreTypes types.now }
     requires ready { AllReady (tree_of declarations.now) (map instance_of instances.now) }
-    ensures bound { IfOk result (λ bs. AreBound (tree_of declarations.now) (map instance_of instances.now) (map instance_in bs.items)) }
+    ensures bound { IfOk result (λ bs. AreBound (tree_of declarations.now) (map instance_of instances.now) (map (instance_in types.now) bs.items)) }
     ensures names { IfOk result (λ bs. map (λ b. name_of b.name.now) bs.items ≡ map (λ i. name_of i.name) instances.now) }
     ensures refused { IfErr result (λ r. IsRefused (tree_of declarations.now) (map instance_of instances.now) r) }
 {
@@ -51,11 +53,12 @@ fn bind<'a>(
     index: usize,
     instance: &'a Instance,
 ) -> Result<Binding<'a>, Refusal>
-    requires types { types.now ≡ basic_types }
+    requires types { types.now ≡ types_of (tree_of declarations.now) }
+    requires declared { AreTypes types.now }
     requires ready { IsReady (tree_of declarations.now) (instance_of instance.now) }
-    ensures bound { IfOk result (λ b. IsBound (tree_of declarations.now) (instance_of instance.now) (instance_in b)) }
+    ensures bound { IfOk result (λ b. IsBound (tree_of declarations.now) (instance_of instance.now) (instance_in types.now b)) }
     ensures name { IfOk result (λ b. name_of b.name.now ≡ name_of instance.now.name) }
-    ensures refused { IfErr result (λ r. IsRefusedAt (tree_of declarations.now) index (instance_of instance.now) r) }
+    ensures refused { IfErr result (λ r. IsRefusedAt (tree_of declarations.now) index (instance_of instance.now) (reason_of r)) }
 {
     let automaton = declared(declarations, &instance.automaton);
     match argument_values(alloc, types, &instance.arguments)? {
@@ -90,8 +93,9 @@ fn argument_values(
     types: &Types,
     arguments: &[Expression],
 ) -> Result<Result<Vec<Value>, Fault>, OutOfMemory>
-    requires { list_all closed (map expr_of arguments.now) ≡ true }
-    ensures { IfOk result (λ r. values_in r ≡ instances.argument_values (map expr_of arguments.now)) }
+    requires declared { AreTypes types.now }
+    requires closed { list_all (closed types.now) (map expr_of arguments.now) ≡ true }
+    ensures { IfOk result (λ r. values_in r ≡ instances.argument_values types.now (map expr_of arguments.now)) }
 {
     let mut values = Vec::new(alloc);
     for argument in arguments {
@@ -105,8 +109,7 @@ fn argument_values(
 
 /// Whether the values are of the fields' types, one for each.
 fn fits(types: &Types, fields: &[Field], values: &[Value]) -> bool
-    requires { types.now ≡ basic_types }
-    ensures { result ≡ fit (map field_of fields.now) (map plain values.now) }
+    ensures { result ≡ fit types.now (map field_of fields.now) (map plain values.now) }
 {
     if fields.len() != values.len() {
         return false;
@@ -121,10 +124,9 @@ fn fits(types: &Types, fields: &[Field], values: &[Value]) -> bool
 
 /// Whether the value is of the type of this name.
 fn is_named(types: &Types, name: &Name, value: &Value) -> bool
-    requires { types.now ≡ basic_types }
-    ensures { result ≡ instances.is_named instances.basic_table (name_of name.now) (plain value.now) }
+    ensures { result ≡ named.is_named types.now (name_of name.now) (plain value.now) }
 {
-    match type_named(name) {
+    match types.named(name.text.as_str()) {
         Some(ty) => has_type(types, value, ty),
         None => false,
     }

@@ -2,38 +2,46 @@ ghost use Rattle.std.specs.Prelude.{◌≡◌, ◌<◌, ◌≤◌, ◌+◌, ℕ,
 ghost use Rattle.std.specs.List.{list_all};
 ghost use Rattle.std.specs.Str.{bytes_eq};
 ghost use Rattle.ioa_syntax.specs.View.{name_of, entry_of, position_of, automaton_of};
+ghost use Rattle.ioa_value.specs.Table.{AreTypes};
 ghost use Rattle.ioa_compose.specs.Bindings.{instance_in, AllSound};
-ghost use Rattle.ioa_compose.specs.Refusals.{ClashesIn};
+ghost use Rattle.ioa_compose.specs.Refusals.{ClashesIn, reason_of};
 ghost use Rattle.ioa_compose.specs.Clashes as spec;
 ghost use Rattle.ioa_compose.specs.Clashes.{PairsClear, ClashAt, clear};
 ghost use Rattle.ioa_compose.specs.declared.binding.Binding.{Binding};
 
 use crate::binding::Binding;
-use ioa_check::type_named;
 use ioa_syntax::{Automaton, Entry, Kind, Name, Position, Refusal};
+use ioa_value::Types;
 use std::alloc::Global;
 
 /// Whether the automata of any two of these are clear of one another. It asks for well formed automata.
-pub(crate) fn compatible(alloc: Global, bindings: &[Binding]) -> Result<(), Refusal>
-    requires { AllSound (map instance_in bindings.now) }
-    ensures ok { OnOk result (PairsClear bindings.now) }
-    ensures refused { IfErr result (λ r. ClashesIn (map instance_in bindings.now) r) }
+pub(crate) fn compatible(alloc: Global, types: &Types, bindings: &[Binding]) -> Result<(), Refusal>
+    requires declared { AreTypes types.now }
+    requires sound { AllSound (map (instance_in types.now) bindings.now) }
+    ensures ok { OnOk result (PairsClear types.now bindings.now) }
+    ensures refused { IfErr result (λ r. ClashesIn (map (instance_in types.now) bindings.now) (reason_of r)) }
 {
     for i in 0..bindings.len() {
-        clear_of_later(alloc, bindings, i)?;
+        clear_of_later(alloc, types, bindings, i)?;
     }
     Ok(())
 }
 
-fn clear_of_later(alloc: Global, bindings: &[Binding], i: usize) -> Result<(), Refusal>
+fn clear_of_later(
+    alloc: Global,
+    types: &Types,
+    bindings: &[Binding],
+    i: usize,
+) -> Result<(), Refusal>
+    requires declared { AreTypes types.now }
     requires within { i < length bindings.now }
-    requires before { (k j : ℕ) (b c : Binding) → k < i → k < j → slice_get bindings.now k ≡ Some b → slice_get bindings.now j ≡ Some c → clear (automaton_of b.automaton.now) (automaton_of c.automaton.now) ≡ true }
-    requires sound { AllSound (map instance_in bindings.now) }
-    ensures refused { IfErr result (λ r. ClashesIn (map instance_in bindings.now) r) }
-    ensures ok { OnOk result ((j : ℕ) (b c : Binding) → i < j → slice_get bindings.now i ≡ Some b → slice_get bindings.now j ≡ Some c → clear (automaton_of b.automaton.now) (automaton_of c.automaton.now) ≡ true) }
+    requires before { (k j : ℕ) (b c : Binding) → k < i → k < j → slice_get bindings.now k ≡ Some b → slice_get bindings.now j ≡ Some c → clear types.now (automaton_of b.automaton.now) (automaton_of c.automaton.now) ≡ true }
+    requires sound { AllSound (map (instance_in types.now) bindings.now) }
+    ensures refused { IfErr result (λ r. ClashesIn (map (instance_in types.now) bindings.now) (reason_of r)) }
+    ensures ok { OnOk result ((j : ℕ) (b c : Binding) → i < j → slice_get bindings.now i ≡ Some b → slice_get bindings.now j ≡ Some c → clear types.now (automaton_of b.automaton.now) (automaton_of c.automaton.now) ≡ true) }
 {
     for j in i + 1..bindings.len() {
-        if let Some(name) = first_clash(bindings[i].automaton, bindings[j].automaton) {
+        if let Some(name) = first_clash(types, bindings[i].automaton, bindings[j].automaton) {
             return Err(Refusal::Clash(i, j, String::from_str(alloc, name.text.as_str())?));
         }
     }
@@ -41,23 +49,23 @@ fn clear_of_later(alloc: Global, bindings: &[Binding], i: usize) -> Result<(), R
 }
 
 /// The name of the first entry of one automaton that clashes with an entry of the other.
-fn first_clash<'a>(automaton: &'a Automaton, other: &Automaton) -> Option<&'a Name>
-    ensures clear { IfNone result (clear (automaton_of automaton.now) (automaton_of other.now) ≡ true) }
-    ensures clash { IfSome result (λ name. ClashAt (automaton_of automaton.now) (automaton_of other.now) (name_of name.now)) }
+fn first_clash<'a>(types: &Types, automaton: &'a Automaton, other: &Automaton) -> Option<&'a Name>
+    ensures clear { IfNone result (clear types.now (automaton_of automaton.now) (automaton_of other.now) ≡ true) }
+    ensures clash { IfSome result (λ name. ClashAt types.now (automaton_of automaton.now) (automaton_of other.now) (name_of name.now)) }
 {
     for entry in &automaton.entries {
-        if clashes_with(entry, other) {
+        if clashes_with(types, entry, other) {
             return Some(&entry.name);
         }
     }
     None
 }
 
-fn clashes_with(entry: &Entry, other: &Automaton) -> bool
-    ensures { not result ≡ list_all (λ f. not (spec.clash (entry_of entry.now) f)) (automaton_of other.now).entries }
+fn clashes_with(types: &Types, entry: &Entry, other: &Automaton) -> bool
+    ensures { not result ≡ list_all (λ f. not (spec.clash types.now (entry_of entry.now) f)) (automaton_of other.now).entries }
 {
     for theirs in &other.entries {
-        if clash(entry, theirs) {
+        if clash(types, entry, theirs) {
             return true;
         }
     }
@@ -65,22 +73,22 @@ fn clashes_with(entry: &Entry, other: &Automaton) -> bool
 }
 
 /// Whether two entries have an action in common that is internal to one of them, or an output of both.
-fn clash(a: &Entry, b: &Entry) -> bool
-    ensures { result ≡ spec.clash (entry_of a.now) (entry_of b.now) }
+fn clash(types: &Types, a: &Entry, b: &Entry) -> bool
+    ensures { result ≡ spec.clash types.now (entry_of a.now) (entry_of b.now) }
 {
     a.name.text.as_str() == b.name.text.as_str()
-        && all_alike(&a.positions, &b.positions)
+        && all_alike(types, &a.positions, &b.positions)
         && kinds_clash(a.kind, b.kind)
 }
 
-fn all_alike(a: &[Position], b: &[Position]) -> bool
-    ensures { result ≡ spec.all_alike (map position_of a.now) (map position_of b.now) }
+fn all_alike(types: &Types, a: &[Position], b: &[Position]) -> bool
+    ensures { result ≡ spec.all_alike types.now (map position_of a.now) (map position_of b.now) }
 {
     if a.len() != b.len() {
         return false;
     }
     for i in 0..a.len() {
-        if !alike(&a[i], &b[i]) {
+        if !alike(types, &a[i], &b[i]) {
             return false;
         }
     }
@@ -88,14 +96,19 @@ fn all_alike(a: &[Position], b: &[Position]) -> bool
 }
 
 /// Whether some value is of both positions: they are of one type.
-fn alike(a: &Position, b: &Position) -> bool
-    ensures { result ≡ spec.alike (position_of a.now) (position_of b.now) }
+fn alike(types: &Types, a: &Position, b: &Position) -> bool
+    ensures { result ≡ spec.alike types.now (position_of a.now) (position_of b.now) }
 {
     match (a, b) {
-        (Position::Typed(a), Position::Typed(b)) => match (type_named(&a.ty), type_named(&b.ty)) {
-            (Some(a), Some(b)) => b.0 == a.0,
-            _ => false,
-        },
+        (Position::Typed(a), Position::Typed(b)) => {
+            match (
+                types.named(a.ty.text.as_str()),
+                types.named(b.ty.text.as_str()),
+            ) {
+                (Some(a), Some(b)) => b.0 == a.0,
+                (Some(_), None) | (None, _) => false,
+            }
+        }
     }
 }
 
@@ -106,6 +119,6 @@ fn kinds_clash(a: Kind, b: Kind) -> bool
     match (a, b) {
         (Kind::Internal, _) | (_, Kind::Internal) => true,
         (Kind::Output, Kind::Output) => true,
-        _ => false,
+        (Kind::Input, Kind::Input | Kind::Output) | (Kind::Output, Kind::Input) => false,
     }
 }

@@ -3,8 +3,10 @@ ghost use Rattle.std.specs.String.{string_bytes};
 ghost use Rattle.ioa_lex.specs.declared.refusal.Refusal.TheVariants.{NoComposition, OutOfMemory};
 ghost use Rattle.ioa_syntax.specs.Tree.{CompositionTree};
 ghost use Rattle.ioa_syntax.specs.View.{tree_of, assembly_of};
+ghost use Rattle.ioa_syntax.specs.Names.{LegalNames};
+ghost use Rattle.ioa_syntax.specs.Types.{types_of};
 ghost use Rattle.ioa_syntax.specs.WellFormed.{WellFormed};
-ghost use Rattle.ioa_compose.specs.Bindings.{AllReady};
+ghost use Rattle.ioa_compose.specs.Bindings.{IsComposable};
 ghost use Rattle.ioa_compose.specs.Refusals.{IsRefused};
 ghost use Rattle.ioa_syntax.specs.Compositions.{Composed, IsComposed, picked};
 ghost use Rattle.ioa_compose.specs.Fine.{IsSound};
@@ -21,9 +23,10 @@ use ioa_value::Types;
 use std::alloc::Global;
 use std::marker::Model;
 
-/// A composition: its components in order, compatible with one another.
+/// A composition: its types, and its components in order, compatible with one another.
 #[derive(Drop)]
 pub struct Composition {
+    types: Types,
     name: String,
     members: Vec<Member>,
     hidden: Vec<String>,
@@ -39,12 +42,20 @@ impl Model for Composition {
 
     ghost coded = { held_code };
 
-    ghost view = { λ c. record { name = string_bytes c.name; members = c.members.items; hidden = map string_bytes c.hidden.items } };
+    ghost view = { λ c. record { types = c.types; name = string_bytes c.name; members = c.members.items; hidden = map string_bytes c.hidden.items } };
 
-    ghost invariant = { λ c. IsSound (composed_of (record { name = string_bytes c.name; members = c.members.items; hidden = map string_bytes c.hidden.items })) };
+    ghost invariant = { λ c. IsSound (composed_of (record { types = c.types; name = string_bytes c.name; members = c.members.items; hidden = map string_bytes c.hidden.items })) };
 }
 
 impl Composition {
+    /// The types of the composition's values.
+    pub fn types(&self) -> &Types
+        ensures value { result.now ≡ self.now.types }
+        ensures sound { IsSound (composed_of self.now) }
+    {
+        &self.types
+    }
+
     /// The components in order.
     pub fn members(&self) -> &[Member]
         ensures value { result.now ≡ self.now.members }
@@ -85,7 +96,7 @@ pub fn compose(alloc: Global, checked: &Checked, name: Option<&str>) -> Result<C
 {
     let declarations = checked.declarations();
     match picks::picked(declarations, name) {
-        Some(assembly) => composed(alloc, declarations, assembly),
+        Some(assembly) => composed(alloc, checked.types(), declarations, assembly),
         None => Err(Refusal::NoComposition),
     }
 }
@@ -93,20 +104,24 @@ pub fn compose(alloc: Global, checked: &Checked, name: Option<&str>) -> Result<C
 /// The composition that a declaration of a well formed source stands for.
 fn composed(
     alloc: Global,
+    types: &Types,
     declarations: &[Declaration],
     assembly: &Assembly,
 ) -> Result<Composition, Refusal>
+    requires types { types.now ≡ types_of (tree_of declarations.now) }
     requires well_formed { WellFormed (tree_of declarations.now) }
-    requires ready { AllReady (tree_of declarations.now) (assembly_of assembly.now).instances }
+    requires legal { LegalNames (tree_of declarations.now) }
+    requires composable { IsComposable (tree_of declarations.now) (assembly_of assembly.now) }
     ensures composed { IfOk result (λ c. IsComposed (tree_of declarations.now) (assembly_of assembly.now) (composed_of c)) }
     ensures refused { IfErr result (λ r. IsRefused (tree_of declarations.now) (assembly_of assembly.now).instances r) }
 {
-    let types = Types::new(alloc)?;
-    let bindings = bind_all(alloc, &types, declarations, &assembly.instances)?;
-    compatible(alloc, &bindings)?;
-    let members = start_all(alloc, &types, &bindings)?;
+    let shared = types.share()?;
+    let bindings = bind_all(alloc, &shared, declarations, &assembly.instances)?;
+    compatible(alloc, &shared, &bindings)?;
+    let members = start_all(alloc, &shared, &bindings)?;
     let name = String::from_str(alloc, assembly.name.text.as_str())?;
     Ok(Composition {
+        types: shared,
         name,
         members,
         hidden: Vec::new(alloc),

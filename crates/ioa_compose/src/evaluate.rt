@@ -2,13 +2,13 @@ ghost use Rattle.std.specs.Prelude.{◌≡◌, ◌<◌, ◌^◌, ℕ, pos, Some,
 ghost use Rattle.ioa_value.specs.Plain.{plain};
 ghost use Rattle.ioa_value.specs.Operators.{answer_of};
 ghost use Rattle.ioa_syntax.specs.View.{expr_of, name_of, field_of};
-ghost use Rattle.ioa_syntax.specs.Meaning.{val, values_of, op_of};
-ghost use Rattle.ioa_syntax.specs.Instances.{basic_table, field_names};
+ghost use Rattle.ioa_value.specs.Table.{AreTypes};
+ghost use Rattle.ioa_syntax.specs.Meaning.{val, values_of};
+ghost use Rattle.ioa_syntax.specs.Instances.{Fit, field_names};
 ghost use Rattle.ioa_syntax.specs.WellFormed.{type_of, context_of};
-ghost use Rattle.ioa_syntax.specs.Compositions.{Fit};
 
-use ioa_syntax::{Expression, Field, Operator};
-use ioa_value::{Fault, Op, OutOfMemory, Types, Value, apply};
+use ioa_syntax::{Expression, Field};
+use ioa_value::{Fault, OutOfMemory, Types, Value, apply};
 use std::alloc::Global;
 
 /// The value of the first of the fields that has this name. Automata have few formals, so the recursion is short.
@@ -31,16 +31,6 @@ fn found<'a>(fields: &[Field], values: &'a [Value], name: &str) -> Option<&'a Va
     }
 }
 
-fn op_between(operator: Operator) -> Op
-    ensures { result ≡ op_of operator }
-{
-    match operator {
-        Operator::Equal => Op::Eq,
-        Operator::Plus => Op::Add,
-        Operator::Minus => Op::Sub,
-    }
-}
-
 /// The value of a well typed expression over these fields, or its fault.
 pub(crate) fn evaluate(
     alloc: Global,
@@ -49,9 +39,10 @@ pub(crate) fn evaluate(
     values: &[Value],
     expression: &Expression,
 ) -> Result<Result<Value, Fault>, OutOfMemory>
-    requires fit { Fit basic_table (map field_of fields.now) (map plain values.now) }
-    requires typed { (ty : ℕ) × (type_of (context_of basic_table (map field_of fields.now)) (expr_of expression.now) ≡ Some ty) }
-    ensures { IfOk result (λ r. answer_of r ≡ val (expr_of expression.now) (values_of (field_names (map field_of fields.now)) (map plain values.now))) }
+    requires types { AreTypes types.now }
+    requires fit { Fit types.now (map field_of fields.now) (map plain values.now) }
+    requires typed { (ty : ℕ) × (type_of types.now (context_of types.now (map field_of fields.now)) (expr_of expression.now) ≡ Some ty) }
+    ensures { IfOk result (λ r. answer_of r ≡ val types.now (expr_of expression.now) (values_of (field_names (map field_of fields.now)) (map plain values.now))) }
 {
     match expression {
         Expression::Number(n, _) => Ok(Ok(Value::Num(number(*n)))),
@@ -70,7 +61,7 @@ pub(crate) fn evaluate(
                 Ok(value) => value,
                 Err(fault) => return Ok(Err(fault)),
             };
-            apply(alloc, types, op_between(*operator), &[first, second])
+            apply(alloc, types, *operator, &[first, second])
         }
     }
 }

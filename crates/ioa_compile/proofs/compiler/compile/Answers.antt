@@ -7,18 +7,15 @@ use Rattle.std.specs.String.{string_bytes}
 use Rattle.ioa_compile.specs.Programs.{Prog}
 use Rattle.ioa_compile.specs.Means.{Means}
 use Rattle.ioa_compile.proofs.Meant.{all_like, all_match, all_related, from_all}
-use Rattle.ioa_compile.proofs.Twins.{are_members, compatible_same}
+use Rattle.ioa_compile.proofs.Twins.{is_program}
 use Rattle.ioa_compile.proofs.compiler.compile.Goals as goal
 
-pub new-requires-2 : goal.new-requires-2
-new-requires-2 c =
-    let ms = (composed_of c.args.composition.now).members in
+pub new-requires : goal.new-requires
+new-requires c =
+    let composed = composed_of c.args.composition.now in
     let cs = map member_code c.in_ok-members.members.items in
     let all = subst (λ l. AllZip DoesSame (map member_of l) cs) c.members.ensures.value c.in_ok-members.ensures in
-    record {
-      members = are_members ms cs all;
-      compatible = compatible_same ms cs all c.members.ensures.sound.compatible;
-    }
+    is_program composed (record { types = c.in_ok-types.types; name = string_bytes c.in_ok-name.name; members = cs; hidden = map string_bytes c.in_ok-hidden.hidden.items }) c.members.ensures.sound (c.in_ok-name.ensures.ok ∙ c.name.ensures) (c.in_ok-types.ensures.same ∙ c.types.ensures.value) (c.in_ok-hidden.ensures ∙ c.hidden.ensures) all
 
 pub returns : goal.returns
 returns c =
@@ -26,12 +23,13 @@ returns c =
     let ms = composed.members in
     let cs = map member_code c.in_ok-members.members.items in
     let all = subst (λ l. AllZip DoesSame (map member_of l) cs) c.members.ensures.value c.in_ok-members.ensures in
-    let made : Prog = record { name = string_bytes c.in_ok-name.name; members = cs; hidden = map string_bytes c.in_ok-hidden.hidden.items } in
+    let made : Prog = record { types = c.in_ok-types.types; name = string_bytes c.in_ok-name.name; members = cs; hidden = map string_bytes c.in_ok-hidden.hidden.items } in
     let means : Means made composed = record {
+      types = c.in_ok-types.ensures.same ∙ c.types.ensures.value;
       name = c.in_ok-name.ensures.ok ∙ c.name.ensures;
       hidden = c.in_ok-hidden.ensures ∙ c.hidden.ensures;
       tables = all_match ms cs all;
       components = all_like ms 0 ms cs (from_all ms) all;
       starts = all_related ms 0 ms cs (from_all ms) all;
     } in
-    subst (λ (p : Prog). Means p composed) (sym c.new-2.ensures) means
+    subst (λ (p : Prog). Means p composed) (sym c.new.ensures) means

@@ -6,9 +6,9 @@ use Rattle.ioa_compile.proofs.Paired.{paired_next}
 use Rattle.ioa_compile.proofs.Twins.{fine_at}
 use Rattle.ioa_compile.proofs.compiler.compile_members.Goals as goal
 
-pub compile_member-requires-clause-fine : goal.compile_member-requires-clause-fine
-compile_member-requires-clause-fine c =
-    fine_at c.args.members.now c.loop-member.member-index c.member-item.result c.requires.fine (omega arith) c.member-item.is
+pub compile_member-requires : goal.compile_member-requires
+compile_member-requires c =
+    fine_at c.args.members.now c.loop-member.member-index c.member-item.result c.requires (omega arith) c.member-item.is
 
 pub loop-member-preserved : goal.loop-member-preserved
 loop-member-preserved c =

@@ -3,8 +3,9 @@ use Rattle.std.proofs.lemmas.Result.{on_ok_weaker}
 use Rattle.ioa_code.specs.Parts.{listing}
 use Rattle.ioa_syntax.specs.View.{name_of, expr_of, variable_of, entry_of}
 use Rattle.ioa_compose.specs.Held.{member_of}
+use Rattle.ioa_compose.specs.Fine.{component_limits}
 use Rattle.ioa_compile.specs.Scopes.{scope_of}
-use Rattle.ioa_compile.proofs.Named.{place_in, place_below}
+use Rattle.ioa_value.proofs.PlaceLemmas.{place_in, place_below}
 use Rattle.ioa_compile.proofs.Emitted.{adds_assign}
 use Rattle.ioa_compile.proofs.emitter.emit_assignment.Goals as goal
 
@@ -14,7 +15,7 @@ overflow_cast-i c =
     let x = name_of c.args.name.now in
     let place = place_in _ s.variables x c.variable_place.result c.variable_place.ensures (ap (λ l. map (λ v. v.field.name) (map variable_of l)) c.deref.ensures.value) in
     let below : c.in-Some.i < length s.variables = place_below s.variables x c.in-Some.i (place ∙ c.in-Some.is) in
-    let few : length s.variables ≤ 64 = c.requires.scope.variables in
+    let few : length s.variables ≤ component_limits.variables = c.requires.scope.variables in
     let lt : c.in-Some.i < 64 = omega arith in
     search rules
 
@@ -24,5 +25,5 @@ returns c =
     let x = name_of c.args.name.now in
     let place = place_in _ s.variables x c.variable_place.result c.variable_place.ensures (ap (λ l. map (λ v. v.field.name) (map variable_of l)) c.deref.ensures.value) in
     on_ok_weaker c.put.result
-    (adds_assign (listing c.args.out.now) (listing c.emit_expression.new.out) (listing c.put.new.out) s x (expr_of c.args.e.now) c.in-Some.i (place ∙ c.in-Some.is) c.in_ok-emit_expression.ensures)
+    (λ z. adds_assign (listing c.args.member.now.types c.args.out.now) (listing c.args.member.now.types c.emit_expression.new.out) (listing c.args.member.now.types c.put.new.out) s x (expr_of c.args.e.now) c.in-Some.i (place ∙ c.in-Some.is) c.in_ok-emit_expression.ensures (z c.args.member.now.types))
     c.put.ensures

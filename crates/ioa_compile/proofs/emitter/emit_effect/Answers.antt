@@ -18,8 +18,8 @@ loop-statement-preserved c =
     let xs = c.args.statements.now in
     let i = c.loop-statement.statement-index in
     let x = c.statement-item.result in
-    let c0 = listing c.loop-statement.out in
-    let c1 = listing c.emit_statement.new.out in
+    let c0 = listing c.args.member.now.types c.loop-statement.out in
+    let c1 = listing c.args.member.now.types c.emit_statement.new.out in
     let next : drop i xs ≡ x ∷ drop (i + 1) xs = drop_item xs i x (omega arith) c.statement-item.is in
     let inv = c.loop-statement.invariant in
     let known = subst (λ (l : List Statement). AreKnown s (map stmt_of l)) next inv.known in
@@ -36,6 +36,6 @@ pub returns : goal.returns
 returns c =
     let s = scope_of (member_of c.args.member.now) (entry_of c.args.entry.now) in
     let xs = c.args.statements.now in
-    let out = listing c.loop-statement.out in
+    let out = listing c.args.member.now.types c.loop-statement.out in
     let none = drop_all c.loop-statement.statement-index xs (omega arith) in
     c.loop-statement.invariant.rest out (subst (λ (l : List Statement). AddsStmts out out s (map stmt_of l)) (sym none) (adds_none out s))

@@ -12,5 +12,5 @@ abbrev pub invariant-loop-statement : goal.invariant-loop-statement
 invariant-loop-statement l = record {
   known : AreKnown (scope_of (member_of l.member) (entry_of l.entry)) (map stmt_of (drop l.statement-index l.statements));
   room : length l.out.consts.items + sum (map stmt_nodes (map stmt_of (drop l.statement-index l.statements))) < 2 ^ 16;
-  rest : (new : Listing) → AddsStmts (listing l.out) new (scope_of (member_of l.member) (entry_of l.entry)) (map stmt_of (drop l.statement-index l.statements)) → AddsStmts (listing l.fn.out) new (scope_of (member_of l.member) (entry_of l.entry)) (map stmt_of l.statements);
+  rest : (new : Listing) → AddsStmts (listing l.member.types l.out) new (scope_of (member_of l.member) (entry_of l.entry)) (map stmt_of (drop l.statement-index l.statements)) → AddsStmts (listing l.member.types l.fn.out) new (scope_of (member_of l.member) (entry_of l.entry)) (map stmt_of l.statements);
 }

@@ -2,14 +2,15 @@ use Rattle.std.proofs.Common.{◌≡◌, ◌<◌, ◌≤◌, ap, ◌∙◌, map,
 use Rattle.std.proofs.lemmas.List.{length-map}
 use Rattle.std.proofs.lemmas.Result.{on_ok_weaker}
 use Rattle.ioa_value.specs.Plain.{plain}
-use Rattle.ioa_value.specs.Typing.{basic_types}
 use Rattle.ioa_code.specs.Parts.{listing}
 use Rattle.ioa_syntax.specs.View.{name_of, field_of, position_of, variable_of, entry_of}
 use Rattle.ioa_syntax.specs.Instances.{field_names, position_name}
 use Rattle.ioa_compose.specs.Held.{member_of}
+use Rattle.ioa_compose.specs.Fine.{component_limits}
 use Rattle.ioa_compile.specs.Scopes.{scope_of}
-use Rattle.ioa_compile.proofs.Named.{place_in, place_below, none_from}
-use Rattle.ioa_compile.proofs.Emitted.{OwnTypes-at, origin_formal, adds_named, argument_at}
+use Rattle.ioa_value.proofs.PlaceLemmas.{place_in, place_below}
+use Rattle.ioa_compile.proofs.Emitted.{none_from, origin_slot, origin_parameter, adds_slot, adds_argument, origin_formal, adds_named, argument_at}
+use Rattle.ioa_value.proofs.TypingLemmas.{OwnTypes-get}
 use Rattle.ioa_compile.proofs.emitter.emit_name.Goals as goal
 
 pub overflow_cast-i : goal.overflow_cast-i
@@ -18,7 +19,7 @@ overflow_cast-i c =
     let x = name_of c.args.name.now in
     let place = place_in _ s.variables x c.variable_place.result c.variable_place.ensures (ap (λ l. map (λ v. v.field.name) (map variable_of l)) c.deref.ensures.value) in
     let below : c.in-Some.i < length s.variables = place_below s.variables x c.in-Some.i (place ∙ c.in-Some.is) in
-    let few : length s.variables ≤ 64 = c.requires.scope.variables in
+    let few : length s.variables ≤ component_limits.variables = c.requires.scope.variables in
     let lt : c.in-Some.i < 64 = omega arith in
     search rules
 
@@ -31,18 +32,6 @@ index-requires c =
     let below : i < length s.formals = place_below s.formals x i (place ∙ c.in-Some-field_place.is) in
     let given : length s.formals ≡ length (map plain c.args.member.now.arguments.items) = c.requires.scope.given in
     omega (arith, length-map c.args.member.now.arguments.items plain, c.args.member.now.arguments.ok.0)
-
-pub put_constant-requires-clause-typed : goal.put_constant-requires-clause-typed
-put_constant-requires-clause-typed c =
-    let s = scope_of (member_of c.args.member.now) (entry_of c.args.entry.now) in
-    let items = c.args.member.now.arguments.items in
-    let x = name_of c.args.name.now in
-    let i = c.in-Some-field_place.i in
-    let place = place_in _ s.formals x c.field_place.result c.field_place.ensures (ap (λ l. field_names (map field_of l)) c.deref-2.ensures.value) in
-    let below : i < length s.formals = place_below s.formals x i (place ∙ c.in-Some-field_place.is) in
-    let given : length s.formals ≡ length (map plain items) = c.requires.scope.given in
-    let at = argument_at items i c.index.result.now c.in_ok-try_copy.field-0 (omega (arith, length-map items plain)) c.index.ensures c.in_ok-try_copy.ensures in
-    OwnTypes-at basic_types (map plain items) i _ c.requires.scope.typed at
 
 pub returns-in-Some-field_place : goal.returns-in-Some-field_place
 returns-in-Some-field_place c =
@@ -57,7 +46,8 @@ returns-in-Some-field_place c =
     let given : length s.formals ≡ length (map plain items) = c.requires.scope.given in
     let at = argument_at items i c.index.result.now c.in_ok-try_copy.field-0 (omega (arith, length-map items plain)) c.index.ensures c.in_ok-try_copy.ensures in
     let from = origin_formal s x i (first ∙ none_from c.variable_place.result c.in_default.not-Some) (place ∙ c.in-Some-field_place.is) in
-    on_ok_weaker c.put_constant.result (adds_named (listing c.args.out.now) (listing c.put_constant.new.out) s x i v from at) c.put_constant.ensures
+    let types = c.args.member.now.types in
+    on_ok_weaker c.put_constant.result (λ more. adds_named (listing types c.args.out.now) (listing types c.put_constant.new.out) s x i v from at (more types (OwnTypes-get types (map plain items) i v c.requires.scope.typed at))) c.put_constant.ensures
 
 pub overflow_cast-i-in-Some-position_place : goal.overflow_cast-i-in-Some-position_place
 overflow_cast-i-in-Some-position_place c =
@@ -66,6 +56,26 @@ overflow_cast-i-in-Some-position_place c =
     let i = c.in-Some-position_place.i in
     let place = place_in _ s.parameters x c.position_place.result c.position_place.ensures (ap (λ l. map position_name (map position_of l)) c.deref-3.ensures.value) in
     let below : i < length s.parameters = place_below s.parameters x i (place ∙ c.in-Some-position_place.is) in
-    let few : length s.parameters ≤ 8 = c.requires.scope.parameters in
+    let few : length s.parameters ≤ component_limits.parameters = c.requires.scope.parameters in
     let lt : i < 64 = omega arith in
     search rules
+
+pub returns-in-Some : goal.returns-in-Some
+returns-in-Some c =
+    let s = scope_of (member_of c.args.member.now) (entry_of c.args.entry.now) in
+    let types = c.args.member.now.types in
+    let x = name_of c.args.name.now in
+    let place = place_in _ s.variables x c.variable_place.result c.variable_place.ensures (ap (λ l. map (λ v. v.field.name) (map variable_of l)) c.deref.ensures.value) in
+    on_ok_weaker c.put.result (λ more. adds_slot (listing types c.args.out.now) (listing types c.put.new.out) s x c.in-Some.i (origin_slot s x c.in-Some.i (place ∙ c.in-Some.is)) (more types)) c.put.ensures
+
+pub returns : goal.returns
+returns c =
+    let s = scope_of (member_of c.args.member.now) (entry_of c.args.entry.now) in
+    let types = c.args.member.now.types in
+    let x = name_of c.args.name.now in
+    let i = c.in-Some-position_place.i in
+    let first = place_in _ s.variables x c.variable_place.result c.variable_place.ensures (ap (λ l. map (λ v. v.field.name) (map variable_of l)) c.deref.ensures.value) in
+    let second = place_in _ s.formals x c.field_place.result c.field_place.ensures (ap (λ l. field_names (map field_of l)) c.deref-2.ensures.value) in
+    let third = place_in _ s.parameters x c.position_place.result c.position_place.ensures (ap (λ l. map position_name (map position_of l)) c.deref-3.ensures.value) in
+    let from = origin_parameter s x i (first ∙ none_from c.variable_place.result c.in_default.not-Some) (second ∙ none_from c.field_place.result c.in_default-field_place.not-Some) (third ∙ c.in-Some-position_place.is) in
+    on_ok_weaker c.put-in-Some-position_place.result (λ more. adds_argument (listing types c.args.out.now) (listing types c.put-in-Some-position_place.new.out) s x i from (more types)) c.put-in-Some-position_place.ensures

@@ -1,5 +1,5 @@
 use Rattle.std.proofs.Common.{◌≡◌, ◌<◌, get_or, length, map, subst}
-use Rattle.ioa_code.specs.Parts.{number}
+use Rattle.ioa_value.specs.Plain.{number}
 use Rattle.ioa_syntax.specs.View.{entry_of}
 use Rattle.ioa_compose.specs.Held.{member_of}
 use Rattle.ioa_compile.specs.Shown.{entry_code}

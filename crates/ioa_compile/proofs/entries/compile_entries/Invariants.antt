@@ -1,6 +1,6 @@
 use Rattle.std.proofs.Common.{map, take}
 use Rattle.std.specs.List.{AllZip}
-use Rattle.ioa_code.specs.Parts.{number}
+use Rattle.ioa_value.specs.Plain.{number}
 use Rattle.ioa_syntax.specs.View.{entry_of}
 use Rattle.ioa_compose.specs.Held.{member_of}
 use Rattle.ioa_compile.specs.Shown.{entry_code}

@@ -1,5 +1,5 @@
 use Rattle.std.proofs.Common.{◌≡◌, map, take}
-use Rattle.ioa_code.specs.Parts.{number}
+use Rattle.ioa_value.specs.Plain.{number}
 use Rattle.ioa_compile.specs.Shown.{position_code}
 use Rattle.ioa_compile.specs.Tables.{position_types}
 use Rattle.ioa_compile.proofs.entries.positions_of.Given as goal

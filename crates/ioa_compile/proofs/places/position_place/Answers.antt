@@ -4,7 +4,7 @@ use Rattle.std.proofs.lemmas.Iterator.{YieldsList-from_slice}
 use Rattle.std.proofs.lemmas.Iterator.Search.{position_from_yields_List}
 use Rattle.ioa_syntax.specs.View.{name_of, position_of}
 use Rattle.ioa_syntax.specs.Instances.{position_name}
-use Rattle.ioa_compile.proofs.Named.{position-place}
+use Rattle.ioa_value.proofs.PlaceLemmas.{position-place}
 use Rattle.ioa_compile.proofs.places.position_place.Goals as goal
 
 pub returns : goal.returns

@@ -5,4 +5,4 @@ use Rattle.ioa_compose.specs.Bindings.{fit}
 use Rattle.ioa_compose.proofs.binding.fits.Given as goal
 
 abbrev pub invariant-loop-i : goal.invariant-loop-i
-invariant-loop-i l = (length l.fields ≡ length l.values) × (fit (map field_of (drop l.i l.fields)) (map plain (drop l.i l.values)) ≡ fit (map field_of l.fields) (map plain l.values))
+invariant-loop-i l = (length l.fields ≡ length l.values) × (fit l.types (map field_of (drop l.i l.fields)) (map plain (drop l.i l.values)) ≡ fit l.types (map field_of l.fields) (map plain l.values))

@@ -5,4 +5,4 @@ use Rattle.ioa_compose.specs.Clashes as spec
 use Rattle.ioa_compose.proofs.clashes.clashes_with.Given as goal
 
 abbrev pub invariant-loop-theirs : goal.invariant-loop-theirs
-invariant-loop-theirs l = list_all (λ f. not (spec.clash (entry_of l.entry) f)) (map entry_of (drop l.theirs-index l.other.entries.items)) ≡ list_all (λ f. not (spec.clash (entry_of l.entry) f)) (automaton_of l.other).entries
+invariant-loop-theirs l = list_all (λ f. not (spec.clash l.types (entry_of l.entry) f)) (map entry_of (drop l.theirs-index l.other.entries.items)) ≡ list_all (λ f. not (spec.clash l.types (entry_of l.entry) f)) (automaton_of l.other).entries

@@ -5,4 +5,4 @@ use Rattle.ioa_compose.specs.Clashes as spec
 use Rattle.ioa_compose.proofs.clashes.compatible.Given as goal
 
 abbrev pub invariant-loop-i : goal.invariant-loop-i
-invariant-loop-i l = (i j : ℕ) (b c : Binding) → i < l.i → i < j → slice_get l.bindings i ≡ Some b → slice_get l.bindings j ≡ Some c → spec.clear (automaton_of b.automaton.now) (automaton_of c.automaton.now) ≡ true
+invariant-loop-i l = (i j : ℕ) (b c : Binding) → i < l.i → i < j → slice_get l.bindings i ≡ Some b → slice_get l.bindings j ≡ Some c → spec.clear l.types (automaton_of b.automaton.now) (automaton_of c.automaton.now) ≡ true

@@ -5,5 +5,5 @@ use Rattle.ioa_compose.specs.Clashes as spec
 use Rattle.ioa_compose.proofs.clashes.first_clash.Given as goal
 
 abbrev pub invariant-loop-entry : goal.invariant-loop-entry
-invariant-loop-entry l = (list_all (λ e. list_all (λ f. not (spec.clash e f)) (automaton_of l.other).entries) (map entry_of (drop l.entry-index l.automaton.entries.items)) ≡ spec.clear (automaton_of l.automaton) (automaton_of l.other))
-    × spec.NoneUpTo (automaton_of l.automaton) (automaton_of l.other) l.entry-index
+invariant-loop-entry l = (list_all (λ e. list_all (λ f. not (spec.clash l.types e f)) (automaton_of l.other).entries) (map entry_of (drop l.entry-index l.automaton.entries.items)) ≡ spec.clear l.types (automaton_of l.automaton) (automaton_of l.other))
+    × spec.NoneUpTo l.types (automaton_of l.automaton) (automaton_of l.other) l.entry-index

@@ -1,13 +1,12 @@
-use Rattle.std.proofs.Common.{◌≡◌, [], ◌∷◌, ap, sym, ◌∙◌, arith, map, subst}
+use Rattle.std.proofs.Common.{◌≡◌, ap, sym, ◌∙◌, arith, map, subst}
 use Rattle.ioa_value.specs.Plain.{plain}
-use Rattle.ioa_value.specs.Operators.{answer_of, Takes}
-use Rattle.ioa_value.specs.Typing.{basic_types}
+use Rattle.ioa_value.specs.Operators.{answer_of}
 use Rattle.ioa_syntax.specs.Tree.{named, binary}
 use Rattle.ioa_syntax.specs.View.{expr_of, name_of, field_of}
 use Rattle.ioa_syntax.specs.Meaning.{values_of, val}
-use Rattle.ioa_syntax.specs.Instances.{basic_table, field_names}
+use Rattle.ioa_syntax.specs.Instances.{field_names}
 use Rattle.ioa_syntax.specs.WellFormed.{context_of, nodes}
-use Rattle.ioa_compose.proofs.FitLemmas.{suits_of_fit}
+use Rattle.ioa_syntax.proofs.Starts.{suits_of_fit}
 use Rattle.ioa_compose.proofs.EvaluateLemmas.{left_typed, right_typed, operands_taken, name_stands, HasSome}
 use Rattle.ioa_compose.proofs.evaluate.+evaluate.Goals as goal
 
@@ -16,27 +15,27 @@ unreachable-requires t c =
     let fs = map field_of c.args.fields.now in
     let vs = map plain c.args.values.now in
     let shown : expr_of c.args.expression.now ≡ named (name_of c.in-Name.name) = ap expr_of c.in-Name.is in
-    let h : HasSome (context_of basic_table fs) (named (name_of c.in-Name.name)) = subst (HasSome (context_of basic_table fs)) shown c.requires.typed in
-    name_stands basic_types h.0 _ (suits_of_fit basic_table fs vs c.requires.fit (name_of c.in-Name.name) h.0 h.1)
+    let h : HasSome c.args.types.now (context_of c.args.types.now fs) (named (name_of c.in-Name.name)) = subst (HasSome c.args.types.now (context_of c.args.types.now fs)) shown c.requires.typed in
+    name_stands c.args.types.now h.0 _ (suits_of_fit c.args.types.now fs vs c.requires.fit (name_of c.in-Name.name) h.0 h.1)
     (ap (values_of (field_names fs) vs) (sym c.as_str.ensures.value) ∙ c.in-None.ensures.missing)
 
 pub evaluate-requires-in-Binary : goal.evaluate-requires-in-Binary
 evaluate-requires-in-Binary t c =
-    let ctx = context_of basic_table (map field_of c.args.fields.now) in
+    let ctx = context_of c.args.types.now (map field_of c.args.fields.now) in
     let shown : expr_of c.args.expression.now ≡ binary (expr_of c.in-Binary.left.value) c.in-Binary.operator (expr_of c.in-Binary.right.value) = ap expr_of c.in-Binary.is in
-    let h = left_typed ctx _ _ _ _ shown c.requires.typed in
+    let h = left_typed c.args.types.now ctx _ _ _ _ shown c.requires.typed in
     let size = ap nodes shown in
     let same = ap (λ e. nodes (expr_of e)) c.deref-in-Binary.ensures in
-    (omega arith, (c.requires.fit, subst (λ e. HasSome ctx (expr_of e)) (sym c.deref-in-Binary.ensures) h))
+    (omega arith, (c.requires.types, (c.requires.fit, subst (λ e. HasSome c.args.types.now ctx (expr_of e)) (sym c.deref-in-Binary.ensures) h)))
 
 pub evaluate-requires-in-Binary-2 : goal.evaluate-requires-in-Binary-2
 evaluate-requires-in-Binary-2 t c =
-    let ctx = context_of basic_table (map field_of c.args.fields.now) in
+    let ctx = context_of c.args.types.now (map field_of c.args.fields.now) in
     let shown : expr_of c.args.expression.now ≡ binary (expr_of c.in-Binary.left.value) c.in-Binary.operator (expr_of c.in-Binary.right.value) = ap expr_of c.in-Binary.is in
-    let h = right_typed ctx _ _ _ _ shown c.requires.typed in
+    let h = right_typed c.args.types.now ctx _ _ _ _ shown c.requires.typed in
     let size = ap nodes shown in
     let same = ap (λ e. nodes (expr_of e)) c.deref-in-Binary-2.ensures in
-    (omega arith, (c.requires.fit, subst (λ e. HasSome ctx (expr_of e)) (sym c.deref-in-Binary-2.ensures) h))
+    (omega arith, (c.requires.types, (c.requires.fit, subst (λ e. HasSome c.args.types.now ctx (expr_of e)) (sym c.deref-in-Binary-2.ensures) h)))
 
 pub apply-requires : goal.apply-requires
 apply-requires t c =
@@ -44,7 +43,6 @@ apply-requires t c =
     let vs = map plain c.args.values.now in
     let env = values_of (field_names fs) vs in
     let shown : expr_of c.args.expression.now ≡ binary (expr_of c.in-Binary.left.value) c.in-Binary.operator (expr_of c.in-Binary.right.value) = ap expr_of c.in-Binary.is in
-    let first = ap answer_of (sym c.in-Ok.is) ∙ c.in_ok-value-in-Binary.ensures ∙ ap (λ e. val (expr_of e) env) c.deref-in-Binary.ensures in
-    let second = ap answer_of (sym c.in-Ok-2.is) ∙ c.in_ok-value-in-Binary-2.ensures ∙ ap (λ e. val (expr_of e) env) c.deref-in-Binary-2.ensures in
-    subst (λ o. Takes o (plain c.in-Ok.value ∷ plain c.in-Ok-2.value ∷ [])) (sym c.op_between.ensures)
-    (operands_taken basic_types (context_of basic_table fs) env _ _ _ _ _ _ (suits_of_fit basic_table fs vs c.requires.fit) shown c.requires.typed first second)
+    let first = ap answer_of (sym c.in-Ok.is) ∙ c.in_ok-value-in-Binary.ensures ∙ ap (λ e. val c.args.types.now (expr_of e) env) c.deref-in-Binary.ensures in
+    let second = ap answer_of (sym c.in-Ok-2.is) ∙ c.in_ok-value-in-Binary-2.ensures ∙ ap (λ e. val c.args.types.now (expr_of e) env) c.deref-in-Binary-2.ensures in
+    operands_taken c.args.types.now (context_of c.args.types.now fs) env _ _ _ _ _ _ c.requires.types (suits_of_fit c.args.types.now fs vs c.requires.fit) shown c.requires.typed first second

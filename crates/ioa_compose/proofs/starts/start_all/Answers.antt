@@ -3,22 +3,22 @@ use Rattle.ioa_syntax.specs.View.{name_of}
 use Rattle.ioa_compose.specs.Bindings.{instance_in}
 use Rattle.ioa_compose.specs.Held.{member_of}
 use Rattle.ioa_compose.proofs.BindingLemmas.{startable-at, started-push, faults-in}
-use Rattle.ioa_compose.proofs.ListLemmas.{at-map, map-push}
+use Rattle.ioa_value.proofs.ItemLemmas.{at_map, map_push}
 use Rattle.ioa_compose.proofs.starts.start_all.Goals as goal
 
 pub start-requires-clause-startable : goal.start-requires-clause-startable
-start-requires-clause-startable c = startable-at c.args.bindings.now _ c.index-bindings-index.result c.requires.startable c.loop-index-test.true c.index-bindings-index.is
+start-requires-clause-startable c = startable-at c.args.types.now c.args.bindings.now _ c.index-bindings-index.result c.requires.startable c.loop-index-test.true c.index-bindings-index.is
 
 pub returns-in_err-start-clause-refused : goal.returns-in_err-start-clause-refused
 returns-in_err-start-clause-refused c =
-    faults-in c.from_residual.result _ c.loop-index.index (instance_in c.index-bindings-index.result)
-    (at-map instance_in c.args.bindings.now _ c.index-bindings-index.result c.loop-index-test.true c.index-bindings-index.is) (search rules)
+    faults-in c.from_residual.result _ c.loop-index.index (instance_in c.args.types.now c.index-bindings-index.result)
+    (at_map (instance_in c.args.types.now) c.args.bindings.now _ c.index-bindings-index.result c.loop-index-test.true c.index-bindings-index.is) (search rules)
 
 pub loop-index-preserved : goal.loop-index-preserved
 loop-index-preserved c = record {
-  instances = map-push (λ m. (member_of m).instance) instance_in c.loop-index.members.items _ c.in_ok-start.field-0 c.args.bindings.now _ c.index-bindings-index.result c.loop-index-test.true c.index-bindings-index.is c.in_ok-push.ensures.items
+  instances = map_push (λ m. (member_of m).instance) (instance_in c.args.types.now) c.loop-index.members.items _ c.in_ok-start.field-0 c.args.bindings.now _ c.index-bindings-index.result c.loop-index-test.true c.index-bindings-index.is c.in_ok-push.ensures.items
       c.loop-index.invariant.instances c.in_ok-start.ensures.instance;
-  names = map-push (λ m. (member_of m).name) (λ b. name_of b.name.now) c.loop-index.members.items _ c.in_ok-start.field-0 c.args.bindings.now _ c.index-bindings-index.result c.loop-index-test.true c.index-bindings-index.is c.in_ok-push.ensures.items
+  names = map_push (λ m. (member_of m).name) (λ b. name_of b.name.now) c.loop-index.members.items _ c.in_ok-start.field-0 c.args.bindings.now _ c.index-bindings-index.result c.loop-index-test.true c.index-bindings-index.is c.in_ok-push.ensures.items
       c.loop-index.invariant.names c.in_ok-start.ensures.name;
-  started = started-push c.loop-index.members.items _ c.in_ok-start.field-0 c.index-bindings-index.result c.in_ok-push.ensures.items c.loop-index.invariant.started c.in_ok-start.ensures.instance c.in_ok-start.ensures.started;
+  started = started-push c.args.types.now c.loop-index.members.items _ c.in_ok-start.field-0 c.index-bindings-index.result c.in_ok-push.ensures.items c.loop-index.invariant.started c.in_ok-start.ensures.instance c.in_ok-start.ensures.started;
 }
