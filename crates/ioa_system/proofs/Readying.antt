@@ -13,6 +13,7 @@ use Rattle.ioa_compile.specs.Shown.{entry_code}
 use Rattle.ioa_compile.specs.Tables.{AreEntries, AreMembers, entry_of, tabled}
 use Rattle.ioa_system.specs.declared.participation.Participant.{Participant}
 use Rattle.ioa_system.specs.Found.{member_of, components_of, numbers_of, placed, AreParticipants, state_of, lent, lent_types, IsLent, AreReady}
+use Rattle.ioa_value.specs.Table.{Table}
 use Rattle.ioa_system.specs.Participants.{taken, renumbered, step_from}
 use Rattle.ioa_system.specs.Systems.{types_of, values_of, slot_types, slots_of}
 use Rattle.ioa_system.proofs.Participating.{ItemAt, item_at, taken_some}
@@ -21,13 +22,13 @@ use Rattle.ioa_system.proofs.Finding.{tables, got_map}
 pub same_length : (ms : List MemberCode) (ns : List Node) → types_of ns ≡ slot_types ms → length ns ≡ length ms
 same_length ms ns h = sym (length-map ns slots_of) ∙ ap length h ∙ length-map ms (λ (m : MemberCode). slots_of m.start)
 
-sound_got : (ms : List MemberCode) (i : ℕ) (m : MemberCode) → AreMembers ms → slice_get ms i ≡ Some m → AreEntries m m.entries
-sound_got [] i m h e = absurd (cc)
-sound_got (x ∷ ms) zero m h e = let q : x ≡ m = cc in subst (λ (y : MemberCode). AreEntries y y.entries) q h.0.0
-sound_got (x ∷ ms) (suc i) m h e = sound_got ms i m h.1 e
+sound_got : (types : Table) (ms : List MemberCode) (i : ℕ) (m : MemberCode) → AreMembers types ms → slice_get ms i ≡ Some m → AreEntries m m.entries
+sound_got types [] i m h e = absurd (cc)
+sound_got types (x ∷ ms) zero m h e = let q : x ≡ m = cc in subst (λ (y : MemberCode). AreEntries y y.entries) q h.0.entries
+sound_got types (x ∷ ms) (suc i) m h e = sound_got types ms i m h.1 e
 
-pub all_sound : (a : Act) (ms : List MemberCode) (qs : List Participant) → AreParticipants a ms qs → AreMembers ms → All (λ q. AreEntries (member_of q) (member_of q).entries) qs
-all_sound a ms qs p h = λ k d l. let q : Participant = get_or qs k d in sound_got ms q.component (member_of q) h (p.members k d l)
+pub all_sound : (types : Table) (a : Act) (ms : List MemberCode) (qs : List Participant) → AreParticipants a ms qs → AreMembers types ms → All (λ q. AreEntries (member_of q) (member_of q).entries) qs
+all_sound types a ms qs p h = λ k d l. let q : Participant = get_or qs k d in sound_got types ms q.component (member_of q) h (p.members k d l)
 
 -- the items of the participants' numbers, where each is known
 pub taken_map : {X : Type 0} (f : Participant → X) (xs : List X) (qs : List Participant) → All (λ q. slice_get xs q.component ≡ Some (f q)) qs
@@ -62,11 +63,11 @@ stands (x ∷ ms) (n ∷ ns) (suc i) m h e =
     let w : i < length ns = r.within in
     record { within = omega arith; types = r.types }
 
-pub ready_all : (a : Act) (ms : List MemberCode) (ns : List Node) (qs : List Participant) → AreParticipants a ms qs → All (λ q. q.place ≡ q.component) qs
-    → AreMembers ms → types_of ns ≡ slot_types ms → AreReady a ns qs
-ready_all a ms ns qs p places h t = record {
+pub ready_all : (types : Table) (a : Act) (ms : List MemberCode) (ns : List Node) (qs : List Participant) → AreParticipants a ms qs → All (λ q. q.place ≡ q.component) qs
+    → AreMembers types ms → types_of ns ≡ slot_types ms → AreReady a ns qs
+ready_all types a ms ns qs p places h t = record {
   entries = p.entries;
-  sound = all_sound a ms qs p h;
+  sound = all_sound types a ms qs p h;
   states = λ k d l.
       let q : Participant = get_or qs k d in
       let s : Stands ns q.component (member_of q) = stands ms ns q.component (member_of q) t (p.members k d l) in
@@ -133,11 +134,11 @@ lent_alone_from all i (n ∷ ns) (q ∷ qs) d t =
       rw (g, more.1) refl,
     )
 
-pub ready_alone : (a : Act) (ms : List MemberCode) (ns : List Node) (qs : List Participant) → AreParticipants a ms qs → AreMembers ms
+pub ready_alone : (types : Table) (a : Act) (ms : List MemberCode) (ns : List Node) (qs : List Participant) → AreParticipants a ms qs → AreMembers types ms
     → types_of ns ≡ taken (participants (tables ms) a) (slot_types ms) → AreReady a ns (placed 0 qs)
-ready_alone a ms ns qs p h t = record {
+ready_alone types a ms ns qs p h t = record {
   entries = placed_all (λ q. entry_of (member_of q) a ≡ Some (entry_code q.entry.now)) (λ q j e. e) 0 qs p.entries;
-  sound = placed_all (λ q. AreEntries (member_of q) (member_of q).entries) (λ q j e. e) 0 qs (all_sound a ms qs p h);
+  sound = placed_all (λ q. AreEntries (member_of q) (member_of q).entries) (λ q j e. e) 0 qs (all_sound types a ms qs p h);
   states = (lent_alone_from ns 0 ns qs refl (t ∙ types_taken a ms qs p)).0;
 }
 

@@ -29,7 +29,7 @@ pub moved-requires : goal.moved-requires
 moved-requires c =
     let at = (goal.at.moved-requires c).After-deref in
     subst (AreReady (act_of c.args.action.now) c.args.states.now) (sym (in_order at))
-    (ready_alone (act_of c.args.action.now) c.args.program.now.members c.args.states.now c.find.new.participants.items (found at) c.members.ensures.sound.members c.requires)
+    (ready_alone c.args.program.now.types (act_of c.args.action.now) c.args.program.now.members c.args.states.now c.find.new.participants.items (found at) c.members.ensures.sound.members c.requires)
 
 pub returns-clause-value : goal.returns-clause-value
 returns-clause-value c =

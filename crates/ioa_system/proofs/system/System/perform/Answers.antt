@@ -28,7 +28,7 @@ moved-requires c =
     let r = runs ((goal.at.moved-requires c).In_ok-find) in
     let p : Prog = c.self.inside.program.now in
     rw (c.deref-3.ensures.value, c.deref-2.ensures.value)
-    (ready_all (act_of c.args.action.now) p.members c.self.inside.states.items c.find.new.participants.items r.found r.places c.members.ensures.sound.members r.types)
+    (ready_all p.types (act_of c.args.action.now) p.members c.self.inside.states.items c.find.new.participants.items r.found r.places c.members.ensures.sound.members r.types)
 
 pub settle-step-requires : goal.settle-step-requires
 settle-step-requires c =
