@@ -34,6 +34,7 @@ Spells types word (name own n) = ⊥
 Spells types word (tuple own vs) = ⊥
 Spells types word (items own vs) = ⊥
 
+-- the value is one of some type's
 abbrev pub IsTyped : Table → Val → Type 0
 IsTyped types v = (ty : ℕ) × HasType types v ty
 

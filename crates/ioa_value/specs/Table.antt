@@ -27,9 +27,11 @@ pub record Declaration : Type 0 where
 abbrev pub Table : Type 0
 Table = List Declaration
 
+-- the truth values, type 0
 abbrev pub bool : Declaration
 bool = record { name = codes "Bool"; shape = truths }
 
+-- the whole numbers of 64 bits, type 1
 abbrev pub int : Declaration
 int = record { name = codes "Int"; shape = numbers }
 

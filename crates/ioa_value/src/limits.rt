@@ -1,5 +1,5 @@
 /// How much a source may have: what passes a limit is refused.
-#[derive(Clone, Copy, PartialEq, Eq, Debug)]
+#[derive(Clone, Copy)]
 pub struct Limits {
     /// Bytes of a source's text.
     pub text: usize,
