@@ -1,10 +1,10 @@
 -- What fine automata and sources keep, part by part.
-use Rattle.std.proofs.Common.{ℕ, ◌≤◌, not, ◌&&◌, ◌||◌, ◌++◌, nat_le, IsTrue, List, [], map, filter, length, arith}
+use Rattle.std.proofs.Common.{◌≡◌, ℕ, zero, suc, ◌≤◌, not, ◌&&◌, ◌||◌, ◌++◌, nat_le, IsTrue, List, [], map, filter, length, Some, slice_get, refl, subst, arith}
 use Rattle.std.specs.List.{list_all}
 use Rattle.std.proofs.lemmas.Bool.{and_parts}
 use Rattle.std.proofs.lemmas.Bool.Decides.{nat_tests}
 use Rattle.ioa_value.specs.Actions.{Name}
-use Rattle.ioa_value.specs.Table.{Table}
+use Rattle.ioa_value.specs.Table.{Table, Declaration, AreTypes, MayStand, basic, bool, int}
 use Rattle.ioa_syntax.specs.Tree.{AutomatonTree, EntryTree, SourceTree}
 use Rattle.ioa_syntax.specs.Types.{types_of}
 use Rattle.ioa_value.specs.declared.limits.Limits.{Limits}
@@ -89,6 +89,15 @@ within_parts most a h =
     }
 
 -- ---- sources
+
+-- the types of a source are types
+pub types_are : (s : SourceTree) → AreTypes (types_of s)
+types_are s = record { first = refl; second = refl; each = stands; few = omega arith }
+  where
+    stands : (ty : ℕ) (d : Declaration) → slice_get basic ty ≡ Some d → MayStand ty d.shape
+    stands zero d e = let same : bool ≡ d = cc in subst (λ x. MayStand 0 x.shape) same refl
+    stands (suc zero) d e = let same : int ≡ d = cc in subst (λ x. MayStand 1 x.shape) same refl
+    stands (suc (suc k)) d e = absurd (cc)
 
 pub record SourceParts (s : SourceTree) : Type 0 where
   pub distinct_names : IsTrue (distinct (global_names s))

@@ -30,7 +30,7 @@ fn operator_at(cursor: &Cursor<'_>, least: u32, below: u32) -> Option<Op>
     }
 }
 
-/// An expression of at most 64 levels.
+/// An expression, as deep as the limit allows.
 #[tactic(auto, unfolding(crate::specs::Reading::expression))]
 pub(crate) fn whole_expression(cursor: &mut Cursor<'_>) -> Result<Expression, ReadError>
     ensures { Reads expr_of (spec.expression LIMITS.depth (tokens_shown cursor.old)) result (tokens_shown cursor.new) }
