@@ -1,7 +1,7 @@
 -- How reserved words and signs are written.
 use Rattle.std.specs.Prelude.{◌≡◌, ℕ, List, codes}
-use Rattle.ioa_lex.specs.declared.terminal.Terminal.{Terminal}
-use Rattle.ioa_lex.specs.declared.terminal.Terminal.TheVariants as terminals
+use Rattle.ioa_value.specs.declared.terminal.Terminal.{Terminal}
+use Rattle.ioa_value.specs.declared.terminal.Terminal.TheVariants as terminals
 
 abbrev pub spelling_of : Terminal → List ℕ
 spelling_of terminals.Type = codes "type"

@@ -2,8 +2,8 @@
 
 ghost use Rattle.std.specs.Prelude.{◌≡◌, IfSome, IfNone, find};
 ghost use Rattle.std.specs.Str.{bytes_eq};
-ghost use Rattle.ioa_lex.specs.Spelling.{spelling_of, IsReserved};
-ghost use Rattle.ioa_lex.specs.Lookup as lookup;
+ghost use Rattle.ioa_value.specs.Spelling.{spelling_of, IsReserved};
+ghost use Rattle.ioa_value.specs.Lookup as lookup;
 
 use crate::terminal::Terminal;
 
