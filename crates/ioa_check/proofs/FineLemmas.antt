@@ -1,8 +1,7 @@
 -- What the parts of a source say, joined.
-use Rattle.std.proofs.Common.{◌≡◌, Bool, true, ◌&&◌, List, [], ◌++◌, map, length, nat_le, sum, Result, IsErr, sym, ap, ◌∙◌}
+use Rattle.std.proofs.Common.{◌≡◌, Bool, true, ◌&&◌, List, [], ◌++◌, map, Result, IsErr, sym, ap, ◌∙◌}
 use Rattle.std.specs.List.{list_all}
-use Rattle.std.proofs.lemmas.Bool.{and_from, or_left, or_right}
-use Rattle.std.proofs.lemmas.List.{length-map}
+use Rattle.std.proofs.lemmas.Bool.{and_from, or_right}
 use Rattle.ioa_value.specs.Actions.{Name}
 use Rattle.ioa_lex.specs.declared.refusal.Refusal.{Refusal}
 use Rattle.ioa_syntax.specs.declared.tree.Field.{Field}
@@ -18,11 +17,11 @@ use Rattle.ioa_syntax.specs.Instances.{position_name}
 use Rattle.ioa_syntax.specs.WellFormed as well_formed
 use Rattle.ioa_syntax.specs.WellFormed.{distinct, apart, is_type, position_fields}
 use Rattle.ioa_check.specs.Fields.{field_in}
-use Rattle.ioa_check.specs.Codes.{duplicate_name, unknown_name, too_many, tells}
+use Rattle.ioa_check.specs.Codes.{duplicate_name, unknown_name, tells}
 use Rattle.ioa_check.specs.Reasons as reasons
 use Rattle.ioa_check.specs.Reasons.{Reasons, broken, in_any, ◌or◌}
 use Rattle.ioa_check.specs.Verdicts.{Says}
-use Rattle.ioa_check.proofs.SayLemmas.{says-last, says-first, says-at, says-more, says-broken, err-first, err-last}
+use Rattle.ioa_check.proofs.SayLemmas.{says-last, says-at, says-more, says-broken, err-first, err-last}
 use Rattle.ioa_check.proofs.NameLemmas.{apart-append}
 use Rattle.ioa_check.proofs.ViewLemmas.{names-of_fields, names-of_variables, names-of_positions, names-of_entries, names-of_proposals, names-of_instances, fields-of_positions}
 

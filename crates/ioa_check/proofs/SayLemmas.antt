@@ -1,6 +1,6 @@
 -- What an answer says about tests that are joined.
-use Rattle.std.proofs.Common.{◌≡◌, ℕ, ◌+◌, ◌<◌, Bool, true, false, ◌&&◌, ◌||◌, List, ◌∷◌, map, drop, length, get_or, take, ◌++◌, Result, Ok, Err, IsErr, refl, sym, ap, subst, ◌∙◌, take-append-drop, ◌≤◌}
-use Rattle.std.proofs.lemmas.List.{drop_all, map-append}
+use Rattle.std.proofs.Common.{◌≡◌, ℕ, ◌+◌, ◌<◌, Bool, true, ◌&&◌, List, ◌∷◌, map, drop, length, get_or, take, ◌++◌, Result, Ok, Err, IsErr, sym, ap, subst, ◌∙◌, take-append-drop}
+use Rattle.std.proofs.lemmas.List.{map-append}
 use Rattle.std.proofs.lemmas.List.Folds.{list_any-append}
 use Rattle.std.specs.List.{list_all, list_any}
 use Rattle.std.specs.Result.{IsErrAnd}

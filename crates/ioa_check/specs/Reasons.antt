@@ -9,7 +9,7 @@ use Rattle.ioa_value.specs.Table.{Table, type_named}
 use Rattle.ioa_lex.specs.declared.refusal.Refusal.{Refusal}
 use Rattle.ioa_syntax.specs.Tree.{Expr, number, truth, named, parens, binary, EntryTree, VariableTree, ProposalTree, Stmt, assign, TransitionTree, AutomatonTree, InstanceTree, CompositionTree, DeclarationTree, automaton, composition, SourceTree}
 use Rattle.ioa_syntax.specs.Instances.{position_name}
-use Rattle.ioa_syntax.specs.Limits.{limits}
+use Rattle.ioa_value.specs.declared.limits.TheConstants.{LIMITS}
 use Rattle.ioa_syntax.specs.Types.{types_of}
 use Rattle.ioa_syntax.specs.WellFormed as well_formed
 use Rattle.ioa_syntax.specs.WellFormed.{Context, type_in, type_of, distinct, apart, is_type, context_of, position_fields, variable_fields, is_input, is_automaton_of, global_names, source_within}
@@ -128,5 +128,5 @@ module _ (t : Table) where
   in_declarations globals before (d ∷ ds) = in_declaration globals before d or in_declarations globals (before ++ d ∷ []) ds
 
 abbrev pub in_source : SourceTree → Reasons
-in_source s = broken too_many (source_within limits s) or broken duplicate_name (distinct (global_names s))
+in_source s = broken too_many (source_within LIMITS s) or broken duplicate_name (distinct (global_names s))
     or in_declarations (types_of s) (global_names s) [] s

@@ -1,6 +1,5 @@
 ghost use Rattle.std.specs.Prelude.{◌≡◌, ◌&&◌, map, length, filter, sum, nat_le};
 ghost use Rattle.std.specs.List.{list_all};
-ghost use Rattle.ioa_syntax.specs.Limits.{limits};
 ghost use Rattle.ioa_syntax.specs.View.{automaton_of, assembly_of, entry_of, transition_of, declaration_of, tree_of, proposal_of, stmt_of, expr_of};
 ghost use Rattle.ioa_syntax.specs.WellFormed as well_formed;
 ghost use Rattle.ioa_check.specs.Codes.{too_many, tells};
@@ -16,7 +15,7 @@ use ioa_value::LIMITS;
 
 /// Whether no declaration is too many, and none has a part that passes a limit.
 pub(crate) fn source_within(declarations: &[Declaration]) -> Result<(), Refusal>
-    ensures { Says result (well_formed.source_within limits (tree_of declarations.now)) (tells too_many) }
+    ensures { Says result (well_formed.source_within LIMITS (tree_of declarations.now)) (tells too_many) }
 {
     declarations_counted(declarations)?;
     each_declaration_within(declarations)
@@ -24,7 +23,7 @@ pub(crate) fn source_within(declarations: &[Declaration]) -> Result<(), Refusal>
 
 /// Whether there are no more automata and compositions than the limit. A line is that of the first that is too many.
 fn declarations_counted(declarations: &[Declaration]) -> Result<(), Refusal>
-    ensures { Says result (nat_le (length (filter well_formed.is_counted (tree_of declarations.now))) limits.automata) (tells too_many) }
+    ensures { Says result (nat_le (length (filter well_formed.is_counted (tree_of declarations.now))) LIMITS.automata) (tells too_many) }
 {
     let mut count = 0;
     for declaration in declarations {
@@ -48,7 +47,7 @@ fn is_counted(declaration: &Declaration) -> bool
 }
 
 fn each_declaration_within(declarations: &[Declaration]) -> Result<(), Refusal>
-    ensures { Says result (list_all (well_formed.declaration_within limits) (tree_of declarations.now)) (tells too_many) }
+    ensures { Says result (list_all (well_formed.declaration_within LIMITS) (tree_of declarations.now)) (tells too_many) }
 {
     for declaration in declarations {
         declaration_within(declaration)?;
@@ -57,7 +56,7 @@ fn each_declaration_within(declarations: &[Declaration]) -> Result<(), Refusal>
 }
 
 fn declaration_within(declaration: &Declaration) -> Result<(), Refusal>
-    ensures { Says result (well_formed.declaration_within limits (declaration_of declaration.now)) (tells too_many) }
+    ensures { Says result (well_formed.declaration_within LIMITS (declaration_of declaration.now)) (tells too_many) }
 {
     match declaration {
         Declaration::Automaton(automaton) => automaton_within(automaton),
@@ -68,7 +67,7 @@ fn declaration_within(declaration: &Declaration) -> Result<(), Refusal>
 }
 
 fn automaton_within(automaton: &Automaton) -> Result<(), Refusal>
-    ensures { Says result (well_formed.automaton_within limits (automaton_of automaton.now)) (tells too_many) }
+    ensures { Says result (well_formed.automaton_within LIMITS (automaton_of automaton.now)) (tells too_many) }
 {
     members_within(automaton)?;
     entries_within(&automaton.entries)?;
@@ -78,7 +77,7 @@ fn automaton_within(automaton: &Automaton) -> Result<(), Refusal>
 /// Whether there are no more formals, variables and entries than the limits.
 fn members_within(automaton: &Automaton) -> Result<(), Refusal>
     ensures { let a = automaton_of automaton.now in
-        Says result (nat_le (length a.formals) limits.parameters && nat_le (length a.variables) limits.variables && nat_le (length a.entries) limits.entries) (tells too_many) }
+        Says result (nat_le (length a.formals) LIMITS.parameters && nat_le (length a.variables) LIMITS.variables && nat_le (length a.entries) LIMITS.entries) (tells too_many) }
 {
     at_most(&automaton.formals, LIMITS.parameters)?;
     at_most(&automaton.variables, LIMITS.variables)?;
@@ -86,7 +85,7 @@ fn members_within(automaton: &Automaton) -> Result<(), Refusal>
 }
 
 fn entries_within(entries: &[Entry]) -> Result<(), Refusal>
-    ensures { Says result (list_all (well_formed.entry_within limits) (map entry_of entries.now)) (tells too_many) }
+    ensures { Says result (list_all (well_formed.entry_within LIMITS) (map entry_of entries.now)) (tells too_many) }
 {
     for entry in entries {
         entry_within(entry)?;
@@ -95,13 +94,13 @@ fn entries_within(entries: &[Entry]) -> Result<(), Refusal>
 }
 
 fn entry_within(entry: &Entry) -> Result<(), Refusal>
-    ensures { Says result (well_formed.entry_within limits (entry_of entry.now)) (tells too_many) }
+    ensures { Says result (well_formed.entry_within LIMITS (entry_of entry.now)) (tells too_many) }
 {
     at_most(&entry.positions, LIMITS.parameters)
 }
 
 fn transitions_within(transitions: &[Transition]) -> Result<(), Refusal>
-    ensures { Says result (list_all (well_formed.transition_within limits) (map transition_of transitions.now)) (tells too_many) }
+    ensures { Says result (list_all (well_formed.transition_within LIMITS) (map transition_of transitions.now)) (tells too_many) }
 {
     for transition in transitions {
         transition_within(transition)?;
@@ -110,7 +109,7 @@ fn transitions_within(transitions: &[Transition]) -> Result<(), Refusal>
 }
 
 fn transition_within(transition: &Transition) -> Result<(), Refusal>
-    ensures { Says result (well_formed.transition_within limits (transition_of transition.now)) (tells too_many) }
+    ensures { Says result (well_formed.transition_within LIMITS (transition_of transition.now)) (tells too_many) }
 {
     pre_within(transition)?;
     proposals_within(&transition.proposals)?;
@@ -118,7 +117,7 @@ fn transition_within(transition: &Transition) -> Result<(), Refusal>
 }
 
 fn pre_within(transition: &Transition) -> Result<(), Refusal>
-    ensures { Says result (well_formed.pre_within limits (transition_of transition.now)) (tells too_many) }
+    ensures { Says result (well_formed.pre_within LIMITS (transition_of transition.now)) (tells too_many) }
 {
     match &transition.pre {
         Some(pre) if nodes(pre) > LIMITS.nodes => Err(Refusal::TooMany(line_of(pre))),
@@ -128,7 +127,7 @@ fn pre_within(transition: &Transition) -> Result<(), Refusal>
 
 /// Whether proposals together have no more nodes than the limit.
 fn proposals_within(proposals: &[Proposal]) -> Result<(), Refusal>
-    ensures { Says result (nat_le (sum (map (λ p. well_formed.nodes p.value) (map proposal_of proposals.now))) limits.nodes) (tells too_many) }
+    ensures { Says result (nat_le (sum (map (λ p. well_formed.nodes p.value) (map proposal_of proposals.now))) LIMITS.nodes) (tells too_many) }
 {
     let mut total = 0;
     for proposal in proposals {
@@ -142,7 +141,7 @@ fn proposals_within(proposals: &[Proposal]) -> Result<(), Refusal>
 
 /// Whether statements together have no more nodes than the limit.
 fn effect_within(effect: &[Statement]) -> Result<(), Refusal>
-    ensures { Says result (nat_le (sum (map well_formed.stmt_nodes (map stmt_of effect.now))) limits.nodes) (tells too_many) }
+    ensures { Says result (nat_le (sum (map well_formed.stmt_nodes (map stmt_of effect.now))) LIMITS.nodes) (tells too_many) }
 {
     let mut total = 0;
     for statement in effect {

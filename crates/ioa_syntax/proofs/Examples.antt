@@ -4,7 +4,7 @@ use Rattle.ioa_value.specs.declared.arithmetic.Fault.TheVariants.{Overflow}
 use Rattle.ioa_value.specs.Actions.{Name, Act}
 use Rattle.ioa_value.specs.Plain.{Val, num}
 use Rattle.ioa_value.specs.Plain.{truth as truth_value}
-use Rattle.ioa_value.specs.declared.operator.Op.TheVariants.{Eq, Add}
+use Rattle.ioa_value.specs.declared.operator.Op.TheVariants.{Eq, Add, Sub}
 use Rattle.ioa_syntax.specs.declared.tree.Kind.TheVariants.{Input, Output}
 use Rattle.ioa_syntax.specs.Tree.{Expr, number, truth, named, binary, FieldTree, typed, EntryTree, VariableTree, ProposalTree, TransitionTree, Stmt, assign, AutomatonTree, InstanceTree, CompositionTree, automaton, composition, SourceTree}
 use Rattle.ioa_syntax.specs.Meaning.{Env}
@@ -12,7 +12,12 @@ use Rattle.ioa_value.specs.Table.{basic}
 use Rattle.ioa_syntax.specs.Instances.{Instance, argument_values, start_values}
 use Rattle.ioa_syntax.specs.Runs.{done, not_an_action_at, not_enabled_at, fault_at, run, trace}
 use Rattle.ioa_syntax.specs.Compositions.{picked, Composed, components_of, starts_of}
-use Rattle.ioa_syntax.specs.WellFormed.{well_formed}
+use Rattle.ioa_syntax.specs.WellFormed.{automaton_fine, automaton_within, well_formed}
+use Rattle.ioa_value.specs.declared.limits.TheConstants.{LIMITS}
+use Rattle.ioa_lex.specs.declared.terminal.Terminal.TheVariants as terminals
+use Rattle.ioa_lex.specs.Tokens as tokens
+use Rattle.ioa_lex.specs.Tokens.{Tok, terminal}
+use Rattle.ioa_syntax.specs.Reading.{expression, expr, operand, climb, operator_at, operator_of, terminal_at, same_terminal}
 
 abbrev field : Name → Name → FieldTree
 field x t = record { name = x; ty = t }
@@ -231,6 +236,24 @@ takes_many_variables = refl
 takes_too_many_variables : well_formed (with_variables (count_variable ∷ variables_from 64 0)) ≡ false
 takes_too_many_variables = refl
 
+-- so many formals beside the counter's own
+abbrev formals_from : ℕ → ℕ → List FieldTree
+formals_from zero n = []
+formals_from (suc more) n = field (102 ∷ n ∷ []) (codes "Int") ∷ formals_from more (n + 1)
+
+takes_many_formals : well_formed (with_formals (field (codes "start") (codes "Int") ∷ formals_from 7 0)) ≡ true
+takes_many_formals = refl
+
+takes_too_many_formals : well_formed (with_formals (field (codes "start") (codes "Int") ∷ formals_from 8 0)) ≡ false
+takes_too_many_formals = refl
+
+-- the same automaton is fine but for the limit, and within a wider one
+is_fine_with_more_formals : automaton_fine basic [] (record counter { formals = field (codes "start") (codes "Int") ∷ formals_from 8 0 }) ≡ true
+is_fine_with_more_formals = refl
+
+is_within_wider_limits : automaton_within (record LIMITS { parameters = 9 }) (record counter { formals = field (codes "start") (codes "Int") ∷ formals_from 8 0 }) ≡ true
+is_within_wider_limits = refl
+
 -- two components of one name
 composes_twice : well_formed (automaton counter ∷ composition (record (one []) { instances = component (number 5 ∷ []) ∷ component (number 6 ∷ []) ∷ [] }) ∷ []) ≡ false
 composes_twice = refl
@@ -238,6 +261,29 @@ composes_twice = refl
 -- an argument that names something
 argument_has_a_name : well_formed (automaton counter ∷ composition (one (named (codes "c") ∷ [])) ∷ []) ≡ false
 argument_has_a_name = refl
+
+-- ---- how operators group
+
+abbrev minus : Tok
+minus = terminal terminals.Minus
+
+abbrev equal : Tok
+equal = terminal terminals.Equal
+
+-- 3 - 2 - 1 is (3 - 2) - 1
+groups_to_the_left : expression 4 (tokens.number 3 ∷ minus ∷ tokens.number 2 ∷ minus ∷ tokens.number 1 ∷ []) ≡ Ok (binary (binary (number 3) Sub (number 2)) Sub (number 1), [])
+unfolding expression expr operand climb operator_at operator_of terminal_at same_terminal
+groups_to_the_left = refl
+
+-- 1 = 3 - 2 is 1 = (3 - 2)
+binds_sums_first : expression 4 (tokens.number 1 ∷ equal ∷ tokens.number 3 ∷ minus ∷ tokens.number 2 ∷ []) ≡ Ok (binary (number 1) Eq (binary (number 3) Sub (number 2)), [])
+unfolding expression expr operand climb operator_at operator_of terminal_at same_terminal
+binds_sums_first = refl
+
+-- of 1 = 2 = 3 the second sign is left
+has_no_neighbour : expression 4 (tokens.number 1 ∷ equal ∷ tokens.number 2 ∷ equal ∷ tokens.number 3 ∷ []) ≡ Ok (binary (number 1) Eq (number 2), equal ∷ tokens.number 3 ∷ [])
+unfolding expression expr operand climb operator_at operator_of terminal_at same_terminal
+has_no_neighbour = refl
 
 -- ---- what the composition does
 

@@ -1,13 +1,14 @@
 -- What fine automata and sources keep, part by part.
-use Rattle.std.proofs.Common.{ℕ, ◌≤◌, not, ◌&&◌, ◌||◌, ◌++◌, nat_le, IsTrue, List, [], map, filter, length, arith}
+use Rattle.std.proofs.Common.{◌≡◌, ℕ, zero, suc, ◌≤◌, not, ◌&&◌, ◌||◌, ◌++◌, nat_le, IsTrue, List, [], map, filter, length, Some, slice_get, refl, subst, arith}
 use Rattle.std.specs.List.{list_all}
 use Rattle.std.proofs.lemmas.Bool.{and_parts}
 use Rattle.std.proofs.lemmas.Bool.Decides.{nat_tests}
 use Rattle.ioa_value.specs.Actions.{Name}
-use Rattle.ioa_value.specs.Table.{Table}
+use Rattle.ioa_value.specs.Table.{Table, Declaration, AreTypes, MayStand, basic, bool, int}
 use Rattle.ioa_syntax.specs.Tree.{AutomatonTree, EntryTree, SourceTree}
 use Rattle.ioa_syntax.specs.Types.{types_of}
-use Rattle.ioa_syntax.specs.Limits.{Limits, limits}
+use Rattle.ioa_value.specs.declared.limits.Limits.{Limits}
+use Rattle.ioa_value.specs.declared.limits.TheConstants.{LIMITS}
 use Rattle.ioa_syntax.specs.Instances.{position_name}
 use Rattle.ioa_syntax.specs.WellFormed.{distinct, apart, is_type, position_fields, variable_fields, local_names, fields_fine, start_fine, entry_fine, matches, one_to_one, transition_fine, automaton_fine, transition_within, entry_within, automaton_within, declarations_fine, declaration_within, source_within, global_names, is_counted, well_formed}
 
@@ -89,15 +90,24 @@ within_parts most a h =
 
 -- ---- sources
 
+-- the types of a source are types
+pub types_are : (s : SourceTree) → AreTypes (types_of s)
+types_are s = record { first = refl; second = refl; each = stands; few = omega arith }
+  where
+    stands : (ty : ℕ) (d : Declaration) → slice_get basic ty ≡ Some d → MayStand ty d.shape
+    stands zero d e = let same : bool ≡ d = cc in subst (λ x. MayStand 0 x.shape) same refl
+    stands (suc zero) d e = let same : int ≡ d = cc in subst (λ x. MayStand 1 x.shape) same refl
+    stands (suc (suc k)) d e = absurd (cc)
+
 pub record SourceParts (s : SourceTree) : Type 0 where
   pub distinct_names : IsTrue (distinct (global_names s))
   pub declarations : IsTrue (declarations_fine (types_of s) (global_names s) [] s)
-  pub few : length (filter is_counted s) ≤ limits.automata
-  pub within : IsTrue (list_all (declaration_within limits) s)
+  pub few : length (filter is_counted s) ≤ LIMITS.automata
+  pub within : IsTrue (list_all (declaration_within LIMITS) s)
 
 pub source_parts : (s : SourceTree) → IsTrue (well_formed s) → SourceParts s
 source_parts s h =
-    let p2 = and_parts (distinct (global_names s) && declarations_fine (types_of s) (global_names s) [] s) (source_within limits s) h in
+    let p2 = and_parts (distinct (global_names s) && declarations_fine (types_of s) (global_names s) [] s) (source_within LIMITS s) h in
     let p1 = and_parts (distinct (global_names s)) (declarations_fine (types_of s) (global_names s) [] s) p2.0 in
-    let w = and_parts (nat_le (length (filter is_counted s)) limits.automata) (list_all (declaration_within limits) s) p2.1 in
-    record { distinct_names = p1.0; declarations = p1.1; few = at_most (length (filter is_counted s)) limits.automata w.0; within = w.1 }
+    let w = and_parts (nat_le (length (filter is_counted s)) LIMITS.automata) (list_all (declaration_within LIMITS) s) p2.1 in
+    record { distinct_names = p1.0; declarations = p1.1; few = at_most (length (filter is_counted s)) LIMITS.automata w.0; within = w.1 }

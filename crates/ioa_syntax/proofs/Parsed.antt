@@ -1,5 +1,6 @@
 -- From the tokens of a text to the answer of the parser.
 use Rattle.std.proofs.Common.{◌≡◌, ℕ, ◌-◌, ◌<◌, ◌≤◌, ◌⊎◌, inl, inr, List, [], ◌∷◌, ◌++◌, length, drop, refl, sym, ap, ◌∙◌, subst, arith, Result, Ok, Err, IfOk, IfErr, MatchResult, length-append, Bool, true, false, nat_lt}
+use Rattle.ioa_value.specs.declared.limits.TheConstants.{LIMITS}
 use Rattle.std.proofs.lemmas.Bool.Decides.{nat_tests}
 use Rattle.std.proofs.lemmas.List.{length-map}
 use Rattle.std.proofs.Math.Seq.{drop-append_seam}
@@ -78,15 +79,15 @@ lexed_tokens text ts h = subst AreTokens (sym (ap plain h.2) ∙ plain-placed ts
 -- ---- the answer
 
 -- a text that was not refused as too long is not
-pub short_of : {T E : Type 0} (v : T) (e : E) (n : ℕ) → (1048576 < n → ◌≡◌ {A = Result T E} (Ok v) (Err e)) → n ≤ 1048576
-short_of {T} {E} v e n h = by (nat_lt 1048576 n) refl
+pub short_of : {T E : Type 0} (v : T) (e : E) (n : ℕ) → (LIMITS.text < n → ◌≡◌ {A = Result T E} (Ok v) (Err e)) → n ≤ LIMITS.text
+short_of {T} {E} v e n h = by (nat_lt LIMITS.text n) refl
   where
-    by : (b : Bool) → nat_lt 1048576 n ≡ b → n ≤ 1048576
-    by true far = let long : 1048576 < n = grind (arith, nat_tests) in let never = h long in absurd (cc)
+    by : (b : Bool) → nat_lt LIMITS.text n ≡ b → n ≤ LIMITS.text
+    by true far = let long : LIMITS.text < n = grind (arith, nat_tests) in let never = h long in absurd (cc)
     by false near = grind (arith, nat_tests)
 
-pub source_kept : (ts : List Token) (end : ℕ) (ds : List Declaration) → AreTokens (tokens_shown ts) → source 64 (line_at ts end) (tokens_shown ts) ≡ Ok (tree_of ds) → IsSource (tree_of ds)
-source_kept ts end ds legal h = let f = source_found 64 (line_at ts end) (tokens_shown ts) (tree_of ds) h in ((tokens_shown ts, legal, f.0), f.1)
+pub source_kept : (ts : List Token) (end : ℕ) (ds : List Declaration) → AreTokens (tokens_shown ts) → source LIMITS.depth (line_at ts end) (tokens_shown ts) ≡ Ok (tree_of ds) → IsSource (tree_of ds)
+source_kept ts end ds legal h = let f = source_found LIMITS.depth (line_at ts end) (tokens_shown ts) (tree_of ds) h in ((tokens_shown ts, legal, f.0), f.1)
 
 refused_by : (e : Refusal) (read : Result SourceTree Refusal) → Refuses e read → (e ≡ refusals.OutOfMemory) ⊎ (read ≡ Err e)
 refused_by refusals.OutOfMemory read h = inl refl
@@ -108,17 +109,17 @@ refused_by (refusals.HiddenUnknown name) read h = inr h
 refused_by (refusals.StartFault c f) read h = inr h
 refused_by refusals.NoComposition read h = inr h
 
-module _ (text : List ℕ) (ts : List Token) (end : ℕ) (lexed : Lexes text (placed ts)) (last : end ≡ line_after text) (small : length text ≤ 1048576) where
+module _ (text : List ℕ) (ts : List Token) (end : ℕ) (lexed : Lexes text (placed ts)) (last : end ≡ line_after text) (small : length text ≤ LIMITS.text) where
   abbrev read : Result SourceTree Refusal
-  read = source 64 (line_at ts end) (tokens_shown ts)
+  read = source LIMITS.depth (line_at ts end) (tokens_shown ts)
 
   pub parsed_found : (result : Result (List Declaration) Refusal) → Gives tree_of result read → IfOk result (λ s. (us : List (Tok × ℕ)) × Lexes text us × SpellsSource (tree_of s) (plain us))
-  parsed_found (Ok s) h = (placed ts, lexed, subst (SpellsSource (tree_of s)) (sym (plain-placed ts)) (source_found 64 (line_at ts end) (tokens_shown ts) (tree_of s) h).0)
+  parsed_found (Ok s) h = (placed ts, lexed, subst (SpellsSource (tree_of s)) (sym (plain-placed ts)) (source_found LIMITS.depth (line_at ts end) (tokens_shown ts) (tree_of s) h).0)
   parsed_found (Err e) h = tt
 
   parsed_stuck : (line : ℕ) → read ≡ Err (refusals.Syntax line) → IsRefused text (refusals.Syntax line)
   parsed_stuck line h =
-      let s = source_stuck 64 (line_at ts end) (tokens_shown ts) line h in
+      let s = source_stuck LIMITS.depth (line_at ts end) (tokens_shown ts) line h in
       let m = split ts s.front s.rest s.apart in
       let here : Lexes text (placed m.before ++ placed m.after) = subst (Lexes text) (ap placed m.apart ∙ placed-append m.before m.after) lexed in
       let on : line ≡ line_of text (placed m.after) = s.on ∙ line_split text end ts m.before m.after s.rest last m.apart m.second in
@@ -128,11 +129,11 @@ module _ (text : List ℕ) (ts : List Token) (end : ℕ) (lexed : Lexes text (pl
 
   parsed_deep : (line : ℕ) → read ≡ Err (refusals.TooDeep line) → IsRefused text (refusals.TooDeep line)
   parsed_deep line h =
-      let s = source_deeper 64 (line_at ts end) (tokens_shown ts) line h in
-      let many : 64 < length (placed ts) = omega (arith, s.0, length-map ts (λ t. kind_shown t.kind), length-map {B = Tok × ℕ} ts (λ t. (kind_shown t.kind, t.line))) in
+      let s = source_deeper LIMITS.depth (line_at ts end) (tokens_shown ts) line h in
+      let many : LIMITS.depth < length (placed ts) = omega (arith, s.0, length-map ts (λ t. kind_shown t.kind), length-map {B = Tok × ℕ} ts (λ t. (kind_shown t.kind, t.line))) in
       (small, (placed ts, lexed, many, λ t spelled. by t (s.1 t (subst (SpellsSource t) (plain-placed ts) spelled))))
     where
-      by : (t : SourceTree) → whole.Deep 64 (line_at ts end) (tokens_shown ts) t line → BeginsTooDeep text (placed ts) t line
+      by : (t : SourceTree) → whole.Deep LIMITS.depth (line_at ts end) (tokens_shown ts) t line → BeginsTooDeep text (placed ts) t line
       by t d =
           let m = split ts d.front d.rest d.apart in
           record {
@@ -153,7 +154,7 @@ module _ (text : List ℕ) (ts : List Token) (end : ℕ) (lexed : Lexes text (pl
   parsed_err : (e : Refusal) → (e ≡ refusals.OutOfMemory) ⊎ (read ≡ Err e) → IsRefused text e
   parsed_err e (inl is) = subst (IsRefused text) (sym is) small
   parsed_err e (inr h) =
-      elim (source_refuses 64 (line_at ts end) (tokens_shown ts) e h) [
+      elim (source_refuses LIMITS.depth (line_at ts end) (tokens_shown ts) e h) [
         | inl s ↦ subst (IsRefused text) (sym s.1) (parsed_stuck s.0 (h ∙ ap Err s.1))
         | inr d ↦ subst (IsRefused text) (sym d.1) (parsed_deep d.0 (h ∙ ap Err d.1))
       ]
@@ -163,12 +164,12 @@ module _ (text : List ℕ) (ts : List Token) (end : ℕ) (lexed : Lexes text (pl
   parsed_refused (Err e) h = parsed_err e (refused_by e read h)
 
   -- a tree that is spelled within the depth is the answer
-  pub parsed_only : (result : Result (List Declaration) Refusal) → Gives tree_of result read → (t : SourceTree) → SpellsSource t (plain (placed ts)) → source_deep t ≤ 64 →
+  pub parsed_only : (result : Result (List Declaration) Refusal) → Gives tree_of result read → (t : SourceTree) → SpellsSource t (plain (placed ts)) → source_deep t ≤ LIMITS.depth →
       MatchResult result (λ s. tree_of s ≡ t) (λ e. e ≡ refusals.OutOfMemory)
   parsed_only result h t spelled d = by result h
     where
       ok : read ≡ Ok t
-      ok = source_only 64 (line_at ts end) (tokens_shown ts) t (subst (SpellsSource t) (plain-placed ts) spelled) d
+      ok = source_only LIMITS.depth (line_at ts end) (tokens_shown ts) t (subst (SpellsSource t) (plain-placed ts) spelled) d
 
       none : (e : Refusal) → (e ≡ refusals.OutOfMemory) ⊎ (read ≡ Err e) → e ≡ refusals.OutOfMemory
       none e (inl is) = is
@@ -189,7 +190,7 @@ module _ (text : List ℕ) (ts : List Token) (end : ℕ) (lexed : Lexes text (pl
       by : (e ≡ refusals.OutOfMemory) ⊎ (read ≡ Err e) → ⊥
       by (inl memory) = let never = sym memory ∙ long in cc
       by (inr h) =
-          elim (source_refuses 64 (line_at ts end) (tokens_shown ts) e h) [
+          elim (source_refuses LIMITS.depth (line_at ts end) (tokens_shown ts) e h) [
             | inl s ↦ let never = sym s.1 ∙ long in cc
             | inr d ↦ let never = sym d.1 ∙ long in cc
           ]

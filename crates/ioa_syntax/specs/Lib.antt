@@ -11,7 +11,6 @@ pub mod Layout
 pub mod Reading
 pub mod Meaning
 pub mod Types
-pub mod Limits
 pub mod Components
 pub mod Steps
 pub mod Runs

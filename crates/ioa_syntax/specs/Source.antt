@@ -2,6 +2,7 @@
 use Rattle.std.specs.Prelude.{◌≡◌, ℕ, ◌<◌, ◌≤◌, List, [], ◌∷◌, ◌++◌, length, map}
 use Rattle.ioa_lex.specs.declared.refusal.Refusal.{Refusal}
 use Rattle.ioa_lex.specs.declared.refusal.Refusal.TheVariants as refusals
+use Rattle.ioa_value.specs.declared.limits.TheConstants.{LIMITS}
 use Rattle.ioa_lex.specs.Tokens.{Tok}
 use Rattle.ioa_lex.specs.Spaced.{IsToken}
 use Rattle.ioa_lex.specs.Lexing as lexing
@@ -15,9 +16,9 @@ abbrev pub AreTokens : List Tok → Type 0
 AreTokens [] = Unit {0}
 AreTokens (t ∷ ts) = IsToken t × AreTokens ts
 
--- some tokens spell it, and it is at most 64 deep
+-- some tokens spell it, and it is at most as deep as the limit
 abbrev pub IsSource : SourceTree → Type 0
-IsSource t = ((ts : List Tok) × AreTokens ts × SpellsSource t ts) × (source_deep t ≤ 64)
+IsSource t = ((ts : List Tok) × AreTokens ts × SpellsSource t ts) × (source_deep t ≤ LIMITS.depth)
 
 -- tokens without their lines
 abbrev pub plain : List (Tok × ℕ) → List Tok
@@ -32,7 +33,7 @@ line_of text (t ∷ ts) = t.1
 abbrev pub IsStuckOn : List ℕ → ℕ → Type 0
 IsStuckOn text line = (front : List (Tok × ℕ)) × (rest : List (Tok × ℕ)) × Lexes text (front ++ rest) × (line ≡ line_of text rest) × IsDeadEnd (plain front) (plain rest)
 
--- the first declaration of the tree that is more than 64 deep begins on this line
+-- the first declaration of the tree that is deeper than the limit begins on this line
 pub record BeginsTooDeep (text : List ℕ) (ts : List (Tok × ℕ)) (t : SourceTree) (line : ℕ) : Type 0 where
   pub before : SourceTree
   pub too_deep : DeclarationTree
@@ -43,16 +44,16 @@ pub record BeginsTooDeep (text : List ℕ) (ts : List (Tok × ℕ)) (t : SourceT
   pub apart : ts ≡ front ++ rest
   pub spells : SpellsSource before (plain front)
   pub goes_on : SpellsSource (too_deep ∷ after) (plain rest)
-  pub within : source_deep before ≤ 64
-  pub beyond : 64 < deep too_deep
+  pub within : source_deep before ≤ LIMITS.depth
+  pub beyond : LIMITS.depth < deep too_deep
   pub on : line ≡ line_of text rest
 
--- The tokens are more than 64. A tree that they spell, if there is one, is too deep, first on this line.
+-- The tokens are more than the limit of depth. A tree that they spell, if there is one, is too deep, first on this line.
 abbrev pub IsTooDeepOn : List ℕ → ℕ → Type 0
-IsTooDeepOn text line = (ts : List (Tok × ℕ)) × Lexes text ts × (64 < length ts) × ((t : SourceTree) → SpellsSource t (plain ts) → BeginsTooDeep text ts t line)
+IsTooDeepOn text line = (ts : List (Tok × ℕ)) × Lexes text ts × (LIMITS.depth < length ts) × ((t : SourceTree) → SpellsSource t (plain ts) → BeginsTooDeep text ts t line)
 
 -- why a text is no source
 abbrev pub IsRefused : List ℕ → Refusal → Type 0
-IsRefused text (refusals.Syntax line) = (length text ≤ 1048576) × IsStuckOn text line
-IsRefused text (refusals.TooDeep line) = (length text ≤ 1048576) × IsTooDeepOn text line
+IsRefused text (refusals.Syntax line) = (length text ≤ LIMITS.text) × IsStuckOn text line
+IsRefused text (refusals.TooDeep line) = (length text ≤ LIMITS.text) × IsTooDeepOn text line
 IsRefused text e = lexing.IsRefused text e

@@ -11,7 +11,8 @@ use Rattle.ioa_syntax.specs.declared.tree.Kind.{Kind}
 use Rattle.ioa_syntax.specs.declared.tree.Kind.TheVariants.{Input, Output, Internal}
 use Rattle.ioa_syntax.specs.Tree.{Expr, number, truth, named, parens, binary, FieldTree, PositionTree, typed, EntryTree, VariableTree, ProposalTree, Stmt, assign, TransitionTree, AutomatonTree, InstanceTree, CompositionTree, DeclarationTree, automaton, composition, SourceTree}
 use Rattle.ioa_syntax.specs.Types.{types_of}
-use Rattle.ioa_syntax.specs.Limits.{Limits, limits}
+use Rattle.ioa_value.specs.declared.limits.Limits.{Limits}
+use Rattle.ioa_value.specs.declared.limits.TheConstants.{LIMITS}
 use Rattle.ioa_syntax.specs.Instances.{field_names, variable_names, position_name}
 
 -- names with the numbers of their types
@@ -247,7 +248,7 @@ module _ (types : Table) where
 
 -- each name is declared once and before its use, each part is fine, and none passes the limits
 abbrev pub well_formed : SourceTree → Bool
-well_formed s = distinct (global_names s) && declarations_fine (types_of s) (global_names s) [] s && source_within limits s
+well_formed s = distinct (global_names s) && declarations_fine (types_of s) (global_names s) [] s && source_within LIMITS s
 
 abbrev pub WellFormed : SourceTree → Type 0
 WellFormed s = IsTrue (well_formed s)

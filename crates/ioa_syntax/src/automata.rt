@@ -1,5 +1,6 @@
 //! Automata.
 
+ghost use Rattle.ioa_value.specs.declared.limits.TheConstants.{LIMITS};
 ghost use Rattle.std.specs.Prelude.{◌≡◌};
 ghost use Rattle.ioa_lex.specs.Tokens.{tokens_shown};
 ghost use Rattle.ioa_syntax.specs.Reading as spec;
@@ -17,7 +18,7 @@ use ioa_lex::Terminal;
 /// What stands after the word `automaton`.
 #[tactic(auto, unfolding(crate::specs::Reading::an_automaton))]
 pub(crate) fn automaton(cursor: &mut Cursor<'_>) -> Result<Automaton, ReadError>
-    ensures { Reads automaton_of (spec.an_automaton 64 (tokens_shown cursor.old)) result (tokens_shown cursor.new) }
+    ensures { Reads automaton_of (spec.an_automaton LIMITS.depth (tokens_shown cursor.old)) result (tokens_shown cursor.new) }
 {
     let name = cursor.name()?;
     let formals = formals(cursor)?;

@@ -1,5 +1,6 @@
 //! Compositions.
 
+ghost use Rattle.ioa_value.specs.declared.limits.TheConstants.{LIMITS};
 ghost use Rattle.std.specs.Prelude.{◌≡◌, map};
 ghost use Rattle.ioa_lex.specs.Tokens.{tokens_shown};
 ghost use Rattle.ioa_syntax.specs.Reading as spec;
@@ -14,7 +15,7 @@ use ioa_lex::Terminal;
 
 #[tactic(auto, unfolding(crate::specs::Reading::separated), using(crate::proofs::Turns::items_turn, crate::proofs::Turns::items_close, crate::proofs::Turns::items_fail, crate::proofs::Turns::items_spent))]
 fn argument_list(cursor: &mut Cursor<'_>) -> Result<Vec<Expression>, ReadError>
-    ensures { Reads (λ v. map expr_of v.items) (spec.separated Terminal.Comma (spec.expression 64) (tokens_shown cursor.old)) result (tokens_shown cursor.new) }
+    ensures { Reads (λ v. map expr_of v.items) (spec.separated Terminal.Comma (spec.expression LIMITS.depth) (tokens_shown cursor.old)) result (tokens_shown cursor.new) }
 {
     let mut found = Vec::new(cursor.alloc());
     for _turn in 0..cursor.left() {
@@ -29,7 +30,7 @@ fn argument_list(cursor: &mut Cursor<'_>) -> Result<Vec<Expression>, ReadError>
 /// Arguments between parentheses, or none.
 #[tactic(auto, unfolding(crate::specs::Reading::optional_list, crate::specs::Reading::arguments, crate::specs::Reading::closing))]
 fn arguments(cursor: &mut Cursor<'_>) -> Result<Vec<Expression>, ReadError>
-    ensures { Reads (λ v. map expr_of v.items) (spec.optional_list Terminal.Open (spec.arguments 64) (tokens_shown cursor.old)) result (tokens_shown cursor.new) }
+    ensures { Reads (λ v. map expr_of v.items) (spec.optional_list Terminal.Open (spec.arguments LIMITS.depth) (tokens_shown cursor.old)) result (tokens_shown cursor.new) }
 {
     if !cursor.take(Terminal::Open) {
         return Ok(Vec::new(cursor.alloc()));
@@ -42,7 +43,7 @@ fn arguments(cursor: &mut Cursor<'_>) -> Result<Vec<Expression>, ReadError>
 /// A component: its name, its automaton's name, and the arguments.
 #[tactic(auto, unfolding(crate::specs::Reading::instance))]
 fn instance(cursor: &mut Cursor<'_>) -> Result<Instance, ReadError>
-    ensures { Reads instance_of (spec.instance 64 (tokens_shown cursor.old)) result (tokens_shown cursor.new) }
+    ensures { Reads instance_of (spec.instance LIMITS.depth (tokens_shown cursor.old)) result (tokens_shown cursor.new) }
 {
     let name = cursor.name()?;
     cursor.expect(Terminal::Colon)?;
@@ -58,7 +59,7 @@ fn instance(cursor: &mut Cursor<'_>) -> Result<Instance, ReadError>
 /// The one component of a composition, with or without a semicolon.
 #[tactic(auto, unfolding(crate::specs::Reading::instances))]
 fn instances(cursor: &mut Cursor<'_>) -> Result<Vec<Instance>, ReadError>
-    ensures { Reads (λ v. map instance_of v.items) (spec.instances 64 (tokens_shown cursor.old)) result (tokens_shown cursor.new) }
+    ensures { Reads (λ v. map instance_of v.items) (spec.instances LIMITS.depth (tokens_shown cursor.old)) result (tokens_shown cursor.new) }
 {
     let mut found = Vec::new(cursor.alloc());
     found.push(instance(cursor)?)?;
@@ -69,7 +70,7 @@ fn instances(cursor: &mut Cursor<'_>) -> Result<Vec<Instance>, ReadError>
 /// What stands after the word `composition`.
 #[tactic(auto, unfolding(crate::specs::Reading::a_composition))]
 pub(crate) fn composition(cursor: &mut Cursor<'_>) -> Result<Assembly, ReadError>
-    ensures { Reads assembly_of (spec.a_composition 64 (tokens_shown cursor.old)) result (tokens_shown cursor.new) }
+    ensures { Reads assembly_of (spec.a_composition LIMITS.depth (tokens_shown cursor.old)) result (tokens_shown cursor.new) }
 {
     let name = cursor.name()?;
     cursor.expect(Terminal::Components)?;

@@ -12,10 +12,10 @@ use crate::measured::Measured;
 use crate::operators::{TIGHTEST, after_of, level_of, operator_of, right_of};
 use crate::tree::Expression;
 use ioa_lex::{Kind, Terminal, Token};
-use ioa_value::Op;
+use ioa_value::{LIMITS, Op};
 
 /// How deep an expression may be.
-pub(crate) const MAX_DEPTH: u32 = 64;
+const MAX_DEPTH: u32 = LIMITS.depth as u32;
 
 /// The operator that comes next, if its level is from `least` on and below `below`.
 #[tactic(auto, unfolding(crate::specs::Reading::operator_at))]
@@ -30,10 +30,10 @@ fn operator_at(cursor: &Cursor<'_>, least: u32, below: u32) -> Option<Op>
     }
 }
 
-/// An expression of at most 64 levels.
+/// An expression, as deep as the limit allows.
 #[tactic(auto, unfolding(crate::specs::Reading::expression))]
 pub(crate) fn whole_expression(cursor: &mut Cursor<'_>) -> Result<Expression, ReadError>
-    ensures { Reads expr_of (spec.expression 64 (tokens_shown cursor.old)) result (tokens_shown cursor.new) }
+    ensures { Reads expr_of (spec.expression LIMITS.depth (tokens_shown cursor.old)) result (tokens_shown cursor.new) }
 {
     let Measured { expression, .. } = expression(cursor, MAX_DEPTH, 0)?;
     Ok(expression)

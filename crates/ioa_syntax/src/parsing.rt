@@ -1,5 +1,6 @@
 //! From a text to a source.
 
+ghost use Rattle.ioa_value.specs.declared.limits.TheConstants.{LIMITS};
 ghost use Rattle.std.specs.Prelude.{◌≡◌, ◌⊎◌, ℕ, ◌≤◌, ◌<◌, ◌↔◌, List, length, IfOk, IfErr, IsErrOf, MatchResult};
 ghost use Rattle.ioa_lex.specs.Tokens.{Tok, tokens_shown};
 ghost use Rattle.ioa_lex.specs.Lexing.{Lexes, StopsOn, line_after};
@@ -29,11 +30,11 @@ pub fn parse(alloc: Global, text: &[u8]) -> Result<Source, Refusal>
     // What is read is spelled so.
     ensures found { IfOk result (λ s. (ts : List (Tok × ℕ)) × Lexes text.now ts × SpellsSource (tree_of s) (plain ts)) }
     ensures refused { IfErr result (λ e. IsRefused text.now e) }
-    ensures long { IsErrOf result Refusal.TextTooLong ↔ (1048576 < length text.now) }
-    ensures stops { (line : ℕ) → StopsOn text.now line → length text.now ≤ 1048576 → MatchResult result (λ _. ⊥) (λ e. (e ≡ Refusal.BadByte line) ⊎ (e ≡ Refusal.OutOfMemory)) }
+    ensures long { IsErrOf result Refusal.TextTooLong ↔ (LIMITS.text < length text.now) }
+    ensures stops { (line : ℕ) → StopsOn text.now line → length text.now ≤ LIMITS.text → MatchResult result (λ _. ⊥) (λ e. (e ≡ Refusal.BadByte line) ⊎ (e ≡ Refusal.OutOfMemory)) }
 
     // What is spelled so, and not too deep, is read, unless memory runs out.
-    ensures only { (ts : List (Tok × ℕ)) (t : SourceTree) → Lexes text.now ts → SpellsSource t (plain ts) → source_deep t ≤ 64 → length text.now ≤ 1048576 → MatchResult result (λ s. tree_of s ≡ t) (λ e. e ≡ Refusal.OutOfMemory) }
+    ensures only { (ts : List (Tok × ℕ)) (t : SourceTree) → Lexes text.now ts → SpellsSource t (plain ts) → source_deep t ≤ LIMITS.depth → length text.now ≤ LIMITS.text → MatchResult result (λ s. tree_of s ≡ t) (λ e. e ≡ Refusal.OutOfMemory) }
 {
     let tokens = lex(alloc, text)?;
     parse_tokens(alloc, &tokens, last_line(text))
@@ -41,14 +42,14 @@ pub fn parse(alloc: Global, text: &[u8]) -> Result<Source, Refusal>
 
 fn parse_tokens(alloc: Global, tokens: &[Token], end: u32) -> Result<Source, Refusal>
     requires { AreTokens (tokens_shown tokens.now) }
-    ensures { Gives tree_of result (spec.source 64 (line_at tokens.now end) (tokens_shown tokens.now)) }
+    ensures { Gives tree_of result (spec.source LIMITS.depth (line_at tokens.now end) (tokens_shown tokens.now)) }
 {
     Ok(Source::new(declarations(alloc, tokens, end)?))
 }
 
 /// The line on which the text ends, counted from 1.
 fn last_line(text: &[u8]) -> u32
-    requires { length text.now ≤ 1048576 }
+    requires { length text.now ≤ LIMITS.text }
     ensures { result ≡ line_after text.now }
 {
     let mut line = 1;

@@ -1,5 +1,6 @@
 //! Sources: declarations up to the end of the tokens.
 
+ghost use Rattle.ioa_value.specs.declared.limits.TheConstants.{LIMITS};
 ghost use Rattle.std.specs.Prelude.{◌≡◌};
 ghost use Rattle.ioa_lex.specs.Tokens.{tokens_shown};
 ghost use Rattle.ioa_syntax.specs.Reading as spec;
@@ -16,7 +17,7 @@ use std::alloc::Global;
 
 #[tactic(auto, unfolding(crate::specs::Reading::composed))]
 fn composed(cursor: &mut Cursor<'_>) -> Result<Declaration, ReadError>
-    ensures { Reads declaration_of (spec.composed 64 (tokens_shown cursor.old)) result (tokens_shown cursor.new) }
+    ensures { Reads declaration_of (spec.composed LIMITS.depth (tokens_shown cursor.old)) result (tokens_shown cursor.new) }
 {
     cursor.expect(Terminal::Composition)?;
     Ok(Declaration::Composition(composition(cursor)?))
@@ -25,7 +26,7 @@ fn composed(cursor: &mut Cursor<'_>) -> Result<Declaration, ReadError>
 /// An automaton or a composition.
 #[tactic(auto, unfolding(crate::specs::Reading::declaration))]
 fn declaration(cursor: &mut Cursor<'_>) -> Result<Declaration, ReadError>
-    ensures { Reads declaration_of (spec.declaration 64 (tokens_shown cursor.old)) result (tokens_shown cursor.new) }
+    ensures { Reads declaration_of (spec.declaration LIMITS.depth (tokens_shown cursor.old)) result (tokens_shown cursor.new) }
 {
     if cursor.take(Terminal::Automaton) {
         Ok(Declaration::Automaton(automaton(cursor)?))
@@ -62,7 +63,7 @@ pub(crate) fn declarations(
     tokens: &[Token],
     end: u32,
 ) -> Result<Vec<Declaration>, Refusal>
-    ensures { Gives (λ v. tree_of v.items) result (spec.source 64 (line_at tokens.now end) (tokens_shown tokens.now)) }
+    ensures { Gives (λ v. tree_of v.items) result (spec.source LIMITS.depth (line_at tokens.now end) (tokens_shown tokens.now)) }
 {
     let mut cursor = Cursor::new(alloc, tokens);
     let mut found = Vec::new(alloc);

@@ -1,5 +1,6 @@
 //! State variables.
 
+ghost use Rattle.ioa_value.specs.declared.limits.TheConstants.{LIMITS};
 ghost use Rattle.std.specs.Prelude.{◌≡◌, map};
 ghost use Rattle.std.specs.Option.{option_map};
 ghost use Rattle.ioa_lex.specs.Tokens.{tokens_shown};
@@ -16,7 +17,7 @@ use ioa_lex::Terminal;
 
 #[tactic(auto, unfolding(crate::specs::Reading::optional))]
 fn start(cursor: &mut Cursor<'_>) -> Result<Option<Expression>, ReadError>
-    ensures { Reads (option_map expr_of) (spec.optional Terminal.Becomes (spec.expression 64) (tokens_shown cursor.old)) result (tokens_shown cursor.new) }
+    ensures { Reads (option_map expr_of) (spec.optional Terminal.Becomes (spec.expression LIMITS.depth) (tokens_shown cursor.old)) result (tokens_shown cursor.new) }
 {
     if !cursor.take(Terminal::Becomes) {
         return Ok(None);
@@ -27,7 +28,7 @@ fn start(cursor: &mut Cursor<'_>) -> Result<Option<Expression>, ReadError>
 /// A variable with its start expression, if it has one.
 #[tactic(auto, unfolding(crate::specs::Reading::variable))]
 fn variable(cursor: &mut Cursor<'_>) -> Result<Variable, ReadError>
-    ensures { Reads variable_of (spec.variable 64 (tokens_shown cursor.old)) result (tokens_shown cursor.new) }
+    ensures { Reads variable_of (spec.variable LIMITS.depth (tokens_shown cursor.old)) result (tokens_shown cursor.new) }
 {
     let field = field(cursor)?;
     let start = start(cursor)?;
@@ -36,7 +37,7 @@ fn variable(cursor: &mut Cursor<'_>) -> Result<Variable, ReadError>
 
 #[tactic(auto, unfolding(crate::specs::Reading::variables, crate::specs::Reading::terminated), using(crate::proofs::Turns::items_turn, crate::proofs::Turns::items_close, crate::proofs::Turns::items_fail, crate::proofs::Turns::items_spent))]
 fn variables(cursor: &mut Cursor<'_>) -> Result<Vec<Variable>, ReadError>
-    ensures { Reads (λ v. map variable_of v.items) (spec.variables 64 (tokens_shown cursor.old)) result (tokens_shown cursor.new) }
+    ensures { Reads (λ v. map variable_of v.items) (spec.variables LIMITS.depth (tokens_shown cursor.old)) result (tokens_shown cursor.new) }
 {
     let mut found = Vec::new(cursor.alloc());
     for _turn in 0..cursor.left() {
@@ -51,7 +52,7 @@ fn variables(cursor: &mut Cursor<'_>) -> Result<Vec<Variable>, ReadError>
 /// The variables after the word `states`, or none.
 #[tactic(auto, unfolding(crate::specs::Reading::optional_list))]
 pub(crate) fn states(cursor: &mut Cursor<'_>) -> Result<Vec<Variable>, ReadError>
-    ensures { Reads (λ v. map variable_of v.items) (spec.optional_list Terminal.States (spec.variables 64) (tokens_shown cursor.old)) result (tokens_shown cursor.new) }
+    ensures { Reads (λ v. map variable_of v.items) (spec.optional_list Terminal.States (spec.variables LIMITS.depth) (tokens_shown cursor.old)) result (tokens_shown cursor.new) }
 {
     if !cursor.take(Terminal::States) {
         return Ok(Vec::new(cursor.alloc()));

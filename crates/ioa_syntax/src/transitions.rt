@@ -1,5 +1,6 @@
 //! Transitions.
 
+ghost use Rattle.ioa_value.specs.declared.limits.TheConstants.{LIMITS};
 ghost use Rattle.std.specs.Prelude.{◌≡◌, map};
 ghost use Rattle.std.specs.Option.{option_map};
 ghost use Rattle.ioa_lex.specs.Tokens.{tokens_shown};
@@ -15,7 +16,7 @@ use ioa_lex::Terminal;
 
 #[tactic(auto, unfolding(crate::specs::Reading::optional))]
 fn precondition(cursor: &mut Cursor<'_>) -> Result<Option<Expression>, ReadError>
-    ensures { Reads (option_map expr_of) (spec.optional Terminal.Pre (spec.expression 64) (tokens_shown cursor.old)) result (tokens_shown cursor.new) }
+    ensures { Reads (option_map expr_of) (spec.optional Terminal.Pre (spec.expression LIMITS.depth) (tokens_shown cursor.old)) result (tokens_shown cursor.new) }
 {
     if !cursor.take(Terminal::Pre) {
         return Ok(None);
@@ -25,7 +26,7 @@ fn precondition(cursor: &mut Cursor<'_>) -> Result<Option<Expression>, ReadError
 
 #[tactic(auto, unfolding(crate::specs::Reading::proposal))]
 fn proposal(cursor: &mut Cursor<'_>) -> Result<Proposal, ReadError>
-    ensures { Reads proposal_of (spec.proposal 64 (tokens_shown cursor.old)) result (tokens_shown cursor.new) }
+    ensures { Reads proposal_of (spec.proposal LIMITS.depth (tokens_shown cursor.old)) result (tokens_shown cursor.new) }
 {
     let name = cursor.name()?;
     cursor.expect(Terminal::Becomes)?;
@@ -35,7 +36,7 @@ fn proposal(cursor: &mut Cursor<'_>) -> Result<Proposal, ReadError>
 
 #[tactic(auto, unfolding(crate::specs::Reading::proposals, crate::specs::Reading::separated), using(crate::proofs::Turns::items_turn, crate::proofs::Turns::items_close, crate::proofs::Turns::items_fail, crate::proofs::Turns::items_spent))]
 fn proposal_list(cursor: &mut Cursor<'_>) -> Result<Vec<Proposal>, ReadError>
-    ensures { Reads (λ v. map proposal_of v.items) (spec.proposals 64 (tokens_shown cursor.old)) result (tokens_shown cursor.new) }
+    ensures { Reads (λ v. map proposal_of v.items) (spec.proposals LIMITS.depth (tokens_shown cursor.old)) result (tokens_shown cursor.new) }
 {
     let mut found = Vec::new(cursor.alloc());
     for _turn in 0..cursor.left() {
@@ -49,7 +50,7 @@ fn proposal_list(cursor: &mut Cursor<'_>) -> Result<Vec<Proposal>, ReadError>
 
 #[tactic(auto, unfolding(crate::specs::Reading::optional_list))]
 fn proposals(cursor: &mut Cursor<'_>) -> Result<Vec<Proposal>, ReadError>
-    ensures { Reads (λ v. map proposal_of v.items) (spec.optional_list Terminal.Propose (spec.proposals 64) (tokens_shown cursor.old)) result (tokens_shown cursor.new) }
+    ensures { Reads (λ v. map proposal_of v.items) (spec.optional_list Terminal.Propose (spec.proposals LIMITS.depth) (tokens_shown cursor.old)) result (tokens_shown cursor.new) }
 {
     if !cursor.take(Terminal::Propose) {
         return Ok(Vec::new(cursor.alloc()));
@@ -60,7 +61,7 @@ fn proposals(cursor: &mut Cursor<'_>) -> Result<Vec<Proposal>, ReadError>
 /// An assignment.
 #[tactic(auto, unfolding(crate::specs::Reading::statement))]
 fn statement(cursor: &mut Cursor<'_>) -> Result<Statement, ReadError>
-    ensures { Reads stmt_of (spec.statement 64 (tokens_shown cursor.old)) result (tokens_shown cursor.new) }
+    ensures { Reads stmt_of (spec.statement LIMITS.depth (tokens_shown cursor.old)) result (tokens_shown cursor.new) }
 {
     let name = cursor.name()?;
     cursor.expect(Terminal::Becomes)?;
@@ -69,7 +70,7 @@ fn statement(cursor: &mut Cursor<'_>) -> Result<Statement, ReadError>
 
 #[tactic(auto, unfolding(crate::specs::Reading::statements, crate::specs::Reading::terminated), using(crate::proofs::Turns::items_turn, crate::proofs::Turns::items_close, crate::proofs::Turns::items_fail, crate::proofs::Turns::items_spent))]
 fn statements(cursor: &mut Cursor<'_>) -> Result<Vec<Statement>, ReadError>
-    ensures { Reads (λ v. map stmt_of v.items) (spec.statements 64 (tokens_shown cursor.old)) result (tokens_shown cursor.new) }
+    ensures { Reads (λ v. map stmt_of v.items) (spec.statements LIMITS.depth (tokens_shown cursor.old)) result (tokens_shown cursor.new) }
 {
     let mut found = Vec::new(cursor.alloc());
     for _turn in 0..cursor.left() {
@@ -83,7 +84,7 @@ fn statements(cursor: &mut Cursor<'_>) -> Result<Vec<Statement>, ReadError>
 
 #[tactic(auto, unfolding(crate::specs::Reading::optional_list))]
 fn effect(cursor: &mut Cursor<'_>) -> Result<Vec<Statement>, ReadError>
-    ensures { Reads (λ v. map stmt_of v.items) (spec.optional_list Terminal.Eff (spec.statements 64) (tokens_shown cursor.old)) result (tokens_shown cursor.new) }
+    ensures { Reads (λ v. map stmt_of v.items) (spec.optional_list Terminal.Eff (spec.statements LIMITS.depth) (tokens_shown cursor.old)) result (tokens_shown cursor.new) }
 {
     if !cursor.take(Terminal::Eff) {
         return Ok(Vec::new(cursor.alloc()));
@@ -94,7 +95,7 @@ fn effect(cursor: &mut Cursor<'_>) -> Result<Vec<Statement>, ReadError>
 /// A transition: a kind, a name, and the parts that it has.
 #[tactic(auto, unfolding(crate::specs::Reading::transition))]
 fn transition(cursor: &mut Cursor<'_>) -> Result<Transition, ReadError>
-    ensures { Reads transition_of (spec.transition 64 (tokens_shown cursor.old)) result (tokens_shown cursor.new) }
+    ensures { Reads transition_of (spec.transition LIMITS.depth (tokens_shown cursor.old)) result (tokens_shown cursor.new) }
 {
     let kind = cursor.kind()?;
     let name = cursor.name()?;
@@ -113,7 +114,7 @@ fn transition(cursor: &mut Cursor<'_>) -> Result<Transition, ReadError>
 /// Transitions, as long as the word for a kind comes next.
 #[tactic(auto, unfolding(crate::specs::Reading::transitions, crate::specs::Reading::many), using(crate::proofs::Turns::many_turn, crate::proofs::Turns::many_end, crate::proofs::Turns::many_fail, crate::proofs::Turns::many_spent))]
 pub(crate) fn transitions(cursor: &mut Cursor<'_>) -> Result<Vec<Transition>, ReadError>
-    ensures { Reads (λ v. map transition_of v.items) (spec.transitions 64 (tokens_shown cursor.old)) result (tokens_shown cursor.new) }
+    ensures { Reads (λ v. map transition_of v.items) (spec.transitions LIMITS.depth (tokens_shown cursor.old)) result (tokens_shown cursor.new) }
 {
     let mut found = Vec::new(cursor.alloc());
     for _turn in 0..cursor.left() {

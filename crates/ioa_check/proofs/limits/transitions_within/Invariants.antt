@@ -1,9 +1,9 @@
 use Rattle.std.proofs.Common.{◌≡◌, map, drop}
 use Rattle.std.specs.List.{list_all}
-use Rattle.ioa_syntax.specs.Limits.{limits}
+use Rattle.ioa_value.specs.declared.limits.TheConstants.{LIMITS}
 use Rattle.ioa_syntax.specs.View.{transition_of}
 use Rattle.ioa_syntax.specs.WellFormed as well_formed
 use Rattle.ioa_check.proofs.limits.transitions_within.Given as goal
 
 abbrev pub invariant-loop-transition : goal.invariant-loop-transition
-invariant-loop-transition l = list_all (well_formed.transition_within limits) (map transition_of (drop l.transition-index l.transitions)) ≡ list_all (well_formed.transition_within limits) (map transition_of l.transitions)
+invariant-loop-transition l = list_all (well_formed.transition_within LIMITS) (map transition_of (drop l.transition-index l.transitions)) ≡ list_all (well_formed.transition_within LIMITS) (map transition_of l.transitions)

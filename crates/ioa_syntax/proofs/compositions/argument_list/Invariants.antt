@@ -1,4 +1,5 @@
 use Rattle.std.proofs.Common.{◌≡◌, ◌-◌, map}
+use Rattle.ioa_value.specs.declared.limits.TheConstants.{LIMITS}
 use Rattle.ioa_lex.specs.Tokens.{tokens_shown}
 use Rattle.ioa_lex.specs.declared.terminal.Terminal.TheVariants as terminals
 use Rattle.ioa_syntax.specs.Reading.{items_from, always, expression, separated}
@@ -6,4 +7,4 @@ use Rattle.ioa_syntax.specs.View.{expr_of}
 use Rattle.ioa_syntax.proofs.compositions.argument_list.Given as goal
 
 abbrev pub invariant-loop-turn : goal.invariant-loop-turn
-invariant-loop-turn l = items_from always terminals.Comma (expression 64) (l._turn-end - l._turn) (map expr_of l.found.items) (tokens_shown l.cursor) ≡ separated terminals.Comma (expression 64) (tokens_shown l.initial.cursor)
+invariant-loop-turn l = items_from always terminals.Comma (expression LIMITS.depth) (l._turn-end - l._turn) (map expr_of l.found.items) (tokens_shown l.cursor) ≡ separated terminals.Comma (expression LIMITS.depth) (tokens_shown l.initial.cursor)

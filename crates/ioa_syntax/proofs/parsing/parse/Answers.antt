@@ -1,4 +1,5 @@
 use Rattle.std.proofs.Common.{◌≡◌, ◌≤◌, ℕ, List, length, arith, rules, sym, subst}
+use Rattle.ioa_value.specs.declared.limits.TheConstants.{LIMITS}
 use Rattle.ioa_lex.specs.declared.refusal.Refusal.TheVariants as refusals
 use Rattle.ioa_lex.specs.declared.token.Token.{Token}
 use Rattle.ioa_lex.specs.Tokens.{Tok, tokens_shown}
@@ -17,19 +18,19 @@ returns-in_err-tokens-clause-only c = λ ts t lexes spelled deep small. let memo
 pub returns-clause-found : goal.returns-clause-found
 returns-clause-found c =
     let lexed : Lexes c.args.text.now (placed c.deref.result.now) = subst (λ (ts : List Token). Lexes c.args.text.now (placed ts)) (sym c.deref.ensures.value) c.in_ok-tokens.ensures.ok in
-    let small : length c.args.text.now ≤ 1048576 = short_of c.in_ok-tokens.tokens refusals.TextTooLong (length c.args.text.now) c.in_ok-tokens.ensures.long.1 in
+    let small : length c.args.text.now ≤ LIMITS.text = short_of c.in_ok-tokens.tokens refusals.TextTooLong (length c.args.text.now) c.in_ok-tokens.ensures.long.1 in
     parsed_found c.args.text.now c.deref.result.now c.last_line.result lexed c.last_line.ensures small c.parse_tokens.result c.parse_tokens.ensures
 
 pub returns-clause-refused : goal.returns-clause-refused
 returns-clause-refused c =
     let lexed : Lexes c.args.text.now (placed c.deref.result.now) = subst (λ (ts : List Token). Lexes c.args.text.now (placed ts)) (sym c.deref.ensures.value) c.in_ok-tokens.ensures.ok in
-    let small : length c.args.text.now ≤ 1048576 = short_of c.in_ok-tokens.tokens refusals.TextTooLong (length c.args.text.now) c.in_ok-tokens.ensures.long.1 in
+    let small : length c.args.text.now ≤ LIMITS.text = short_of c.in_ok-tokens.tokens refusals.TextTooLong (length c.args.text.now) c.in_ok-tokens.ensures.long.1 in
     parsed_refused c.args.text.now c.deref.result.now c.last_line.result lexed c.last_line.ensures small c.parse_tokens.result c.parse_tokens.ensures
 
 pub returns-clause-long : goal.returns-clause-long
 returns-clause-long c =
     let lexed : Lexes c.args.text.now (placed c.deref.result.now) = subst (λ (ts : List Token). Lexes c.args.text.now (placed ts)) (sym c.deref.ensures.value) c.in_ok-tokens.ensures.ok in
-    let small : length c.args.text.now ≤ 1048576 = short_of c.in_ok-tokens.tokens refusals.TextTooLong (length c.args.text.now) c.in_ok-tokens.ensures.long.1 in
+    let small : length c.args.text.now ≤ LIMITS.text = short_of c.in_ok-tokens.tokens refusals.TextTooLong (length c.args.text.now) c.in_ok-tokens.ensures.long.1 in
     (λ is. absurd (parsed_short c.args.text.now c.deref.result.now c.last_line.result lexed c.last_line.ensures small c.parse_tokens.result c.parse_tokens.ensures is), λ long. absurd (omega arith))
 
 pub returns-clause-stops : goal.returns-clause-stops
