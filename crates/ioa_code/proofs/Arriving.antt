@@ -14,7 +14,7 @@ use Rattle.ioa_code.specs.declared.reason.Reason.TheVariants.{NotForward, NotOne
 use Rattle.ioa_code.specs.declared.exits.Exit.{Exit}
 use Rattle.ioa_code.specs.declared.exits.Exits.{Exits}
 use Rattle.ioa_code.specs.Valid.{Part, Way, after}
-use Rattle.ioa_code.specs.Scan.{Brought, none, some, clash, Verdict, good, bad, same_types, joined, bring, targets, all_forward, onward, at_end, arrived, passed, scan_from, at_first, scan}
+use Rattle.ioa_code.specs.Scan.{Brought, none, some, clash, good, bad, same_types, joined, bring, targets, all_forward, onward, at_end, arrived, passed, scan_from, at_first, scan}
 use Rattle.ioa_code.specs.Stacks.{IsStack, IsNumbered, Keeps, Grows, listed, AreWays, AgreeOn, LeadsOn}
 use Rattle.ioa_code.specs.Pending.{met, Means, Holds, AreBelow, Brings, IsFirst, Reached}
 use Rattle.ioa_value.proofs.ItemLemmas.{get_last}

@@ -241,6 +241,14 @@ module _ (part : Part) where
     known : Known part table n brought
     is : v ≡ scan_from part (drop n part.code.instrs) n brought
 
+  earlier : (n : ℕ) (table : List (List ℕ)) (v u : Verdict) → v ≡ u → Follows n table u → Follows n table v
+  earlier n table v u e f = record { brought = f.brought; known = f.known; is = e ∙ f.is }
+
+  goes_on : (p : ℕ) (i : Instr) (ts : List ℕ) (ways : List Way) (brought : ℕ → Brought) → slice_get part.code.instrs p ≡ Some i → arrived p (brought p) (rest i p brought) ≡ rest i p brought ts → after part p i ts ≡ Ok ways → GoForward (length part.code.instrs) p ways → scan_from part (drop p part.code.instrs) p brought ≡ scan_from part (drop (p + 1) part.code.instrs) (p + 1) (bring ways brought)
+  goes_on p i ts ways brought at here finds on =
+      scan_at p i brought at ∙ here ∙ ap (λ r. passed p r (led p brought)) finds
+      ∙ ap (λ b. onward p b (scan_from part (drop (p + 1) part.code.instrs) (p + 1) (bring ways brought))) (is_forward (length part.code.instrs) p ways on)
+
   follows : (n : ℕ) (table : List (List ℕ)) → IsBegun part table n → (k p : ℕ) (brought : ℕ → Brought) → p + k ≡ n → Known part table p brought → Follows n table (scan_from part (drop p part.code.instrs) p brought)
   follows n table begun zero p brought e known =
       let same : p ≡ n = omega arith in
@@ -253,13 +261,8 @@ module _ (part : Part) where
       let f = begun.finds p i.0 t.0 (omega arith) i.1 t.1 in
       let one = begun.one p t.0 (omega arith) t.1 in
       let next = bring f.0 brought in
-      let ready : scan_from part (drop p part.code.instrs) p brought ≡ rest i.0 p brought t.0 = scan_at p i.0 brought i.1 ∙ here (brought p) t.0 (known p) one (rest i.0 p brought) in
-      let step : scan_from part (drop p part.code.instrs) p brought ≡ scan_from part (drop (p + 1) part.code.instrs) (p + 1) next =
-      ready
-      ∙ ap (λ r. passed p r (led p brought)) f.1
-      ∙ ap (λ b. onward p b (scan_from part (drop (p + 1) part.code.instrs) (p + 1) next)) (is_forward (length part.code.instrs) p f.0 f.2) in
-      let more = follows n table begun k (p + 1) next (omega arith) (more_known part table table p (λ j lt. refl) i.0 t.0 f.0 i.1 t.1 f.1 brought known) in
-      record { brought = more.brought; known = more.known; is = step ∙ more.is }
+      let step = goes_on p i.0 t.0 f.0 brought i.1 (here (brought p) t.0 (known p) one (rest i.0 p brought)) f.1 f.2 in
+      earlier n table _ _ step (follows n table begun k (p + 1) next (omega arith) (more_known part table table p (λ j lt. refl) i.0 t.0 f.0 i.1 t.1 f.1 brought known))
     where
       here : (b : Brought) (ts : List ℕ) → Describes (Comes part table p p) b → OneComes (Comes part table p p) ts → (go : List ℕ → Verdict) → arrived p b go ≡ go ts
       here none ts d one go = absurd (d ts one.these)

@@ -9,8 +9,8 @@ use Rattle.ioa_value.specs.declared.limits.TheConstants.{LIMITS}
 use Rattle.ioa_value.specs.Names.{is_letter, is_digit, is_word_byte}
 use Rattle.ioa_lex.specs.declared.token.Kind.{Kind}
 use Rattle.ioa_lex.specs.declared.token.Kind.TheVariants as kinds
-use Rattle.ioa_lex.specs.declared.terminal.Terminal.{Terminal}
-use Rattle.ioa_lex.specs.Spelling.{spelling_of, IsReserved}
+use Rattle.ioa_value.specs.declared.terminal.Terminal.{Terminal}
+use Rattle.ioa_value.specs.Spelling.{spelling_of, IsReserved}
 use Rattle.ioa_lex.specs.Tokens.{Tok, name, kind_shown}
 use Rattle.ioa_lex.specs.Lexing.{is_blank, is_in_line, is_word, is_digits, value_of, IsTokenText, by_word, by_digits, Writes, IsLongest, blank, comment, token, EndsLine, NoneStands}
 use Rattle.ioa_lex.specs.Fronts.{is_sign_part, IsFront}

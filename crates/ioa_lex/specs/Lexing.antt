@@ -6,7 +6,7 @@ use Rattle.ioa_value.specs.Names.{is_letter, is_digit, is_word_byte, IsName}
 use Rattle.ioa_lex.specs.declared.refusal.Refusal.{Refusal}
 use Rattle.ioa_lex.specs.declared.refusal.Refusal.TheVariants as refusals
 use Rattle.ioa_lex.specs.declared.token.Token.{Token}
-use Rattle.ioa_lex.specs.Spelling.{spelling_of, IsReserved}
+use Rattle.ioa_value.specs.Spelling.{spelling_of, IsReserved}
 use Rattle.ioa_lex.specs.Tokens.{Tok, number, name, terminal, kind_shown}
 
 -- space, tab, LF and CR separate tokens

@@ -1,6 +1,4 @@
 pub mod Tokens
-pub mod Spelling
-pub mod Lookup
 pub mod Lexing
 pub mod Spaced
 pub mod Fronts

@@ -2,7 +2,7 @@
 use Rattle.std.specs.Prelude.{◌≡◌, ℕ, ◌≤◌, IsTrue, List, [], ◌∷◌, ◌++◌}
 use Rattle.std.specs.Fmt.{decimal}
 use Rattle.ioa_value.specs.Names.{IsName}
-use Rattle.ioa_lex.specs.Spelling.{spelling_of}
+use Rattle.ioa_value.specs.Spelling.{spelling_of}
 use Rattle.ioa_lex.specs.Tokens.{Tok, number, name, terminal}
 use Rattle.ioa_lex.specs.Lexing.{is_blank}
 

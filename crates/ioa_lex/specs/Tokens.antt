@@ -1,7 +1,7 @@
 -- Tokens without the memory that holds them.
 use Rattle.std.specs.Prelude.{ℕ, List, map}
 use Rattle.std.specs.String.{string_bytes}
-use Rattle.ioa_lex.specs.declared.terminal.Terminal.{Terminal}
+use Rattle.ioa_value.specs.declared.terminal.Terminal.{Terminal}
 use Rattle.ioa_lex.specs.declared.token.Kind.{Kind}
 use Rattle.ioa_lex.specs.declared.token.Kind.TheVariants as kinds
 use Rattle.ioa_lex.specs.declared.token.Token.{Token}

@@ -7,9 +7,8 @@ ghost use Rattle.ioa_lex.specs.Fronts.{IsFront, NoFront, is_sign_part};
 
 use crate::refusal::Refusal;
 use crate::scan::{digits_len, is_blank, line_len, value_of, word_len};
-use crate::terminal::Terminal;
 use crate::token::Kind;
-use ioa_value::LIMITS;
+use ioa_value::{LIMITS, Terminal};
 use std::alloc::Global;
 
 /// A blank, a comment or a token at the front of a text.

@@ -1,8 +1,8 @@
 //! Laws of what the tokens of a text are. The functions do nothing: what they say is in their contracts.
 
 ghost use Rattle.std.specs.Prelude.{◌≡◌, ◌++◌, ◌∷◌, [], ℕ, List, map, IsTrue};
-ghost use Rattle.ioa_lex.specs.declared.terminal.Terminal.{Terminal};
-ghost use Rattle.ioa_lex.specs.Spelling.{spelling_of};
+ghost use Rattle.ioa_value.specs.declared.terminal.Terminal.{Terminal};
+ghost use Rattle.ioa_value.specs.Spelling.{spelling_of};
 ghost use Rattle.ioa_lex.specs.declared.token.Token.{Token};
 ghost use Rattle.ioa_lex.specs.Tokens.{Tok, tokens_shown};
 ghost use Rattle.ioa_lex.specs.Lexing.{Lexes, StopsOn, Writes, is_blank, placed};

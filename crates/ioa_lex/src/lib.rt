@@ -6,12 +6,10 @@ mod laws;
 mod lexer;
 mod refusal;
 mod scan;
-mod spelling;
-mod terminal;
 mod token;
 
+pub use ioa_value::Terminal;
 pub use laws::{one_answer, spaced_tokens, tokens_alone, written_once};
 pub use lexer::lex;
 pub use refusal::Refusal;
-pub use terminal::Terminal;
 pub use token::{Kind, Token};

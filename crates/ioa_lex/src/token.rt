@@ -1,5 +1,4 @@
-use crate::terminal::Terminal;
-
+use ioa_value::Terminal;
 /// What a token is.
 #[derive(Debug, Drop)]
 pub enum Kind {

@@ -1,5 +1,5 @@
 -- An action's text begins with its name.
-use Rattle.std.proofs.Common.{◌≡◌, ℕ, List, [], ◌∷◌, Option, Some, None, Result, Ok, Err, IfOk, IfNone, refl, sym, ap, subst, ◌∙◌}
+use Rattle.std.proofs.Common.{◌≡◌, ℕ, List, [], ◌∷◌, Bool, true, false, MatchBool, Result, Ok, Err, IfOk, refl, sym, ap, subst, ◌∙◌}
 use Rattle.ioa_value.specs.Plain.{Val}
 use Rattle.ioa_value.specs.Table.{Table}
 use Rattle.ioa_value.specs.Actions.{Act}
@@ -42,8 +42,11 @@ inner types rest (v ∷ vs) (more, r, e) =
     let k : more ≡ rest = cc in
     subst (λ x. ReadsValues types x (v ∷ vs)) k r
 
-module _ {X E : Type 0} where
-  pub none_passes : (P Q : Type 0) (r : Result (Option X) E) → (P → Q) → IfOk r (λ o. IfNone o P) → IfOk r (λ o. IfNone o Q)
-  none_passes P Q (Ok (Some x)) f h = h
-  none_passes P Q (Ok None) f h = f h
-  none_passes P Q (Err e) f h = h
+-- reading values after a `(` is reading arguments
+pub after_open : {E : Type 0} (types : Table) (text rest : List ℕ) (vs : List Val) (r : Result Bool E) → text ≡ 40 ∷ rest
+    → IfOk r (λ b. MatchBool b (ReadsValues types rest vs) ((ws : List Val) → ReadsValues types rest ws → ⊥))
+    → IfOk r (λ b. MatchBool b (ReadsArguments types text vs) ((ws : List Val) → ReadsArguments types text ws → ⊥))
+after_open types text rest [] (Ok true) e h = absurd h
+after_open types text rest (v ∷ vs) (Ok true) e h = (rest, h, e)
+after_open types text rest vs (Ok false) e h = λ ws r. h ws (inner types rest ws (subst (λ x. ReadsArguments types x ws) e r))
+after_open types text rest vs (Err f) e h = tt

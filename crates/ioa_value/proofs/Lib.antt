@@ -14,3 +14,5 @@ pub mod ListOnceLemmas
 pub mod ItemLemmas
 pub mod PlaceLemmas
 pub mod TypingLemmas
+pub mod Spellings
+pub mod WholeLemmas

@@ -67,7 +67,7 @@ unsigned (c ∷ cs) es h e =
     let k : c ≡ 45 = cc in
     omega arith
 
-number_once : (w : List ℕ) (y z : ℤ) → SpellsNumber w y → SpellsNumber w z → y ≡ z
+pub number_once : (w : List ℕ) (y z : ℤ) → SpellsNumber w y → SpellsNumber w z → y ≡ z
 number_once w y z (ds, m, inl p) (es, n, inl q) =
     p.1 ∙ ap (λ l. pos (digits_value 10 l)) (sym p.0 ∙ q.0) ∙ sym q.1
 number_once w y z (ds, m, inr p) (es, n, inr q) =

@@ -6,6 +6,8 @@ pub mod Typing
 pub mod Operators
 pub mod Actions
 pub mod Coded
+pub mod Spelling
+pub mod Lookup
 pub mod Names
 pub mod Written
 pub mod Reads

@@ -1,6 +1,9 @@
 -- Names: a letter, then letters, digits or `_`, within the limit of bytes, and no reserved word.
-use Rattle.std.specs.Prelude.{ℕ, Bool, false, not, ◌&&◌, ◌||◌, ◌==◌, nat_le, IsTrue, List, [], ◌∷◌, length, codes, bytes_eq}
+use Rattle.std.specs.Prelude.{ℕ, Bool, false, not, ◌&&◌, ◌||◌, ◌==◌, nat_le, IsTrue, List, [], ◌∷◌, length, bytes_eq}
 use Rattle.std.specs.List.{list_any, list_all}
+use Rattle.ioa_value.specs.declared.terminal.Terminal.{Terminal}
+use Rattle.ioa_value.specs.declared.terminal.Terminal.TheVariants as terminals
+use Rattle.ioa_value.specs.Spelling.{spelling_of}
 use Rattle.ioa_value.specs.declared.limits.TheConstants.{LIMITS}
 
 abbrev pub is_letter : ℕ → Bool
@@ -12,18 +15,19 @@ is_digit b = nat_le 48 b && nat_le b 57
 abbrev pub is_word_byte : ℕ → Bool
 is_word_byte b = is_letter b || is_digit b || b == 95
 
-unfoldable pub reserved : List (List ℕ)
+-- the reserved words
+unfoldable pub reserved : List Terminal
 reserved =
-    codes "type" ∷ codes "enum" ∷ codes "tuple" ∷ codes "seq" ∷ codes "of" ∷ codes "invariant" ∷ codes "automaton"
-    ∷ codes "signature" ∷ codes "states" ∷ codes "transitions" ∷ codes "input" ∷ codes "output" ∷ codes "internal"
-    ∷ codes "const" ∷ codes "true" ∷ codes "false" ∷ codes "stable" ∷ codes "pre" ∷ codes "propose" ∷ codes "eff"
-    ∷ codes "any" ∷ codes "if" ∷ codes "then" ∷ codes "elseif" ∷ codes "else" ∷ codes "fi" ∷ codes "composition"
-    ∷ codes "components" ∷ codes "hidden" ∷ codes "crash" ∷ codes "recover" ∷ codes "div" ∷ codes "mod" ∷ codes "empty"
-    ∷ codes "len" ∷ codes "head" ∷ codes "tail" ∷ codes "last" ∷ codes "init" ∷ codes "append" ∷ codes "at"
-    ∷ codes "member" ∷ codes "without" ∷ codes "for" ∷ codes "in" ∷ codes "do" ∷ codes "od" ∷ []
+    terminals.Type ∷ terminals.Enum ∷ terminals.Tuple ∷ terminals.Seq ∷ terminals.Of ∷ terminals.Invariant ∷ terminals.Automaton
+    ∷ terminals.Signature ∷ terminals.States ∷ terminals.Transitions ∷ terminals.Input ∷ terminals.Output ∷ terminals.Internal ∷ terminals.Const
+    ∷ terminals.True ∷ terminals.False ∷ terminals.Stable ∷ terminals.Pre ∷ terminals.Propose ∷ terminals.Any ∷ terminals.Eff
+    ∷ terminals.If ∷ terminals.Then ∷ terminals.Elseif ∷ terminals.Else ∷ terminals.Fi ∷ terminals.Composition ∷ terminals.Components
+    ∷ terminals.Hidden ∷ terminals.Crash ∷ terminals.Recover ∷ terminals.Div ∷ terminals.Mod ∷ terminals.Empty ∷ terminals.Len
+    ∷ terminals.Head ∷ terminals.Tail ∷ terminals.Last ∷ terminals.Init ∷ terminals.Append ∷ terminals.At ∷ terminals.Member
+    ∷ terminals.Without ∷ terminals.For ∷ terminals.In ∷ terminals.Do ∷ terminals.Od ∷ []
 
 unfoldable pub is_reserved : List ℕ → Bool
-is_reserved word = list_any (bytes_eq word) reserved
+is_reserved word = list_any (λ t. bytes_eq word (spelling_of t)) reserved
 
 abbrev pub begins_with_letter : List ℕ → Bool
 begins_with_letter [] = false

@@ -1,6 +1,6 @@
 //! What follows from the definitions alone.
 
-ghost use Rattle.std.specs.Prelude.{◌≡◌, ◌↔◌, ℕ, ◌<◌, List, All, length, Some, IsTrue};
+ghost use Rattle.std.specs.Prelude.{◌≡◌, ◌↔◌, ◌⊎◌, ℕ, ◌<◌, List, All, length, Some, IsTrue};
 ghost use Rattle.ioa_value.specs.Plain.{Val};
 ghost use Rattle.ioa_value.specs.Table.{Table, AreTypes};
 ghost use Rattle.ioa_value.specs.Typing.{HasType, HaveTypes, first_of};
@@ -25,6 +25,16 @@ pub fn one_action()
 /// A list text has one list of actions at most.
 pub fn one_list()
     ensures { (types : Table) (text : List ℕ) (xs ys : List Act) → ReadsList types text xs → ReadsList types text ys → xs ≡ ys }
+{}
+
+/// A list text has one bad line at most.
+pub fn one_bad_line()
+    ensures { (types : Table) (text : List ℕ) (m n : ℕ) → BadLine types text m → BadLine types text n → m ≡ n }
+{}
+
+/// A list text is a list of actions, or has a bad line.
+pub fn list_or_bad_line()
+    ensures { (types : Table) (text : List ℕ) → ((acts : List Act) × ReadsList types text acts) ⊎ ((n : ℕ) × BadLine types text n) }
 {}
 
 /// What is written of an action with a legal name and typed values is read as that action, where each value is one that has

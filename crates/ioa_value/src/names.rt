@@ -1,68 +1,24 @@
-ghost use Rattle.std.specs.Prelude.{◌≡◌, bytes_eq};
-ghost use Rattle.std.specs.List.{list_all, list_any};
+ghost use Rattle.std.specs.Prelude.{◌≡◌, ◌↔◌, ◌&&◌, IsTrue, length, nat_le};
+ghost use Rattle.std.specs.List.{list_all};
 ghost use Rattle.ioa_value.specs.Names as spec;
+ghost use Rattle.ioa_value.specs.Spelling.{IsReserved};
 
 use crate::limits::LIMITS;
+use crate::terminal::Terminal;
 
-const RESERVED: [&str; 47] = [
-    "type",
-    "enum",
-    "tuple",
-    "seq",
-    "of",
-    "invariant",
-    "automaton",
-    "signature",
-    "states",
-    "transitions",
-    "input",
-    "output",
-    "internal",
-    "const",
-    "true",
-    "false",
-    "stable",
-    "pre",
-    "propose",
-    "eff",
-    "any",
-    "if",
-    "then",
-    "elseif",
-    "else",
-    "fi",
-    "composition",
-    "components",
-    "hidden",
-    "crash",
-    "recover",
-    "div",
-    "mod",
-    "empty",
-    "len",
-    "head",
-    "tail",
-    "last",
-    "init",
-    "append",
-    "at",
-    "member",
-    "without",
-    "for",
-    "in",
-    "do",
-    "od",
-];
-
-/// Whether the bytes are a name: a letter, then letters, digits or `_`, at most 64 bytes in all,
+/// Whether the bytes are a name: a letter, then letters, digits or `_`, within the limit of bytes,
 /// and no reserved word.
 pub fn is_name(text: &[u8]) -> bool
     ensures { result ≡ spec.is_name text.now }
 {
-    begins_with_letter(text)
-        && all_word_bytes(text)
-        && text.len() <= LIMITS.name
-        && !is_reserved(text)
+    is_word(text) && !is_reserved(text)
+}
+
+// Whether the bytes are a letter, then letters, digits or `_`, within the limit.
+fn is_word(text: &[u8]) -> bool
+    ensures { result ≡ (spec.begins_with_letter text.now && list_all spec.is_word_byte text.now && nat_le (length text.now) LIMITS.name) }
+{
+    begins_with_letter(text) && all_word_bytes(text) && text.len() <= LIMITS.name
 }
 
 fn begins_with_letter(text: &[u8]) -> bool
@@ -91,19 +47,9 @@ fn is_word_byte(b: u8) -> bool
     b.is_ascii_alphanumeric() || b == b'_'
 }
 
+// Whether the bytes are a reserved word or a sign.
 fn is_reserved(text: &[u8]) -> bool
-    ensures { result ≡ spec.is_reserved text.now }
+    ensures { IsTrue result ↔ IsReserved text.now }
 {
-    stands_among(text, &RESERVED)
-}
-
-fn stands_among(text: &[u8], words: &[&str]) -> bool
-    ensures { result ≡ list_any (λ w. bytes_eq text.now w.now) words.now }
-{
-    for word in words {
-        if text == word.as_bytes() {
-            return true;
-        }
-    }
-    false
+    Terminal::find(text).is_some()
 }

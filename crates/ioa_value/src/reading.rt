@@ -1,4 +1,4 @@
-ghost use Rattle.std.specs.Prelude.{◌≡◌, ℤ, List, IsTrue, IfSome, IfNone, IfOk, IsSomeAnd, map};
+ghost use Rattle.std.specs.Prelude.{◌≡◌, ℤ, List, [], IsTrue, MatchBool, IfSome, IfNone, IfOk, IsSomeAnd, map};
 ghost use Rattle.ioa_value.specs.Plain.{Val, plain};
 ghost use Rattle.ioa_value.specs.Arithmetic.{fits};
 ghost use Rattle.ioa_value.specs.Actions.{Act, act_of};
@@ -20,61 +20,76 @@ pub fn read_action(alloc: Global, types: &Types, text: &[u8]) -> Result<Option<A
     ensures none { IfOk result (λ r. IfNone r ((a : Act) → Reads types.now text.now a → ⊥)) }
     ensures only { (a : Act) → Reads types.now text.now a → IfOk result (λ r. IsSomeAnd r (λ b. act_of b ≡ a)) }
 {
-    let front = first_word(text);
-    if !is_name(front.word) {
-        return Ok(None);
+    let mut action = Action {
+        name: String::new(alloc),
+        vals: Vec::new(alloc),
+    };
+    if action.read(types, text)? {
+        Ok(Some(action))
+    } else {
+        Ok(None)
     }
-    let Ok(name) = str::from_utf8(front.word) else {
-        return Ok(None);
-    };
-    let Some(vals) = read_arguments(alloc, types, front.rest)? else {
-        return Ok(None);
-    };
-    Ok(Some(Action {
-        name: String::from_str(alloc, name)?,
-        vals,
-    }))
 }
 
-/// The values in parentheses, or none where the text is empty.
-fn read_arguments(
-    alloc: Global,
-    types: &Types,
-    text: &[u8],
-) -> Result<Option<Vec<Value>>, OutOfMemory>
-    ensures found { IfOk result (λ r. IfSome r (λ vals. ReadsArguments types.now text.now (map plain vals.items))) }
-    ensures none { IfOk result (λ r. IfNone r ((vs : List Val) → ReadsArguments types.now text.now vs → ⊥)) }
+impl Action {
+    /// Whether the text is that of an action, as `read_action` says, which then stands in place of
+    /// this one, in the memory that this one had. Where it is none, and where memory runs out, this
+    /// one is left as some action or other.
+    pub fn read(&mut self, types: &Types, text: &[u8]) -> Result<bool, OutOfMemory>
+        ensures found { IfOk result (λ r. MatchBool r (Reads types.now text.now (act_of self.new)) ((a : Act) → Reads types.now text.now a → ⊥)) }
+        ensures only { (a : Act) → Reads types.now text.now a → IfOk result (λ r. IsTrue r × (act_of self.new ≡ a)) }
+    {
+        let front = first_word(text);
+        if !is_name(front.word) {
+            return Ok(false);
+        }
+        let Ok(name) = str::from_utf8(front.word) else {
+            return Ok(false);
+        };
+        self.vals.clear();
+        if !read_arguments(types, front.rest, &mut self.vals)? {
+            return Ok(false);
+        }
+        self.name.clear();
+        self.name.push_str(name)?;
+        Ok(true)
+    }
+}
+
+/// The values in parentheses, or none where the text is empty, put into an empty list.
+fn read_arguments(types: &Types, text: &[u8], vals: &mut Vec<Value>) -> Result<bool, OutOfMemory>
+    requires { vals.old.items ≡ [] }
+    ensures { IfOk result (λ r. MatchBool r (ReadsArguments types.now text.now (map plain vals.new.items)) ((vs : List Val) → ReadsArguments types.now text.now vs → ⊥)) }
 {
     if text.is_empty() {
-        return Ok(Some(Vec::new(alloc)));
+        return Ok(true);
     }
     match after_mark(text, b'(') {
-        Some(inner) => read_values(alloc, types, inner),
-        None => Ok(None),
+        Some(inner) => read_values(types, inner, vals),
+        None => Ok(false),
     }
 }
 
-/// One value or more, parted by `,`, up to `)` and the end.
-fn read_values(alloc: Global, types: &Types, text: &[u8]) -> Result<Option<Vec<Value>>, OutOfMemory>
-    ensures found { IfOk result (λ r. IfSome r (λ vals. ReadsValues types.now text.now (map plain vals.items))) }
-    ensures none { IfOk result (λ r. IfNone r ((vs : List Val) → ReadsValues types.now text.now vs → ⊥)) }
+/// One value or more, parted by `,`, up to `)` and the end, put into an empty list.
+fn read_values(types: &Types, text: &[u8], vals: &mut Vec<Value>) -> Result<bool, OutOfMemory>
+    requires { vals.old.items ≡ [] }
+    ensures { IfOk result (λ r. MatchBool r (ReadsValues types.now text.now (map plain vals.new.items)) ((vs : List Val) → ReadsValues types.now text.now vs → ⊥)) }
 {
-    let mut vals = Vec::new(alloc);
     let mut rest = text;
     loop {
         let front = first_word(rest);
         let Some(value) = value_of(types, front.word) else {
-            return Ok(None);
+            return Ok(false);
         };
         vals.push(value)?;
         if let Some(after) = after_mark(front.rest, b')') {
             if is_blank_text(after) {
-                return Ok(Some(vals));
+                return Ok(true);
             }
-            return Ok(None);
+            return Ok(false);
         }
         let Some(after) = after_mark(front.rest, b',') else {
-            return Ok(None);
+            return Ok(false);
         };
         rest = after;
     }

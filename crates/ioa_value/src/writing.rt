@@ -14,9 +14,17 @@ use std::alloc::Global;
 pub fn print_action(alloc: Global, types: &Types, action: &Action) -> Result<String, OutOfMemory>
     ensures { IfOk result (λ text. string_bytes text ≡ written_action types.now (act_of action.now)) }
 {
-    let mut text = String::from_str(alloc, action.name.as_str())?;
-    push_values(types, &mut text, &action.vals)?;
+    let mut text = String::new(alloc);
+    push_action(types, &mut text, action)?;
     Ok(text)
+}
+
+/// The one spelling of an action, as `print_action` gives it, put behind a text.
+pub fn push_action(types: &Types, text: &mut String, action: &Action) -> Result<(), OutOfMemory>
+    ensures { OnOk result (string_bytes text.new ≡ string_bytes text.old ++ written_action types.now (act_of action.now)) }
+{
+    text.push_str(action.name.as_str())?;
+    push_values(types, text, &action.vals)
 }
 
 fn push_values(types: &Types, text: &mut String, values: &[Value]) -> Result<(), OutOfMemory>

@@ -1,4 +1,4 @@
-use Rattle.ioa_lex.proofs.Spellings.{same_terminal}
+use Rattle.ioa_value.proofs.Spellings.{same_terminal}
 use Rattle.ioa_lex.proofs.Texts.{same_token}
 use Rattle.ioa_lex.proofs.laws.written_once.Goals as goal
 

@@ -9,15 +9,15 @@ use Rattle.ioa_value.proofs.reading.read_values.Goals as goal
 
 pub loop-value-init : goal.loop-value-init
 loop-value-init c =
-    subst (λ xs. Reaches c.args.types.now c.args.text.now (map plain xs) c.args.text.now) (sym c.new-vals.ensures.items) (at_start c.args.types.now c.args.text.now)
+    subst (λ xs. Reaches c.args.types.now c.args.text.now (map plain xs) c.args.text.now) (sym c.requires) (at_start c.args.types.now c.args.text.now)
 
-pub returns-in_default-clause-none : goal.returns-in_default-clause-none
-returns-in_default-clause-none c =
+pub returns-in_default : goal.returns-in_default
+returns-in_default c =
     stops c.args.types.now c.args.text.now c.loop-value.rest.now (map plain c.loop-value.vals.items) c.loop-value.invariant
     (no_value c.args.types.now c.loop-value.rest.now (λ v s t. c.in_default.ensures.none v (subst (λ w. Spells c.args.types.now w v) (sym c.first_word-front.ensures.word) s) t))
 
-pub returns-then-is_blank_text-clause-found : goal.returns-then-is_blank_text-clause-found
-returns-then-is_blank_text-clause-found c =
+pub returns-then-is_blank_text : goal.returns-then-is_blank_text
+returns-then-is_blank_text c =
     let value = plain c.in-Some.value in
     let all = ap (map plain) c.in_ok-push.ensures.items ∙ map-append plain c.loop-value.vals.items (c.in-Some.value ∷ []) in
     subst (ReadsValues c.args.types.now c.args.text.now) (sym all)
@@ -27,15 +27,15 @@ returns-then-is_blank_text-clause-found c =
     (sym c.first_word-front.ensures.rest ∙ c.in-Some-after_mark.ensures.found)
     (sym c.is_blank_text.ensures ∙ c.if-is_blank_text.true))
 
-pub returns-in-Some-after_mark-clause-none : goal.returns-in-Some-after_mark-clause-none
-returns-in-Some-after_mark-clause-none c =
+pub returns-in-Some-after_mark : goal.returns-in-Some-after_mark
+returns-in-Some-after_mark c =
     stops c.args.types.now c.args.text.now c.loop-value.rest.now (map plain c.loop-value.vals.items) c.loop-value.invariant
     (no_end c.args.types.now c.loop-value.rest.now c.in-Some-after_mark.after.now
     (sym c.first_word-front.ensures.rest ∙ c.in-Some-after_mark.ensures.found)
     (λ b. false≢true (sym c.if-is_blank_text.false ∙ c.is_blank_text.ensures ∙ b)))
 
-pub returns-in_default-after_mark-2-clause-none : goal.returns-in_default-after_mark-2-clause-none
-returns-in_default-after_mark-2-clause-none c =
+pub returns-in_default-after_mark-2 : goal.returns-in_default-after_mark-2
+returns-in_default-after_mark-2 c =
     stops c.args.types.now c.args.text.now c.loop-value.rest.now (map plain c.loop-value.vals.items) c.loop-value.invariant
     (no_mark c.args.types.now c.loop-value.rest.now
     (λ rest e. c.in_default-after_mark.ensures.none rest (c.first_word-front.ensures.rest ∙ e))

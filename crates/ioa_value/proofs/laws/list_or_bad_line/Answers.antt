@@ -1,0 +1,5 @@
+use Rattle.ioa_value.proofs.WholeLemmas as lemmas
+use Rattle.ioa_value.proofs.laws.list_or_bad_line.Goals as goal
+
+pub returns : goal.returns
+returns c = lemmas.list_or_bad_line
