@@ -5,7 +5,8 @@ use Rattle.std.specs.Str.{bytes_eq}
 use Rattle.ioa_value.specs.Actions.{Name}
 use Rattle.ioa_value.specs.Names.{IsName}
 use Rattle.ioa_value.specs.Table.{Table, AreTypes}
-use Rattle.ioa_syntax.specs.Limits.{Limits, limits}
+use Rattle.ioa_value.specs.declared.limits.Limits.{Limits}
+use Rattle.ioa_value.specs.declared.limits.TheConstants.{LIMITS}
 use Rattle.ioa_syntax.specs.Instances.{Fit, start_values}
 use Rattle.ioa_syntax.specs.Components.{Compatible, is_output}
 use Rattle.ioa_syntax.specs.Compositions.{Member, Composed, components_of}
@@ -33,7 +34,7 @@ AreOver types (m ∷ ms) = (m.instance.types ≡ types) × AreOver types ms
 
 -- what a composition's automata keep within: the limits of what is declared
 abbrev pub component_limits : Limits
-component_limits = limits
+component_limits = LIMITS
 
 -- the names that may be hidden
 abbrev pub most_hidden : ℕ

@@ -1,6 +1,6 @@
 -- Readers of what may be absent.
 use Rattle.std.proofs.Common.{◌≡◌, ℕ, ◌<◌, ◌≤◌, ◌⊎◌, inl, inr, false, List, [], ◌∷◌, ◌++◌, length, refl, sym, ap, ◌∙◌, subst, arith, Option, Some, None, Ok, Err}
-use Rattle.ioa_lex.specs.declared.terminal.Terminal.{Terminal}
+use Rattle.ioa_value.specs.declared.terminal.Terminal.{Terminal}
 use Rattle.ioa_lex.specs.Tokens.{Tok}
 use Rattle.ioa_syntax.specs.declared.fault.Fault.TheVariants.{TooDeep}
 use Rattle.ioa_syntax.specs.Grammar as grammar

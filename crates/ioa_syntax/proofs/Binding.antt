@@ -2,8 +2,8 @@
 use Rattle.std.proofs.Common.{◌≡◌, ℕ, ◌<◌, ◌≤◌, ◌==◌, Bool, true, false, refl, sym, ap, ◌∙◌, subst, arith, cond, Some, find, List, [], ◌∷◌}
 use Rattle.std.proofs.Math.Arith.{lt_of_le-ne}
 use denote.Enum.Bare.{same_true}
-use Rattle.ioa_lex.specs.contracts.terminal.Terminal.{the_type}
-use Rattle.ioa_lex.specs.declared.terminal.Terminal.{Terminal}
+use Rattle.ioa_value.specs.contracts.terminal.Terminal.{the_type}
+use Rattle.ioa_value.specs.declared.terminal.Terminal.{Terminal}
 use Rattle.ioa_value.specs.declared.operator.Op.{Op}
 use Rattle.ioa_value.specs.declared.operator.Op.TheVariants.{Eq}
 use Rattle.ioa_syntax.specs.declared.operators.Level.{Level}

@@ -14,7 +14,7 @@ use Rattle.ioa_syntax.specs.Runs.{done, not_an_action_at, not_enabled_at, fault_
 use Rattle.ioa_syntax.specs.Compositions.{picked, Composed, components_of, starts_of}
 use Rattle.ioa_syntax.specs.WellFormed.{automaton_fine, automaton_within, well_formed}
 use Rattle.ioa_value.specs.declared.limits.TheConstants.{LIMITS}
-use Rattle.ioa_lex.specs.declared.terminal.Terminal.TheVariants as terminals
+use Rattle.ioa_value.specs.declared.terminal.Terminal.TheVariants as terminals
 use Rattle.ioa_lex.specs.Tokens as tokens
 use Rattle.ioa_lex.specs.Tokens.{Tok, terminal}
 use Rattle.ioa_syntax.specs.Reading.{expression, expr, operand, climb, operator_at, operator_of, terminal_at, same_terminal}

@@ -1,9 +1,9 @@
 -- Readers of one token, and of what may be absent.
 use Rattle.std.proofs.Common.{◌≡◌, ℕ, ◌<◌, ◌≤◌, ◌⊎◌, inl, inr, Bool, true, false, List, [], ◌∷◌, ◌++◌, length, refl, sym, ap, ◌∙◌, subst, arith, Option, Some, None, Ok, Err, if◌then◌else◌}
 use denote.Enum.Bare.{same_true, true_same}
-use Rattle.ioa_lex.specs.contracts.terminal.Terminal.{the_type}
-use Rattle.ioa_lex.specs.declared.terminal.Terminal.{Terminal}
-use Rattle.ioa_lex.specs.declared.terminal.Terminal.TheVariants as terminals
+use Rattle.ioa_value.specs.contracts.terminal.Terminal.{the_type}
+use Rattle.ioa_value.specs.declared.terminal.Terminal.{Terminal}
+use Rattle.ioa_value.specs.declared.terminal.Terminal.TheVariants as terminals
 use Rattle.ioa_lex.specs.Tokens as tokens
 use Rattle.ioa_lex.specs.Tokens.{Tok, terminal}
 use Rattle.ioa_value.specs.Actions as actions

@@ -1,7 +1,7 @@
 -- Which tokens spell a tree: the grammar, production by production. A language is a set of token lists.
 use Rattle.std.specs.Prelude.{◌≡◌, ℕ, ◌≤◌, ◌⊎◌, true, false, List, [], ◌∷◌, ◌++◌, Option, Some, None}
-use Rattle.ioa_lex.specs.declared.terminal.Terminal.{Terminal}
-use Rattle.ioa_lex.specs.declared.terminal.Terminal.TheVariants as terminals
+use Rattle.ioa_value.specs.declared.terminal.Terminal.{Terminal}
+use Rattle.ioa_value.specs.declared.terminal.Terminal.TheVariants as terminals
 use Rattle.ioa_lex.specs.Tokens as tokens
 use Rattle.ioa_lex.specs.Tokens.{Tok, terminal}
 use Rattle.ioa_value.specs.Actions.{Name}

@@ -1,6 +1,6 @@
 use Rattle.std.proofs.Common.{◌≡◌, ◌++◌, map, take}
 use Rattle.std.specs.String.{string_bytes}
-use Rattle.ioa_lex.specs.declared.terminal.Terminal.TheVariants as terminals
+use Rattle.ioa_value.specs.declared.terminal.Terminal.TheVariants as terminals
 use Rattle.ioa_syntax.specs.Layout.{text_more, text_stmt}
 use Rattle.ioa_syntax.specs.View.{stmt_of}
 use Rattle.ioa_syntax.proofs.printing.automata.more_statements.Given as goal
