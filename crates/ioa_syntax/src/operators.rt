@@ -49,7 +49,7 @@ fn form_of(operator: Op) -> Form
 impl Level {
     fn number(self) -> u32
         ensures value { result ≡ spec.number_of self }
-        ensures small { result < 10 }
+        ensures small { result < TIGHTEST }
     {
         match self {
             Level::Comparison => 4,
