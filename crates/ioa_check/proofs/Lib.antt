@@ -5,3 +5,4 @@ pub mod ScopeLemmas
 pub mod FineLemmas
 pub mod GlobalLemmas
 pub mod DeclarationLemmas
+mod Examples

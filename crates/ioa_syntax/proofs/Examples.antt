@@ -19,22 +19,22 @@ use Rattle.ioa_lex.specs.Tokens as tokens
 use Rattle.ioa_lex.specs.Tokens.{Tok, terminal}
 use Rattle.ioa_syntax.specs.Reading.{expression, expr, operand, climb, operator_at, operator_of, terminal_at, same_terminal}
 
-abbrev field : Name → Name → FieldTree
+abbrev pub field : Name → Name → FieldTree
 field x t = record { name = x; ty = t }
 
-abbrev tick_entry : EntryTree
+abbrev pub tick_entry : EntryTree
 tick_entry = record { kind = Output; name = codes "tick"; positions = typed (field (codes "k") (codes "Int")) ∷ [] }
 
-abbrev reset_entry : EntryTree
+abbrev pub reset_entry : EntryTree
 reset_entry = record { kind = Input; name = codes "reset"; positions = [] }
 
-abbrev count_variable : VariableTree
+abbrev pub count_variable : VariableTree
 count_variable = record { field = field (codes "c") (codes "Int"); start = Some (named (codes "start")) }
 
-abbrev tick_proposal : ProposalTree
+abbrev pub tick_proposal : ProposalTree
 tick_proposal = record { name = codes "k"; value = named (codes "c") }
 
-abbrev tick_transition : TransitionTree
+abbrev pub tick_transition : TransitionTree
 tick_transition = record {
   kind = Output;
   name = codes "tick";
@@ -43,11 +43,11 @@ tick_transition = record {
   effect = assign (codes "c") (binary (named (codes "c")) Add (number 1)) ∷ [];
 }
 
-abbrev reset_transition : TransitionTree
+abbrev pub reset_transition : TransitionTree
 reset_transition = record { kind = Input; name = codes "reset"; pre = None; proposals = []; effect = assign (codes "c") (named (codes "start")) ∷ [] }
 
 -- counts up from its start, and goes back to it
-abbrev counter : AutomatonTree
+abbrev pub counter : AutomatonTree
 counter = record {
   name = codes "Counter";
   formals = field (codes "start") (codes "Int") ∷ [];
@@ -56,13 +56,13 @@ counter = record {
   transitions = tick_transition ∷ reset_transition ∷ [];
 }
 
-abbrev component : List Expr → InstanceTree
+abbrev pub component : List Expr → InstanceTree
 component arguments = record { name = codes "A"; automaton = codes "Counter"; arguments = arguments }
 
-abbrev one : List Expr → CompositionTree
+abbrev pub one : List Expr → CompositionTree
 one arguments = record { name = codes "One"; instances = component arguments ∷ [] }
 
-abbrev source : SourceTree
+abbrev pub source : SourceTree
 source = automaton counter ∷ composition (one (number 5 ∷ [])) ∷ []
 
 abbrev from : ℕ → Instance
@@ -99,30 +99,30 @@ uses_before : well_formed (composition (one (number 5 ∷ [])) ∷ automaton cou
 uses_before = refl
 
 -- the counter with other formals, entries, variables or transitions, and its composition
-abbrev with_formals : List FieldTree → SourceTree
+abbrev pub with_formals : List FieldTree → SourceTree
 with_formals formals = automaton (record counter { formals = formals }) ∷ composition (one (number 5 ∷ [])) ∷ []
 
-abbrev with_entries : List EntryTree → SourceTree
+abbrev pub with_entries : List EntryTree → SourceTree
 with_entries entries = automaton (record counter { entries = entries }) ∷ composition (one (number 5 ∷ [])) ∷ []
 
-abbrev with_variables : List VariableTree → SourceTree
+abbrev pub with_variables : List VariableTree → SourceTree
 with_variables variables = automaton (record counter { variables = variables }) ∷ composition (one (number 5 ∷ [])) ∷ []
 
-abbrev with_transitions : List TransitionTree → SourceTree
+abbrev pub with_transitions : List TransitionTree → SourceTree
 with_transitions transitions = automaton (record counter { transitions = transitions }) ∷ composition (one (number 5 ∷ [])) ∷ []
 
 -- tick with another precondition, other proposals or another effect
-abbrev with_pre : Option Expr → SourceTree
+abbrev pub with_pre : Option Expr → SourceTree
 with_pre pre = with_transitions (record tick_transition { pre = pre } ∷ reset_transition ∷ [])
 
-abbrev with_proposals : List ProposalTree → SourceTree
+abbrev pub with_proposals : List ProposalTree → SourceTree
 with_proposals proposals = with_transitions (record tick_transition { proposals = proposals } ∷ reset_transition ∷ [])
 
-abbrev with_effect : List Stmt → SourceTree
+abbrev pub with_effect : List Stmt → SourceTree
 with_effect effect = with_transitions (record tick_transition { effect = effect } ∷ reset_transition ∷ [])
 
 -- a variable that has no start expression
-abbrev plain_variable : Name → VariableTree
+abbrev pub plain_variable : Name → VariableTree
 plain_variable x = record { field = field x (codes "Int"); start = None }
 
 -- a variable more is no fault, nor is a precondition less
@@ -225,7 +225,7 @@ input_asks : well_formed (with_transitions (tick_transition ∷ record reset_tra
 input_asks = refl
 
 -- so many variables, each with a name of its own
-abbrev variables_from : ℕ → ℕ → List VariableTree
+abbrev pub variables_from : ℕ → ℕ → List VariableTree
 variables_from zero n = []
 variables_from (suc more) n = plain_variable (118 ∷ n ∷ []) ∷ variables_from more (n + 1)
 

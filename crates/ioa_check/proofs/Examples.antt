@@ -1,0 +1,102 @@
+-- Small sources that break rules, and the codes that have their reason in each: computed.
+use Rattle.std.proofs.Common.{◌≡◌, ℕ, List, [], ◌∷◌, map, filter, Some, None, true, refl, codes}
+use Rattle.std.specs.Option.{option_map_or}
+use Rattle.ioa_value.specs.declared.operator.Op.TheVariants.{Eq, Add}
+use Rattle.ioa_lex.specs.declared.refusal.Refusal.{Refusal}
+use Rattle.ioa_lex.specs.declared.refusal.Refusal.TheVariants.{DuplicateName, UnknownName, TypeMismatch, BadSignature, NoProposal, TooMany, TooWide}
+use Rattle.ioa_syntax.specs.Tree.{number, truth, named, binary, typed, assign, automaton, composition, SourceTree}
+use Rattle.ioa_syntax.proofs.Examples.{field, tick_entry, reset_entry, count_variable, tick_proposal, tick_transition, reset_transition, counter, one, source, with_formals, with_entries, with_variables, with_transitions, with_pre, with_proposals, with_effect, plain_variable, variables_from}
+use Rattle.ioa_check.specs.Codes as codes_of
+use Rattle.ioa_check.specs.Codes.{code_of}
+use Rattle.ioa_check.specs.Reasons.{in_source}
+
+abbrev refusals : List Refusal
+refusals = DuplicateName 1 ∷ UnknownName 1 ∷ TypeMismatch 1 ∷ BadSignature 1 ∷ NoProposal 1 ∷ TooMany 1 ∷ TooWide 1 ∷ []
+
+-- the codes that may be told of a source
+abbrev told : SourceTree → List ℕ
+told s = map (λ r. option_map_or codes_of.number (code_of r) 0) (filter (in_source s) refusals)
+
+tells_nothing : told source ≡ []
+tells_nothing = refl
+
+-- ---- names that stand twice
+
+declares_twice : told (automaton counter ∷ source) ≡ 5 ∷ []
+declares_twice = refl
+
+names_twice : told (with_variables (count_variable ∷ plain_variable (codes "start") ∷ [])) ≡ 5 ∷ []
+names_twice = refl
+
+names_a_declaration : told (with_variables (count_variable ∷ plain_variable (codes "One") ∷ [])) ≡ 5 ∷ []
+names_a_declaration = refl
+
+proposes_twice : told (with_proposals (tick_proposal ∷ tick_proposal ∷ [])) ≡ 5 ∷ []
+proposes_twice = refl
+
+-- ---- names that are not known where they stand
+
+uses_before : told (composition (one (number 5 ∷ [])) ∷ automaton counter ∷ []) ≡ 6 ∷ []
+uses_before = refl
+
+names_no_type : told (with_formals (field (codes "start") (codes "Int") ∷ field (codes "d") (codes "Real") ∷ [])) ≡ 6 ∷ []
+names_no_type = refl
+
+asks_for_nothing : told (with_pre (Some (binary (named (codes "k")) Eq (named (codes "d"))))) ≡ 6 ∷ []
+asks_for_nothing = refl
+
+assigns_to_a_formal : told (with_effect (assign (codes "start") (number 1) ∷ [])) ≡ 6 ∷ []
+assigns_to_a_formal = refl
+
+proposes_itself : told (with_proposals (record tick_proposal { value = named (codes "k") } ∷ [])) ≡ 6 ∷ []
+proposes_itself = refl
+
+argument_has_a_name : told (automaton counter ∷ composition (one (named (codes "c") ∷ [])) ∷ []) ≡ 6 ∷ []
+argument_has_a_name = refl
+
+-- ---- expressions of other types than their places want
+
+starts_at_a_truth : told (with_variables (count_variable ∷ record (plain_variable (codes "d")) { start = Some (truth true) } ∷ [])) ≡ 7 ∷ []
+starts_at_a_truth = refl
+
+asks_for_a_number : told (with_pre (Some (named (codes "c")))) ≡ 7 ∷ []
+asks_for_a_number = refl
+
+compares_a_truth : told (with_pre (Some (binary (named (codes "k")) Eq (truth true)))) ≡ 7 ∷ []
+compares_a_truth = refl
+
+assigns_a_truth : told (with_effect (assign (codes "c") (truth true) ∷ [])) ≡ 7 ∷ []
+assigns_a_truth = refl
+
+-- ---- signature and transitions
+
+moves_never : told (with_transitions (tick_transition ∷ [])) ≡ 8 ∷ []
+moves_never = refl
+
+moves_twice : told (with_transitions (tick_transition ∷ reset_transition ∷ reset_transition ∷ [])) ≡ 8 ∷ []
+moves_twice = refl
+
+input_asks : told (with_transitions (tick_transition ∷ record reset_transition { pre = Some (truth true) } ∷ [])) ≡ 8 ∷ []
+input_asks = refl
+
+proposes_nothing : told (with_proposals []) ≡ 9 ∷ []
+proposes_nothing = refl
+
+-- ---- limits
+
+takes_too_many_variables : told (with_variables (count_variable ∷ variables_from 64 0)) ≡ 10 ∷ []
+takes_too_many_variables = refl
+
+-- ---- several reasons
+
+-- a variable has the formal's name, and is a truth value where a number is wanted
+breaks_two : told (with_variables (count_variable ∷ record (plain_variable (codes "start")) { start = Some (truth true) } ∷ [])) ≡ 5 ∷ 7 ∷ []
+breaks_two = refl
+
+-- an operand is of a wrong type beside one that is not known
+breaks_two_at_once : told (with_pre (Some (binary (binary (truth true) Add (number 1)) Eq (named (codes "d"))))) ≡ 6 ∷ 7 ∷ []
+breaks_two_at_once = refl
+
+-- an operator beside an operand that is not known tells nothing of types
+breaks_one : told (with_pre (Some (binary (truth true) Add (named (codes "d"))))) ≡ 6 ∷ []
+breaks_one = refl
