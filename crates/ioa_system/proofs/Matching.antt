@@ -36,8 +36,8 @@ positions_typed types (typed ty ∷ ps) (v ∷ vs) h =
     (k.0, positions_typed types ps vs k.1)
 
 -- values of types that are the part's
-fit : {code types : Table} {vs : List Val} {args tys : List ℕ} → code ≡ types → args ≡ tys → HaveTypes types vs tys → HaveTypes code vs args
-fit {vs = vs} e f h = rw (e, f) h
+fit : {code types : Table} (vs : List Val) {args tys : List ℕ} → code ≡ types → args ≡ tys → HaveTypes types vs tys → HaveTypes code vs args
+fit vs e f h = rw (e, f) h
 
 pub record Found (m : MemberCode) (a : Act) (e : EntryCode) : Type 0 where
   pub entry : IsEntry m e
@@ -81,7 +81,7 @@ asks m a e part slots h k t q =
       kind = p.kind;
       result = p.result;
       slots_are = cc (ap (λ (s : Slots). s.types) t, p.slots);
-      arguments = fit p.types p.args f.typed;
+      arguments = fit a.vals p.types p.args f.typed;
     }
 
 -- an effect that may be run for the action in a state of these types
@@ -102,5 +102,5 @@ acts m a e slots h k t =
       kind = p.kind;
       result = p.result;
       slots_are = cc (ap (λ (s : Slots). s.types) t, p.slots);
-      arguments = fit p.types p.args f.typed;
+      arguments = fit a.vals p.types p.args f.typed;
     }

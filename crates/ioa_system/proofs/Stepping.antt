@@ -158,5 +158,5 @@ pub told : {E : Type 0} (r : Result Moved.Moved E) (x y : Moved (List Val)) → 
 told (Ok m) x y e h = h ∙ e
 told (Err e) x y q h = tt
 
-pub types_told : {E : Type 0} (r : Result Moved.Moved E) (x y : List (List ℕ)) → x ≡ y → IfOk r (AreOfTypes x) → IfOk r (AreOfTypes y)
+pub types_told : {E : Type 0} (r : Result Moved.Moved E) (x y : List Slots) → x ≡ y → IfOk r (AreOfTypes x) → IfOk r (AreOfTypes y)
 types_told r x y e h = subst (λ ts. IfOk r (AreOfTypes ts)) e h
