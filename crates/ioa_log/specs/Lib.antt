@@ -1,2 +1,3 @@
 pub mod Failing
 pub mod Replays
+pub mod Readings

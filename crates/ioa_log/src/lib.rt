@@ -4,6 +4,7 @@
 mod counted;
 mod device;
 mod failure;
+mod reading;
 mod replay;
 mod streams;
 

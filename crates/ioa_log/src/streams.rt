@@ -1,31 +1,41 @@
-ghost use Rattle.std.specs.Prelude.{◌≡◌, ℕ, OnOk, OnErr, IfOk, IfErr, IfSome, IsErrOf, take};
+ghost use Rattle.std.specs.Prelude.{◌≡◌, ◌≤◌, ℕ, [], OnOk, OnErr, IfErr, IfSome, IsErrOf, take};
 ghost use Rattle.std.specs.Io.KnownBytes.{Appends};
+ghost use Rattle.ioa_value.specs.Lists.{BadLine};
+ghost use Rattle.ioa_value.specs.Typing.{basic_types};
+ghost use Rattle.ioa_compile.specs.Programs.{Prog};
 ghost use Rattle.ioa_log.specs.Failing.{HasFailed};
+ghost use Rattle.ioa_log.specs.Readings.{HasSeen};
 ghost use Rattle.ioa_log.specs.declared.failure.LogErr.{LogErr};
 
 use crate::device::{Failed, InputDevice, OutputDevice};
 use crate::failure::LogErr;
+use crate::reading::Reading;
 use std::alloc::Global;
 
 /// How many bytes are asked for in one read.
-const PIECE: usize = 4096;
+const PIECE: usize = 65_536;
 
-/// All that a reader gives.
-pub(crate) fn read_all<R: InputDevice>(alloc: Global, input: &mut R) -> Result<Vec<u8>, LogErr>
-    ensures ok { IfOk result (λ bytes. IfSome (R.remaining input.old) (λ xs. bytes.items ≡ xs)) }
+/// Hands all that a reader gives to a reading, piece by piece.
+pub(crate) fn feed_all<R: InputDevice>(
+    alloc: Global,
+    input: &mut R,
+    reading: &mut Reading<'_>,
+) -> Result<(), LogErr>
+    ensures ok { OnOk result (IfSome (R.remaining input.old) (λ bytes. (p : Prog) → HasSeen p [] reading.old → HasSeen p bytes reading.new)) }
+    ensures bad { (n : ℕ) → IsErrOf result (LogErr.BadLine n) → IfSome (R.remaining input.old) (λ bytes. (p : Prog) → HasSeen p [] reading.old → BadLine basic_types bytes n) }
     ensures io { IsErrOf result LogErr.Io → HasFailed (R.failure_count input.old) (R.failure_count input.new) }
-    ensures line { (n : ℕ) → IsErrOf result (LogErr.BadLine n) → ⊥ }
+    ensures counts { R.failure_count input.old ≤ R.failure_count input.new }
 {
-    let mut bytes = Vec::new(alloc);
-    let mut piece = [0u8; PIECE];
-    for turn in 0..u64::MAX {
-        match input.pull(&mut piece) {
-            Ok(0) => return Ok(bytes),
-            Ok(count) => bytes.extend_from_slice(&piece[..count])?,
+    let mut room = vec![in alloc; 0u8; PIECE]?;
+    let piece = room.as_mut_slice();
+    for _ in 0..u64::MAX {
+        match input.pull(piece) {
+            Ok(0) => return Ok(()),
+            Ok(count) => reading.feed(&piece[..count])?,
             Err(Failed) => return Err(LogErr::Io),
         }
     }
-    unreachable!()
+    Err(LogErr::OutOfMemory)
 }
 
 /// Hands all of a text to a writer.

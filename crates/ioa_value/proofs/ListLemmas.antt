@@ -48,7 +48,7 @@ pub record ReadTo (types : Table) (text : List ℕ) (count : ℕ) (acts : List A
 pub nothing_read : (types : Table) (text : List ℕ) → ReadTo types text 0 [] text
 nothing_read types text = record { before = []; whole = refl; counted = refl; read = refl }
 
-one_more : (types : Table) (ls ks : List (List ℕ)) (xs ys : List Act) → ReadsLines types ls xs → ReadsLines types ks ys → ReadsLines types (ls ++ ks) (xs ++ ys)
+pub one_more : (types : Table) (ls ks : List (List ℕ)) (xs ys : List Act) → ReadsLines types ls xs → ReadsLines types ks ys → ReadsLines types (ls ++ ks) (xs ++ ys)
 one_more types [] ks xs ys e r = subst (λ zs. ReadsLines types ks (zs ++ ys)) (sym e) r
 one_more types (l ∷ ls) ks xs ys (inl h) r = inl (h.0, one_more types ls ks xs ys h.1 r)
 one_more types (l ∷ ls) ks xs ys (inr (a, more, h, m, e)) r =

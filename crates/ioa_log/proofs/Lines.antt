@@ -1,0 +1,183 @@
+-- A list text, line by line.
+use Rattle.std.proofs.Common.{◌≡◌, ℕ, ◌+◌, ◌<◌, ◌≤◌, Bool, true, false, ◌==◌, List, [], ◌∷◌, ◌++◌, length, get_or, take, drop, All, append_assoc, refl, sym, ◌∙◌, ap, subst, arith, length-append, Option, None, Some, IfSome, inl, inr}
+use Rattle.std.specs.String.{string_bytes}
+use Rattle.std.specs.Io.KnownBytes.{Consumes, IsAtEnd}
+use Rattle.std.proofs.lemmas.List.{append-nil, drop_more, take-append-drop, take_more}
+use Rattle.std.proofs.lemmas.List.Elements.{All-nil, All-head, All-tail, All-cons, All-append}
+use Rattle.std.proofs.lemmas.Bool.{cases_lt, false≢true}
+use Rattle.std.proofs.lemmas.Bool.Decides.{nat_tests}
+use Rattle.ioa_value.specs.Actions.{Act}
+use Rattle.ioa_value.specs.Typing.{Shape, basic_types}
+use Rattle.ioa_value.specs.Reads.{Reads}
+use Rattle.ioa_value.specs.Lists.{lines, is_skipped, ReadsLines, IsLine, BadLine, first_line}
+use Rattle.ioa_value.proofs.ListLemmas.{good, one_more}
+use Rattle.ioa_compile.specs.Programs.{Prog}
+use Rattle.ioa_log.specs.declared.reading.Reading.{Reading}
+use Rattle.ioa_log.specs.Failing.{HasFailed}
+use Rattle.ioa_log.specs.Readings.{ended, IsLineText, HasPerformed, HasRead, HasSeen, ReadsOneMore}
+
+-- ---- lines and their bytes
+
+-- the first byte of a line's text is no LF
+starts : (b : ℕ) (bs : List ℕ) → IsLineText (b ∷ bs) → ((b == 10) ≡ false) × IsLineText bs
+starts b bs h = by (b == 10) refl
+  where
+    by : (c : Bool) → (b == 10) ≡ c → ((b == 10) ≡ false) × IsLineText bs
+    by true e = let never : [] ≡ b ∷ bs = rw e at h in absurd (cc)
+    by false e = let more : b ∷ first_line bs ≡ b ∷ bs = rw e at h in (e, cc)
+
+lines_line : (l rest : List ℕ) → IsLineText l → lines (l ++ (10 ∷ rest)) ≡ l ∷ lines rest
+lines_line [] rest h = refl
+lines_line (b ∷ bs) rest h = let s = starts b bs h in rw (s.0, lines_line bs rest s.1) refl
+
+lines_last : (b : ℕ) (bs : List ℕ) → IsLineText (b ∷ bs) → lines (b ∷ bs) ≡ (b ∷ bs) ∷ []
+lines_last b [] h = let s = starts b [] h in rw s.0 refl
+lines_last b (c ∷ bs) h = let s = starts b (c ∷ bs) h in rw (s.0, lines_last c bs s.1) refl
+
+lines_ended : (ls : List (List ℕ)) (rest : List ℕ) → All IsLineText ls → lines (ended ls ++ rest) ≡ ls ++ lines rest
+lines_ended [] rest h = refl
+lines_ended (l ∷ ls) rest h =
+    rw append_assoc (lines_line l (ended ls ++ rest) (All-head IsLineText l ls h) ∙ ap (λ ks. l ∷ ks) (lines_ended ls rest (All-tail IsLineText l ls h)))
+
+ended_more : (ls : List (List ℕ)) (l : List ℕ) → ended (ls ++ l ∷ []) ≡ ended ls ++ (l ++ 10 ∷ [])
+ended_more [] l = refl
+ended_more (k ∷ ls) l = rw (ended_more ls l, append_assoc) refl
+
+longer : (l : List ℕ) (b : ℕ) → IsLineText l → (b == 10) ≡ false → IsLineText (l ++ b ∷ [])
+longer [] b h e = rw e refl
+longer (c ∷ cs) b h e = let s = starts c cs h in rw (s.0, longer cs b s.1 e) refl
+
+-- ---- what has come
+
+pub seen_byte : (p : Prog) (seen : List ℕ) (r now : Reading) (b : ℕ) → HasSeen p seen r → (b == 10) ≡ false → now.line.items ≡ r.line.items ++ b ∷ []
+    → ((ls : List (List ℕ)) → HasRead p ls r → HasRead p ls now) → HasSeen p (seen ++ b ∷ []) now
+seen_byte p seen r now b h e l keeps = record {
+  lines = h.lines;
+  whole = h.whole;
+  unended = rw l (longer r.line.items b h.unended e);
+  bytes = rw l (ap (λ bs. bs ++ b ∷ []) h.bytes ∙ append_assoc (ended h.lines) r.line.items (b ∷ []));
+  read = keeps h.lines h.read;
+}
+
+pub seen_line : (p : Prog) (seen : List ℕ) (r now : Reading) → HasSeen p seen r → now.line.items ≡ []
+    → ((ls : List (List ℕ)) → HasRead p ls r → HasRead p (ls ++ r.line.items ∷ []) now) → HasSeen p (seen ++ 10 ∷ []) now
+seen_line p seen r now h l reads = record {
+  lines = h.lines ++ r.line.items ∷ [];
+  whole = All-append IsLineText h.lines (r.line.items ∷ []) h.whole (All-cons IsLineText r.line.items [] h.unended (All-nil IsLineText));
+  unended = rw l refl;
+  bytes = rw (l, ended_more h.lines r.line.items) (ap (λ bs. bs ++ 10 ∷ []) h.bytes ∙ append_assoc (ended h.lines) r.line.items (10 ∷ []) ∙ sym (append-nil (ended h.lines ++ (r.line.items ++ 10 ∷ []))));
+  read = reads h.lines h.read;
+}
+
+-- what end_line says of a line that is no action
+abbrev pub Refuses : Prog → Reading → ℕ → Type 0
+Refuses p r n = (ls : List (List ℕ)) → HasRead p ls r → (n ≡ length ls + 1) × (IsLine basic_types r.line.items → ⊥)
+
+pub bad_here : (p : Prog) (seen rest : List ℕ) (r : Reading) (n : ℕ) → HasSeen p seen r → Refuses p r n → BadLine basic_types (seen ++ 10 ∷ rest) n
+bad_here p seen rest r n h refuses =
+    let k = refuses h.lines h.read in
+    let text : seen ++ 10 ∷ rest ≡ ended h.lines ++ (r.line.items ++ (10 ∷ rest)) = ap (λ bs. bs ++ 10 ∷ rest) h.bytes ∙ append_assoc (ended h.lines) r.line.items (10 ∷ rest) in (
+      h.lines,
+      r.line.items,
+      lines rest,
+      good basic_types h.lines h.read.acts h.read.reads,
+      k.1,
+      ap lines text ∙ lines_ended h.lines (r.line.items ++ (10 ∷ rest)) h.whole ∙ ap (λ ls. h.lines ++ ls) (lines_line r.line.items rest h.unended),
+      k.0,
+    )
+
+-- the lines, where the last has no LF
+last : (p : Prog) (seen : List ℕ) (r : Reading) (h : HasSeen p seen r) → 0 < length r.line.items → lines seen ≡ h.lines ++ r.line.items ∷ []
+last p seen r h l =
+    ap lines h.bytes ∙ lines_ended h.lines r.line.items h.whole ∙ ap (λ ls. h.lines ++ ls) (go r.line.items h.unended l)
+  where
+    go : (xs : List ℕ) → IsLineText xs → 0 < length xs → lines xs ≡ xs ∷ []
+    go [] u l = absurd (omega arith)
+    go (b ∷ bs) u l = lines_last b bs u
+
+pub bad_last : (p : Prog) (seen : List ℕ) (r : Reading) (n : ℕ) → HasSeen p seen r → 0 < length r.line.items → Refuses p r n → BadLine basic_types seen n
+bad_last p seen r n h l refuses =
+    let k = refuses h.lines h.read in
+    (h.lines, r.line.items, [], good basic_types h.lines h.read.acts h.read.reads, k.1, last p seen r h l, k.0)
+
+pub read_last : (p : Prog) (seen : List ℕ) (r now : Reading) → HasSeen p seen r → 0 < length r.line.items
+    → ((ls : List (List ℕ)) → HasRead p ls r → HasRead p (ls ++ r.line.items ∷ []) now) → HasRead p (lines seen) now
+read_last p seen r now h l reads = subst (λ ls. HasRead p ls now) (sym (last p seen r h l)) (reads h.lines h.read)
+
+pub read_whole : (p : Prog) (seen : List ℕ) (r : Reading) → HasSeen p seen r → r.line.items ≡ [] → HasRead p (lines seen) r
+read_whole p seen r h l =
+    let none : lines r.line.items ≡ [] = rw l refl in
+    let e : lines seen ≡ h.lines = ap lines h.bytes ∙ lines_ended h.lines r.line.items h.whole ∙ ap (λ ls. h.lines ++ ls) none ∙ append-nil h.lines in
+    subst (λ ls. HasRead p ls r) (sym e) h.read
+
+-- ---- one line more
+
+pub reads_skipped : (ls : List (List ℕ)) (acts : List Act) (l : List ℕ) → ReadsLines basic_types ls acts → is_skipped l ≡ true → ReadsLines basic_types (ls ++ l ∷ []) acts
+reads_skipped ls acts l r s = subst (λ xs. ReadsLines basic_types (ls ++ l ∷ []) xs) (append-nil acts) (one_more basic_types ls (l ∷ []) acts [] r (inl (s, refl)))
+
+pub reads_action : (ls : List (List ℕ)) (acts : List Act) (l : List ℕ) (a : Act) → ReadsLines basic_types ls acts → Reads basic_types l a → ReadsLines basic_types (ls ++ l ∷ []) (acts ++ a ∷ [])
+reads_action ls acts l a r h = one_more basic_types ls (l ∷ []) acts (a ∷ []) r (inr (a, [], h, refl, refl))
+
+pub no_line : (l : List ℕ) → is_skipped l ≡ false → ((a : Act) → Reads basic_types l a → ⊥) → IsLine basic_types l → ⊥
+no_line l s none (inl t) = false≢true (sym s ∙ t)
+no_line l s none (inr (a, r)) = none a r
+
+pub one_skipped : (p : Prog) (ls : List (List ℕ)) (l : List ℕ) (r : Reading) → HasRead p ls r → is_skipped l ≡ true → ReadsOneMore p ls l r
+one_skipped p ls l r h s = (h.acts, reads_skipped ls h.acts l h.reads s, h.performed)
+
+pub one_performed : (p : Prog) (ls : List (List ℕ)) (l : List ℕ) (types : List Shape) (a : Act) (r now : Reading) → HasRead p ls r → types ≡ basic_types → Reads types l a
+    → ((acts : List Act) → HasPerformed p acts r.runner (string_bytes r.text) → HasPerformed p (acts ++ a ∷ []) now.runner (string_bytes now.text)) → ReadsOneMore p ls l now
+one_performed p ls l types a r now h t e goes = (h.acts ++ a ∷ [], reads_action ls h.acts l a h.reads (subst (λ ts. Reads ts l a) t e), goes h.acts h.performed)
+
+pub read_more : (p : Prog) (ls : List (List ℕ)) (l : List ℕ) (r now : Reading) → HasRead p ls r → ReadsOneMore p ls l now → now.types ≡ r.types → now.count ≡ r.count + 1
+    → HasRead p (ls ++ l ∷ []) now
+read_more p ls l r now h m t c = record {
+  acts = m.0;
+  types = t ∙ h.types;
+  reads = m.1;
+  count = let k : r.count ≡ length ls = h.count in omega (arith, length-append ls (l ∷ []));
+  performed = m.2;
+}
+
+-- ---- bytes that are known
+
+pub known_whole : (known left : Option (List ℕ)) (xs : List ℕ) (P : List ℕ → Type 0) → Consumes known left xs → IsAtEnd left → P xs → IfSome known P
+known_whole None left xs P c e h = tt
+known_whole (Some ys) None xs P c e h = absurd c
+known_whole (Some ys) (Some zs) xs P c e h = subst P (sym (c ∙ ap (λ z. xs ++ z) e ∙ append-nil xs)) h
+
+pub known_bad : (known left more : Option (List ℕ)) (xs ys : List ℕ) (P : List ℕ → Type 0) → Consumes known left xs → Consumes left more ys
+    → ((zs : List ℕ) → P (xs ++ (ys ++ zs))) → IfSome known P
+known_bad None left more xs ys P c d h = tt
+known_bad (Some bs) None more xs ys P c d h = absurd c
+known_bad (Some bs) (Some cs) None xs ys P c d h = absurd d
+known_bad (Some bs) (Some cs) (Some zs) xs ys P c d h = subst P (sym (c ∙ ap (λ z. xs ++ z) d)) (h zs)
+
+pub known_more : (known left more : Option (List ℕ)) (xs ys : List ℕ) → Consumes known left xs → Consumes left more ys → Consumes known more (xs ++ ys)
+known_more None left more xs ys c d = tt
+known_more (Some bs) None more xs ys c d = absurd c
+known_more (Some bs) (Some cs) None xs ys c d = absurd d
+known_more (Some bs) (Some cs) (Some zs) xs ys c d = c ∙ ap (λ z. xs ++ z) d ∙ sym (append_assoc xs ys zs)
+
+-- ---- a byte of a piece
+
+pub byte_at : (seen xs more : List ℕ) (i b : ℕ) → i < length xs → get_or xs i 0 ≡ b → seen ++ (xs ++ more) ≡ (seen ++ take i xs) ++ b ∷ (drop (i + 1) xs ++ more)
+byte_at seen xs more i b l e =
+    let d : drop i xs ≡ b ∷ drop (i + 1) xs = drop_more xs i 0 l ∙ ap (λ x. x ∷ drop (i + 1) xs) e in
+    let w : xs ≡ take i xs ++ (b ∷ drop (i + 1) xs) = sym (take-append-drop i xs) ∙ ap (λ z. take i xs ++ z) d in
+    ap (λ z. seen ++ (z ++ more)) w ∙ ap (λ z. seen ++ z) (append_assoc (take i xs) (b ∷ drop (i + 1) xs) more) ∙ sym (append_assoc seen (take i xs) (b ∷ (drop (i + 1) xs ++ more)))
+
+pub no_feed : (b : ℕ) → (b ≡ 10 → ⊥) → (b == 10) ≡ false
+no_feed b h = grind (arith, nat_tests)
+
+pub one_byte : (seen xs : List ℕ) (i b : ℕ) → i < length xs → get_or xs i 0 ≡ b → (seen ++ take i xs) ++ b ∷ [] ≡ seen ++ take (i + 1) xs
+one_byte seen xs i b l e = append_assoc seen (take i xs) (b ∷ []) ∙ ap (λ z. seen ++ z) (ap (λ x. take i xs ++ x ∷ []) (sym e) ∙ sym (take_more xs i 0 l))
+
+-- ---- failures
+
+pub failed_since : (a b c : ℕ) → a ≤ b → b ≤ c → HasFailed b c → HasFailed a c
+failed_since a b c l m (inl h) = inl (omega arith)
+failed_since a b c l m (inr h) = elim (cases_lt a c) [
+  | inl k ↦ inl k
+  | inr k ↦ inr (omega arith)
+]

@@ -1,0 +1,19 @@
+use Rattle.std.proofs.Common.{sym, ap, subst, ◌∙◌, Option, IfSome}
+use Rattle.ioa_value.specs.declared.action.Action.{Action}
+use Rattle.ioa_value.specs.Actions.{act_of}
+use Rattle.ioa_value.specs.Reads.{Reads}
+use Rattle.ioa_value.specs.Lists.{is_skipped}
+use Rattle.ioa_log.proofs.Lines.{one_skipped, one_performed}
+use Rattle.ioa_log.proofs.reading.Reading.perform_line.Goals as goal
+
+pub returns-then-is_skipped-clause-ok : goal.returns-then-is_skipped-clause-ok
+returns-then-is_skipped-clause-ok c = λ p ls h.
+    one_skipped p ls c.args.self.now.line.items c.args.self.now h (ap is_skipped (sym c.deref.ensures.value) ∙ sym c.is_skipped.ensures ∙ c.if-is_skipped.true)
+
+pub returns-clause-ok : goal.returns-clause-ok
+returns-clause-ok c = λ p ls h.
+    let F : Option Action → Type 0 = λ o. IfSome o (λ a. Reads c.args.self.now.types c.deref-2.result.now (act_of a)) in
+    let f : Reads c.args.self.now.types c.deref-2.result.now (act_of c.in-Some.action) = subst F c.in-Some.is c.in_ok-action.ensures.found in
+    let r : Reads c.args.self.now.types c.args.self.now.line.items (act_of c.in-Some.action) = subst (λ bs. Reads c.args.self.now.types bs (act_of c.in-Some.action)) c.deref-2.ensures.value f in
+    one_performed p ls c.args.self.now.line.items c.args.self.now.types (act_of c.in-Some.action) c.args.self.now c.perform.new.self h h.types r
+    (λ acts g. c.in_ok-perform.ensures.performed p acts g)

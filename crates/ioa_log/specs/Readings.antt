@@ -1,0 +1,56 @@
+-- A list text that is read and performed line by line.
+use Rattle.std.specs.Prelude.{◌≡◌, ℕ, List, [], ◌∷◌, ◌++◌, All, length}
+use Rattle.std.specs.String.{string_bytes}
+use Rattle.ioa_value.specs.Actions.{Act}
+use Rattle.ioa_value.specs.Lists.{ReadsLines, ReadsList, first_line}
+use Rattle.ioa_value.specs.Typing.{basic_types}
+use Rattle.ioa_syntax.specs.Runs.{run}
+use Rattle.ioa_compile.specs.Programs.{Prog}
+use Rattle.ioa_compile.specs.Tables.{start_states, tabled}
+use Rattle.ioa_system.specs.Answers.{ending_of}
+use Rattle.ioa_system.specs.Progress.{Progress, IsRunOver}
+use Rattle.ioa_log.specs.declared.reading.Reading.{Reading}
+use Rattle.ioa_log.specs.declared.reading.Replayed.{Replayed}
+use Rattle.ioa_log.specs.Replays.{lines_of, run_text}
+
+-- these actions are performed, and this is their trace's text
+pub record HasPerformed (p : Prog) (acts : List Act) (r : Progress) (text : List ℕ) : Type 0 where
+  pub traced : List Act
+  pub run : IsRunOver p acts traced r
+  pub lines : text ≡ lines_of traced
+
+-- these lines are read, and their actions are performed
+pub record HasRead (p : Prog) (ls : List (List ℕ)) (r : Reading) : Type 0 where
+  pub acts : List Act
+  pub types : r.types ≡ basic_types
+  pub reads : ReadsLines basic_types ls acts
+  pub count : r.count ≡ length ls
+  pub performed : HasPerformed p acts r.runner (string_bytes r.text)
+
+-- the lines with one more are read, and their actions are performed
+abbrev pub ReadsOneMore : Prog → List (List ℕ) → List ℕ → Reading → Type 0
+ReadsOneMore p ls l r = (acts : List Act) × ReadsLines basic_types (ls ++ l ∷ []) acts × HasPerformed p acts r.runner (string_bytes r.text)
+
+-- lines that each end at an LF
+abbrev pub ended : List (List ℕ) → List ℕ
+ended [] = []
+ended (l ∷ ls) = l ++ (10 ∷ ended ls)
+
+-- a text that is its own first line holds no LF
+abbrev pub IsLineText : List ℕ → Type 0
+IsLineText l = first_line l ≡ l
+
+-- these bytes came: the lines of them that end are read, and the others are kept
+pub record HasSeen (p : Prog) (seen : List ℕ) (r : Reading) : Type 0 where
+  pub lines : List (List ℕ)
+  pub whole : All IsLineText lines
+  pub unended : IsLineText r.line.items
+  pub bytes : seen ≡ ended lines ++ r.line.items
+  pub read : HasRead p lines r
+
+-- the bytes are a list text, and these are its run's end and text
+pub record IsReplayed (p : Prog) (seen : List ℕ) (r : Replayed) : Type 0 where
+  pub acts : List Act
+  pub reads : ReadsList basic_types seen acts
+  pub ending : ending_of r.end ≡ (run (tabled p) acts (start_states p)).ending
+  pub text : string_bytes r.text ≡ run_text p.hidden (tabled p) (start_states p) acts
