@@ -7,7 +7,8 @@ use Rattle.std.proofs.lemmas.List.Elements.{All-nil, All-head, All-tail, All-con
 use Rattle.std.proofs.lemmas.Bool.{cases_lt, false≢true}
 use Rattle.std.proofs.lemmas.Bool.Decides.{nat_tests}
 use Rattle.ioa_value.specs.Actions.{Act}
-use Rattle.ioa_value.specs.Typing.{Shape, basic_types}
+use Rattle.ioa_value.specs.Table.{Table}
+use denote.Ref.{Bor}
 use Rattle.ioa_value.specs.Reads.{Reads}
 use Rattle.ioa_value.specs.Lists.{lines, is_skipped, ReadsLines, IsLine, BadLine, first_line}
 use Rattle.ioa_value.proofs.ListLemmas.{good, one_more}
@@ -71,16 +72,16 @@ seen_line p seen r now h l reads = record {
 
 -- what end_line says of a line that is no action
 abbrev pub Refuses : Prog → Reading → ℕ → Type 0
-Refuses p r n = (ls : List (List ℕ)) → HasRead p ls r → (n ≡ length ls + 1) × (IsLine basic_types r.line.items → ⊥)
+Refuses p r n = (ls : List (List ℕ)) → HasRead p ls r → (n ≡ length ls + 1) × (IsLine p.types r.line.items → ⊥)
 
-pub bad_here : (p : Prog) (seen rest : List ℕ) (r : Reading) (n : ℕ) → HasSeen p seen r → Refuses p r n → BadLine basic_types (seen ++ 10 ∷ rest) n
+pub bad_here : (p : Prog) (seen rest : List ℕ) (r : Reading) (n : ℕ) → HasSeen p seen r → Refuses p r n → BadLine p.types (seen ++ 10 ∷ rest) n
 bad_here p seen rest r n h refuses =
     let k = refuses h.lines h.read in
     let text : seen ++ 10 ∷ rest ≡ ended h.lines ++ (r.line.items ++ (10 ∷ rest)) = ap (λ bs. bs ++ 10 ∷ rest) h.bytes ∙ append_assoc (ended h.lines) r.line.items (10 ∷ rest) in (
       h.lines,
       r.line.items,
       lines rest,
-      good basic_types h.lines h.read.acts h.read.reads,
+      good p.types h.lines h.read.acts h.read.reads,
       k.1,
       ap lines text ∙ lines_ended h.lines (r.line.items ++ (10 ∷ rest)) h.whole ∙ ap (λ ls. h.lines ++ ls) (lines_line r.line.items rest h.unended),
       k.0,
@@ -95,10 +96,10 @@ last p seen r h l =
     go [] u l = absurd (omega arith)
     go (b ∷ bs) u l = lines_last b bs u
 
-pub bad_last : (p : Prog) (seen : List ℕ) (r : Reading) (n : ℕ) → HasSeen p seen r → 0 < length r.line.items → Refuses p r n → BadLine basic_types seen n
+pub bad_last : (p : Prog) (seen : List ℕ) (r : Reading) (n : ℕ) → HasSeen p seen r → 0 < length r.line.items → Refuses p r n → BadLine p.types seen n
 bad_last p seen r n h l refuses =
     let k = refuses h.lines h.read in
-    (h.lines, r.line.items, [], good basic_types h.lines h.read.acts h.read.reads, k.1, last p seen r h l, k.0)
+    (h.lines, r.line.items, [], good p.types h.lines h.read.acts h.read.reads, k.1, last p seen r h l, k.0)
 
 pub read_last : (p : Prog) (seen : List ℕ) (r now : Reading) → HasSeen p seen r → 0 < length r.line.items
     → ((ls : List (List ℕ)) → HasRead p ls r → HasRead p (ls ++ r.line.items ∷ []) now) → HasRead p (lines seen) now
@@ -112,28 +113,29 @@ read_whole p seen r h l =
 
 -- ---- one line more
 
-pub reads_skipped : (ls : List (List ℕ)) (acts : List Act) (l : List ℕ) → ReadsLines basic_types ls acts → is_skipped l ≡ true → ReadsLines basic_types (ls ++ l ∷ []) acts
-reads_skipped ls acts l r s = subst (λ xs. ReadsLines basic_types (ls ++ l ∷ []) xs) (append-nil acts) (one_more basic_types ls (l ∷ []) acts [] r (inl (s, refl)))
+pub reads_skipped : (types : Table) (ls : List (List ℕ)) (acts : List Act) (l : List ℕ) → ReadsLines types ls acts → is_skipped l ≡ true → ReadsLines types (ls ++ l ∷ []) acts
+reads_skipped types ls acts l r s = subst (λ xs. ReadsLines types (ls ++ l ∷ []) xs) (append-nil acts) (one_more types ls (l ∷ []) acts [] r (inl (s, refl)))
 
-pub reads_action : (ls : List (List ℕ)) (acts : List Act) (l : List ℕ) (a : Act) → ReadsLines basic_types ls acts → Reads basic_types l a → ReadsLines basic_types (ls ++ l ∷ []) (acts ++ a ∷ [])
-reads_action ls acts l a r h = one_more basic_types ls (l ∷ []) acts (a ∷ []) r (inr (a, [], h, refl, refl))
+pub reads_action : (types : Table) (ls : List (List ℕ)) (acts : List Act) (l : List ℕ) (a : Act) → ReadsLines types ls acts → Reads types l a → ReadsLines types (ls ++ l ∷ []) (acts ++ a ∷ [])
+reads_action types ls acts l a r h = one_more types ls (l ∷ []) acts (a ∷ []) r (inr (a, [], h, refl, refl))
 
-pub no_line : (l : List ℕ) → is_skipped l ≡ false → ((a : Act) → Reads basic_types l a → ⊥) → IsLine basic_types l → ⊥
-no_line l s none (inl t) = false≢true (sym s ∙ t)
-no_line l s none (inr (a, r)) = none a r
+pub no_line : (types : Table) (l : List ℕ) → is_skipped l ≡ false → ((a : Act) → Reads types l a → ⊥) → IsLine types l → ⊥
+no_line types l s none (inl t) = false≢true (sym s ∙ t)
+no_line types l s none (inr (a, r)) = none a r
 
 pub one_skipped : (p : Prog) (ls : List (List ℕ)) (l : List ℕ) (r : Reading) → HasRead p ls r → is_skipped l ≡ true → ReadsOneMore p ls l r
-one_skipped p ls l r h s = (h.acts, reads_skipped ls h.acts l h.reads s, h.performed)
+one_skipped p ls l r h s = (h.acts, reads_skipped p.types ls h.acts l h.reads s, h.performed)
 
-pub one_performed : (p : Prog) (ls : List (List ℕ)) (l : List ℕ) (types : List Shape) (a : Act) (r now : Reading) → HasRead p ls r → types ≡ basic_types → Reads types l a
-    → ((acts : List Act) → HasPerformed p acts r.runner (string_bytes r.text) → HasPerformed p (acts ++ a ∷ []) now.runner (string_bytes now.text)) → ReadsOneMore p ls l now
-one_performed p ls l types a r now h t e goes = (h.acts ++ a ∷ [], reads_action ls h.acts l a h.reads (subst (λ ts. Reads ts l a) t e), goes h.acts h.performed)
+pub one_performed : (p : Prog) (ls : List (List ℕ)) (l : List ℕ) (a : Act) (r now : Reading) → HasRead p ls r → Reads r.types.now l a
+    → ((acts : List Act) → r.types.now ≡ p.types → HasPerformed p acts r.runner (string_bytes r.text) → HasPerformed p (acts ++ a ∷ []) now.runner (string_bytes now.text)) → ReadsOneMore p ls l now
+one_performed p ls l a r now h e goes =
+    (h.acts ++ a ∷ [], reads_action p.types ls h.acts l a h.reads (subst (λ ts. Reads ts l a) h.types e), goes h.acts h.types h.performed)
 
 pub read_more : (p : Prog) (ls : List (List ℕ)) (l : List ℕ) (r now : Reading) → HasRead p ls r → ReadsOneMore p ls l now → now.types ≡ r.types → now.count ≡ r.count + 1
     → HasRead p (ls ++ l ∷ []) now
 read_more p ls l r now h m t c = record {
   acts = m.0;
-  types = t ∙ h.types;
+  types = ap (λ (b : Bor Table). b.now) t ∙ h.types;
   reads = m.1;
   count = let k : r.count ≡ length ls = h.count in omega (arith, length-append ls (l ∷ []));
   performed = m.2;

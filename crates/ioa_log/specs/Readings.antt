@@ -3,7 +3,6 @@ use Rattle.std.specs.Prelude.{◌≡◌, ℕ, List, [], ◌∷◌, ◌++◌, All
 use Rattle.std.specs.String.{string_bytes}
 use Rattle.ioa_value.specs.Actions.{Act}
 use Rattle.ioa_value.specs.Lists.{ReadsLines, ReadsList, first_line}
-use Rattle.ioa_value.specs.Typing.{basic_types}
 use Rattle.ioa_syntax.specs.Runs.{run}
 use Rattle.ioa_compile.specs.Programs.{Prog}
 use Rattle.ioa_compile.specs.Tables.{start_states, tabled}
@@ -17,19 +16,19 @@ use Rattle.ioa_log.specs.Replays.{lines_of, run_text}
 pub record HasPerformed (p : Prog) (acts : List Act) (r : Progress) (text : List ℕ) : Type 0 where
   pub traced : List Act
   pub run : IsRunOver p acts traced r
-  pub lines : text ≡ lines_of traced
+  pub lines : text ≡ lines_of p.types traced
 
 -- these lines are read, and their actions are performed
 pub record HasRead (p : Prog) (ls : List (List ℕ)) (r : Reading) : Type 0 where
   pub acts : List Act
-  pub types : r.types ≡ basic_types
-  pub reads : ReadsLines basic_types ls acts
+  pub types : r.types.now ≡ p.types
+  pub reads : ReadsLines p.types ls acts
   pub count : r.count ≡ length ls
   pub performed : HasPerformed p acts r.runner (string_bytes r.text)
 
 -- the lines with one more are read, and their actions are performed
 abbrev pub ReadsOneMore : Prog → List (List ℕ) → List ℕ → Reading → Type 0
-ReadsOneMore p ls l r = (acts : List Act) × ReadsLines basic_types (ls ++ l ∷ []) acts × HasPerformed p acts r.runner (string_bytes r.text)
+ReadsOneMore p ls l r = (acts : List Act) × ReadsLines p.types (ls ++ l ∷ []) acts × HasPerformed p acts r.runner (string_bytes r.text)
 
 -- lines that each end at an LF
 abbrev pub ended : List (List ℕ) → List ℕ
@@ -51,6 +50,6 @@ pub record HasSeen (p : Prog) (seen : List ℕ) (r : Reading) : Type 0 where
 -- the bytes are a list text, and these are its run's end and text
 pub record IsReplayed (p : Prog) (seen : List ℕ) (r : Replayed) : Type 0 where
   pub acts : List Act
-  pub reads : ReadsList basic_types seen acts
+  pub reads : ReadsList p.types seen acts
   pub ending : ending_of r.end ≡ (run (tabled p) acts (start_states p)).ending
-  pub text : string_bytes r.text ≡ run_text p.hidden (tabled p) (start_states p) acts
+  pub text : string_bytes r.text ≡ run_text p.types p.hidden (tabled p) (start_states p) acts

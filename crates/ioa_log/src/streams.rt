@@ -1,7 +1,6 @@
 ghost use Rattle.std.specs.Prelude.{◌≡◌, ◌≤◌, ℕ, [], OnOk, OnErr, IfErr, IfSome, IsErrOf, take};
 ghost use Rattle.std.specs.Io.KnownBytes.{Appends};
 ghost use Rattle.ioa_value.specs.Lists.{BadLine};
-ghost use Rattle.ioa_value.specs.Typing.{basic_types};
 ghost use Rattle.ioa_compile.specs.Programs.{Prog};
 ghost use Rattle.ioa_log.specs.Failing.{HasFailed};
 ghost use Rattle.ioa_log.specs.Readings.{HasSeen};
@@ -22,7 +21,7 @@ pub(crate) fn feed_all<R: InputDevice>(
     reading: &mut Reading<'_>,
 ) -> Result<(), LogErr>
     ensures ok { OnOk result (IfSome (R.remaining input.old) (λ bytes. (p : Prog) → HasSeen p [] reading.old → HasSeen p bytes reading.new)) }
-    ensures bad { (n : ℕ) → IsErrOf result (LogErr.BadLine n) → IfSome (R.remaining input.old) (λ bytes. (p : Prog) → HasSeen p [] reading.old → BadLine basic_types bytes n) }
+    ensures bad { (n : ℕ) → IsErrOf result (LogErr.BadLine n) → IfSome (R.remaining input.old) (λ bytes. (p : Prog) → HasSeen p [] reading.old → BadLine p.types bytes n) }
     ensures io { IsErrOf result LogErr.Io → HasFailed (R.failure_count input.old) (R.failure_count input.new) }
     ensures counts { R.failure_count input.old ≤ R.failure_count input.new }
 {

@@ -1,7 +1,6 @@
 use Rattle.std.proofs.Common.{◌≡◌, ◌<◌, ◌++◌, [], ℕ, List, length, take, sym, ap, subst, le_trans, rules, arith}
 use Rattle.std.proofs.lemmas.List.{append-nil}
 use Rattle.ioa_value.specs.Lists.{BadLine}
-use Rattle.ioa_value.specs.Typing.{basic_types}
 use Rattle.ioa_compile.specs.Programs.{Prog}
 use Rattle.ioa_log.specs.Readings.{HasSeen}
 use Rattle.ioa_log.proofs.Lines.{failed_since, known_bad, known_more, known_whole}
@@ -23,7 +22,7 @@ pub returns-in_err-feed-in-Ok-clause-bad : goal.returns-in_err-feed-in-Ok-clause
 returns-in_err-feed-in-Ok-clause-bad g c = λ n e.
     let s = c.loop.invariant.seen in
     let buf : List ℕ = c.pull.new.piece in
-    let P : List ℕ → Type 0 = λ bytes. (p : Prog) → HasSeen p [] c.args.reading.now → BadLine basic_types bytes n in
+    let P : List ℕ → Type 0 = λ bytes. (p : Prog) → HasSeen p [] c.args.reading.now → BadLine p.types bytes n in
     known_bad (g.R.Read.remaining c.args.input.now) (g.R.Read.remaining c.loop.input) (g.R.Read.remaining c.pull.new.self) s.0 (take c.in-Ok.count buf) P s.1 c.in-Ok.ensures.bytes.0
     (λ zs p h. c.in_err-feed-in-Ok.ensures.bad n (search rules) p s.0 zs (s.2 p h))
 

@@ -1,6 +1,5 @@
 use Rattle.std.proofs.Common.{◌≡◌, ◌==◌, ◌+◌, ◌++◌, ◌∷◌, [], ℕ, List, take, drop, get_or, false, sym, subst, refl, rules}
 use Rattle.ioa_value.specs.Lists.{BadLine}
-use Rattle.ioa_value.specs.Typing.{basic_types}
 use Rattle.ioa_log.specs.declared.reading.Reading.{Reading}
 use Rattle.ioa_log.specs.Readings.{HasSeen}
 use Rattle.ioa_log.proofs.Lines.{bad_here, byte_at, no_feed, one_byte, seen_byte, seen_line}
@@ -11,7 +10,7 @@ pub returns-in_err-end_line-clause-bad : goal.returns-in_err-end_line-clause-bad
 returns-in_err-end_line-clause-bad c = λ n e p seen more h.
     let i : ℕ = c.loop-byte.byte-index in
     let xs : List ℕ = c.args.piece.now in
-    subst (λ bs. BadLine basic_types bs n) (sym (byte_at seen xs more i 10 c.loop-byte-test.true c.if-byte-eq10.true))
+    subst (λ bs. BadLine p.types bs n) (sym (byte_at seen xs more i 10 c.loop-byte-test.true c.if-byte-eq10.true))
     (bad_here p (seen ++ take i xs) (drop (i + 1) xs ++ more) c.loop-byte.self n (c.loop-byte.invariant p seen h) (λ ls k. c.in_err-end_line.ensures.bad n (search rules) p ls k))
 
 pub loop-byte-preserved : goal.loop-byte-preserved
