@@ -5,6 +5,7 @@ use Rattle.std.specs.Str.{bytes_eq}
 use Rattle.std.proofs.lemmas.List.Elements.{All-head}
 use Rattle.ioa_value.specs.Names.{IsName}
 use Rattle.ioa_syntax.specs.Names.{LegalNames, names_of_instance}
+use Rattle.ioa_syntax.proofs.FineParts.{source_parts}
 use Rattle.ioa_syntax.proofs.LegalNames.{legal_composition, legal_instances}
 use Rattle.std.proofs.lemmas.Bool.{and_from}
 use Rattle.std.proofs.lemmas.Bool.Decides.{nat_tests}
@@ -12,12 +13,12 @@ use Rattle.ioa_value.specs.Actions.{Name}
 use Rattle.ioa_syntax.specs.Tree.{AutomatonTree, InstanceTree, CompositionTree, DeclarationTree, automaton, composition, SourceTree}
 use Rattle.ioa_value.specs.Table.{Table}
 use Rattle.ioa_syntax.specs.Types.{types_of}
-use Rattle.ioa_syntax.specs.Limits.{limits}
+use Rattle.ioa_value.specs.declared.limits.TheConstants.{LIMITS}
 use Rattle.ioa_syntax.specs.Compositions.{automata, compositions, picked, automaton_named}
 use Rattle.ioa_compose.specs.Bindings.{closed, AllReady, IsComposable}
 use Rattle.ioa_compose.proofs.PickLemmas.{last_or, last-first}
 use Rattle.ioa_value.proofs.ItemLemmas.{find_both}
-use Rattle.ioa_syntax.specs.WellFormed.{distinct, automaton_within, composition_within, declaration_within, source_within, automaton_fine, is_automaton_of, instance_fine, composition_fine, declaration_fine, declarations_fine, global_names, well_formed}
+use Rattle.ioa_syntax.specs.WellFormed.{distinct, automaton_within, composition_within, declaration_within, automaton_fine, is_automaton_of, instance_fine, composition_fine, declaration_fine, declarations_fine, global_names, well_formed}
 
 pub both : (a b : Bool) → (a && b) ≡ true → (a ≡ true) × (b ≡ true)
 both true true h = (refl, refl)
@@ -78,14 +79,11 @@ last_fine types g before (composition x ∷ ds) h o c k e =
     (record { before = before; fine = hs.0; among = λ p a. any_left p (before ++ composition x ∷ []) ds (any_left p before (composition x ∷ []) a) })) e)
 
 declared_fine : (s : SourceTree) → well_formed s ≡ true → declarations_fine (types_of s) (global_names s) [] s ≡ true
-declared_fine s h =
-    let outer = both _ (source_within limits s) h in
-    let front = both (distinct (global_names s)) (declarations_fine (types_of s) (global_names s) [] s) outer.0 in
-    front.1
+declared_fine s h = (source_parts s h).declarations
 
 -- each declaration keeps within the limits
-declared_within : (s : SourceTree) → well_formed s ≡ true → list_all (declaration_within limits) s ≡ true
-declared_within s h = let outer = both _ (source_within limits s) h in (both _ (list_all (declaration_within limits) s) outer.1).1
+declared_within : (s : SourceTree) → well_formed s ≡ true → list_all (declaration_within LIMITS) s ≡ true
+declared_within s h = (source_parts s h).within
 
 pub picked_fine : (s : SourceTree) (name : Option Name) (c : CompositionTree) → well_formed s ≡ true → picked s name ≡ Some c → IsFineOver (types_of s) s c
 picked_fine s (Some n) c h e = found_fine (types_of s) (global_names s) [] s (declared_fine s h) (λ d. bytes_eq d.name n) c e
@@ -106,19 +104,19 @@ automaton_found types g before (composition c ∷ ds) h p a e =
     let hs = both (declaration_fine types g before (composition c)) (declarations_fine types g (before ++ composition c ∷ []) ds) h in
     automaton_found types g (before ++ composition c ∷ []) ds hs.1 p a e
 
-automaton_small : (ds : SourceTree) → list_all (declaration_within limits) ds ≡ true → (p : AutomatonTree → Bool) (a : AutomatonTree) → find p (automata ds) ≡ Some a → automaton_within limits a ≡ true
+automaton_small : (ds : SourceTree) → list_all (declaration_within LIMITS) ds ≡ true → (p : AutomatonTree → Bool) (a : AutomatonTree) → find p (automata ds) ≡ Some a → automaton_within LIMITS a ≡ true
 automaton_small [] h p a e = absurd (cc)
 automaton_small (automaton x ∷ ds) h p a e =
-    let hs = both (automaton_within limits x) (list_all (declaration_within limits) ds) h in
-    cond_automaton (λ y. automaton_within limits y ≡ true) (p x) x a (find p (automata ds)) e hs.0 (λ k. automaton_small ds hs.1 p a k)
+    let hs = both (automaton_within LIMITS x) (list_all (declaration_within LIMITS) ds) h in
+    cond_automaton (λ y. automaton_within LIMITS y ≡ true) (p x) x a (find p (automata ds)) e hs.0 (λ k. automaton_small ds hs.1 p a k)
 automaton_small (composition c ∷ ds) h p a e =
-    let hs = both (composition_within limits c) (list_all (declaration_within limits) ds) h in automaton_small ds hs.1 p a e
+    let hs = both (composition_within LIMITS c) (list_all (declaration_within LIMITS) ds) h in automaton_small ds hs.1 p a e
 
 -- an automaton of a well formed source is well formed, and keeps within the limits
 pub named_fine : (s : SourceTree) (x : Name) (a : AutomatonTree) → well_formed s ≡ true → automaton_named s x ≡ Some a → automaton_fine (types_of s) (global_names s) a ≡ true
 named_fine s x a h e = automaton_found (types_of s) (global_names s) [] s (declared_fine s h) (λ b. bytes_eq b.name x) a e
 
-pub named_within : (s : SourceTree) (x : Name) (a : AutomatonTree) → well_formed s ≡ true → automaton_named s x ≡ Some a → automaton_within limits a ≡ true
+pub named_within : (s : SourceTree) (x : Name) (a : AutomatonTree) → well_formed s ≡ true → automaton_named s x ≡ Some a → automaton_within LIMITS a ≡ true
 named_within s x a h e = automaton_small s (declared_within s h) (λ b. bytes_eq b.name x) a e
 
 some_automaton : (x : Name) (b : Bool) (a : AutomatonTree) (o : Option AutomatonTree) (t : Bool) → (b || t) ≡ true → (t ≡ true → (c : AutomatonTree) × (o ≡ Some c)) → (c : AutomatonTree) × (cond b (Some a) o ≡ Some c)
@@ -150,18 +148,18 @@ picked_passes p s (Some n) c h e = (find_both (λ d. bytes_eq d.name n) p (compo
 picked_passes p s None c h e = last_passes p (compositions s) None c h (λ q. absurd (cc)) (last-first (compositions s) ∙ e)
 
 -- so does each composition
-composition_small : (ds : SourceTree) → list_all (declaration_within limits) ds ≡ true → list_all (composition_within limits) (compositions ds) ≡ true
+composition_small : (ds : SourceTree) → list_all (declaration_within LIMITS) ds ≡ true → list_all (composition_within LIMITS) (compositions ds) ≡ true
 composition_small [] h = refl
 composition_small (automaton x ∷ ds) h =
-    let hs = both (automaton_within limits x) (list_all (declaration_within limits) ds) h in composition_small ds hs.1
+    let hs = both (automaton_within LIMITS x) (list_all (declaration_within LIMITS) ds) h in composition_small ds hs.1
 composition_small (composition c ∷ ds) h =
-    let hs = both (composition_within limits c) (list_all (declaration_within limits) ds) h in and_from _ _ hs.0 (composition_small ds hs.1)
+    let hs = both (composition_within LIMITS c) (list_all (declaration_within LIMITS) ds) h in and_from _ _ hs.0 (composition_small ds hs.1)
 
 -- a composition that is picked from a well formed source
 pub picked_composable : (s : SourceTree) (name : Option Name) (c : CompositionTree) → well_formed s ≡ true → LegalNames s → picked s name ≡ Some c → IsComposable s c
 picked_composable s name c h legal e =
     let f = picked_fine s name c h e in
     let inner = both (distinct (map (λ i. i.name) c.instances)) (list_all (instance_fine (types_of s) f.before) c.instances) f.fine in
-    let test : nat_le (length c.instances) 32 ≡ true = picked_passes (composition_within limits) s name c (composition_small s (declared_within s h)) e in
+    let test : nat_le (length c.instances) LIMITS.components ≡ true = picked_passes (composition_within LIMITS) s name c (composition_small s (declared_within s h)) e in
     let names = legal_composition s name c legal e in
     record { legal = All-head IsName c.name (flat_map names_of_instance c.instances) names; legal_names = legal_instances c names; names = inner.0; few = grind (arith, nat_tests); ready = ready_from s f.before f.among c.instances inner.1 }

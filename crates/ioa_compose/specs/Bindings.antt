@@ -12,7 +12,7 @@ use Rattle.ioa_value.specs.Table.{Table}
 use Rattle.ioa_syntax.specs.Tree.{Expr, FieldTree, AutomatonTree, InstanceTree, CompositionTree, SourceTree}
 use Rattle.ioa_syntax.specs.View.{automaton_of}
 use Rattle.ioa_syntax.specs.Types.{types_of, is_named}
-use Rattle.ioa_syntax.specs.Limits.{limits}
+use Rattle.ioa_value.specs.declared.limits.TheConstants.{LIMITS}
 use Rattle.ioa_syntax.specs.Instances.{Instance, Fit, argument_values, start_values}
 use Rattle.ioa_syntax.specs.Compositions.{Member, automaton_named}
 use Rattle.ioa_syntax.specs.WellFormed.{distinct, type_of, start_fine, is_type, variable_fields, automaton_fine}
@@ -75,7 +75,7 @@ pub record IsComposable (s : SourceTree) (c : CompositionTree) : Type 0 where
   pub legal : IsName c.name
   pub legal_names : All (λ i. IsName i.name) c.instances
   pub names : IsTrue (distinct (map (λ i. i.name) c.instances))
-  pub few : length c.instances ≤ limits.components
+  pub few : length c.instances ≤ LIMITS.components
   pub ready : AllReady s c.instances
 
 -- start expressions have their variables' types, which are known
