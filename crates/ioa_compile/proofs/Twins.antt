@@ -25,7 +25,7 @@ use Rattle.ioa_syntax.specs.Compositions.{Member, Composed}
 use Rattle.ioa_syntax.specs.WellFormed.{distinct, position_fields, variable_fields}
 use Rattle.ioa_compose.specs.declared.member.Member as held
 use Rattle.ioa_compose.specs.Held.{member_of}
-use Rattle.ioa_compose.specs.Fine.{IsFine, AllFine, AreOver, IsSound, is_output_of, component_limits, most_hidden}
+use Rattle.ioa_compose.specs.Fine.{IsFine, AllFine, AreOver, IsSound, is_output_of, component_limits}
 use Rattle.ioa_compile.specs.Programs as codes
 use Rattle.ioa_compile.specs.Programs.{PositionCode, EntryCode, MemberCode, Prog}
 use Rattle.ioa_compile.specs.Tables as programs
@@ -220,7 +220,7 @@ is_program c p h name typed_so hides all =
       names = ap distinct names ∙ h.names;
       members = subst (λ t. AreMembers t p.members) (sym typed_so) (are_members c.types c.members p.members h.over all);
       compatible = compatible_same c.members p.members all h.compatible;
-      few_hidden = subst (λ ns. length ns ≤ most_hidden) (sym hides) h.few_hidden;
+      few_hidden = subst (λ ns. length ns ≤ component_limits.hidden) (sym hides) h.few_hidden;
       hidden = ap distinct hides ∙ h.hidden;
       outputs = all_same (programs.is_output_of p) (is_output_of c) outputs p.hidden ∙ ap (list_all (is_output_of c)) hides ∙ h.outputs;
     }

@@ -18,7 +18,7 @@ use Rattle.ioa_syntax.specs.declared.tree.Kind.{Kind}
 use Rattle.ioa_syntax.specs.declared.tree.Kind.TheVariants.{Input, Output, Internal}
 use Rattle.ioa_syntax.specs.Components.{Component, Compatible, is_output}
 use Rattle.ioa_syntax.specs.WellFormed.{distinct}
-use Rattle.ioa_compose.specs.Fine.{component_limits, most_hidden}
+use Rattle.ioa_compose.specs.Fine.{component_limits}
 use Rattle.ioa_compile.specs.Programs.{PositionCode, typed, EntryCode, MemberCode, Prog}
 
 abbrev pub position_holds : Table → PositionCode → Val → Bool
@@ -133,6 +133,6 @@ pub record IsProgram (p : Prog) : Type 0 where
   pub names : IsTrue (distinct (map (λ m. m.name) p.members))
   pub members : AreMembers p.types p.members
   pub compatible : Compatible (tabled p)
-  pub few_hidden : length p.hidden ≤ most_hidden
+  pub few_hidden : length p.hidden ≤ component_limits.hidden
   pub hidden : IsTrue (distinct p.hidden)
   pub outputs : IsTrue (list_all (is_output_of p) p.hidden)

@@ -5,6 +5,7 @@ use Rattle.std.specs.Str.{bytes_eq}
 use Rattle.std.proofs.lemmas.List.Elements.{All-head}
 use Rattle.ioa_value.specs.Names.{IsName}
 use Rattle.ioa_syntax.specs.Names.{LegalNames, names_of_instance}
+use Rattle.ioa_syntax.proofs.FineParts.{source_parts}
 use Rattle.ioa_syntax.proofs.LegalNames.{legal_composition, legal_instances}
 use Rattle.std.proofs.lemmas.Bool.{and_from}
 use Rattle.std.proofs.lemmas.Bool.Decides.{nat_tests}
@@ -17,7 +18,7 @@ use Rattle.ioa_syntax.specs.Compositions.{automata, compositions, picked, automa
 use Rattle.ioa_compose.specs.Bindings.{closed, AllReady, IsComposable}
 use Rattle.ioa_compose.proofs.PickLemmas.{last_or, last-first}
 use Rattle.ioa_value.proofs.ItemLemmas.{find_both}
-use Rattle.ioa_syntax.specs.WellFormed.{distinct, automaton_within, composition_within, declaration_within, source_within, automaton_fine, is_automaton_of, instance_fine, composition_fine, declaration_fine, declarations_fine, global_names, well_formed}
+use Rattle.ioa_syntax.specs.WellFormed.{distinct, automaton_within, composition_within, declaration_within, automaton_fine, is_automaton_of, instance_fine, composition_fine, declaration_fine, declarations_fine, global_names, well_formed}
 
 pub both : (a b : Bool) → (a && b) ≡ true → (a ≡ true) × (b ≡ true)
 both true true h = (refl, refl)
@@ -78,14 +79,11 @@ last_fine types g before (composition x ∷ ds) h o c k e =
     (record { before = before; fine = hs.0; among = λ p a. any_left p (before ++ composition x ∷ []) ds (any_left p before (composition x ∷ []) a) })) e)
 
 declared_fine : (s : SourceTree) → well_formed s ≡ true → declarations_fine (types_of s) (global_names s) [] s ≡ true
-declared_fine s h =
-    let outer = both _ (source_within LIMITS s) h in
-    let front = both (distinct (global_names s)) (declarations_fine (types_of s) (global_names s) [] s) outer.0 in
-    front.1
+declared_fine s h = (source_parts s h).declarations
 
 -- each declaration keeps within the limits
 declared_within : (s : SourceTree) → well_formed s ≡ true → list_all (declaration_within LIMITS) s ≡ true
-declared_within s h = let outer = both _ (source_within LIMITS s) h in (both _ (list_all (declaration_within LIMITS) s) outer.1).1
+declared_within s h = (source_parts s h).within
 
 pub picked_fine : (s : SourceTree) (name : Option Name) (c : CompositionTree) → well_formed s ≡ true → picked s name ≡ Some c → IsFineOver (types_of s) s c
 picked_fine s (Some n) c h e = found_fine (types_of s) (global_names s) [] s (declared_fine s h) (λ d. bytes_eq d.name n) c e
@@ -162,6 +160,6 @@ pub picked_composable : (s : SourceTree) (name : Option Name) (c : CompositionTr
 picked_composable s name c h legal e =
     let f = picked_fine s name c h e in
     let inner = both (distinct (map (λ i. i.name) c.instances)) (list_all (instance_fine (types_of s) f.before) c.instances) f.fine in
-    let test : nat_le (length c.instances) 32 ≡ true = picked_passes (composition_within LIMITS) s name c (composition_small s (declared_within s h)) e in
+    let test : nat_le (length c.instances) LIMITS.components ≡ true = picked_passes (composition_within LIMITS) s name c (composition_small s (declared_within s h)) e in
     let names = legal_composition s name c legal e in
     record { legal = All-head IsName c.name (flat_map names_of_instance c.instances) names; legal_names = legal_instances c names; names = inner.0; few = grind (arith, nat_tests); ready = ready_from s f.before f.among c.instances inner.1 }

@@ -1,5 +1,5 @@
 -- What each component of a composition keeps.
-use Rattle.std.specs.Prelude.{◌≡◌, ℕ, ◌≤◌, Bool, ◌&&◌, All, IsTrue, List, [], ◌∷◌, Some, Ok, map, length}
+use Rattle.std.specs.Prelude.{◌≡◌, ◌≤◌, Bool, ◌&&◌, All, IsTrue, List, [], ◌∷◌, Some, Ok, map, length}
 use Rattle.std.specs.List.{list_any, list_all}
 use Rattle.std.specs.Str.{bytes_eq}
 use Rattle.ioa_value.specs.Actions.{Name}
@@ -12,8 +12,8 @@ use Rattle.ioa_syntax.specs.Components.{Compatible, is_output}
 use Rattle.ioa_syntax.specs.Compositions.{Member, Composed, components_of}
 use Rattle.ioa_syntax.specs.WellFormed.{distinct, variable_fields, automaton_fine, automaton_within}
 
--- the component's name and those of its entries are legal, the automaton is well formed, within these limits, the arguments are of the formals' types, and the start values, of the
--- variables' types, are those of the start expressions
+-- the component's name and those of its entries are legal, the automaton is well formed and within these limits, the arguments
+-- are of the formals' types, and the start values, of the variables' types, are those of the start expressions
 pub record IsFine (most : Limits) (m : Member) : Type 0 where
   pub legal : IsName m.name
   pub legal_entries : All (λ e. IsName e.name) m.instance.automaton.entries
@@ -32,13 +32,9 @@ abbrev pub AreOver : Table → List Member → Type 0
 AreOver types [] = Unit {0}
 AreOver types (m ∷ ms) = (m.instance.types ≡ types) × AreOver types ms
 
--- what a composition's automata keep within: the limits of what is declared
+-- what a composition keeps within: the limits of what is declared
 abbrev pub component_limits : Limits
 component_limits = LIMITS
-
--- the names that may be hidden
-abbrev pub most_hidden : ℕ
-most_hidden = 64
 
 -- an output of one of the components has this name
 abbrev pub is_output_of : Composed → Name → Bool
@@ -51,7 +47,7 @@ pub record IsSound (c : Composed) : Type 0 where
   pub names : IsTrue (distinct (map (λ m. m.name) c.members))
   pub few : length c.members ≤ component_limits.components
   pub hidden : IsTrue (distinct c.hidden)
-  pub few_hidden : length c.hidden ≤ most_hidden
+  pub few_hidden : length c.hidden ≤ component_limits.hidden
   pub outputs : IsTrue (list_all (is_output_of c) c.hidden)
   pub over : AreOver c.types c.members
   pub members : AllFine component_limits c.members
