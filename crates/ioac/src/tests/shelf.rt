@@ -18,6 +18,12 @@ pub struct Shelf<'a> {
 }
 
 impl<'a> Store for Shelf<'a> {
+    ghost use Rattle.std.specs.Prelude.{◌≡◌, codes};
+
+    ghost holds = { λ shelf name bytes. (name ≡ codes "f") × (bytes ≡ shelf.bytes.now) };
+
+    ghost lacks = { λ _ name. name ≡ codes "f" → ⊥ };
+
     fn load(&mut self, alloc: Global, name: &str) -> Result<Vec<u8>, StoreErr> {
         if name == "f" {
             Ok(Vec::from_slice(alloc, self.bytes)?)
