@@ -1,8 +1,14 @@
-ghost use Rattle.std.specs.Prelude.{◌≡◌, ◌⊎◌, IfOk, IfErr};
+ghost use Rattle.std.specs.Prelude.{◌≡◌, ◌⊎◌, map, IfOk, IfErr, IsSome};
+ghost use Rattle.clap.specs.Words.{kind_of};
 ghost use Rattle.ioa_system.specs.Answers.{ending_of};
 ghost use Rattle.ioa_log.specs.Failing.{HasFailed};
+ghost use Rattle.ioac.specs.CommandLine.{IsAsked};
+ghost use Rattle.ioac.specs.Commands.{IsAnswered, IsReported, IsUnasked};
 ghost use Rattle.ioac.specs.Serving.{IsServed, IsUnserved};
 ghost use Rattle.ioac.specs.Statuses.{ending_status};
+ghost use Rattle.clap.specs.declared.error.kind.ErrorKind.TheVariants as kinds;
+ghost use Rattle.ioac.specs.declared.request.Request.{Request};
+ghost use Rattle.ioac.specs.declared.status.Status.TheVariants as statuses;
 
 use crate::failure::Failure;
 use crate::replay::replay_text;
@@ -18,7 +24,7 @@ use std::io::Write;
 
 /// The program: reads the words of its command line, does what they ask, and answers its exit status.
 ///
-/// What is wrong goes to `errors`. A status is `Broken` where that cannot be told.
+/// What is wrong goes to `errors`. The status is `Broken` where that cannot be told.
 pub fn command<S: AsStr, F: Store, R: InputDevice, W: OutputDevice, E: Write>(
     alloc: Global,
     words: &[S],
@@ -26,23 +32,49 @@ pub fn command<S: AsStr, F: Store, R: InputDevice, W: OutputDevice, E: Write>(
     input: &mut R,
     output: &mut W,
     errors: &mut E,
-) -> Status {
-    let matches = match parse(alloc, words) {
-        Ok(matches) => matches,
-        Err(error) => return told(&error, output, errors),
-    };
-    let Some(asked) = read_request(&matches) else {
-        return Status::BadCommandLine;
-    };
-    match serve(alloc, &asked, store, input, output) {
+) -> Status
+    ensures { IsUnasked (map S.text words.now) result
+        ⊎ ((request : Request) × IsAsked (map S.text words.now) request
+        × IsAnswered (F.holds store.old) (F.lacks store.old) request (R.remaining input.old)
+        (HasFailed (R.failure_count input.old) (R.failure_count input.new) ⊎ HasFailed (W.failure_count output.old) (W.failure_count output.new))
+        (W.contents output.old) (W.contents output.new) (E.contents errors.old) (E.contents errors.new) result) }
+{
+    match parse(alloc, words) {
+        Ok(matches) => match read_request(&matches) {
+            Some(asked) => answer(alloc, &asked, store, input, output, errors),
+            None => Status::BadCommandLine,
+        },
+        Err(error) => told(&error, output, errors),
+    }
+}
+
+/// Does what is asked, and tells why not.
+fn answer<F: Store, R: InputDevice, W: OutputDevice, E: Write>(
+    alloc: Global,
+    asked: &Request<'_>,
+    store: &mut F,
+    input: &mut R,
+    output: &mut W,
+    errors: &mut E,
+) -> Status
+    ensures { IsAnswered (F.holds store.old) (F.lacks store.old) asked.now (R.remaining input.old)
+        (HasFailed (R.failure_count input.old) (R.failure_count input.new) ⊎ HasFailed (W.failure_count output.old) (W.failure_count output.new))
+        (W.contents output.old) (W.contents output.new) (E.contents errors.old) (E.contents errors.new) result }
+{
+    match serve(alloc, asked, store, input, output) {
         Ok(end) => status_of(end),
-        Err(failure) => {
-            let status = failure.status();
-            match writeln!(errors, "{failure}") {
-                Ok(()) => status,
-                Err(_) => Status::Broken,
-            }
-        }
+        Err(failure) => reported(failure, errors),
+    }
+}
+
+/// Prints why nothing was served, and answers the exit status.
+fn reported<E: Write>(failure: Failure, errors: &mut E) -> Status
+    ensures { IsReported failure (E.contents errors.old) (E.contents errors.new) result }
+{
+    let status = failure.status();
+    match writeln!(errors, "{failure}") {
+        Ok(()) => status,
+        Err(_) => Status::Broken,
     }
 }
 
@@ -82,8 +114,10 @@ fn status_of(end: End) -> Status
     }
 }
 
-// Writes what is wrong with a command line, or the help that it asks for, and answers the exit status.
-fn told<W: OutputDevice, E: Write>(error: &clap::Error, output: &mut W, errors: &mut E) -> Status {
+/// Writes what is wrong with a command line, or the help that it asks for, and answers the exit status.
+fn told<W: OutputDevice, E: Write>(error: &clap::Error, output: &mut W, errors: &mut E) -> Status
+    ensures { kind_of error.now ≡ kinds.OutOfMemory → result ≡ statuses.Broken }
+{
     if error.kind() == ErrorKind::OutOfMemory {
         let _ = errors.write_all(b"memory\n");
         return Status::Broken;

@@ -17,12 +17,22 @@ pub enum StoreErr {
 }
 
 impl From<AllocError> for StoreErr {
+    ghost use Rattle.std.specs.Prelude.{◌≡◌};
+    ghost use Rattle.ioac.specs.declared.store.StoreErr.TheVariants as errors;
+
+    ghost from_gives = { λ _ e. e ≡ errors.OutOfMemory };
+
     fn from(_error: AllocError) -> StoreErr {
         StoreErr::OutOfMemory
     }
 }
 
 impl<T: Drop> From<AllocFailed<T>> for StoreErr {
+    ghost use Rattle.std.specs.Prelude.{◌≡◌};
+    ghost use Rattle.ioac.specs.declared.store.StoreErr.TheVariants as errors;
+
+    ghost from_gives = { λ _ e. e ≡ errors.OutOfMemory };
+
     fn from(_error: AllocFailed<T>) -> StoreErr {
         StoreErr::OutOfMemory
     }
