@@ -1,5 +1,5 @@
 -- The command line that the program reads, in the words of the crate that parses it, and what it asks for.
-use Rattle.std.specs.Prelude.{◌≡◌, ℕ, true, false, List, Option, Some, None, codes}
+use Rattle.std.specs.Prelude.{◌≡◌, true, false, List, Option, Some, None, codes}
 use Rattle.std.specs.Option.{option_copied}
 use Rattle.clap.specs.Words.{App, Row, Rule, Text, first_of, new_app, new_rule, subcommand_of, with_rule, with_subcommand}
 use Rattle.clap.specs.Simple.{on_top}

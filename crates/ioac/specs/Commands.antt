@@ -1,7 +1,9 @@
 -- What a run of the program comes to: what is asked, what is written, what is told of failures, and the exit status.
-use Rattle.std.specs.Prelude.{◌≡◌, ℕ, ◌⊎◌, ◌++◌, ◌∷◌, [], true, List, Option}
+use Rattle.std.specs.Prelude.{◌≡◌, ℕ, ◌⊎◌, ◌++◌, ◌∷◌, [], List, Option}
 use Rattle.std.specs.Io.KnownBytes.{Appends, Keeps}
-use Rattle.clap.specs.Words.{Text, takes}
+use Rattle.clap.specs.Words.{IsAmong, Text, fault_of}
+use Rattle.clap.specs.declared.error.kind.ErrorKind.{ErrorKind}
+use Rattle.clap.specs.declared.error.kind.ErrorKind.TheVariants as kinds
 use Rattle.ioa_value.specs.Actions.{Name}
 use Rattle.ioa_syntax.specs.Runs.{Ending}
 use Rattle.ioac.specs.declared.failure.Failure.{Failure}
@@ -24,6 +26,30 @@ IsAnswered holds lacks request bytes failed before after told telling status =
     ((end : Ending) × IsServed holds request bytes end before after × (status ≡ ending_status end) × Keeps told telling)
     ⊎ ((e : Failure) × IsUnserved holds lacks request bytes failed before after e × IsReported e told telling status)
 
--- nothing was served: words that are taken and ask for something find memory short
+-- of a parse that gives no request, by what it tells
+abbrev pub usage_status : ErrorKind → Status
+usage_status kinds.DisplayHelp = Status.Done
+usage_status kinds.DisplayVersion = Status.Done
+usage_status kinds.OutOfMemory = Status.Broken
+usage_status kinds.InvalidValue = Status.BadCommandLine
+usage_status kinds.UnknownArgument = Status.BadCommandLine
+usage_status kinds.InvalidSubcommand = Status.BadCommandLine
+usage_status kinds.NoEquals = Status.BadCommandLine
+usage_status kinds.ValueValidation = Status.BadCommandLine
+usage_status kinds.TooManyValues = Status.BadCommandLine
+usage_status kinds.TooFewValues = Status.BadCommandLine
+usage_status kinds.WrongNumberOfValues = Status.BadCommandLine
+usage_status kinds.ArgumentConflict = Status.BadCommandLine
+usage_status kinds.MissingRequiredArgument = Status.BadCommandLine
+usage_status kinds.MissingSubcommand = Status.BadCommandLine
+usage_status kinds.DisplayHelpOnMissingArgumentOrSubcommand = Status.BadCommandLine
+usage_status kinds.Io = Status.BadCommandLine
+usage_status kinds.Format = Status.BadCommandLine
+
+-- nothing is served: the words have a fault, or ask for help, which is told; or they ask for nothing; or memory was short, or
+-- nothing could be told
 abbrev pub IsUnasked : List Text → Status → Type 0
-IsUnasked words status = (request : Request) → IsAsked words request → takes ioac_app words ≡ true → status ≡ Status.Broken
+IsUnasked words status =
+    (status ≡ Status.Broken)
+    ⊎ (((kind : ErrorKind) × IsAmong kind (fault_of ioac_app words) × (status ≡ usage_status kind))
+    ⊎ ((status ≡ Status.BadCommandLine) × ((request : Request) → IsAsked words request → ⊥)))

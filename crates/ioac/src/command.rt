@@ -1,12 +1,12 @@
 ghost use Rattle.std.specs.Prelude.{◌≡◌, ◌⊎◌, map, IfOk, IfErr, IsSome};
+ghost use Rattle.std.specs.Io.KnownBytes.{Keeps};
 ghost use Rattle.clap.specs.Words.{kind_of};
 ghost use Rattle.ioa_system.specs.Answers.{ending_of};
 ghost use Rattle.ioa_log.specs.Failing.{HasFailed};
 ghost use Rattle.ioac.specs.CommandLine.{IsAsked};
-ghost use Rattle.ioac.specs.Commands.{IsAnswered, IsReported, IsUnasked};
+ghost use Rattle.ioac.specs.Commands.{IsAnswered, IsReported, IsUnasked, usage_status};
 ghost use Rattle.ioac.specs.Serving.{IsServed, IsUnserved};
 ghost use Rattle.ioac.specs.Statuses.{ending_status};
-ghost use Rattle.clap.specs.declared.error.kind.ErrorKind.TheVariants as kinds;
 ghost use Rattle.ioac.specs.declared.request.Request.{Request};
 ghost use Rattle.ioac.specs.declared.status.Status.TheVariants as statuses;
 
@@ -116,7 +116,8 @@ fn status_of(end: End) -> Status
 
 /// Writes what is wrong with a command line, or the help that it asks for, and answers the exit status.
 fn told<W: OutputDevice, E: Write>(error: &clap::Error, output: &mut W, errors: &mut E) -> Status
-    ensures { kind_of error.now ≡ kinds.OutOfMemory → result ≡ statuses.Broken }
+    ensures status { (result ≡ usage_status (kind_of error.now)) ⊎ (result ≡ statuses.Broken) }
+    ensures unwritten { result ≡ statuses.BadCommandLine → Keeps (W.contents output.old) (W.contents output.new) }
 {
     if error.kind() == ErrorKind::OutOfMemory {
         let _ = errors.write_all(b"memory\n");

@@ -1,6 +1,5 @@
-ghost use Rattle.std.specs.Prelude.{◌≡◌, true, false, map, IfOk, IfErr, IfSome, IfNone};
-ghost use Rattle.clap.specs.Words.{app_of, kind_of, rule_of, subcommand_of, subcommand_rows_of, takes};
-ghost use Rattle.clap.specs.declared.error.kind.ErrorKind.TheVariants as kinds;
+ghost use Rattle.std.specs.Prelude.{◌≡◌, false, map, IfOk, IfErr, IfSome, IfNone};
+ghost use Rattle.clap.specs.Words.{HasKind, app_of, fault_of, rule_of, subcommand_of, subcommand_rows_of};
 ghost use Rattle.ioac.specs.CommandLine.{IsAskedBy, IsLocal, comp_rule, file_rule, ioac_app, replay_app};
 ghost use Rattle.ioac.specs.declared.request.Request.{Request};
 
@@ -65,7 +64,7 @@ fn program<'a>(alloc: Global) -> Result<Command<'a>, AllocError>
 /// Reads a command line, whose first word is the program's.
 pub fn parse<'a, S: AsStr>(alloc: Global, words: &'a [S]) -> Result<ArgMatches<'a>, Error>
     ensures found { IfOk result (λ matches. subcommand_rows_of matches ≡ subcommand_of ioac_app (map S.text words.entry.now)) }
-    ensures taken { IfErr result (λ error. takes ioac_app (map S.text words.entry.now) ≡ true → kind_of error ≡ kinds.OutOfMemory) }
+    ensures faulty { IfErr result (HasKind (fault_of ioac_app (map S.text words.entry.now))) }
 {
     program(alloc)?.try_get_matches_from(words)
 }

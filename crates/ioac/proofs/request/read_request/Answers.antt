@@ -1,5 +1,5 @@
-use Rattle.std.proofs.Common.{◌≡◌, ap, sym, ◌∙◌, List, ℕ, Option, Some, codes, subst, IfNone, None}
-use Rattle.clap.specs.Words.{Row, Text, first_of, found_of, rows_of, subcommand_rows_of}
+use Rattle.std.proofs.Common.{◌≡◌, ap, sym, ◌∙◌, Some, codes, subst, IfNone, None}
+use Rattle.clap.specs.Words.{Text, first_of, found_of, rows_of, subcommand_rows_of}
 use Rattle.clap.proofs.WalkLemmas.{first_value-rows}
 use Rattle.ioac.specs.declared.request.Request.{Request}
 use Rattle.ioac.specs.CommandLine.{IsAskedBy}
