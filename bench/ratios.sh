@@ -1,23 +1,22 @@
 #!/bin/sh
-# How time grows: bench/ratios.sh PROGRAM
+# How time and memory grow: bench/ratios.sh PROGRAM
 #
 # Replays lists of 100,000 and 1,000,000 actions, sources of 100 KiB and 1 MiB, and sources of 25 and 255 automata with
-# as many variables and entries as there may be, and prints the seconds, their ratio, and the actions a second. The
-# figures are of this machine and this run.
+# as many variables and entries as there may be, and prints the seconds, their ratio, and the actions a second; and the
+# greatest memory of a replay beside its list and trace. The figures are of this machine and this run.
+#
+# Everything is written into a temporary folder, which goes with the script.
 set -eu
 program=$1
 case $program in /*) ;; *) program=$PWD/$program ;; esac
 top=$(cd "$(dirname "$0")/.." && pwd)
 work=$(mktemp -d)
 trap 'rm -rf "$work"' EXIT
-cd "$work"
-cp "$top/examples/counter/counter.ioa" counter.ioa
 
 list() { awk -v n="$1" 'BEGIN { for (i = 0; i < n; i++) print "tick(" 5 + i ")" }'; }
 # 200 automata with long effects, of so many bytes in all, and a composition of the first one.
 source_of() {
   awk -v bytes="$1" 'BEGIN {
-    made = 0
     for (a = 0; a < 200; a++) {
       text = "automaton A" a "(f: Int)\nsignature output go(k: Int); input stop\nstates v0: Int := f"
       for (v = 1; v < 24; v++) text = text "; v" v ": Int"
@@ -43,33 +42,55 @@ crowd() {
     print "composition One components A: A" count - 1
   }'
 }
-seconds() { # words.. : seconds of the best of three runs, on standard input from the file named by LIST
+bytes() { wc -c < "$work/$1"; }
+# replay SOURCE LIST: replays the list, both in the temporary folder
+replay() { "$program" replay "$work/$1" < "$work/$2" > "$work/trace"; }
+# seconds SOURCE LIST: of the best of three replays
+seconds() {
   best=
   for turn in 1 2 3; do
     from=$(date +%s.%N)
-    "$program" "$@" < "$LIST" > out.txt
+    replay "$1" "$2"
     till=$(date +%s.%N)
-    took=$(awk -v a="$from" -v b="$till" 'BEGIN { print b - a }')
-    best=$(awk -v a="${best:-$took}" -v b="$took" 'BEGIN { print (a < b) ? a : b }')
+    best=$(awk -v a="$from" -v b="$till" -v best="$best" 'BEGIN { took = b - a; print (best == "" || took < best) ? took : best }')
   done
   echo "$best"
 }
+# peak SOURCE LIST: the greatest memory of a replay, in KiB; nothing where the machine cannot tell
+peak() {
+  if [ -x /usr/bin/time ]; then
+    /usr/bin/time -f %M -o "$work/peak" "$program" replay "$work/$1" < "$work/$2" > "$work/trace" && cat "$work/peak"
+  elif command -v python3 > "$work/found"; then
+    python3 -c 'import resource, subprocess, sys
+subprocess.run(sys.argv[1:], check=True)
+sys.stderr.write(str(resource.getrusage(resource.RUSAGE_CHILDREN).ru_maxrss))' \
+      "$program" replay "$work/$1" < "$work/$2" > "$work/trace" 2> "$work/peak" && cat "$work/peak"
+  fi
+}
 
-list 100000 > small.list
-list 1000000 > large.list
-source_of 107000 > small.ioa
-source_of 1048000 > large.ioa
-crowd 25 > few.ioa
-crowd 255 > many.ioa
-printf 'go(1)\n' > one.list
-printf 'e63\n' > last.list
+cp "$top/examples/counter/counter.ioa" "$work/counter.ioa"
+list 100000 > "$work/small.list"
+list 1000000 > "$work/large.list"
+source_of 107000 > "$work/small.ioa"
+source_of 1048000 > "$work/large.ioa"
+crowd 25 > "$work/few.ioa"
+crowd 255 > "$work/many.ioa"
+printf 'go(1)\n' > "$work/one.list"
+printf 'e63\n' > "$work/last.list"
 
-LIST=small.list; small=$(seconds replay counter.ioa)
-LIST=large.list; large=$(seconds replay counter.ioa)
+small=$(seconds counter.ioa small.list)
+large=$(seconds counter.ioa large.list)
 awk -v s="$small" -v l="$large" 'BEGIN { printf "list of 100000: %.3f s; of 1000000: %.3f s; ratio %.1f; %d actions a second\n", s, l, l / s, 1000000 / l }'
-LIST=one.list; small=$(seconds replay small.ioa)
-LIST=one.list; large=$(seconds replay large.ioa)
-awk -v s="$small" -v l="$large" -v a="$(wc -c < small.ioa)" -v b="$(wc -c < large.ioa)" 'BEGIN { printf "source of %d bytes: %.3f s; of %d: %.3f s; ratio %.1f\n", a, s, b, l, l / s }'
-LIST=last.list; small=$(seconds replay few.ioa)
-LIST=last.list; large=$(seconds replay many.ioa)
-awk -v s="$small" -v l="$large" -v a="$(wc -c < few.ioa)" -v b="$(wc -c < many.ioa)" 'BEGIN { printf "25 automata (%d bytes): %.3f s; 255 (%d bytes): %.3f s; ratio %.1f\n", a, s, b, l, l / s }'
+small=$(seconds small.ioa one.list)
+large=$(seconds large.ioa one.list)
+awk -v s="$small" -v l="$large" -v a="$(bytes small.ioa)" -v b="$(bytes large.ioa)" 'BEGIN { printf "source of %d bytes: %.3f s; of %d: %.3f s; ratio %.1f\n", a, s, b, l, l / s }'
+small=$(seconds few.ioa last.list)
+large=$(seconds many.ioa last.list)
+awk -v s="$small" -v l="$large" -v a="$(bytes few.ioa)" -v b="$(bytes many.ioa)" 'BEGIN { printf "25 automata (%d bytes): %.3f s; 255 (%d bytes): %.3f s; ratio %.1f\n", a, s, b, l, l / s }'
+most=$(peak counter.ioa large.list)
+if [ -n "$most" ]; then
+  awk -v most="$most" -v list="$(bytes large.list)" -v trace="$(bytes trace)" \
+    'BEGIN { printf "memory of 1000000 actions: %d bytes at most; list and trace: %d bytes; ratio %.1f\n", most * 1024, list + trace, most * 1024 / (list + trace) }'
+else
+  echo "memory: neither /usr/bin/time nor python3 is here to measure it"
+fi

@@ -7,11 +7,15 @@
 #   NAME.printed   standard output (none: nothing)
 #   NAME.errors    standard error (none: nothing)
 #   NAME.status    the exit status (none: 0)
+#
+# At the end the checkout holds no file that git neither knows nor ignores and that was not there before: before this
+# script, or when the variable FILES was set to what examples/files.sh prints. Without git nothing is compared.
 set -u
 program=$1
 case $program in /*) ;; *) program=$PWD/$program ;; esac
 top=$(cd "$(dirname "$0")" && pwd)
-work=$(mktemp -d)
+before=${FILES-$(sh "$top/files.sh")}
+work=$(mktemp -d) || exit 1
 trap 'rm -rf "$work"' EXIT
 passed=0
 
@@ -38,4 +42,7 @@ for words in "$top"/*/*.words; do
   passed=$((passed + 1))
 done
 [ "$passed" -gt 0 ] || fail "examples" "there are none"
+printf '%s\n' "$before" > "$work/before"
+left=$(sh "$top/files.sh" | grep -vxF -f "$work/before")
+[ -z "$left" ] || fail "files" "the run left $(echo "$left" | tr '\n' ' ')"
 echo "examples: $passed passed, 0 failed"

@@ -1,3 +1,4 @@
+pub mod Counts
 pub mod Failing
 pub mod Replays
 pub mod Readings

@@ -1,4 +1,9 @@
-ghost use Rattle.std.specs.Prelude.{◌≡◌};
+ghost use Rattle.std.specs.Prelude.{◌≡◌, ◌≤◌, ℕ, true, OnErr, OnOk};
+ghost use Rattle.std.specs.Result.{is_err, result_ok};
+ghost use Rattle.std.specs.Io.KnownBytes.{Keeps, ReadConsumes, WriteAppends};
+ghost use Rattle.std.specs.Io.{ReadsAtMost, WritesAtMost};
+ghost use Rattle.ioa_log.specs.Counts.{moved, has_failed, least_taken, count_after};
+ghost use Rattle.ioa_log.specs.Failing.{HasFailed, TakesSome};
 
 use crate::device::{Device, Failed, InputDevice, OutputDevice};
 use std::io;
@@ -23,6 +28,35 @@ impl<T> Counted<T> {
     {
         self.inner
     }
+
+    /// Counts a call, if it failed.
+    fn count(&mut self, failed: bool)
+        ensures inner { self.new.inner ≡ self.old.inner }
+        ensures count { self.new.failures ≡ count_after failed self.old.failures }
+        ensures failed { failed ≡ true → HasFailed self.old.failures self.new.failures }
+        ensures counts { self.old.failures ≤ self.new.failures }
+    {
+        if failed {
+            self.failures = self.failures.saturating_add(1);
+        }
+    }
+}
+
+/// What is told of a call that answered this, and has to move so many bytes at least.
+fn told(answer: &io::Result<usize>, least: usize) -> Result<usize, Failed>
+    ensures { result_ok result ≡ moved least answer.now }
+{
+    match answer {
+        Ok(count) if *count >= least => Ok(*count),
+        Ok(_) | Err(_) => Err(Failed),
+    }
+}
+
+/// How many bytes a write of a piece has to take: one, where there is one.
+fn least_taken_of(piece: &[u8]) -> usize
+    ensures { result ≡ least_taken piece.now }
+{
+    piece.len().min(1)
 }
 
 impl<T> Device for Counted<T> {
@@ -36,59 +70,67 @@ impl<T> Device for Counted<T> {
 impl<T: Read> Read for Counted<T> {
     ghost remaining = { λ c. T.remaining c.inner };
 
-    fn read(&mut self, buf: &mut [u8]) -> io::Result<usize> {
+    fn read(&mut self, buf: &mut [u8]) -> io::Result<usize>
+        ensures bound { ReadsAtMost result buf.new }
+        ensures bytes { ReadConsumes (T.remaining self.old.inner) (T.remaining self.new.inner) result buf.new }
+        ensures count { self.new.failures ≡ count_after (is_err result) self.old.failures }
+    {
         let answer = self.inner.read(buf);
-        if answer.is_err() {
-            self.failures = self.failures.saturating_add(1);
-        }
+        self.count(answer.is_err());
         answer
     }
 }
 
 impl<T: Read> InputDevice for Counted<T> {
-    fn pull(&mut self, piece: &mut [u8]) -> Result<usize, Failed> {
-        match self.inner.read(piece) {
-            Ok(count) => Ok(count),
-            Err(_) => {
-                self.failures = self.failures.saturating_add(1);
-                Err(Failed)
-            }
-        }
+    fn pull(&mut self, piece: &mut [u8]) -> Result<usize, Failed>
+        ensures bound { ReadsAtMost result piece.new }
+        ensures bytes { ReadConsumes (T.remaining self.old.inner) (T.remaining self.new.inner) result piece.new }
+        ensures failed { OnErr result (HasFailed self.old.failures self.new.failures) }
+        ensures passed { OnOk result (self.new.failures ≡ self.old.failures) }
+        ensures counts { self.old.failures ≤ self.new.failures }
+        ensures count { self.new.failures ≡ count_after (is_err result) self.old.failures }
+    {
+        let answer = told(&self.inner.read(piece), 0);
+        self.count(answer.is_err());
+        answer
     }
 }
 
 impl<T: Write> Write for Counted<T> {
     ghost contents = { λ c. T.contents c.inner };
 
-    fn write(&mut self, buf: &[u8]) -> io::Result<usize> {
+    fn write(&mut self, buf: &[u8]) -> io::Result<usize>
+        ensures bound { WritesAtMost result buf.now }
+        ensures bytes { WriteAppends (T.contents self.old.inner) (T.contents self.new.inner) result buf.now }
+        ensures count { self.new.failures ≡ count_after (has_failed (least_taken buf.now) result) self.old.failures }
+    {
         let answer = self.inner.write(buf);
-        let failed = match &answer {
-            Ok(taken) => *taken == 0 && !buf.is_empty(),
-            Err(_) => true,
-        };
-        if failed {
-            self.failures = self.failures.saturating_add(1);
-        }
+        self.count(told(&answer, least_taken_of(buf)).is_err());
         answer
     }
 
-    fn flush(&mut self) -> io::Result<()> {
+    fn flush(&mut self) -> io::Result<()>
+        ensures bytes { Keeps (T.contents self.old.inner) (T.contents self.new.inner) }
+        ensures count { self.new.failures ≡ count_after (is_err result) self.old.failures }
+    {
         let answer = self.inner.flush();
-        if answer.is_err() {
-            self.failures = self.failures.saturating_add(1);
-        }
+        self.count(answer.is_err());
         answer
     }
 }
 
 impl<T: Write> OutputDevice for Counted<T> {
-    fn push(&mut self, piece: &[u8]) -> Result<usize, Failed> {
-        match self.inner.write(piece) {
-            Ok(taken) if taken > 0 || piece.is_empty() => Ok(taken),
-            _ => {
-                self.failures = self.failures.saturating_add(1);
-                Err(Failed)
-            }
-        }
+    fn push(&mut self, piece: &[u8]) -> Result<usize, Failed>
+        ensures bound { WritesAtMost result piece.now }
+        ensures some { TakesSome result piece.now }
+        ensures bytes { WriteAppends (T.contents self.old.inner) (T.contents self.new.inner) result piece.now }
+        ensures failed { OnErr result (HasFailed self.old.failures self.new.failures) }
+        ensures passed { OnOk result (self.new.failures ≡ self.old.failures) }
+        ensures counts { self.old.failures ≤ self.new.failures }
+        ensures count { self.new.failures ≡ count_after (is_err result) self.old.failures }
+    {
+        let answer = told(&self.inner.write(piece), least_taken_of(piece));
+        self.count(answer.is_err());
+        answer
     }
 }

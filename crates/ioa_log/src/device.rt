@@ -1,4 +1,4 @@
-ghost use Rattle.std.specs.Prelude.{◌≡◌, ◌≤◌, ℕ, OnErr};
+ghost use Rattle.std.specs.Prelude.{◌≡◌, ◌≤◌, ℕ, OnErr, OnOk};
 ghost use Rattle.std.specs.Io.KnownBytes.{ReadConsumes, WriteAppends};
 ghost use Rattle.std.specs.Io.{ReadsAtMost, WritesAtMost};
 ghost use Rattle.ioa_log.specs.Failing.{HasFailed, TakesSome};
@@ -25,6 +25,7 @@ pub trait InputDevice: Read + Device {
         ensures bound { ReadsAtMost result piece.new }
         ensures bytes { ReadConsumes (Self.remaining self.old) (Self.remaining self.new) result piece.new }
         ensures failed { OnErr result (HasFailed (Self.failure_count self.old) (Self.failure_count self.new)) }
+        ensures passed { OnOk result (Self.failure_count self.new ≡ Self.failure_count self.old) }
         ensures counts { Self.failure_count self.old ≤ Self.failure_count self.new };
 }
 
@@ -36,5 +37,6 @@ pub trait OutputDevice: Write + Device {
         ensures some { TakesSome result piece.now }
         ensures bytes { WriteAppends (Self.contents self.old) (Self.contents self.new) result piece.now }
         ensures failed { OnErr result (HasFailed (Self.failure_count self.old) (Self.failure_count self.new)) }
+        ensures passed { OnOk result (Self.failure_count self.new ≡ Self.failure_count self.old) }
         ensures counts { Self.failure_count self.old ≤ Self.failure_count self.new };
 }

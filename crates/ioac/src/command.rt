@@ -1,8 +1,19 @@
-ghost use Rattle.std.specs.Prelude.{◌≤◌};
+ghost use Rattle.std.specs.Prelude.{◌≡◌, ◌⊎◌, map, IfOk, IfErr, IsSome};
+ghost use Rattle.std.specs.Io.KnownBytes.{Keeps};
+ghost use Rattle.clap.specs.Words.{kind_of};
+ghost use Rattle.ioa_system.specs.Answers.{ending_of};
+ghost use Rattle.ioa_log.specs.Failing.{HasFailed};
+ghost use Rattle.ioac.specs.CommandLine.{IsAsked};
+ghost use Rattle.ioac.specs.Commands.{IsAnswered, IsReported, IsUnasked, usage_status};
+ghost use Rattle.ioac.specs.Serving.{IsServed, IsUnserved};
+ghost use Rattle.ioac.specs.Statuses.{ending_status};
+ghost use Rattle.ioac.specs.declared.request.Request.{Request};
+ghost use Rattle.ioac.specs.declared.status.Status.TheVariants as statuses;
 
 use crate::failure::Failure;
 use crate::replay::replay_text;
 use crate::request::{Request, parse, read_request};
+use crate::status::Status;
 use crate::store::Store;
 use clap::error::ErrorKind;
 use ioa_log::{InputDevice, OutputDevice};
@@ -13,8 +24,7 @@ use std::io::Write;
 
 /// The program: reads the words of its command line, does what they ask, and answers its exit status.
 ///
-/// 0 done; 1 the source is refused; 2 the command line is; 3 the list ended by a fault; 4 the list is refused, or it
-/// ended not enabled or not an action; 5 memory, a device, or a file that cannot be read.
+/// What is wrong goes to `errors`. The status is `Broken` where that cannot be told.
 pub fn command<S: AsStr, F: Store, R: InputDevice, W: OutputDevice, E: Write>(
     alloc: Global,
     words: &[S],
@@ -22,36 +32,69 @@ pub fn command<S: AsStr, F: Store, R: InputDevice, W: OutputDevice, E: Write>(
     input: &mut R,
     output: &mut W,
     errors: &mut E,
-) -> u8
-    ensures { result ≤ 5 }
+) -> Status
+    ensures { IsUnasked (map S.text words.now) result
+        ⊎ ((request : Request) × IsAsked (map S.text words.now) request
+        × IsAnswered (F.holds store.old) (F.lacks store.old) request (R.remaining input.old)
+        (HasFailed (R.failure_count input.old) (R.failure_count input.new) ⊎ HasFailed (W.failure_count output.old) (W.failure_count output.new))
+        (W.contents output.old) (W.contents output.new) (E.contents errors.old) (E.contents errors.new) result) }
 {
-    let matches = match parse(alloc, words) {
-        Ok(matches) => matches,
-        Err(error) => return told(&error, output, errors),
-    };
-    let Some(asked) = read_request(&matches) else {
-        return 2;
-    };
-    match serve(alloc, &asked, store, input, output) {
-        Ok(end) => status_of(end),
-        Err(failure) => {
-            let status = failure.status();
-            match writeln!(errors, "{failure}") {
-                Ok(()) => status,
-                Err(_) => 5,
-            }
-        }
+    match parse(alloc, words) {
+        Ok(matches) => match read_request(&matches) {
+            Some(asked) => answer(alloc, &asked, store, input, output, errors),
+            None => Status::BadCommandLine,
+        },
+        Err(error) => told(&error, output, errors),
     }
 }
 
-// Does what is asked.
+/// Does what is asked, and tells why not.
+fn answer<F: Store, R: InputDevice, W: OutputDevice, E: Write>(
+    alloc: Global,
+    asked: &Request<'_>,
+    store: &mut F,
+    input: &mut R,
+    output: &mut W,
+    errors: &mut E,
+) -> Status
+    ensures { IsAnswered (F.holds store.old) (F.lacks store.old) asked.now (R.remaining input.old)
+        (HasFailed (R.failure_count input.old) (R.failure_count input.new) ⊎ HasFailed (W.failure_count output.old) (W.failure_count output.new))
+        (W.contents output.old) (W.contents output.new) (E.contents errors.old) (E.contents errors.new) result }
+{
+    match serve(alloc, asked, store, input, output) {
+        Ok(end) => status_of(end),
+        Err(failure) => reported(failure, errors),
+    }
+}
+
+/// Prints why nothing was served, and answers the exit status.
+fn reported<E: Write>(failure: Failure, errors: &mut E) -> Status
+    ensures { IsReported failure (E.contents errors.old) (E.contents errors.new) result }
+{
+    let status = failure.status();
+    match writeln!(errors, "{failure}") {
+        Ok(()) => status,
+        Err(_) => Status::Broken,
+    }
+}
+
+/// Does what is asked.
+///
+/// # Errors
+/// `Io` or `OutOfMemory` where the file is not read, and those of the replay of what it holds. Nothing was written then,
+/// or, where a device failed, no more than a beginning of the text.
 fn serve<F: Store, R: InputDevice, W: OutputDevice>(
     alloc: Global,
     asked: &Request<'_>,
     store: &mut F,
     input: &mut R,
     output: &mut W,
-) -> Result<End, Failure> {
+) -> Result<End, Failure>
+    ensures replays { IfOk result (λ end. IsServed (F.holds store.old) asked.now (R.remaining input.old) (ending_of end) (W.contents output.old) (W.contents output.new)) }
+    ensures refused { IfErr result (λ e. IsUnserved (F.holds store.old) (F.lacks store.old) asked.now (R.remaining input.old)
+        (HasFailed (R.failure_count input.old) (R.failure_count input.new) ⊎ HasFailed (W.failure_count output.old) (W.failure_count output.new))
+        (W.contents output.old) (W.contents output.new) e) }
+{
     match asked {
         Request::Replay { file, composition } => {
             let text = store.load(alloc, file)?;
@@ -60,34 +103,35 @@ fn serve<F: Store, R: InputDevice, W: OutputDevice>(
     }
 }
 
-// The exit status of a list that was replayed to this end.
-fn status_of(end: End) -> u8
-    ensures { result ≤ 4 }
+/// The exit status of a list that was replayed to this end.
+fn status_of(end: End) -> Status
+    ensures { result ≡ ending_status (ending_of end) }
 {
     match end {
-        End::Done(_) => 0,
-        End::Fault(_, _, _) => 3,
-        End::NotAnAction(_) | End::NotEnabled(_) => 4,
+        End::Done(_) => Status::Done,
+        End::NotAnAction(_) | End::NotEnabled(_) => Status::ListRefused,
+        End::Fault(_, _, _) => Status::Faulted,
     }
 }
 
-// Writes what is wrong with a command line, or the help that it asks for, and answers the exit status.
-fn told<W: OutputDevice, E: Write>(error: &clap::Error, output: &mut W, errors: &mut E) -> u8
-    ensures { result ≤ 5 }
+/// Writes what is wrong with a command line, or the help that it asks for, and answers the exit status.
+fn told<W: OutputDevice, E: Write>(error: &clap::Error, output: &mut W, errors: &mut E) -> Status
+    ensures status { (result ≡ usage_status (kind_of error.now)) ⊎ (result ≡ statuses.Broken) }
+    ensures unwritten { result ≡ statuses.BadCommandLine → Keeps (W.contents output.old) (W.contents output.new) }
 {
     if error.kind() == ErrorKind::OutOfMemory {
         let _ = errors.write_all(b"memory\n");
-        return 5;
+        return Status::Broken;
     }
     if error.use_stderr() {
         match write!(errors, "{error}") {
-            Ok(()) => 2,
-            Err(_) => 5,
+            Ok(()) => Status::BadCommandLine,
+            Err(_) => Status::Broken,
         }
     } else {
         match write!(output, "{error}") {
-            Ok(()) => 0,
-            Err(_) => 5,
+            Ok(()) => Status::Done,
+            Err(_) => Status::Broken,
         }
     }
 }

@@ -1,5 +1,5 @@
-ghost use Rattle.std.specs.Prelude.{◌≤◌};
-
+use crate::refusal::{Code, refusal_status};
+use crate::status::Status;
 use crate::store::StoreErr;
 use ioa_log::LogErr;
 use ioa_syntax::Refusal;
@@ -20,23 +20,33 @@ pub enum Failure {
 }
 
 impl Failure {
+    ghost use Rattle.std.specs.Prelude.{◌≡◌};
+    ghost use Rattle.ioac.specs.Statuses.{failure_status};
+
     /// The exit status.
-    pub fn status(&self) -> u8
-        ensures { result ≤ 5 }
+    pub fn status(&self) -> Status
+        ensures { result ≡ failure_status self.now }
     {
         match self {
-            Failure::Refused(Refusal::OutOfMemory) => 5,
-            Failure::Refused(_) => 1,
-            Failure::List(LogErr::BadLine(_)) => 4,
-            Failure::List(_) | Failure::Io | Failure::OutOfMemory => 5,
+            Failure::Refused(refusal) => refusal_status(refusal),
+            Failure::List(LogErr::BadLine(_)) => Status::ListRefused,
+            Failure::List(LogErr::Io)
+            | Failure::List(LogErr::OutOfMemory)
+            | Failure::Io
+            | Failure::OutOfMemory => Status::Broken,
         }
     }
 }
 
 impl fmt::Display for Failure {
+    ghost use Rattle.std.specs.Prelude.{Some};
+    ghost use Rattle.ioac.specs.Printed.{failure_text};
+
+    ghost output = { λ failure. Some (failure_text failure) };
+
     fn fmt<W: fmt::Write>(&self, f: &mut fmt::Formatter<W>) -> fmt::Result {
         match self {
-            Failure::Refused(refusal) => write_refusal(refusal, f),
+            Failure::Refused(refusal) => write!(f, "{}", Code(refusal)),
             Failure::List(LogErr::BadLine(line)) => write!(f, "L2 line {line}"),
             Failure::List(LogErr::Io) => write!(f, "L8"),
             Failure::List(LogErr::OutOfMemory) | Failure::OutOfMemory => write!(f, "memory"),
@@ -45,44 +55,12 @@ impl fmt::Display for Failure {
     }
 }
 
-// The code of a refused source, with its line.
-fn write_refusal<W: fmt::Write>(refusal: &Refusal, f: &mut fmt::Formatter<W>) -> fmt::Result {
-    match refusal {
-        Refusal::TextTooLong => write!(f, "E1"),
-        Refusal::BadByte(line) => write!(f, "E2 line {line}"),
-        Refusal::Syntax(line) => write!(f, "E3 line {line}"),
-        Refusal::TooDeep(line) => write!(f, "E4 line {line}"),
-        Refusal::DuplicateName(line) => write!(f, "E5 line {line}"),
-        Refusal::UnknownName(line) => write!(f, "E6 line {line}"),
-        Refusal::TypeMismatch(line) => write!(f, "E7 line {line}"),
-        Refusal::BadSignature(line) => write!(f, "E8 line {line}"),
-        Refusal::NoProposal(line) => write!(f, "E9 line {line}"),
-        Refusal::TooMany(line) => write!(f, "E10 line {line}"),
-        Refusal::TooWide(line) => write!(f, "E11 line {line}"),
-        _ => write_composition_refusal(refusal, f),
-    }
-}
-
-// The code of a refused composition, with its components.
-fn write_composition_refusal<W: fmt::Write>(
-    refusal: &Refusal,
-    f: &mut fmt::Formatter<W>,
-) -> fmt::Result {
-    match refusal {
-        Refusal::ArgMismatch(i) => write!(f, "E12 component {i}"),
-        Refusal::CrashName(i) => write!(f, "E13 component {i}"),
-        Refusal::Clash(i, j, name) => write!(f, "E14 components {i} and {j} on {name}"),
-        Refusal::HiddenUnknown(name) => write!(f, "E15 {name}"),
-        Refusal::StartFault(i, fault) => {
-            let number = fault.number();
-            write!(f, "E16 component {i} fault {number}")
-        }
-        Refusal::NoComposition => write!(f, "E17"),
-        _ => write!(f, "memory"),
-    }
-}
-
 impl From<StoreErr> for Failure {
+    ghost use Rattle.std.specs.Prelude.{◌≡◌};
+    ghost use Rattle.ioac.specs.Serving.{failure_of};
+
+    ghost from_gives = { λ r e. e ≡ failure_of r };
+
     fn from(error: StoreErr) -> Failure {
         match error {
             StoreErr::Io => Failure::Io,

@@ -17,6 +17,11 @@ impl<'a, R> Files<'a, R> {
 }
 
 impl<'a, R: rt::Files + AllocGlobal> Store for Files<'a, R> {
+    // Nothing is claimed of what a file holds.
+    ghost holds = { λ _ _ _. Unit {0} };
+
+    ghost lacks = { λ _ _. Unit {0} };
+
     fn load(&mut self, _alloc: Global, name: &str) -> Result<Vec<u8>, StoreErr> {
         match fs::read(self.rt, name) {
             Ok(bytes) => Ok(bytes),

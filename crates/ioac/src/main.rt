@@ -4,12 +4,15 @@
 mod command;
 mod failure;
 mod files;
+mod refusal;
 mod replay;
 mod request;
+mod status;
 mod store;
 #[cfg(test)]
 mod tests;
 
+use crate::status::Status;
 use ioa_log::Counted;
 use std::process::ExitCode;
 use std::{env, io};
@@ -19,7 +22,7 @@ fn main(rt: HostRuntime) -> io::Result<ExitCode> {
     let mut errors = rt.stderr();
     let words: Vec<String> = match env::args(&rt) {
         Ok(words) => words.collect(alloc)?,
-        Err(_) => return Ok(ExitCode::from(2)),
+        Err(_) => return Ok(ExitCode::from(Status::BadCommandLine.number())),
     };
     let mut store = files::Files::new(&rt);
     let mut input = Counted::new(rt.stdin());
@@ -32,5 +35,5 @@ fn main(rt: HostRuntime) -> io::Result<ExitCode> {
         &mut output,
         &mut errors,
     );
-    Ok(ExitCode::from(status))
+    Ok(ExitCode::from(status.number()))
 }

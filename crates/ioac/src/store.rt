@@ -1,3 +1,7 @@
+ghost use Rattle.std.specs.Prelude.{ℕ, List, IfOk, IsErrOf};
+ghost use Rattle.ioa_value.specs.Actions.{Name};
+ghost use Rattle.ioac.specs.declared.store.StoreErr.{StoreErr};
+
 use std::alloc::{AllocError, AllocFailed, Global};
 use thiserror::Error;
 
@@ -13,12 +17,22 @@ pub enum StoreErr {
 }
 
 impl From<AllocError> for StoreErr {
+    ghost use Rattle.std.specs.Prelude.{◌≡◌};
+    ghost use Rattle.ioac.specs.declared.store.StoreErr.TheVariants as errors;
+
+    ghost from_gives = { λ _ e. e ≡ errors.OutOfMemory };
+
     fn from(_error: AllocError) -> StoreErr {
         StoreErr::OutOfMemory
     }
 }
 
 impl<T: Drop> From<AllocFailed<T>> for StoreErr {
+    ghost use Rattle.std.specs.Prelude.{◌≡◌};
+    ghost use Rattle.ioac.specs.declared.store.StoreErr.TheVariants as errors;
+
+    ghost from_gives = { λ _ e. e ≡ errors.OutOfMemory };
+
     fn from(_error: AllocFailed<T>) -> StoreErr {
         StoreErr::OutOfMemory
     }
@@ -26,6 +40,14 @@ impl<T: Drop> From<AllocFailed<T>> for StoreErr {
 
 /// The files that the program reads.
 pub trait Store {
+    /// A load of the file of this name may give these bytes.
+    ghost holds: { Self → Name → List ℕ → Type 0 };
+
+    /// A load of the file of this name may fail.
+    ghost lacks: { Self → Name → Type 0 };
+
     /// The bytes of a file.
-    fn load(&mut self, alloc: Global, name: &str) -> Result<Vec<u8>, StoreErr>;
+    fn load(&mut self, alloc: Global, name: &str) -> Result<Vec<u8>, StoreErr>
+        ensures ok { IfOk result (λ bytes. holds self.old name.now bytes.items) }
+        ensures io { IsErrOf result StoreErr.Io → lacks self.old name.now };
 }

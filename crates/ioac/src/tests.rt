@@ -1,7 +1,10 @@
+mod bounds;
 mod calls;
+mod changes;
 mod code;
-mod faults;
-mod rows;
+mod commands;
+mod lists;
 mod shelf;
 mod streams;
+mod tables;
 mod tokens;

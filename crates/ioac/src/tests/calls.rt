@@ -18,25 +18,35 @@ use ioa_value::{
 use std::alloc::Global;
 use std::test::Fail;
 
+/// A text, and the action that it spells, as it is printed.
+const ACTIONS: [(&str, Option<&str>); 17] = [
+    (" tick( 0005 ,\ttrue ) \r", Some("tick(5, true)")),
+    ("reset", Some("reset")),
+    (
+        "a_1(-9223372036854775808)",
+        Some("a_1(-9223372036854775808)"),
+    ),
+    ("a(9223372036854775807)", Some("a(9223372036854775807)")),
+    ("a(-0,-007,false)", Some("a(0, -7, false)")),
+    ("tick(9223372036854775808)", None),
+    ("tick(-9223372036854775809)", None),
+    ("tick()", None),
+    ("tick(- 5)", None),
+    ("tick(+5)", None),
+    ("tick(5) x", None),
+    ("tick(5", None),
+    ("tick(5,)", None),
+    ("tick(red)", None),
+    ("5", None),
+    ("", None),
+    ("fi", None),
+];
+
 #[test]
 fn reads_and_prints_actions(rt: HostRuntime) -> Result<(), Fail> {
     let alloc = rt.alloc();
     let types = Types::new(alloc)?;
-    let rows: [(&str, Option<&str>); 9] = [
-        (" tick( 0005 ,\ttrue ) \r", Some("tick(5, true)")),
-        ("reset", Some("reset")),
-        (
-            "a_1(-9223372036854775808)",
-            Some("a_1(-9223372036854775808)"),
-        ),
-        ("tick(9223372036854775808)", None),
-        ("tick()", None),
-        ("tick(- 5)", None),
-        ("tick(5) x", None),
-        ("tick(5", None),
-        ("fi", None),
-    ];
-    for (text, wanted) in rows {
+    for (text, wanted) in ACTIONS {
         match read_action(alloc, &types, text.as_bytes())? {
             Some(action) => {
                 let copy = action.try_copy(alloc)?;
@@ -46,17 +56,6 @@ fn reads_and_prints_actions(rt: HostRuntime) -> Result<(), Fail> {
             None => assert!(rt; wanted.is_none(), "{text}"),
         }
     }
-    Ok(())
-}
-
-#[test]
-fn types_have_first_values(rt: HostRuntime) -> Result<(), Fail> {
-    let types = Types::new(rt.alloc())?;
-    let zero = first(rt.alloc(), &types, Ty::INT)?;
-    assert!(rt; same(&zero, &Value::Num(0)));
-    assert!(rt; has_type(&types, &zero, Ty::INT));
-    assert!(rt; !has_type(&types, &zero, Ty::BOOL));
-    assert!(rt; same(&first(rt.alloc(), &types, Ty::BOOL)?, &Value::Truth(false)));
     Ok(())
 }
 
@@ -122,24 +121,23 @@ fn runs_a_program(rt: HostRuntime) -> Result<(), Fail> {
     Ok(())
 }
 
-#[test]
-fn steps_a_program(rt: HostRuntime) -> Result<(), Fail> {
-    let alloc = rt.alloc();
-    let program = counter(alloc)?;
-    let mut system = System::start(alloc, &program)?;
-    assert_eq!(rt;
-        system.step(&action(alloc, "tick", Some(6))?)?,
-        Step::NotEnabled
-    );
-    assert_eq!(rt;
-        system.step(&action(alloc, "tock", None)?)?,
-        Step::NotAnAction
-    );
-    assert_eq!(rt; system.step(&action(alloc, "tick", Some(5))?)?, Step::Next);
-    assert_eq!(rt; system.step(&action(alloc, "tick", Some(6))?)?, Step::Next);
-    assert_eq!(rt; system.states().len(), 1);
-    Ok(())
-}
+/// An operator, two numbers, and its value; without one, a fault.
+const OPERATIONS: [(Op, i64, i64, Option<Value>); 14] = [
+    (Op::Add, 2, 3, Some(Value::Num(5))),
+    (Op::Add, i64::MAX, 0, Some(Value::Num(i64::MAX))),
+    (Op::Add, i64::MAX, i64::MIN, Some(Value::Num(-1))),
+    (Op::Add, i64::MAX, 1, None),
+    (Op::Add, i64::MIN, -1, None),
+    (Op::Sub, 2, 3, Some(Value::Num(-1))),
+    (Op::Sub, -1, i64::MAX, Some(Value::Num(i64::MIN))),
+    (Op::Sub, -1, i64::MIN, Some(Value::Num(i64::MAX))),
+    (Op::Sub, i64::MIN, 1, None),
+    (Op::Sub, 0, i64::MIN, None),
+    (Op::Eq, 2, 2, Some(Value::Truth(true))),
+    (Op::Eq, 2, 3, Some(Value::Truth(false))),
+    (Op::Eq, i64::MIN, i64::MIN, Some(Value::Truth(true))),
+    (Op::Eq, i64::MIN, i64::MAX, Some(Value::Truth(false))),
+];
 
 fn on_numbers(alloc: Global, op: Op, a: i64, b: i64) -> Result<Result<Value, Fault>, OutOfMemory> {
     let types = Types::new(alloc)?;
@@ -147,25 +145,21 @@ fn on_numbers(alloc: Global, op: Op, a: i64, b: i64) -> Result<Result<Value, Fau
 }
 
 #[test]
-fn operators_give_values_or_faults(rt: HostRuntime) -> Result<(), Fail> {
+fn operators_and_types_have_values(rt: HostRuntime) -> Result<(), Fail> {
     let alloc = rt.alloc();
-    let rows: [(Op, i64, i64, Option<Value>); 8] = [
-        (Op::Add, 2, 3, Some(Value::Num(5))),
-        (Op::Add, i64::MAX, 1, None),
-        (Op::Add, i64::MIN, -1, None),
-        (Op::Sub, 2, 3, Some(Value::Num(-1))),
-        (Op::Sub, i64::MIN, 1, None),
-        (Op::Sub, 0, i64::MIN, None),
-        (Op::Eq, 2, 2, Some(Value::Truth(true))),
-        (Op::Eq, 2, 3, Some(Value::Truth(false))),
-    ];
-    for (op, a, b, wanted) in rows {
-        match (on_numbers(alloc, op, a, b)?, wanted) {
-            (Ok(value), Some(wanted)) => assert!(rt; same(&value, &wanted)),
+    for (op, a, b, wanted) in &OPERATIONS {
+        match (on_numbers(alloc, *op, *a, *b)?, wanted) {
+            (Ok(value), Some(wanted)) => assert!(rt; same(&value, wanted), "{a} {b}"),
             (Err(fault), None) => assert_eq!(rt; fault, Fault::Overflow),
-            _ => assert!(rt; false),
+            _ => assert!(rt; false, "{a} {b}"),
         }
     }
+    let types = Types::new(alloc)?;
+    let zero = first(alloc, &types, Ty::INT)?;
+    assert!(rt; same(&zero, &Value::Num(0)));
+    assert!(rt; has_type(&types, &zero, Ty::INT));
+    assert!(rt; !has_type(&types, &zero, Ty::BOOL));
+    assert!(rt; same(&first(alloc, &types, Ty::BOOL)?, &Value::Truth(false)));
     Ok(())
 }
 
@@ -188,11 +182,16 @@ fn moved(alloc: Global, system: &System<'_>, action: &Action) -> Result<Moved, O
 }
 
 #[test]
-fn steps_from_the_participants_states(rt: HostRuntime) -> Result<(), Fail> {
+fn steps_a_program(rt: HostRuntime) -> Result<(), Fail> {
     let alloc = rt.alloc();
     let program = counter(alloc)?;
-    let system = System::start(alloc, &program)?;
-    match moved(alloc, &system, &action(alloc, "tick", Some(5))?)? {
+    let mut system = System::start(alloc, &program)?;
+    let five = action(alloc, "tick", Some(5))?;
+    let six = action(alloc, "tick", Some(6))?;
+    let unknown = action(alloc, "tock", None)?;
+    assert!(rt; matches!(moved(alloc, &system, &six)?, Moved::NotEnabled));
+    assert!(rt; matches!(moved(alloc, &system, &unknown)?, Moved::NotAnAction));
+    match moved(alloc, &system, &five)? {
         Moved::Next(states) => {
             assert_eq!(rt; states.len(), 1);
             let values = states[0].values();
@@ -201,9 +200,10 @@ fn steps_from_the_participants_states(rt: HostRuntime) -> Result<(), Fail> {
         }
         _ => assert!(rt; false),
     }
-    let early = moved(alloc, &system, &action(alloc, "tick", Some(6))?)?;
-    assert!(rt; matches!(early, Moved::NotEnabled));
-    let unknown = moved(alloc, &system, &action(alloc, "tock", None)?)?;
-    assert!(rt; matches!(unknown, Moved::NotAnAction));
+    assert_eq!(rt; system.step(&six)?, Step::NotEnabled);
+    assert_eq!(rt; system.step(&unknown)?, Step::NotAnAction);
+    assert_eq!(rt; system.step(&five)?, Step::Next);
+    assert_eq!(rt; system.step(&six)?, Step::Next);
+    assert_eq!(rt; system.states().len(), 1);
     Ok(())
 }

@@ -1,7 +1,8 @@
 use crate::command::command;
 use crate::store::{Store, StoreErr};
+use crate::tests::tables::column;
 use ioa_log::Counted;
-use std::alloc::{AllocError, Global};
+use std::alloc::Global;
 use std::process::Abort;
 use std::test::Fail;
 
@@ -11,13 +12,22 @@ pub const COUNTER: &str =
     states c: Int := start transitions output tick pre k = c propose k := c eff c := c + 1 \
     input reset eff c := start composition One components A: Counter(5)";
 
+/// The words that most tests give.
+pub const REPLAY: [&str; 3] = ["ioac", "replay", "f"];
+
 /// One file in memory, which has the name `f`.
 #[derive(Drop)]
 pub struct Shelf<'a> {
-    bytes: &'a [u8],
+    pub bytes: &'a [u8],
 }
 
 impl<'a> Store for Shelf<'a> {
+    ghost use Rattle.std.specs.Prelude.{◌≡◌, codes};
+
+    ghost holds = { λ shelf name bytes. (name ≡ codes "f") × (bytes ≡ shelf.bytes.now) };
+
+    ghost lacks = { λ _ name. name ≡ codes "f" → ⊥ };
+
     fn load(&mut self, alloc: Global, name: &str) -> Result<Vec<u8>, StoreErr> {
         if name == "f" {
             Ok(Vec::from_slice(alloc, self.bytes)?)
@@ -27,52 +37,58 @@ impl<'a> Store for Shelf<'a> {
     }
 }
 
+/// What a run of the program is given: the words of its command line, the file `f`, and standard input.
+#[derive(Clone, Copy)]
+pub struct Given<'a> {
+    pub words: &'a [&'a str],
+    pub file: &'a str,
+    pub list: &'a str,
+}
+
 /// What a run of the program has to print, and its exit status.
 #[derive(Clone, Copy)]
-pub struct Wanted {
-    pub output: &'static str,
-    pub errors: &'static str,
+pub struct Wanted<'a> {
+    pub output: &'a str,
+    pub errors: &'a str,
     pub status: u8,
 }
 
-/// Runs the program on a source in the file `f` and on a standard input, and compares what it prints.
+/// The exit status that the column of this number wants.
+pub fn status_in(columns: &[String], number: usize) -> Result<u8, Fail> {
+    Ok(column(columns, number).parse::<u8>()?)
+}
+
+/// Runs the program and compares what it prints. It tells the row that fails.
 pub fn expect(
     rt: &impl Abort,
     alloc: Global,
-    source: &[u8],
-    words: &[&str],
-    list: &[u8],
-    wanted: &Wanted,
+    row: &str,
+    given: &Given<'_>,
+    wanted: &Wanted<'_>,
 ) -> Result<(), Fail> {
-    let mut store = Shelf { bytes: source };
-    let mut input = Counted::new(list);
+    let mut store = Shelf {
+        bytes: given.file.as_bytes(),
+    };
+    let mut input = Counted::new(given.list.as_bytes());
     let mut output = Counted::new(Vec::new(alloc));
     let mut errors = Vec::new(alloc);
     let status = command(
         alloc,
-        words,
+        given.words,
         &mut store,
         &mut input,
         &mut output,
         &mut errors,
     );
     let written: Vec<u8> = output.into_inner();
-    assert!(rt; errors.as_slice() == wanted.errors.as_bytes());
-    assert!(rt; written.as_slice() == wanted.output.as_bytes());
-    assert_eq!(rt; status, wanted.status);
+    assert!(rt;
+        errors.as_slice() == wanted.errors.as_bytes(),
+        "errors in {row}"
+    );
+    assert!(rt;
+        written.as_slice() == wanted.output.as_bytes(),
+        "output in {row}"
+    );
+    assert!(rt; status.number() == wanted.status, "status in {row}");
     Ok(())
-}
-
-/// A text with one part of it replaced by another.
-pub fn replaced(alloc: Global, text: &str, part: &str, by: &str) -> Result<String, AllocError> {
-    let mut out = String::new(alloc);
-    match text.split_once(part) {
-        Some((before, after)) => {
-            out.push_str(before)?;
-            out.push_str(by)?;
-            out.push_str(after)?;
-        }
-        None => out.push_str(text)?,
-    }
-    Ok(out)
 }

@@ -1,7 +1,8 @@
-use crate::failure::Failure;
-use crate::replay::replay_text;
-use crate::tests::shelf::COUNTER;
-use ioa_log::{Counted, Device, LogErr};
+use crate::command::command;
+use crate::status::Status;
+use crate::tests::shelf::{COUNTER, REPLAY, Shelf};
+use ioa_log::{Counted, Device};
+use std::alloc::Global;
 use std::io;
 use std::io::{Read, Write};
 use std::process::Abort;
@@ -76,52 +77,103 @@ const LIST: &[u8; 22] = b"tick(5)\ntick(6)\nreset\n";
 
 const PRINTED: &[u8; 40] = b"tick(5)\ntick(6)\nreset\nend: done after 3\n";
 
-fn assert_failed_device<T>(rt: &impl Abort, answer: &Result<T, Failure>) {
-    assert!(rt; matches!(answer, Err(Failure::List(LogErr::Io))));
+/// Replays the list on a device that fails after so many calls, and the answer is printed on one that takes so many.
+fn replayed(alloc: Global, reads: u64, writes: u64) -> Result<Ran, Fail> {
+    let mut store = Shelf {
+        bytes: COUNTER.as_bytes(),
+    };
+    let mut input = Counted::new(Dripping {
+        bytes: LIST.as_slice(),
+        left: reads,
+    });
+    let mut output = Counted::new(Slow {
+        held: Vec::new(alloc),
+        left: writes,
+    });
+    let mut errors = Vec::new(alloc);
+    let status = command(
+        alloc,
+        REPLAY.as_slice(),
+        &mut store,
+        &mut input,
+        &mut output,
+        &mut errors,
+    );
+    let failures = input.failures().saturating_add(output.failures());
+    Ok(Ran {
+        status,
+        failures,
+        printed: output.into_inner().held,
+        errors,
+    })
+}
+
+/// How a replay on devices ended: its status, how many calls failed, and what was printed.
+#[derive(Drop)]
+struct Ran {
+    status: Status,
+    failures: u64,
+    printed: Vec<u8>,
+    errors: Vec<u8>,
 }
 
 #[test]
-fn fails_with_its_writer(rt: HostRuntime) -> Result<(), Fail> {
+fn fails_with_its_devices(rt: HostRuntime) -> Result<(), Fail> {
     let alloc = rt.alloc();
-    for left in 0..40u64 {
-        let held = Vec::new(alloc);
-        let mut input = Counted::new(LIST.as_slice());
-        let mut output = Counted::new(Slow { held, left });
-        let answer = replay_text(alloc, COUNTER.as_bytes(), None, &mut input, &mut output);
-        assert_failed_device(&rt, &answer);
-        assert_eq!(rt; output.failures(), 1);
-        let held = output.into_inner().held;
-        assert_eq!(rt; held.len() as u64, left);
-        assert!(rt; PRINTED.starts_with(held.as_slice()));
+    for reads in 0..23u64 {
+        let ran = replayed(alloc, reads, 40)?;
+        assert_failed(&rt, &ran);
+        assert!(rt; ran.printed.is_empty());
     }
-    let held = Vec::new(alloc);
-    let mut input = Counted::new(LIST.as_slice());
-    let mut output = Counted::new(Slow { held, left: 40 });
-    let answer = replay_text(alloc, COUNTER.as_bytes(), None, &mut input, &mut output);
-    assert!(rt; answer.is_ok());
-    assert!(rt; output.into_inner().held.as_slice() == PRINTED.as_slice());
+    for writes in 0..40u64 {
+        let ran = replayed(alloc, 23, writes)?;
+        assert_failed(&rt, &ran);
+        assert_eq!(rt; ran.printed.len() as u64, writes);
+        assert!(rt; PRINTED.starts_with(ran.printed.as_slice()));
+    }
+    let ran = replayed(alloc, 23, 40)?;
+    assert_eq!(rt; ran.status, Status::Done);
+    assert_eq!(rt; ran.failures, 0);
+    assert!(rt; ran.printed.as_slice() == PRINTED.as_slice());
+    assert!(rt; ran.errors.is_empty());
     Ok(())
 }
 
-#[test]
-fn fails_with_its_reader(rt: HostRuntime) -> Result<(), Fail> {
-    let alloc = rt.alloc();
-    for left in 0..23u64 {
-        let mut input = Counted::new(Dripping {
-            bytes: LIST.as_slice(),
-            left,
-        });
-        let mut output = Counted::new(Vec::new(alloc));
-        let answer = replay_text(alloc, COUNTER.as_bytes(), None, &mut input, &mut output);
-        assert_failed_device(&rt, &answer);
-        assert_eq!(rt; input.failures(), 1);
-        let written: Vec<u8> = output.into_inner();
-        assert!(rt; written.is_empty());
-    }
+fn assert_failed(rt: &impl Abort, ran: &Ran) {
+    assert_eq!(rt; ran.status, Status::Broken);
+    assert_eq!(rt; ran.failures, 1);
+    assert!(rt; ran.errors.as_slice() == b"L8\n".as_slice());
+}
+
+/// Runs the program on the words where nothing can be printed.
+fn silenced(alloc: Global, words: &[&str]) -> Result<Status, Fail> {
+    let mut store = Shelf {
+        bytes: COUNTER.as_bytes(),
+    };
     let mut input = Counted::new(LIST.as_slice());
     let mut output = Counted::new(Full);
-    let answer = replay_text(alloc, COUNTER.as_bytes(), None, &mut input, &mut output);
-    assert_failed_device(&rt, &answer);
-    assert_eq!(rt; output.failures(), 1);
+    let mut errors = Full;
+    Ok(command(
+        alloc,
+        words,
+        &mut store,
+        &mut input,
+        &mut output,
+        &mut errors,
+    ))
+}
+
+#[test]
+fn fails_where_nothing_is_printed(rt: HostRuntime) -> Result<(), Fail> {
+    let rows: [&[&str]; 5] = [
+        &["ioac", "replay", "f"],
+        &["ioac", "replay", "g"],
+        &["ioac", "replay", "f", "--comp", "Nine"],
+        &["ioac", "--help"],
+        &["ioac"],
+    ];
+    for words in rows {
+        assert_eq!(rt; silenced(rt.alloc(), words)?, Status::Broken);
+    }
     Ok(())
 }

@@ -76,6 +76,21 @@ const SIGNS: [(&str, Terminal); 22] = [
     ("}", Terminal::CloseBrace),
 ];
 
+/// A text that is no list of tokens, and the line at fault.
+const REFUSED: [(&str, u32); 8] = [
+    ("a\n#", 2),
+    ("9223372036854775807 9223372036854775808", 1),
+    (
+        "\n\nabbbbbbbbbbbbbbbbbbbbbbbbbbbbbbbbbbbbbbbbbbbbbbbbbbbbbbbbbbbbbbbb",
+        3,
+    ),
+    ("_a", 1),
+    ("a /", 1),
+    ("a\n\n\\", 3),
+    ("% \u{e9}\n\u{e9}", 2),
+    ("\"", 1),
+];
+
 #[test]
 fn words_and_signs_are_tokens(rt: HostRuntime) -> Result<(), Fail> {
     for (text, terminal) in WORDS.iter().chain(SIGNS.iter()) {
@@ -83,6 +98,13 @@ fn words_and_signs_are_tokens(rt: HostRuntime) -> Result<(), Fail> {
         assert_eq!(rt; tokens.len(), 1, "{text}");
         assert!(rt;
             matches!(&tokens[0].kind, Kind::Terminal(found) if *found == *terminal),
+            "{text}"
+        );
+    }
+    for (text, line) in REFUSED {
+        let refused = lex(rt.alloc(), text.as_bytes());
+        assert!(rt;
+            matches!(refused, Err(Refusal::BadByte(found)) if found == line),
             "{text}"
         );
     }
@@ -101,24 +123,5 @@ fn the_longest_token_is_taken(rt: HostRuntime) -> Result<(), Fail> {
     assert!(rt; matches!(tokens[5].kind, Kind::Terminal(Terminal::Input)));
     assert_eq!(rt; tokens[4].line, 1);
     assert_eq!(rt; tokens[5].line, 2);
-    Ok(())
-}
-
-#[test]
-fn what_is_no_token_is_refused(rt: HostRuntime) -> Result<(), Fail> {
-    let rows: [(&[u8], u32); 5] = [
-        (b"a\n#", 2),
-        (b"9223372036854775807 9223372036854775808", 1),
-        (
-            b"\n\nabbbbbbbbbbbbbbbbbbbbbbbbbbbbbbbbbbbbbbbbbbbbbbbbbbbbbbbbbbbbbbbb",
-            3,
-        ),
-        (b"_a", 1),
-        (b"a /", 1),
-    ];
-    for (text, line) in rows {
-        let refused = lex(rt.alloc(), text);
-        assert!(rt; matches!(refused, Err(Refusal::BadByte(found)) if found == line));
-    }
     Ok(())
 }

@@ -1,0 +1,30 @@
+-- What some command lines ask for, computed from the definition of the command line.
+use Rattle.std.proofs.Common.{◌≡◌, List, [], ◌∷◌, Option, Some, None, refl, codes, option_map}
+use Rattle.clap.specs.Words.{Text, fault_of, first_of, subcommand_of}
+use Rattle.clap.specs.declared.error.kind.ErrorKind.TheVariants as kinds
+use Rattle.clap.proofs.OnLiterals.{clap_on_literals}
+use Rattle.ioac.specs.CommandLine.{ioac_app}
+
+-- the command, its file and its composition
+asked : List Text → Option (Text × Option Text × Option Text)
+asked words = option_map (λ p. (p.0, first_of (codes "FILE") p.1, first_of (codes "comp") p.1)) (subcommand_of ioac_app words)
+
+last_one : asked (codes "ioac" ∷ codes "replay" ∷ codes "f" ∷ []) ≡ Some (codes "replay", Some (codes "f"), None)
+unfolding asked clap_on_literals
+last_one = refl
+
+named_one : asked (codes "ioac" ∷ codes "replay" ∷ codes "--comp" ∷ codes "One" ∷ codes "f" ∷ []) ≡ Some (codes "replay", Some (codes "f"), Some (codes "One"))
+unfolding asked clap_on_literals
+named_one = refl
+
+help : fault_of ioac_app (codes "ioac" ∷ codes "--help" ∷ []) ≡ kinds.DisplayHelp ∷ []
+unfolding clap_on_literals
+help = refl
+
+no_file : fault_of ioac_app (codes "ioac" ∷ codes "replay" ∷ []) ≡ kinds.MissingRequiredArgument ∷ []
+unfolding clap_on_literals
+no_file = refl
+
+no_fault : fault_of ioac_app (codes "ioac" ∷ codes "replay" ∷ codes "f" ∷ []) ≡ []
+unfolding clap_on_literals
+no_fault = refl

@@ -1,0 +1,16 @@
+use Rattle.std.proofs.Common.{◌≡◌, true, ap, ap₂, ◌∙◌, codes}
+use Rattle.std.proofs.lemmas.Result.{IfOk-weaker}
+use Rattle.clap.specs.Words.{App, app_of, new_app, shape_of, with_subcommand}
+use Rattle.clap.specs.Simple.{Shape, app_of_fields, on_top}
+use Rattle.ioac.specs.CommandLine.{bare_app, replay_app}
+use Rattle.ioac.proofs.request.program.Goals as goal
+
+pub returns : goal.returns
+returns c =
+    let named : app_of c.about.result ≡ new_app (codes "ioac") = ap app_of_fields c.about.ensures ∙ c.new.ensures.app in
+    let required = ap app_of_fields c.subcommand_required.ensures ∙ ap (on_top (λ (s : Shape). record s { subcommand_required = true })) named in
+    let helpful = ap app_of_fields c.arg_required_else_help.ensures ∙ ap (on_top (λ (s : Shape). record s { arg_required_else_help = true })) required in
+    let bare : app_of c.disable_help_subcommand.result ≡ bare_app =
+    ap app_of_fields c.disable_help_subcommand.ensures ∙ ap (on_top (λ (s : Shape). record s { disable_help_subcommand = true })) helpful in
+    let sub : shape_of c.in_ok-replay_command.field-0 ≡ replay_app.top = ap (λ (a : App). a.top) c.in_ok-replay_command.ensures.app in
+    IfOk-weaker c.subcommand.result _ _ (λ command h. h.shape c.in_ok-replay_command.ensures.local ∙ ap₂ with_subcommand bare sub) c.subcommand.ensures

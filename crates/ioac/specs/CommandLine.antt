@@ -1,0 +1,40 @@
+-- The command line that the program reads, in the words of the crate that parses it, and what it asks for.
+use Rattle.std.specs.Prelude.{◌≡◌, true, false, List, Option, Some, None, codes}
+use Rattle.std.specs.Option.{option_copied}
+use Rattle.clap.specs.Words.{App, Row, Rule, Text, first_of, new_app, new_rule, subcommand_of, with_rule, with_subcommand}
+use Rattle.clap.specs.Simple.{on_top}
+use Rattle.clap.specs.declared.builder.command.Command.{Command}
+use Rattle.clap.specs.declared.builder.command.Command.TheViews.{out-Command}
+use Rattle.ioac.specs.declared.request.Request.{Request}
+
+-- a word that has to stand
+abbrev pub file_rule : Rule
+file_rule = record (new_rule (codes "FILE")) { required = true }
+
+-- `--comp NAME`
+abbrev pub comp_rule : Rule
+comp_rule = record (new_rule (codes "comp")) { long = Some (codes "comp"); value_names = 1 }
+
+abbrev pub replay_app : App
+replay_app = with_rule (with_rule (new_app (codes "replay")) file_rule) comp_rule
+
+-- a subcommand has to stand; where no word stands, help is given
+abbrev pub bare_app : App
+bare_app = on_top (λ top. record top { subcommand_required = true; arg_required_else_help = true; disable_help_subcommand = true }) (new_app (codes "ioac"))
+
+abbrev pub ioac_app : App
+ioac_app = with_subcommand bare_app replay_app.top
+
+-- no argument is one of the subcommands too
+abbrev pub IsLocal : Command → Type 0
+IsLocal command = (out-Command command).has_globals ≡ false
+
+-- a subcommand with its values, if there is one, asks for this
+abbrev pub IsAskedBy : Option (Text × List Row) → Request → Type 0
+IsAskedBy None request = ⊥
+IsAskedBy (Some found) (Request.Replay file composition) =
+    (found.0 ≡ codes "replay") × (first_of (codes "FILE") found.1 ≡ Some file.now) × (first_of (codes "comp") found.1 ≡ option_copied composition)
+
+-- the words of a command line, the program's own first, ask for this
+abbrev pub IsAsked : List Text → Request → Type 0
+IsAsked words request = IsAskedBy (subcommand_of ioac_app words) request

@@ -1,0 +1,32 @@
+-- What a request comes to, from what files may hold to the bytes that are written.
+use Rattle.std.specs.Prelude.{◌≡◌, ℕ, ◌⊎◌, List, Option, IfSome}
+use Rattle.std.specs.Option.{option_copied}
+use Rattle.std.specs.Io.KnownBytes.{Keeps}
+use Rattle.ioa_value.specs.Actions.{Name}
+use Rattle.ioa_syntax.specs.Runs.{Ending}
+use Rattle.ioac.specs.declared.failure.Failure.{Failure}
+use Rattle.ioac.specs.declared.request.Request.{Request}
+use Rattle.ioac.specs.declared.store.StoreErr.{StoreErr}
+use Rattle.ioac.specs.Headline.{IsReplay}
+use Rattle.ioac.specs.Failing.{IsFailure, IsUnwritten}
+
+-- why nothing is served of a file that was not read
+abbrev pub failure_of : StoreErr → Failure
+failure_of StoreErr.Io = Failure.Io
+failure_of StoreErr.OutOfMemory = Failure.OutOfMemory
+
+-- the file may hold a text such that the list was replayed in the composition that is asked for, the last one where none is
+abbrev pub IsServed : (Name → List ℕ → Type 0) → Request → Option (List ℕ) → Ending → Option (List ℕ) → Option (List ℕ) → Type 0
+IsServed holds (Request.Replay file composition) bytes ending before after =
+    (text : List ℕ) × holds file.now text × IfSome bytes (λ xs. IsReplay text (option_copied composition) xs ending before after)
+
+-- a load of the file may fail, or memory is short, and nothing was written
+abbrev pub IsUnread : Type 0 → Option (List ℕ) → Option (List ℕ) → Failure → Type 0
+IsUnread lacks before after e = (((e ≡ Failure.Io) × lacks) ⊎ (e ≡ Failure.OutOfMemory)) × Keeps before after
+
+-- the file is not read, or it may hold a text with which the replay fails so
+abbrev pub IsUnserved : (Name → List ℕ → Type 0) → (Name → Type 0) → Request → Option (List ℕ) → Type 0 → Option (List ℕ) → Option (List ℕ) → Failure → Type 0
+IsUnserved holds lacks (Request.Replay file composition) bytes failed before after e =
+    IsUnread (lacks file.now) before after e
+    ⊎ ((text : List ℕ) × holds file.now text × IsFailure text (option_copied composition) bytes failed e
+    × IsUnwritten text (option_copied composition) bytes before after e)

@@ -1,0 +1,51 @@
+-- The exit statuses: their numbers, and which one a run has.
+use Rattle.std.specs.Prelude.{ℕ}
+use Rattle.ioa_lex.specs.declared.refusal.Refusal.{Refusal}
+use Rattle.ioa_syntax.specs.Runs.{Ending, done, not_an_action_at, not_enabled_at, fault_at}
+use Rattle.ioa_log.specs.declared.failure.LogErr.{LogErr}
+use Rattle.ioac.specs.declared.failure.Failure.{Failure}
+use Rattle.ioac.specs.declared.status.Status.{Status}
+
+abbrev pub number_of : Status → ℕ
+number_of Status.Done = 0
+number_of Status.Refused = 1
+number_of Status.BadCommandLine = 2
+number_of Status.Faulted = 3
+number_of Status.ListRefused = 4
+number_of Status.Broken = 5
+
+-- of a list that was replayed to this end
+abbrev pub ending_status : Ending → Status
+ending_status (done n) = Status.Done
+ending_status (not_an_action_at i) = Status.ListRefused
+ending_status (not_enabled_at i) = Status.ListRefused
+ending_status (fault_at c f i) = Status.Faulted
+
+-- of a source that is refused
+abbrev pub refusal_status : Refusal → Status
+refusal_status Refusal.TextTooLong = Status.Refused
+refusal_status (Refusal.BadByte line) = Status.Refused
+refusal_status (Refusal.Syntax line) = Status.Refused
+refusal_status (Refusal.TooDeep line) = Status.Refused
+refusal_status (Refusal.DuplicateName line) = Status.Refused
+refusal_status (Refusal.UnknownName line) = Status.Refused
+refusal_status (Refusal.TypeMismatch line) = Status.Refused
+refusal_status (Refusal.BadSignature line) = Status.Refused
+refusal_status (Refusal.NoProposal line) = Status.Refused
+refusal_status (Refusal.TooMany line) = Status.Refused
+refusal_status (Refusal.TooWide line) = Status.Refused
+refusal_status (Refusal.ArgMismatch i) = Status.Refused
+refusal_status (Refusal.CrashName i) = Status.Refused
+refusal_status (Refusal.Clash i j name) = Status.Refused
+refusal_status (Refusal.HiddenUnknown name) = Status.Refused
+refusal_status (Refusal.StartFault i fault) = Status.Refused
+refusal_status Refusal.NoComposition = Status.Refused
+refusal_status Refusal.OutOfMemory = Status.Broken
+
+abbrev pub failure_status : Failure → Status
+failure_status (Failure.Refused refusal) = refusal_status refusal
+failure_status (Failure.List (LogErr.BadLine line)) = Status.ListRefused
+failure_status (Failure.List LogErr.Io) = Status.Broken
+failure_status (Failure.List LogErr.OutOfMemory) = Status.Broken
+failure_status Failure.Io = Status.Broken
+failure_status Failure.OutOfMemory = Status.Broken

@@ -1,0 +1,28 @@
+ghost use Rattle.std.specs.Prelude.{◌≡◌};
+/// How the program exits.
+#[derive(Clone, Copy, Debug, PartialEq, Eq)]
+pub enum Status {
+    /// What was asked is done.
+    Done = 0,
+    /// The source or its composition is refused.
+    Refused = 1,
+    /// The command line is not one that the program reads.
+    BadCommandLine = 2,
+    /// The list ended by a fault.
+    Faulted = 3,
+    /// The list is refused, or it ended not enabled or not an action.
+    ListRefused = 4,
+    /// Memory was short, a device failed, or a file could not be read.
+    Broken = 5,
+}
+
+impl Status {
+    ghost use Rattle.ioac.specs.Statuses.{number_of};
+
+    /// The number that the process exits with.
+    pub fn number(self) -> u8
+        ensures { result ≡ number_of self }
+    {
+        self as u8
+    }
+}

@@ -1,0 +1,55 @@
+use crate::tests::shelf::{Given, Wanted, expect, status_in};
+use crate::tests::tables::{column, columns, is_row};
+use std::test::Fail;
+
+/// Two compositions of one counter.
+const TWO: &str =
+    "automaton Counter(start: Int) signature output tick(k: Int) states c: Int := start \
+    transitions output tick pre k = c propose k := c eff c := c + 1 \
+    composition One components A: Counter(1) composition Two components A: Counter(2)";
+
+/// The words after the program's name, a list, what is printed, what is told of errors, and the exit status.
+const ROWS: &str = "\
+replay f | tick(2) | tick(2)^end: done after 1^ |  | 0
+replay f | tick(1) | end: not enabled at 0^ |  | 4
+replay f --comp One | tick(1) | tick(1)^end: done after 1^ |  | 0
+replay --comp=One f | tick(2) | end: not enabled at 0^ |  | 4
+replay --comp Two -- f | tick(2) | tick(2)^end: done after 1^ |  | 0
+replay f --comp Nine |  |  | E17^ | 1
+replay f --comp Counter |  |  | E17^ | 1
+replay g |  |  | io^ | 5
+--help |  | Compiles I/O automata and replays lists of their actions^^Usage: ioac <COMMAND>^^Commands:^  replay  Performs a list of actions, read on standard input, and prints its external trace^^Options:^  -h, --help  Print help^ |  | 0
+-h |  | Compiles I/O automata and replays lists of their actions^^Usage: ioac <COMMAND>^^Commands:^  replay  Performs a list of actions, read on standard input, and prints its external trace^^Options:^  -h, --help  Print help^ |  | 0
+replay --help |  | Performs a list of actions, read on standard input, and prints its external trace^^Usage: ioac replay [OPTIONS] <FILE>^^Arguments:^  <FILE>  A source of I/O automata^^Options:^      --comp <NAME>  The composition to take; without it, the source's last one^  -h, --help         Print help^^The list has one action a line, as `tick(5)`. Blank lines and lines that begin with % are skipped.^Exit status: 0 done, 1 source refused, 2 bad command line, 3 ended by a fault,^4 list refused, or ended not enabled or not an action, 5 memory or a device.^ |  | 0
+replay f -h |  | Performs a list of actions, read on standard input, and prints its external trace^^Usage: ioac replay [OPTIONS] <FILE>^^Arguments:^  <FILE>  A source of I/O automata^^Options:^      --comp <NAME>  The composition to take; without it, the source's last one^  -h, --help         Print help^^The list has one action a line, as `tick(5)`. Blank lines and lines that begin with % are skipped.^Exit status: 0 done, 1 source refused, 2 bad command line, 3 ended by a fault,^4 list refused, or ended not enabled or not an action, 5 memory or a device.^ |  | 0
+ |  |  | Compiles I/O automata and replays lists of their actions^^Usage: ioac <COMMAND>^^Commands:^  replay  Performs a list of actions, read on standard input, and prints its external trace^^Options:^  -h, --help  Print help^ | 2
+compile f |  |  | error: unrecognized subcommand 'compile'^^Usage: ioac <COMMAND>^^For more information, try '--help'.^ | 2
+replay |  |  | error: the following required arguments were not provided:^  <FILE>^^Usage: ioac replay <FILE>^^For more information, try '--help'.^ | 2
+replay f g |  |  | error: unexpected argument 'g' found^^Usage: ioac replay [OPTIONS] <FILE>^^For more information, try '--help'.^ | 2
+replay f --comp |  |  | error: a value is required for '--comp <NAME>' but none was supplied^^For more information, try '--help'.^ | 2
+";
+
+#[test]
+fn answers_command_lines(rt: HostRuntime) -> Result<(), Fail> {
+    let alloc = rt.alloc();
+    for row in ROWS.lines().filter(|line| is_row(line)) {
+        let columns = columns(alloc, row)?;
+        let mut words = Vec::new(alloc);
+        words.push("ioac")?;
+        for word in column(&columns, 0).split_whitespace() {
+            words.push(word)?;
+        }
+        let given = Given {
+            words: words.as_slice(),
+            file: TWO,
+            list: column(&columns, 1),
+        };
+        let wanted = Wanted {
+            output: column(&columns, 2),
+            errors: column(&columns, 3),
+            status: status_in(&columns, 4)?,
+        };
+        expect(&rt, alloc, row, &given, &wanted)?;
+    }
+    Ok(())
+}
