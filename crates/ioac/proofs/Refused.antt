@@ -1,13 +1,17 @@
 -- From the clauses of the layers to why a replay does not come to an end.
-use Rattle.std.proofs.Common.{◌≡◌, ◌⊎◌, ℕ, inl, inr, List, Option, Some, None, Result, Err, IfErr, IfSome, refl, sym, subst}
+use Rattle.std.proofs.Common.{◌≡◌, ◌⊎◌, ℕ, inl, inr, List, Option, Some, None, Result, Err, IfErr, IfSome, refl, sym, ap, ◌∙◌, subst}
 use Rattle.std.specs.Result.{IsErrOf}
 use Rattle.ioa_value.specs.Actions.{Name}
+use Rattle.ioa_value.specs.Lists as lists
 use Rattle.ioa_lex.specs.declared.refusal.Refusal.{Refusal}
 use Rattle.ioa_lex.specs.declared.refusal.Refusal.TheVariants as refusals
 use Rattle.ioa_syntax.specs.Tree.{SourceTree, CompositionTree}
+use Rattle.ioa_syntax.specs.Types.{types_of}
 use Rattle.ioa_syntax.specs.WellFormed.{WellFormed}
 use Rattle.ioa_syntax.specs.Compositions.{Composed, picked, IsComposed, components_of, starts_of}
 use Rattle.ioa_compose.specs.Refusals as compositions
+use Rattle.ioa_compile.specs.Programs.{Prog}
+use Rattle.ioa_compile.specs.Means.{Means}
 use Rattle.std.specs.Io.KnownBytes.{Keeps}
 use Rattle.ioa_log.specs.declared.failure.LogErr.{LogErr}
 use Rattle.ioa_log.specs.Replays.{BeginsReplay}
@@ -30,6 +34,25 @@ pub refused_so : {T : Type 0} (r : Result T Failure) (y : Failure) (x : Refusal)
 refused_so r y x text name bytes failed is of h =
     subst (λ q. IfErr q (λ e. IsFailure text name bytes failed e)) (sym is) (subst (IsFailure text name bytes failed) (sym of) h)
 
+-- a list that is refused, or a device that failed
+pub failed_by : (text : List ℕ) (name : Option Name) (bytes : Option (List ℕ)) (failed : Type 0) (s u : SourceTree) (c : Composed) (p : Prog) (x : LogErr) {T : Type 0}
+    → Spells text s → u ≡ s → WellFormed s
+    → ((t : CompositionTree) × (picked u name ≡ Some t) × IsComposed u t c)
+    → Means p c
+    → ((n : ℕ) → IsErrOf {T = T} (Err x) (LogErr.BadLine n) → IfSome bytes (λ xs. lists.BadLine p.types xs n))
+    → (IsErrOf {T = T} (Err x) LogErr.Io → failed)
+    → IsFailure text name bytes failed (Failure.List x)
+failed_by text name bytes failed s u c p LogErr.OutOfMemory found same well chosen means bad io = tt
+failed_by text name bytes failed s u c p LogErr.Io found same well chosen means bad io = io refl
+failed_by text name bytes failed s u c p (LogErr.BadLine n) found same well chosen means bad io =
+    let types : p.types ≡ types_of s = means.types ∙ chosen.2.types ∙ ap types_of same in
+    (s, found, well, subst (λ ts. IfSome bytes (λ xs. lists.BadLine ts xs n)) types (bad n refl))
+
+pub failed_so : {T : Type 0} (r : Result T Failure) (y : Failure) (x : LogErr) (text : List ℕ) (name : Option Name) (bytes : Option (List ℕ)) (failed : Type 0)
+    → r ≡ Err y → y ≡ Failure.List x → IsFailure text name bytes failed (Failure.List x) → IfErr r (λ e. IsFailure text name bytes failed e)
+failed_so r y x text name bytes failed is of h =
+    subst (λ q. IfErr q (λ e. IsFailure text name bytes failed e)) (sym is) (subst (IsFailure text name bytes failed) (sym of) h)
+
 pub same_refusal : {T : Type 0} (x y : Refusal) → IsErrOf {T = T} (Err x) y → x ≡ y
 same_refusal x y h = cc
 
@@ -39,13 +62,13 @@ pub unwritten_by : (text : List ℕ) (name : Option Name) (bytes before after : 
     → ((t : CompositionTree) × (picked u name ≡ Some t) × IsComposed u t c)
     → ((n : ℕ) → IsErrOf {T = T} (Err x) (LogErr.BadLine n) → Keeps before after)
     → (IsErrOf {T = T} (Err x) LogErr.OutOfMemory → Keeps before after)
-    → (IsErrOf {T = T} (Err x) LogErr.Io → Keeps before after ⊎ IfSome bytes (λ xs. BeginsReplay c.hidden (components_of c) (starts_of c) xs before after))
+    → (IsErrOf {T = T} (Err x) LogErr.Io → Keeps before after ⊎ IfSome bytes (λ xs. BeginsReplay c.types c.hidden (components_of c) (starts_of c) xs before after))
     → IsUnwritten text name bytes before after (Failure.List x)
 unwritten_by text name bytes before after s u c (LogErr.BadLine n) found same well chosen bad memory io = bad n refl
 unwritten_by text name bytes before after s u c LogErr.OutOfMemory found same well chosen bad memory io = memory refl
 unwritten_by text name bytes before after s u c LogErr.Io found same well chosen bad memory io = elim (io refl) [ inl k ↦ inl k | inr b ↦ inr (go bytes b) ]
   where
-    go : (o : Option (List ℕ)) → IfSome o (λ xs. BeginsReplay c.hidden (components_of c) (starts_of c) xs before after) → IfSome o (λ xs. Begins text name xs before after)
+    go : (o : Option (List ℕ)) → IfSome o (λ xs. BeginsReplay c.types c.hidden (components_of c) (starts_of c) xs before after) → IfSome o (λ xs. Begins text name xs before after)
     go None b = tt
     go (Some xs) b = record {
       source = s;

@@ -19,7 +19,7 @@ pub replayed : (text : List ℕ) (name : Option Name) (o : Option (List ℕ)) (e
     → u ≡ s → WellFormed s
     → ((t : CompositionTree) × (picked u name ≡ Some t) × IsComposed u t c)
     → Means p c
-    → ((d : Composed) → Means p d → IfSome o (λ bytes. Replays d.hidden (components_of d) (starts_of d) bytes end before after))
+    → ((d : Composed) → Means p d → IfSome o (λ bytes. Replays d.types d.hidden (components_of d) (starts_of d) bytes end before after))
     → IfSome o (λ bytes. IsReplay text name bytes end before after)
 replayed text name None end before after s u c p found same well chosen means runs = tt
 replayed text name (Some bytes) end before after s u c p found same well chosen means runs = record {

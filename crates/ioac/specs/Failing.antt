@@ -2,7 +2,6 @@
 use Rattle.std.specs.Prelude.{◌≡◌, ℕ, ◌⊎◌, IsTrue, List, Option, Some, None, IfSome}
 use Rattle.std.specs.Io.KnownBytes.{Keeps}
 use Rattle.ioa_value.specs.Actions.{Name}
-use Rattle.ioa_value.specs.Typing.{basic_types}
 use Rattle.ioa_value.specs.Lists as lists
 use Rattle.ioa_lex.specs.declared.refusal.Refusal.{Refusal}
 use Rattle.ioa_lex.specs.declared.refusal.Refusal.TheVariants as refusals
@@ -10,6 +9,7 @@ use Rattle.ioa_lex.specs.Tokens.{Tok}
 use Rattle.ioa_lex.specs.Lexing.{Lexes}
 use Rattle.ioa_syntax.specs.Tree.{SourceTree, CompositionTree}
 use Rattle.ioa_syntax.specs.Source as texts
+use Rattle.ioa_syntax.specs.Types.{types_of}
 use Rattle.ioa_syntax.specs.Source.{plain}
 use Rattle.ioa_syntax.specs.Grammar.{SpellsSource}
 use Rattle.ioa_syntax.specs.WellFormed.{WellFormed}
@@ -38,11 +38,15 @@ abbrev pub IsRefusedSource : List ℕ → Option Name → Refusal → Type 0
 IsRefusedSource text name r =
     (r ≡ refusals.OutOfMemory) ⊎ (texts.IsRefused text r ⊎ (IsIllFormed text r ⊎ IsUncomposed text name r))
 
+-- the first line that is no action, whose values have the source's types, has this number
+abbrev pub IsBadList : List ℕ → Option (List ℕ) → ℕ → Type 0
+IsBadList text bytes n = (s : SourceTree) × Spells text s × WellFormed s × IfSome bytes (λ xs. lists.BadLine (types_of s) xs n)
+
 -- The source is refused; or the first line of the list that is no action has this number; or a device failed. Memory may be
 -- short at any time, and no file is read.
 abbrev pub IsFailure : List ℕ → Option Name → Option (List ℕ) → Type 0 → Failure → Type 0
 IsFailure text name bytes failed (Failure.Refused r) = IsRefusedSource text name r
-IsFailure text name bytes failed (Failure.List (LogErr.BadLine n)) = IfSome bytes (λ xs. lists.BadLine basic_types xs n)
+IsFailure text name bytes failed (Failure.List (LogErr.BadLine n)) = IsBadList text bytes n
 IsFailure text name bytes failed (Failure.List LogErr.Io) = failed
 IsFailure text name bytes failed (Failure.List LogErr.OutOfMemory) = Unit {0}
 IsFailure text name bytes failed Failure.Io = ⊥
@@ -57,7 +61,7 @@ pub record Begins (text : List ℕ) (name : Option Name) (bytes : List ℕ) (bef
   pub well_formed : WellFormed source
   pub picks : picked source name ≡ Some tree
   pub is_composed : IsComposed source tree composed
-  pub begins : BeginsReplay composed.hidden (components_of composed) (starts_of composed) bytes before after
+  pub begins : BeginsReplay composed.types composed.hidden (components_of composed) (starts_of composed) bytes before after
 
 -- nothing was written, or, where a device failed, no more than a beginning of the text
 abbrev pub IsUnwritten : List ℕ → Option Name → Option (List ℕ) → Option (List ℕ) → Option (List ℕ) → Failure → Type 0

@@ -24,4 +24,4 @@ pub record IsReplay (text : List ℕ) (name : Option Name) (bytes : List ℕ) (e
   pub well_formed : WellFormed source
   pub picks : picked source name ≡ Some tree
   pub is_composed : IsComposed source tree composed
-  pub replays : Replays composed.hidden (components_of composed) (starts_of composed) bytes ending before after
+  pub replays : Replays composed.types composed.hidden (components_of composed) (starts_of composed) bytes ending before after

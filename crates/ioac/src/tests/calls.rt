@@ -1,18 +1,19 @@
 ghost use Rattle.std.specs.Prelude.{◌≡◌, ◌<◌, length, IfOk};
 ghost use Rattle.ioa_value.specs.Actions.{act_of};
+ghost use Rattle.ioa_syntax.specs.Steps as steps;
 ghost use Rattle.ioa_compile.specs.Tables.{tabled};
 ghost use Rattle.ioa_system.specs.Participants.{taken};
 ghost use Rattle.ioa_system.specs.Systems.{slot_types, types_of};
 
-use crate::tests::shelf::COUNTER;
+use crate::tests::shelf::{COUNTER, basic};
 use ioa_check::check;
 use ioa_compile::{Program, compile};
 use ioa_compose::compose;
-use ioa_node::NodeState;
+use ioa_node::{NodeState, state_values};
 use ioa_syntax::{Refusal, parse, print};
 use ioa_system::{End, Moved, Step, System, is_external, owner, participants, run_list, step_from};
 use ioa_value::{
-    Action, Fault, Op, OutOfMemory, Ty, Types, Value, apply, first, has_type, print_action,
+    Action, Fault, Op, OutOfMemory, Ty, Value, apply, first, has_type, print_action,
     read_action, same,
 };
 use std::alloc::Global;
@@ -45,7 +46,7 @@ const ACTIONS: [(&str, Option<&str>); 17] = [
 #[test]
 fn reads_and_prints_actions(rt: HostRuntime) -> Result<(), Fail> {
     let alloc = rt.alloc();
-    let types = Types::new(alloc)?;
+    let types = basic(alloc)?;
     for (text, wanted) in ACTIONS {
         match read_action(alloc, &types, text.as_bytes())? {
             Some(action) => {
@@ -115,7 +116,7 @@ fn runs_a_program(rt: HostRuntime) -> Result<(), Fail> {
     assert_eq!(rt; run.end, End::NotEnabled(2));
     assert_eq!(rt; run.trace.len(), 2);
     assert_eq!(rt; run.states.len(), 1);
-    let values = run.states[0].values();
+    let values = state_values(alloc, &run.states[0])?;
     assert_eq!(rt; values.len(), 1);
     assert!(rt; same(&values[0], &Value::Num(5)));
     Ok(())
@@ -140,7 +141,7 @@ const OPERATIONS: [(Op, i64, i64, Option<Value>); 14] = [
 ];
 
 fn on_numbers(alloc: Global, op: Op, a: i64, b: i64) -> Result<Result<Value, Fault>, OutOfMemory> {
-    let types = Types::new(alloc)?;
+    let types = basic(alloc)?;
     apply(alloc, &types, op, &[Value::Num(a), Value::Num(b)])
 }
 
@@ -154,7 +155,7 @@ fn operators_and_types_have_values(rt: HostRuntime) -> Result<(), Fail> {
             _ => assert!(rt; false, "{a} {b}"),
         }
     }
-    let types = Types::new(alloc)?;
+    let types = basic(alloc)?;
     let zero = first(alloc, &types, Ty::INT)?;
     assert!(rt; same(&zero, &Value::Num(0)));
     assert!(rt; has_type(&types, &zero, Ty::INT));
@@ -165,7 +166,7 @@ fn operators_and_types_have_values(rt: HostRuntime) -> Result<(), Fail> {
 
 // Equals of the states of the action's participants, in order.
 fn lent(alloc: Global, system: &System<'_>, action: &Action) -> Result<Vec<NodeState>, OutOfMemory>
-    ensures { IfOk result (λ lent. types_of lent.items ≡ taken (act_of action.now) (tabled system.now.program) (slot_types system.now.program.members)) }
+    ensures { IfOk result (λ lent. types_of lent.items ≡ taken (steps.participants (tabled system.now.program) (act_of action.now)) (slot_types system.now.program.members)) }
 {
     let mut lent = Vec::new(alloc);
     for i in &participants(alloc, system.program(), action)? {
@@ -194,7 +195,7 @@ fn steps_a_program(rt: HostRuntime) -> Result<(), Fail> {
     match moved(alloc, &system, &five)? {
         Moved::Next(states) => {
             assert_eq!(rt; states.len(), 1);
-            let values = states[0].values();
+            let values = state_values(alloc, &states[0])?;
             assert_eq!(rt; values.len(), 1);
             assert!(rt; same(&values[0], &Value::Num(6)));
         }

@@ -1,7 +1,11 @@
+ghost use Rattle.std.specs.Prelude.{◌≡◌, IfOk};
+ghost use Rattle.ioa_value.specs.Table as tables;
+
 use crate::command::command;
 use crate::store::{Store, StoreErr};
 use crate::tests::tables::column;
 use ioa_log::Counted;
+use ioa_value::{Declarations, OutOfMemory, Types};
 use std::alloc::Global;
 use std::process::Abort;
 use std::test::Fail;
@@ -14,6 +18,13 @@ pub const COUNTER: &str =
 
 /// The words that most tests give.
 pub const REPLAY: [&str; 3] = ["ioac", "replay", "f"];
+
+/// Bool and Int alone.
+pub fn basic(alloc: Global) -> Result<Types, OutOfMemory>
+    ensures { IfOk result (λ t. t ≡ tables.basic) }
+{
+    Declarations::new(alloc)?.finish(alloc)
+}
 
 /// One file in memory, which has the name `f`.
 #[derive(Drop)]
