@@ -106,7 +106,8 @@ abbrev pub AreEntries : MemberCode → List EntryCode → Type 0
 AreEntries m [] = Unit {0}
 AreEntries m (e ∷ es) = IsEntry m e × AreEntries m es
 
--- the component's name is legal, it has these types, its variables start with values of theirs, and its entries have different names
+-- the component's name is legal, it has these types, its variables start with values of theirs, and its entries have different
+-- names
 pub record IsMember (types : Table) (m : MemberCode) : Type 0 where
   pub legal : IsName m.name
   pub types_are : m.start.table ≡ types
@@ -124,8 +125,8 @@ AreMembers types (m ∷ ms) = IsMember types m × AreMembers types ms
 abbrev pub is_output_of : Prog → Name → Bool
 is_output_of p x = list_any (λ m. list_any (λ e. is_output (Some e.kind) && bytes_eq e.name x) m.entries) p.members
 
--- what a program keeps: its name is legal, the components have one table of types and different names and are compatible, and the hidden names
--- are different outputs'
+-- what a program keeps: its name is legal, the components have one table of types and different names and are compatible, and
+-- the hidden names are different outputs'
 pub record IsProgram (p : Prog) : Type 0 where
   pub types : AreTypes p.types
   pub legal : IsName p.name

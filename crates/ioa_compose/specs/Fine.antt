@@ -40,7 +40,8 @@ component_limits = LIMITS
 abbrev pub is_output_of : Composed → Name → Bool
 is_output_of c x = list_any (λ m. list_any (λ e. is_output (Some e.kind) && bytes_eq e.name x) m.instance.automaton.entries) c.members
 
--- what a composition keeps: its name is legal, the components have one table of types and different names, and so have the hidden outputs
+-- what a composition keeps: its name is legal, the components have one table of types and different names, and so have the
+-- hidden outputs
 pub record IsSound (c : Composed) : Type 0 where
   pub types : AreTypes c.types
   pub legal : IsName c.name
