@@ -1,5 +1,6 @@
 ghost use Rattle.std.specs.Prelude.{◌≡◌, ◌<◌, length, IfOk};
 ghost use Rattle.ioa_value.specs.Actions.{act_of};
+ghost use Rattle.ioa_syntax.specs.Steps as steps;
 ghost use Rattle.ioa_compile.specs.Tables.{tabled};
 ghost use Rattle.ioa_system.specs.Participants.{taken};
 ghost use Rattle.ioa_system.specs.Systems.{slot_types, types_of};
@@ -171,7 +172,7 @@ fn operators_give_values_or_faults(rt: HostRuntime) -> Result<(), Fail> {
 
 // Equals of the states of the action's participants, in order.
 fn lent(alloc: Global, system: &System<'_>, action: &Action) -> Result<Vec<NodeState>, OutOfMemory>
-    ensures { IfOk result (λ lent. types_of lent.items ≡ taken (act_of action.now) (tabled system.now.program) (slot_types system.now.program.members)) }
+    ensures { IfOk result (λ lent. types_of lent.items ≡ taken (steps.participants (tabled system.now.program) (act_of action.now)) (slot_types system.now.program.members)) }
 {
     let mut lent = Vec::new(alloc);
     for i in &participants(alloc, system.program(), action)? {

@@ -2,7 +2,6 @@ use Rattle.std.proofs.Common.{◌≡◌, ◌+◌, ℕ, List, [], ◌∷◌, ◌+
 use Rattle.std.specs.Global.{Global}
 use Rattle.std.specs.Option.{option_map}
 use Rattle.std.specs.Prelude.{slice_get}
-use Rattle.std.specs.List.{flat_map}
 use Rattle.std.proofs.lemmas.List.{take_all, map-append}
 use Rattle.std.proofs.lemmas.Option.{slice_get-map, slice_get-get_or, slice_get_past}
 use Rattle.ioa_node.specs.declared.state.NodeState.{NodeState}
@@ -10,8 +9,9 @@ use Rattle.ioa_compile.specs.Programs.{MemberCode}
 use Rattle.ioa_value.specs.Actions.{act_of}
 use Rattle.ioa_syntax.specs.Steps.{participants}
 use Rattle.ioa_compile.specs.Tables.{tabled}
+use Rattle.ioa_system.specs.Participants.{taken}
 use Rattle.ioa_system.specs.Systems.{slot_types, types_of}
-use Rattle.ioac.proofs.Lent.{found, taken_found, found_more}
+use Rattle.ioac.proofs.Lent.{taken_more}
 use Rattle.ioac.proofs.tests.calls.lent.Goals.{in-Some+in_ok-try_copy+in_ok-push, in_default}
 use Rattle.ioac.proofs.tests.calls.lent.Goals as goal
 
@@ -25,13 +25,13 @@ loop-i-preserved c = elim c.match-get.branch [
       let after : types_of c.match-get.lent.items ≡ types_of c.loop-i.lent.items ++ x.types ∷ [] =
       ap (λ (l : Vec NodeState Global). types_of l.items) w.lent-is ∙ ap types_of w.in_ok-push.ensures.items
       ∙ map-append (λ n. n.types) c.loop-i.lent.items (w.in_ok-try_copy.field-0 ∷ []) ∙ ap (λ n. types_of c.loop-i.lent.items ++ n.types ∷ []) w.in_ok-try_copy.ensures in
-      found_more (slot_types ms) (types_of c.loop-i.lent.items) (types_of c.match-get.lent.items) is c.loop-i.i-index i (Some x.types) (omega arith) refl here c.loop-i.invariant after
+      taken_more (slot_types ms) (types_of c.loop-i.lent.items) (types_of c.match-get.lent.items) is c.loop-i.i-index i (Some x.types) (omega arith) refl here c.loop-i.invariant after
   | in_default w ↦
       let i : ℕ = get_or is c.loop-i.i-index 0 in
       let here : slice_get (slot_types ms) i ≡ None = typed i ∙ ap (option_map (λ n. n.types)) (slice_get_past states i w.in_default.ensures.lookup.3) in
       let after : types_of c.match-get.lent.items ≡ types_of c.loop-i.lent.items ++ [] =
       ap (λ (l : Vec NodeState Global). types_of l.items) w.lent-is ∙ sym (append-nil (types_of c.loop-i.lent.items)) in
-      found_more (slot_types ms) (types_of c.loop-i.lent.items) (types_of c.match-get.lent.items) is c.loop-i.i-index i None (omega arith) refl here c.loop-i.invariant after
+      taken_more (slot_types ms) (types_of c.loop-i.lent.items) (types_of c.match-get.lent.items) is c.loop-i.i-index i None (omega arith) refl here c.loop-i.invariant after
 ]
   where
     is : List ℕ
@@ -52,5 +52,4 @@ returns c =
     let xs = c.deref-i-items.result.now in
     let all = take_all c.loop-i.i-index xs (omega arith) in
     let numbers = c.deref-i-items.ensures.value ∙ c.in_ok-participants.ensures ∙ ap (λ q. participants (tabled q) (act_of c.args.action.now)) c.program.ensures in
-    c.loop-i.invariant ∙ ap (flat_map (found (slot_types p.members))) (all ∙ numbers)
-    ∙ taken_found (act_of c.args.action.now) p.members (slot_types p.members) 0 (λ i. let e : 0 + i ≡ i = omega arith in ap (slice_get (slot_types p.members)) e)
+    c.loop-i.invariant ∙ ap (λ ns. taken ns (slot_types p.members)) (all ∙ numbers)
