@@ -24,4 +24,4 @@ pub use operator::{Op, apply};
 pub use reading::read_action;
 pub use types::{Types, first, has_type};
 pub use value::{Ty, Value, copies, same};
-pub use writing::print_action;
+pub use writing::{print_action, push_action};

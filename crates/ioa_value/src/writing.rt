@@ -11,12 +11,21 @@ use std::alloc::Global;
 
 /// The one spelling of an action: its name, and for one value or more `(`, the values parted by
 /// `, `, and `)`.
-pub fn print_action(alloc: Global, _types: &Types, action: &Action) -> Result<String, OutOfMemory>
+pub fn print_action(alloc: Global, types: &Types, action: &Action) -> Result<String, OutOfMemory>
     ensures { IfOk result (λ text. string_bytes text ≡ written_action (act_of action.now)) }
 {
-    let mut text = String::from_str(alloc, action.name.as_str())?;
-    push_values(&mut text, &action.vals)?;
+    let mut text = String::new(alloc);
+    push_action(&mut text, types, action)?;
     Ok(text)
+}
+
+/// Puts the one spelling of an action at the text's end.
+pub fn push_action(text: &mut String, _types: &Types, action: &Action) -> Result<(), OutOfMemory>
+    ensures { OnOk result (string_bytes text.new ≡ string_bytes text.old ++ written_action (act_of action.now)) }
+{
+    text.push_str(action.name.as_str())?;
+    push_values(text, &action.vals)?;
+    Ok(())
 }
 
 fn push_values(text: &mut String, values: &[Value]) -> Result<(), OutOfMemory>
