@@ -6,7 +6,8 @@ ghost use Rattle.ioa_log.specs.Failing.{HasFailed};
 ghost use Rattle.ioac.specs.CommandLine.{IsAsked};
 ghost use Rattle.ioac.specs.Commands.{IsAnswered, IsReported, IsUnasked, usage_status};
 ghost use Rattle.ioac.specs.Serving.{IsServed, IsUnserved};
-ghost use Rattle.ioac.specs.Statuses.{ending_status};
+ghost use Rattle.ioac.specs.Statuses.{ending_status, number_of};
+ghost use Rattle.ioac.specs.declared.status.Status.{Status};
 ghost use Rattle.ioac.specs.declared.request.Request.{Request};
 ghost use Rattle.ioac.specs.declared.status.Status.TheVariants as statuses;
 
@@ -22,10 +23,28 @@ use std::alloc::Global;
 use std::convert::AsStr;
 use std::io::Write;
 
-/// The program: reads the words of its command line, does what they ask, and answers its exit status.
+/// The program: reads the words of its command line, does what they ask, and answers its exit status, as `Status` numbers it.
 ///
-/// What is wrong goes to `errors`. The status is `Broken` where that cannot be told.
+/// What is wrong goes to `errors`. The status is that of `Broken` where that cannot be told.
 pub fn command<S: AsStr, F: Store, R: InputDevice, W: OutputDevice, E: Write>(
+    alloc: Global,
+    words: &[S],
+    store: &mut F,
+    input: &mut R,
+    output: &mut W,
+    errors: &mut E,
+) -> u8
+    ensures { (status : Status) × (result ≡ number_of status) × (IsUnasked (map S.text words.now) status
+        ⊎ ((request : Request) × IsAsked (map S.text words.now) request
+        × IsAnswered (F.holds store.old) (F.lacks store.old) request (R.remaining input.old)
+        (HasFailed (R.failure_count input.old) (R.failure_count input.new) ⊎ HasFailed (W.failure_count output.old) (W.failure_count output.new))
+        (W.contents output.old) (W.contents output.new) (E.contents errors.old) (E.contents errors.new) status)) }
+{
+    perform(alloc, words, store, input, output, errors).number()
+}
+
+/// Does what the words of a command line ask.
+fn perform<S: AsStr, F: Store, R: InputDevice, W: OutputDevice, E: Write>(
     alloc: Global,
     words: &[S],
     store: &mut F,

@@ -35,5 +35,5 @@ fn main(rt: HostRuntime) -> io::Result<ExitCode> {
         &mut output,
         &mut errors,
     );
-    Ok(ExitCode::from(status.number()))
+    Ok(ExitCode::from(status))
 }

@@ -13,8 +13,8 @@ use ioa_node::{NodeState, state_values};
 use ioa_syntax::{Refusal, parse, print};
 use ioa_system::{End, Moved, Step, System, is_external, owner, participants, run_list, step_from};
 use ioa_value::{
-    Action, Fault, Op, OutOfMemory, Ty, Value, apply, first, has_type, print_action,
-    read_action, same,
+    Action, Fault, Op, OutOfMemory, Ty, Value, apply, first, has_type, print_action, read_action,
+    same,
 };
 use std::alloc::Global;
 use std::test::Fail;

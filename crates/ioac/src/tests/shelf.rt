@@ -100,6 +100,6 @@ pub fn expect(
         written.as_slice() == wanted.output.as_bytes(),
         "output in {row}"
     );
-    assert!(rt; status.number() == wanted.status, "status in {row}");
+    assert!(rt; status == wanted.status, "status in {row}");
     Ok(())
 }

@@ -111,7 +111,7 @@ fn replayed(alloc: Global, reads: u64, writes: u64) -> Result<Ran, Fail> {
 /// How a replay on devices ended: its status, how many calls failed, and what was printed.
 #[derive(Drop)]
 struct Ran {
-    status: Status,
+    status: u8,
     failures: u64,
     printed: Vec<u8>,
     errors: Vec<u8>,
@@ -132,7 +132,7 @@ fn fails_with_its_devices(rt: HostRuntime) -> Result<(), Fail> {
         assert!(rt; PRINTED.starts_with(ran.printed.as_slice()));
     }
     let ran = replayed(alloc, 23, 40)?;
-    assert_eq!(rt; ran.status, Status::Done);
+    assert_eq!(rt; ran.status, Status::Done.number());
     assert_eq!(rt; ran.failures, 0);
     assert!(rt; ran.printed.as_slice() == PRINTED.as_slice());
     assert!(rt; ran.errors.is_empty());
@@ -140,13 +140,13 @@ fn fails_with_its_devices(rt: HostRuntime) -> Result<(), Fail> {
 }
 
 fn assert_failed(rt: &impl Abort, ran: &Ran) {
-    assert_eq!(rt; ran.status, Status::Broken);
+    assert_eq!(rt; ran.status, Status::Broken.number());
     assert_eq!(rt; ran.failures, 1);
     assert!(rt; ran.errors.as_slice() == b"L8\n".as_slice());
 }
 
 /// Runs the program on the words where nothing can be printed.
-fn silenced(alloc: Global, words: &[&str]) -> Result<Status, Fail> {
+fn silenced(alloc: Global, words: &[&str]) -> Result<u8, Fail> {
     let mut store = Shelf {
         bytes: COUNTER.as_bytes(),
     };
@@ -173,7 +173,7 @@ fn fails_where_nothing_is_printed(rt: HostRuntime) -> Result<(), Fail> {
         &["ioac"],
     ];
     for words in rows {
-        assert_eq!(rt; silenced(rt.alloc(), words)?, Status::Broken);
+        assert_eq!(rt; silenced(rt.alloc(), words)?, Status::Broken.number());
     }
     Ok(())
 }
