@@ -1,11 +1,11 @@
 -- Small sources that break rules, and the codes that have their reason in each: computed.
-use Rattle.std.proofs.Common.{◌≡◌, ℕ, List, [], ◌∷◌, map, filter, Some, None, true, refl, codes}
+use Rattle.std.proofs.Common.{◌≡◌, ℕ, List, [], ◌∷◌, map, filter, Some, true, refl, codes}
 use Rattle.std.specs.Option.{option_map_or}
 use Rattle.ioa_value.specs.declared.operator.Op.TheVariants.{Eq, Add}
 use Rattle.ioa_lex.specs.declared.refusal.Refusal.{Refusal}
 use Rattle.ioa_lex.specs.declared.refusal.Refusal.TheVariants.{DuplicateName, UnknownName, TypeMismatch, BadSignature, NoProposal, TooMany, TooWide}
-use Rattle.ioa_syntax.specs.Tree.{number, truth, named, binary, typed, assign, automaton, composition, SourceTree}
-use Rattle.ioa_syntax.proofs.Examples.{field, tick_entry, reset_entry, count_variable, tick_proposal, tick_transition, reset_transition, counter, one, source, with_formals, with_entries, with_variables, with_transitions, with_pre, with_proposals, with_effect, plain_variable, variables_from}
+use Rattle.ioa_syntax.specs.Tree.{number, truth, named, binary, assign, automaton, composition, SourceTree}
+use Rattle.ioa_syntax.proofs.Examples.{field, count_variable, tick_proposal, tick_transition, reset_transition, counter, one, source, with_formals, with_variables, with_transitions, with_pre, with_proposals, with_effect, plain_variable, variables_from}
 use Rattle.ioa_check.specs.Codes as codes_of
 use Rattle.ioa_check.specs.Codes.{code_of}
 use Rattle.ioa_check.specs.Reasons.{in_source}

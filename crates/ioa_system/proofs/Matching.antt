@@ -1,10 +1,9 @@
 -- Entries that have an action, and the code that they hold.
-use Rattle.std.proofs.Common.{◌≡◌, ◌≢◌, ℕ, ◌&&◌, Bool, true, false, cond, List, [], ◌∷◌, length, find, Option, Some, None, refl, ap, sym, subst, suc}
+use Rattle.std.proofs.Common.{◌≡◌, ◌≢◌, ℕ, ◌&&◌, Bool, true, false, cond, List, [], ◌∷◌, length, find, Option, Some, None, refl, ap, subst, suc}
 use Rattle.ioa_value.specs.Actions.{Act}
 use Rattle.ioa_value.specs.Plain.{Val}
 use Rattle.ioa_value.specs.Table.{Table}
 use Rattle.ioa_value.specs.Typing.{is_of, HaveTypes}
-use Rattle.ioa_node.specs.Nodes.{Node}
 use Rattle.ioa_system.specs.Systems.{Slots, slots_of}
 use Rattle.std.specs.Str.{bytes_eq}
 use Rattle.ioa_code.specs.declared.instr.PartKind.TheVariants.{Pre, Eff}
