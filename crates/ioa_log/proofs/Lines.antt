@@ -4,7 +4,7 @@ use Rattle.std.specs.String.{string_bytes}
 use Rattle.std.specs.Io.KnownBytes.{Consumes, IsAtEnd}
 use Rattle.std.proofs.lemmas.List.{append-nil, drop_more, take-append-drop, take_more}
 use Rattle.std.proofs.lemmas.List.Elements.{All-nil, All-head, All-tail, All-cons, All-append}
-use Rattle.std.proofs.lemmas.Bool.{cases_lt, false≢true}
+use Rattle.std.proofs.lemmas.Bool.{cases_lt}
 use Rattle.std.proofs.lemmas.Bool.Decides.{nat_tests}
 use Rattle.ioa_value.specs.Actions.{Act}
 use Rattle.ioa_value.specs.Typing.{Shape, basic_types}
@@ -117,10 +117,6 @@ reads_skipped ls acts l r s = subst (λ xs. ReadsLines basic_types (ls ++ l ∷ 
 
 pub reads_action : (ls : List (List ℕ)) (acts : List Act) (l : List ℕ) (a : Act) → ReadsLines basic_types ls acts → Reads basic_types l a → ReadsLines basic_types (ls ++ l ∷ []) (acts ++ a ∷ [])
 reads_action ls acts l a r h = one_more basic_types ls (l ∷ []) acts (a ∷ []) r (inr (a, [], h, refl, refl))
-
-pub no_line : (l : List ℕ) → is_skipped l ≡ false → ((a : Act) → Reads basic_types l a → ⊥) → IsLine basic_types l → ⊥
-no_line l s none (inl t) = false≢true (sym s ∙ t)
-no_line l s none (inr (a, r)) = none a r
 
 pub one_skipped : (p : Prog) (ls : List (List ℕ)) (l : List ℕ) (r : Reading) → HasRead p ls r → is_skipped l ≡ true → ReadsOneMore p ls l r
 one_skipped p ls l r h s = (h.acts, reads_skipped ls h.acts l h.reads s, h.performed)
