@@ -1,5 +1,5 @@
 -- A step is its participants' step.
-use Rattle.std.proofs.Common.{◌≡◌, ℕ, zero, suc, ◌+◌, ◌<◌, List, [], ◌∷◌, ◌++◌, length, get_or, take, drop, map, filter, All, append_assoc, Bool, true, false, cond, Option, None, Some, Result, Ok, Err, refl, sym, ◌∙◌, ap, subst, arith, length-append, length-set}
+use Rattle.std.proofs.Common.{◌≡◌, ℕ, zero, suc, ◌+◌, ◌<◌, List, [], ◌∷◌, ◌++◌, length, get_or, take, drop, map, filter, All, append_assoc, Bool, true, false, cond, Option, None, Some, Result, Ok, Err, refl, sym, ◌∙◌, ap, subst, arith, length-append}
 use Rattle.std.specs.Prelude.{slice_get, slice_index, slice_set}
 use Rattle.std.specs.List.{list_any}
 use Rattle.std.proofs.Math.Seq.{set-append_seam}
@@ -38,11 +38,6 @@ pub map_put_back : {X Y : Type 0} (f : X → Y) (ns : List ℕ) (ys xs : List X)
 map_put_back f [] ys xs = refl
 map_put_back f (n ∷ ns) [] xs = refl
 map_put_back f (n ∷ ns) (y ∷ ys) xs = map_put_back f ns ys (slice_set xs n y) ∙ ap (put_back ns (map f ys)) (map-set f xs n y)
-
-pub length-put_back : {X : Type 0} (ns : List ℕ) (ys xs : List X) → length (put_back ns ys xs) ≡ length xs
-length-put_back [] ys xs = refl
-length-put_back (n ∷ ns) [] xs = refl
-length-put_back (n ∷ ns) (y ∷ ys) xs = length-put_back ns ys (slice_set xs n y) ∙ length-set xs n y
 
 -- a vector whose items are all written anew
 pub written_anew : {X : Type 0} (n : ℕ) (xs ys : List X) → length xs ≡ length ys → n ≡ length ys → take n (xs ++ drop (length xs) ys) ≡ xs
