@@ -7,7 +7,7 @@ use Rattle.ioa_value.specs.Table.{Table, AreTypes}
 use Rattle.ioa_value.specs.Typing.{HasType}
 use Rattle.ioa_value.specs.Operators.{Answer, gives, faults, nothing, operate, op_type, IsTypedAnswer}
 use Rattle.ioa_value.proofs.TypingLemmas.{op_typed}
-use Rattle.ioa_syntax.specs.Tree.{Expr, number, truth, named, parens, binary}
+use Rattle.ioa_syntax.specs.Tree.{Expr, number, truth, named, parens, prefix, binary}
 use Rattle.ioa_syntax.specs.Meaning.{Env, val, value_of, then_value}
 use Rattle.ioa_syntax.specs.WellFormed.{Context, type_of, both_types}
 use Rattle.ioa_syntax.specs.Answers.{Stands, Suits}

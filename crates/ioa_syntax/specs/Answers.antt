@@ -1,15 +1,14 @@
 -- Well typed expressions and statements have a meaning: a value or a state of the right types, or a fault.
 use Rattle.std.specs.Prelude.{◌≡◌, ℕ, List, All, Option, Some, None, IsTrue}
-use Rattle.std.specs.List.{list_all}
 use Rattle.ioa_value.specs.Actions.{Name}
 use Rattle.ioa_value.specs.Operators.{IsTypedAnswer}
 use Rattle.ioa_value.specs.Plain.{Val}
 use Rattle.ioa_value.specs.Table.{Table, AreTypes, type_named}
 use Rattle.ioa_value.specs.Typing.{HasType}
-use Rattle.ioa_syntax.specs.Tree.{Expr, Stmt, EntryTree, VariableTree, AutomatonTree, InstanceTree, SourceTree}
+use Rattle.ioa_syntax.specs.Tree.{Expr, Stmts, EntryTree, VariableTree, AutomatonTree, InstanceTree, SourceTree}
 use Rattle.ioa_syntax.specs.Meaning.{Env, nothing_known, values_of, val, Outcome, becomes, breaks, nowhere, eff}
 use Rattle.ioa_syntax.specs.Instances.{field_names, Fit, start_answer}
-use Rattle.ioa_syntax.specs.WellFormed.{Context, type_in, type_of, scope, stmt_fine, automaton_fine, instance_fine}
+use Rattle.ioa_syntax.specs.WellFormed.{Context, type_in, type_of, scope, stmts_fine, automaton_fine, instance_fine}
 
 -- the name stands for a value of the type
 abbrev pub Stands : Table → ℕ → Option Val → Type 0
@@ -34,7 +33,7 @@ ExpressionsAnswer =
 -- an entry's statements, where each is well typed, leave an environment of the same types, or a fault
 abbrev pub EffectsAnswer : Type 0
 EffectsAnswer =
-    (types : Table) (globals : List Name) (a : AutomatonTree) (e : EntryTree) (ss : List Stmt) (env : Env) → AreTypes types → IsTrue (list_all (stmt_fine types globals a e) ss) → Suits types (scope types globals a e) env → IsTypedOutcome types (scope types globals a e) (eff types ss env)
+    (types : Table) (globals : List Name) (a : AutomatonTree) (e : EntryTree) (ss : Stmts) (env : Env) → AreTypes types → IsTrue (stmts_fine types globals a e ss) → Suits types (scope types globals a e) env → IsTypedOutcome types (scope types globals a e) (eff types ss env)
 
 -- the variable starts with a value of its type, or a fault
 abbrev pub StartIsTyped : Table → Env → VariableTree → Type 0

@@ -1,5 +1,5 @@
 -- Which tokens spell a tree: the grammar, production by production. A language is a set of token lists.
-use Rattle.std.specs.Prelude.{◌≡◌, ℕ, ◌≤◌, ◌⊎◌, true, false, List, [], ◌∷◌, ◌++◌, Option, Some, None}
+use Rattle.std.specs.Prelude.{◌≡◌, ℕ, ◌≤◌, ◌⊎◌, true, false, List, [], ◌∷◌, ◌++◌, Option, Some, None, IsTrue}
 use Rattle.ioa_value.specs.declared.terminal.Terminal.{Terminal}
 use Rattle.ioa_value.specs.declared.terminal.Terminal.TheVariants as terminals
 use Rattle.ioa_lex.specs.Tokens as tokens
@@ -7,8 +7,9 @@ use Rattle.ioa_lex.specs.Tokens.{Tok, terminal}
 use Rattle.ioa_value.specs.Actions.{Name}
 use Rattle.ioa_syntax.specs.declared.tree.Kind.{Kind}
 use Rattle.ioa_syntax.specs.declared.tree.Kind.TheVariants.{Input, Output, Internal}
-use Rattle.ioa_syntax.specs.Operators.{level_of, left_of, right_of, operator_word}
-use Rattle.ioa_syntax.specs.Tree.{Expr, number, truth, named, parens, binary, FieldTree, PositionTree, typed, EntryTree, VariableTree, ProposalTree, Stmt, assign, TransitionTree, AutomatonTree, InstanceTree, CompositionTree, DeclarationTree, automaton, composition, SourceTree}
+use Rattle.ioa_syntax.specs.declared.tree.Infix.TheVariants.{Operator}
+use Rattle.ioa_syntax.specs.Operators.{stands_before, stands_between, level_of, left_of, right_of, operator_word}
+use Rattle.ioa_syntax.specs.Tree.{Expr, number, truth, named, parens, prefix, binary, FieldTree, PositionTree, typed, EntryTree, VariableTree, ProposalTree, Stmt, assign, choose, Stmts, stop, then, Arms, no_arm, arm, TransitionTree, AutomatonTree, InstanceTree, CompositionTree, DeclarationTree, automaton, composition, SourceTree}
 
 abbrev pub Language : Type 1
 Language = List Tok → Type 0
@@ -78,7 +79,8 @@ SpellsExpr k (truth true) = word terminals.True
 SpellsExpr k (truth false) = word terminals.False
 SpellsExpr k (named n) = called n
 SpellsExpr k (parens e) = word terminals.Open ▹ (SpellsExpr 0 e ▹ word terminals.Close)
-SpellsExpr k (binary l o r) = λ ts. (k ≤ level_of o) × (SpellsExpr (left_of o) l ▹ (word (operator_word o) ▹ SpellsExpr (right_of o) r)) ts
+SpellsExpr k (prefix o e) = λ ts. IsTrue (stands_before o) × (k ≤ level_of (Operator o)) × (word (operator_word (Operator o)) ▹ SpellsExpr (right_of (Operator o)) e) ts
+SpellsExpr k (binary l o r) = λ ts. IsTrue (stands_between o) × (k ≤ level_of o) × (SpellsExpr (left_of o) l ▹ (word (operator_word o) ▹ SpellsExpr (right_of o) r)) ts
 
 -- ---- automata
 
@@ -108,15 +110,39 @@ SpellsVariable v = SpellsField v.field ▹ optional terminals.Becomes (SpellsExp
 abbrev pub SpellsProposal : ProposalTree → Language
 SpellsProposal p = called p.name ▹ (word terminals.Becomes ▹ SpellsExpr 0 p.value)
 
-abbrev pub SpellsStmt : Stmt → Language
-SpellsStmt (assign n e) = called n ▹ (word terminals.Becomes ▹ SpellsExpr 0 e)
+-- statements, with `;` between them and perhaps at the end
+abbrev mutual
+  pub SpellsStmt : Stmt → Language
+  SpellsStmt (assign n e) = called n ▹ (word terminals.Becomes ▹ SpellsExpr 0 e)
+  SpellsStmt (choose no_arm others) = empty
+  SpellsStmt (choose (arm c ss more) others) =
+      word terminals.If ▹ (SpellsExpr 0 c ▹ (word terminals.Then ▹ (SpellsStmts ss ▹ (SpellsArms more ▹ (SpellsAfter terminals.Else others ▹ word terminals.Fi)))))
+
+  pub SpellsStmts : Stmts → Language
+  SpellsStmts stop = empty
+  SpellsStmts (then s ss) = SpellsStmt s ▹ (SpellsMore ss ▹ perhaps terminals.Semicolon)
+
+  -- each statement after a `;`
+  pub SpellsMore : Stmts → Language
+  SpellsMore stop = nothing
+  SpellsMore (then s ss) = word terminals.Semicolon ▹ (SpellsStmt s ▹ SpellsMore ss)
+
+  -- statements that a word introduces, or nothing
+  pub SpellsAfter : Terminal → Stmts → Language
+  SpellsAfter t stop = nothing
+  SpellsAfter t (then s ss) = word t ▹ (SpellsStmt s ▹ (SpellsMore ss ▹ perhaps terminals.Semicolon))
+
+  -- the arms after the first
+  pub SpellsArms : Arms → Language
+  SpellsArms no_arm = nothing
+  SpellsArms (arm c ss more) = word terminals.Elseif ▹ (SpellsExpr 0 c ▹ (word terminals.Then ▹ (SpellsStmts ss ▹ SpellsArms more)))
 
 abbrev pub SpellsTransition : TransitionTree → Language
 SpellsTransition t =
     word (kind_word t.kind) ▹ (called t.name
     ▹ (optional terminals.Pre (SpellsExpr 0) t.pre
     ▹ (optional_list terminals.Propose (separated terminals.Comma SpellsProposal) t.proposals
-    ▹ optional_list terminals.Eff (terminated terminals.Semicolon SpellsStmt) t.effect)))
+    ▹ SpellsAfter terminals.Eff t.effect)))
 
 -- after the word `automaton`
 abbrev pub SpellsAutomaton : AutomatonTree → Language

@@ -7,7 +7,8 @@ use Rattle.ioa_value.specs.declared.terminal.Terminal.TheVariants as terminals
 use Rattle.ioa_value.specs.Spelling.{spelling_of}
 use Rattle.ioa_value.specs.Actions.{Name}
 use Rattle.ioa_syntax.specs.Tree as tree
-use Rattle.ioa_syntax.specs.Tree.{Expr, truth, named, parens, binary, FieldTree, PositionTree, typed, EntryTree, VariableTree, ProposalTree, Stmt, assign, TransitionTree, AutomatonTree, InstanceTree, CompositionTree, DeclarationTree, automaton, composition, SourceTree}
+use Rattle.ioa_syntax.specs.Tree.{Expr, truth, named, parens, prefix, binary, FieldTree, PositionTree, typed, EntryTree, VariableTree, ProposalTree, Stmt, assign, choose, Stmts, stop, then, Arms, no_arm, arm, TransitionTree, AutomatonTree, InstanceTree, CompositionTree, DeclarationTree, automaton, composition, SourceTree}
+use Rattle.ioa_syntax.specs.declared.tree.Infix.TheVariants.{Operator}
 use Rattle.ioa_syntax.specs.Operators.{operator_word}
 use Rattle.ioa_syntax.specs.Grammar.{kind_word}
 
@@ -67,6 +68,7 @@ text_expr b (truth true) = text_word b terminals.True
 text_expr b (truth false) = text_word b terminals.False
 text_expr b (named n) = text_name b n
 text_expr b (parens e) = text_word space terminals.Open ++ (text_expr space e ++ text_word b terminals.Close)
+text_expr b (prefix o e) = text_word space (operator_word (Operator o)) ++ text_expr b e
 text_expr b (binary l o r) = text_expr space l ++ (text_word space (operator_word o) ++ text_expr b r)
 
 abbrev pub text_option : List ℕ → Option Expr → List ℕ
@@ -94,15 +96,40 @@ text_binding n e = text_name space n ++ (text_word space terminals.Becomes ++ te
 abbrev pub text_proposal : ProposalTree → List ℕ
 text_proposal p = text_binding p.name p.value
 
-abbrev pub text_stmt : Stmt → List ℕ
-text_stmt (assign n e) = text_binding n e
+abbrev mutual
+  pub text_stmt : Stmt → List ℕ
+  text_stmt (assign n e) = text_binding n e
+  text_stmt (choose no_arm others) = []
+  text_stmt (choose (arm c ss more) others) =
+      text_word space terminals.If ++ (text_expr space c ++ (text_word line terminals.Then
+      ++ (text_stmts ss ++ (text_arms more ++ (text_after (text_word line terminals.Else) others ++ text_word line terminals.Fi)))))
+
+  pub text_stmts : Stmts → List ℕ
+  text_stmts stop = []
+  text_stmts (then s ss) = text_stmt s ++ text_more_stmts ss
+
+  -- the separator and a statement, for each statement
+  pub text_more_stmts : Stmts → List ℕ
+  text_more_stmts stop = []
+  text_more_stmts (then s ss) = text_word space terminals.Semicolon ++ (text_stmt s ++ text_more_stmts ss)
+
+  -- statements after their word, or nothing
+  pub text_after : List ℕ → Stmts → List ℕ
+  text_after w stop = []
+  text_after w (then s ss) = w ++ (text_stmt s ++ text_more_stmts ss)
+
+  -- the arms after the first
+  pub text_arms : Arms → List ℕ
+  text_arms no_arm = []
+  text_arms (arm c ss more) =
+      text_word space terminals.Elseif ++ (text_expr space c ++ (text_word line terminals.Then ++ (text_stmts ss ++ text_arms more)))
 
 abbrev pub text_transition : TransitionTree → List ℕ
 text_transition t =
     text_word space (kind_word t.kind) ++ (text_name line t.name
     ++ (text_option (text_word space terminals.Pre) t.pre
     ++ (text_optional_list (text_word space terminals.Propose) (text_list terminals.Comma text_proposal) t.proposals
-    ++ text_optional_list (text_word space terminals.Eff) (text_list terminals.Semicolon text_stmt) t.effect)))
+    ++ text_after (text_word space terminals.Eff) t.effect)))
 
 -- up to the entries, and after them
 abbrev pub text_signature : AutomatonTree → List ℕ

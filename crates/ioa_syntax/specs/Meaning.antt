@@ -1,13 +1,15 @@
 -- What expressions and effects mean (effects of transitions: Lynch 1996, section 8.1; IOA's notation).
-use Rattle.std.specs.Prelude.{if◌then◌else◌, List, [], ◌∷◌, Option, Some, None, pos}
+use Rattle.std.specs.Prelude.{true, false, if◌then◌else◌, List, [], ◌∷◌, Option, Some, None, pos}
 use Rattle.std.specs.List.{list_any}
 use Rattle.std.specs.Str.{bytes_eq}
 use Rattle.ioa_value.specs.declared.arithmetic.Fault.{Fault}
 use Rattle.ioa_value.specs.Actions.{Name}
-use Rattle.ioa_value.specs.Plain.{Val, truth as truth_value, num}
+use Rattle.ioa_value.specs.Plain.{Val, truth as truth_value, num, name, tuple, items}
 use Rattle.ioa_value.specs.Table.{Table}
 use Rattle.ioa_value.specs.Operators.{Answer, gives, faults, nothing, operate}
-use Rattle.ioa_syntax.specs.Tree.{Expr, number, truth, named, parens, binary, Stmt, assign}
+use Rattle.ioa_syntax.specs.declared.tree.Infix.{Infix}
+use Rattle.ioa_syntax.specs.declared.tree.Infix.TheVariants.{Operator, And, Or, Implies}
+use Rattle.ioa_syntax.specs.Tree.{Expr, number, truth, named, parens, prefix, binary, Stmt, assign, choose, Stmts, stop, then, Arms, no_arm, arm}
 
 -- what each name stands for
 abbrev pub Env : Type 0
@@ -48,14 +50,30 @@ abbrev pub value_of : Option Val → Answer
 value_of (Some v) = gives v
 value_of None = nothing
 
+-- the one answer where a condition is true, the other where it is false
+abbrev pub decided : Val → Answer → Answer → Answer
+decided (truth_value true) yes no = yes
+decided (truth_value false) yes no = no
+decided (num z) yes no = nothing
+decided (name ty n) yes no = nothing
+decided (tuple ty vs) yes no = nothing
+decided (items ty vs) yes no = nothing
+
+-- the value of the first operand with the answer of the second, which is not asked for where the first decides
+abbrev pub combined : Table → Infix → Val → Answer → Answer
+combined types (Operator o) x second = then_value second (λ y. operate types o (x ∷ y ∷ []))
+combined types And x second = decided x second (gives (truth_value false))
+combined types Or x second = decided x (gives (truth_value true)) second
+combined types Implies x second = decided x second (gives (truth_value true))
+
 -- the value of an expression, or its fault: operands go left to right and the first fault wins
 abbrev pub val : Table → Expr → Env → Answer
 val types (number n) env = gives (num (pos n))
 val types (truth b) env = gives (truth_value b)
 val types (named x) env = value_of (env x)
 val types (parens e) env = val types e env
-val types (binary l o r) env =
-    then_value (val types l env) (λ x. then_value (val types r env) (λ y. operate types o (x ∷ y ∷ [])))
+val types (prefix o e) env = then_value (val types e env) (λ x. operate types o (x ∷ []))
+val types (binary l o r) env = then_value (val types l env) (λ x. combined types o x (val types r env))
 
 -- what statements leave: an environment, a fault, or nothing, where a name or a value is missing
 pub data Outcome : Type 0 where
@@ -75,10 +93,28 @@ then_do (becomes env) go = go env
 then_do (breaks f) go = breaks f
 then_do nowhere go = nowhere
 
-abbrev pub does : Table → Stmt → Env → Outcome
-does types (assign x e) env = assigned x env (val types e env) (env x)
+-- the one outcome where a condition is true, the other where it is false; a condition's fault is the effect's
+abbrev pub chosen : Answer → Outcome → Outcome → Outcome
+chosen (gives (truth_value true)) yes no = yes
+chosen (gives (truth_value false)) yes no = no
+chosen (gives (num z)) yes no = nowhere
+chosen (gives (name ty n)) yes no = nowhere
+chosen (gives (tuple ty vs)) yes no = nowhere
+chosen (gives (items ty vs)) yes no = nowhere
+chosen (faults f) yes no = breaks f
+chosen nothing yes no = nowhere
 
--- statements in sequence
-abbrev pub eff : Table → List Stmt → Env → Outcome
-eff types [] env = becomes env
-eff types (s ∷ ss) env = then_do (does types s env) (λ next. eff types ss next)
+abbrev mutual
+  pub does : Table → Stmt → Env → Outcome
+  does types (assign x e) env = assigned x env (val types e env) (env x)
+  does types (choose arms others) env = picks types arms env (eff types others env)
+
+  -- what the first arm with a true condition does, and otherwise the given
+  pub picks : Table → Arms → Env → Outcome → Outcome
+  picks types no_arm env otherwise = otherwise
+  picks types (arm c ss more) env otherwise = chosen (val types c env) (eff types ss env) (picks types more env otherwise)
+
+  -- statements in sequence
+  pub eff : Table → Stmts → Env → Outcome
+  eff types stop env = becomes env
+  eff types (then s ss) env = then_do (does types s env) (λ next. eff types ss next)

@@ -3,13 +3,14 @@ use Rattle.std.specs.Prelude.{List, [], ◌∷◌, ◌++◌, Option, Some, None,
 use Rattle.std.specs.List.{flat_map}
 use Rattle.ioa_value.specs.Actions.{Name}
 use Rattle.ioa_value.specs.Names.{IsName}
-use Rattle.ioa_syntax.specs.Tree.{Expr, number, truth, named, parens, binary, FieldTree, PositionTree, typed, EntryTree, VariableTree, ProposalTree, Stmt, assign, TransitionTree, AutomatonTree, InstanceTree, CompositionTree, DeclarationTree, automaton, composition, SourceTree}
+use Rattle.ioa_syntax.specs.Tree.{Expr, number, truth, named, parens, prefix, binary, FieldTree, PositionTree, typed, EntryTree, VariableTree, ProposalTree, Stmt, assign, choose, Stmts, stop, then, Arms, no_arm, arm, TransitionTree, AutomatonTree, InstanceTree, CompositionTree, DeclarationTree, automaton, composition, SourceTree}
 
 abbrev pub names_of_expr : Expr → List Name
 names_of_expr (number n) = []
 names_of_expr (truth b) = []
 names_of_expr (named x) = x ∷ []
 names_of_expr (parens e) = names_of_expr e
+names_of_expr (prefix o e) = names_of_expr e
 names_of_expr (binary l o r) = names_of_expr l ++ names_of_expr r
 
 abbrev pub names_of_option : Option Expr → List Name
@@ -31,11 +32,21 @@ names_of_variable v = names_of_field v.field ++ names_of_option v.start
 abbrev pub names_of_proposal : ProposalTree → List Name
 names_of_proposal p = p.name ∷ names_of_expr p.value
 
-abbrev pub names_of_stmt : Stmt → List Name
-names_of_stmt (assign x e) = x ∷ names_of_expr e
+abbrev mutual
+  pub names_of_stmt : Stmt → List Name
+  names_of_stmt (assign x e) = x ∷ names_of_expr e
+  names_of_stmt (choose arms others) = names_of_arms arms ++ names_of_stmts others
+
+  pub names_of_stmts : Stmts → List Name
+  names_of_stmts stop = []
+  names_of_stmts (then s ss) = names_of_stmt s ++ names_of_stmts ss
+
+  pub names_of_arms : Arms → List Name
+  names_of_arms no_arm = []
+  names_of_arms (arm c ss more) = names_of_expr c ++ (names_of_stmts ss ++ names_of_arms more)
 
 abbrev pub names_of_transition : TransitionTree → List Name
-names_of_transition t = t.name ∷ (names_of_option t.pre ++ (flat_map names_of_proposal t.proposals ++ flat_map names_of_stmt t.effect))
+names_of_transition t = t.name ∷ (names_of_option t.pre ++ (flat_map names_of_proposal t.proposals ++ names_of_stmts t.effect))
 
 abbrev pub names_of_automaton : AutomatonTree → List Name
 names_of_automaton a =

@@ -1,5 +1,5 @@
 -- What the parser does, as a function on lists of tokens: an outcome is what was read and the tokens left, or a fault.
-use Rattle.std.specs.Prelude.{◌≡◌, ℕ, zero, suc, ◌-◌, Bool, true, false, ◌&&◌, if◌then◌else◌, find, nat_lt, nat_le, is_some, List, [], ◌∷◌, ◌++◌, length, drop, Option, Some, None, Result, Ok, Err}
+use Rattle.std.specs.Prelude.{◌≡◌, ℕ, zero, suc, ◌-◌, Bool, true, false, ◌&&◌, ◌||◌, if◌then◌else◌, find, nat_lt, nat_le, is_some, List, [], ◌∷◌, ◌++◌, length, drop, Option, Some, None, Result, Ok, Err}
 use denote.Enum.Bare.{sameb}
 use Rattle.ioa_value.specs.contracts.terminal.Terminal.{the_type}
 use Rattle.ioa_value.specs.declared.terminal.Terminal.{Terminal}
@@ -17,9 +17,11 @@ use Rattle.ioa_syntax.specs.declared.fault.ReadError.TheVariants as errors
 use Rattle.ioa_syntax.specs.declared.tree.Kind.{Kind}
 use Rattle.ioa_syntax.specs.declared.tree.Kind.TheVariants as kinds
 use Rattle.ioa_syntax.specs.Tree as tree
-use Rattle.ioa_syntax.specs.Tree.{Expr, truth, named, parens, binary, FieldTree, PositionTree, typed, EntryTree, VariableTree, ProposalTree, Stmt, assign, TransitionTree, AutomatonTree, InstanceTree, CompositionTree, DeclarationTree, automaton, composition, SourceTree}
+use Rattle.ioa_syntax.specs.Tree.{Expr, truth, named, parens, prefix, binary, FieldTree, PositionTree, typed, EntryTree, VariableTree, ProposalTree, Stmt, assign, choose, Stmts, stop, then, Arms, no_arm, arm, TransitionTree, AutomatonTree, InstanceTree, CompositionTree, DeclarationTree, automaton, composition, SourceTree}
 use Rattle.ioa_syntax.specs.Depth.{depth_of}
-use Rattle.ioa_syntax.specs.Operators.{operators, operator_word, level_of, right_of, after_of, tightest}
+use Rattle.ioa_syntax.specs.declared.tree.Infix.{Infix}
+use Rattle.ioa_syntax.specs.declared.tree.Infix.TheVariants.{Operator}
+use Rattle.ioa_syntax.specs.Operators.{infixes, prefixes, operator_word, level_of, right_of, after_of, tightest}
 
 abbrev pub Outcome : Type 0 → Type 0
 Outcome A = Result (A × List Tok) Fault
@@ -165,20 +167,32 @@ sees_kind ts = is_some (kind_at ts)
 
 -- ---- expressions
 
--- the operator that is written so
-unfoldable pub operator_of : Terminal → Option Op
-operator_of t = find (λ o. same_terminal (operator_word o) t) operators
+-- what stands between two expressions and is written so
+unfoldable pub operator_of : Terminal → Option Infix
+operator_of t = find (λ o. same_terminal (operator_word o) t) infixes
 
-abbrev pub operator_in : Option Terminal → Option Op
+-- the operator that stands before an expression and is written so
+unfoldable pub prefix_of : Terminal → Option Op
+prefix_of t = find (λ o. same_terminal (operator_word (Operator o)) t) prefixes
+
+abbrev pub operator_in : Option Terminal → Option Infix
 operator_in None = None
 operator_in (Some t) = operator_of t
 
-abbrev pub allowed : ℕ → ℕ → Option Op → Option Op
+abbrev pub prefix_in : Option Terminal → Option Op
+prefix_in None = None
+prefix_in (Some t) = prefix_of t
+
+-- the next token as an operator before an expression
+unfoldable pub prefix_at : List Tok → Option Op
+prefix_at ts = prefix_in (terminal_at ts)
+
+abbrev pub allowed : ℕ → ℕ → Option Infix → Option Infix
 allowed least below None = None
 allowed least below (Some o) = if nat_le least (level_of o) && nat_lt (level_of o) below then Some o else None
 
 -- the next token as an operator of a level from least on and below the other
-unfoldable pub operator_at : ℕ → ℕ → List Tok → Option Op
+unfoldable pub operator_at : ℕ → ℕ → List Tok → Option Infix
 operator_at least below ts = allowed least below (operator_in (terminal_at ts))
 
 -- an operand that begins with this word or sign
@@ -197,12 +211,12 @@ operand inner (terminal t ∷ ts) = opened inner t ts
 
 -- expr: an expression of at most depth levels, at the level that it is given
 module _ (depth : ℕ) (expr : ℕ → Reader Expr) where
-  abbrev pub climb_by : (ℕ → Expr → Reader Expr) → Expr → List Tok → Option Op → Outcome Expr
+  abbrev pub climb_by : (ℕ → Expr → Reader Expr) → Expr → List Tok → Option Infix → Outcome Expr
   climb_by more left ts None = Ok (left, ts)
   climb_by more left ts (Some o) =
       if nat_le (depth_of left) depth then (expr (right_of o) (rest ts) >>= λ q. more (after_of o) (binary left o q.0) q.1) else Err TooDeep
 
-  abbrev pub stop_by : Expr → List Tok → Option Op → Outcome Expr
+  abbrev pub stop_by : Expr → List Tok → Option Infix → Outcome Expr
   stop_by left ts None = Ok (left, ts)
   stop_by left ts (Some o) = Err TooDeep
 
@@ -216,14 +230,24 @@ abbrev pub no_depth : Reader Expr
 no_depth [] = Err (Syntax 0)
 no_depth (x ∷ ts) = Err TooDeep
 
+-- what an expression begins with: an operator and its operand, where the operator's level is from least on, or an operand
+-- without one; the number bounds the level of the operators that may follow
+abbrev pub first_by : ℕ → (ℕ → Reader Expr) → List Tok → Option Op → Outcome (Expr × ℕ)
+first_by least expr ts None = built (λ e. (e, tightest)) (operand (expr 0)) ts
+first_by least expr ts (Some o) =
+    if nat_le least (level_of (Operator o)) then built (λ e. (prefix o e, after_of (Operator o))) (expr (right_of (Operator o))) (rest ts) else Err (Syntax (length ts))
+
+unfoldable pub first : ℕ → (ℕ → Reader Expr) → Reader (Expr × ℕ)
+first least expr ts = first_by least expr ts (prefix_at ts)
+
 unfoldable pub expr : ℕ → ℕ → Reader Expr
 expr zero least ts = no_depth ts
-expr (suc depth) least ts = operand (expr depth 0) ts >>= λ p. climb depth (expr depth) depth least tightest p.0 p.1
+expr (suc depth) least ts = first least (expr depth) ts >>= λ p. climb depth (expr depth) depth least p.0.1 p.0.0 p.1
 
 unfoldable pub expression : ℕ → Reader Expr
 expression depth = expr depth 0
 
--- ---- declarations. The number bounds the depth of their expressions.
+-- ---- declarations. The number bounds the depth of their expressions and of their statements.
 
 unfoldable pub field : Reader FieldTree
 field = built (λ p. record { name = p.0; ty = p.1.1 }) (a_name ▸ (sign terminals.Colon ▸ a_name))
@@ -259,16 +283,61 @@ proposal depth = built (λ p. record { name = p.0; value = p.1.1 }) (a_name ▸ 
 unfoldable pub proposals : ℕ → Reader (List ProposalTree)
 proposals depth = separated terminals.Comma (proposal depth)
 
-unfoldable pub statement : ℕ → Reader Stmt
-statement depth = built (λ p. assign p.0 p.1.1) (a_name ▸ (sign terminals.Becomes ▸ expression depth))
+-- statements in sequence, and arms
+abbrev pub sequence : List Stmt → Stmts
+sequence [] = stop
+sequence (s ∷ ss) = then s (sequence ss)
 
-unfoldable pub statements : ℕ → Reader (List Stmt)
-statements depth = terminated sees_name terminals.Semicolon (statement depth)
+abbrev pub choices : List (Expr × Stmts) → Arms
+choices [] = no_arm
+choices (c ∷ cs) = arm c.0 c.1 (choices cs)
+
+unfoldable pub assignment : ℕ → Reader Stmt
+assignment depth = built (λ p. assign p.0 p.1.1) (a_name ▸ (sign terminals.Becomes ▸ expression depth))
+
+-- the next token begins a statement
+unfoldable pub sees_statement : List Tok → Bool
+sees_statement ts = sees_name ts || sees terminals.If ts
+
+-- statements that are read so, in sequence
+unfoldable pub in_sequence : Reader Stmt → Reader Stmts
+in_sequence one = built sequence (terminated sees_statement terminals.Semicolon one)
+
+-- what a word introduces, where that comes next
+unfoldable pub introduced : Terminal → Reader Stmts → Reader Stmts
+introduced t p ts = if sees t ts then p (after t ts) else Ok (stop, after t ts)
+
+-- after `if` or `elseif`
+unfoldable pub an_arm : ℕ → Reader Stmts → Reader (Expr × Stmts)
+an_arm depth inner = built (λ p. (p.0, p.1.1)) (expression depth ▸ (sign terminals.Then ▸ inner))
+
+unfoldable pub more_arms : ℕ → Reader Stmts → Reader (List (Expr × Stmts))
+more_arms depth inner = many (sees terminals.Elseif) (built (λ p. p.1) (sign terminals.Elseif ▸ an_arm depth inner))
+
+-- after `if`, with the statements of arms read so
+unfoldable pub choice : ℕ → Reader Stmts → Reader Stmt
+choice depth inner =
+    built (λ p. choose (arm p.0.0 p.0.1 (choices p.1.0)) p.1.1.0)
+    (an_arm depth inner ▸ (more_arms depth inner ▸ (introduced terminals.Else inner ▸ sign terminals.Fi)))
+
+-- At the end of the tokens there is no statement of any depth.
+abbrev pub no_statement : Reader Stmt
+no_statement [] = Err (Syntax 0)
+no_statement (x ∷ ts) = Err TooDeep
+
+-- a statement of at most so many levels, whose expressions have at most depth levels
+unfoldable pub statement : ℕ → ℕ → Reader Stmt
+statement depth zero ts = no_statement ts
+statement depth (suc levels) ts =
+    if sees terminals.If ts then choice depth (in_sequence (statement depth levels)) (after terminals.If ts) else assignment depth (after terminals.If ts)
+
+unfoldable pub statements : ℕ → Reader Stmts
+statements depth = in_sequence (statement depth depth)
 
 unfoldable pub transition : ℕ → Reader TransitionTree
 transition depth =
     built (λ p. record { kind = p.0; name = p.1.0; pre = p.1.1.0; proposals = p.1.1.1.0; effect = p.1.1.1.1 })
-    (a_kind ▸ (a_name ▸ (optional terminals.Pre (expression depth) ▸ (optional_list terminals.Propose (proposals depth) ▸ optional_list terminals.Eff (statements depth)))))
+    (a_kind ▸ (a_name ▸ (optional terminals.Pre (expression depth) ▸ (optional_list terminals.Propose (proposals depth) ▸ introduced terminals.Eff (statements depth)))))
 
 unfoldable pub transitions : ℕ → Reader (List TransitionTree)
 transitions depth = many sees_kind (transition depth)

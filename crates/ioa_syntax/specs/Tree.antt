@@ -2,6 +2,7 @@
 use Rattle.std.specs.Prelude.{ℕ, Bool, List, Option}
 use Rattle.ioa_value.specs.Actions.{Name}
 use Rattle.ioa_value.specs.declared.operator.Op.{Op}
+use Rattle.ioa_syntax.specs.declared.tree.Infix.{Infix}
 use Rattle.ioa_syntax.specs.declared.tree.Kind.{Kind}
 
 -- an expression
@@ -10,7 +11,8 @@ pub data Expr : Type 0 where
   truth : Bool → Expr
   named : Name → Expr
   parens : Expr → Expr
-  binary : Expr → Op → Expr → Expr
+  prefix : Op → Expr → Expr
+  binary : Expr → Infix → Expr → Expr
 
 -- a name and the name of its type: a formal, a variable or a parameter
 pub record FieldTree : Type 0 where
@@ -37,16 +39,27 @@ pub record ProposalTree : Type 0 where
   pub name : Name
   pub value : Expr
 
--- a statement: an assignment of a whole variable
-pub data Stmt : Type 0 where
-  assign : Name → Expr → Stmt
+-- statements in sequence: each assigns a whole variable, or chooses by conditions, with statements for where none is true
+mutual
+  pub data Stmt : Type 0 where
+    assign : Name → Expr → Stmt
+    choose : Arms → Stmts → Stmt
+
+  pub data Stmts : Type 0 where
+    stop : Stmts
+    then : Stmt → Stmts → Stmts
+
+  -- conditions, each with its statements
+  pub data Arms : Type 0 where
+    no_arm : Arms
+    arm : Expr → Stmts → Arms → Arms
 
 pub record TransitionTree : Type 0 where
   pub kind : Kind
   pub name : Name
   pub pre : Option Expr
   pub proposals : List ProposalTree
-  pub effect : List Stmt
+  pub effect : Stmts
 
 pub record AutomatonTree : Type 0 where
   pub name : Name

@@ -1,5 +1,5 @@
 -- The tree that a value of the program is: no places in memory, no lines.
-use Rattle.std.specs.Prelude.{List, map}
+use Rattle.std.specs.Prelude.{List, [], ◌∷◌, map}
 use Rattle.std.specs.Option.{option_map}
 use Rattle.std.specs.String.{string_bytes}
 use Rattle.ioa_value.specs.Actions as actions
@@ -12,15 +12,17 @@ use Rattle.ioa_syntax.specs.declared.tree.Position.TheVariants.{Typed}
 use Rattle.ioa_syntax.specs.declared.tree.Entry.{Entry}
 use Rattle.ioa_syntax.specs.declared.tree.Variable.{Variable}
 use Rattle.ioa_syntax.specs.declared.tree.Proposal.{Proposal}
-use Rattle.ioa_syntax.specs.declared.tree.Statement.{Statement}
-use Rattle.ioa_syntax.specs.declared.tree.Statement.TheVariants.{Assign}
+use Rattle.ioa_syntax.specs.declared.tree.Statement.{Statement, Row_of-Statement, end_of-Statement, more_of-Statement}
+use Rattle.ioa_syntax.specs.declared.tree.Statement.TheVariants.{Assign, If'}
+use Rattle.ioa_syntax.specs.declared.tree.Statement.TheBlock.{Row_of-Arm, end_of-Arm, more_of-Arm}
+use Rattle.ioa_syntax.specs.declared.tree.Arm.{Arm}
 use Rattle.ioa_syntax.specs.declared.tree.Transition.{Transition}
 use Rattle.ioa_syntax.specs.declared.tree.Automaton.{Automaton}
 use Rattle.ioa_syntax.specs.declared.tree.Instance.{Instance}
 use Rattle.ioa_syntax.specs.declared.tree.Assembly.{Assembly}
 use Rattle.ioa_syntax.specs.declared.tree.Declaration.{Declaration}
 use Rattle.ioa_syntax.specs.declared.tree.Declaration.TheVariants as declarations
-use Rattle.ioa_syntax.specs.Tree.{Expr, number, truth, named, parens, binary, FieldTree, PositionTree, typed, EntryTree, VariableTree, ProposalTree, Stmt, assign, TransitionTree, AutomatonTree, InstanceTree, CompositionTree, DeclarationTree, automaton, composition, SourceTree}
+use Rattle.ioa_syntax.specs.Tree.{Expr, number, truth, named, parens, prefix, binary, FieldTree, PositionTree, typed, EntryTree, VariableTree, ProposalTree, Stmt, assign, choose, Stmts, stop, then, Arms, no_arm, arm, TransitionTree, AutomatonTree, InstanceTree, CompositionTree, DeclarationTree, automaton, composition, SourceTree}
 
 abbrev pub name_of : Name → actions.Name
 name_of n = string_bytes n.text
@@ -30,6 +32,7 @@ expr_of (expressions.Number n line) = number n
 expr_of (expressions.Truth b line) = truth b
 expr_of (expressions.Name n) = named (name_of n)
 expr_of (expressions.Parentheses' p e line) = parens (expr_of e)
+expr_of (expressions.Prefix' o p e line) = prefix o (expr_of e)
 expr_of (expressions.Binary' p l o q r) = binary (expr_of l) o (expr_of r)
 
 abbrev pub field_of : Field → FieldTree
@@ -47,8 +50,27 @@ variable_of v = record { field = field_of v.field; start = option_map expr_of v.
 abbrev pub proposal_of : Proposal → ProposalTree
 proposal_of p = record { name = name_of p.name; value = expr_of p.value }
 
-abbrev pub stmt_of : Statement → Stmt
-stmt_of (Assign n e) = assign (name_of n) (expr_of e)
+abbrev mutual
+  pub stmt_of : Statement → Stmt
+  stmt_of (Assign n e) = assign (name_of n) (expr_of e)
+  stmt_of (If' shape arms shape_of_others others line) = choose (row_arms arms) (row_stmts others)
+
+  pub row_stmts : {m : _} → Row_of-Statement m → Stmts
+  row_stmts end_of-Statement = stop
+  row_stmts (more_of-Statement s rest) = then (stmt_of s) (row_stmts rest)
+
+  pub row_arms : {m : _} → Row_of-Arm m → Arms
+  row_arms end_of-Arm = no_arm
+  row_arms (more_of-Arm condition shape statements rest) = arm (expr_of condition) (row_stmts statements) (row_arms rest)
+
+-- statements of a list in sequence
+abbrev pub stmts_of : List Statement → Stmts
+stmts_of [] = stop
+stmts_of (s ∷ ss) = then (stmt_of s) (stmts_of ss)
+
+abbrev pub arms_of : List Arm → Arms
+arms_of [] = no_arm
+arms_of (a ∷ as) = arm (expr_of a.condition) (stmts_of a.statements.items) (arms_of as)
 
 abbrev pub transition_of : Transition → TransitionTree
 transition_of t = record {
@@ -56,7 +78,7 @@ transition_of t = record {
   name = name_of t.name;
   pre = option_map expr_of t.pre;
   proposals = map proposal_of t.proposals.items;
-  effect = map stmt_of t.effect.items;
+  effect = stmts_of t.effect.items;
 }
 
 abbrev pub automaton_of : Automaton → AutomatonTree

@@ -7,9 +7,11 @@ use Rattle.ioa_value.specs.Actions.{Name}
 use Rattle.ioa_value.specs.Arithmetic.{fits}
 use Rattle.ioa_value.specs.Operators.{op_type}
 use Rattle.ioa_value.specs.Table.{Table, basic, type_named}
+use Rattle.ioa_syntax.specs.declared.tree.Infix.{Infix}
+use Rattle.ioa_syntax.specs.declared.tree.Infix.TheVariants.{Operator, And, Or, Implies}
 use Rattle.ioa_syntax.specs.declared.tree.Kind.{Kind}
 use Rattle.ioa_syntax.specs.declared.tree.Kind.TheVariants.{Input, Output, Internal}
-use Rattle.ioa_syntax.specs.Tree.{Expr, number, truth, named, parens, binary, FieldTree, PositionTree, typed, EntryTree, VariableTree, ProposalTree, Stmt, assign, TransitionTree, AutomatonTree, InstanceTree, CompositionTree, DeclarationTree, automaton, composition, SourceTree}
+use Rattle.ioa_syntax.specs.Tree.{Expr, number, truth, named, parens, prefix, binary, FieldTree, PositionTree, typed, EntryTree, VariableTree, ProposalTree, Stmt, assign, choose, Stmts, stop, then, Arms, no_arm, arm, TransitionTree, AutomatonTree, InstanceTree, CompositionTree, DeclarationTree, automaton, composition, SourceTree}
 use Rattle.ioa_syntax.specs.Types.{types_of}
 use Rattle.ioa_value.specs.declared.limits.Limits.{Limits}
 use Rattle.ioa_value.specs.declared.limits.TheConstants.{LIMITS}
@@ -28,13 +30,32 @@ both_types (Some a) (Some b) f = f (a ∷ b ∷ [])
 both_types (Some a) None f = None
 both_types None o f = None
 
+abbrev pub one_type : Option ℕ → (List ℕ → Option ℕ) → Option ℕ
+one_type (Some a) f = f (a ∷ [])
+one_type None f = None
+
+-- two truth values give one
+abbrev pub of_truths : List ℕ → Option ℕ
+of_truths (a ∷ b ∷ []) = if (a == 0) && (b == 0) then Some 0 else None
+of_truths [] = None
+of_truths (a ∷ []) = None
+of_truths (a ∷ b ∷ c ∷ rest) = None
+
+-- the type of what stands for operands of these types
+abbrev pub infix_type : Table → Infix → List ℕ → Option ℕ
+infix_type types (Operator o) tys = op_type types o tys
+infix_type types And tys = of_truths tys
+infix_type types Or tys = of_truths tys
+infix_type types Implies tys = of_truths tys
+
 -- the type of an expression, where it has one
 abbrev pub type_of : Table → Context → Expr → Option ℕ
 type_of types c (number n) = if fits (pos n) then Some 1 else None
 type_of types c (truth b) = Some 0
 type_of types c (named x) = type_in c x
 type_of types c (parens e) = type_of types c e
-type_of types c (binary l o r) = both_types (type_of types c l) (type_of types c r) (op_type types o)
+type_of types c (prefix o e) = one_type (type_of types c e) (op_type types o)
+type_of types c (binary l o r) = both_types (type_of types c l) (type_of types c r) (infix_type types o)
 
 abbrev pub is_some_of : Option ℕ → ℕ → Bool
 is_some_of o ty = option_map_or (λ t. t == ty) o false
@@ -153,12 +174,22 @@ module _ (t : Table) (globals : List Name) (a : AutomatonTree) where
   abbrev pub all_proposed : EntryTree → TransitionTree → Bool
   all_proposed e r = list_all (λ f. is_some_of (type_named t f.ty) 0 || contains (map (λ p. p.name) r.proposals) f.name) (position_fields e.positions)
 
-  -- an assignment is to a variable, of its type
-  abbrev pub stmt_fine : EntryTree → Stmt → Bool
-  stmt_fine e (assign x v) = option_map_or (λ ty. has_ty t (scope e) v ty) (type_in (context_of t (variable_fields a)) x) false
+  -- an assignment is to a variable, of its type, and a condition is a Bool
+  abbrev mutual
+    pub stmt_fine : EntryTree → Stmt → Bool
+    stmt_fine e (assign x v) = option_map_or (λ ty. has_ty t (scope e) v ty) (type_in (context_of t (variable_fields a)) x) false
+    stmt_fine e (choose arms others) = arms_fine e arms && stmts_fine e others
+
+    pub stmts_fine : EntryTree → Stmts → Bool
+    stmts_fine e stop = true
+    stmts_fine e (then s ss) = stmt_fine e s && stmts_fine e ss
+
+    pub arms_fine : EntryTree → Arms → Bool
+    arms_fine e no_arm = true
+    arms_fine e (arm c ss more) = has_ty t (scope e) c 0 && (stmts_fine e ss && arms_fine e more)
 
   abbrev pub effect_fine : EntryTree → TransitionTree → Bool
-  effect_fine e r = list_all (stmt_fine e) r.effect
+  effect_fine e r = stmts_fine e r.effect
 
   -- an input has neither precondition nor proposals
   abbrev pub input_fine : TransitionTree → Bool
@@ -190,10 +221,22 @@ nodes (number n) = 1
 nodes (truth b) = 1
 nodes (named x) = 1
 nodes (parens e) = nodes e + 1
+nodes (prefix o e) = nodes e + 1
 nodes (binary l o r) = nodes l + nodes r + 1
 
-abbrev pub stmt_nodes : Stmt → ℕ
-stmt_nodes (assign x e) = nodes e + 1
+-- a statement is one
+abbrev mutual
+  pub stmt_nodes : Stmt → ℕ
+  stmt_nodes (assign x e) = nodes e + 1
+  stmt_nodes (choose arms others) = arms_nodes arms + stmts_nodes others + 1
+
+  pub stmts_nodes : Stmts → ℕ
+  stmts_nodes stop = 0
+  stmts_nodes (then s ss) = stmt_nodes s + stmts_nodes ss
+
+  pub arms_nodes : Arms → ℕ
+  arms_nodes no_arm = 0
+  arms_nodes (arm c ss more) = nodes c + (stmts_nodes ss + arms_nodes more)
 
 module _ (most : Limits) where
   abbrev pub pre_within : TransitionTree → Bool
@@ -203,7 +246,7 @@ module _ (most : Limits) where
   proposals_within r = nat_le (sum (map (λ p. nodes p.value) r.proposals)) most.nodes
 
   abbrev pub effect_within : TransitionTree → Bool
-  effect_within r = nat_le (sum (map stmt_nodes r.effect)) most.nodes
+  effect_within r = nat_le (stmts_nodes r.effect) most.nodes
 
   abbrev pub transition_within : TransitionTree → Bool
   transition_within r = pre_within r && proposals_within r && effect_within r

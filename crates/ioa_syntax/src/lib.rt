@@ -25,6 +25,6 @@ pub use parsing::parse;
 pub use printing::print;
 pub use source::Source;
 pub use tree::{
-    Assembly, Automaton, Declaration, Entry, Expression, Field, Instance, Kind, Name, Position,
-    Proposal, Statement, Transition, Variable,
+    Arm, Assembly, Automaton, Declaration, Entry, Expression, Field, Infix, Instance, Kind, Name,
+    Position, Proposal, Statement, Transition, Variable,
 };

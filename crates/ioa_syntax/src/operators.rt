@@ -1,47 +1,96 @@
-//! How operators between two expressions bind, and how they are written.
+//! How operators bind, and how they are written.
 
 ghost use Rattle.std.specs.Prelude.{◌≡◌, ◌<◌};
 ghost use Rattle.ioa_syntax.specs.Operators as spec;
 ghost use Rattle.ioa_syntax.specs.Reading as reading;
 
+use crate::tree::Infix;
 use ioa_lex::Terminal;
 use ioa_value::Op;
 
-/// How tightly operators bind.
+/// How tightly operators bind, from the loosest on.
 #[derive(Clone, Copy, PartialEq, Eq, Debug)]
 pub(crate) enum Level {
+    Implication,
+    Disjunction,
+    Conjunction,
+    Denial,
     Comparison,
     Sum,
+    Product,
+    Negation,
 }
 
-/// Whether an operand may be an operator's of the same level: neither, the left one or the right one.
+/// Whether an operand may be an operator's of the same level: neither, the left one or the right one; or the operator
+/// stands before its one operand, which may be.
 #[derive(Clone, Copy, PartialEq, Eq, Debug)]
 pub(crate) enum Grouping {
     Alone,
     Left,
     Right,
+    Before,
 }
 
-/// How an operator stands between its operands.
+/// How an operator is written.
 #[derive(Clone, Copy, Debug)]
 pub(crate) struct Form {
     pub level: Level,
     pub word: Terminal,
 }
 
-/// All operators that stand between two expressions.
-const OPERATORS: [Op; 3] = [Op::Eq, Op::Add, Op::Sub];
+/// All that stand between two expressions.
+const INFIXES: [Infix; 14] = [
+    Infix::Implies,
+    Infix::Or,
+    Infix::And,
+    Infix::Operator(Op::Eq),
+    Infix::Operator(Op::Ne),
+    Infix::Operator(Op::Lt),
+    Infix::Operator(Op::Le),
+    Infix::Operator(Op::Gt),
+    Infix::Operator(Op::Ge),
+    Infix::Operator(Op::Add),
+    Infix::Operator(Op::Sub),
+    Infix::Operator(Op::Mul),
+    Infix::Operator(Op::Div),
+    Infix::Operator(Op::Mod),
+];
+
+/// All that stand before one.
+const PREFIXES: [Op; 2] = [Op::Not, Op::Neg];
 
 /// Above every level.
 pub(crate) const TIGHTEST: u32 = 10;
 
-fn form_of(operator: Op) -> Form
-    ensures { result ≡ spec.form_of operator }
+fn operator_form(operator: Op) -> Form
+    ensures { result ≡ spec.operator_form operator }
 {
     let (level, word) = match operator {
+        Op::Not => (Level::Denial, Terminal::Not),
         Op::Eq => (Level::Comparison, Terminal::Equal),
+        Op::Ne => (Level::Comparison, Terminal::NotEqual),
+        Op::Lt => (Level::Comparison, Terminal::Less),
+        Op::Le => (Level::Comparison, Terminal::LessEqual),
+        Op::Gt => (Level::Comparison, Terminal::Greater),
+        Op::Ge => (Level::Comparison, Terminal::GreaterEqual),
         Op::Add => (Level::Sum, Terminal::Plus),
         Op::Sub => (Level::Sum, Terminal::Minus),
+        Op::Mul => (Level::Product, Terminal::Star),
+        Op::Div => (Level::Product, Terminal::Div),
+        Op::Mod => (Level::Product, Terminal::Mod),
+        Op::Neg => (Level::Negation, Terminal::Minus),
+    };
+    Form { level, word }
+}
+
+fn form_of(infix: Infix) -> Form
+    ensures { result ≡ spec.form_of infix }
+{
+    let (level, word) = match infix {
+        Infix::Implies => (Level::Implication, Terminal::Implies),
+        Infix::Or => (Level::Disjunction, Terminal::Or),
+        Infix::And => (Level::Conjunction, Terminal::And),
+        Infix::Operator(operator) => return operator_form(operator),
     };
     Form { level, word }
 }
@@ -52,8 +101,14 @@ impl Level {
         ensures small { result < TIGHTEST }
     {
         match self {
-            Level::Comparison => 4,
-            Level::Sum => 5,
+            Level::Implication => 1,
+            Level::Disjunction => 2,
+            Level::Conjunction => 3,
+            Level::Denial => 4,
+            Level::Comparison => 5,
+            Level::Sum => 6,
+            Level::Product => 7,
+            Level::Negation => 8,
         }
     }
 
@@ -61,55 +116,72 @@ impl Level {
         ensures { result ≡ spec.grouping_of self }
     {
         match self {
+            Level::Implication => Grouping::Right,
+            Level::Disjunction | Level::Conjunction => Grouping::Left,
+            Level::Denial => Grouping::Before,
             Level::Comparison => Grouping::Alone,
-            Level::Sum => Grouping::Left,
+            Level::Sum | Level::Product => Grouping::Left,
+            Level::Negation => Grouping::Before,
         }
     }
 }
 
-/// The word or sign between the operands.
-pub(crate) fn word_of(operator: Op) -> Terminal
-    ensures { result ≡ spec.operator_word operator }
+/// The word or sign.
+pub(crate) fn word_of(infix: Infix) -> Terminal
+    ensures { result ≡ spec.operator_word infix }
 {
-    form_of(operator).word
+    form_of(infix).word
 }
 
-/// How tightly an operator binds.
-pub(crate) fn level_of(operator: Op) -> u32
-    ensures { result ≡ spec.level_of operator }
+/// How tightly it binds.
+pub(crate) fn level_of(infix: Infix) -> u32
+    ensures { result ≡ spec.level_of infix }
 {
-    form_of(operator).level.number()
+    form_of(infix).level.number()
 }
 
 /// The least level of its right operand.
-pub(crate) fn right_of(operator: Op) -> u32
-    ensures { result ≡ spec.right_of operator }
+pub(crate) fn right_of(infix: Infix) -> u32
+    ensures { result ≡ spec.right_of infix }
 {
-    let level = form_of(operator).level;
+    let level = form_of(infix).level;
     match level.grouping() {
         Grouping::Alone | Grouping::Left => level.number() + 1,
-        Grouping::Right => level.number(),
+        Grouping::Right | Grouping::Before => level.number(),
     }
 }
 
 /// The operators below this level may follow its right operand.
-pub(crate) fn after_of(operator: Op) -> u32
-    ensures { result ≡ spec.after_of operator }
+pub(crate) fn after_of(infix: Infix) -> u32
+    ensures { result ≡ spec.after_of infix }
 {
-    let level = form_of(operator).level;
+    let level = form_of(infix).level;
     match level.grouping() {
         Grouping::Left => level.number() + 1,
-        Grouping::Alone | Grouping::Right => level.number(),
+        Grouping::Alone | Grouping::Right | Grouping::Before => level.number(),
     }
 }
 
-/// The operator that this word or sign stands for.
+/// What stands between two expressions and is written with this word or sign.
 #[tactic(auto, unfolding(crate::specs::Reading::operator_of, crate::specs::Reading::same_terminal))]
-pub(crate) fn operator_of(terminal: Terminal) -> Option<Op>
+pub(crate) fn operator_of(terminal: Terminal) -> Option<Infix>
     ensures { result ≡ reading.operator_of terminal }
 {
-    for operator in OPERATORS {
-        if word_of(operator) == terminal {
+    for infix in INFIXES {
+        if word_of(infix) == terminal {
+            return Some(infix);
+        }
+    }
+    None
+}
+
+/// The operator that stands before an expression and is written with this word or sign.
+#[tactic(auto, unfolding(crate::specs::Reading::prefix_of, crate::specs::Reading::same_terminal))]
+pub(crate) fn prefix_of(terminal: Terminal) -> Option<Op>
+    ensures { result ≡ reading.prefix_of terminal }
+{
+    for operator in PREFIXES {
+        if word_of(Infix::Operator(operator)) == terminal {
             return Some(operator);
         }
     }

@@ -7,6 +7,19 @@ pub struct Name {
     pub line: u32,
 }
 
+/// What stands between two expressions.
+#[derive(Clone, Copy, PartialEq, Eq, Debug)]
+pub enum Infix {
+    /// An operator on the values of both.
+    Operator(Op),
+    /// `/\`, which asks for its second operand where the first is true.
+    And,
+    /// `\/`, which asks for its second operand where the first is false.
+    Or,
+    /// `=>`, which asks for its second operand where the first is true.
+    Implies,
+}
+
 /// An expression. Each form that can begin an expression keeps the line of its first token.
 #[derive(Drop)]
 pub enum Expression {
@@ -14,7 +27,9 @@ pub enum Expression {
     Truth(bool, u32),
     Name(Name),
     Parentheses(Box<Expression>, u32),
-    Binary(Box<Expression>, Op, Box<Expression>),
+    /// An operator before its operand.
+    Prefix(Op, Box<Expression>, u32),
+    Binary(Box<Expression>, Infix, Box<Expression>),
 }
 
 /// A name and the name of its type: a formal parameter, a variable or a parameter of an entry.
@@ -63,8 +78,19 @@ pub struct Proposal {
 
 /// A statement of an effect.
 #[derive(Drop)]
+#[cycle(statement)]
 pub enum Statement {
     Assign(Name, Expression),
+    /// The first arm whose condition is true, and otherwise the statements after `else`. It keeps the line of `if`.
+    If(Vec<Arm>, Vec<Statement>, u32),
+}
+
+/// A condition, and what is done where it is true.
+#[derive(Drop)]
+#[cycle(statement)]
+pub struct Arm {
+    pub condition: Expression,
+    pub statements: Vec<Statement>,
 }
 
 /// The transition of an entry.
