@@ -9,7 +9,7 @@ use Rattle.ioa_value.specs.Table.{Table}
 use Rattle.ioa_value.specs.Operators.{Answer, gives, faults, nothing, operate}
 use Rattle.ioa_syntax.specs.declared.tree.Infix.{Infix}
 use Rattle.ioa_syntax.specs.declared.tree.Infix.TheVariants.{Operator, And, Or, Implies}
-use Rattle.ioa_syntax.specs.Tree.{Expr, number, truth, named, parens, prefix, binary, Stmt, assign, choose, Stmts, stop, then, Arms, no_arm, arm}
+use Rattle.ioa_syntax.specs.Tree.{Expr, number, truth, named, parens, prefix, binary, Stmt, assign, choose, Stmts, stop, doing, Arms, no_arm, arm}
 
 -- what each name stands for
 abbrev pub Env : Type 0
@@ -117,4 +117,4 @@ abbrev mutual
   -- statements in sequence
   pub eff : Table → Stmts → Env → Outcome
   eff types stop env = becomes env
-  eff types (then s ss) env = then_do (does types s env) (λ next. eff types ss next)
+  eff types (doing s ss) env = then_do (does types s env) (λ next. eff types ss next)
