@@ -8,20 +8,26 @@ use Rattle.ioa_lex.specs.Tokens as tokens
 use Rattle.ioa_lex.specs.Tokens.{Tok, terminal}
 use Rattle.ioa_syntax.specs.declared.fault.Fault.TheVariants.{Syntax, TooDeep}
 use Rattle.ioa_value.specs.declared.operator.Op.{Op}
-use Rattle.ioa_syntax.specs.Tree.{Expr, number, truth, named, parens, binary}
+use Rattle.ioa_syntax.specs.declared.tree.Infix.{Infix}
+use Rattle.ioa_syntax.specs.declared.tree.Infix.TheVariants.{Operator}
+use Rattle.ioa_syntax.specs.Tree.{Expr, number, truth, named, parens, prefix, binary}
 use Rattle.ioa_syntax.specs.Depth.{depth_of}
-use Rattle.ioa_syntax.specs.Operators.{right_of, after_of, tightest}
+use Rattle.ioa_syntax.specs.Operators.{level_of, right_of, after_of, tightest}
 use Rattle.ioa_syntax.specs.Grammar.{SpellsExpr, SameHead}
-use Rattle.ioa_syntax.specs.Reading.{climb, climb_by, stop_by, expr, expression, operand, opened, operator_at, operator_in, terminal_at, terminal_in, allowed, rest, sign, Outcome, Reader, ◌>>=◌, ◌▸◌}
+use Rattle.ioa_syntax.specs.Reading.{climb, climb_by, stop_by, expr, first, prefix_at, prefix_in, expression, operand, opened, operator_at, operator_in, terminal_at, terminal_in, allowed, rest, sign, Outcome, Reader, ◌>>=◌, ◌▸◌, built}
 use Rattle.ioa_syntax.proofs.Outcomes.{bind_err, AtMost, at_most_more, at_most_then, Shrinks, Alike, Past, past_at_most, alike_then, alike_rest, refused_at, went, front_length, same_head, LooksAhead, head_alike, rest_length}
 use Rattle.ioa_syntax.proofs.Exact.{Found, Exact}
 use Rattle.ioa_syntax.proofs.Singles.{sign_exact}
-use Rattle.ioa_syntax.proofs.Complete.{mark, Ends, complete, spelled_deep, depth_positive}
-use Rattle.ioa_syntax.proofs.Sound.{next_cases, Opening, opening, opens_true, opens_false, opens_parens, opens_none, bracketed, opened_true, opened_false, opened_bracketed, sound, operand_sound}
+use Rattle.ioa_syntax.proofs.Complete.{mark, Ends, complete, spelled_deep, depth_positive, first_plain, first_marked, first_loose, climbs}
+use Rattle.ioa_syntax.proofs.Sound.{next_cases, beginning, begins_plain, begins_marked, begins_loose, Opening, opening, opens_true, opens_false, opens_parens, opens_none, bracketed, opened_true, opened_false, opened_bracketed, sound, operand_sound, first_sound}
 
 operator_alike : (least below : ℕ) → LooksAhead (operator_at least below)
 unfolding operator_at terminal_at
 operator_alike least below = head_alike (operator_at least below) None (λ x. allowed least below (operator_in (terminal_in x))) refl (λ x ts. refl)
+
+prefix_alike : LooksAhead prefix_at
+unfolding prefix_at terminal_at
+prefix_alike = head_alike prefix_at None (λ x. prefix_in (terminal_in x)) refl (λ x ts. refl)
 
 -- ---- operands
 
@@ -117,17 +123,61 @@ operand_alike inner inner' shrinks s s' same alike (tokens.number n ∷ c) = wen
 operand_alike inner inner' shrinks s s' same alike (tokens.name n ∷ c) = went s s' (named n) c
 operand_alike inner inner' shrinks s s' same alike (terminal t ∷ c) = opened_alike inner inner' shrinks s s' same alike t c
 
--- ---- operators
-
--- one operator more, at the same count of turns
-abbrev step : (b : ℕ) (e : ℕ → Reader Expr) (n least : ℕ) (left : Expr) (o : Op) → Reader Expr
-step b e n least left o ts = if nat_le (depth_of left) b then (e (right_of o) ts >>= λ q. climb b e n least (after_of o) (binary left o q.0) q.1) else Err TooDeep
+-- ---- what begins an expression
 
 abbrev EachShrinks : (ℕ → Reader Expr) → Type 0
 EachShrinks e = (k : ℕ) → Shrinks (e k)
 
+abbrev plain : Reader Expr → Reader (Expr × ℕ)
+plain inner = built (λ t. (t, tightest)) (operand inner)
+
+abbrev marked : Op → Reader Expr → Reader (Expr × ℕ)
+marked o inner = built (λ t. (prefix o t, after_of (Operator o))) inner
+
+built_shrinks : {A B : Type 0} (f : A → B) (p : Reader A) → Shrinks p → Shrinks (built f p)
+built_shrinks f p shrinks ts = at_most_then (length ts) (p ts) (λ x. Ok (f x.0, x.1)) (shrinks ts) (λ x h. h)
+
+built_alike : {A B : Type 0} (f : A → B) (p p' : Reader A) (s s' : List Tok) → ((c : List Tok) → Alike s s' (p (c ++ s)) (p' (c ++ s'))) → (c : List Tok) → Alike s s' (built f p (c ++ s)) (built f p' (c ++ s'))
+built_alike f p p' s s' alike c = alike_then s s' (p (c ++ s)) (p' (c ++ s')) (λ x. Ok (f x.0, x.1)) (λ x. Ok (f x.0, x.1)) (alike c) (λ x h. h) (λ x d was is. went s s' (f x) d)
+
+first_shrinks : (least : ℕ) (e : ℕ → Reader Expr) → EachShrinks e → Shrinks (first least e)
+first_shrinks least e shrinks ts =
+    elim (beginning least ts) [
+      | begins_plain none ↦ subst (AtMost (length ts)) (sym (first_plain least e ts none)) (built_shrinks (λ t. (t, tightest)) (operand (e 0)) (operand_shrinks (e 0) (shrinks 0)) ts)
+      | begins_marked o is at before low ↦
+          subst (AtMost (length ts)) (sym (first_marked least e o ts is low))
+          (at_most_more (length (rest ts)) (length ts) (marked o (e (right_of (Operator o))) (rest ts)) (rest_length ts) (built_shrinks (λ t. (prefix o t, after_of (Operator o))) (e (right_of (Operator o))) (shrinks (right_of (Operator o))) (rest ts)))
+      | begins_loose o is at high ↦ subst (AtMost (length ts)) (sym (first_loose least e o ts is high)) (omega arith)
+    ]
+
+module _ (least : ℕ) (e e' : ℕ → Reader Expr) (shrinks : EachShrinks e) (s s' : List Tok) (same : SameHead s s') (alike : (k : ℕ) (c : List Tok) → Alike s s' (e k (c ++ s)) (e' k (c ++ s'))) where
+  first_as : (c : List Tok) (o o' : Outcome (Expr × ℕ)) → first least e (c ++ s) ≡ o → first least e' (c ++ s') ≡ o' → Alike s s' o o' → Alike s s' (first least e (c ++ s)) (first least e' (c ++ s'))
+  first_as c o o' was is a = subst (λ z. Alike s s' z (first least e' (c ++ s'))) (sym was) (subst (λ z. Alike s s' o z) (sym is) a)
+
+  first_alike : (c : List Tok) → Alike s s' (first least e (c ++ s)) (first least e' (c ++ s'))
+  first_alike c =
+      let here : prefix_at (c ++ s) ≡ prefix_at (c ++ s') = prefix_alike (c ++ s) (c ++ s') (same_head s s' same c) in
+      elim (beginning least (c ++ s)) [
+        | begins_plain none ↦
+            first_as c (plain (e 0) (c ++ s)) (plain (e' 0) (c ++ s')) (first_plain least e (c ++ s) none) (first_plain least e' (c ++ s') (sym here ∙ none))
+            (built_alike (λ t. (t, tightest)) (operand (e 0)) (operand (e' 0)) s s' (operand_alike (e 0) (e' 0) (shrinks 0) s s' same (alike 0)) c)
+        | begins_marked o is at before low ↦
+            let r : ℕ = right_of (Operator o) in
+            first_as c (marked o (e r) (rest (c ++ s))) (marked o (e' r) (rest (c ++ s'))) (first_marked least e o (c ++ s) is low) (first_marked least e' o (c ++ s') (sym here ∙ is) low)
+            (alike_rest s s' (marked o (e r)) (marked o (e' r)) same (built_shrinks (λ t. (prefix o t, after_of (Operator o))) (e r) (shrinks r)) (built_alike (λ t. (prefix o t, after_of (Operator o))) (e r) (e' r) s s' (alike r)) c (omega (arith, ap length at)))
+        | begins_loose o is at high ↦
+            first_as c (Err (Syntax (length (c ++ s)))) (Err (Syntax (length (c ++ s')))) (first_loose least e o (c ++ s) is high) (first_loose least e' o (c ++ s') (sym here ∙ is) high)
+            (refused_at s s' (length (c ++ s)) (length (c ++ s')) (front_length c s))
+      ]
+
+-- ---- operators
+
+-- one operator more, at the same count of turns
+abbrev step : (b : ℕ) (e : ℕ → Reader Expr) (n least : ℕ) (left : Expr) (o : Infix) → Reader Expr
+step b e n least left o ts = if nat_le (depth_of left) b then (e (right_of o) ts >>= λ q. climb b e n least (after_of o) (binary left o q.0) q.1) else Err TooDeep
+
 module _ (b : ℕ) (e : ℕ → Reader Expr) (shrinks_e : EachShrinks e) where
-  step_shrinks : (n least : ℕ) (left : Expr) (o : Op) → ((below : ℕ) (left : Expr) (ts : List Tok) → AtMost (length ts) (climb b e n least below left ts)) → Shrinks (step b e n least left o)
+  step_shrinks : (n least : ℕ) (left : Expr) (o : Infix) → ((below : ℕ) (left : Expr) (ts : List Tok) → AtMost (length ts) (climb b e n least below left ts)) → Shrinks (step b e n least left o)
   step_shrinks n least left o again ts = by (nat_le (depth_of left) b)
     where
       by : (c : Bool) → AtMost (length ts) (if c then (e (right_of o) ts >>= λ q. climb b e n least (after_of o) (binary left o q.0) q.1) else Err TooDeep)
@@ -140,7 +190,7 @@ module _ (b : ℕ) (e : ℕ → Reader Expr) (shrinks_e : EachShrinks e) where
   unfolding climb
   climb_shrinks zero least below left ts = by (operator_at least below ts)
     where
-      by : (o : Option Op) → AtMost (length ts) (stop_by b e left ts o)
+      by : (o : Option Infix) → AtMost (length ts) (stop_by b e left ts o)
       by None = omega arith
       by (Some x) = tt
   climb_shrinks (suc n) least below left ts =
@@ -160,14 +210,14 @@ unfolding expr
 shrinks zero k [] = omega arith
 shrinks zero k (x ∷ ts) = tt
 shrinks (suc b) k ts =
-    at_most_then (length ts) (operand (expr b 0) ts) (λ p. climb b (expr b) b k tightest p.0 p.1) (operand_shrinks (expr b 0) (shrinks b 0) ts)
-    (λ p h. at_most_more (length p.1) (length ts) (climb b (expr b) b k tightest p.0 p.1) h (climb_shrinks b (expr b) (shrinks b) b k tightest p.0 p.1))
+    at_most_then (length ts) (first k (expr b) ts) (climbs b k) (first_shrinks k (expr b) (shrinks b) ts)
+    (λ p h. at_most_more (length p.1) (length ts) (climbs b k p) h (climb_shrinks b (expr b) (shrinks b) b k p.0.1 p.0.0 p.1))
 
 module _ (b b' : ℕ) (e e' : ℕ → Reader Expr) (deeper : b ≤ b') (shrinks_e : EachShrinks e) (s s' : List Tok) (same : SameHead s s') (inner : (k : ℕ) (c : List Tok) → Alike s s' (e k (c ++ s)) (e' k (c ++ s'))) where
   abbrev Climbs : ℕ → ℕ → Type 0
   Climbs n n' = (least below : ℕ) (left : Expr) (c : List Tok) → Alike s s' (climb b e n least below left (c ++ s)) (climb b' e' n' least below left (c ++ s'))
 
-  step_alike : (n n' : ℕ) → Climbs n n' → (least : ℕ) (left : Expr) (o : Op) (c : List Tok) → Alike s s' (step b e n least left o (c ++ s)) (step b' e' n' least left o (c ++ s'))
+  step_alike : (n n' : ℕ) → Climbs n n' → (least : ℕ) (left : Expr) (o : Infix) (c : List Tok) → Alike s s' (step b e n least left o (c ++ s)) (step b' e' n' least left o (c ++ s'))
   step_alike n n' more_of least left o c = by (nat_le (depth_of left) b) refl
     where
       by : (x : Bool) → nat_le (depth_of left) b ≡ x → Alike s s' (step b e n least left o (c ++ s)) (step b' e' n' least left o (c ++ s'))
@@ -203,7 +253,7 @@ module _ (b b' : ℕ) (e e' : ℕ → Reader Expr) (deeper : b ≤ b') (shrinks_
       ]
 
 no_expr : (b k : ℕ) → expr b k [] ≡ Err (Syntax 0)
-unfolding expr operand
+unfolding expr first prefix_at terminal_at operand
 no_expr zero k = refl
 no_expr (suc b) k = refl
 
@@ -217,10 +267,10 @@ expr_alike (suc b) zero le s s' same k c = absurd (omega arith)
 expr_alike (suc b) (suc b') le s s' same k c =
     let inner = expr_alike b b' (omega arith) s s' same in
     let small : b ≤ b' = omega arith in
-    alike_then s s' (operand (expr b 0) (c ++ s)) (operand (expr b' 0) (c ++ s')) (λ p. climb b (expr b) b k tightest p.0 p.1) (λ p. climb b' (expr b') b' k tightest p.0 p.1)
-    (operand_alike (expr b 0) (expr b' 0) (shrinks b 0) s s' same (inner 0) c)
-    (λ p h. past_at_most s (length p.1) (climb b (expr b) b k tightest p.0 p.1) h (climb_shrinks b (expr b) (shrinks b) b k tightest p.0 p.1))
-    (λ t d was is. climb_alike b b' (expr b) (expr b') small (shrinks b) s s' same inner b b' small k tightest t d)
+    alike_then s s' (first k (expr b) (c ++ s)) (first k (expr b') (c ++ s')) (climbs b k) (climbs b' k)
+    (first_alike k (expr b) (expr b') (shrinks b) s s' same inner c)
+    (λ p h. past_at_most s (length p.1) (climbs b k p) h (climb_shrinks b (expr b) (shrinks b) b k p.0.1 p.0.0 p.1))
+    (λ t d was is. climb_alike b b' (expr b) (expr b') small (shrinks b) s s' same inner b b' small k t.1 t.0 d)
 
 -- ---- too deep
 
@@ -252,6 +302,21 @@ module _ (b : ℕ) (e : ℕ → Reader Expr) (deep : (k : ℕ) (ts : List Tok) �
         | opens_none faults ↦ let never = sym (faults ts) ∙ h in absurd (cc)
       ]
 
+  first_long : (least : ℕ) (ts : List Tok) → first least e ts ≡ Err TooDeep → suc b < length ts
+  first_long least ts h =
+      elim (beginning least ts) [
+        | begins_plain none ↦ elim (bind_err (operand (e 0) ts) (λ x. Ok ((x.0, tightest), x.1)) TooDeep (sym (first_plain least e ts none) ∙ h)) [
+          | inl far ↦ operand_long ts far
+          | inr never ↦ absurd (cc (never.2))
+        ]
+        | begins_marked o is at before low ↦
+            elim (bind_err (e (right_of (Operator o)) (rest ts)) (λ x. Ok ((prefix o x.0, after_of (Operator o)), x.1)) TooDeep (sym (first_marked least e o ts is low) ∙ h)) [
+              | inl far ↦ let more = deep (right_of (Operator o)) (rest ts) far in omega (arith, ap length at)
+              | inr never ↦ absurd (cc (never.2))
+            ]
+        | begins_loose o is at high ↦ let never = sym (first_loose least e o ts is high) ∙ h in absurd (cc)
+      ]
+
   climb_long : (n least below : ℕ) (left : Expr) (a ts : List Tok) → depth_of left ≤ length a → b < n + depth_of left → climb b e n least below left ts ≡ Err TooDeep → suc b < length (a ++ ts)
   unfolding climb
   climb_long zero least below left a ts d fuel h =
@@ -266,7 +331,7 @@ module _ (b : ℕ) (e : ℕ → Reader Expr) (deep : (k : ℕ) (ts : List Tok) �
         | inr present ↦ by (nat_le (depth_of left) b) refl present.0 present.2 again (subst (λ o. climb_by b e (climb b e n least) left ts o ≡ Err TooDeep) present.1 h)
       ]
     where
-      by : (x : Bool) → nat_le (depth_of left) b ≡ x → (o : Op) → ts ≡ mark o ∷ rest ts →
+      by : (x : Bool) → nat_le (depth_of left) b ≡ x → (o : Infix) → ts ≡ mark o ∷ rest ts →
           ((below : ℕ) (left : Expr) (a ts : List Tok) → depth_of left ≤ length a → b < n + depth_of left → climb b e n least below left ts ≡ Err TooDeep → suc b < length (a ++ ts)) →
           step b e n least left o (rest ts) ≡ Err TooDeep → suc b < length (a ++ ts)
       by false fails o is again h = let far : b < depth_of left = grind (arith, nat_tests) in omega (arith, ap length is, length-append a ts)
@@ -291,11 +356,11 @@ expr_long (suc b) k ts h =
     let deep = expr_long b in
     let reads : (k : ℕ) (ts : List Tok) (t : Expr) (left : List Tok) → expr b k ts ≡ Ok (t, left) → (front : List Tok) × (depth_of t ≤ length front) × (ts ≡ front ++ left) =
     λ k ts t left h. let r = sound b k ts t left h in (r.front, spelled_deep t k r.front r.spells, r.apart) in
-    elim (bind_err (operand (expr b 0) ts) (λ p. climb b (expr b) b k tightest p.0 p.1) TooDeep h) [
-      | inl first ↦ operand_long b (expr b) deep reads ts first
+    elim (bind_err (first k (expr b) ts) (climbs b k) TooDeep h) [
+      | inl far ↦ first_long b (expr b) deep reads k ts far
       | inr later ↦
-          let r = operand_sound b (expr b) (sound b) ts later.0.0 later.0.1 later.1 in
-          let far = climb_long b (expr b) deep reads b k tightest later.0.0 r.front later.0.1 (spelled_deep later.0.0 0 r.front (r.spells 0)) (omega (arith, depth_positive later.0.0)) later.2 in
+          let r = first_sound b (expr b) (sound b) k ts later.0.0.0 later.0.0.1 later.0.1 later.1 in
+          let far = climb_long b (expr b) deep reads b k later.0.0.1 later.0.0.0 r.front later.0.1 (spelled_deep later.0.0.0 k r.front r.spells) (omega (arith, depth_positive later.0.0.0)) later.2 in
           omega (arith, ap length r.apart)
     ]
 
