@@ -7,22 +7,22 @@ use Rattle.ioa_syntax.specs.Grammar as grammar
 use Rattle.ioa_syntax.specs.Grammar.{Language, ◌▹◌, word, nothing, empty}
 use Rattle.ioa_syntax.specs.Reading.{Outcome, Reader, ◌>>=◌, built, sees, optional, optional_list}
 use Rattle.ioa_syntax.proofs.Outcomes.{bind_ok, bind_err, ok_pair, at_most_then, alike_then, went}
-use Rattle.ioa_syntax.proofs.Exact.{Found, Exact, said_as}
+use Rattle.ioa_syntax.proofs.Exact.{Found, ExactFor, said_as}
 use Rattle.ioa_syntax.proofs.Singles.{introduced_exact}
 
 -- what was read becomes a part of a larger type
-module _ {A B : Type 0} (to : A → B) {L : A → Language} {D : A → ℕ} {F : Language} {P : ℕ → Reader A} (p : Exact L D F P) (M : B → Language) (E : B → ℕ)
+module _ {I : Type 0} {size : I → ℕ} {A B : Type 0} (to : A → B) {L : A → Language} {D : A → ℕ} {F : Language} {P : I → Reader A} (p : ExactFor size L D F P) (M : B → Language) (E : B → ℕ)
     (of : (y : B) (ts : List Tok) → M y ts → (x : A) × (to x ≡ y) × L x ts) (into : (x : A) (ts : List Tok) → L x ts → M (to x) ts) (deep : (x : A) → E (to x) ≡ D x) where
   abbrev shown : A × List Tok → Outcome B
   shown x = Ok (to x.0, x.1)
 
-  into_complete : (b : ℕ) (y : B) (ts left : List Tok) → M y ts → E y ≤ b → F left → built to (P b) (ts ++ left) ≡ Ok (y, left)
+  into_complete : (b : I) (y : B) (ts left : List Tok) → M y ts → E y ≤ size b → F left → built to (P b) (ts ++ left) ≡ Ok (y, left)
   into_complete b y ts left s d f =
       let x = of y ts s in
-      let small : D x.0 ≤ b = let same = deep x.0 in let other : E (to x.0) ≡ E y = ap E x.1 in omega arith in
+      let small : D x.0 ≤ size b = let same = deep x.0 in let other : E (to x.0) ≡ E y = ap E x.1 in omega arith in
       ap (λ o. o >>= shown) (p.complete b x.0 ts left x.2 small f) ∙ ap (λ z. Ok (z, left)) x.1
 
-  into_sound : (b : ℕ) (ts : List Tok) (y : B) (left : List Tok) → built to (P b) ts ≡ Ok (y, left) → Found M E b ts y left
+  into_sound : (b : I) (ts : List Tok) (y : B) (left : List Tok) → built to (P b) ts ≡ Ok (y, left) → Found M E (size b) ts y left
   into_sound b ts y left h =
       let one = bind_ok (P b ts) shown (y, left) h in
       let same = ok_pair (to one.0.0) y one.0.1 left one.2 in
@@ -34,10 +34,10 @@ module _ {A B : Type 0} (to : A → B) {L : A → Language} {D : A → ℕ} {F :
         within = let here : E y ≡ D one.0.0 = ap E (sym same.0) ∙ deep one.0.0 in omega (arith, f.within);
       }
 
-  into_long : (b : ℕ) (ts : List Tok) → built to (P b) ts ≡ Err TooDeep → b < length ts
+  into_long : (b : I) (ts : List Tok) → built to (P b) ts ≡ Err TooDeep → size b < length ts
   into_long b ts h = elim (bind_err (P b ts) shown TooDeep h) [ inl deep ↦ p.long b ts deep | inr never ↦ absurd (cc (never.2)) ]
 
-  pub into_exact : Exact M E F (λ b. built to (P b))
+  pub into_exact : ExactFor size M E F (λ b. built to (P b))
   into_exact = record {
     complete = into_complete;
     sound = into_sound;
@@ -50,7 +50,7 @@ abbrev pub deep_some : {A : Type 0} → (A → ℕ) → Option A → ℕ
 deep_some D None = 0
 deep_some D (Some x) = D x
 
-module _ {A : Type 0} (t : Terminal) {L : A → Language} {D : A → ℕ} {F : Language} {P : ℕ → Reader A} (p : Exact L D F P) where
+module _ {I : Type 0} {size : I → ℕ} {A : Type 0} (t : Terminal) {L : A → Language} {D : A → ℕ} {F : Language} {P : I → Reader A} (p : ExactFor size L D F P) where
   abbrev There : Option A → Language
   There None = empty
   There (Some x) = L x
@@ -62,7 +62,7 @@ module _ {A : Type 0} (t : Terminal) {L : A → Language} {D : A → ℕ} {F : L
   abbrev Unseen : Language
   Unseen ts = F ts × (sees t ts ≡ false)
 
-  there_exact : Exact There (deep_some D) F (λ b. built Some (P b))
+  there_exact : ExactFor size There (deep_some D) F (λ b. built Some (P b))
   there_exact = into_exact Some p There (deep_some D) there_of (λ x ts s. s) (λ x. refl)
 
   optional_of : (x : Option A) (ts : List Tok) → grammar.optional t L x ts → ((word t ▹ There x) ts) ⊎ ((x ≡ None) × nothing ts)
@@ -75,12 +75,12 @@ module _ {A : Type 0} (t : Terminal) {L : A → Language} {D : A → ℕ} {F : L
   optional_to (Some x) ts (inr s) = absurd (cc (s.0))
   optional_to (Some x) ts (inl s) = s
 
-  pub optional_exact : Exact (grammar.optional t L) (deep_some D) Unseen (λ b. optional t (P b))
+  pub optional_exact : ExactFor size (grammar.optional t L) (deep_some D) Unseen (λ b. optional t (P b))
   unfolding optional
   optional_exact = said_as (grammar.optional t L) optional_of optional_to (introduced_exact t None there_exact refl)
 
-module _ {A : Type 0} (t : Terminal) {L : List A → Language} {D : List A → ℕ} {F : Language} {P : ℕ → Reader (List A)}
-    (p : Exact L D F P) (bare : (ts : List Tok) → L [] ts → ⊥) (shallow : D [] ≡ 0) where
+module _ {I : Type 0} {size : I → ℕ} {A : Type 0} (t : Terminal) {L : List A → Language} {D : List A → ℕ} {F : Language} {P : I → Reader (List A)}
+    (p : ExactFor size L D F P) (bare : (ts : List Tok) → L [] ts → ⊥) (shallow : D [] ≡ 0) where
   abbrev UnseenList : Language
   UnseenList ts = F ts × (sees t ts ≡ false)
 
@@ -94,6 +94,6 @@ module _ {A : Type 0} (t : Terminal) {L : List A → Language} {D : List A → �
   list_to (x ∷ xs) ts (inr s) = absurd (cc (s.0))
   list_to (x ∷ xs) ts (inl s) = s
 
-  pub optional_list_exact : Exact (grammar.optional_list t L) D UnseenList (λ b. optional_list t (P b))
+  pub optional_list_exact : ExactFor size (grammar.optional_list t L) D UnseenList (λ b. optional_list t (P b))
   unfolding optional_list
   optional_list_exact = said_as (grammar.optional_list t L) list_of list_to (introduced_exact t [] p shallow)

@@ -8,7 +8,7 @@ use Rattle.ioa_syntax.specs.Grammar as grammar
 use Rattle.ioa_syntax.specs.Grammar.{Language, SameHead, ◌▹◌, word, perhaps, each_after}
 use Rattle.ioa_syntax.specs.Reading.{Outcome, Reader, ◌>>=◌, rest, sees, after, always, items_from, separated, terminated, many_from, many}
 use Rattle.ioa_syntax.proofs.Outcomes.{bind_ok, bind_err, ok_pair, AtMost, at_most_more, at_most_then, Alike, Past, past_at_most, alike_then, went, same_head, LooksAhead, rest_length}
-use Rattle.ioa_syntax.proofs.Exact.{Found, Exact}
+use Rattle.ioa_syntax.proofs.Exact.{Found, ExactFor}
 use Rattle.ioa_syntax.proofs.Singles.{sees_word, seen, sees_alike, after_seen, after_unseen}
 
 none_left : (c s : List Tok) → length (c ++ s) ≤ 0 → (c ≡ []) × (s ≡ [])
@@ -24,19 +24,19 @@ end_same : (s : List Tok) → SameHead s [] → s ≡ []
 end_same [] h = refl
 end_same (x ∷ s) h = absurd h
 
-module _ (goes_on : List Tok → Bool) (look : LooksAhead goes_on) (separator : Terminal) {A : Type 0} {L : A → Language} {D : A → ℕ} {F : Language} {P : ℕ → Reader A}
-    (p : Exact L D F P) (some : (x : A) (ts : List Tok) → L x ts → 0 < length ts) where
-  abbrev items : ℕ → ℕ → List A → Reader (List A)
+module _ (goes_on : List Tok → Bool) (look : LooksAhead goes_on) (separator : Terminal) {I : Type 0} {size : I → ℕ} {A : Type 0} {L : A → Language} {D : A → ℕ} {F : Language} {P : I → Reader A}
+    (p : ExactFor size L D F P) (some : (x : A) (ts : List Tok) → L x ts → 0 < length ts) where
+  abbrev items : I → ℕ → List A → Reader (List A)
   items b = items_from goes_on separator (P b)
 
-  abbrev next : ℕ → ℕ → List A → A × List Tok → Outcome (List A)
+  abbrev next : I → ℕ → List A → A × List Tok → Outcome (List A)
   next b n found x = if sees separator x.1 && goes_on (after separator x.1) then items b n (found ++ x.0 ∷ []) (after separator x.1) else Ok (found ++ x.0 ∷ [], after separator x.1)
 
-  items_zero : (b : ℕ) (found : List A) (ts : List Tok) → items b zero found ts ≡ Err (Syntax (length ts))
+  items_zero : (b : I) (found : List A) (ts : List Tok) → items b zero found ts ≡ Err (Syntax (length ts))
   unfolding items_from
   items_zero b found ts = refl
 
-  items_suc : (b n : ℕ) (found : List A) (ts : List Tok) → items b (suc n) found ts ≡ (P b ts >>= next b n found)
+  items_suc : (b : I) (n : ℕ) (found : List A) (ts : List Tok) → items b (suc n) found ts ≡ (P b ts >>= next b n found)
   unfolding items_from
   items_suc b n found ts = refl
 
@@ -54,21 +54,21 @@ module _ (goes_on : List Tok → Bool) (look : LooksAhead goes_on) (separator : 
       by true false e f = last e f
       by false w e f = over e
 
-  next_more : (b n : ℕ) (found : List A) (x : A) (ts : List Tok) → sees separator ts ≡ true → goes_on (rest ts) ≡ true → next b n found (x, ts) ≡ items b n (found ++ x ∷ []) (rest ts)
+  next_more : (b : I) (n : ℕ) (found : List A) (x : A) (ts : List Tok) → sees separator ts ≡ true → goes_on (rest ts) ≡ true → next b n found (x, ts) ≡ items b n (found ++ x ∷ []) (rest ts)
   next_more b n found x ts e f =
       let is = after_seen separator ts e in
       let yes : (sees separator ts && goes_on (after separator ts)) ≡ true = ap (λ v. v && goes_on (after separator ts)) e ∙ ap goes_on is ∙ f in
       let here : next b n found (x, ts) ≡ items b n (found ++ x ∷ []) (after separator ts) = ap (λ (v : Bool). if v then items b n (found ++ x ∷ []) (after separator ts) else Ok (found ++ x ∷ [], after separator ts)) yes in
       here ∙ ap (items b n (found ++ x ∷ [])) is
 
-  next_last : (b n : ℕ) (found : List A) (x : A) (ts : List Tok) → sees separator ts ≡ true → goes_on (rest ts) ≡ false → next b n found (x, ts) ≡ Ok (found ++ x ∷ [], rest ts)
+  next_last : (b : I) (n : ℕ) (found : List A) (x : A) (ts : List Tok) → sees separator ts ≡ true → goes_on (rest ts) ≡ false → next b n found (x, ts) ≡ Ok (found ++ x ∷ [], rest ts)
   next_last b n found x ts e f =
       let is = after_seen separator ts e in
       let yes : (sees separator ts && goes_on (after separator ts)) ≡ false = ap (λ v. v && goes_on (after separator ts)) e ∙ ap goes_on is ∙ f in
       let here : next b n found (x, ts) ≡ Ok (found ++ x ∷ [], after separator ts) = ap (λ (v : Bool). if v then items b n (found ++ x ∷ []) (after separator ts) else Ok (found ++ x ∷ [], after separator ts)) yes in
       here ∙ ap (λ z. Ok (found ++ x ∷ [], z)) is
 
-  next_over : (b n : ℕ) (found : List A) (x : A) (ts : List Tok) → sees separator ts ≡ false → next b n found (x, ts) ≡ Ok (found ++ x ∷ [], ts)
+  next_over : (b : I) (n : ℕ) (found : List A) (x : A) (ts : List Tok) → sees separator ts ≡ false → next b n found (x, ts) ≡ Ok (found ++ x ∷ [], ts)
   next_over b n found x ts e =
       let is = after_unseen separator ts e in
       let yes : (sees separator ts && goes_on (after separator ts)) ≡ false = ap (λ v. v && goes_on (after separator ts)) e in
@@ -77,7 +77,7 @@ module _ (goes_on : List Tok → Bool) (look : LooksAhead goes_on) (separator : 
 
   -- ---- what is read is spelled
 
-  record Listed (b : ℕ) (found : List A) (ts : List Tok) (all : List A) (left : List Tok) : Type 0 where
+  record Listed (b : I) (found : List A) (ts : List Tok) (all : List A) (left : List Tok) : Type 0 where
     xs : List A
     front : List Tok
     tail : List Tok
@@ -85,7 +85,7 @@ module _ (goes_on : List Tok → Bool) (look : LooksAhead goes_on) (separator : 
     ends : (tail ≡ []) ⊎ ((tail ≡ terminal separator ∷ []) × (goes_on left ≡ false))
     are : all ≡ found ++ xs
     apart : ts ≡ front ++ (tail ++ left)
-    within : deepest D xs ≤ b
+    within : deepest D xs ≤ size b
 
   each_of : (xs : List A) (ts : List Tok) → grammar.separated separator L xs ts → each_after separator L xs (terminal separator ∷ ts)
   each_of [] ts s = absurd s
@@ -94,7 +94,7 @@ module _ (goes_on : List Tok → Bool) (look : LooksAhead goes_on) (separator : 
   abbrev one : (x : A) (ts : List Tok) → L x ts → grammar.separated separator L (x ∷ []) ts
   one x ts s = (ts, [], s, refl, sym (append-nil ts))
 
-  items_sound : (b n : ℕ) (found : List A) (ts : List Tok) (all : List A) (left : List Tok) → items b n found ts ≡ Ok (all, left) → Listed b found ts all left
+  items_sound : (b : I) (n : ℕ) (found : List A) (ts : List Tok) (all : List A) (left : List Tok) → items b n found ts ≡ Ok (all, left) → Listed b found ts all left
   items_sound b zero found ts all left h = let never = sym (items_zero b found ts) ∙ h in absurd (cc)
   items_sound b (suc n) found ts all left h =
       let again = items_sound b n in
@@ -145,11 +145,11 @@ module _ (goes_on : List Tok → Bool) (look : LooksAhead goes_on) (separator : 
     abbrev Ends : List Tok → List Tok → Type 0
     Ends tail left = ((tail ≡ []) × (sees separator left ≡ false)) ⊎ ((tail ≡ terminal separator ∷ []) × (goes_on left ≡ false))
 
-    next_ends : (b n : ℕ) (found : List A) (x : A) (tail left : List Tok) → Ends tail left → next b n found (x, tail ++ left) ≡ Ok (found ++ x ∷ [], left)
+    next_ends : (b : I) (n : ℕ) (found : List A) (x : A) (tail left : List Tok) → Ends tail left → next b n found (x, tail ++ left) ≡ Ok (found ++ x ∷ [], left)
     next_ends b n found x tail left (inl e) = ap (λ z. next b n found (x, z ++ left)) e.0 ∙ next_over b n found x left e.1
     next_ends b n found x tail left (inr e) = ap (λ z. next b n found (x, z ++ left)) e.0 ∙ next_last b n found x (terminal separator ∷ left) (sees_word separator left) e.1
 
-    items_complete : (b : ℕ) (xs : List A) (ts tail left : List Tok) → grammar.separated separator L xs ts → deepest D xs ≤ b → Ends tail left → F (tail ++ left) →
+    items_complete : (b : I) (xs : List A) (ts tail left : List Tok) → grammar.separated separator L xs ts → deepest D xs ≤ size b → Ends tail left → F (tail ++ left) →
         (n : ℕ) → length ts ≤ n → (found : List A) → items b n found (ts ++ (tail ++ left)) ≡ Ok (found ++ xs, left)
     items_complete b [] ts tail left s d e f n fuel found = absurd s
     items_complete b (x ∷ xs) ts tail left s d e f zero fuel found = absurd (omega (arith, ap length s.4, length-append s.0 s.1, some x s.0 s.2))
@@ -171,7 +171,7 @@ module _ (goes_on : List Tok → Bool) (look : LooksAhead goes_on) (separator : 
 
   -- ---- what is left, and faults
 
-  next_shrinks : (b n : ℕ) (found : List A) (x : A × List Tok) → ((found : List A) (ts : List Tok) → AtMost (length ts) (items b n found ts)) → AtMost (length x.1) (next b n found x)
+  next_shrinks : (b : I) (n : ℕ) (found : List A) (x : A × List Tok) → ((found : List A) (ts : List Tok) → AtMost (length ts) (items b n found ts)) → AtMost (length x.1) (next b n found x)
   next_shrinks b n found x again =
       elim (turn x.1) [
         | more e g ↦ subst (AtMost (length x.1)) (sym (next_more b n found x.0 x.1 e g)) (at_most_more (length (rest x.1)) (length x.1) (items b n (found ++ x.0 ∷ []) (rest x.1)) (rest_length x.1) (again (found ++ x.0 ∷ []) (rest x.1)))
@@ -179,18 +179,18 @@ module _ (goes_on : List Tok → Bool) (look : LooksAhead goes_on) (separator : 
         | over e ↦ subst (AtMost (length x.1)) (sym (next_over b n found x.0 x.1 e)) (omega arith)
       ]
 
-  items_shrinks : (b n : ℕ) (found : List A) (ts : List Tok) → AtMost (length ts) (items b n found ts)
+  items_shrinks : (b : I) (n : ℕ) (found : List A) (ts : List Tok) → AtMost (length ts) (items b n found ts)
   items_shrinks b zero found ts = subst (AtMost (length ts)) (sym (items_zero b found ts)) (omega arith)
   items_shrinks b (suc n) found ts =
       let again = items_shrinks b n in
       subst (AtMost (length ts)) (sym (items_suc b n found ts))
       (at_most_then (length ts) (P b ts) (next b n found) (p.shrinks b ts) (λ x h. at_most_more (length x.1) (length ts) (next b n found x) h (next_shrinks b n found x again)))
 
-  shorter : (b : ℕ) (ts : List Tok) (x : A) (left : List Tok) → P b ts ≡ Ok (x, left) → length left < length ts
+  shorter : (b : I) (ts : List Tok) (x : A) (left : List Tok) → P b ts ≡ Ok (x, left) → length left < length ts
   shorter b ts x left h = let f = p.sound b ts x left h in omega (arith, ap length f.apart, length-append f.front left, some x f.front f.spells)
 
   -- at the end of the tokens no item comes, at any depth
-  end_faults : (b b' : ℕ) → b ≤ b' → (l : ℕ) × (l' : ℕ) × (P b [] ≡ Err (Syntax l)) × (P b' [] ≡ Err (Syntax l'))
+  end_faults : (b b' : I) → size b ≤ size b' → (l : ℕ) × (l' : ℕ) × (P b [] ≡ Err (Syntax l)) × (P b' [] ≡ Err (Syntax l'))
   end_faults b b' le =
       elim (p.alike b b' le [] [] tt []) [
         | inl past ↦ by (P b []) refl past
@@ -203,7 +203,7 @@ module _ (goes_on : List Tok → Bool) (look : LooksAhead goes_on) (separator : 
       by (Err (Syntax l)) e h = absurd (omega arith)
       by (Err TooDeep) e h = absurd (omega (arith, p.long b [] e))
 
-  items_end : (b b' n n' : ℕ) → b ≤ b' → (found : List A) → Alike [] [] (items b n found []) (items b' n' found [])
+  items_end : (b b' : I) (n n' : ℕ) → size b ≤ size b' → (found : List A) → Alike [] [] (items b n found []) (items b' n' found [])
   items_end b b' n n' le found =
       refuse_both (first n) (second n')
     where
@@ -218,7 +218,7 @@ module _ (goes_on : List Tok → Bool) (look : LooksAhead goes_on) (separator : 
       refuse_both : (l : ℕ) × (items b n found [] ≡ Err (Syntax l)) → (l' : ℕ) × (items b' n' found [] ≡ Err (Syntax l')) → Alike [] [] (items b n found []) (items b' n' found [])
       refuse_both x y = inr (inl (record { left = x.0; left' = y.0; was = x.1; low = omega arith; is = y.1 }))
 
-  module _ (b b' : ℕ) (le : b ≤ b') (s s' : List Tok) (same : SameHead s s') where
+  module _ (b b' : I) (le : size b ≤ size b') (s s' : List Tok) (same : SameHead s s') where
     abbrev ItemsAlike : ℕ → ℕ → Type 0
     ItemsAlike n n' = (found : List A) (c : List Tok) → length (c ++ s) ≤ n → length (c ++ s') ≤ n' → Alike s s' (items b n found (c ++ s)) (items b' n' found (c ++ s'))
 
@@ -271,7 +271,7 @@ module _ (goes_on : List Tok → Bool) (look : LooksAhead goes_on) (separator : 
         (alike_then s s' (P b (c ++ s)) (P b' (c ++ s')) (next b n found) (next b' n' found) (p.alike b b' le s s' same c) (λ x h. next_past n found x h)
         (λ x d was is. next_alike n n' again found x d (omega (arith, shorter b (c ++ s) x (d ++ s) was)) (omega (arith, shorter b' (c ++ s') x (d ++ s') is)))))
 
-  items_long : (b n : ℕ) (found : List A) (ts : List Tok) → items b n found ts ≡ Err TooDeep → b < length ts
+  items_long : (b : I) (n : ℕ) (found : List A) (ts : List Tok) → items b n found ts ≡ Err TooDeep → size b < length ts
   items_long b zero found ts h = let never = sym (items_zero b found ts) ∙ h in absurd (cc)
   items_long b (suc n) found ts h =
       let again = items_long b n in
@@ -297,7 +297,7 @@ module _ (goes_on : List Tok → Bool) (look : LooksAhead goes_on) (separator : 
   Unterminated left = F left × (sees separator left ≡ false) × (goes_on left ≡ false)
 
   whole_complete : (follows : (ts : List Tok) → F (terminal separator ∷ ts)) (begins : (x : A) (ts left : List Tok) → L x ts → goes_on (ts ++ left) ≡ true) →
-      (b : ℕ) (xs : List A) (ts left : List Tok) → grammar.terminated separator L xs ts → deepest D xs ≤ b → Unterminated left → items b (length (ts ++ left)) [] (ts ++ left) ≡ Ok (xs, left)
+      (b : I) (xs : List A) (ts left : List Tok) → grammar.terminated separator L xs ts → deepest D xs ≤ size b → Unterminated left → items b (length (ts ++ left)) [] (ts ++ left) ≡ Ok (xs, left)
   whole_complete follows begins b xs ts left s d f = by s.1 s.3 s.4
     where
       read : (tail : List Tok) → Ends follows begins tail left → F (tail ++ left) → ts ≡ s.0 ++ tail → items b (length (ts ++ left)) [] (ts ++ left) ≡ Ok (xs, left)
@@ -310,14 +310,14 @@ module _ (goes_on : List Tok → Bool) (look : LooksAhead goes_on) (separator : 
       by tail (inl is) apart = read tail (inr (is, f.2)) (subst (λ z. F (z ++ left)) (sym is) (follows left)) apart
       by tail (inr is) apart = read tail (inl (is, f.1)) (subst (λ z. F (z ++ left)) (sym is) f.0) apart
 
-  whole_alike : (b b' : ℕ) → b ≤ b' → (s s' : List Tok) → SameHead s s' → (c : List Tok) → Alike s s' (items b (length (c ++ s)) [] (c ++ s)) (items b' (length (c ++ s')) [] (c ++ s'))
+  whole_alike : (b b' : I) → size b ≤ size b' → (s s' : List Tok) → SameHead s s' → (c : List Tok) → Alike s s' (items b (length (c ++ s)) [] (c ++ s)) (items b' (length (c ++ s')) [] (c ++ s'))
   whole_alike b b' le s s' same c = items_alike b b' le s s' same (length (c ++ s)) (length (c ++ s')) [] c (omega arith) (omega arith)
 
   listed_ends : (left tail : List Tok) → (tail ≡ []) ⊎ ((tail ≡ terminal separator ∷ []) × (goes_on left ≡ false)) → perhaps separator tail
   listed_ends left tail (inl e) = inr e
   listed_ends left tail (inr e) = inl e.0
 
-  whole_sound : (b : ℕ) (ts : List Tok) (xs : List A) (left : List Tok) → items b (length ts) [] ts ≡ Ok (xs, left) → Found (grammar.terminated separator L) (deepest D) b ts xs left
+  whole_sound : (b : I) (ts : List Tok) (xs : List A) (left : List Tok) → items b (length ts) [] ts ≡ Ok (xs, left) → Found (grammar.terminated separator L) (deepest D) (size b) ts xs left
   whole_sound b ts xs left h =
       let m = items_sound b (length ts) [] ts xs left h in
       let same : m.xs ≡ xs = sym m.are in
@@ -325,11 +325,11 @@ module _ (goes_on : List Tok → Bool) (look : LooksAhead goes_on) (separator : 
         front = m.front ++ m.tail;
         spells = subst (λ xs. grammar.terminated separator L xs (m.front ++ m.tail)) same (m.front, m.tail, m.spells, listed_ends left m.tail m.ends, refl);
         apart = m.apart ∙ sym (append_assoc m.front m.tail left);
-        within = subst (λ xs. deepest D xs ≤ b) same m.within;
+        within = subst (λ xs. deepest D xs ≤ size b) same m.within;
       }
 
   pub terminated_exact : (follows : (ts : List Tok) → F (terminal separator ∷ ts)) (begins : (x : A) (ts left : List Tok) → L x ts → goes_on (ts ++ left) ≡ true) →
-      Exact (grammar.terminated separator L) (deepest D) Unterminated (λ b. terminated goes_on separator (P b))
+      ExactFor size (grammar.terminated separator L) (deepest D) Unterminated (λ b. terminated goes_on separator (P b))
   unfolding terminated
   terminated_exact follows begins = record {
     complete = whole_complete follows begins;
@@ -344,12 +344,12 @@ module _ (goes_on : List Tok → Bool) (look : LooksAhead goes_on) (separator : 
   separated_some (x ∷ xs) ts s = omega (arith, ap length s.4, length-append s.0 s.1, some x s.0 s.2)
 
 -- commas: after a separator an item has to follow
-module _ (separator : Terminal) {A : Type 0} {L : A → Language} {D : A → ℕ} {F : Language} {P : ℕ → Reader A}
-    (p : Exact L D F P) (some : (x : A) (ts : List Tok) → L x ts → 0 < length ts) where
+module _ (separator : Terminal) {I : Type 0} {size : I → ℕ} {A : Type 0} {L : A → Language} {D : A → ℕ} {F : Language} {P : I → Reader A}
+    (p : ExactFor size L D F P) (some : (x : A) (ts : List Tok) → L x ts → 0 < length ts) where
   abbrev Unparted : Language
   Unparted left = F left × (sees separator left ≡ false)
 
-  parted_sound : (b : ℕ) (ts : List Tok) (xs : List A) (left : List Tok) → items_from always separator (P b) (length ts) [] ts ≡ Ok (xs, left) → Found (grammar.separated separator L) (deepest D) b ts xs left
+  parted_sound : (b : I) (ts : List Tok) (xs : List A) (left : List Tok) → items_from always separator (P b) (length ts) [] ts ≡ Ok (xs, left) → Found (grammar.separated separator L) (deepest D) (size b) ts xs left
   parted_sound b ts xs left h =
       let m = items_sound always (λ s s' h. refl) separator p some b (length ts) [] ts xs left h in
       let same : m.xs ≡ xs = sym m.are in
@@ -358,15 +358,15 @@ module _ (separator : Terminal) {A : Type 0} {L : A → Language} {D : A → ℕ
         front = m.front;
         spells = subst (λ xs. grammar.separated separator L xs m.front) same m.spells;
         apart = m.apart ∙ ap (λ z. m.front ++ (z ++ left)) none;
-        within = subst (λ xs. deepest D xs ≤ b) same m.within;
+        within = subst (λ xs. deepest D xs ≤ size b) same m.within;
       }
 
-  parted_complete : (follows : (ts : List Tok) → F (terminal separator ∷ ts)) → (b : ℕ) (xs : List A) (ts left : List Tok) → grammar.separated separator L xs ts → deepest D xs ≤ b → Unparted left →
+  parted_complete : (follows : (ts : List Tok) → F (terminal separator ∷ ts)) → (b : I) (xs : List A) (ts left : List Tok) → grammar.separated separator L xs ts → deepest D xs ≤ size b → Unparted left →
       items_from always separator (P b) (length (ts ++ left)) [] (ts ++ left) ≡ Ok (xs, left)
   parted_complete follows b xs ts left s d f =
       items_complete always (λ s s' h. refl) separator p some follows (λ x ts left s. refl) b xs ts [] left s d (inl (refl, f.1)) f.0 (length (ts ++ left)) (omega (arith, length-append ts left)) []
 
-  pub separated_exact : (follows : (ts : List Tok) → F (terminal separator ∷ ts)) → Exact (grammar.separated separator L) (deepest D) Unparted (λ b. separated separator (P b))
+  pub separated_exact : (follows : (ts : List Tok) → F (terminal separator ∷ ts)) → ExactFor size (grammar.separated separator L) (deepest D) Unparted (λ b. separated separator (P b))
   unfolding separated
   separated_exact follows = record {
     complete = parted_complete follows;
@@ -378,36 +378,36 @@ module _ (separator : Terminal) {A : Type 0} {L : A → Language} {D : A → ℕ
 
 -- ---- any number of items, as long as the tokens begin one
 
-module _ (begins : List Tok → Bool) (look : LooksAhead begins) (none : begins [] ≡ false) {A : Type 0} {L : A → Language} {D : A → ℕ} {F : Language} {P : ℕ → Reader A}
-    (p : Exact L D F P) (some : (x : A) (ts : List Tok) → L x ts → 0 < length ts) where
-  abbrev run : ℕ → ℕ → List A → Reader (List A)
+module _ (begins : List Tok → Bool) (look : LooksAhead begins) (none : begins [] ≡ false) {I : Type 0} {size : I → ℕ} {A : Type 0} {L : A → Language} {D : A → ℕ} {F : Language} {P : I → Reader A}
+    (p : ExactFor size L D F P) (some : (x : A) (ts : List Tok) → L x ts → 0 < length ts) where
+  abbrev run : I → ℕ → List A → Reader (List A)
   run b = many_from begins (P b)
 
-  abbrev more_of : ℕ → ℕ → List A → A × List Tok → Outcome (List A)
+  abbrev more_of : I → ℕ → List A → A × List Tok → Outcome (List A)
   more_of b n found x = run b n (found ++ x.0 ∷ []) x.1
 
-  run_zero : (b : ℕ) (found : List A) (ts : List Tok) → run b zero found ts ≡ Ok (found, ts)
+  run_zero : (b : I) (found : List A) (ts : List Tok) → run b zero found ts ≡ Ok (found, ts)
   unfolding many_from
   run_zero b found ts = refl
 
-  run_more : (b n : ℕ) (found : List A) (ts : List Tok) → begins ts ≡ true → run b (suc n) found ts ≡ (P b ts >>= more_of b n found)
+  run_more : (b : I) (n : ℕ) (found : List A) (ts : List Tok) → begins ts ≡ true → run b (suc n) found ts ≡ (P b ts >>= more_of b n found)
   unfolding many_from
   run_more b n found ts h = rw h refl
 
-  run_over : (b n : ℕ) (found : List A) (ts : List Tok) → begins ts ≡ false → run b n found ts ≡ Ok (found, ts)
+  run_over : (b : I) (n : ℕ) (found : List A) (ts : List Tok) → begins ts ≡ false → run b n found ts ≡ Ok (found, ts)
   unfolding many_from
   run_over b zero found ts h = refl
   run_over b (suc n) found ts h = rw h refl
 
-  run_sound : (b n : ℕ) (found : List A) (ts : List Tok) (all : List A) (left : List Tok) → run b n found ts ≡ Ok (all, left) →
-      (xs : List A) × (all ≡ found ++ xs) × Found (grammar.many L) (deepest D) b ts xs left
+  run_sound : (b : I) (n : ℕ) (found : List A) (ts : List Tok) (all : List A) (left : List Tok) → run b n found ts ≡ Ok (all, left) →
+      (xs : List A) × (all ≡ found ++ xs) × Found (grammar.many L) (deepest D) (size b) ts xs left
   run_sound b zero found ts all left h =
       let same = ok_pair found all ts left (sym (run_zero b found ts) ∙ h) in
       ([], sym same.0 ∙ sym (append-nil found), record { front = []; spells = refl; apart = same.1; within = omega arith })
   run_sound b (suc n) found ts all left h = by (run_sound b n) (begins ts) refl
     where
-      by : ((found : List A) (ts : List Tok) (all : List A) (left : List Tok) → run b n found ts ≡ Ok (all, left) → (xs : List A) × (all ≡ found ++ xs) × Found (grammar.many L) (deepest D) b ts xs left) →
-          (v : Bool) → begins ts ≡ v → (xs : List A) × (all ≡ found ++ xs) × Found (grammar.many L) (deepest D) b ts xs left
+      by : ((found : List A) (ts : List Tok) (all : List A) (left : List Tok) → run b n found ts ≡ Ok (all, left) → (xs : List A) × (all ≡ found ++ xs) × Found (grammar.many L) (deepest D) (size b) ts xs left) →
+          (v : Bool) → begins ts ≡ v → (xs : List A) × (all ≡ found ++ xs) × Found (grammar.many L) (deepest D) (size b) ts xs left
       by again false e =
           let same = ok_pair found all ts left (sym (run_over b (suc n) found ts e) ∙ h) in
           ([], sym same.0 ∙ sym (append-nil found), record { front = []; spells = refl; apart = same.1; within = omega arith })
@@ -429,7 +429,7 @@ module _ (begins : List Tok → Bool) (look : LooksAhead begins) (none : begins 
   Over left = F left × (begins left ≡ false)
 
   run_complete : (chain : (x : A) (ts left : List Tok) → L x ts → F (ts ++ left)) (opens : (x : A) (ts left : List Tok) → L x ts → begins (ts ++ left) ≡ true) →
-      (b : ℕ) (xs : List A) (ts left : List Tok) → grammar.many L xs ts → deepest D xs ≤ b → Over left → (n : ℕ) → length ts ≤ n → (found : List A) → run b n found (ts ++ left) ≡ Ok (found ++ xs, left)
+      (b : I) (xs : List A) (ts left : List Tok) → grammar.many L xs ts → deepest D xs ≤ size b → Over left → (n : ℕ) → length ts ≤ n → (found : List A) → run b n found (ts ++ left) ≡ Ok (found ++ xs, left)
   run_complete chain opens b [] ts left s d f n fuel found = ap (λ z. run b n found (z ++ left)) s ∙ run_over b n found left f.1 ∙ ap (λ r. Ok (r, left)) (sym (append-nil found))
   run_complete chain opens b (x ∷ xs) ts left s d f zero fuel found = absurd (omega (arith, ap length s.4, length-append s.0 s.1, some x s.0 s.2))
   run_complete chain opens b (x ∷ xs) ts left s d f (suc n) fuel found =
@@ -442,7 +442,7 @@ module _ (begins : List Tok → Bool) (look : LooksAhead begins) (none : begins 
       after_item [] ts s = subst (λ z. F (z ++ left)) (sym s) f.0
       after_item (y ∷ ys) ts s = subst F (sym (ap (λ z. z ++ left) s.4 ∙ append_assoc s.0 s.1 left)) (chain y s.0 (s.1 ++ left) s.2)
 
-  run_shrinks : (b n : ℕ) (found : List A) (ts : List Tok) → AtMost (length ts) (run b n found ts)
+  run_shrinks : (b : I) (n : ℕ) (found : List A) (ts : List Tok) → AtMost (length ts) (run b n found ts)
   run_shrinks b zero found ts = subst (AtMost (length ts)) (sym (run_zero b found ts)) (omega arith)
   run_shrinks b (suc n) found ts = by (run_shrinks b n) (begins ts) refl
     where
@@ -452,10 +452,10 @@ module _ (begins : List Tok → Bool) (look : LooksAhead begins) (none : begins 
           subst (AtMost (length ts)) (sym (run_more b n found ts e))
           (at_most_then (length ts) (P b ts) (more_of b n found) (p.shrinks b ts) (λ x h. at_most_more (length x.1) (length ts) (more_of b n found x) h (again (found ++ x.0 ∷ []) x.1)))
 
-  nearer : (b : ℕ) (ts : List Tok) (x : A) (left : List Tok) → P b ts ≡ Ok (x, left) → length left < length ts
+  nearer : (b : I) (ts : List Tok) (x : A) (left : List Tok) → P b ts ≡ Ok (x, left) → length left < length ts
   nearer b ts x left h = let f = p.sound b ts x left h in omega (arith, ap length f.apart, length-append f.front left, some x f.front f.spells)
 
-  module _ (b b' : ℕ) (le : b ≤ b') (s s' : List Tok) (same : SameHead s s') where
+  module _ (b b' : I) (le : size b ≤ size b') (s s' : List Tok) (same : SameHead s s') where
     both_over : (n n' : ℕ) (found : List A) (c : List Tok) → begins (c ++ s) ≡ false → Alike s s' (run b n found (c ++ s)) (run b' n' found (c ++ s'))
     both_over n n' found c e =
         let e' : begins (c ++ s') ≡ false = sym (look (c ++ s) (c ++ s') (same_head s s' same c)) ∙ e in
@@ -482,11 +482,11 @@ module _ (begins : List Tok → Bool) (look : LooksAhead begins) (none : begins 
             (λ x h. past_at_most s (length x.1) (more_of b n found x) h (run_shrinks b n (found ++ x.0 ∷ []) x.1))
             (λ x d was is. again (found ++ x ∷ []) d (omega (arith, nearer b (c ++ s) x (d ++ s) was)) (omega (arith, nearer b' (c ++ s') x (d ++ s') is)))))
 
-  run_long : (b n : ℕ) (found : List A) (ts : List Tok) → run b n found ts ≡ Err TooDeep → b < length ts
+  run_long : (b : I) (n : ℕ) (found : List A) (ts : List Tok) → run b n found ts ≡ Err TooDeep → size b < length ts
   run_long b zero found ts h = let never = sym (run_zero b found ts) ∙ h in absurd (cc)
   run_long b (suc n) found ts h = by (run_long b n) (begins ts) refl
     where
-      by : ((found : List A) (ts : List Tok) → run b n found ts ≡ Err TooDeep → b < length ts) → (v : Bool) → begins ts ≡ v → b < length ts
+      by : ((found : List A) (ts : List Tok) → run b n found ts ≡ Err TooDeep → size b < length ts) → (v : Bool) → begins ts ≡ v → size b < length ts
       by again false e = let never = sym (run_over b (suc n) found ts e) ∙ h in absurd (cc)
       by again true e =
           elim (bind_err (P b ts) (more_of b n found) TooDeep (sym (run_more b n found ts e) ∙ h)) [
@@ -497,11 +497,11 @@ module _ (begins : List Tok → Bool) (look : LooksAhead begins) (none : begins 
                 omega arith
           ]
 
-  many_sound : (b : ℕ) (ts : List Tok) (xs : List A) (left : List Tok) → run b (length ts) [] ts ≡ Ok (xs, left) → Found (grammar.many L) (deepest D) b ts xs left
-  many_sound b ts xs left h = let m = run_sound b (length ts) [] ts xs left h in subst (λ xs. Found (grammar.many L) (deepest D) b ts xs left) (sym m.1) m.2
+  many_sound : (b : I) (ts : List Tok) (xs : List A) (left : List Tok) → run b (length ts) [] ts ≡ Ok (xs, left) → Found (grammar.many L) (deepest D) (size b) ts xs left
+  many_sound b ts xs left h = let m = run_sound b (length ts) [] ts xs left h in subst (λ xs. Found (grammar.many L) (deepest D) (size b) ts xs left) (sym m.1) m.2
 
   pub many_exact : (chain : (x : A) (ts left : List Tok) → L x ts → F (ts ++ left)) (opens : (x : A) (ts left : List Tok) → L x ts → begins (ts ++ left) ≡ true) →
-      Exact (grammar.many L) (deepest D) Over (λ b. many begins (P b))
+      ExactFor size (grammar.many L) (deepest D) Over (λ b. many begins (P b))
   unfolding many
   many_exact chain opens = record {
     complete = λ b xs ts left s d f. run_complete chain opens b xs ts left s d f (length (ts ++ left)) (omega (arith, length-append ts left)) [];

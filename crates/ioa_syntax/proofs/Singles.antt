@@ -13,7 +13,7 @@ use Rattle.ioa_syntax.specs.declared.fault.Fault.TheVariants.{TooDeep}
 use Rattle.ioa_syntax.specs.Grammar.{Language, SameHead, ◌▹◌, single, word, called, nothing, kind_word}
 use Rattle.ioa_syntax.specs.Reading.{Outcome, Reader, rest, taken, sees, after, is_terminal, same_terminal, sign, a_name, a_kind, kind_at, kind_of, kind_in, terminal_at, terminal_in}
 use Rattle.ioa_syntax.proofs.Outcomes.{ok_pair, AtMost, at_most_more, Alike, alike_rest, refused_at, went, front_length, same_head, LooksAhead, head_alike, rest_length}
-use Rattle.ioa_syntax.proofs.Exact.{Found, Exact, any, flat}
+use Rattle.ioa_syntax.proofs.Exact.{Found, ExactFor, Exact, any, flat}
 
 -- ---- tests
 
@@ -92,13 +92,13 @@ module _ {X : Type 0} (f : List Tok → Option X) (of : X → Tok) (P : Reader X
       by None h = absurd (cc)
       by (Some y) h = absurd (cc)
 
-  pub token : Exact One flat any (λ b. P)
-  token = record {
+  pub token : {I : Type 0} {size : I → ℕ} → ExactFor size One flat any (λ b. P)
+  token {size = size} = record {
     complete = λ b x ts left s d h. ap (λ z. P (z ++ left)) s ∙ takes (of x ∷ left) ∙ ap (taken (of x ∷ left)) (is x left);
-    sound = token_sound;
+    sound = λ b. token_sound (size b);
     shrinks = λ b ts. subst (AtMost (length ts)) (sym (takes ts)) (taken_shrinks ts (f ts));
     alike = λ b b' le s s' h c. token_alike s s' h c;
-    long = token_long;
+    long = λ b. token_long (size b);
   }
 
 -- ---- a word or sign, a name, a kind
@@ -125,10 +125,13 @@ sign_none : (t : Terminal) → sign_at t [] ≡ None
 unfolding sees
 sign_none t = refl
 
-pub sign_exact : (t : Terminal) → Exact (λ (u : Unit {0}). word t) flat any (λ b. sign t)
-sign_exact t =
+pub sign_for : {I : Type 0} {size : I → ℕ} (t : Terminal) → ExactFor size (λ (u : Unit {0}). word t) flat any (λ b. sign t)
+sign_for t =
     token (sign_at t) (λ u. terminal t) (sign t) (sign_takes t) (λ s s' h. ap (λ (v : Bool). if v then Some tt else None) (sees_alike t s s' h)) (sign_none t)
     (λ x ts. rw (sees_word t ts) refl) (sign_only t)
+
+pub sign_exact : (t : Terminal) → Exact (λ (u : Unit {0}). word t) flat any (λ b. sign t)
+sign_exact t = sign_for t
 
 abbrev name_in : Tok → Option actions.Name
 name_in (tokens.number n) = None
@@ -152,8 +155,11 @@ name_only (tokens.number m ∷ ts) n h = absurd (cc)
 name_only (tokens.name m ∷ ts) n h = let same : m ≡ n = cc in ap (λ m. tokens.name m ∷ ts) same
 name_only (terminal t ∷ ts) n h = absurd (cc)
 
+pub name_for : {I : Type 0} {size : I → ℕ} → ExactFor size called flat any (λ b. a_name)
+name_for = token name_at tokens.name a_name name_takes (head_alike name_at None name_in refl (λ x ts. refl)) refl (λ x ts. refl) name_only
+
 pub name_exact : Exact called flat any (λ b. a_name)
-name_exact = token name_at tokens.name a_name name_takes (head_alike name_at None name_in refl (λ x ts. refl)) refl (λ x ts. refl) name_only
+name_exact = name_for
 
 kind_only-terminal : (t : Terminal) (k : Kind) → kind_of t ≡ Some k → t ≡ kind_word k
 unfolding kind_of
@@ -195,30 +201,30 @@ kind_exact = token kind_at (λ k. terminal (kind_word k)) a_kind kind_takes kind
 
 -- ---- what a word introduces, or else something that does not begin with it
 
-module _ {A : Type 0} (t : Terminal) {L M : A → Language} {D : A → ℕ} {F G : Language} {P Q : ℕ → Reader A} (p : Exact L D F P) (q : Exact M D G Q) (H : Language)
+module _ {I : Type 0} {size : I → ℕ} {A : Type 0} (t : Terminal) {L M : A → Language} {D : A → ℕ} {F G : Language} {P Q : I → Reader A} (p : ExactFor size L D F P) (q : ExactFor size M D G Q) (H : Language)
     (first : (left : List Tok) → H left → F left) (second : (left : List Tok) → H left → G left) (unseen : (x : A) (ts left : List Tok) → M x ts → H left → sees t (ts ++ left) ≡ false) where
   abbrev Either : A → Language
   Either x = λ ts. ((word t ▹ L x) ts) ⊎ M x ts
 
-  abbrev pub either : ℕ → Reader A
+  abbrev pub either : I → Reader A
   either b ts = if sees t ts then P b (after t ts) else Q b (after t ts)
 
-  where_seen : (b : ℕ) (ts : List Tok) → sees t ts ≡ true → either b ts ≡ P b (rest ts)
+  where_seen : (b : I) (ts : List Tok) → sees t ts ≡ true → either b ts ≡ P b (rest ts)
   where_seen b ts h = let e : either b ts ≡ P b (after t ts) = rw h refl in e ∙ ap (P b) (after_seen t ts h)
 
-  where_unseen : (b : ℕ) (ts : List Tok) → sees t ts ≡ false → either b ts ≡ Q b ts
+  where_unseen : (b : I) (ts : List Tok) → sees t ts ≡ false → either b ts ≡ Q b ts
   where_unseen b ts h = let e : either b ts ≡ Q b (after t ts) = rw h refl in e ∙ ap (Q b) (after_unseen t ts h)
 
-  either_complete : (b : ℕ) (x : A) (ts left : List Tok) → Either x ts → D x ≤ b → H left → either b (ts ++ left) ≡ Ok (x, left)
+  either_complete : (b : I) (x : A) (ts left : List Tok) → Either x ts → D x ≤ size b → H left → either b (ts ++ left) ≡ Ok (x, left)
   either_complete b x ts left (inl s) d f =
       let apart : ts ++ left ≡ terminal t ∷ (s.1 ++ left) = ap (λ z. z ++ left) (s.4 ∙ ap (λ z. z ++ s.1) s.2) in
       ap (either b) apart ∙ where_seen b (terminal t ∷ (s.1 ++ left)) (sees_word t (s.1 ++ left)) ∙ p.complete b x s.1 left s.3 d (first left f)
   either_complete b x ts left (inr s) d f = where_unseen b (ts ++ left) (unseen x ts left s f) ∙ q.complete b x ts left s d (second left f)
 
-  either_sound : (b : ℕ) (ts : List Tok) (x : A) (left : List Tok) → either b ts ≡ Ok (x, left) → Found Either D b ts x left
+  either_sound : (b : I) (ts : List Tok) (x : A) (left : List Tok) → either b ts ≡ Ok (x, left) → Found Either D (size b) ts x left
   either_sound b ts x left h = by (sees t ts) refl
     where
-      by : (v : Bool) → sees t ts ≡ v → Found Either D b ts x left
+      by : (v : Bool) → sees t ts ≡ v → Found Either D (size b) ts x left
       by true e =
           let f = p.sound b (rest ts) x left (sym (where_seen b ts e) ∙ h) in
           record { front = terminal t ∷ f.front; spells = inl (terminal t ∷ [], f.front, refl, f.spells, refl); apart = seen t ts e ∙ ap (λ z. terminal t ∷ z) f.apart; within = f.within }
@@ -226,14 +232,14 @@ module _ {A : Type 0} (t : Terminal) {L M : A → Language} {D : A → ℕ} {F G
           let f = q.sound b ts x left (sym (where_unseen b ts e) ∙ h) in
           record { front = f.front; spells = inr f.spells; apart = f.apart; within = f.within }
 
-  either_shrinks : (b : ℕ) (ts : List Tok) → AtMost (length ts) (either b ts)
+  either_shrinks : (b : I) (ts : List Tok) → AtMost (length ts) (either b ts)
   either_shrinks b ts = by (sees t ts) refl
     where
       by : (v : Bool) → sees t ts ≡ v → AtMost (length ts) (either b ts)
       by true e = subst (AtMost (length ts)) (sym (where_seen b ts e)) (at_most_more (length (rest ts)) (length ts) (P b (rest ts)) (rest_length ts) (p.shrinks b (rest ts)))
       by false e = subst (AtMost (length ts)) (sym (where_unseen b ts e)) (q.shrinks b ts)
 
-  either_alike : (b b' : ℕ) → b ≤ b' → (s s' : List Tok) → SameHead s s' → (c : List Tok) → Alike s s' (either b (c ++ s)) (either b' (c ++ s'))
+  either_alike : (b b' : I) → size b ≤ size b' → (s s' : List Tok) → SameHead s s' → (c : List Tok) → Alike s s' (either b (c ++ s)) (either b' (c ++ s'))
   either_alike b b' le s s' h c = by (sees t (c ++ s)) refl
     where
       same : sees t (c ++ s) ≡ sees t (c ++ s')
@@ -248,14 +254,14 @@ module _ {A : Type 0} (t : Terminal) {L M : A → Language} {D : A → ℕ} {F G
           subst (λ o. Alike s s' o (either b' (c ++ s'))) (sym (where_unseen b (c ++ s) e))
           (subst (λ o. Alike s s' (Q b (c ++ s)) o) (sym (where_unseen b' (c ++ s') (sym same ∙ e))) (q.alike b b' le s s' h c))
 
-  either_long : (b : ℕ) (ts : List Tok) → either b ts ≡ Err TooDeep → b < length ts
+  either_long : (b : I) (ts : List Tok) → either b ts ≡ Err TooDeep → size b < length ts
   either_long b ts h = by (sees t ts) refl
     where
-      by : (v : Bool) → sees t ts ≡ v → b < length ts
+      by : (v : Bool) → sees t ts ≡ v → size b < length ts
       by true e = let far = p.long b (rest ts) (sym (where_seen b ts e) ∙ h) in omega (arith, rest_length ts)
       by false e = q.long b ts (sym (where_unseen b ts e) ∙ h)
 
-  pub either_exact : Exact Either D H either
+  pub either_exact : ExactFor size Either D H either
   either_exact = record { complete = either_complete; sound = either_sound; shrinks = either_shrinks; alike = either_alike; long = either_long }
 
 -- ---- nothing at all, which stands for one value
@@ -269,21 +275,21 @@ module _ {A : Type 0} (absent : A) (D : A → ℕ) (shallow : D absent ≡ 0) wh
       let same = ok_pair absent x ts left h in
       record { front = []; spells = (sym same.0, refl); apart = same.1; within = let small : D x ≡ 0 = ap D (sym same.0) ∙ shallow in omega arith }
 
-  pub absent_exact : Exact Absent D any (λ b ts. Ok (absent, ts))
-  absent_exact = record {
+  pub absent_exact : {I : Type 0} {size : I → ℕ} → ExactFor size Absent D any (λ b ts. Ok (absent, ts))
+  absent_exact {size = size} = record {
     complete = λ b x ts left s d f. ap (λ z. Ok (absent, z ++ left)) s.1 ∙ ap (λ y. Ok (y, left)) (sym s.0);
-    sound = absent_sound;
+    sound = λ b. absent_sound (size b);
     shrinks = λ b ts. omega arith;
     alike = λ b b' le s s' h c. went s s' absent c;
     long = λ b ts h. absurd (cc (h));
   }
 
-module _ {A : Type 0} (t : Terminal) (absent : A) {L : A → Language} {D : A → ℕ} {F : Language} {P : ℕ → Reader A} (p : Exact L D F P) (shallow : D absent ≡ 0) where
+module _ {I : Type 0} {size : I → ℕ} {A : Type 0} (t : Terminal) (absent : A) {L : A → Language} {D : A → ℕ} {F : Language} {P : I → Reader A} (p : ExactFor size L D F P) (shallow : D absent ≡ 0) where
   abbrev pub Introduced : A → Language
   Introduced x = λ ts. ((word t ▹ L x) ts) ⊎ ((x ≡ absent) × nothing ts)
 
   abbrev Unseen : Language
   Unseen ts = F ts × (sees t ts ≡ false)
 
-  pub introduced_exact : Exact Introduced D Unseen (λ b ts. if sees t ts then P b (after t ts) else Ok (absent, after t ts))
+  pub introduced_exact : ExactFor size Introduced D Unseen (λ b ts. if sees t ts then P b (after t ts) else Ok (absent, after t ts))
   introduced_exact = either_exact t p (absent_exact absent D shallow) Unseen (λ left f. f.0) (λ left f. tt) (λ x ts left s f. ap (λ z. sees t (z ++ left)) s.1 ∙ f.1)
