@@ -1,5 +1,5 @@
 -- Each reader of a production against its language.
-use Rattle.std.proofs.Common.{◌≡◌, ℕ, ◌<◌, ◌⊎◌, inl, inr, Bool, true, false, List, [], ◌∷◌, ◌++◌, length, refl, sym, ap, ◌∙◌, subst, arith, Option, Some, None, Ok, length-append, is_some}
+use Rattle.std.proofs.Common.{◌≡◌, ℕ, ◌<◌, max, ◌⊎◌, inl, inr, Bool, true, false, List, [], ◌∷◌, ◌++◌, length, refl, sym, ap, ◌∙◌, subst, arith, Option, Some, None, Ok, length-append, append_assoc, is_some}
 use Rattle.ioa_value.specs.declared.terminal.Terminal.{Terminal}
 use Rattle.ioa_value.specs.declared.terminal.Terminal.TheVariants as terminals
 use Rattle.ioa_lex.specs.Tokens as tokens
@@ -7,50 +7,21 @@ use Rattle.ioa_lex.specs.Tokens.{Tok, terminal}
 use Rattle.ioa_value.specs.Actions.{Name}
 use Rattle.ioa_syntax.specs.declared.tree.Kind.{Kind}
 use Rattle.ioa_syntax.specs.declared.tree.Kind.TheVariants.{Input, Output, Internal}
-use Rattle.ioa_syntax.specs.Tree.{Expr, FieldTree, PositionTree, typed, EntryTree, VariableTree, ProposalTree, Stmt, assign, TransitionTree, AutomatonTree, InstanceTree, CompositionTree, DeclarationTree, automaton, composition}
-use Rattle.ioa_syntax.specs.Depth.{depth_of, deepest, deep_option, deep_variable, deep_proposal, deep_stmt, deep_transition, deep_automaton, deep_instance, deep_composition, deep}
+use Rattle.ioa_syntax.specs.Tree.{Expr, FieldTree, PositionTree, typed, EntryTree, VariableTree, ProposalTree, Stmts, TransitionTree, AutomatonTree, InstanceTree, CompositionTree, DeclarationTree, automaton, composition}
+use Rattle.ioa_syntax.specs.Depth.{depth_of, deepest, deep_option, deep_variable, deep_proposal, deep_stmts, stmts_depth, deep_transition, deep_automaton, deep_instance, deep_composition, deep}
 use Rattle.ioa_syntax.specs.Grammar as grammar
-use Rattle.ioa_syntax.specs.Grammar.{Language, SameHead, ◌▹◌, single, word, called, nothing, empty, kind_word, SpellsExpr, SpellsField, SpellsFields, SpellsPosition, SpellsPositions, SpellsEntry, SpellsVariable, SpellsProposal, SpellsStmt, SpellsTransition, SpellsAutomaton, SpellsArguments, SpellsInstance, SpellsInstances, SpellsComposition, SpellsDeclaration}
-use Rattle.ioa_syntax.specs.Reading.{Reader, built, perhaps, optional_list, sees, after, sees_name, sees_kind, kind_at, kind_of, terminal_at, same_terminal, is_name, operator_of, closing, field, fields, position, positions, entry, entries, variable, variables, proposal, proposals, statement, statements, transition, transitions, an_automaton, arguments, instance, instances, a_composition, many, rest, composed, declaration}
+use Rattle.ioa_syntax.specs.Grammar.{Language, SameHead, ◌▹◌, single, word, called, nothing, empty, kind_word, SpellsExpr, SpellsField, SpellsFields, SpellsPosition, SpellsPositions, SpellsEntry, SpellsVariable, SpellsProposal, SpellsAfter, SpellsTransition, SpellsAutomaton, SpellsArguments, SpellsInstance, SpellsInstances, SpellsComposition, SpellsDeclaration}
+use Rattle.ioa_syntax.specs.Reading.{Reader, built, perhaps, optional_list, sees, after, sees_name, sees_statement, sees_kind, kind_at, kind_of, terminal_at, same_terminal, is_name, operator_of, closing, field, fields, position, positions, entry, entries, variable, variables, proposal, proposals, introduced, statements, transition, transitions, an_automaton, arguments, instance, instances, a_composition, many, rest, composed, declaration}
 use Rattle.ioa_syntax.proofs.Outcomes.{LooksAhead, head_alike, went, alike_rest, ok_pair, Alike, same_head}
 use Rattle.ioa_syntax.proofs.Exact.{Found, Exact, any, flat, deep_as, before, then, built_as, said_as}
 use Rattle.ioa_syntax.proofs.Singles.{sign_exact, name_exact, kind_exact, kind_is, kind_alike, seen, sees_alike, after_seen, after_unseen, after_word, after_length, seen_some, either_exact}
 use Rattle.ioa_syntax.proofs.Absent.{into_exact, deep_some, optional_exact, optional_list_exact}
 use Rattle.ioa_syntax.proofs.Lists.{terminated_exact, separated_exact, many_exact}
+use Rattle.ioa_syntax.proofs.FirstTokens.{first_some, first_of_all, leads, alone, by_list, by_option, by_two}
+use Rattle.ioa_syntax.proofs.Statements.{AfterStatements, by_after}
+use Rattle.ioa_syntax.proofs.Levels.{after_word_exact}
 use Rattle.ioa_syntax.proofs.Complete.{Ends, spelled_deep, depth_positive}
 use Rattle.ioa_syntax.proofs.Local.{expression_exact}
-
--- ---- first tokens
-
-first_some : (x : Tok) (L : Language) (ts : List Tok) → (single x ▹ L) ts → 0 < length ts
-first_some x L ts s = omega (arith, ap length s.4, length-append s.0 s.1, ap length s.2)
-
-first_of_all : (x : Tok) (L : Language) (ts left : List Tok) → (single x ▹ L) ts → (z : List Tok) × (ts ++ left ≡ x ∷ z)
-first_of_all x L ts left s = (s.1 ++ left, ap (λ z. z ++ left) (s.4 ∙ ap (λ z. z ++ s.1) s.2))
-
--- what holds of each text that begins with x
-leads : (F : Language) (x : Tok) (L : Language) (ts left : List Tok) → ((z : List Tok) → F (x ∷ z)) → (single x ▹ L) ts → F (ts ++ left)
-leads F x L ts left h s = let z = first_of_all x L ts left s in subst F (sym z.1) (h z.0)
-
-alone : (F : Language) (ts left : List Tok) → nothing ts → F left → F (ts ++ left)
-alone F ts left s h = subst (λ z. F (z ++ left)) (sym s) h
-
--- a list that is absent, or begins with its word
-by_list : {A : Type 0} (F : Language) (t : Terminal) (L : List A → Language) (xs : List A) (ts left : List Tok) → ((z : List Tok) → F (terminal t ∷ z)) → F left → grammar.optional_list t L xs ts → F (ts ++ left)
-by_list F t L [] ts left h here s = alone F ts left s here
-by_list F t L (x ∷ xs) ts left h here s = leads F (terminal t) (L (x ∷ xs)) ts left h s
-
-by_option : {A : Type 0} (F : Language) (t : Terminal) (L : A → Language) (x : Option A) (ts left : List Tok) → ((z : List Tok) → F (terminal t ∷ z)) → F left → grammar.optional t L x ts → F (ts ++ left)
-by_option F t L None ts left h here s = alone F ts left s here
-by_option F t L (Some x) ts left h here s = leads F (terminal t) (L x) ts left h s
-
--- one part and then another
-by_two : (F : Language) (L M : Language) (ts left : List Tok) → ((a b : List Tok) → L a → F (b ++ left) → F (a ++ (b ++ left))) → ((b : List Tok) → M b → F (b ++ left)) → (L ▹ M) ts → F (ts ++ left)
-by_two F L M ts left first second s = subst F (sym (ap (λ z. z ++ left) s.4 ∙ again s.0 s.1 left)) (first s.0 s.1 s.2 (second s.1 s.3))
-  where
-    again : (a b c : List Tok) → (a ++ b) ++ c ≡ a ++ (b ++ c)
-    again [] b c = refl
-    again (x ∷ a) b c = ap (λ z. x ∷ z) (again a b c)
 
 deepest_flat : {A : Type 0} (xs : List A) → deepest flat xs ≡ 0
 deepest_flat [] = refl
@@ -166,11 +137,7 @@ sees_name_called n z = refl
 variable_begins : (v : VariableTree) (ts left : List Tok) → SpellsVariable v ts → sees_name (ts ++ left) ≡ true
 variable_begins v ts left s =
     let f = first_of_all (tokens.name v.field.name) (word terminals.Colon ▹ called v.field.ty) s.0 (s.1 ++ left) s.2 in
-    ap sees_name (ap (λ z. z ++ left) s.4 ∙ again s.0 s.1 left ∙ f.1) ∙ sees_name_called v.field.name f.0
-  where
-    again : (a b c : List Tok) → (a ++ b) ++ c ≡ a ++ (b ++ c)
-    again [] b c = refl
-    again (x ∷ a) b c = ap (λ z. x ∷ z) (again a b c)
+    ap sees_name (ap (λ z. z ++ left) s.4 ∙ append_assoc s.0 s.1 left ∙ f.1) ∙ sees_name_called v.field.name f.0
 
 after_semicolon : (z : List Tok) → AfterVariable (terminal terminals.Semicolon ∷ z)
 unfolding sees same_terminal terminal_at operator_of
@@ -206,35 +173,10 @@ pub proposals_exact : Exact (grammar.separated terminals.Comma SpellsProposal) (
 unfolding proposals
 proposals_exact = separated_exact terminals.Comma proposal_exact proposal_some ends_comma
 
-pub statement_exact : Exact SpellsStmt deep_stmt (Ends 0) statement
-unfolding statement
-statement_exact =
-    into_exact (λ p. assign p.0 p.1.1) (then name_exact (then (sign_exact terminals.Becomes) expression_exact (λ y ts left s g. tt)) (λ y ts left s g. tt)) SpellsStmt deep_stmt of (λ x ts s. s) (λ x. omega arith)
-  where
-    of : (y : Stmt) (ts : List Tok) → SpellsStmt y ts → (x : Name × (Unit {0} × Expr)) × (assign x.0 x.1.1 ≡ y) × (called x.0 ▹ (word terminals.Becomes ▹ SpellsExpr 0 x.1.1)) ts
-    of (assign n e) ts s = ((n, (tt, e)), refl, s)
-
-statement_some : (q : Stmt) (ts : List Tok) → SpellsStmt q ts → 0 < length ts
-statement_some (assign n e) ts s = first_some (tokens.name n) (word terminals.Becomes ▹ SpellsExpr 0 e) ts s
-
-statement_begins : (q : Stmt) (ts left : List Tok) → SpellsStmt q ts → sees_name (ts ++ left) ≡ true
-statement_begins (assign n e) ts left s = leads (λ z. sees_name z ≡ true) (tokens.name n) (word terminals.Becomes ▹ SpellsExpr 0 e) ts left (sees_name_called n) s
-
-ends_semicolon : (z : List Tok) → Ends 0 (terminal terminals.Semicolon ∷ z)
-unfolding terminal_at operator_of same_terminal
-ends_semicolon z = tt
-
-abbrev AfterStatements : Language
-AfterStatements left = Ends 0 left × (sees terminals.Semicolon left ≡ false) × (sees_name left ≡ false)
-
-pub statements_exact : Exact (grammar.terminated terminals.Semicolon SpellsStmt) (deepest deep_stmt) AfterStatements statements
-unfolding statements
-statements_exact = terminated_exact sees_name sees_name_alike terminals.Semicolon statement_exact statement_some ends_semicolon statement_begins
-
 pub record AfterTransition (left : List Tok) : Type 0 where
   pub ends : Ends 0 left
   pub semicolon : sees terminals.Semicolon left ≡ false
-  pub name : sees_name left ≡ false
+  pub begins : sees_statement left ≡ false
   pub comma : sees terminals.Comma left ≡ false
   pub eff : sees terminals.Eff left ≡ false
   pub propose : sees terminals.Propose left ≡ false
@@ -264,23 +206,20 @@ parted_bare t L ts s = s
 ended_bare : {A : Type 0} (t : Terminal) (L : A → Language) (ts : List Tok) → grammar.terminated t L [] ts → ⊥
 ended_bare t L ts s = s.2
 
-effect_exact : Exact (grammar.optional_list terminals.Eff (grammar.terminated terminals.Semicolon SpellsStmt)) (deepest deep_stmt) AfterTransition (λ b. optional_list terminals.Eff (statements b))
-effect_exact = before AfterTransition (λ ts a. ((a.ends, a.semicolon, a.name), a.eff)) (optional_list_exact terminals.Eff statements_exact (ended_bare terminals.Semicolon SpellsStmt) refl)
+effect_exact : Exact (SpellsAfter terminals.Eff) (λ ss. max (deep_stmts ss) (stmts_depth ss)) AfterTransition (λ b. introduced terminals.Eff (statements b))
+effect_exact = before AfterTransition (λ ts a. (record { ends = a.ends; semicolon = a.semicolon; begins = a.begins }, a.eff)) (after_word_exact terminals.Eff)
 
 abbrev Trials : List ProposalTree → Language
 Trials ps = grammar.optional_list terminals.Propose (grammar.separated terminals.Comma SpellsProposal) ps
 
-abbrev Effect : List Stmt → Language
-Effect ss = grammar.optional_list terminals.Eff (grammar.terminated terminals.Semicolon SpellsStmt) ss
+effect_follows : (ss : Stmts) (ts left : List Tok) → SpellsAfter terminals.Eff ss ts → AfterTransition left → BeforeEffect (ts ++ left)
+effect_follows ss ts left s a = by_after BeforeEffect terminals.Eff ss ts left at_eff ((a.ends, a.comma), a.propose) s
 
-effect_follows : (ss : List Stmt) (ts left : List Tok) → Effect ss ts → AfterTransition left → BeforeEffect (ts ++ left)
-effect_follows ss ts left s a = by_list BeforeEffect terminals.Eff (grammar.terminated terminals.Semicolon SpellsStmt) ss ts left at_eff ((a.ends, a.comma), a.propose) s
-
-trials_follow : (y : List ProposalTree × List Stmt) (ts left : List Tok) → (Trials y.0 ▹ Effect y.1) ts → AfterTransition left → BeforeProposals (ts ++ left)
+trials_follow : (y : List ProposalTree × Stmts) (ts left : List Tok) → (Trials y.0 ▹ SpellsAfter terminals.Eff y.1) ts → AfterTransition left → BeforeProposals (ts ++ left)
 trials_follow y ts left s a =
-    by_two BeforeProposals (Trials y.0) (Effect y.1) ts left
+    by_two BeforeProposals (Trials y.0) (SpellsAfter terminals.Eff y.1) ts left
     (λ u v t h. by_list BeforeProposals terminals.Propose (grammar.separated terminals.Comma SpellsProposal) y.0 u (v ++ left) pre_propose h t)
-    (λ v t. by_list BeforeProposals terminals.Eff (grammar.terminated terminals.Semicolon SpellsStmt) y.1 v left pre_eff (a.ends, a.pre) t) s
+    (λ v t. by_after BeforeProposals terminals.Eff y.1 v left pre_eff (a.ends, a.pre) t) s
 
 pub transition_exact : Exact SpellsTransition deep_transition AfterTransition transition
 unfolding transition
@@ -293,15 +232,15 @@ transition_some : (t : TransitionTree) (ts : List Tok) → SpellsTransition t ts
 transition_some t ts s = omega (arith, ap length s.4, length-append s.0 s.1, ap length s.2)
 
 at_kind : (k : Kind) (z : List Tok) → AfterTransition (terminal (kind_word k) ∷ z)
-unfolding sees same_terminal terminal_at operator_of sees_name
-at_kind Input z = record { ends = tt; semicolon = refl; name = refl; comma = refl; eff = refl; propose = refl; pre = refl }
-at_kind Output z = record { ends = tt; semicolon = refl; name = refl; comma = refl; eff = refl; propose = refl; pre = refl }
-at_kind Internal z = record { ends = tt; semicolon = refl; name = refl; comma = refl; eff = refl; propose = refl; pre = refl }
+unfolding sees same_terminal terminal_at operator_of sees_statement sees_name
+at_kind Input z = record { ends = tt; semicolon = refl; begins = refl; comma = refl; eff = refl; propose = refl; pre = refl }
+at_kind Output z = record { ends = tt; semicolon = refl; begins = refl; comma = refl; eff = refl; propose = refl; pre = refl }
+at_kind Internal z = record { ends = tt; semicolon = refl; begins = refl; comma = refl; eff = refl; propose = refl; pre = refl }
 
 first_kind : (F : Language) (t : TransitionTree) (ts left : List Tok) → ((z : List Tok) → F (terminal (kind_word t.kind) ∷ z)) → SpellsTransition t ts → F (ts ++ left)
 first_kind F t ts left h s =
     leads F (terminal (kind_word t.kind))
-    (called t.name ▹ (grammar.optional terminals.Pre (SpellsExpr 0) t.pre ▹ (Trials t.proposals ▹ Effect t.effect))) ts left h s
+    (called t.name ▹ (grammar.optional terminals.Pre (SpellsExpr 0) t.pre ▹ (Trials t.proposals ▹ SpellsAfter terminals.Eff t.effect))) ts left h s
 
 sees_kind_none : sees_kind [] ≡ false
 unfolding sees_kind kind_at terminal_at
@@ -507,16 +446,16 @@ declaration_some (automaton a) ts s = first_some (terminal terminals.Automaton) 
 declaration_some (composition c) ts s = first_some (terminal terminals.Composition) (SpellsComposition c) ts s
 
 pub at_automaton : (z : List Tok) → AfterDeclaration (terminal terminals.Automaton ∷ z)
-unfolding sees same_terminal sees_kind kind_at terminal_at kind_of operator_of sees_name
-at_automaton z = ((record { ends = tt; semicolon = refl; name = refl; comma = refl; eff = refl; propose = refl; pre = refl }, refl), ((tt, refl), refl))
+unfolding sees same_terminal sees_kind kind_at terminal_at kind_of operator_of sees_statement sees_name
+at_automaton z = ((record { ends = tt; semicolon = refl; begins = refl; comma = refl; eff = refl; propose = refl; pre = refl }, refl), ((tt, refl), refl))
 
 pub at_composition : (z : List Tok) → AfterDeclaration (terminal terminals.Composition ∷ z)
-unfolding sees same_terminal sees_kind kind_at terminal_at kind_of operator_of sees_name
-at_composition z = ((record { ends = tt; semicolon = refl; name = refl; comma = refl; eff = refl; propose = refl; pre = refl }, refl), ((tt, refl), refl))
+unfolding sees same_terminal sees_kind kind_at terminal_at kind_of operator_of sees_statement sees_name
+at_composition z = ((record { ends = tt; semicolon = refl; begins = refl; comma = refl; eff = refl; propose = refl; pre = refl }, refl), ((tt, refl), refl))
 
 pub at_end : AfterDeclaration []
-unfolding sees same_terminal sees_kind kind_at terminal_at kind_of operator_of sees_name
-at_end = ((record { ends = tt; semicolon = refl; name = refl; comma = refl; eff = refl; propose = refl; pre = refl }, refl), ((tt, refl), refl))
+unfolding sees same_terminal sees_kind kind_at terminal_at kind_of operator_of sees_statement sees_name
+at_end = ((record { ends = tt; semicolon = refl; begins = refl; comma = refl; eff = refl; propose = refl; pre = refl }, refl), ((tt, refl), refl))
 
 pub declaration_leads : (F : Language) (d : DeclarationTree) (ts left : List Tok) → ((z : List Tok) → F (terminal terminals.Automaton ∷ z)) → ((z : List Tok) → F (terminal terminals.Composition ∷ z)) → SpellsDeclaration d ts → F (ts ++ left)
 declaration_leads F (automaton a) ts left h g s = leads F (terminal terminals.Automaton) (SpellsAutomaton a) ts left h s
