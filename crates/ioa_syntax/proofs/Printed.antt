@@ -7,11 +7,12 @@ use Rattle.ioa_lex.specs.Tokens.{Tok, terminal}
 use Rattle.ioa_lex.specs.Lexing.{Lexes, is_blank}
 use Rattle.ioa_lex.specs.Spaced.{Spaced, IsToken, text_of}
 use Rattle.ioa_lex.proofs.SpacedLemmas.{spaced_lexes, spaced_append, spaced_one}
-use Rattle.ioa_syntax.specs.Tree.{Expr, number, truth, named, parens, binary, FieldTree, PositionTree, typed, EntryTree, VariableTree, ProposalTree, Stmt, assign, TransitionTree, AutomatonTree, InstanceTree, CompositionTree, DeclarationTree, automaton, composition, SourceTree}
+use Rattle.ioa_syntax.specs.Tree.{Expr, number, truth, named, parens, prefix, binary, FieldTree, PositionTree, typed, EntryTree, VariableTree, ProposalTree, Stmt, assign, choose, Stmts, stop, doing, Arms, no_arm, arm, TransitionTree, AutomatonTree, InstanceTree, CompositionTree, DeclarationTree, automaton, composition, SourceTree}
+use Rattle.ioa_syntax.specs.declared.tree.Infix.TheVariants.{Operator}
 use Rattle.ioa_syntax.specs.Operators.{operator_word, left_of, right_of}
-use Rattle.ioa_syntax.specs.Grammar.{Language, ◌▹◌, single, word, called, nothing, optional, optional_list, each_after, separated, terminated, many, kind_word, SpellsExpr, SpellsField, SpellsFields, SpellsPosition, SpellsPositions, SpellsEntry, SpellsVariable, SpellsProposal, SpellsStmt, SpellsTransition, SpellsAutomaton, SpellsArguments, SpellsInstance, SpellsInstances, SpellsComposition, SpellsDeclaration, SpellsSource}
+use Rattle.ioa_syntax.specs.Grammar.{Language, ◌▹◌, single, word, called, nothing, optional, optional_list, each_after, perhaps, separated, terminated, many, kind_word, SpellsExpr, SpellsField, SpellsFields, SpellsPosition, SpellsPositions, SpellsEntry, SpellsVariable, SpellsProposal, SpellsStmt, SpellsStmts, SpellsMore, SpellsAfter, SpellsArms, SpellsTransition, SpellsAutomaton, SpellsArguments, SpellsInstance, SpellsInstances, SpellsComposition, SpellsDeclaration, SpellsSource}
 use Rattle.ioa_syntax.specs.Source.{AreTokens, IsSource, plain}
-use Rattle.ioa_syntax.specs.Layout.{space, line, text_word, text_name, text_more, text_list, text_all, text_optional_list, text_parens, before_list, before_option, text_expr, text_option, text_field, text_position, text_entry, text_variable, text_binding, text_proposal, text_stmt, text_transition, text_behaviour, text_automaton, text_instance, text_composition, text_declaration, text_source}
+use Rattle.ioa_syntax.specs.Layout.{space, line, text_word, text_name, text_more, text_list, text_all, text_optional_list, text_parens, before_list, before_option, text_expr, text_option, text_field, text_position, text_entry, text_variable, text_binding, text_proposal, text_stmt, text_stmts, text_more_stmts, text_after, text_arms, text_transition, text_behaviour, text_automaton, text_instance, text_composition, text_declaration, text_source}
 
 -- the text has tokens of the language
 abbrev Prints : Language → List ℕ → Type 0
@@ -43,6 +44,10 @@ name_reprints n b blank = single_reprints (tokens.name n) b blank
 
 nothing_reprints : Reprints nothing []
 nothing_reprints ts s are = ([], refl, refl)
+
+-- what may end with a word is written without it
+unended_reprints : (t : Terminal) (L : Language) (a : List ℕ) → Reprints L a → Reprints (L ▹ perhaps t) a
+unended_reprints t L a p ts s are = let m = p s.0 s.2 (are_parts s.0 s.1 (subst AreTokens s.4 are)).0 in (m.0, (m.0, [], m.1, inr refl, sym (append-nil m.0)), m.2)
 
 -- the same text, put together in another way
 as_text : (L : Language) (a b : List ℕ) → a ≡ b → Reprints L a → Reprints L b
@@ -76,7 +81,7 @@ module _ {A : Type 0} (t : Terminal) (L : A → Language) (f : A → List ℕ) (
   list_reprints (x ∷ xs) = then_reprints (L x) (each_after t L xs) (f x) (text_more t f xs) (each x) (more_reprints xs)
 
   terminated_reprints : (xs : List A) → Reprints (terminated t L xs) (text_list t f xs)
-  terminated_reprints xs = λ ts s are. let m = list_reprints xs s.0 s.2 (are_parts s.0 s.1 (subst AreTokens s.4 are)).0 in (m.0, (m.0, [], m.1, inr refl, sym (append-nil m.0)), m.2)
+  terminated_reprints xs = unended_reprints t (separated t L xs) (text_list t f xs) (list_reprints xs)
 
 all_reprints : {A : Type 0} (L : A → Language) (f : A → List ℕ) → ((x : A) → Reprints (L x) (f x)) → (xs : List A) → Reprints (many L xs) (text_all f xs)
 unfolding text_all
@@ -102,12 +107,16 @@ expr_reprints (named n) k b blank = name_reprints n b blank
 expr_reprints (parens e) k b blank =
     then_reprints (word terminals.Open) (SpellsExpr 0 e ▹ word terminals.Close) (text_word space terminals.Open) (text_expr space e ++ text_word b terminals.Close) (word_reprints terminals.Open space space_blank)
     (then_reprints (SpellsExpr 0 e) (word terminals.Close) (text_expr space e) (text_word b terminals.Close) (expr_reprints e 0 space space_blank) (word_reprints terminals.Close b blank))
+expr_reprints (prefix o e) k b blank =
+    let operand = expr_reprints e (right_of (Operator o)) b blank in λ ts s are.
+    let m = then_reprints (word (operator_word (Operator o))) (SpellsExpr (right_of (Operator o)) e) (text_word space (operator_word (Operator o))) (text_expr b e) (word_reprints (operator_word (Operator o)) space space_blank) operand ts s.2 are in
+    (m.0, (s.0, s.1, m.1), m.2)
 expr_reprints (binary l o r) k b blank =
     let first = expr_reprints l (left_of o) space space_blank in
     let second = expr_reprints r (right_of o) b blank in λ ts s are.
     let m = then_reprints (SpellsExpr (left_of o) l) (word (operator_word o) ▹ SpellsExpr (right_of o) r) (text_expr space l) (text_word space (operator_word o) ++ text_expr b r) first
-    (then_reprints (word (operator_word o)) (SpellsExpr (right_of o) r) (text_word space (operator_word o)) (text_expr b r) (word_reprints (operator_word o) space space_blank) second) ts s.1 are in
-    (m.0, (s.0, m.1), m.2)
+    (then_reprints (word (operator_word o)) (SpellsExpr (right_of o) r) (text_word space (operator_word o)) (text_expr b r) (word_reprints (operator_word o) space space_blank) second) ts s.2 are in
+    (m.0, (s.0, s.1, m.1), m.2)
 
 option_reprints : (t : Terminal) (x : Option Expr) → Reprints (optional t (SpellsExpr 0) x) (text_option (text_word space t) x)
 option_reprints t None = nothing_reprints
@@ -138,28 +147,67 @@ binding_reprints n e =
     then_reprints (called n) (word terminals.Becomes ▹ SpellsExpr 0 e) (text_name space n) (text_word space terminals.Becomes ++ text_expr line e) (name_reprints n space space_blank)
     (then_reprints (word terminals.Becomes) (SpellsExpr 0 e) (text_word space terminals.Becomes) (text_expr line e) (word_reprints terminals.Becomes space space_blank) (expr_reprints e 0 line line_blank))
 
-stmt_reprints : (s : Stmt) → Reprints (SpellsStmt s) (text_stmt s)
-stmt_reprints (assign n e) = binding_reprints n e
+-- a condition with its statements, and what comes behind them
+arm_reprints : (c : Expr) (ss : Stmts) (L : Language) (a : List ℕ) → Reprints (SpellsStmts ss) (text_stmts ss) → Reprints L a →
+    Reprints (SpellsExpr 0 c ▹ (word terminals.Then ▹ (SpellsStmts ss ▹ L))) (text_expr space c ++ (text_word line terminals.Then ++ (text_stmts ss ++ a)))
+arm_reprints c ss L a statements more =
+    then_reprints (SpellsExpr 0 c) (word terminals.Then ▹ (SpellsStmts ss ▹ L)) (text_expr space c) (text_word line terminals.Then ++ (text_stmts ss ++ a)) (expr_reprints c 0 space space_blank)
+    (then_reprints (word terminals.Then) (SpellsStmts ss ▹ L) (text_word line terminals.Then) (text_stmts ss ++ a) (word_reprints terminals.Then line line_blank)
+    (then_reprints (SpellsStmts ss) L (text_stmts ss) a statements more))
+
+mutual
+  stmt_reprints : (s : Stmt) → Reprints (SpellsStmt s) (text_stmt s)
+  stmt_reprints (assign n e) = binding_reprints n e
+  stmt_reprints (choose no_arm others) = λ ts s are. absurd s
+  stmt_reprints (choose (arm c ss more) others) =
+      let ending = then_reprints (SpellsAfter terminals.Else others) (word terminals.Fi) (text_after (text_word line terminals.Else) others) (text_word line terminals.Fi) (after_reprints terminals.Else line line_blank others) (word_reprints terminals.Fi line line_blank) in
+      let arms = then_reprints (SpellsArms more) (SpellsAfter terminals.Else others ▹ word terminals.Fi) (text_arms more) (text_after (text_word line terminals.Else) others ++ text_word line terminals.Fi) (arms_reprint more) ending in
+      let first = arm_reprints c ss (SpellsArms more ▹ (SpellsAfter terminals.Else others ▹ word terminals.Fi)) (text_arms more ++ (text_after (text_word line terminals.Else) others ++ text_word line terminals.Fi)) (stmts_reprint ss) arms in
+      then_reprints (word terminals.If) (SpellsExpr 0 c ▹ (word terminals.Then ▹ (SpellsStmts ss ▹ (SpellsArms more ▹ (SpellsAfter terminals.Else others ▹ word terminals.Fi))))) (text_word space terminals.If)
+      (text_expr space c ++ (text_word line terminals.Then ++ (text_stmts ss ++ (text_arms more ++ (text_after (text_word line terminals.Else) others ++ text_word line terminals.Fi))))) (word_reprints terminals.If space space_blank) first
+
+  stmts_reprint : (ss : Stmts) → Reprints (SpellsStmts ss) (text_stmts ss)
+  stmts_reprint stop = λ ts s are. absurd s
+  stmts_reprint (doing x ss) =
+      then_reprints (SpellsStmt x) (SpellsMore ss ▹ perhaps terminals.Semicolon) (text_stmt x) (text_more_stmts ss) (stmt_reprints x) (unended_reprints terminals.Semicolon (SpellsMore ss) (text_more_stmts ss) (more_stmts_reprint ss))
+
+  more_stmts_reprint : (ss : Stmts) → Reprints (SpellsMore ss) (text_more_stmts ss)
+  more_stmts_reprint stop = nothing_reprints
+  more_stmts_reprint (doing x ss) =
+      then_reprints (word terminals.Semicolon) (SpellsStmt x ▹ SpellsMore ss) (text_word space terminals.Semicolon) (text_stmt x ++ text_more_stmts ss) (word_reprints terminals.Semicolon space space_blank)
+      (then_reprints (SpellsStmt x) (SpellsMore ss) (text_stmt x) (text_more_stmts ss) (stmt_reprints x) (more_stmts_reprint ss))
+
+  after_reprints : (t : Terminal) (b : ℕ) → is_blank b ≡ true → (ss : Stmts) → Reprints (SpellsAfter t ss) (text_after (text_word b t) ss)
+  after_reprints t b blank stop = nothing_reprints
+  after_reprints t b blank (doing x ss) =
+      then_reprints (word t) (SpellsStmt x ▹ (SpellsMore ss ▹ perhaps terminals.Semicolon)) (text_word b t) (text_stmt x ++ text_more_stmts ss) (word_reprints t b blank)
+      (then_reprints (SpellsStmt x) (SpellsMore ss ▹ perhaps terminals.Semicolon) (text_stmt x) (text_more_stmts ss) (stmt_reprints x) (unended_reprints terminals.Semicolon (SpellsMore ss) (text_more_stmts ss) (more_stmts_reprint ss)))
+
+  arms_reprint : (cs : Arms) → Reprints (SpellsArms cs) (text_arms cs)
+  arms_reprint no_arm = nothing_reprints
+  arms_reprint (arm c ss more) =
+      then_reprints (word terminals.Elseif) (SpellsExpr 0 c ▹ (word terminals.Then ▹ (SpellsStmts ss ▹ SpellsArms more))) (text_word space terminals.Elseif) (text_expr space c ++ (text_word line terminals.Then ++ (text_stmts ss ++ text_arms more)))
+      (word_reprints terminals.Elseif space space_blank) (arm_reprints c ss (SpellsArms more) (text_arms more) (stmts_reprint ss) (arms_reprint more))
 
 abbrev Trials : List ProposalTree → Language
 Trials ps = optional_list terminals.Propose (separated terminals.Comma SpellsProposal) ps
 
-abbrev Effect : List Stmt → Language
-Effect ss = optional_list terminals.Eff (terminated terminals.Semicolon SpellsStmt) ss
+abbrev Effect : Stmts → Language
+Effect ss = SpellsAfter terminals.Eff ss
 
 abbrev text_trials : List ProposalTree → List ℕ
 text_trials ps = text_optional_list (text_word space terminals.Propose) (text_list terminals.Comma text_proposal) ps
 
-abbrev text_effect : List Stmt → List ℕ
-text_effect ss = text_optional_list (text_word space terminals.Eff) (text_list terminals.Semicolon text_stmt) ss
+abbrev text_effect : Stmts → List ℕ
+text_effect ss = text_after (text_word space terminals.Eff) ss
 
 trials_reprint : (ps : List ProposalTree) → Reprints (Trials ps) (text_trials ps)
 trials_reprint ps =
     optional_reprints terminals.Propose space (separated terminals.Comma SpellsProposal) (text_list terminals.Comma text_proposal) space_blank
     (list_reprints terminals.Comma SpellsProposal text_proposal (λ p. binding_reprints p.name p.value)) ps
 
-effect_reprints : (ss : List Stmt) → Reprints (Effect ss) (text_effect ss)
-effect_reprints ss = optional_reprints terminals.Eff space (terminated terminals.Semicolon SpellsStmt) (text_list terminals.Semicolon text_stmt) space_blank (terminated_reprints terminals.Semicolon SpellsStmt text_stmt stmt_reprints) ss
+effect_reprints : (ss : Stmts) → Reprints (Effect ss) (text_effect ss)
+effect_reprints ss = after_reprints terminals.Eff space space_blank ss
 
 transition_reprints : (t : TransitionTree) → Reprints (SpellsTransition t) (text_transition t)
 transition_reprints t =
