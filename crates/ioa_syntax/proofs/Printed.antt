@@ -7,7 +7,7 @@ use Rattle.ioa_lex.specs.Tokens.{Tok, terminal}
 use Rattle.ioa_lex.specs.Lexing.{Lexes, is_blank}
 use Rattle.ioa_lex.specs.Spaced.{Spaced, IsToken, text_of}
 use Rattle.ioa_lex.proofs.SpacedLemmas.{spaced_lexes, spaced_append, spaced_one}
-use Rattle.ioa_syntax.specs.Tree.{Expr, number, truth, named, parens, prefix, binary, FieldTree, PositionTree, typed, EntryTree, VariableTree, ProposalTree, Stmt, assign, choose, Stmts, stop, doing, Arms, no_arm, arm, TransitionTree, AutomatonTree, InstanceTree, CompositionTree, DeclarationTree, automaton, composition, SourceTree}
+use Rattle.ioa_syntax.specs.Tree.{Expr, number, truth, named, parens, prefix, binary, FieldTree, PositionTree, typed, EntryTree, VariableTree, ProposalTree, Stmt, assign, choose, Stmts, stop, seq, Arms, no_arm, arm, TransitionTree, AutomatonTree, InstanceTree, CompositionTree, DeclarationTree, automaton, composition, SourceTree}
 use Rattle.ioa_syntax.specs.declared.tree.Infix.TheVariants.{Operator}
 use Rattle.ioa_syntax.specs.Operators.{operator_word, left_of, right_of}
 use Rattle.ioa_syntax.specs.Grammar.{Language, ◌▹◌, single, word, called, nothing, optional, optional_list, each_after, perhaps, separated, terminated, many, kind_word, SpellsExpr, SpellsField, SpellsFields, SpellsPosition, SpellsPositions, SpellsEntry, SpellsVariable, SpellsProposal, SpellsStmt, SpellsStmts, SpellsMore, SpellsAfter, SpellsArms, SpellsTransition, SpellsAutomaton, SpellsArguments, SpellsInstance, SpellsInstances, SpellsComposition, SpellsDeclaration, SpellsSource}
@@ -168,18 +168,18 @@ mutual
 
   stmts_reprint : (ss : Stmts) → Reprints (SpellsStmts ss) (text_stmts ss)
   stmts_reprint stop = λ ts s are. absurd s
-  stmts_reprint (doing x ss) =
+  stmts_reprint (seq x ss) =
       then_reprints (SpellsStmt x) (SpellsMore ss ▹ perhaps terminals.Semicolon) (text_stmt x) (text_more_stmts ss) (stmt_reprints x) (unended_reprints terminals.Semicolon (SpellsMore ss) (text_more_stmts ss) (more_stmts_reprint ss))
 
   more_stmts_reprint : (ss : Stmts) → Reprints (SpellsMore ss) (text_more_stmts ss)
   more_stmts_reprint stop = nothing_reprints
-  more_stmts_reprint (doing x ss) =
+  more_stmts_reprint (seq x ss) =
       then_reprints (word terminals.Semicolon) (SpellsStmt x ▹ SpellsMore ss) (text_word space terminals.Semicolon) (text_stmt x ++ text_more_stmts ss) (word_reprints terminals.Semicolon space space_blank)
       (then_reprints (SpellsStmt x) (SpellsMore ss) (text_stmt x) (text_more_stmts ss) (stmt_reprints x) (more_stmts_reprint ss))
 
   after_reprints : (t : Terminal) (b : ℕ) → is_blank b ≡ true → (ss : Stmts) → Reprints (SpellsAfter t ss) (text_after (text_word b t) ss)
   after_reprints t b blank stop = nothing_reprints
-  after_reprints t b blank (doing x ss) =
+  after_reprints t b blank (seq x ss) =
       then_reprints (word t) (SpellsStmt x ▹ (SpellsMore ss ▹ perhaps terminals.Semicolon)) (text_word b t) (text_stmt x ++ text_more_stmts ss) (word_reprints t b blank)
       (then_reprints (SpellsStmt x) (SpellsMore ss ▹ perhaps terminals.Semicolon) (text_stmt x) (text_more_stmts ss) (stmt_reprints x) (unended_reprints terminals.Semicolon (SpellsMore ss) (text_more_stmts ss) (more_stmts_reprint ss)))
 

@@ -6,7 +6,7 @@ use Rattle.ioa_lex.specs.Tokens as tokens
 use Rattle.ioa_lex.specs.Tokens.{Tok, terminal}
 use Rattle.ioa_value.specs.Actions.{Name}
 use Rattle.ioa_syntax.specs.declared.fault.Fault.TheVariants.{Syntax, TooDeep}
-use Rattle.ioa_syntax.specs.Tree.{Expr, Stmt, assign, choose, Stmts, stop, doing, Arms, no_arm, arm}
+use Rattle.ioa_syntax.specs.Tree.{Expr, Stmt, assign, choose, Stmts, stop, seq, Arms, no_arm, arm}
 use Rattle.ioa_syntax.specs.Depth.{depth_of, deepest, deep_stmt, deep_stmts, deep_arms, stmt_depth, stmts_depth, arms_depth}
 use Rattle.ioa_syntax.specs.Grammar as grammar
 use Rattle.ioa_syntax.specs.Grammar.{Language, SameHead, ◌▹◌, word, called, nothing, empty, each_after, perhaps, SpellsExpr, SpellsStmt, SpellsStmts, SpellsMore, SpellsAfter, SpellsArms}
@@ -24,7 +24,7 @@ use Rattle.ioa_syntax.proofs.Local.{expression_exact}
 
 abbrev pub list_of : Stmts → List Stmt
 list_of stop = []
-list_of (doing s ss) = s ∷ list_of ss
+list_of (seq s ss) = s ∷ list_of ss
 
 abbrev pub pairs_of : Arms → List (Expr × Stmts)
 pairs_of no_arm = []
@@ -32,7 +32,7 @@ pairs_of (arm c ss more) = (c, ss) ∷ pairs_of more
 
 sequence_list : (ss : Stmts) → sequence (list_of ss) ≡ ss
 sequence_list stop = refl
-sequence_list (doing s ss) = ap (doing s) (sequence_list ss)
+sequence_list (seq s ss) = ap (seq s) (sequence_list ss)
 
 list_sequence : (xs : List Stmt) → list_of (sequence xs) ≡ xs
 list_sequence [] = refl
@@ -58,7 +58,7 @@ in_front L M N f ts s = (s.0, s.1, f s.0 s.2, s.3, s.4)
 
 pub more_same : (ss : Stmts) → SpellsMore ss ≡ each_after terminals.Semicolon SpellsStmt (list_of ss)
 more_same stop = refl
-more_same (doing s ss) = ap (λ (L : Language). word terminals.Semicolon ▹ (SpellsStmt s ▹ L)) (more_same ss)
+more_same (seq s ss) = ap (λ (L : Language). word terminals.Semicolon ▹ (SpellsStmt s ▹ L)) (more_same ss)
 
 abbrev Listed : Stmts → Language
 Listed ss = grammar.terminated terminals.Semicolon SpellsStmt (list_of ss)
@@ -68,11 +68,11 @@ Each ss = each_after terminals.Semicolon SpellsStmt (list_of ss)
 
 listed_of : (ss : Stmts) (ts : List Tok) → SpellsStmts ss ts → Listed ss ts
 listed_of stop ts s = absurd s
-listed_of (doing x ss) ts s = subst (λ (L : Language). ((SpellsStmt x ▹ L) ▹ perhaps terminals.Semicolon) ts) (more_same ss) (assoc_of (SpellsStmt x) (SpellsMore ss) (perhaps terminals.Semicolon) ts s)
+listed_of (seq x ss) ts s = subst (λ (L : Language). ((SpellsStmt x ▹ L) ▹ perhaps terminals.Semicolon) ts) (more_same ss) (assoc_of (SpellsStmt x) (SpellsMore ss) (perhaps terminals.Semicolon) ts s)
 
 listed_to : (ss : Stmts) (ts : List Tok) → Listed ss ts → SpellsStmts ss ts
 listed_to stop ts s = absurd (s.2)
-listed_to (doing x ss) ts s = assoc_to (SpellsStmt x) (SpellsMore ss) (perhaps terminals.Semicolon) ts (subst (λ (L : Language). ((SpellsStmt x ▹ L) ▹ perhaps terminals.Semicolon) ts) (sym (more_same ss)) s)
+listed_to (seq x ss) ts s = assoc_to (SpellsStmt x) (SpellsMore ss) (perhaps terminals.Semicolon) ts (subst (λ (L : Language). ((SpellsStmt x ▹ L) ▹ perhaps terminals.Semicolon) ts) (sym (more_same ss)) s)
 
 abbrev SpellsArm : Expr × Stmts → Language
 SpellsArm c = SpellsExpr 0 c.0 ▹ (word terminals.Then ▹ SpellsStmts c.1)
@@ -219,7 +219,7 @@ Ending others = SpellsAfter terminals.Else others ▹ word terminals.Fi
 
 pub by_after : (F : Language) (t : Terminal) (ss : Stmts) (ts left : List Tok) → ((z : List Tok) → F (terminal t ∷ z)) → F left → SpellsAfter t ss ts → F (ts ++ left)
 by_after F t stop ts left h here s = alone F ts left s here
-by_after F t (doing x ss) ts left h here s = leads F (terminal t) (SpellsStmts (doing x ss)) ts left h s
+by_after F t (seq x ss) ts left h here s = leads F (terminal t) (SpellsStmts (seq x ss)) ts left h s
 
 ending_follows : (F : Language) (others : Stmts) (ts left : List Tok) → ((z : List Tok) → F (terminal terminals.Else ∷ z)) → ((z : List Tok) → F (terminal terminals.Fi ∷ z)) → Ending others ts → F (ts ++ left)
 ending_follows F others ts left h g s =
@@ -253,7 +253,7 @@ arm_needs k c = max (depth_of c.0 - k) (stmts_need k c.1)
 
 stmts_needed : (k : ℕ) (ss : Stmts) → stmts_need k ss ≡ deepest (stmt_needs k) (list_of ss)
 stmts_needed k stop = omega arith
-stmts_needed k (doing s ss) = omega (arith, stmts_needed k ss)
+stmts_needed k (seq s ss) = omega (arith, stmts_needed k ss)
 
 arms_needed : (k : ℕ) (cs : List (Expr × Stmts)) → arms_need k (choices cs) ≡ deepest (arm_needs k) cs
 arms_needed k [] = omega arith
@@ -326,13 +326,13 @@ module _ {I : Type 0} {levels : I → ℕ} (depth : I → ℕ) (k : ℕ) (is : (
     where
       of : (ss : Stmts) (ts : List Tok) → SpellsAfter t ss ts → ((word t ▹ SpellsStmts ss) ts) ⊎ ((ss ≡ stop) × nothing ts)
       of stop ts s = inr (refl, s)
-      of (doing x ss) ts s = inl s
+      of (seq x ss) ts s = inl s
 
       to : (ss : Stmts) (ts : List Tok) → ((word t ▹ SpellsStmts ss) ts) ⊎ ((ss ≡ stop) × nothing ts) → SpellsAfter t ss ts
       to stop ts (inr s) = s.1
       to stop ts (inl s) = absurd (s.3)
-      to (doing x ss) ts (inl s) = s
-      to (doing x ss) ts (inr s) = absurd (cc (s.0))
+      to (seq x ss) ts (inl s) = s
+      to (seq x ss) ts (inr s) = absurd (cc (s.0))
 
   arm_for : ExactFor levels SpellsArm (arm_needs k) AfterStatements (λ i. an_arm (depth i) (inner i))
   unfolding an_arm
