@@ -1,5 +1,5 @@
 -- What the definitions say of operators on some operands: each answer is computed.
-use Rattle.std.proofs.Common.{◌≡◌, ℕ, ℤ, pos, neg_ℤ, true, false, List, [], ◌∷◌, Some, None, refl}
+use Rattle.std.proofs.Common.{◌≡◌, ℕ, ℤ, pos, neg_ℤ, true, false, [], ◌∷◌, Some, None, refl}
 use Rattle.ioa_value.specs.declared.arithmetic.Fault.TheVariants.{Overflow, ZeroDivisor}
 use Rattle.ioa_value.specs.declared.operator.Op.{Op}
 use Rattle.ioa_value.specs.declared.operator.Op.TheVariants.{Neg, Add, Sub, Mul, Div, Mod, Lt, Le, Gt, Ge, Not, Eq, Ne}

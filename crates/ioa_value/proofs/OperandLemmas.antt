@@ -1,5 +1,5 @@
 -- What an operator gives a value or a fault of are its operands.
-use Rattle.std.proofs.Common.{◌≡◌, ◌≢◌, ℕ, ℤ, Bool, true, false, cond, ◌==◌, List, [], ◌∷◌, refl, sym, ap, subst, ◌∙◌}
+use Rattle.std.proofs.Common.{◌≡◌, ◌≢◌, ℤ, Bool, true, false, cond, ◌==◌, List, [], ◌∷◌, refl, ap, subst, ◌∙◌}
 use Rattle.ioa_value.specs.declared.operator.Op.{Op}
 use Rattle.ioa_value.specs.declared.operator.Op.TheVariants.{Neg, Add, Sub, Mul, Div, Mod, Lt, Le, Gt, Ge, Not, Eq, Ne}
 use Rattle.ioa_value.specs.Plain.{Val, truth, num, name, tuple, items}
