@@ -14,5 +14,8 @@ pub mod ListOnceLemmas
 pub mod ItemLemmas
 pub mod PlaceLemmas
 pub mod TypingLemmas
+pub mod OperandLemmas
+pub mod DivisionLemmas
 pub mod Spellings
 pub mod WholeLemmas
+pub mod Examples

@@ -63,8 +63,9 @@ abbrev pub parts_of : Val → List Part
 parts_of v = parts v end
 
 abbrev pub leading : List Vals → Val
+leading [] = truth false
+leading (none ∷ rows) = truth false
 leading (more v vs ∷ rows) = v
-leading _ = truth false
 
 abbrev pub value_of : List Part → Val
 value_of ps = leading (rows ps)

@@ -1,6 +1,7 @@
 //! What follows from the definitions alone.
 
-ghost use Rattle.std.specs.Prelude.{◌≡◌, ◌↔◌, ◌⊎◌, ℕ, ◌<◌, List, All, length, Some, IsTrue};
+ghost use Rattle.std.specs.Prelude.{◌≡◌, ◌≢◌, ◌↔◌, ◌⊎◌, ℕ, ◌<◌, ℤ, pos, ◌+ℤ◌, ◌*ℤ◌, unsigned_abs, List, All, length, Some, IsTrue};
+ghost use Rattle.std.specs.Int.{int_div_euclid, int_rem_euclid};
 ghost use Rattle.ioa_value.specs.Plain.{Val};
 ghost use Rattle.ioa_value.specs.Table.{Table, AreTypes};
 ghost use Rattle.ioa_value.specs.Typing.{HasType, HaveTypes, first_of};
@@ -57,4 +58,11 @@ pub fn operators_are_typed()
 /// Two values are equal as computed exactly where they are equal.
 pub fn same_is_equal()
     ensures { (v w : Val) → IsTrue (same v w) ↔ (v ≡ w) }
+{}
+
+/// A number is the divisor times the Euclidean quotient, and the remainder, which is not negative and less than the divisor's
+/// absolute value.
+pub fn quotient_and_remainder()
+    ensures sum { (a b : ℤ) → b ≢ pos 0 → a ≡ (int_div_euclid a b *ℤ b) +ℤ int_rem_euclid a b }
+    ensures rest { (a b : ℤ) → b ≢ pos 0 → (r : ℕ) × (int_rem_euclid a b ≡ pos r) × (r < unsigned_abs b) }
 {}
