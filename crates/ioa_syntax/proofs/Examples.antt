@@ -4,9 +4,11 @@ use Rattle.ioa_value.specs.declared.arithmetic.Fault.TheVariants.{Overflow}
 use Rattle.ioa_value.specs.Actions.{Name, Act}
 use Rattle.ioa_value.specs.Plain.{Val, num}
 use Rattle.ioa_value.specs.Plain.{truth as truth_value}
-use Rattle.ioa_value.specs.declared.operator.Op.TheVariants.{Eq, Add, Sub}
+use Rattle.ioa_value.specs.declared.operator.Op.TheVariants.{Eq, Add, Sub, Mul, Not, Neg}
+use Rattle.ioa_syntax.specs.declared.tree.Infix.TheVariants.{Operator, And, Or, Implies}
 use Rattle.ioa_syntax.specs.declared.tree.Kind.TheVariants.{Input, Output}
-use Rattle.ioa_syntax.specs.Tree.{Expr, number, truth, named, binary, FieldTree, typed, EntryTree, VariableTree, ProposalTree, TransitionTree, Stmt, assign, AutomatonTree, InstanceTree, CompositionTree, automaton, composition, SourceTree}
+use Rattle.ioa_syntax.specs.declared.fault.Fault.TheVariants.{Syntax, TooDeep}
+use Rattle.ioa_syntax.specs.Tree.{Expr, number, truth, named, parens, prefix, binary, FieldTree, typed, EntryTree, VariableTree, ProposalTree, TransitionTree, Stmt, assign, choose, Stmts, stop, seq, no_arm, arm, AutomatonTree, InstanceTree, CompositionTree, automaton, composition, SourceTree}
 use Rattle.ioa_syntax.specs.Meaning.{Env}
 use Rattle.ioa_value.specs.Table.{basic}
 use Rattle.ioa_syntax.specs.Instances.{Instance, argument_values, start_values}
@@ -17,7 +19,7 @@ use Rattle.ioa_value.specs.declared.limits.TheConstants.{LIMITS}
 use Rattle.ioa_value.specs.declared.terminal.Terminal.TheVariants as terminals
 use Rattle.ioa_lex.specs.Tokens as tokens
 use Rattle.ioa_lex.specs.Tokens.{Tok, terminal}
-use Rattle.ioa_syntax.specs.Reading.{expression, expr, operand, climb, operator_at, operator_of, terminal_at, same_terminal}
+use Rattle.ioa_syntax.specs.Reading.{expression, expr, first, operand, climb, operator_at, operator_of, prefix_at, prefix_of, terminal_at, same_terminal, statements, statement, in_sequence, terminated, items_from, sees_statement, sees_name, sees, after, choice, an_arm, more_arms, many, many_from, introduced, assignment, sign, a_name}
 
 abbrev pub field : Name → Name → FieldTree
 field x t = record { name = x; ty = t }
@@ -38,13 +40,13 @@ abbrev pub tick_transition : TransitionTree
 tick_transition = record {
   kind = Output;
   name = codes "tick";
-  pre = Some (binary (named (codes "k")) Eq (named (codes "c")));
+  pre = Some (binary (named (codes "k")) (Operator Eq) (named (codes "c")));
   proposals = tick_proposal ∷ [];
-  effect = assign (codes "c") (binary (named (codes "c")) Add (number 1)) ∷ [];
+  effect = seq (assign (codes "c") (binary (named (codes "c")) (Operator Add) (number 1))) stop;
 }
 
 abbrev pub reset_transition : TransitionTree
-reset_transition = record { kind = Input; name = codes "reset"; pre = None; proposals = []; effect = assign (codes "c") (named (codes "start")) ∷ [] }
+reset_transition = record { kind = Input; name = codes "reset"; pre = None; proposals = []; effect = seq (assign (codes "c") (named (codes "start"))) stop }
 
 -- counts up from its start, and goes back to it
 abbrev pub counter : AutomatonTree
@@ -118,7 +120,7 @@ with_pre pre = with_transitions (record tick_transition { pre = pre } ∷ reset_
 abbrev pub with_proposals : List ProposalTree → SourceTree
 with_proposals proposals = with_transitions (record tick_transition { proposals = proposals } ∷ reset_transition ∷ [])
 
-abbrev pub with_effect : List Stmt → SourceTree
+abbrev pub with_effect : Stmts → SourceTree
 with_effect effect = with_transitions (record tick_transition { effect = effect } ∷ reset_transition ∷ [])
 
 -- a variable that has no start expression
@@ -157,7 +159,7 @@ starts_at_a_truth : well_formed (with_variables (count_variable ∷ record (plai
 starts_at_a_truth = refl
 
 -- an unknown name in a precondition
-asks_for_nothing : well_formed (with_pre (Some (binary (named (codes "k")) Eq (named (codes "d"))))) ≡ false
+asks_for_nothing : well_formed (with_pre (Some (binary (named (codes "k")) (Operator Eq) (named (codes "d"))))) ≡ false
 asks_for_nothing = refl
 
 -- a precondition that is an Int
@@ -165,20 +167,35 @@ asks_for_a_number : well_formed (with_pre (Some (named (codes "c")))) ≡ false
 asks_for_a_number = refl
 
 -- an equation of an Int and a Bool
-compares_a_truth : well_formed (with_pre (Some (binary (named (codes "k")) Eq (truth true)))) ≡ false
+compares_a_truth : well_formed (with_pre (Some (binary (named (codes "k")) (Operator Eq) (truth true)))) ≡ false
 compares_a_truth = refl
 
 -- a number that is no Int
-asks_for_too_much : well_formed (with_pre (Some (binary (named (codes "k")) Eq (number 9223372036854775808)))) ≡ false
+asks_for_too_much : well_formed (with_pre (Some (binary (named (codes "k")) (Operator Eq) (number 9223372036854775808)))) ≡ false
 asks_for_too_much = refl
 
 -- an assignment to a formal, which is no variable
-assigns_to_a_formal : well_formed (with_effect (assign (codes "start") (number 1) ∷ [])) ≡ false
+assigns_to_a_formal : well_formed (with_effect (seq (assign (codes "start") (number 1)) stop)) ≡ false
 assigns_to_a_formal = refl
 
 -- an assignment of another type
-assigns_a_truth : well_formed (with_effect (assign (codes "c") (truth true) ∷ [])) ≡ false
+assigns_a_truth : well_formed (with_effect (seq (assign (codes "c") (truth true)) stop)) ≡ false
 assigns_a_truth = refl
+
+-- a choice with this condition and these statements
+abbrev where_true : Expr → Stmts → Stmts
+where_true c ss = seq (choose (arm c ss no_arm) stop) stop
+
+takes_a_choice : well_formed (with_effect (where_true (prefix Not (binary (named (codes "c")) (Operator Eq) (number 9))) (seq (assign (codes "c") (number 1)) stop))) ≡ true
+takes_a_choice = refl
+
+-- a condition that is an Int
+chooses_by_a_number : well_formed (with_effect (where_true (named (codes "c")) (seq (assign (codes "c") (number 1)) stop))) ≡ false
+chooses_by_a_number = refl
+
+-- an assignment to a formal in a choice
+assigns_to_a_formal_there : well_formed (with_effect (where_true (truth true) (seq (assign (codes "start") (number 1)) stop))) ≡ false
+assigns_to_a_formal_there = refl
 
 -- a parameter that is an Int, and has no proposal
 proposes_nothing : well_formed (with_proposals []) ≡ false
@@ -271,19 +288,93 @@ abbrev equal : Tok
 equal = terminal terminals.Equal
 
 -- 3 - 2 - 1 is (3 - 2) - 1
-groups_to_the_left : expression 4 (tokens.number 3 ∷ minus ∷ tokens.number 2 ∷ minus ∷ tokens.number 1 ∷ []) ≡ Ok (binary (binary (number 3) Sub (number 2)) Sub (number 1), [])
-unfolding expression expr operand climb operator_at operator_of terminal_at same_terminal
+groups_to_the_left : expression 4 (tokens.number 3 ∷ minus ∷ tokens.number 2 ∷ minus ∷ tokens.number 1 ∷ []) ≡ Ok (binary (binary (number 3) (Operator Sub) (number 2)) (Operator Sub) (number 1), [])
+unfolding expression expr first operand climb operator_at operator_of prefix_at prefix_of terminal_at same_terminal
 groups_to_the_left = refl
 
 -- 1 = 3 - 2 is 1 = (3 - 2)
-binds_sums_first : expression 4 (tokens.number 1 ∷ equal ∷ tokens.number 3 ∷ minus ∷ tokens.number 2 ∷ []) ≡ Ok (binary (number 1) Eq (binary (number 3) Sub (number 2)), [])
-unfolding expression expr operand climb operator_at operator_of terminal_at same_terminal
+binds_sums_first : expression 4 (tokens.number 1 ∷ equal ∷ tokens.number 3 ∷ minus ∷ tokens.number 2 ∷ []) ≡ Ok (binary (number 1) (Operator Eq) (binary (number 3) (Operator Sub) (number 2)), [])
+unfolding expression expr first operand climb operator_at operator_of prefix_at prefix_of terminal_at same_terminal
 binds_sums_first = refl
 
 -- of 1 = 2 = 3 the second sign is left
-has_no_neighbour : expression 4 (tokens.number 1 ∷ equal ∷ tokens.number 2 ∷ equal ∷ tokens.number 3 ∷ []) ≡ Ok (binary (number 1) Eq (number 2), equal ∷ tokens.number 3 ∷ [])
-unfolding expression expr operand climb operator_at operator_of terminal_at same_terminal
+has_no_neighbour : expression 4 (tokens.number 1 ∷ equal ∷ tokens.number 2 ∷ equal ∷ tokens.number 3 ∷ []) ≡ Ok (binary (number 1) (Operator Eq) (number 2), equal ∷ tokens.number 3 ∷ [])
+unfolding expression expr first operand climb operator_at operator_of prefix_at prefix_of terminal_at same_terminal
 has_no_neighbour = refl
+
+abbrev a : Name
+a = codes "a"
+
+abbrev word_a : Tok
+word_a = tokens.name a
+
+-- - 1 - 2 is (- 1) - 2
+negates_first : expression 4 (minus ∷ tokens.number 1 ∷ minus ∷ tokens.number 2 ∷ []) ≡ Ok (binary (prefix Neg (number 1)) (Operator Sub) (number 2), [])
+unfolding expression expr first operand climb operator_at operator_of prefix_at prefix_of terminal_at same_terminal
+negates_first = refl
+
+-- ~ a = 1 is ~ (a = 1)
+denies_a_comparison : expression 4 (terminal terminals.Not ∷ word_a ∷ equal ∷ tokens.number 1 ∷ []) ≡ Ok (prefix Not (binary (named a) (Operator Eq) (number 1)), [])
+unfolding expression expr first operand climb operator_at operator_of prefix_at prefix_of terminal_at same_terminal
+denies_a_comparison = refl
+
+-- ~ a /\ a is (~ a) /\ a
+denies_before_and : expression 4 (terminal terminals.Not ∷ word_a ∷ terminal terminals.And ∷ word_a ∷ []) ≡ Ok (binary (prefix Not (named a)) And (named a), [])
+unfolding expression expr first operand climb operator_at operator_of prefix_at prefix_of terminal_at same_terminal
+denies_before_and = refl
+
+-- a \/ a /\ a is a \/ (a /\ a)
+joins_and_first : expression 4 (word_a ∷ terminal terminals.Or ∷ word_a ∷ terminal terminals.And ∷ word_a ∷ []) ≡ Ok (binary (named a) Or (binary (named a) And (named a)), [])
+unfolding expression expr first operand climb operator_at operator_of prefix_at prefix_of terminal_at same_terminal
+joins_and_first = refl
+
+-- a => a => a is a => (a => a)
+groups_to_the_right : expression 4 (word_a ∷ terminal terminals.Implies ∷ word_a ∷ terminal terminals.Implies ∷ word_a ∷ []) ≡ Ok (binary (named a) Implies (binary (named a) Implies (named a)), [])
+unfolding expression expr first operand climb operator_at operator_of prefix_at prefix_of terminal_at same_terminal
+groups_to_the_right = refl
+
+-- 2 * ~ a is refused at ~
+denies_no_factor : expression 4 (tokens.number 2 ∷ terminal terminals.Star ∷ terminal terminals.Not ∷ word_a ∷ []) ≡ Err (Syntax 2)
+unfolding expression expr first operand climb operator_at operator_of prefix_at prefix_of terminal_at same_terminal
+denies_no_factor = refl
+
+-- ---- how choices are read
+
+abbrev if_word : Tok
+if_word = terminal terminals.If
+
+abbrev then_word : Tok
+then_word = terminal terminals.Then
+
+abbrev fi_word : Tok
+fi_word = terminal terminals.Fi
+
+-- a := n
+abbrev sets : ℕ → List Tok → List Tok
+sets n ts = word_a ∷ terminal terminals.Becomes ∷ tokens.number n ∷ ts
+
+abbrev set : ℕ → Stmts
+set n = seq (assign a (number n)) stop
+
+chooses : statements 3 (if_word ∷ word_a ∷ then_word ∷ sets 1 (terminal terminals.Elseif ∷ word_a ∷ then_word ∷ sets 2 (terminal terminals.Else ∷ sets 3 (fi_word ∷ []))))
+    ≡ Ok (seq (choose (arm (named a) (set 1) (arm (named a) (set 2) no_arm)) (set 3)) stop, [])
+unfolding statements statement in_sequence terminated items_from sees_statement sees_name sees after choice an_arm more_arms many many_from introduced assignment sign a_name expression expr first operand climb operator_at operator_of prefix_at prefix_of terminal_at same_terminal
+chooses = refl
+
+-- an arm has statements
+chooses_nothing : statements 3 (if_word ∷ word_a ∷ then_word ∷ fi_word ∷ []) ≡ Err (Syntax 1)
+unfolding statements statement in_sequence terminated items_from sees_statement sees_name sees after choice an_arm more_arms many many_from introduced assignment sign a_name expression expr first operand climb operator_at operator_of prefix_at prefix_of terminal_at same_terminal
+chooses_nothing = refl
+
+-- a choice ends with `fi`
+never_ends : statements 3 (if_word ∷ word_a ∷ then_word ∷ sets 1 []) ≡ Err (Syntax 0)
+unfolding statements statement in_sequence terminated items_from sees_statement sees_name sees after choice an_arm more_arms many many_from introduced assignment sign a_name expression expr first operand climb operator_at operator_of prefix_at prefix_of terminal_at same_terminal
+never_ends = refl
+
+-- an assignment in a choice is two levels deep
+chooses_too_deep : statements 1 (if_word ∷ word_a ∷ then_word ∷ sets 1 (fi_word ∷ [])) ≡ Err TooDeep
+unfolding statements statement in_sequence terminated items_from sees_statement sees_name sees after choice an_arm more_arms many many_from introduced assignment sign a_name expression expr first operand climb operator_at operator_of prefix_at prefix_of terminal_at same_terminal
+chooses_too_deep = refl
 
 -- ---- what the composition does
 
@@ -299,8 +390,24 @@ none_is_picked = refl
 argument_is_five : argument_values basic (number 5 ∷ []) ≡ Ok (num (pos 5) ∷ [])
 argument_is_five = refl
 
-argument_faults : argument_values basic (binary (number 9223372036854775807) Add (number 1) ∷ []) ≡ Err Overflow
+argument_faults : argument_values basic (binary (number 9223372036854775807) (Operator Add) (number 1) ∷ []) ≡ Err Overflow
 argument_faults = refl
+
+-- the second operand is asked for only where the first does not decide
+abbrev overflow : Expr
+overflow = binary (binary (number 9223372036854775807) (Operator Add) (number 1)) (Operator Eq) (number 1)
+
+false_decides : argument_values basic (binary (truth false) And overflow ∷ []) ≡ Ok (truth_value false ∷ [])
+false_decides = refl
+
+true_decides : argument_values basic (binary (truth true) Or overflow ∷ []) ≡ Ok (truth_value true ∷ [])
+true_decides = refl
+
+false_implies : argument_values basic (binary (truth false) Implies overflow ∷ []) ≡ Ok (truth_value true ∷ [])
+false_implies = refl
+
+true_asks_on : argument_values basic (binary (truth true) And overflow ∷ []) ≡ Err Overflow
+true_asks_on = refl
 
 starts_at_five : start_values (from 5) ≡ Ok (num (pos 5) ∷ [])
 starts_at_five = refl
