@@ -4,11 +4,11 @@ use Rattle.ioa_value.specs.declared.arithmetic.Fault.TheVariants.{Overflow}
 use Rattle.ioa_value.specs.Actions.{Name, Act}
 use Rattle.ioa_value.specs.Plain.{Val, num}
 use Rattle.ioa_value.specs.Plain.{truth as truth_value}
-use Rattle.ioa_value.specs.declared.operator.Op.TheVariants.{Eq, Add, Sub, Mul, Not, Neg}
+use Rattle.ioa_value.specs.declared.operator.Op.TheVariants.{Eq, Add, Sub, Not, Neg}
 use Rattle.ioa_syntax.specs.declared.tree.Infix.TheVariants.{Operator, And, Or, Implies}
 use Rattle.ioa_syntax.specs.declared.tree.Kind.TheVariants.{Input, Output}
 use Rattle.ioa_syntax.specs.declared.fault.Fault.TheVariants.{Syntax, TooDeep}
-use Rattle.ioa_syntax.specs.Tree.{Expr, number, truth, named, parens, prefix, binary, FieldTree, typed, EntryTree, VariableTree, ProposalTree, TransitionTree, Stmt, assign, choose, Stmts, stop, seq, no_arm, arm, AutomatonTree, InstanceTree, CompositionTree, automaton, composition, SourceTree}
+use Rattle.ioa_syntax.specs.Tree.{Expr, number, truth, named, prefix, binary, FieldTree, typed, EntryTree, VariableTree, ProposalTree, TransitionTree, assign, choose, Stmts, stop, seq, no_arm, arm, AutomatonTree, InstanceTree, CompositionTree, automaton, composition, SourceTree}
 use Rattle.ioa_syntax.specs.Meaning.{Env}
 use Rattle.ioa_value.specs.Table.{basic}
 use Rattle.ioa_syntax.specs.Instances.{Instance, argument_values, start_values}

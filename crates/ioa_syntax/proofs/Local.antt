@@ -12,14 +12,14 @@ use Rattle.ioa_syntax.specs.declared.tree.Infix.{Infix}
 use Rattle.ioa_syntax.specs.declared.tree.Infix.TheVariants.{Operator}
 use Rattle.ioa_syntax.specs.Tree.{Expr, number, truth, named, parens, prefix, binary}
 use Rattle.ioa_syntax.specs.Depth.{depth_of}
-use Rattle.ioa_syntax.specs.Operators.{level_of, right_of, after_of, tightest}
+use Rattle.ioa_syntax.specs.Operators.{right_of, after_of, tightest}
 use Rattle.ioa_syntax.specs.Grammar.{SpellsExpr, SameHead}
 use Rattle.ioa_syntax.specs.Reading.{climb, climb_by, stop_by, expr, first, prefix_at, prefix_in, expression, operand, opened, operator_at, operator_in, terminal_at, terminal_in, allowed, rest, sign, Outcome, Reader, ◌>>=◌, ◌▸◌, built}
 use Rattle.ioa_syntax.proofs.Outcomes.{bind_err, AtMost, at_most_more, at_most_then, Shrinks, Alike, Past, past_at_most, alike_then, alike_rest, refused_at, went, front_length, same_head, LooksAhead, head_alike, rest_length}
 use Rattle.ioa_syntax.proofs.Exact.{Found, Exact}
 use Rattle.ioa_syntax.proofs.Singles.{sign_exact}
 use Rattle.ioa_syntax.proofs.Complete.{mark, Ends, complete, spelled_deep, depth_positive, first_plain, first_marked, first_loose, climbs}
-use Rattle.ioa_syntax.proofs.Sound.{next_cases, beginning, begins_plain, begins_marked, begins_loose, Opening, opening, opens_true, opens_false, opens_parens, opens_none, bracketed, opened_true, opened_false, opened_bracketed, sound, operand_sound, first_sound}
+use Rattle.ioa_syntax.proofs.Sound.{next_cases, beginning, begins_plain, begins_marked, begins_loose, Opening, opening, opens_true, opens_false, opens_parens, opens_none, bracketed, opened_true, opened_false, opened_bracketed, sound, first_sound}
 
 operator_alike : (least below : ℕ) → LooksAhead (operator_at least below)
 unfolding operator_at terminal_at

@@ -11,14 +11,14 @@ use Rattle.ioa_syntax.specs.Tree.{Expr, FieldTree, PositionTree, typed, EntryTre
 use Rattle.ioa_syntax.specs.Depth.{depth_of, deepest, deep_option, deep_variable, deep_proposal, deep_stmts, stmts_depth, deep_transition, deep_automaton, deep_instance, deep_composition, deep}
 use Rattle.ioa_syntax.specs.Grammar as grammar
 use Rattle.ioa_syntax.specs.Grammar.{Language, SameHead, ◌▹◌, single, word, called, nothing, empty, kind_word, SpellsExpr, SpellsField, SpellsFields, SpellsPosition, SpellsPositions, SpellsEntry, SpellsVariable, SpellsProposal, SpellsAfter, SpellsTransition, SpellsAutomaton, SpellsArguments, SpellsInstance, SpellsInstances, SpellsComposition, SpellsDeclaration}
-use Rattle.ioa_syntax.specs.Reading.{Reader, built, perhaps, optional_list, sees, after, sees_name, sees_statement, sees_kind, kind_at, kind_of, terminal_at, same_terminal, is_name, operator_of, closing, field, fields, position, positions, entry, entries, variable, variables, proposal, proposals, introduced, statements, transition, transitions, an_automaton, arguments, instance, instances, a_composition, many, rest, composed, declaration}
+use Rattle.ioa_syntax.specs.Reading.{Reader, built, perhaps, sees, after, sees_name, sees_statement, sees_kind, kind_at, kind_of, terminal_at, same_terminal, is_name, operator_of, closing, field, fields, position, positions, entry, entries, variable, variables, proposal, proposals, introduced, statements, transition, transitions, an_automaton, arguments, instance, instances, a_composition, many, rest, composed, declaration}
 use Rattle.ioa_syntax.proofs.Outcomes.{LooksAhead, head_alike, went, alike_rest, ok_pair, Alike, same_head}
 use Rattle.ioa_syntax.proofs.Exact.{Found, Exact, any, flat, deep_as, before, then, built_as, said_as}
 use Rattle.ioa_syntax.proofs.Singles.{sign_exact, name_exact, kind_exact, kind_is, kind_alike, seen, sees_alike, after_seen, after_unseen, after_word, after_length, seen_some, either_exact}
 use Rattle.ioa_syntax.proofs.Absent.{into_exact, deep_some, optional_exact, optional_list_exact}
 use Rattle.ioa_syntax.proofs.Lists.{terminated_exact, separated_exact, many_exact}
-use Rattle.ioa_syntax.proofs.FirstTokens.{first_some, first_of_all, leads, alone, by_list, by_option, by_two}
-use Rattle.ioa_syntax.proofs.Statements.{AfterStatements, by_after}
+use Rattle.ioa_syntax.proofs.FirstTokens.{first_some, first_of_all, leads, by_list, by_two}
+use Rattle.ioa_syntax.proofs.Statements.{by_after}
 use Rattle.ioa_syntax.proofs.Levels.{after_word_exact}
 use Rattle.ioa_syntax.proofs.Complete.{Ends, spelled_deep, depth_positive}
 use Rattle.ioa_syntax.proofs.Local.{expression_exact}

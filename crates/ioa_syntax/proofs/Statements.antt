@@ -1,19 +1,18 @@
 -- Readers of statements and choices against their languages, where those of the statements inside are exact.
-use Rattle.std.proofs.Common.{◌≡◌, ℕ, zero, suc, ◌+◌, ◌-◌, ◌<◌, ◌≤◌, ◌⊎◌, inl, inr, max, Bool, true, false, ◌||◌, List, [], ◌∷◌, ◌++◌, length, refl, sym, ap, ◌∙◌, subst, arith, Ok, Err, length-append, append_assoc}
+use Rattle.std.proofs.Common.{◌≡◌, ℕ, ◌+◌, ◌-◌, ◌<◌, ◌⊎◌, inl, inr, max, true, false, ◌||◌, List, [], ◌∷◌, ◌++◌, length, refl, sym, ap, ◌∙◌, subst, arith, append_assoc}
 use Rattle.ioa_value.specs.declared.terminal.Terminal.{Terminal}
 use Rattle.ioa_value.specs.declared.terminal.Terminal.TheVariants as terminals
 use Rattle.ioa_lex.specs.Tokens as tokens
 use Rattle.ioa_lex.specs.Tokens.{Tok, terminal}
 use Rattle.ioa_value.specs.Actions.{Name}
-use Rattle.ioa_syntax.specs.declared.fault.Fault.TheVariants.{Syntax, TooDeep}
 use Rattle.ioa_syntax.specs.Tree.{Expr, Stmt, assign, choose, Stmts, stop, seq, Arms, no_arm, arm}
 use Rattle.ioa_syntax.specs.Depth.{depth_of, deepest, deep_stmt, deep_stmts, deep_arms, stmt_depth, stmts_depth, arms_depth}
 use Rattle.ioa_syntax.specs.Grammar as grammar
 use Rattle.ioa_syntax.specs.Grammar.{Language, SameHead, ◌▹◌, word, called, nothing, empty, each_after, perhaps, SpellsExpr, SpellsStmt, SpellsStmts, SpellsMore, SpellsAfter, SpellsArms}
-use Rattle.ioa_syntax.specs.Reading.{Outcome, Reader, built, rest, sees, after, sees_name, is_name, is_terminal, sees_statement, same_terminal, sign, ◌▸◌, terminal_at, operator_of, a_name, expression, sequence, choices, assignment, in_sequence, introduced, an_arm, more_arms, choice, no_statement, statement, statements}
-use Rattle.ioa_syntax.proofs.Outcomes.{AtMost, Shrinks, LooksAhead, head_alike, Alike, refused_at}
-use Rattle.ioa_syntax.proofs.Exact.{Found, ExactFor, Exact, any, flat, deep_as, before, then, built_as, said_as}
-use Rattle.ioa_syntax.proofs.Singles.{sign_for, name_for, seen, after_seen, after_unseen, either, either_exact, introduced_exact}
+use Rattle.ioa_syntax.specs.Reading.{Reader, built, sees, sees_name, is_name, is_terminal, sees_statement, same_terminal, sign, ◌▸◌, terminal_at, operator_of, expression, sequence, choices, assignment, in_sequence, introduced, an_arm, more_arms, choice}
+use Rattle.ioa_syntax.proofs.Outcomes.{LooksAhead, head_alike}
+use Rattle.ioa_syntax.proofs.Exact.{ExactFor, any, deep_as, before, then, built_as, said_as}
+use Rattle.ioa_syntax.proofs.Singles.{sign_for, name_for, introduced_exact}
 use Rattle.ioa_syntax.proofs.Absent.{into_exact}
 use Rattle.ioa_syntax.proofs.Lists.{terminated_exact, many_exact}
 use Rattle.ioa_syntax.proofs.FirstTokens.{first_some, leads, alone}
@@ -372,7 +371,9 @@ module _ {I : Type 0} {levels : I → ℕ} (depth : I → ℕ) (k : ℕ) (is : (
       of (assign n e) ts s = absurd s
       of (choose no_arm others) ts s = absurd s
       of (choose (arm c ss more) others) ts s =
-          let same = choices_pairs more in
-          (((c, ss), (pairs_of more, (others, tt))), ap (λ more. choose (arm c ss more) others) same,
-          arm_of (c, ss) (SpellsChoices (pairs_of more) ▹ Ending others) ts
-          (subst (λ more. (SpellsExpr 0 c ▹ (word terminals.Then ▹ (SpellsStmts ss ▹ (SpellsArms more ▹ Ending others)))) ts) (sym same) s))
+          let same = choices_pairs more in (
+            ((c, ss), (pairs_of more, (others, tt))),
+            ap (λ more. choose (arm c ss more) others) same,
+            arm_of (c, ss) (SpellsChoices (pairs_of more) ▹ Ending others) ts
+                (subst (λ more. (SpellsExpr 0 c ▹ (word terminals.Then ▹ (SpellsStmts ss ▹ (SpellsArms more ▹ Ending others)))) ts) (sym same) s),
+          )
