@@ -1,23 +1,29 @@
 -- Small sources, and what the definitions say of them: each answer is computed.
 use Rattle.std.proofs.Common.{◌≡◌, ℕ, zero, suc, ◌+◌, List, [], ◌∷◌, Option, Some, None, Ok, Err, true, false, pos, refl, codes}
-use Rattle.ioa_value.specs.declared.arithmetic.Fault.TheVariants.{Overflow}
+use Rattle.ioa_value.specs.declared.arithmetic.Fault.TheVariants.{Overflow, ZeroDivisor}
 use Rattle.ioa_value.specs.Actions.{Name, Act}
 use Rattle.ioa_value.specs.Plain.{Val, num}
 use Rattle.ioa_value.specs.Plain.{truth as truth_value}
-use Rattle.ioa_value.specs.declared.operator.Op.TheVariants.{Eq, Add, Sub}
+use Rattle.ioa_value.specs.declared.operator.Op.TheVariants.{Neg, Add, Sub, Mul, Div, Mod, Lt, Gt, Not, Eq}
+use Rattle.ioa_syntax.specs.declared.tree.Infix.{Infix}
+use Rattle.ioa_syntax.specs.declared.tree.Infix.TheVariants.{Operator, And, Or, Implies}
+use Rattle.ioa_syntax.specs.declared.fault.Fault.TheVariants.{Syntax}
 use Rattle.ioa_syntax.specs.declared.tree.Kind.TheVariants.{Input, Output}
-use Rattle.ioa_syntax.specs.Tree.{Expr, number, truth, named, binary, FieldTree, typed, EntryTree, VariableTree, ProposalTree, TransitionTree, Stmt, assign, AutomatonTree, InstanceTree, CompositionTree, automaton, composition, SourceTree}
+use Rattle.ioa_syntax.specs.Tree.{Expr, number, truth, named, prefix, binary, FieldTree, typed, EntryTree, VariableTree, ProposalTree, TransitionTree, Stmt, assign, choose, Stmts, stop, seq, Arms, no_arm, arm, AutomatonTree, InstanceTree, CompositionTree, automaton, composition, SourceTree}
 use Rattle.ioa_syntax.specs.Meaning.{Env}
+use Rattle.ioa_syntax.specs.Depth.{stmts_depth}
 use Rattle.ioa_value.specs.Table.{basic}
 use Rattle.ioa_syntax.specs.Instances.{Instance, argument_values, start_values}
-use Rattle.ioa_syntax.specs.Runs.{done, not_an_action_at, not_enabled_at, fault_at, run, trace}
+use Rattle.ioa_syntax.specs.Runs.{Ending, done, not_an_action_at, not_enabled_at, fault_at, run, trace}
 use Rattle.ioa_syntax.specs.Compositions.{picked, Composed, components_of, starts_of}
 use Rattle.ioa_syntax.specs.WellFormed.{automaton_fine, automaton_within, well_formed}
 use Rattle.ioa_value.specs.declared.limits.TheConstants.{LIMITS}
+use Rattle.ioa_value.specs.declared.terminal.Terminal.{Terminal}
 use Rattle.ioa_value.specs.declared.terminal.Terminal.TheVariants as terminals
+use Rattle.ioa_value.specs.declared.operator.Op.{Op}
 use Rattle.ioa_lex.specs.Tokens as tokens
 use Rattle.ioa_lex.specs.Tokens.{Tok, terminal}
-use Rattle.ioa_syntax.specs.Reading.{expression, expr, operand, climb, operator_at, operator_of, terminal_at, same_terminal}
+use Rattle.ioa_syntax.specs.Reading.{Outcome, expression, expr, first, operand, opened, climb, operator_at, operator_of, prefix_at, prefix_of, terminal_at, same_terminal, sees, sign}
 
 abbrev pub field : Name → Name → FieldTree
 field x t = record { name = x; ty = t }
@@ -38,13 +44,13 @@ abbrev pub tick_transition : TransitionTree
 tick_transition = record {
   kind = Output;
   name = codes "tick";
-  pre = Some (binary (named (codes "k")) Eq (named (codes "c")));
+  pre = Some (binary (named (codes "k")) (Operator Eq) (named (codes "c")));
   proposals = tick_proposal ∷ [];
-  effect = assign (codes "c") (binary (named (codes "c")) Add (number 1)) ∷ [];
+  effect = seq (assign (codes "c") (binary (named (codes "c")) (Operator Add) (number 1))) stop;
 }
 
 abbrev pub reset_transition : TransitionTree
-reset_transition = record { kind = Input; name = codes "reset"; pre = None; proposals = []; effect = assign (codes "c") (named (codes "start")) ∷ [] }
+reset_transition = record { kind = Input; name = codes "reset"; pre = None; proposals = []; effect = seq (assign (codes "c") (named (codes "start"))) stop }
 
 -- counts up from its start, and goes back to it
 abbrev pub counter : AutomatonTree
@@ -118,7 +124,7 @@ with_pre pre = with_transitions (record tick_transition { pre = pre } ∷ reset_
 abbrev pub with_proposals : List ProposalTree → SourceTree
 with_proposals proposals = with_transitions (record tick_transition { proposals = proposals } ∷ reset_transition ∷ [])
 
-abbrev pub with_effect : List Stmt → SourceTree
+abbrev pub with_effect : Stmts → SourceTree
 with_effect effect = with_transitions (record tick_transition { effect = effect } ∷ reset_transition ∷ [])
 
 -- a variable that has no start expression
@@ -157,7 +163,7 @@ starts_at_a_truth : well_formed (with_variables (count_variable ∷ record (plai
 starts_at_a_truth = refl
 
 -- an unknown name in a precondition
-asks_for_nothing : well_formed (with_pre (Some (binary (named (codes "k")) Eq (named (codes "d"))))) ≡ false
+asks_for_nothing : well_formed (with_pre (Some (binary (named (codes "k")) (Operator Eq) (named (codes "d"))))) ≡ false
 asks_for_nothing = refl
 
 -- a precondition that is an Int
@@ -165,19 +171,19 @@ asks_for_a_number : well_formed (with_pre (Some (named (codes "c")))) ≡ false
 asks_for_a_number = refl
 
 -- an equation of an Int and a Bool
-compares_a_truth : well_formed (with_pre (Some (binary (named (codes "k")) Eq (truth true)))) ≡ false
+compares_a_truth : well_formed (with_pre (Some (binary (named (codes "k")) (Operator Eq) (truth true)))) ≡ false
 compares_a_truth = refl
 
 -- a number that is no Int
-asks_for_too_much : well_formed (with_pre (Some (binary (named (codes "k")) Eq (number 9223372036854775808)))) ≡ false
+asks_for_too_much : well_formed (with_pre (Some (binary (named (codes "k")) (Operator Eq) (number 9223372036854775808)))) ≡ false
 asks_for_too_much = refl
 
 -- an assignment to a formal, which is no variable
-assigns_to_a_formal : well_formed (with_effect (assign (codes "start") (number 1) ∷ [])) ≡ false
+assigns_to_a_formal : well_formed (with_effect (seq (assign (codes "start") (number 1)) stop)) ≡ false
 assigns_to_a_formal = refl
 
 -- an assignment of another type
-assigns_a_truth : well_formed (with_effect (assign (codes "c") (truth true) ∷ [])) ≡ false
+assigns_a_truth : well_formed (with_effect (seq (assign (codes "c") (truth true)) stop)) ≡ false
 assigns_a_truth = refl
 
 -- a parameter that is an Int, and has no proposal
@@ -264,26 +270,78 @@ argument_has_a_name = refl
 
 -- ---- how operators group
 
-abbrev minus : Tok
-minus = terminal terminals.Minus
+abbrev word : Terminal → Tok
+word t = terminal t
 
-abbrev equal : Tok
-equal = terminal terminals.Equal
+abbrev n : ℕ → Tok
+n k = tokens.number k
+
+abbrev between : Expr → Op → Expr → Expr
+between l o r = binary l (Operator o) r
+
+-- what is read of the tokens, with expressions of at most six levels
+abbrev read : List Tok → Outcome Expr
+read ts = expression 6 ts
 
 -- 3 - 2 - 1 is (3 - 2) - 1
-groups_to_the_left : expression 4 (tokens.number 3 ∷ minus ∷ tokens.number 2 ∷ minus ∷ tokens.number 1 ∷ []) ≡ Ok (binary (binary (number 3) Sub (number 2)) Sub (number 1), [])
-unfolding expression expr operand climb operator_at operator_of terminal_at same_terminal
+groups_to_the_left : read (n 3 ∷ word terminals.Minus ∷ n 2 ∷ word terminals.Minus ∷ n 1 ∷ []) ≡ Ok (between (between (number 3) Sub (number 2)) Sub (number 1), [])
+unfolding expression expr first prefix_at prefix_of operand opened climb operator_at operator_of terminal_at same_terminal
 groups_to_the_left = refl
 
 -- 1 = 3 - 2 is 1 = (3 - 2)
-binds_sums_first : expression 4 (tokens.number 1 ∷ equal ∷ tokens.number 3 ∷ minus ∷ tokens.number 2 ∷ []) ≡ Ok (binary (number 1) Eq (binary (number 3) Sub (number 2)), [])
-unfolding expression expr operand climb operator_at operator_of terminal_at same_terminal
+binds_sums_first : read (n 1 ∷ word terminals.Equal ∷ n 3 ∷ word terminals.Minus ∷ n 2 ∷ []) ≡ Ok (between (number 1) Eq (between (number 3) Sub (number 2)), [])
+unfolding expression expr first prefix_at prefix_of operand opened climb operator_at operator_of terminal_at same_terminal
 binds_sums_first = refl
 
 -- of 1 = 2 = 3 the second sign is left
-has_no_neighbour : expression 4 (tokens.number 1 ∷ equal ∷ tokens.number 2 ∷ equal ∷ tokens.number 3 ∷ []) ≡ Ok (binary (number 1) Eq (number 2), equal ∷ tokens.number 3 ∷ [])
-unfolding expression expr operand climb operator_at operator_of terminal_at same_terminal
+has_no_neighbour : read (n 1 ∷ word terminals.Equal ∷ n 2 ∷ word terminals.Equal ∷ n 3 ∷ []) ≡ Ok (between (number 1) Eq (number 2), word terminals.Equal ∷ n 3 ∷ [])
+unfolding expression expr first prefix_at prefix_of operand opened climb operator_at operator_of terminal_at same_terminal
 has_no_neighbour = refl
+
+-- 1 + 2 * 3 is 1 + (2 * 3)
+binds_products_first : read (n 1 ∷ word terminals.Plus ∷ n 2 ∷ word terminals.Star ∷ n 3 ∷ []) ≡ Ok (between (number 1) Add (between (number 2) Mul (number 3)), [])
+unfolding expression expr first prefix_at prefix_of operand opened climb operator_at operator_of terminal_at same_terminal
+binds_products_first = refl
+
+-- 7 div 2 mod 3 is (7 div 2) mod 3
+groups_products_to_the_left : read (n 7 ∷ word terminals.Div ∷ n 2 ∷ word terminals.Mod ∷ n 3 ∷ []) ≡ Ok (between (between (number 7) Div (number 2)) Mod (number 3), [])
+unfolding expression expr first prefix_at prefix_of operand opened climb operator_at operator_of terminal_at same_terminal
+groups_products_to_the_left = refl
+
+-- -7 div 2 is (-7) div 2
+negates_first : read (word terminals.Minus ∷ n 7 ∷ word terminals.Div ∷ n 2 ∷ []) ≡ Ok (between (prefix Neg (number 7)) Div (number 2), [])
+unfolding expression expr first prefix_at prefix_of operand opened climb operator_at operator_of terminal_at same_terminal
+negates_first = refl
+
+-- 7 - - 2 is 7 - (-2)
+negates_after_minus : read (n 7 ∷ word terminals.Minus ∷ word terminals.Minus ∷ n 2 ∷ []) ≡ Ok (between (number 7) Sub (prefix Neg (number 2)), [])
+unfolding expression expr first prefix_at prefix_of operand opened climb operator_at operator_of terminal_at same_terminal
+negates_after_minus = refl
+
+-- ~ 1 < 2 is ~ (1 < 2)
+denies_comparisons : read (word terminals.Not ∷ n 1 ∷ word terminals.Less ∷ n 2 ∷ []) ≡ Ok (prefix Not (between (number 1) Lt (number 2)), [])
+unfolding expression expr first prefix_at prefix_of operand opened climb operator_at operator_of terminal_at same_terminal
+denies_comparisons = refl
+
+-- ~ true /\ false is (~ true) /\ false
+denies_first : read (word terminals.Not ∷ word terminals.True ∷ word terminals.And ∷ word terminals.False ∷ []) ≡ Ok (binary (prefix Not (truth true)) And (truth false), [])
+unfolding expression expr first prefix_at prefix_of operand opened climb operator_at operator_of terminal_at same_terminal
+denies_first = refl
+
+-- 1 = ~ true is no expression: the sign ~ has no place there
+denies_no_operand : read (n 1 ∷ word terminals.Equal ∷ word terminals.Not ∷ word terminals.True ∷ []) ≡ Err (Syntax 2)
+unfolding expression expr first prefix_at prefix_of operand opened climb operator_at operator_of terminal_at same_terminal
+denies_no_operand = refl
+
+-- true => false => true is true => (false => true)
+implies_to_the_right : read (word terminals.True ∷ word terminals.Implies ∷ word terminals.False ∷ word terminals.Implies ∷ word terminals.True ∷ []) ≡ Ok (binary (truth true) Implies (binary (truth false) Implies (truth true)), [])
+unfolding expression expr first prefix_at prefix_of operand opened climb operator_at operator_of terminal_at same_terminal
+implies_to_the_right = refl
+
+-- true \/ false /\ true => false is (true \/ (false /\ true)) => false
+mixes_levels : read (word terminals.True ∷ word terminals.Or ∷ word terminals.False ∷ word terminals.And ∷ word terminals.True ∷ word terminals.Implies ∷ word terminals.False ∷ []) ≡ Ok (binary (binary (truth true) Or (binary (truth false) And (truth true))) Implies (truth false), [])
+unfolding expression expr first prefix_at prefix_of operand opened climb operator_at operator_of terminal_at same_terminal
+mixes_levels = refl
 
 -- ---- what the composition does
 
@@ -299,7 +357,7 @@ none_is_picked = refl
 argument_is_five : argument_values basic (number 5 ∷ []) ≡ Ok (num (pos 5) ∷ [])
 argument_is_five = refl
 
-argument_faults : argument_values basic (binary (number 9223372036854775807) Add (number 1) ∷ []) ≡ Err Overflow
+argument_faults : argument_values basic (binary (number 9223372036854775807) (Operator Add) (number 1) ∷ []) ≡ Err Overflow
 argument_faults = refl
 
 starts_at_five : start_values (from 5) ≡ Ok (num (pos 5) ∷ [])
@@ -334,3 +392,55 @@ has_no_value = refl
 
 is_unknown : (run (components_of (composed 5)) (bare (codes "tock") ∷ []) (starts_of (composed 5))).ending ≡ not_an_action_at 0
 is_unknown = refl
+
+-- ---- short circuits and choices
+
+-- the counter with this precondition and this effect of tick, from 5
+abbrev pub choosing : Expr → Stmts → Composed
+choosing pre effect = record (composed 5) {
+  members = record { name = codes "A"; instance = record (from 5) { automaton = record counter { transitions = record tick_transition { pre = Some pre; effect = effect } ∷ reset_transition ∷ [] } }; starts = num (pos 5) ∷ [] } ∷ [];
+}
+
+abbrev c : Expr
+c = named (codes "c")
+
+-- 1 div 0 = k
+abbrev faulty : Expr
+faulty = between (between (number 1) Div (number 0)) Eq (named (codes "k"))
+
+abbrev counts : Stmts
+counts = seq (assign (codes "c") (between c Add (number 1))) stop
+
+abbrev ending_with : Expr → Ending
+ending_with pre = (run (components_of (choosing pre counts)) (tick 5 ∷ []) (starts_of (choosing pre counts))).ending
+
+conjunction_stops : ending_with (binary (between c Gt (number 5)) And faulty) ≡ not_enabled_at 0
+conjunction_stops = refl
+
+disjunction_stops : ending_with (binary (between c Eq (number 5)) Or faulty) ≡ done 1
+disjunction_stops = refl
+
+implication_goes_on : ending_with (binary (between c Eq (number 5)) Implies faulty) ≡ fault_at 0 ZeroDivisor 0
+implication_goes_on = refl
+
+-- the counter's value after tick(5) with this effect
+abbrev leaves : Stmts → Option Val
+leaves effect = count (run (components_of (choosing (truth true) effect)) (tick 5 ∷ []) (starts_of (choosing (truth true) effect))).states
+
+-- so many become the counter's value
+abbrev sets : ℕ → Stmts
+sets k = seq (assign (codes "c") (number k)) stop
+
+-- the first arm with a true condition, and no other
+first_arm_is_chosen : leaves (seq (choose (arm (between c Eq (number 4)) (sets 1) (arm (between c Eq (number 5)) (sets 2) (arm (between c Lt (number 9)) (sets 3) no_arm))) (sets 4)) stop) ≡ Some (num (pos 2))
+first_arm_is_chosen = refl
+
+else_is_chosen : leaves (seq (choose (arm (between c Eq (number 4)) (sets 1) no_arm) (sets 4)) stop) ≡ Some (num (pos 4))
+else_is_chosen = refl
+
+nothing_is_chosen : leaves (seq (choose (arm (between c Eq (number 4)) (sets 1) no_arm) stop) stop) ≡ Some (num (pos 5))
+nothing_is_chosen = refl
+
+-- an assignment is one deep whatever its expression, and a choice one more than its deepest statement
+conditions_do_not_count : stmts_depth (seq (choose (arm faulty (sets 1) no_arm) stop) (sets 2)) ≡ 2
+conditions_do_not_count = refl
