@@ -1,25 +1,29 @@
 -- Small sources, and what the definitions say of them: each answer is computed.
 use Rattle.std.proofs.Common.{◌≡◌, ℕ, zero, suc, ◌+◌, List, [], ◌∷◌, Option, Some, None, Ok, Err, true, false, pos, refl, codes}
-use Rattle.ioa_value.specs.declared.arithmetic.Fault.TheVariants.{Overflow}
+use Rattle.ioa_value.specs.declared.arithmetic.Fault.TheVariants.{Overflow, ZeroDivisor}
 use Rattle.ioa_value.specs.Actions.{Name, Act}
 use Rattle.ioa_value.specs.Plain.{Val, num}
 use Rattle.ioa_value.specs.Plain.{truth as truth_value}
-use Rattle.ioa_value.specs.declared.operator.Op.TheVariants.{Eq, Add, Sub, Not, Neg}
+use Rattle.ioa_value.specs.declared.operator.Op.TheVariants.{Neg, Add, Sub, Mul, Div, Mod, Lt, Gt, Not, Eq}
+use Rattle.ioa_syntax.specs.declared.tree.Infix.{Infix}
 use Rattle.ioa_syntax.specs.declared.tree.Infix.TheVariants.{Operator, And, Or, Implies}
-use Rattle.ioa_syntax.specs.declared.tree.Kind.TheVariants.{Input, Output}
 use Rattle.ioa_syntax.specs.declared.fault.Fault.TheVariants.{Syntax, TooDeep}
-use Rattle.ioa_syntax.specs.Tree.{Expr, number, truth, named, prefix, binary, FieldTree, typed, EntryTree, VariableTree, ProposalTree, TransitionTree, assign, choose, Stmts, stop, seq, no_arm, arm, AutomatonTree, InstanceTree, CompositionTree, automaton, composition, SourceTree}
+use Rattle.ioa_syntax.specs.declared.tree.Kind.TheVariants.{Input, Output}
+use Rattle.ioa_syntax.specs.Tree.{Expr, number, truth, named, prefix, binary, FieldTree, typed, EntryTree, VariableTree, ProposalTree, TransitionTree, Stmt, assign, choose, Stmts, stop, seq, Arms, no_arm, arm, AutomatonTree, InstanceTree, CompositionTree, automaton, composition, SourceTree}
 use Rattle.ioa_syntax.specs.Meaning.{Env}
+use Rattle.ioa_syntax.specs.Depth.{stmts_depth}
 use Rattle.ioa_value.specs.Table.{basic}
 use Rattle.ioa_syntax.specs.Instances.{Instance, argument_values, start_values}
-use Rattle.ioa_syntax.specs.Runs.{done, not_an_action_at, not_enabled_at, fault_at, run, trace}
+use Rattle.ioa_syntax.specs.Runs.{Ending, done, not_an_action_at, not_enabled_at, fault_at, run, trace}
 use Rattle.ioa_syntax.specs.Compositions.{picked, Composed, components_of, starts_of}
 use Rattle.ioa_syntax.specs.WellFormed.{automaton_fine, automaton_within, well_formed}
 use Rattle.ioa_value.specs.declared.limits.TheConstants.{LIMITS}
+use Rattle.ioa_value.specs.declared.terminal.Terminal.{Terminal}
 use Rattle.ioa_value.specs.declared.terminal.Terminal.TheVariants as terminals
+use Rattle.ioa_value.specs.declared.operator.Op.{Op}
 use Rattle.ioa_lex.specs.Tokens as tokens
 use Rattle.ioa_lex.specs.Tokens.{Tok, terminal}
-use Rattle.ioa_syntax.specs.Reading.{expression, expr, first, operand, climb, operator_at, operator_of, prefix_at, prefix_of, terminal_at, same_terminal, statements, statement, in_sequence, terminated, items_from, sees_statement, sees_name, sees, after, choice, an_arm, more_arms, many, many_from, introduced, assignment, sign, a_name}
+use Rattle.ioa_syntax.specs.Reading.{Outcome, expression, expr, first, operand, opened, climb, operator_at, operator_of, prefix_at, prefix_of, terminal_at, same_terminal, sees, sign, statements, statement, in_sequence, terminated, items_from, sees_statement, sees_name, after, choice, an_arm, more_arms, many, many_from, introduced, assignment, a_name}
 
 abbrev pub field : Name → Name → FieldTree
 field x t = record { name = x; ty = t }
@@ -281,99 +285,110 @@ argument_has_a_name = refl
 
 -- ---- how operators group
 
-abbrev minus : Tok
-minus = terminal terminals.Minus
+abbrev word : Terminal → Tok
+word t = terminal t
 
-abbrev equal : Tok
-equal = terminal terminals.Equal
+abbrev n : ℕ → Tok
+n k = tokens.number k
+
+abbrev between : Expr → Op → Expr → Expr
+between l o r = binary l (Operator o) r
+
+-- what is read of the tokens, with expressions of at most six levels
+abbrev read : List Tok → Outcome Expr
+read ts = expression 6 ts
 
 -- 3 - 2 - 1 is (3 - 2) - 1
-groups_to_the_left : expression 4 (tokens.number 3 ∷ minus ∷ tokens.number 2 ∷ minus ∷ tokens.number 1 ∷ []) ≡ Ok (binary (binary (number 3) (Operator Sub) (number 2)) (Operator Sub) (number 1), [])
-unfolding expression expr first operand climb operator_at operator_of prefix_at prefix_of terminal_at same_terminal
+groups_to_the_left : read (n 3 ∷ word terminals.Minus ∷ n 2 ∷ word terminals.Minus ∷ n 1 ∷ []) ≡ Ok (between (between (number 3) Sub (number 2)) Sub (number 1), [])
+unfolding expression expr first prefix_at prefix_of operand opened climb operator_at operator_of terminal_at same_terminal
 groups_to_the_left = refl
 
 -- 1 = 3 - 2 is 1 = (3 - 2)
-binds_sums_first : expression 4 (tokens.number 1 ∷ equal ∷ tokens.number 3 ∷ minus ∷ tokens.number 2 ∷ []) ≡ Ok (binary (number 1) (Operator Eq) (binary (number 3) (Operator Sub) (number 2)), [])
-unfolding expression expr first operand climb operator_at operator_of prefix_at prefix_of terminal_at same_terminal
+binds_sums_first : read (n 1 ∷ word terminals.Equal ∷ n 3 ∷ word terminals.Minus ∷ n 2 ∷ []) ≡ Ok (between (number 1) Eq (between (number 3) Sub (number 2)), [])
+unfolding expression expr first prefix_at prefix_of operand opened climb operator_at operator_of terminal_at same_terminal
 binds_sums_first = refl
 
 -- of 1 = 2 = 3 the second sign is left
-has_no_neighbour : expression 4 (tokens.number 1 ∷ equal ∷ tokens.number 2 ∷ equal ∷ tokens.number 3 ∷ []) ≡ Ok (binary (number 1) (Operator Eq) (number 2), equal ∷ tokens.number 3 ∷ [])
-unfolding expression expr first operand climb operator_at operator_of prefix_at prefix_of terminal_at same_terminal
+has_no_neighbour : read (n 1 ∷ word terminals.Equal ∷ n 2 ∷ word terminals.Equal ∷ n 3 ∷ []) ≡ Ok (between (number 1) Eq (number 2), word terminals.Equal ∷ n 3 ∷ [])
+unfolding expression expr first prefix_at prefix_of operand opened climb operator_at operator_of terminal_at same_terminal
 has_no_neighbour = refl
 
-abbrev a : Name
-a = codes "a"
+-- 1 + 2 * 3 is 1 + (2 * 3)
+binds_products_first : read (n 1 ∷ word terminals.Plus ∷ n 2 ∷ word terminals.Star ∷ n 3 ∷ []) ≡ Ok (between (number 1) Add (between (number 2) Mul (number 3)), [])
+unfolding expression expr first prefix_at prefix_of operand opened climb operator_at operator_of terminal_at same_terminal
+binds_products_first = refl
 
-abbrev word_a : Tok
-word_a = tokens.name a
+-- 7 div 2 mod 3 is (7 div 2) mod 3
+groups_products_to_the_left : read (n 7 ∷ word terminals.Div ∷ n 2 ∷ word terminals.Mod ∷ n 3 ∷ []) ≡ Ok (between (between (number 7) Div (number 2)) Mod (number 3), [])
+unfolding expression expr first prefix_at prefix_of operand opened climb operator_at operator_of terminal_at same_terminal
+groups_products_to_the_left = refl
 
--- - 1 - 2 is (- 1) - 2
-negates_first : expression 4 (minus ∷ tokens.number 1 ∷ minus ∷ tokens.number 2 ∷ []) ≡ Ok (binary (prefix Neg (number 1)) (Operator Sub) (number 2), [])
-unfolding expression expr first operand climb operator_at operator_of prefix_at prefix_of terminal_at same_terminal
+-- -7 div 2 is (-7) div 2
+negates_first : read (word terminals.Minus ∷ n 7 ∷ word terminals.Div ∷ n 2 ∷ []) ≡ Ok (between (prefix Neg (number 7)) Div (number 2), [])
+unfolding expression expr first prefix_at prefix_of operand opened climb operator_at operator_of terminal_at same_terminal
 negates_first = refl
 
--- ~ a = 1 is ~ (a = 1)
-denies_a_comparison : expression 4 (terminal terminals.Not ∷ word_a ∷ equal ∷ tokens.number 1 ∷ []) ≡ Ok (prefix Not (binary (named a) (Operator Eq) (number 1)), [])
-unfolding expression expr first operand climb operator_at operator_of prefix_at prefix_of terminal_at same_terminal
-denies_a_comparison = refl
+-- 7 - - 2 is 7 - (-2)
+negates_after_minus : read (n 7 ∷ word terminals.Minus ∷ word terminals.Minus ∷ n 2 ∷ []) ≡ Ok (between (number 7) Sub (prefix Neg (number 2)), [])
+unfolding expression expr first prefix_at prefix_of operand opened climb operator_at operator_of terminal_at same_terminal
+negates_after_minus = refl
 
--- ~ a /\ a is (~ a) /\ a
-denies_before_and : expression 4 (terminal terminals.Not ∷ word_a ∷ terminal terminals.And ∷ word_a ∷ []) ≡ Ok (binary (prefix Not (named a)) And (named a), [])
-unfolding expression expr first operand climb operator_at operator_of prefix_at prefix_of terminal_at same_terminal
-denies_before_and = refl
+-- ~ 1 < 2 is ~ (1 < 2)
+denies_comparisons : read (word terminals.Not ∷ n 1 ∷ word terminals.Less ∷ n 2 ∷ []) ≡ Ok (prefix Not (between (number 1) Lt (number 2)), [])
+unfolding expression expr first prefix_at prefix_of operand opened climb operator_at operator_of terminal_at same_terminal
+denies_comparisons = refl
 
--- a \/ a /\ a is a \/ (a /\ a)
-joins_and_first : expression 4 (word_a ∷ terminal terminals.Or ∷ word_a ∷ terminal terminals.And ∷ word_a ∷ []) ≡ Ok (binary (named a) Or (binary (named a) And (named a)), [])
-unfolding expression expr first operand climb operator_at operator_of prefix_at prefix_of terminal_at same_terminal
-joins_and_first = refl
+-- ~ true /\ false is (~ true) /\ false
+denies_first : read (word terminals.Not ∷ word terminals.True ∷ word terminals.And ∷ word terminals.False ∷ []) ≡ Ok (binary (prefix Not (truth true)) And (truth false), [])
+unfolding expression expr first prefix_at prefix_of operand opened climb operator_at operator_of terminal_at same_terminal
+denies_first = refl
 
--- a => a => a is a => (a => a)
-groups_to_the_right : expression 4 (word_a ∷ terminal terminals.Implies ∷ word_a ∷ terminal terminals.Implies ∷ word_a ∷ []) ≡ Ok (binary (named a) Implies (binary (named a) Implies (named a)), [])
-unfolding expression expr first operand climb operator_at operator_of prefix_at prefix_of terminal_at same_terminal
-groups_to_the_right = refl
+-- 1 = ~ true is no expression: the sign ~ has no place there
+denies_no_operand : read (n 1 ∷ word terminals.Equal ∷ word terminals.Not ∷ word terminals.True ∷ []) ≡ Err (Syntax 2)
+unfolding expression expr first prefix_at prefix_of operand opened climb operator_at operator_of terminal_at same_terminal
+denies_no_operand = refl
 
--- 2 * ~ a is refused at ~
-denies_no_factor : expression 4 (tokens.number 2 ∷ terminal terminals.Star ∷ terminal terminals.Not ∷ word_a ∷ []) ≡ Err (Syntax 2)
-unfolding expression expr first operand climb operator_at operator_of prefix_at prefix_of terminal_at same_terminal
-denies_no_factor = refl
+-- true => false => true is true => (false => true)
+implies_to_the_right : read (word terminals.True ∷ word terminals.Implies ∷ word terminals.False ∷ word terminals.Implies ∷ word terminals.True ∷ []) ≡ Ok (binary (truth true) Implies (binary (truth false) Implies (truth true)), [])
+unfolding expression expr first prefix_at prefix_of operand opened climb operator_at operator_of terminal_at same_terminal
+implies_to_the_right = refl
+
+-- true \/ false /\ true => false is (true \/ (false /\ true)) => false
+mixes_levels : read (word terminals.True ∷ word terminals.Or ∷ word terminals.False ∷ word terminals.And ∷ word terminals.True ∷ word terminals.Implies ∷ word terminals.False ∷ []) ≡ Ok (binary (binary (truth true) Or (binary (truth false) And (truth true))) Implies (truth false), [])
+unfolding expression expr first prefix_at prefix_of operand opened climb operator_at operator_of terminal_at same_terminal
+mixes_levels = refl
 
 -- ---- how choices are read
 
-abbrev if_word : Tok
-if_word = terminal terminals.If
-
-abbrev then_word : Tok
-then_word = terminal terminals.Then
-
-abbrev fi_word : Tok
-fi_word = terminal terminals.Fi
-
--- a := n
-abbrev sets : ℕ → List Tok → List Tok
-sets n ts = word_a ∷ terminal terminals.Becomes ∷ tokens.number n ∷ ts
+-- c := k
+abbrev setting : ℕ → List Tok → List Tok
+setting k ts = tokens.name (codes "c") ∷ word terminals.Becomes ∷ n k ∷ ts
 
 abbrev set : ℕ → Stmts
-set n = seq (assign a (number n)) stop
+set k = seq (assign (codes "c") (number k)) stop
 
-chooses : statements 3 (if_word ∷ word_a ∷ then_word ∷ sets 1 (terminal terminals.Elseif ∷ word_a ∷ then_word ∷ sets 2 (terminal terminals.Else ∷ sets 3 (fi_word ∷ []))))
-    ≡ Ok (seq (choose (arm (named a) (set 1) (arm (named a) (set 2) no_arm)) (set 3)) stop, [])
-unfolding statements statement in_sequence terminated items_from sees_statement sees_name sees after choice an_arm more_arms many many_from introduced assignment sign a_name expression expr first operand climb operator_at operator_of prefix_at prefix_of terminal_at same_terminal
+-- a condition, and what is behind `then`
+abbrev tested : List Tok → List Tok
+tested ts = word terminals.True ∷ word terminals.Then ∷ ts
+
+chooses : statements 3 (word terminals.If ∷ tested (setting 1 (word terminals.Elseif ∷ tested (setting 2 (word terminals.Else ∷ setting 3 (word terminals.Fi ∷ []))))))
+    ≡ Ok (seq (choose (arm (truth true) (set 1) (arm (truth true) (set 2) no_arm)) (set 3)) stop, [])
+unfolding statements statement in_sequence terminated items_from sees_statement sees_name sees after choice an_arm more_arms many many_from introduced assignment sign a_name expression expr first prefix_at prefix_of operand opened climb operator_at operator_of terminal_at same_terminal
 chooses = refl
 
 -- an arm has statements
-chooses_nothing : statements 3 (if_word ∷ word_a ∷ then_word ∷ fi_word ∷ []) ≡ Err (Syntax 1)
-unfolding statements statement in_sequence terminated items_from sees_statement sees_name sees after choice an_arm more_arms many many_from introduced assignment sign a_name expression expr first operand climb operator_at operator_of prefix_at prefix_of terminal_at same_terminal
+chooses_nothing : statements 3 (word terminals.If ∷ tested (word terminals.Fi ∷ [])) ≡ Err (Syntax 1)
+unfolding statements statement in_sequence terminated items_from sees_statement sees_name sees after choice an_arm more_arms many many_from introduced assignment sign a_name expression expr first prefix_at prefix_of operand opened climb operator_at operator_of terminal_at same_terminal
 chooses_nothing = refl
 
 -- a choice ends with `fi`
-never_ends : statements 3 (if_word ∷ word_a ∷ then_word ∷ sets 1 []) ≡ Err (Syntax 0)
-unfolding statements statement in_sequence terminated items_from sees_statement sees_name sees after choice an_arm more_arms many many_from introduced assignment sign a_name expression expr first operand climb operator_at operator_of prefix_at prefix_of terminal_at same_terminal
+never_ends : statements 3 (word terminals.If ∷ tested (setting 1 [])) ≡ Err (Syntax 0)
+unfolding statements statement in_sequence terminated items_from sees_statement sees_name sees after choice an_arm more_arms many many_from introduced assignment sign a_name expression expr first prefix_at prefix_of operand opened climb operator_at operator_of terminal_at same_terminal
 never_ends = refl
 
 -- an assignment in a choice is two levels deep
-chooses_too_deep : statements 1 (if_word ∷ word_a ∷ then_word ∷ sets 1 (fi_word ∷ [])) ≡ Err TooDeep
-unfolding statements statement in_sequence terminated items_from sees_statement sees_name sees after choice an_arm more_arms many many_from introduced assignment sign a_name expression expr first operand climb operator_at operator_of prefix_at prefix_of terminal_at same_terminal
+chooses_too_deep : statements 1 (word terminals.If ∷ tested (setting 1 (word terminals.Fi ∷ []))) ≡ Err TooDeep
+unfolding statements statement in_sequence terminated items_from sees_statement sees_name sees after choice an_arm more_arms many many_from introduced assignment sign a_name expression expr first prefix_at prefix_of operand opened climb operator_at operator_of terminal_at same_terminal
 chooses_too_deep = refl
 
 -- ---- what the composition does
@@ -392,22 +407,6 @@ argument_is_five = refl
 
 argument_faults : argument_values basic (binary (number 9223372036854775807) (Operator Add) (number 1) ∷ []) ≡ Err Overflow
 argument_faults = refl
-
--- the second operand is asked for only where the first does not decide
-abbrev overflow : Expr
-overflow = binary (binary (number 9223372036854775807) (Operator Add) (number 1)) (Operator Eq) (number 1)
-
-false_decides : argument_values basic (binary (truth false) And overflow ∷ []) ≡ Ok (truth_value false ∷ [])
-false_decides = refl
-
-true_decides : argument_values basic (binary (truth true) Or overflow ∷ []) ≡ Ok (truth_value true ∷ [])
-true_decides = refl
-
-false_implies : argument_values basic (binary (truth false) Implies overflow ∷ []) ≡ Ok (truth_value true ∷ [])
-false_implies = refl
-
-true_asks_on : argument_values basic (binary (truth true) And overflow ∷ []) ≡ Err Overflow
-true_asks_on = refl
 
 starts_at_five : start_values (from 5) ≡ Ok (num (pos 5) ∷ [])
 starts_at_five = refl
@@ -441,3 +440,55 @@ has_no_value = refl
 
 is_unknown : (run (components_of (composed 5)) (bare (codes "tock") ∷ []) (starts_of (composed 5))).ending ≡ not_an_action_at 0
 is_unknown = refl
+
+-- ---- short circuits and choices
+
+-- the counter with this precondition and this effect of tick, from 5
+abbrev pub choosing : Expr → Stmts → Composed
+choosing pre effect = record (composed 5) {
+  members = record { name = codes "A"; instance = record (from 5) { automaton = record counter { transitions = record tick_transition { pre = Some pre; effect = effect } ∷ reset_transition ∷ [] } }; starts = num (pos 5) ∷ [] } ∷ [];
+}
+
+abbrev c : Expr
+c = named (codes "c")
+
+-- 1 div 0 = k
+abbrev faulty : Expr
+faulty = between (between (number 1) Div (number 0)) Eq (named (codes "k"))
+
+abbrev counts : Stmts
+counts = seq (assign (codes "c") (between c Add (number 1))) stop
+
+abbrev ending_with : Expr → Ending
+ending_with pre = (run (components_of (choosing pre counts)) (tick 5 ∷ []) (starts_of (choosing pre counts))).ending
+
+conjunction_stops : ending_with (binary (between c Gt (number 5)) And faulty) ≡ not_enabled_at 0
+conjunction_stops = refl
+
+disjunction_stops : ending_with (binary (between c Eq (number 5)) Or faulty) ≡ done 1
+disjunction_stops = refl
+
+implication_goes_on : ending_with (binary (between c Eq (number 5)) Implies faulty) ≡ fault_at 0 ZeroDivisor 0
+implication_goes_on = refl
+
+-- the counter's value after tick(5) with this effect
+abbrev leaves : Stmts → Option Val
+leaves effect = count (run (components_of (choosing (truth true) effect)) (tick 5 ∷ []) (starts_of (choosing (truth true) effect))).states
+
+-- so many become the counter's value
+abbrev sets : ℕ → Stmts
+sets k = seq (assign (codes "c") (number k)) stop
+
+-- the first arm with a true condition, and no other
+first_arm_is_chosen : leaves (seq (choose (arm (between c Eq (number 4)) (sets 1) (arm (between c Eq (number 5)) (sets 2) (arm (between c Lt (number 9)) (sets 3) no_arm))) (sets 4)) stop) ≡ Some (num (pos 2))
+first_arm_is_chosen = refl
+
+else_is_chosen : leaves (seq (choose (arm (between c Eq (number 4)) (sets 1) no_arm) (sets 4)) stop) ≡ Some (num (pos 4))
+else_is_chosen = refl
+
+nothing_is_chosen : leaves (seq (choose (arm (between c Eq (number 4)) (sets 1) no_arm) stop) stop) ≡ Some (num (pos 5))
+nothing_is_chosen = refl
+
+-- an assignment is one deep whatever its expression, and a choice one more than its deepest statement
+conditions_do_not_count : stmts_depth (seq (choose (arm faulty (sets 1) no_arm) stop) (sets 2)) ≡ 2
+conditions_do_not_count = refl
