@@ -14,5 +14,7 @@ pub mod ListOnceLemmas
 pub mod ItemLemmas
 pub mod PlaceLemmas
 pub mod TypingLemmas
+pub mod OperandLemmas
 pub mod Spellings
 pub mod WholeLemmas
+pub mod Examples

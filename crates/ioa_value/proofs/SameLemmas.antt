@@ -3,12 +3,10 @@ use Rattle.std.proofs.Common.{◌≡◌, ℕ, ℤ, pos, negsuc, ap₂, suc, List
 use Rattle.std.proofs.lemmas.Bool.{and_parts}
 use Rattle.std.proofs.lemmas.Bool.Decides.{nat_tests}
 use Rattle.ioa_value.specs.declared.value.Value.{Value}
-use Rattle.ioa_value.specs.declared.operator.Op.{Op}
-use Rattle.ioa_value.specs.declared.operator.Op.TheVariants.{Eq}
+use Rattle.ioa_value.specs.declared.operator.Class.TheVariants.{Equality}
 use Rattle.ioa_value.specs.Plain.{Val, Vals, truth, num, name, tuple, items, none, more, plain, plain_all}
-use Rattle.ioa_value.specs.Table.{Table}
 use Rattle.ioa_value.specs.Typing.{own}
-use Rattle.ioa_value.specs.Operators.{same, same_truth, same_number, same_all, gives, operate, Takes}
+use Rattle.ioa_value.specs.Operators.{same, same_truth, same_number, same_all, Answer, on_alike, TakesBy}
 
 pub equal : (s t : ℕ) → s ≡ t → (s == t) ≡ true
 equal s t e = grind (arith, nat_tests)
@@ -36,23 +34,17 @@ uneven [] (y ∷ ys) e = refl
 uneven (x ∷ xs) [] e = refl
 uneven (x ∷ xs) (y ∷ ys) e = both_false _ _ (uneven xs ys (λ q. e (ap suc q)))
 
--- two operands of one type are compared
-pub compares : (types : Table) (op : Op) (xs : List Value) (a b : Value) (r : Bool) → op ≡ Eq → Takes types op (map plain xs) → a ≡ get_or xs 0 a → b ≡ get_or xs 1 b → r ≡ same (plain a) (plain b) → gives (truth r) ≡ operate types op (map plain xs)
-compares types op xs a b r e t f g h =
-    let t' : Takes types Eq (map plain xs) = subst (λ o. Takes types o (map plain xs)) e t in
-    let done : gives (truth r) ≡ operate types Eq (map plain xs) = alike xs a b r t' f g h in
-    done ∙ ap (λ o. operate types o (map plain xs)) (sym e)
-  where
-    alike : (xs : List Value) (a b : Value) (r : Bool) → Takes types Eq (map plain xs) → a ≡ get_or xs 0 a → b ≡ get_or xs 1 b → r ≡ same (plain a) (plain b) → gives (truth r) ≡ operate types Eq (map plain xs)
-    alike [] a b r t f g h = let e : [] ≡ t.0 ∷ t.1 ∷ [] = t.3 in absurd (cc)
-    alike (x ∷ []) a b r t f g h = let e : plain x ∷ [] ≡ t.0 ∷ t.1 ∷ [] = t.3 in absurd (cc)
-    alike (x ∷ y ∷ z ∷ zs) a b r t f g h = let e : plain x ∷ plain y ∷ map plain (z ∷ zs) ≡ t.0 ∷ t.1 ∷ [] = t.3 in absurd (cc)
-    alike (x ∷ y ∷ []) a b r t f g h =
-        let e : plain x ∷ plain y ∷ [] ≡ t.0 ∷ t.1 ∷ [] = t.3 in
-        let k : own t.0 ≡ own t.1 = t.2 in
-        let k' : (own (plain x) == own (plain y)) ≡ true = equal _ _ (cc) in
-        let r' : r ≡ same (plain x) (plain y) = h ∙ ap (λ v. same (plain v) (plain b)) f ∙ ap (λ v. same (plain x) (plain v)) g in
-        rw k' (ap (λ s. gives (truth s)) r')
+-- what is given of two operands of one type
+pub on_alike_is : (f : Val → Val → Answer) (xs : List Value) (a b : Value) → TakesBy Equality (map plain xs) → a ≡ get_or xs 0 a → b ≡ get_or xs 1 b → f (plain a) (plain b) ≡ on_alike f (map plain xs)
+on_alike_is f [] a b t g h = let e : [] ≡ t.0 ∷ t.1 ∷ [] = t.3 in absurd (cc)
+on_alike_is f (x ∷ []) a b t g h = let e : plain x ∷ [] ≡ t.0 ∷ t.1 ∷ [] = t.3 in absurd (cc)
+on_alike_is f (x ∷ y ∷ z ∷ zs) a b t g h =
+    let e : plain x ∷ plain y ∷ map plain (z ∷ zs) ≡ t.0 ∷ t.1 ∷ [] = t.3 in absurd (cc)
+on_alike_is f (x ∷ y ∷ []) a b t g h =
+    let e : plain x ∷ plain y ∷ [] ≡ t.0 ∷ t.1 ∷ [] = t.3 in
+    let k : own t.0 ≡ own t.1 = t.2 in
+    let k' : (own (plain x) == own (plain y)) ≡ true = equal _ _ (cc) in
+    rw k' (ap (λ v. f (plain v) (plain b)) g ∙ ap (λ v. f (plain x) (plain v)) h)
 
 -- ---- values that are the same are equal, and a value is the same as itself
 
