@@ -1,6 +1,5 @@
 -- Well typed statements leave an environment of the same types, or a fault.
-use Rattle.std.proofs.Common.{◌≡◌, ℕ, ◌++◌, Bool, true, false, cond, List, [], ◌∷◌, Option, Some, None, refl, ap, subst, ◌∙◌, arith}
-use Rattle.std.specs.List.{list_all}
+use Rattle.std.proofs.Common.{◌≡◌, ℕ, ◌++◌, Bool, true, false, cond, ◌&&◌, List, [], ◌∷◌, Option, Some, None, refl, sym, ap, subst, ◌∙◌, arith}
 use Rattle.std.specs.Option.{option_map_or}
 use Rattle.std.specs.Str.{bytes_eq}
 use Rattle.std.proofs.lemmas.Bool.{and_parts}
@@ -8,12 +7,13 @@ use Rattle.std.proofs.lemmas.Bool.Decides.{nat_tests}
 use Rattle.std.proofs.lemmas.Slice.Eq.{bytes_eq-Decides}
 use Rattle.ioa_value.specs.Actions.{Name}
 use Rattle.ioa_value.specs.Operators.{Answer, gives, faults, nothing, IsTypedAnswer}
-use Rattle.ioa_value.specs.Plain.{Val}
+use Rattle.ioa_value.specs.Plain.{Val, truth}
+use Rattle.ioa_value.proofs.TypingLemmas.{is_truth}
 use Rattle.ioa_value.specs.Table.{Table, AreTypes}
 use Rattle.ioa_value.specs.Typing.{HasType}
-use Rattle.ioa_syntax.specs.Tree.{Stmt, assign, EntryTree, AutomatonTree}
-use Rattle.ioa_syntax.specs.Meaning.{Env, val, with_name, Outcome, becomes, breaks, nowhere, assigned, then_do, does, eff}
-use Rattle.ioa_syntax.specs.WellFormed.{Context, type_in, type_of, is_some_of, has_ty, context_of, variable_fields, scope, stmt_fine}
+use Rattle.ioa_syntax.specs.Tree.{Expr, Stmt, assign, choose, Stmts, stop, seq, Arms, no_arm, arm, EntryTree, AutomatonTree}
+use Rattle.ioa_syntax.specs.Meaning.{Env, val, with_name, Outcome, becomes, breaks, nowhere, assigned, then_do, chosen, does, picks, eff}
+use Rattle.ioa_syntax.specs.WellFormed.{Context, type_in, type_of, is_some_of, has_ty, context_of, variable_fields, scope, stmt_fine, stmts_fine, arms_fine}
 use Rattle.ioa_syntax.specs.Answers.{Stands, Suits, IsTypedOutcome}
 use Rattle.ioa_syntax.proofs.ValTyped.{val_typed}
 
@@ -53,8 +53,8 @@ module _ (types : Table) (c : Context) where
   then_typed nowhere go h k = absurd h
 
 module _ (types : Table) (declared : AreTypes types) (globals : List Name) (a : AutomatonTree) (e : EntryTree) where
-  stmt_typed : (s : Stmt) (env : Env) → stmt_fine types globals a e s ≡ true → Suits types (scope types globals a e) env → IsTypedOutcome types (scope types globals a e) (does types s env)
-  stmt_typed (assign x v) env h suits = go (type_in (context_of types (variable_fields a)) x) refl h
+  assign_typed : (x : Name) (v : Expr) (env : Env) → stmt_fine types globals a e (assign x v) ≡ true → Suits types (scope types globals a e) env → IsTypedOutcome types (scope types globals a e) (does types (assign x v) env)
+  assign_typed x v env h suits = go (type_in (context_of types (variable_fields a)) x) refl h
     where
       go : (o : Option ℕ) → type_in (context_of types (variable_fields a)) x ≡ o → option_map_or (λ ty. has_ty types (scope types globals a e) v ty) o false ≡ true → IsTypedOutcome types (scope types globals a e) (does types (assign x v) env)
       go None q k = absurd (cc)
@@ -64,8 +64,36 @@ module _ (types : Table) (declared : AreTypes types) (globals : List Name) (a : 
           (val_typed types declared (scope types globals a e) env v ty suits (some_type (type_of types (scope types globals a e) v) ty k))
           (suits x ty here)
 
-  pub effect_typed : (ss : List Stmt) (env : Env) → list_all (stmt_fine types globals a e) ss ≡ true → Suits types (scope types globals a e) env → IsTypedOutcome types (scope types globals a e) (eff types ss env)
-  effect_typed [] env h suits = suits
-  effect_typed (s ∷ ss) env h suits =
-      let parts = and_parts (stmt_fine types globals a e s) (list_all (stmt_fine types globals a e) ss) h in
-      then_typed types (scope types globals a e) (does types s env) (eff types ss) (stmt_typed s env parts.0 suits) (λ next k. effect_typed ss next parts.1 k)
+  -- what a condition chooses is typed, where both are
+  chosen_typed : (c : Expr) (env : Env) (this other : Outcome) → has_ty types (scope types globals a e) c 0 ≡ true → Suits types (scope types globals a e) env → IsTypedOutcome types (scope types globals a e) this → IsTypedOutcome types (scope types globals a e) other
+      → IsTypedOutcome types (scope types globals a e) (chosen (val types c env) this other)
+  chosen_typed c env this other h suits y n = go (val types c env) (val_typed types declared (scope types globals a e) env c 0 suits (some_type (type_of types (scope types globals a e) c) 0 h))
+    where
+      either : (b : Bool) → IsTypedOutcome types (scope types globals a e) (chosen (gives (truth b)) this other)
+      either true = y
+      either false = n
+
+      go : (m : Answer) → IsTypedAnswer types 0 m → IsTypedOutcome types (scope types globals a e) (chosen m this other)
+      go (gives v) k = let b = is_truth types declared v k in subst (λ x. IsTypedOutcome types (scope types globals a e) (chosen (gives x) this other)) (sym b.1) (either b.0)
+      go (faults f) k = tt
+      go nothing k = absurd k
+
+  mutual
+    stmt_typed : (s : Stmt) (env : Env) → stmt_fine types globals a e s ≡ true → Suits types (scope types globals a e) env → IsTypedOutcome types (scope types globals a e) (does types s env)
+    stmt_typed (assign x v) env h suits = assign_typed x v env h suits
+    stmt_typed (choose arms others) env h suits =
+        let parts = and_parts (arms_fine types globals a e arms) (stmts_fine types globals a e others) h in
+        picks_typed arms env (eff types others env) parts.0 suits (effect_typed others env parts.1 suits)
+
+    picks_typed : (arms : Arms) (env : Env) (otherwise : Outcome) → arms_fine types globals a e arms ≡ true → Suits types (scope types globals a e) env → IsTypedOutcome types (scope types globals a e) otherwise → IsTypedOutcome types (scope types globals a e) (picks types arms env otherwise)
+    picks_typed no_arm env otherwise h suits k = k
+    picks_typed (arm c ss more) env otherwise h suits k =
+        let parts = and_parts (has_ty types (scope types globals a e) c 0) (stmts_fine types globals a e ss && arms_fine types globals a e more) h in
+        let inner = and_parts (stmts_fine types globals a e ss) (arms_fine types globals a e more) parts.1 in
+        chosen_typed c env (eff types ss env) (picks types more env otherwise) parts.0 suits (effect_typed ss env inner.0 suits) (picks_typed more env otherwise inner.1 suits k)
+
+    pub effect_typed : (ss : Stmts) (env : Env) → stmts_fine types globals a e ss ≡ true → Suits types (scope types globals a e) env → IsTypedOutcome types (scope types globals a e) (eff types ss env)
+    effect_typed stop env h suits = suits
+    effect_typed (seq s ss) env h suits =
+        let parts = and_parts (stmt_fine types globals a e s) (stmts_fine types globals a e ss) h in
+        then_typed types (scope types globals a e) (does types s env) (eff types ss) (stmt_typed s env parts.0 suits) (λ next k. effect_typed ss next parts.1 k)

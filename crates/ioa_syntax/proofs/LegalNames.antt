@@ -1,5 +1,5 @@
 -- The names of a source that some tokens spell are legal.
-use Rattle.std.proofs.Common.{◌≡◌, ℕ, Bool, true, false, cond, List, [], ◌∷◌, ◌++◌, Option, Some, None, All, subst}
+use Rattle.std.proofs.Common.{◌≡◌, ℕ, Bool, true, false, cond, List, [], ◌∷◌, ◌++◌, Option, Some, None, All, sym, ap, ◌∙◌, subst, append_assoc}
 use Rattle.std.specs.List.{flat_map, find}
 use Rattle.std.specs.Prelude.{reverse}
 use Rattle.std.proofs.lemmas.List.{reverse-append}
@@ -11,12 +11,13 @@ use Rattle.ioa_lex.specs.Tokens as tokens
 use Rattle.ioa_lex.specs.Tokens.{Tok}
 use Rattle.ioa_value.specs.Actions.{Name}
 use Rattle.ioa_value.specs.Names.{IsName}
-use Rattle.ioa_syntax.specs.Tree.{Expr, number, truth, named, parens, binary, FieldTree, PositionTree, typed, EntryTree, VariableTree, Stmt, assign, TransitionTree, AutomatonTree, InstanceTree, CompositionTree, DeclarationTree, automaton, composition, SourceTree}
+use Rattle.ioa_syntax.specs.Tree.{Expr, number, truth, named, parens, prefix, binary, FieldTree, PositionTree, typed, EntryTree, VariableTree, Stmt, assign, choose, Stmts, stop, seq, Arms, no_arm, arm, TransitionTree, AutomatonTree, InstanceTree, CompositionTree, DeclarationTree, automaton, composition, SourceTree}
+use Rattle.ioa_syntax.specs.declared.tree.Infix.TheVariants.{Operator}
 use Rattle.ioa_syntax.specs.Operators.{left_of, right_of, operator_word}
-use Rattle.ioa_syntax.specs.Grammar.{Language, ◌▹◌, word, called, perhaps, optional, optional_list, each_after, separated, terminated, many, kind_word, SpellsExpr, SpellsField, SpellsFields, SpellsPosition, SpellsPositions, SpellsEntry, SpellsVariable, SpellsProposal, SpellsStmt, SpellsTransition, SpellsAutomaton, SpellsArguments, SpellsInstance, SpellsInstances, SpellsComposition, SpellsDeclaration}
+use Rattle.ioa_syntax.specs.Grammar.{Language, ◌▹◌, word, called, perhaps, optional, optional_list, each_after, separated, terminated, many, kind_word, SpellsExpr, SpellsField, SpellsFields, SpellsPosition, SpellsPositions, SpellsEntry, SpellsVariable, SpellsProposal, SpellsStmt, SpellsStmts, SpellsMore, SpellsAfter, SpellsArms, SpellsTransition, SpellsAutomaton, SpellsArguments, SpellsInstance, SpellsInstances, SpellsComposition, SpellsDeclaration}
 use Rattle.ioa_syntax.specs.Source.{AreTokens, IsSource}
 use Rattle.ioa_syntax.specs.Compositions.{automata, compositions, first_item, picked, automaton_named}
-use Rattle.ioa_syntax.specs.Names.{names_of_expr, names_of_option, names_of_field, names_of_position, names_of_entry, names_of_variable, names_of_proposal, names_of_stmt, names_of_transition, names_of_automaton, names_of_instance, names_of_composition, names_of_declaration, LegalNames}
+use Rattle.ioa_syntax.specs.Names.{names_of_expr, names_of_option, names_of_field, names_of_position, names_of_entry, names_of_variable, names_of_proposal, names_of_stmt, names_of_stmts, names_of_arms, names_of_transition, names_of_automaton, names_of_instance, names_of_composition, names_of_declaration, LegalNames}
 
 abbrev AreNames : List Name → Type 0
 AreNames ns = All IsName ns
@@ -83,15 +84,19 @@ module _ {A : Type 0} (f : A → List Name) where
 
 -- ---- productions
 
+again : (a b c d : List Name) → a ++ (b ++ (c ++ d)) ≡ (a ++ (b ++ c)) ++ d
+again a b c d = ap (λ l. a ++ l) (sym (append_assoc b c d)) ∙ sym (append_assoc a (b ++ c) d)
+
 expr_lawful : (k : ℕ) (e : Expr) → Lawful (SpellsExpr k e) (names_of_expr e)
 expr_lawful k (number n) = none_lawful (SpellsExpr k (number n))
 expr_lawful k (truth b) = none_lawful (SpellsExpr k (truth b))
 expr_lawful k (named x) = called_lawful x
 expr_lawful k (parens e) =
     after_word terminals.Open (SpellsExpr 0 e ▹ word terminals.Close) (names_of_expr e) (before_lawful (SpellsExpr 0 e) (word terminals.Close) (names_of_expr e) (expr_lawful 0 e))
+expr_lawful k (prefix o e) = λ ts h s. after_word (operator_word (Operator o)) (SpellsExpr (right_of (Operator o)) e) (names_of_expr e) (expr_lawful (right_of (Operator o)) e) ts h s.2
 expr_lawful k (binary l o r) = λ ts h s.
     then_lawful (SpellsExpr (left_of o) l) (word (operator_word o) ▹ SpellsExpr (right_of o) r) (names_of_expr l) (names_of_expr r) (expr_lawful (left_of o) l)
-    (after_word (operator_word o) (SpellsExpr (right_of o) r) (names_of_expr r) (expr_lawful (right_of o) r)) ts h s.1
+    (after_word (operator_word o) (SpellsExpr (right_of o) r) (names_of_expr r) (expr_lawful (right_of o) r)) ts h s.2
 
 field_lawful : (f : FieldTree) → Lawful (SpellsField f) (names_of_field f)
 field_lawful f =
@@ -115,22 +120,63 @@ bound_lawful : (x : Name) (e : Expr) → Lawful (called x ▹ (word terminals.Be
 bound_lawful x e =
     name_then x (word terminals.Becomes ▹ SpellsExpr 0 e) (names_of_expr e) (after_word terminals.Becomes (SpellsExpr 0 e) (names_of_expr e) (expr_lawful 0 e))
 
-stmt_lawful : (s : Stmt) → Lawful (SpellsStmt s) (names_of_stmt s)
-stmt_lawful (assign x e) = bound_lawful x e
+-- a condition, its statements, and what comes after them
+arm_lawful : (c : Expr) (L M : Language) (ns ms : List Name) → Lawful L ns → Lawful M ms → Lawful (SpellsExpr 0 c ▹ (word terminals.Then ▹ (L ▹ M))) (names_of_expr c ++ (ns ++ ms))
+arm_lawful c L M ns ms first second =
+    then_lawful (SpellsExpr 0 c) (word terminals.Then ▹ (L ▹ M)) (names_of_expr c) (ns ++ ms) (expr_lawful 0 c)
+    (after_word terminals.Then (L ▹ M) (ns ++ ms) (then_lawful L M ns ms first second))
+
+mutual
+  stmt_lawful : (s : Stmt) → Lawful (SpellsStmt s) (names_of_stmt s)
+  stmt_lawful (assign x e) = bound_lawful x e
+  stmt_lawful (choose no_arm others) = λ ts h s. absurd s
+  stmt_lawful (choose (arm c ss more) others) = λ ts h s.
+      let rest = SpellsArms more ▹ (SpellsAfter terminals.Else others ▹ word terminals.Fi) in
+      let P : List Name → Type 0 = AreNames in
+      subst P (again (names_of_expr c) (names_of_stmts ss) (names_of_arms more) (names_of_stmts others))
+      (after_word terminals.If (SpellsExpr 0 c ▹ (word terminals.Then ▹ (SpellsStmts ss ▹ rest))) (names_of_expr c ++ (names_of_stmts ss ++ (names_of_arms more ++ names_of_stmts others)))
+      (arm_lawful c (SpellsStmts ss) rest (names_of_stmts ss) (names_of_arms more ++ names_of_stmts others) (stmts_lawful ss)
+      (then_lawful (SpellsArms more) (SpellsAfter terminals.Else others ▹ word terminals.Fi) (names_of_arms more) (names_of_stmts others) (arms_lawful more)
+      (before_lawful (SpellsAfter terminals.Else others) (word terminals.Fi) (names_of_stmts others) (after_lawful terminals.Else others)))) ts h s)
+
+  stmts_lawful : (ss : Stmts) → Lawful (SpellsStmts ss) (names_of_stmts ss)
+  stmts_lawful stop = λ ts h s. absurd s
+  stmts_lawful (seq s ss) =
+      then_lawful (SpellsStmt s) (SpellsMore ss ▹ perhaps terminals.Semicolon) (names_of_stmt s) (names_of_stmts ss) (stmt_lawful s)
+      (before_lawful (SpellsMore ss) (perhaps terminals.Semicolon) (names_of_stmts ss) (more_lawful ss))
+
+  more_lawful : (ss : Stmts) → Lawful (SpellsMore ss) (names_of_stmts ss)
+  more_lawful stop = none_lawful (SpellsMore stop)
+  more_lawful (seq s ss) =
+      after_word terminals.Semicolon (SpellsStmt s ▹ SpellsMore ss) (names_of_stmts (seq s ss))
+      (then_lawful (SpellsStmt s) (SpellsMore ss) (names_of_stmt s) (names_of_stmts ss) (stmt_lawful s) (more_lawful ss))
+
+  after_lawful : (t : Terminal) (ss : Stmts) → Lawful (SpellsAfter t ss) (names_of_stmts ss)
+  after_lawful t stop = none_lawful (SpellsAfter t stop)
+  after_lawful t (seq s ss) =
+      after_word t (SpellsStmt s ▹ (SpellsMore ss ▹ perhaps terminals.Semicolon)) (names_of_stmts (seq s ss))
+      (then_lawful (SpellsStmt s) (SpellsMore ss ▹ perhaps terminals.Semicolon) (names_of_stmt s) (names_of_stmts ss) (stmt_lawful s)
+      (before_lawful (SpellsMore ss) (perhaps terminals.Semicolon) (names_of_stmts ss) (more_lawful ss)))
+
+  arms_lawful : (arms : Arms) → Lawful (SpellsArms arms) (names_of_arms arms)
+  arms_lawful no_arm = none_lawful (SpellsArms no_arm)
+  arms_lawful (arm c ss more) =
+      after_word terminals.Elseif (SpellsExpr 0 c ▹ (word terminals.Then ▹ (SpellsStmts ss ▹ SpellsArms more))) (names_of_arms (arm c ss more))
+      (arm_lawful c (SpellsStmts ss) (SpellsArms more) (names_of_stmts ss) (names_of_arms more) (stmts_lawful ss) (arms_lawful more))
 
 transition_lawful : (t : TransitionTree) → Lawful (SpellsTransition t) (names_of_transition t)
 transition_lawful t =
     let pre = optional terminals.Pre (SpellsExpr 0) t.pre in
     let proposals = optional_list terminals.Propose (separated terminals.Comma SpellsProposal) t.proposals in
-    let effect = optional_list terminals.Eff (terminated terminals.Semicolon SpellsStmt) t.effect in
+    let effect = SpellsAfter terminals.Eff t.effect in
     let proposed = flat_map names_of_proposal t.proposals in
-    let done = flat_map names_of_stmt t.effect in
+    let done = names_of_stmts t.effect in
     after_word (kind_word t.kind) (called t.name ▹ (pre ▹ (proposals ▹ effect))) (names_of_transition t)
     (name_then t.name (pre ▹ (proposals ▹ effect)) (names_of_option t.pre ++ (proposed ++ done))
     (then_lawful pre (proposals ▹ effect) (names_of_option t.pre) (proposed ++ done) (optional_lawful terminals.Pre (SpellsExpr 0) t.pre (expr_lawful 0))
     (then_lawful proposals effect proposed done
     (optional_list_lawful names_of_proposal terminals.Propose (separated terminals.Comma SpellsProposal) t.proposals (separated_lawful names_of_proposal SpellsProposal (λ p. bound_lawful p.name p.value) terminals.Comma))
-    (optional_list_lawful names_of_stmt terminals.Eff (terminated terminals.Semicolon SpellsStmt) t.effect (terminated_lawful names_of_stmt SpellsStmt stmt_lawful terminals.Semicolon)))))
+    (after_lawful terminals.Eff t.effect))))
 
 automaton_lawful : (a : AutomatonTree) → Lawful (SpellsAutomaton a) (names_of_automaton a)
 automaton_lawful a =

@@ -1,7 +1,7 @@
 -- How deep trees are: parentheses and operators are one deeper than the deepest part, and so is a choice than the deepest
 -- statement in it.
 use Rattle.std.specs.Prelude.{ℕ, ◌+◌, max, List, [], ◌∷◌, Option, Some, None}
-use Rattle.ioa_syntax.specs.Tree.{Expr, number, truth, named, parens, prefix, binary, VariableTree, ProposalTree, Stmt, assign, choose, Stmts, stop, then, Arms, no_arm, arm, TransitionTree, AutomatonTree, InstanceTree, CompositionTree, DeclarationTree, automaton, composition, SourceTree}
+use Rattle.ioa_syntax.specs.Tree.{Expr, number, truth, named, parens, prefix, binary, VariableTree, ProposalTree, Stmt, assign, choose, Stmts, stop, seq, Arms, no_arm, arm, TransitionTree, AutomatonTree, InstanceTree, CompositionTree, DeclarationTree, automaton, composition, SourceTree}
 
 abbrev pub depth_of : Expr → ℕ
 depth_of (number n) = 1
@@ -34,7 +34,7 @@ abbrev mutual
 
   pub deep_stmts : Stmts → ℕ
   deep_stmts stop = 0
-  deep_stmts (then s ss) = max (deep_stmt s) (deep_stmts ss)
+  deep_stmts (seq s ss) = max (deep_stmt s) (deep_stmts ss)
 
   pub deep_arms : Arms → ℕ
   deep_arms no_arm = 0
@@ -48,7 +48,7 @@ abbrev mutual
 
   pub stmts_depth : Stmts → ℕ
   stmts_depth stop = 0
-  stmts_depth (then s ss) = max (stmt_depth s) (stmts_depth ss)
+  stmts_depth (seq s ss) = max (stmt_depth s) (stmts_depth ss)
 
   pub arms_depth : Arms → ℕ
   arms_depth no_arm = 0

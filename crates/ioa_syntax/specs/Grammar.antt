@@ -9,7 +9,7 @@ use Rattle.ioa_syntax.specs.declared.tree.Kind.{Kind}
 use Rattle.ioa_syntax.specs.declared.tree.Kind.TheVariants.{Input, Output, Internal}
 use Rattle.ioa_syntax.specs.declared.tree.Infix.TheVariants.{Operator}
 use Rattle.ioa_syntax.specs.Operators.{stands_before, stands_between, level_of, left_of, right_of, operator_word}
-use Rattle.ioa_syntax.specs.Tree.{Expr, number, truth, named, parens, prefix, binary, FieldTree, PositionTree, typed, EntryTree, VariableTree, ProposalTree, Stmt, assign, choose, Stmts, stop, then, Arms, no_arm, arm, TransitionTree, AutomatonTree, InstanceTree, CompositionTree, DeclarationTree, automaton, composition, SourceTree}
+use Rattle.ioa_syntax.specs.Tree.{Expr, number, truth, named, parens, prefix, binary, FieldTree, PositionTree, typed, EntryTree, VariableTree, ProposalTree, Stmt, assign, choose, Stmts, stop, seq, Arms, no_arm, arm, TransitionTree, AutomatonTree, InstanceTree, CompositionTree, DeclarationTree, automaton, composition, SourceTree}
 
 abbrev pub Language : Type 1
 Language = List Tok → Type 0
@@ -120,17 +120,17 @@ abbrev mutual
 
   pub SpellsStmts : Stmts → Language
   SpellsStmts stop = empty
-  SpellsStmts (then s ss) = SpellsStmt s ▹ (SpellsMore ss ▹ perhaps terminals.Semicolon)
+  SpellsStmts (seq s ss) = SpellsStmt s ▹ (SpellsMore ss ▹ perhaps terminals.Semicolon)
 
   -- each statement after a `;`
   pub SpellsMore : Stmts → Language
   SpellsMore stop = nothing
-  SpellsMore (then s ss) = word terminals.Semicolon ▹ (SpellsStmt s ▹ SpellsMore ss)
+  SpellsMore (seq s ss) = word terminals.Semicolon ▹ (SpellsStmt s ▹ SpellsMore ss)
 
   -- statements that a word introduces, or nothing
   pub SpellsAfter : Terminal → Stmts → Language
   SpellsAfter t stop = nothing
-  SpellsAfter t (then s ss) = word t ▹ (SpellsStmt s ▹ (SpellsMore ss ▹ perhaps terminals.Semicolon))
+  SpellsAfter t (seq s ss) = word t ▹ (SpellsStmt s ▹ (SpellsMore ss ▹ perhaps terminals.Semicolon))
 
   -- the arms after the first
   pub SpellsArms : Arms → Language

@@ -7,7 +7,7 @@ use Rattle.ioa_value.specs.declared.terminal.Terminal.TheVariants as terminals
 use Rattle.ioa_value.specs.Spelling.{spelling_of}
 use Rattle.ioa_value.specs.Actions.{Name}
 use Rattle.ioa_syntax.specs.Tree as tree
-use Rattle.ioa_syntax.specs.Tree.{Expr, truth, named, parens, prefix, binary, FieldTree, PositionTree, typed, EntryTree, VariableTree, ProposalTree, Stmt, assign, choose, Stmts, stop, then, Arms, no_arm, arm, TransitionTree, AutomatonTree, InstanceTree, CompositionTree, DeclarationTree, automaton, composition, SourceTree}
+use Rattle.ioa_syntax.specs.Tree.{Expr, truth, named, parens, prefix, binary, FieldTree, PositionTree, typed, EntryTree, VariableTree, ProposalTree, Stmt, assign, choose, Stmts, stop, seq, Arms, no_arm, arm, TransitionTree, AutomatonTree, InstanceTree, CompositionTree, DeclarationTree, automaton, composition, SourceTree}
 use Rattle.ioa_syntax.specs.declared.tree.Infix.TheVariants.{Operator}
 use Rattle.ioa_syntax.specs.Operators.{operator_word}
 use Rattle.ioa_syntax.specs.Grammar.{kind_word}
@@ -106,17 +106,17 @@ abbrev mutual
 
   pub text_stmts : Stmts → List ℕ
   text_stmts stop = []
-  text_stmts (then s ss) = text_stmt s ++ text_more_stmts ss
+  text_stmts (seq s ss) = text_stmt s ++ text_more_stmts ss
 
   -- the separator and a statement, for each statement
   pub text_more_stmts : Stmts → List ℕ
   text_more_stmts stop = []
-  text_more_stmts (then s ss) = text_word space terminals.Semicolon ++ (text_stmt s ++ text_more_stmts ss)
+  text_more_stmts (seq s ss) = text_word space terminals.Semicolon ++ (text_stmt s ++ text_more_stmts ss)
 
   -- statements after their word, or nothing
   pub text_after : List ℕ → Stmts → List ℕ
   text_after w stop = []
-  text_after w (then s ss) = w ++ (text_stmt s ++ text_more_stmts ss)
+  text_after w (seq s ss) = w ++ (text_stmt s ++ text_more_stmts ss)
 
   -- the arms after the first
   pub text_arms : Arms → List ℕ

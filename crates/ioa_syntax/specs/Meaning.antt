@@ -9,7 +9,7 @@ use Rattle.ioa_value.specs.Table.{Table}
 use Rattle.ioa_value.specs.Operators.{Answer, gives, faults, nothing, operate}
 use Rattle.ioa_syntax.specs.declared.tree.Infix.{Infix}
 use Rattle.ioa_syntax.specs.declared.tree.Infix.TheVariants.{Operator, And, Or, Implies}
-use Rattle.ioa_syntax.specs.Tree.{Expr, number, truth, named, parens, prefix, binary, Stmt, assign, choose, Stmts, stop, then, Arms, no_arm, arm}
+use Rattle.ioa_syntax.specs.Tree.{Expr, number, truth, named, parens, prefix, binary, Stmt, assign, choose, Stmts, stop, seq, Arms, no_arm, arm}
 
 -- what each name stands for
 abbrev pub Env : Type 0
@@ -52,12 +52,12 @@ value_of None = nothing
 
 -- the one answer where a condition is true, the other where it is false
 abbrev pub decided : Val → Answer → Answer → Answer
-decided (truth_value true) yes no = yes
-decided (truth_value false) yes no = no
-decided (num z) yes no = nothing
-decided (name ty n) yes no = nothing
-decided (tuple ty vs) yes no = nothing
-decided (items ty vs) yes no = nothing
+decided (truth_value true) this other = this
+decided (truth_value false) this other = other
+decided (num z) this other = nothing
+decided (name ty n) this other = nothing
+decided (tuple ty vs) this other = nothing
+decided (items ty vs) this other = nothing
 
 -- the value of the first operand with the answer of the second, which is not asked for where the first decides
 abbrev pub combined : Table → Infix → Val → Answer → Answer
@@ -95,14 +95,14 @@ then_do nowhere go = nowhere
 
 -- the one outcome where a condition is true, the other where it is false; a condition's fault is the effect's
 abbrev pub chosen : Answer → Outcome → Outcome → Outcome
-chosen (gives (truth_value true)) yes no = yes
-chosen (gives (truth_value false)) yes no = no
-chosen (gives (num z)) yes no = nowhere
-chosen (gives (name ty n)) yes no = nowhere
-chosen (gives (tuple ty vs)) yes no = nowhere
-chosen (gives (items ty vs)) yes no = nowhere
-chosen (faults f) yes no = breaks f
-chosen nothing yes no = nowhere
+chosen (gives (truth_value true)) this other = this
+chosen (gives (truth_value false)) this other = other
+chosen (gives (num z)) this other = nowhere
+chosen (gives (name ty n)) this other = nowhere
+chosen (gives (tuple ty vs)) this other = nowhere
+chosen (gives (items ty vs)) this other = nowhere
+chosen (faults f) this other = breaks f
+chosen nothing this other = nowhere
 
 abbrev mutual
   pub does : Table → Stmt → Env → Outcome
@@ -117,4 +117,4 @@ abbrev mutual
   -- statements in sequence
   pub eff : Table → Stmts → Env → Outcome
   eff types stop env = becomes env
-  eff types (then s ss) env = then_do (does types s env) (λ next. eff types ss next)
+  eff types (seq s ss) env = then_do (does types s env) (λ next. eff types ss next)

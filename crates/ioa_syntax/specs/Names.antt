@@ -3,7 +3,7 @@ use Rattle.std.specs.Prelude.{List, [], ◌∷◌, ◌++◌, Option, Some, None,
 use Rattle.std.specs.List.{flat_map}
 use Rattle.ioa_value.specs.Actions.{Name}
 use Rattle.ioa_value.specs.Names.{IsName}
-use Rattle.ioa_syntax.specs.Tree.{Expr, number, truth, named, parens, prefix, binary, FieldTree, PositionTree, typed, EntryTree, VariableTree, ProposalTree, Stmt, assign, choose, Stmts, stop, then, Arms, no_arm, arm, TransitionTree, AutomatonTree, InstanceTree, CompositionTree, DeclarationTree, automaton, composition, SourceTree}
+use Rattle.ioa_syntax.specs.Tree.{Expr, number, truth, named, parens, prefix, binary, FieldTree, PositionTree, typed, EntryTree, VariableTree, ProposalTree, Stmt, assign, choose, Stmts, stop, seq, Arms, no_arm, arm, TransitionTree, AutomatonTree, InstanceTree, CompositionTree, DeclarationTree, automaton, composition, SourceTree}
 
 abbrev pub names_of_expr : Expr → List Name
 names_of_expr (number n) = []
@@ -39,7 +39,7 @@ abbrev mutual
 
   pub names_of_stmts : Stmts → List Name
   names_of_stmts stop = []
-  names_of_stmts (then s ss) = names_of_stmt s ++ names_of_stmts ss
+  names_of_stmts (seq s ss) = names_of_stmt s ++ names_of_stmts ss
 
   pub names_of_arms : Arms → List Name
   names_of_arms no_arm = []

@@ -47,7 +47,7 @@ mutual
 
   pub data Stmts : Type 0 where
     stop : Stmts
-    then : Stmt → Stmts → Stmts
+    seq : Stmt → Stmts → Stmts
 
   -- conditions, each with its statements
   pub data Arms : Type 0 where

@@ -22,7 +22,7 @@ use Rattle.ioa_syntax.specs.declared.tree.Instance.{Instance}
 use Rattle.ioa_syntax.specs.declared.tree.Assembly.{Assembly}
 use Rattle.ioa_syntax.specs.declared.tree.Declaration.{Declaration}
 use Rattle.ioa_syntax.specs.declared.tree.Declaration.TheVariants as declarations
-use Rattle.ioa_syntax.specs.Tree.{Expr, number, truth, named, parens, prefix, binary, FieldTree, PositionTree, typed, EntryTree, VariableTree, ProposalTree, Stmt, assign, choose, Stmts, stop, then, Arms, no_arm, arm, TransitionTree, AutomatonTree, InstanceTree, CompositionTree, DeclarationTree, automaton, composition, SourceTree}
+use Rattle.ioa_syntax.specs.Tree.{Expr, number, truth, named, parens, prefix, binary, FieldTree, PositionTree, typed, EntryTree, VariableTree, ProposalTree, Stmt, assign, choose, Stmts, stop, seq, Arms, no_arm, arm, TransitionTree, AutomatonTree, InstanceTree, CompositionTree, DeclarationTree, automaton, composition, SourceTree}
 
 abbrev pub name_of : Name → actions.Name
 name_of n = string_bytes n.text
@@ -57,7 +57,7 @@ abbrev mutual
 
   pub row_stmts : {m : _} → Row_of-Statement m → Stmts
   row_stmts end_of-Statement = stop
-  row_stmts (more_of-Statement s rest) = then (stmt_of s) (row_stmts rest)
+  row_stmts (more_of-Statement s rest) = seq (stmt_of s) (row_stmts rest)
 
   pub row_arms : {m : _} → Row_of-Arm m → Arms
   row_arms end_of-Arm = no_arm
@@ -66,11 +66,11 @@ abbrev mutual
 -- statements of a list in sequence
 abbrev pub stmts_of : List Statement → Stmts
 stmts_of [] = stop
-stmts_of (s ∷ ss) = then (stmt_of s) (stmts_of ss)
+stmts_of (s ∷ ss) = seq (stmt_of s) (stmts_of ss)
 
 abbrev pub arms_of : List Arm → Arms
 arms_of [] = no_arm
-arms_of (a ∷ as) = arm (expr_of a.condition) (stmts_of a.statements.items) (arms_of as)
+arms_of (a ∷ rest) = arm (expr_of a.condition) (stmts_of a.statements.items) (arms_of rest)
 
 abbrev pub transition_of : Transition → TransitionTree
 transition_of t = record {

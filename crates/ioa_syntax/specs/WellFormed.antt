@@ -11,7 +11,7 @@ use Rattle.ioa_syntax.specs.declared.tree.Infix.{Infix}
 use Rattle.ioa_syntax.specs.declared.tree.Infix.TheVariants.{Operator, And, Or, Implies}
 use Rattle.ioa_syntax.specs.declared.tree.Kind.{Kind}
 use Rattle.ioa_syntax.specs.declared.tree.Kind.TheVariants.{Input, Output, Internal}
-use Rattle.ioa_syntax.specs.Tree.{Expr, number, truth, named, parens, prefix, binary, FieldTree, PositionTree, typed, EntryTree, VariableTree, ProposalTree, Stmt, assign, choose, Stmts, stop, then, Arms, no_arm, arm, TransitionTree, AutomatonTree, InstanceTree, CompositionTree, DeclarationTree, automaton, composition, SourceTree}
+use Rattle.ioa_syntax.specs.Tree.{Expr, number, truth, named, parens, prefix, binary, FieldTree, PositionTree, typed, EntryTree, VariableTree, ProposalTree, Stmt, assign, choose, Stmts, stop, seq, Arms, no_arm, arm, TransitionTree, AutomatonTree, InstanceTree, CompositionTree, DeclarationTree, automaton, composition, SourceTree}
 use Rattle.ioa_syntax.specs.Types.{types_of}
 use Rattle.ioa_value.specs.declared.limits.Limits.{Limits}
 use Rattle.ioa_value.specs.declared.limits.TheConstants.{LIMITS}
@@ -182,7 +182,7 @@ module _ (t : Table) (globals : List Name) (a : AutomatonTree) where
 
     pub stmts_fine : EntryTree → Stmts → Bool
     stmts_fine e stop = true
-    stmts_fine e (then s ss) = stmt_fine e s && stmts_fine e ss
+    stmts_fine e (seq s ss) = stmt_fine e s && stmts_fine e ss
 
     pub arms_fine : EntryTree → Arms → Bool
     arms_fine e no_arm = true
@@ -232,7 +232,7 @@ abbrev mutual
 
   pub stmts_nodes : Stmts → ℕ
   stmts_nodes stop = 0
-  stmts_nodes (then s ss) = stmt_nodes s + stmts_nodes ss
+  stmts_nodes (seq s ss) = stmt_nodes s + stmts_nodes ss
 
   pub arms_nodes : Arms → ℕ
   arms_nodes no_arm = 0

@@ -83,14 +83,14 @@ fn operator_form(operator: Op) -> Form
     Form { level, word }
 }
 
-fn form_of(infix: Infix) -> Form
-    ensures { result ≡ spec.form_of infix }
+fn form_of(operator: Infix) -> Form
+    ensures { result ≡ spec.form_of operator }
 {
-    let (level, word) = match infix {
+    let (level, word) = match operator {
         Infix::Implies => (Level::Implication, Terminal::Implies),
         Infix::Or => (Level::Disjunction, Terminal::Or),
         Infix::And => (Level::Conjunction, Terminal::And),
-        Infix::Operator(operator) => return operator_form(operator),
+        Infix::Operator(inner) => return operator_form(inner),
     };
     Form { level, word }
 }
@@ -127,24 +127,24 @@ impl Level {
 }
 
 /// The word or sign.
-pub(crate) fn word_of(infix: Infix) -> Terminal
-    ensures { result ≡ spec.operator_word infix }
+pub(crate) fn word_of(operator: Infix) -> Terminal
+    ensures { result ≡ spec.operator_word operator }
 {
-    form_of(infix).word
+    form_of(operator).word
 }
 
 /// How tightly it binds.
-pub(crate) fn level_of(infix: Infix) -> u32
-    ensures { result ≡ spec.level_of infix }
+pub(crate) fn level_of(operator: Infix) -> u32
+    ensures { result ≡ spec.level_of operator }
 {
-    form_of(infix).level.number()
+    form_of(operator).level.number()
 }
 
 /// The least level of its right operand.
-pub(crate) fn right_of(infix: Infix) -> u32
-    ensures { result ≡ spec.right_of infix }
+pub(crate) fn right_of(operator: Infix) -> u32
+    ensures { result ≡ spec.right_of operator }
 {
-    let level = form_of(infix).level;
+    let level = form_of(operator).level;
     match level.grouping() {
         Grouping::Alone | Grouping::Left => level.number() + 1,
         Grouping::Right | Grouping::Before => level.number(),
@@ -152,10 +152,10 @@ pub(crate) fn right_of(infix: Infix) -> u32
 }
 
 /// The operators below this level may follow its right operand.
-pub(crate) fn after_of(infix: Infix) -> u32
-    ensures { result ≡ spec.after_of infix }
+pub(crate) fn after_of(operator: Infix) -> u32
+    ensures { result ≡ spec.after_of operator }
 {
-    let level = form_of(infix).level;
+    let level = form_of(operator).level;
     match level.grouping() {
         Grouping::Left => level.number() + 1,
         Grouping::Alone | Grouping::Right | Grouping::Before => level.number(),
@@ -167,9 +167,9 @@ pub(crate) fn after_of(infix: Infix) -> u32
 pub(crate) fn operator_of(terminal: Terminal) -> Option<Infix>
     ensures { result ≡ reading.operator_of terminal }
 {
-    for infix in INFIXES {
-        if word_of(infix) == terminal {
-            return Some(infix);
+    for operator in INFIXES {
+        if word_of(operator) == terminal {
+            return Some(operator);
         }
     }
     None
