@@ -3,7 +3,9 @@ use Rattle.std.proofs.Common.{◌≡◌, ℕ, zero, suc, ◌-◌, ◌<◌, arith
 use Rattle.std.specs.List.{flat_map}
 use Rattle.ioa_value.specs.declared.terminal.Terminal.{Terminal}
 use Rattle.ioa_value.specs.declared.terminal.Terminal.TheVariants as terminals
-use Rattle.ioa_lex.specs.Tokens.{Tok}
+use Rattle.ioa_lex.specs.Tokens.{Tok, tokens_shown, kind_shown}
+use Rattle.ioa_lex.specs.declared.token.Token.{Token}
+use Rattle.std.proofs.lemmas.List.{length-map}
 use Rattle.ioa_syntax.specs.declared.fault.Fault.{Fault}
 use Rattle.ioa_syntax.specs.declared.fault.ReadError.{ReadError}
 use Rattle.ioa_syntax.specs.declared.fault.ReadError.TheVariants as errors
@@ -13,7 +15,7 @@ use Rattle.ioa_syntax.specs.declared.tree.Statement.TheViews.{the_lemmas}
 use Rattle.ioa_syntax.specs.declared.tree.Statement.TheBlock.{Row_of-Arm, end_of-Arm, more_of-Arm, items-the_row-Arm, shown-the_row-Statement-0}
 use Rattle.ioa_syntax.specs.declared.tree.Arm.{Arm}
 use Rattle.ioa_syntax.specs.Tree.{Expr, Stmt, Stmts, stop, seq, choose, Arms, no_arm, arm}
-use Rattle.ioa_syntax.specs.Reading.{Outcome, Reader, Reads, Fails, ◌>>=◌, built, many_from, sees, after, assignment, statement, sees_statement, terminated, sequence, in_sequence, choices, an_arm, more_arms, introduced, sign, choice}
+use Rattle.ioa_syntax.specs.Reading.{Outcome, Reader, Reads, Fails, ◌>>=◌, ◌▸◌, built, many, many_from, sees, after, assignment, statement, sees_statement, terminated, sequence, in_sequence, choices, an_arm, more_arms, introduced, sign, choice}
 use Rattle.ioa_syntax.specs.Layout.{space, line, text_word, text_expr, text_more, text_stmt, text_stmts, text_more_stmts, text_arms}
 use Rattle.ioa_syntax.specs.View.{expr_of, stmt_of, stmts_of, arm_of, arms_of, row_stmts, row_arms}
 
@@ -118,6 +120,18 @@ found_before {A} begins item (suc n) x found ts = by (λ p. found_before begins 
     by more false e o read = rw e refl
     by more true e (Ok p) read = rw (e, read) (more p)
     by more true e (Err f) read = rw (e, read) refl
+
+pub arms_start : (depth count : ℕ) (inner : Reader Stmts) (first : Arm) (found : List Arm) (tokens : List Token) → found ≡ first ∷ [] → count ≡ length tokens →
+    many_from (sees terminals.Elseif) (built (λ p. p.1) (sign terminals.Elseif ▸ an_arm depth inner)) (count - 0) (map arm_of found) (tokens_shown tokens)
+    ≡ built (λ more. arm_of first ∷ more) (more_arms depth inner) (tokens_shown tokens)
+unfolding more_arms many
+arms_start depth count inner first found tokens one is =
+    let item = built (λ p. p.1) (sign terminals.Elseif ▸ an_arm depth inner) in
+    let ts = tokens_shown tokens in
+    let e : count - 0 ≡ length ts = omega (arith, is, length-map tokens (λ t. kind_shown t.kind)) in
+    ap (λ n. many_from (sees terminals.Elseif) item n (map arm_of found) ts) e
+    ∙ ap (λ r. many_from (sees terminals.Elseif) item (length ts) (map arm_of r) ts) one
+    ∙ found_before (sees terminals.Elseif) item (length ts) (arm_of first) [] ts
 
 abbrev in_front : {A : Type 0} → A → List A × List Tok → Outcome (List A)
 in_front a p = Ok (a ∷ p.0, p.1)
