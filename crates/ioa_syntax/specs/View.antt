@@ -68,6 +68,10 @@ abbrev pub stmts_of : List Statement → Stmts
 stmts_of [] = stop
 stmts_of (s ∷ ss) = seq (stmt_of s) (stmts_of ss)
 
+-- the parts of an arm
+abbrev pub arm_of : Arm → Expr × Stmts
+arm_of a = (expr_of a.condition, stmts_of a.statements.items)
+
 abbrev pub arms_of : List Arm → Arms
 arms_of [] = no_arm
 arms_of (a ∷ rest) = arm (expr_of a.condition) (stmts_of a.statements.items) (arms_of rest)

@@ -80,9 +80,10 @@ impl<'a> Cursor<'a> {
         ReadError::Fault(Fault::Syntax(self.left()))
     }
 
-    /// No expression of depth 0 comes next.
+    /// No expression and no statement of depth 0 comes next.
     pub fn too_deep(&self) -> ReadError
-        ensures { spec.Fails result (spec.no_depth (tokens_shown self.now)) }
+        ensures expression { spec.Fails result (spec.no_depth (tokens_shown self.now)) }
+        ensures statement { spec.Fails result (spec.no_statement (tokens_shown self.now)) }
     {
         match self.left {
             [] => ReadError::Fault(Fault::Syntax(0)),
@@ -95,6 +96,16 @@ impl<'a> Cursor<'a> {
         ensures { MatchOption result (tokens_shown self.now ≡ []) (λ t. tokens_shown self.now ≡ kind_shown t.now.kind ∷ spec.rest (tokens_shown self.now)) }
     {
         self.left.first()
+    }
+
+    /// The line of the next token, or 0.
+    pub fn line(&self) -> u32
+        ensures { result ≡ spec.line_of 0 self.now }
+    {
+        match self.left {
+            [Token { line, .. }, ..] => *line,
+            [] => 0,
+        }
     }
 
     /// The word or sign that comes next.
@@ -228,5 +239,13 @@ impl<'a> Cursor<'a> {
                 ..
             ]
         )
+    }
+
+    /// Whether a statement comes next.
+    #[tactic(auto, unfolding(crate::specs::Reading::sees_statement))]
+    pub fn sees_statement(&self) -> bool
+        ensures { result ≡ spec.sees_statement (tokens_shown self.now) }
+    {
+        self.sees_name() || self.sees(Terminal::If)
     }
 }

@@ -9,17 +9,25 @@ ghost use Rattle.ioa_syntax.specs.View.{expr_of};
 use crate::cursor::Cursor;
 use crate::fault::{Fault, ReadError};
 use crate::measured::Measured;
-use crate::operators::{TIGHTEST, after_of, level_of, operator_of, right_of};
-use crate::tree::Expression;
+use crate::operators::{TIGHTEST, after_of, level_of, operator_of, prefix_of, right_of};
+use crate::tree::{Expression, Infix};
 use ioa_lex::{Kind, Terminal, Token};
 use ioa_value::{LIMITS, Op};
 
-/// How deep an expression may be.
-const MAX_DEPTH: u32 = LIMITS.depth as u32;
+/// How deep expressions and statements may be.
+pub(crate) const MAX_DEPTH: u32 = LIMITS.depth as u32;
 
-/// The operator that comes next, if its level is from `least` on and below `below`.
+/// The operator before an expression that comes next.
+#[tactic(auto, unfolding(crate::specs::Reading::prefix_at))]
+fn prefix_at(cursor: &Cursor<'_>) -> Option<Op>
+    ensures { result ≡ spec.prefix_at (tokens_shown cursor.now) }
+{
+    prefix_of(cursor.terminal()?)
+}
+
+/// What stands between two expressions and comes next, if its level is from `least` on and below `below`.
 #[tactic(auto, unfolding(crate::specs::Reading::operator_at))]
-fn operator_at(cursor: &Cursor<'_>, least: u32, below: u32) -> Option<Op>
+fn operator_at(cursor: &Cursor<'_>, least: u32, below: u32) -> Option<Infix>
     ensures { result ≡ spec.operator_at least below (tokens_shown cursor.now) }
 {
     let operator = operator_of(cursor.terminal()?)?;
@@ -50,8 +58,31 @@ fn expression(cursor: &mut Cursor<'_>, depth: u32, least: u32) -> Result<Measure
     if depth == 0 {
         return Err(cursor.too_deep());
     }
-    let left = operand(cursor, depth - 1)?;
+    let left = first(cursor, depth - 1, least)?;
     climb(cursor, left, depth - 1, least)
+}
+
+/// What an expression begins with, an operator and its operand or an operand alone, and the level below which operators
+/// may follow it.
+#[cycle(expression)]
+#[tactic(auto, unfolding(crate::specs::Reading::first))]
+fn first(cursor: &mut Cursor<'_>, depth: u32, least: u32) -> Result<(Measured, u32), ReadError>
+    requires { depth < 999 }
+    ensures read { Reads (λ p. (expr_of p.0.expression, p.1)) (spec.first least (spec.expr depth) (tokens_shown cursor.old)) result (tokens_shown cursor.new) }
+    ensures within { IfOk result (λ p. p.0.depth ≤ depth + 1) }
+{
+    let Some(operator) = prefix_at(cursor) else {
+        return Ok((operand(cursor, depth)?, TIGHTEST));
+    };
+    let before = Infix::Operator(operator);
+    if level_of(before) < least {
+        return Err(cursor.fault());
+    }
+    let line = cursor.line();
+    cursor.skip();
+    let operand = expression(cursor, depth, right_of(before))?;
+    let whole = operand.prefix(cursor.alloc(), operator, line)?;
+    Ok((whole, after_of(before)))
 }
 
 /// A number, a truth value, a name, or an expression of at most `depth` levels in parentheses.
@@ -89,22 +120,22 @@ fn operand(cursor: &mut Cursor<'_>, depth: u32) -> Result<Measured, ReadError>
     }
 }
 
-/// Operators of a level from `least` on, and their right operands, after this left operand.
+/// Operators of a level from `least` on, and their right operands, after this left operand. The first of them has a level
+/// below the number beside it.
 #[cycle(expression)]
 #[tactic(auto, unfolding(crate::specs::Reading::climb))]
 fn climb(
     cursor: &mut Cursor<'_>,
-    first: Measured,
+    first: (Measured, u32),
     depth: u32,
     least: u32,
 ) -> Result<Measured, ReadError>
     requires small { depth < 999 }
-    requires within { first.depth ≤ depth + 1 }
-    ensures read { Reads (λ m. expr_of m.expression) (spec.climb depth (spec.expr depth) depth least TIGHTEST (expr_of first.expression) (tokens_shown cursor.old)) result (tokens_shown cursor.new) }
+    requires within { first.0.depth ≤ depth + 1 }
+    ensures read { Reads (λ m. expr_of m.expression) (spec.climb depth (spec.expr depth) depth least first.1 (expr_of first.0.expression) (tokens_shown cursor.old)) result (tokens_shown cursor.new) }
     ensures within { IfOk result (λ m. m.depth ≤ depth + 1) }
 {
-    let mut left = first;
-    let mut below = TIGHTEST;
+    let (mut left, mut below) = first;
     for _turn in 0..depth {
         let Some(operator) = operator_at(cursor, least, below) else {
             return Ok(left);

@@ -15,6 +15,7 @@ mod sameness;
 mod signatures;
 mod source;
 mod sources;
+mod statements;
 mod states;
 mod transitions;
 mod tree;

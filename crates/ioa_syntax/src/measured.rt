@@ -2,11 +2,11 @@
 
 ghost use Rattle.std.specs.Prelude.{◌≡◌, ◌<◌, ◌≤◌, ◌+◌, IfOk};
 ghost use Rattle.ioa_syntax.specs.Tree as spec;
-ghost use Rattle.ioa_syntax.specs.Tree.{truth, named, parens, binary};
+ghost use Rattle.ioa_syntax.specs.Tree.{truth, named, parens, prefix, binary};
 ghost use Rattle.ioa_syntax.specs.Depth.{depth_of};
 ghost use Rattle.ioa_syntax.specs.View.{expr_of, name_of};
 
-use crate::tree::{Expression, Name};
+use crate::tree::{Expression, Infix, Name};
 use ioa_value::Op;
 use std::alloc::{AllocError, Global};
 
@@ -58,10 +58,22 @@ impl Measured {
         })
     }
 
+    /// The expression after an operator that stands on this line.
+    pub fn prefix(self, alloc: Global, operator: Op, line: u32) -> Result<Measured, AllocError>
+        requires { self.depth < 1000 }
+        ensures { IfOk result (λ m. expr_of m.expression ≡ prefix operator (expr_of self.expression)) }
+    {
+        let Measured { expression, depth } = self;
+        Ok(Measured {
+            expression: Expression::Prefix(operator, Box::new(alloc, expression)?, line),
+            depth: depth + 1,
+        })
+    }
+
     pub fn binary(
         self,
         alloc: Global,
-        operator: Op,
+        operator: Infix,
         right: Measured,
     ) -> Result<Measured, AllocError>
         requires left { self.depth < 1000 }

@@ -1,6 +1,6 @@
 //! How operators bind, and how they are written.
 
-ghost use Rattle.std.specs.Prelude.{◌≡◌, ◌<◌};
+ghost use Rattle.std.specs.Prelude.{◌≡◌, ◌<◌, find};
 ghost use Rattle.ioa_syntax.specs.Operators as spec;
 ghost use Rattle.ioa_syntax.specs.Reading as reading;
 
@@ -39,22 +39,26 @@ pub(crate) struct Form {
 }
 
 /// All that stand between two expressions.
-const INFIXES: [Infix; 14] = [
-    Infix::Implies,
-    Infix::Or,
-    Infix::And,
-    Infix::Operator(Op::Eq),
-    Infix::Operator(Op::Ne),
-    Infix::Operator(Op::Lt),
-    Infix::Operator(Op::Le),
-    Infix::Operator(Op::Gt),
-    Infix::Operator(Op::Ge),
-    Infix::Operator(Op::Add),
-    Infix::Operator(Op::Sub),
-    Infix::Operator(Op::Mul),
-    Infix::Operator(Op::Div),
-    Infix::Operator(Op::Mod),
-];
+fn infixes() -> &'static [Infix]
+    ensures { result.now ≡ spec.infixes }
+{
+    &[
+        Infix::Implies,
+        Infix::Or,
+        Infix::And,
+        Infix::Operator(Op::Eq),
+        Infix::Operator(Op::Ne),
+        Infix::Operator(Op::Lt),
+        Infix::Operator(Op::Le),
+        Infix::Operator(Op::Gt),
+        Infix::Operator(Op::Ge),
+        Infix::Operator(Op::Add),
+        Infix::Operator(Op::Sub),
+        Infix::Operator(Op::Mul),
+        Infix::Operator(Op::Div),
+        Infix::Operator(Op::Mod),
+    ]
+}
 
 /// All that stand before one.
 const PREFIXES: [Op; 2] = [Op::Not, Op::Neg];
@@ -162,17 +166,25 @@ pub(crate) fn after_of(operator: Infix) -> u32
     }
 }
 
-/// What stands between two expressions and is written with this word or sign.
-#[tactic(auto, unfolding(crate::specs::Reading::operator_of, crate::specs::Reading::same_terminal))]
-pub(crate) fn operator_of(terminal: Terminal) -> Option<Infix>
-    ensures { result ≡ reading.operator_of terminal }
+/// The one of these that is written with this word or sign.
+#[tactic(auto, unfolding(crate::specs::Reading::same_terminal))]
+fn among(operators: &[Infix], terminal: Terminal) -> Option<Infix>
+    ensures { result ≡ find (λ o. reading.same_terminal (spec.operator_word o) terminal) operators.now }
 {
-    for operator in INFIXES {
-        if word_of(operator) == terminal {
-            return Some(operator);
+    for operator in operators {
+        if word_of(*operator) == terminal {
+            return Some(*operator);
         }
     }
     None
+}
+
+/// What stands between two expressions and is written with this word or sign.
+#[tactic(auto, unfolding(crate::specs::Reading::operator_of))]
+pub(crate) fn operator_of(terminal: Terminal) -> Option<Infix>
+    ensures { result ≡ reading.operator_of terminal }
+{
+    among(infixes(), terminal)
 }
 
 /// The operator that stands before an expression and is written with this word or sign.

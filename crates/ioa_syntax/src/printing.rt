@@ -4,6 +4,7 @@ mod automata;
 mod compositions;
 mod expressions;
 mod signatures;
+mod statements;
 mod words;
 
 ghost use Rattle.std.specs.Prelude.{◌≡◌, ◌++◌, ℕ, List, map, OnOk, IfOk};

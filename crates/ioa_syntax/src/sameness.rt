@@ -2,11 +2,11 @@
 
 ghost use Rattle.std.specs.Prelude.{◌≡◌, ◌↔◌, IsTrue, map};
 ghost use Rattle.std.specs.Option.{option_map};
-ghost use Rattle.ioa_syntax.specs.View.{expr_of};
+ghost use Rattle.ioa_syntax.specs.View.{expr_of, stmt_of, stmts_of, arm_of, arms_of};
 
 use crate::tree::{
-    Assembly, Automaton, Declaration, Entry, Expression, Field, Instance, Name, Position, Proposal,
-    Statement, Transition, Variable,
+    Arm, Assembly, Automaton, Declaration, Entry, Expression, Field, Instance, Name, Position,
+    Proposal, Statement, Transition, Variable,
 };
 
 /// Values that stand for trees.
@@ -56,6 +56,8 @@ fn same_expression(this: &Expression, that: &Expression) -> bool
         (Expression::Truth(a, _), Expression::Truth(b, _)) => a == b,
         (Expression::Name(a), Expression::Name(b)) => a.same(b),
         (Expression::Parentheses(a, _), Expression::Parentheses(b, _)) => same_expression(a, b),
+        (Expression::Prefix(o, a, _), Expression::Prefix(p, b, _)) => o == p
+            && same_expression(a, b),
         (Expression::Binary(a, o, b), Expression::Binary(c, p, d)) => {
             o == p && same_expression(a, c) && same_expression(b, d)
         }
@@ -154,6 +156,57 @@ impl Same for Proposal {
     }
 }
 
+#[cycle(same_statement)]
+#[tactic(auto, using(crate::proofs::Sequences::stmt_chosen))]
+fn same_statement(this: &Statement, that: &Statement) -> bool
+    ensures { IsTrue result ↔ (stmt_of this.now ≡ stmt_of that.now) }
+{
+    match (this, that) {
+        (Statement::Assign(a, x), Statement::Assign(b, y)) => a.same(b) && x.same(y),
+        (Statement::If(arms, others, _), Statement::If(those, rest, _)) => {
+            same_arms(arms, those) && same_statements(others, rest)
+        }
+        _ => false,
+    }
+}
+
+#[cycle(same_statement)]
+fn same_statements(these: &[Statement], those: &[Statement]) -> bool
+    ensures { IsTrue result ↔ (stmts_of these.now ≡ stmts_of those.now) }
+{
+    if these.len() != those.len() {
+        return false;
+    }
+    for (i, this) in these.iter().enumerate() {
+        if !same_statement(this, &those[i]) {
+            return false;
+        }
+    }
+    true
+}
+
+#[cycle(same_statement)]
+fn same_arm(this: &Arm, that: &Arm) -> bool
+    ensures { IsTrue result ↔ (arm_of this.now ≡ arm_of that.now) }
+{
+    this.condition.same(&that.condition) && same_statements(&this.statements, &that.statements)
+}
+
+#[cycle(same_statement)]
+fn same_arms(these: &[Arm], those: &[Arm]) -> bool
+    ensures { IsTrue result ↔ (arms_of these.now ≡ arms_of those.now) }
+{
+    if these.len() != those.len() {
+        return false;
+    }
+    for (i, this) in these.iter().enumerate() {
+        if !same_arm(this, &those[i]) {
+            return false;
+        }
+    }
+    true
+}
+
 impl Same for Statement {
     ghost use Rattle.ioa_syntax.specs.Tree.{Stmt};
     ghost use Rattle.ioa_syntax.specs.View.{stmt_of};
@@ -163,8 +216,7 @@ impl Same for Statement {
     ghost tree = { stmt_of };
 
     fn same(&self, other: &Statement) -> bool {
-        let (Statement::Assign(name, value), Statement::Assign(that, other)) = (self, other);
-        name.same(that) && value.same(other)
+        same_statement(self, other)
     }
 }
 
@@ -181,7 +233,7 @@ impl Same for Transition {
             && self.name.same(&other.name)
             && same_option(&self.pre, &other.pre)
             && same_list(&self.proposals, &other.proposals)
-            && same_list(&self.effect, &other.effect)
+            && same_statements(&self.effect, &other.effect)
     }
 }
 

@@ -6,11 +6,12 @@ ghost use Rattle.std.specs.Option.{option_map};
 ghost use Rattle.ioa_lex.specs.Tokens.{tokens_shown};
 ghost use Rattle.ioa_syntax.specs.Reading as spec;
 ghost use Rattle.ioa_syntax.specs.Reading.{Reads};
-ghost use Rattle.ioa_syntax.specs.View.{expr_of, proposal_of, stmt_of, transition_of};
+ghost use Rattle.ioa_syntax.specs.View.{expr_of, proposal_of, stmts_of, transition_of};
 
 use crate::cursor::Cursor;
-use crate::expressions::whole_expression;
+use crate::expressions::{MAX_DEPTH, whole_expression};
 use crate::fault::ReadError;
+use crate::statements::introduced;
 use crate::tree::{Expression, Proposal, Statement, Transition};
 use ioa_lex::Terminal;
 
@@ -58,38 +59,11 @@ fn proposals(cursor: &mut Cursor<'_>) -> Result<Vec<Proposal>, ReadError>
     proposal_list(cursor)
 }
 
-/// An assignment.
-#[tactic(auto, unfolding(crate::specs::Reading::statement))]
-fn statement(cursor: &mut Cursor<'_>) -> Result<Statement, ReadError>
-    ensures { Reads stmt_of (spec.statement LIMITS.depth (tokens_shown cursor.old)) result (tokens_shown cursor.new) }
-{
-    let name = cursor.name()?;
-    cursor.expect(Terminal::Becomes)?;
-    Ok(Statement::Assign(name, whole_expression(cursor)?))
-}
-
-#[tactic(auto, unfolding(crate::specs::Reading::statements, crate::specs::Reading::terminated), using(crate::proofs::Turns::items_turn, crate::proofs::Turns::items_close, crate::proofs::Turns::items_fail, crate::proofs::Turns::items_spent))]
-fn statements(cursor: &mut Cursor<'_>) -> Result<Vec<Statement>, ReadError>
-    ensures { Reads (λ v. map stmt_of v.items) (spec.statements LIMITS.depth (tokens_shown cursor.old)) result (tokens_shown cursor.new) }
-{
-    let mut found = Vec::new(cursor.alloc());
-    for _turn in 0..cursor.left() {
-        found.push(statement(cursor)?)?;
-        if !cursor.take(Terminal::Semicolon) || !cursor.sees_name() {
-            return Ok(found);
-        }
-    }
-    Err(cursor.fault())
-}
-
-#[tactic(auto, unfolding(crate::specs::Reading::optional_list))]
+#[tactic(auto, unfolding(crate::specs::Reading::statements))]
 fn effect(cursor: &mut Cursor<'_>) -> Result<Vec<Statement>, ReadError>
-    ensures { Reads (λ v. map stmt_of v.items) (spec.optional_list Terminal.Eff (spec.statements LIMITS.depth) (tokens_shown cursor.old)) result (tokens_shown cursor.new) }
+    ensures { Reads (λ v. stmts_of v.items) (spec.introduced Terminal.Eff (spec.statements LIMITS.depth) (tokens_shown cursor.old)) result (tokens_shown cursor.new) }
 {
-    if !cursor.take(Terminal::Eff) {
-        return Ok(Vec::new(cursor.alloc()));
-    }
-    statements(cursor)
+    introduced(cursor, Terminal::Eff, MAX_DEPTH)
 }
 
 /// A transition: a kind, a name, and the parts that it has.

@@ -5,12 +5,13 @@ ghost use Rattle.std.specs.Option.{option_map};
 ghost use Rattle.std.specs.String.{string_bytes};
 ghost use Rattle.ioa_syntax.specs.Grammar.{kind_word};
 ghost use Rattle.ioa_syntax.specs.Layout as spec;
-ghost use Rattle.ioa_syntax.specs.View.{expr_of, name_of, variable_of, proposal_of, stmt_of, transition_of, automaton_of};
+ghost use Rattle.ioa_syntax.specs.View.{expr_of, variable_of, proposal_of, transition_of, automaton_of};
 
 use crate::printing::expressions::expression;
 use crate::printing::signatures::{before, entries, field, formals, word_of};
+use crate::printing::statements::{binding, effect};
 use crate::printing::words::{LINE, SPACE, name, word};
-use crate::tree::{Automaton, Expression, Name, Proposal, Statement, Transition, Variable};
+use crate::tree::{Automaton, Expression, Proposal, Transition, Variable};
 use ioa_lex::Terminal;
 use ioa_value::OutOfMemory;
 
@@ -63,15 +64,6 @@ fn states(text: &mut String, variables: &[Variable]) -> Result<(), OutOfMemory>
     more_variables(text, more)
 }
 
-/// Writes a name that an expression is bound to.
-fn binding(text: &mut String, called: &Name, value: &Expression) -> Result<(), OutOfMemory>
-    ensures { OnOk result (string_bytes text.new ≡ string_bytes text.old ++ spec.text_binding (name_of called.now) (expr_of value.now)) }
-{
-    name(text, called, SPACE)?;
-    word(text, Terminal::Becomes, SPACE)?;
-    expression(text, value, LINE)
-}
-
 fn more_proposals(text: &mut String, proposals: &[Proposal]) -> Result<(), OutOfMemory>
     ensures { OnOk result (string_bytes text.new ≡ string_bytes text.old ++ spec.text_more Terminal.Comma spec.text_proposal (map proposal_of proposals.now)) }
 {
@@ -91,35 +83,6 @@ fn proposals(text: &mut String, proposals: &[Proposal]) -> Result<(), OutOfMemor
     word(text, Terminal::Propose, SPACE)?;
     binding(text, &first.name, &first.value)?;
     more_proposals(text, more)
-}
-
-fn statement(text: &mut String, statement: &Statement) -> Result<(), OutOfMemory>
-    ensures { OnOk result (string_bytes text.new ≡ string_bytes text.old ++ spec.text_stmt (stmt_of statement.now)) }
-{
-    match statement {
-        Statement::Assign(called, value) => binding(text, called, value),
-    }
-}
-
-fn more_statements(text: &mut String, statements: &[Statement]) -> Result<(), OutOfMemory>
-    ensures { OnOk result (string_bytes text.new ≡ string_bytes text.old ++ spec.text_more Terminal.Semicolon spec.text_stmt (map stmt_of statements.now)) }
-{
-    for statement in statements {
-        word(text, Terminal::Semicolon, SPACE)?;
-        self::statement(text, statement)?;
-    }
-    Ok(())
-}
-
-fn effect(text: &mut String, statements: &[Statement]) -> Result<(), OutOfMemory>
-    ensures { OnOk result (string_bytes text.new ≡ string_bytes text.old ++ spec.text_optional_list (spec.text_word spec.space Terminal.Eff) (spec.text_list Terminal.Semicolon spec.text_stmt) (map stmt_of statements.now)) }
-{
-    let Some((first, more)) = statements.split_first() else {
-        return Ok(());
-    };
-    word(text, Terminal::Eff, SPACE)?;
-    statement(text, first)?;
-    more_statements(text, more)
 }
 
 fn transition(text: &mut String, transition: &Transition) -> Result<(), OutOfMemory>

@@ -7,7 +7,7 @@ ghost use Rattle.ioa_syntax.specs.View.{expr_of};
 
 use crate::operators::word_of;
 use crate::printing::words::{SPACE, name, number, word};
-use crate::tree::Expression;
+use crate::tree::{Expression, Infix};
 use ioa_lex::Terminal;
 use ioa_value::OutOfMemory;
 
@@ -29,6 +29,10 @@ pub(crate) fn expression(
             word(text, Terminal::Open, SPACE)?;
             self::expression(text, inner, SPACE)?;
             word(text, Terminal::Close, end)
+        }
+        Expression::Prefix(operator, inner, _) => {
+            word(text, word_of(Infix::Operator(*operator)), SPACE)?;
+            self::expression(text, inner, end)
         }
         Expression::Binary(left, operator, right) => {
             self::expression(text, left, SPACE)?;

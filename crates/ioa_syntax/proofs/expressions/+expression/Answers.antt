@@ -21,12 +21,12 @@ pub climb-returns-in_err-operand-clause-read : goal.climb-returns-in_err-operand
 climb-returns-in_err-operand-clause-read t c =
     let at : spec.operator_at c.args.least c.loop-turn.below (tokens_shown c.loop-turn.cursor) ≡ Some c.in-Some.operator = search rules in
     let fits : depth_of (expr_of c.loop-turn.left.expression) ≤ c.args.depth = omega (arith, c.loop-turn.left.exact) in
-    let failed : spec.Fails c.in_err-operand.field-0.0 (spec.climb c.args.depth (spec.expr c.args.depth) c.args.depth c.args.least 10 (expr_of c.args.first.expression) (tokens_shown c.args.cursor.now)) =
+    let failed : spec.Fails c.in_err-operand.field-0.0 (spec.climb c.args.depth (spec.expr c.args.depth) c.args.depth c.args.least c.args.first.1 (expr_of c.args.first.0.expression) (tokens_shown c.args.cursor.now)) =
     subst (spec.Fails c.in_err-operand.field-0.0) c.loop-turn.invariant.same
     (climb_fails c.args.depth c.loop-turn._turn c.args.least c.loop-turn.below c.right_of.result c.in-Some.operator (expr_of c.loop-turn.left.expression) (tokens_shown c.loop-turn.cursor) (tokens_shown c.skip.new.self) _ (omega arith) at c.skip.ensures fits c.right_of.ensures c.in_err-operand.ensures.read) in
     search rules
 
 pub expression-returns-clause-read : goal.expression-returns-clause-read
 expression-returns-clause-read t c =
-    let starts = expr_starts c.args.depth c.args.least (tokens_shown c.args.cursor.now) _ _ (omega arith) c.in_ok-left.ensures.read in
+    let starts = expr_starts c.args.depth c.args.least _ (tokens_shown c.args.cursor.now) _ _ (omega arith) c.in_ok-left.ensures.read in
     subst (λ (o : spec.Outcome Expr). spec.Reads (λ m. expr_of m.expression) o c.climb.result (tokens_shown c.climb.new.cursor)) (sym starts) c.climb.ensures.read

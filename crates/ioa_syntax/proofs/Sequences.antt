@@ -1,0 +1,204 @@
+-- Statements and arms, as lists and as trees of their own.
+use Rattle.std.proofs.Common.{◌≡◌, ℕ, zero, suc, ◌-◌, ◌<◌, arith, Bool, true, false, List, [], ◌∷◌, ◌++◌, length, ◌+◌, map, refl, sym, ap, ◌∙◌, rules, Vec, Global, Result, Ok, Err, append_assoc}
+use Rattle.std.specs.List.{flat_map}
+use Rattle.ioa_value.specs.declared.terminal.Terminal.{Terminal}
+use Rattle.ioa_value.specs.declared.terminal.Terminal.TheVariants as terminals
+use Rattle.ioa_lex.specs.Tokens.{Tok, tokens_shown, kind_shown}
+use Rattle.ioa_lex.specs.declared.token.Token.{Token}
+use Rattle.std.proofs.lemmas.List.{length-map}
+use Rattle.ioa_syntax.specs.declared.fault.Fault.{Fault}
+use Rattle.ioa_syntax.specs.declared.fault.ReadError.{ReadError}
+use Rattle.ioa_syntax.specs.declared.fault.ReadError.TheVariants as errors
+use Rattle.ioa_syntax.specs.declared.tree.Statement.{Statement, Row_of-Statement, end_of-Statement, more_of-Statement, items-the_row-Statement}
+use Rattle.ioa_syntax.specs.declared.tree.Statement.TheVariants.{If}
+use Rattle.ioa_syntax.specs.declared.tree.Statement.TheViews.{the_lemmas}
+use Rattle.ioa_syntax.specs.declared.tree.Statement.TheBlock.{Row_of-Arm, end_of-Arm, more_of-Arm, items-the_row-Arm, shown-the_row-Statement-0}
+use Rattle.ioa_syntax.specs.declared.tree.Arm.{Arm}
+use Rattle.ioa_syntax.specs.Tree.{Expr, Stmt, Stmts, stop, seq, choose, Arms, no_arm, arm}
+use Rattle.ioa_syntax.specs.Reading.{Outcome, Reader, Reads, Fails, ◌>>=◌, ◌▸◌, built, many, many_from, sees, after, assignment, statement, sees_statement, terminated, sequence, in_sequence, choices, an_arm, more_arms, introduced, sign, choice}
+use Rattle.ioa_syntax.specs.Layout.{space, line, text_word, text_expr, text_more, text_stmt, text_stmts, text_more_stmts, text_arms}
+use Rattle.ioa_syntax.specs.View.{expr_of, stmt_of, stmts_of, arm_of, arms_of, row_stmts, row_arms}
+
+-- ---- rows inside a statement
+
+pub row_stmts-items : (n : _) (k : Row_of-Statement n) → row_stmts k ≡ stmts_of (items-the_row-Statement n k)
+row_stmts-items n end_of-Statement = refl
+row_stmts-items n (more_of-Statement s rest) = ap (seq (stmt_of s)) (row_stmts-items _ rest)
+
+pub row_arms-items : (n : _) (k : Row_of-Arm n) → row_arms k ≡ arms_of (items-the_row-Arm n k)
+row_arms-items n end_of-Arm = refl
+row_arms-items n (more_of-Arm condition shape statements rest) =
+    let kept : row_stmts statements ≡ stmts_of (shown-the_row-Statement-0 shape statements).items = search (rules, the_lemmas, row_stmts-items) in
+    ap (λ ss. arm (expr_of condition) ss (row_arms rest)) kept
+    ∙ ap (arm (expr_of condition) (stmts_of (shown-the_row-Statement-0 shape statements).items)) (row_arms-items _ rest)
+
+pub stmt_choose : (arms : Vec Arm Global) (others : Vec Statement Global) (line : ℕ) → stmt_of (If arms others line) ≡ choose (arms_of arms.items) (stmts_of others.items)
+stmt_choose arms others line = search (rules, the_lemmas, row_stmts-items, row_arms-items)
+
+pub stmt_chosen : (s : Statement) (arms : Vec Arm Global) (others : Vec Statement Global) (line : ℕ) → s ≡ If arms others line → stmt_of s ≡ choose (arms_of arms.items) (stmts_of others.items)
+stmt_chosen s arms others line is = ap stmt_of is ∙ stmt_choose arms others line
+
+pub chosen_arms : (s u : Statement) (arms those : Vec Arm Global) (others rest : Vec Statement Global) (l k : ℕ) → s ≡ If arms others l → u ≡ If those rest k → stmt_of s ≡ stmt_of u →
+    arms_of arms.items ≡ arms_of those.items
+chosen_arms s u arms those others rest l k this that same =
+    let e : choose (arms_of arms.items) (stmts_of others.items) ≡ choose (arms_of those.items) (stmts_of rest.items) = sym (stmt_chosen s arms others l this) ∙ same ∙ stmt_chosen u those rest k that in
+    cc
+
+-- ---- lists
+
+pub sequence_shown : (ss : List Statement) → sequence (map stmt_of ss) ≡ stmts_of ss
+sequence_shown [] = refl
+sequence_shown (s ∷ ss) = ap (seq (stmt_of s)) (sequence_shown ss)
+
+pub choices_shown : (arms : List Arm) → choices (map arm_of arms) ≡ arms_of arms
+choices_shown [] = refl
+choices_shown (a ∷ arms) = ap (arm (expr_of a.condition) (stmts_of a.statements.items)) (choices_shown arms)
+
+abbrev listed : Stmts → List Stmt
+listed stop = []
+listed (seq s ss) = s ∷ listed ss
+
+abbrev listed_arms : Arms → List (Expr × Stmts)
+listed_arms no_arm = []
+listed_arms (arm c ss more) = (c, ss) ∷ listed_arms more
+
+listed_shown : (ss : List Statement) → listed (stmts_of ss) ≡ map stmt_of ss
+listed_shown [] = refl
+listed_shown (s ∷ ss) = ap (λ r. stmt_of s ∷ r) (listed_shown ss)
+
+listed_arms_shown : (arms : List Arm) → listed_arms (arms_of arms) ≡ map arm_of arms
+listed_arms_shown [] = refl
+listed_arms_shown (a ∷ arms) = ap (λ r. arm_of a ∷ r) (listed_arms_shown arms)
+
+pub stmts_alike : (xs ys : List Statement) → stmts_of xs ≡ stmts_of ys → map stmt_of xs ≡ map stmt_of ys
+stmts_alike xs ys same = sym (listed_shown xs) ∙ ap listed same ∙ listed_shown ys
+
+pub alike_stmts : (xs ys : List Statement) → map stmt_of xs ≡ map stmt_of ys → stmts_of xs ≡ stmts_of ys
+alike_stmts xs ys same = sym (sequence_shown xs) ∙ ap sequence same ∙ sequence_shown ys
+
+pub arms_alike : (xs ys : List Arm) → arms_of xs ≡ arms_of ys → map arm_of xs ≡ map arm_of ys
+arms_alike xs ys same = sym (listed_arms_shown xs) ∙ ap listed_arms same ∙ listed_arms_shown ys
+
+pub alike_arms : (xs ys : List Arm) → map arm_of xs ≡ map arm_of ys → arms_of xs ≡ arms_of ys
+alike_arms xs ys same = sym (choices_shown xs) ∙ ap choices same ∙ choices_shown ys
+
+-- ---- what was read
+
+sequence_read : (one : Reader Stmt) (ts left : List Tok) (ss : List Statement) → terminated sees_statement terminals.Semicolon one ts ≡ Ok (map stmt_of ss, left) → in_sequence one ts ≡ Ok (stmts_of ss, left)
+unfolding in_sequence
+sequence_read one ts left ss read = ap (λ o. o >>= λ x. Ok (sequence x.0, x.1)) read ∙ ap (λ r. Ok (r, left)) (sequence_shown ss)
+
+sequence_fails : (one : Reader Stmt) (ts : List Tok) (e : ReadError) → Fails e (terminated sees_statement terminals.Semicolon one ts) → Fails e (in_sequence one ts)
+unfolding in_sequence
+sequence_fails one ts errors.OutOfMemory failed = tt
+sequence_fails one ts (errors.Fault f) failed = ap (λ o. o >>= λ x. Ok (sequence x.0, x.1)) failed
+
+pub sequence_reads : (one : Reader Stmt) (ts left : List Tok) (r : Result (Vec Statement Global) ReadError) →
+    Reads (λ v. map stmt_of v.items) (terminated sees_statement terminals.Semicolon one ts) r left → Reads (λ v. stmts_of v.items) (in_sequence one ts) r left
+sequence_reads one ts left (Ok v) read = sequence_read one ts left v.items read
+sequence_reads one ts left (Err e) read = sequence_fails one ts e read
+
+pub statement_plain : (depth levels : ℕ) (ts : List Tok) → 0 < levels → sees terminals.If ts ≡ false → statement depth levels ts ≡ assignment depth (after terminals.If ts)
+unfolding statement
+statement_plain depth zero ts some unseen = absurd (omega arith)
+statement_plain depth (suc levels) ts some unseen = rw unseen refl
+
+pub statement_choice : (depth levels : ℕ) (ts : List Tok) → 0 < levels → sees terminals.If ts ≡ true → statement depth levels ts ≡ choice depth (in_sequence (statement depth (levels - 1))) (after terminals.If ts)
+unfolding statement
+statement_choice depth zero ts some seen = absurd (omega arith)
+statement_choice depth (suc levels) ts some seen = let e : suc levels - 1 ≡ levels = omega arith in rw (seen, e) refl
+
+-- what was found before may be put in front afterwards
+pub found_before : {A : Type 0} (begins : List Tok → Bool) (item : Reader A) (n : ℕ) (x : A) (found : List A) (ts : List Tok) →
+    many_from begins item n (x ∷ found) ts ≡ built (λ more. x ∷ more) (many_from begins item n found) ts
+unfolding many_from
+found_before begins item zero x found ts = refl
+found_before {A} begins item (suc n) x found ts = by (λ p. found_before begins item n x (found ++ p.0 ∷ []) p.1) (begins ts) refl (item ts) refl
+  where
+    by : ((p : A × List Tok) → many_from begins item n (x ∷ (found ++ p.0 ∷ [])) p.1 ≡ built (λ more. x ∷ more) (many_from begins item n (found ++ p.0 ∷ [])) p.1) →
+        (b : Bool) → begins ts ≡ b → (o : Outcome A) → item ts ≡ o → many_from begins item (suc n) (x ∷ found) ts ≡ built (λ more. x ∷ more) (many_from begins item (suc n) found) ts
+    by more false e o read = rw e refl
+    by more true e (Ok p) read = rw (e, read) (more p)
+    by more true e (Err f) read = rw (e, read) refl
+
+pub arms_start : (depth count : ℕ) (inner : Reader Stmts) (first : Arm) (found : List Arm) (tokens : List Token) → found ≡ first ∷ [] → count ≡ length tokens →
+    many_from (sees terminals.Elseif) (built (λ p. p.1) (sign terminals.Elseif ▸ an_arm depth inner)) (count - 0) (map arm_of found) (tokens_shown tokens)
+    ≡ built (λ more. arm_of first ∷ more) (more_arms depth inner) (tokens_shown tokens)
+unfolding more_arms many
+arms_start depth count inner first found tokens one is =
+    let item = built (λ p. p.1) (sign terminals.Elseif ▸ an_arm depth inner) in
+    let ts = tokens_shown tokens in
+    let e : count - 0 ≡ length ts = omega (arith, is, length-map tokens (λ t. kind_shown t.kind)) in
+    ap (λ n. many_from (sees terminals.Elseif) item n (map arm_of found) ts) e
+    ∙ ap (λ r. many_from (sees terminals.Elseif) item (length ts) (map arm_of r) ts) one
+    ∙ found_before (sees terminals.Elseif) item (length ts) (arm_of first) [] ts
+
+abbrev in_front : {A : Type 0} → A → List A × List Tok → Outcome (List A)
+in_front a p = Ok (a ∷ p.0, p.1)
+
+ok_pair : {A B : Type 0} (x x' : A) (y y' : B) → ◌≡◌ {A = Result (A × B) Fault} (Ok (x, y)) (Ok (x', y')) → (x ≡ x') × (y ≡ y')
+ok_pair {A} {B} x x' y y' h = let e : ◌≡◌ {A = A × B} (x, y) (x', y') = cc in (ap (λ p. p.0) e, ap (λ p. p.1) e)
+
+parted : {A : Type 0} (a : A) (o : Outcome (List A)) (all : List A) (left : List Tok) → (o >>= in_front a) ≡ Ok (all, left) →
+    (more : List A) × (o ≡ Ok (more, left)) × (a ∷ more ≡ all)
+parted {A} a (Ok p) all left read =
+    let e = ok_pair (a ∷ p.0) all p.1 left read in
+    (p.0, ap (λ l. Ok (p.0, l)) e.1, e.0)
+parted a (Err f) all left read = absurd (cc)
+
+pub choice_read : (depth : ℕ) (inner : Reader Stmts) (a : Expr × Stmts) (ts after_first after_arms after_others left : List Tok) (arms : List Arm) (others : Stmts) →
+    an_arm depth inner ts ≡ Ok (a, after_first) → built (λ more. a ∷ more) (more_arms depth inner) after_first ≡ Ok (map arm_of arms, after_arms) →
+    introduced terminals.Else inner after_arms ≡ Ok (others, after_others) → sign terminals.Fi after_others ≡ Ok (tt, left) →
+    choice depth inner ts ≡ Ok (choose (arms_of arms) others, left)
+unfolding choice
+choice_read depth inner a ts after_first after_arms after_others left arms others first read else_read closed =
+    let p = parted a (more_arms depth inner after_first) (map arm_of arms) after_arms read in
+    let more_read : more_arms depth inner after_first ≡ Ok (p.0, after_arms) = p.1 in
+    let chosen : arm a.0 a.1 (choices p.0) ≡ arms_of arms = ap choices p.2 ∙ choices_shown arms in
+    rw (first, more_read, else_read, closed) (ap (λ as_read. Ok (choose as_read others, left)) chosen)
+
+arms_failed : {A : Type 0} (a : A) (o : Outcome (List A)) (f : Fault) → (o >>= in_front a) ≡ Err f → o ≡ Err f
+arms_failed a (Ok p) f failed = absurd (cc)
+arms_failed a (Err g) f failed = let e : g ≡ f = cc in ap Err e
+
+pub choice_fails : (depth : ℕ) (inner : Reader Stmts) (a : Expr × Stmts) (ts after_first : List Tok) (e : ReadError) →
+    an_arm depth inner ts ≡ Ok (a, after_first) → Fails e (built (λ more. a ∷ more) (more_arms depth inner) after_first) → Fails e (choice depth inner ts)
+unfolding choice
+choice_fails depth inner a ts after_first errors.OutOfMemory first failed = tt
+choice_fails depth inner a ts after_first (errors.Fault f) first failed =
+    let more_failed : more_arms depth inner after_first ≡ Err f = arms_failed a (more_arms depth inner after_first) f failed in
+    rw (first, more_failed) refl
+
+-- ---- what is printed
+
+pub text_statements : (ss : List Statement) → text_more terminals.Semicolon text_stmt (map stmt_of ss) ≡ text_more_stmts (stmts_of ss)
+text_statements [] = refl
+text_statements (s ∷ ss) =
+    append_assoc (text_word space terminals.Semicolon) (text_stmt (stmt_of s)) (text_more terminals.Semicolon text_stmt (map stmt_of ss))
+    ∙ ap (λ r. text_word space terminals.Semicolon ++ (text_stmt (stmt_of s) ++ r)) (text_statements ss)
+
+-- an arm after this word
+abbrev pub text_arm : Terminal → Arm → List ℕ
+text_arm t a = text_word space t ++ (text_expr space (expr_of a.condition) ++ (text_word line terminals.Then ++ text_stmts (stmts_of a.statements.items)))
+
+pub text_all_arms : (arms : List Arm) → flat_map (text_arm terminals.Elseif) arms ≡ text_arms (arms_of arms)
+text_all_arms [] = refl
+text_all_arms (a ∷ arms) =
+    let w = text_word space terminals.Elseif in
+    let c = text_expr space (expr_of a.condition) in
+    let t = text_word line terminals.Then in
+    let ss = text_stmts (stmts_of a.statements.items) in
+    let more = flat_map (text_arm terminals.Elseif) arms in
+    append_assoc w (c ++ (t ++ ss)) more ∙ ap (λ r. w ++ r) (append_assoc c (t ++ ss) more ∙ ap (λ r. c ++ r) (append_assoc t ss more ∙ ap (λ r. t ++ (ss ++ r)) (text_all_arms arms)))
+
+pub joined : (old w c t ss more others end : List ℕ) → (((old ++ (w ++ (c ++ (t ++ ss)))) ++ more) ++ others) ++ end ≡ old ++ (w ++ (c ++ (t ++ (ss ++ (more ++ (others ++ end))))))
+joined old w c t ss more others end =
+    let left = more ++ (others ++ end) in
+    append_assoc ((old ++ (w ++ (c ++ (t ++ ss)))) ++ more) others end
+    ∙ append_assoc (old ++ (w ++ (c ++ (t ++ ss)))) more (others ++ end)
+    ∙ append_assoc old (w ++ (c ++ (t ++ ss))) left
+    ∙ ap (λ r. old ++ r) (append_assoc w (c ++ (t ++ ss)) left ∙ ap (λ r. w ++ r) (append_assoc c (t ++ ss) left ∙ ap (λ r. c ++ r) (append_assoc t ss left)))
+
+pub none_of : {A : Type 0} (xs ys : List A) → xs ≡ ys → length xs ≡ 0 → ys ≡ []
+none_of [] ys same none = sym same
+none_of (x ∷ xs) ys same none = absurd (omega (arith, none))

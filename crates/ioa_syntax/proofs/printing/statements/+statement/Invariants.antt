@@ -1,0 +1,14 @@
+use Rattle.std.proofs.Common.{◌≡◌, ◌++◌, map, take}
+use Rattle.std.specs.List.{flat_map}
+use Rattle.std.specs.String.{string_bytes}
+use Rattle.ioa_value.specs.declared.terminal.Terminal.TheVariants as terminals
+use Rattle.ioa_syntax.specs.Layout.{text_more, text_stmt}
+use Rattle.ioa_syntax.specs.View.{stmt_of}
+use Rattle.ioa_syntax.proofs.Sequences.{text_arm}
+use Rattle.ioa_syntax.proofs.printing.statements.+statement.Given as goal
+
+abbrev pub invariant-more_statements-loop-each : goal.invariant-more_statements-loop-each
+invariant-more_statements-loop-each l = string_bytes l.text ≡ string_bytes l.initial.text ++ text_more terminals.Semicolon text_stmt (map stmt_of (take l.each-index l.statements))
+
+abbrev pub invariant-more_arms-loop-each : goal.invariant-more_arms-loop-each
+invariant-more_arms-loop-each l = string_bytes l.text ≡ string_bytes l.initial.text ++ flat_map (text_arm terminals.Elseif) (take l.each-index l.arms)
