@@ -12,7 +12,7 @@ use Rattle.ioa_syntax.proofs.Outcomes.{AtMost, Shrinks, Alike, refused_at}
 use Rattle.ioa_syntax.proofs.Exact.{Found, ExactFor, Exact, any, deep_as, said_as}
 use Rattle.ioa_syntax.proofs.Singles.{seen, after_seen, after_unseen, either_exact}
 use Rattle.ioa_syntax.proofs.Complete.{Ends}
-use Rattle.ioa_syntax.proofs.Statements.{ByChoice, ByAssignment, either_of, either_to, assignment_unseen, stmt_needs, stmts_need, parts_need, stmt_positive, AfterStatements, assignments_for, sequences_for, introduced_for, choice_for}
+use Rattle.ioa_syntax.proofs.ChoiceLemmas.{ByChoice, ByAssignment, either_of, either_to, assignment_unseen, stmt_needs, stmts_need, parts_need, stmt_positive, AfterStatements, assignments_for, sequences_for, introduced_for, choice_for}
 
 statement_none : (depth levels : ℕ) → statement depth levels [] ≡ Err (Syntax 0)
 unfolding statement assignment a_name after sees

@@ -18,7 +18,7 @@ use Rattle.ioa_syntax.proofs.Singles.{sign_exact, name_exact, kind_exact, kind_i
 use Rattle.ioa_syntax.proofs.Absent.{into_exact, deep_some, optional_exact, optional_list_exact}
 use Rattle.ioa_syntax.proofs.Lists.{terminated_exact, separated_exact, many_exact}
 use Rattle.ioa_syntax.proofs.FirstTokens.{first_some, first_of_all, leads, by_list, by_two}
-use Rattle.ioa_syntax.proofs.Statements.{by_after}
+use Rattle.ioa_syntax.proofs.ChoiceLemmas.{by_after}
 use Rattle.ioa_syntax.proofs.Levels.{after_word_exact}
 use Rattle.ioa_syntax.proofs.Complete.{Ends, spelled_deep, depth_positive}
 use Rattle.ioa_syntax.proofs.Local.{expression_exact}
