@@ -12,8 +12,8 @@ use Rattle.ioa_code.specs.declared.reason.Reason.TheVariants.{TooShort, Mistyped
 use Rattle.ioa_code.specs.declared.stacks.Stacks.{Stacks}
 use Rattle.ioa_value.specs.Plain.{number}
 use Rattle.ioa_code.specs.Machine.{on_top}
-use Rattle.ioa_code.specs.Valid.{wanted, popped}
-use Rattle.ioa_code.specs.Stacks.{node_at, Spells, IsStack, IsNumbered, Grows, from_node, topmost, Agrees, Passes}
+use Rattle.ioa_code.specs.Valid.{wanted, popped, to_next}
+use Rattle.ioa_code.specs.Stacks.{node_at, Spells, IsStack, IsNumbered, Grows, from_node, topmost, Agrees, Passes, AgreeOn, LeadsOn, next_exit}
 use Rattle.ioa_code.proofs.Lists.{on_top-append, on_top-short}
 use Rattle.ioa_code.proofs.Numbered.{grows_refl, stack_kept, one_more, Taken, Takes, takes}
 
@@ -31,6 +31,16 @@ passes_same old new k r f g e h = (h.0, λ ts x. subst (Agrees new.nodes.items r
 pub push_passes : (old new : Stacks) (below k t : ℕ) → Grows old new → node_at new.nodes.items k ≡ Some (below, t) → Passes old new below (Ok k) (λ ts. Ok (ts ++ t ∷ []))
 push_passes old new below k t g e =
     (g, λ ts h. one_more new.nodes.items below k t ts (stack_kept old new g.keeps below ts h) e)
+
+-- what passes leads on to the next place
+pub passes_on : (old new : Stacks) (k p : ℕ) (r : Result ℕ Reason) (f : List ℕ → Result (List ℕ) Reason) → Passes old new k r f → LeadsOn old new k (next_exit p r) (λ ts. to_next p (f ts))
+passes_on old new k p r f h = (h.0, λ ts x. go r (f ts) (h.1 ts x))
+  where
+    go : (a : Result ℕ Reason) (b : Result (List ℕ) Reason) → Agrees new.nodes.items a b → AgreeOn new.nodes.items (next_exit p a) (to_next p b)
+    go (Ok j) (Ok ts) s = (refl, s, cc)
+    go (Ok j) (Err why) s = absurd s
+    go (Err why) (Ok ts) s = absurd s
+    go (Err why) (Err reason) s = s
 
 -- ---- the topmost types
 

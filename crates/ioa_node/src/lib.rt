@@ -5,5 +5,5 @@ mod run;
 mod state;
 mod step;
 
-pub use run::{effect, enabled};
+pub use run::{effect, effect_with, enabled, enabled_with};
 pub use state::{NodeState, from_values, state_values};
