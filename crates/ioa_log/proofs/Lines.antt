@@ -1,8 +1,10 @@
 -- A list text, line by line.
-use Rattle.std.proofs.Common.{◌≡◌, ℕ, ◌+◌, ◌<◌, ◌≤◌, Bool, true, false, ◌==◌, List, [], ◌∷◌, ◌++◌, length, get_or, take, drop, All, append_assoc, refl, sym, ◌∙◌, ap, subst, arith, length-append, Option, None, Some, IfSome, inl, inr}
+use Rattle.std.proofs.Common.{◌≡◌, ℕ, ◌+◌, ◌-◌, ◌<◌, ◌≤◌, Bool, true, false, ◌==◌, List, [], ◌∷◌, ◌++◌, length, get_or, take, drop, All, append_assoc, refl, sym, ◌∙◌, ap, subst, arith, length-append, length-drop, Option, None, Some, Err, IfSome, inl, inr}
+use Rattle.std.specs.Result.{IsErrOf}
 use Rattle.std.specs.String.{string_bytes}
 use Rattle.std.specs.Io.KnownBytes.{Consumes, IsAtEnd}
-use Rattle.std.proofs.lemmas.List.{append-nil, drop_more, take-append-drop, take_more}
+use Rattle.std.proofs.Math.Seq.{take-add}
+use Rattle.std.proofs.lemmas.List.{append-nil, drop_more, take-append-drop, take_more, get_or-drop, take_all}
 use Rattle.std.proofs.lemmas.List.Elements.{All-nil, All-head, All-tail, All-cons, All-append}
 use Rattle.std.proofs.lemmas.Bool.{cases_lt, false≢true}
 use Rattle.std.proofs.lemmas.Bool.Decides.{nat_tests}
@@ -44,19 +46,56 @@ ended_more : (ls : List (List ℕ)) (l : List ℕ) → ended (ls ++ l ∷ []) �
 ended_more [] l = refl
 ended_more (k ∷ ls) l = rw (ended_more ls l, append_assoc) refl
 
-longer : (l : List ℕ) (b : ℕ) → IsLineText l → (b == 10) ≡ false → IsLineText (l ++ b ∷ [])
-longer [] b h e = rw e refl
-longer (c ∷ cs) b h e = let s = starts c cs h in rw (s.0, longer cs b s.1 e) refl
+joined : (xs ys : List ℕ) → IsLineText xs → IsLineText ys → IsLineText (xs ++ ys)
+joined [] ys h k = k
+joined (c ∷ cs) ys h k = let s = starts c cs h in rw (s.0, joined cs ys s.1 k) refl
+
+-- ---- a part of a piece, from one place to another
+
+abbrev pub part : List ℕ → ℕ → ℕ → List ℕ
+part xs from at = take (at - from) (drop from xs)
+
+pub no_part : (xs : List ℕ) (at : ℕ) → IsLineText (part xs at at)
+no_part xs at = let none : at - at ≡ 0 = omega arith in rw none refl
+
+pub part_more : (xs : List ℕ) (from at b : ℕ) → from ≤ at → at < length xs → get_or xs at 0 ≡ b → (b == 10) ≡ false → IsLineText (part xs from at) → IsLineText (part xs from (at + 1))
+part_more xs from at b l k e f h =
+    let more : (at + 1) - from ≡ (at - from) + 1 = omega arith in
+    let in_rest : at - from < length (drop from xs) = omega (arith, length-drop from xs) in
+    let place : from + (at - from) ≡ at = omega arith in
+    let byte : get_or (drop from xs) (at - from) 0 ≡ b = get_or-drop from xs (at - from) 0 ∙ ap (λ i. get_or xs i 0) place ∙ e in
+    let last : IsLineText (b ∷ []) = rw f refl in
+    let longer : part xs from (at + 1) ≡ part xs from at ++ b ∷ [] = ap (λ n. take n (drop from xs)) more ∙ take_more (drop from xs) (at - from) 0 in_rest ∙ ap (λ x. part xs from at ++ x ∷ []) byte in
+    subst IsLineText (sym longer) (joined (part xs from at) (b ∷ []) h last)
+
+pub up_to : (seen xs : List ℕ) (from at : ℕ) → from ≤ at → (seen ++ take from xs) ++ part xs from at ≡ seen ++ take at xs
+up_to seen xs from at l =
+    let place : from + (at - from) ≡ at = omega arith in
+    append_assoc seen (take from xs) (part xs from at) ∙ ap (λ z. seen ++ z) (sym (take-add from (at - from) xs) ∙ ap (λ n. take n xs) place)
+
+-- ---- a byte of a piece
+
+pub byte_at : (seen xs more : List ℕ) (i b : ℕ) → i < length xs → get_or xs i 0 ≡ b → seen ++ (xs ++ more) ≡ (seen ++ take i xs) ++ b ∷ (drop (i + 1) xs ++ more)
+byte_at seen xs more i b l e =
+    let d : drop i xs ≡ b ∷ drop (i + 1) xs = drop_more xs i 0 l ∙ ap (λ x. x ∷ drop (i + 1) xs) e in
+    let w : xs ≡ take i xs ++ (b ∷ drop (i + 1) xs) = sym (take-append-drop i xs) ∙ ap (λ z. take i xs ++ z) d in
+    ap (λ z. seen ++ (z ++ more)) w ∙ ap (λ z. seen ++ z) (append_assoc (take i xs) (b ∷ drop (i + 1) xs) more) ∙ sym (append_assoc seen (take i xs) (b ∷ (drop (i + 1) xs ++ more)))
+
+pub no_feed : (b : ℕ) → (b ≡ 10 → ⊥) → (b == 10) ≡ false
+no_feed b h = grind (arith, nat_tests)
+
+pub one_byte : (seen xs : List ℕ) (i b : ℕ) → i < length xs → get_or xs i 0 ≡ b → (seen ++ take i xs) ++ b ∷ [] ≡ seen ++ take (i + 1) xs
+one_byte seen xs i b l e = append_assoc seen (take i xs) (b ∷ []) ∙ ap (λ z. seen ++ z) (ap (λ x. take i xs ++ x ∷ []) (sym e) ∙ sym (take_more xs i 0 l))
 
 -- ---- what has come
 
-pub seen_byte : (p : Prog) (seen : List ℕ) (r now : Reading) (b : ℕ) → HasSeen p seen r → (b == 10) ≡ false → now.line.items ≡ r.line.items ++ b ∷ []
-    → ((ls : List (List ℕ)) → HasRead p ls r → HasRead p ls now) → HasSeen p (seen ++ b ∷ []) now
-seen_byte p seen r now b h e l keeps = record {
+pub seen_part : (p : Prog) (seen : List ℕ) (r now : Reading) (bs : List ℕ) → HasSeen p seen r → IsLineText bs → now.line.items ≡ r.line.items ++ bs
+    → ((ls : List (List ℕ)) → HasRead p ls r → HasRead p ls now) → HasSeen p (seen ++ bs) now
+seen_part p seen r now bs h t l keeps = record {
   lines = h.lines;
   whole = h.whole;
-  unended = rw l (longer r.line.items b h.unended e);
-  bytes = rw l (ap (λ bs. bs ++ b ∷ []) h.bytes ∙ append_assoc (ended h.lines) r.line.items (b ∷ []));
+  unended = rw l (joined r.line.items bs h.unended t);
+  bytes = rw l (ap (λ xs. xs ++ bs) h.bytes ∙ append_assoc (ended h.lines) r.line.items bs);
   read = keeps h.lines h.read;
 }
 
@@ -69,6 +108,41 @@ seen_line p seen r now h l reads = record {
   bytes = rw (l, ended_more h.lines r.line.items) (ap (λ bs. bs ++ 10 ∷ []) h.bytes ∙ append_assoc (ended h.lines) r.line.items (10 ∷ []) ∙ sym (append-nil (ended h.lines ++ (r.line.items ++ 10 ∷ []))));
   read = reads h.lines h.read;
 }
+
+-- a piece is fed up to a place: what came before the line that stands there is seen, and the line has no LF yet
+pub record Fed (start now : Reading) (xs : List ℕ) (from at : ℕ) : Type 0 where
+  pub within : from ≤ at
+  pub line : IsLineText (part xs from at)
+  pub seen : (p : Prog) (seen : List ℕ) → HasSeen p seen start → HasSeen p (seen ++ take from xs) now
+
+-- what is read stays so
+abbrev pub Keeps : Reading → Reading → Type 0
+Keeps r now = (p : Prog) (ls : List (List ℕ)) → HasRead p ls r → HasRead p ls now
+
+pub fed_none : (r : Reading) (xs : List ℕ) → Fed r r xs 0 0
+fed_none r xs = record { within = omega arith; line = refl; seen = λ p seen h. subst (λ bs. HasSeen p bs r) (sym (append-nil seen)) h }
+
+module _ (start r : Reading) (xs : List ℕ) (from at : ℕ) (f : Fed start r xs from at) where
+  pub fed_part : (mid : Reading) → mid.line.items ≡ r.line.items ++ part xs from at → Keeps r mid
+      → (p : Prog) (seen : List ℕ) → HasSeen p seen start → HasSeen p (seen ++ take at xs) mid
+  fed_part mid l keeps p seen h =
+      subst (λ bs. HasSeen p bs mid) (up_to seen xs from at f.within) (seen_part p (seen ++ take from xs) r mid (part xs from at) (f.seen p seen h) f.line l (keeps p))
+
+  pub fed_line : (mid now : Reading) → at < length xs → get_or xs at 0 ≡ 10 → mid.line.items ≡ r.line.items ++ part xs from at → Keeps r mid → now.line.items ≡ []
+      → ((p : Prog) (ls : List (List ℕ)) → HasRead p ls mid → HasRead p (ls ++ mid.line.items ∷ []) now) → Fed start now xs (at + 1) (at + 1)
+  fed_line mid now lt e l keeps none reads = record {
+    within = omega arith;
+    line = no_part xs (at + 1);
+    seen = λ p seen h. subst (λ bs. HasSeen p bs now) (one_byte seen xs at 10 lt e) (seen_line p (seen ++ take at xs) mid now (fed_part mid l keeps p seen h) none (reads p));
+  }
+
+  pub fed_byte : at < length xs → (b : ℕ) → get_or xs at 0 ≡ b → (b ≡ 10 → ⊥) → Fed start r xs from (at + 1)
+  fed_byte lt b e n = record { within = let w = f.within in omega arith; line = part_more xs from at b f.within lt e (no_feed b n) f.line; seen = f.seen }
+
+pub fed_whole : (start r now : Reading) (xs : List ℕ) (from : ℕ) → Fed start r xs from (length xs) → now.line.items ≡ r.line.items ++ part xs from (length xs) → Keeps r now
+    → (p : Prog) (seen : List ℕ) → HasSeen p seen start → HasSeen p (seen ++ xs) now
+fed_whole start r now xs from f l keeps p seen h =
+    subst (λ bs. HasSeen p (seen ++ bs) now) (take_all (length xs) xs (omega arith)) (fed_part start r xs from (length xs) f now l keeps p seen h)
 
 -- what end_line says of a line that is no action
 abbrev pub Refuses : Prog → Reading → ℕ → Type 0
@@ -161,20 +235,6 @@ known_more (Some bs) None more xs ys c d = absurd c
 known_more (Some bs) (Some cs) None xs ys c d = absurd d
 known_more (Some bs) (Some cs) (Some zs) xs ys c d = c ∙ ap (λ z. xs ++ z) d ∙ sym (append_assoc xs ys zs)
 
--- ---- a byte of a piece
-
-pub byte_at : (seen xs more : List ℕ) (i b : ℕ) → i < length xs → get_or xs i 0 ≡ b → seen ++ (xs ++ more) ≡ (seen ++ take i xs) ++ b ∷ (drop (i + 1) xs ++ more)
-byte_at seen xs more i b l e =
-    let d : drop i xs ≡ b ∷ drop (i + 1) xs = drop_more xs i 0 l ∙ ap (λ x. x ∷ drop (i + 1) xs) e in
-    let w : xs ≡ take i xs ++ (b ∷ drop (i + 1) xs) = sym (take-append-drop i xs) ∙ ap (λ z. take i xs ++ z) d in
-    ap (λ z. seen ++ (z ++ more)) w ∙ ap (λ z. seen ++ z) (append_assoc (take i xs) (b ∷ drop (i + 1) xs) more) ∙ sym (append_assoc seen (take i xs) (b ∷ (drop (i + 1) xs ++ more)))
-
-pub no_feed : (b : ℕ) → (b ≡ 10 → ⊥) → (b == 10) ≡ false
-no_feed b h = grind (arith, nat_tests)
-
-pub one_byte : (seen xs : List ℕ) (i b : ℕ) → i < length xs → get_or xs i 0 ≡ b → (seen ++ take i xs) ++ b ∷ [] ≡ seen ++ take (i + 1) xs
-one_byte seen xs i b l e = append_assoc seen (take i xs) (b ∷ []) ∙ ap (λ z. seen ++ z) (ap (λ x. take i xs ++ x ∷ []) (sym e) ∙ sym (take_more xs i 0 l))
-
 -- ---- failures
 
 pub failed_since : (a b c : ℕ) → a ≤ b → b ≤ c → HasFailed b c → HasFailed a c
@@ -183,3 +243,7 @@ failed_since a b c l m (inr h) = elim (cases_lt a c) [
   | inl k ↦ inl k
   | inr k ↦ inr (omega arith)
 ]
+
+-- the error that is handed on
+pub kept_error : {T E : Type 0} (x y z : E) → x ≡ y → IsErrOf {T = T} (Err x) z → y ≡ z
+kept_error x y z s e = let k : x ≡ z = cc in sym s ∙ k

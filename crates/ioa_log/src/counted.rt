@@ -65,6 +65,15 @@ impl<T> Device for Counted<T> {
     fn failures(&self) -> u64 {
         self.failures
     }
+
+    fn refuse(&mut self)
+        ensures failed { HasFailed self.old.failures self.new.failures }
+        ensures counts { self.old.failures ≤ self.new.failures }
+        ensures inner { self.new.inner ≡ self.old.inner }
+        ensures count { self.new.failures ≡ count_after true self.old.failures }
+    {
+        self.count(true);
+    }
 }
 
 impl<T: Read> Read for Counted<T> {

@@ -16,6 +16,11 @@ pub trait Device {
     /// How many calls failed so far.
     fn failures(&self) -> u64
         ensures { result ≡ failure_count self.now };
+
+    /// Counts a call as failed that is not made, or whose answer is of no use.
+    fn refuse(&mut self)
+        ensures failed { HasFailed (failure_count self.old) (failure_count self.new) }
+        ensures counts { failure_count self.old ≤ failure_count self.new };
 }
 
 /// A reader whose failures are counted.

@@ -30,11 +30,26 @@ pub(crate) fn feed_all<R: InputDevice>(
     for _ in 0..u64::MAX {
         match input.pull(piece) {
             Ok(0) => return Ok(()),
-            Ok(count) => reading.feed(&piece[..count])?,
+            Ok(count) => match reading.feed(&piece[..count]) {
+                Ok(()) => {}
+                Err(error) => return Err(blamed(input, error)),
+            },
             Err(Failed) => return Err(LogErr::Io),
         }
     }
-    Err(LogErr::OutOfMemory)
+    Err(blamed(input, LogErr::Io))
+}
+
+/// The error, which the reader is to blame for where it is a device's: its count says so then.
+pub(crate) fn blamed<R: InputDevice>(input: &mut R, error: LogErr) -> LogErr
+    ensures same { result ≡ error }
+    ensures failed { error ≡ LogErr.Io → HasFailed (R.failure_count input.old) (R.failure_count input.new) }
+    ensures counts { R.failure_count input.old ≤ R.failure_count input.new }
+{
+    if error == LogErr::Io {
+        input.refuse();
+    }
+    error
 }
 
 /// Hands all of a text to a writer.

@@ -14,8 +14,8 @@ ghost use Rattle.ioa_system.specs.Systems.{slot_types, slots_of, types_of, value
 use crate::answer::Moved;
 use crate::participation::{Participant, find, is_local};
 use ioa_compile::{Entry, Member, Program};
-use ioa_node::{NodeState, effect, enabled};
-use ioa_value::{Action, Fault, OutOfMemory};
+use ioa_node::{NodeState, effect_with, enabled_with};
+use ioa_value::{Action, Fault, OutOfMemory, Value};
 use std::alloc::Global;
 
 /// Whether the owner lets its action be performed.
@@ -45,7 +45,7 @@ pub fn step_from(
     let mut participants = Vec::new(alloc);
     find(program.members(), action, &mut participants)?;
     place_in_order(&mut participants);
-    moved(alloc, &participants, action, states)
+    moved(alloc, &mut Vec::new(alloc), &participants, action, states)
 }
 
 /// Says of the participants' states that they alone are at hand, in order.
@@ -57,9 +57,10 @@ fn place_in_order(participants: &mut [Participant<'_>])
     }
 }
 
-/// What the participants' step answers from the states at hand.
+/// What the participants' step answers from the states at hand. The stack is room for the machine, used again.
 pub(crate) fn moved(
     alloc: Global,
+    stack: &mut Vec<Value>,
     participants: &[Participant<'_>],
     action: &Action,
     states: &[NodeState],
@@ -71,8 +72,8 @@ pub(crate) fn moved(
     if participants.is_empty() {
         return Ok(Moved::NotAnAction);
     }
-    match asked(alloc, participants, action, states)? {
-        Consent::Given => effects(alloc, participants, action, states),
+    match asked(alloc, stack, participants, action, states)? {
+        Consent::Given => effects(alloc, stack, participants, action, states),
         Consent::Denied => Ok(Moved::NotEnabled),
         Consent::Faulted(component, fault) => Ok(Moved::Fault(component, fault)),
     }
@@ -81,6 +82,7 @@ pub(crate) fn moved(
 /// Whether the owner lets the action be performed.
 fn asked(
     alloc: Global,
+    stack: &mut Vec<Value>,
     participants: &[Participant<'_>],
     action: &Action,
     states: &[NodeState],
@@ -92,7 +94,14 @@ fn asked(
     for participant in participants {
         if is_local(participant.entry.kind) {
             let state = &states[participant.place];
-            let answer = guard(alloc, participant.member, participant.entry, action, state)?;
+            let answer = guard(
+                alloc,
+                stack,
+                participant.member,
+                participant.entry,
+                action,
+                state,
+            )?;
             return Ok(consent_by(participant.component, answer));
         }
     }
@@ -113,6 +122,7 @@ fn consent_by(owner: usize, answer: Result<bool, Fault>) -> Consent
 /// The participants' effects in order, each on its own state, up to the first fault.
 fn effects(
     alloc: Global,
+    stack: &mut Vec<Value>,
     participants: &[Participant<'_>],
     action: &Action,
     states: &[NodeState],
@@ -124,7 +134,14 @@ fn effects(
     let mut next = Vec::new(alloc);
     for participant in participants {
         let state = &states[participant.place];
-        match effect_on(alloc, participant.member, participant.entry, action, state)? {
+        match effect_on(
+            alloc,
+            stack,
+            participant.member,
+            participant.entry,
+            action,
+            state,
+        )? {
             Ok(after) => next.push(after)?,
             Err(fault) => return Ok(Moved::Fault(participant.component, fault)),
         }
@@ -135,6 +152,7 @@ fn effects(
 /// What the component's precondition answers in this state. An entry without one allows its action.
 fn guard(
     alloc: Global,
+    stack: &mut Vec<Value>,
     member: &Member,
     entry: &Entry,
     action: &Action,
@@ -146,7 +164,7 @@ fn guard(
     ensures { IfOk result (λ r. r ≡ (table_component (member_code member.now)).guard (act_of action.now) state.now.values) }
 {
     match &entry.pre {
-        Some(code) => enabled(alloc, code, state, &action.vals),
+        Some(code) => enabled_with(alloc, stack, code, state, &action.vals),
         None => Ok(Ok(true)),
     }
 }
@@ -154,6 +172,7 @@ fn guard(
 /// The component's state after its effect on this one, or the effect's fault.
 fn effect_on(
     alloc: Global,
+    stack: &mut Vec<Value>,
     member: &Member,
     entry: &Entry,
     action: &Action,
@@ -165,5 +184,5 @@ fn effect_on(
     ensures value { IfOk result (λ r. changed r ≡ (table_component (member_code member.now)).effect (act_of action.now) state.now.values) }
     ensures types { IfOk result (λ r. IfOk r (λ after. slots_of after ≡ slots_of state.now)) }
 {
-    effect(alloc, &entry.effect, state, &action.vals)
+    effect_with(alloc, stack, &entry.effect, state, &action.vals)
 }

@@ -14,7 +14,7 @@ use crate::moves::moved;
 use crate::participation::{Participant, find, shows};
 use ioa_compile::{Member, Program};
 use ioa_node::NodeState;
-use ioa_value::{Action, OutOfMemory};
+use ioa_value::{Action, OutOfMemory, Value};
 use std::alloc::Global;
 use std::marker::Model;
 
@@ -33,6 +33,8 @@ pub struct System<'a> {
     states: Vec<NodeState>,
     /// Room for the participants of one action, kept from step to step.
     participants: Vec<Participant<'a>>,
+    /// Room for the machine's stack, kept from step to step.
+    stack: Vec<Value>,
 }
 
 impl<'a> Model for System<'a> {
@@ -59,6 +61,7 @@ impl<'a> System<'a> {
             program,
             states,
             participants: Vec::new(alloc),
+            stack: Vec::new(alloc),
         })
     }
 
@@ -84,7 +87,13 @@ impl<'a> System<'a> {
         let program = self.program;
         find(program.members(), action, &mut self.participants)?;
         let external = shows(program.hidden(), &self.participants, action);
-        let moved = moved(self.alloc, &self.participants, action, &self.states)?;
+        let moved = moved(
+            self.alloc,
+            &mut self.stack,
+            &self.participants,
+            action,
+            &self.states,
+        )?;
         let step = settle(&self.participants, &mut self.states, moved);
         Ok(Performed { step, external })
     }

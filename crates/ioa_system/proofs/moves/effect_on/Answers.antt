@@ -13,18 +13,18 @@ acted c =
     acts (member_code c.args.member.now) (act_of c.args.action.now) (entry_code c.args.entry.now) (slots_of c.args.state.now)
     c.requires.sound c.requires.found c.requires.slots
 
-pub effect-requires-clause-types : goal.effect-requires-clause-types
-effect-requires-clause-types c = (acted c).types
+pub effect_with-requires-clause-types : goal.effect_with-requires-clause-types
+effect_with-requires-clause-types c = (acted c).types
 
-pub effect-requires-clause-kind : goal.effect-requires-clause-kind
-effect-requires-clause-kind c = (acted c).kind
+pub effect_with-requires-clause-kind : goal.effect_with-requires-clause-kind
+effect_with-requires-clause-kind c = (acted c).kind
 
-pub effect-requires-clause-result : goal.effect-requires-clause-result
-effect-requires-clause-result c = (acted c).result
+pub effect_with-requires-clause-result : goal.effect_with-requires-clause-result
+effect_with-requires-clause-result c = (acted c).result
 
-pub effect-requires-clause-slots : goal.effect-requires-clause-slots
-effect-requires-clause-slots c = (acted c).slots_are
+pub effect_with-requires-clause-slots : goal.effect_with-requires-clause-slots
+effect_with-requires-clause-slots c = (acted c).slots_are
 
-pub effect-requires-clause-arguments : goal.effect-requires-clause-arguments
-effect-requires-clause-arguments c =
+pub effect_with-requires-clause-arguments : goal.effect_with-requires-clause-arguments
+effect_with-requires-clause-arguments c =
     subst (λ (vs : List Value). HaveTypes c.args.entry.now.effect.code.types (map plain vs) c.args.entry.now.effect.args) (sym c.deref.ensures.value) (acted c).arguments

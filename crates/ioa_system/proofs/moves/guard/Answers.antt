@@ -13,18 +13,18 @@ asked c =
     asks (member_code c.args.member.now) (act_of c.args.action.now) (entry_code c.args.entry.now) c.in-Some.code (slots_of c.args.state.now)
     c.requires.sound c.requires.found c.requires.slots c.in-Some.is
 
-pub enabled-requires-clause-types : goal.enabled-requires-clause-types
-enabled-requires-clause-types c = (asked c).types
+pub enabled_with-requires-clause-types : goal.enabled_with-requires-clause-types
+enabled_with-requires-clause-types c = (asked c).types
 
-pub enabled-requires-clause-kind : goal.enabled-requires-clause-kind
-enabled-requires-clause-kind c = (asked c).kind
+pub enabled_with-requires-clause-kind : goal.enabled_with-requires-clause-kind
+enabled_with-requires-clause-kind c = (asked c).kind
 
-pub enabled-requires-clause-result : goal.enabled-requires-clause-result
-enabled-requires-clause-result c = (asked c).result
+pub enabled_with-requires-clause-result : goal.enabled_with-requires-clause-result
+enabled_with-requires-clause-result c = (asked c).result
 
-pub enabled-requires-clause-slots : goal.enabled-requires-clause-slots
-enabled-requires-clause-slots c = (asked c).slots_are
+pub enabled_with-requires-clause-slots : goal.enabled_with-requires-clause-slots
+enabled_with-requires-clause-slots c = (asked c).slots_are
 
-pub enabled-requires-clause-arguments : goal.enabled-requires-clause-arguments
-enabled-requires-clause-arguments c =
+pub enabled_with-requires-clause-arguments : goal.enabled_with-requires-clause-arguments
+enabled_with-requires-clause-arguments c =
     subst (λ (vs : List Value). HaveTypes c.in-Some.code.code.types (map plain vs) c.in-Some.code.args) (sym c.deref.ensures.value) (asked c).arguments

@@ -9,7 +9,7 @@ use Rattle.ioa_log.proofs.reading.Reading.perform.Goals as goal
 pub returns-in_ok-push_line-clause-performed : goal.returns-in_ok-push_line-clause-performed
 returns-in_ok-push_line-clause-performed c =
     λ p acts t h.
-    let a : Act = act_of c.args.action.now in
+    let a : Act = act_of c.args.self.now.action in
     performs_shown p acts a c.args.self.now.runner c.take.new.self (string_bytes c.args.self.now.text) (string_bytes c.push_line.new.text) h
     (λ traced o. subst (λ b. IsRunOver p (acts ++ a ∷ []) (traced ++ (if b then a ∷ [] else [])) c.take.new.self) c.if-goes_on.true (c.in_ok-goes_on.ensures.run p acts traced o))
     (subst (λ ts. string_bytes c.push_line.new.text ≡ string_bytes c.args.self.now.text ++ (written_action ts a ++ 10 ∷ [])) t c.in_ok-push_line.ensures)
@@ -17,6 +17,6 @@ returns-in_ok-push_line-clause-performed c =
 pub returns-else-goes_on-clause-performed : goal.returns-else-goes_on-clause-performed
 returns-else-goes_on-clause-performed c =
     λ p acts t h.
-    let a : Act = act_of c.args.action.now in
+    let a : Act = act_of c.args.self.now.action in
     performs_silent p acts a c.args.self.now.runner c.take.new.self (string_bytes c.args.self.now.text) h
     (λ traced o. subst (λ b. IsRunOver p (acts ++ a ∷ []) (traced ++ (if b then a ∷ [] else [])) c.take.new.self) c.if-goes_on.false (c.in_ok-goes_on.ensures.run p acts traced o))

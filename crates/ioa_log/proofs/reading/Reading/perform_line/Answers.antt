@@ -1,5 +1,5 @@
-use Rattle.std.proofs.Common.{sym, ap, subst, ◌∙◌, Option, IfSome}
-use Rattle.ioa_value.specs.declared.action.Action.{Action}
+use Rattle.std.proofs.Common.{sym, ap, subst, ◌∙◌}
+use Rattle.std.proofs.lemmas.Bool.{MatchBool-at_true}
 use Rattle.ioa_value.specs.Actions.{act_of}
 use Rattle.ioa_value.specs.Reads.{Reads}
 use Rattle.ioa_value.specs.Lists.{is_skipped}
@@ -12,8 +12,7 @@ returns-then-is_skipped-clause-ok c = λ p ls h.
 
 pub returns-clause-ok : goal.returns-clause-ok
 returns-clause-ok c = λ p ls h.
-    let F : Option Action → Type 0 = λ o. IfSome o (λ a. Reads c.args.self.now.types.now c.deref-2.result.now (act_of a)) in
-    let f : Reads c.args.self.now.types.now c.deref-2.result.now (act_of c.in-Some.action) = subst F c.in-Some.is c.in_ok-action.ensures.found in
-    let r : Reads c.args.self.now.types.now c.args.self.now.line.items (act_of c.in-Some.action) = subst (λ bs. Reads c.args.self.now.types.now bs (act_of c.in-Some.action)) c.deref-2.ensures.value f in
-    one_performed p ls c.args.self.now.line.items (act_of c.in-Some.action) c.args.self.now c.perform.new.self h r
+    let f = MatchBool-at_true _ _ c.if-not-branch.false c.in_ok-read.ensures.found in
+    let r : Reads c.args.self.now.types.now c.args.self.now.line.items (act_of c.read.new.self) = subst (λ bs. Reads c.args.self.now.types.now bs (act_of c.read.new.self)) c.deref-2.ensures.value f in
+    one_performed p ls c.args.self.now.line.items (act_of c.read.new.self) c.args.self.now c.perform.new.self h r
     (λ acts t g. c.in_ok-perform.ensures.performed p acts t g)
