@@ -1,6 +1,7 @@
 mod bounds;
 mod calls;
 mod changes;
+mod choices;
 mod code;
 mod commands;
 mod lists;
