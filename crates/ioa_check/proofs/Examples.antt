@@ -1,10 +1,11 @@
 -- Small sources that break rules, and the codes that have their reason in each: computed.
-use Rattle.std.proofs.Common.{◌≡◌, ℕ, List, [], ◌∷◌, map, filter, Some, true, refl, codes}
+use Rattle.std.proofs.Common.{◌≡◌, ℕ, List, [], ◌∷◌, map, filter, Some, true, false, refl, codes}
 use Rattle.std.specs.Option.{option_map_or}
-use Rattle.ioa_value.specs.declared.operator.Op.TheVariants.{Eq, Add}
+use Rattle.ioa_value.specs.declared.operator.Op.TheVariants.{Eq, Add, Not}
 use Rattle.ioa_lex.specs.declared.refusal.Refusal.{Refusal}
 use Rattle.ioa_lex.specs.declared.refusal.Refusal.TheVariants.{DuplicateName, UnknownName, TypeMismatch, BadSignature, NoProposal, TooMany, TooWide}
-use Rattle.ioa_syntax.specs.Tree.{number, truth, named, binary, assign, automaton, composition, SourceTree}
+use Rattle.ioa_syntax.specs.declared.tree.Infix.TheVariants.{Operator, And}
+use Rattle.ioa_syntax.specs.Tree.{number, truth, named, prefix, binary, assign, choose, stop, seq, no_arm, arm, automaton, composition, SourceTree}
 use Rattle.ioa_syntax.proofs.Examples.{field, count_variable, tick_proposal, tick_transition, reset_transition, counter, one, source, with_formals, with_variables, with_transitions, with_pre, with_proposals, with_effect, plain_variable, variables_from}
 use Rattle.ioa_check.specs.Codes as codes_of
 use Rattle.ioa_check.specs.Codes.{code_of}
@@ -42,11 +43,19 @@ uses_before = refl
 names_no_type : told (with_formals (field (codes "start") (codes "Int") ∷ field (codes "d") (codes "Real") ∷ [])) ≡ 6 ∷ []
 names_no_type = refl
 
-asks_for_nothing : told (with_pre (Some (binary (named (codes "k")) Eq (named (codes "d"))))) ≡ 6 ∷ []
+asks_for_nothing : told (with_pre (Some (binary (named (codes "k")) (Operator Eq) (named (codes "d"))))) ≡ 6 ∷ []
 asks_for_nothing = refl
 
-assigns_to_a_formal : told (with_effect (assign (codes "start") (number 1) ∷ [])) ≡ 6 ∷ []
+assigns_to_a_formal : told (with_effect (seq (assign (codes "start") (number 1)) stop)) ≡ 6 ∷ []
 assigns_to_a_formal = refl
+
+-- the same within an arm
+assigns_to_a_formal_in_an_arm : told (with_effect (seq (choose (arm (truth true) (seq (assign (codes "start") (number 1)) stop) no_arm) stop) stop)) ≡ 6 ∷ []
+assigns_to_a_formal_in_an_arm = refl
+
+-- the condition of a second arm
+chooses_by_nothing : told (with_effect (seq (choose (arm (truth true) stop (arm (named (codes "d")) stop no_arm)) stop) stop)) ≡ 6 ∷ []
+chooses_by_nothing = refl
 
 proposes_itself : told (with_proposals (record tick_proposal { value = named (codes "k") } ∷ [])) ≡ 6 ∷ []
 proposes_itself = refl
@@ -62,11 +71,27 @@ starts_at_a_truth = refl
 asks_for_a_number : told (with_pre (Some (named (codes "c")))) ≡ 7 ∷ []
 asks_for_a_number = refl
 
-compares_a_truth : told (with_pre (Some (binary (named (codes "k")) Eq (truth true)))) ≡ 7 ∷ []
+compares_a_truth : told (with_pre (Some (binary (named (codes "k")) (Operator Eq) (truth true)))) ≡ 7 ∷ []
 compares_a_truth = refl
 
-assigns_a_truth : told (with_effect (assign (codes "c") (truth true) ∷ [])) ≡ 7 ∷ []
+assigns_a_truth : told (with_effect (seq (assign (codes "c") (truth true)) stop)) ≡ 7 ∷ []
 assigns_a_truth = refl
+
+chooses_by_a_number : told (with_effect (seq (choose (arm (named (codes "c")) stop no_arm) stop) stop)) ≡ 7 ∷ []
+chooses_by_a_number = refl
+
+assigns_a_truth_otherwise : told (with_effect (seq (choose (arm (truth true) stop no_arm) (seq (assign (codes "c") (truth true)) stop)) stop)) ≡ 7 ∷ []
+assigns_a_truth_otherwise = refl
+
+joins_a_number : told (with_pre (Some (binary (truth true) And (named (codes "c"))))) ≡ 7 ∷ []
+joins_a_number = refl
+
+denies_a_number : told (with_pre (Some (prefix Not (named (codes "c"))))) ≡ 7 ∷ []
+denies_a_number = refl
+
+-- a choice that breaks nothing
+chooses : told (with_effect (seq (choose (arm (binary (truth true) And (truth false)) (seq (assign (codes "c") (number 1)) stop) no_arm) (seq (assign (codes "c") (number 2)) stop)) stop)) ≡ []
+chooses = refl
 
 -- ---- signature and transitions
 
@@ -93,10 +118,14 @@ takes_too_many_variables = refl
 breaks_two : told (with_variables (count_variable ∷ record (plain_variable (codes "start")) { start = Some (truth true) } ∷ [])) ≡ 5 ∷ 7 ∷ []
 breaks_two = refl
 
+-- a condition is no truth value, and the statement after it assigns to no variable
+breaks_two_in_an_arm : told (with_effect (seq (choose (arm (number 1) (seq (assign (codes "d") (number 1)) stop) no_arm) stop) stop)) ≡ 6 ∷ 7 ∷ []
+breaks_two_in_an_arm = refl
+
 -- an operand is of a wrong type beside one that is not known
-breaks_two_at_once : told (with_pre (Some (binary (binary (truth true) Add (number 1)) Eq (named (codes "d"))))) ≡ 6 ∷ 7 ∷ []
+breaks_two_at_once : told (with_pre (Some (binary (binary (truth true) (Operator Add) (number 1)) (Operator Eq) (named (codes "d"))))) ≡ 6 ∷ 7 ∷ []
 breaks_two_at_once = refl
 
 -- an operator beside an operand that is not known tells nothing of types
-breaks_one : told (with_pre (Some (binary (truth true) Add (named (codes "d"))))) ≡ 6 ∷ []
+breaks_one : told (with_pre (Some (binary (truth true) (Operator Add) (named (codes "d"))))) ≡ 6 ∷ []
 breaks_one = refl

@@ -5,4 +5,6 @@ pub mod ScopeLemmas
 pub mod FineLemmas
 pub mod GlobalLemmas
 pub mod DeclarationLemmas
+pub mod Choices
+pub mod StatementLemmas
 mod Examples

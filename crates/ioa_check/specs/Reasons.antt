@@ -7,12 +7,12 @@ use Rattle.ioa_value.specs.Arithmetic.{fits}
 use Rattle.ioa_value.specs.Operators.{op_type}
 use Rattle.ioa_value.specs.Table.{Table, type_named}
 use Rattle.ioa_lex.specs.declared.refusal.Refusal.{Refusal}
-use Rattle.ioa_syntax.specs.Tree.{Expr, number, truth, named, parens, binary, EntryTree, VariableTree, ProposalTree, Stmt, assign, TransitionTree, AutomatonTree, InstanceTree, CompositionTree, DeclarationTree, automaton, composition, SourceTree}
+use Rattle.ioa_syntax.specs.Tree.{Expr, number, truth, named, parens, prefix, binary, EntryTree, VariableTree, ProposalTree, Stmt, assign, choose, Stmts, stop, seq, Arms, no_arm, arm, TransitionTree, AutomatonTree, InstanceTree, CompositionTree, DeclarationTree, automaton, composition, SourceTree}
 use Rattle.ioa_syntax.specs.Instances.{position_name}
 use Rattle.ioa_value.specs.declared.limits.TheConstants.{LIMITS}
 use Rattle.ioa_syntax.specs.Types.{types_of}
 use Rattle.ioa_syntax.specs.WellFormed as well_formed
-use Rattle.ioa_syntax.specs.WellFormed.{Context, type_in, type_of, distinct, apart, is_type, context_of, position_fields, variable_fields, is_input, is_automaton_of, global_names, source_within}
+use Rattle.ioa_syntax.specs.WellFormed.{Context, type_in, type_of, infix_type, distinct, apart, is_type, context_of, position_fields, variable_fields, is_input, is_automaton_of, global_names, source_within}
 use Rattle.ioa_check.specs.Codes.{Code, duplicate_name, unknown_name, type_mismatch, bad_signature, no_proposal, too_many, tells}
 
 -- the refusals that have their reason in a part of a source
@@ -41,6 +41,11 @@ in_any f xs r = list_any (λ x. f x r) xs
 abbrev pub in_some : {A : Type 0} → (A → Reasons) → Option A → Reasons
 in_some f o r = option_map_or (λ x. f x r) o false
 
+-- an operator takes the type of its operand, where it has one
+abbrev pub one_taken : Option ℕ → (List ℕ → Option ℕ) → Bool
+one_taken (Some a) f = is_some (f (a ∷ []))
+one_taken None f = true
+
 -- an operator takes the types of its operands, where both have one
 abbrev pub taken : Option ℕ → Option ℕ → (List ℕ → Option ℕ) → Bool
 taken (Some a) (Some b) f = is_some (f (a ∷ b ∷ []))
@@ -53,7 +58,8 @@ in_expression t c (number n) = broken type_mismatch (fits (pos n))
 in_expression t c (truth b) = none
 in_expression t c (named x) = broken unknown_name (is_some (type_in c x))
 in_expression t c (parens e) = in_expression t c e
-in_expression t c (binary l o r) = in_expression t c l or in_expression t c r or broken type_mismatch (taken (type_of t c l) (type_of t c r) (op_type t o))
+in_expression t c (prefix o e) = in_expression t c e or broken type_mismatch (one_taken (type_of t c e) (op_type t o))
+in_expression t c (binary l o r) = in_expression t c l or in_expression t c r or broken type_mismatch (taken (type_of t c l) (type_of t c r) (infix_type t o))
 
 -- an expression where one of a type is wanted: this type is known, and the expression has no other
 abbrev pub in_place : Table → Option ℕ → Context → Expr → Reasons
@@ -77,8 +83,9 @@ module _ (t : Table) (globals : List Name) (a : AutomatonTree) where
   abbrev pub in_entries : Reasons
   in_entries = broken duplicate_name (distinct (map (λ e. e.name) a.entries)) or in_any in_entry a.entries
 
-  abbrev pub in_pre : EntryTree → Expr → Reasons
-  in_pre e p = in_place t (Some 0) (well_formed.scope t globals a e) p
+  -- a precondition, or the condition of a choice
+  abbrev pub in_condition : EntryTree → Expr → Reasons
+  in_condition e c = in_place t (Some 0) (well_formed.scope t globals a e) c
 
   abbrev pub in_proposal : EntryTree → ProposalTree → Reasons
   in_proposal e p = in_place t (type_in (context_of t (position_fields e.positions)) p.name) (well_formed.held t globals a) p.value
@@ -88,16 +95,27 @@ module _ (t : Table) (globals : List Name) (a : AutomatonTree) where
 
   -- what an output or internal transition has before its effect
   abbrev pub in_local : EntryTree → TransitionTree → Reasons
-  in_local e r = in_some (in_pre e) r.pre or in_proposals e r or broken no_proposal (well_formed.all_proposed t globals a e r)
+  in_local e r = in_some (in_condition e) r.pre or in_proposals e r or broken no_proposal (well_formed.all_proposed t globals a e r)
 
   abbrev pub before_effect : EntryTree → TransitionTree → Reasons
   before_effect e r = in_case (is_input r.kind) (broken bad_signature (well_formed.input_fine t globals a r)) or in_case (not (is_input r.kind)) (in_local e r)
 
-  abbrev pub in_stmt : EntryTree → Stmt → Reasons
-  in_stmt e (assign x v) = in_place t (type_in (context_of t (variable_fields a)) x) (well_formed.scope t globals a e) v
+  -- statements: assignments and conditions, also those within arms
+  abbrev mutual
+    pub in_stmt : EntryTree → Stmt → Reasons
+    in_stmt e (assign x v) = in_place t (type_in (context_of t (variable_fields a)) x) (well_formed.scope t globals a e) v
+    in_stmt e (choose arms others) = in_arms e arms or in_stmts e others
+
+    pub in_stmts : EntryTree → Stmts → Reasons
+    in_stmts e stop = none
+    in_stmts e (seq s ss) = in_stmt e s or in_stmts e ss
+
+    pub in_arms : EntryTree → Arms → Reasons
+    in_arms e no_arm = none
+    in_arms e (arm c ss more) = in_condition e c or in_stmts e ss or in_arms e more
 
   abbrev pub in_transition : EntryTree → TransitionTree → Reasons
-  in_transition e r = before_effect e r or in_any (in_stmt e) r.effect
+  in_transition e r = before_effect e r or in_stmts e r.effect
 
   -- a transition, if it is the entry's
   abbrev pub in_pair : EntryTree → TransitionTree → Reasons

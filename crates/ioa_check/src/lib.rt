@@ -10,6 +10,7 @@ mod globals;
 mod limits;
 mod names;
 mod scope;
+mod statements;
 mod transitions;
 
 pub use checked::{Checked, check};

@@ -1,15 +1,15 @@
-ghost use Rattle.std.specs.Prelude.{◌≡◌, ◌&&◌, map, length, filter, sum, nat_le};
+ghost use Rattle.std.specs.Prelude.{◌≡◌, ◌+◌, ◌≤◌, ◌&&◌, map, length, filter, sum, nat_le};
 ghost use Rattle.std.specs.List.{list_all};
-ghost use Rattle.ioa_syntax.specs.View.{automaton_of, assembly_of, entry_of, transition_of, declaration_of, tree_of, proposal_of, stmt_of, expr_of};
+ghost use Rattle.ioa_syntax.specs.View.{automaton_of, assembly_of, entry_of, transition_of, declaration_of, tree_of, proposal_of, stmt_of, stmts_of, arms_of, expr_of};
 ghost use Rattle.ioa_syntax.specs.WellFormed as well_formed;
 ghost use Rattle.ioa_check.specs.Codes.{too_many, tells};
-ghost use Rattle.ioa_check.specs.Sizes.{counted};
+ghost use Rattle.ioa_check.specs.Sizes.{counted, Counts};
 ghost use Rattle.ioa_check.specs.Verdicts.{Says};
 
 use crate::expressions::line_of;
 use crate::names::{Named, at_most};
 use ioa_syntax::{
-    Automaton, Declaration, Entry, Expression, Proposal, Refusal, Statement, Transition,
+    Arm, Automaton, Declaration, Entry, Expression, Proposal, Refusal, Statement, Transition,
 };
 use ioa_value::LIMITS;
 
@@ -141,20 +141,66 @@ fn proposals_within(proposals: &[Proposal]) -> Result<(), Refusal>
 
 /// Whether statements together have no more nodes than the limit.
 fn effect_within(effect: &[Statement]) -> Result<(), Refusal>
-    ensures { Says result (nat_le (sum (map well_formed.stmt_nodes (map stmt_of effect.now))) LIMITS.nodes) (tells too_many) }
+    ensures { Says result (nat_le (well_formed.stmts_nodes (stmts_of effect.now)) LIMITS.nodes) (tells too_many) }
 {
-    let mut total = 0;
-    for statement in effect {
-        match statement {
-            Statement::Assign(name, value) => {
-                total += nodes(value) + 1;
-                if total > LIMITS.nodes {
-                    return Err(Refusal::TooMany(name.line));
-                }
-            }
+    statements_counted(0, effect)?;
+    Ok(())
+}
+
+/// The count of nodes so far with those of these statements. A line is that of the statement or condition that passes the
+/// limit.
+#[cycle(counted)]
+fn statements_counted(before: usize, statements: &[Statement]) -> Result<usize, Refusal>
+    requires { before ≤ LIMITS.nodes }
+    ensures { Counts result (before + well_formed.stmts_nodes (stmts_of statements.now)) }
+{
+    let mut count = before;
+    for statement in statements {
+        count = statement_counted(count, statement)?;
+    }
+    Ok(count)
+}
+
+#[cycle(counted)]
+fn statement_counted(before: usize, statement: &Statement) -> Result<usize, Refusal>
+    requires { before ≤ LIMITS.nodes }
+    ensures { Counts result (before + well_formed.stmt_nodes (stmt_of statement.now)) }
+{
+    match statement {
+        Statement::Assign(name, value) => count_on(before, nodes(value) + 1, name.line),
+        Statement::If(arms, others, line) => {
+            let with_own = count_on(before, 1, *line)?;
+            let with_arms = arms_counted(with_own, arms)?;
+            statements_counted(with_arms, others)
         }
     }
-    Ok(())
+}
+
+#[cycle(counted)]
+fn arms_counted(before: usize, arms: &[Arm]) -> Result<usize, Refusal>
+    requires { before ≤ LIMITS.nodes }
+    ensures { Counts result (before + well_formed.arms_nodes (arms_of arms.now)) }
+{
+    let mut count = before;
+    for arm in arms {
+        let condition = &arm.condition;
+        let with_condition = count_on(count, nodes(condition), line_of(condition))?;
+        count = statements_counted(with_condition, &arm.statements)?;
+    }
+    Ok(count)
+}
+
+/// The count with so many nodes more.
+fn count_on(before: usize, more: usize, line: u32) -> Result<usize, Refusal>
+    requires within { before ≤ LIMITS.nodes }
+    requires counted { more ≤ LIMITS.nodes + 2 }
+    ensures { Counts result (before + more) }
+{
+    let count = before + more;
+    if count > LIMITS.nodes {
+        return Err(Refusal::TooMany(line));
+    }
+    Ok(count)
 }
 
 /// How many nodes an expression has, but no more than one past the limit.
@@ -163,7 +209,9 @@ fn nodes(expression: &Expression) -> usize
 {
     match expression {
         Expression::Number(_, _) | Expression::Truth(_, _) | Expression::Name(_) => 1,
-        Expression::Parentheses(inner, _) => (nodes(inner) + 1).min(LIMITS.nodes + 1),
+        Expression::Parentheses(inner, _) | Expression::Prefix(_, inner, _) => {
+            (nodes(inner) + 1).min(LIMITS.nodes + 1)
+        }
         Expression::Binary(left, _, right) => {
             (nodes(left) + nodes(right) + 1).min(LIMITS.nodes + 1)
         }

@@ -1,7 +1,7 @@
 ghost use Rattle.std.specs.Prelude.{◌≡◌, ◌==◌, [], ◌||◌, ◌&&◌, not, map, filter, length, if◌then◌else◌};
 ghost use Rattle.std.specs.List.{list_all, list_any};
 ghost use Rattle.std.specs.Str.{bytes_eq};
-ghost use Rattle.ioa_syntax.specs.View.{automaton_of, entry_of, transition_of, stmt_of, proposal_of, name_of};
+ghost use Rattle.ioa_syntax.specs.View.{automaton_of, entry_of, transition_of, proposal_of, name_of};
 ghost use Rattle.ioa_syntax.specs.View as view;
 ghost use Rattle.ioa_value.specs.Table as table;
 ghost use Rattle.ioa_syntax.specs.WellFormed as well_formed;
@@ -14,7 +14,8 @@ use crate::fields;
 use crate::fields::{Typed, find_type};
 use crate::names::{distinct, find_name, same_name};
 use crate::scope::Scope;
-use ioa_syntax::{Automaton, Entry, Field, Kind, Name, Proposal, Refusal, Statement, Transition};
+use crate::statements::{condition_fine, statements_fine};
+use ioa_syntax::{Automaton, Entry, Field, Kind, Name, Proposal, Refusal, Transition};
 use ioa_value::{Ty, Types};
 
 /// Whether each entry has one transition of its kind and name, and each transition an entry. A line is that of a
@@ -152,7 +153,7 @@ fn transition_fine(
     ensures { let a = automaton_of automaton.now in let e = entry_of entry.now in let r = transition_of transition.now in Says result (well_formed.transition_fine types.now [] a e r) (reasons.in_transition types.now [] a e r) }
 {
     before_effect_fine(types, automaton, entry, transition)?;
-    effect_fine(types, automaton, entry, transition)
+    statements_fine(types, automaton, entry, &transition.effect)
 }
 
 /// Whether an input has neither precondition nor proposals, and those of an output or internal transition are well formed.
@@ -204,11 +205,11 @@ fn pre_fine(
     entry: &Entry,
     transition: &Transition,
 ) -> Result<(), Refusal>
-    ensures { let a = automaton_of automaton.now in let e = entry_of entry.now in let r = transition_of transition.now in Says result (well_formed.pre_fine types.now [] a e r) (reasons.in_some (reasons.in_pre types.now [] a e) r.pre) }
+    ensures { let a = automaton_of automaton.now in let e = entry_of entry.now in let r = transition_of transition.now in Says result (well_formed.pre_fine types.now [] a e r) (reasons.in_some (reasons.in_condition types.now [] a e) r.pre) }
 {
     match &transition.pre {
         None => Ok(()),
-        Some(pre) => expect_type(&Scope::of_entry(types, automaton, entry), pre, Ty::BOOL),
+        Some(pre) => condition_fine(types, automaton, entry, pre),
     }
 }
 
@@ -288,37 +289,5 @@ fn is_bool(types: &Types, name: &Name) -> bool
     match fields::type_named(types, name) {
         Some(ty) => ty.0 == Ty::BOOL.0,
         None => false,
-    }
-}
-
-fn effect_fine(
-    types: &Types,
-    automaton: &Automaton,
-    entry: &Entry,
-    transition: &Transition,
-) -> Result<(), Refusal>
-    ensures { let a = automaton_of automaton.now in let e = entry_of entry.now in let r = transition_of transition.now in Says result (well_formed.effect_fine types.now [] a e r) (reasons.in_any (reasons.in_stmt types.now [] a e) r.effect) }
-{
-    for statement in &transition.effect {
-        statement_fine(types, automaton, entry, statement)?;
-    }
-    Ok(())
-}
-
-/// Whether an assignment is to a variable, and of its type.
-#[tactic(auto, using(crate::proofs::ViewLemmas::views))]
-fn statement_fine(
-    types: &Types,
-    automaton: &Automaton,
-    entry: &Entry,
-    statement: &Statement,
-) -> Result<(), Refusal>
-    ensures { let a = automaton_of automaton.now in let e = entry_of entry.now in let st = stmt_of statement.now in Says result (well_formed.stmt_fine types.now [] a e st) (reasons.in_stmt types.now [] a e st) }
-{
-    match statement {
-        Statement::Assign(name, value) => match find_type(types, &automaton.variables, name) {
-            Some(ty) => expect_type(&Scope::of_entry(types, automaton, entry), value, ty),
-            None => Err(Refusal::UnknownName(name.line)),
-        },
     }
 }

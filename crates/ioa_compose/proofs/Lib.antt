@@ -7,3 +7,4 @@ pub mod SourceLemmas
 pub mod FineLemmas
 pub mod ClashLemmas
 pub mod ComposeLemmas
+pub mod CopyLemmas

@@ -3,3 +3,4 @@ pub mod Held
 pub mod Bindings
 pub mod Clashes
 pub mod Refusals
+pub mod Operands

@@ -3,7 +3,8 @@ ghost use Rattle.std.specs.Option.{option_map};
 ghost use Rattle.ioa_syntax.specs.View as view;
 
 use ioa_syntax::{
-    Automaton, Entry, Expression, Field, Name, Position, Proposal, Statement, Transition, Variable,
+    Arm, Automaton, Entry, Expression, Field, Name, Position, Proposal, Statement, Transition,
+    Variable,
 };
 use ioa_value::OutOfMemory;
 use std::alloc::Global;
@@ -27,6 +28,10 @@ fn copied_expression(alloc: Global, expression: &Expression) -> Result<Expressio
         Expression::Parentheses(inner, line) => {
             let inner = copied_expression(alloc, inner)?;
             Ok(Expression::Parentheses(Box::new(alloc, inner)?, *line))
+        }
+        Expression::Prefix(operator, operand, line) => {
+            let operand = copied_expression(alloc, operand)?;
+            Ok(Expression::Prefix(*operator, Box::new(alloc, operand)?, *line))
         }
         Expression::Binary(left, operator, right) => {
             let left = copied_expression(alloc, left)?;
@@ -138,6 +143,7 @@ fn copied_proposals(alloc: Global, proposals: &[Proposal]) -> Result<Vec<Proposa
     Ok(out)
 }
 
+#[cycle(statement)]
 fn copied_statement(alloc: Global, statement: &Statement) -> Result<Statement, OutOfMemory>
     ensures { IfOk result (λ copy. view.stmt_of copy ≡ view.stmt_of statement.now) }
 {
@@ -146,15 +152,35 @@ fn copied_statement(alloc: Global, statement: &Statement) -> Result<Statement, O
             copied_name(alloc, name)?,
             copied_expression(alloc, value)?,
         )),
+        Statement::If(arms, others, line) => {
+            let arms = copied_arms(alloc, arms)?;
+            let others = copied_statements(alloc, others)?;
+            Ok(Statement::If(arms, others, *line))
+        }
     }
 }
 
-fn copied_effect(alloc: Global, effect: &[Statement]) -> Result<Vec<Statement>, OutOfMemory>
-    ensures { IfOk result (λ copies. map view.stmt_of copies.items ≡ map view.stmt_of effect.now) }
+#[cycle(statement)]
+fn copied_statements(alloc: Global, statements: &[Statement]) -> Result<Vec<Statement>, OutOfMemory>
+    ensures { IfOk result (λ copies. view.stmts_of copies.items ≡ view.stmts_of statements.now) }
 {
     let mut out = Vec::new(alloc);
-    for statement in effect {
+    for statement in statements {
         out.push(copied_statement(alloc, statement)?)?;
+    }
+    Ok(out)
+}
+
+#[cycle(statement)]
+fn copied_arms(alloc: Global, arms: &[Arm]) -> Result<Vec<Arm>, OutOfMemory>
+    ensures { IfOk result (λ copies. view.arms_of copies.items ≡ view.arms_of arms.now) }
+{
+    let mut out = Vec::new(alloc);
+    for arm in arms {
+        out.push(Arm {
+            condition: copied_expression(alloc, &arm.condition)?,
+            statements: copied_statements(alloc, &arm.statements)?,
+        })?;
     }
     Ok(out)
 }
@@ -167,7 +193,7 @@ fn copied_transition(alloc: Global, transition: &Transition) -> Result<Transitio
         name: copied_name(alloc, &transition.name)?,
         pre: copied_option(alloc, &transition.pre)?,
         proposals: copied_proposals(alloc, &transition.proposals)?,
-        effect: copied_effect(alloc, &transition.effect)?,
+        effect: copied_statements(alloc, &transition.effect)?,
     })
 }
 

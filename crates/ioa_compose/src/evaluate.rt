@@ -1,13 +1,14 @@
 ghost use Rattle.std.specs.Prelude.{◌≡◌, ◌<◌, ◌^◌, ℕ, pos, Some, None, map, IfOk, IfSome, IfNone};
-ghost use Rattle.ioa_value.specs.Plain.{plain};
-ghost use Rattle.ioa_value.specs.Operators.{answer_of};
+ghost use Rattle.ioa_value.specs.Plain.{plain, truth};
+ghost use Rattle.ioa_value.specs.Operators.{Answer, answer_of, gives};
 ghost use Rattle.ioa_syntax.specs.View.{expr_of, name_of, field_of};
-ghost use Rattle.ioa_value.specs.Table.{AreTypes};
-ghost use Rattle.ioa_syntax.specs.Meaning.{val, values_of};
+ghost use Rattle.ioa_value.specs.Table.{Table, AreTypes};
+ghost use Rattle.ioa_syntax.specs.Meaning.{combined, val, values_of};
 ghost use Rattle.ioa_syntax.specs.Instances.{Fit, field_names};
 ghost use Rattle.ioa_syntax.specs.WellFormed.{type_of, context_of};
+ghost use Rattle.ioa_compose.specs.Operands.{Asks, AreOperands};
 
-use ioa_syntax::{Expression, Field};
+use ioa_syntax::{Expression, Field, Infix};
 use ioa_value::{Fault, OutOfMemory, Types, Value, apply};
 use std::alloc::Global;
 
@@ -52,17 +53,58 @@ pub(crate) fn evaluate(
             None => unreachable!(),
         },
         Expression::Parentheses(inner, _) => evaluate(alloc, types, fields, values, inner),
+        Expression::Prefix(operator, operand, _) => {
+            match evaluate(alloc, types, fields, values, operand)? {
+                Ok(value) => apply(alloc, types, *operator, &[value]),
+                Err(fault) => Ok(Err(fault)),
+            }
+        }
         Expression::Binary(left, operator, right) => {
             let first = match evaluate(alloc, types, fields, values, left)? {
                 Ok(value) => value,
                 Err(fault) => return Ok(Err(fault)),
             };
+            if let Some(truth) = decided(*operator, &first) {
+                return Ok(Ok(Value::Truth(truth)));
+            }
             let second = match evaluate(alloc, types, fields, values, right)? {
                 Ok(value) => value,
                 Err(fault) => return Ok(Err(fault)),
             };
-            apply(alloc, types, *operator, &[first, second])
+            joined(alloc, types, *operator, first, second)
         }
+    }
+}
+
+/// What the first operand decides, where the second is not asked for.
+fn decided(operator: Infix, first: &Value) -> Option<bool>
+    ensures known { IfSome result (λ b. (types : Table) (second : Answer) → combined types operator (plain first.now) second ≡ gives (truth b)) }
+    ensures asked { IfNone result (Asks operator (plain first.now)) }
+{
+    match (operator, first) {
+        (Infix::And, Value::Truth(false)) => Some(false),
+        (Infix::Or, Value::Truth(true)) => Some(true),
+        (Infix::Implies, Value::Truth(false)) => Some(true),
+        _ => None,
+    }
+}
+
+/// The value of two operands, or its fault, where the second is asked for.
+fn joined(
+    alloc: Global,
+    types: &Types,
+    operator: Infix,
+    first: Value,
+    second: Value,
+) -> Result<Result<Value, Fault>, OutOfMemory>
+    requires types { AreTypes types.now }
+    requires operands { AreOperands types.now operator (plain first) (plain second) }
+    requires asked { Asks operator (plain first) }
+    ensures { IfOk result (λ r. answer_of r ≡ combined types.now operator (plain first) (gives (plain second))) }
+{
+    match operator {
+        Infix::Operator(operator) => apply(alloc, types, operator, &[first, second]),
+        Infix::And | Infix::Or | Infix::Implies => Ok(Ok(second)),
     }
 }
 

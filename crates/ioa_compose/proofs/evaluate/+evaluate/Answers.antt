@@ -1,13 +1,13 @@
 use Rattle.std.proofs.Common.{◌≡◌, ap, sym, ◌∙◌, arith, map, subst}
 use Rattle.ioa_value.specs.Plain.{plain}
 use Rattle.ioa_value.specs.Operators.{answer_of}
-use Rattle.ioa_syntax.specs.Tree.{named, binary}
+use Rattle.ioa_syntax.specs.Tree.{named, prefix, binary}
 use Rattle.ioa_syntax.specs.View.{expr_of, name_of, field_of}
 use Rattle.ioa_syntax.specs.Meaning.{values_of, val}
 use Rattle.ioa_syntax.specs.Instances.{field_names}
 use Rattle.ioa_syntax.specs.WellFormed.{context_of, nodes}
 use Rattle.ioa_syntax.proofs.Starts.{suits_of_fit}
-use Rattle.ioa_compose.proofs.EvaluateLemmas.{left_typed, right_typed, operands_taken, name_stands, HasSome}
+use Rattle.ioa_compose.proofs.EvaluateLemmas.{operand_typed, left_typed, right_typed, operand_taken, operands_typed, fault_stays, name_stands, HasSome}
 use Rattle.ioa_compose.proofs.evaluate.+evaluate.Goals as goal
 
 pub unreachable-requires : goal.unreachable-requires
@@ -37,12 +37,40 @@ evaluate-requires-in-Binary-2 t c =
     let same = ap (λ e. nodes (expr_of e)) c.deref-in-Binary-2.ensures in
     (omega arith, (c.requires.types, (c.requires.fit, subst (λ e. HasSome c.args.types.now ctx (expr_of e)) (sym c.deref-in-Binary-2.ensures) h)))
 
+pub evaluate-requires-in-Prefix : goal.evaluate-requires-in-Prefix
+evaluate-requires-in-Prefix t c =
+    let ctx = context_of c.args.types.now (map field_of c.args.fields.now) in
+    let shown : expr_of c.args.expression.now ≡ prefix c.in-Prefix.operator (expr_of c.in-Prefix.operand.value) = ap expr_of c.in-Prefix.is in
+    let h = operand_typed c.args.types.now ctx _ _ _ shown c.requires.typed in
+    let size = ap nodes shown in
+    let same = ap (λ e. nodes (expr_of e)) c.deref-in-Prefix.ensures in
+    (omega arith, (c.requires.types, (c.requires.fit, subst (λ e. HasSome c.args.types.now ctx (expr_of e)) (sym c.deref-in-Prefix.ensures) h)))
+
 pub apply-requires : goal.apply-requires
 apply-requires t c =
     let fs = map field_of c.args.fields.now in
     let vs = map plain c.args.values.now in
     let env = values_of (field_names fs) vs in
+    let shown : expr_of c.args.expression.now ≡ prefix c.in-Prefix.operator (expr_of c.in-Prefix.operand.value) = ap expr_of c.in-Prefix.is in
+    let value = ap answer_of (sym c.in-Ok.is) ∙ c.in_ok-value-in-Prefix.ensures ∙ ap (λ e. val c.args.types.now (expr_of e) env) c.deref-in-Prefix.ensures in
+    operand_taken c.args.types.now (context_of c.args.types.now fs) env _ _ _ _ c.requires.types (suits_of_fit c.args.types.now fs vs c.requires.fit) shown c.requires.typed value
+
+pub joined-requires-clause-operands : goal.joined-requires-clause-operands
+joined-requires-clause-operands t c =
+    let fs = map field_of c.args.fields.now in
+    let vs = map plain c.args.values.now in
+    let env = values_of (field_names fs) vs in
     let shown : expr_of c.args.expression.now ≡ binary (expr_of c.in-Binary.left.value) c.in-Binary.operator (expr_of c.in-Binary.right.value) = ap expr_of c.in-Binary.is in
-    let first = ap answer_of (sym c.in-Ok.is) ∙ c.in_ok-value-in-Binary.ensures ∙ ap (λ e. val c.args.types.now (expr_of e) env) c.deref-in-Binary.ensures in
-    let second = ap answer_of (sym c.in-Ok-2.is) ∙ c.in_ok-value-in-Binary-2.ensures ∙ ap (λ e. val c.args.types.now (expr_of e) env) c.deref-in-Binary-2.ensures in
-    operands_taken c.args.types.now (context_of c.args.types.now fs) env _ _ _ _ _ _ c.requires.types (suits_of_fit c.args.types.now fs vs c.requires.fit) shown c.requires.typed first second
+    let first = ap answer_of (sym c.in-Ok-2.is) ∙ c.in_ok-value-in-Binary.ensures ∙ ap (λ e. val c.args.types.now (expr_of e) env) c.deref-in-Binary.ensures in
+    let second = ap answer_of (sym c.in-Ok-3.is) ∙ c.in_ok-value-in-Binary-2.ensures ∙ ap (λ e. val c.args.types.now (expr_of e) env) c.deref-in-Binary-2.ensures in
+    operands_typed c.args.types.now (context_of c.args.types.now fs) env _ _ _ _ _ _ c.requires.types (suits_of_fit c.args.types.now fs vs c.requires.fit) shown c.requires.typed first second
+
+pub returns-in-Err-3 : goal.returns-in-Err-3
+returns-in-Err-3 t c =
+    let fs = map field_of c.args.fields.now in
+    let vs = map plain c.args.values.now in
+    let env = values_of (field_names fs) vs in
+    let shown : expr_of c.args.expression.now ≡ binary (expr_of c.in-Binary.left.value) c.in-Binary.operator (expr_of c.in-Binary.right.value) = ap expr_of c.in-Binary.is in
+    let first = ap answer_of (sym c.in-Ok-2.is) ∙ c.in_ok-value-in-Binary.ensures ∙ ap (λ e. val c.args.types.now (expr_of e) env) c.deref-in-Binary.ensures in
+    let second = ap answer_of (sym c.in-Err-3.is) ∙ c.in_ok-value-in-Binary-2.ensures ∙ ap (λ e. val c.args.types.now (expr_of e) env) c.deref-in-Binary-2.ensures in
+    fault_stays c.args.types.now c.requires.types (context_of c.args.types.now fs) env _ _ _ _ _ _ (suits_of_fit c.args.types.now fs vs c.requires.fit) shown c.requires.typed first c.in_default.ensures.asked second

@@ -1,0 +1,5 @@
+use Rattle.ioa_compose.proofs.EvaluateLemmas.{operands_taken}
+use Rattle.ioa_compose.proofs.evaluate.joined.Goals as goal
+
+pub apply-requires : goal.apply-requires
+apply-requires c = operands_taken c.args.types.now _ _ _ _ c.requires.types c.in-Operator.is c.requires.operands
