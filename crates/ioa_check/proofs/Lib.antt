@@ -5,6 +5,5 @@ pub mod ScopeLemmas
 pub mod FineLemmas
 pub mod GlobalLemmas
 pub mod DeclarationLemmas
-pub mod Choices
 pub mod StatementLemmas
 mod Examples

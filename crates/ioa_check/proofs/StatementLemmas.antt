@@ -9,17 +9,13 @@ use Rattle.ioa_syntax.specs.declared.tree.Statement.{Statement}
 use Rattle.ioa_syntax.specs.declared.tree.Statement.TheVariants.{If}
 use Rattle.ioa_syntax.specs.declared.tree.Arm.{Arm}
 use Rattle.ioa_syntax.specs.Tree.{Expr, Stmt, Stmts, AutomatonTree, EntryTree, choose}
-use Rattle.ioa_syntax.specs.View.{expr_of, stmt_of, stmts_of, arms_of}
+use Rattle.ioa_syntax.specs.View.{expr_of, stmt_of, stmts_of, arm_of, arms_of}
 use Rattle.ioa_syntax.specs.WellFormed.{has_ty, scope, stmt_fine, stmts_fine, arms_fine, stmt_nodes, stmts_nodes, arms_nodes}
 use Rattle.ioa_check.specs.Reasons.{Reasons, in_any, in_condition, in_stmt, in_stmts, in_arms, ◌or◌}
 use Rattle.ioa_check.specs.Sizes.{Counts}
 use Rattle.ioa_check.specs.Verdicts.{Says}
-use Rattle.ioa_check.proofs.Choices.{stmt_chosen}
+use Rattle.ioa_syntax.proofs.Sequences.{stmt_chosen}
 use Rattle.ioa_check.proofs.SayLemmas.{says-at, says-more, says-last, says-passed}
-
--- an arm's condition and statements
-abbrev pub parts : Arm → Expr × Stmts
-parts x = (expr_of x.condition, stmts_of x.statements.items)
 
 and-assoc : (a b c : Bool) → (a && (b && c)) ≡ ((a && b) && c)
 and-assoc true b c = refl
@@ -42,20 +38,20 @@ module _ (t : Table) (a : AutomatonTree) (e : EntryTree) where
   in_each_statement [] r = refl
   in_each_statement (s ∷ ss) r = ap (λ b. in_stmt t [] a e (stmt_of s) r || b) (in_each_statement ss r)
 
-  pub each_arm : (xs : List Arm) → arms_fine t [] a e (arms_of xs) ≡ list_all is_arm_fine (map parts xs)
+  pub each_arm : (xs : List Arm) → arms_fine t [] a e (arms_of xs) ≡ list_all is_arm_fine (map arm_of xs)
   each_arm [] = refl
   each_arm (x ∷ xs) =
       ap (λ b. has_ty t (scope t [] a e) (expr_of x.condition) 0 && (stmts_fine t [] a e (stmts_of x.statements.items) && b)) (each_arm xs)
-      ∙ and-assoc (has_ty t (scope t [] a e) (expr_of x.condition) 0) (stmts_fine t [] a e (stmts_of x.statements.items)) (list_all is_arm_fine (map parts xs))
+      ∙ and-assoc (has_ty t (scope t [] a e) (expr_of x.condition) 0) (stmts_fine t [] a e (stmts_of x.statements.items)) (list_all is_arm_fine (map arm_of xs))
 
-  in_each_arm : (xs : List Arm) (r : Refusal) → in_any in_arm (map parts xs) r ≡ in_arms t [] a e (arms_of xs) r
+  in_each_arm : (xs : List Arm) (r : Refusal) → in_any in_arm (map arm_of xs) r ≡ in_arms t [] a e (arms_of xs) r
   in_each_arm [] r = refl
-  in_each_arm (x ∷ xs) r = ap (λ b. in_arm (parts x) r || b) (in_each_arm xs r)
+  in_each_arm (x ∷ xs) r = ap (λ b. in_arm (arm_of x) r || b) (in_each_arm xs r)
 
   pub statements-say : {T : Type 0} (r : Result T Refusal) (ss : List Statement) → Says r (list_all (stmt_fine t [] a e) (map stmt_of ss)) (in_any (in_stmt t [] a e) (map stmt_of ss)) → Says r (stmts_fine t [] a e (stmts_of ss)) (in_stmts t [] a e (stmts_of ss))
   statements-say r ss h = says-at r _ _ _ (sym (each_statement ss)) (says-more r _ _ _ (λ x k. sym (in_each_statement ss x) ∙ k) h)
 
-  pub arms-say : {T : Type 0} (r : Result T Refusal) (xs : List Arm) → Says r (list_all is_arm_fine (map parts xs)) (in_any in_arm (map parts xs)) → Says r (arms_fine t [] a e (arms_of xs)) (in_arms t [] a e (arms_of xs))
+  pub arms-say : {T : Type 0} (r : Result T Refusal) (xs : List Arm) → Says r (list_all is_arm_fine (map arm_of xs)) (in_any in_arm (map arm_of xs)) → Says r (arms_fine t [] a e (arms_of xs)) (in_arms t [] a e (arms_of xs))
   arms-say r xs h = says-at r _ _ _ (sym (each_arm xs)) (says-more r _ _ _ (λ x k. sym (in_each_arm xs x) ∙ k) h)
 
   pub same-statements-say : {T : Type 0} (r : Result T Refusal) (xs ys : List Statement) → xs ≡ ys → Says r (stmts_fine t [] a e (stmts_of xs)) (in_stmts t [] a e (stmts_of xs)) → Says r (stmts_fine t [] a e (stmts_of ys)) (in_stmts t [] a e (stmts_of ys))

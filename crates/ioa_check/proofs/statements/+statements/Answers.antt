@@ -1,10 +1,10 @@
 use Rattle.std.proofs.Common.{refl, [], ◌∙◌}
-use Rattle.ioa_syntax.specs.View.{stmt_of, automaton_of, entry_of}
+use Rattle.ioa_syntax.specs.View.{arm_of, stmt_of, automaton_of, entry_of}
 use Rattle.ioa_syntax.specs.WellFormed.{stmt_fine}
 use Rattle.ioa_value.proofs.ItemLemmas.{all_done}
 use Rattle.ioa_check.specs.Reasons.{in_stmt}
 use Rattle.ioa_check.proofs.SayLemmas.{says-in-list}
-use Rattle.ioa_check.proofs.StatementLemmas.{parts, is_arm_fine, in_arm, each_statement, each_arm, statements-say, arms-say, arms-passed, others-say}
+use Rattle.ioa_check.proofs.StatementLemmas.{is_arm_fine, in_arm, each_statement, each_arm, statements-say, arms-say, arms-passed, others-say}
 use Rattle.ioa_check.proofs.statements.+statements.Goals as goal
 
 pub statements_fine-returns-in_err-statement_fine : goal.statements_fine-returns-in_err-statement_fine
@@ -32,7 +32,7 @@ arms_fine-returns-in_err-arm_fine t c =
     let e = entry_of c.args.entry.now in
     let xs = c.args.arms.now in
     arms-say types a e c.from_residual.result xs
-    (says-in-list c.arm_fine.result c.from_residual.result _ (is_arm_fine types a e) (in_arm types a e) parts xs xs _ c.arm-item.result refl c.loop-arm-test.true c.arm-item.is c.loop-arm.invariant
+    (says-in-list c.arm_fine.result c.from_residual.result _ (is_arm_fine types a e) (in_arm types a e) arm_of xs xs _ c.arm-item.result refl c.loop-arm-test.true c.arm-item.is c.loop-arm.invariant
     c.in_err-arm_fine.was c.from_residual.ensures.1 c.arm_fine.ensures)
 
 pub arms_fine-returns : goal.arms_fine-returns
@@ -41,7 +41,7 @@ arms_fine-returns t c =
     let a = automaton_of c.args.automaton.now in
     let e = entry_of c.args.entry.now in
     let xs = c.args.arms.now in
-    each_arm types a e xs ∙ all_done (is_arm_fine types a e) parts xs xs _ _ refl c.loop-arm-test.false c.loop-arm.invariant
+    each_arm types a e xs ∙ all_done (is_arm_fine types a e) arm_of xs xs _ _ refl c.loop-arm-test.false c.loop-arm.invariant
 
 pub statement_fine-returns-in_err-arms_fine-in-If : goal.statement_fine-returns-in_err-arms_fine-in-If
 statement_fine-returns-in_err-arms_fine-in-If t c =
