@@ -20,7 +20,7 @@ use Rattle.ioa_node.specs.Runs as runs
 use Rattle.ioa_node.specs.Runs.{start, guard_answer, guard_of, effect_answer, effect_of}
 use Rattle.ioa_syntax.specs.declared.tree.Kind.{Kind}
 use Rattle.ioa_syntax.specs.declared.tree.Kind.TheVariants.{Input, Output, Internal}
-use Rattle.ioa_syntax.specs.Tree.{Expr, Stmt, PositionTree, typed, EntryTree}
+use Rattle.ioa_syntax.specs.Tree.{Expr, Stmts, PositionTree, typed, EntryTree}
 use Rattle.ioa_syntax.specs.Meaning.{Env, values_of, or_else, kept, val, Outcome, becomes, breaks, nowhere, eff}
 use Rattle.ioa_syntax.specs.Instances.{Instance, field_names, variable_names, position_name, positions_have, entry_has, transition_for, environment, truth_of, enabling, next_state, component_of}
 use Rattle.ioa_syntax.specs.Components.{is_local}
@@ -184,7 +184,7 @@ module _ (m : Member) (e : EntryTree) (vs ps : List ℕ) (h : Setting m e vs ps)
         let own = holds env slots c in
         let suits = running.suits part.code s args types names_in variables_in vs h.types ps knows inner slots own in
         let agree = running.agree part.code s args types names_in variables_in vs h.types ps knows inner slots own in
-        answer_comes part s slots args (val types x inner) (some_answer 0 (val types x inner) (val_typed types declared names_in inner x 0 suits t)) (expr_runs part.code s args types over x 0 (length part.code.instrs) [] slots inner agree k.has)
+        answer_comes part s slots args (val types x inner) (some_answer 0 (val types x inner) (val_typed types declared names_in inner x 0 suits t)) (expr_runs part.code s args types over names_in x 0 0 (length part.code.instrs) [] slots inner t agree k.has)
 
     kept_corresponds : (env : Env) (slots : List Val) → Holds env slots → Corresponds m.instance (kept (variable_names m.instance.automaton) env) slots
     kept_corresponds env slots k = record {
@@ -206,7 +206,7 @@ module _ (m : Member) (e : EntryTree) (vs ps : List ℕ) (h : Setting m e vs ps)
     outcome_comes slots (breaks f) r = broke part (scope_of m e) slots args f r
     outcome_comes slots nowhere r = absurd r
 
-    effect_comes : (ts : List Stmt) (env : Env) (slots : List Val) → Corresponds m.instance env slots → StmtsTyped m.instance.types names_in variables_in ts → HasStmts part.code (scope_of m e) ts 0 (length part.code.instrs) → EffectEnds m.instance part slots args (eff m.instance.types ts (environment m.instance e args env))
+    effect_comes : (ts : Stmts) (env : Env) (slots : List Val) → Corresponds m.instance env slots → StmtsTyped m.instance.types names_in variables_in ts → HasStmts part.code (scope_of m e) ts 0 (length part.code.instrs) → EffectEnds m.instance part slots args (eff m.instance.types ts (environment m.instance e args env))
     effect_comes ts env slots c t k =
         outcome_comes slots (eff m.instance.types ts (environment m.instance e args env))
         (running.stmts_run part.code (scope_of m e) args m.instance.types names_in variables_in vs h.types ps knows ts 0 (length part.code.instrs) (environment m.instance e args env) slots (holds env slots c) t k)

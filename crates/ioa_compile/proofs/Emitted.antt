@@ -2,14 +2,14 @@
 use Rattle.ioa_syntax.specs.declared.tree.Kind.{Kind}
 use Rattle.ioa_syntax.specs.declared.tree.Kind.TheVariants.{Output, Internal}
 use Rattle.ioa_compile.specs.Translated.{IsGuard, IsGuardFor}
-use Rattle.std.proofs.Common.{◌≡◌, ◌⊎◌, ⊎_elim, ℕ, ◌+◌, ◌<◌, List, [], ◌∷◌, ◌++◌, length, map, sum, Option, Some, None, refl, sym, ap, ◌∙◌, subst, arith, length-append}
+use Rattle.std.proofs.Common.{◌≡◌, ◌⊎◌, ⊎_elim, ℕ, ◌+◌, ◌<◌, Bool, true, false, List, [], ◌∷◌, ◌++◌, length, map, Option, Some, None, refl, sym, ap, ◌∙◌, subst, arith, length-append}
 use Rattle.std.specs.Prelude.{slice_get}
-use Rattle.std.proofs.lemmas.List.Sums.{sum_by-cons}
-use Rattle.ioa_syntax.specs.WellFormed.{stmt_nodes}
+use Rattle.ioa_syntax.specs.WellFormed.{nodes, stmts_nodes, arms_nodes}
 use Rattle.std.proofs.lemmas.Option.{slice_get-map, slice_get_read}
 use Rattle.std.specs.Option.{option_map, option_map_or}
 use Rattle.std.specs.Prelude.{get_or}
 use Rattle.ioa_value.specs.declared.value.Value.{Value}
+use Rattle.ioa_value.specs.Plain as plain
 use Rattle.ioa_value.specs.Plain.{Val, plain}
 use Rattle.ioa_value.specs.Actions.{Name}
 use Rattle.ioa_value.specs.declared.operator.Op.{Op}
@@ -17,12 +17,16 @@ use Rattle.ioa_value.specs.Table.{place_from}
 use Rattle.ioa_value.specs.Typing.{HasType, OwnTypes, own}
 use Rattle.ioa_value.proofs.ItemLemmas.{get_append, get_last}
 use Rattle.ioa_value.proofs.TypingLemmas.{OwnTypes-push}
-use Rattle.ioa_code.specs.declared.instr.Instr.TheVariants.{Const, Slot, Arg, Store, Apply}
+use Rattle.ioa_code.specs.declared.instr.Instr.TheVariants.{Const, Slot, Arg, Store, Jump, JumpIfFalse, Apply}
 use Rattle.ioa_code.specs.Machine.{Listing}
-use Rattle.ioa_syntax.specs.Tree.{Expr, number, truth, named, parens, binary, Stmt, assign}
+use Rattle.ioa_syntax.specs.declared.tree.Infix.{Infix}
+use Rattle.ioa_syntax.specs.declared.tree.Infix.TheVariants.{Operator, And, Or, Implies}
+use Rattle.ioa_syntax.specs.Tree.{Expr, number, truth, named, parens, prefix, binary, Stmt, assign, choose, Stmts, stop, seq, Arms, no_arm, arm}
 use Rattle.ioa_compile.specs.Scopes.{Scope, Origin, slot, formal, parameter, unknown, origin}
-use Rattle.ioa_compile.specs.Placed.{Pushes, Brings, HasExpr, HasGuard, HasStmt, HasStmts}
-use Rattle.ioa_compile.specs.Emitting.{Keeps, AddsInstr, AddsConst, AddsExpr, AddsStmt, AddsStmts, IsGrown}
+use Rattle.ioa_compile.specs.Placed.{Stretch, At, Pushes, PushesTruth, Brings, Applies, Chooses, Combines, HasExpr, HasGuard, HasStmt, HasStmts, HasArms}
+use Rattle.ioa_compile.specs.Emitting.{Keeps, Adds, AddsInstr, AddsConst, AddsExpr, AddsCombined, AddsTrueSide, AddsFalseSide, AddsStmt, AddsStmts, IsGrown}
+use Rattle.ioa_compile.specs.Extents.{extent, stmts_extent, arms_extent}
+use Rattle.ioa_compile.proofs.Lengths.{expr_long, stmts_long, arms_long}
 
 pub none_from : {X : Type 0} (o : Option X) → ((x : X) → o ≡ Some x → ⊥) → o ≡ None
 none_from None h = refl
@@ -92,44 +96,123 @@ pub argument_at : (items : List Value) (i : ℕ) (v copy : Value) → i < length
 argument_at items i v copy lt e f =
     slice_get-map plain items i ∙ ap (option_map plain) (slice_get_read items (length items) i v refl lt e) ∙ ap Some (sym f)
 
-module _ (c d : Listing) (k : Keeps c d) where
-  pub Pushes-keeps : (p : ℕ) (v : Val) → Pushes c p v → Pushes d p v
-  Pushes-keeps p v h = (h.0, k.instr p _ h.1, k.const h.0 v h.2)
+-- one stretch's code goes on standing where another listing has more
+abbrev pub IsKept : (Listing → Stretch) → Type 0
+IsKept Has = (c d : Listing) → Keeps c d → (p q : ℕ) → Has c p q → Has d p q
 
+pub Pushes-keeps : (c d : Listing) → Keeps c d → (p : ℕ) (v : Val) → Pushes c p v → Pushes d p v
+Pushes-keeps c d k p v h = (h.0, k.instr p _ h.1, k.const h.0 v h.2)
+
+pub truth_kept : (b : Bool) → IsKept (λ code p q. PushesTruth code b p q)
+truth_kept b c d k p q h = (Pushes-keeps c d k p _ h.0, h.1)
+
+module _ (c d : Listing) (k : Keeps c d) where
   Brings-keeps : (s : Scope) (p : ℕ) (o : Origin) → Brings c s p o → Brings d s p o
   Brings-keeps s p (slot i) h = k.instr p _ h
-  Brings-keeps s p (formal i) h = (h.0, h.1, Pushes-keeps p h.0 h.2)
+  Brings-keeps s p (formal i) h = (h.0, h.1, Pushes-keeps c d k p h.0 h.2)
   Brings-keeps s p (parameter i) h = k.instr p _ h
   Brings-keeps s p unknown h = absurd h
 
+  Applies-keeps : (o : Op) (A B : Stretch) → ((p q : ℕ) → A p q → B p q) → (p q : ℕ) → Applies c o A p q → Applies d o B p q
+  Applies-keeps o A B f p q h = (h.0, f p h.0 h.1, k.instr h.0 _ h.2, h.3)
+
+  Chooses-keeps : (A B X Y : Stretch) → ((p q : ℕ) → A p q → X p q) → ((p q : ℕ) → B p q → Y p q) → (p q : ℕ) → Chooses c A B p q → Chooses d X Y p q
+  Chooses-keeps A B X Y f g p q h = (h.0, k.instr p _ h.1, f (p + 1) h.0 h.2, k.instr h.0 _ h.3, g (h.0 + 1) q h.4)
+
+  Combines-keeps : (o : Infix) (A B : Stretch) → ((p q : ℕ) → A p q → B p q) → (p q : ℕ) → Combines c o A p q → Combines d o B p q
+  Combines-keeps (Operator o) A B f p q h = Applies-keeps o A B f p q h
+  Combines-keeps And A B f p q h =
+      Chooses-keeps A (PushesTruth c false) B (PushesTruth d false) f (truth_kept false c d k) p q h
+  Combines-keeps Or A B f p q h =
+      Chooses-keeps (PushesTruth c true) A (PushesTruth d true) B (truth_kept true c d k) f p q h
+  Combines-keeps Implies A B f p q h =
+      Chooses-keeps A (PushesTruth c true) B (PushesTruth d true) f (truth_kept true c d k) p q h
+
   -- code that stands goes on standing
   pub HasExpr-keeps : (s : Scope) (e : Expr) (p q : ℕ) → HasExpr c s e p q → HasExpr d s e p q
-  HasExpr-keeps s (number n) p q h = (Pushes-keeps p _ h.0, h.1)
-  HasExpr-keeps s (truth b) p q h = (Pushes-keeps p _ h.0, h.1)
+  HasExpr-keeps s (number n) p q h = (Pushes-keeps c d k p _ h.0, h.1)
+  HasExpr-keeps s (truth b) p q h = truth_kept b c d k p q h
   HasExpr-keeps s (named x) p q h = (Brings-keeps s p (origin s x) h.0, h.1)
   HasExpr-keeps s (parens e) p q h = HasExpr-keeps s e p q h
+  HasExpr-keeps s (prefix o e) p q h =
+      Applies-keeps o (HasExpr c s e) (HasExpr d s e) (HasExpr-keeps s e) p q h
   HasExpr-keeps s (binary l o r) p q h =
-      (h.0, h.1, HasExpr-keeps s l p h.0 h.2, HasExpr-keeps s r h.0 h.1 h.3, k.instr h.1 _ h.4, h.5)
+      (h.0, HasExpr-keeps s l p h.0 h.1, Combines-keeps o (HasExpr c s r) (HasExpr d s r) (HasExpr-keeps s r) h.0 q h.2)
 
   pub HasGuard-keeps : (s : Scope) (e : Option Expr) (p q : ℕ) → HasGuard c s e p q → HasGuard d s e p q
-  HasGuard-keeps s None p q h = (Pushes-keeps p _ h.0, h.1)
+  HasGuard-keeps s None p q h = truth_kept true c d k p q h
   HasGuard-keeps s (Some e) p q h = HasExpr-keeps s e p q h
 
-  pub HasStmt-keeps : (s : Scope) (t : Stmt) (p q : ℕ) → HasStmt c s t p q → HasStmt d s t p q
-  HasStmt-keeps s (assign x e) p q h = (h.0, h.1, HasExpr-keeps s e p h.0 h.2, k.instr h.0 _ h.3, h.4, h.5)
+  mutual
+    pub HasStmt-keeps : (s : Scope) (t : Stmt) (p q : ℕ) → HasStmt c s t p q → HasStmt d s t p q
+    HasStmt-keeps s (assign x e) p q h = (h.0, h.1, HasExpr-keeps s e p h.0 h.2, k.instr h.0 _ h.3, h.4, h.5)
+    HasStmt-keeps s (choose arms others) p q h = HasArms-keeps s arms others (HasStmts-keeps s others) p q h
 
-  pub HasStmts-keeps : (s : Scope) (ts : List Stmt) (p q : ℕ) → HasStmts c s ts p q → HasStmts d s ts p q
-  HasStmts-keeps s [] p q h = h
-  HasStmts-keeps s (t ∷ ts) p q h = (h.0, HasStmt-keeps s t p h.0 h.1, HasStmts-keeps s ts h.0 q h.2)
+    pub HasStmts-keeps : (s : Scope) (ts : Stmts) (p q : ℕ) → HasStmts c s ts p q → HasStmts d s ts p q
+    HasStmts-keeps s stop p q h = h
+    HasStmts-keeps s (seq t ts) p q h = (h.0, HasStmt-keeps s t p h.0 h.1, HasStmts-keeps s ts h.0 q h.2)
 
-pub adds_binary : (c0 c1 c2 c3 : Listing) (s : Scope) (l r : Expr) (o : Op) → AddsExpr c0 c1 s l → AddsExpr c1 c2 s r → AddsInstr c2 c3 (Apply o) → AddsExpr c0 c3 s (binary l o r)
-adds_binary c0 c1 c2 c3 s l r o x y z =
-    let k13 = Keeps-trans c1 c2 c3 y.keeps z.keeps in
+    HasArms-keeps : (s : Scope) (arms : Arms) (others : Stmts) → ((p q : ℕ) → HasStmts c s others p q → HasStmts d s others p q) → (p q : ℕ) → HasArms c s arms (HasStmts c s others) p q → HasArms d s arms (HasStmts d s others) p q
+    HasArms-keeps s no_arm others f p q h = f p q h
+    HasArms-keeps s (arm e ts more) others f p q h =
+        (h.0, HasExpr-keeps s e p h.0 h.1, Chooses-keeps (HasStmts c s ts) (HasArms c s more (HasStmts c s others)) (HasStmts d s ts) (HasArms d s more (HasStmts d s others)) (HasStmts-keeps s ts) (HasArms-keeps s more others f) h.0 q h.2)
+
+pub expr_kept : (s : Scope) (e : Expr) → IsKept (λ code p q. HasExpr code s e p q)
+expr_kept s e c d k p q h = HasExpr-keeps c d k s e p q h
+
+pub stmts_kept : (s : Scope) (ts : Stmts) → IsKept (λ code p q. HasStmts code s ts p q)
+stmts_kept s ts c d k p q h = HasStmts-keeps c d k s ts p q h
+
+-- an operator after its last operand
+pub adds_applied : (c0 c1 c2 : Listing) (s : Scope) (e : Expr) (o : Op) → AddsExpr c0 c1 s e → AddsInstr c1 c2 (Apply o) → Adds c0 c2 (nodes e + 1) (λ code p q. Applies code o (HasExpr code s e) p q)
+adds_applied c0 c1 c2 s e o x y = record {
+  keeps = Keeps-trans c0 c1 c2 x.keeps y.keeps;
+  has = (length c1.instrs, HasExpr-keeps c1 c2 y.keeps s e _ _ x.has, y.has.0, y.has.1);
+  few = omega (arith, x.few, y.few);
+}
+
+pub adds_prefix : (c0 c1 c2 : Listing) (s : Scope) (e : Expr) (o : Op) → AddsExpr c0 c1 s e → AddsInstr c1 c2 (Apply o) → AddsExpr c0 c2 s (prefix o e)
+adds_prefix c0 c1 c2 s e o x y =
+    let a = adds_applied c0 c1 c2 s e o x y in record { keeps = a.keeps; has = a.has; few = a.few }
+
+pub adds_operator : (c0 c1 c2 : Listing) (s : Scope) (e : Expr) (o : Op) → AddsExpr c0 c1 s e → AddsInstr c1 c2 (Apply o) → AddsCombined c0 c2 s (Operator o) e
+adds_operator c0 c1 c2 s e o x y =
+    let a = adds_applied c0 c1 c2 s e o x y in record { keeps = a.keeps; has = a.has; few = a.few }
+
+pub adds_binary : (c0 c1 c2 : Listing) (s : Scope) (l r : Expr) (o : Infix) → AddsExpr c0 c1 s l → AddsCombined c1 c2 s o r → AddsExpr c0 c2 s (binary l o r)
+adds_binary c0 c1 c2 s l r o x y = record {
+  keeps = Keeps-trans c0 c1 c2 x.keeps y.keeps;
+  has = (length c1.instrs, HasExpr-keeps c1 c2 y.keeps s l _ _ x.has, y.has);
+  few = omega (arith, x.few, y.few);
+}
+
+-- two stretches, with the jumps that choose between them
+pub adds_choice : (c0 c1 c2 c3 c4 : Listing) (This Other : Listing → Stretch) (a b t u : ℕ) → IsKept This → AddsInstr c0 c1 (JumpIfFalse t) → Adds c1 c2 a This → AddsInstr c2 c3 (Jump u) → Adds c3 c4 b Other → t ≡ length c2.instrs + 1 → u ≡ length c4.instrs → Adds c0 c4 (a + b) (λ code p q. Chooses code (This code) (Other code) p q)
+adds_choice c0 c1 c2 c3 c4 This Other a b t u kept w x y z t-is u-is =
+    let k24 = Keeps-trans c2 c3 c4 y.keeps z.keeps in
+    let k14 = Keeps-trans c1 c2 c4 x.keeps k24 in
+    let p = length c0.instrs in
+    let n = length c2.instrs in
+    let q = length c4.instrs in
+    let first : At c4 p (JumpIfFalse (n + 1)) =
+    subst (λ m. At c4 p (JumpIfFalse m)) t-is (k14.instr p (JumpIfFalse t) w.has.0) in
+    let second : At c4 n (Jump q) = subst (λ m. At c4 n (Jump m)) u-is (z.keeps.instr n (Jump u) y.has.0) in
     record {
-      keeps = Keeps-trans c0 c1 c3 x.keeps k13;
-      has = (length c1.instrs, length c2.instrs, HasExpr-keeps c1 c3 k13 s l _ _ x.has, HasExpr-keeps c2 c3 z.keeps s r _ _ y.has, z.has.0, z.has.1);
-      few = omega (arith, x.few, y.few, z.few);
+      keeps = Keeps-trans c0 c1 c4 w.keeps k14;
+      has = (n, first, subst (λ m. This c4 m n) w.has.1 (kept c2 c4 k24 (length c1.instrs) n x.has), second, subst (λ m. Other c4 m q) y.has.1 z.has);
+      few = omega (arith, w.few, x.few, y.few, z.few);
     }
+
+pub adds_true_side : (c0 c1 c2 c3 c4 : Listing) (s : Scope) (e : Expr) (b : Bool) (t u : ℕ) → AddsInstr c0 c1 (JumpIfFalse t) → AddsExpr c1 c2 s e → AddsInstr c2 c3 (Jump u) → AddsConst c3 c4 (plain.truth b) → t ≡ length c0.instrs + extent e + 2 → u ≡ t + 1 → AddsTrueSide c0 c4 s e b
+adds_true_side c0 c1 c2 c3 c4 s e b t u w x y z t-is u-is =
+    let long = expr_long c2 s e (length c1.instrs) (length c2.instrs) x.has in
+    adds_choice c0 c1 c2 c3 c4 (λ code p q. HasExpr code s e p q) (λ code p q. PushesTruth code b p q) (nodes e) 1 t u (expr_kept s e) w x y z (omega (arith, w.has.1, long)) (omega (arith, w.has.1, long, y.has.1, z.has.1))
+
+pub adds_false_side : (c0 c1 c2 c3 c4 : Listing) (s : Scope) (e : Expr) (t u : ℕ) → AddsInstr c0 c1 (JumpIfFalse t) → AddsConst c1 c2 (plain.truth true) → AddsInstr c2 c3 (Jump u) → AddsExpr c3 c4 s e → t ≡ length c0.instrs + 3 → u ≡ t + extent e → AddsFalseSide c0 c4 s e
+adds_false_side c0 c1 c2 c3 c4 s e t u w x y z t-is u-is =
+    let long = expr_long c4 s e (length c3.instrs) (length c4.instrs) z.has in
+    let a = adds_choice c0 c1 c2 c3 c4 (λ code p q. PushesTruth code true p q) (λ code p q. HasExpr code s e p q) 1 (nodes e) t u (truth_kept true) w x y z (omega (arith, w.has.1, x.has.1)) (omega (arith, w.has.1, x.has.1, y.has.1, long)) in
+    record { keeps = a.keeps; has = a.has; few = omega (arith, a.few) }
 
 pub adds_assign : (c0 c1 c2 : Listing) (s : Scope) (x : Name) (e : Expr) (i : ℕ) → place_from 0 s.variables x ≡ Some i → AddsExpr c0 c1 s e → AddsInstr c1 c2 (Store i) → AddsStmt c0 c2 s (assign x e)
 adds_assign c0 c1 c2 s x e i at y z = record {
@@ -138,21 +221,38 @@ adds_assign c0 c1 c2 s x e i at y z = record {
   few = omega (arith, y.few, z.few);
 }
 
-pub adds_none : (c : Listing) (s : Scope) → AddsStmts c c s []
+pub adds_none : (c : Listing) (s : Scope) → AddsStmts c c s stop
 adds_none c s = record { keeps = Keeps-self c; has = refl; few = omega arith }
 
-pub adds_first : (c0 c1 c2 : Listing) (s : Scope) (t : Stmt) (ts : List Stmt) → AddsStmt c0 c1 s t → AddsStmts c1 c2 s ts → AddsStmts c0 c2 s (t ∷ ts)
-adds_first c0 c1 c2 s t ts y z =
-    let both : sum (map stmt_nodes (t ∷ ts)) ≡ stmt_nodes t + sum (map stmt_nodes ts) = sum_by-cons (λ n. n) (stmt_nodes t) (map stmt_nodes ts) in
+pub adds_first : (c0 c1 c2 : Listing) (s : Scope) (t : Stmt) (ts : Stmts) → AddsStmt c0 c1 s t → AddsStmts c1 c2 s ts → AddsStmts c0 c2 s (seq t ts)
+adds_first c0 c1 c2 s t ts y z = record {
+  keeps = Keeps-trans c0 c1 c2 y.keeps z.keeps;
+  has = (length c1.instrs, HasStmt-keeps c1 c2 z.keeps s t _ _ y.has, z.has);
+  few = omega (arith, y.few, z.few);
+}
+
+-- arms, and the statements after the last
+abbrev pub AddsArms : Listing → Listing → Scope → Arms → Stmts → Type 0
+AddsArms old new s arms others = Adds old new (arms_nodes arms + stmts_nodes others) (λ code p q. HasArms code s arms (HasStmts code s others) p q)
+
+pub adds_arm : (c0 c1 c2 c3 c4 c5 : Listing) (s : Scope) (e : Expr) (ts : Stmts) (more : Arms) (others : Stmts) (t u : ℕ) → AddsExpr c0 c1 s e → AddsInstr c1 c2 (JumpIfFalse t) → AddsStmts c2 c3 s ts → AddsInstr c3 c4 (Jump u) → AddsArms c4 c5 s more others
+    → t ≡ length c1.instrs + stmts_extent ts + 2 → u ≡ length c4.instrs + (arms_extent more + stmts_extent others) → AddsArms c0 c5 s (arm e ts more) others
+adds_arm c0 c1 c2 c3 c4 c5 s e ts more others t u v w x y z t-is u-is =
+    let long = stmts_long c3 s ts (length c2.instrs) (length c3.instrs) x.has in
+    let rest = arms_long c5 s more others (stmts_long c5 s others) (length c4.instrs) (length c5.instrs) z.has in
+    let a = adds_choice c1 c2 c3 c4 c5 (λ code p q. HasStmts code s ts p q) (λ code p q. HasArms code s more (HasStmts code s others) p q) (stmts_nodes ts) (arms_nodes more + stmts_nodes others) t u (stmts_kept s ts) w x y z (omega (arith, w.has.1, long)) (u-is ∙ sym rest) in
     record {
-      keeps = Keeps-trans c0 c1 c2 y.keeps z.keeps;
-      has = (length c1.instrs, HasStmt-keeps c1 c2 z.keeps s t _ _ y.has, z.has);
-      few = omega (arith, y.few, z.few);
+      keeps = Keeps-trans c0 c1 c5 v.keeps a.keeps;
+      has = (length c1.instrs, HasExpr-keeps c1 c5 a.keeps s e _ _ v.has, a.has);
+      few = omega (arith, v.few, a.few);
     }
 
--- the rest of a list, from one of its places
-pub nodes_next : (t : Stmt) (ts : List Stmt) → sum (map stmt_nodes (t ∷ ts)) ≡ stmt_nodes t + sum (map stmt_nodes ts)
-nodes_next t ts = sum_by-cons (λ n. n) (stmt_nodes t) (map stmt_nodes ts)
+pub adds_others : (c d : Listing) (s : Scope) (others : Stmts) → AddsStmts c d s others → AddsArms c d s no_arm others
+adds_others c d s others h = record { keeps = h.keeps; has = h.has; few = omega (arith, h.few) }
+
+-- a choice counts as a node
+pub adds_choose : (c d : Listing) (s : Scope) (arms : Arms) (others : Stmts) → AddsArms c d s arms others → AddsStmt c d s (choose arms others)
+adds_choose c d s arms others h = record { keeps = h.keeps; has = h.has; few = omega (arith, h.few) }
 
 -- the guard's code, with constants after its own
 pub grown_guard : (k : Kind) (s : Scope) (g : Option Expr) (old : Listing) (consts : List Val) → (k ≡ Output) ⊎ (k ≡ Internal) → IsGuard old s g → IsGrown old.consts consts → OwnTypes old.types consts → IsGuardFor k (Some (record { types = old.types; instrs = old.instrs; consts = consts })) s g

@@ -1,5 +1,5 @@
 -- What a well-formed automaton's entry keeps.
-use Rattle.std.proofs.Common.{inl, inr, ◌≡◌, ℕ, ◌+◌, ◌<◌, ◌≤◌, Bool, true, false, cond, not, ◌&&◌, ◌||◌, ◌==◌, nat_le, if◌then◌else◌, IsTrue, List, [], ◌∷◌, length, map, sum, Option, Some, None, IsSome, pos, refl, sym, ap, ◌∙◌, subst, arith}
+use Rattle.std.proofs.Common.{inl, inr, ◌≡◌, ℕ, ◌+◌, ◌<◌, ◌≤◌, Bool, true, false, cond, not, ◌&&◌, ◌||◌, ◌==◌, nat_le, if◌then◌else◌, IsTrue, List, length, Option, Some, None, IsSome, pos, refl, sym, ap, ◌∙◌, subst, arith}
 use Rattle.std.specs.Prelude.{slice_get, IfSome}
 use Rattle.std.specs.List.{list_all, list_any, filter}
 use Rattle.std.specs.Option.{option_map_or}
@@ -16,14 +16,14 @@ use Rattle.ioa_value.proofs.ItemLemmas.{all_at, some_at}
 use Rattle.ioa_value.proofs.TypingLemmas.{HaveTypes-length, HaveTypes-owns}
 use Rattle.ioa_syntax.specs.declared.tree.Kind.{Kind}
 use Rattle.ioa_syntax.specs.declared.tree.Kind.TheVariants.{Input, Output, Internal}
-use Rattle.ioa_syntax.specs.Tree.{Expr, number, truth, named, parens, binary, Stmt, assign, AutomatonTree, EntryTree, TransitionTree}
+use Rattle.ioa_syntax.specs.Tree.{Expr, number, truth, named, parens, prefix, binary, Stmt, assign, choose, Stmts, stop, seq, Arms, no_arm, arm, AutomatonTree, EntryTree, TransitionTree}
 use Rattle.ioa_syntax.specs.Instances.{variable_names, position_name, transition_for}
 use Rattle.ioa_syntax.specs.Compositions.{Member}
-use Rattle.ioa_syntax.specs.WellFormed.{Context, type_in, type_of, is_some_of, nodes, stmt_nodes, is_type, context_of, position_fields, variable_fields, same_kind, is_input, scope, entry_fine, matches, pre_fine, stmt_fine, effect_fine, input_fine, proposals_fine, all_proposed, transition_fine, pre_within, proposals_within, effect_within, transition_within, entry_within}
+use Rattle.ioa_syntax.specs.WellFormed.{Context, type_in, type_of, infix_type, is_some_of, has_ty, nodes, stmts_nodes, is_type, context_of, position_fields, variable_fields, same_kind, is_input, scope, entry_fine, matches, pre_fine, stmt_fine, stmts_fine, arms_fine, effect_fine, input_fine, proposals_fine, all_proposed, transition_fine, pre_within, proposals_within, effect_within, transition_within, entry_within}
 use Rattle.ioa_syntax.proofs.FineParts.{FineParts, fine_parts, EntryParts, entry_parts, within_parts}
-use Rattle.ioa_syntax.proofs.ValTyped.{types_of_both}
+use Rattle.ioa_syntax.proofs.ValTyped.{type_of_one, types_of_both}
 use Rattle.ioa_compose.specs.Fine.{IsFine, component_limits}
-use Rattle.ioa_compile.specs.Scopes.{scope_of, Origin, slot, formal, parameter, unknown, origin, IsOrigin, IsKnown, AreKnown, IsKnownGuard, IsScope}
+use Rattle.ioa_compile.specs.Scopes.{scope_of, Origin, slot, formal, parameter, unknown, origin, IsOrigin, IsKnown, IsKnownStmt, AreKnown, AreKnownArms, IsKnownGuard, IsScope}
 use Rattle.ioa_compile.specs.Emitting.{guard_nodes}
 use Rattle.ioa_compile.specs.Matching.{AreTypesOf}
 use Rattle.ioa_compile.specs.Translated.{IsEntryOf}
@@ -90,12 +90,18 @@ module _ (types : Table) (g : List Name) (a : AutomatonTree) (p : FineParts type
 abbrev pub GuardTyped : Table → Context → Option Expr → Type 0
 GuardTyped types c o = IfSome o (λ p. type_of types c p ≡ Some 0)
 
-abbrev pub StmtTyped : Table → Context → Context → Stmt → Type 0
-StmtTyped types c v (assign x e) = (ty : ℕ) × (type_in v x ≡ Some ty) × (type_of types c e ≡ Some ty)
+abbrev mutual
+  pub StmtTyped : Table → Context → Context → Stmt → Type 0
+  StmtTyped types c v (assign x e) = (ty : ℕ) × (type_in v x ≡ Some ty) × (type_of types c e ≡ Some ty)
+  StmtTyped types c v (choose arms others) = ArmsTyped types c v arms × StmtsTyped types c v others
 
-abbrev pub StmtsTyped : Table → Context → Context → List Stmt → Type 0
-StmtsTyped types c v [] = Unit {0}
-StmtsTyped types c v (s ∷ ss) = StmtTyped types c v s × StmtsTyped types c v ss
+  pub StmtsTyped : Table → Context → Context → Stmts → Type 0
+  StmtsTyped types c v stop = Unit {0}
+  StmtsTyped types c v (seq s ss) = StmtTyped types c v s × StmtsTyped types c v ss
+
+  pub ArmsTyped : Table → Context → Context → Arms → Type 0
+  ArmsTyped types c v no_arm = Unit {0}
+  ArmsTyped types c v (arm e ss more) = (type_of types c e ≡ Some 0) × StmtsTyped types c v ss × ArmsTyped types c v more
 
 some_of : (o : Option ℕ) (ty : ℕ) → IsTrue (is_some_of o ty) → o ≡ Some ty
 some_of (Some t) ty h = let same : t ≡ ty = grind (arith, nat_tests) in ap Some same
@@ -119,21 +125,35 @@ module _ (types : Table) (g : List Name) (a : AutomatonTree) (e : EntryTree) whe
   pub guard_typed : (r : TransitionTree) → IsTrue (transition_fine types g a e r) → GuardTyped types (scope types g a e) r.pre
   guard_typed r h = guard_cases (is_input r.kind) r (and_parts (effect_fine types g a e r) _ h).1
 
-  stmt_tests : (s : Stmt) → IsTrue (stmt_fine types g a e s) → StmtTyped types (scope types g a e) (context_of types (variable_fields a)) s
-  stmt_tests (assign x v) h = go (type_in (context_of types (variable_fields a)) x) refl h
+  assign_tests : (x : Name) (v : Expr) → IsTrue (stmt_fine types g a e (assign x v)) → StmtTyped types (scope types g a e) (context_of types (variable_fields a)) (assign x v)
+  assign_tests x v h = go (type_in (context_of types (variable_fields a)) x) refl h
     where
       go : (o : Option ℕ) → type_in (context_of types (variable_fields a)) x ≡ o → IsTrue (option_map_or (λ ty. is_some_of (type_of types (scope types g a e) v) ty) o false) → StmtTyped types (scope types g a e) (context_of types (variable_fields a)) (assign x v)
       go None t h = absurd (cc)
       go (Some ty) t h = (ty, t, some_of (type_of types (scope types g a e) v) ty h)
 
-  stmts_tests : (ss : List Stmt) → IsTrue (list_all (stmt_fine types g a e) ss) → StmtsTyped types (scope types g a e) (context_of types (variable_fields a)) ss
-  stmts_tests [] h = tt
-  stmts_tests (s ∷ ss) h =
-      let parts = and_parts (stmt_fine types g a e s) (list_all (stmt_fine types g a e) ss) h in
-      (stmt_tests s parts.0, stmts_tests ss parts.1)
+  mutual
+    stmt_tests : (s : Stmt) → IsTrue (stmt_fine types g a e s) → StmtTyped types (scope types g a e) (context_of types (variable_fields a)) s
+    stmt_tests (assign x v) h = assign_tests x v h
+    stmt_tests (choose arms others) h =
+        let parts = and_parts (arms_fine types g a e arms) (stmts_fine types g a e others) h in
+        (arms_tests arms parts.0, stmts_tests others parts.1)
+
+    stmts_tests : (ss : Stmts) → IsTrue (stmts_fine types g a e ss) → StmtsTyped types (scope types g a e) (context_of types (variable_fields a)) ss
+    stmts_tests stop h = tt
+    stmts_tests (seq s ss) h =
+        let parts = and_parts (stmt_fine types g a e s) (stmts_fine types g a e ss) h in
+        (stmt_tests s parts.0, stmts_tests ss parts.1)
+
+    arms_tests : (arms : Arms) → IsTrue (arms_fine types g a e arms) → ArmsTyped types (scope types g a e) (context_of types (variable_fields a)) arms
+    arms_tests no_arm h = tt
+    arms_tests (arm c ss more) h =
+        let parts = and_parts (has_ty types (scope types g a e) c 0) (stmts_fine types g a e ss && arms_fine types g a e more) h in
+        let inner = and_parts (stmts_fine types g a e ss) (arms_fine types g a e more) parts.1 in
+        (some_of (type_of types (scope types g a e) c) 0 parts.0, stmts_tests ss inner.0, arms_tests more inner.1)
 
   pub effect_typed : (r : TransitionTree) → IsTrue (transition_fine types g a e r) → StmtsTyped types (scope types g a e) (context_of types (variable_fields a)) r.effect
-  effect_typed r h = stmts_tests r.effect (and_parts (list_all (stmt_fine types g a e) r.effect) _ h).0
+  effect_typed r h = stmts_tests r.effect (and_parts (effect_fine types g a e r) _ h).0
 
 -- ---- the sizes of a transition's trees
 
@@ -147,13 +167,13 @@ guard_few (Some p) h = at_most (nodes p) h
 -- a transition's trees are small
 pub record IsSmall (r : TransitionTree) : Type 0 where
   pub guard : guard_nodes r.pre ≤ component_limits.nodes
-  pub effect : sum (map stmt_nodes r.effect) ≤ component_limits.nodes
+  pub effect : stmts_nodes r.effect ≤ component_limits.nodes
 
 small : (r : TransitionTree) → IsTrue (transition_within component_limits r) → IsSmall r
 small r h =
     let p2 = and_parts (pre_within component_limits r && proposals_within component_limits r) (effect_within component_limits r) h in
     let p1 = and_parts (pre_within component_limits r) (proposals_within component_limits r) p2.0 in
-    record { guard = guard_few r.pre p1.0; effect = at_most (sum (map stmt_nodes r.effect)) p2.1 }
+    record { guard = guard_few r.pre p1.0; effect = at_most (stmts_nodes r.effect) p2.1 }
 
 -- ---- the types of what an entry's code may name
 
@@ -269,9 +289,13 @@ module _ (m : Member) (e : EntryTree) (vs ps : List ℕ) (h : Setting m e vs ps)
   known (truth b) ty t = tt
   known (named x) ty t = origin_there (origin (scope_of m e) x) ty (sym (type_at x) ∙ t)
   known (parens y) ty t = known y ty t
+  known (prefix o y) ty t =
+      let c = scope m.instance.types h.globals m.instance.automaton e in
+      let operand = type_of_one (type_of m.instance.types c y) (op_type m.instance.types o) ty t in
+      known y operand.0 operand.1
   known (binary l o r) ty t =
       let c = scope m.instance.types h.globals m.instance.automaton e in
-      let both = types_of_both (type_of m.instance.types c l) (type_of m.instance.types c r) (op_type m.instance.types o) ty t in
+      let both = types_of_both (type_of m.instance.types c l) (type_of m.instance.types c r) (infix_type m.instance.types o) ty t in
       (known l both.0 both.2, known r both.1 both.3)
 
   pub known_guard : (o : Option Expr) → GuardTyped m.instance.types (scope m.instance.types h.globals m.instance.automaton e) o → IsKnownGuard (scope_of m e) o
@@ -281,11 +305,26 @@ module _ (m : Member) (e : EntryTree) (vs ps : List ℕ) (h : Setting m e vs ps)
   is_some : (o : Option ℕ) (i : ℕ) → o ≡ Some i → IsSome o
   is_some o i t = rw t refl
 
-  pub known_stmts : (ss : List Stmt) → StmtsTyped m.instance.types (scope m.instance.types h.globals m.instance.automaton e) (context_of m.instance.types (variable_fields m.instance.automaton)) ss → AreKnown (scope_of m e) ss
-  known_stmts [] t = tt
-  known_stmts (assign x v ∷ ss) t =
-      let place = variable_at x t.0.0 t.0.1 in
-      ((is_some (place_from 0 (variable_names m.instance.automaton) x) place.0 place.1, known v t.0.0 t.0.2), known_stmts ss t.1)
+  abbrev names_typed : Context
+  names_typed = scope m.instance.types h.globals m.instance.automaton e
+
+  abbrev variables_typed : Context
+  variables_typed = context_of m.instance.types (variable_fields m.instance.automaton)
+
+  mutual
+    known_stmt : (s : Stmt) → StmtTyped m.instance.types names_typed variables_typed s → IsKnownStmt (scope_of m e) s
+    known_stmt (assign x v) t =
+        let place = variable_at x t.0 t.1 in
+        (is_some (place_from 0 (variable_names m.instance.automaton) x) place.0 place.1, known v t.0 t.2)
+    known_stmt (choose arms others) t = (known_arms arms t.0, known_stmts others t.1)
+
+    pub known_stmts : (ss : Stmts) → StmtsTyped m.instance.types names_typed variables_typed ss → AreKnown (scope_of m e) ss
+    known_stmts stop t = tt
+    known_stmts (seq s ss) t = (known_stmt s t.0, known_stmts ss t.1)
+
+    known_arms : (arms : Arms) → ArmsTyped m.instance.types names_typed variables_typed arms → AreKnownArms (scope_of m e) arms
+    known_arms no_arm t = tt
+    known_arms (arm c ss more) t = (known c 0 t.0, (known_stmts ss t.1, known_arms more t.2))
 
 pub variables_known : (m : Member) → IsFine component_limits m → IsTrue (list_all (is_type m.instance.types) (variable_fields m.instance.automaton))
 variables_known m h = (fine_parts m.instance.types h.automaton.0 m.instance.automaton h.automaton.1).variable_types

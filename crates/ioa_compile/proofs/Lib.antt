@@ -1,3 +1,5 @@
+pub mod Views
+pub mod Lengths
 pub mod Emitted
 pub mod Paired
 pub mod Looks

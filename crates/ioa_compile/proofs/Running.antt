@@ -6,27 +6,31 @@ use Rattle.std.proofs.lemmas.Option.{slice_get_within}
 use Rattle.ioa_value.specs.declared.arithmetic.Fault.{Fault}
 use Rattle.ioa_value.specs.declared.operator.Op.{Op}
 use Rattle.ioa_value.specs.Actions.{Name}
-use Rattle.ioa_value.specs.Operators.{Answer, gives, faults, nothing, IsTypedAnswer, operate, arity}
+use Rattle.ioa_value.specs.Operators.{Answer, gives, faults, nothing, IsTypedAnswer, operate, op_type, arity}
 use Rattle.ioa_value.specs.Plain as plain
 use Rattle.ioa_value.specs.Plain.{Val}
 use Rattle.ioa_value.specs.Table.{Table, AreTypes, place_from}
 use Rattle.ioa_value.specs.Typing.{HasType, HaveTypes, own}
-use Rattle.ioa_value.proofs.TypingLemmas.{alike_own, HaveTypes-length, HaveTypes-get, HaveTypes-set}
+use Rattle.ioa_value.proofs.TypingLemmas.{alike_own, is_truth, HaveTypes-length, HaveTypes-get, HaveTypes-set}
 use Rattle.ioa_code.specs.declared.instr.Instr.{Instr}
-use Rattle.ioa_code.specs.declared.instr.Instr.TheVariants.{Const, Slot, Arg, Store, Apply}
-use Rattle.ioa_code.specs.Machine.{Listing, State, state, End, fault, Move, goes, over, stuck, act, next, pushed, replaced, stored, answered, fetched, move, After, Ends}
+use Rattle.ioa_code.specs.declared.instr.Instr.TheVariants.{Const, Slot, Arg, Store, Jump, JumpIfFalse, Apply}
+use Rattle.ioa_code.specs.Machine.{Listing, State, state, End, fault, Move, goes, over, stuck, act, next, pushed, replaced, stored, decided, branched, answered, fetched, move, After, Ends}
 use Rattle.ioa_code.proofs.Lists.{on_top-append}
 use Rattle.ioa_node.specs.Runs.{no_words}
-use Rattle.ioa_syntax.specs.Tree.{Expr, number, truth, named, parens, binary, Stmt, assign}
-use Rattle.ioa_syntax.specs.Meaning.{Env, val, then_value, value_of, Outcome, becomes, breaks, nowhere, assigned, then_do, does, eff, with_name, or_else}
-use Rattle.ioa_syntax.specs.WellFormed.{Context, type_in}
+use Rattle.ioa_syntax.specs.declared.tree.Infix.{Infix}
+use Rattle.ioa_syntax.specs.declared.tree.Infix.TheVariants.{Operator, And, Or, Implies}
+use Rattle.ioa_syntax.specs.Tree.{Expr, number, truth, named, parens, prefix, binary, Stmt, assign, choose, Stmts, stop, seq, Arms, no_arm, arm}
+use Rattle.ioa_syntax.specs.Meaning as Meaning
+use Rattle.ioa_syntax.specs.Meaning.{Env, val, then_value, combined, value_of, Outcome, becomes, breaks, nowhere, assigned, then_do, chosen, does, picks, eff, with_name, or_else}
+use Rattle.ioa_syntax.specs.WellFormed.{Context, type_in, type_of, infix_type}
 use Rattle.ioa_syntax.specs.Answers.{Stands, Suits}
-use Rattle.ioa_syntax.proofs.ValTyped.{val_typed}
+use Rattle.ioa_syntax.proofs.ValTyped.{val_typed, type_of_one, types_of_both}
 use Rattle.ioa_compile.specs.Scopes.{Scope, Origin, slot, formal, parameter, unknown, origin}
-use Rattle.ioa_compile.specs.Placed.{At, Pushes, Brings, HasExpr, HasStmt, HasStmts}
-use Rattle.ioa_compile.proofs.Fine.{StmtTyped, StmtsTyped}
+use Rattle.ioa_compile.specs.Placed.{Stretch, At, Pushes, PushesTruth, Brings, Chooses, Combines, HasExpr, HasStmt, HasStmts, HasArms}
+use Rattle.ioa_compile.proofs.Lengths.{expr_long, stmts_long, arms_long}
+use Rattle.ioa_compile.proofs.Fine.{StmtTyped, StmtsTyped, ArmsTyped}
 use Rattle.ioa_compile.proofs.Looks.{look, at, stands, stands_at, look_set}
-use Rattle.ioa_compile.proofs.Validity.{takes_two}
+use Rattle.ioa_compile.proofs.Validity.{takes_one, takes_two}
 
 module _ (code : Listing) (s : Scope) (args : List Val) where
   -- the machine at a place
@@ -43,7 +47,7 @@ module _ (code : Listing) (s : Scope) (args : List Val) where
   pub comes_on : (x y z : State) → Comes x y → Comes y z → Comes x z
   comes_on x y z a b = record { by = λ r n e. let f = b.by r n e in let g = a.by r f.0 f.2 in (g.0, omega (arith, f.1, g.1), g.2) }
 
-  step : (x y : State) → y.place ≡ x.place + 1 → move code x ≡ goes y → Comes x y
+  step : (x y : State) → x.place < y.place → move code x ≡ goes y → Comes x y
   step x y p e = record {
     by = λ r n h. (suc n, omega arith, subst (λ m. After m (λ z. Ends code n z r) (λ z. (n ≡ 0) × (r ≡ z))) (sym e) h);
   }
@@ -84,16 +88,16 @@ module _ (code : Listing) (s : Scope) (args : List Val) where
       let P : Move → Type 0 = λ m. After m (λ z. Ends code 0 z (fault f 0)) (λ g. (◌≡◌ {A = ℕ} 0 0) × (fault f 0 ≡ g)) in subst P (sym e) (refl, refl)
 
   answer_reaches : (p : ℕ) (full stack slots : List Val) (a : Answer) → p < length code.instrs → move code (on p full slots) ≡ answered a (on p full slots) stack → Reaches (on p full slots) (p + 1) stack slots a
-  answer_reaches p full stack slots (gives v) lt e = step _ _ refl e
+  answer_reaches p full stack slots (gives v) lt e = step _ _ (omega arith) e
   answer_reaches p full stack slots (faults f) lt e = record { count = 1; within = omega arith; ends = ends_fault p full slots f e }
   answer_reaches p full stack slots nothing lt e = tt
 
   pub push_comes : (p : ℕ) (stack slots : List Val) (v : Val) → Pushes code p v → Comes (on p stack slots) (on (p + 1) (stack ++ v ∷ []) slots)
   push_comes p stack slots v h =
-      step _ _ refl (moves p stack slots (Const h.0) _ h.1 (ap (λ o. pushed o (on p stack slots)) h.2))
+      step _ _ (omega arith) (moves p stack slots (Const h.0) _ h.1 (ap (λ o. pushed o (on p stack slots)) h.2))
 
   read_comes : (p : ℕ) (stack slots : List Val) (i : Instr) (o : Option Val) (v : Val) → At code p i → act code i (on p stack slots) ≡ pushed o (on p stack slots) → o ≡ Some v → Comes (on p stack slots) (on (p + 1) (stack ++ v ∷ []) slots)
-  read_comes p stack slots i o v h e k = step _ _ refl (moves p stack slots i _ h (e ∙ ap (λ x. pushed x (on p stack slots)) k))
+  read_comes p stack slots i o v h e k = step _ _ (omega arith) (moves p stack slots i _ h (e ∙ ap (λ x. pushed x (on p stack slots)) k))
 
   brings_comes : (p : ℕ) (stack slots : List Val) (o : Origin) (v : Val) → at o slots s.arguments args ≡ Some v → Brings code s p o → Comes (on p stack slots) (on (p + 1) (stack ++ v ∷ []) slots)
   brings_comes p stack slots (slot i) v e h = read_comes p stack slots (Slot i) (slice_get slots i) v h refl e
@@ -108,6 +112,49 @@ module _ (code : Listing) (s : Scope) (args : List Val) where
   brings_reaches p stack slots None w e h = tt
   brings_reaches p stack slots (Some v) w e h = brings_comes p stack slots w v (sym e) h
 
+  jump_comes : (p t : ℕ) (stack slots : List Val) → At code p (Jump t) → p < t → Comes (on p stack slots) (on t stack slots)
+  jump_comes p t stack slots h lt = step _ _ lt (moves p stack slots (Jump t) _ h refl)
+
+  branch_comes : (p t to : ℕ) (stack slots : List Val) (b : Bool) → At code p (JumpIfFalse t) → p < to → decided t (on p (stack ++ plain.truth b ∷ []) slots) stack (plain.truth b) ≡ goes (on to stack slots) → Comes (on p (stack ++ plain.truth b ∷ []) slots) (on to stack slots)
+  branch_comes p t to stack slots b h lt e =
+      let full = stack ++ plain.truth b ∷ [] in
+      step _ _ lt (moves p full slots (JumpIfFalse t) _ h
+      (on_top-append 1 stack (plain.truth b ∷ []) stuck (λ below top. branched t (on p full slots) below top) refl ∙ e))
+
+  true_comes : (p t : ℕ) (stack slots : List Val) → At code p (JumpIfFalse t) → Comes (on p (stack ++ plain.truth true ∷ []) slots) (on (p + 1) stack slots)
+  true_comes p t stack slots h = branch_comes p t (p + 1) stack slots true h (omega arith) refl
+
+  false_comes : (p t : ℕ) (stack slots : List Val) → At code p (JumpIfFalse t) → p < t → Comes (on p (stack ++ plain.truth false ∷ []) slots) (on t stack slots)
+  false_comes p t stack slots h lt = branch_comes p t t stack slots false h lt refl
+
+  reaches_jump : (x : State) (n q : ℕ) (stack slots : List Val) (a : Answer) → At code n (Jump q) → n < q → Reaches x n stack slots a → Reaches x q stack slots a
+  reaches_jump x n q stack slots (gives v) h lt r =
+      comes_on x (on n (stack ++ v ∷ []) slots) _ r (jump_comes n q (stack ++ v ∷ []) slots h lt)
+  reaches_jump x n q stack slots (faults f) h lt r = r
+  reaches_jump x n q stack slots nothing h lt r = tt
+
+  -- a choice between two answers
+  module _ (This Other : Stretch) (p q : ℕ) (stack slots : List Val) (this other : Answer) (first : (m n : ℕ) → This m n → Reaches (on m stack slots) n stack slots this) (second : (m n : ℕ) → Other m n → Reaches (on m stack slots) n stack slots other) (this_on : (m n : ℕ) → This m n → m ≤ n) (other_on : (m n : ℕ) → Other m n → m ≤ n) (h : Chooses code This Other p q) where
+    chooses_reaches : (v : Val) → Reaches (on p (stack ++ v ∷ []) slots) q stack slots (Meaning.decided v this other)
+    chooses_reaches (plain.truth true) =
+        let on_to = other_on (h.0 + 1) q h.4 in
+        reaches_jump _ h.0 q stack slots this h.3 (omega arith)
+        (after_comes _ (on (p + 1) stack slots) h.0 stack slots this (true_comes p (h.0 + 1) stack slots h.1) (first (p + 1) h.0 h.2))
+    chooses_reaches (plain.truth false) =
+        let on_to = this_on (p + 1) h.0 h.2 in
+        after_comes _ (on (h.0 + 1) stack slots) q stack slots other (false_comes p (h.0 + 1) stack slots h.1 (omega arith)) (second (h.0 + 1) q h.4)
+    chooses_reaches (plain.num z) = tt
+    chooses_reaches (plain.name ty n) = tt
+    chooses_reaches (plain.tuple ty vs) = tt
+    chooses_reaches (plain.items ty vs) = tt
+
+  truth_reaches : (b : Bool) (stack slots : List Val) (m n : ℕ) → PushesTruth code b m n → Reaches (on m stack slots) n stack slots (gives (plain.truth b))
+  truth_reaches b stack slots m n h =
+      subst (λ k. Comes (on m stack slots) (on k (stack ++ plain.truth b ∷ []) slots)) (sym h.1) (push_comes m stack slots (plain.truth b) h.0)
+
+  truth_on : (b : Bool) (m n : ℕ) → PushesTruth code b m n → m ≤ n
+  truth_on b m n h = omega (arith, h.1)
+
   -- what a name stands for is where its code finds it
   abbrev pub Agrees : Env → List Val → Type 0
   Agrees env slots = (x : Name) → env x ≡ at (origin s x) slots s.arguments args
@@ -121,21 +168,41 @@ module _ (code : Listing) (s : Scope) (args : List Val) where
         (moves p (stack ++ operands) slots (Apply op) _ h (on_top-append (arity code.types op) stack operands stuck (λ below top. answered (operate code.types op top) (on p (stack ++ operands) slots) below) takes)) in
         subst (λ t. Reaches (on p (stack ++ operands) slots) (p + 1) stack slots (operate t op operands)) same_types here
 
-    pub expr_runs : (e : Expr) (p q : ℕ) (stack slots : List Val) (env : Env) → Agrees env slots → HasExpr code s e p q → Reaches (on p stack slots) q stack slots (val types e env)
-    expr_runs (number n) p q stack slots env c h =
+    module _ (Second : Stretch) (p q : ℕ) (stack slots : List Val) (x : Val) (answer : Answer) (a b ty : ℕ) (second : (m n : ℕ) (under : List Val) → Second m n → Reaches (on m under slots) n under slots answer) (second_on : (m n : ℕ) → Second m n → m ≤ n) where
+      combines_reaches : (o : Infix) → infix_type types o (a ∷ b ∷ []) ≡ Some ty → Combines code o Second p q → Reaches (on p (stack ++ x ∷ []) slots) q stack slots (combined types o x answer)
+      combines_reaches (Operator o) t h =
+          let go : Val → Answer = λ y. operate types o (x ∷ y ∷ []) in
+          subst (λ k. Reaches (on p (stack ++ x ∷ []) slots) k stack slots (then_value answer go)) (sym h.3)
+          (then_reaches (on p (stack ++ x ∷ []) slots) h.0 (h.0 + 1) (stack ++ x ∷ []) stack slots answer go (second p h.0 (stack ++ x ∷ []) h.1)
+          (λ y. subst (λ l. Reaches (on h.0 l slots) (h.0 + 1) stack slots (go y)) (sym (append_assoc stack (x ∷ []) (y ∷ []))) (apply_reaches h.0 stack (x ∷ y ∷ []) slots o h.2 (sym (takes_two types o a b ty t)))))
+      combines_reaches And t h =
+          chooses_reaches Second (PushesTruth code false) p q stack slots answer (gives (plain.truth false)) (λ m n k. second m n stack k) (truth_reaches false stack slots) second_on (truth_on false) h x
+      combines_reaches Or t h =
+          chooses_reaches (PushesTruth code true) Second p q stack slots (gives (plain.truth true)) answer (truth_reaches true stack slots) (λ m n k. second m n stack k) (truth_on true) second_on h x
+      combines_reaches Implies t h =
+          chooses_reaches Second (PushesTruth code true) p q stack slots answer (gives (plain.truth true)) (λ m n k. second m n stack k) (truth_reaches true stack slots) second_on (truth_on true) h x
+
+    expr_on : (e : Expr) (m n : ℕ) → HasExpr code s e m n → m ≤ n
+    expr_on e m n h = omega (arith, expr_long code s e m n h)
+
+    pub expr_runs : (c : Context) (e : Expr) (ty p q : ℕ) (stack slots : List Val) (env : Env) → type_of types c e ≡ Some ty → Agrees env slots → HasExpr code s e p q → Reaches (on p stack slots) q stack slots (val types e env)
+    expr_runs c (number n) ty p q stack slots env t g h =
         subst (λ k. Comes (on p stack slots) (on k (stack ++ plain.num (pos n) ∷ []) slots)) (sym h.1) (push_comes p stack slots (plain.num (pos n)) h.0)
-    expr_runs (truth b) p q stack slots env c h =
-        subst (λ k. Comes (on p stack slots) (on k (stack ++ plain.truth b ∷ []) slots)) (sym h.1) (push_comes p stack slots (plain.truth b) h.0)
-    expr_runs (named x) p q stack slots env c h =
-        subst (λ k. Reaches (on p stack slots) k stack slots (value_of (env x))) (sym h.1) (brings_reaches p stack slots (env x) (origin s x) (c x) h.0)
-    expr_runs (parens e) p q stack slots env c h = expr_runs e p q stack slots env c h
-    expr_runs (binary l o r) p q stack slots env c h =
-        let go : Val → Val → Answer = λ x y. operate types o (x ∷ y ∷ []) in
-        let second = λ (x : Val). then_reaches (on h.0 (stack ++ x ∷ []) slots) h.1 (h.1 + 1) (stack ++ x ∷ []) stack slots (val types r env) (go x) (expr_runs r h.0 h.1 (stack ++ x ∷ []) slots env c h.3)
-        (λ y. subst (λ l. Reaches (on h.1 l slots) (h.1 + 1) stack slots (go x y)) (sym (append_assoc stack (x ∷ []) (y ∷ []))) (apply_reaches h.1 stack (x ∷ y ∷ []) slots o h.4 (sym (takes_two types o)))) in
-        let both : Val → Answer = λ x. then_value (val types r env) (go x) in
-        let here = then_reaches (on p stack slots) h.0 (h.1 + 1) stack stack slots (val types l env) both (expr_runs l p h.0 stack slots env c h.2) second in
-        subst (λ k. Reaches (on p stack slots) k stack slots (then_value (val types l env) both)) (sym h.5) here
+    expr_runs c (truth b) ty p q stack slots env t g h = truth_reaches b stack slots p q h
+    expr_runs c (named x) ty p q stack slots env t g h =
+        subst (λ k. Reaches (on p stack slots) k stack slots (value_of (env x))) (sym h.1) (brings_reaches p stack slots (env x) (origin s x) (g x) h.0)
+    expr_runs c (parens e) ty p q stack slots env t g h = expr_runs c e ty p q stack slots env t g h
+    expr_runs c (prefix o e) ty p q stack slots env t g h =
+        let operand = type_of_one (type_of types c e) (op_type types o) ty t in
+        let go : Val → Answer = λ x. operate types o (x ∷ []) in
+        subst (λ k. Reaches (on p stack slots) k stack slots (then_value (val types e env) go)) (sym h.3)
+        (then_reaches (on p stack slots) h.0 (h.0 + 1) stack stack slots (val types e env) go (expr_runs c e operand.0 p h.0 stack slots env operand.1 g h.1)
+        (λ x. apply_reaches h.0 stack (x ∷ []) slots o h.2 (sym (takes_one types o operand.0 ty operand.2))))
+    expr_runs c (binary l o r) ty p q stack slots env t g h =
+        let both = types_of_both (type_of types c l) (type_of types c r) (infix_type types o) ty t in
+        let go : Val → Answer = λ x. combined types o x (val types r env) in
+        then_reaches (on p stack slots) h.0 q stack stack slots (val types l env) go (expr_runs c l both.0 p h.0 stack slots env both.2 g h.1)
+        (λ x. combines_reaches (HasExpr code s r) h.0 q stack slots x (val types r env) both.0 both.1 ty (λ m n under k. expr_runs c r both.1 m n under slots env both.3 g k) (expr_on r) o both.4 h.2)
 
   -- ---- statements, where the code is typed
 
@@ -193,7 +260,7 @@ module _ (code : Listing) (s : Scope) (args : List Val) where
     store_comes : (m i : ℕ) (slots : List Val) (w was : Val) → At code m (Store i) → slice_get slots i ≡ Some was → (own was == own w) ≡ true → Comes (on m (w ∷ []) slots) (on (m + 1) [] (slice_set slots i w))
     store_comes m i slots w was h here-is alike =
         let here = on m (w ∷ []) slots in
-        step _ _ refl (moves m (w ∷ []) slots (Store i) _ h
+        step _ _ (omega arith) (moves m (w ∷ []) slots (Store i) _ h
         (on_top-append 1 [] (w ∷ []) stuck (λ below top. stored i here below top) refl
         ∙ ap (replaced i here [] w) here-is
         ∙ ap (λ b. cond b (next here [] (slice_set slots i w)) stuck) alike))
@@ -223,8 +290,8 @@ module _ (code : Listing) (s : Scope) (args : List Val) where
     assigns m i ty slots x env start (faults f) old was h k place t now kept e typed r = r
     assigns m i ty slots x env start nothing old was h k place t now kept e typed r = absurd typed
 
-    stmt_runs : (u : Stmt) (p q : ℕ) (env : Env) (slots : List Val) → Holds env slots → StmtTyped types c v u → HasStmt code s u p q → RunsTo (on p [] slots) q (does types u env)
-    stmt_runs (assign x e) p q env slots h t k =
+    assign_runs : (x : Name) (e : Expr) (p q : ℕ) (env : Env) (slots : List Val) → Holds env slots → StmtTyped types c v (assign x e) → HasStmt code s (assign x e) p q → RunsTo (on p [] slots) q (does types (assign x e) env)
+    assign_runs x e p q env slots h t k =
         let ty = t.0 in
         let m = k.0 in
         let i = k.1 in
@@ -232,12 +299,58 @@ module _ (code : Listing) (s : Scope) (args : List Val) where
         let now = HaveTypes-get types slots vs i ty h.typed slot_ty in
         let old : env x ≡ Some now.0 = agree env slots h x ∙ ap (λ o. at o slots s.arguments args) (variable_origin x i k.4) ∙ now.1 in
         let typed = val_typed types known.declared c env e ty (suits env slots h) t.2 in
-        let run = expr_runs types known.same_types e p m [] slots env (agree env slots h) k.2 in
+        let run = expr_runs types known.same_types c e ty p m [] slots env t.2 (agree env slots h) k.2 in
         subst (λ n. RunsTo (on p [] slots) n (assigned x env (val types e env) (env x))) (sym k.5)
         (assigns m i ty slots x env (on p [] slots) (val types e env) (env x) now.0 h k.3 k.4 slot_ty now.1 now.2 old typed run)
 
-    pub stmts_run : (us : List Stmt) (p q : ℕ) (env : Env) (slots : List Val) → Holds env slots → StmtsTyped types c v us → HasStmts code s us p q → RunsTo (on p [] slots) q (eff types us env)
-    stmts_run [] p q env slots h t k =
-        (slots, h, subst (λ n. Comes (on p [] slots) (on n [] slots)) (sym k) (stays (on p [] slots)))
-    stmts_run (u ∷ us) p q env slots h t k =
-        then_runs (on p [] slots) k.0 q (does types u env) (eff types us) (stmt_runs u p k.0 env slots h t.0 k.1) (λ env2 slots2 h2. stmts_run us k.0 q env2 slots2 h2 t.1 k.2)
+    runs_jump : (x : State) (n q : ℕ) (o : Outcome) → At code n (Jump q) → n < q → RunsTo x n o → RunsTo x q o
+    runs_jump x n q (becomes env) h lt r = (r.0, r.1, comes_on x _ _ r.2 (jump_comes n q [] r.0 h lt))
+    runs_jump x n q (breaks f) h lt r = r
+    runs_jump x n q nowhere h lt r = absurd r
+
+    -- a choice between two outcomes
+    module _ (This Other : Stretch) (x : State) (p q : ℕ) (slots : List Val) (this other : Outcome) (first : (m n : ℕ) → This m n → RunsTo (on m [] slots) n this) (second : (m n : ℕ) → Other m n → RunsTo (on m [] slots) n other) (this_on : (m n : ℕ) → This m n → m ≤ n) (other_on : (m n : ℕ) → Other m n → m ≤ n) (h : Chooses code This Other p q) where
+      by_truth : (b : Bool) → RunsTo (on p (plain.truth b ∷ []) slots) q (chosen (gives (plain.truth b)) this other)
+      by_truth true =
+          let on_to = other_on (h.0 + 1) q h.4 in
+          runs_jump _ h.0 q this h.3 (omega arith)
+          (after_runs _ (on (p + 1) [] slots) h.0 this (true_comes p (h.0 + 1) [] slots h.1) (first (p + 1) h.0 h.2))
+      by_truth false =
+          let on_to = this_on (p + 1) h.0 h.2 in
+          after_runs _ (on (h.0 + 1) [] slots) q other (false_comes p (h.0 + 1) [] slots h.1 (omega arith)) (second (h.0 + 1) q h.4)
+
+      chosen_runs : (a : Answer) → IsTypedAnswer types 0 a → Reaches x p [] slots a → RunsTo x q (chosen a this other)
+      chosen_runs (gives w) typed r =
+          let b = is_truth types known.declared w typed in
+          after_runs x (on p (w ∷ []) slots) q (chosen (gives w) this other) r
+          (subst (λ z. RunsTo (on p (z ∷ []) slots) q (chosen (gives z) this other)) (sym b.1) (by_truth b.0))
+      chosen_runs (faults f) typed r = r
+      chosen_runs nothing typed r = absurd typed
+
+    stmts_on : (us : Stmts) (m n : ℕ) → HasStmts code s us m n → m ≤ n
+    stmts_on us m n k = omega (arith, stmts_long code s us m n k)
+
+    mutual
+      stmt_runs : (u : Stmt) (p q : ℕ) (env : Env) (slots : List Val) → Holds env slots → StmtTyped types c v u → HasStmt code s u p q → RunsTo (on p [] slots) q (does types u env)
+      stmt_runs (assign x e) p q env slots h t k = assign_runs x e p q env slots h t k
+      stmt_runs (choose arms others) p q env slots h t k =
+          arms_run arms others p q env slots h t.0 (λ m n l. stmts_run others m n env slots h t.1 l) k
+
+      pub stmts_run : (us : Stmts) (p q : ℕ) (env : Env) (slots : List Val) → Holds env slots → StmtsTyped types c v us → HasStmts code s us p q → RunsTo (on p [] slots) q (eff types us env)
+      stmts_run stop p q env slots h t k =
+          (slots, h, subst (λ n. Comes (on p [] slots) (on n [] slots)) (sym k) (stays (on p [] slots)))
+      stmts_run (seq u us) p q env slots h t k =
+          then_runs (on p [] slots) k.0 q (does types u env) (eff types us) (stmt_runs u p k.0 env slots h t.0 k.1) (λ env2 slots2 h2. stmts_run us k.0 q env2 slots2 h2 t.1 k.2)
+
+      arms_run : (arms : Arms) (others : Stmts) (p q : ℕ) (env : Env) (slots : List Val) → Holds env slots → ArmsTyped types c v arms → ((m n : ℕ) → HasStmts code s others m n → RunsTo (on m [] slots) n (eff types others env)) → HasArms code s arms (HasStmts code s others) p q → RunsTo (on p [] slots) q (picks types arms env (eff types others env))
+      arms_run no_arm others p q env slots h t f k = f p q k
+      arms_run (arm e us more) others p q env slots h t f k =
+          chosen_runs (HasStmts code s us) (HasArms code s more (HasStmts code s others)) (on p [] slots) k.0 q slots (eff types us env) (picks types more env (eff types others env))
+          (λ m n l. stmts_run us m n env slots h t.1 l)
+          (λ m n l. arms_run more others m n env slots h t.2 f l)
+          (stmts_on us)
+          (λ m n l. omega (arith, arms_long code s more others (stmts_long code s others) m n l))
+          k.2
+          (val types e env)
+          (val_typed types known.declared c env e 0 (suits env slots h) t.0)
+          (expr_runs types known.same_types c e 0 p k.0 [] slots env t.0 (agree env slots h) k.1)

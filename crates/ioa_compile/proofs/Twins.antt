@@ -1,5 +1,5 @@
 -- An action has the same entry, and so the same kind, in the table as in the automaton.
-use Rattle.std.proofs.Common.{All, ◌≡◌, ℕ, zero, suc, ◌<◌, ◌≤◌, ◌⊎◌, inl, inr, Bool, true, false, cond, ◌&&◌, List, [], ◌∷◌, length, map, get_or, Option, Some, None, IfSome, refl, sym, ap, ◌∙◌, subst, arith}
+use Rattle.std.proofs.Common.{All, ◌≡◌, ℕ, zero, suc, ◌*◌, ◌<◌, ◌≤◌, ◌⊎◌, inl, inr, Bool, true, false, cond, ◌&&◌, List, [], ◌∷◌, length, map, get_or, Option, Some, None, IfSome, refl, sym, ap, ◌∙◌, subst, arith}
 use Rattle.std.specs.Prelude.{slice_get}
 use Rattle.std.specs.List.{AllZip, find, list_any, list_all}
 use Rattle.std.specs.Option.{option_map, option_map_or}
@@ -96,7 +96,7 @@ all_item P xs i x h e = subst P (get_or_from_slice_get xs i x x e) (All-get_or P
 
 -- the table's parts are for the component's variables, and short, since the trees are small
 module _ (m : Member) (c : MemberCode) (fine : IsFine component_limits m) (same_types : c.start.table ≡ m.instance.types) where
-  part_of : (e : EntryCode) (k : PartKind) (end : List ℕ) (p : Part) → IsFor p m.instance.types k end c.start.types (position_types e.positions) → length p.code.instrs ≤ component_limits.nodes → IsPartOf c e k end p
+  part_of : (e : EntryCode) (k : PartKind) (end : List ℕ) (p : Part) → IsFor p m.instance.types k end c.start.types (position_types e.positions) → length p.code.instrs ≤ 4 * component_limits.nodes → IsPartOf c e k end p
   part_of e k end p h short = record {
     verified = h.verified;
     types = h.types_are ∙ sym same_types;

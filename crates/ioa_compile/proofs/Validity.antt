@@ -5,7 +5,7 @@ use Rattle.std.specs.Option.{option_map}
 use Rattle.std.proofs.lemmas.Bool.Decides.{nat_tests}
 use Rattle.std.proofs.lemmas.Option.{slice_get-map}
 use Rattle.ioa_value.specs.declared.operator.Op.{Op}
-use Rattle.ioa_value.specs.declared.operator.Op.TheVariants.{Add, Sub, Eq}
+use Rattle.ioa_value.specs.declared.operator.Op.TheVariants.{Neg, Add, Sub, Mul, Div, Mod, Lt, Le, Gt, Ge, Not, Eq, Ne}
 use Rattle.ioa_value.specs.Actions.{Name}
 use Rattle.ioa_value.specs.Arithmetic.{fits}
 use Rattle.ioa_value.specs.Operators.{op_type, arity}
@@ -20,22 +20,50 @@ use Rattle.ioa_code.specs.declared.instr.PartKind.TheVariants.{Pre, Eff}
 use Rattle.ioa_code.specs.Machine.{Listing}
 use Rattle.ioa_code.specs.Valid.{Part, Valid, after, way, reads_arguments, writes_slots}
 use Rattle.ioa_code.proofs.Lists.{on_top-append}
-use Rattle.ioa_syntax.specs.Tree.{Expr, number, truth, named, parens, binary, Stmt, assign, EntryTree}
+use Rattle.ioa_syntax.specs.declared.tree.Infix.{Infix}
+use Rattle.ioa_syntax.specs.declared.tree.Infix.TheVariants.{Operator, And, Or, Implies}
+use Rattle.ioa_syntax.specs.Tree.{Expr, number, truth, named, parens, prefix, binary, Stmt, assign, choose, Stmts, stop, seq, Arms, no_arm, arm, EntryTree}
 use Rattle.ioa_syntax.specs.Compositions.{Member}
-use Rattle.ioa_syntax.specs.WellFormed.{Context, type_in, type_of, scope, context_of, variable_fields}
-use Rattle.ioa_syntax.proofs.ValTyped.{types_of_both}
+use Rattle.ioa_syntax.specs.WellFormed.{Context, type_in, type_of, of_truths, infix_type, scope, context_of, variable_fields}
+use Rattle.ioa_syntax.proofs.ValTyped.{type_of_one, types_of_both, are_truths}
 use Rattle.ioa_compile.specs.Scopes.{Scope, scope_of, Origin, slot, formal, parameter, unknown, origin}
-use Rattle.ioa_compile.specs.Placed.{Pushes, Brings, HasExpr, HasGuard, HasStmt, HasStmts}
+use Rattle.ioa_compile.specs.Placed.{Stretch, At, Pushes, PushesTruth, Brings, Chooses, Combines, HasExpr, HasGuard, HasStmt, HasStmts, HasArms}
 use Rattle.ioa_compile.specs.Translated.{IsGuard, IsEffect}
 use Rattle.ioa_compile.proofs.Looks.{at}
-use Rattle.ioa_compile.proofs.Fine.{Setting, type_at, variable_at, GuardTyped, StmtTyped, StmtsTyped}
-use Rattle.ioa_compile.proofs.Blocks.{Block, none, one, join, valid}
+use Rattle.ioa_compile.proofs.Fine.{Setting, type_at, variable_at, GuardTyped, StmtTyped, StmtsTyped, ArmsTyped}
+use Rattle.ioa_compile.proofs.Blocks.{Block, none, one, join, fork, valid}
 
--- an operator between two expressions takes two operands
-pub takes_two : (types : Table) (o : Op) → arity types o ≡ 2
-takes_two types Add = refl
-takes_two types Sub = refl
-takes_two types Eq = refl
+-- an operator that has a type for one operand takes one
+pub takes_one : (types : Table) (o : Op) (a ty : ℕ) → op_type types o (a ∷ []) ≡ Some ty → arity types o ≡ 1
+takes_one types Neg a ty h = refl
+takes_one types Add a ty h = absurd (cc)
+takes_one types Sub a ty h = absurd (cc)
+takes_one types Mul a ty h = absurd (cc)
+takes_one types Div a ty h = absurd (cc)
+takes_one types Mod a ty h = absurd (cc)
+takes_one types Lt a ty h = absurd (cc)
+takes_one types Le a ty h = absurd (cc)
+takes_one types Gt a ty h = absurd (cc)
+takes_one types Ge a ty h = absurd (cc)
+takes_one types Not a ty h = refl
+takes_one types Eq a ty h = absurd (cc)
+takes_one types Ne a ty h = absurd (cc)
+
+-- so for two
+pub takes_two : (types : Table) (o : Op) (a b ty : ℕ) → op_type types o (a ∷ b ∷ []) ≡ Some ty → arity types o ≡ 2
+takes_two types Neg a b ty h = absurd (cc)
+takes_two types Add a b ty h = refl
+takes_two types Sub a b ty h = refl
+takes_two types Mul a b ty h = refl
+takes_two types Div a b ty h = refl
+takes_two types Mod a b ty h = refl
+takes_two types Lt a b ty h = refl
+takes_two types Le a b ty h = refl
+takes_two types Gt a b ty h = refl
+takes_two types Ge a b ty h = refl
+takes_two types Not a b ty h = absurd (cc)
+takes_two types Eq a b ty h = refl
+takes_two types Ne a b ty h = refl
 
 -- the types of what names stand for, in a part for variables vs and values ps
 pub record Reads (part : Part) (s : Scope) (c : Context) (vs fs ps : List ℕ) : Type 0 where
@@ -75,9 +103,42 @@ module _ (part : Part) (s : Scope) (c : Context) (vs fs ps : List ℕ) (h : Read
   number_is n ty true t = cc
   number_is n ty false t = absurd (cc)
 
-  -- an operator on the two types on top
-  applied : (p : ℕ) (o : Op) (a b ty : ℕ) (ts : List ℕ) → length (a ∷ b ∷ []) ≡ arity part.code.types o → op_type part.code.types o (a ∷ b ∷ []) ≡ Some ty → after part p (Apply o) (ts ++ (a ∷ b ∷ [])) ≡ Ok (way (p + 1) (ts ++ ty ∷ []) ∷ [])
-  applied p o a b ty ts two gives = rw (on_top-append (arity part.code.types o) ts (a ∷ b ∷ []) _ _ two) (rw gives refl)
+  -- an operator on the types on top
+  applied : (p : ℕ) (o : Op) (operands : List ℕ) (ty : ℕ) (ts : List ℕ) → arity part.code.types o ≡ length operands → op_type part.code.types o operands ≡ Some ty → after part p (Apply o) (ts ++ operands) ≡ Ok (way (p + 1) (ts ++ ty ∷ []) ∷ [])
+  applied p o operands ty ts takes gives = rw (on_top-append (arity part.code.types o) ts operands _ _ (sym takes)) (rw gives refl)
+
+  apply_block : (p : ℕ) (o : Op) (operands : List ℕ) (ty : ℕ) (ts : List ℕ) → arity part.code.types o ≡ length operands → op_type part.code.types o operands ≡ Some ty → At part.code p (Apply o) → Block part p (p + 1) (ts ++ operands) (ts ++ ty ∷ [])
+  apply_block p o operands ty ts takes gives k =
+      one part p (Apply o) (ts ++ operands) (ts ++ ty ∷ []) k (applied p o operands ty ts takes gives)
+
+  truth_block : (b : Bool) (p q : ℕ) (ts : List ℕ) → PushesTruth part.code b p q → Block part p q ts (ts ++ 0 ∷ [])
+  truth_block b p q ts k = at_end p q (p + 1) ts _ k.1 (push_block p (plain.truth b) 0 ts refl k.0)
+
+  chooses_block : (This Other : Stretch) (p q : ℕ) (ts us : List ℕ) → ((m n : ℕ) → This m n → Block part m n ts us) → ((m n : ℕ) → Other m n → Block part m n ts us) → Chooses part.code This Other p q → Block part p q (ts ++ 0 ∷ []) us
+  chooses_block This Other p q ts us f g k =
+      fork part p k.0 q ts us k.1 (f (p + 1) k.0 k.2) k.3 (g (k.0 + 1) q k.4)
+
+  -- an operator on truth values brings one
+  truths_block : (p q a b ty : ℕ) (ts : List ℕ) → of_truths (a ∷ b ∷ []) ≡ Some ty → Block part p q (ts ++ 0 ∷ []) (ts ++ 0 ∷ []) → Block part p q (ts ++ a ∷ []) (ts ++ ty ∷ [])
+  truths_block p q a b ty ts t k =
+      let zero = are_truths a b ty t in
+      subst (λ x. Block part p q (ts ++ x ∷ []) (ts ++ ty ∷ [])) (sym zero.0) (subst (λ x. Block part p q (ts ++ 0 ∷ []) (ts ++ x ∷ [])) (sym zero.2) k)
+
+  module _ (Second : Stretch) (a b ty p q : ℕ) (ts : List ℕ) (second : (m n : ℕ) (us : List ℕ) → Second m n → Block part m n us (us ++ b ∷ [])) where
+    second_truth : of_truths (a ∷ b ∷ []) ≡ Some ty → (m n : ℕ) → Second m n → Block part m n ts (ts ++ 0 ∷ [])
+    second_truth t m n h = subst (λ x. Block part m n ts (ts ++ x ∷ [])) (are_truths a b ty t).1 (second m n ts h)
+
+    combines_block : (o : Infix) → infix_type part.code.types o (a ∷ b ∷ []) ≡ Some ty → Combines part.code o Second p q → Block part p q (ts ++ a ∷ []) (ts ++ ty ∷ [])
+    combines_block (Operator o) t k =
+        let top : (ts ++ a ∷ []) ++ b ∷ [] ≡ ts ++ (a ∷ b ∷ []) = append_assoc ts (a ∷ []) (b ∷ []) in
+        let last = apply_block k.0 o (a ∷ b ∷ []) ty ts (takes_two part.code.types o a b ty t) t k.2 in
+        at_end p q (k.0 + 1) (ts ++ a ∷ []) _ k.3 (join part p k.0 (k.0 + 1) _ _ _ (second p k.0 (ts ++ a ∷ []) k.1) (subst (λ l. Block part k.0 (k.0 + 1) l (ts ++ ty ∷ [])) (sym top) last))
+    combines_block And t k =
+        truths_block p q a b ty ts t (chooses_block Second (PushesTruth part.code false) p q ts _ (second_truth t) (λ m n h. truth_block false m n ts h) k)
+    combines_block Or t k =
+        truths_block p q a b ty ts t (chooses_block (PushesTruth part.code true) Second p q ts _ (λ m n h. truth_block true m n ts h) (second_truth t) k)
+    combines_block Implies t k =
+        truths_block p q a b ty ts t (chooses_block Second (PushesTruth part.code true) p q ts _ (second_truth t) (λ m n h. truth_block true m n ts h) k)
 
   pub expr_block : (x : Expr) (ty p q : ℕ) (ts : List ℕ) → type_of part.code.types c x ≡ Some ty → HasExpr part.code s x p q → Block part p q ts (ts ++ ty ∷ [])
   expr_block (number n) ty p q ts t k =
@@ -88,37 +149,44 @@ module _ (part : Part) (s : Scope) (c : Context) (vs fs ps : List ℕ) (h : Read
   expr_block (named x) ty p q ts t k =
       at_end p q (p + 1) ts _ k.1 (brings_block p (origin s x) ty ts (sym (h.names x) ∙ t) k.0)
   expr_block (parens y) ty p q ts t k = expr_block y ty p q ts t k
+  expr_block (prefix o y) ty p q ts t k =
+      let operand = type_of_one (type_of part.code.types c y) (op_type part.code.types o) ty t in
+      let last = apply_block k.0 o (operand.0 ∷ []) ty ts (takes_one part.code.types o operand.0 ty operand.2) operand.2 k.2 in
+      at_end p q (k.0 + 1) ts _ k.3 (join part p k.0 (k.0 + 1) ts _ _ (expr_block y operand.0 p k.0 ts operand.1 k.1) last)
   expr_block (binary l o r) ty p q ts t k =
-      let both = types_of_both (type_of part.code.types c l) (type_of part.code.types c r) (op_type part.code.types o) ty t in
+      let both = types_of_both (type_of part.code.types c l) (type_of part.code.types c r) (infix_type part.code.types o) ty t in
       let a = both.0 in
       let b = both.1 in
-      let first = expr_block l a p k.0 ts both.2 k.2 in
-      let second = expr_block r b k.0 k.1 (ts ++ a ∷ []) both.3 k.3 in
-      let top : (ts ++ a ∷ []) ++ b ∷ [] ≡ ts ++ (a ∷ b ∷ []) = append_assoc ts (a ∷ []) (b ∷ []) in
-      let two : length (a ∷ b ∷ []) ≡ arity part.code.types o = sym (takes_two part.code.types o) in
-      let gives : after part k.1 (Apply o) ((ts ++ a ∷ []) ++ b ∷ []) ≡ Ok (way (k.1 + 1) (ts ++ ty ∷ []) ∷ []) =
-      ap (after part k.1 (Apply o)) top ∙ applied k.1 o a b ty ts two both.4 in
-      at_end p q (k.1 + 1) ts _ k.5 (join part p k.1 (k.1 + 1) ts _ _ (join part p k.0 k.1 ts _ _ first second) (one part k.1 (Apply o) ((ts ++ a ∷ []) ++ b ∷ []) (ts ++ ty ∷ []) k.4 gives))
+      join part p k.0 q ts (ts ++ a ∷ []) _ (expr_block l a p k.0 ts both.2 k.1) (combines_block (HasExpr part.code s r) a b ty k.0 q ts (λ m n us h. expr_block r b m n us both.3 h) o both.4 k.2)
 
   pub guard_block : (g : Option Expr) (p q : ℕ) → GuardTyped part.code.types c g → HasGuard part.code s g p q → Block part p q [] (0 ∷ [])
-  guard_block None p q t k = at_end p q (p + 1) [] _ k.1 (push_block p (plain.truth true) 0 [] refl k.0)
+  guard_block None p q t k = truth_block true p q [] k
   guard_block (Some x) p q t k = expr_block x 0 p q [] t k
 
   module _ (v : Context) (writes : writes_slots part.kind ≡ true) (found : (x : Name) (ty i : ℕ) → type_in v x ≡ Some ty → place_from 0 s.variables x ≡ Some i → slice_get vs i ≡ Some ty) where
-    stmt_block : (t : Stmt) (p q : ℕ) → StmtTyped part.code.types c v t → HasStmt part.code s t p q → Block part p q [] []
-    stmt_block (assign x e) p q t k =
-        let ty = t.0 in
-        let m = k.0 in
-        let i = k.1 in
-        let slot_ty : slice_get part.slots i ≡ Some ty = ap (λ l. slice_get l i) h.slots ∙ found x ty i t.1 k.4 in
-        let same : (ty == ty) ≡ true = grind (arith, nat_tests) in
-        let finds : after part m (Store i) (ty ∷ []) ≡ Ok (way (m + 1) [] ∷ []) = rw slot_ty (rw writes (rw same refl)) in
-        at_end p q (m + 1) [] [] k.5 (join part p m (m + 1) [] _ [] (expr_block e ty p m [] t.2 k.2) (one part m (Store i) (ty ∷ []) [] k.3 finds))
+    mutual
+      stmt_block : (t : Stmt) (p q : ℕ) → StmtTyped part.code.types c v t → HasStmt part.code s t p q → Block part p q [] []
+      stmt_block (assign x e) p q t k =
+          let ty = t.0 in
+          let m = k.0 in
+          let i = k.1 in
+          let slot_ty : slice_get part.slots i ≡ Some ty = ap (λ l. slice_get l i) h.slots ∙ found x ty i t.1 k.4 in
+          let same : (ty == ty) ≡ true = grind (arith, nat_tests) in
+          let finds : after part m (Store i) (ty ∷ []) ≡ Ok (way (m + 1) [] ∷ []) = rw slot_ty (rw writes (rw same refl)) in
+          at_end p q (m + 1) [] [] k.5 (join part p m (m + 1) [] _ [] (expr_block e ty p m [] t.2 k.2) (one part m (Store i) (ty ∷ []) [] k.3 finds))
+      stmt_block (choose arms others) p q t k =
+          arms_block arms others (λ m n l. stmts_block others m n t.1 l) p q t.0 k
 
-    pub stmts_block : (ss : List Stmt) (p q : ℕ) → StmtsTyped part.code.types c v ss → HasStmts part.code s ss p q → Block part p q [] []
-    stmts_block [] p q t k = at_end p q p [] [] k (none part p [])
-    stmts_block (u ∷ us) p q t k =
-        join part p k.0 q [] [] [] (stmt_block u p k.0 t.0 k.1) (stmts_block us k.0 q t.1 k.2)
+      pub stmts_block : (ss : Stmts) (p q : ℕ) → StmtsTyped part.code.types c v ss → HasStmts part.code s ss p q → Block part p q [] []
+      stmts_block stop p q t k = at_end p q p [] [] k (none part p [])
+      stmts_block (seq u us) p q t k =
+          join part p k.0 q [] [] [] (stmt_block u p k.0 t.0 k.1) (stmts_block us k.0 q t.1 k.2)
+
+      arms_block : (arms : Arms) (others : Stmts) → ((m n : ℕ) → HasStmts part.code s others m n → Block part m n [] []) → (p q : ℕ) → ArmsTyped part.code.types c v arms → HasArms part.code s arms (HasStmts part.code s others) p q → Block part p q [] []
+      arms_block no_arm others f p q t k = f p q k
+      arms_block (arm e ss more) others f p q t k =
+          join part p k.0 q [] (0 ∷ []) [] (expr_block e 0 p k.0 [] t.0 k.1)
+          (chooses_block (HasStmts part.code s ss) (HasArms part.code s more (HasStmts part.code s others)) k.0 q [] [] (λ m n l. stmts_block ss m n t.1 l) (λ m n l. arms_block more others f m n t.2 l) k.2)
 
 module _ (m : Member) (e : EntryTree) (vs ps : List ℕ) (h : Setting m e vs ps) (code : Listing) where
   pub found_slot : (x : Name) (ty i : ℕ) → type_in (context_of m.instance.types (variable_fields m.instance.automaton)) x ≡ Some ty → place_from 0 (scope_of m e).variables x ≡ Some i → slice_get vs i ≡ Some ty
@@ -138,7 +206,7 @@ module _ (m : Member) (e : EntryTree) (vs ps : List ℕ) (h : Setting m e vs ps)
         let c = scope m.instance.types h.globals m.instance.automaton e in
         valid part (guard_block part (scope_of m e) c vs h.types ps (reads Pre (0 ∷ []) refl) g 0 (length code.instrs) (subst (λ l. GuardTyped l c g) (sym over) t) k.has)
 
-    pub effect_valid : (ss : List Stmt) → StmtsTyped m.instance.types (scope m.instance.types h.globals m.instance.automaton e) (context_of m.instance.types (variable_fields m.instance.automaton)) ss → IsEffect code (scope_of m e) ss → Valid (record { code = code; kind = Eff; slots = vs; args = ps; result = [] })
+    pub effect_valid : (ss : Stmts) → StmtsTyped m.instance.types (scope m.instance.types h.globals m.instance.automaton e) (context_of m.instance.types (variable_fields m.instance.automaton)) ss → IsEffect code (scope_of m e) ss → Valid (record { code = code; kind = Eff; slots = vs; args = ps; result = [] })
     effect_valid ss t k =
         let part : Part = record { code = code; kind = Eff; slots = vs; args = ps; result = [] } in
         let c = scope m.instance.types h.globals m.instance.automaton e in

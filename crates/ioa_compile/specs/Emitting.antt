@@ -1,13 +1,14 @@
 -- What a step of the compiler adds to the code.
-use Rattle.std.specs.Prelude.{◌≡◌, ℕ, ◌+◌, ◌≤◌, List, length, map, sum, Option, Some, None, slice_get}
+use Rattle.std.specs.Prelude.{◌≡◌, ℕ, ◌+◌, ◌≤◌, Bool, true, List, length, Option, Some, None, slice_get}
 use Rattle.ioa_value.specs.Plain.{Val}
 use Rattle.ioa_value.specs.Typing.{OwnTypes}
 use Rattle.ioa_code.specs.declared.instr.Instr.{Instr}
 use Rattle.ioa_code.specs.Machine.{Listing}
-use Rattle.ioa_syntax.specs.Tree.{Expr, Stmt}
-use Rattle.ioa_syntax.specs.WellFormed.{nodes, stmt_nodes}
+use Rattle.ioa_syntax.specs.declared.tree.Infix.{Infix}
+use Rattle.ioa_syntax.specs.Tree.{Expr, Stmt, Stmts}
+use Rattle.ioa_syntax.specs.WellFormed.{nodes, stmt_nodes, stmts_nodes}
 use Rattle.ioa_compile.specs.Scopes.{Scope}
-use Rattle.ioa_compile.specs.Placed.{At, Pushes, HasExpr, HasGuard, HasStmt, HasStmts}
+use Rattle.ioa_compile.specs.Placed.{At, Pushes, PushesTruth, Chooses, Combines, HasExpr, HasGuard, HasStmt, HasStmts}
 
 -- what stands in the old code stands in the new one too
 pub record Keeps (old new : Listing) : Type 0 where
@@ -31,6 +32,18 @@ AddsConst old new v = Adds old new 1 (λ code p q. Pushes code p v × (q ≡ p +
 abbrev pub AddsExpr : Listing → Listing → Scope → Expr → Type 0
 AddsExpr old new s e = Adds old new (nodes e) (λ code p q. HasExpr code s e p q)
 
+-- an infix with its second operand
+abbrev pub AddsCombined : Listing → Listing → Scope → Infix → Expr → Type 0
+AddsCombined old new s o r = Adds old new (nodes r + 1) (λ code p q. Combines code o (HasExpr code s r) p q)
+
+-- the expression where a condition is true, and a truth value where it is false
+abbrev pub AddsTrueSide : Listing → Listing → Scope → Expr → Bool → Type 0
+AddsTrueSide old new s e b = Adds old new (nodes e + 1) (λ code p q. Chooses code (HasExpr code s e) (PushesTruth code b) p q)
+
+-- true where a condition is true, and the expression where it is false
+abbrev pub AddsFalseSide : Listing → Listing → Scope → Expr → Type 0
+AddsFalseSide old new s e = Adds old new (nodes e + 1) (λ code p q. Chooses code (PushesTruth code true) (HasExpr code s e) p q)
+
 abbrev pub guard_nodes : Option Expr → ℕ
 guard_nodes None = 1
 guard_nodes (Some e) = nodes e
@@ -41,8 +54,8 @@ AddsGuard old new s e = Adds old new (guard_nodes e) (λ code p q. HasGuard code
 abbrev pub AddsStmt : Listing → Listing → Scope → Stmt → Type 0
 AddsStmt old new s t = Adds old new (stmt_nodes t) (λ code p q. HasStmt code s t p q)
 
-abbrev pub AddsStmts : Listing → Listing → Scope → List Stmt → Type 0
-AddsStmts old new s ts = Adds old new (sum (map stmt_nodes ts)) (λ code p q. HasStmts code s ts p q)
+abbrev pub AddsStmts : Listing → Listing → Scope → Stmts → Type 0
+AddsStmts old new s ts = Adds old new (stmts_nodes ts) (λ code p q. HasStmts code s ts p q)
 
 -- the first constants are these
 abbrev pub IsGrown : List Val → List Val → Type 0

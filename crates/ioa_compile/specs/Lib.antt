@@ -8,5 +8,6 @@ pub mod Matching
 pub mod Means
 pub mod Scopes
 pub mod Placed
+pub mod Extents
 pub mod Emitting
 pub mod Translated

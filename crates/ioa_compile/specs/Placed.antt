@@ -1,11 +1,14 @@
 -- The code of a tree, as a relation between the tree and the places where its code stands.
-use Rattle.std.specs.Prelude.{◌≡◌, ℕ, ◌+◌, true, List, [], ◌∷◌, Option, Some, None, pos, slice_get}
+use Rattle.std.specs.Prelude.{◌≡◌, ℕ, ◌+◌, Bool, true, false, Option, Some, None, pos, slice_get}
+use Rattle.ioa_value.specs.declared.operator.Op.{Op}
 use Rattle.ioa_value.specs.Plain as plain
 use Rattle.ioa_value.specs.Plain.{Val}
 use Rattle.ioa_code.specs.declared.instr.Instr.{Instr}
-use Rattle.ioa_code.specs.declared.instr.Instr.TheVariants.{Const, Slot, Arg, Store, Apply}
+use Rattle.ioa_code.specs.declared.instr.Instr.TheVariants.{Const, Slot, Arg, Store, Jump, JumpIfFalse, Apply}
 use Rattle.ioa_code.specs.Machine.{Listing}
-use Rattle.ioa_syntax.specs.Tree.{Expr, number, truth, named, parens, binary, Stmt, assign}
+use Rattle.ioa_syntax.specs.declared.tree.Infix.{Infix}
+use Rattle.ioa_syntax.specs.declared.tree.Infix.TheVariants.{Operator, And, Or, Implies}
+use Rattle.ioa_syntax.specs.Tree.{Expr, number, truth, named, parens, prefix, binary, Stmt, assign, choose, Stmts, stop, seq, Arms, no_arm, arm}
 use Rattle.ioa_value.specs.Table.{place_from}
 use Rattle.ioa_compile.specs.Scopes.{Scope, Origin, slot, formal, parameter, unknown, origin}
 
@@ -24,25 +27,57 @@ Brings code s p (formal i) = (v : Val) × (slice_get s.arguments i ≡ Some v) �
 Brings code s p (parameter i) = At code p (Arg i)
 Brings code s p unknown = ⊥
 
+-- code from one place up to another
+abbrev pub Stretch : Type 1
+Stretch = ℕ → ℕ → Type 0
+
+-- one truth value is pushed
+abbrev pub PushesTruth : Listing → Bool → Stretch
+PushesTruth code b p q = Pushes code p (plain.truth b) × (q ≡ p + 1)
+
+-- an operator stands after its last operand
+abbrev pub Applies : Listing → Op → Stretch → Stretch
+Applies code o Operand p q = (n : ℕ) × Operand p n × At code n (Apply o) × (q ≡ n + 1)
+
+-- a truth value on the stack chooses: the one stretch where it is true, and then a jump over the other, to q; the other where it is
+-- false
+abbrev pub Chooses : Listing → Stretch → Stretch → Stretch
+Chooses code This Other p q =
+    (n : ℕ) × At code p (JumpIfFalse (n + 1)) × This (p + 1) n × At code n (Jump q) × Other (n + 1) q
+
+-- what stands after the first operand's code, where this is the second's
+abbrev pub Combines : Listing → Infix → Stretch → Stretch
+Combines code (Operator o) Second p q = Applies code o Second p q
+Combines code And Second p q = Chooses code Second (PushesTruth code false) p q
+Combines code Or Second p q = Chooses code (PushesTruth code true) Second p q
+Combines code Implies Second p q = Chooses code Second (PushesTruth code true) p q
+
 -- the expression's code stands from p up to q
-abbrev pub HasExpr : Listing → Scope → Expr → ℕ → ℕ → Type 0
+abbrev pub HasExpr : Listing → Scope → Expr → Stretch
 HasExpr code s (number n) p q = Pushes code p (plain.num (pos n)) × (q ≡ p + 1)
-HasExpr code s (truth b) p q = Pushes code p (plain.truth b) × (q ≡ p + 1)
+HasExpr code s (truth b) p q = PushesTruth code b p q
 HasExpr code s (named x) p q = Brings code s p (origin s x) × (q ≡ p + 1)
 HasExpr code s (parens e) p q = HasExpr code s e p q
-HasExpr code s (binary l o r) p q =
-    (m : ℕ) × (n : ℕ) × HasExpr code s l p m × HasExpr code s r m n × At code n (Apply o) × (q ≡ n + 1)
+HasExpr code s (prefix o e) p q = Applies code o (HasExpr code s e) p q
+HasExpr code s (binary l o r) p q = (m : ℕ) × HasExpr code s l p m × Combines code o (HasExpr code s r) m q
 
 -- an omitted precondition is the constant true
-abbrev pub HasGuard : Listing → Scope → Option Expr → ℕ → ℕ → Type 0
-HasGuard code s None p q = Pushes code p (plain.truth true) × (q ≡ p + 1)
+abbrev pub HasGuard : Listing → Scope → Option Expr → Stretch
+HasGuard code s None p q = PushesTruth code true p q
 HasGuard code s (Some e) p q = HasExpr code s e p q
 
--- the statement's code stands from p up to q
-abbrev pub HasStmt : Listing → Scope → Stmt → ℕ → ℕ → Type 0
-HasStmt code s (assign x e) p q =
-    (m : ℕ) × (i : ℕ) × HasExpr code s e p m × At code m (Store i) × (place_from 0 s.variables x ≡ Some i) × (q ≡ m + 1)
+-- the code of a statement, of statements in sequence, and of arms with what stands after the last
+abbrev mutual
+  pub HasStmt : Listing → Scope → Stmt → Stretch
+  HasStmt code s (assign x e) p q =
+      (m : ℕ) × (i : ℕ) × HasExpr code s e p m × At code m (Store i) × (place_from 0 s.variables x ≡ Some i) × (q ≡ m + 1)
+  HasStmt code s (choose arms others) p q = HasArms code s arms (HasStmts code s others) p q
 
-abbrev pub HasStmts : Listing → Scope → List Stmt → ℕ → ℕ → Type 0
-HasStmts code s [] p q = q ≡ p
-HasStmts code s (t ∷ ts) p q = (m : ℕ) × HasStmt code s t p m × HasStmts code s ts m q
+  pub HasStmts : Listing → Scope → Stmts → Stretch
+  HasStmts code s stop p q = q ≡ p
+  HasStmts code s (seq t ts) p q = (m : ℕ) × HasStmt code s t p m × HasStmts code s ts m q
+
+  pub HasArms : Listing → Scope → Arms → Stretch → Stretch
+  HasArms code s no_arm Others p q = Others p q
+  HasArms code s (arm c ts more) Others p q =
+      (m : ℕ) × HasExpr code s c p m × Chooses code (HasStmts code s ts) (HasArms code s more Others) m q

@@ -1,12 +1,12 @@
 -- Where the value of a name comes from in the code of an entry.
-use Rattle.std.specs.Prelude.{◌≡◌, ℕ, ◌≤◌, List, [], ◌∷◌, map, length, Option, Some, None, IsSome, pos, IsTrue}
+use Rattle.std.specs.Prelude.{◌≡◌, ℕ, ◌≤◌, List, map, length, Option, Some, None, IsSome, pos, IsTrue}
 use Rattle.std.specs.Option.{option_map_or}
 use Rattle.ioa_value.specs.Actions.{Name}
 use Rattle.ioa_value.specs.Arithmetic.{fits}
 use Rattle.ioa_value.specs.Plain.{Val}
 use Rattle.ioa_value.specs.Table.{Table, place_from}
 use Rattle.ioa_value.specs.Typing.{OwnTypes}
-use Rattle.ioa_syntax.specs.Tree.{Expr, number, truth, named, parens, binary, Stmt, assign, EntryTree}
+use Rattle.ioa_syntax.specs.Tree.{Expr, number, truth, named, parens, prefix, binary, Stmt, assign, choose, Stmts, stop, seq, Arms, no_arm, arm, EntryTree}
 use Rattle.ioa_syntax.specs.Instances.{field_names, variable_names, position_name}
 use Rattle.ioa_syntax.specs.Compositions.{Member}
 use Rattle.ioa_syntax.specs.declared.tree.Entry as tree
@@ -59,6 +59,7 @@ IsKnown s (number n) = IsTrue (fits (pos n))
 IsKnown s (truth b) = Unit {0}
 IsKnown s (named x) = IsOrigin (origin s x)
 IsKnown s (parens e) = IsKnown s e
+IsKnown s (prefix o e) = IsKnown s e
 IsKnown s (binary l o r) = IsKnown s l × IsKnown s r
 
 -- what scopes of well-formed automata keep
@@ -69,12 +70,18 @@ pub record IsScope (types : Table) (s : Scope) : Type 0 where
   pub typed : OwnTypes types s.arguments
 
 -- an assignment is to a variable
-abbrev pub IsKnownStmt : Scope → Stmt → Type 0
-IsKnownStmt s (assign x e) = IsSome (place_from 0 s.variables x) × IsKnown s e
+abbrev mutual
+  pub IsKnownStmt : Scope → Stmt → Type 0
+  IsKnownStmt s (assign x e) = IsSome (place_from 0 s.variables x) × IsKnown s e
+  IsKnownStmt s (choose arms others) = AreKnownArms s arms × AreKnown s others
 
-abbrev pub AreKnown : Scope → List Stmt → Type 0
-AreKnown s [] = Unit {0}
-AreKnown s (t ∷ ts) = IsKnownStmt s t × AreKnown s ts
+  pub AreKnown : Scope → Stmts → Type 0
+  AreKnown s stop = Unit {0}
+  AreKnown s (seq t ts) = IsKnownStmt s t × AreKnown s ts
+
+  pub AreKnownArms : Scope → Arms → Type 0
+  AreKnownArms s no_arm = Unit {0}
+  AreKnownArms s (arm c ts more) = IsKnown s c × (AreKnown s ts × AreKnownArms s more)
 
 abbrev pub IsKnownGuard : Scope → Option Expr → Type 0
 IsKnownGuard s None = Unit {0}

@@ -1,5 +1,5 @@
 -- What the compiler makes of an entry and of a component.
-use Rattle.std.specs.Prelude.{◌≡◌, ◌≤◌, ◌+◌, ℕ, List, [], ◌∷◌, length, map, sum, Option, Some, None, IfSome, slice_get}
+use Rattle.std.specs.Prelude.{◌≡◌, ◌≤◌, ◌+◌, ℕ, List, [], ◌∷◌, length, Option, Some, None, IfSome, slice_get}
 use Rattle.ioa_value.specs.Table.{Table}
 use Rattle.ioa_value.specs.Typing.{OwnTypes}
 use Rattle.ioa_code.specs.declared.instr.PartKind.{PartKind}
@@ -9,9 +9,9 @@ use Rattle.ioa_code.specs.Parts.{IsVerified}
 use Rattle.ioa_code.specs.Valid.{Part}
 use Rattle.ioa_syntax.specs.declared.tree.Kind.{Kind}
 use Rattle.ioa_syntax.specs.declared.tree.Kind.TheVariants.{Input, Output, Internal}
-use Rattle.ioa_syntax.specs.Tree.{Expr, Stmt, FieldTree, PositionTree, typed, EntryTree, TransitionTree}
+use Rattle.ioa_syntax.specs.Tree.{Expr, Stmts, FieldTree, PositionTree, typed, EntryTree, TransitionTree}
 use Rattle.ioa_syntax.specs.Instances.{transition_for, component_of, state_of}
-use Rattle.ioa_syntax.specs.WellFormed.{position_fields, stmt_nodes}
+use Rattle.ioa_syntax.specs.WellFormed.{position_fields, stmts_nodes}
 use Rattle.ioa_syntax.specs.Compositions.{Member}
 use Rattle.ioa_compile.specs.Matching.{AreTypesOf, MatchesMember}
 use Rattle.ioa_compile.specs.Correspondence.{Corresponds}
@@ -31,7 +31,7 @@ pub record IsGuard (code : Listing) (s : Scope) (g : Option Expr) : Type 0 where
   pub typed : OwnTypes code.types code.consts
 
 -- the whole code is the statements'
-pub record IsEffect (code : Listing) (s : Scope) (ts : List Stmt) : Type 0 where
+pub record IsEffect (code : Listing) (s : Scope) (ts : Stmts) : Type 0 where
   pub has : HasStmts code s ts 0 (length code.instrs)
   pub typed : OwnTypes code.types code.consts
 
@@ -49,7 +49,7 @@ pub record IsTransition (m : Member) (e : EntryTree) (t : TransitionTree) (guard
   pub pre : IsGuardFor e.kind guard (scope_of m e) t.pre
   pub effect : IsEffect code (scope_of m e) t.effect
   pub consts : IfSome guard (λ g. g.consts ≡ code.consts)
-  pub few : length code.consts ≤ guard_nodes t.pre + sum (map stmt_nodes t.effect)
+  pub few : length code.consts ≤ guard_nodes t.pre + stmts_nodes t.effect
 
 -- the part is verified, over the declared types, for this kind and these types
 pub record IsFor (part : Part) (types : Table) (k : PartKind) (end variables values : List ℕ) : Type 0 where

@@ -1,21 +1,23 @@
 ghost use Rattle.ioa_value.specs.Table.{Table};
-ghost use Rattle.std.specs.Prelude.{◌≡◌, ◌+◌, ◌<◌, ◌^◌, length, map, sum, pos, IsTrue, OnOk, IsSome, Some};
+ghost use Rattle.std.specs.Prelude.{◌≡◌, ◌+◌, ◌<◌, ◌^◌, length, map, pos, IsTrue, OnOk, IsSome, Some};
 ghost use Rattle.std.specs.Option.{option_map};
 ghost use Rattle.std.specs.String.{string_bytes};
 ghost use Rattle.ioa_value.specs.Plain.{plain};
 ghost use Rattle.ioa_value.specs.Typing.{HasType, own};
 ghost use Rattle.ioa_code.specs.Parts.{listing};
-ghost use Rattle.ioa_syntax.specs.View.{name_of, expr_of, stmt_of, entry_of};
-ghost use Rattle.ioa_syntax.specs.Tree.{named, assign};
-ghost use Rattle.ioa_syntax.specs.WellFormed.{nodes, stmt_nodes};
+ghost use Rattle.ioa_syntax.specs.View.{name_of, expr_of, stmt_of, stmts_of, arms_of, entry_of};
+ghost use Rattle.ioa_syntax.specs.Tree.{named, assign, choose};
+ghost use Rattle.ioa_syntax.specs.WellFormed.{nodes, stmt_nodes, stmts_nodes};
 ghost use Rattle.ioa_compose.specs.Held.{member_of};
 ghost use Rattle.ioa_compile.specs.Scopes.{scope_in, IsScope, IsKnown, IsKnownStmt, AreKnown, IsKnownGuard, IsOrigin, origin};
-ghost use Rattle.ioa_compile.specs.Emitting.{AddsInstr, AddsConst, AddsExpr, AddsGuard, AddsStmt, AddsStmts, guard_nodes};
+ghost use Rattle.ioa_compile.specs.Extents.{extent, infix_extent, guard_extent, stmt_extent, stmts_extent};
+ghost use Rattle.ioa_compile.specs.Emitting.{AddsInstr, AddsConst, AddsExpr, AddsCombined, AddsTrueSide, AddsFalseSide, AddsGuard, AddsStmt, AddsStmts, guard_nodes};
 
+use crate::extents::{arms_extent, expression_extent, statements_extent};
 use crate::places::{field_place, position_place, variable_place};
 use ioa_code::{Code, Instr};
 use ioa_compose::Member;
-use ioa_syntax::{Entry, Expression, Name, Statement};
+use ioa_syntax::{Arm, Entry, Expression, Infix, Name, Statement};
 use ioa_value::{OutOfMemory, Value};
 use std::alloc::Global;
 
@@ -30,6 +32,7 @@ pub(crate) fn emit_guard(
     requires scope { IsScope member.now.types (scope_in member.now entry.now) }
     requires known { IsKnownGuard (scope_in member.now entry.now) (option_map expr_of guard.now) }
     requires room { length out.old.consts.items + guard_nodes (option_map expr_of guard.now) < 2 ^ 16 }
+    requires short { length out.old.instrs.items + guard_extent (option_map expr_of guard.now) < 2 ^ 16 }
     ensures { OnOk result (AddsGuard (listing member.now.types out.old) (listing member.now.types out.new) (scope_in member.now entry.now) (option_map expr_of guard.now)) }
 {
     match guard {
@@ -39,7 +42,8 @@ pub(crate) fn emit_guard(
 }
 
 /// The code of statements, one after another.
-pub(crate) fn emit_effect(
+#[cycle(statements)]
+pub(crate) fn emit_statements(
     alloc: Global,
     out: &mut Code,
     member: &Member,
@@ -47,9 +51,10 @@ pub(crate) fn emit_effect(
     statements: &[Statement],
 ) -> Result<(), OutOfMemory>
     requires scope { IsScope member.now.types (scope_in member.now entry.now) }
-    requires known { AreKnown (scope_in member.now entry.now) (map stmt_of statements.now) }
-    requires room { length out.old.consts.items + sum (map stmt_nodes (map stmt_of statements.now)) < 2 ^ 16 }
-    ensures { OnOk result (AddsStmts (listing member.now.types out.old) (listing member.now.types out.new) (scope_in member.now entry.now) (map stmt_of statements.now)) }
+    requires known { AreKnown (scope_in member.now entry.now) (stmts_of statements.now) }
+    requires room { length out.old.consts.items + stmts_nodes (stmts_of statements.now) < 2 ^ 16 }
+    requires short { length out.old.instrs.items + stmts_extent (stmts_of statements.now) < 2 ^ 16 }
+    ensures { OnOk result (AddsStmts (listing member.now.types out.old) (listing member.now.types out.new) (scope_in member.now entry.now) (stmts_of statements.now)) }
 {
     for statement in statements {
         emit_statement(alloc, out, member, entry, statement)?;
@@ -58,6 +63,7 @@ pub(crate) fn emit_effect(
 }
 
 /// The code of a statement.
+#[cycle(statements)]
 fn emit_statement(
     alloc: Global,
     out: &mut Code,
@@ -68,11 +74,40 @@ fn emit_statement(
     requires scope { IsScope member.now.types (scope_in member.now entry.now) }
     requires known { IsKnownStmt (scope_in member.now entry.now) (stmt_of statement.now) }
     requires room { length out.old.consts.items + stmt_nodes (stmt_of statement.now) < 2 ^ 16 }
+    requires short { length out.old.instrs.items + stmt_extent (stmt_of statement.now) < 2 ^ 16 }
     ensures { OnOk result (AddsStmt (listing member.now.types out.old) (listing member.now.types out.new) (scope_in member.now entry.now) (stmt_of statement.now)) }
 {
     match statement {
         Statement::Assign(name, e) => emit_assignment(alloc, out, member, entry, name, e),
+        Statement::If(arms, others, _) => emit_choice(alloc, out, member, entry, arms, others),
     }
+}
+
+/// The code of a choice: arms, each a condition and statements that end with a jump over the rest, and the other statements.
+#[cycle(statements)]
+fn emit_choice(
+    alloc: Global,
+    out: &mut Code,
+    member: &Member,
+    entry: &Entry,
+    arms: &[Arm],
+    others: &[Statement],
+) -> Result<(), OutOfMemory>
+    requires scope { IsScope member.now.types (scope_in member.now entry.now) }
+    requires known { IsKnownStmt (scope_in member.now entry.now) (choose (arms_of arms.now) (stmts_of others.now)) }
+    requires room { length out.old.consts.items + stmt_nodes (choose (arms_of arms.now) (stmts_of others.now)) < 2 ^ 16 }
+    requires short { length out.old.instrs.items + stmt_extent (choose (arms_of arms.now) (stmts_of others.now)) < 2 ^ 16 }
+    ensures { OnOk result (AddsStmt (listing member.now.types out.old) (listing member.now.types out.new) (scope_in member.now entry.now) (choose (arms_of arms.now) (stmts_of others.now))) }
+{
+    let end = out.instrs.len() + arms_extent(arms) + statements_extent(others);
+    for arm in arms {
+        emit_expression(alloc, out, member, entry, &arm.condition)?;
+        let next = out.instrs.len() + statements_extent(&arm.statements) + 2;
+        put(out, Instr::JumpIfFalse(next as u16))?;
+        emit_statements(alloc, out, member, entry, &arm.statements)?;
+        put(out, Instr::Jump(end as u16))?;
+    }
+    emit_statements(alloc, out, member, entry, others)
 }
 
 /// The code of an assignment: the expression's value, and its store.
@@ -87,6 +122,7 @@ fn emit_assignment(
     requires scope { IsScope member.now.types (scope_in member.now entry.now) }
     requires known { IsKnownStmt (scope_in member.now entry.now) (assign (name_of name.now) (expr_of e.now)) }
     requires room { length out.old.consts.items + nodes (expr_of e.now) + 1 < 2 ^ 16 }
+    requires short { length out.old.instrs.items + extent (expr_of e.now) + 1 < 2 ^ 16 }
     ensures { OnOk result (AddsStmt (listing member.now.types out.old) (listing member.now.types out.new) (scope_in member.now entry.now) (assign (name_of name.now) (expr_of e.now))) }
 {
     emit_expression(alloc, out, member, entry, e)?;
@@ -97,6 +133,7 @@ fn emit_assignment(
 }
 
 /// The code of an expression, which leaves its value on the stack.
+#[cycle(expression)]
 fn emit_expression(
     alloc: Global,
     out: &mut Code,
@@ -107,6 +144,7 @@ fn emit_expression(
     requires scope { IsScope member.now.types (scope_in member.now entry.now) }
     requires known { IsKnown (scope_in member.now entry.now) (expr_of e.now) }
     requires room { length out.old.consts.items + nodes (expr_of e.now) < 2 ^ 16 }
+    requires short { length out.old.instrs.items + extent (expr_of e.now) < 2 ^ 16 }
     ensures { OnOk result (AddsExpr (listing member.now.types out.old) (listing member.now.types out.new) (scope_in member.now entry.now) (expr_of e.now)) }
 {
     match e {
@@ -114,12 +152,87 @@ fn emit_expression(
         Expression::Truth(b, _) => put_constant(out, Value::Truth(*b)),
         Expression::Name(name) => emit_name(alloc, out, member, entry, name),
         Expression::Parentheses(inner, _) => emit_expression(alloc, out, member, entry, inner),
-        Expression::Binary(left, op, right) => {
-            emit_expression(alloc, out, member, entry, left)?;
-            emit_expression(alloc, out, member, entry, right)?;
+        Expression::Prefix(op, inner, _) => {
+            emit_expression(alloc, out, member, entry, inner)?;
             put(out, Instr::Apply(*op))
         }
+        Expression::Binary(left, operator, right) => {
+            emit_expression(alloc, out, member, entry, left)?;
+            emit_combined(alloc, out, member, entry, *operator, right)
+        }
     }
+}
+
+/// What stands after a first operand's code: the second's, and the operator, or a choice whether it is asked for.
+#[cycle(expression)]
+fn emit_combined(
+    alloc: Global,
+    out: &mut Code,
+    member: &Member,
+    entry: &Entry,
+    operator: Infix,
+    right: &Expression,
+) -> Result<(), OutOfMemory>
+    requires scope { IsScope member.now.types (scope_in member.now entry.now) }
+    requires known { IsKnown (scope_in member.now entry.now) (expr_of right.now) }
+    requires room { length out.old.consts.items + (nodes (expr_of right.now) + 1) < 2 ^ 16 }
+    requires short { length out.old.instrs.items + (extent (expr_of right.now) + infix_extent operator) < 2 ^ 16 }
+    ensures { OnOk result (AddsCombined (listing member.now.types out.old) (listing member.now.types out.new) (scope_in member.now entry.now) operator (expr_of right.now)) }
+{
+    match operator {
+        Infix::Operator(op) => {
+            emit_expression(alloc, out, member, entry, right)?;
+            put(out, Instr::Apply(op))
+        }
+        Infix::And => emit_where_true(alloc, out, member, entry, right, false),
+        Infix::Or => emit_where_false(alloc, out, member, entry, right),
+        Infix::Implies => emit_where_true(alloc, out, member, entry, right, true),
+    }
+}
+
+/// The code of an expression for where the value on the stack is true, and of the other value for where it is false.
+#[cycle(expression)]
+fn emit_where_true(
+    alloc: Global,
+    out: &mut Code,
+    member: &Member,
+    entry: &Entry,
+    e: &Expression,
+    other: bool,
+) -> Result<(), OutOfMemory>
+    requires scope { IsScope member.now.types (scope_in member.now entry.now) }
+    requires known { IsKnown (scope_in member.now entry.now) (expr_of e.now) }
+    requires room { length out.old.consts.items + (nodes (expr_of e.now) + 1) < 2 ^ 16 }
+    requires short { length out.old.instrs.items + (extent (expr_of e.now) + 3) < 2 ^ 16 }
+    ensures { OnOk result (AddsTrueSide (listing member.now.types out.old) (listing member.now.types out.new) (scope_in member.now entry.now) (expr_of e.now) other) }
+{
+    let next = out.instrs.len() + expression_extent(e) + 2;
+    put(out, Instr::JumpIfFalse(next as u16))?;
+    emit_expression(alloc, out, member, entry, e)?;
+    put(out, Instr::Jump((next + 1) as u16))?;
+    put_constant(out, Value::Truth(other))
+}
+
+/// The code of true for where the value on the stack is true, and of an expression for where it is false.
+#[cycle(expression)]
+fn emit_where_false(
+    alloc: Global,
+    out: &mut Code,
+    member: &Member,
+    entry: &Entry,
+    e: &Expression,
+) -> Result<(), OutOfMemory>
+    requires scope { IsScope member.now.types (scope_in member.now entry.now) }
+    requires known { IsKnown (scope_in member.now entry.now) (expr_of e.now) }
+    requires room { length out.old.consts.items + (nodes (expr_of e.now) + 1) < 2 ^ 16 }
+    requires short { length out.old.instrs.items + (extent (expr_of e.now) + 3) < 2 ^ 16 }
+    ensures { OnOk result (AddsFalseSide (listing member.now.types out.old) (listing member.now.types out.new) (scope_in member.now entry.now) (expr_of e.now)) }
+{
+    let next = out.instrs.len() + 3;
+    put(out, Instr::JumpIfFalse(next as u16))?;
+    put_constant(out, Value::Truth(true))?;
+    put(out, Instr::Jump((next + expression_extent(e)) as u16))?;
+    emit_expression(alloc, out, member, entry, e)
 }
 
 /// The code that brings the value of a variable, a formal or a parameter.

@@ -4,6 +4,7 @@
 mod compiler;
 mod emitter;
 mod entries;
+mod extents;
 mod places;
 mod program;
 mod table;

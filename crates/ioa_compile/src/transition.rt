@@ -1,17 +1,17 @@
-ghost use Rattle.std.specs.Prelude.{◌≡◌, ◌≤◌, ◌+◌, map, sum, length, Some, None, IfOk};
+ghost use Rattle.std.specs.Prelude.{◌≡◌, ◌≤◌, ◌+◌, map, length, Some, None, IfOk};
 ghost use Rattle.std.specs.Option.{option_map};
 ghost use Rattle.ioa_value.specs.Plain.{plain};
 ghost use Rattle.ioa_value.specs.Typing.{OwnTypes};
 ghost use Rattle.ioa_code.specs.Parts.{listing};
-ghost use Rattle.ioa_syntax.specs.View.{expr_of, stmt_of, entry_of, transition_of};
-ghost use Rattle.ioa_syntax.specs.WellFormed.{stmt_nodes};
+ghost use Rattle.ioa_syntax.specs.View.{expr_of, stmts_of, entry_of, transition_of};
+ghost use Rattle.ioa_syntax.specs.WellFormed.{stmts_nodes};
 ghost use Rattle.ioa_compose.specs.Held.{member_of};
 ghost use Rattle.ioa_compose.specs.Fine.{component_limits};
 ghost use Rattle.ioa_compile.specs.Scopes.{scope_in, IsScope, AreKnown, IsKnownGuard};
 ghost use Rattle.ioa_compile.specs.Emitting.{guard_nodes, IsGrown};
 ghost use Rattle.ioa_compile.specs.Translated.{IsGuard, IsEffect, IsTransition};
 
-use crate::emitter::{emit_effect, emit_guard};
+use crate::emitter::{emit_guard, emit_statements};
 use ioa_code::Code;
 use ioa_compose::Member;
 use ioa_syntax::{Entry, Expression, Kind, Statement, Transition};
@@ -29,7 +29,7 @@ pub(crate) fn transition_code(
     requires guard { IsKnownGuard (scope_in member.now entry.now) (transition_of transition.now).pre }
     requires effect { AreKnown (scope_in member.now entry.now) (transition_of transition.now).effect }
     requires guard_size { guard_nodes (transition_of transition.now).pre ≤ component_limits.nodes }
-    requires effect_size { sum (map stmt_nodes (transition_of transition.now).effect) ≤ component_limits.nodes }
+    requires effect_size { stmts_nodes (transition_of transition.now).effect ≤ component_limits.nodes }
     ensures { IfOk result (λ codes. IsTransition (member_of member.now) (entry_of entry.now) (transition_of transition.now) (option_map (listing member.now.types) codes.0) (listing member.now.types codes.1)) }
 {
     match entry.kind {
@@ -76,18 +76,18 @@ fn effect_code(
     statements: &[Statement],
 ) -> Result<Code, OutOfMemory>
     requires scope { IsScope member.now.types (scope_in member.now entry.now) }
-    requires known { AreKnown (scope_in member.now entry.now) (map stmt_of statements.now) }
-    requires size { sum (map stmt_nodes (map stmt_of statements.now)) ≤ component_limits.nodes }
+    requires known { AreKnown (scope_in member.now entry.now) (stmts_of statements.now) }
+    requires size { stmts_nodes (stmts_of statements.now) ≤ component_limits.nodes }
     requires few { length consts.items ≤ component_limits.nodes }
     requires typed { OwnTypes member.now.types (map plain consts.items) }
-    ensures effect { IfOk result (λ code. IsEffect (listing member.now.types code) (scope_in member.now entry.now) (map stmt_of statements.now)) }
+    ensures effect { IfOk result (λ code. IsEffect (listing member.now.types code) (scope_in member.now entry.now) (stmts_of statements.now)) }
     ensures grown { IfOk result (λ code. IsGrown (map plain consts.items) (map plain code.consts.items)) }
-    ensures few { IfOk result (λ code. length code.consts.items ≤ length consts.items + sum (map stmt_nodes (map stmt_of statements.now))) }
+    ensures few { IfOk result (λ code. length code.consts.items ≤ length consts.items + stmts_nodes (stmts_of statements.now)) }
 {
     let mut code = Code {
         instrs: Vec::new(alloc),
         consts,
     };
-    emit_effect(alloc, &mut code, member, entry, statements)?;
+    emit_statements(alloc, &mut code, member, entry, statements)?;
     Ok(code)
 }

@@ -1,11 +1,11 @@
-use Rattle.std.proofs.Common.{◌≡◌, ap, ◌∙◌, map, sum, subst, sym, arith}
+use Rattle.std.proofs.Common.{◌≡◌, ap, ◌∙◌, map, subst, sym, arith}
 use Rattle.std.proofs.lemmas.List.{length-map}
-use Rattle.ioa_syntax.specs.WellFormed.{stmt_nodes}
+use Rattle.ioa_syntax.specs.WellFormed.{stmts_nodes}
 use Rattle.std.specs.Option.{option_map}
 use Rattle.ioa_value.specs.Plain.{plain}
 use Rattle.ioa_value.specs.Typing.{OwnTypes}
 use Rattle.ioa_code.specs.Parts.{listing}
-use Rattle.ioa_syntax.specs.View.{expr_of, stmt_of, entry_of}
+use Rattle.ioa_syntax.specs.View.{expr_of, stmts_of, entry_of}
 use Rattle.ioa_compose.specs.Held.{member_of}
 use Rattle.ioa_compile.specs.Scopes.{scope_of}
 use Rattle.ioa_compile.specs.Emitting.{IsGrown}
@@ -20,9 +20,9 @@ returns-in_ok-consts-in-Output c =
     let code = listing c.args.member.now.types c.in_ok-effect-in-Output.effect in
     let copy = map plain c.in_ok-consts-in-Output.consts.items in
     let same : copy ≡ code.consts = c.in_ok-consts-in-Output.ensures ∙ ap (map plain) c.deref-in-Output-2.ensures.value in
-    let effect = subst (λ l. IsEffect code s (map stmt_of l)) c.deref-in-Output.ensures.value c.in_ok-effect-in-Output.ensures.effect in
+    let effect = subst (λ l. IsEffect code s (stmts_of l)) c.deref-in-Output.ensures.value c.in_ok-effect-in-Output.ensures.effect in
     let grown = subst (IsGrown old.consts) (sym same) c.in_ok-effect-in-Output.ensures.grown in
-    let stmts = ap (λ l. sum (map stmt_nodes (map stmt_of l))) c.deref-in-Output.ensures.value in
+    let stmts = ap (λ l. stmts_nodes (stmts_of l)) c.deref-in-Output.ensures.value in
     let typed = subst (OwnTypes c.args.member.now.types) (sym same) effect.typed in
     record {
       pre = grown_guard c.args.entry.now.kind s (option_map expr_of c.args.transition.now.pre) old copy c.in-Output.is c.in_ok-instrs-in-Output.ensures.guard grown typed;

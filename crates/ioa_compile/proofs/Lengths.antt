@@ -1,0 +1,83 @@
+-- Code has as many instructions as its tree's extent says, and this is at most four for each node.
+use Rattle.std.proofs.Common.{◌≡◌, ℕ, ◌+◌, ◌*◌, ◌≤◌, true, false, Option, Some, None, arith}
+use Rattle.ioa_code.specs.Machine.{Listing}
+use Rattle.ioa_syntax.specs.declared.tree.Infix.{Infix}
+use Rattle.ioa_syntax.specs.declared.tree.Infix.TheVariants.{Operator, And, Or, Implies}
+use Rattle.ioa_syntax.specs.Tree.{Expr, number, truth, named, parens, prefix, binary, Stmt, assign, choose, Stmts, stop, seq, Arms, no_arm, arm}
+use Rattle.ioa_syntax.specs.WellFormed.{nodes, stmt_nodes, stmts_nodes, arms_nodes}
+use Rattle.ioa_compile.specs.Scopes.{Scope}
+use Rattle.ioa_compile.specs.Placed.{Stretch, PushesTruth, Chooses, Combines, HasExpr, HasGuard, HasStmt, HasStmts, HasArms}
+use Rattle.ioa_compile.specs.Emitting.{guard_nodes}
+use Rattle.ioa_compile.specs.Extents.{extent, infix_extent, guard_extent, stmt_extent, stmts_extent, arms_extent}
+
+module _ (code : Listing) where
+  chooses_long : (This Other : Stretch) (a b : ℕ) → ((p q : ℕ) → This p q → q ≡ p + a) → ((p q : ℕ) → Other p q → q ≡ p + b) → (p q : ℕ) → Chooses code This Other p q → q ≡ p + (a + b + 2)
+  chooses_long This Other a b f g p q h = omega (arith, f (p + 1) h.0 h.2, g (h.0 + 1) q h.4)
+
+  combines_long : (o : Infix) (Second : Stretch) (a : ℕ) → ((p q : ℕ) → Second p q → q ≡ p + a) → (p q : ℕ) → Combines code o Second p q → q ≡ p + (a + infix_extent o)
+  combines_long (Operator o) Second a f p q h = omega (arith, f p h.0 h.1, h.3)
+  combines_long And Second a f p q h =
+      omega (arith, chooses_long Second (PushesTruth code false) a 1 f (λ m n k. k.1) p q h)
+  combines_long Or Second a f p q h =
+      omega (arith, chooses_long (PushesTruth code true) Second 1 a (λ m n k. k.1) f p q h)
+  combines_long Implies Second a f p q h =
+      omega (arith, chooses_long Second (PushesTruth code true) a 1 f (λ m n k. k.1) p q h)
+
+  module _ (s : Scope) where
+    pub expr_long : (e : Expr) (p q : ℕ) → HasExpr code s e p q → q ≡ p + extent e
+    expr_long (number n) p q h = h.1
+    expr_long (truth b) p q h = h.1
+    expr_long (named x) p q h = h.1
+    expr_long (parens e) p q h = expr_long e p q h
+    expr_long (prefix o e) p q h = omega (arith, expr_long e p h.0 h.1, h.3)
+    expr_long (binary l o r) p q h =
+        omega (arith, expr_long l p h.0 h.1, combines_long o (HasExpr code s r) (extent r) (expr_long r) h.0 q h.2)
+
+    pub guard_long : (g : Option Expr) (p q : ℕ) → HasGuard code s g p q → q ≡ p + guard_extent g
+    guard_long None p q h = h.1
+    guard_long (Some e) p q h = expr_long e p q h
+
+    mutual
+      pub stmt_long : (t : Stmt) (p q : ℕ) → HasStmt code s t p q → q ≡ p + stmt_extent t
+      stmt_long (assign x e) p q h = omega (arith, expr_long e p h.0 h.2, h.5)
+      stmt_long (choose arms others) p q h = arms_long arms others (stmts_long others) p q h
+
+      pub stmts_long : (ts : Stmts) (p q : ℕ) → HasStmts code s ts p q → q ≡ p + stmts_extent ts
+      stmts_long stop p q h = omega (arith, h)
+      stmts_long (seq t ts) p q h = omega (arith, stmt_long t p h.0 h.1, stmts_long ts h.0 q h.2)
+
+      pub arms_long : (arms : Arms) (others : Stmts) → ((p q : ℕ) → HasStmts code s others p q → q ≡ p + stmts_extent others) → (p q : ℕ) → HasArms code s arms (HasStmts code s others) p q → q ≡ p + (arms_extent arms + stmts_extent others)
+      arms_long no_arm others f p q h = omega (arith, f p q h)
+      arms_long (arm c ts more) others f p q h =
+          omega (arith, expr_long c p h.0 h.1, chooses_long (HasStmts code s ts) (HasArms code s more (HasStmts code s others)) (stmts_extent ts) (arms_extent more + stmts_extent others) (stmts_long ts) (arms_long more others f) h.0 q h.2)
+
+infix_small : (o : Infix) → infix_extent o ≤ 3
+infix_small (Operator o) = omega arith
+infix_small And = omega arith
+infix_small Or = omega arith
+infix_small Implies = omega arith
+
+pub expr_small : (e : Expr) → extent e + 3 ≤ 4 * nodes e
+expr_small (number n) = omega arith
+expr_small (truth b) = omega arith
+expr_small (named x) = omega arith
+expr_small (parens e) = omega (arith, expr_small e)
+expr_small (prefix o e) = omega (arith, expr_small e)
+expr_small (binary l o r) = omega (arith, expr_small l, expr_small r, infix_small o)
+
+pub guard_small : (g : Option Expr) → guard_extent g ≤ 4 * guard_nodes g
+guard_small None = omega arith
+guard_small (Some e) = omega (arith, expr_small e)
+
+mutual
+  stmt_small : (t : Stmt) → stmt_extent t ≤ 4 * stmt_nodes t
+  stmt_small (assign x e) = omega (arith, expr_small e)
+  stmt_small (choose arms others) = omega (arith, arms_small arms, stmts_small others)
+
+  pub stmts_small : (ts : Stmts) → stmts_extent ts ≤ 4 * stmts_nodes ts
+  stmts_small stop = omega arith
+  stmts_small (seq t ts) = omega (arith, stmt_small t, stmts_small ts)
+
+  arms_small : (arms : Arms) → arms_extent arms ≤ 4 * arms_nodes arms
+  arms_small no_arm = omega arith
+  arms_small (arm c ts more) = omega (arith, expr_small c, stmts_small ts, arms_small more)

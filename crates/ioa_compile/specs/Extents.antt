@@ -1,0 +1,39 @@
+-- How many instructions the code of a tree has.
+use Rattle.std.specs.Prelude.{ℕ, ◌+◌, Option, Some, None}
+use Rattle.ioa_syntax.specs.declared.tree.Infix.{Infix}
+use Rattle.ioa_syntax.specs.declared.tree.Infix.TheVariants.{Operator, And, Or, Implies}
+use Rattle.ioa_syntax.specs.Tree.{Expr, number, truth, named, parens, prefix, binary, Stmt, assign, choose, Stmts, stop, seq, Arms, no_arm, arm}
+
+-- beside the operands' code: the operator, or two jumps and a constant
+abbrev pub infix_extent : Infix → ℕ
+infix_extent (Operator o) = 1
+infix_extent And = 3
+infix_extent Or = 3
+infix_extent Implies = 3
+
+abbrev pub extent : Expr → ℕ
+extent (number n) = 1
+extent (truth b) = 1
+extent (named x) = 1
+extent (parens e) = extent e
+extent (prefix o e) = extent e + 1
+extent (binary l o r) = extent l + extent r + infix_extent o
+
+-- an omitted precondition is a constant
+abbrev pub guard_extent : Option Expr → ℕ
+guard_extent None = 1
+guard_extent (Some e) = extent e
+
+-- an arm has two jumps
+abbrev mutual
+  pub stmt_extent : Stmt → ℕ
+  stmt_extent (assign x e) = extent e + 1
+  stmt_extent (choose arms others) = arms_extent arms + stmts_extent others
+
+  pub stmts_extent : Stmts → ℕ
+  stmts_extent stop = 0
+  stmts_extent (seq t ts) = stmt_extent t + stmts_extent ts
+
+  pub arms_extent : Arms → ℕ
+  arms_extent no_arm = 0
+  arms_extent (arm c ts more) = extent c + 2 + stmts_extent ts + arms_extent more

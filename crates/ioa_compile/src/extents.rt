@@ -1,0 +1,67 @@
+ghost use Rattle.std.specs.Prelude.{◌≡◌, ◌<◌, ◌^◌};
+ghost use Rattle.ioa_syntax.specs.View.{expr_of, stmt_of, stmts_of, arms_of};
+ghost use Rattle.ioa_compile.specs.Extents.{extent, infix_extent, stmt_extent, stmts_extent, arms_extent as extent_of_arms};
+
+use ioa_syntax::{Arm, Expression, Infix, Statement};
+
+/// How many instructions the code of an expression has.
+pub(crate) fn expression_extent(e: &Expression) -> usize
+    requires { extent (expr_of e.now) < 2 ^ 16 }
+    ensures { result ≡ extent (expr_of e.now) }
+{
+    match e {
+        Expression::Number(_, _) | Expression::Truth(_, _) | Expression::Name(_) => 1,
+        Expression::Parentheses(inner, _) => expression_extent(inner),
+        Expression::Prefix(_, inner, _) => expression_extent(inner) + 1,
+        Expression::Binary(left, operator, right) => {
+            expression_extent(left) + expression_extent(right) + extent_beside(*operator)
+        }
+    }
+}
+
+/// How many instructions stand beside the code of two operands: the operator, or two jumps and a constant.
+fn extent_beside(operator: Infix) -> usize
+    ensures { result ≡ infix_extent operator }
+{
+    match operator {
+        Infix::Operator(_) => 1,
+        Infix::And | Infix::Or | Infix::Implies => 3,
+    }
+}
+
+/// How many instructions the code of statements has.
+#[cycle(statements)]
+pub(crate) fn statements_extent(statements: &[Statement]) -> usize
+    requires { stmts_extent (stmts_of statements.now) < 2 ^ 16 }
+    ensures { result ≡ stmts_extent (stmts_of statements.now) }
+{
+    let mut total = 0;
+    for statement in statements {
+        total += statement_extent(statement);
+    }
+    total
+}
+
+#[cycle(statements)]
+fn statement_extent(statement: &Statement) -> usize
+    requires { stmt_extent (stmt_of statement.now) < 2 ^ 16 }
+    ensures { result ≡ stmt_extent (stmt_of statement.now) }
+{
+    match statement {
+        Statement::Assign(_, e) => expression_extent(e) + 1,
+        Statement::If(arms, others, _) => arms_extent(arms) + statements_extent(others),
+    }
+}
+
+/// How many instructions the code of arms has, each with two jumps.
+#[cycle(statements)]
+pub(crate) fn arms_extent(arms: &[Arm]) -> usize
+    requires { extent_of_arms (arms_of arms.now) < 2 ^ 16 }
+    ensures { result ≡ extent_of_arms (arms_of arms.now) }
+{
+    let mut total = 0;
+    for arm in arms {
+        total += expression_extent(&arm.condition) + 2 + statements_extent(&arm.statements);
+    }
+    total
+}
