@@ -7,14 +7,14 @@ const ROWS: &str = "\
 check f |  | ok^ |  | 0
 check f | automaton A signature input a transitions input a | ok^ |  | 0
 check f | automaton A signature input a^states n: Int^transitions input a^eff n := true |  | E7 line 4^ | 1
-check f | automaton A signature input a^transitions^. |  | E2 line 3^ | 1
+check f | automaton A signature input a^transitions^$ |  | E2 line 3^ | 1
 check f | automaton A signature input a^ |  | E3 line 2^ | 1
 -- a check composes nothing
 check f | automaton A signature input a transitions input a composition One components A: A(1) | ok^ |  | 0
 replay f | automaton A signature input a transitions input a composition One components A: A(1) |  | E12 component 0^ | 1
 check g |  |  | io^ | 5
 check |  |  | error: the following required arguments were not provided:^  <FILE>^^Usage: ioac check <FILE>^^For more information, try '--help'.^ | 2
-check f --comp One |  |  | error: unexpected argument '--comp' found^^Usage: ioac check <FILE>^^For more information, try '--help'.^ | 2
+check f --comp One |  |  | error: unexpected argument '--comp' found^^  tip: to pass '--comp' as a value, use '-- --comp'^^Usage: ioac check <FILE>^^For more information, try '--help'.^ | 2
 check --help |  | Parses and checks a source, and prints ok where it is well formed^^Usage: ioac check <FILE>^^Arguments:^  <FILE>  A source of I/O automata^^Options:^  -h, --help  Print help^^Compositions are composed by `replay` alone.^Exit status: 0 done, 1 source refused, 2 bad command line, 5 memory or a device.^ |  | 0
 -- codes
 explain io |  | io: The file cannot be read.^^No source or list gives it. A name that no file has does, or a file that you may not read.^^Mend the name of the file, or its rights.^ |  | 0
@@ -25,7 +25,7 @@ explain --help |  | Says what a code means that the program printed, what gives 
 -- the version
 --version |  | ioac 0.2.0^ |  | 0
 -V |  | ioac 0.2.0^ |  | 0
-replay --version |  |  | error: unexpected argument '--version' found^^Usage: ioac replay [OPTIONS] <FILE>^^For more information, try '--help'.^ | 2
+replay --version |  |  | error: unexpected argument '--version' found^^  tip: to pass '--version' as a value, use '-- --version'^^Usage: ioac replay [OPTIONS] <FILE>^^For more information, try '--help'.^ | 2
 ";
 
 #[test]
