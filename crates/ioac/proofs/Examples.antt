@@ -28,3 +28,28 @@ no_file = refl
 no_fault : fault_of ioac_app (codes "ioac" ∷ codes "replay" ∷ codes "f" ∷ []) ≡ []
 unfolding clap_on_literals
 no_fault = refl
+
+checked : asked (codes "ioac" ∷ codes "check" ∷ codes "f" ∷ []) ≡ Some (codes "check", Some (codes "f"), None)
+unfolding asked clap_on_literals
+checked = refl
+
+-- the command and its code
+coded : List Text → Option (Text × Option Text)
+coded words = option_map (λ p. (p.0, first_of (codes "CODE") p.1)) (subcommand_of ioac_app words)
+
+explained : coded (codes "ioac" ∷ codes "explain" ∷ codes "E7" ∷ []) ≡ Some (codes "explain", Some (codes "E7"))
+unfolding coded clap_on_literals
+explained = refl
+
+version : fault_of ioac_app (codes "ioac" ∷ codes "--version" ∷ []) ≡ kinds.DisplayVersion ∷ []
+unfolding clap_on_literals
+version = refl
+
+-- the version is the program's alone
+no_version : fault_of ioac_app (codes "ioac" ∷ codes "check" ∷ codes "--version" ∷ []) ≡ kinds.UnknownArgument ∷ []
+unfolding clap_on_literals
+no_version = refl
+
+no_code : fault_of ioac_app (codes "ioac" ∷ codes "explain" ∷ []) ≡ kinds.MissingRequiredArgument ∷ []
+unfolding clap_on_literals
+no_code = refl

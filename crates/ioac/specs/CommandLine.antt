@@ -6,24 +6,34 @@ use Rattle.clap.specs.Simple.{on_top}
 use Rattle.clap.specs.declared.builder.command.Command.{Command}
 use Rattle.clap.specs.declared.builder.command.Command.TheViews.{out-Command}
 use Rattle.ioac.specs.declared.request.Request.{Request}
+use Rattle.ioac.specs.Codes.{spelling}
 
--- a word that has to stand
+-- words that have to stand
 abbrev pub file_rule : Rule
 file_rule = record (new_rule (codes "FILE")) { required = true }
+
+abbrev pub code_rule : Rule
+code_rule = record (new_rule (codes "CODE")) { required = true }
 
 -- `--comp NAME`
 abbrev pub comp_rule : Rule
 comp_rule = record (new_rule (codes "comp")) { long = Some (codes "comp"); value_names = 1 }
 
+abbrev pub check_app : App
+check_app = with_rule (new_app (codes "check")) file_rule
+
+abbrev pub explain_app : App
+explain_app = with_rule (new_app (codes "explain")) code_rule
+
 abbrev pub replay_app : App
 replay_app = with_rule (with_rule (new_app (codes "replay")) file_rule) comp_rule
 
--- a subcommand has to stand; where no word stands, help is given
+-- a subcommand has to stand; where no word stands, help is given; there is a version
 abbrev pub bare_app : App
-bare_app = on_top (λ top. record top { subcommand_required = true; arg_required_else_help = true; disable_help_subcommand = true }) (new_app (codes "ioac"))
+bare_app = on_top (λ top. record top { has_version = true; subcommand_required = true; arg_required_else_help = true; disable_help_subcommand = true }) (new_app (codes "ioac"))
 
 abbrev pub ioac_app : App
-ioac_app = with_subcommand bare_app replay_app.top
+ioac_app = with_subcommand (with_subcommand (with_subcommand bare_app check_app.top) replay_app.top) explain_app.top
 
 -- no argument is one of the subcommands too
 abbrev pub IsLocal : Command → Type 0
@@ -34,6 +44,8 @@ abbrev pub IsAskedBy : Option (Text × List Row) → Request → Type 0
 IsAskedBy None request = ⊥
 IsAskedBy (Some found) (Request.Replay file composition) =
     (found.0 ≡ codes "replay") × (first_of (codes "FILE") found.1 ≡ Some file.now) × (first_of (codes "comp") found.1 ≡ option_copied composition)
+IsAskedBy (Some found) (Request.Check file) = (found.0 ≡ codes "check") × (first_of (codes "FILE") found.1 ≡ Some file.now)
+IsAskedBy (Some found) (Request.Explain code) = (found.0 ≡ codes "explain") × (first_of (codes "CODE") found.1 ≡ Some (spelling code))
 
 -- the words of a command line, the program's own first, ask for this
 abbrev pub IsAsked : List Text → Request → Type 0

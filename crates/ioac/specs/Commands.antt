@@ -5,14 +5,13 @@ use Rattle.clap.specs.Words.{IsAmong, Text, fault_of}
 use Rattle.clap.specs.declared.error.kind.ErrorKind.{ErrorKind}
 use Rattle.clap.specs.declared.error.kind.ErrorKind.TheVariants as kinds
 use Rattle.ioa_value.specs.Actions.{Name}
-use Rattle.ioa_syntax.specs.Runs.{Ending}
 use Rattle.ioac.specs.declared.failure.Failure.{Failure}
 use Rattle.ioac.specs.declared.request.Request.{Request}
 use Rattle.ioac.specs.declared.status.Status.{Status}
 use Rattle.ioac.specs.CommandLine.{ioac_app, IsAsked}
 use Rattle.ioac.specs.Printed.{failure_text}
 use Rattle.ioac.specs.Serving.{IsServed, IsUnserved}
-use Rattle.ioac.specs.Statuses.{ending_status, failure_status}
+use Rattle.ioac.specs.Statuses.{failure_status}
 
 -- the failure's text is printed on a line, and the status is its own, unless it cannot be printed
 abbrev pub IsReported : Failure → Option (List ℕ) → Option (List ℕ) → Status → Type 0
@@ -20,11 +19,11 @@ IsReported e before after status =
     ((status ≡ failure_status e) × Appends before after (failure_text e ++ 10 ∷ [])) ⊎ (status ≡ Status.Broken)
 
 -- the request was served, and nothing is told; or why it was not is told
-abbrev pub IsAnswered : (Name → List ℕ → Type 0) → (Name → Type 0) → Request → Option (List ℕ) → Type 0
+abbrev pub IsAnswered : (Name → List ℕ → Type 0) → (Name → Type 0) → Request → Option (List ℕ) → Type 0 → Type 0
     → Option (List ℕ) → Option (List ℕ) → Option (List ℕ) → Option (List ℕ) → Status → Type 0
-IsAnswered holds lacks request bytes failed before after told telling status =
-    ((end : Ending) × IsServed holds request bytes end before after × (status ≡ ending_status end) × Keeps told telling)
-    ⊎ ((e : Failure) × IsUnserved holds lacks request bytes failed before after e × IsReported e told telling status)
+IsAnswered holds lacks request bytes reader_failed writer_failed before after told telling status =
+    (IsServed holds request bytes before after status × Keeps told telling)
+    ⊎ ((e : Failure) × IsUnserved holds lacks request bytes reader_failed writer_failed before after e × IsReported e told telling status)
 
 -- of a parse that gives no request, by what it tells
 abbrev pub usage_status : ErrorKind → Status
@@ -46,8 +45,8 @@ usage_status kinds.DisplayHelpOnMissingArgumentOrSubcommand = Status.BadCommandL
 usage_status kinds.Io = Status.BadCommandLine
 usage_status kinds.Format = Status.BadCommandLine
 
--- nothing is served: the words have a fault, or ask for help, which is told; or they ask for nothing; or memory was short, or
--- nothing could be told
+-- nothing is served: the words have a fault, or ask for help or the version, which is told; or they ask for nothing, as for a
+-- code that is none; or memory was short, or nothing could be told
 abbrev pub IsUnasked : List Text → Status → Type 0
 IsUnasked words status =
     (status ≡ Status.Broken)

@@ -7,26 +7,40 @@ use Rattle.ioa_syntax.specs.Runs.{Ending}
 use Rattle.ioac.specs.declared.failure.Failure.{Failure}
 use Rattle.ioac.specs.declared.request.Request.{Request}
 use Rattle.ioac.specs.declared.store.StoreErr.{StoreErr}
+use Rattle.ioac.specs.declared.status.Status.{Status}
+use Rattle.ioac.specs.Checks.{IsCheck, IsCheckFailure, IsUnchecked}
+use Rattle.ioac.specs.Explained.{IsExplained, IsUnexplained}
 use Rattle.ioac.specs.Headline.{IsReplay}
 use Rattle.ioac.specs.Failing.{IsFailure, IsUnwritten}
+use Rattle.ioac.specs.Statuses.{ending_status}
 
 -- why nothing is served of a file that was not read
 abbrev pub failure_of : StoreErr → Failure
 failure_of StoreErr.Io = Failure.Io
 failure_of StoreErr.OutOfMemory = Failure.OutOfMemory
 
--- the file may hold a text such that the list was replayed in the composition that is asked for, the last one where none is
-abbrev pub IsServed : (Name → List ℕ → Type 0) → Request → Option (List ℕ) → Ending → Option (List ℕ) → Option (List ℕ) → Type 0
-IsServed holds (Request.Replay file composition) bytes ending before after =
-    (text : List ℕ) × holds file.now text × IfSome bytes (λ xs. IsReplay text (option_copied composition) xs ending before after)
+-- the file may hold a text such that the list was replayed in the composition that is asked for, the last one where none is,
+-- or that passed the check; or the code was explained
+abbrev pub IsServed : (Name → List ℕ → Type 0) → Request → Option (List ℕ) → Option (List ℕ) → Option (List ℕ) → Status → Type 0
+IsServed holds (Request.Replay file composition) bytes before after status =
+    (text : List ℕ) × holds file.now text
+    × ((end : Ending) × IfSome bytes (λ xs. IsReplay text (option_copied composition) xs end before after) × (status ≡ ending_status end))
+IsServed holds (Request.Check file) bytes before after status =
+    ((text : List ℕ) × holds file.now text × IsCheck text before after) × (status ≡ Status.Done)
+IsServed holds (Request.Explain code) bytes before after status = IsExplained code before after × (status ≡ Status.Done)
 
 -- a load of the file may fail, or memory is short, and nothing was written
 abbrev pub IsUnread : Type 0 → Option (List ℕ) → Option (List ℕ) → Failure → Type 0
 IsUnread lacks before after e = (((e ≡ Failure.Io) × lacks) ⊎ (e ≡ Failure.OutOfMemory)) × Keeps before after
 
--- the file is not read, or it may hold a text with which the replay fails so
-abbrev pub IsUnserved : (Name → List ℕ → Type 0) → (Name → Type 0) → Request → Option (List ℕ) → Type 0 → Option (List ℕ) → Option (List ℕ) → Failure → Type 0
-IsUnserved holds lacks (Request.Replay file composition) bytes failed before after e =
+-- The file is not read, or it may hold a text with which the replay or the check fails so; or the code is not explained. The
+-- list's reader and the writer failed where these say so.
+abbrev pub IsUnserved : (Name → List ℕ → Type 0) → (Name → Type 0) → Request → Option (List ℕ) → Type 0 → Type 0 → Option (List ℕ) → Option (List ℕ) → Failure → Type 0
+IsUnserved holds lacks (Request.Replay file composition) bytes reader_failed writer_failed before after e =
     IsUnread (lacks file.now) before after e
-    ⊎ ((text : List ℕ) × holds file.now text × IsFailure text (option_copied composition) bytes failed e
+    ⊎ ((text : List ℕ) × holds file.now text × IsFailure text (option_copied composition) bytes (reader_failed ⊎ writer_failed) e
     × IsUnwritten text (option_copied composition) bytes before after e)
+IsUnserved holds lacks (Request.Check file) bytes reader_failed writer_failed before after e =
+    IsUnread (lacks file.now) before after e
+    ⊎ ((text : List ℕ) × holds file.now text × IsCheckFailure text writer_failed e × IsUnchecked before after e)
+IsUnserved holds lacks (Request.Explain code) bytes reader_failed writer_failed before after e = IsUnexplained code writer_failed before after e

@@ -11,11 +11,14 @@ ghost use Rattle.ioac.specs.declared.status.Status.{Status};
 ghost use Rattle.ioac.specs.declared.request.Request.{Request};
 ghost use Rattle.ioac.specs.declared.status.Status.TheVariants as statuses;
 
+use crate::check::check_text;
+use crate::explain::explain;
 use crate::failure::Failure;
 use crate::replay::replay_text;
 use crate::request::{Request, parse, read_request};
 use crate::status::Status;
 use crate::store::Store;
+use crate::usage::told_codes;
 use clap::error::ErrorKind;
 use ioa_log::{InputDevice, OutputDevice};
 use ioa_system::End;
@@ -37,7 +40,7 @@ pub fn command<S: AsStr, F: Store, R: InputDevice, W: OutputDevice, E: Write>(
     ensures { (status : Status) × (result ≡ number_of status) × (IsUnasked (map S.text words.now) status
         ⊎ ((request : Request) × IsAsked (map S.text words.now) request
         × IsAnswered (F.holds store.old) (F.lacks store.old) request (R.remaining input.old)
-        (HasFailed (R.failure_count input.old) (R.failure_count input.new) ⊎ HasFailed (W.failure_count output.old) (W.failure_count output.new))
+        (HasFailed (R.failure_count input.old) (R.failure_count input.new)) (HasFailed (W.failure_count output.old) (W.failure_count output.new))
         (W.contents output.old) (W.contents output.new) (E.contents errors.old) (E.contents errors.new) status)) }
 {
     perform(alloc, words, store, input, output, errors).number()
@@ -55,13 +58,13 @@ fn perform<S: AsStr, F: Store, R: InputDevice, W: OutputDevice, E: Write>(
     ensures { IsUnasked (map S.text words.now) result
         ⊎ ((request : Request) × IsAsked (map S.text words.now) request
         × IsAnswered (F.holds store.old) (F.lacks store.old) request (R.remaining input.old)
-        (HasFailed (R.failure_count input.old) (R.failure_count input.new) ⊎ HasFailed (W.failure_count output.old) (W.failure_count output.new))
+        (HasFailed (R.failure_count input.old) (R.failure_count input.new)) (HasFailed (W.failure_count output.old) (W.failure_count output.new))
         (W.contents output.old) (W.contents output.new) (E.contents errors.old) (E.contents errors.new) result) }
 {
     match parse(alloc, words) {
         Ok(matches) => match read_request(&matches) {
             Some(asked) => answer(alloc, &asked, store, input, output, errors),
-            None => Status::BadCommandLine,
+            None => told_codes(&matches, errors),
         },
         Err(error) => told(&error, output, errors),
     }
@@ -77,11 +80,11 @@ fn answer<F: Store, R: InputDevice, W: OutputDevice, E: Write>(
     errors: &mut E,
 ) -> Status
     ensures { IsAnswered (F.holds store.old) (F.lacks store.old) asked.now (R.remaining input.old)
-        (HasFailed (R.failure_count input.old) (R.failure_count input.new) ⊎ HasFailed (W.failure_count output.old) (W.failure_count output.new))
+        (HasFailed (R.failure_count input.old) (R.failure_count input.new)) (HasFailed (W.failure_count output.old) (W.failure_count output.new))
         (W.contents output.old) (W.contents output.new) (E.contents errors.old) (E.contents errors.new) result }
 {
     match serve(alloc, asked, store, input, output) {
-        Ok(end) => status_of(end),
+        Ok(status) => status,
         Err(failure) => reported(failure, errors),
     }
 }
@@ -97,27 +100,37 @@ fn reported<E: Write>(failure: Failure, errors: &mut E) -> Status
     }
 }
 
-/// Does what is asked.
+/// Does what is asked, and answers the exit status.
 ///
 /// # Errors
-/// `Io` or `OutOfMemory` where the file is not read, and those of the replay of what it holds. Nothing was written then,
-/// or, where a device failed, no more than a beginning of the text.
+/// `Io` or `OutOfMemory` where the file is not read, and those of the replay or the check of what it holds, or of the
+/// explanation. Nothing was written then, or, where a device failed, no more than a beginning of the text.
 fn serve<F: Store, R: InputDevice, W: OutputDevice>(
     alloc: Global,
     asked: &Request<'_>,
     store: &mut F,
     input: &mut R,
     output: &mut W,
-) -> Result<End, Failure>
-    ensures replays { IfOk result (λ end. IsServed (F.holds store.old) asked.now (R.remaining input.old) (ending_of end) (W.contents output.old) (W.contents output.new)) }
+) -> Result<Status, Failure>
+    ensures served { IfOk result (λ status. IsServed (F.holds store.old) asked.now (R.remaining input.old) (W.contents output.old) (W.contents output.new) status) }
     ensures refused { IfErr result (λ e. IsUnserved (F.holds store.old) (F.lacks store.old) asked.now (R.remaining input.old)
-        (HasFailed (R.failure_count input.old) (R.failure_count input.new) ⊎ HasFailed (W.failure_count output.old) (W.failure_count output.new))
+        (HasFailed (R.failure_count input.old) (R.failure_count input.new)) (HasFailed (W.failure_count output.old) (W.failure_count output.new))
         (W.contents output.old) (W.contents output.new) e) }
 {
     match asked {
         Request::Replay { file, composition } => {
             let text = store.load(alloc, file)?;
-            replay_text(alloc, text.as_slice(), *composition, input, output)
+            let end = replay_text(alloc, text.as_slice(), *composition, input, output)?;
+            Ok(status_of(end))
+        }
+        Request::Check { file } => {
+            let source = store.load(alloc, file)?;
+            check_text(alloc, source.as_slice(), output)?;
+            Ok(Status::Done)
+        }
+        Request::Explain { code } => {
+            explain(alloc, *code, output)?;
+            Ok(Status::Done)
         }
     }
 }

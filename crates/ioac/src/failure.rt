@@ -1,9 +1,10 @@
-use crate::refusal::{Code, refusal_status};
+use crate::code::Code;
+use crate::refusal::{Details, refusal_code, refusal_status};
 use crate::status::Status;
 use crate::store::StoreErr;
 use ioa_log::LogErr;
 use ioa_syntax::Refusal;
-use std::alloc::{AllocError, AllocFailed};
+use std::alloc::AllocError;
 use std::fmt;
 
 /// Why the program did not do what was asked. It is printed by its code and details.
@@ -11,7 +12,7 @@ use std::fmt;
 pub enum Failure {
     /// The source or its composition is refused.
     Refused(Refusal),
-    /// The list is refused, or a device failed.
+    /// The list is refused, or a device failed, also where there is no list.
     List(LogErr),
     /// A file was not read.
     Io,
@@ -21,7 +22,21 @@ pub enum Failure {
 
 impl Failure {
     ghost use Rattle.std.specs.Prelude.{◌≡◌};
+    ghost use Rattle.ioac.specs.Codes.{failure_code};
     ghost use Rattle.ioac.specs.Statuses.{failure_status};
+
+    /// The code.
+    pub fn code(&self) -> Code
+        ensures { result ≡ failure_code self.now }
+    {
+        match self {
+            Failure::Refused(refusal) => refusal_code(refusal),
+            Failure::List(LogErr::BadLine(_)) => Code::L2,
+            Failure::List(LogErr::Io) => Code::L8,
+            Failure::List(LogErr::OutOfMemory) | Failure::OutOfMemory => Code::Memory,
+            Failure::Io => Code::Io,
+        }
+    }
 
     /// The exit status.
     pub fn status(&self) -> Status
@@ -45,12 +60,17 @@ impl fmt::Display for Failure {
     ghost output = { λ failure. Some (failure_text failure) };
 
     fn fmt<W: fmt::Write>(&self, f: &mut fmt::Formatter<W>) -> fmt::Result {
+        let code = self.code();
         match self {
-            Failure::Refused(refusal) => write!(f, "{}", Code(refusal)),
-            Failure::List(LogErr::BadLine(line)) => write!(f, "L2 line {line}"),
-            Failure::List(LogErr::Io) => write!(f, "L8"),
-            Failure::List(LogErr::OutOfMemory) | Failure::OutOfMemory => write!(f, "memory"),
-            Failure::Io => write!(f, "io"),
+            Failure::Refused(refusal) => {
+                let details = Details(refusal);
+                write!(f, "{code}{details}")
+            }
+            Failure::List(LogErr::BadLine(line)) => write!(f, "{code} line {line}"),
+            Failure::List(LogErr::Io)
+            | Failure::List(LogErr::OutOfMemory)
+            | Failure::Io
+            | Failure::OutOfMemory => write!(f, "{code}"),
         }
     }
 }
@@ -98,6 +118,17 @@ impl From<ioa_value::OutOfMemory> for Failure {
     ghost from_gives = { λ _ e. e ≡ failures.OutOfMemory };
 
     fn from(_error: ioa_value::OutOfMemory) -> Failure {
+        Failure::OutOfMemory
+    }
+}
+
+impl From<AllocError> for Failure {
+    ghost use Rattle.std.specs.Prelude.{◌≡◌};
+    ghost use Rattle.ioac.specs.declared.failure.Failure.TheVariants as failures;
+
+    ghost from_gives = { λ _ e. e ≡ failures.OutOfMemory };
+
+    fn from(_error: AllocError) -> Failure {
         Failure::OutOfMemory
     }
 }

@@ -1,16 +1,23 @@
 //! `ioac`: checks, composes, compiles and replays I/O automata.
 #![tactic(auto)]
 
+mod check;
+mod code;
 mod command;
+mod explain;
+mod explanation;
+mod explanations;
 mod failure;
 mod files;
 mod refusal;
 mod replay;
 mod request;
+mod sending;
 mod status;
 mod store;
 #[cfg(test)]
 mod tests;
+mod usage;
 
 use crate::status::Status;
 use ioa_log::Counted;

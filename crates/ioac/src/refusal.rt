@@ -1,48 +1,73 @@
 ghost use Rattle.std.specs.Prelude.{◌≡◌, Some};
-ghost use Rattle.ioac.specs.Printed.{refusal_text};
-ghost use Rattle.ioac.specs.Statuses.{refusal_status as status_of};
+ghost use Rattle.ioac.specs.Codes as codes;
+ghost use Rattle.ioac.specs.Printed.{refusal_details};
+ghost use Rattle.ioac.specs.Statuses as statuses;
 
+use crate::code::Code;
 use crate::status::Status;
 use ioa_syntax::Refusal;
 use std::fmt;
 
-/// A refusal of a source, which is printed by its code with its line or its components.
-#[derive(Clone, Copy, Drop)]
-pub struct Code<'a>(pub &'a Refusal);
+/// The code of a refusal of a source.
+pub fn refusal_code(refusal: &Refusal) -> Code
+    ensures { result ≡ codes.refusal_code refusal.now }
+{
+    match refusal {
+        Refusal::TextTooLong => Code::E1,
+        Refusal::BadByte(_) => Code::E2,
+        Refusal::Syntax(_) => Code::E3,
+        Refusal::TooDeep(_) => Code::E4,
+        Refusal::DuplicateName(_) => Code::E5,
+        Refusal::UnknownName(_) => Code::E6,
+        Refusal::TypeMismatch(_) => Code::E7,
+        Refusal::BadSignature(_) => Code::E8,
+        Refusal::NoProposal(_) => Code::E9,
+        Refusal::TooMany(_) => Code::E10,
+        Refusal::TooWide(_) => Code::E11,
+        Refusal::ArgMismatch(_) => Code::E12,
+        Refusal::CrashName(_) => Code::E13,
+        Refusal::Clash(_, _, _) => Code::E14,
+        Refusal::HiddenUnknown(_) => Code::E15,
+        Refusal::StartFault(_, _) => Code::E16,
+        Refusal::NoComposition => Code::E17,
+        Refusal::OutOfMemory => Code::Memory,
+    }
+}
 
-impl<'a> fmt::Display for Code<'a> {
-    ghost output = { λ code. Some (refusal_text code.0.now) };
+/// What is printed of a refusal after its code: its line, its components, its name.
+#[derive(Clone, Copy, Drop)]
+pub struct Details<'a>(pub &'a Refusal);
+
+impl<'a> fmt::Display for Details<'a> {
+    ghost output = { λ details. Some (refusal_details details.0.now) };
 
     fn fmt<W: fmt::Write>(&self, f: &mut fmt::Formatter<W>) -> fmt::Result {
         match self.0 {
-            Refusal::TextTooLong => write!(f, "E1"),
-            Refusal::BadByte(line) => write!(f, "E2 line {line}"),
-            Refusal::Syntax(line) => write!(f, "E3 line {line}"),
-            Refusal::TooDeep(line) => write!(f, "E4 line {line}"),
-            Refusal::DuplicateName(line) => write!(f, "E5 line {line}"),
-            Refusal::UnknownName(line) => write!(f, "E6 line {line}"),
-            Refusal::TypeMismatch(line) => write!(f, "E7 line {line}"),
-            Refusal::BadSignature(line) => write!(f, "E8 line {line}"),
-            Refusal::NoProposal(line) => write!(f, "E9 line {line}"),
-            Refusal::TooMany(line) => write!(f, "E10 line {line}"),
-            Refusal::TooWide(line) => write!(f, "E11 line {line}"),
-            Refusal::ArgMismatch(i) => write!(f, "E12 component {i}"),
-            Refusal::CrashName(i) => write!(f, "E13 component {i}"),
-            Refusal::Clash(i, j, name) => write!(f, "E14 components {i} and {j} on {name}"),
-            Refusal::HiddenUnknown(name) => write!(f, "E15 {name}"),
+            Refusal::BadByte(line)
+            | Refusal::Syntax(line)
+            | Refusal::TooDeep(line)
+            | Refusal::DuplicateName(line)
+            | Refusal::UnknownName(line)
+            | Refusal::TypeMismatch(line)
+            | Refusal::BadSignature(line)
+            | Refusal::NoProposal(line)
+            | Refusal::TooMany(line)
+            | Refusal::TooWide(line) => write!(f, " line {line}"),
+            Refusal::ArgMismatch(i) | Refusal::CrashName(i) => write!(f, " component {i}"),
+            Refusal::Clash(i, j, name) => write!(f, " components {i} and {j} on {name}"),
+            Refusal::HiddenUnknown(name) => write!(f, " {name}"),
             Refusal::StartFault(i, fault) => {
                 let number = fault.number();
-                write!(f, "E16 component {i} fault {number}")
+                write!(f, " component {i} fault {number}")
             }
-            Refusal::NoComposition => write!(f, "E17"),
-            Refusal::OutOfMemory => write!(f, "memory"),
+            Refusal::TextTooLong | Refusal::NoComposition | Refusal::OutOfMemory => Ok(()),
         }
     }
 }
 
 /// The exit status of a source that is refused so.
 pub fn refusal_status(refusal: &Refusal) -> Status
-    ensures { result ≡ status_of refusal.now }
+    ensures { result ≡ statuses.refusal_status refusal.now }
 {
     match refusal {
         Refusal::TextTooLong

@@ -1,8 +1,9 @@
 ghost use Rattle.std.specs.Prelude.{◌≡◌, false, map, IfOk, IfErr, IfSome, IfNone};
 ghost use Rattle.clap.specs.Words.{HasKind, app_of, fault_of, rule_of, subcommand_of, subcommand_rows_of};
-ghost use Rattle.ioac.specs.CommandLine.{IsAskedBy, IsLocal, comp_rule, file_rule, ioac_app, replay_app};
+ghost use Rattle.ioac.specs.CommandLine.{IsAskedBy, IsLocal, check_app, code_rule, comp_rule, explain_app, file_rule, ioac_app, replay_app};
 ghost use Rattle.ioac.specs.declared.request.Request.{Request};
 
+use crate::code::Code;
 use clap::{Arg, ArgMatches, Command, Error};
 use std::alloc::{AllocError, Global};
 use std::convert::AsStr;
@@ -15,7 +16,18 @@ pub enum Request<'a> {
         file: &'a str,
         composition: Option<&'a str>,
     },
+    /// To parse and check a source.
+    Check {
+        file: &'a str,
+    },
+    /// To say what a code means.
+    Explain {
+        code: Code,
+    },
 }
+
+/// The version that `--version` prints.
+const VERSION: &str = "0.2.0";
 
 fn file_argument<'a>(alloc: Global) -> Arg<'a>
     ensures rule { rule_of result ≡ file_rule }
@@ -33,6 +45,40 @@ fn composition_option<'a>(alloc: Global) -> Arg<'a>
     Arg::new(alloc, "comp").long("comp").value_name("NAME").help(
         "The composition to take; without it, the source's last one",
     )
+}
+
+fn code_argument<'a>(alloc: Global) -> Arg<'a>
+    ensures rule { rule_of result ≡ code_rule }
+    ensures local { result.global ≡ false }
+{
+    Arg::new(alloc, "CODE")
+        .required(true)
+        .help("A code that the program printed, as E7")
+}
+
+fn check_command<'a>(alloc: Global) -> Result<Command<'a>, AllocError>
+    ensures app { IfOk result (λ command. app_of command ≡ check_app) }
+    ensures local { IfOk result IsLocal }
+{
+    Command::new(alloc, "check")
+        .about("Parses and checks a source, and prints ok where it is well formed")
+        .after_help(
+            "Compositions are composed by `replay` alone.\n\
+             Exit status: 0 done, 1 source refused, 2 bad command line, 5 memory or a device.",
+        )
+        .arg(file_argument(alloc))
+}
+
+fn explain_command<'a>(alloc: Global) -> Result<Command<'a>, AllocError>
+    ensures app { IfOk result (λ command. app_of command ≡ explain_app) }
+    ensures local { IfOk result IsLocal }
+{
+    Command::new(alloc, "explain")
+        .about("Says what a code means that the program printed, what gives it, and how to mend it")
+        .after_help(
+            "Exit status: 0 done, 2 bad command line or no such code, 5 memory or a device.",
+        )
+        .arg(code_argument(alloc))
 }
 
 fn replay_command<'a>(alloc: Global) -> Result<Command<'a>, AllocError>
@@ -55,10 +101,13 @@ fn program<'a>(alloc: Global) -> Result<Command<'a>, AllocError>
 {
     Command::new(alloc, "ioac")
         .about("Compiles I/O automata and replays lists of their actions")
+        .version(VERSION)
         .subcommand_required(true)
         .arg_required_else_help(true)
         .disable_help_subcommand(true)
-        .subcommand(replay_command(alloc)?)
+        .subcommand(check_command(alloc)?)?
+        .subcommand(replay_command(alloc)?)?
+        .subcommand(explain_command(alloc)?)
 }
 
 /// Reads a command line, whose first word is the program's.
@@ -69,16 +118,28 @@ pub fn parse<'a, S: AsStr>(alloc: Global, words: &'a [S]) -> Result<ArgMatches<'
     program(alloc)?.try_get_matches_from(words)
 }
 
-/// The request that a command line has. None where a word is missing, which a parse rules out.
+/// The request that a command line has. None where a word is missing, which a parse rules out, or where there is no such
+/// code.
 pub fn read_request<'a>(matches: &ArgMatches<'a>) -> Option<Request<'a>>
     ensures some { IfSome result (λ asked. IsAskedBy (subcommand_rows_of matches.now) asked) }
     ensures none { IfNone result ((asked : Request) → IsAskedBy (subcommand_rows_of matches.now) asked → ⊥) }
 {
     let (name, found) = matches.subcommand()?;
-    let file = found.get_str("FILE")?;
-    let composition = found.get_str("comp");
     match name {
-        "replay" => Some(Request::Replay { file, composition }),
+        "replay" => {
+            let file = found.get_str("FILE")?;
+            let composition = found.get_str("comp");
+            Some(Request::Replay { file, composition })
+        }
+        "check" => {
+            let file = found.get_str("FILE")?;
+            Some(Request::Check { file })
+        }
+        "explain" => {
+            let word = found.get_str("CODE")?;
+            let code = Code::find(word)?;
+            Some(Request::Explain { code })
+        }
         _ => None,
     }
 }

@@ -1,0 +1,57 @@
+-- The codes by which the program tells why something was not done: how each is spelled, and what it stands for.
+use Rattle.std.specs.Prelude.{ℕ, List, codes}
+use Rattle.ioa_lex.specs.declared.refusal.Refusal.{Refusal}
+use Rattle.ioa_log.specs.declared.failure.LogErr.{LogErr}
+use Rattle.ioac.specs.declared.code.Code.{Code}
+use Rattle.ioac.specs.declared.failure.Failure.{Failure}
+
+abbrev pub spelling : Code → List ℕ
+spelling Code.E1 = codes "E1"
+spelling Code.E2 = codes "E2"
+spelling Code.E3 = codes "E3"
+spelling Code.E4 = codes "E4"
+spelling Code.E5 = codes "E5"
+spelling Code.E6 = codes "E6"
+spelling Code.E7 = codes "E7"
+spelling Code.E8 = codes "E8"
+spelling Code.E9 = codes "E9"
+spelling Code.E10 = codes "E10"
+spelling Code.E11 = codes "E11"
+spelling Code.E12 = codes "E12"
+spelling Code.E13 = codes "E13"
+spelling Code.E14 = codes "E14"
+spelling Code.E15 = codes "E15"
+spelling Code.E16 = codes "E16"
+spelling Code.E17 = codes "E17"
+spelling Code.L2 = codes "L2"
+spelling Code.L8 = codes "L8"
+spelling Code.Memory = codes "memory"
+spelling Code.Io = codes "io"
+
+abbrev pub refusal_code : Refusal → Code
+refusal_code Refusal.TextTooLong = Code.E1
+refusal_code (Refusal.BadByte line) = Code.E2
+refusal_code (Refusal.Syntax line) = Code.E3
+refusal_code (Refusal.TooDeep line) = Code.E4
+refusal_code (Refusal.DuplicateName line) = Code.E5
+refusal_code (Refusal.UnknownName line) = Code.E6
+refusal_code (Refusal.TypeMismatch line) = Code.E7
+refusal_code (Refusal.BadSignature line) = Code.E8
+refusal_code (Refusal.NoProposal line) = Code.E9
+refusal_code (Refusal.TooMany line) = Code.E10
+refusal_code (Refusal.TooWide line) = Code.E11
+refusal_code (Refusal.ArgMismatch i) = Code.E12
+refusal_code (Refusal.CrashName i) = Code.E13
+refusal_code (Refusal.Clash i j name) = Code.E14
+refusal_code (Refusal.HiddenUnknown name) = Code.E15
+refusal_code (Refusal.StartFault i fault) = Code.E16
+refusal_code Refusal.NoComposition = Code.E17
+refusal_code Refusal.OutOfMemory = Code.Memory
+
+abbrev pub failure_code : Failure → Code
+failure_code (Failure.Refused refusal) = refusal_code refusal
+failure_code (Failure.List (LogErr.BadLine line)) = Code.L2
+failure_code (Failure.List LogErr.Io) = Code.L8
+failure_code (Failure.List LogErr.OutOfMemory) = Code.Memory
+failure_code Failure.Io = Code.Io
+failure_code Failure.OutOfMemory = Code.Memory

@@ -1,0 +1,115 @@
+ghost use Rattle.std.specs.Prelude.{◌≡◌, IfSome, IfNone, find, option_map};
+ghost use Rattle.std.specs.Str.{bytes_eq};
+ghost use Rattle.ioac.specs.Codes.{spelling};
+
+use std::fmt;
+
+/// The codes by which the program prints why something was not done, and by which it explains that.
+#[derive(Clone, Copy, Debug, PartialEq, Eq)]
+pub enum Code {
+    E1,
+    E2,
+    E3,
+    E4,
+    E5,
+    E6,
+    E7,
+    E8,
+    E9,
+    E10,
+    E11,
+    E12,
+    E13,
+    E14,
+    E15,
+    E16,
+    E17,
+    L2,
+    L8,
+    Memory,
+    Io,
+}
+
+impl Code {
+    ghost use Rattle.ioac.specs.declared.code.Code.{Code};
+
+    /// Each code, once.
+    pub const ALL: [Code; 21] = [
+        Code::E1,
+        Code::E2,
+        Code::E3,
+        Code::E4,
+        Code::E5,
+        Code::E6,
+        Code::E7,
+        Code::E8,
+        Code::E9,
+        Code::E10,
+        Code::E11,
+        Code::E12,
+        Code::E13,
+        Code::E14,
+        Code::E15,
+        Code::E16,
+        Code::E17,
+        Code::L2,
+        Code::L8,
+        Code::Memory,
+        Code::Io,
+    ];
+
+    /// As it is printed.
+    pub fn spelling(self) -> &'static str
+        ensures { result.now ≡ spelling self }
+    {
+        match self {
+            Code::E1 => "E1",
+            Code::E2 => "E2",
+            Code::E3 => "E3",
+            Code::E4 => "E4",
+            Code::E5 => "E5",
+            Code::E6 => "E6",
+            Code::E7 => "E7",
+            Code::E8 => "E8",
+            Code::E9 => "E9",
+            Code::E10 => "E10",
+            Code::E11 => "E11",
+            Code::E12 => "E12",
+            Code::E13 => "E13",
+            Code::E14 => "E14",
+            Code::E15 => "E15",
+            Code::E16 => "E16",
+            Code::E17 => "E17",
+            Code::L2 => "L2",
+            Code::L8 => "L8",
+            Code::Memory => "memory",
+            Code::Io => "io",
+        }
+    }
+
+    /// The code that is spelled so, if there is one.
+    pub fn find(word: &str) -> Option<Code>
+        ensures some { IfSome result (λ code. word.now ≡ spelling code) }
+        ensures none { IfNone result ((code : Code) → word.now ≡ spelling code → ⊥) }
+    {
+        first_spelled(Code::ALL.as_slice(), word).copied()
+    }
+}
+
+/// The first of the codes that is spelled so.
+fn first_spelled<'a>(codes: &'a [Code], word: &str) -> Option<&'a Code>
+    ensures { option_map (λ c. c.now) result ≡ find (λ c. bytes_eq (spelling c) word.now) codes.now }
+{
+    codes.iter().find(|code| code.spelling() == word)
+}
+
+impl fmt::Display for Code {
+    ghost use Rattle.std.specs.Prelude.{Some};
+    ghost use Rattle.ioac.specs.Codes.{spelling};
+
+    ghost output = { λ code. Some (spelling code) };
+
+    fn fmt<W: fmt::Write>(&self, f: &mut fmt::Formatter<W>) -> fmt::Result {
+        f.write_str(self.spelling())
+    }
+}

@@ -1,0 +1,26 @@
+ghost use Rattle.std.specs.Prelude.{OnOk, IfErr};
+ghost use Rattle.ioa_log.specs.Failing.{HasFailed};
+ghost use Rattle.ioac.specs.Explained.{IsExplained, IsUnexplained};
+
+use crate::code::Code;
+use crate::explanations::explanation;
+use crate::failure::Failure;
+use crate::sending::send_text;
+use ioa_log::OutputDevice;
+use std::alloc::Global;
+
+/// Writes what a code means, what gives it, and what to do then.
+///
+/// # Errors
+/// `List` where the device failed in this call, and then a beginning of the text was written; or want of memory, and then
+/// nothing was.
+pub fn explain<W: OutputDevice>(alloc: Global, code: Code, output: &mut W) -> Result<(), Failure>
+    ensures explains { OnOk result (IsExplained code (W.contents output.old) (W.contents output.new)) }
+    ensures refused { IfErr result (λ e. IsUnexplained code (HasFailed (W.failure_count output.old) (W.failure_count output.new))
+        (W.contents output.old) (W.contents output.new) e) }
+{
+    let explanation = explanation(code);
+    let text = format!(in alloc; "{code}: {explanation}")?;
+    send_text(output, text.as_bytes())?;
+    Ok(())
+}

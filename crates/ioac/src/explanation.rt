@@ -1,0 +1,58 @@
+use std::fmt;
+
+/// What a code means, in words for someone who writes a first protocol.
+#[derive(Clone, Copy, Debug)]
+pub struct Explanation {
+    pub meaning: &'static str,
+    pub example: Example,
+    /// What to do then.
+    pub mending: &'static str,
+}
+
+/// What makes the program print a code.
+#[derive(Clone, Copy, Debug)]
+pub enum Example {
+    /// This source, whatever the list.
+    Source(&'static str),
+    /// This source with this list.
+    Replay {
+        source: &'static str,
+        list: &'static str,
+    },
+    /// No text that could stand here. The sentence says what does it.
+    Told(&'static str),
+}
+
+impl fmt::Display for Example {
+    ghost use Rattle.std.specs.Prelude.{Some};
+    ghost use Rattle.ioac.specs.Explained.{example_text};
+
+    ghost output = { λ example. Some (example_text example) };
+
+    fn fmt<W: fmt::Write>(&self, f: &mut fmt::Formatter<W>) -> fmt::Result {
+        match self {
+            Example::Source(source) => write!(f, "For example, this source:\n\n{source}\n"),
+            Example::Replay { source, list } => write!(
+                f,
+                "For example, this source:\n\n{source}\n\nwith this list:\n\n{list}\n"
+            ),
+            Example::Told(sentence) => write!(f, "{sentence}\n"),
+        }
+    }
+}
+
+impl fmt::Display for Explanation {
+    ghost use Rattle.std.specs.Prelude.{Some};
+    ghost use Rattle.ioac.specs.Explained.{explanation_text};
+
+    ghost output = { λ explanation. Some (explanation_text explanation) };
+
+    fn fmt<W: fmt::Write>(&self, f: &mut fmt::Formatter<W>) -> fmt::Result {
+        let Explanation {
+            meaning,
+            example,
+            mending,
+        } = self;
+        write!(f, "{meaning}\n\n{example}\n{mending}\n")
+    }
+}

@@ -1,0 +1,34 @@
+mod compositions;
+mod runs;
+mod sources;
+mod texts;
+
+use crate::code::Code;
+use crate::explanation::Explanation;
+
+/// What a code means.
+pub fn explanation(code: Code) -> Explanation {
+    match code {
+        Code::E1 => texts::E1,
+        Code::E2 => texts::E2,
+        Code::E3 => texts::E3,
+        Code::E4 => texts::E4,
+        Code::E5 => sources::E5,
+        Code::E6 => sources::E6,
+        Code::E7 => sources::E7,
+        Code::E8 => sources::E8,
+        Code::E9 => sources::E9,
+        Code::E10 => sources::E10,
+        Code::E11 => sources::E11,
+        Code::E12 => compositions::E12,
+        Code::E13 => compositions::E13,
+        Code::E14 => compositions::E14,
+        Code::E15 => compositions::E15,
+        Code::E16 => compositions::E16,
+        Code::E17 => compositions::E17,
+        Code::L2 => runs::L2,
+        Code::L8 => runs::L8,
+        Code::Memory => runs::MEMORY,
+        Code::Io => runs::IO,
+    }
+}

@@ -1,0 +1,62 @@
+//! What is wrong with a composition.
+
+use crate::explanation::{Example, Explanation};
+
+pub const E12: Explanation = Explanation {
+    meaning: "The arguments of a component are not those of its automaton's formals, in number or type. Components count\n\
+        from 0.",
+    example: Example::Source(
+        "automaton Counter(start: Int)\n\
+        signature output tick\n\
+        states c: Int := start\n\
+        transitions output tick eff c := c + 1\n\
+        composition One components A: Counter(true)",
+    ),
+    mending: "Give one value for each formal, of its type and in order. Here: `A: Counter(5)`.",
+};
+
+pub const E13: Explanation = Explanation {
+    meaning: "The names by which a component crashes and recovers are one name, or one that its automaton has.",
+    example: Example::Told(
+        "No source of this version gives it, since components cannot crash yet.",
+    ),
+    mending: "There is nothing to mend.",
+};
+
+pub const E14: Explanation = Explanation {
+    meaning: "Two components are not compatible: both have one output, or one has an action as internal that the other has\n\
+        too.",
+    example: Example::Told(
+        "No source of this version gives it, since a composition has one component.",
+    ),
+    mending: "There is nothing to mend.",
+};
+
+pub const E15: Explanation = Explanation {
+    meaning: "A name that is to be hidden is no output of a component.",
+    example: Example::Told("No source of this version gives it, since no names can be hidden yet."),
+    mending: "There is nothing to mend.",
+};
+
+pub const E16: Explanation = Explanation {
+    meaning: "A component cannot start: one of its arguments, or a start expression, faults. Components count from 0. Fault 1\n\
+        is a number that does not fit into 64 bits.",
+    example: Example::Source(
+        "automaton Counter(start: Int)\n\
+        signature output tick\n\
+        states c: Int := start + 1\n\
+        transitions output tick eff c := c + 1\n\
+        composition One components A: Counter(9223372036854775807)",
+    ),
+    mending: "Give other arguments, or write another start expression. Here any smaller number will do.",
+};
+
+pub const E17: Explanation = Explanation {
+    meaning: "The source has no composition of the name that was asked for, or none at all, so there is nothing to run.",
+    example: Example::Source(
+        "automaton Door\n\
+        signature input open\n\
+        transitions input open",
+    ),
+    mending: "Name a composition that the source has, or add one. Here: `composition One components D: Door`.",
+};

@@ -1,0 +1,42 @@
+//! What is wrong with a list, a device or a file.
+
+use crate::explanation::{Example, Explanation};
+
+pub const L2: Explanation = Explanation {
+    meaning: "This line of the list is no action. An action is a name and, for one value or more, the values in parentheses.",
+    example: Example::Replay {
+        source: "automaton Counter\n\
+        signature output tick(k: Int)\n\
+        states c: Int\n\
+        transitions output tick pre k = c propose k := c eff c := c + 1\n\
+        composition One components A: Counter",
+        list: "tick(0)\n\
+        tick(1",
+    },
+    mending: "Write the line as `reset` or `tick(5)`; blank lines, and lines that begin with %, are skipped. Nothing was\n\
+        performed.",
+};
+
+pub const L8: Explanation = Explanation {
+    meaning: "Reading the list, or writing the answer, failed. A beginning of the answer may have been written.",
+    example: Example::Told(
+        "No source or list gives it. A full disk does, or a pipe whose reader has gone.",
+    ),
+    mending: "See to the disk or the pipe, and run it again.",
+};
+
+pub const MEMORY: Explanation = Explanation {
+    meaning: "There was not enough memory.",
+    example: Example::Told(
+        "No source or list gives it by itself. A list that is too long for the machine's memory does.",
+    ),
+    mending: "Run it again where more memory is free, or with a shorter list.",
+};
+
+pub const IO: Explanation = Explanation {
+    meaning: "The file cannot be read.",
+    example: Example::Told(
+        "No source or list gives it. A name that no file has does, or a file that you may not read.",
+    ),
+    mending: "Mend the name of the file, or its rights.",
+};

@@ -1,0 +1,82 @@
+//! What is wrong with a source that is not well formed.
+
+use crate::explanation::{Example, Explanation};
+
+pub const E5: Explanation = Explanation {
+    meaning: "A name is declared twice, or has two entries or two proposals. Within an automaton its formals, its variables\n\
+        and the parameters of an entry differ from each other, and from the names of types, automata and compositions.",
+    example: Example::Source(
+        "automaton Door\n\
+        signature input open\n\
+        states n: Int; n: Bool\n\
+        transitions input open",
+    ),
+    mending: "Give one of the two another name.",
+};
+
+pub const E6: Explanation = Explanation {
+    meaning: "A name is not known here: it is declared nowhere, or only later, or it may not stand in this place. Only\n\
+        variables are assigned to; start expressions and arguments read no variable.",
+    example: Example::Source(
+        "automaton Door\n\
+        signature input open\n\
+        states n: Int\n\
+        transitions input open eff m := 1",
+    ),
+    mending: "Mend its spelling, or declare it before its use. Here `m` should be `n`.",
+};
+
+pub const E7: Explanation = Explanation {
+    meaning: "An expression has another type than its place wants: a Bool where an Int belongs, or the other way round.",
+    example: Example::Source(
+        "automaton Door\n\
+        signature input open\n\
+        states n: Int := true\n\
+        transitions input open",
+    ),
+    mending: "Change the expression, or the declared type. Here the variable should be a Bool.",
+};
+
+pub const E8: Explanation = Explanation {
+    meaning: "Entries of the signature and transitions do not match: each entry has exactly one transition of its kind and\n\
+        name. An input is always enabled, so it has neither `pre` nor `propose`.",
+    example: Example::Source(
+        "automaton Door\n\
+        signature input open\n\
+        states is_open: Bool\n\
+        transitions input open pre is_open = false eff is_open := true",
+    ),
+    mending: "Add the missing transition, or take the needless one away. Here `pre` has to go: let the effect do\n\
+        nothing where the input does not matter.",
+};
+
+pub const E9: Explanation = Explanation {
+    meaning: "An output or internal action has a parameter for which no value is proposed. A runner would not know which\n\
+        value to try; only Bool parameters need no proposal.",
+    example: Example::Source(
+        "automaton Counter\n\
+        signature output tick(k: Int)\n\
+        states c: Int\n\
+        transitions output tick pre k = c eff c := c + 1",
+    ),
+    mending: "Say which value to try. Here: `propose k := c` after the precondition.",
+};
+
+pub const E10: Explanation = Explanation {
+    meaning: "A limit is passed: 256 automata and compositions, 32 components, 64 variables or entries of an automaton,\n\
+        8 formals or parameters, 4,096 nodes in a precondition, a transition's proposals, or an effect.",
+    example: Example::Source(
+        "automaton Door(a: Int, b: Int, c: Int, d: Int, e: Int, f: Int, g: Int, h: Int, i: Int)\n\
+        signature input open\n\
+        transitions input open",
+    ),
+    mending: "Part the automaton into several, or keep fewer things in it. Here one formal has to go.",
+};
+
+pub const E11: Explanation = Explanation {
+    meaning: "A declared type has values that are too large.",
+    example: Example::Told(
+        "No source of this version gives it, since no types can be declared yet.",
+    ),
+    mending: "There is nothing to mend.",
+};

@@ -1,0 +1,43 @@
+//! What is wrong with a text that is no source.
+
+use crate::explanation::{Example, Explanation};
+
+pub const E1: Explanation = Explanation {
+    meaning: "The source has more than 1,048,576 bytes.",
+    example: Example::Told("For example, 1,048,577 spaces."),
+    mending: "Write it shorter: take comments out, or part it into several sources.",
+};
+
+pub const E2: Explanation = Explanation {
+    meaning: "On this line stands something that is no word of the language: a sign that it does not have, a name of\n\
+        more than 64 bytes, or a number above 9223372036854775807.",
+    example: Example::Source(
+        "automaton Door\n\
+        signature input open\n\
+        transitions input open # nothing to do",
+    ),
+    mending: "Take the sign away, or shorten the name. A comment begins with %.",
+};
+
+pub const E3: Explanation = Explanation {
+    meaning: "The words up to this line are no beginning of a source: something is missing before the first word on this\n\
+        line that does not fit, or that word is too many.",
+    example: Example::Source(
+        "automaton Door\n\
+        signature input open\n\
+        composition One components D: Door",
+    ),
+    mending: "Compare the line with the grammar in docs/language.md. Here `transitions input open` is missing.",
+};
+
+pub const E4: Explanation = Explanation {
+    meaning: "The declaration that begins on this line has parts within parts more than 64 deep.",
+    example: Example::Source(
+        "automaton Door\n\
+        signature input open\n\
+        states n: Int :=\n\
+        ((((((((((((((((((((((((((((((((((((((((((((((((((((((((((((((((1))))))))))))))))))))))))))))))))))))))))))))))))))))))))))))))))\n\
+        transitions input open",
+    ),
+    mending: "Drop parentheses that are not needed, or part the expression into several assignments.",
+};

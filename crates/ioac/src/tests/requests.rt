@@ -1,0 +1,54 @@
+use crate::tests::shelf::{Given, Wanted, expect, status_in};
+use crate::tests::tables::{column, columns, is_row};
+use std::test::Fail;
+
+/// The words after the program's name, a source, what is printed, what is told of errors, and the exit status.
+const ROWS: &str = "\
+check f |  | ok^ |  | 0
+check f | automaton A signature input a transitions input a | ok^ |  | 0
+check f | automaton A signature input a^states n: Int^transitions input a^eff n := true |  | E7 line 4^ | 1
+check f | automaton A signature input a^transitions^$ |  | E2 line 3^ | 1
+check f | automaton A signature input a^ |  | E3 line 2^ | 1
+-- a check composes nothing
+check f | automaton A signature input a transitions input a composition One components A: A(1) | ok^ |  | 0
+replay f | automaton A signature input a transitions input a composition One components A: A(1) |  | E12 component 0^ | 1
+check g |  |  | io^ | 5
+check |  |  | error: the following required arguments were not provided:^  <FILE>^^Usage: ioac check <FILE>^^For more information, try '--help'.^ | 2
+check f --comp One |  |  | error: unexpected argument '--comp' found^^  tip: to pass '--comp' as a value, use '-- --comp'^^Usage: ioac check <FILE>^^For more information, try '--help'.^ | 2
+check --help |  | Parses and checks a source, and prints ok where it is well formed^^Usage: ioac check <FILE>^^Arguments:^  <FILE>  A source of I/O automata^^Options:^  -h, --help  Print help^^Compositions are composed by `replay` alone.^Exit status: 0 done, 1 source refused, 2 bad command line, 5 memory or a device.^ |  | 0
+-- codes
+explain io |  | io: The file cannot be read.^^No source or list gives it. A name that no file has does, or a file that you may not read.^^Mend the name of the file, or its rights.^ |  | 0
+explain E18 |  |  | error: invalid value 'E18' for '<CODE>'^  [possible values: E1, E2, E3, E4, E5, E6, E7, E8, E9, E10, E11, E12, E13, E14, E15, E16, E17, L2, L8, memory, io]^^For more information, try '--help'.^ | 2
+explain e5 |  |  | error: invalid value 'e5' for '<CODE>'^  [possible values: E1, E2, E3, E4, E5, E6, E7, E8, E9, E10, E11, E12, E13, E14, E15, E16, E17, L2, L8, memory, io]^^For more information, try '--help'.^ | 2
+explain |  |  | error: the following required arguments were not provided:^  <CODE>^^Usage: ioac explain <CODE>^^For more information, try '--help'.^ | 2
+explain --help |  | Says what a code means that the program printed, what gives it, and how to mend it^^Usage: ioac explain <CODE>^^Arguments:^  <CODE>  A code that the program printed, as E7^^Options:^  -h, --help  Print help^^Exit status: 0 done, 2 bad command line or no such code, 5 memory or a device.^ |  | 0
+-- the version
+--version |  | ioac 0.2.0^ |  | 0
+-V |  | ioac 0.2.0^ |  | 0
+replay --version |  |  | error: unexpected argument '--version' found^^  tip: to pass '--version' as a value, use '-- --version'^^Usage: ioac replay [OPTIONS] <FILE>^^For more information, try '--help'.^ | 2
+";
+
+#[test]
+fn answers_requests(rt: HostRuntime) -> Result<(), Fail> {
+    let alloc = rt.alloc();
+    for row in ROWS.lines().filter(|line| is_row(line)) {
+        let columns = columns(alloc, row)?;
+        let mut words = Vec::new(alloc);
+        words.push("ioac")?;
+        for word in column(&columns, 0).split_whitespace() {
+            words.push(word)?;
+        }
+        let given = Given {
+            words: words.as_slice(),
+            file: column(&columns, 1),
+            list: "",
+        };
+        let wanted = Wanted {
+            output: column(&columns, 2),
+            errors: column(&columns, 3),
+            status: status_in(&columns, 4)?,
+        };
+        expect(&rt, alloc, row, &given, &wanted)?;
+    }
+    Ok(())
+}
