@@ -1,14 +1,12 @@
 ghost use Rattle.ioa_value.specs.Table.{Table};
-ghost use Rattle.std.specs.Prelude.{◌≡◌, ◌+◌, ◌<◌, ◌^◌, length, map, pos, IsTrue, OnOk, IsSome, Some};
+ghost use Rattle.std.specs.Prelude.{◌≡◌, ◌+◌, ◌<◌, ◌^◌, length, OnOk, Some};
 ghost use Rattle.std.specs.Option.{option_map};
-ghost use Rattle.std.specs.String.{string_bytes};
 ghost use Rattle.ioa_value.specs.Plain.{plain};
 ghost use Rattle.ioa_value.specs.Typing.{HasType, own};
 ghost use Rattle.ioa_code.specs.Parts.{listing};
-ghost use Rattle.ioa_syntax.specs.View.{name_of, expr_of, stmt_of, stmts_of, arms_of, entry_of};
+ghost use Rattle.ioa_syntax.specs.View.{name_of, expr_of, stmt_of, stmts_of, arms_of};
 ghost use Rattle.ioa_syntax.specs.Tree.{named, assign, choose};
 ghost use Rattle.ioa_syntax.specs.WellFormed.{nodes, stmt_nodes, stmts_nodes};
-ghost use Rattle.ioa_compose.specs.Held.{member_of};
 ghost use Rattle.ioa_compile.specs.Scopes.{scope_in, IsScope, IsKnown, IsKnownStmt, AreKnown, IsKnownGuard, IsOrigin, origin};
 ghost use Rattle.ioa_compile.specs.Extents.{extent, infix_extent, guard_extent, stmt_extent, stmts_extent};
 ghost use Rattle.ioa_compile.specs.Emitting.{AddsInstr, AddsConst, AddsExpr, AddsCombined, AddsTrueSide, AddsFalseSide, AddsGuard, AddsStmt, AddsStmts, guard_nodes};
