@@ -97,7 +97,8 @@ fn counter(alloc: Global, pre: &str, effect: &str) -> Result<String, AllocError>
     format!(in alloc;
         "automaton Counter(start: Int) signature output tick(k: Int); input reset states c: Int := start \
         transitions output tick pre {pre} propose k := c eff {effect} input reset eff c := start \
-        composition One components A: Counter(5)")
+        composition One components A: Counter(5)"
+    )
 }
 
 #[test]
