@@ -12,3 +12,4 @@ pub use counted::Counted;
 pub use device::{Device, Failed, InputDevice, OutputDevice};
 pub use failure::LogErr;
 pub use replay::replay_list;
+pub use streams::send_all;

@@ -53,7 +53,10 @@ pub(crate) fn blamed<R: InputDevice>(input: &mut R, error: LogErr) -> LogErr
 }
 
 /// Hands all of a text to a writer.
-pub(crate) fn send_all<W: OutputDevice>(output: &mut W, text: &[u8]) -> Result<(), LogErr>
+///
+/// # Errors
+/// `Io` where the writer failed in this call. It has taken a beginning of the text then.
+pub fn send_all<W: OutputDevice>(output: &mut W, text: &[u8]) -> Result<(), LogErr>
     ensures ok { OnOk result (Appends (W.contents output.old) (W.contents output.new) text.now) }
     ensures io { IfErr result (λ e. (e ≡ LogErr.Io) × HasFailed (W.failure_count output.old) (W.failure_count output.new)) }
     ensures begun { OnErr result ((k : ℕ) × Appends (W.contents output.old) (W.contents output.new) (take k text.now)) }

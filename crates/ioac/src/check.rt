@@ -3,9 +3,8 @@ ghost use Rattle.ioa_log.specs.Failing.{HasFailed};
 ghost use Rattle.ioac.specs.Checks.{IsCheck, IsCheckFailure, IsUnchecked};
 
 use crate::failure::Failure;
-use crate::sending::send_text;
 use ioa_check::check;
-use ioa_log::OutputDevice;
+use ioa_log::{OutputDevice, send_all};
 use ioa_syntax::parse;
 use std::alloc::Global;
 
@@ -25,6 +24,6 @@ pub fn check_text<W: OutputDevice>(
 {
     let source = parse(alloc, text)?;
     let _checked = check(alloc, source)?;
-    send_text(output, b"ok\n")?;
+    send_all(output, b"ok\n")?;
     Ok(())
 }

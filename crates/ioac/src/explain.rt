@@ -5,8 +5,7 @@ ghost use Rattle.ioac.specs.Explained.{IsExplained, IsUnexplained};
 use crate::code::Code;
 use crate::explanations::explanation;
 use crate::failure::Failure;
-use crate::sending::send_text;
-use ioa_log::OutputDevice;
+use ioa_log::{OutputDevice, send_all};
 use std::alloc::Global;
 
 /// Writes what a code means, what gives it, and what to do then.
@@ -21,6 +20,6 @@ pub fn explain<W: OutputDevice>(alloc: Global, code: Code, output: &mut W) -> Re
 {
     let explanation = explanation(code);
     let text = format!(in alloc; "{code}: {explanation}")?;
-    send_text(output, text.as_bytes())?;
+    send_all(output, text.as_bytes())?;
     Ok(())
 }

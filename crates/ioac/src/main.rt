@@ -12,7 +12,6 @@ mod files;
 mod refusal;
 mod replay;
 mod request;
-mod sending;
 mod status;
 mod store;
 #[cfg(test)]
