@@ -122,27 +122,61 @@ fn runs_a_program(rt: HostRuntime) -> Result<(), Fail> {
     Ok(())
 }
 
-/// An operator, two numbers, and its value; without one, a fault.
-const OPERATIONS: [(Op, i64, i64, Option<Value>); 14] = [
-    (Op::Add, 2, 3, Some(Value::Num(5))),
-    (Op::Add, i64::MAX, 0, Some(Value::Num(i64::MAX))),
-    (Op::Add, i64::MAX, i64::MIN, Some(Value::Num(-1))),
-    (Op::Add, i64::MAX, 1, None),
-    (Op::Add, i64::MIN, -1, None),
-    (Op::Sub, 2, 3, Some(Value::Num(-1))),
-    (Op::Sub, -1, i64::MAX, Some(Value::Num(i64::MIN))),
-    (Op::Sub, -1, i64::MIN, Some(Value::Num(i64::MAX))),
-    (Op::Sub, i64::MIN, 1, None),
-    (Op::Sub, 0, i64::MIN, None),
-    (Op::Eq, 2, 2, Some(Value::Truth(true))),
-    (Op::Eq, 2, 3, Some(Value::Truth(false))),
-    (Op::Eq, i64::MIN, i64::MIN, Some(Value::Truth(true))),
-    (Op::Eq, i64::MIN, i64::MAX, Some(Value::Truth(false))),
+/// An operator, two numbers, and its value or fault. An operator on one operand takes the first, as a truth value where it is
+/// one on truth values.
+const OPERATIONS: [(Op, i64, i64, Result<Value, Fault>); 33] = [
+    (Op::Add, 2, 3, Ok(Value::Num(5))),
+    (Op::Add, i64::MAX, 0, Ok(Value::Num(i64::MAX))),
+    (Op::Add, i64::MAX, i64::MIN, Ok(Value::Num(-1))),
+    (Op::Add, i64::MAX, 1, Err(Fault::Overflow)),
+    (Op::Add, i64::MIN, -1, Err(Fault::Overflow)),
+    (Op::Sub, 2, 3, Ok(Value::Num(-1))),
+    (Op::Sub, -1, i64::MAX, Ok(Value::Num(i64::MIN))),
+    (Op::Sub, -1, i64::MIN, Ok(Value::Num(i64::MAX))),
+    (Op::Sub, i64::MIN, 1, Err(Fault::Overflow)),
+    (Op::Sub, 0, i64::MIN, Err(Fault::Overflow)),
+    (Op::Mul, -7, 6, Ok(Value::Num(-42))),
+    (Op::Mul, i64::MIN, -1, Err(Fault::Overflow)),
+    (Op::Div, -7, 2, Ok(Value::Num(-4))),
+    (Op::Div, -7, -2, Ok(Value::Num(4))),
+    (Op::Div, 7, -2, Ok(Value::Num(-3))),
+    (Op::Div, i64::MIN, -1, Err(Fault::Overflow)),
+    (Op::Div, 3, 0, Err(Fault::ZeroDivisor)),
+    (Op::Mod, -7, 2, Ok(Value::Num(1))),
+    (Op::Mod, -7, -2, Ok(Value::Num(1))),
+    (Op::Mod, i64::MIN, -1, Ok(Value::Num(0))),
+    (Op::Mod, 3, 0, Err(Fault::ZeroDivisor)),
+    (Op::Lt, 2, 2, Ok(Value::Truth(false))),
+    (Op::Le, 2, 2, Ok(Value::Truth(true))),
+    (Op::Gt, 3, 2, Ok(Value::Truth(true))),
+    (Op::Ge, i64::MIN, i64::MAX, Ok(Value::Truth(false))),
+    (Op::Eq, 2, 2, Ok(Value::Truth(true))),
+    (Op::Eq, 2, 3, Ok(Value::Truth(false))),
+    (Op::Eq, i64::MIN, i64::MIN, Ok(Value::Truth(true))),
+    (Op::Eq, i64::MIN, i64::MAX, Ok(Value::Truth(false))),
+    (Op::Ne, 2, 3, Ok(Value::Truth(true))),
+    (Op::Neg, 7, 0, Ok(Value::Num(-7))),
+    (Op::Neg, i64::MIN, 0, Err(Fault::Overflow)),
+    (Op::Not, 0, 0, Ok(Value::Truth(true))),
 ];
 
 fn on_numbers(alloc: Global, op: Op, a: i64, b: i64) -> Result<Result<Value, Fault>, OutOfMemory> {
     let types = basic(alloc)?;
-    apply(alloc, &types, op, &[Value::Num(a), Value::Num(b)])
+    match op {
+        Op::Neg => apply(alloc, &types, Op::Neg, &[Value::Num(a)]),
+        Op::Not => apply(alloc, &types, Op::Not, &[Value::Truth(a != 0)]),
+        Op::Add
+        | Op::Sub
+        | Op::Mul
+        | Op::Div
+        | Op::Mod
+        | Op::Lt
+        | Op::Le
+        | Op::Gt
+        | Op::Ge
+        | Op::Eq
+        | Op::Ne => apply(alloc, &types, op, &[Value::Num(a), Value::Num(b)]),
+    }
 }
 
 #[test]
@@ -150,8 +184,8 @@ fn operators_and_types_have_values(rt: HostRuntime) -> Result<(), Fail> {
     let alloc = rt.alloc();
     for (op, a, b, wanted) in &OPERATIONS {
         match (on_numbers(alloc, *op, *a, *b)?, wanted) {
-            (Ok(value), Some(wanted)) => assert!(rt; same(&value, wanted), "{a} {b}"),
-            (Err(fault), None) => assert_eq!(rt; fault, Fault::Overflow),
+            (Ok(value), Ok(wanted)) => assert!(rt; same(&value, wanted), "{a} {b}"),
+            (Err(fault), Err(wanted)) => assert_eq!(rt; fault, *wanted),
             _ => assert!(rt; false, "{a} {b}"),
         }
     }
