@@ -1,5 +1,5 @@
 -- An action's text begins with its name.
-use Rattle.std.proofs.Common.{◌≡◌, ℕ, List, [], ◌∷◌, Bool, true, false, MatchBool, Result, Ok, Err, IfOk, refl, sym, ap, subst, ◌∙◌}
+use Rattle.std.proofs.Common.{◌≡◌, ℕ, List, [], ◌∷◌, Bool, true, false, MatchBool, ◌<◌, length, IsTrue, Result, Ok, Err, IfOk, refl, sym, ap, subst, ◌∙◌, arith}
 use Rattle.ioa_value.specs.Plain.{Val}
 use Rattle.ioa_value.specs.Table.{Table}
 use Rattle.ioa_value.specs.Actions.{Act}
@@ -50,3 +50,19 @@ after_open types text rest [] (Ok true) e h = absurd h
 after_open types text rest (v ∷ vs) (Ok true) e h = (rest, h, e)
 after_open types text rest vs (Ok false) e h = λ ws r. h ws (inner types rest ws (subst (λ x. ReadsArguments types x ws) e r))
 after_open types text rest vs (Err f) e h = tt
+
+-- what was read after a `(` is all that can be
+pub only_after_open : {E : Type 0} (types : Table) (text rest : List ℕ) (vs : List Val) (r : Result Bool E) → text ≡ 40 ∷ rest
+    → ((ws : List Val) → ReadsValues types rest ws → IfOk r (λ b. IsTrue b × (vs ≡ ws)))
+    → (ws : List Val) → ReadsArguments types text ws → IfOk r (λ b. IsTrue b × (vs ≡ ws))
+only_after_open types text rest vs r e h ws k = h ws (inner types rest ws (subst (λ x. ReadsArguments types x ws) e k))
+
+-- of no text there are no values
+pub no_arguments : (types : Table) (text : List ℕ) → text ≡ [] → (ws : List Val) → ReadsArguments types text ws → [] ≡ ws
+no_arguments types text e [] r = refl
+no_arguments types text e (v ∷ vs) (rest, r, f) = let k : [] ≡ 40 ∷ rest = sym e ∙ f in absurd (cc)
+
+-- of a text that begins otherwise there are none either
+pub no_open : (types : Table) (text : List ℕ) → 0 < length text → ((rest : List ℕ) → text ≡ 40 ∷ rest → ⊥) → (ws : List Val) → ReadsArguments types text ws → ⊥
+no_open types text long none [] r = omega (arith, long, ap length r)
+no_open types text long none (v ∷ vs) (rest, r, e) = none rest e

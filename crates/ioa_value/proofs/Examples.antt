@@ -1,10 +1,14 @@
--- What the definitions say of operators on some operands: each answer is computed.
-use Rattle.std.proofs.Common.{◌≡◌, ℕ, ℤ, pos, neg_ℤ, true, false, [], ◌∷◌, Some, None, refl}
+-- What the definitions say of operators on some operands, and of texts of values: each answer is computed.
+use Rattle.std.proofs.Common.{◌≡◌, ℕ, ℤ, pos, neg_ℤ, true, false, List, [], ◌∷◌, Option, Some, None, codes, refl}
 use Rattle.ioa_value.specs.declared.arithmetic.Fault.TheVariants.{Overflow, ZeroDivisor}
 use Rattle.ioa_value.specs.declared.operator.Op.{Op}
 use Rattle.ioa_value.specs.declared.operator.Op.TheVariants.{Neg, Add, Sub, Mul, Div, Mod, Lt, Le, Gt, Ge, Not, Eq, Ne}
-use Rattle.ioa_value.specs.Plain.{num, truth}
-use Rattle.ioa_value.specs.Table.{basic}
+use Rattle.ioa_value.specs.Plain.{Val, num, truth, name, tuple, items, none, more}
+use Rattle.ioa_value.specs.Table.{Table, bool, int, names, fields, sequence, basic}
+use Rattle.ioa_value.specs.Actions.{Act}
+use Rattle.ioa_value.specs.Scanning.{scan_value}
+use Rattle.ioa_value.specs.Widths.{widths}
+use Rattle.ioa_value.specs.Written.{written_value, written_action}
 use Rattle.ioa_value.specs.Operators.{Answer, gives, faults, nothing, operate, op_type}
 
 abbrev minus : ℕ → ℤ
@@ -119,3 +123,67 @@ no_number_of_truth = refl
 
 no_truth_of_two : op_type basic Not (0 ∷ 0 ∷ []) ≡ None
 no_truth_of_two = refl
+
+-- ---- texts of values
+
+-- Kind, type 2; Pkt, type 3, of a Kind and three numbers; S, type 4, of one number at most; Mode, type 5
+abbrev sample : Table
+sample =
+    bool ∷ int ∷ record { name = codes "Kind"; shape = names (codes "data" ∷ codes "ack" ∷ []) }
+    ∷ record {
+      name = codes "Pkt";
+      shape = fields (record { name = codes "kind"; ty = 2 } ∷ record { name = codes "tag"; ty = 1 } ∷ record { name = codes "id"; ty = 1 } ∷ record { name = codes "m"; ty = 1 } ∷ []);
+    }
+    ∷ record { name = codes "S"; shape = sequence 1 1 } ∷ record { name = codes "Mode"; shape = names (codes "idle" ∷ []) } ∷ []
+
+abbrev packet : Val
+packet = tuple 3 (more (name 2 0) (more (num (pos 1)) (more (num (pos 0)) (more (num (pos 7)) none))))
+
+abbrev single : Val
+single = items 4 (more (num (pos 1)) none)
+
+sample_widths : widths sample ≡ 1 ∷ 1 ∷ 1 ∷ 4 ∷ 2 ∷ 1 ∷ []
+sample_widths = refl
+
+name_is_written : written_action sample (record { name = codes "p"; vals = name 2 1 ∷ truth true ∷ [] }) ≡ codes "p(ack, true)"
+unfolding written_action
+name_is_written = refl
+
+nothing_is_written : written_value sample (items 4 none) ≡ codes "S[]"
+nothing_is_written = refl
+
+packet_is_read : scan_value sample (codes "Pkt(data, 1, 0, 7))") ≡ Some (packet, codes ")")
+packet_is_read = refl
+
+blanks_are_read : scan_value sample (codes " S[ 01 ] )") ≡ Some (single, codes ")")
+blanks_are_read = refl
+
+empty_is_read : scan_value sample (codes "S[ ])") ≡ Some (items 4 none, codes ")")
+empty_is_read = refl
+
+name_is_read : scan_value sample (codes "ack , 1)") ≡ Some (name 2 1, codes ", 1)")
+name_is_read = refl
+
+no_more_than_fit : scan_value sample (codes "S[1, 2])") ≡ None
+no_more_than_fit = refl
+
+no_other_type : scan_value sample (codes "Pkt(1, 1, 0, 7))") ≡ None
+no_other_type = refl
+
+no_other_enumeration : scan_value sample (codes "Pkt(idle, 1, 0, 7))") ≡ None
+no_other_enumeration = refl
+
+no_missing_field : scan_value sample (codes "Pkt(data, 1, 0))") ≡ None
+no_missing_field = refl
+
+no_unknown_type : scan_value sample (codes "T[1])") ≡ None
+no_unknown_type = refl
+
+no_unknown_name : scan_value sample (codes "nack)") ≡ None
+no_unknown_name = refl
+
+no_deeper_value : scan_value sample (codes "S[S[1]])") ≡ None
+no_deeper_value = refl
+
+no_other_mark : scan_value sample (codes "S(1))") ≡ None
+no_other_mark = refl

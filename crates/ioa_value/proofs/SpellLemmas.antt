@@ -1,4 +1,4 @@
--- A spelling is one word, and it spells one value.
+-- Numbers and names are words.
 use Rattle.std.proofs.Common.{◌≡◌, ℕ, ◌<◌, ◌≤◌, Bool, true, false, ◌&&◌, not, nat_le, ℤ, pos, neg_ℤ, List, [], ◌∷◌, length, codes, IsUtf8, IsAscii, refl, sym, ap, subst, ◌∙◌, arith, inl, inr}
 use Rattle.std.specs.List.{list_all}
 use Rattle.std.specs.Str.Parse.{AllDigits, digits_value}
@@ -6,10 +6,8 @@ use Rattle.std.proofs.lemmas.Str.Parse.{digit_from_value}
 use Rattle.std.proofs.lemmas.Str.{IsUtf8-from_ascii}
 use Rattle.std.proofs.lemmas.Str.Ascii.{IsAscii-nil, IsAscii-cons}
 use Rattle.std.proofs.lemmas.Bool.Decides.{nat_tests}
-use Rattle.ioa_value.specs.Plain.{Val, truth, num, name, tuple, items}
-use Rattle.ioa_value.specs.Table.{Table}
 use Rattle.ioa_value.specs.Names.{IsName, is_name, is_reserved, is_word_byte, begins_with_letter}
-use Rattle.ioa_value.specs.Reads.{Spells, SpellsNumber}
+use Rattle.ioa_value.specs.Reads.{SpellsNumber}
 use Rattle.ioa_value.specs.Tokens.{is_inside}
 use Rattle.ioa_value.proofs.TokenLemmas.{IsWord}
 use Rattle.std.proofs.lemmas.Bool.{and_parts}
@@ -23,17 +21,9 @@ digits_inside (c ∷ cs) h =
     let r = digit_from_value c h.0 in
     rw (digit_inside c r.0 r.1) (digits_inside cs h.1)
 
-number_is_word : (w : List ℕ) (z : ℤ) → SpellsNumber w z → IsWord w
+pub number_is_word : (w : List ℕ) (z : ℤ) → SpellsNumber w z → IsWord w
 number_is_word w z (ds, n, inl q) = subst IsWord (sym q.0) (record { long = n.0; inside = digits_inside ds n.1 })
 number_is_word w z (ds, n, inr q) = subst IsWord (sym q.0) (record { long = omega arith; inside = digits_inside ds n.1 })
-
-pub spelled_is_word : (types : Table) (w : List ℕ) (v : Val) → Spells types w v → IsWord w
-spelled_is_word types w (truth true) e = subst IsWord (sym e) (record { long = omega arith; inside = refl })
-spelled_is_word types w (truth false) e = subst IsWord (sym e) (record { long = omega arith; inside = refl })
-spelled_is_word types w (num z) s = number_is_word w z s
-spelled_is_word types w (name own n) s = absurd s
-spelled_is_word types w (tuple own vs) s = absurd s
-spelled_is_word types w (items own vs) s = absurd s
 
 word_byte_inside : (c : ℕ) → is_word_byte c ≡ true → is_inside c ≡ true
 word_byte_inside c h = grind (arith, nat_tests)
@@ -75,40 +65,6 @@ number_once w y z (ds, m, inr p) (es, n, inr q) =
     p.1 ∙ ap (λ l. neg_ℤ (pos (digits_value 10 l))) e ∙ sym q.1
 number_once w y z (ds, m, inl p) (es, n, inr q) = absurd (unsigned ds es m.1 (sym p.0 ∙ q.0))
 number_once w y z (ds, m, inr p) (es, n, inl q) = absurd (unsigned es ds n.1 (sym q.0 ∙ p.0))
-
-starts_with_t : (w : List ℕ) (z : ℤ) → SpellsNumber w z → (c : ℕ) (cs : List ℕ) → w ≡ c ∷ cs → 58 ≤ c → ⊥
-starts_with_t w z (ds, n, inl q) c cs e h = large ds n.1 (sym q.0 ∙ e)
-  where
-    large : (ds : List ℕ) → AllDigits 10 ds → ds ≡ c ∷ cs → ⊥
-    large [] a e = cc
-    large (d ∷ es) a e =
-        let r = digit_from_value d a.0 in
-        let k : d ≡ c = cc in
-        omega arith
-starts_with_t w z (ds, n, inr q) c cs e h =
-    let k : 45 ∷ ds ≡ c ∷ cs = sym q.0 ∙ e in
-    let k' : 45 ≡ c = cc in
-    omega arith
-
-pub spells_once : (types : Table) (w : List ℕ) (u v : Val) → Spells types w u → Spells types w v → u ≡ v
-spells_once types w (truth true) (truth true) s t = refl
-spells_once types w (truth true) (truth false) s t = let e : codes "true" ≡ codes "false" = sym s ∙ t in absurd (cc)
-spells_once types w (truth true) (num z) s t = absurd (starts_with_t w z t _ _ s (omega arith))
-spells_once types w (truth false) (truth true) s t = let e : codes "true" ≡ codes "false" = sym t ∙ s in absurd (cc)
-spells_once types w (truth false) (truth false) s t = refl
-spells_once types w (truth false) (num z) s t = absurd (starts_with_t w z t _ _ s (omega arith))
-spells_once types w (num y) (truth true) s t = absurd (starts_with_t w y s _ _ t (omega arith))
-spells_once types w (num y) (truth false) s t = absurd (starts_with_t w y s _ _ t (omega arith))
-spells_once types w (num y) (num z) s t = ap num (number_once w y z s t)
-spells_once types w (name own n) v s t = absurd s
-spells_once types w (tuple own vs) v s t = absurd s
-spells_once types w (items own vs) v s t = absurd s
-spells_once types w (truth b) (name own n) s t = absurd t
-spells_once types w (truth b) (tuple own vs) s t = absurd t
-spells_once types w (truth b) (items own vs) s t = absurd t
-spells_once types w (num y) (name own n) s t = absurd t
-spells_once types w (num y) (tuple own vs) s t = absurd t
-spells_once types w (num y) (items own vs) s t = absurd t
 
 word_byte_ascii : (c : ℕ) → is_word_byte c ≡ true → c < 128
 word_byte_ascii c h = grind (arith, nat_tests)

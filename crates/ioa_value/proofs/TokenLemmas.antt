@@ -78,7 +78,7 @@ finds_rest w first rest h (before, after, b, a, e) end =
     ap (λ l. after_blanks (after_word l)) (reaches w first rest before after h b e)
     ∙ ap after_blanks (past_word w (after ++ rest) h.inside ∙ stays_in after rest a end) ∙ skip after rest a ∙ end.no_blank
 
-abbrev Blanks : List ℕ → Type 0
+abbrev pub Blanks : List ℕ → Type 0
 Blanks text = (before : List ℕ) × IsBlank before × (text ≡ before ++ after_blanks text)
 
 one_blank : (b : ℕ) (bs : List ℕ) → Blanks bs → (t : Bool) → is_blank b ≡ t → Blanks (b ∷ bs)
@@ -86,7 +86,7 @@ one_blank b bs r true e = (b ∷ r.0, rw e r.1, rw e (ap (λ l. b ∷ l) r.2))
 one_blank b bs r false e = ([], refl, rw e refl)
 
 -- the text is its blanks, and what follows
-blanks : (text : List ℕ) → Blanks text
+pub blanks : (text : List ℕ) → Blanks text
 blanks [] = ([], refl, refl)
 blanks (b ∷ bs) = one_blank b bs (blanks bs) (is_blank b) refl
 

@@ -1,21 +1,13 @@
--- Membership, over any table: of tuples and sequences by their parts, of values in lists, of what operators take and give.
-use Rattle.std.proofs.Common.{◌≡◌, ℕ, zero, suc, ℤ, pos, negsuc, ◌+ℤ◌, ◌-ℤ◌, ◌*ℤ◌, neg_ℤ, Bool, true, false, not, IsTrue, cond, arith, ◌&&◌, ◌==◌, List, [], ◌∷◌, ◌++◌, length, map, take, drop, Option, Some, None, Ok, Err, refl, sym, ap, subst, ◌∙◌}
-use Rattle.std.specs.Prelude.{nat_le, int_lt, int_le, slice_get, slice_set}
-use Rattle.std.specs.Int.{int_div_euclid}
+-- Membership, over any table: of tuples and sequences by their parts, of values in lists.
+use Rattle.std.proofs.Common.{◌≡◌, ℕ, zero, suc, ℤ, Bool, true, false, IsTrue, ◌&&◌, ◌==◌, List, [], ◌∷◌, ◌++◌, length, map, take, drop, Option, Some, refl, sym, ap, subst, ◌∙◌}
+use Rattle.std.specs.Prelude.{nat_le, slice_get, slice_set}
 use Rattle.std.specs.Option.{option_map}
 use Rattle.std.proofs.lemmas.Bool.{false≢true, and_parts}
-use Rattle.std.proofs.lemmas.Bool.Decides.{nat_tests}
-use Rattle.ioa_value.specs.declared.arithmetic.Fault.TheVariants.{Overflow}
-use Rattle.ioa_value.specs.declared.operator.Op.{Op}
-use Rattle.ioa_value.specs.declared.operator.Op.TheVariants.{Neg, Add, Sub, Mul, Div, Mod, Lt, Le, Gt, Ge, Not, Eq, Ne}
-use Rattle.ioa_value.specs.declared.operator.Class.{Class}
-use Rattle.ioa_value.specs.declared.operator.Class.TheVariants.{Negation, Arithmetic, Comparison, Denial, Equality}
 use Rattle.ioa_value.specs.declared.value.Value.{Value}
-use Rattle.ioa_value.specs.Arithmetic.{fits, tested, quotient, remainder}
+use Rattle.ioa_value.specs.Arithmetic.{fits}
 use Rattle.ioa_value.specs.Plain.{Val, Vals, truth, num, name, tuple, items, plain_all, count}
-use Rattle.ioa_value.specs.Table.{Table, Shape, truths, numbers, shape_at, AreTypes}
+use Rattle.ioa_value.specs.Table.{Table, TupleField, Shape, truths, numbers, fields, sequence, shape_at, types_of, AreTypes}
 use Rattle.ioa_value.specs.Typing.{is_name_of, of_fields, of_sequence, is_of, parts_are, items_are, HasType, HaveTypes, OwnTypes, own}
-use Rattle.ioa_value.specs.Operators.{Answer, gives, nothing, of_number, on_number, on_numbers, on_truth, on_alike, operate, same, class_of, of_one, of_both, of_alike, type_of, op_type, TakesBy, Takes, IsTypedAnswer}
 use Rattle.ioa_value.specs.Reads.{IsTyped}
 use Rattle.ioa_value.proofs.SameLemmas.{equal, equal_numbers, both_false}
 
@@ -149,7 +141,7 @@ module _ (types : Table) where
   OwnTypes-parts [] args h = (tt, h)
   OwnTypes-parts (x ∷ xs) args h = let r = OwnTypes-parts xs args h.1 in ((h.0, r.0), r.1)
 
--- ---- what a table of types settles: the values of Bool and Int, and what operators take and give
+-- ---- what a table of types settles: the values of Bool and Int, of sequences and of tuples
 
 module _ (types : Table) (declared : AreTypes types) where
   -- a value that is told by the shape of its own type is told by that of the type that it has
@@ -182,142 +174,30 @@ module _ (types : Table) (declared : AreTypes types) where
   is_number (items s vs) h =
       absurd (false≢true (told_by (λ o. of_sequence o (λ most of. nat_le (count vs) most && items_are types vs of)) 1 s (Some numbers) h second_shape))
 
-  one_passes : (a k given ty : ℕ) (p : Bool) → (a == k) ≡ p → cond p (Some given) None ≡ Some ty → (a ≡ k) × (given ≡ ty)
-  one_passes a k given ty true e h = (equal_numbers a k e, cc)
-  one_passes a k given ty false e h = absurd (cc)
+  -- a value of a sequence type is a sequence of it
+  pub is_sequence : (v : Val) (s most of : ℕ) → HasType types v s → shape_at types s ≡ Some (sequence most of) → (xs : Vals) × (v ≡ items s xs) × IsTrue (nat_le (count xs) most && items_are types xs of)
+  is_sequence (truth b) s most of h e =
+      let t : Some (sequence most of) ≡ Some truths = sym e ∙ ap (shape_at types) (equal_numbers s 0 h) ∙ first_shape in absurd (cc)
+  is_sequence (num z) s most of h e =
+      let t : Some (sequence most of) ≡ Some numbers = sym e ∙ ap (shape_at types) (equal_numbers s 1 (and_parts (s == 1) (fits z) h).0) ∙ second_shape in
+      absurd (cc)
+  is_sequence (name o n) s most of h e = absurd (false≢true (told_by (λ x. is_name_of x n) s o (Some (sequence most of)) h e))
+  is_sequence (tuple o vs) s most of h e =
+      absurd (false≢true (told_by (λ x. of_fields x (λ tys. parts_are types vs tys)) s o (Some (sequence most of)) h e))
+  is_sequence (items o vs) s most of h e =
+      let test : Option Shape → Bool = λ x. of_sequence x (λ m t. nat_le (count vs) m && items_are types vs t) in
+      (vs, ap (λ k. items k vs) (sym (equal_numbers s o (and_parts (s == o) (test (shape_at types o)) h).0)), told_by test s o (Some (sequence most of)) h e)
 
-  both_pass : (a b k given ty : ℕ) (p q : Bool) → (a == k) ≡ p → (b == k) ≡ q → cond (p && q) (Some given) None ≡ Some ty → (a ≡ k) × (b ≡ k) × (given ≡ ty)
-  both_pass a b k given ty true true e f h = (equal_numbers a k e, equal_numbers b k f, cc)
-  both_pass a b k given ty true false e f h = absurd (cc)
-  both_pass a b k given ty false q e f h = absurd (cc)
-
-  -- the operand of an operator on one value of a type
-  one_operand : (k given : ℕ) (vs : List Val) (tys : List ℕ) (ty : ℕ) → HaveTypes types vs tys → of_one k given tys ≡ Some ty → (v : Val) × HasType types v k × (vs ≡ v ∷ []) × (given ≡ ty)
-  one_operand k given vs [] ty h e = absurd (cc)
-  one_operand k given vs (a ∷ b ∷ tys) ty h e = absurd (cc)
-  one_operand k given [] (a ∷ []) ty h e = absurd h
-  one_operand k given (v ∷ w ∷ ws) (a ∷ []) ty h e = absurd h.1
-  one_operand k given (v ∷ []) (a ∷ []) ty h e =
-      let t = one_passes a k given ty (a == k) refl e in
-      (v, subst (HasType types v) t.0 h.0, refl, t.1)
-
-  -- the operands of an operator on two values of a type
-  both_operands : (k given : ℕ) (vs : List Val) (tys : List ℕ) (ty : ℕ) → HaveTypes types vs tys → of_both k given tys ≡ Some ty → (v : Val) × (w : Val) × HasType types v k × HasType types w k × (vs ≡ v ∷ w ∷ []) × (given ≡ ty)
-  both_operands k given vs [] ty h e = absurd (cc)
-  both_operands k given vs (a ∷ []) ty h e = absurd (cc)
-  both_operands k given vs (a ∷ b ∷ c ∷ tys) ty h e = absurd (cc)
-  both_operands k given [] (a ∷ b ∷ []) ty h e = absurd h
-  both_operands k given (v ∷ []) (a ∷ b ∷ []) ty h e = absurd h.1
-  both_operands k given (v ∷ w ∷ u ∷ us) (a ∷ b ∷ []) ty h e = absurd h.1.1
-  both_operands k given (v ∷ w ∷ []) (a ∷ b ∷ []) ty h e =
-      let t = both_pass a b k given ty (a == k) (b == k) refl refl e in
-      (v, w, subst (HasType types v) t.0 h.0, subst (HasType types w) t.1 h.1.0, refl, t.2)
-
-  -- the operands of an operator on two values of one type
-  alike_operands : (given : ℕ) (vs : List Val) (tys : List ℕ) (ty : ℕ) → HaveTypes types vs tys → of_alike given tys ≡ Some ty → (v : Val) × (w : Val) × (own v ≡ own w) × (vs ≡ v ∷ w ∷ []) × (given ≡ ty)
-  alike_operands given vs [] ty h e = absurd (cc)
-  alike_operands given vs (a ∷ []) ty h e = absurd (cc)
-  alike_operands given vs (a ∷ b ∷ c ∷ tys) ty h e = absurd (cc)
-  alike_operands given [] (a ∷ b ∷ []) ty h e = absurd h
-  alike_operands given (v ∷ []) (a ∷ b ∷ []) ty h e = absurd h.1
-  alike_operands given (v ∷ w ∷ u ∷ us) (a ∷ b ∷ []) ty h e = absurd h.1.1
-  alike_operands given (v ∷ w ∷ []) (a ∷ b ∷ []) ty h e =
-      let t = one_passes a b given ty (a == b) refl e in
-      (v, w, own_type types v a h.0 ∙ t.0 ∙ sym (own_type types w b h.1.0), refl, t.1)
-
-  -- ---- what each class of operators takes
-
-  one_number : (given : ℕ) (vs : List Val) (tys : List ℕ) (ty : ℕ) → HaveTypes types vs tys → of_one 1 given tys ≡ Some ty → (x : ℤ) × (vs ≡ num x ∷ []) × (given ≡ ty)
-  one_number given vs tys ty h e =
-      let t = one_operand 1 given vs tys ty h e in
-      let p = is_number t.0 t.1 in
-      (p.0, t.2 ∙ ap (λ v. v ∷ []) p.1, t.3)
-
-  two_numbers : (given : ℕ) (vs : List Val) (tys : List ℕ) (ty : ℕ) → HaveTypes types vs tys → of_both 1 given tys ≡ Some ty → (x : ℤ) × (y : ℤ) × (vs ≡ num x ∷ num y ∷ []) × IsTrue (fits y) × (given ≡ ty)
-  two_numbers given vs tys ty h e =
-      let t = both_operands 1 given vs tys ty h e in
-      let p = is_number t.0 t.2 in
-      let q = is_number t.1 t.3 in
-      (p.0, q.0, t.4 ∙ ap (λ v. v ∷ t.1 ∷ []) p.1 ∙ ap (λ w. num p.0 ∷ w ∷ []) q.1, q.2, t.5)
-
-  one_truth : (given : ℕ) (vs : List Val) (tys : List ℕ) (ty : ℕ) → HaveTypes types vs tys → of_one 0 given tys ≡ Some ty → (b : Bool) × (vs ≡ truth b ∷ []) × (given ≡ ty)
-  one_truth given vs tys ty h e =
-      let t = one_operand 0 given vs tys ty h e in
-      let p = is_truth t.0 t.1 in
-      (p.0, t.2 ∙ ap (λ v. v ∷ []) p.1, t.3)
-
-  class_takes : (class : Class) (vs : List Val) (tys : List ℕ) (ty : ℕ) → HaveTypes types vs tys → type_of class tys ≡ Some ty → TakesBy class vs
-  class_takes Negation vs tys ty h e = let t = one_number 1 vs tys ty h e in (t.0, t.1)
-  class_takes Arithmetic vs tys ty h e = let t = two_numbers 1 vs tys ty h e in (t.0, t.1, t.2)
-  class_takes Comparison vs tys ty h e = let t = two_numbers 0 vs tys ty h e in (t.0, t.1, t.2)
-  class_takes Denial vs tys ty h e = let t = one_truth 0 vs tys ty h e in (t.0, t.1)
-  class_takes Equality vs tys ty h e = let t = alike_operands 0 vs tys ty h e in (t.0, t.1, t.2, t.3)
-
-  -- values of the operator's types are its operands
-  pub op_takes : (op : Op) (vs : List Val) (tys : List ℕ) (ty : ℕ) → HaveTypes types vs tys → op_type types op tys ≡ Some ty → Takes types op vs
-  op_takes op vs tys ty h e = class_takes (class_of op) vs tys ty h e
-
-  -- ---- what each class of operators gives
-
-  number_gives : (f : ℤ → Answer) (given : ℕ) → ((x : ℤ) → IsTypedAnswer types given (f x)) → (vs : List Val) (tys : List ℕ) (ty : ℕ) → HaveTypes types vs tys → of_one 1 given tys ≡ Some ty → IsTypedAnswer types ty (on_number f vs)
-  number_gives f given typed vs tys ty h e =
-      let t = one_number given vs tys ty h e in
-      subst {A = List Val} (λ l. IsTypedAnswer types ty (on_number f l)) (sym t.1)
-      (subst {A = ℕ} (λ k. IsTypedAnswer types k (f t.0)) t.2 (typed t.0))
-
-  numbers_give : (f : ℤ → ℤ → Answer) (given : ℕ) → ((x y : ℤ) → IsTrue (fits y) → IsTypedAnswer types given (f x y)) → (vs : List Val) (tys : List ℕ) (ty : ℕ) → HaveTypes types vs tys → of_both 1 given tys ≡ Some ty → IsTypedAnswer types ty (on_numbers f vs)
-  numbers_give f given typed vs tys ty h e =
-      let t = two_numbers given vs tys ty h e in
-      subst {A = List Val} (λ l. IsTypedAnswer types ty (on_numbers f l)) (sym t.2)
-      (subst {A = ℕ} (λ k. IsTypedAnswer types k (f t.0 t.1)) t.4 (typed t.0 t.1 t.3))
-
-  truth_gives : (f : Bool → Answer) (given : ℕ) → ((b : Bool) → IsTypedAnswer types given (f b)) → (vs : List Val) (tys : List ℕ) (ty : ℕ) → HaveTypes types vs tys → of_one 0 given tys ≡ Some ty → IsTypedAnswer types ty (on_truth f vs)
-  truth_gives f given typed vs tys ty h e =
-      let t = one_truth given vs tys ty h e in
-      subst {A = List Val} (λ l. IsTypedAnswer types ty (on_truth f l)) (sym t.1)
-      (subst {A = ℕ} (λ k. IsTypedAnswer types k (f t.0)) t.2 (typed t.0))
-
-  alike_gives : (f : Val → Val → Answer) (given : ℕ) (x y : Val) (b : Bool) → IsTypedAnswer types given (f x y) → (own x == own y) ≡ b → own x ≡ own y → IsTypedAnswer types given (cond b (f x y) nothing)
-  alike_gives f given x y true typed e h = typed
-  alike_gives f given x y false typed e h = absurd (false≢true (sym e ∙ equal (own x) (own y) h))
-
-  alike_give : (f : Val → Val → Answer) (given : ℕ) → ((x y : Val) → IsTypedAnswer types given (f x y)) → (vs : List Val) (tys : List ℕ) (ty : ℕ) → HaveTypes types vs tys → of_alike given tys ≡ Some ty → IsTypedAnswer types ty (on_alike f vs)
-  alike_give f given typed vs tys ty h e =
-      let t = alike_operands given vs tys ty h e in
-      subst {A = List Val} (λ l. IsTypedAnswer types ty (on_alike f l)) (sym t.3)
-      (subst {A = ℕ} (λ k. IsTypedAnswer types k (on_alike f (t.0 ∷ t.1 ∷ []))) t.4 (alike_gives f given t.0 t.1 (own t.0 == own t.1) (typed t.0 t.1) refl t.2))
-
-  fitting_typed : (z : ℤ) (b : Bool) → fits z ≡ b → IsTypedAnswer types 1 (of_number (cond b (Ok z) (Err Overflow)))
-  fitting_typed z true e = e
-  fitting_typed z false e = tt
-
-  tested_typed : (z : ℤ) → IsTypedAnswer types 1 (of_number (tested z))
-  tested_typed z = fitting_typed z (fits z) refl
-
-  quotient_typed : (x y : ℤ) → IsTypedAnswer types 1 (of_number (quotient x y))
-  quotient_typed x (pos zero) = tt
-  quotient_typed x (pos (suc n)) = tested_typed (int_div_euclid x (pos (suc n)))
-  quotient_typed x (negsuc n) = tested_typed (int_div_euclid x (negsuc n))
-
-  remainder_typed : (x y : ℤ) → IsTrue (fits y) → IsTypedAnswer types 1 (of_number (remainder x y))
-  remainder_typed x (pos zero) h = tt
-  remainder_typed (pos a) (pos (suc n)) h = grind (arith, nat_tests)
-  remainder_typed (negsuc a) (pos (suc n)) h = grind (arith, nat_tests)
-  remainder_typed (pos a) (negsuc n) h = grind (arith, nat_tests)
-  remainder_typed (negsuc a) (negsuc n) h = grind (arith, nat_tests)
-
-  -- what the operator gives of them is of the stated type
-  pub op_typed : (op : Op) (vs : List Val) (tys : List ℕ) (ty : ℕ) → HaveTypes types vs tys → op_type types op tys ≡ Some ty → IsTypedAnswer types ty (operate types op vs)
-  op_typed Neg vs tys ty h e = number_gives (λ x. of_number (tested (neg_ℤ x))) 1 (λ x. tested_typed (neg_ℤ x)) vs tys ty h e
-  op_typed Add vs tys ty h e = numbers_give (λ x y. of_number (tested (x +ℤ y))) 1 (λ x y _. tested_typed (x +ℤ y)) vs tys ty h e
-  op_typed Sub vs tys ty h e = numbers_give (λ x y. of_number (tested (x -ℤ y))) 1 (λ x y _. tested_typed (x -ℤ y)) vs tys ty h e
-  op_typed Mul vs tys ty h e = numbers_give (λ x y. of_number (tested (x *ℤ y))) 1 (λ x y _. tested_typed (x *ℤ y)) vs tys ty h e
-  op_typed Div vs tys ty h e = numbers_give (λ x y. of_number (quotient x y)) 1 (λ x y _. quotient_typed x y) vs tys ty h e
-  op_typed Mod vs tys ty h e = numbers_give (λ x y. of_number (remainder x y)) 1 remainder_typed vs tys ty h e
-  op_typed Lt vs tys ty h e = numbers_give (λ x y. gives (truth (int_lt x y))) 0 (λ x y _. refl) vs tys ty h e
-  op_typed Le vs tys ty h e = numbers_give (λ x y. gives (truth (int_le x y))) 0 (λ x y _. refl) vs tys ty h e
-  op_typed Gt vs tys ty h e = numbers_give (λ x y. gives (truth (int_lt y x))) 0 (λ x y _. refl) vs tys ty h e
-  op_typed Ge vs tys ty h e = numbers_give (λ x y. gives (truth (int_le y x))) 0 (λ x y _. refl) vs tys ty h e
-  op_typed Not vs tys ty h e = truth_gives (λ b. gives (truth (not b))) 0 (λ b. refl) vs tys ty h e
-  op_typed Eq vs tys ty h e = alike_give (λ v w. gives (truth (same v w))) 0 (λ v w. refl) vs tys ty h e
-  op_typed Ne vs tys ty h e = alike_give (λ v w. gives (truth (not (same v w)))) 0 (λ v w. refl) vs tys ty h e
+  -- a value of a tuple type is a tuple of it
+  pub is_tuple : (v : Val) (s : ℕ) (fs : List TupleField) → HasType types v s → shape_at types s ≡ Some (fields fs) → (xs : Vals) × (v ≡ tuple s xs) × IsTrue (parts_are types xs (types_of fs))
+  is_tuple (truth b) s fs h e =
+      let t : Some (fields fs) ≡ Some truths = sym e ∙ ap (shape_at types) (equal_numbers s 0 h) ∙ first_shape in absurd (cc)
+  is_tuple (num z) s fs h e =
+      let t : Some (fields fs) ≡ Some numbers = sym e ∙ ap (shape_at types) (equal_numbers s 1 (and_parts (s == 1) (fits z) h).0) ∙ second_shape in
+      absurd (cc)
+  is_tuple (name o n) s fs h e = absurd (false≢true (told_by (λ x. is_name_of x n) s o (Some (fields fs)) h e))
+  is_tuple (items o vs) s fs h e =
+      absurd (false≢true (told_by (λ x. of_sequence x (λ m t. nat_le (count vs) m && items_are types vs t)) s o (Some (fields fs)) h e))
+  is_tuple (tuple o vs) s fs h e =
+      let test : Option Shape → Bool = λ x. of_fields x (λ tys. parts_are types vs tys) in
+      (vs, ap (λ k. tuple k vs) (sym (equal_numbers s o (and_parts (s == o) (test (shape_at types o)) h).0)), told_by test s o (Some (fields fs)) h e)

@@ -1,8 +1,12 @@
 pub mod Arithmetic
 pub mod Plain
+pub mod Forms
+pub mod Widths
 pub mod Table
 pub mod Shapes
 pub mod Typing
+pub mod Same
+pub mod Sequences
 pub mod Operators
 pub mod Actions
 pub mod Coded
@@ -12,4 +16,6 @@ pub mod Names
 pub mod Written
 pub mod Reads
 pub mod Tokens
+pub mod Scanning
+pub mod Fronts
 pub mod Lists

@@ -31,6 +31,10 @@ abbrev pub vals : List Val → Vals
 vals [] = none
 vals (v ∷ vs) = more v (vals vs)
 
+abbrev pub listed : Vals → List Val
+listed none = []
+listed (more v vs) = v ∷ listed vs
+
 abbrev mutual
   pub plain : Value → Val
   plain (Truth b) = truth b

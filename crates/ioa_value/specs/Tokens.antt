@@ -2,9 +2,9 @@
 use Rattle.std.specs.Prelude.{ℕ, Bool, not, ◌||◌, ◌==◌, List, [], ◌∷◌, if◌then◌else◌}
 use Rattle.ioa_value.specs.Reads.{is_blank}
 
--- `(`, `)` or `,`
+-- `(`, `)`, `,`, `[` or `]`
 abbrev pub is_mark : ℕ → Bool
-is_mark b = b == 40 || b == 41 || b == 44
+is_mark b = b == 40 || b == 41 || b == 44 || b == 91 || b == 93
 
 -- no blank and no mark
 abbrev pub is_inside : ℕ → Bool

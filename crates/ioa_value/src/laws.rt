@@ -5,11 +5,12 @@ ghost use Rattle.std.specs.Int.{int_div_euclid, int_rem_euclid};
 ghost use Rattle.ioa_value.specs.Plain.{Val};
 ghost use Rattle.ioa_value.specs.Table.{Table, AreTypes};
 ghost use Rattle.ioa_value.specs.Typing.{HasType, HaveTypes, first_of};
-ghost use Rattle.ioa_value.specs.Operators.{same, operate, op_type, Takes, IsTypedAnswer};
+ghost use Rattle.ioa_value.specs.Operators.{operate, op_type, Takes, IsTypedAnswer};
+ghost use Rattle.ioa_value.specs.Same.{same};
 ghost use Rattle.ioa_value.specs.declared.operator.Op.{Op};
 ghost use Rattle.ioa_value.specs.Actions.{Act};
 ghost use Rattle.ioa_value.specs.Names.{IsName};
-ghost use Rattle.ioa_value.specs.Written.{written_action, HasText};
+ghost use Rattle.ioa_value.specs.Written.{written_action};
 ghost use Rattle.ioa_value.specs.Lists.{ReadsList, BadLine};
 ghost use Rattle.ioa_value.specs.Reads.{Reads, IsTyped};
 
@@ -20,12 +21,12 @@ pub fn no_bad_line()
 
 /// A text is read as at most one action.
 pub fn one_action()
-    ensures { (types : Table) (text : List ℕ) (a b : Act) → Reads types text a → Reads types text b → a ≡ b }
+    ensures { (types : Table) (text : List ℕ) (a b : Act) → AreTypes types → Reads types text a → Reads types text b → a ≡ b }
 {}
 
 /// A list text has one list of actions at most.
 pub fn one_list()
-    ensures { (types : Table) (text : List ℕ) (xs ys : List Act) → ReadsList types text xs → ReadsList types text ys → xs ≡ ys }
+    ensures { (types : Table) (text : List ℕ) (xs ys : List Act) → AreTypes types → ReadsList types text xs → ReadsList types text ys → xs ≡ ys }
 {}
 
 /// A list text has one bad line at most.
@@ -35,13 +36,12 @@ pub fn one_bad_line()
 
 /// A list text is a list of actions, or has a bad line.
 pub fn list_or_bad_line()
-    ensures { (types : Table) (text : List ℕ) → ((acts : List Act) × ReadsList types text acts) ⊎ ((n : ℕ) × BadLine types text n) }
+    ensures { (types : Table) (text : List ℕ) → AreTypes types → ((acts : List Act) × ReadsList types text acts) ⊎ ((n : ℕ) × BadLine types text n) }
 {}
 
-/// What is written of an action with a legal name and typed values is read as that action, where each value is one that has
-/// a text.
+/// What is written of an action with a legal name and typed values is read as that action.
 pub fn written_is_read()
-    ensures { (types : Table) (a : Act) → IsName a.name → All (IsTyped types) a.vals → All HasText a.vals → Reads types (written_action types a) a }
+    ensures { (types : Table) (a : Act) → IsName a.name → All (IsTyped types) a.vals → Reads types (written_action types a) a }
 {}
 
 /// The first value of a type is one of the type's.

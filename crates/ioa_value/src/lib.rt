@@ -2,7 +2,9 @@
 #![tactic(auto)]
 
 mod action;
+mod application;
 mod arithmetic;
+mod declarations;
 mod initial;
 mod laws;
 mod limits;
@@ -10,8 +12,12 @@ mod listing;
 mod memory;
 mod names;
 mod operator;
+mod parts;
 mod reading;
+mod scanning;
+mod sequences;
 mod spelling;
+mod stack;
 mod terminal;
 mod tokens;
 mod types;
@@ -20,7 +26,9 @@ mod value;
 mod writing;
 
 pub use action::Action;
+pub use application::{apply, apply_last};
 pub use arithmetic::Fault;
+pub use declarations::Declarations;
 pub use initial::first;
 pub use laws::{
     first_is_typed, list_or_bad_line, no_bad_line, one_action, one_bad_line, one_list,
@@ -30,10 +38,10 @@ pub use limits::{LIMITS, Limits};
 pub use listing::{is_skipped, read_list};
 pub use memory::OutOfMemory;
 pub use names::is_name;
-pub use operator::{Op, apply, op_type};
+pub use operator::{Op, op_type};
 pub use reading::read_action;
 pub use terminal::Terminal;
-pub use types::{Declarations, Declared, Field, Form, Types};
+pub use types::{Declared, Field, Form, Types};
 pub use typing::has_type;
 pub use value::{Ty, Value, copies, same};
 pub use writing::{print_action, push_action};

@@ -1,14 +1,12 @@
-ghost use Rattle.std.specs.Prelude.{◌≡◌, ◌∷◌, [], ℤ, Bool, map, IfOk, IsOk};
+ghost use Rattle.std.specs.Prelude.{◌≡◌, ◌&&◌, ◌==◌, map};
 ghost use Rattle.std.specs.Option.{option_map};
-ghost use Rattle.ioa_value.specs.Plain.{plain, number as number_of_type, Val, num, truth};
+ghost use Rattle.ioa_value.specs.Plain.{number};
 ghost use Rattle.ioa_value.specs.Operators as spec;
-ghost use Rattle.ioa_value.specs.Operators.{operate, Takes, answer_of, of_number, same};
+ghost use Rattle.ioa_value.specs.declared.operator.Class.TheVariants.{Size, Item, Shortening, Change, Index, Membership, Construction, Projection};
 
-use crate::arithmetic::{Fault, add, divide, modulo, multiply, negate, subtract};
-use crate::memory::OutOfMemory;
+use crate::parts::{are_fields, field_count, field_type, is_item, item_type};
 use crate::types::Types;
-use crate::value::{Ty, Value, same};
-use std::alloc::Global;
+use crate::value::Ty;
 
 /// An operator on values.
 #[derive(Clone, Copy, PartialEq, Eq, Debug)]
@@ -30,6 +28,28 @@ pub enum Op {
     Not,
     Eq,
     Ne,
+    /// How many items a sequence has.
+    Len,
+    /// The first item.
+    Head,
+    /// All items but the first.
+    Tail,
+    /// The last item.
+    Last,
+    /// All items but the last.
+    Init,
+    /// A sequence and one more item, put last.
+    Append,
+    /// The item of a sequence at a place, from 0.
+    At,
+    /// Whether an item is in a sequence.
+    Member,
+    /// A sequence less its first item that equals this one.
+    Without,
+    /// The tuple of this type, of its fields in order.
+    Make(Ty),
+    /// The field at this place, from 0, of a tuple.
+    Field(u16),
 }
 
 /// What an operator takes and gives, which is said once for all operators of a class.
@@ -45,6 +65,22 @@ pub(crate) enum Class {
     Denial,
     /// Of two values of one type a truth value.
     Equality,
+    /// Of a sequence a number.
+    Size,
+    /// Of a sequence one of its items.
+    Item,
+    /// Of a sequence one of its type.
+    Shortening,
+    /// Of a sequence and an item a sequence of its type.
+    Change,
+    /// Of a sequence and a number one of its items.
+    Index,
+    /// Of an item and a sequence a truth value.
+    Membership,
+    /// Of the fields of a tuple the tuple.
+    Construction(Ty),
+    /// Of a tuple its field at this place.
+    Projection(u16),
 }
 
 pub(crate) fn class_of(op: Op) -> Class
@@ -56,24 +92,64 @@ pub(crate) fn class_of(op: Op) -> Class
         Op::Lt | Op::Le | Op::Gt | Op::Ge => Class::Comparison,
         Op::Not => Class::Denial,
         Op::Eq | Op::Ne => Class::Equality,
+        Op::Len => Class::Size,
+        Op::Head | Op::Last => Class::Item,
+        Op::Tail | Op::Init => Class::Shortening,
+        Op::Append | Op::Without => Class::Change,
+        Op::At => Class::Index,
+        Op::Member => Class::Membership,
+        Op::Make(ty) => Class::Construction(ty),
+        Op::Field(place) => Class::Projection(place),
+    }
+}
+
+/// Whether the operator's value may take memory of its own: a number or a truth value takes none.
+pub(crate) fn grows(op: Op) -> bool
+    ensures { result ≡ spec.grows op }
+{
+    match class_of(op) {
+        Class::Negation
+        | Class::Arithmetic
+        | Class::Comparison
+        | Class::Denial
+        | Class::Equality
+        | Class::Size
+        | Class::Membership => false,
+        Class::Item
+        | Class::Shortening
+        | Class::Change
+        | Class::Index
+        | Class::Construction(_)
+        | Class::Projection(_) => true,
     }
 }
 
 impl Op {
     /// How many operands the operator takes.
-    pub fn arity(self, _types: &Types) -> usize
-        ensures { result ≡ spec.arity _types.now self }
+    pub fn arity(self, types: &Types) -> usize
+        ensures { result ≡ spec.arity types.now self }
     {
         match class_of(self) {
-            Class::Negation | Class::Denial => 1,
-            Class::Arithmetic | Class::Comparison | Class::Equality => 2,
+            Class::Negation
+            | Class::Denial
+            | Class::Size
+            | Class::Item
+            | Class::Shortening
+            | Class::Projection(_) => 1,
+            Class::Arithmetic
+            | Class::Comparison
+            | Class::Equality
+            | Class::Change
+            | Class::Index
+            | Class::Membership => 2,
+            Class::Construction(ty) => field_count(types, ty),
         }
     }
 }
 
 /// The type of what the operator gives, where it takes operands of these types.
-pub fn op_type(_types: &Types, op: Op, operands: &[Ty]) -> Option<Ty>
-    ensures { option_map number_of_type result ≡ spec.op_type _types.now op (map number_of_type operands.now) }
+pub fn op_type(types: &Types, op: Op, operands: &[Ty]) -> Option<Ty>
+    ensures { option_map number result ≡ spec.op_type types.now op (map number operands.now) }
 {
     match class_of(op) {
         Class::Negation => of_one(Ty::INT, Ty::INT, operands),
@@ -81,12 +157,20 @@ pub fn op_type(_types: &Types, op: Op, operands: &[Ty]) -> Option<Ty>
         Class::Comparison => of_both(Ty::INT, Ty::BOOL, operands),
         Class::Denial => of_one(Ty::BOOL, Ty::BOOL, operands),
         Class::Equality => of_alike(Ty::BOOL, operands),
+        Class::Size => of_size(types, operands),
+        Class::Item => of_item(types, operands),
+        Class::Shortening => of_shortening(types, operands),
+        Class::Change => of_change(types, operands),
+        Class::Index => of_index(types, operands),
+        Class::Membership => of_membership(types, operands),
+        Class::Construction(ty) => of_construction(types, ty, operands),
+        Class::Projection(place) => of_projection(types, place, operands),
     }
 }
 
 /// What is given of one operand of the type.
 fn of_one(taken: Ty, given: Ty, operands: &[Ty]) -> Option<Ty>
-    ensures { option_map number_of_type result ≡ spec.of_one taken.0 given.0 (map number_of_type operands.now) }
+    ensures { option_map number result ≡ spec.of_one (λ a. spec.given given.0 (a == taken.0)) (map number operands.now) }
 {
     match operands {
         [a] if *a == taken => Some(given),
@@ -96,7 +180,7 @@ fn of_one(taken: Ty, given: Ty, operands: &[Ty]) -> Option<Ty>
 
 /// What is given of two operands of the type.
 fn of_both(taken: Ty, given: Ty, operands: &[Ty]) -> Option<Ty>
-    ensures { option_map number_of_type result ≡ spec.of_both taken.0 given.0 (map number_of_type operands.now) }
+    ensures { option_map number result ≡ spec.of_two (λ a b. spec.given given.0 ((a == taken.0) && (b == taken.0))) (map number operands.now) }
 {
     match operands {
         [a, b] if *a == taken && *b == taken => Some(given),
@@ -106,7 +190,7 @@ fn of_both(taken: Ty, given: Ty, operands: &[Ty]) -> Option<Ty>
 
 /// What is given of two operands of one type.
 fn of_alike(given: Ty, operands: &[Ty]) -> Option<Ty>
-    ensures { option_map number_of_type result ≡ spec.of_alike given.0 (map number_of_type operands.now) }
+    ensures { option_map number result ≡ spec.of_two (λ a b. spec.given given.0 (a == b)) (map number operands.now) }
 {
     match operands {
         [a, b] if *a == *b => Some(given),
@@ -114,109 +198,75 @@ fn of_alike(given: Ty, operands: &[Ty]) -> Option<Ty>
     }
 }
 
-/// The operator's value, or its fault. It asks that the operands are the operator's.
-///
-/// Operators on numbers and truth values grow no memory, and there are no others yet, so the answer is always there.
-pub fn apply(
-    _alloc: Global,
-    types: &Types,
-    op: Op,
-    operands: &[Value],
-) -> Result<Result<Value, Fault>, OutOfMemory>
-    requires { Takes types.now op (map plain operands.now) }
-    ensures value { IfOk result (λ r. answer_of r ≡ operate types.now op (map plain operands.now)) }
-    ensures memory { IsOk result }
+fn of_size(types: &Types, operands: &[Ty]) -> Option<Ty>
+    ensures { option_map number result ≡ spec.type_of types.now Size (map number operands.now) }
 {
-    Ok(applied(types, op, operands))
-}
-
-fn applied(_types: &Types, op: Op, operands: &[Value]) -> Result<Value, Fault>
-    requires { Takes _types.now op (map plain operands.now) }
-    ensures { answer_of result ≡ operate _types.now op (map plain operands.now) }
-{
-    match op {
-        Op::Neg => number(negate(one_number(operands))),
-        Op::Add => {
-            let (a, b) = two_numbers(operands);
-            number(add(a, b))
-        }
-        Op::Sub => {
-            let (a, b) = two_numbers(operands);
-            number(subtract(a, b))
-        }
-        Op::Mul => {
-            let (a, b) = two_numbers(operands);
-            number(multiply(a, b))
-        }
-        Op::Div => {
-            let (a, b) = two_numbers(operands);
-            number(divide(a, b))
-        }
-        Op::Mod => {
-            let (a, b) = two_numbers(operands);
-            number(modulo(a, b))
-        }
-        Op::Lt => {
-            let (a, b) = two_numbers(operands);
-            Ok(Value::Truth(a < b))
-        }
-        Op::Le => {
-            let (a, b) = two_numbers(operands);
-            Ok(Value::Truth(a <= b))
-        }
-        Op::Gt => {
-            let (a, b) = two_numbers(operands);
-            Ok(Value::Truth(a > b))
-        }
-        Op::Ge => {
-            let (a, b) = two_numbers(operands);
-            Ok(Value::Truth(a >= b))
-        }
-        Op::Not => Ok(Value::Truth(!one_truth(operands))),
-        Op::Eq => Ok(Value::Truth(same(&operands[0], &operands[1]))),
-        Op::Ne => Ok(Value::Truth(!same(&operands[0], &operands[1]))),
+    match operands {
+        [s] if item_type(types, *s).is_some() => Some(Ty::INT),
+        _ => None,
     }
 }
 
-fn number(outcome: Result<i64, Fault>) -> Result<Value, Fault>
-    ensures { answer_of result ≡ of_number outcome }
+fn of_item(types: &Types, operands: &[Ty]) -> Option<Ty>
+    ensures { option_map number result ≡ spec.type_of types.now Item (map number operands.now) }
 {
-    match outcome {
-        Ok(n) => Ok(Value::Num(n)),
-        Err(fault) => Err(fault),
+    match operands {
+        [s] => item_type(types, *s),
+        _ => None,
     }
 }
 
-fn one_number(operands: &[Value]) -> i64
-    requires { (x : ℤ) × (map plain operands.now ≡ num x ∷ []) }
-    ensures { map plain operands.now ≡ num result ∷ [] }
+fn of_shortening(types: &Types, operands: &[Ty]) -> Option<Ty>
+    ensures { option_map number result ≡ spec.type_of types.now Shortening (map number operands.now) }
 {
-    number_of(&operands[0])
-}
-
-fn two_numbers(operands: &[Value]) -> (i64, i64)
-    requires { (x : ℤ) × (y : ℤ) × (map plain operands.now ≡ num x ∷ num y ∷ []) }
-    ensures { map plain operands.now ≡ num result.0 ∷ num result.1 ∷ [] }
-{
-    (number_of(&operands[0]), number_of(&operands[1]))
-}
-
-fn one_truth(operands: &[Value]) -> bool
-    requires { (b : Bool) × (map plain operands.now ≡ truth b ∷ []) }
-    ensures { map plain operands.now ≡ truth result ∷ [] }
-{
-    match &operands[0] {
-        Value::Truth(b) => *b,
-        _ => unreachable!(),
+    match operands {
+        [s] if item_type(types, *s).is_some() => Some(*s),
+        _ => None,
     }
 }
 
-fn number_of(value: &Value) -> i64
-    requires { (x : ℤ) × (plain value.now ≡ num x) }
-    ensures { plain value.now ≡ num result }
+fn of_change(types: &Types, operands: &[Ty]) -> Option<Ty>
+    ensures { option_map number result ≡ spec.type_of types.now Change (map number operands.now) }
 {
-    match value {
-        Value::Num(n) => *n,
-        _ => unreachable!(),
+    match operands {
+        [s, a] if is_item(types, *s, *a) => Some(*s),
+        _ => None,
+    }
+}
+
+fn of_index(types: &Types, operands: &[Ty]) -> Option<Ty>
+    ensures { option_map number result ≡ spec.type_of types.now Index (map number operands.now) }
+{
+    match operands {
+        [s, place] if *place == Ty::INT => item_type(types, *s),
+        _ => None,
+    }
+}
+
+fn of_membership(types: &Types, operands: &[Ty]) -> Option<Ty>
+    ensures { option_map number result ≡ spec.type_of types.now Membership (map number operands.now) }
+{
+    match operands {
+        [a, s] if is_item(types, *s, *a) => Some(Ty::BOOL),
+        _ => None,
+    }
+}
+
+fn of_construction(types: &Types, ty: Ty, operands: &[Ty]) -> Option<Ty>
+    ensures { option_map number result ≡ spec.type_of types.now (Construction ty) (map number operands.now) }
+{
+    if are_fields(types, ty, operands) {
+        Some(ty)
+    } else {
+        None
+    }
+}
+
+fn of_projection(types: &Types, place: u16, operands: &[Ty]) -> Option<Ty>
+    ensures { option_map number result ≡ spec.type_of types.now (Projection place) (map number operands.now) }
+{
+    match operands {
+        [tuple] => field_type(types, *tuple, place),
+        _ => None,
     }
 }

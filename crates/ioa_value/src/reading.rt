@@ -1,12 +1,12 @@
-ghost use Rattle.std.specs.Prelude.{◌≡◌, ℤ, List, [], IsTrue, MatchBool, IfSome, IfNone, IfOk, IsSomeAnd, map};
+ghost use Rattle.std.specs.Prelude.{◌≡◌, List, [], IsTrue, MatchBool, IfSome, IfNone, IfOk, IsSomeAnd, map};
 ghost use Rattle.ioa_value.specs.Plain.{Val, plain};
-ghost use Rattle.ioa_value.specs.Arithmetic.{fits};
 ghost use Rattle.ioa_value.specs.Actions.{Act, act_of};
-ghost use Rattle.ioa_value.specs.Reads.{Spells, SpellsNumber, IsTyped, Reads, ReadsArguments, ReadsValues};
+ghost use Rattle.ioa_value.specs.Reads.{Reads, ReadsArguments, ReadsValues};
 
 use crate::action::Action;
 use crate::memory::OutOfMemory;
 use crate::names::is_name;
+use crate::scanning::first_value;
 use crate::tokens::{after_mark, first_word, is_blank_text};
 use crate::types::Types;
 use crate::value::Value;
@@ -24,7 +24,7 @@ pub fn read_action(alloc: Global, types: &Types, text: &[u8]) -> Result<Option<A
         name: String::new(alloc),
         vals: Vec::new(alloc),
     };
-    if action.read(types, text)? {
+    if action.read(alloc, types, text)? {
         Ok(Some(action))
     } else {
         Ok(None)
@@ -35,7 +35,7 @@ impl Action {
     /// Whether the text is that of an action, as `read_action` says, which then stands in place of
     /// this one, in the memory that this one had. Where it is none, and where memory runs out, this
     /// one is left as some action or other.
-    pub fn read(&mut self, types: &Types, text: &[u8]) -> Result<bool, OutOfMemory>
+    pub fn read(&mut self, alloc: Global, types: &Types, text: &[u8]) -> Result<bool, OutOfMemory>
         ensures found { IfOk result (λ r. MatchBool r (Reads types.now text.now (act_of self.new)) ((a : Act) → Reads types.now text.now a → ⊥)) }
         ensures only { (a : Act) → Reads types.now text.now a → IfOk result (λ r. IsTrue r × (act_of self.new ≡ a)) }
     {
@@ -47,7 +47,7 @@ impl Action {
             return Ok(false);
         };
         self.vals.clear();
-        if !read_arguments(types, front.rest, &mut self.vals)? {
+        if !read_arguments(alloc, types, front.rest, &mut self.vals)? {
             return Ok(false);
         }
         self.name.clear();
@@ -57,31 +57,42 @@ impl Action {
 }
 
 /// The values in parentheses, or none where the text is empty, put into an empty list.
-fn read_arguments(types: &Types, text: &[u8], vals: &mut Vec<Value>) -> Result<bool, OutOfMemory>
+fn read_arguments(
+    alloc: Global,
+    types: &Types,
+    text: &[u8],
+    vals: &mut Vec<Value>,
+) -> Result<bool, OutOfMemory>
     requires { vals.old.items ≡ [] }
-    ensures { IfOk result (λ r. MatchBool r (ReadsArguments types.now text.now (map plain vals.new.items)) ((vs : List Val) → ReadsArguments types.now text.now vs → ⊥)) }
+    ensures read { IfOk result (λ r. MatchBool r (ReadsArguments types.now text.now (map plain vals.new.items)) ((vs : List Val) → ReadsArguments types.now text.now vs → ⊥)) }
+    ensures only { (vs : List Val) → ReadsArguments types.now text.now vs → IfOk result (λ r. IsTrue r × (map plain vals.new.items ≡ vs)) }
 {
     if text.is_empty() {
         return Ok(true);
     }
     match after_mark(text, b'(') {
-        Some(inner) => read_values(types, inner, vals),
+        Some(inner) => read_values(alloc, types, inner, vals),
         None => Ok(false),
     }
 }
 
 /// One value or more, parted by `,`, up to `)` and the end, put into an empty list.
-fn read_values(types: &Types, text: &[u8], vals: &mut Vec<Value>) -> Result<bool, OutOfMemory>
+fn read_values(
+    alloc: Global,
+    types: &Types,
+    text: &[u8],
+    vals: &mut Vec<Value>,
+) -> Result<bool, OutOfMemory>
     requires { vals.old.items ≡ [] }
-    ensures { IfOk result (λ r. MatchBool r (ReadsValues types.now text.now (map plain vals.new.items)) ((vs : List Val) → ReadsValues types.now text.now vs → ⊥)) }
+    ensures read { IfOk result (λ r. MatchBool r (ReadsValues types.now text.now (map plain vals.new.items)) ((vs : List Val) → ReadsValues types.now text.now vs → ⊥)) }
+    ensures only { (vs : List Val) → ReadsValues types.now text.now vs → IfOk result (λ r. IsTrue r × (map plain vals.new.items ≡ vs)) }
 {
     let mut rest = text;
     loop {
-        let front = first_word(rest);
-        let Some(value) = value_of(types, front.word) else {
+        let Some(front) = first_value(alloc, types, rest)? else {
             return Ok(false);
         };
-        vals.push(value)?;
+        vals.push(front.value)?;
         if let Some(after) = after_mark(front.rest, b')') {
             if is_blank_text(after) {
                 return Ok(true);
@@ -92,39 +103,5 @@ fn read_values(types: &Types, text: &[u8], vals: &mut Vec<Value>) -> Result<bool
             return Ok(false);
         };
         rest = after;
-    }
-}
-
-/// The value of a type among these that the word spells.
-fn value_of(_types: &Types, word: &[u8]) -> Option<Value>
-    ensures found { IfSome result (λ v. Spells _types.now word.now (plain v) × IsTyped _types.now (plain v)) }
-    ensures none { IfNone result ((v : Val) → Spells _types.now word.now v → IsTyped _types.now v → ⊥) }
-{
-    if word == b"true".as_slice() {
-        return Some(Value::Truth(true));
-    }
-    if word == b"false".as_slice() {
-        return Some(Value::Truth(false));
-    }
-    match number(word) {
-        Some(n) => Some(Value::Num(n)),
-        None => None,
-    }
-}
-
-/// The number of 64 bits that the word spells.
-fn number(word: &[u8]) -> Option<i64>
-    ensures found { IfSome result (λ n. SpellsNumber word.now n × IsTrue (fits n)) }
-    ensures none { IfNone result ((z : ℤ) → SpellsNumber word.now z → IsTrue (fits z) → ⊥) }
-{
-    if word.is_empty() || word[0] == b'+' {
-        return None;
-    }
-    let Ok(digits) = str::from_utf8(word) else {
-        return None;
-    };
-    match digits.parse::<i64>() {
-        Ok(n) => Some(n),
-        Err(_) => None,
     }
 }

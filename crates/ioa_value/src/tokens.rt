@@ -34,7 +34,7 @@ pub(crate) fn after_mark(text: &[u8], mark: u8) -> Option<&[u8]>
 }
 
 /// The text without the blanks at its front.
-fn after_blanks(text: &[u8]) -> &[u8]
+pub(crate) fn after_blanks(text: &[u8]) -> &[u8]
     ensures { result.now ≡ spec.after_blanks text.now }
 {
     let mut at = 0;
@@ -79,7 +79,7 @@ fn is_blank(b: u8) -> bool
 fn is_mark(b: u8) -> bool
     ensures { result ≡ spec.is_mark b }
 {
-    b == b'(' || b == b')' || b == b','
+    b == b'(' || b == b')' || b == b',' || b == b'[' || b == b']'
 }
 
 fn is_inside(b: u8) -> bool

@@ -2,4 +2,4 @@ use Rattle.ioa_value.proofs.WholeLemmas as lemmas
 use Rattle.ioa_value.proofs.laws.list_or_bad_line.Goals as goal
 
 pub returns : goal.returns
-returns c = lemmas.list_or_bad_line
+returns c = λ types text declared. lemmas.list_or_bad_line types declared text

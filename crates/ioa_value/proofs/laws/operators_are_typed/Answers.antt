@@ -1,4 +1,4 @@
-use Rattle.ioa_value.proofs.TypingLemmas.{op_takes, op_typed}
+use Rattle.ioa_value.proofs.OperatorTyping.{op_takes, op_typed}
 use Rattle.ioa_value.proofs.laws.operators_are_typed.Goals as goal
 
 pub returns : goal.returns

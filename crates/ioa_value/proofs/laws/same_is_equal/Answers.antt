@@ -1,6 +1,6 @@
 use Rattle.ioa_value.proofs.SameLemmas.{same_equal, same-refl}
 use Rattle.std.proofs.Common.{subst, IsTrue}
-use Rattle.ioa_value.specs.Operators.{same}
+use Rattle.ioa_value.specs.Same.{same}
 use Rattle.ioa_value.proofs.laws.same_is_equal.Goals as goal
 
 pub returns : goal.returns

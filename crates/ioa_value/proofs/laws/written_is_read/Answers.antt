@@ -1,4 +1,4 @@
-use Rattle.ioa_value.proofs.OnceLemmas.{written_read}
+use Rattle.ioa_value.proofs.WrittenLemmas.{written_read}
 use Rattle.ioa_value.proofs.laws.written_is_read.Goals as goal
 
 pub returns : goal.returns

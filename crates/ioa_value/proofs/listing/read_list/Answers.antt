@@ -1,10 +1,10 @@
 use Rattle.std.proofs.Common.{◌∷◌, [], ◌+◌, ◌<◌, map, sym, ap, subst, ◌∙◌, length, arith}
 use Rattle.std.proofs.lemmas.List.{map-append}
 use Rattle.ioa_value.specs.Actions.{act_of}
-use Rattle.ioa_value.specs.Lists.{lines, is_skipped, after_line}
+use Rattle.ioa_value.specs.Lists.{is_skipped, after_line}
 use Rattle.ioa_value.specs.Reads.{Reads}
-use Rattle.ioa_value.proofs.ListLemmas.{ReadTo, shorter, skipped, performed, broken, finished, not_empty, empty}
-use Rattle.ioa_value.proofs.ListOnceLemmas.{no_bad_line, one_bad_line, lines_once}
+use Rattle.ioa_value.proofs.ListLemmas.{ReadTo, shorter, skipped, performed, broken, finished, finished_once, not_empty, empty}
+use Rattle.ioa_value.proofs.ListOnceLemmas.{no_bad_line, one_bad_line}
 use Rattle.ioa_value.proofs.listing.read_list.Goals as goal
 
 pub returns-in_default-clause-bad : goal.returns-in_default-clause-bad
@@ -47,7 +47,8 @@ loop-rest-preserved c =
     let found = rw c.in-Some.is at c.in_ok-action.ensures.found in
     let same = ap length c.first_line-line.ensures.rest in
     let here = performed c.args.types.now c.args.text.now c.loop-rest.count acts c.loop-rest.rest.now (act_of c.in-Some.action) c.loop-rest.invariant.read long
-    (subst (λ l. Reads c.args.types.now l (act_of c.in-Some.action)) c.first_line-line.ensures.line found) in
+    (subst (λ l. Reads c.args.types.now l (act_of c.in-Some.action)) c.first_line-line.ensures.line found)
+    (λ b r. let only = rw c.in-Some.is at (c.in_ok-action.ensures.only b (subst (λ l. Reads c.args.types.now l b) (sym c.first_line-line.ensures.line) r)) in sym only) in
     record {
       read = subst (λ l. ReadTo c.args.types.now c.args.text.now (c.loop-rest.count + 1) (map act_of c.push.new.self.items) l) (sym c.first_line-line.ensures.rest)
           (subst (λ xs. ReadTo c.args.types.now c.args.text.now (c.loop-rest.count + 1) xs (after_line c.loop-rest.rest.now)) (sym all) here);
@@ -67,7 +68,10 @@ returns-clause-list c =
     (empty c.loop-rest.rest.now c.is_empty.result c.loop-rest-test.false c.is_empty.ensures)
 
 pub returns-clause-only : goal.returns-clause-only
-returns-clause-only c = λ acts r. lines_once c.args.types.now (lines c.args.text.now) _ acts (returns-clause-list c) r
+returns-clause-only c =
+    finished_once c.args.types.now c.args.text.now c.loop-rest.count (map act_of c.loop-rest.list.items) c.loop-rest.rest.now
+    c.loop-rest.invariant.read
+    (empty c.loop-rest.rest.now c.is_empty.result c.loop-rest-test.false c.is_empty.ensures)
 
 pub returns-clause-only_bad : goal.returns-clause-only_bad
 returns-clause-only_bad c = λ n b. no_bad_line c.args.types.now c.args.text.now _ n (returns-clause-list c) b

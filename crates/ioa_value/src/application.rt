@@ -1,0 +1,240 @@
+ghost use Rattle.std.specs.Prelude.{◌≡◌, ◌-◌, ◌∷◌, [], ℤ, Bool, true, false, map, length, take, drop, IfOk, IsOk};
+ghost use Rattle.ioa_value.specs.Plain.{plain, Val, num, truth};
+ghost use Rattle.ioa_value.specs.Operators as spec;
+ghost use Rattle.ioa_value.specs.Operators.{operate, arity, Takes, Stands, answer_of, of_number};
+
+use crate::arithmetic::{Fault, add, divide, modulo, multiply, negate, subtract};
+use crate::memory::OutOfMemory;
+use crate::operator::{Op, grows};
+use crate::sequences::{append, at, head, init, items_of, last, place_of, tail, taken, without};
+use crate::stack::{pop, pop_fields, pop_number, pop_sequence};
+use crate::types::Types;
+use crate::value::{Ty, Value, copies, same};
+use std::alloc::Global;
+
+/// The operator's value, or its fault. It asks that the operands are the operator's.
+///
+/// An operator whose value is a number or a truth value takes no memory. Others work on copies of the operands.
+pub fn apply(
+    alloc: Global,
+    types: &Types,
+    op: Op,
+    operands: &[Value],
+) -> Result<Result<Value, Fault>, OutOfMemory>
+    requires { Takes types.now op (map plain operands.now) }
+    ensures value { IfOk result (λ r. answer_of r ≡ operate types.now op (map plain operands.now)) }
+    ensures memory { spec.grows op ≡ false → IsOk result }
+{
+    if !grows(op) {
+        return Ok(computed(types, op, operands));
+    }
+    let mut stack = copies(alloc, operands)?;
+    moved(alloc, types, op, &mut stack)
+}
+
+/// The operator on the last values of a stack, which are its operands: they go, and its value stands in their place.
+/// After a fault, or where memory is short, the stack is some stack or other.
+///
+/// Values move: no operator copies one.
+pub fn apply_last(
+    alloc: Global,
+    types: &Types,
+    op: Op,
+    stack: &mut Vec<Value>,
+) -> Result<Result<(), Fault>, OutOfMemory>
+    requires { Takes types.now op (drop (length stack.old.items - arity types.now op) (map plain stack.old.items)) }
+    ensures { IfOk result (λ r. Stands (operate types.now op (drop (length stack.old.items - arity types.now op) (map plain stack.old.items))) (take (length stack.old.items - arity types.now op) (map plain stack.old.items)) (map plain stack.new.items) r) }
+{
+    match taken_off(alloc, types, op, stack)? {
+        Ok(value) => {
+            stack.push(value)?;
+            Ok(Ok(()))
+        }
+        Err(fault) => Ok(Err(fault)),
+    }
+}
+
+// The operator's value or fault, whose operands go off the stack.
+fn taken_off(
+    alloc: Global,
+    types: &Types,
+    op: Op,
+    stack: &mut Vec<Value>,
+) -> Result<Result<Value, Fault>, OutOfMemory>
+    requires { Takes types.now op (drop (length stack.old.items - arity types.now op) (map plain stack.old.items)) }
+    ensures { IfOk result (λ r. (answer_of r ≡ operate types.now op (drop (length stack.old.items - arity types.now op) (map plain stack.old.items))) × (map plain stack.new.items ≡ take (length stack.old.items - arity types.now op) (map plain stack.old.items))) }
+{
+    if grows(op) {
+        return moved(alloc, types, op, stack);
+    }
+    let below = stack.len() - op.arity(types);
+    let outcome = computed(types, op, &stack[below..]);
+    stack.truncate(below);
+    Ok(outcome)
+}
+
+// The value or fault of an operator whose value takes no memory.
+fn computed(_types: &Types, op: Op, operands: &[Value]) -> Result<Value, Fault>
+    requires takes { Takes _types.now op (map plain operands.now) }
+    requires small { spec.grows op ≡ false }
+    ensures { answer_of result ≡ operate _types.now op (map plain operands.now) }
+{
+    match op {
+        Op::Neg => number(negate(one_number(operands))),
+        Op::Add => {
+            let (a, b) = two_numbers(operands);
+            number(add(a, b))
+        }
+        Op::Sub => {
+            let (a, b) = two_numbers(operands);
+            number(subtract(a, b))
+        }
+        Op::Mul => {
+            let (a, b) = two_numbers(operands);
+            number(multiply(a, b))
+        }
+        Op::Div => {
+            let (a, b) = two_numbers(operands);
+            number(divide(a, b))
+        }
+        Op::Mod => {
+            let (a, b) = two_numbers(operands);
+            number(modulo(a, b))
+        }
+        Op::Lt => {
+            let (a, b) = two_numbers(operands);
+            Ok(Value::Truth(a < b))
+        }
+        Op::Le => {
+            let (a, b) = two_numbers(operands);
+            Ok(Value::Truth(a <= b))
+        }
+        Op::Gt => {
+            let (a, b) = two_numbers(operands);
+            Ok(Value::Truth(a > b))
+        }
+        Op::Ge => {
+            let (a, b) = two_numbers(operands);
+            Ok(Value::Truth(a >= b))
+        }
+        Op::Not => Ok(Value::Truth(!one_truth(operands))),
+        Op::Eq => Ok(Value::Truth(same(&operands[0], &operands[1]))),
+        Op::Ne => Ok(Value::Truth(!same(&operands[0], &operands[1]))),
+        Op::Len => Ok(Value::Num(items_of(&operands[0]).len() as i64)),
+        Op::Member => Ok(Value::Truth(place_of(&operands[0], items_of(&operands[1])).is_some())),
+        Op::Head
+        | Op::Tail
+        | Op::Last
+        | Op::Init
+        | Op::Append
+        | Op::At
+        | Op::Without
+        | Op::Make(_)
+        | Op::Field(_) => unreachable!(),
+    }
+}
+
+// The value or fault of an operator that moves its operands, which go off the stack.
+fn moved(
+    alloc: Global,
+    types: &Types,
+    op: Op,
+    stack: &mut Vec<Value>,
+) -> Result<Result<Value, Fault>, OutOfMemory>
+    requires takes { Takes types.now op (drop (length stack.old.items - arity types.now op) (map plain stack.old.items)) }
+    requires large { spec.grows op ≡ true }
+    ensures { IfOk result (λ r. (answer_of r ≡ operate types.now op (drop (length stack.old.items - arity types.now op) (map plain stack.old.items))) × (map plain stack.new.items ≡ take (length stack.old.items - arity types.now op) (map plain stack.old.items))) }
+{
+    match op {
+        Op::Head => Ok(head(pop_sequence(stack).1)),
+        Op::Last => Ok(last(pop_sequence(stack).1)),
+        Op::Tail => {
+            let (ty, items) = pop_sequence(stack);
+            Ok(tail(ty, items))
+        }
+        Op::Init => {
+            let (ty, items) = pop_sequence(stack);
+            Ok(init(ty, items))
+        }
+        Op::Append => {
+            let item = pop(stack);
+            let (ty, items) = pop_sequence(stack);
+            append(types, ty, items, item)
+        }
+        Op::At => {
+            let place = pop_number(stack);
+            Ok(at(pop_sequence(stack).1, place))
+        }
+        Op::Without => {
+            let item = pop(stack);
+            let (ty, items) = pop_sequence(stack);
+            Ok(Ok(without(ty, items, &item)))
+        }
+        Op::Make(ty) => {
+            let below = stack.len() - op.arity(types);
+            Ok(Ok(Value::Tuple(ty, stack.split_off(below)?)))
+        }
+        Op::Field(place) => match taken(pop_fields(stack), place as usize) {
+            Some(value) => Ok(Ok(value)),
+            None => unreachable!(),
+        },
+        Op::Neg
+        | Op::Add
+        | Op::Sub
+        | Op::Mul
+        | Op::Div
+        | Op::Mod
+        | Op::Lt
+        | Op::Le
+        | Op::Gt
+        | Op::Ge
+        | Op::Not
+        | Op::Eq
+        | Op::Ne
+        | Op::Len
+        | Op::Member => unreachable!(),
+    }
+}
+
+fn number(outcome: Result<i64, Fault>) -> Result<Value, Fault>
+    ensures { answer_of result ≡ of_number outcome }
+{
+    match outcome {
+        Ok(n) => Ok(Value::Num(n)),
+        Err(fault) => Err(fault),
+    }
+}
+
+fn one_number(operands: &[Value]) -> i64
+    requires { (x : ℤ) × (map plain operands.now ≡ num x ∷ []) }
+    ensures { map plain operands.now ≡ num result ∷ [] }
+{
+    number_of(&operands[0])
+}
+
+fn two_numbers(operands: &[Value]) -> (i64, i64)
+    requires { (x : ℤ) × (y : ℤ) × (map plain operands.now ≡ num x ∷ num y ∷ []) }
+    ensures { map plain operands.now ≡ num result.0 ∷ num result.1 ∷ [] }
+{
+    (number_of(&operands[0]), number_of(&operands[1]))
+}
+
+fn one_truth(operands: &[Value]) -> bool
+    requires { (b : Bool) × (map plain operands.now ≡ truth b ∷ []) }
+    ensures { map plain operands.now ≡ truth result ∷ [] }
+{
+    match &operands[0] {
+        Value::Truth(b) => *b,
+        _ => unreachable!(),
+    }
+}
+
+fn number_of(value: &Value) -> i64
+    requires { (x : ℤ) × (plain value.now ≡ num x) }
+    ensures { plain value.now ≡ num result }
+{
+    match value {
+        Value::Num(n) => *n,
+        _ => unreachable!(),
+    }
+}
