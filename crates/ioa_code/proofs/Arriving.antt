@@ -1,10 +1,10 @@
 -- What is pending at each place is what the scan has brought there.
-use Rattle.std.proofs.Common.{◌≡◌, ◌≢◌, ℕ, zero, suc, ◌+◌, ◌<◌, ◌≤◌, ◌==◌, ◌⊎◌, inl, inr, ⊎_elim, Bool, true, false, List, [], ◌∷◌, ◌++◌, length, length-set, get_or, get_or-set_same, get_or-set_other, drop, map, Option, Some, None, Result, Ok, Err, refl, sym, ap, ◌∙◌, subst, arith, if◌then◌else◌}
+use Rattle.std.proofs.Common.{◌≡◌, ◌≢◌, ℕ, zero, suc, ◌+◌, ◌<◌, ◌≤◌, ◌==◌, ◌⊎◌, inl, inr, ⊎_elim, Bool, true, false, List, [], ◌∷◌, ◌++◌, length, length-set, get_or, drop, map, Option, Some, None, Result, Ok, Err, refl, sym, ap, ◌∙◌, subst, arith, if◌then◌else◌}
 use Rattle.std.specs.Prelude.{slice_get, slice_set, ◌&&◌, nat_lt, nat_le}
 use Rattle.std.proofs.lemmas.Bool.{cases_lt}
 use Rattle.std.proofs.lemmas.Bool.Decides.{nat_tests}
 use Rattle.std.proofs.lemmas.List.{length-append}
-use Rattle.std.proofs.lemmas.Option.{slice_get-get_or, slice_get_past, slice_get_read}
+use Rattle.std.proofs.lemmas.Option.{slice_get_past, slice_get_read}
 use Rattle.ioa_code.specs.declared.instr.Instr.{Instr}
 use Rattle.ioa_code.specs.declared.stacks.Stacks.{Stacks}
 use Rattle.ioa_code.specs.declared.pending.Pending.{Pending}
@@ -15,26 +15,13 @@ use Rattle.ioa_code.specs.declared.exits.Exit.{Exit}
 use Rattle.ioa_code.specs.declared.exits.Exits.{Exits}
 use Rattle.ioa_code.specs.Valid.{Part, Way, after}
 use Rattle.ioa_code.specs.Scan.{Brought, none, some, clash, good, bad, same_types, joined, bring, targets, all_forward, onward, at_end, arrived, passed, scan_from, at_first, scan}
-use Rattle.ioa_code.specs.Stacks.{IsStack, IsNumbered, Keeps, Grows, listed, AreWays, AgreeOn, LeadsOn}
+use Rattle.ioa_code.specs.Stacks.{IsStack, IsNumber, IsNumbered, Keeps, Grows, listed, AreWays, AgreeOn, LeadsOn}
 use Rattle.ioa_code.specs.Pending.{met, Means, Holds, AreBelow, Brings, IsFirst, Reached}
 use Rattle.ioa_value.proofs.ItemLemmas.{get_last}
-use Rattle.ioa_code.proofs.Lists.{get_before}
-use Rattle.ioa_code.proofs.Numbered.{one_number, one_stack, stack_kept}
+use Rattle.ioa_code.proofs.Lists.{get_before, slice_get-set_same, slice_get-set_other}
+use Rattle.ioa_code.proofs.Numbered.{one_number, one_stack, stack_kept, is_number}
 use Rattle.ioa_code.proofs.Ways.{same_types-is, same_types-refl}
 use Rattle.ioa_code.proofs.Judged.{led, rest, scan_at, scan_end, unclear_bad}
-
-slice_get-set_same : {A : Type 0} (xs : List A) (i : ℕ) (x : A) → i < length xs → slice_get (slice_set xs i x) i ≡ Some x
-slice_get-set_same xs i x lt =
-    let len : length (slice_set xs i x) ≡ length xs = simp length-set in
-    slice_get-get_or (slice_set xs i x) i x (omega arith) ∙ ap Some (get_or-set_same xs i x x lt)
-
-slice_get-set_other : {A : Type 0} (xs : List A) (i j : ℕ) (x : A) → j ≢ i → slice_get (slice_set xs i x) j ≡ slice_get xs j
-slice_get-set_other xs i j x ne =
-    let len : length (slice_set xs i x) ≡ length xs = simp length-set in
-    ⊎_elim
-    (λ lt. slice_get-get_or (slice_set xs i x) j x (omega arith) ∙ ap Some (get_or-set_other xs i j x x ne) ∙ sym (slice_get-get_or xs j x lt))
-    (λ le. slice_get_past (slice_set xs i x) j (omega arith) ∙ sym (slice_get_past xs j le))
-    (cases_lt j (length xs))
 
 -- ---- one place
 
@@ -168,6 +155,9 @@ module _ (part : Part) (old : Stacks) (pending : List Pending) (p : ℕ) (reache
   module _ (k : ℕ) (e : slice_get pending p ≡ Some (Stack k)) where
     here : (ts : List ℕ) × (reached.brought p ≡ some ts) × IsStack old.nodes.items k ts
     here = subst (λ o. Means old.nodes.items o (reached.brought p)) e (reached.holds p)
+
+    pub number_here : IsNumber old k
+    number_here = is_number old k here.0 here.2
 
     module _ (new : Stacks) (i : Instr) (at : slice_get part.code.instrs p ≡ Some i) where
       come : scan part ≡ rest part i p reached.brought here.0

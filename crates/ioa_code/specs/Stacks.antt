@@ -1,16 +1,15 @@
 -- Stacks of types, each known by a number.
-use Rattle.std.specs.Prelude.{◌≡◌, ℕ, zero, suc, ◌+◌, List, [], ◌∷◌, ◌++◌, map, reverse, Vec, Option, Some, None, Result, Ok, Err, slice_get}
-use Rattle.std.specs.BTreeMap as tree
-use Rattle.std.specs.Ordering.{nat_cmp, ordering_then}
-use Rattle.std.specs.declared.cmp.Ordering.{Ordering}
+use Rattle.std.specs.Prelude.{◌≡◌, ◌≢◌, ◌<◌, ◌≤◌, ℕ, zero, suc, ◌+◌, List, [], ◌∷◌, ◌++◌, length, map, reverse, Vec, Option, Some, None, Result, Ok, Err, slice_get}
 use Rattle.std.specs.Global.{Global}
 use Rattle.ioa_value.specs.declared.value.Ty.{Ty}
 use Rattle.ioa_value.specs.Plain.{number}
 use Rattle.ioa_code.specs.declared.reason.Reason.{Reason}
 use Rattle.ioa_code.specs.declared.stacks.Stacks.{Stacks}
+use Rattle.ioa_code.specs.declared.links.Link.{Link}
 use Rattle.ioa_code.specs.declared.exits.Exit.{Exit}
 use Rattle.ioa_code.specs.declared.exits.Exits.{Exits}
 use Rattle.ioa_code.specs.declared.exits.Exits.TheVariants.{One, Two}
+use Rattle.ioa_code.specs.Links.{owner, leads, searched}
 use Rattle.ioa_code.specs.Valid.{Way}
 
 -- stack 0 is empty; stack k + 1 has the number of a stack, and on it a type
@@ -27,14 +26,28 @@ Spells nodes k (t ∷ ts) = (below : ℕ) × (node_at nodes k ≡ Some (below, t
 abbrev pub IsStack : List (ℕ × ℕ) → ℕ → List ℕ → Type 0
 IsStack nodes k ts = Spells nodes k (reverse ts)
 
--- the order of the keys
-abbrev pub by_parts : ℕ × ℕ → ℕ × ℕ → Ordering
-by_parts a b = ordering_then (nat_cmp a.0 b.0) (nat_cmp a.1 b.1)
+-- one of the numbers given
+abbrev pub IsNumber : Stacks → ℕ → Type 0
+IsNumber s k = k ≤ length s.nodes.items
 
--- the map has each stack's number
+-- the search for this stack comes to the link, past other stacks alone
+pub record Reaches (s : Stacks) (key : ℕ × ℕ) (link : Link) : Type 0 where
+  pub turns : ℕ
+  pub comes : searched s.links.items key turns ≡ link
+  pub past : (d : ℕ) → d < turns → leads s.links.items (searched s.links.items key d) ≢ 0
+  pub others : (d : ℕ) → d < turns → node_at s.nodes.items (leads s.links.items (searched s.links.items key d)) ≢ Some key
+
+-- the search for this stack finds its number, or else ends at this link
+abbrev pub Searched : Stacks → ℕ × ℕ → Result ℕ Link → Type 0
+Searched s key (Ok k) = node_at s.nodes.items k ≡ Some key
+Searched s key (Err link) = Reaches s key link × (owner link < length s.links.items) × (leads s.links.items link ≡ 0)
+
+-- a stack lies on an earlier one, links lead to later ones, and the search for a stack finds it
 pub record IsNumbered (s : Stacks) : Type 0 where
-  pub found : (key : ℕ × ℕ) (k : ℕ) → tree.get by_parts s.numbers key ≡ Some k → node_at s.nodes.items k ≡ Some key
-  pub each : (key : ℕ × ℕ) (k : ℕ) → node_at s.nodes.items k ≡ Some key → tree.get by_parts s.numbers key ≡ Some k
+  pub long : length s.links.items ≡ length s.nodes.items + 1
+  pub earlier : (key : ℕ × ℕ) (k : ℕ) → node_at s.nodes.items k ≡ Some key → key.0 < k
+  pub later : (link : Link) → leads s.links.items link ≢ 0 → (owner link < leads s.links.items link) × IsNumber s (leads s.links.items link)
+  pub each : (key : ℕ × ℕ) (k : ℕ) → node_at s.nodes.items k ≡ Some key → (link : Link) × Reaches s key link × (leads s.links.items link ≡ k)
 
 -- no stack has changed its types
 abbrev pub Keeps : Stacks → Stacks → Type 0

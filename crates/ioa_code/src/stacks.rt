@@ -1,45 +1,75 @@
 ghost use Rattle.std.specs.Prelude.{◌≡◌, map, IfOk, Some};
 ghost use Rattle.ioa_value.specs.Plain.{number};
-ghost use Rattle.ioa_code.specs.Stacks.{node_at, IsStack, IsNumbered, Grows, topmost, taken};
+ghost use Rattle.ioa_code.specs.Stacks.{node_at, IsStack, IsNumber, IsNumbered, Searched, Grows, topmost, taken};
 
+use crate::links::{Link, Links, hang, target, turn};
 use ioa_value::Ty;
 use std::alloc::{AllocError, Global};
-use std::collections::BTreeMap;
 
 /// Stacks of types, each known by a number: 0 is the empty one, k + 1 has the number of a stack, and on it a type.
 /// No two are equal, so equal stacks have equal numbers.
+///
+/// The stacks that lie directly on another are searched by the bits of their types, so however many there are, a search
+/// passes no more of them than a type has bits, and finds or adds a stack after that.
 #[derive(Drop)]
 pub(crate) struct Stacks {
     nodes: Vec<(usize, u16)>,
-    numbers: BTreeMap<(usize, u16), usize>,
+    links: Vec<Links>,
 }
 
 impl Stacks {
     // The empty stack alone.
-    pub(crate) fn new(alloc: Global) -> Stacks
-        ensures numbered { IsNumbered result }
+    pub(crate) fn new(alloc: Global) -> Result<Stacks, AllocError>
+        ensures numbered { IfOk result IsNumbered }
     {
-        Stacks {
+        let mut links = Vec::new(alloc);
+        links.push(Links::NONE)?;
+        Ok(Stacks {
             nodes: Vec::new(alloc),
-            numbers: BTreeMap::new(alloc),
+            links,
+        })
+    }
+}
+
+// The number of the stack with this type on that one, or the link at which to hang it.
+fn find(stacks: &Stacks, below: usize, ty: u16) -> Result<usize, Link>
+    requires numbered { IsNumbered stacks.now }
+    requires number { IsNumber stacks.now below }
+    ensures { Searched stacks.now (below, ty) result }
+{
+    let mut link = Link::Children(below);
+    let mut bits = ty;
+    loop {
+        let stack = target(&stacks.links, link);
+        if stack == 0 {
+            return Err(link);
         }
+        // Only stacks on `below` hang here. Comparing it too costs nothing, and no invariant has to say so.
+        if stacks.nodes[stack - 1] == (below, ty) {
+            return Ok(stack);
+        }
+        link = turn(stack, bits);
+        bits /= 2;
     }
 }
 
 // The number of the stack with this type on that one.
 pub(crate) fn push(stacks: &mut Stacks, below: usize, ty: Ty) -> Result<usize, AllocError>
-    requires { IsNumbered stacks.old }
+    requires numbered { IsNumbered stacks.old }
+    requires number { IsNumber stacks.old below }
     ensures grows { IfOk result (λ k. Grows stacks.old stacks.new) }
     ensures node { IfOk result (λ k. node_at stacks.new.nodes.items k ≡ Some (below, number ty)) }
 {
-    let key = (below, ty.0);
-    if let Some(number) = stacks.numbers.get(&key) {
-        return Ok(*number);
+    match find(stacks, below, ty.0) {
+        Ok(stack) => Ok(stack),
+        Err(link) => {
+            stacks.nodes.push((below, ty.0))?;
+            stacks.links.push(Links::NONE)?;
+            let stack = stacks.nodes.len();
+            hang(&mut stacks.links, link, stack);
+            Ok(stack)
+        }
     }
-    stacks.nodes.push(key)?;
-    let number = stacks.nodes.len();
-    stacks.numbers.insert(key, number)?;
-    Ok(number)
 }
 
 // The stack's topmost type, and the stack below it.

@@ -7,21 +7,30 @@ use Rattle.ioa_code.specs.declared.reason.Reason.TheVariants.{Mistyped}
 use Rattle.ioa_code.specs.Valid.{wanted}
 use Rattle.ioa_code.specs.Stacks.{topmost, taken, Passes}
 use Rattle.ioa_code.proofs.Passing.{operator, apply_passes, apply_short}
+use Rattle.ioa_code.proofs.Numbered.{rest_is_number}
 use Rattle.ioa_code.proofs.verifier.applied.Goals as goal
+use Rattle.ioa_code.proofs.verifier.applied.Goals.{After-op_type}
+
+-- what was taken
+found : (c : After-op_type) → topmost c.args.stacks.now.nodes.items c.args.stack (arity c.args.types.now c.args.op) ≡ Some (c.in-Some.below, map number c.in-Some.operands.items)
+found c =
+    ap (topmost c.args.stacks.now.nodes.items c.args.stack) (sym c.arity.ensures) ∙ sym c.in_ok-below.ensures ∙ ap taken c.in-Some.is
+
+pub pushed-requires-clause-number : goal.pushed-requires-clause-number
+pushed-requires-clause-number c =
+    rest_is_number c.args.stacks.now c.requires.numbered c.args.stack (arity c.args.types.now c.args.op) (c.in-Some.below, map number c.in-Some.operands.items) c.requires.number (found c)
 
 pub returns-in-Some : goal.returns-in-Some
 returns-in-Some c =
     let old = c.args.stacks.now in
     let new = c.pushed.new.stacks in
     let operands = map number c.in-Some.operands.items in
-    let found : topmost old.nodes.items c.args.stack (arity c.args.types.now c.args.op) ≡ Some (c.in-Some.below, operands) =
-    ap (topmost old.nodes.items c.args.stack) (sym c.arity.ensures) ∙ sym c.in_ok-below.ensures ∙ ap taken c.in-Some.is in
     let same : option_map number c.op_type.result ≡ op_type c.args.types.now c.args.op operands =
     c.op_type.ensures ∙ ap (λ l. op_type c.args.types.now c.args.op (map number l)) c.deref.ensures.value in
     IfOk-weaker c.pushed.result
     (λ r. Passes old new c.in-Some.below r (λ ts. wanted Mistyped (option_map number c.op_type.result) (λ ty. Ok (ts ++ ty ∷ []))))
     (λ r. Passes old new c.args.stack r (operator c.args.types.now c.args.op))
-    (λ r h. apply_passes c.args.types.now old new c.args.op c.args.stack (c.in-Some.below, operands) (option_map number c.op_type.result) r found same h)
+    (λ r h. apply_passes c.args.types.now old new c.args.op c.args.stack (c.in-Some.below, operands) (option_map number c.op_type.result) r (found (goal.at.returns-in-Some c).After-op_type) same h)
     c.pushed.ensures
 
 pub returns-in-None : goal.returns-in-None
@@ -29,4 +38,4 @@ returns-in-None c =
     let old = c.args.stacks.now in
     let found : topmost old.nodes.items c.args.stack (arity c.args.types.now c.args.op) ≡ None =
     ap (topmost old.nodes.items c.args.stack) (sym c.arity.ensures) ∙ sym c.in_ok-below.ensures ∙ ap taken c.in-None.is in
-    apply_short c.args.types.now old c.args.op c.args.stack c.requires found
+    apply_short c.args.types.now old c.args.op c.args.stack c.requires.numbered found

@@ -6,7 +6,7 @@ use Rattle.ioa_code.specs.Parts.{part_for}
 use Rattle.ioa_code.specs.Scan.{all_forward}
 use Rattle.ioa_code.specs.Stacks.{listed, LeadsOn}
 use Rattle.ioa_code.specs.Valid.{after}
-use Rattle.ioa_code.proofs.Arriving.{pending_at, none_pending, lacks_found, back_found, goes_on, are_below}
+use Rattle.ioa_code.proofs.Arriving.{pending_at, none_pending, number_here, lacks_found, back_found, goes_on, are_below}
 use Rattle.ioa_code.proofs.verifier.step.Goals as goal
 use Rattle.ioa_code.proofs.verifier.step.Goals.{In_ok-exits-in-Stack, After-are_forward}
 
@@ -61,3 +61,9 @@ returns-in-Nothing c =
     let part = part_for c.args.code.now c.args.env.now in
     let at = pending_at part c.args.stacks.now c.args.pending.now.items c.args.place c.requires.reached c.index.result.now c.requires.within c.index.ensures in
     none_pending part c.args.stacks.now c.args.pending.now.items c.args.place c.requires.reached c.index.result.now at c.in-Nothing.is
+
+pub pass-requires-clause-number : goal.pass-requires-clause-number
+pass-requires-clause-number c =
+    let part = part_for c.args.code.now c.args.env.now in
+    let at = pending_at part c.args.stacks.now c.args.pending.now.items c.args.place c.requires.reached c.index.result.now c.requires.within c.index.ensures in
+    number_here part c.args.stacks.now c.args.pending.now.items c.args.place c.requires.reached c.in-Stack.stack (at ∙ ap Some c.in-Stack.is)
