@@ -46,6 +46,14 @@ module _ {I : Type 0} {size : I → ℕ} {A B : Type 0} (to : A → B) {L : A �
     long = into_long;
   }
 
+-- the same, where no shorter way to say what is spelled is at hand
+abbrev pub Image : {A B : Type 0} → (A → B) → (A → Language) → B → Language
+Image {A} to L y = λ ts. (x : A) × (to x ≡ y) × L x ts
+
+pub image_exact : {I : Type 0} {size : I → ℕ} {A B : Type 0} {L : A → Language} {D : A → ℕ} {F : Language} {P : I → Reader A} (to : A → B) (E : B → ℕ) → ((x : A) → E (to x) ≡ D x) → ExactFor size L D F P →
+    ExactFor size (Image to L) E F (λ b. built to (P b))
+image_exact {L = L} to E deep p = into_exact to p (Image to L) E (λ y ts s. s) (λ x ts s. (x, refl, s)) deep
+
 abbrev pub deep_some : {A : Type 0} → (A → ℕ) → Option A → ℕ
 deep_some D None = 0
 deep_some D (Some x) = D x

@@ -1,19 +1,19 @@
 -- How two operators side by side group.
-use Rattle.std.proofs.Common.{◌≡◌, ℕ, ◌<◌, ◌≤◌, ◌==◌, Bool, true, false, not, IsTrue, refl, sym, ap, ◌∙◌, subst, arith, cond, Some, find, List, [], ◌∷◌}
+use Rattle.std.proofs.Common.{◌≡◌, ℕ, ◌<◌, ◌≤◌, ◌==◌, not, ◌⊎◌, inl, inr, Bool, true, false, IsTrue, refl, sym, ap, ◌∙◌, subst, arith, cond, Some, None, find, List, [], ◌∷◌}
 use Rattle.std.proofs.Math.Arith.{lt_of_le-ne}
 use denote.Enum.Bare.{same_true}
 use Rattle.ioa_value.specs.contracts.terminal.Terminal.{the_type}
 use Rattle.ioa_value.specs.declared.terminal.Terminal.{Terminal}
 use Rattle.ioa_value.specs.declared.operator.Op.{Op}
-use Rattle.ioa_value.specs.declared.operator.Op.TheVariants.{Not, Neg}
+use Rattle.ioa_value.specs.declared.operator.Op.TheVariants.{Not, Neg, Len, Head, Tail, Last, Init, Append, At, Member, Without, Make, Field}
 use Rattle.ioa_syntax.specs.declared.tree.Infix.{Infix}
 use Rattle.ioa_syntax.specs.declared.tree.Infix.TheVariants.{Operator}
 use Rattle.ioa_syntax.specs.declared.operators.Level.{Level}
 use Rattle.ioa_syntax.specs.declared.operators.Level.TheVariants as levels
 use Rattle.ioa_syntax.specs.declared.operators.Grouping.{Grouping}
-use Rattle.ioa_syntax.specs.declared.operators.Grouping.TheVariants.{Alone, Left, Right, Before}
-use Rattle.ioa_syntax.specs.Operators.{form_of, infixes, prefixes, is_before, stands_between, stands_before, number_of, grouping_of, left_from, right_from, after_from, operator_word, level_of, operator_grouping, left_of, right_of, after_of, tightest}
-use Rattle.ioa_syntax.specs.Reading.{operator_of, prefix_of, same_terminal}
+use Rattle.ioa_syntax.specs.declared.operators.Grouping.TheVariants.{Alone, Left, Right, Before, Around}
+use Rattle.ioa_syntax.specs.Operators.{form_of, infixes, prefixes, enclosing, encloses, stands_around, is_between, stands_between, stands_before, number_of, grouping_of, left_from, right_from, after_from, operator_word, level_of, operator_grouping, left_of, right_of, after_of, tightest}
+use Rattle.ioa_syntax.specs.Reading.{operator_of, prefix_of, around_of, same_terminal}
 
 -- ---- words
 
@@ -22,6 +22,17 @@ pub word_found : (o : Infix) → IsTrue (stands_between o) → operator_of (oper
 unfolding operator_of same_terminal
 word_found (Operator Not) between = absurd (cc)
 word_found (Operator Neg) between = absurd (cc)
+word_found (Operator Len) between = absurd (cc)
+word_found (Operator Head) between = absurd (cc)
+word_found (Operator Tail) between = absurd (cc)
+word_found (Operator Last) between = absurd (cc)
+word_found (Operator Init) between = absurd (cc)
+word_found (Operator Append) between = absurd (cc)
+word_found (Operator At) between = absurd (cc)
+word_found (Operator Member) between = absurd (cc)
+word_found (Operator Without) between = absurd (cc)
+word_found (Operator (Make ty)) between = absurd (cc)
+word_found (Operator (Field j)) between = absurd (cc)
 word_found _ between = refl
 
 pub prefix_found : (o : Op) → IsTrue (stands_before o) → prefix_of (operator_word (Operator o)) ≡ Some o
@@ -29,6 +40,70 @@ unfolding prefix_of same_terminal
 prefix_found Not before = refl
 prefix_found Neg before = refl
 prefix_found _ before = absurd (cc)
+
+pub around_found : (o : Op) → IsTrue (stands_around (Operator o)) → around_of (operator_word (Operator o)) ≡ Some o
+unfolding around_of same_terminal
+around_found Len stands = refl
+around_found Head stands = refl
+around_found Tail stands = refl
+around_found Last stands = refl
+around_found Init stands = refl
+around_found Append stands = refl
+around_found At stands = refl
+around_found Member stands = refl
+around_found Without stands = refl
+around_found _ stands = absurd (cc)
+
+-- around one expression or around two
+pub one_or_two : (o : Op) → IsTrue (stands_around (Operator o)) → (encloses (Operator o) ≡ 1) ⊎ (encloses (Operator o) ≡ 2)
+one_or_two Len stands = inl refl
+one_or_two Head stands = inl refl
+one_or_two Tail stands = inl refl
+one_or_two Last stands = inl refl
+one_or_two Init stands = inl refl
+one_or_two Append stands = inr refl
+one_or_two At stands = inr refl
+one_or_two Member stands = inr refl
+one_or_two Without stands = inr refl
+one_or_two _ stands = absurd (cc)
+
+-- an operator that stands around expressions stands nowhere else
+pub not_before : (o : Op) → IsTrue (stands_around (Operator o)) → prefix_of (operator_word (Operator o)) ≡ None
+unfolding prefix_of same_terminal
+not_before Len stands = refl
+not_before Head stands = refl
+not_before Tail stands = refl
+not_before Last stands = refl
+not_before Init stands = refl
+not_before Append stands = refl
+not_before At stands = refl
+not_before Member stands = refl
+not_before Without stands = refl
+not_before _ stands = absurd (cc)
+
+pub around_stands : (o : Infix) (n : ℕ) → not (n == 0) ≡ true → encloses o ≡ n → IsTrue (stands_around o)
+around_stands o n some h = ap (λ m. not (m == 0)) h ∙ some
+
+pub before_encloses : (o : Op) → IsTrue (stands_before o) → stands_around (Operator o) ≡ false
+before_encloses Not before = refl
+before_encloses Neg before = refl
+before_encloses _ before = absurd (cc)
+
+pub between_encloses : (o : Infix) → IsTrue (stands_between o) → stands_around o ≡ false
+between_encloses (Operator Not) between = absurd (cc)
+between_encloses (Operator Neg) between = absurd (cc)
+between_encloses (Operator Len) between = absurd (cc)
+between_encloses (Operator Head) between = absurd (cc)
+between_encloses (Operator Tail) between = absurd (cc)
+between_encloses (Operator Last) between = absurd (cc)
+between_encloses (Operator Init) between = absurd (cc)
+between_encloses (Operator Append) between = absurd (cc)
+between_encloses (Operator At) between = absurd (cc)
+between_encloses (Operator Member) between = absurd (cc)
+between_encloses (Operator Without) between = absurd (cc)
+between_encloses (Operator (Make ty)) between = absurd (cc)
+between_encloses (Operator (Field j)) between = absurd (cc)
+between_encloses _ between = refl
 
 found_holds : {A : Type 0} (p : A → Bool) (xs : List A) (x : A) → find p xs ≡ Some x → p x ≡ true
 found_holds p [] x h = absurd (cc)
@@ -42,6 +117,17 @@ found_between : (o : Infix) → operator_of (operator_word o) ≡ Some o → IsT
 unfolding operator_of same_terminal
 found_between (Operator Not) h = absurd (cc)
 found_between (Operator Neg) h = absurd (cc)
+found_between (Operator Len) h = absurd (cc)
+found_between (Operator Head) h = absurd (cc)
+found_between (Operator Tail) h = absurd (cc)
+found_between (Operator Last) h = absurd (cc)
+found_between (Operator Init) h = absurd (cc)
+found_between (Operator Append) h = absurd (cc)
+found_between (Operator At) h = absurd (cc)
+found_between (Operator Member) h = absurd (cc)
+found_between (Operator Without) h = absurd (cc)
+found_between (Operator (Make ty)) h = absurd (cc)
+found_between (Operator (Field j)) h = absurd (cc)
 found_between _ h = refl
 
 found_before : (o : Op) → prefix_of (operator_word (Operator o)) ≡ Some o → IsTrue (stands_before o)
@@ -49,6 +135,19 @@ unfolding prefix_of same_terminal
 found_before Not h = refl
 found_before Neg h = refl
 found_before _ h = absurd (cc)
+
+found_around : (o : Op) → around_of (operator_word (Operator o)) ≡ Some o → IsTrue (stands_around (Operator o))
+unfolding around_of same_terminal
+found_around Len h = refl
+found_around Head h = refl
+found_around Tail h = refl
+found_around Last h = refl
+found_around Init h = refl
+found_around Append h = refl
+found_around At h = refl
+found_around Member h = refl
+found_around Without h = refl
+found_around _ h = absurd (cc)
 
 -- and what is found has the word, and stands there
 pub found_only : (t : Terminal) (o : Infix) → operator_of t ≡ Some o → (t ≡ operator_word o) × IsTrue (stands_between o)
@@ -63,11 +162,17 @@ prefix_only t o h =
     let is : t ≡ operator_word (Operator o) = sym (same_true the_type tt (operator_word (Operator o)) t (found_holds (λ p. same_terminal (operator_word (Operator p)) t) prefixes o h)) in
     (is, found_before o (ap prefix_of (sym is) ∙ h))
 
+pub around_only : (t : Terminal) (o : Op) → around_of t ≡ Some o → (t ≡ operator_word (Operator o)) × IsTrue (stands_around (Operator o))
+unfolding around_of same_terminal
+around_only t o h =
+    let is : t ≡ operator_word (Operator o) = sym (same_true the_type tt (operator_word (Operator o)) t (found_holds (λ p. same_terminal (operator_word (Operator p)) t) enclosing o h)) in
+    (is, found_around o (ap around_of (sym is) ∙ h))
+
 -- ---- levels
 
 -- the grouping of the level with this number
 abbrev at_number : ℕ → Grouping
-at_number n = cond (n == 1) Right (cond (n == 5) Alone (cond (n == 4) Before (cond (n == 8) Before Left)))
+at_number n = cond (n == 1) Right (cond (n == 5) Alone (cond (n == 4) Before (cond (n == 8) Before (cond (n == 9) Around Left))))
 
 number_decides : (l : Level) → grouping_of l ≡ at_number (number_of l)
 number_decides levels.Implication = refl
@@ -86,6 +191,7 @@ bounds Alone k = (omega arith, omega arith)
 bounds Left k = (omega arith, omega arith)
 bounds Right k = (omega arith, omega arith)
 bounds Before k = (omega arith, omega arith)
+bounds Around k = (omega arith, omega arith)
 
 pub level_bounds : (o : Infix) → (level_of o ≤ left_of o) × (level_of o ≤ right_of o) × (level_of o < tightest)
 level_bounds o = let b = bounds (operator_grouping o) (level_of o) in (b.0, b.1, number_bounded (form_of o).level)
@@ -97,15 +203,18 @@ above Alone k j lt = (omega arith, omega arith)
 above Left k j lt = (omega arith, omega arith)
 above Right k j lt = (omega arith, omega arith)
 above Before k j lt = (omega arith, omega arith)
+above Around k j lt = (omega arith, omega arith)
 
-second_fits : (g h : Grouping) (k j : ℕ) → IsTrue (not (is_before g)) → (k ≡ j → g ≡ h) → left_from g k ≤ j → (k < right_from h j) × (k < after_from h j)
+second_fits : (g h : Grouping) (k j : ℕ) → IsTrue (is_between g) → (k ≡ j → g ≡ h) → left_from g k ≤ j → (k < right_from h j) × (k < after_from h j)
 second_fits Before h k j between same le = absurd (cc)
+second_fits Around h k j between same le = absurd (cc)
 second_fits Alone h k j between same le = above h k j (omega arith)
 second_fits Right h k j between same le = above h k j (omega arith)
 second_fits Left Left k j between same le = (omega arith, omega arith)
 second_fits Left Alone k j between same le = above Alone k j (lt_of_le-ne le (λ e. let q = same e in absurd (cc)))
 second_fits Left Right k j between same le = above Right k j (lt_of_le-ne le (λ e. let q = same e in absurd (cc)))
 second_fits Left Before k j between same le = above Before k j (lt_of_le-ne le (λ e. let q = same e in absurd (cc)))
+second_fits Left Around k j between same le = above Around k j (lt_of_le-ne le (λ e. let q = same e in absurd (cc)))
 
 -- the second takes the first's operand as its own left one
 pub fits_left : (o p : Infix) → IsTrue (stands_between o) → left_of o ≤ level_of p → (level_of o < right_of p) × (level_of o < after_of p)
@@ -116,15 +225,18 @@ below Alone k j lt = omega arith
 below Left k j lt = omega arith
 below Right k j lt = omega arith
 below Before k j lt = omega arith
+below Around k j lt = omega arith
 
 first_fits : (g h : Grouping) (k j : ℕ) → (k ≡ j → g ≡ h) → j < after_from g k → left_from h j ≤ k
 first_fits Left Left k j same lt = omega arith
 first_fits Left Before k j same lt = omega arith
+first_fits Left Around k j same lt = omega arith
 first_fits Left Alone k j same lt = let less : j < k = lt_of_le-ne (omega arith) (λ e. let q = same (sym e) in absurd (cc)) in omega arith
 first_fits Left Right k j same lt = let less : j < k = lt_of_le-ne (omega arith) (λ e. let q = same (sym e) in absurd (cc)) in omega arith
 first_fits Alone h k j same lt = below h k j lt
 first_fits Right h k j same lt = below h k j lt
 first_fits Before h k j same lt = below h k j lt
+first_fits Around h k j same lt = below h k j lt
 
 -- an operator that may follow takes what stands before it
 pub left_again : (o p : Infix) → level_of p < after_of o → left_of p ≤ level_of o

@@ -16,8 +16,8 @@ use Rattle.ioa_syntax.proofs.Singles.{sign_for, name_for, introduced_exact}
 use Rattle.ioa_syntax.proofs.Absent.{into_exact}
 use Rattle.ioa_syntax.proofs.Lists.{terminated_exact, many_exact}
 use Rattle.ioa_syntax.proofs.FirstTokens.{first_some, leads, alone}
-use Rattle.ioa_syntax.proofs.Complete.{Ends}
-use Rattle.ioa_syntax.proofs.Local.{expression_exact}
+use Rattle.ioa_syntax.proofs.Endings.{Ends}
+use Rattle.ioa_syntax.proofs.Deepening.{expression_exact}
 
 -- ---- statements and arms as lists
 

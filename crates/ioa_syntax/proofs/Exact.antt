@@ -29,6 +29,10 @@ depth_itself n = n
 abbrev pub Exact : {A : Type 0} → (A → Language) → (A → ℕ) → Language → (ℕ → Reader A) → Type 0
 Exact L D F P = ExactFor depth_itself L D F P
 
+-- limits below n
+abbrev pub Below : ℕ → Type 0
+Below n = (b : ℕ) × (b < n)
+
 abbrev pub any : Language
 any = λ ts. Unit {0}
 
@@ -43,6 +47,16 @@ deep_as {size = size} {L = L} {D = D} {F = F} {P = P} D' same e = record {
   shrinks = e.shrinks;
   alike = e.alike;
   long = e.long;
+}
+
+-- the same reader, in another way
+pub read_as : {I : Type 0} {size : I → ℕ} {A : Type 0} {L : A → Language} {D : A → ℕ} {F : Language} {P : I → Reader A} (Q : I → Reader A) → ((b : I) (ts : List Tok) → Q b ts ≡ P b ts) → ExactFor size L D F P → ExactFor size L D F Q
+read_as {size = size} {P = P} Q same e = record {
+  complete = λ b x ts left s d f. same b (ts ++ left) ∙ e.complete b x ts left s d f;
+  sound = λ b ts x left h. e.sound b ts x left (sym (same b ts) ∙ h);
+  shrinks = λ b ts. subst (AtMost (length ts)) (sym (same b ts)) (e.shrinks b ts);
+  alike = λ b b' le s s' h c. subst (λ o. Alike s s' o (Q b' (c ++ s'))) (sym (same b (c ++ s))) (subst (Alike s s' (P b (c ++ s))) (sym (same b' (c ++ s'))) (e.alike b b' le s s' h c));
+  long = λ b ts h. e.long b ts (sym (same b ts) ∙ h);
 }
 
 -- less may follow

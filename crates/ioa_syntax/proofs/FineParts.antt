@@ -1,43 +1,43 @@
 -- What fine automata and sources keep, part by part.
-use Rattle.std.proofs.Common.{◌≡◌, ℕ, zero, suc, ◌≤◌, not, ◌&&◌, ◌||◌, ◌++◌, nat_le, IsTrue, List, [], map, filter, length, Some, slice_get, refl, subst, arith}
+use Rattle.std.proofs.Common.{ℕ, ◌≤◌, not, ◌&&◌, ◌||◌, ◌++◌, nat_le, IsTrue, List, [], map, filter, length, arith}
 use Rattle.std.specs.List.{list_all}
 use Rattle.std.proofs.lemmas.Bool.{and_parts}
 use Rattle.std.proofs.lemmas.Bool.Decides.{nat_tests}
 use Rattle.ioa_value.specs.Actions.{Name}
-use Rattle.ioa_value.specs.Table.{Table, Declaration, AreTypes, MayStand, basic, bool, int}
+use Rattle.ioa_value.specs.Table.{Table}
 use Rattle.ioa_syntax.specs.Tree.{AutomatonTree, EntryTree, SourceTree}
 use Rattle.ioa_syntax.specs.Types.{types_of}
 use Rattle.ioa_value.specs.declared.limits.Limits.{Limits}
 use Rattle.ioa_value.specs.declared.limits.TheConstants.{LIMITS}
 use Rattle.ioa_syntax.specs.Instances.{position_name}
-use Rattle.ioa_syntax.specs.WellFormed.{distinct, apart, is_type, position_fields, variable_fields, local_names, fields_fine, start_fine, entry_fine, matches, one_to_one, transition_fine, automaton_fine, transition_within, entry_within, automaton_within, declarations_fine, declaration_within, source_within, global_names, is_counted, well_formed}
+use Rattle.ioa_syntax.specs.WellFormed.{distinct, apart, is_type, position_fields, variable_fields, local_names, fields_fine, start_fine, entry_fine, matches, one_to_one, transition_fine, automaton_fine, transition_within, entry_within, automaton_within, declarations_fine, declaration_within, source_within, global_names, is_type_declaration, is_counted, types_narrow, well_formed}
 
-at_most : (n m : ℕ) → IsTrue (nat_le n m) → n ≤ m
+pub at_most : (n m : ℕ) → IsTrue (nat_le n m) → n ≤ m
 at_most n m h = grind (arith, nat_tests)
 
-module _ (types : Table) (globals : List Name) (a : AutomatonTree) where
+module _ (types early : Table) (globals : List Name) (a : AutomatonTree) where
   -- what a fine automaton keeps
   pub record FineParts : Type 0 where
-    pub distinct_names : IsTrue (distinct (local_names types globals a))
-    pub apart_names : IsTrue (apart (local_names types globals a) globals)
-    pub formal_types : IsTrue (list_all (is_type types) a.formals)
-    pub variable_types : IsTrue (list_all (is_type types) (variable_fields a))
-    pub starts : IsTrue (list_all (start_fine types globals a) a.variables)
+    pub distinct_names : IsTrue (distinct (local_names types early globals a))
+    pub apart_names : IsTrue (apart (local_names types early globals a) globals)
+    pub formal_types : IsTrue (list_all (is_type early) a.formals)
+    pub variable_types : IsTrue (list_all (is_type early) (variable_fields a))
+    pub starts : IsTrue (list_all (start_fine types early globals a) a.variables)
     pub entry_names : IsTrue (distinct (map (λ e. e.name) a.entries))
-    pub entries : IsTrue (list_all (entry_fine types globals a) a.entries)
-    pub one_each : IsTrue (one_to_one types globals a)
-    pub transitions : IsTrue (list_all (λ e. list_all (λ r. not (matches types globals a e r) || transition_fine types globals a e r) a.transitions) a.entries)
+    pub entries : IsTrue (list_all (entry_fine types early globals a) a.entries)
+    pub one_each : IsTrue (one_to_one types early globals a)
+    pub transitions : IsTrue (list_all (λ e. list_all (λ r. not (matches types early globals a e r) || transition_fine types early globals a e r) a.transitions) a.entries)
 
-  pub fine_parts : IsTrue (automaton_fine types globals a) → FineParts
+  pub fine_parts : IsTrue (automaton_fine types early globals a) → FineParts
   fine_parts h =
       let p5 = and_parts _ _ h in
       let p4 = and_parts _ _ p5.0 in
       let p3 = and_parts _ _ p4.0 in
       let p2 = and_parts _ _ p3.0 in
-      let p1 = and_parts (fields_fine types globals a) (list_all (start_fine types globals a) a.variables) p2.0 in
-      let names = local_names types globals a in
-      let f3 = and_parts (distinct names && apart names globals && list_all (is_type types) a.formals) (list_all (is_type types) (variable_fields a)) p1.0 in
-      let f2 = and_parts (distinct names && apart names globals) (list_all (is_type types) a.formals) f3.0 in
+      let p1 = and_parts (fields_fine types early globals a) (list_all (start_fine types early globals a) a.variables) p2.0 in
+      let names = local_names types early globals a in
+      let f3 = and_parts (distinct names && apart names globals && list_all (is_type early) a.formals) (list_all (is_type early) (variable_fields a)) p1.0 in
+      let f2 = and_parts (distinct names && apart names globals) (list_all (is_type early) a.formals) f3.0 in
       let f1 = and_parts (distinct names) (apart names globals) f2.0 in
       record {
         distinct_names = f1.0;
@@ -54,14 +54,14 @@ module _ (types : Table) (globals : List Name) (a : AutomatonTree) where
   -- what a fine entry keeps
   pub record EntryParts (e : EntryTree) : Type 0 where
     pub distinct_names : IsTrue (distinct (map position_name e.positions))
-    pub apart_names : IsTrue (apart (map position_name e.positions) (globals ++ local_names types globals a))
-    pub position_types : IsTrue (list_all (is_type types) (position_fields e.positions))
+    pub apart_names : IsTrue (apart (map position_name e.positions) (globals ++ local_names types early globals a))
+    pub position_types : IsTrue (list_all (is_type early) (position_fields e.positions))
 
-  pub entry_parts : (e : EntryTree) → IsTrue (entry_fine types globals a e) → EntryParts e
+  pub entry_parts : (e : EntryTree) → IsTrue (entry_fine types early globals a e) → EntryParts e
   entry_parts e h =
       let names = map position_name e.positions in
-      let p2 = and_parts (distinct names && apart names (globals ++ local_names types globals a)) (list_all (is_type types) (position_fields e.positions)) h in
-      let p1 = and_parts (distinct names) (apart names (globals ++ local_names types globals a)) p2.0 in
+      let p2 = and_parts (distinct names && apart names (globals ++ local_names types early globals a)) (list_all (is_type early) (position_fields e.positions)) h in
+      let p1 = and_parts (distinct names) (apart names (globals ++ local_names types early globals a)) p2.0 in
       record { distinct_names = p1.0; apart_names = p1.1; position_types = p2.1 }
 
 -- ---- limits
@@ -90,24 +90,27 @@ within_parts most a h =
 
 -- ---- sources
 
--- the types of a source are types
-pub types_are : (s : SourceTree) → AreTypes (types_of s)
-types_are s = record { first = refl; second = refl; each = stands; few = omega arith }
-  where
-    stands : (ty : ℕ) (d : Declaration) → slice_get basic ty ≡ Some d → MayStand ty d.shape
-    stands zero d e = let same : bool ≡ d = cc in subst (λ x. MayStand 0 x.shape) same refl
-    stands (suc zero) d e = let same : int ≡ d = cc in subst (λ x. MayStand 1 x.shape) same refl
-    stands (suc (suc k)) d e = absurd (cc)
-
 pub record SourceParts (s : SourceTree) : Type 0 where
   pub distinct_names : IsTrue (distinct (global_names s))
   pub declarations : IsTrue (declarations_fine (types_of s) (global_names s) [] s)
+  pub limits : IsTrue (source_within LIMITS s)
   pub few : length (filter is_counted s) ≤ LIMITS.automata
   pub within : IsTrue (list_all (declaration_within LIMITS) s)
+  pub narrow : IsTrue (types_narrow LIMITS s)
 
 pub source_parts : (s : SourceTree) → IsTrue (well_formed s) → SourceParts s
 source_parts s h =
-    let p2 = and_parts (distinct (global_names s) && declarations_fine (types_of s) (global_names s) [] s) (source_within LIMITS s) h in
+    let p3 = and_parts (distinct (global_names s) && declarations_fine (types_of s) (global_names s) [] s && source_within LIMITS s) (types_narrow LIMITS s) h in
+    let p2 = and_parts (distinct (global_names s) && declarations_fine (types_of s) (global_names s) [] s) (source_within LIMITS s) p3.0 in
     let p1 = and_parts (distinct (global_names s)) (declarations_fine (types_of s) (global_names s) [] s) p2.0 in
-    let w = and_parts (nat_le (length (filter is_counted s)) LIMITS.automata) (list_all (declaration_within LIMITS) s) p2.1 in
-    record { distinct_names = p1.0; declarations = p1.1; few = at_most (length (filter is_counted s)) LIMITS.automata w.0; within = w.1 }
+    let few = nat_le (length (filter is_type_declaration s)) LIMITS.types && nat_le (length (filter is_counted s)) LIMITS.automata in
+    let w2 = and_parts few (list_all (declaration_within LIMITS) s) p2.1 in
+    let w1 = and_parts (nat_le (length (filter is_type_declaration s)) LIMITS.types) (nat_le (length (filter is_counted s)) LIMITS.automata) w2.0 in
+    record {
+      distinct_names = p1.0;
+      declarations = p1.1;
+      limits = p2.1;
+      few = at_most (length (filter is_counted s)) LIMITS.automata w1.1;
+      within = w2.1;
+      narrow = p3.1;
+    }

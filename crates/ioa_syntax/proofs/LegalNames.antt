@@ -1,5 +1,5 @@
 -- The names of a source that some tokens spell are legal.
-use Rattle.std.proofs.Common.{◌≡◌, ℕ, Bool, true, false, cond, List, [], ◌∷◌, ◌++◌, Option, Some, None, All, sym, ap, ◌∙◌, subst, append_assoc}
+use Rattle.std.proofs.Common.{◌≡◌, ℕ, inl, inr, refl, Bool, true, false, cond, List, [], ◌∷◌, ◌++◌, Option, Some, None, All, sym, ap, ◌∙◌, subst, append_assoc}
 use Rattle.std.specs.List.{flat_map, find}
 use Rattle.std.specs.Prelude.{reverse}
 use Rattle.std.proofs.lemmas.List.{reverse-append}
@@ -11,13 +11,13 @@ use Rattle.ioa_lex.specs.Tokens as tokens
 use Rattle.ioa_lex.specs.Tokens.{Tok}
 use Rattle.ioa_value.specs.Actions.{Name}
 use Rattle.ioa_value.specs.Names.{IsName}
-use Rattle.ioa_syntax.specs.Tree.{Expr, number, truth, named, parens, prefix, binary, FieldTree, PositionTree, typed, EntryTree, VariableTree, Stmt, assign, choose, Stmts, stop, seq, Arms, no_arm, arm, TransitionTree, AutomatonTree, InstanceTree, CompositionTree, DeclarationTree, automaton, composition, SourceTree}
+use Rattle.ioa_syntax.specs.Tree.{Expr, number, truth, named, parens, prefix, binary, empty, FieldTree, PositionTree, typed, EntryTree, VariableTree, Stmt, assign, choose, Stmts, stop, seq, Arms, no_arm, arm, TransitionTree, AutomatonTree, InstanceTree, CompositionTree, FormTree, enumeration, tuple, sequence, TypeTree, DeclarationTree, declared_type, automaton, composition, SourceTree}
 use Rattle.ioa_syntax.specs.declared.tree.Infix.TheVariants.{Operator}
 use Rattle.ioa_syntax.specs.Operators.{left_of, right_of, operator_word}
-use Rattle.ioa_syntax.specs.Grammar.{Language, ◌▹◌, word, called, perhaps, optional, optional_list, each_after, separated, terminated, many, kind_word, SpellsExpr, SpellsField, SpellsFields, SpellsPosition, SpellsPositions, SpellsEntry, SpellsVariable, SpellsProposal, SpellsStmt, SpellsStmts, SpellsMore, SpellsAfter, SpellsArms, SpellsTransition, SpellsAutomaton, SpellsArguments, SpellsInstance, SpellsInstances, SpellsComposition, SpellsDeclaration}
+use Rattle.ioa_syntax.specs.Grammar.{Language, ◌▹◌, word, called, perhaps, optional, optional_list, each_after, separated, terminated, many, single, enclosed, braced, kind_word, SpellsExpr, SpellsField, SpellsFields, SpellsPosition, SpellsPositions, SpellsEntry, SpellsVariable, SpellsProposal, SpellsStmt, SpellsStmts, SpellsMore, SpellsAfter, SpellsArms, SpellsTransition, SpellsAutomaton, SpellsArguments, SpellsInstance, SpellsInstances, SpellsComposition, SpellsForm, SpellsType, SpellsDeclaration}
 use Rattle.ioa_syntax.specs.Source.{AreTokens, IsSource}
 use Rattle.ioa_syntax.specs.Compositions.{automata, compositions, first_item, picked, automaton_named}
-use Rattle.ioa_syntax.specs.Names.{names_of_expr, names_of_option, names_of_field, names_of_position, names_of_entry, names_of_variable, names_of_proposal, names_of_stmt, names_of_stmts, names_of_arms, names_of_transition, names_of_automaton, names_of_instance, names_of_composition, names_of_declaration, LegalNames}
+use Rattle.ioa_syntax.specs.Names.{names_of_expr, names_of_option, names_of_field, names_of_position, names_of_entry, names_of_variable, names_of_proposal, names_of_stmt, names_of_stmts, names_of_arms, names_of_transition, names_of_automaton, names_of_instance, names_of_composition, names_of_form, names_of_type, names_of_declaration, LegalNames}
 
 abbrev AreNames : List Name → Type 0
 AreNames ns = All IsName ns
@@ -87,16 +87,26 @@ module _ {A : Type 0} (f : A → List Name) where
 again : (a b c d : List Name) → a ++ (b ++ (c ++ d)) ≡ (a ++ (b ++ c)) ++ d
 again a b c d = ap (λ l. a ++ l) (sym (append_assoc b c d)) ∙ sym (append_assoc a (b ++ c) d)
 
+enclosed_lawful : (L : Language) (ns : List Name) → Lawful L ns → Lawful (enclosed L) ns
+enclosed_lawful L ns inner = after_word terminals.Open (L ▹ word terminals.Close) ns (before_lawful L (word terminals.Close) ns inner)
+
 expr_lawful : (k : ℕ) (e : Expr) → Lawful (SpellsExpr k e) (names_of_expr e)
-expr_lawful k (number n) = none_lawful (SpellsExpr k (number n))
-expr_lawful k (truth b) = none_lawful (SpellsExpr k (truth b))
-expr_lawful k (named x) = called_lawful x
-expr_lawful k (parens e) =
-    after_word terminals.Open (SpellsExpr 0 e ▹ word terminals.Close) (names_of_expr e) (before_lawful (SpellsExpr 0 e) (word terminals.Close) (names_of_expr e) (expr_lawful 0 e))
-expr_lawful k (prefix o e) = λ ts h s. after_word (operator_word (Operator o)) (SpellsExpr (right_of (Operator o)) e) (names_of_expr e) (expr_lawful (right_of (Operator o)) e) ts h s.2
-expr_lawful k (binary l o r) = λ ts h s.
+expr_lawful k (number n) ts h s = none_lawful (SpellsExpr k (number n)) ts h s
+expr_lawful k (truth b) ts h s = none_lawful (SpellsExpr k (truth b)) ts h s
+expr_lawful k (named x) ts h s = called_lawful x ts h s
+expr_lawful k (parens e) ts h s = enclosed_lawful (SpellsExpr 0 e) (names_of_expr e) (expr_lawful 0 e) ts h s
+expr_lawful k (prefix o e) ts h (inl s) = after_word (operator_word (Operator o)) (SpellsExpr (right_of (Operator o)) e) (names_of_expr e) (expr_lawful (right_of (Operator o)) e) ts h s.2
+expr_lawful k (prefix o e) ts h (inr s) =
+    after_word (operator_word (Operator o)) (enclosed (SpellsExpr 0 e)) (names_of_expr e) (enclosed_lawful (SpellsExpr 0 e) (names_of_expr e) (expr_lawful 0 e)) ts h s.1
+expr_lawful k (binary l o r) ts h (inl s) =
     then_lawful (SpellsExpr (left_of o) l) (word (operator_word o) ▹ SpellsExpr (right_of o) r) (names_of_expr l) (names_of_expr r) (expr_lawful (left_of o) l)
     (after_word (operator_word o) (SpellsExpr (right_of o) r) (names_of_expr r) (expr_lawful (right_of o) r)) ts h s.2
+expr_lawful k (binary l o r) ts h (inr s) =
+    let inner = SpellsExpr 0 l ▹ (word terminals.Comma ▹ SpellsExpr 0 r) in
+    after_word (operator_word o) (enclosed inner) (names_of_expr (binary l o r))
+    (enclosed_lawful inner (names_of_expr (binary l o r))
+    (then_lawful (SpellsExpr 0 l) (word terminals.Comma ▹ SpellsExpr 0 r) (names_of_expr l) (names_of_expr r) (expr_lawful 0 l) (after_word terminals.Comma (SpellsExpr 0 r) (names_of_expr r) (expr_lawful 0 r)))) ts h s.1
+expr_lawful k (empty n) ts h s = after_word terminals.Empty (enclosed (called n)) (n ∷ []) (enclosed_lawful (called n) (n ∷ []) (called_lawful n)) ts h s
 
 field_lawful : (f : FieldTree) → Lawful (SpellsField f) (names_of_field f)
 field_lawful f =
@@ -216,7 +226,29 @@ composition_lawful c =
     name_then c.name (word terminals.Components ▹ SpellsInstances c.instances) (flat_map names_of_instance c.instances)
     (after_word terminals.Components (SpellsInstances c.instances) (flat_map names_of_instance c.instances) (instances_lawful c.instances))
 
+braced_lawful : {A : Type 0} (f : A → List Name) (L : A → Language) → ((x : A) → Lawful (L x) (f x)) → (xs : List A) → Lawful (braced L xs) (flat_map f xs)
+braced_lawful f L each xs =
+    after_word terminals.OpenBrace (separated terminals.Comma L xs ▹ word terminals.CloseBrace) (flat_map f xs)
+    (before_lawful (separated terminals.Comma L xs) (word terminals.CloseBrace) (flat_map f xs) (separated_lawful f L each terminals.Comma xs))
+
+names_alone : (ns : List Name) → flat_map (λ n. n ∷ []) ns ≡ ns
+names_alone [] = refl
+names_alone (n ∷ ns) = ap (λ r. n ∷ r) (names_alone ns)
+
+form_lawful : (f : FormTree) → Lawful (SpellsForm f) (names_of_form f)
+form_lawful (enumeration ns) ts h s =
+    subst AreNames (names_alone ns) (after_word terminals.Enum (braced called ns) (flat_map (λ n. n ∷ []) ns) (braced_lawful (λ n. n ∷ []) called called_lawful ns) ts h s)
+form_lawful (tuple fs) ts h s = after_word terminals.Tuple (braced SpellsField fs) (flat_map names_of_field fs) (braced_lawful names_of_field SpellsField field_lawful fs) ts h s
+form_lawful (sequence most item) ts h s =
+    let last = after_word terminals.Of (called item) (item ∷ []) (called_lawful item) in
+    let number = single (tokens.number most) in
+    after_word terminals.Seq (number ▹ (word terminals.Of ▹ called item)) (item ∷ []) (then_lawful number (word terminals.Of ▹ called item) [] (item ∷ []) (none_lawful number) last) ts h s
+
+type_lawful : (t : TypeTree) → Lawful (SpellsType t) (names_of_type t)
+type_lawful t = name_then t.name (word terminals.Equal ▹ SpellsForm t.form) (names_of_form t.form) (after_word terminals.Equal (SpellsForm t.form) (names_of_form t.form) (form_lawful t.form))
+
 declaration_lawful : (d : DeclarationTree) → Lawful (SpellsDeclaration d) (names_of_declaration d)
+declaration_lawful (declared_type t) = after_word terminals.Type (SpellsType t) (names_of_type t) (type_lawful t)
 declaration_lawful (automaton a) = after_word terminals.Automaton (SpellsAutomaton a) (names_of_automaton a) (automaton_lawful a)
 declaration_lawful (composition c) = after_word terminals.Composition (SpellsComposition c) (names_of_composition c) (composition_lawful c)
 
@@ -256,6 +288,7 @@ module _ {X : Type 0} (P : X → Type 0) where
 
 legal_automata : (s : SourceTree) → All (λ d. AreNames (names_of_declaration d)) s → All (λ a. AreNames (names_of_automaton a)) (automata s)
 legal_automata [] h = All-nil (λ a. AreNames (names_of_automaton a))
+legal_automata (declared_type t ∷ ds) h = legal_automata ds (All-tail (λ d. AreNames (names_of_declaration d)) (declared_type t) ds h)
 legal_automata (automaton a ∷ ds) h =
     let D : DeclarationTree → Type 0 = λ d. AreNames (names_of_declaration d) in
     All-cons (λ a. AreNames (names_of_automaton a)) a (automata ds) (All-head D (automaton a) ds h) (legal_automata ds (All-tail D (automaton a) ds h))
@@ -263,6 +296,7 @@ legal_automata (composition c ∷ ds) h = legal_automata ds (All-tail (λ d. Are
 
 legal_compositions : (s : SourceTree) → All (λ d. AreNames (names_of_declaration d)) s → All (λ c. AreNames (names_of_composition c)) (compositions s)
 legal_compositions [] h = All-nil (λ c. AreNames (names_of_composition c))
+legal_compositions (declared_type t ∷ ds) h = legal_compositions ds (All-tail (λ d. AreNames (names_of_declaration d)) (declared_type t) ds h)
 legal_compositions (automaton a ∷ ds) h = legal_compositions ds (All-tail (λ d. AreNames (names_of_declaration d)) (automaton a) ds h)
 legal_compositions (composition c ∷ ds) h =
     let D : DeclarationTree → Type 0 = λ d. AreNames (names_of_declaration d) in

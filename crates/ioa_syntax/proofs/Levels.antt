@@ -9,9 +9,9 @@ use Rattle.ioa_syntax.specs.Depth.{deep_stmts, stmts_depth}
 use Rattle.ioa_syntax.specs.Grammar.{Language, SameHead, SpellsStmt, SpellsStmts, SpellsAfter}
 use Rattle.ioa_syntax.specs.Reading.{Reader, rest, sees, after, a_name, assignment, in_sequence, introduced, choice, no_statement, statement, statements}
 use Rattle.ioa_syntax.proofs.Outcomes.{AtMost, Shrinks, Alike, refused_at}
-use Rattle.ioa_syntax.proofs.Exact.{Found, ExactFor, Exact, any, deep_as, said_as}
+use Rattle.ioa_syntax.proofs.Exact.{Found, ExactFor, Exact, Below, any, deep_as, said_as}
 use Rattle.ioa_syntax.proofs.Singles.{seen, after_seen, after_unseen, either_exact}
-use Rattle.ioa_syntax.proofs.Complete.{Ends}
+use Rattle.ioa_syntax.proofs.Endings.{Ends}
 use Rattle.ioa_syntax.proofs.ChoiceLemmas.{ByChoice, ByAssignment, either_of, either_to, assignment_unseen, stmt_needs, stmts_need, parts_need, stmt_positive, AfterStatements, assignments_for, sequences_for, introduced_for, choice_for}
 
 statement_none : (depth levels : ℕ) → statement depth levels [] ≡ Err (Syntax 0)
@@ -141,10 +141,6 @@ statement_below zero depth levels k is less = record {
 }
 statement_below (suc n) depth levels k is less =
     level_exact depth levels k is (statement_below n (λ (j : Inner levels). depth j.0) (λ (j : Inner levels). j.1) (suc k) (λ j. omega (arith, is j.0, j.2)) (λ j. omega (arith, less j.0, j.2)))
-
--- limits below n
-abbrev Below : ℕ → Type 0
-Below n = (b : ℕ) × (b < n)
 
 statement_at : (n : ℕ) → ExactFor {I = Below n} (λ b. b.0) SpellsStmt (stmt_needs 0) (Ends 0) (λ b. statement b.0 b.0)
 statement_at n = statement_below n (λ (b : Below n). b.0) (λ (b : Below n). b.0) 0 (λ b. omega arith) (λ b. b.1)

@@ -2,24 +2,22 @@
 -- tokens than the depth allows go too deep.
 use Rattle.std.proofs.Common.{◌≡◌, ℕ, zero, suc, ◌+◌, ◌<◌, ◌≤◌, inl, inr, Bool, List, [], ◌∷◌, ◌++◌, length, refl, sym, ap, ◌∙◌, subst, arith, Option, Some, None, Ok, Err, true, false, nat_le, if◌then◌else◌, length-append, append_assoc}
 use Rattle.std.proofs.lemmas.Bool.Decides.{nat_tests}
-use Rattle.ioa_value.specs.declared.terminal.Terminal.{Terminal}
-use Rattle.ioa_value.specs.declared.terminal.Terminal.TheVariants as terminals
-use Rattle.ioa_lex.specs.Tokens as tokens
-use Rattle.ioa_lex.specs.Tokens.{Tok, terminal}
+use Rattle.ioa_lex.specs.Tokens.{Tok}
 use Rattle.ioa_syntax.specs.declared.fault.Fault.TheVariants.{Syntax, TooDeep}
 use Rattle.ioa_value.specs.declared.operator.Op.{Op}
 use Rattle.ioa_syntax.specs.declared.tree.Infix.{Infix}
 use Rattle.ioa_syntax.specs.declared.tree.Infix.TheVariants.{Operator}
-use Rattle.ioa_syntax.specs.Tree.{Expr, number, truth, named, parens, prefix, binary}
+use Rattle.ioa_syntax.specs.Tree.{Expr, prefix, binary}
 use Rattle.ioa_syntax.specs.Depth.{depth_of}
 use Rattle.ioa_syntax.specs.Operators.{right_of, after_of, tightest}
-use Rattle.ioa_syntax.specs.Grammar.{SpellsExpr, SameHead}
-use Rattle.ioa_syntax.specs.Reading.{climb, climb_by, stop_by, expr, first, prefix_at, prefix_in, expression, operand, opened, operator_at, operator_in, terminal_at, terminal_in, allowed, rest, sign, Outcome, Reader, ◌>>=◌, ◌▸◌, built}
+use Rattle.ioa_syntax.specs.Grammar.{SameHead}
+use Rattle.ioa_syntax.specs.Reading.{climb, climb_by, stop_by, expr, first, prefix_at, prefix_in, operand, start_at, operator_at, operator_in, terminal_at, terminal_in, allowed, rest, Outcome, Reader, ◌>>=◌, built}
 use Rattle.ioa_syntax.proofs.Outcomes.{bind_err, AtMost, at_most_more, at_most_then, Shrinks, Alike, Past, past_at_most, alike_then, alike_rest, refused_at, went, front_length, same_head, LooksAhead, head_alike, rest_length}
-use Rattle.ioa_syntax.proofs.Exact.{Found, Exact}
-use Rattle.ioa_syntax.proofs.Singles.{sign_exact}
-use Rattle.ioa_syntax.proofs.Complete.{mark, Ends, complete, spelled_deep, depth_positive, first_plain, first_marked, first_loose, climbs}
-use Rattle.ioa_syntax.proofs.Sound.{next_cases, beginning, begins_plain, begins_marked, begins_loose, Opening, opening, opens_true, opens_false, opens_parens, opens_none, bracketed, opened_true, opened_false, opened_bracketed, sound, first_sound}
+use Rattle.ioa_syntax.proofs.Exact.{Found}
+use Rattle.ioa_syntax.proofs.Endings.{mark}
+use Rattle.ioa_syntax.proofs.Operands.{Opens}
+use Rattle.ioa_syntax.proofs.Complete.{spelled_deep, depth_positive, first_plain, first_marked, first_loose, climbs}
+use Rattle.ioa_syntax.proofs.Sound.{Reads, next_cases, beginning, begins_plain, begins_marked, begins_loose, first_sound}
 
 operator_alike : (least below : ℕ) → LooksAhead (operator_at least below)
 unfolding operator_at terminal_at
@@ -29,103 +27,9 @@ prefix_alike : LooksAhead prefix_at
 unfolding prefix_at terminal_at
 prefix_alike = head_alike prefix_at None (λ x. prefix_in (terminal_in x)) refl (λ x ts. refl)
 
--- ---- operands
-
-bracketed_shrinks : (inner : Reader Expr) → Shrinks inner → Shrinks (bracketed inner)
-bracketed_shrinks inner shrinks ts =
-    at_most_then (length ts) ((inner ▸ sign terminals.Close) ts) (λ x. Ok (parens x.0.0, x.1))
-    (at_most_then (length ts) (inner ts) (λ x. sign terminals.Close x.1 >>= λ y. Ok ((x.0, y.0), y.1)) (shrinks ts)
-    (λ x h. at_most_then (length ts) (sign terminals.Close x.1) (λ y. Ok ((x.0, y.0), y.1)) (at_most_more (length x.1) (length ts) (sign terminals.Close x.1) h ((sign_exact terminals.Close).shrinks 0 x.1)) (λ y k. k)))
-    (λ x h. h)
-
-opened_shrinks : (inner : Reader Expr) → Shrinks inner → (t : Terminal) (ts : List Tok) → AtMost (suc (length ts)) (opened inner t ts)
-opened_shrinks inner shrinks t ts =
-    elim (opening inner t) [
-      | opens_true is ↦ subst (λ o. AtMost (suc (length ts)) o) (sym (ap (λ t. opened inner t ts) is ∙ opened_true inner ts)) (omega arith)
-      | opens_false is ↦ subst (λ o. AtMost (suc (length ts)) o) (sym (ap (λ t. opened inner t ts) is ∙ opened_false inner ts)) (omega arith)
-      | opens_parens is ↦ subst (λ o. AtMost (suc (length ts)) o) (sym (ap (λ t. opened inner t ts) is ∙ opened_bracketed inner ts)) (at_most_more (length ts) (suc (length ts)) (bracketed inner ts) (omega arith) (bracketed_shrinks inner shrinks ts))
-      | opens_none faults ↦ subst (λ o. AtMost (suc (length ts)) o) (sym (faults ts)) (omega arith)
-    ]
-
-operand_shrinks : (inner : Reader Expr) → Shrinks inner → Shrinks (operand inner)
-unfolding operand
-operand_shrinks inner shrinks [] = omega arith
-operand_shrinks inner shrinks (tokens.number n ∷ ts) = omega arith
-operand_shrinks inner shrinks (tokens.name n ∷ ts) = omega arith
-operand_shrinks inner shrinks (terminal t ∷ ts) = opened_shrinks inner shrinks t ts
-
-module _ (inner inner' : Reader Expr) (shrinks : Shrinks inner) (s s' : List Tok) (same : SameHead s s') (alike : (c : List Tok) → Alike s s' (inner (c ++ s)) (inner' (c ++ s'))) where
-  abbrev closed : Expr × List Tok → Outcome (Expr × Unit {0})
-  closed x = sign terminals.Close x.1 >>= λ y. Ok ((x.0, y.0), y.1)
-
-  close_past : (x : Expr × List Tok) → length x.1 < length s → Past s (closed x)
-  close_past x h =
-      past_at_most s (length x.1) (closed x) h (at_most_then (length x.1) (sign terminals.Close x.1) (λ y. Ok ((x.0, y.0), y.1)) ((sign_exact terminals.Close).shrinks 0 x.1) (λ y k. k))
-
-  bracketed_alike : (c : List Tok) → Alike s s' (bracketed inner (c ++ s)) (bracketed inner' (c ++ s'))
-  bracketed_alike c =
-      alike_then s s' ((inner ▸ sign terminals.Close) (c ++ s)) ((inner' ▸ sign terminals.Close) (c ++ s')) (λ x. Ok (parens x.0.0, x.1)) (λ x. Ok (parens x.0.0, x.1))
-      (alike_then s s' (inner (c ++ s)) (inner' (c ++ s')) closed closed (alike c) close_past
-      (λ x d was is. alike_then s s' (sign terminals.Close (d ++ s)) (sign terminals.Close (d ++ s')) (λ y. Ok ((x, y.0), y.1)) (λ y. Ok ((x, y.0), y.1)) ((sign_exact terminals.Close).alike 0 0 (omega arith) s s' same d) (λ y h. h) (λ y r was is. went s s' (x, y) r)))
-      (λ x h. h) (λ x d was is. went s s' (parens x.0) d)
-
-  alike_as : (o p o' p' : Outcome Expr) → o ≡ p → o' ≡ p' → Alike s s' p p' → Alike s s' o o'
-  alike_as o p o' p' e e' a = subst (λ z. Alike s s' z o') (sym e) (subst (λ z. Alike s s' p z) (sym e') a)
-
-  opened_alike : (t : Terminal) (c : List Tok) → Alike s s' (opened inner t (c ++ s)) (opened inner' t (c ++ s'))
-  opened_alike t c =
-      elim (opening inner t) [
-        | opens_true is ↦ alike_as (opened inner t (c ++ s)) (Ok (truth true, c ++ s)) (opened inner' t (c ++ s')) (Ok (truth true, c ++ s')) (ap (λ t. opened inner t (c ++ s)) is ∙ opened_true inner (c ++ s)) (ap (λ t. opened inner' t (c ++ s')) is ∙ opened_true inner' (c ++ s')) (went s s' (truth true) c)
-        | opens_false is ↦ alike_as (opened inner t (c ++ s)) (Ok (truth false, c ++ s)) (opened inner' t (c ++ s')) (Ok (truth false, c ++ s')) (ap (λ t. opened inner t (c ++ s)) is ∙ opened_false inner (c ++ s)) (ap (λ t. opened inner' t (c ++ s')) is ∙ opened_false inner' (c ++ s')) (went s s' (truth false) c)
-        | opens_parens is ↦ alike_as (opened inner t (c ++ s)) (bracketed inner (c ++ s)) (opened inner' t (c ++ s')) (bracketed inner' (c ++ s')) (ap (λ t. opened inner t (c ++ s)) is ∙ opened_bracketed inner (c ++ s)) (ap (λ t. opened inner' t (c ++ s')) is ∙ opened_bracketed inner' (c ++ s')) (bracketed_alike c)
-        | opens_none faults ↦ none (opening inner' t) faults
-      ]
-    where
-      none : Opening inner' t → ((ts : List Tok) → opened inner t ts ≡ Err (Syntax (suc (length ts)))) → Alike s s' (opened inner t (c ++ s)) (opened inner' t (c ++ s'))
-      none (opens_true is) faults = let never = sym (faults []) ∙ (ap (λ t. opened inner t []) is ∙ opened_true inner []) in absurd (cc)
-      none (opens_false is) faults = let never = sym (faults []) ∙ (ap (λ t. opened inner t []) is ∙ opened_false inner []) in absurd (cc)
-      none (opens_parens is) faults =
-          let here : opened inner t (c ++ s) ≡ Err (Syntax (suc (length (c ++ s)))) = faults (c ++ s) in
-          alike_as (opened inner t (c ++ s)) (bracketed inner (c ++ s)) (opened inner' t (c ++ s')) (bracketed inner' (c ++ s')) (ap (λ t. opened inner t (c ++ s)) is ∙ opened_bracketed inner (c ++ s)) (ap (λ t. opened inner' t (c ++ s')) is ∙ opened_bracketed inner' (c ++ s')) (bracketed_alike c)
-      none (opens_none faults') faults =
-          alike_as (opened inner t (c ++ s)) (Err (Syntax (suc (length (c ++ s))))) (opened inner' t (c ++ s')) (Err (Syntax (suc (length (c ++ s'))))) (faults (c ++ s)) (faults' (c ++ s')) (refused_at s s' (suc (length (c ++ s))) (suc (length (c ++ s'))) (omega (arith, front_length c s)))
-
-opened_here : (inner inner' : Reader Expr) → Shrinks inner → (t : Terminal) (r r' : List Tok) → Alike (terminal t ∷ r) (terminal t ∷ r') (opened inner t r) (opened inner' t r')
-opened_here inner inner' shrinks t r r' =
-    elim (opening inner t) [
-      | opens_true is ↦ inl (subst (λ o. Past (terminal t ∷ r) o) (sym (ap (λ t. opened inner t r) is ∙ opened_true inner r)) (omega arith))
-      | opens_false is ↦ inl (subst (λ o. Past (terminal t ∷ r) o) (sym (ap (λ t. opened inner t r) is ∙ opened_false inner r)) (omega arith))
-      | opens_parens is ↦ inl (subst (λ o. Past (terminal t ∷ r) o) (sym (ap (λ t. opened inner t r) is ∙ opened_bracketed inner r)) (past_at_most (terminal t ∷ r) (length r) (bracketed inner r) (omega arith) (bracketed_shrinks inner shrinks r)))
-      | opens_none faults ↦ none (opening inner' t) faults
-    ]
-  where
-    none : Opening inner' t → ((ts : List Tok) → opened inner t ts ≡ Err (Syntax (suc (length ts)))) → Alike (terminal t ∷ r) (terminal t ∷ r') (opened inner t r) (opened inner' t r')
-    none (opens_true is) faults = let never = sym (faults []) ∙ (ap (λ t. opened inner t []) is ∙ opened_true inner []) in absurd (cc)
-    none (opens_false is) faults = let never = sym (faults []) ∙ (ap (λ t. opened inner t []) is ∙ opened_false inner []) in absurd (cc)
-    none (opens_parens is) faults = inl (subst (λ o. Past (terminal t ∷ r) o) (sym (ap (λ t. opened inner t r) is ∙ opened_bracketed inner r)) (past_at_most (terminal t ∷ r) (length r) (bracketed inner r) (omega arith) (bracketed_shrinks inner shrinks r)))
-    none (opens_none faults') faults =
-        subst (λ o. Alike (terminal t ∷ r) (terminal t ∷ r') o (opened inner' t r')) (sym (faults r))
-        (subst (λ o. Alike (terminal t ∷ r) (terminal t ∷ r') (Err (Syntax (suc (length r)))) o) (sym (faults' r')) (refused_at (terminal t ∷ r) (terminal t ∷ r') (suc (length r)) (suc (length r')) (omega arith)))
-
-operand_here : (inner inner' : Reader Expr) → Shrinks inner → (s s' : List Tok) → SameHead s s' → Alike s s' (operand inner s) (operand inner' s')
-unfolding operand
-operand_here inner inner' shrinks [] [] h = refused_at [] [] 0 0 (omega arith)
-operand_here inner inner' shrinks [] (y ∷ r') h = absurd h
-operand_here inner inner' shrinks (x ∷ r) [] h = absurd h
-operand_here inner inner' shrinks (tokens.number n ∷ r) (y ∷ r') h = inl (omega arith)
-operand_here inner inner' shrinks (tokens.name n ∷ r) (y ∷ r') h = inl (omega arith)
-operand_here inner inner' shrinks (terminal t ∷ r) (y ∷ r') h = subst (λ y. Alike (terminal t ∷ r) (y ∷ r') (opened inner t r) (operand inner' (y ∷ r'))) h (opened_here inner inner' shrinks t r r')
-
-operand_alike : (inner inner' : Reader Expr) → Shrinks inner → (s s' : List Tok) → SameHead s s' → ((c : List Tok) → Alike s s' (inner (c ++ s)) (inner' (c ++ s'))) → (c : List Tok) → Alike s s' (operand inner (c ++ s)) (operand inner' (c ++ s'))
-unfolding operand
-operand_alike inner inner' shrinks s s' same alike [] = operand_here inner inner' shrinks s s' same
-operand_alike inner inner' shrinks s s' same alike (tokens.number n ∷ c) = went s s' (number n) c
-operand_alike inner inner' shrinks s s' same alike (tokens.name n ∷ c) = went s s' (named n) c
-operand_alike inner inner' shrinks s s' same alike (terminal t ∷ c) = opened_alike inner inner' shrinks s s' same alike t c
-
 -- ---- what begins an expression
 
-abbrev EachShrinks : (ℕ → Reader Expr) → Type 0
+abbrev pub EachShrinks : (ℕ → Reader Expr) → Type 0
 EachShrinks e = (k : ℕ) → Shrinks (e k)
 
 abbrev plain : Reader Expr → Reader (Expr × ℕ)
@@ -140,17 +44,18 @@ built_shrinks f p shrinks ts = at_most_then (length ts) (p ts) (λ x. Ok (f x.0,
 built_alike : {A B : Type 0} (f : A → B) (p p' : Reader A) (s s' : List Tok) → ((c : List Tok) → Alike s s' (p (c ++ s)) (p' (c ++ s'))) → (c : List Tok) → Alike s s' (built f p (c ++ s)) (built f p' (c ++ s'))
 built_alike f p p' s s' alike c = alike_then s s' (p (c ++ s)) (p' (c ++ s')) (λ x. Ok (f x.0, x.1)) (λ x. Ok (f x.0, x.1)) (alike c) (λ x h. h) (λ x d was is. went s s' (f x) d)
 
-first_shrinks : (least : ℕ) (e : ℕ → Reader Expr) → EachShrinks e → Shrinks (first least e)
-first_shrinks least e shrinks ts =
+first_shrinks : (least : ℕ) (e : ℕ → Reader Expr) → EachShrinks e → Shrinks (operand (e 0)) → Shrinks (first least e)
+first_shrinks least e shrinks operands ts =
     elim (beginning least ts) [
-      | begins_plain none ↦ subst (AtMost (length ts)) (sym (first_plain least e ts none)) (built_shrinks (λ t. (t, tightest)) (operand (e 0)) (operand_shrinks (e 0) (shrinks 0)) ts)
+      | begins_plain none ↦ subst (AtMost (length ts)) (sym (first_plain least e ts none)) (built_shrinks (λ t. (t, tightest)) (operand (e 0)) operands ts)
       | begins_marked o is at before low ↦
           subst (AtMost (length ts)) (sym (first_marked least e o ts is low))
           (at_most_more (length (rest ts)) (length ts) (marked o (e (right_of (Operator o))) (rest ts)) (rest_length ts) (built_shrinks (λ t. (prefix o t, after_of (Operator o))) (e (right_of (Operator o))) (shrinks (right_of (Operator o))) (rest ts)))
       | begins_loose o is at high ↦ subst (AtMost (length ts)) (sym (first_loose least e o ts is high)) (omega arith)
     ]
 
-module _ (least : ℕ) (e e' : ℕ → Reader Expr) (shrinks : EachShrinks e) (s s' : List Tok) (same : SameHead s s') (alike : (k : ℕ) (c : List Tok) → Alike s s' (e k (c ++ s)) (e' k (c ++ s'))) where
+module _ (least : ℕ) (e e' : ℕ → Reader Expr) (shrinks : EachShrinks e) (s s' : List Tok) (same : SameHead s s') (alike : (k : ℕ) (c : List Tok) → Alike s s' (e k (c ++ s)) (e' k (c ++ s')))
+    (operands : (c : List Tok) → Alike s s' (operand (e 0) (c ++ s)) (operand (e' 0) (c ++ s'))) where
   first_as : (c : List Tok) (o o' : Outcome (Expr × ℕ)) → first least e (c ++ s) ≡ o → first least e' (c ++ s') ≡ o' → Alike s s' o o' → Alike s s' (first least e (c ++ s)) (first least e' (c ++ s'))
   first_as c o o' was is a = subst (λ z. Alike s s' z (first least e' (c ++ s'))) (sym was) (subst (λ z. Alike s s' o z) (sym is) a)
 
@@ -160,7 +65,7 @@ module _ (least : ℕ) (e e' : ℕ → Reader Expr) (shrinks : EachShrinks e) (s
       elim (beginning least (c ++ s)) [
         | begins_plain none ↦
             first_as c (plain (e 0) (c ++ s)) (plain (e' 0) (c ++ s')) (first_plain least e (c ++ s) none) (first_plain least e' (c ++ s') (sym here ∙ none))
-            (built_alike (λ t. (t, tightest)) (operand (e 0)) (operand (e' 0)) s s' (operand_alike (e 0) (e' 0) (shrinks 0) s s' same (alike 0)) c)
+            (built_alike (λ t. (t, tightest)) (operand (e 0)) (operand (e' 0)) s s' operands c)
         | begins_marked o is at before low ↦
             let r : ℕ = right_of (Operator o) in
             first_as c (marked o (e r) (rest (c ++ s))) (marked o (e' r) (rest (c ++ s'))) (first_marked least e o (c ++ s) is low) (first_marked least e' o (c ++ s') (sym here ∙ is) low)
@@ -205,13 +110,11 @@ unfolding climb
 climb_none b e zero least below left ts absent = rw absent refl
 climb_none b e (suc n) least below left ts absent = rw absent refl
 
-pub shrinks : (b : ℕ) → EachShrinks (expr b)
+pub shrinks_more : (b : ℕ) → EachShrinks (expr b) → Shrinks (operand (expr b 0)) → EachShrinks (expr (suc b))
 unfolding expr
-shrinks zero k [] = omega arith
-shrinks zero k (x ∷ ts) = tt
-shrinks (suc b) k ts =
-    at_most_then (length ts) (first k (expr b) ts) (climbs b k) (first_shrinks k (expr b) (shrinks b) ts)
-    (λ p h. at_most_more (length p.1) (length ts) (climbs b k p) h (climb_shrinks b (expr b) (shrinks b) b k p.0.1 p.0.0 p.1))
+shrinks_more b inner operands k ts =
+    at_most_then (length ts) (first k (expr b) ts) (climbs b k) (first_shrinks k (expr b) inner operands ts)
+    (λ p h. at_most_more (length p.1) (length ts) (climbs b k p) h (climb_shrinks b (expr b) inner b k p.0.1 p.0.0 p.1))
 
 module _ (b b' : ℕ) (e e' : ℕ → Reader Expr) (deeper : b ≤ b') (shrinks_e : EachShrinks e) (s s' : List Tok) (same : SameHead s s') (inner : (k : ℕ) (c : List Tok) → Alike s s' (e k (c ++ s)) (e' k (c ++ s'))) where
   abbrev Climbs : ℕ → ℕ → Type 0
@@ -252,61 +155,30 @@ module _ (b b' : ℕ) (e e' : ℕ → Reader Expr) (deeper : b ≤ b') (shrinks_
             (alike_rest s s' (step b e n least left present.0) (step b' e' n' least left present.0) same (step_shrinks b e shrinks_e n least left present.0 (climb_shrinks b e shrinks_e n least)) (step_alike n n' more_of least left present.0) c (omega (arith, ap length present.2))))
       ]
 
-no_expr : (b k : ℕ) → expr b k [] ≡ Err (Syntax 0)
-unfolding expr first prefix_at terminal_at operand
+pub no_expr : (b k : ℕ) → expr b k [] ≡ Err (Syntax 0)
+unfolding expr first prefix_at terminal_at operand start_at
 no_expr zero k = refl
 no_expr (suc b) k = refl
 
-pub expr_alike : (b b' : ℕ) → b ≤ b' → (s s' : List Tok) → SameHead s s' → (k : ℕ) (c : List Tok) → Alike s s' (expr b k (c ++ s)) (expr b' k (c ++ s'))
+pub alike_more : (b b' : ℕ) → b ≤ b' → (s s' : List Tok) → SameHead s s' → EachShrinks (expr b) → ((k : ℕ) (c : List Tok) → Alike s s' (expr b k (c ++ s)) (expr b' k (c ++ s'))) →
+    ((c : List Tok) → Alike s s' (operand (expr b 0) (c ++ s)) (operand (expr b' 0) (c ++ s'))) → (k : ℕ) (c : List Tok) → Alike s s' (expr (suc b) k (c ++ s)) (expr (suc b') k (c ++ s'))
 unfolding expr
-expr_alike zero b' le [] [] same k [] = subst (λ o. Alike [] [] (Err (Syntax 0)) o) (sym (no_expr b' k)) (refused_at [] [] 0 0 (omega arith))
-expr_alike zero b' le [] (y ∷ s') same k [] = absurd same
-expr_alike zero b' le (x ∷ s) s' same k [] = inl tt
-expr_alike zero b' le s s' same k (x ∷ c) = inl tt
-expr_alike (suc b) zero le s s' same k c = absurd (omega arith)
-expr_alike (suc b) (suc b') le s s' same k c =
-    let inner = expr_alike b b' (omega arith) s s' same in
-    let small : b ≤ b' = omega arith in
+alike_more b b' le s s' same shrinks inner operands k c =
     alike_then s s' (first k (expr b) (c ++ s)) (first k (expr b') (c ++ s')) (climbs b k) (climbs b' k)
-    (first_alike k (expr b) (expr b') (shrinks b) s s' same inner c)
-    (λ p h. past_at_most s (length p.1) (climbs b k p) h (climb_shrinks b (expr b) (shrinks b) b k p.0.1 p.0.0 p.1))
-    (λ t d was is. climb_alike b b' (expr b) (expr b') small (shrinks b) s s' same inner b b' small k t.1 t.0 d)
+    (first_alike k (expr b) (expr b') shrinks s s' same inner operands c)
+    (λ p h. past_at_most s (length p.1) (climbs b k p) h (climb_shrinks b (expr b) shrinks b k p.0.1 p.0.0 p.1))
+    (λ t d was is. climb_alike b b' (expr b) (expr b') le shrinks s s' same inner b b' le k t.1 t.0 d)
 
 -- ---- too deep
 
 module _ (b : ℕ) (e : ℕ → Reader Expr) (deep : (k : ℕ) (ts : List Tok) → e k ts ≡ Err TooDeep → b < length ts)
-    (reads : (k : ℕ) (ts : List Tok) (t : Expr) (left : List Tok) → e k ts ≡ Ok (t, left) → (front : List Tok) × (depth_of t ≤ length front) × (ts ≡ front ++ left)) where
-  bracketed_long : (ts : List Tok) → bracketed (e 0) ts ≡ Err TooDeep → b < length ts
-  bracketed_long ts h =
-      elim (bind_err ((e 0 ▸ sign terminals.Close) ts) (λ x. Ok (parens x.0.0, x.1)) TooDeep h) [
-        | inl inside ↦ elim (bind_err (e 0 ts) (λ x. sign terminals.Close x.1 >>= λ y. Ok ((x.0, y.0), y.1)) TooDeep inside) [
-          | inl first ↦ deep 0 ts first
-          | inr later ↦ elim (bind_err (sign terminals.Close later.0.1) (λ y. Ok ((later.0.0, y.0), y.1)) TooDeep later.2) [
-            | inl close ↦ absurd (omega (arith, (sign_exact terminals.Close).long (length later.0.1) later.0.1 close))
-            | inr never ↦ absurd (cc (never.2))
-          ]
-        ]
-        | inr never ↦ absurd (cc (never.2))
-      ]
-
-  operand_long : (ts : List Tok) → operand (e 0) ts ≡ Err TooDeep → suc b < length ts
-  unfolding operand
-  operand_long [] h = absurd (cc)
-  operand_long (tokens.number n ∷ ts) h = absurd (cc)
-  operand_long (tokens.name n ∷ ts) h = absurd (cc)
-  operand_long (terminal t ∷ ts) h =
-      elim (opening (e 0) t) [
-        | opens_true is ↦ let never = sym (ap (λ t. opened (e 0) t ts) is ∙ opened_true (e 0) ts) ∙ h in absurd (cc)
-        | opens_false is ↦ let never = sym (ap (λ t. opened (e 0) t ts) is ∙ opened_false (e 0) ts) ∙ h in absurd (cc)
-        | opens_parens is ↦ let far = bracketed_long ts (sym (ap (λ t. opened (e 0) t ts) is ∙ opened_bracketed (e 0) ts) ∙ h) in omega arith
-        | opens_none faults ↦ let never = sym (faults ts) ∙ h in absurd (cc)
-      ]
-
+    (reads : (k : ℕ) (ts : List Tok) (t : Expr) (left : List Tok) → e k ts ≡ Ok (t, left) → (front : List Tok) × (depth_of t ≤ length front) × (ts ≡ front ++ left))
+    (operands : (ts : List Tok) → operand (e 0) ts ≡ Err TooDeep → suc b < length ts) where
   first_long : (least : ℕ) (ts : List Tok) → first least e ts ≡ Err TooDeep → suc b < length ts
   first_long least ts h =
       elim (beginning least ts) [
         | begins_plain none ↦ elim (bind_err (operand (e 0) ts) (λ x. Ok ((x.0, tightest), x.1)) TooDeep (sym (first_plain least e ts none) ∙ h)) [
-          | inl far ↦ operand_long ts far
+          | inl far ↦ operands ts far
           | inr never ↦ absurd (cc (never.2))
         ]
         | begins_marked o is at before low ↦
@@ -348,31 +220,19 @@ module _ (b : ℕ) (e : ℕ → Reader Expr) (deep : (k : ℕ) (ts : List Tok) �
                 omega (arith, ap length joined)
           ]
 
-pub expr_long : (b k : ℕ) (ts : List Tok) → expr b k ts ≡ Err TooDeep → b < length ts
+pub long_more : (b : ℕ) → ((k : ℕ) (ts : List Tok) → expr b k ts ≡ Err TooDeep → b < length ts) →
+    ((k : ℕ) (ts : List Tok) (t : Expr) (left : List Tok) → expr b k ts ≡ Ok (t, left) → Reads b k ts t left) →
+    ((ts : List Tok) (t : Expr) (left : List Tok) → operand (expr b 0) ts ≡ Ok (t, left) → Found Opens depth_of (suc b) ts t left) →
+    ((ts : List Tok) → operand (expr b 0) ts ≡ Err TooDeep → suc b < length ts) →
+    (k : ℕ) (ts : List Tok) → expr (suc b) k ts ≡ Err TooDeep → suc b < length ts
 unfolding expr
-expr_long zero k [] h = absurd (cc)
-expr_long zero k (x ∷ ts) h = omega arith
-expr_long (suc b) k ts h =
-    let deep = expr_long b in
+long_more b deep sound sound_operands operands k ts h =
     let reads : (k : ℕ) (ts : List Tok) (t : Expr) (left : List Tok) → expr b k ts ≡ Ok (t, left) → (front : List Tok) × (depth_of t ≤ length front) × (ts ≡ front ++ left) =
-    λ k ts t left h. let r = sound b k ts t left h in (r.front, spelled_deep t k r.front r.spells, r.apart) in
+    λ k ts t left h. let r = sound k ts t left h in (r.front, spelled_deep t k r.front r.spells, r.apart) in
     elim (bind_err (first k (expr b) ts) (climbs b k) TooDeep h) [
-      | inl far ↦ first_long b (expr b) deep reads k ts far
+      | inl far ↦ first_long b (expr b) deep reads operands k ts far
       | inr later ↦
-          let r = first_sound b (expr b) (sound b) k ts later.0.0.0 later.0.0.1 later.0.1 later.1 in
-          let far = climb_long b (expr b) deep reads b k later.0.0.1 later.0.0.0 r.front later.0.1 (spelled_deep later.0.0.0 k r.front r.spells) (omega (arith, depth_positive later.0.0.0)) later.2 in
+          let r = first_sound b (expr b) sound sound_operands k ts later.0.0.0 later.0.0.1 later.0.1 later.1 in
+          let far = climb_long b (expr b) deep reads operands b k later.0.0.1 later.0.0.0 r.front later.0.1 (spelled_deep later.0.0.0 k r.front r.spells) (omega (arith, depth_positive later.0.0.0)) later.2 in
           omega (arith, ap length r.apart)
     ]
-
-expression_sound : (b : ℕ) (ts : List Tok) (x : Expr) (left : List Tok) → expr b 0 ts ≡ Ok (x, left) → Found (SpellsExpr 0) depth_of b ts x left
-expression_sound b ts x left h = let r = sound b 0 ts x left h in record { front = r.front; spells = r.spells; apart = r.apart; within = r.within }
-
-pub expression_exact : Exact (SpellsExpr 0) depth_of (Ends 0) expression
-unfolding expression
-expression_exact = record {
-  complete = λ b x ts left s d f. complete b x 0 ts s d left f;
-  sound = expression_sound;
-  shrinks = λ b. shrinks b 0;
-  alike = λ b b' le s s' same c. expr_alike b b' le s s' same 0 c;
-  long = λ b ts h. expr_long b 0 ts h;
-}

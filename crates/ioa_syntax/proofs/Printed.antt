@@ -1,5 +1,5 @@
 -- The text that is written of a tree lexes to tokens that spell the tree.
-use Rattle.std.proofs.Common.{◌≡◌, ℕ, inr, true, false, List, [], ◌∷◌, ◌++◌, Option, Some, None, refl, sym, subst, append_assoc, append-nil}
+use Rattle.std.proofs.Common.{◌≡◌, ℕ, inl, inr, true, false, Bool, if◌then◌else◌, List, [], ◌∷◌, ◌++◌, Option, Some, None, refl, sym, subst, append_assoc, append-nil}
 use Rattle.ioa_value.specs.declared.terminal.Terminal.{Terminal}
 use Rattle.ioa_value.specs.declared.terminal.Terminal.TheVariants as terminals
 use Rattle.ioa_lex.specs.Tokens as tokens
@@ -7,12 +7,15 @@ use Rattle.ioa_lex.specs.Tokens.{Tok, terminal}
 use Rattle.ioa_lex.specs.Lexing.{Lexes, is_blank}
 use Rattle.ioa_lex.specs.Spaced.{Spaced, IsToken, text_of}
 use Rattle.ioa_lex.proofs.SpacedLemmas.{spaced_lexes, spaced_append, spaced_one}
-use Rattle.ioa_syntax.specs.Tree.{Expr, number, truth, named, parens, prefix, binary, FieldTree, PositionTree, typed, EntryTree, VariableTree, ProposalTree, Stmt, assign, choose, Stmts, stop, seq, Arms, no_arm, arm, TransitionTree, AutomatonTree, InstanceTree, CompositionTree, DeclarationTree, automaton, composition, SourceTree}
+use Rattle.ioa_syntax.specs.Tree.{Expr, number, truth, named, parens, prefix, binary, empty, FieldTree, PositionTree, typed, EntryTree, VariableTree, ProposalTree, Stmt, assign, choose, Stmts, stop, seq, Arms, no_arm, arm, TransitionTree, AutomatonTree, InstanceTree, CompositionTree, FormTree, enumeration, tuple, sequence, TypeTree, DeclarationTree, declared_type, automaton, composition, SourceTree}
+use Rattle.ioa_value.specs.declared.operator.Op.{Op}
+use Rattle.ioa_syntax.specs.declared.tree.Infix.{Infix}
 use Rattle.ioa_syntax.specs.declared.tree.Infix.TheVariants.{Operator}
 use Rattle.ioa_syntax.specs.Operators.{operator_word, left_of, right_of}
-use Rattle.ioa_syntax.specs.Grammar.{Language, ◌▹◌, single, word, called, nothing, optional, optional_list, each_after, perhaps, separated, terminated, many, kind_word, SpellsExpr, SpellsField, SpellsFields, SpellsPosition, SpellsPositions, SpellsEntry, SpellsVariable, SpellsProposal, SpellsStmt, SpellsStmts, SpellsMore, SpellsAfter, SpellsArms, SpellsTransition, SpellsAutomaton, SpellsArguments, SpellsInstance, SpellsInstances, SpellsComposition, SpellsDeclaration, SpellsSource}
+use Rattle.ioa_syntax.specs.Grammar.{Language, ◌▹◌, single, word, called, nothing, optional, optional_list, each_after, perhaps, separated, terminated, many, enclosed, braced, kind_word, SpellsExpr, SpellsField, SpellsFields, SpellsPosition, SpellsPositions, SpellsEntry, SpellsVariable, SpellsProposal, SpellsStmt, SpellsStmts, SpellsMore, SpellsAfter, SpellsArms, SpellsTransition, SpellsAutomaton, SpellsArguments, SpellsInstance, SpellsInstances, SpellsComposition, SpellsForm, SpellsType, SpellsDeclaration, SpellsSource}
 use Rattle.ioa_syntax.specs.Source.{AreTokens, IsSource, plain}
-use Rattle.ioa_syntax.specs.Layout.{space, line, text_word, text_name, text_more, text_list, text_all, text_optional_list, text_parens, before_list, before_option, text_expr, text_option, text_field, text_position, text_entry, text_variable, text_binding, text_proposal, text_stmt, text_stmts, text_more_stmts, text_after, text_arms, text_transition, text_behaviour, text_automaton, text_instance, text_composition, text_declaration, text_source}
+use Rattle.ioa_syntax.specs.Layout.{space, line, text_word, text_name, text_more, text_list, text_all, text_optional_list, text_parens, before_list, before_option, text_number, text_enclosed, text_expr, text_option, text_field, text_position, text_entry, text_variable, text_binding, text_proposal, text_stmt, text_stmts, text_more_stmts, text_after, text_arms, text_transition, text_behaviour, text_automaton, text_instance, text_composition, text_braces, text_form, text_type, text_declaration, text_source}
+use Rattle.ioa_syntax.proofs.Binding.{before_encloses, between_encloses, around_stands}
 
 -- the text has tokens of the language
 abbrev Prints : Language → List ℕ → Type 0
@@ -99,24 +102,69 @@ parens_reprints L f each xs =
 
 -- ---- expressions
 
+enclosed_reprints : (L : Language) (a : List ℕ) (b : ℕ) → is_blank b ≡ true → Reprints L a → Reprints (enclosed L) (text_enclosed b a)
+enclosed_reprints L a b blank inner =
+    then_reprints (word terminals.Open) (L ▹ word terminals.Close) (text_word space terminals.Open) (a ++ text_word b terminals.Close) (word_reprints terminals.Open space space_blank)
+    (then_reprints L (word terminals.Close) a (text_word b terminals.Close) inner (word_reprints terminals.Close b blank))
+
+-- a word and what stands in parentheses after it
+call_reprints : (t : Terminal) (L : Language) (a : List ℕ) (b : ℕ) → is_blank b ≡ true → Reprints L a → Reprints (word t ▹ enclosed L) (text_word space t ++ text_enclosed b a)
+call_reprints t L a b blank inner = then_reprints (word t) (enclosed L) (text_word space t) (text_enclosed b a) (word_reprints t space space_blank) (enclosed_reprints L a b blank inner)
+
+prefix_reprints : (o : Op) (e : Expr) (k b : ℕ) → is_blank b ≡ true → Reprints (SpellsExpr (right_of (Operator o)) e) (text_expr b e) → Reprints (SpellsExpr 0 e) (text_expr space e) → Reprints (SpellsExpr k (prefix o e)) (text_expr b (prefix o e))
+prefix_reprints o e k b blank operand inner ts s are = by s
+  where
+    w : Terminal
+    w = operator_word (Operator o)
+
+    text : Bool → List ℕ
+    text v = text_word space w ++ (if v then text_enclosed b (text_expr space e) else text_expr b e)
+
+    by : SpellsExpr k (prefix o e) ts → Prints (SpellsExpr k (prefix o e)) (text_expr b (prefix o e))
+    by (inl s) =
+        let m = then_reprints (word w) (SpellsExpr (right_of (Operator o)) e) (text_word space w) (text_expr b e) (word_reprints w space space_blank) operand ts s.2 are in
+        (m.0, inl (s.0, s.1, m.1), subst (λ v. Spaced m.0 (text v)) (sym (before_encloses o s.0)) m.2)
+    by (inr s) =
+        let m = call_reprints w (SpellsExpr 0 e) (text_expr space e) b blank inner ts s.1 are in
+        (m.0, inr (s.0, m.1), subst (λ v. Spaced m.0 (text v)) (sym (around_stands (Operator o) 1 refl s.0)) m.2)
+
+binary_reprints : (l : Expr) (o : Infix) (r : Expr) (k b : ℕ) → is_blank b ≡ true → Reprints (SpellsExpr (left_of o) l) (text_expr space l) → Reprints (SpellsExpr (right_of o) r) (text_expr b r) →
+    Reprints (SpellsExpr 0 l) (text_expr space l) → Reprints (SpellsExpr 0 r) (text_expr space r) → Reprints (SpellsExpr k (binary l o r)) (text_expr b (binary l o r))
+binary_reprints l o r k b blank first second left right ts s are = by s
+  where
+    w : Terminal
+    w = operator_word o
+
+    parts : List ℕ
+    parts = text_expr space l ++ (text_word space terminals.Comma ++ text_expr space r)
+
+    text : Bool → List ℕ
+    text v = if v then text_word space w ++ text_enclosed b parts else text_expr space l ++ (text_word space w ++ text_expr b r)
+
+    inside : Reprints (SpellsExpr 0 l ▹ (word terminals.Comma ▹ SpellsExpr 0 r)) parts
+    inside =
+        then_reprints (SpellsExpr 0 l) (word terminals.Comma ▹ SpellsExpr 0 r) (text_expr space l) (text_word space terminals.Comma ++ text_expr space r) left
+        (then_reprints (word terminals.Comma) (SpellsExpr 0 r) (text_word space terminals.Comma) (text_expr space r) (word_reprints terminals.Comma space space_blank) right)
+
+    by : SpellsExpr k (binary l o r) ts → Prints (SpellsExpr k (binary l o r)) (text_expr b (binary l o r))
+    by (inl s) =
+        let m = then_reprints (SpellsExpr (left_of o) l) (word w ▹ SpellsExpr (right_of o) r) (text_expr space l) (text_word space w ++ text_expr b r) first
+        (then_reprints (word w) (SpellsExpr (right_of o) r) (text_word space w) (text_expr b r) (word_reprints w space space_blank) second) ts s.2 are in
+        (m.0, inl (s.0, s.1, m.1), subst (λ v. Spaced m.0 (text v)) (sym (between_encloses o s.0)) m.2)
+    by (inr s) =
+        let m = call_reprints w (SpellsExpr 0 l ▹ (word terminals.Comma ▹ SpellsExpr 0 r)) parts b blank inside ts s.1 are in
+        (m.0, inr (s.0, m.1), subst (λ v. Spaced m.0 (text v)) (sym (around_stands o 2 refl s.0)) m.2)
+
 expr_reprints : (e : Expr) (k b : ℕ) → is_blank b ≡ true → Reprints (SpellsExpr k e) (text_expr b e)
 expr_reprints (number n) k b blank = single_reprints (tokens.number n) b blank
 expr_reprints (truth true) k b blank = word_reprints terminals.True b blank
 expr_reprints (truth false) k b blank = word_reprints terminals.False b blank
 expr_reprints (named n) k b blank = name_reprints n b blank
-expr_reprints (parens e) k b blank =
-    then_reprints (word terminals.Open) (SpellsExpr 0 e ▹ word terminals.Close) (text_word space terminals.Open) (text_expr space e ++ text_word b terminals.Close) (word_reprints terminals.Open space space_blank)
-    (then_reprints (SpellsExpr 0 e) (word terminals.Close) (text_expr space e) (text_word b terminals.Close) (expr_reprints e 0 space space_blank) (word_reprints terminals.Close b blank))
-expr_reprints (prefix o e) k b blank =
-    let operand = expr_reprints e (right_of (Operator o)) b blank in λ ts s are.
-    let m = then_reprints (word (operator_word (Operator o))) (SpellsExpr (right_of (Operator o)) e) (text_word space (operator_word (Operator o))) (text_expr b e) (word_reprints (operator_word (Operator o)) space space_blank) operand ts s.2 are in
-    (m.0, (s.0, s.1, m.1), m.2)
+expr_reprints (parens e) k b blank = enclosed_reprints (SpellsExpr 0 e) (text_expr space e) b blank (expr_reprints e 0 space space_blank)
+expr_reprints (prefix o e) k b blank = prefix_reprints o e k b blank (expr_reprints e (right_of (Operator o)) b blank) (expr_reprints e 0 space space_blank)
 expr_reprints (binary l o r) k b blank =
-    let first = expr_reprints l (left_of o) space space_blank in
-    let second = expr_reprints r (right_of o) b blank in λ ts s are.
-    let m = then_reprints (SpellsExpr (left_of o) l) (word (operator_word o) ▹ SpellsExpr (right_of o) r) (text_expr space l) (text_word space (operator_word o) ++ text_expr b r) first
-    (then_reprints (word (operator_word o)) (SpellsExpr (right_of o) r) (text_word space (operator_word o)) (text_expr b r) (word_reprints (operator_word o) space space_blank) second) ts s.2 are in
-    (m.0, (s.0, s.1, m.1), m.2)
+    binary_reprints l o r k b blank (expr_reprints l (left_of o) space space_blank) (expr_reprints r (right_of o) b blank) (expr_reprints l 0 space space_blank) (expr_reprints r 0 space space_blank)
+expr_reprints (empty n) k b blank = call_reprints terminals.Empty (called n) (text_name space n) b blank (name_reprints n space space_blank)
 
 option_reprints : (t : Terminal) (x : Option Expr) → Reprints (optional t (SpellsExpr 0) x) (text_option (text_word space t) x)
 option_reprints t None = nothing_reprints
@@ -267,7 +315,30 @@ composition_reprints c =
     then_reprints (called c.name) (word terminals.Components ▹ SpellsInstances c.instances) (text_name space c.name) (text_word line terminals.Components ++ text_all text_instance c.instances) (name_reprints c.name space space_blank)
     (then_reprints (word terminals.Components) (SpellsInstances c.instances) (text_word line terminals.Components) (text_all text_instance c.instances) (word_reprints terminals.Components line line_blank) (instances_reprint c.instances))
 
+braced_reprints : {A : Type 0} (L : A → Language) (f : A → List ℕ) → ((x : A) → Reprints (L x) (f x)) → (xs : List A) → Reprints (braced L xs) (text_braces f xs)
+braced_reprints L f each xs =
+    then_reprints (word terminals.OpenBrace) (separated terminals.Comma L xs ▹ word terminals.CloseBrace) (text_word space terminals.OpenBrace) (text_list terminals.Comma f xs ++ text_word line terminals.CloseBrace) (word_reprints terminals.OpenBrace space space_blank)
+    (then_reprints (separated terminals.Comma L xs) (word terminals.CloseBrace) (text_list terminals.Comma f xs) (text_word line terminals.CloseBrace) (list_reprints terminals.Comma L f each xs) (word_reprints terminals.CloseBrace line line_blank))
+
+form_reprints : (f : FormTree) → Reprints (SpellsForm f) (text_form f)
+form_reprints (enumeration ns) =
+    then_reprints (word terminals.Enum) (braced called ns) (text_word space terminals.Enum) (text_braces (text_name space) ns) (word_reprints terminals.Enum space space_blank)
+    (braced_reprints called (text_name space) (λ n. name_reprints n space space_blank) ns)
+form_reprints (tuple fs) =
+    then_reprints (word terminals.Tuple) (braced SpellsField fs) (text_word space terminals.Tuple) (text_braces (text_field space) fs) (word_reprints terminals.Tuple space space_blank)
+    (braced_reprints SpellsField (text_field space) (field_reprints space space_blank) fs)
+form_reprints (sequence most item) =
+    let last = then_reprints (word terminals.Of) (called item) (text_word space terminals.Of) (text_name line item) (word_reprints terminals.Of space space_blank) (name_reprints item line line_blank) in
+    let number = then_reprints (single (tokens.number most)) (word terminals.Of ▹ called item) (text_number space most) (text_word space terminals.Of ++ text_name line item) (single_reprints (tokens.number most) space space_blank) last in
+    then_reprints (word terminals.Seq) (single (tokens.number most) ▹ (word terminals.Of ▹ called item)) (text_word space terminals.Seq) (text_number space most ++ (text_word space terminals.Of ++ text_name line item)) (word_reprints terminals.Seq space space_blank) number
+
+type_reprints : (t : TypeTree) → Reprints (SpellsType t) (text_type t)
+type_reprints t =
+    then_reprints (called t.name) (word terminals.Equal ▹ SpellsForm t.form) (text_name space t.name) (text_word space terminals.Equal ++ text_form t.form) (name_reprints t.name space space_blank)
+    (then_reprints (word terminals.Equal) (SpellsForm t.form) (text_word space terminals.Equal) (text_form t.form) (word_reprints terminals.Equal space space_blank) (form_reprints t.form))
+
 declaration_reprints : (d : DeclarationTree) → Reprints (SpellsDeclaration d) (text_declaration d)
+declaration_reprints (declared_type t) = then_reprints (word terminals.Type) (SpellsType t) (text_word space terminals.Type) (text_type t) (word_reprints terminals.Type space space_blank) (type_reprints t)
 declaration_reprints (automaton a) = then_reprints (word terminals.Automaton) (SpellsAutomaton a) (text_word space terminals.Automaton) (text_automaton a) (word_reprints terminals.Automaton space space_blank) (automaton_reprints a)
 declaration_reprints (composition c) = then_reprints (word terminals.Composition) (SpellsComposition c) (text_word space terminals.Composition) (text_composition c) (word_reprints terminals.Composition space space_blank) (composition_reprints c)
 

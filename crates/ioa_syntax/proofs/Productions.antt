@@ -7,21 +7,23 @@ use Rattle.ioa_lex.specs.Tokens.{Tok, terminal}
 use Rattle.ioa_value.specs.Actions.{Name}
 use Rattle.ioa_syntax.specs.declared.tree.Kind.{Kind}
 use Rattle.ioa_syntax.specs.declared.tree.Kind.TheVariants.{Input, Output, Internal}
-use Rattle.ioa_syntax.specs.Tree.{Expr, FieldTree, PositionTree, typed, EntryTree, VariableTree, ProposalTree, Stmts, TransitionTree, AutomatonTree, InstanceTree, CompositionTree, DeclarationTree, automaton, composition}
+use Rattle.ioa_syntax.specs.Tree.{Expr, FieldTree, PositionTree, typed, EntryTree, VariableTree, ProposalTree, Stmts, TransitionTree, AutomatonTree, InstanceTree, CompositionTree, FormTree, enumeration, tuple, sequence, TypeTree, DeclarationTree, declared_type, automaton, composition}
 use Rattle.ioa_syntax.specs.Depth.{depth_of, deepest, deep_option, deep_variable, deep_proposal, deep_stmts, stmts_depth, deep_transition, deep_automaton, deep_instance, deep_composition, deep}
 use Rattle.ioa_syntax.specs.Grammar as grammar
-use Rattle.ioa_syntax.specs.Grammar.{Language, SameHead, ◌▹◌, single, word, called, nothing, empty, kind_word, SpellsExpr, SpellsField, SpellsFields, SpellsPosition, SpellsPositions, SpellsEntry, SpellsVariable, SpellsProposal, SpellsAfter, SpellsTransition, SpellsAutomaton, SpellsArguments, SpellsInstance, SpellsInstances, SpellsComposition, SpellsDeclaration}
-use Rattle.ioa_syntax.specs.Reading.{Reader, built, perhaps, sees, after, sees_name, sees_statement, sees_kind, kind_at, kind_of, terminal_at, same_terminal, is_name, operator_of, closing, field, fields, position, positions, entry, entries, variable, variables, proposal, proposals, introduced, statements, transition, transitions, an_automaton, arguments, instance, instances, a_composition, many, rest, composed, declaration}
+use Rattle.ioa_syntax.specs.Grammar.{Language, SameHead, ◌▹◌, single, word, called, nothing, empty, kind_word, SpellsExpr, SpellsField, SpellsFields, SpellsPosition, SpellsPositions, SpellsEntry, SpellsVariable, SpellsProposal, SpellsAfter, SpellsTransition, SpellsAutomaton, SpellsArguments, SpellsInstance, SpellsInstances, SpellsComposition, SpellsForm, SpellsType, SpellsDeclaration}
+use Rattle.ioa_syntax.specs.Reading.{Reader, built, perhaps, sees, after, sees_name, sees_statement, sees_kind, kind_at, kind_of, terminal_at, same_terminal, is_name, operator_of, field, fields, position, positions, entry, entries, variable, variables, proposal, proposals, introduced, statements, transition, transitions, an_automaton, arguments, instance, instances, a_composition, many, rest, an_enumeration, a_tuple, a_sequence, sequence_form, compound_form, type_form, a_type, composed, machine, declaration}
 use Rattle.ioa_syntax.proofs.Outcomes.{LooksAhead, head_alike, went, alike_rest, ok_pair, Alike, same_head}
 use Rattle.ioa_syntax.proofs.Exact.{Found, Exact, any, flat, deep_as, before, then, built_as, said_as}
-use Rattle.ioa_syntax.proofs.Singles.{sign_exact, name_exact, kind_exact, kind_is, kind_alike, seen, sees_alike, after_seen, after_unseen, after_word, after_length, seen_some, either_exact}
-use Rattle.ioa_syntax.proofs.Absent.{into_exact, deep_some, optional_exact, optional_list_exact}
+use Rattle.ioa_syntax.proofs.Singles.{sign_exact, name_exact, number_exact, kind_exact, kind_is, kind_alike, seen, sees_alike, after_seen, after_unseen, after_word, after_length, seen_some, either_exact}
+use Rattle.ioa_syntax.proofs.Absent.{into_exact, Image, image_exact, deep_some, optional_exact, optional_list_exact}
 use Rattle.ioa_syntax.proofs.Lists.{terminated_exact, separated_exact, many_exact}
 use Rattle.ioa_syntax.proofs.FirstTokens.{first_some, first_of_all, leads, by_list, by_two}
 use Rattle.ioa_syntax.proofs.ChoiceLemmas.{by_after}
 use Rattle.ioa_syntax.proofs.Levels.{after_word_exact}
-use Rattle.ioa_syntax.proofs.Complete.{Ends, spelled_deep, depth_positive}
-use Rattle.ioa_syntax.proofs.Local.{expression_exact}
+use Rattle.ioa_syntax.proofs.Enclosed.{closing_exact, braced_exact}
+use Rattle.ioa_syntax.proofs.Endings.{Ends, ends_close, ends_comma}
+use Rattle.ioa_syntax.proofs.Complete.{spelled_deep, depth_positive}
+use Rattle.ioa_syntax.proofs.Deepening.{expression_exact}
 
 deepest_flat : {A : Type 0} (xs : List A) → deepest flat xs ≡ 0
 deepest_flat [] = refl
@@ -38,13 +40,6 @@ field_exact =
 
 field_some : (f : FieldTree) (ts : List Tok) → SpellsField f ts → 0 < length ts
 field_some f ts s = first_some (tokens.name f.name) (word terminals.Colon ▹ called f.ty) ts s
-
-closing_exact : {A : Type 0} {L : A → Language} {D : A → ℕ} {F : Language} {P : ℕ → Reader A} → Exact L D F P → ((z : List Tok) → F (terminal terminals.Close ∷ z)) → Exact (λ x. L x ▹ word terminals.Close) D any (λ b. closing (P b))
-unfolding closing
-closing_exact {L = L} {D = D} {F = F} p h =
-    deep_as D (λ x. omega arith)
-    (built_as (λ p. p.0) (λ x. (x, tt)) (λ x. refl) (λ p. refl)
-    (then p (sign_exact terminals.Close) (λ y ts left s g. subst (λ z. F (z ++ left)) (sym s) (h left))))
 
 comma_close : (z : List Tok) → sees terminals.Comma (terminal terminals.Close ∷ z) ≡ false
 unfolding sees same_terminal
@@ -162,16 +157,12 @@ proposal_exact =
 proposal_some : (q : ProposalTree) (ts : List Tok) → SpellsProposal q ts → 0 < length ts
 proposal_some q ts s = first_some (tokens.name q.name) (word terminals.Becomes ▹ SpellsExpr 0 q.value) ts s
 
-ends_comma : (z : List Tok) → Ends 0 (terminal terminals.Comma ∷ z)
-unfolding terminal_at operator_of same_terminal
-ends_comma z = tt
-
 abbrev AfterProposals : Language
 AfterProposals left = Ends 0 left × (sees terminals.Comma left ≡ false)
 
 pub proposals_exact : Exact (grammar.separated terminals.Comma SpellsProposal) (deepest deep_proposal) AfterProposals proposals
 unfolding proposals
-proposals_exact = separated_exact terminals.Comma proposal_exact proposal_some ends_comma
+proposals_exact = separated_exact terminals.Comma proposal_exact proposal_some (ends_comma 0)
 
 pub record AfterTransition (left : List Tok) : Type 0 where
   pub ends : Ends 0 left
@@ -306,16 +297,12 @@ automaton_exact =
 
 -- ---- compositions
 
-ends_close : (z : List Tok) → Ends 0 (terminal terminals.Close ∷ z)
-unfolding terminal_at operator_of same_terminal
-ends_close z = tt
-
 expression_some : (e : Expr) (ts : List Tok) → SpellsExpr 0 e ts → 0 < length ts
 expression_some e ts s = omega (arith, spelled_deep e 0 ts s, depth_positive e)
 
 pub arguments_exact : Exact SpellsArguments (deepest depth_of) any arguments
 unfolding arguments
-arguments_exact = closing_exact (separated_exact terminals.Comma expression_exact expression_some ends_comma) (λ z. (ends_close z, comma_close z))
+arguments_exact = closing_exact (separated_exact terminals.Comma expression_exact expression_some (ends_comma 0)) (λ z. (ends_close 0 z, comma_close z))
 
 pub instance_exact : Exact SpellsInstance deep_instance AfterEntry instance
 unfolding instance
@@ -389,20 +376,173 @@ composition_exact =
     (built_as (λ p. record { name = p.0; instances = p.1.1 }) (λ c. (c.name, (tt, c.instances))) (λ c. refl) (λ p. refl)
     (then name_exact (then (sign_exact terminals.Components) instances_exact (λ y ts left s g. tt)) (λ y ts left s g. tt)))
 
+-- ---- types
+
+name_some : (n : Name) (ts : List Tok) → called n ts → 0 < length ts
+name_some n ts s = omega (arith, ap length s)
+
+abbrev ByNames : FormTree → Language
+ByNames (enumeration ns) = grammar.braced called ns
+ByNames (tuple fs) = empty
+ByNames (sequence most of) = empty
+
+abbrev ByFields : FormTree → Language
+ByFields (enumeration ns) = empty
+ByFields (tuple fs) = grammar.braced SpellsField fs
+ByFields (sequence most of) = empty
+
+abbrev ByItems : FormTree → Language
+ByItems (enumeration ns) = empty
+ByItems (tuple fs) = empty
+ByItems (sequence most of) = word terminals.Seq ▹ (single (tokens.number most) ▹ (word terminals.Of ▹ called of))
+
+-- all but an enumeration
+abbrev ByOthers : FormTree → Language
+ByOthers (enumeration ns) = empty
+ByOthers (tuple fs) = SpellsForm (tuple fs)
+ByOthers (sequence most of) = SpellsForm (sequence most of)
+
+enumeration_exact : Exact ByNames flat any (λ b. an_enumeration)
+unfolding an_enumeration
+enumeration_exact = into_exact enumeration (braced_exact name_exact name_some) ByNames flat of (λ x ts s. s) (λ x. sym (deepest_flat x))
+  where
+    of : (y : FormTree) (ts : List Tok) → ByNames y ts → (ns : List Name) × (enumeration ns ≡ y) × grammar.braced called ns ts
+    of (enumeration ns) ts s = (ns, refl, s)
+    of (tuple fs) ts s = absurd s
+    of (sequence most item) ts s = absurd s
+
+tuple_exact : Exact ByFields flat any (λ b. a_tuple)
+unfolding a_tuple
+tuple_exact = into_exact tuple (braced_exact field_exact field_some) ByFields flat of (λ x ts s. s) (λ x. sym (deepest_flat x))
+  where
+    of : (y : FormTree) (ts : List Tok) → ByFields y ts → (fs : List FieldTree) × (tuple fs ≡ y) × grammar.braced SpellsField fs ts
+    of (enumeration ns) ts s = absurd s
+    of (tuple fs) ts s = (fs, refl, s)
+    of (sequence most item) ts s = absurd s
+
+abbrev Items : ℕ × (Unit {0} × Name) → Language
+Items x = single (tokens.number x.0) ▹ (word terminals.Of ▹ called x.1.1)
+
+abbrev items_form : ℕ × (Unit {0} × Name) → FormTree
+items_form x = sequence x.0 x.1.1
+
+a_sequence_exact : Exact (Image items_form Items) flat any (λ b. a_sequence)
+unfolding a_sequence
+a_sequence_exact = image_exact items_form flat (λ x. omega arith) (then number_exact (then (sign_exact terminals.Of) name_exact (λ y ts left s g. tt)) (λ y ts left s g. tt))
+
+sequence_exact : Exact ByItems flat any (λ b. sequence_form)
+unfolding sequence_form
+sequence_exact = into_exact (λ p. p.1) (then (sign_exact terminals.Seq) a_sequence_exact (λ y ts left s g. tt)) ByItems flat of into (λ x. omega arith)
+  where
+    of : (y : FormTree) (ts : List Tok) → ByItems y ts → (x : Unit {0} × FormTree) × (x.1 ≡ y) × (word terminals.Seq ▹ Image items_form Items x.1) ts
+    of (enumeration ns) ts s = absurd s
+    of (tuple fs) ts s = absurd s
+    of (sequence most item) ts s = ((tt, sequence most item), refl, (s.0, s.1, s.2, ((most, (tt, item)), refl, s.3), s.4))
+
+    into : (x : Unit {0} × FormTree) (ts : List Tok) → (word terminals.Seq ▹ Image items_form Items x.1) ts → ByItems x.1 ts
+    into x ts s = subst (λ y. ByItems y ts) s.3.1 (s.0, s.1, s.2, s.3.2, s.4)
+
+items_unseen : (t : Terminal) → ((z : List Tok) → sees t (terminal terminals.Seq ∷ z) ≡ false) → (y : FormTree) (ts left : List Tok) → ByItems y ts → sees t (ts ++ left) ≡ false
+items_unseen t h (enumeration ns) ts left s = absurd s
+items_unseen t h (tuple fs) ts left s = absurd s
+items_unseen t h (sequence most item) ts left s = leads (λ z. sees t z ≡ false) (terminal terminals.Seq) (single (tokens.number most) ▹ (word terminals.Of ▹ called item)) ts left h s
+
+tuple_seq : (z : List Tok) → sees terminals.Tuple (terminal terminals.Seq ∷ z) ≡ false
+unfolding sees same_terminal
+tuple_seq z = refl
+
+enum_seq : (z : List Tok) → sees terminals.Enum (terminal terminals.Seq ∷ z) ≡ false
+unfolding sees same_terminal
+enum_seq z = refl
+
+enum_tuple : (z : List Tok) → sees terminals.Enum (terminal terminals.Tuple ∷ z) ≡ false
+unfolding sees same_terminal
+enum_tuple z = refl
+
+compound_exact : Exact ByOthers flat any (λ b. compound_form)
+unfolding compound_form
+compound_exact =
+    said_as ByOthers of to (either_exact terminals.Tuple tuple_exact sequence_exact any (λ left f. f) (λ left f. f) (λ y ts left s f. items_unseen terminals.Tuple tuple_seq y ts left s))
+  where
+    of : (y : FormTree) (ts : List Tok) → ByOthers y ts → ((word terminals.Tuple ▹ ByFields y) ts) ⊎ ByItems y ts
+    of (enumeration ns) ts s = absurd s
+    of (tuple fs) ts s = inl s
+    of (sequence most item) ts s = inr s
+
+    to : (y : FormTree) (ts : List Tok) → ((word terminals.Tuple ▹ ByFields y) ts) ⊎ ByItems y ts → ByOthers y ts
+    to (enumeration ns) ts (inl s) = absurd (s.3)
+    to (enumeration ns) ts (inr s) = absurd s
+    to (tuple fs) ts (inl s) = s
+    to (tuple fs) ts (inr s) = absurd s
+    to (sequence most item) ts (inl s) = absurd (s.3)
+    to (sequence most item) ts (inr s) = s
+
+others_unseen : (y : FormTree) (ts left : List Tok) → ByOthers y ts → sees terminals.Enum (ts ++ left) ≡ false
+others_unseen (enumeration ns) ts left s = absurd s
+others_unseen (tuple fs) ts left s = leads (λ z. sees terminals.Enum z ≡ false) (terminal terminals.Tuple) (grammar.braced SpellsField fs) ts left enum_tuple s
+others_unseen (sequence most item) ts left s = items_unseen terminals.Enum enum_seq (sequence most item) ts left s
+
+form_exact : Exact SpellsForm flat any (λ b. type_form)
+unfolding type_form
+form_exact =
+    said_as SpellsForm of to (either_exact terminals.Enum enumeration_exact compound_exact any (λ left f. f) (λ left f. f) (λ y ts left s f. others_unseen y ts left s))
+  where
+    of : (y : FormTree) (ts : List Tok) → SpellsForm y ts → ((word terminals.Enum ▹ ByNames y) ts) ⊎ ByOthers y ts
+    of (enumeration ns) ts s = inl s
+    of (tuple fs) ts s = inr s
+    of (sequence most item) ts s = inr s
+
+    to : (y : FormTree) (ts : List Tok) → ((word terminals.Enum ▹ ByNames y) ts) ⊎ ByOthers y ts → SpellsForm y ts
+    to (enumeration ns) ts (inl s) = s
+    to (enumeration ns) ts (inr s) = absurd s
+    to (tuple fs) ts (inl s) = absurd (s.3)
+    to (tuple fs) ts (inr s) = s
+    to (sequence most item) ts (inl s) = absurd (s.3)
+    to (sequence most item) ts (inr s) = s
+
+pub type_exact : Exact SpellsType flat any (λ b. a_type)
+unfolding a_type
+type_exact =
+    deep_as flat (λ t. omega arith)
+    (built_as (λ p. record { name = p.0; form = p.1.1 }) (λ t. (t.name, (tt, t.form))) (λ t. refl) (λ p. refl)
+    (then name_exact (then (sign_exact terminals.Equal) form_exact (λ y ts left s g. tt)) (λ y ts left s g. tt)))
+
 -- ---- declarations
 
+abbrev ByType : DeclarationTree → Language
+ByType (declared_type t) = SpellsType t
+ByType (automaton a) = empty
+ByType (composition c) = empty
+
 abbrev ByAutomaton : DeclarationTree → Language
+ByAutomaton (declared_type t) = empty
 ByAutomaton (automaton a) = SpellsAutomaton a
 ByAutomaton (composition c) = empty
 
 abbrev ByComposition : DeclarationTree → Language
+ByComposition (declared_type t) = empty
 ByComposition (automaton a) = empty
 ByComposition (composition c) = word terminals.Composition ▹ SpellsComposition c
+
+-- all but a type
+abbrev ByMachine : DeclarationTree → Language
+ByMachine (declared_type t) = empty
+ByMachine (automaton a) = SpellsDeclaration (automaton a)
+ByMachine (composition c) = SpellsDeclaration (composition c)
+
+by_type_exact : Exact ByType deep any (λ b. built declared_type a_type)
+by_type_exact = into_exact declared_type type_exact ByType deep of (λ x ts s. s) (λ x. refl)
+  where
+    of : (y : DeclarationTree) (ts : List Tok) → ByType y ts → (t : TypeTree) × (declared_type t ≡ y) × SpellsType t ts
+    of (declared_type t) ts s = (t, refl, s)
+    of (automaton a) ts s = absurd s
+    of (composition c) ts s = absurd s
 
 by_automaton_exact : Exact ByAutomaton deep AfterTransitions (λ b. built automaton (an_automaton b))
 by_automaton_exact = into_exact automaton automaton_exact ByAutomaton deep of (λ x ts s. s) (λ x. refl)
   where
     of : (y : DeclarationTree) (ts : List Tok) → ByAutomaton y ts → (a : AutomatonTree) × (automaton a ≡ y) × SpellsAutomaton a ts
+    of (declared_type t) ts s = absurd s
     of (automaton a) ts s = (a, refl, s)
     of (composition c) ts s = absurd s
 
@@ -411,6 +551,7 @@ unfolding composed
 composed_exact = into_exact (λ p. composition p.1) (then (sign_exact terminals.Composition) composition_exact (λ y ts left s g. tt)) ByComposition deep of (λ x ts s. s) (λ x. omega arith)
   where
     of : (y : DeclarationTree) (ts : List Tok) → ByComposition y ts → (x : Unit {0} × CompositionTree) × (composition x.1 ≡ y) × (word terminals.Composition ▹ SpellsComposition x.1) ts
+    of (declared_type t) ts s = absurd s
     of (automaton a) ts s = absurd s
     of (composition c) ts s = ((tt, c), refl, s)
 
@@ -421,29 +562,70 @@ automaton_composition : (z : List Tok) → sees terminals.Automaton (terminal te
 unfolding sees same_terminal
 automaton_composition z = refl
 
+type_automaton : (z : List Tok) → sees terminals.Type (terminal terminals.Automaton ∷ z) ≡ false
+unfolding sees same_terminal
+type_automaton z = refl
+
+type_composition : (z : List Tok) → sees terminals.Type (terminal terminals.Composition ∷ z) ≡ false
+unfolding sees same_terminal
+type_composition z = refl
+
 by_composition_unseen : (d : DeclarationTree) (ts left : List Tok) → ByComposition d ts → sees terminals.Automaton (ts ++ left) ≡ false
+by_composition_unseen (declared_type t) ts left s = absurd s
 by_composition_unseen (automaton a) ts left s = absurd s
 by_composition_unseen (composition c) ts left s = leads (λ z. sees terminals.Automaton z ≡ false) (terminal terminals.Composition) (SpellsComposition c) ts left automaton_composition s
 
-declaration_of : (d : DeclarationTree) (ts : List Tok) → SpellsDeclaration d ts → ((word terminals.Automaton ▹ ByAutomaton d) ts) ⊎ ByComposition d ts
-declaration_of (automaton a) ts s = inl s
-declaration_of (composition c) ts s = inr s
+machine_exact : Exact ByMachine deep AfterDeclaration machine
+unfolding machine
+machine_exact =
+    said_as ByMachine of to
+    (either_exact terminals.Automaton by_automaton_exact composed_exact AfterDeclaration (λ left f. f.0) (λ left f. f.1) (λ d ts left s f. by_composition_unseen d ts left s))
+  where
+    of : (d : DeclarationTree) (ts : List Tok) → ByMachine d ts → ((word terminals.Automaton ▹ ByAutomaton d) ts) ⊎ ByComposition d ts
+    of (declared_type t) ts s = absurd s
+    of (automaton a) ts s = inl s
+    of (composition c) ts s = inr s
 
-declaration_to : (d : DeclarationTree) (ts : List Tok) → ((word terminals.Automaton ▹ ByAutomaton d) ts) ⊎ ByComposition d ts → SpellsDeclaration d ts
-declaration_to (automaton a) ts (inl s) = s
-declaration_to (automaton a) ts (inr s) = absurd s
-declaration_to (composition c) ts (inl s) = absurd (s.3)
-declaration_to (composition c) ts (inr s) = s
+    to : (d : DeclarationTree) (ts : List Tok) → ((word terminals.Automaton ▹ ByAutomaton d) ts) ⊎ ByComposition d ts → ByMachine d ts
+    to (declared_type t) ts (inl s) = absurd (s.3)
+    to (declared_type t) ts (inr s) = absurd s
+    to (automaton a) ts (inl s) = s
+    to (automaton a) ts (inr s) = absurd s
+    to (composition c) ts (inl s) = absurd (s.3)
+    to (composition c) ts (inr s) = s
+
+by_machine_unseen : (d : DeclarationTree) (ts left : List Tok) → ByMachine d ts → sees terminals.Type (ts ++ left) ≡ false
+by_machine_unseen (declared_type t) ts left s = absurd s
+by_machine_unseen (automaton a) ts left s = leads (λ z. sees terminals.Type z ≡ false) (terminal terminals.Automaton) (SpellsAutomaton a) ts left type_automaton s
+by_machine_unseen (composition c) ts left s = leads (λ z. sees terminals.Type z ≡ false) (terminal terminals.Composition) (SpellsComposition c) ts left type_composition s
 
 pub declaration_exact : Exact SpellsDeclaration deep AfterDeclaration declaration
 unfolding declaration
 declaration_exact =
-    said_as SpellsDeclaration declaration_of declaration_to
-    (either_exact terminals.Automaton by_automaton_exact composed_exact AfterDeclaration (λ left f. f.0) (λ left f. f.1) (λ d ts left s f. by_composition_unseen d ts left s))
+    said_as SpellsDeclaration of to
+    (either_exact terminals.Type by_type_exact machine_exact AfterDeclaration (λ left f. tt) (λ left f. f) (λ d ts left s f. by_machine_unseen d ts left s))
+  where
+    of : (d : DeclarationTree) (ts : List Tok) → SpellsDeclaration d ts → ((word terminals.Type ▹ ByType d) ts) ⊎ ByMachine d ts
+    of (declared_type t) ts s = inl s
+    of (automaton a) ts s = inr s
+    of (composition c) ts s = inr s
+
+    to : (d : DeclarationTree) (ts : List Tok) → ((word terminals.Type ▹ ByType d) ts) ⊎ ByMachine d ts → SpellsDeclaration d ts
+    to (declared_type t) ts (inl s) = s
+    to (declared_type t) ts (inr s) = absurd s
+    to (automaton a) ts (inl s) = absurd (s.3)
+    to (automaton a) ts (inr s) = s
+    to (composition c) ts (inl s) = absurd (s.3)
+    to (composition c) ts (inr s) = s
 
 pub declaration_some : (d : DeclarationTree) (ts : List Tok) → SpellsDeclaration d ts → 0 < length ts
+declaration_some (declared_type t) ts s = first_some (terminal terminals.Type) (SpellsType t) ts s
 declaration_some (automaton a) ts s = first_some (terminal terminals.Automaton) (SpellsAutomaton a) ts s
 declaration_some (composition c) ts s = first_some (terminal terminals.Composition) (SpellsComposition c) ts s
+
+pub at_type : (z : List Tok) → AfterDeclaration (terminal terminals.Type ∷ z)
+unfolding sees same_terminal sees_kind kind_at terminal_at kind_of operator_of sees_statement sees_name
+at_type z = ((record { ends = tt; semicolon = refl; begins = refl; comma = refl; eff = refl; propose = refl; pre = refl }, refl), ((tt, refl), refl))
 
 pub at_automaton : (z : List Tok) → AfterDeclaration (terminal terminals.Automaton ∷ z)
 unfolding sees same_terminal sees_kind kind_at terminal_at kind_of operator_of sees_statement sees_name
@@ -457,9 +639,11 @@ pub at_end : AfterDeclaration []
 unfolding sees same_terminal sees_kind kind_at terminal_at kind_of operator_of sees_statement sees_name
 at_end = ((record { ends = tt; semicolon = refl; begins = refl; comma = refl; eff = refl; propose = refl; pre = refl }, refl), ((tt, refl), refl))
 
-pub declaration_leads : (F : Language) (d : DeclarationTree) (ts left : List Tok) → ((z : List Tok) → F (terminal terminals.Automaton ∷ z)) → ((z : List Tok) → F (terminal terminals.Composition ∷ z)) → SpellsDeclaration d ts → F (ts ++ left)
-declaration_leads F (automaton a) ts left h g s = leads F (terminal terminals.Automaton) (SpellsAutomaton a) ts left h s
-declaration_leads F (composition c) ts left h g s = leads F (terminal terminals.Composition) (SpellsComposition c) ts left g s
+pub declaration_leads : (F : Language) (d : DeclarationTree) (ts left : List Tok) → ((z : List Tok) → F (terminal terminals.Type ∷ z)) → ((z : List Tok) → F (terminal terminals.Automaton ∷ z)) →
+    ((z : List Tok) → F (terminal terminals.Composition ∷ z)) → SpellsDeclaration d ts → F (ts ++ left)
+declaration_leads F (declared_type t) ts left f h g s = leads F (terminal terminals.Type) (SpellsType t) ts left f s
+declaration_leads F (automaton a) ts left f h g s = leads F (terminal terminals.Automaton) (SpellsAutomaton a) ts left h s
+declaration_leads F (composition c) ts left f h g s = leads F (terminal terminals.Composition) (SpellsComposition c) ts left g s
 
 -- ---- sources
 
@@ -473,4 +657,4 @@ some_left_alike = head_alike some_left false (λ x. true) refl (λ x ts. refl)
 pub all_exact : Exact (grammar.many SpellsDeclaration) (deepest deep) (λ left. AfterDeclaration left × (some_left left ≡ false)) (λ b. many some_left (declaration b))
 all_exact =
     many_exact some_left some_left_alike refl declaration_exact declaration_some
-    (λ d ts left s. declaration_leads AfterDeclaration d ts left at_automaton at_composition s) (λ d ts left s. declaration_leads (λ z. some_left z ≡ true) d ts left (λ z. refl) (λ z. refl) s)
+    (λ d ts left s. declaration_leads AfterDeclaration d ts left at_type at_automaton at_composition s) (λ d ts left s. declaration_leads (λ z. some_left z ≡ true) d ts left (λ z. refl) (λ z. refl) (λ z. refl) s)

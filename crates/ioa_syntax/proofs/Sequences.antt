@@ -1,5 +1,5 @@
 -- Statements and arms, as lists and as trees of their own.
-use Rattle.std.proofs.Common.{◌≡◌, ℕ, zero, suc, ◌-◌, ◌<◌, arith, Bool, true, false, List, [], ◌∷◌, ◌++◌, length, ◌+◌, map, refl, sym, ap, ◌∙◌, rules, Vec, Global, Result, Ok, Err, append_assoc}
+use Rattle.std.proofs.Common.{◌≡◌, ℕ, zero, suc, ◌-◌, ◌<◌, arith, Bool, true, false, List, [], ◌∷◌, ◌++◌, length, map, refl, sym, ap, ◌∙◌, rules, Vec, Global, Result, Ok, Err, append_assoc}
 use Rattle.std.specs.List.{flat_map}
 use Rattle.ioa_value.specs.declared.terminal.Terminal.{Terminal}
 use Rattle.ioa_value.specs.declared.terminal.Terminal.TheVariants as terminals

@@ -1,5 +1,5 @@
 -- Readers of one token, and of what may be absent.
-use Rattle.std.proofs.Common.{◌≡◌, ℕ, ◌<◌, ◌≤◌, ◌⊎◌, inl, inr, Bool, true, false, List, [], ◌∷◌, ◌++◌, length, refl, sym, ap, ◌∙◌, subst, arith, Option, Some, None, Ok, Err, if◌then◌else◌}
+use Rattle.std.proofs.Common.{◌≡◌, ℕ, suc, ◌<◌, ◌≤◌, ◌⊎◌, inl, inr, Bool, true, false, List, [], ◌∷◌, ◌++◌, length, refl, sym, ap, ◌∙◌, subst, arith, Option, Some, None, Ok, Err, if◌then◌else◌}
 use denote.Enum.Bare.{same_true, true_same}
 use Rattle.ioa_value.specs.contracts.terminal.Terminal.{the_type}
 use Rattle.ioa_value.specs.declared.terminal.Terminal.{Terminal}
@@ -9,10 +9,10 @@ use Rattle.ioa_lex.specs.Tokens.{Tok, terminal}
 use Rattle.ioa_value.specs.Actions as actions
 use Rattle.ioa_syntax.specs.declared.tree.Kind.{Kind}
 use Rattle.ioa_syntax.specs.declared.tree.Kind.TheVariants.{Input, Output, Internal}
-use Rattle.ioa_syntax.specs.declared.fault.Fault.TheVariants.{TooDeep}
+use Rattle.ioa_syntax.specs.declared.fault.Fault.TheVariants.{Syntax, TooDeep}
 use Rattle.ioa_syntax.specs.Grammar.{Language, SameHead, ◌▹◌, single, word, called, nothing, kind_word}
-use Rattle.ioa_syntax.specs.Reading.{Outcome, Reader, rest, taken, sees, after, is_terminal, same_terminal, sign, a_name, a_kind, kind_at, kind_of, kind_in, terminal_at, terminal_in}
-use Rattle.ioa_syntax.proofs.Outcomes.{ok_pair, AtMost, at_most_more, Alike, alike_rest, refused_at, went, front_length, same_head, LooksAhead, head_alike, rest_length}
+use Rattle.ioa_syntax.specs.Reading.{Outcome, Reader, rest, taken, begun, a_number, sees, after, is_terminal, same_terminal, sign, a_name, a_kind, kind_at, kind_of, kind_in, terminal_at, terminal_in}
+use Rattle.ioa_syntax.proofs.Outcomes.{ok_pair, AtMost, at_most_more, Shrinks, Alike, alike_rest, refused_at, went, front_length, same_head, LooksAhead, head_alike, rest_length}
 use Rattle.ioa_syntax.proofs.Exact.{Found, ExactFor, Exact, any, flat}
 
 -- ---- tests
@@ -101,6 +101,91 @@ module _ {X : Type 0} (f : List Tok → Option X) (of : X → Tok) (P : Reader X
     long = λ b. token_long (size b);
   }
 
+-- ---- one token, and what comes after it, as the token says
+
+module _ {I X A : Type 0} {size : I → ℕ} (f : List Tok → Option X) (of : X → Tok) (V : X → Type 0) (look : LooksAhead f) (none : f [] ≡ None)
+    (is : (x : X) (ts : List Tok) → V x → f (of x ∷ ts) ≡ Some x) (only : (ts : List Tok) (x : X) → f ts ≡ Some x → (ts ≡ of x ∷ rest ts) × V x)
+    {L : X → A → Language} {D : A → ℕ} {P : I → X → Reader A} (each : (x : X) → V x → ExactFor size (L x) D any (λ b. P b x))
+    (E : A → ℕ) (deep : (y : A) → E y ≡ suc (D y)) where
+  abbrev pub Begun : A → Language
+  Begun y = λ ts. (x : X) × V x × (single (of x) ▹ L x y) ts
+
+  abbrev reads : I → Reader A
+  reads b ts = begun (P b) ts (f ts)
+
+  begun_some : (b : I) (ts : List Tok) (x : X) → f ts ≡ Some x → reads b ts ≡ P b x (rest ts)
+  begun_some b ts x e = ap (begun (P b) ts) e
+
+  begun_none : (b : I) (ts : List Tok) → f ts ≡ None → reads b ts ≡ Err (Syntax (length ts))
+  begun_none b ts e = ap (begun (P b) ts) e
+
+  begun_complete : (b : I) (y : A) (ts left : List Tok) → Begun y ts → E y ≤ suc (size b) → any left → reads b (ts ++ left) ≡ Ok (y, left)
+  begun_complete b y ts left s d g =
+      let x = s.0 in
+      let m = s.2 in
+      let apart : ts ++ left ≡ of x ∷ (m.1 ++ left) = ap (λ z. z ++ left) (m.4 ∙ ap (λ z. z ++ m.1) m.2) in
+      ap (reads b) apart ∙ begun_some b (of x ∷ (m.1 ++ left)) x (is x (m.1 ++ left) s.1) ∙ (each x s.1).complete b y m.1 left m.3 (omega (arith, deep y)) tt
+
+  begun_sound : (b : I) (ts : List Tok) (y : A) (left : List Tok) → reads b ts ≡ Ok (y, left) → Found Begun E (suc (size b)) ts y left
+  begun_sound b ts y left h = by (f ts) refl
+    where
+      by : (o : Option X) → f ts ≡ o → Found Begun E (suc (size b)) ts y left
+      by None e = let never = sym (begun_none b ts e) ∙ h in absurd (cc)
+      by (Some x) e =
+          let at = only ts x e in
+          let m = (each x at.1).sound b (rest ts) y left (sym (begun_some b ts x e) ∙ h) in
+          record {
+            front = of x ∷ m.front;
+            spells = (x, at.1, (of x ∷ [], m.front, refl, m.spells, refl));
+            apart = at.0 ∙ ap (λ z. of x ∷ z) m.apart;
+            within = omega (arith, deep y, m.within);
+          }
+
+  begun_shrinks : (b : I) → Shrinks (reads b)
+  begun_shrinks b ts = by (f ts) refl
+    where
+      by : (o : Option X) → f ts ≡ o → AtMost (length ts) (reads b ts)
+      by None e = subst (AtMost (length ts)) (sym (begun_none b ts e)) (omega arith)
+      by (Some x) e = subst (AtMost (length ts)) (sym (begun_some b ts x e)) (at_most_more (length (rest ts)) (length ts) (P b x (rest ts)) (rest_length ts) ((each x (only ts x e).1).shrinks b (rest ts)))
+
+  begun_alike : (b b' : I) → size b ≤ size b' → (s s' : List Tok) → SameHead s s' → (c : List Tok) → Alike s s' (reads b (c ++ s)) (reads b' (c ++ s'))
+  begun_alike b b' le s s' h c = by (f (c ++ s)) refl
+    where
+      same : f (c ++ s) ≡ f (c ++ s')
+      same = look (c ++ s) (c ++ s') (same_head s s' h c)
+
+      from : (o o' : Outcome A) → reads b (c ++ s) ≡ o → reads b' (c ++ s') ≡ o' → Alike s s' o o' → Alike s s' (reads b (c ++ s)) (reads b' (c ++ s'))
+      from o o' e e' a = subst (λ z. Alike s s' z (reads b' (c ++ s'))) (sym e) (subst (λ z. Alike s s' o z) (sym e') a)
+
+      by : (o : Option X) → f (c ++ s) ≡ o → Alike s s' (reads b (c ++ s)) (reads b' (c ++ s'))
+      by None e =
+          from (Err (Syntax (length (c ++ s)))) (Err (Syntax (length (c ++ s')))) (begun_none b (c ++ s) e) (begun_none b' (c ++ s') (sym same ∙ e))
+          (refused_at s s' (length (c ++ s)) (length (c ++ s')) (front_length c s))
+      by (Some x) e =
+          let at = only (c ++ s) x e in
+          let p = each x at.1 in
+          from (P b x (rest (c ++ s))) (P b' x (rest (c ++ s'))) (begun_some b (c ++ s) x e) (begun_some b' (c ++ s') x (sym same ∙ e))
+          (alike_rest s s' (P b x) (P b' x) h (p.shrinks b) (p.alike b b' le s s' h) c (omega (arith, ap length at.0)))
+
+  begun_long : (b : I) (ts : List Tok) → reads b ts ≡ Err TooDeep → suc (size b) < length ts
+  begun_long b ts h = by (f ts) refl
+    where
+      by : (o : Option X) → f ts ≡ o → suc (size b) < length ts
+      by None e = let never = sym (begun_none b ts e) ∙ h in absurd (cc)
+      by (Some x) e =
+          let at = only ts x e in
+          let far = (each x at.1).long b (rest ts) (sym (begun_some b ts x e) ∙ h) in
+          omega (arith, ap length at.0)
+
+  pub begun_exact : ExactFor (λ b. suc (size b)) Begun E any reads
+  begun_exact = record {
+    complete = begun_complete;
+    sound = begun_sound;
+    shrinks = begun_shrinks;
+    alike = λ b b' le. begun_alike b b' (omega arith);
+    long = begun_long;
+  }
+
 -- ---- a word or sign, a name, a kind
 
 abbrev sign_at : Terminal → List Tok → Option (Unit {0})
@@ -160,6 +245,31 @@ name_for = token name_at tokens.name a_name name_takes (head_alike name_at None 
 
 pub name_exact : Exact called flat any (λ b. a_name)
 name_exact = name_for
+
+abbrev number_in : Tok → Option ℕ
+number_in (tokens.number n) = Some n
+number_in (tokens.name n) = None
+number_in (terminal t) = None
+
+abbrev number_at : List Tok → Option ℕ
+number_at [] = None
+number_at (x ∷ ts) = number_in x
+
+number_takes : (ts : List Tok) → a_number ts ≡ taken ts (number_at ts)
+unfolding a_number
+number_takes [] = refl
+number_takes (tokens.number n ∷ ts) = refl
+number_takes (tokens.name n ∷ ts) = refl
+number_takes (terminal t ∷ ts) = refl
+
+number_only : (ts : List Tok) (n : ℕ) → number_at ts ≡ Some n → ts ≡ tokens.number n ∷ rest ts
+number_only [] n h = absurd (cc)
+number_only (tokens.number m ∷ ts) n h = let same : m ≡ n = cc in ap (λ m. tokens.number m ∷ ts) same
+number_only (tokens.name m ∷ ts) n h = absurd (cc)
+number_only (terminal t ∷ ts) n h = absurd (cc)
+
+pub number_exact : Exact (λ n. single (tokens.number n)) flat any (λ b. a_number)
+number_exact = token number_at tokens.number a_number number_takes (head_alike number_at None number_in refl (λ x ts. refl)) refl (λ x ts. refl) number_only
 
 kind_only-terminal : (t : Terminal) (k : Kind) → kind_of t ≡ Some k → t ≡ kind_word k
 unfolding kind_of

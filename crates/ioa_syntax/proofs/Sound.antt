@@ -1,23 +1,23 @@
 -- An expression that is read is spelled so.
-use Rattle.std.proofs.Common.{◌≡◌, ℕ, zero, suc, ◌<◌, ◌≤◌, ◌⊎◌, inl, inr, Bool, List, [], ◌∷◌, ◌++◌, length, refl, sym, ap, ◌∙◌, subst, arith, Option, Some, None, Ok, Err, true, false, IsTrue, nat_le, nat_lt, append_assoc}
+use Rattle.std.proofs.Common.{◌≡◌, ℕ, zero, suc, ◌<◌, ◌≤◌, ◌⊎◌, inl, inr, Bool, List, [], ◌∷◌, ◌++◌, refl, sym, ap, ◌∙◌, subst, arith, Option, Some, None, Ok, true, false, IsTrue, nat_le, nat_lt, append_assoc}
 use Rattle.std.proofs.lemmas.Bool.Decides.{nat_tests}
-use Rattle.ioa_value.specs.declared.terminal.Terminal.{Terminal}
-use Rattle.ioa_value.specs.declared.terminal.Terminal.TheVariants as terminals
 use Rattle.ioa_lex.specs.Tokens as tokens
 use Rattle.ioa_lex.specs.Tokens.{Tok, terminal}
-use Rattle.ioa_syntax.specs.declared.fault.Fault.TheVariants.{Syntax, TooDeep}
+use Rattle.ioa_syntax.specs.declared.fault.Fault.TheVariants.{TooDeep}
 use Rattle.ioa_value.specs.declared.operator.Op.{Op}
 use Rattle.ioa_syntax.specs.declared.tree.Infix.{Infix}
 use Rattle.ioa_syntax.specs.declared.tree.Infix.TheVariants.{Operator}
-use Rattle.ioa_syntax.specs.Tree.{Expr, number, truth, named, parens, prefix, binary}
+use Rattle.ioa_syntax.specs.Tree.{Expr, prefix, binary}
 use Rattle.ioa_syntax.specs.Depth.{depth_of}
 use Rattle.ioa_syntax.specs.Operators.{stands_before, stands_between, level_of, left_of, right_of, after_of, tightest}
 use Rattle.ioa_syntax.specs.Grammar.{SpellsExpr}
-use Rattle.ioa_syntax.specs.Reading.{climb, climb_by, stop_by, expr, first, prefix_at, operand, opened, operator_at, operator_in, terminal_at, allowed, rest, sign, Outcome, Reader, ◌>>=◌, ◌▸◌, built}
+use Rattle.ioa_syntax.specs.Reading.{climb, climb_by, stop_by, expr, first, prefix_at, operand, operator_at, operator_in, terminal_at, allowed, rest, Outcome, Reader, ◌>>=◌, built}
 use Rattle.ioa_syntax.proofs.Outcomes.{bind_ok, ok_pair, guard_ok}
-use Rattle.ioa_syntax.proofs.Singles.{sign_exact}
+use Rattle.ioa_syntax.proofs.Exact.{Found}
 use Rattle.ioa_syntax.proofs.Binding.{found_only, prefix_only, left_again}
-use Rattle.ioa_syntax.proofs.Complete.{mark, parens_join, prefix_join, binary_join, first_plain, first_marked, first_loose, climbs}
+use Rattle.ioa_syntax.proofs.Endings.{mark}
+use Rattle.ioa_syntax.proofs.Operands.{Opens, opens_spells}
+use Rattle.ioa_syntax.proofs.Complete.{prefix_join, binary_join, first_plain, first_marked, first_loose, climbs}
 
 pub le_of : (a b : ℕ) → nat_le a b ≡ true → a ≤ b
 le_of a b h = grind (arith, nat_tests)
@@ -79,49 +79,9 @@ beginning least ts = by (prefix_at ts) refl
     by None e = begins_plain e
     by (Some o) e = tests o e (nat_le least (level_of (Operator o))) refl
 
--- ---- what begins an operand
-
-pub data Opening (inner : Reader Expr) (t : Terminal) : Type 0 where
-  opens_true : t ≡ terminals.True → Opening inner t
-  opens_false : t ≡ terminals.False → Opening inner t
-  opens_parens : t ≡ terminals.Open → Opening inner t
-  opens_none : ((ts : List Tok) → opened inner t ts ≡ Err (Syntax (suc (length ts)))) → Opening inner t
-
-pub opening : (inner : Reader Expr) (t : Terminal) → Opening inner t
-unfolding opened
-opening inner terminals.True = opens_true refl
-opening inner terminals.False = opens_false refl
-opening inner terminals.Open = opens_parens refl
-opening inner _ = opens_none (λ ts. refl)
-
-abbrev pub bracketed : Reader Expr → Reader Expr
-bracketed inner = built (λ p. parens p.0) (inner ▸ sign terminals.Close)
-
-pub opened_true : (inner : Reader Expr) (ts : List Tok) → opened inner terminals.True ts ≡ Ok (truth true, ts)
-unfolding opened
-opened_true inner ts = refl
-
-pub opened_false : (inner : Reader Expr) (ts : List Tok) → opened inner terminals.False ts ≡ Ok (truth false, ts)
-unfolding opened
-opened_false inner ts = refl
-
-pub opened_bracketed : (inner : Reader Expr) (ts : List Tok) → opened inner terminals.Open ts ≡ bracketed inner ts
-unfolding opened
-opened_bracketed inner ts = refl
-
 -- a front of the tokens spells the tree
-pub record Reads (b k : ℕ) (ts : List Tok) (t : Expr) (left : List Tok) : Type 0 where
-  pub front : List Tok
-  pub spells : SpellsExpr k t front
-  pub apart : ts ≡ front ++ left
-  pub within : depth_of t ≤ b
-
--- the same at every level
-pub record ReadsOperand (b : ℕ) (ts : List Tok) (t : Expr) (left : List Tok) : Type 0 where
-  pub front : List Tok
-  pub spells : (k : ℕ) → SpellsExpr k t front
-  pub apart : ts ≡ front ++ left
-  pub within : depth_of t ≤ b
+abbrev pub Reads : ℕ → ℕ → List Tok → Expr → List Tok → Type 0
+Reads b k = Found (SpellsExpr k) depth_of b
 
 -- an operator that may follow takes the tree as its left operand
 abbrev pub IsLeft : ℕ → Expr → List Tok → Type 0
@@ -135,54 +95,19 @@ pub record ReadsFirst (b least : ℕ) (ts : List Tok) (t : Expr) (below : ℕ) (
   pub apart : ts ≡ front ++ left
   pub within : depth_of t ≤ b
 
-single_reads : (b : ℕ) (x : Tok) (e : Expr) (ts : List Tok) (t : Expr) (left : List Tok) → ((k : ℕ) → SpellsExpr k e (x ∷ [])) → depth_of e ≤ b → ◌≡◌ {A = Outcome Expr} (Ok (e, ts)) (Ok (t, left)) → ReadsOperand b (x ∷ ts) t left
-single_reads b x e ts t left s d h =
-    let p = ok_pair e t ts left h in
-    record { front = x ∷ []; spells = λ k. subst (λ t. SpellsExpr k t (x ∷ [])) p.0 (s k); apart = ap (λ r. x ∷ r) p.1; within = subst (λ t. depth_of t ≤ b) p.0 d }
-
-module _ (b : ℕ) (e : ℕ → Reader Expr) (inner : (k : ℕ) (ts : List Tok) (t : Expr) (left : List Tok) → e k ts ≡ Ok (t, left) → Reads b k ts t left) where
-  bracketed_sound : (ts : List Tok) (t : Expr) (left : List Tok) → bracketed (e 0) ts ≡ Ok (t, left) → ReadsOperand (suc b) (terminal terminals.Open ∷ ts) t left
-  bracketed_sound ts t left h =
-      let whole = bind_ok ((e 0 ▸ sign terminals.Close) ts) (λ x. Ok (parens x.0.0, x.1)) (t, left) h in
-      let one = bind_ok (e 0 ts) (λ x. sign terminals.Close x.1 >>= λ y. Ok ((x.0, y.0), y.1)) whole.0 whole.1 in
-      let two = bind_ok (sign terminals.Close one.0.1) (λ y. Ok ((one.0.0, y.0), y.1)) whole.0 one.2 in
-      let close = (sign_exact terminals.Close).sound 0 one.0.1 two.0.0 two.0.1 two.1 in
-      let in_it = inner 0 ts one.0.0 one.0.1 one.1 in
-      let pair = ok_pair (one.0.0, two.0.0) whole.0.0 two.0.1 whole.0.1 two.2 in
-      let same = ok_pair (parens whole.0.0.0) t whole.0.1 left whole.2 in
-      let is : parens one.0.0 ≡ t = ap (λ x. parens x.0) pair.0 ∙ same.0 in
-      let goes : two.0.1 ≡ left = pair.1 ∙ same.1 in
-      let front : List Tok = terminal terminals.Open ∷ (in_it.front ++ terminal terminals.Close ∷ []) in
-      record {
-        front = front;
-        spells = λ k. subst (λ t. SpellsExpr k t front) is (parens_join one.0.0 k in_it.front in_it.spells);
-        apart = ap (λ r. terminal terminals.Open ∷ r) (in_it.apart ∙ ap (λ r. in_it.front ++ r) (close.apart ∙ ap (λ z. z ++ two.0.1) close.spells ∙ ap (λ z. terminal terminals.Close ∷ z) goes) ∙ sym (append_assoc in_it.front (terminal terminals.Close ∷ []) left));
-        within = subst (λ t. depth_of t ≤ suc b) is (omega (arith, in_it.within));
-      }
-
-  pub operand_sound : (ts : List Tok) (t : Expr) (left : List Tok) → operand (e 0) ts ≡ Ok (t, left) → ReadsOperand (suc b) ts t left
-  unfolding operand
-  operand_sound [] t left h = absurd (cc)
-  operand_sound (tokens.number n ∷ ts) t left h = single_reads (suc b) (tokens.number n) (number n) ts t left (λ k. refl) (omega arith) h
-  operand_sound (tokens.name n ∷ ts) t left h = single_reads (suc b) (tokens.name n) (named n) ts t left (λ k. refl) (omega arith) h
-  operand_sound (terminal u ∷ ts) t left h =
-      elim (opening (e 0) u) [
-        | opens_true is ↦ subst (λ u. ReadsOperand (suc b) (terminal u ∷ ts) t left) (sym is) (single_reads (suc b) (terminal terminals.True) (truth true) ts t left (λ k. refl) (omega arith) (sym (opened_true (e 0) ts) ∙ ap (λ u. opened (e 0) u ts) (sym is) ∙ h))
-        | opens_false is ↦ subst (λ u. ReadsOperand (suc b) (terminal u ∷ ts) t left) (sym is) (single_reads (suc b) (terminal terminals.False) (truth false) ts t left (λ k. refl) (omega arith) (sym (opened_false (e 0) ts) ∙ ap (λ u. opened (e 0) u ts) (sym is) ∙ h))
-        | opens_parens is ↦ subst (λ u. ReadsOperand (suc b) (terminal u ∷ ts) t left) (sym is) (bracketed_sound ts t left (sym (opened_bracketed (e 0) ts) ∙ ap (λ u. opened (e 0) u ts) (sym is) ∙ h))
-        | opens_none faults ↦ let never = sym (faults ts) ∙ h in absurd (cc)
-      ]
-
+module _ (b : ℕ) (e : ℕ → Reader Expr) (inner : (k : ℕ) (ts : List Tok) (t : Expr) (left : List Tok) → e k ts ≡ Ok (t, left) → Reads b k ts t left)
+    (operands : (ts : List Tok) (t : Expr) (left : List Tok) → operand (e 0) ts ≡ Ok (t, left) → Found Opens depth_of (suc b) ts t left) where
   plain_sound : (least : ℕ) (ts : List Tok) (t : Expr) (below : ℕ) (left : List Tok) → built {B = Expr × ℕ} (λ t. (t, tightest)) (operand (e 0)) ts ≡ Ok ((t, below), left) → ReadsFirst (suc b) least ts t below left
   plain_sound least ts t below left h =
       let one = bind_ok (operand (e 0) ts) (λ x. Ok ((x.0, tightest), x.1)) ((t, below), left) h in
       let same = ok_pair (one.0.0, tightest) (t, below) one.0.1 left one.2 in
-      let r = operand_sound ts one.0.0 one.0.1 one.1 in
+      let r = operands ts one.0.0 one.0.1 one.1 in
+      let at_any : (k : ℕ) → SpellsExpr k one.0.0 r.front = opens_spells one.0.0 r.front r.spells in
       let is : one.0.0 ≡ t = ap (λ p. p.0) same.0 in
       record {
         front = r.front;
-        spells = subst (λ t. SpellsExpr least t r.front) is (r.spells least);
-        takes_left = λ o _. subst (λ t. SpellsExpr (left_of o) t r.front) is (r.spells (left_of o));
+        spells = subst (λ t. SpellsExpr least t r.front) is (at_any least);
+        takes_left = λ o _. subst (λ t. SpellsExpr (left_of o) t r.front) is (at_any (left_of o));
         apart = r.apart ∙ ap (λ z. r.front ++ z) same.1;
         within = subst (λ t. depth_of t ≤ suc b) is r.within;
       }
@@ -198,8 +123,8 @@ module _ (b : ℕ) (e : ℕ → Reader Expr) (inner : (k : ℕ) (ts : List Tok) 
       let front : List Tok = mark (Operator o) ∷ r.front in
       record {
         front = front;
-        spells = subst (λ t. SpellsExpr least t front) is (prefix_join least o one.0.0 r.front before low r.spells);
-        takes_left = λ p less. subst (λ t. SpellsExpr (left_of p) t front) is (prefix_join (left_of p) o one.0.0 r.front before (left_again (Operator o) p (omega (arith, ends))) r.spells);
+        spells = subst (λ t. SpellsExpr least t front) is (inl (prefix_join least o one.0.0 r.front before low r.spells));
+        takes_left = λ p less. subst (λ t. SpellsExpr (left_of p) t front) is (inl (prefix_join (left_of p) o one.0.0 r.front before (left_again (Operator o) p (omega (arith, ends))) r.spells));
         apart = at ∙ ap (λ z. mark (Operator o) ∷ z) (r.apart ∙ ap (λ z. r.front ++ z) same.1);
         within = subst (λ t. depth_of t ≤ suc b) is (omega (arith, r.within));
       }
@@ -231,13 +156,13 @@ module _ (b : ℕ) (e : ℕ → Reader Expr) (inner : (k : ℕ) (ts : List Tok) 
       let longer : List Tok = a ++ mark o ∷ right.front in
       let fits : depth_of left ≤ b = le_of _ _ g.0 in
       let more = more_of least (after_of o) (binary left o x.0.0) x.0.1 t end x.2 longer
-      (binary_join least left o x.0.0 a right.front between low (again o high) right.spells)
-      (λ p hp. binary_join (left_of p) left o x.0.0 a right.front between (left_again o p hp) (again o high) right.spells)
+      (inl (binary_join least left o x.0.0 a right.front between low (again o high) right.spells))
+      (λ p hp. inl (binary_join (left_of p) left o x.0.0 a right.front between (left_again o p hp) (again o high) right.spells))
       (omega (arith, right.within)) in
       let joined : a ++ ts ≡ longer ++ x.0.1 = ap (λ r. a ++ r) (is ∙ ap (λ r. mark o ∷ r) right.apart) ∙ sym (append_assoc a (mark o ∷ right.front) x.0.1) in
       record { front = more.front; spells = more.spells; apart = joined ∙ more.apart; within = more.within }
 
-  climb_sound : (n : ℕ) → Climbs n
+  pub climb_sound : (n : ℕ) → Climbs n
   unfolding climb
   climb_sound zero least below left ts t end h a s again d = by (operator_at least below ts) h
     where
@@ -251,12 +176,12 @@ module _ (b : ℕ) (e : ℕ → Reader Expr) (inner : (k : ℕ) (ts : List Tok) 
         | inr present ↦ takes n more_of least below left ts t end present.0 (subst (λ o. climb_by b e (climb b e n least) left ts o ≡ Ok (t, end)) present.1 h) a s again present.2 present.3 present.4 present.5
       ]
 
-pub sound : (b k : ℕ) (ts : List Tok) (t : Expr) (left : List Tok) → expr b k ts ≡ Ok (t, left) → Reads b k ts t left
+pub sound_more : (b : ℕ) → ((k : ℕ) (ts : List Tok) (t : Expr) (left : List Tok) → expr b k ts ≡ Ok (t, left) → Reads b k ts t left) →
+    ((ts : List Tok) (t : Expr) (left : List Tok) → operand (expr b 0) ts ≡ Ok (t, left) → Found Opens depth_of (suc b) ts t left) →
+    (k : ℕ) (ts : List Tok) (t : Expr) (left : List Tok) → expr (suc b) k ts ≡ Ok (t, left) → Reads (suc b) k ts t left
 unfolding expr
-sound zero k [] t left h = absurd (cc)
-sound zero k (x ∷ ts) t left h = absurd (cc)
-sound (suc b) k ts t left h =
+sound_more b inner operands k ts t left h =
     let x = bind_ok (first k (expr b) ts) (climbs b k) (t, left) h in
-    let begun = first_sound b (expr b) (sound b) k ts x.0.0.0 x.0.0.1 x.0.1 x.1 in
-    let more = climb_sound b (expr b) (sound b) b k x.0.0.1 x.0.0.0 x.0.1 t left x.2 begun.front begun.spells begun.takes_left begun.within in
+    let begun = first_sound b (expr b) inner operands k ts x.0.0.0 x.0.0.1 x.0.1 x.1 in
+    let more = climb_sound b (expr b) inner operands b k x.0.0.1 x.0.0.0 x.0.1 t left x.2 begun.front begun.spells begun.takes_left begun.within in
     record { front = more.front; spells = more.spells; apart = begun.apart ∙ more.apart; within = more.within }

@@ -15,9 +15,10 @@ abbrev pub Stands : Table → ℕ → Option Val → Type 0
 Stands types ty (Some v) = HasType types v ty
 Stands types ty None = ⊥
 
--- each name of the context stands for a value of its type
-abbrev pub Suits : Table → Context → Env → Type 0
-Suits types c env = (x : Name) (ty : ℕ) → type_in c x ≡ Some ty → Stands types ty (env x)
+-- each name of the context stands for a value of its type, and no other name for anything
+pub record Suits (types : Table) (c : Context) (env : Env) : Type 0 where
+  pub stands : (x : Name) (ty : ℕ) → type_in c x ≡ Some ty → Stands types ty (env x)
+  pub others : (x : Name) → type_in c x ≡ None → env x ≡ None
 
 -- an environment of the context's types, or a fault
 abbrev pub IsTypedOutcome : Table → Context → Outcome → Type 0
@@ -28,12 +29,15 @@ IsTypedOutcome types c nowhere = ⊥
 -- an expression with a type has a value of it, or a fault
 abbrev pub ExpressionsAnswer : Type 0
 ExpressionsAnswer =
-    (types : Table) (c : Context) (env : Env) (e : Expr) (ty : ℕ) → AreTypes types → Suits types c env → type_of types c e ≡ Some ty → IsTypedAnswer types ty (val types e env)
+    (types : Table) (c : Context) (env : Env) (e : Expr) (ty : ℕ) → AreTypes types → Suits types c env → type_of types types c e ≡ Some ty
+    → IsTypedAnswer types ty (val types e env)
 
 -- an entry's statements, where each is well typed, leave an environment of the same types, or a fault
 abbrev pub EffectsAnswer : Type 0
 EffectsAnswer =
-    (types : Table) (globals : List Name) (a : AutomatonTree) (e : EntryTree) (ss : Stmts) (env : Env) → AreTypes types → IsTrue (stmts_fine types globals a e ss) → Suits types (scope types globals a e) env → IsTypedOutcome types (scope types globals a e) (eff types ss env)
+    (types : Table) (globals : List Name) (a : AutomatonTree) (e : EntryTree) (ss : Stmts) (env : Env) → AreTypes types
+    → IsTrue (stmts_fine types types globals a e ss)
+    → Suits types (scope types types globals a e) env → IsTypedOutcome types (scope types types globals a e) (eff types ss env)
 
 -- the variable starts with a value of its type, or a fault
 abbrev pub StartIsTyped : Table → Env → VariableTree → Type 0
@@ -42,7 +46,9 @@ StartIsTyped types env v = (ty : ℕ) × (type_named types v.field.ty ≡ Some t
 -- over values that fit its formals, each variable of a fine automaton starts with a value of its type, or a fault
 abbrev pub StartsAnswer : Type 0
 StartsAnswer =
-    (types : Table) (globals : List Name) (a : AutomatonTree) (vs : List Val) → AreTypes types → IsTrue (automaton_fine types globals a) → Fit types a.formals vs → All (StartIsTyped types (values_of (field_names a.formals) vs)) a.variables
+    (types : Table) (globals : List Name) (a : AutomatonTree) (vs : List Val) → AreTypes types
+    → IsTrue (automaton_fine types types globals a) → Fit types a.formals vs
+    → All (StartIsTyped types (values_of (field_names a.formals) vs)) a.variables
 
 -- the argument has a value of some type, or a fault
 abbrev pub ArgumentIsTyped : Table → Expr → Type 0
@@ -51,4 +57,5 @@ ArgumentIsTyped types e = (ty : ℕ) × IsTypedAnswer types ty (val types e noth
 -- so has each argument of a fine instance
 abbrev pub ArgumentsAnswer : Type 0
 ArgumentsAnswer =
-    (types : Table) (before : SourceTree) (i : InstanceTree) → AreTypes types → IsTrue (instance_fine types before i) → All (ArgumentIsTyped types) i.arguments
+    (types : Table) (before : SourceTree) (i : InstanceTree) → AreTypes types → IsTrue (instance_fine types types before i)
+    → All (ArgumentIsTyped types) i.arguments

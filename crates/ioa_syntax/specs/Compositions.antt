@@ -4,7 +4,7 @@ use Rattle.std.specs.Str.{bytes_eq}
 use Rattle.ioa_value.specs.Actions.{Name}
 use Rattle.ioa_value.specs.Plain.{Val}
 use Rattle.ioa_value.specs.Table.{Table}
-use Rattle.ioa_syntax.specs.Tree.{AutomatonTree, InstanceTree, CompositionTree, automaton, composition, SourceTree}
+use Rattle.ioa_syntax.specs.Tree.{AutomatonTree, InstanceTree, CompositionTree, declared_type, automaton, composition, SourceTree}
 use Rattle.ioa_syntax.specs.Meaning.{Env}
 use Rattle.ioa_syntax.specs.Types.{types_of}
 use Rattle.ioa_syntax.specs.Instances.{Instance, component_of, argument_values, start_values, Fit, state_of}
@@ -12,11 +12,13 @@ use Rattle.ioa_syntax.specs.Components.{Component, Compatible}
 
 abbrev pub automata : SourceTree → List AutomatonTree
 automata [] = []
+automata (declared_type t ∷ ds) = automata ds
 automata (automaton a ∷ ds) = a ∷ automata ds
 automata (composition c ∷ ds) = automata ds
 
 abbrev pub compositions : SourceTree → List CompositionTree
 compositions [] = []
+compositions (declared_type t ∷ ds) = compositions ds
 compositions (automaton a ∷ ds) = compositions ds
 compositions (composition c ∷ ds) = c ∷ compositions ds
 

@@ -1,7 +1,7 @@
 -- How deep trees are: parentheses and operators are one deeper than the deepest part, and so is a choice than the deepest
 -- statement in it.
 use Rattle.std.specs.Prelude.{ℕ, ◌+◌, max, List, [], ◌∷◌, Option, Some, None}
-use Rattle.ioa_syntax.specs.Tree.{Expr, number, truth, named, parens, prefix, binary, VariableTree, ProposalTree, Stmt, assign, choose, Stmts, stop, seq, Arms, no_arm, arm, TransitionTree, AutomatonTree, InstanceTree, CompositionTree, DeclarationTree, automaton, composition, SourceTree}
+use Rattle.ioa_syntax.specs.Tree.{Expr, number, truth, named, parens, prefix, binary, empty, VariableTree, ProposalTree, Stmt, assign, choose, Stmts, stop, seq, Arms, no_arm, arm, TransitionTree, AutomatonTree, InstanceTree, CompositionTree, DeclarationTree, declared_type, automaton, composition, SourceTree}
 
 abbrev pub depth_of : Expr → ℕ
 depth_of (number n) = 1
@@ -10,6 +10,7 @@ depth_of (named n) = 1
 depth_of (parens e) = depth_of e + 1
 depth_of (prefix o e) = depth_of e + 1
 depth_of (binary l o r) = max (depth_of l) (depth_of r) + 1
+depth_of (empty n) = 1
 
 -- the greatest that f gives, or 0
 abbrev pub deepest : {A : Type 0} → (A → ℕ) → List A → ℕ
@@ -68,6 +69,7 @@ deep_composition c = deepest deep_instance c.instances
 
 -- the deepest expression or statement of a declaration
 abbrev pub deep : DeclarationTree → ℕ
+deep (declared_type t) = 0
 deep (automaton a) = deep_automaton a
 deep (composition c) = deep_composition c
 

@@ -8,8 +8,9 @@ use Rattle.ioa_value.specs.Actions.{Name}
 use Rattle.ioa_syntax.specs.declared.tree.Kind.{Kind}
 use Rattle.ioa_syntax.specs.declared.tree.Kind.TheVariants.{Input, Output, Internal}
 use Rattle.ioa_syntax.specs.declared.tree.Infix.TheVariants.{Operator}
-use Rattle.ioa_syntax.specs.Operators.{stands_before, stands_between, level_of, left_of, right_of, operator_word}
-use Rattle.ioa_syntax.specs.Tree.{Expr, number, truth, named, parens, prefix, binary, FieldTree, PositionTree, typed, EntryTree, VariableTree, ProposalTree, Stmt, assign, choose, Stmts, stop, seq, Arms, no_arm, arm, TransitionTree, AutomatonTree, InstanceTree, CompositionTree, DeclarationTree, automaton, composition, SourceTree}
+use Rattle.ioa_syntax.specs.Operators.{stands_before, stands_between, encloses, level_of, left_of, right_of, operator_word}
+use Rattle.ioa_syntax.specs.Tree as tree
+use Rattle.ioa_syntax.specs.Tree.{Expr, number, truth, named, parens, prefix, binary, FieldTree, PositionTree, typed, EntryTree, VariableTree, ProposalTree, Stmt, assign, choose, Stmts, stop, seq, Arms, no_arm, arm, TransitionTree, AutomatonTree, InstanceTree, CompositionTree, FormTree, enumeration, tuple, sequence, TypeTree, DeclarationTree, declared_type, automaton, composition, SourceTree}
 
 abbrev pub Language : Type 1
 Language = List Tok → Type 0
@@ -70,6 +71,14 @@ abbrev pub many : {A : Type 0} → (A → Language) → List A → Language
 many L [] = nothing
 many L (x ∷ xs) = L x ▹ many L xs
 
+-- between parentheses
+abbrev pub enclosed : Language → Language
+enclosed L = word terminals.Open ▹ (L ▹ word terminals.Close)
+
+-- one item or more between braces, with commas between them
+abbrev pub braced : {A : Type 0} → (A → Language) → List A → Language
+braced L xs = word terminals.OpenBrace ▹ (separated terminals.Comma L xs ▹ word terminals.CloseBrace)
+
 -- ---- expressions
 
 -- an expression whose operators outside parentheses have at least this level
@@ -78,9 +87,14 @@ SpellsExpr k (number n) = single (tokens.number n)
 SpellsExpr k (truth true) = word terminals.True
 SpellsExpr k (truth false) = word terminals.False
 SpellsExpr k (named n) = called n
-SpellsExpr k (parens e) = word terminals.Open ▹ (SpellsExpr 0 e ▹ word terminals.Close)
-SpellsExpr k (prefix o e) = λ ts. IsTrue (stands_before o) × (k ≤ level_of (Operator o)) × (word (operator_word (Operator o)) ▹ SpellsExpr (right_of (Operator o)) e) ts
-SpellsExpr k (binary l o r) = λ ts. IsTrue (stands_between o) × (k ≤ level_of o) × (SpellsExpr (left_of o) l ▹ (word (operator_word o) ▹ SpellsExpr (right_of o) r)) ts
+SpellsExpr k (parens e) = enclosed (SpellsExpr 0 e)
+SpellsExpr k (prefix o e) = λ ts.
+    (IsTrue (stands_before o) × (k ≤ level_of (Operator o)) × (word (operator_word (Operator o)) ▹ SpellsExpr (right_of (Operator o)) e) ts)
+    ⊎ ((encloses (Operator o) ≡ 1) × (word (operator_word (Operator o)) ▹ enclosed (SpellsExpr 0 e)) ts)
+SpellsExpr k (binary l o r) = λ ts.
+    (IsTrue (stands_between o) × (k ≤ level_of o) × (SpellsExpr (left_of o) l ▹ (word (operator_word o) ▹ SpellsExpr (right_of o) r)) ts)
+    ⊎ ((encloses o ≡ 2) × (word (operator_word o) ▹ enclosed (SpellsExpr 0 l ▹ (word terminals.Comma ▹ SpellsExpr 0 r))) ts)
+SpellsExpr k (tree.empty n) = word terminals.Empty ▹ enclosed (called n)
 
 -- ---- automata
 
@@ -170,9 +184,21 @@ SpellsInstances (i ∷ j ∷ rest) = empty
 abbrev pub SpellsComposition : CompositionTree → Language
 SpellsComposition c = called c.name ▹ (word terminals.Components ▹ SpellsInstances c.instances)
 
+-- ---- types
+
+abbrev pub SpellsForm : FormTree → Language
+SpellsForm (enumeration ns) = word terminals.Enum ▹ braced called ns
+SpellsForm (tuple fs) = word terminals.Tuple ▹ braced SpellsField fs
+SpellsForm (sequence most of) = word terminals.Seq ▹ (single (tokens.number most) ▹ (word terminals.Of ▹ called of))
+
+-- after the word `type`
+abbrev pub SpellsType : TypeTree → Language
+SpellsType t = called t.name ▹ (word terminals.Equal ▹ SpellsForm t.form)
+
 -- ---- sources
 
 abbrev pub SpellsDeclaration : DeclarationTree → Language
+SpellsDeclaration (declared_type t) = word terminals.Type ▹ SpellsType t
 SpellsDeclaration (automaton a) = word terminals.Automaton ▹ SpellsAutomaton a
 SpellsDeclaration (composition c) = word terminals.Composition ▹ SpellsComposition c
 

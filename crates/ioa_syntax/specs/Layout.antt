@@ -1,5 +1,5 @@
 -- The text that `print` writes: after each token stands a space, or LF at the end of a line.
-use Rattle.std.specs.Prelude.{ℕ, true, false, List, [], ◌∷◌, ◌++◌, Option, Some, None}
+use Rattle.std.specs.Prelude.{ℕ, true, false, if◌then◌else◌, List, [], ◌∷◌, ◌++◌, Option, Some, None}
 use Rattle.std.specs.List.{flat_map}
 use Rattle.std.specs.Fmt.{decimal}
 use Rattle.ioa_value.specs.declared.terminal.Terminal.{Terminal}
@@ -7,9 +7,9 @@ use Rattle.ioa_value.specs.declared.terminal.Terminal.TheVariants as terminals
 use Rattle.ioa_value.specs.Spelling.{spelling_of}
 use Rattle.ioa_value.specs.Actions.{Name}
 use Rattle.ioa_syntax.specs.Tree as tree
-use Rattle.ioa_syntax.specs.Tree.{Expr, truth, named, parens, prefix, binary, FieldTree, PositionTree, typed, EntryTree, VariableTree, ProposalTree, Stmt, assign, choose, Stmts, stop, seq, Arms, no_arm, arm, TransitionTree, AutomatonTree, InstanceTree, CompositionTree, DeclarationTree, automaton, composition, SourceTree}
+use Rattle.ioa_syntax.specs.Tree.{Expr, truth, named, parens, prefix, binary, FieldTree, PositionTree, typed, EntryTree, VariableTree, ProposalTree, Stmt, assign, choose, Stmts, stop, seq, Arms, no_arm, arm, TransitionTree, AutomatonTree, InstanceTree, CompositionTree, FormTree, enumeration, tuple, sequence, TypeTree, DeclarationTree, declared_type, automaton, composition, SourceTree}
 use Rattle.ioa_syntax.specs.declared.tree.Infix.TheVariants.{Operator}
-use Rattle.ioa_syntax.specs.Operators.{operator_word}
+use Rattle.ioa_syntax.specs.Operators.{operator_word, stands_around}
 use Rattle.ioa_syntax.specs.Grammar.{kind_word}
 
 abbrev pub space : ℕ
@@ -62,14 +62,23 @@ before_option (Some x) = space
 
 -- ---- expressions, with the byte after the last token
 
+-- between parentheses
+abbrev pub text_enclosed : ℕ → List ℕ → List ℕ
+text_enclosed b text = text_word space terminals.Open ++ (text ++ text_word b terminals.Close)
+
 abbrev pub text_expr : ℕ → Expr → List ℕ
 text_expr b (tree.number n) = text_number b n
 text_expr b (truth true) = text_word b terminals.True
 text_expr b (truth false) = text_word b terminals.False
 text_expr b (named n) = text_name b n
-text_expr b (parens e) = text_word space terminals.Open ++ (text_expr space e ++ text_word b terminals.Close)
-text_expr b (prefix o e) = text_word space (operator_word (Operator o)) ++ text_expr b e
-text_expr b (binary l o r) = text_expr space l ++ (text_word space (operator_word o) ++ text_expr b r)
+text_expr b (parens e) = text_enclosed b (text_expr space e)
+text_expr b (prefix o e) =
+    text_word space (operator_word (Operator o)) ++ (if stands_around (Operator o) then text_enclosed b (text_expr space e) else text_expr b e)
+text_expr b (binary l o r) =
+    if stands_around o
+    then text_word space (operator_word o) ++ text_enclosed b (text_expr space l ++ (text_word space terminals.Comma ++ text_expr space r))
+    else text_expr space l ++ (text_word space (operator_word o) ++ text_expr b r)
+text_expr b (tree.empty n) = text_word space terminals.Empty ++ text_enclosed b (text_name space n)
 
 abbrev pub text_option : List ℕ → Option Expr → List ℕ
 text_option w None = []
@@ -145,6 +154,20 @@ text_behaviour a =
 abbrev pub text_automaton : AutomatonTree → List ℕ
 text_automaton a = text_signature a ++ text_behaviour a
 
+-- ---- types
+
+-- a list in braces, at the end of a line
+abbrev pub text_braces : {A : Type 0} → (A → List ℕ) → List A → List ℕ
+text_braces f xs = text_word space terminals.OpenBrace ++ (text_list terminals.Comma f xs ++ text_word line terminals.CloseBrace)
+
+abbrev pub text_form : FormTree → List ℕ
+text_form (enumeration ns) = text_word space terminals.Enum ++ text_braces (text_name space) ns
+text_form (tuple fs) = text_word space terminals.Tuple ++ text_braces (text_field space) fs
+text_form (sequence most of) = text_word space terminals.Seq ++ (text_number space most ++ (text_word space terminals.Of ++ text_name line of))
+
+abbrev pub text_type : TypeTree → List ℕ
+text_type t = text_name space t.name ++ (text_word space terminals.Equal ++ text_form t.form)
+
 -- ---- compositions and sources
 
 abbrev pub text_instance : InstanceTree → List ℕ
@@ -154,6 +177,7 @@ abbrev pub text_composition : CompositionTree → List ℕ
 text_composition c = text_name space c.name ++ (text_word line terminals.Components ++ text_all text_instance c.instances)
 
 abbrev pub text_declaration : DeclarationTree → List ℕ
+text_declaration (declared_type t) = text_word space terminals.Type ++ text_type t
 text_declaration (automaton a) = text_word space terminals.Automaton ++ text_automaton a
 text_declaration (composition c) = text_word space terminals.Composition ++ text_composition c
 

@@ -9,8 +9,8 @@ pub mod Grammar
 pub mod Source
 pub mod Layout
 pub mod Reading
-pub mod Meaning
 pub mod Types
+pub mod Meaning
 pub mod Components
 pub mod Steps
 pub mod Runs

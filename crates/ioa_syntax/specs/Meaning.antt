@@ -9,9 +9,10 @@ use Rattle.ioa_value.specs.Table.{Table}
 use Rattle.ioa_value.specs.Operators.{Answer, gives, faults, nothing, operate}
 use Rattle.ioa_syntax.specs.declared.tree.Infix.{Infix}
 use Rattle.ioa_syntax.specs.declared.tree.Infix.TheVariants.{Operator, And, Or, Implies}
-use Rattle.ioa_syntax.specs.Tree.{Expr, number, truth, named, parens, prefix, binary, Stmt, assign, choose, Stmts, stop, seq, Arms, no_arm, arm}
+use Rattle.ioa_syntax.specs.Tree.{Expr, number, truth, named, parens, prefix, binary, empty, Stmt, assign, choose, Stmts, stop, seq, Arms, no_arm, arm}
+use Rattle.ioa_syntax.specs.Types.{constant, empty_of}
 
--- what each name stands for
+-- what each name stands for, but for those of enumerations
 abbrev pub Env : Type 0
 Env = Name → Option Val
 
@@ -66,14 +67,16 @@ combined types And x second = decided x second (gives (truth_value false))
 combined types Or x second = decided x (gives (truth_value true)) second
 combined types Implies x second = decided x second (gives (truth_value true))
 
--- the value of an expression, or its fault: operands go left to right and the first fault wins
+-- the value of an expression, or its fault: operands go left to right and the first fault wins; a name that the environment
+-- does not know is an enumeration's
 abbrev pub val : Table → Expr → Env → Answer
 val types (number n) env = gives (num (pos n))
 val types (truth b) env = gives (truth_value b)
-val types (named x) env = value_of (env x)
+val types (named x) env = value_of (or_else (env x) (constant types x))
 val types (parens e) env = val types e env
 val types (prefix o e) env = then_value (val types e env) (λ x. operate types o (x ∷ []))
 val types (binary l o r) env = then_value (val types l env) (λ x. combined types o x (val types r env))
+val types (empty x) env = value_of (empty_of types x)
 
 -- what statements leave: an environment, a fault, or nothing, where a name or a value is missing
 pub data Outcome : Type 0 where

@@ -3,7 +3,7 @@ use Rattle.std.specs.Prelude.{List, [], ◌∷◌, ◌++◌, Option, Some, None,
 use Rattle.std.specs.List.{flat_map}
 use Rattle.ioa_value.specs.Actions.{Name}
 use Rattle.ioa_value.specs.Names.{IsName}
-use Rattle.ioa_syntax.specs.Tree.{Expr, number, truth, named, parens, prefix, binary, FieldTree, PositionTree, typed, EntryTree, VariableTree, ProposalTree, Stmt, assign, choose, Stmts, stop, seq, Arms, no_arm, arm, TransitionTree, AutomatonTree, InstanceTree, CompositionTree, DeclarationTree, automaton, composition, SourceTree}
+use Rattle.ioa_syntax.specs.Tree.{Expr, number, truth, named, parens, prefix, binary, empty, FieldTree, PositionTree, typed, EntryTree, VariableTree, ProposalTree, Stmt, assign, choose, Stmts, stop, seq, Arms, no_arm, arm, TransitionTree, AutomatonTree, InstanceTree, CompositionTree, FormTree, enumeration, tuple, sequence, TypeTree, DeclarationTree, declared_type, automaton, composition, SourceTree}
 
 abbrev pub names_of_expr : Expr → List Name
 names_of_expr (number n) = []
@@ -12,6 +12,7 @@ names_of_expr (named x) = x ∷ []
 names_of_expr (parens e) = names_of_expr e
 names_of_expr (prefix o e) = names_of_expr e
 names_of_expr (binary l o r) = names_of_expr l ++ names_of_expr r
+names_of_expr (empty n) = n ∷ []
 
 abbrev pub names_of_option : Option Expr → List Name
 names_of_option None = []
@@ -59,7 +60,16 @@ names_of_instance i = i.name ∷ i.automaton ∷ flat_map names_of_expr i.argume
 abbrev pub names_of_composition : CompositionTree → List Name
 names_of_composition c = c.name ∷ flat_map names_of_instance c.instances
 
+abbrev pub names_of_form : FormTree → List Name
+names_of_form (enumeration ns) = ns
+names_of_form (tuple fs) = flat_map names_of_field fs
+names_of_form (sequence most of) = of ∷ []
+
+abbrev pub names_of_type : TypeTree → List Name
+names_of_type t = t.name ∷ names_of_form t.form
+
 abbrev pub names_of_declaration : DeclarationTree → List Name
+names_of_declaration (declared_type t) = names_of_type t
 names_of_declaration (automaton a) = names_of_automaton a
 names_of_declaration (composition c) = names_of_composition c
 

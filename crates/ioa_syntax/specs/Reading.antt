@@ -1,5 +1,5 @@
 -- What the parser does, as a function on lists of tokens: an outcome is what was read and the tokens left, or a fault.
-use Rattle.std.specs.Prelude.{◌≡◌, ℕ, zero, suc, ◌-◌, Bool, true, false, ◌&&◌, ◌||◌, if◌then◌else◌, find, nat_lt, nat_le, is_some, List, [], ◌∷◌, ◌++◌, length, drop, Option, Some, None, Result, Ok, Err}
+use Rattle.std.specs.Prelude.{◌≡◌, ℕ, zero, suc, ◌-◌, ◌==◌, Bool, true, false, ◌&&◌, ◌||◌, if◌then◌else◌, find, nat_lt, nat_le, is_some, List, [], ◌∷◌, ◌++◌, length, drop, Option, Some, None, Result, Ok, Err}
 use denote.Enum.Bare.{sameb}
 use Rattle.ioa_value.specs.contracts.terminal.Terminal.{the_type}
 use Rattle.ioa_value.specs.declared.terminal.Terminal.{Terminal}
@@ -17,11 +17,11 @@ use Rattle.ioa_syntax.specs.declared.fault.ReadError.TheVariants as errors
 use Rattle.ioa_syntax.specs.declared.tree.Kind.{Kind}
 use Rattle.ioa_syntax.specs.declared.tree.Kind.TheVariants as kinds
 use Rattle.ioa_syntax.specs.Tree as tree
-use Rattle.ioa_syntax.specs.Tree.{Expr, truth, named, parens, prefix, binary, FieldTree, PositionTree, typed, EntryTree, VariableTree, ProposalTree, Stmt, assign, choose, Stmts, stop, seq, Arms, no_arm, arm, TransitionTree, AutomatonTree, InstanceTree, CompositionTree, DeclarationTree, automaton, composition, SourceTree}
+use Rattle.ioa_syntax.specs.Tree.{Expr, truth, named, parens, prefix, binary, FieldTree, PositionTree, typed, EntryTree, VariableTree, ProposalTree, Stmt, assign, choose, Stmts, stop, seq, Arms, no_arm, arm, TransitionTree, AutomatonTree, InstanceTree, CompositionTree, FormTree, enumeration, tuple, TypeTree, DeclarationTree, declared_type, automaton, composition, SourceTree}
 use Rattle.ioa_syntax.specs.Depth.{depth_of}
 use Rattle.ioa_syntax.specs.declared.tree.Infix.{Infix}
 use Rattle.ioa_syntax.specs.declared.tree.Infix.TheVariants.{Operator}
-use Rattle.ioa_syntax.specs.Operators.{infixes, prefixes, operator_word, level_of, right_of, after_of, tightest}
+use Rattle.ioa_syntax.specs.Operators.{infixes, prefixes, enclosing, encloses, operator_word, level_of, right_of, after_of, tightest}
 
 abbrev pub Outcome : Type 0 → Type 0
 Outcome A = Result (A × List Tok) Fault
@@ -93,6 +93,12 @@ a_name (number n ∷ ts) = Err (Syntax (length (number n ∷ ts)))
 a_name (name n ∷ ts) = Ok (n, ts)
 a_name (terminal t ∷ ts) = Err (Syntax (length (terminal t ∷ ts)))
 
+unfoldable pub a_number : Reader ℕ
+a_number [] = Err (Syntax 0)
+a_number (number n ∷ ts) = Ok (n, ts)
+a_number (name n ∷ ts) = Err (Syntax (length (name n ∷ ts)))
+a_number (terminal t ∷ ts) = Err (Syntax (length (terminal t ∷ ts)))
+
 unfoldable pub kind_of : Terminal → Option Kind
 kind_of terminals.Input = Some kinds.Input
 kind_of terminals.Output = Some kinds.Output
@@ -145,6 +151,18 @@ separated separator item ts = items_from always separator item (length ts) [] ts
 unfoldable pub terminated : {A : Type 0} → (List Tok → Bool) → Terminal → Reader A → Reader (List A)
 terminated begins separator item ts = items_from begins separator item (length ts) [] ts
 
+-- what stands between parentheses, after the first of them
+unfoldable pub closing : {A : Type 0} → Reader A → Reader A
+closing p = built (λ p. p.0) (p ▸ sign terminals.Close)
+
+-- what stands between parentheses
+unfoldable pub enclosed : {A : Type 0} → Reader A → Reader A
+enclosed p = built (λ p. p.1) (sign terminals.Open ▸ closing p)
+
+-- one item or more between braces
+unfoldable pub braced : {A : Type 0} → Reader A → Reader (List A)
+braced p = built (λ p. p.1.0) (sign terminals.OpenBrace ▸ (separated terminals.Comma p ▸ sign terminals.CloseBrace))
+
 -- items as long as the tokens begin one
 unfoldable pub many_from : {A : Type 0} → (List Tok → Bool) → Reader A → ℕ → List A → Reader (List A)
 many_from begins item zero found ts = Ok (found, ts)
@@ -195,19 +213,70 @@ allowed least below (Some o) = if nat_le least (level_of o) && nat_lt (level_of 
 unfoldable pub operator_at : ℕ → ℕ → List Tok → Option Infix
 operator_at least below ts = allowed least below (operator_in (terminal_at ts))
 
--- an operand that begins with this word or sign
-unfoldable pub opened : Reader Expr → Terminal → Reader Expr
-opened inner terminals.True ts = Ok (truth true, ts)
-opened inner terminals.False ts = Ok (truth false, ts)
-opened inner terminals.Open ts = built (λ p. parens p.0) (inner ▸ sign terminals.Close) ts
-opened inner _ ts = Err (Syntax (suc (length ts)))
+-- the operator that is written around expressions with this word
+unfoldable pub around_of : Terminal → Option Op
+around_of t = find (λ o. same_terminal (operator_word (Operator o)) t) enclosing
+
+-- how an operand begins: all of a number, a truth value or a name, and else the sign or word that comes first
+pub data Start : Type 0 where
+  with_number : ℕ → Start
+  with_truth : Bool → Start
+  with_name : actions.Name → Start
+  with_open : Start
+  with_empty : Start
+  with_operator : Op → Start
+
+abbrev pub around_start : Option Op → Option Start
+around_start None = None
+around_start (Some o) = Some (with_operator o)
+
+unfoldable pub start_of : Terminal → Option Start
+start_of terminals.True = Some (with_truth true)
+start_of terminals.False = Some (with_truth false)
+start_of terminals.Open = Some with_open
+start_of terminals.Empty = Some with_empty
+start_of t = around_start (around_of t)
+
+abbrev pub start_in : Tok → Option Start
+start_in (number n) = Some (with_number n)
+start_in (name n) = Some (with_name n)
+start_in (terminal t) = start_of t
+
+unfoldable pub start_at : List Tok → Option Start
+start_at [] = None
+start_at (x ∷ ts) = start_in x
+
+-- after the word of an operator that is written around one expression, or around two
+unfoldable pub around_one : Reader Expr → Op → Reader Expr
+around_one inner o = built (prefix o) (enclosed inner)
+
+unfoldable pub around_two : Reader Expr → Op → Reader Expr
+around_two inner o = built (λ p. binary p.0 (Operator o) p.1.1) (enclosed (inner ▸ (sign terminals.Comma ▸ inner)))
+
+unfoldable pub around : Reader Expr → Op → Reader Expr
+around inner o ts = if encloses (Operator o) == 1 then around_one inner o ts else around_two inner o ts
+
+-- after the word `empty`
+unfoldable pub an_empty : Reader Expr
+an_empty = built tree.empty (enclosed a_name)
+
+-- the rest of an operand that begins so
+abbrev pub operand_after : Reader Expr → Start → Reader Expr
+operand_after inner (with_number n) ts = Ok (tree.number n, ts)
+operand_after inner (with_truth b) ts = Ok (truth b, ts)
+operand_after inner (with_name n) ts = Ok (named n, ts)
+operand_after inner with_open ts = built parens (closing inner) ts
+operand_after inner with_empty ts = an_empty ts
+operand_after inner (with_operator o) ts = around inner o ts
+
+-- what comes after the first token, as that says
+abbrev pub begun : {A B : Type 0} → (A → Reader B) → List Tok → Option A → Outcome B
+begun p ts None = Err (Syntax (length ts))
+begun p ts (Some x) = p x (rest ts)
 
 -- an operand, whose inner expressions are read so
 unfoldable pub operand : Reader Expr → Reader Expr
-operand inner [] = Err (Syntax 0)
-operand inner (number n ∷ ts) = Ok (tree.number n, ts)
-operand inner (name n ∷ ts) = Ok (named n, ts)
-operand inner (terminal t ∷ ts) = opened inner t ts
+operand inner ts = begun (operand_after inner) ts (start_at ts)
 
 -- expr: an expression of at most depth levels, at the level that it is given
 module _ (depth : ℕ) (expr : ℕ → Reader Expr) where
@@ -251,10 +320,6 @@ expression depth = expr depth 0
 
 unfoldable pub field : Reader FieldTree
 field = built (λ p. record { name = p.0; ty = p.1.1 }) (a_name ▸ (sign terminals.Colon ▸ a_name))
-
--- what stands between parentheses, after the first of them
-unfoldable pub closing : {A : Type 0} → Reader A → Reader A
-closing p = built (λ p. p.0) (p ▸ sign terminals.Close)
 
 unfoldable pub fields : Reader (List FieldTree)
 fields = closing (separated terminals.Comma field)
@@ -366,8 +431,36 @@ a_composition depth = built (λ p. record { name = p.0; instances = p.1.1 }) (a_
 unfoldable pub composed : ℕ → Reader DeclarationTree
 composed depth = built (λ p. composition p.1) (sign terminals.Composition ▸ a_composition depth)
 
+-- after the words `enum`, `tuple` and `seq`
+unfoldable pub an_enumeration : Reader FormTree
+an_enumeration = built enumeration (braced a_name)
+
+unfoldable pub a_tuple : Reader FormTree
+a_tuple = built tuple (braced field)
+
+unfoldable pub a_sequence : Reader FormTree
+a_sequence = built (λ p. tree.sequence p.0 p.1.1) (a_number ▸ (sign terminals.Of ▸ a_name))
+
+unfoldable pub sequence_form : Reader FormTree
+sequence_form = built (λ p. p.1) (sign terminals.Seq ▸ a_sequence)
+
+unfoldable pub compound_form : Reader FormTree
+compound_form ts = if sees terminals.Tuple ts then a_tuple (after terminals.Tuple ts) else sequence_form (after terminals.Tuple ts)
+
+unfoldable pub type_form : Reader FormTree
+type_form ts = if sees terminals.Enum ts then an_enumeration (after terminals.Enum ts) else compound_form (after terminals.Enum ts)
+
+-- after the word `type`
+unfoldable pub a_type : Reader TypeTree
+a_type = built (λ p. record { name = p.0; form = p.1.1 }) (a_name ▸ (sign terminals.Equal ▸ type_form))
+
+-- an automaton or a composition
+unfoldable pub machine : ℕ → Reader DeclarationTree
+machine depth ts =
+    if sees terminals.Automaton ts then built automaton (an_automaton depth) (after terminals.Automaton ts) else composed depth (after terminals.Automaton ts)
+
 unfoldable pub declaration : ℕ → Reader DeclarationTree
-declaration depth ts = if sees terminals.Automaton ts then built automaton (an_automaton depth) (after terminals.Automaton ts) else composed depth (after terminals.Automaton ts)
+declaration depth ts = if sees terminals.Type ts then built declared_type a_type (after terminals.Type ts) else machine depth (after terminals.Type ts)
 
 -- ---- sources. A refusal names a line: lines gives that of the token before whose end so many tokens are left.
 

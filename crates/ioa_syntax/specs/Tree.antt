@@ -13,6 +13,7 @@ pub data Expr : Type 0 where
   parens : Expr → Expr
   prefix : Op → Expr → Expr
   binary : Expr → Infix → Expr → Expr
+  empty : Name → Expr
 
 -- a name and the name of its type: a formal, a variable or a parameter
 pub record FieldTree : Type 0 where
@@ -78,7 +79,18 @@ pub record CompositionTree : Type 0 where
   pub name : Name
   pub instances : List InstanceTree
 
+-- what a type is declared to be: the names of an enumeration, the fields of a tuple, or at most so many items of a type
+pub data FormTree : Type 0 where
+  enumeration : List Name → FormTree
+  tuple : List FieldTree → FormTree
+  sequence : ℕ → Name → FormTree
+
+pub record TypeTree : Type 0 where
+  pub name : Name
+  pub form : FormTree
+
 pub data DeclarationTree : Type 0 where
+  declared_type : TypeTree → DeclarationTree
   automaton : AutomatonTree → DeclarationTree
   composition : CompositionTree → DeclarationTree
 

@@ -20,9 +20,12 @@ use Rattle.ioa_syntax.specs.declared.tree.Transition.{Transition}
 use Rattle.ioa_syntax.specs.declared.tree.Automaton.{Automaton}
 use Rattle.ioa_syntax.specs.declared.tree.Instance.{Instance}
 use Rattle.ioa_syntax.specs.declared.tree.Assembly.{Assembly}
+use Rattle.ioa_syntax.specs.declared.tree.TypeForm.{TypeForm}
+use Rattle.ioa_syntax.specs.declared.tree.TypeForm.TheVariants as forms
+use Rattle.ioa_syntax.specs.declared.tree.TypeDeclaration.{TypeDeclaration}
 use Rattle.ioa_syntax.specs.declared.tree.Declaration.{Declaration}
 use Rattle.ioa_syntax.specs.declared.tree.Declaration.TheVariants as declarations
-use Rattle.ioa_syntax.specs.Tree.{Expr, number, truth, named, parens, prefix, binary, FieldTree, PositionTree, typed, EntryTree, VariableTree, ProposalTree, Stmt, assign, choose, Stmts, stop, seq, Arms, no_arm, arm, TransitionTree, AutomatonTree, InstanceTree, CompositionTree, DeclarationTree, automaton, composition, SourceTree}
+use Rattle.ioa_syntax.specs.Tree.{Expr, number, truth, named, parens, prefix, binary, empty, FieldTree, PositionTree, typed, EntryTree, VariableTree, ProposalTree, Stmt, assign, choose, Stmts, stop, seq, Arms, no_arm, arm, TransitionTree, AutomatonTree, InstanceTree, CompositionTree, FormTree, enumeration, tuple, sequence, TypeTree, DeclarationTree, declared_type, automaton, composition, SourceTree}
 
 abbrev pub name_of : Name → actions.Name
 name_of n = string_bytes n.text
@@ -33,7 +36,8 @@ expr_of (expressions.Truth b line) = truth b
 expr_of (expressions.Name n) = named (name_of n)
 expr_of (expressions.Parentheses' p e line) = parens (expr_of e)
 expr_of (expressions.Prefix' o p e line) = prefix o (expr_of e)
-expr_of (expressions.Binary' p l o q r) = binary (expr_of l) o (expr_of r)
+expr_of (expressions.Binary' p l o q r line) = binary (expr_of l) o (expr_of r)
+expr_of (expressions.Empty n line) = empty (name_of n)
 
 abbrev pub field_of : Field → FieldTree
 field_of f = record { name = name_of f.name; ty = name_of f.ty }
@@ -100,7 +104,16 @@ instance_of i = record { name = name_of i.name; automaton = name_of i.automaton;
 abbrev pub assembly_of : Assembly → CompositionTree
 assembly_of c = record { name = name_of c.name; instances = map instance_of c.instances.items }
 
+abbrev pub type_form_of : TypeForm → FormTree
+type_form_of (forms.Enumeration ns) = enumeration (map name_of ns.items)
+type_form_of (forms.Tuple fs) = tuple (map field_of fs.items)
+type_form_of (forms.Sequence most of line) = sequence most (name_of of)
+
+abbrev pub type_declaration_of : TypeDeclaration → TypeTree
+type_declaration_of t = record { name = name_of t.name; form = type_form_of t.form }
+
 abbrev pub declaration_of : Declaration → DeclarationTree
+declaration_of (declarations.Type t) = declared_type (type_declaration_of t)
 declaration_of (declarations.Automaton a) = automaton (automaton_of a)
 declaration_of (declarations.Composition c) = composition (assembly_of c)
 

@@ -5,14 +5,18 @@ use Rattle.std.specs.Option.{option_map_or}
 use Rattle.std.specs.Str.{bytes_eq}
 use Rattle.ioa_value.specs.Actions.{Name}
 use Rattle.ioa_value.specs.Arithmetic.{fits}
-use Rattle.ioa_value.specs.Operators.{op_type}
-use Rattle.ioa_value.specs.Table.{Table, basic, type_named}
+use Rattle.ioa_value.specs.Operators.{op_type, of_two, given}
+pub use Rattle.ioa_value.specs.Table.{contains, distinct, apart}
+use Rattle.ioa_value.specs.Table.{Table, Shape, truths, numbers, names, fields, basic, shape_at, type_named}
+use Rattle.ioa_value.specs.Table.{sequence as sequence_shape}
+use Rattle.ioa_value.specs.Widths.{widths}
 use Rattle.ioa_syntax.specs.declared.tree.Infix.{Infix}
 use Rattle.ioa_syntax.specs.declared.tree.Infix.TheVariants.{Operator, And, Or, Implies}
 use Rattle.ioa_syntax.specs.declared.tree.Kind.{Kind}
 use Rattle.ioa_syntax.specs.declared.tree.Kind.TheVariants.{Input, Output, Internal}
-use Rattle.ioa_syntax.specs.Tree.{Expr, number, truth, named, parens, prefix, binary, FieldTree, PositionTree, typed, EntryTree, VariableTree, ProposalTree, Stmt, assign, choose, Stmts, stop, seq, Arms, no_arm, arm, TransitionTree, AutomatonTree, InstanceTree, CompositionTree, DeclarationTree, automaton, composition, SourceTree}
-use Rattle.ioa_syntax.specs.Types.{types_of}
+use Rattle.ioa_syntax.specs.Tree.{Expr, number, truth, named, parens, prefix, binary, empty, FieldTree, PositionTree, typed, EntryTree, VariableTree, ProposalTree, Stmt, assign, choose, Stmts, stop, seq, Arms, no_arm, arm, TransitionTree, AutomatonTree, InstanceTree, CompositionTree, FormTree, enumeration, tuple, sequence, TypeTree, DeclarationTree, declared_type, automaton, composition, SourceTree}
+use Rattle.ioa_syntax.specs.Meaning.{or_else}
+use Rattle.ioa_syntax.specs.Types.{types_of, sequence_named, constant_type}
 use Rattle.ioa_value.specs.declared.limits.Limits.{Limits}
 use Rattle.ioa_value.specs.declared.limits.TheConstants.{LIMITS}
 use Rattle.ioa_syntax.specs.Instances.{field_names, variable_names, position_name}
@@ -36,10 +40,7 @@ one_type None f = None
 
 -- two truth values give one
 abbrev pub of_truths : List ℕ → Option ℕ
-of_truths (a ∷ b ∷ []) = if (a == 0) && (b == 0) then Some 0 else None
-of_truths [] = None
-of_truths (a ∷ []) = None
-of_truths (a ∷ b ∷ c ∷ rest) = None
+of_truths tys = of_two (λ a b. given 0 ((a == 0) && (b == 0))) tys
 
 -- the type of what stands for operands of these types
 abbrev pub infix_type : Table → Infix → List ℕ → Option ℕ
@@ -48,14 +49,15 @@ infix_type types And tys = of_truths tys
 infix_type types Or tys = of_truths tys
 infix_type types Implies tys = of_truths tys
 
--- the type of an expression, where it has one
-abbrev pub type_of : Table → Context → Expr → Option ℕ
-type_of types c (number n) = if fits (pos n) then Some 1 else None
-type_of types c (truth b) = Some 0
-type_of types c (named x) = type_in c x
-type_of types c (parens e) = type_of types c e
-type_of types c (prefix o e) = one_type (type_of types c e) (op_type types o)
-type_of types c (binary l o r) = both_types (type_of types c l) (type_of types c r) (infix_type types o)
+-- the type of an expression, where it has one: its names are those of the context and of enumerations among the earlier types
+abbrev pub type_of : Table → Table → Context → Expr → Option ℕ
+type_of types early c (number n) = if fits (pos n) then Some 1 else None
+type_of types early c (truth b) = Some 0
+type_of types early c (named x) = or_else (type_in c x) (constant_type early x)
+type_of types early c (parens e) = type_of types early c e
+type_of types early c (prefix o e) = one_type (type_of types early c e) (op_type types o)
+type_of types early c (binary l o r) = both_types (type_of types early c l) (type_of types early c r) (infix_type types o)
+type_of types early c (empty x) = sequence_named early x
 
 abbrev pub is_some_of : Option ℕ → ℕ → Bool
 is_some_of o ty = option_map_or (λ t. t == ty) o false
@@ -66,28 +68,29 @@ same_type (Some a) o = is_some_of o a
 same_type None o = false
 
 -- the expression has this type
-abbrev pub has_ty : Table → Context → Expr → ℕ → Bool
-has_ty types c e ty = is_some_of (type_of types c e) ty
-
-abbrev pub contains : List Name → Name → Bool
-contains ns x = list_any (λ n. bytes_eq n x) ns
-
--- no name stands twice
-abbrev pub distinct : List Name → Bool
-distinct [] = true
-distinct (n ∷ ns) = not (contains ns n) && distinct ns
-
--- no name of the first list is one of the second
-abbrev pub apart : List Name → List Name → Bool
-apart ns ms = list_all (λ n. not (contains ms n)) ns
+abbrev pub has_ty : Table → Table → Context → Expr → ℕ → Bool
+has_ty types early c e ty = is_some_of (type_of types early c e) ty
 
 abbrev pub declared_name : DeclarationTree → Name
+declared_name (declared_type d) = d.name
 declared_name (automaton a) = a.name
 declared_name (composition c) = c.name
 
+-- the names of an enumeration
+abbrev pub constants_of : FormTree → List Name
+constants_of (enumeration ns) = ns
+constants_of (tuple fs) = []
+constants_of (sequence most of) = []
+
+-- the names that a declaration adds to the global space
+abbrev pub declared_names : DeclarationTree → List Name
+declared_names (declared_type d) = d.name ∷ constants_of d.form
+declared_names (automaton a) = a.name ∷ []
+declared_names (composition c) = c.name ∷ []
+
 -- the names of the one global space
 abbrev pub global_names : SourceTree → List Name
-global_names s = map (λ d. d.name) basic ++ map declared_name s
+global_names s = map (λ d. d.name) basic ++ flat_map declared_names s
 
 -- a type is declared
 abbrev pub is_type : Table → FieldTree → Bool
@@ -121,17 +124,30 @@ same_kind Internal Internal = true
 abbrev pub is_input : Kind → Bool
 is_input k = same_kind k Input
 
-module _ (t : Table) (globals : List Name) (a : AutomatonTree) where
+-- the values are tried by their numbers, where none is proposed: those of Bool and of enumerations
+abbrev pub is_numbered : Option Shape → Bool
+is_numbered (Some truths) = true
+is_numbered (Some numbers) = false
+is_numbered (Some (names ns)) = true
+is_numbered (Some (fields fs)) = false
+is_numbered (Some (sequence_shape most of)) = false
+is_numbered None = false
+
+abbrev pub is_tried : Table → FieldTree → Bool
+is_tried t f = option_map_or (λ ty. is_numbered (shape_at t ty)) (type_named t f.ty) false
+
+-- operators take all types of the source, t, and names are those of the types that are declared before the automaton, early
+module _ (t early : Table) (globals : List Name) (a : AutomatonTree) where
   abbrev pub formals : Context
-  formals = context_of t a.formals
+  formals = context_of early a.formals
 
   -- variables and formals: what proposals may name
   abbrev pub held : Context
-  held = context_of t (variable_fields a) ++ formals
+  held = context_of early (variable_fields a) ++ formals
 
   -- variables, formals and the entry's parameters: what preconditions and effects may name
   abbrev pub scope : EntryTree → Context
-  scope e = held ++ context_of t (position_fields e.positions)
+  scope e = held ++ context_of early (position_fields e.positions)
 
   abbrev pub local_names : List Name
   local_names = field_names a.formals ++ variable_names a
@@ -139,16 +155,16 @@ module _ (t : Table) (globals : List Name) (a : AutomatonTree) where
   -- formals and variables have names of their own and known types
   abbrev pub fields_fine : Bool
   fields_fine = distinct local_names && apart local_names globals
-      && list_all (is_type t) a.formals && list_all (is_type t) (variable_fields a)
+      && list_all (is_type early) a.formals && list_all (is_type early) (variable_fields a)
 
   -- a start expression has its variable's type, and names formals alone
   abbrev pub start_fine : VariableTree → Bool
-  start_fine v = option_map_or (λ e. same_type (type_of t formals e) (type_named t v.field.ty)) v.start true
+  start_fine v = option_map_or (λ e. same_type (type_of t early formals e) (type_named early v.field.ty)) v.start true
 
   -- the parameters of an entry have names of their own and known types
   abbrev pub entry_fine : EntryTree → Bool
   entry_fine e = distinct (map position_name e.positions) && apart (map position_name e.positions) (globals ++ local_names)
-      && list_all (is_type t) (position_fields e.positions)
+      && list_all (is_type early) (position_fields e.positions)
 
   -- entry and transition are of one kind and one name
   abbrev pub matches : EntryTree → TransitionTree → Bool
@@ -161,23 +177,23 @@ module _ (t : Table) (globals : List Name) (a : AutomatonTree) where
 
   -- a precondition is a Bool over variables, formals and parameters
   abbrev pub pre_fine : EntryTree → TransitionTree → Bool
-  pre_fine e r = option_map_or (λ p. has_ty t (scope e) p 0) r.pre true
+  pre_fine e r = option_map_or (λ p. has_ty t early (scope e) p 0) r.pre true
 
   -- a proposal is for a parameter of the entry, of its type, over variables and formals
   abbrev pub proposal_fine : EntryTree → ProposalTree → Bool
-  proposal_fine e p = option_map_or (λ ty. has_ty t held p.value ty) (type_in (context_of t (position_fields e.positions)) p.name) false
+  proposal_fine e p = option_map_or (λ ty. has_ty t early held p.value ty) (type_in (context_of early (position_fields e.positions)) p.name) false
 
   abbrev pub proposals_fine : EntryTree → TransitionTree → Bool
   proposals_fine e r = list_all (proposal_fine e) r.proposals && distinct (map (λ p. p.name) r.proposals)
 
-  -- each parameter that is no Bool has a proposal
+  -- each parameter that is neither a Bool nor of an enumeration has a proposal
   abbrev pub all_proposed : EntryTree → TransitionTree → Bool
-  all_proposed e r = list_all (λ f. is_some_of (type_named t f.ty) 0 || contains (map (λ p. p.name) r.proposals) f.name) (position_fields e.positions)
+  all_proposed e r = list_all (λ f. is_tried early f || contains (map (λ p. p.name) r.proposals) f.name) (position_fields e.positions)
 
   -- an assignment is to a variable, of its type, and a condition is a Bool
   abbrev mutual
     pub stmt_fine : EntryTree → Stmt → Bool
-    stmt_fine e (assign x v) = option_map_or (λ ty. has_ty t (scope e) v ty) (type_in (context_of t (variable_fields a)) x) false
+    stmt_fine e (assign x v) = option_map_or (λ ty. has_ty t early (scope e) v ty) (type_in (context_of early (variable_fields a)) x) false
     stmt_fine e (choose arms others) = arms_fine e arms && stmts_fine e others
 
     pub stmts_fine : EntryTree → Stmts → Bool
@@ -186,7 +202,7 @@ module _ (t : Table) (globals : List Name) (a : AutomatonTree) where
 
     pub arms_fine : EntryTree → Arms → Bool
     arms_fine e no_arm = true
-    arms_fine e (arm c ss more) = has_ty t (scope e) c 0 && (stmts_fine e ss && arms_fine e more)
+    arms_fine e (arm c ss more) = has_ty t early (scope e) c 0 && (stmts_fine e ss && arms_fine e more)
 
   abbrev pub effect_fine : EntryTree → TransitionTree → Bool
   effect_fine e r = stmts_fine e r.effect
@@ -205,6 +221,7 @@ module _ (t : Table) (globals : List Name) (a : AutomatonTree) where
       && one_to_one && list_all (λ e. list_all (λ r. not (matches e r) || transition_fine e r) a.transitions) a.entries
 
 abbrev pub is_automaton_of : Name → DeclarationTree → Bool
+is_automaton_of x (declared_type d) = false
 is_automaton_of x (automaton a) = bytes_eq a.name x
 is_automaton_of x (composition c) = false
 
@@ -212,8 +229,14 @@ is_automaton_of x (composition c) = false
 
 -- automata and compositions count
 abbrev pub is_counted : DeclarationTree → Bool
+is_counted (declared_type d) = false
 is_counted (automaton a) = true
 is_counted (composition c) = true
+
+abbrev pub is_type_declaration : DeclarationTree → Bool
+is_type_declaration (declared_type d) = true
+is_type_declaration (automaton a) = false
+is_type_declaration (composition c) = false
 
 -- the nodes of a tree; a pair of parentheses is one
 abbrev pub nodes : Expr → ℕ
@@ -223,6 +246,7 @@ nodes (named x) = 1
 nodes (parens e) = nodes e + 1
 nodes (prefix o e) = nodes e + 1
 nodes (binary l o r) = nodes l + nodes r + 1
+nodes (empty x) = 1
 
 -- a statement is one
 abbrev mutual
@@ -237,6 +261,10 @@ abbrev mutual
   pub arms_nodes : Arms → ℕ
   arms_nodes no_arm = 0
   arms_nodes (arm c ss more) = nodes c + (stmts_nodes ss + arms_nodes more)
+
+-- from one up to a limit
+abbrev pub some_within : ℕ → ℕ → Bool
+some_within limit n = nat_le 1 n && nat_le n limit
 
 module _ (most : Limits) where
   abbrev pub pre_within : TransitionTree → Bool
@@ -261,37 +289,60 @@ module _ (most : Limits) where
   abbrev pub composition_within : CompositionTree → Bool
   composition_within c = nat_le (length c.instances) most.components
 
+  abbrev pub form_within : FormTree → Bool
+  form_within (enumeration ns) = some_within most.names (length ns)
+  form_within (tuple fs) = some_within most.fields (length fs)
+  form_within (sequence n of) = some_within most.capacity n
+
   abbrev pub declaration_within : DeclarationTree → Bool
+  declaration_within (declared_type d) = form_within d.form
   declaration_within (automaton a) = automaton_within a
   declaration_within (composition c) = composition_within c
 
   -- automata and compositions are counted together
   abbrev pub source_within : SourceTree → Bool
-  source_within s = nat_le (length (filter is_counted s)) most.automata && list_all declaration_within s
+  source_within s = nat_le (length (filter is_type_declaration s)) most.types && nat_le (length (filter is_counted s)) most.automata
+      && list_all declaration_within s
+
+  -- no value of a type takes too many words
+  abbrev pub types_narrow : SourceTree → Bool
+  types_narrow s = list_all (λ w. nat_le w most.words) (widths (types_of s))
 
 -- ---- sources
 
-module _ (types : Table) where
-  -- an instance is of an automaton declared before, and its arguments have types without any name
+-- the fields of a tuple have names of their own, and it names earlier types alone
+abbrev pub form_fine : Table → FormTree → Bool
+form_fine early (enumeration ns) = true
+form_fine early (tuple fs) = distinct (field_names fs) && list_all (is_type early) fs
+form_fine early (sequence most of) = option_map_or (λ ty. true) (type_named early of) false
+
+abbrev pub type_fine : Table → TypeTree → Bool
+type_fine early d = form_fine early d.form
+
+module _ (t early : Table) where
+  -- an instance is of an automaton declared before, and its arguments have types without any name of an automaton
   abbrev pub instance_fine : SourceTree → InstanceTree → Bool
   instance_fine before i = list_any (is_automaton_of i.automaton) before
-      && list_all (λ e. option_map_or (λ ty. true) (type_of types [] e) false) i.arguments
+      && list_all (λ e. option_map_or (λ ty. true) (type_of t early [] e) false) i.arguments
 
   abbrev pub composition_fine : SourceTree → CompositionTree → Bool
   composition_fine before c = distinct (map (λ i. i.name) c.instances) && list_all (instance_fine before) c.instances
 
-  abbrev pub declaration_fine : List Name → SourceTree → DeclarationTree → Bool
-  declaration_fine globals before (automaton a) = automaton_fine types globals a
-  declaration_fine globals before (composition c) = composition_fine before c
+module _ (types : Table) (globals : List Name) where
+  -- a declaration names the types that are declared before it
+  abbrev pub declaration_fine : SourceTree → DeclarationTree → Bool
+  declaration_fine before (declared_type d) = type_fine (types_of before) d
+  declaration_fine before (automaton a) = automaton_fine types (types_of before) globals a
+  declaration_fine before (composition c) = composition_fine types (types_of before) before c
 
   -- each declaration is fine over those before it
-  abbrev pub declarations_fine : List Name → SourceTree → SourceTree → Bool
-  declarations_fine globals before [] = true
-  declarations_fine globals before (d ∷ ds) = declaration_fine globals before d && declarations_fine globals (before ++ d ∷ []) ds
+  abbrev pub declarations_fine : SourceTree → SourceTree → Bool
+  declarations_fine before [] = true
+  declarations_fine before (d ∷ ds) = declaration_fine before d && declarations_fine (before ++ d ∷ []) ds
 
 -- each name is declared once and before its use, each part is fine, and none passes the limits
 abbrev pub well_formed : SourceTree → Bool
-well_formed s = distinct (global_names s) && declarations_fine (types_of s) (global_names s) [] s && source_within LIMITS s
+well_formed s = distinct (global_names s) && declarations_fine (types_of s) (global_names s) [] s && source_within LIMITS s && types_narrow LIMITS s
 
 abbrev pub WellFormed : SourceTree → Type 0
 WellFormed s = IsTrue (well_formed s)

@@ -197,6 +197,26 @@ impl<'a> Cursor<'a> {
         }
     }
 
+    /// Takes a number.
+    #[tactic(auto, unfolding(crate::specs::Reading::a_number))]
+    pub fn number(&mut self) -> Result<u64, ReadError>
+        ensures { Reads (λ n. n) (spec.a_number (tokens_shown self.old)) result (tokens_shown self.new) }
+    {
+        match self.left {
+            [
+                Token {
+                    kind: Kind::Number(number),
+                    ..
+                },
+                rest @ ..,
+            ] => {
+                self.left = rest;
+                Ok(*number)
+            }
+            _ => Err(self.fault()),
+        }
+    }
+
     /// Takes the word for a kind.
     #[tactic(auto, unfolding(crate::specs::Reading::a_kind, crate::specs::Reading::kind_at))]
     pub fn kind(&mut self) -> Result<tree::Kind, ReadError>

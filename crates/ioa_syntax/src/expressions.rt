@@ -6,10 +6,11 @@ ghost use Rattle.ioa_syntax.specs.Reading as spec;
 ghost use Rattle.ioa_syntax.specs.Reading.{Reads};
 ghost use Rattle.ioa_syntax.specs.View.{expr_of};
 
+use crate::calls::{around, empty};
 use crate::cursor::Cursor;
 use crate::fault::{Fault, ReadError};
 use crate::measured::Measured;
-use crate::operators::{TIGHTEST, after_of, level_of, operator_of, prefix_of, right_of};
+use crate::operators::{TIGHTEST, after_of, around_of, level_of, operator_of, prefix_of, right_of};
 use crate::tree::{Expression, Infix};
 use ioa_lex::{Kind, Terminal, Token};
 use ioa_value::{LIMITS, Op};
@@ -50,7 +51,11 @@ pub(crate) fn whole_expression(cursor: &mut Cursor<'_>) -> Result<Expression, Re
 /// An expression of at most `depth` levels, whose operators outside parentheses have a level from `least` on.
 #[cycle(expression)]
 #[tactic(auto, unfolding(crate::specs::Reading::expr))]
-fn expression(cursor: &mut Cursor<'_>, depth: u32, least: u32) -> Result<Measured, ReadError>
+pub(crate) fn expression(
+    cursor: &mut Cursor<'_>,
+    depth: u32,
+    least: u32,
+) -> Result<Measured, ReadError>
     requires { depth < 1000 }
     ensures read { Reads (λ m. expr_of m.expression) (spec.expr depth least (tokens_shown cursor.old)) result (tokens_shown cursor.new) }
     ensures within { IfOk result (λ m. m.depth ≤ depth) }
@@ -85,9 +90,10 @@ fn first(cursor: &mut Cursor<'_>, depth: u32, least: u32) -> Result<(Measured, u
     Ok((whole, after_of(before)))
 }
 
-/// A number, a truth value, a name, or an expression of at most `depth` levels in parentheses.
+/// A number, a truth value, a name, an empty sequence, or expressions of at most `depth` levels in parentheses, alone or
+/// after the word of an operator.
 #[cycle(expression)]
-#[tactic(auto, unfolding(crate::specs::Reading::operand, crate::specs::Reading::opened, crate::specs::Reading::a_name))]
+#[tactic(auto, unfolding(crate::specs::Reading::operand, crate::specs::Reading::start_at, crate::specs::Reading::start_of, crate::specs::Reading::closing, crate::specs::Reading::a_name))]
 fn operand(cursor: &mut Cursor<'_>, depth: u32) -> Result<Measured, ReadError>
     requires { depth < 999 }
     ensures read { Reads (λ m. expr_of m.expression) (spec.operand (spec.expr depth 0) (tokens_shown cursor.old)) result (tokens_shown cursor.new) }
@@ -116,7 +122,17 @@ fn operand(cursor: &mut Cursor<'_>, depth: u32) -> Result<Measured, ReadError>
             cursor.expect(Terminal::Close)?;
             Ok(inner.parentheses(cursor.alloc(), *line)?)
         }
-        Kind::Terminal(_) => Err(cursor.fault()),
+        Kind::Terminal(Terminal::Empty) => {
+            cursor.skip();
+            empty(cursor, *line)
+        }
+        Kind::Terminal(word) => {
+            let Some(operator) = around_of(*word) else {
+                return Err(cursor.fault());
+            };
+            cursor.skip();
+            around(cursor, operator, depth, *line)
+        }
     }
 }
 
@@ -145,7 +161,8 @@ fn climb(
         }
         cursor.skip();
         let operand = expression(cursor, depth, right_of(operator))?;
-        left = left.binary(cursor.alloc(), operator, operand)?;
+        let line = left.expression.line();
+        left = left.binary(cursor.alloc(), operator, operand, line)?;
         below = after_of(operator);
     }
     match operator_at(cursor, least, below) {

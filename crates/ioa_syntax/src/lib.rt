@@ -2,6 +2,7 @@
 #![tactic(auto)]
 
 mod automata;
+mod calls;
 mod compositions;
 mod cursor;
 mod expressions;
@@ -19,6 +20,7 @@ mod statements;
 mod states;
 mod transitions;
 mod tree;
+mod types;
 
 pub use ioa_lex::Refusal;
 pub use laws::{one_tree, well_formed_starts, well_typed_answers};
@@ -27,5 +29,5 @@ pub use printing::print;
 pub use source::Source;
 pub use tree::{
     Arm, Assembly, Automaton, Declaration, Entry, Expression, Field, Infix, Instance, Kind, Name,
-    Position, Proposal, Statement, Transition, Variable,
+    Position, Proposal, Statement, Transition, TypeDeclaration, TypeForm, Variable,
 };

@@ -2,7 +2,7 @@
 
 ghost use Rattle.std.specs.Prelude.{◌≡◌, ◌<◌, ◌≤◌, ◌+◌, IfOk};
 ghost use Rattle.ioa_syntax.specs.Tree as spec;
-ghost use Rattle.ioa_syntax.specs.Tree.{truth, named, parens, prefix, binary};
+ghost use Rattle.ioa_syntax.specs.Tree.{truth, named, parens, prefix, binary, empty};
 ghost use Rattle.ioa_syntax.specs.Depth.{depth_of};
 ghost use Rattle.ioa_syntax.specs.View.{expr_of, name_of};
 
@@ -46,6 +46,16 @@ impl Measured {
         }
     }
 
+    /// The empty sequence of the type of this name, where the word `empty` stands on this line.
+    pub fn empty(name: Name, line: u32) -> Measured
+        ensures { expr_of result.expression ≡ empty (name_of name) }
+    {
+        Measured {
+            expression: Expression::Empty(name, line),
+            depth: 1,
+        }
+    }
+
     /// The expression between parentheses, the first of which stands on this line.
     pub fn parentheses(self, alloc: Global, line: u32) -> Result<Measured, AllocError>
         requires { self.depth < 1000 }
@@ -58,7 +68,7 @@ impl Measured {
         })
     }
 
-    /// The expression after an operator that stands on this line.
+    /// The operator on the expression; the word or sign of the operator stands on this line.
     pub fn prefix(self, alloc: Global, operator: Op, line: u32) -> Result<Measured, AllocError>
         requires { self.depth < 1000 }
         ensures { IfOk result (λ m. expr_of m.expression ≡ prefix operator (expr_of self.expression)) }
@@ -70,11 +80,13 @@ impl Measured {
         })
     }
 
+    /// The operator on both expressions; the first token of the whole stands on this line.
     pub fn binary(
         self,
         alloc: Global,
         operator: Infix,
         right: Measured,
+        line: u32,
     ) -> Result<Measured, AllocError>
         requires left { self.depth < 1000 }
         requires right { right.depth < 1000 }
@@ -90,6 +102,7 @@ impl Measured {
                 Box::new(alloc, expression)?,
                 operator,
                 Box::new(alloc, other)?,
+                line,
             ),
             depth: depth.max(other_depth) + 1,
         })

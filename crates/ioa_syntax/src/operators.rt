@@ -19,16 +19,18 @@ pub(crate) enum Level {
     Sum,
     Product,
     Negation,
+    Application,
 }
 
 /// Whether an operand may be an operator's of the same level: neither, the left one or the right one; or the operator
-/// stands before its one operand, which may be.
+/// stands before its one operand, which may be; or around its operands.
 #[derive(Clone, Copy, PartialEq, Eq, Debug)]
 pub(crate) enum Grouping {
     Alone,
     Left,
     Right,
     Before,
+    Around,
 }
 
 /// How an operator is written.
@@ -61,7 +63,28 @@ fn infixes() -> &'static [Infix]
 }
 
 /// All that stand before one.
-const PREFIXES: [Op; 2] = [Op::Not, Op::Neg];
+fn prefixes() -> &'static [Op]
+    ensures { result.now ≡ spec.prefixes }
+{
+    &[Op::Not, Op::Neg]
+}
+
+/// All that are written around expressions: the word, then the expressions in parentheses.
+fn enclosing() -> &'static [Op]
+    ensures { result.now ≡ spec.enclosing }
+{
+    &[
+        Op::Len,
+        Op::Head,
+        Op::Tail,
+        Op::Last,
+        Op::Init,
+        Op::Append,
+        Op::At,
+        Op::Member,
+        Op::Without,
+    ]
+}
 
 /// Above every level.
 pub(crate) const TIGHTEST: u32 = 10;
@@ -83,6 +106,17 @@ fn operator_form(operator: Op) -> Form
         Op::Div => (Level::Product, Terminal::Div),
         Op::Mod => (Level::Product, Terminal::Mod),
         Op::Neg => (Level::Negation, Terminal::Minus),
+        Op::Len => (Level::Application, Terminal::Len),
+        Op::Head => (Level::Application, Terminal::Head),
+        Op::Tail => (Level::Application, Terminal::Tail),
+        Op::Last => (Level::Application, Terminal::Last),
+        Op::Init => (Level::Application, Terminal::Init),
+        Op::Append => (Level::Application, Terminal::Append),
+        Op::At => (Level::Application, Terminal::At),
+        Op::Member => (Level::Application, Terminal::Member),
+        Op::Without => (Level::Application, Terminal::Without),
+        Op::Make(_) => (Level::Application, Terminal::Open),
+        Op::Field(_) => (Level::Application, Terminal::Dot),
     };
     Form { level, word }
 }
@@ -113,6 +147,7 @@ impl Level {
             Level::Sum => 6,
             Level::Product => 7,
             Level::Negation => 8,
+            Level::Application => 9,
         }
     }
 
@@ -126,6 +161,7 @@ impl Level {
             Level::Comparison => Grouping::Alone,
             Level::Sum | Level::Product => Grouping::Left,
             Level::Negation => Grouping::Before,
+            Level::Application => Grouping::Around,
         }
     }
 }
@@ -151,7 +187,7 @@ pub(crate) fn right_of(operator: Infix) -> u32
     let level = form_of(operator).level;
     match level.grouping() {
         Grouping::Alone | Grouping::Left => level.number() + 1,
-        Grouping::Right | Grouping::Before => level.number(),
+        Grouping::Right | Grouping::Before | Grouping::Around => level.number(),
     }
 }
 
@@ -162,8 +198,26 @@ pub(crate) fn after_of(operator: Infix) -> u32
     let level = form_of(operator).level;
     match level.grouping() {
         Grouping::Left => level.number() + 1,
-        Grouping::Alone | Grouping::Right | Grouping::Before => level.number(),
+        Grouping::Alone | Grouping::Right | Grouping::Before | Grouping::Around => level.number(),
     }
+}
+
+/// Around how many expressions it is written, and 0 where it stands before its operand or between its operands.
+pub(crate) fn encloses(operator: Infix) -> u32
+    ensures { result ≡ spec.encloses operator }
+{
+    match operator {
+        Infix::Operator(Op::Len | Op::Head | Op::Tail | Op::Last | Op::Init) => 1,
+        Infix::Operator(Op::Append | Op::At | Op::Member | Op::Without) => 2,
+        Infix::Implies | Infix::Or | Infix::And | Infix::Operator(_) => 0,
+    }
+}
+
+/// Whether it is written around its operands.
+pub(crate) fn stands_around(operator: Infix) -> bool
+    ensures { result ≡ spec.stands_around operator }
+{
+    encloses(operator) != 0
 }
 
 /// The one of these that is written with this word or sign.
@@ -187,15 +241,31 @@ pub(crate) fn operator_of(terminal: Terminal) -> Option<Infix>
     among(infixes(), terminal)
 }
 
-/// The operator that stands before an expression and is written with this word or sign.
-#[tactic(auto, unfolding(crate::specs::Reading::prefix_of, crate::specs::Reading::same_terminal))]
-pub(crate) fn prefix_of(terminal: Terminal) -> Option<Op>
-    ensures { result ≡ reading.prefix_of terminal }
+/// The one of these that is written with this word or sign.
+#[tactic(auto, unfolding(crate::specs::Reading::same_terminal))]
+fn named(operators: &[Op], terminal: Terminal) -> Option<Op>
+    ensures { result ≡ find (λ o. reading.same_terminal (spec.operator_word (Infix.Operator o)) terminal) operators.now }
 {
-    for operator in PREFIXES {
-        if word_of(Infix::Operator(operator)) == terminal {
-            return Some(operator);
+    for operator in operators {
+        if word_of(Infix::Operator(*operator)) == terminal {
+            return Some(*operator);
         }
     }
     None
+}
+
+/// The operator that stands before an expression and is written with this word or sign.
+#[tactic(auto, unfolding(crate::specs::Reading::prefix_of))]
+pub(crate) fn prefix_of(terminal: Terminal) -> Option<Op>
+    ensures { result ≡ reading.prefix_of terminal }
+{
+    named(prefixes(), terminal)
+}
+
+/// The operator that is written around expressions with this word.
+#[tactic(auto, unfolding(crate::specs::Reading::around_of))]
+pub(crate) fn around_of(terminal: Terminal) -> Option<Op>
+    ensures { result ≡ reading.around_of terminal }
+{
+    named(enclosing(), terminal)
 }

@@ -5,6 +5,7 @@ mod compositions;
 mod expressions;
 mod signatures;
 mod statements;
+mod types;
 mod words;
 
 ghost use Rattle.std.specs.Prelude.{◌≡◌, ◌++◌, ℕ, List, map, OnOk, IfOk};
@@ -18,6 +19,7 @@ ghost use Rattle.ioa_syntax.specs.View.{declaration_of, tree_of};
 
 use crate::printing::automata::automaton;
 use crate::printing::compositions::composition;
+use crate::printing::types::type_declaration;
 use crate::printing::words::{SPACE, word};
 use crate::source::Source;
 use crate::tree::Declaration;
@@ -29,6 +31,10 @@ fn declaration(text: &mut String, declaration: &Declaration) -> Result<(), OutOf
     ensures { OnOk result (string_bytes text.new ≡ string_bytes text.old ++ spec.text_declaration (declaration_of declaration.now)) }
 {
     match declaration {
+        Declaration::Type(inner) => {
+            word(text, Terminal::Type, SPACE)?;
+            type_declaration(text, inner)
+        }
         Declaration::Automaton(inner) => {
             word(text, Terminal::Automaton, SPACE)?;
             automaton(text, inner)

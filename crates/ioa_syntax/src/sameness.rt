@@ -6,7 +6,7 @@ ghost use Rattle.ioa_syntax.specs.View.{expr_of, stmt_of, stmts_of, arm_of, arms
 
 use crate::tree::{
     Arm, Assembly, Automaton, Declaration, Entry, Expression, Field, Instance, Name, Position,
-    Proposal, Statement, Transition, Variable,
+    Proposal, Statement, Transition, TypeDeclaration, TypeForm, Variable,
 };
 
 /// Values that stand for trees.
@@ -58,9 +58,10 @@ fn same_expression(this: &Expression, that: &Expression) -> bool
         (Expression::Parentheses(a, _), Expression::Parentheses(b, _)) => same_expression(a, b),
         (Expression::Prefix(o, a, _), Expression::Prefix(p, b, _)) => o == p
             && same_expression(a, b),
-        (Expression::Binary(a, o, b), Expression::Binary(c, p, d)) => {
+        (Expression::Binary(a, o, b, _), Expression::Binary(c, p, d, _)) => {
             o == p && same_expression(a, c) && same_expression(b, d)
         }
+        (Expression::Empty(a, _), Expression::Empty(b, _)) => a.same(b),
         _ => false,
     }
 }
@@ -282,6 +283,37 @@ impl Same for Assembly {
     }
 }
 
+impl Same for TypeForm {
+    ghost use Rattle.ioa_syntax.specs.Tree.{FormTree};
+    ghost use Rattle.ioa_syntax.specs.View.{type_form_of};
+
+    ghost Tree = { FormTree };
+
+    ghost tree = { type_form_of };
+
+    fn same(&self, other: &TypeForm) -> bool {
+        match (self, other) {
+            (TypeForm::Enumeration(a), TypeForm::Enumeration(b)) => same_list(a, b),
+            (TypeForm::Tuple(a), TypeForm::Tuple(b)) => same_list(a, b),
+            (TypeForm::Sequence(m, a, _), TypeForm::Sequence(n, b, _)) => m == n && a.same(b),
+            _ => false,
+        }
+    }
+}
+
+impl Same for TypeDeclaration {
+    ghost use Rattle.ioa_syntax.specs.Tree.{TypeTree};
+    ghost use Rattle.ioa_syntax.specs.View.{type_declaration_of};
+
+    ghost Tree = { TypeTree };
+
+    ghost tree = { type_declaration_of };
+
+    fn same(&self, other: &TypeDeclaration) -> bool {
+        self.name.same(&other.name) && self.form.same(&other.form)
+    }
+}
+
 impl Same for Declaration {
     ghost use Rattle.ioa_syntax.specs.Tree.{DeclarationTree};
     ghost use Rattle.ioa_syntax.specs.View.{declaration_of};
@@ -292,6 +324,7 @@ impl Same for Declaration {
 
     fn same(&self, other: &Declaration) -> bool {
         match (self, other) {
+            (Declaration::Type(a), Declaration::Type(b)) => a.same(b),
             (Declaration::Automaton(a), Declaration::Automaton(b)) => a.same(b),
             (Declaration::Composition(a), Declaration::Composition(b)) => a.same(b),
             _ => false,

@@ -22,8 +22,9 @@ pub(crate) fn field(cursor: &mut Cursor<'_>) -> Result<Field, ReadError>
     Ok(Field { name, ty })
 }
 
+/// Fields, with commas between them.
 #[tactic(auto, unfolding(crate::specs::Reading::separated), using(crate::proofs::Turns::items_turn, crate::proofs::Turns::items_close, crate::proofs::Turns::items_fail, crate::proofs::Turns::items_spent))]
-fn field_list(cursor: &mut Cursor<'_>) -> Result<Vec<Field>, ReadError>
+pub(crate) fn field_list(cursor: &mut Cursor<'_>) -> Result<Vec<Field>, ReadError>
     ensures { Reads (λ v. map field_of v.items) (spec.separated Terminal.Comma spec.field (tokens_shown cursor.old)) result (tokens_shown cursor.new) }
 {
     let mut found = Vec::new(cursor.alloc());

@@ -12,6 +12,7 @@ use crate::compositions::composition;
 use crate::cursor::Cursor;
 use crate::fault::{Fault, ReadError};
 use crate::tree::Declaration;
+use crate::types::type_declaration;
 use ioa_lex::{Refusal, Terminal, Token};
 use std::alloc::Global;
 
@@ -24,14 +25,26 @@ fn composed(cursor: &mut Cursor<'_>) -> Result<Declaration, ReadError>
 }
 
 /// An automaton or a composition.
-#[tactic(auto, unfolding(crate::specs::Reading::declaration))]
-fn declaration(cursor: &mut Cursor<'_>) -> Result<Declaration, ReadError>
-    ensures { Reads declaration_of (spec.declaration LIMITS.depth (tokens_shown cursor.old)) result (tokens_shown cursor.new) }
+#[tactic(auto, unfolding(crate::specs::Reading::machine))]
+fn machine(cursor: &mut Cursor<'_>) -> Result<Declaration, ReadError>
+    ensures { Reads declaration_of (spec.machine LIMITS.depth (tokens_shown cursor.old)) result (tokens_shown cursor.new) }
 {
     if cursor.take(Terminal::Automaton) {
         Ok(Declaration::Automaton(automaton(cursor)?))
     } else {
         composed(cursor)
+    }
+}
+
+/// A type, an automaton or a composition.
+#[tactic(auto, unfolding(crate::specs::Reading::declaration))]
+fn declaration(cursor: &mut Cursor<'_>) -> Result<Declaration, ReadError>
+    ensures { Reads declaration_of (spec.declaration LIMITS.depth (tokens_shown cursor.old)) result (tokens_shown cursor.new) }
+{
+    if cursor.take(Terminal::Type) {
+        Ok(Declaration::Type(type_declaration(cursor)?))
+    } else {
+        machine(cursor)
     }
 }
 

@@ -7,7 +7,7 @@ pub struct Name {
     pub line: u32,
 }
 
-/// What stands between two expressions.
+/// An operator on two operands. All but those that are written around their operands stand between them.
 #[derive(Clone, Copy, PartialEq, Eq, Debug)]
 pub enum Infix {
     /// An operator on the values of both.
@@ -20,16 +20,34 @@ pub enum Infix {
     Implies,
 }
 
-/// An expression. Each form that can begin an expression keeps the line of its first token.
+/// An expression, with the line of its first token.
 #[derive(Drop)]
 pub enum Expression {
     Number(u64, u32),
     Truth(bool, u32),
     Name(Name),
     Parentheses(Box<Expression>, u32),
-    /// An operator before its operand.
+    /// An operator on one operand: before it, as `-x`, or around it, as `len(s)`.
     Prefix(Op, Box<Expression>, u32),
-    Binary(Box<Expression>, Infix, Box<Expression>),
+    /// An operator on two operands: between them, as `x + y`, or around them, as `append(s, x)`.
+    Binary(Box<Expression>, Infix, Box<Expression>, u32),
+    /// The empty sequence of a type.
+    Empty(Name, u32),
+}
+
+impl Expression {
+    /// The line of its first token.
+    pub fn line(&self) -> u32 {
+        match self {
+            Expression::Name(name) => name.line,
+            Expression::Number(_, line)
+            | Expression::Truth(_, line)
+            | Expression::Parentheses(_, line)
+            | Expression::Prefix(_, _, line)
+            | Expression::Binary(_, _, _, line)
+            | Expression::Empty(_, line) => *line,
+        }
+    }
 }
 
 /// A name and the name of its type: a formal parameter, a variable or a parameter of an entry.
@@ -128,9 +146,28 @@ pub struct Assembly {
     pub instances: Vec<Instance>,
 }
 
+/// What a type is declared to be.
+#[derive(Drop)]
+pub enum TypeForm {
+    /// The names of an enumeration.
+    Enumeration(Vec<Name>),
+    /// The fields of a tuple.
+    Tuple(Vec<Field>),
+    /// At most so many items of a type; with the line of the number.
+    Sequence(u64, Name, u32),
+}
+
+/// A type as it is declared.
+#[derive(Drop)]
+pub struct TypeDeclaration {
+    pub name: Name,
+    pub form: TypeForm,
+}
+
 /// A declaration of a source.
 #[derive(Drop)]
 pub enum Declaration {
+    Type(TypeDeclaration),
     Automaton(Automaton),
     Composition(Assembly),
 }

@@ -5,8 +5,8 @@ ghost use Rattle.std.specs.String.{string_bytes};
 ghost use Rattle.ioa_syntax.specs.Layout.{text_expr};
 ghost use Rattle.ioa_syntax.specs.View.{expr_of};
 
-use crate::operators::word_of;
-use crate::printing::words::{SPACE, name, number, word};
+use crate::operators::{stands_around, word_of};
+use crate::printing::words::{SPACE, call, name, number, word};
 use crate::tree::{Expression, Infix};
 use ioa_lex::Terminal;
 use ioa_value::OutOfMemory;
@@ -30,14 +30,31 @@ pub(crate) fn expression(
             self::expression(text, inner, SPACE)?;
             word(text, Terminal::Close, end)
         }
+        Expression::Prefix(operator, inner, _) if stands_around(Infix::Operator(*operator)) => {
+            call(text, word_of(Infix::Operator(*operator)))?;
+            self::expression(text, inner, SPACE)?;
+            word(text, Terminal::Close, end)
+        }
         Expression::Prefix(operator, inner, _) => {
             word(text, word_of(Infix::Operator(*operator)), SPACE)?;
             self::expression(text, inner, end)
         }
-        Expression::Binary(left, operator, right) => {
+        Expression::Binary(left, operator, right, _) if stands_around(*operator) => {
+            call(text, word_of(*operator))?;
+            self::expression(text, left, SPACE)?;
+            word(text, Terminal::Comma, SPACE)?;
+            self::expression(text, right, SPACE)?;
+            word(text, Terminal::Close, end)
+        }
+        Expression::Binary(left, operator, right, _) => {
             self::expression(text, left, SPACE)?;
             word(text, word_of(*operator), SPACE)?;
             self::expression(text, right, end)
+        }
+        Expression::Empty(of, _) => {
+            call(text, Terminal::Empty)?;
+            name(text, of, SPACE)?;
+            word(text, Terminal::Close, end)
         }
     }
 }

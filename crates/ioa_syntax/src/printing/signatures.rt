@@ -48,16 +48,26 @@ fn more_fields(text: &mut String, fields: &[Field]) -> Result<(), OutOfMemory>
     Ok(())
 }
 
-/// Writes formal parameters in parentheses, or nothing.
-pub(crate) fn formals(text: &mut String, fields: &[Field]) -> Result<(), OutOfMemory>
-    ensures { OnOk result (string_bytes text.new ≡ string_bytes text.old ++ spec.text_parens (spec.text_field spec.space) (map field_of fields.now)) }
+/// Writes fields, with commas between them.
+pub(crate) fn field_list(text: &mut String, fields: &[Field]) -> Result<(), OutOfMemory>
+    ensures { OnOk result (string_bytes text.new ≡ string_bytes text.old ++ spec.text_list Terminal.Comma (spec.text_field spec.space) (map field_of fields.now)) }
 {
     let Some((first, more)) = fields.split_first() else {
         return Ok(());
     };
-    word(text, Terminal::Open, SPACE)?;
     field(text, first, SPACE)?;
-    more_fields(text, more)?;
+    more_fields(text, more)
+}
+
+/// Writes formal parameters in parentheses, or nothing.
+pub(crate) fn formals(text: &mut String, fields: &[Field]) -> Result<(), OutOfMemory>
+    ensures { OnOk result (string_bytes text.new ≡ string_bytes text.old ++ spec.text_parens (spec.text_field spec.space) (map field_of fields.now)) }
+{
+    if fields.is_empty() {
+        return Ok(());
+    }
+    word(text, Terminal::Open, SPACE)?;
+    field_list(text, fields)?;
     word(text, Terminal::Close, LINE)
 }
 

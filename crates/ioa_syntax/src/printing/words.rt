@@ -2,7 +2,7 @@
 
 ghost use Rattle.std.specs.Prelude.{◌≡◌, ◌++◌, ◌<◌, OnOk};
 ghost use Rattle.std.specs.String.{string_bytes};
-ghost use Rattle.ioa_syntax.specs.Layout.{text_word, text_name, text_number};
+ghost use Rattle.ioa_syntax.specs.Layout.{space, text_word, text_name, text_number};
 ghost use Rattle.ioa_syntax.specs.View.{name_of};
 
 use crate::tree::Name;
@@ -22,6 +22,14 @@ pub(crate) fn word(text: &mut String, terminal: Terminal, end: char) -> Result<(
     text.push_str(terminal.text())?;
     text.push(end)?;
     Ok(())
+}
+
+/// Writes a word and the parenthesis after it.
+pub(crate) fn call(text: &mut String, terminal: Terminal) -> Result<(), OutOfMemory>
+    ensures { OnOk result (string_bytes text.new ≡ string_bytes text.old ++ (text_word space terminal ++ text_word space Terminal.Open)) }
+{
+    word(text, terminal, SPACE)?;
+    word(text, Terminal::Open, SPACE)
 }
 
 /// Writes a name.

@@ -1,4 +1,4 @@
-use Rattle.std.proofs.Common.{sym, subst, ap, arith, ◌-◌, ◌∙◌, Ok, rules, true, false}
+use Rattle.std.proofs.Common.{sym, subst, ap, arith, ◌-◌, ◌∙◌, Ok, rules}
 use Rattle.ioa_lex.specs.Tokens.{tokens_shown}
 use Rattle.ioa_syntax.specs.Tree.{Stmt}
 use Rattle.ioa_value.specs.declared.limits.TheConstants.{LIMITS}

@@ -5,10 +5,10 @@ use Rattle.ioa_syntax.specs.Tree.{Expr}
 use Rattle.ioa_syntax.specs.View.{expr_of}
 use Rattle.ioa_syntax.specs.Depth.{depth_of}
 use Rattle.ioa_syntax.proofs.Climb.{climb_turn, climb_fails, expr_starts}
-use Rattle.ioa_syntax.proofs.expressions.+expression.Goals as goal
+use Rattle.ioa_syntax.proofs.+expression.Goals as goal
 
-pub climb-loop-turn-preserved : goal.climb-loop-turn-preserved
-climb-loop-turn-preserved t c = record {
+pub expressions::climb-loop-turn-preserved : goal.expressions::climb-loop-turn-preserved
+expressions::climb-loop-turn-preserved t c = record {
   same =
       let at : spec.operator_at c.args.least c.loop-turn.below (tokens_shown c.loop-turn.cursor) ≡ Some c.in-Some.operator = search rules in
       let fits : depth_of (expr_of c.loop-turn.left.expression) ≤ c.args.depth = omega (arith, c.loop-turn.left.exact) in
@@ -17,8 +17,8 @@ climb-loop-turn-preserved t c = record {
   within = omega (arith, ap depth_of c.in_ok-left.ensures, c.in_ok-left.left.exact, c.loop-turn.left.exact, c.in_ok-operand.operand.exact, c.in_ok-operand.ensures.within);
 }
 
-pub climb-returns-in_err-operand-clause-read : goal.climb-returns-in_err-operand-clause-read
-climb-returns-in_err-operand-clause-read t c =
+pub expressions::climb-returns-in_err-operand-clause-read : goal.expressions::climb-returns-in_err-operand-clause-read
+expressions::climb-returns-in_err-operand-clause-read t c =
     let at : spec.operator_at c.args.least c.loop-turn.below (tokens_shown c.loop-turn.cursor) ≡ Some c.in-Some.operator = search rules in
     let fits : depth_of (expr_of c.loop-turn.left.expression) ≤ c.args.depth = omega (arith, c.loop-turn.left.exact) in
     let failed : spec.Fails c.in_err-operand.field-0.0 (spec.climb c.args.depth (spec.expr c.args.depth) c.args.depth c.args.least c.args.first.1 (expr_of c.args.first.0.expression) (tokens_shown c.args.cursor.now)) =
@@ -26,7 +26,7 @@ climb-returns-in_err-operand-clause-read t c =
     (climb_fails c.args.depth c.loop-turn._turn c.args.least c.loop-turn.below c.right_of.result c.in-Some.operator (expr_of c.loop-turn.left.expression) (tokens_shown c.loop-turn.cursor) (tokens_shown c.skip.new.self) _ (omega arith) at c.skip.ensures fits c.right_of.ensures c.in_err-operand.ensures.read) in
     search rules
 
-pub expression-returns-clause-read : goal.expression-returns-clause-read
-expression-returns-clause-read t c =
+pub expressions::expression-returns-clause-read : goal.expressions::expression-returns-clause-read
+expressions::expression-returns-clause-read t c =
     let starts = expr_starts c.args.depth c.args.least _ (tokens_shown c.args.cursor.now) _ _ (omega arith) c.in_ok-left.ensures.read in
     subst (λ (o : spec.Outcome Expr). spec.Reads (λ m. expr_of m.expression) o c.climb.result (tokens_shown c.climb.new.cursor)) (sym starts) c.climb.ensures.read
