@@ -1,12 +1,13 @@
 -- Small sources that break rules, and the codes that have their reason in each: computed.
-use Rattle.std.proofs.Common.{◌≡◌, ℕ, List, [], ◌∷◌, map, filter, Some, true, false, refl, codes}
+use Rattle.std.proofs.Common.{◌≡◌, ℕ, List, [], ◌∷◌, ◌++◌, map, filter, Some, None, true, false, refl, codes}
 use Rattle.std.specs.Option.{option_map_or}
 use Rattle.ioa_value.specs.declared.operator.Op.TheVariants.{Eq, Add, Not}
 use Rattle.ioa_lex.specs.declared.refusal.Refusal.{Refusal}
 use Rattle.ioa_lex.specs.declared.refusal.Refusal.TheVariants.{DuplicateName, UnknownName, TypeMismatch, BadSignature, NoProposal, TooMany, TooWide}
 use Rattle.ioa_syntax.specs.declared.tree.Infix.TheVariants.{Operator, And}
-use Rattle.ioa_syntax.specs.Tree.{number, truth, named, prefix, binary, assign, choose, stop, seq, no_arm, arm, automaton, composition, SourceTree}
+use Rattle.ioa_syntax.specs.Tree.{number, truth, named, prefix, binary, empty, assign, choose, stop, seq, no_arm, arm, enumeration, tuple, sequence, automaton, composition, SourceTree}
 use Rattle.ioa_syntax.proofs.Examples.{field, count_variable, tick_proposal, tick_transition, reset_transition, counter, one, source, with_formals, with_variables, with_transitions, with_pre, with_proposals, with_effect, plain_variable, variables_from}
+use Rattle.ioa_syntax.proofs.TypeExamples.{of_type, type, kind, packet, three, cell, comparing, starting, one_type, nested, fields_from, sender}
 use Rattle.ioa_check.specs.Codes as codes_of
 use Rattle.ioa_check.specs.Codes.{code_of}
 use Rattle.ioa_check.specs.Reasons.{in_source}
@@ -129,3 +130,65 @@ breaks_two_at_once = refl
 -- an operator beside an operand that is not known tells nothing of types
 breaks_one : told (with_pre (Some (binary (truth true) (Operator Add) (named (codes "d"))))) ≡ 6 ∷ []
 breaks_one = refl
+
+-- ---- declared types
+
+breaks_nothing : told (starting (codes "Pkts") (empty (codes "Pkts"))) ≡ []
+breaks_nothing = refl
+
+names_a_constant_twice : told (type (codes "Kind") (enumeration (codes "data" ∷ codes "data" ∷ [])) ∷ []) ≡ 5 ∷ []
+names_a_constant_twice = refl
+
+names_a_variable_as_a_constant : told (three ++ cell (of_type (codes "ack") (codes "Int")) None ∷ []) ≡ 5 ∷ []
+names_a_variable_as_a_constant = refl
+
+names_a_field_twice : told (type (codes "Two") (tuple (of_type (codes "x") (codes "Int") ∷ of_type (codes "x") (codes "Bool") ∷ [])) ∷ []) ≡ 5 ∷ []
+names_a_field_twice = refl
+
+uses_a_type_before : told (packet ∷ kind ∷ []) ≡ 6 ∷ []
+uses_a_type_before = refl
+
+uses_its_own_type : told (type (codes "Own") (sequence 4 (codes "Own")) ∷ []) ≡ 6 ∷ []
+uses_its_own_type = refl
+
+holds_a_later_type : told (cell (of_type (codes "k") (codes "Kind")) None ∷ kind ∷ []) ≡ 6 ∷ []
+holds_a_later_type = refl
+
+starts_at_a_later_constant : told (cell (of_type (codes "x") (codes "Bool")) (Some comparing) ∷ kind ∷ []) ≡ 6 ∷ []
+starts_at_a_later_constant = refl
+
+starts_at_a_type : told (starting (codes "Kind") (named (codes "Kind"))) ≡ 6 ∷ []
+starts_at_a_type = refl
+
+starts_at_a_constant_of_another : told (starting (codes "Int") (named (codes "ack"))) ≡ 7 ∷ []
+starts_at_a_constant_of_another = refl
+
+empties_no_type : told (starting (codes "Pkts") (empty (codes "ack"))) ≡ 6 ∷ []
+empties_no_type = refl
+
+empties_a_later_type : told (cell (of_type (codes "x") (codes "Int")) (Some (empty (codes "S"))) ∷ type (codes "S") (sequence 4 (codes "Int")) ∷ []) ≡ 6 ∷ []
+empties_a_later_type = refl
+
+empties_no_sequence : told (starting (codes "Pkt") (empty (codes "Pkt"))) ≡ 7 ∷ []
+empties_no_sequence = refl
+
+proposes_no_constant : told (sender (codes "Kind") []) ≡ []
+proposes_no_constant = refl
+
+proposes_no_tuple : told (sender (codes "Pkt") []) ≡ 9 ∷ []
+proposes_no_tuple = refl
+
+takes_too_wide_a_capacity : told (one_type (sequence 257 (codes "Int"))) ≡ 10 ∷ []
+takes_too_wide_a_capacity = refl
+
+takes_no_capacity : told (one_type (sequence 0 (codes "Int"))) ≡ 10 ∷ []
+takes_no_capacity = refl
+
+takes_too_many_fields : told (one_type (tuple (fields_from 17 0))) ≡ 10 ∷ []
+takes_too_many_fields = refl
+
+takes_wide_values : told (nested 15) ≡ []
+takes_wide_values = refl
+
+takes_too_wide_values : told (nested 16) ≡ 11 ∷ []
+takes_too_wide_values = refl

@@ -22,7 +22,7 @@ use Rattle.ioa_check.specs.Reasons as reasons
 use Rattle.ioa_check.specs.Reasons.{Reasons, broken, in_any, ◌or◌}
 use Rattle.ioa_check.specs.Verdicts.{Says}
 use Rattle.ioa_check.proofs.SayLemmas.{says-last, says-at, says-more, says-broken, err-first, err-last}
-use Rattle.ioa_check.proofs.NameLemmas.{apart-append}
+use Rattle.ioa_value.proofs.NameLemmas.{apart-append}
 use Rattle.ioa_check.proofs.ViewLemmas.{names-of_fields, names-of_variables, names-of_positions, names-of_entries, names-of_proposals, names-of_instances, fields-of_positions}
 
 abbrev position_names : List Position → List Name
@@ -42,15 +42,15 @@ parameters-apart g ps fs vs =
     ∙ apart-append (position_names ps) g (formal_names fs ++ state_names vs)
     ∙ ap (λ b. apart (position_names ps) g && b) (apart-append (position_names ps) (formal_names fs) (state_names vs)))
 
-pub entry-says : {T : Type 0} (r : Result T Refusal) (t : Table) (g : List Name) (a : AutomatonTree) (e : Entry) (xs ys : List Position) → xs ≡ e.positions.items → ys ≡ e.positions.items →
-    distinct (position_names xs) ≡ true → apart (map position_name (map position_of e.positions.items)) (g ++ well_formed.local_names t [] a) ≡ true →
-    Says r (list_all (is_type t) (map (λ p. field_in (position_of p)) ys)) (tells unknown_name) → Says r (well_formed.entry_fine t g a (entry_of e)) (reasons.in_entry t g a (entry_of e))
-entry-says r t g a e xs ys p q d n h =
+pub entry-says : {T : Type 0} (r : Result T Refusal) (t early : Table) (g : List Name) (a : AutomatonTree) (e : Entry) (xs ys : List Position) → xs ≡ e.positions.items → ys ≡ e.positions.items →
+    distinct (position_names xs) ≡ true → apart (map position_name (map position_of e.positions.items)) (g ++ well_formed.local_names t early [] a) ≡ true →
+    Says r (list_all (is_type early) (map (λ p. field_in (position_of p)) ys)) (tells unknown_name) → Says r (well_formed.entry_fine t early g a (entry_of e)) (reasons.in_entry t early g a (entry_of e))
+entry-says r t early g a e xs ys p q d n h =
     let ps = e.positions.items in
     let once : distinct (map position_name (map position_of ps)) ≡ true = ap distinct (names-of_positions ps) ∙ ap (λ us. distinct (position_names us)) (sym p) ∙ d in
     says-more r _ _ _ (λ x k. or_right _ _ k)
     (says-last r _ _ _ (and_from _ _ once n) (says-broken r unknown_name _
-    (says-at r _ _ _ (ap (λ us. list_all (is_type t) (map (λ p. field_in (position_of p)) us)) q ∙ ap (list_all (is_type t)) (sym (fields-of_positions ps))) h)))
+    (says-at r _ _ _ (ap (λ us. list_all (is_type early) (map (λ p. field_in (position_of p)) us)) q ∙ ap (list_all (is_type early)) (sym (fields-of_positions ps))) h)))
 
 pub entries-say : {T : Type 0} (r : Result T Refusal) (f : EntryTree → Bool) (w : EntryTree → Reasons) (es xs : List Entry) → xs ≡ es → distinct (map (λ e. name_of e.name) xs) ≡ true → Says r (list_all f (map entry_of es)) (in_any w (map entry_of es)) →
     Says r (distinct (map (λ e. e.name) (map entry_of es)) && list_all f (map entry_of es)) (broken duplicate_name (distinct (map (λ e. e.name) (map entry_of es))) or in_any w (map entry_of es))
@@ -64,11 +64,11 @@ proposals-say r f w ps xs p h d =
     says-more r _ _ _ (λ x k. or_right _ _ k)
     (says-last r _ _ _ h (says-broken r duplicate_name _ (says-at r _ _ _ (ap (λ us. distinct (map (λ p. name_of p.name) us)) p ∙ ap distinct (sym (names-of_proposals ps))) d)))
 
-pub composition-says : {T : Type 0} (r : Result T Refusal) (t : Table) (before : SourceTree) (is xs : List Instance) → xs ≡ is → distinct (map (λ i. name_of i.name) xs) ≡ true →
-    Says r (list_all (well_formed.instance_fine t before) (map instance_of is)) (in_any (reasons.in_instance t before) (map instance_of is)) →
-    Says r (distinct (map (λ i. i.name) (map instance_of is)) && list_all (well_formed.instance_fine t before) (map instance_of is))
-    (broken duplicate_name (distinct (map (λ i. i.name) (map instance_of is))) or in_any (reasons.in_instance t before) (map instance_of is))
-composition-says r t before is xs p d h =
+pub composition-says : {T : Type 0} (r : Result T Refusal) (t early : Table) (before : SourceTree) (is xs : List Instance) → xs ≡ is → distinct (map (λ i. name_of i.name) xs) ≡ true →
+    Says r (list_all (well_formed.instance_fine t early before) (map instance_of is)) (in_any (reasons.in_instance t early before) (map instance_of is)) →
+    Says r (distinct (map (λ i. i.name) (map instance_of is)) && list_all (well_formed.instance_fine t early before) (map instance_of is))
+    (broken duplicate_name (distinct (map (λ i. i.name) (map instance_of is))) or in_any (reasons.in_instance t early before) (map instance_of is))
+composition-says r t early before is xs p d h =
     says-more r _ _ _ (λ x k. or_right _ _ k)
     (says-last r _ _ _ (ap distinct (names-of_instances is) ∙ ap (λ us. distinct (map (λ i. name_of i.name) us)) (sym p) ∙ d) h)
 

@@ -1,24 +1,31 @@
 -- The names of the global space, as they are gathered.
-use Rattle.std.proofs.Common.{◌≡◌, ℕ, ◌+◌, ◌<◌, Bool, true, false, not, cond, List, [], ◌∷◌, ◌++◌, map, take, drop, length, get_or, refl, sym, ap, ◌∙◌}
-use Rattle.std.specs.List.{list_any}
+use Rattle.std.proofs.Common.{◌≡◌, ℕ, ◌+◌, ◌<◌, ◌≤◌, Bool, true, false, not, cond, List, [], ◌∷◌, ◌++◌, map, take, drop, length, get_or, Result, Ok, Err, IsErr, refl, sym, ap, subst, ◌∙◌, append_assoc, append-nil, take-append-drop}
+use Rattle.std.specs.List.{list_any, flat_map}
+use Rattle.std.specs.Result.{IsErrAnd}
 use Rattle.std.specs.Str.{bytes_eq}
-use Rattle.std.proofs.lemmas.Bool.{not_from_false, and_from}
-use Rattle.std.proofs.lemmas.List.{map-append}
+use Rattle.std.proofs.lemmas.Bool.{not_from_false, and_from, and_left}
+use Rattle.std.proofs.lemmas.Grind.{flat_map-append}
+use Rattle.std.proofs.lemmas.List.{map-append, drop_all}
 use denote.Ref.{Bor}
 use Rattle.ioa_value.specs.Actions.{Name}
-use Rattle.ioa_syntax.specs.declared.tree.Declaration.{Declaration}
-use Rattle.ioa_value.specs.Table.{basic}
-use Rattle.ioa_syntax.specs.View.{declaration_of, tree_of}
-use Rattle.ioa_syntax.specs.WellFormed.{contains, distinct, declared_name, global_names}
-use Rattle.ioa_check.proofs.NameLemmas.{contains-texts, distinct-again, distinct-append}
-use Rattle.ioa_check.proofs.SayLemmas.{split-at}
+use Rattle.ioa_value.specs.Table.{contains, distinct}
 use Rattle.ioa_value.proofs.ItemLemmas.{take_item}
+use Rattle.ioa_value.proofs.NameLemmas.{distinct-again, distinct-append}
+use Rattle.ioa_lex.specs.declared.refusal.Refusal.{Refusal}
+use Rattle.ioa_syntax.specs.declared.tree.Declaration.{Declaration}
+use Rattle.ioa_syntax.specs.View.{declaration_of, tree_of}
+use Rattle.ioa_syntax.specs.Tree.{DeclarationTree, declared_type, automaton, composition}
+use Rattle.ioa_syntax.specs.WellFormed.{declared_name, declared_names, constants_of}
+use Rattle.ioa_check.specs.Codes.{duplicate_name, tells}
+use Rattle.ioa_check.specs.Globals.{Adds}
+use Rattle.ioa_check.specs.Verdicts.{SaysOrMemory}
+use Rattle.ioa_check.proofs.NameLemmas.{contains-texts}
+use Rattle.ioa_check.proofs.SayLemmas.{split-at}
 
 abbrev texts_of : List (Bor (List ℕ)) → List Name
 texts_of ks = map (λ k. k.now) ks
 
-abbrev declared : List Declaration → List Name
-declared ds = map declared_name (tree_of ds)
+-- ---- one name
 
 has-not : (b : Bool) → true ≡ not b → b ≡ false
 has-not true e = absurd (cc)
@@ -28,37 +35,108 @@ has : (b : Bool) → false ≡ not b → b ≡ true
 has true e = refl
 has false e = absurd (cc)
 
-declared-append : (xs ys : List Declaration) → declared (xs ++ ys) ≡ declared xs ++ declared ys
-declared-append [] ys = refl
-declared-append (x ∷ xs) ys = ap (λ ns. declared_name (declaration_of x) ∷ ns) (declared-append xs ys)
-
 -- a new name goes last
-pub names-grow : (ks new : List (Bor (List ℕ))) (v : Bor (List ℕ)) (b : Bool) (ds : List Declaration) (i : ℕ) (d : Declaration) → i < length ds → d ≡ get_or ds i d → v.now ≡ declared_name (declaration_of d) →
-    b ≡ not (list_any (λ k. bytes_eq v.now k.now) ks) → new ≡ cond (list_any (λ k. bytes_eq v.now k.now) ks) ks (ks ++ v ∷ []) → b ≡ true →
-    (texts_of ks ≡ map (λ d. d.name) basic ++ declared (take i ds)) × (distinct (texts_of ks) ≡ true) →
-    (texts_of new ≡ map (λ d. d.name) basic ++ declared (take (i + 1) ds)) × (distinct (texts_of new) ≡ true)
-names-grow ks new v b ds i d l e v_is added keys fresh h = (texts, once)
+pub added-new : (ks new : List (Bor (List ℕ))) (v : Bor (List ℕ)) (n : Name) (b : Bool) → v.now ≡ n → b ≡ not (list_any (λ k. bytes_eq v.now k.now) ks)
+    → new ≡ cond (list_any (λ k. bytes_eq v.now k.now) ks) ks (ks ++ v ∷ []) → b ≡ true
+    → (texts_of new ≡ texts_of ks ++ n ∷ []) × (distinct (texts_of ks) ≡ true → distinct (texts_of new) ≡ true)
+added-new ks new v n b is added keys fresh = (last ∙ ap (λ m. texts_of ks ++ m ∷ []) is, once)
   where
     absent : list_any (λ k. bytes_eq v.now k.now) ks ≡ false
     absent = has-not _ (sym fresh ∙ added)
 
-    longer : texts_of new ≡ texts_of ks ++ v.now ∷ []
-    longer = ap texts_of (keys ∙ ap (λ c. cond c ks (ks ++ v ∷ [])) absent) ∙ map-append (λ (k : Bor (List ℕ)). k.now) ks (v ∷ [])
+    last : texts_of new ≡ texts_of ks ++ v.now ∷ []
+    last = ap texts_of (keys ∙ ap (λ c. cond c ks (ks ++ v ∷ [])) absent) ∙ map-append (λ (k : Bor (List ℕ)). k.now) ks (v ∷ [])
 
-    texts : texts_of new ≡ map (λ d. d.name) basic ++ declared (take (i + 1) ds)
-    texts = longer ∙ ap (λ ns. ns ++ v.now ∷ []) h.0 ∙ ap (λ n. (map (λ d. d.name) basic ++ declared (take i ds)) ++ n ∷ []) v_is
-        ∙ ap (λ ns. map (λ d. d.name) basic ++ ns) (sym (declared-append (take i ds) (d ∷ []))) ∙ ap (λ xs. map (λ d. d.name) basic ++ declared xs) (sym (take_item ds i d l e))
-
-    once : distinct (texts_of new) ≡ true
-    once = ap distinct longer ∙ distinct-append (texts_of ks) (v.now ∷ [])
-        ∙ and_from _ _ h.1 (and_from _ _ refl (and_from _ _ (not_from_false _ (sym (contains-texts ks v.now) ∙ absent)) refl))
+    once : distinct (texts_of ks) ≡ true → distinct (texts_of new) ≡ true
+    once h = ap distinct last ∙ distinct-append (texts_of ks) (v.now ∷ [])
+        ∙ and_from _ _ h (and_from _ _ refl (and_from _ _ (not_from_false _ (sym (contains-texts ks v.now) ∙ absent)) refl))
 
 -- a name that is there already
-pub names-again : (ks : List (Bor (List ℕ))) (v : Bor (List ℕ)) (b : Bool) (ds : List Declaration) (i : ℕ) (d : Declaration) → i < length ds → d ≡ get_or ds i d → v.now ≡ declared_name (declaration_of d) →
-    b ≡ not (list_any (λ k. bytes_eq v.now k.now) ks) → b ≡ false → texts_of ks ≡ map (λ d. d.name) basic ++ declared (take i ds) → distinct (global_names (tree_of ds)) ≡ false
-names-again ks v b ds i d l e v_is added taken h =
+pub added-again : (ks : List (Bor (List ℕ))) (v : Bor (List ℕ)) (n : Name) (b : Bool) → v.now ≡ n → b ≡ not (list_any (λ k. bytes_eq v.now k.now) ks)
+    → b ≡ false
+    → distinct (texts_of ks ++ n ∷ []) ≡ false
+added-again ks v n b is added taken =
     let there : contains (texts_of ks) v.now ≡ true = sym (contains-texts ks v.now) ∙ has _ (sym taken ∙ added) in
-    let front : contains (map (λ d. d.name) basic ++ declared (take i ds)) (declared_name (declaration_of d)) ≡ true = ap (λ ns. contains ns (declared_name (declaration_of d))) (sym h) ∙ ap (contains (texts_of ks)) (sym v_is) ∙ there in
-    ap (λ xs. distinct (map (λ d. d.name) basic ++ declared xs)) (sym (split-at ds i d l e))
-    ∙ ap (λ ns. distinct (map (λ d. d.name) basic ++ ns)) (declared-append (take i ds) (d ∷ drop (i + 1) ds))
-    ∙ distinct-again (map (λ d. d.name) basic ++ declared (take i ds)) (declared_name (declaration_of d)) (declared (drop (i + 1) ds)) front
+    distinct-again (texts_of ks) n [] (ap (contains (texts_of ks)) (sym is) ∙ there)
+
+-- ---- names after one another
+
+longer : (xs ys : List Name) → distinct xs ≡ false → distinct (xs ++ ys) ≡ false
+longer xs ys h = distinct-append xs ys ∙ and_left _ _ h
+
+pub adds-more : {T U V : Type 0} (q : Result T Refusal) (r : Result U Refusal) (x : V) (old xs mid ys new : List Name) → Adds {T = V} (Ok x) old xs mid
+    → Adds r mid ys new → Adds r old (xs ++ ys) new
+adds-more q (Ok y) x old xs mid ys new f g = (g.0 ∙ ap (λ ns. ns ++ ys) f.0 ∙ append_assoc old xs ys, λ h. g.1 (f.1 h))
+adds-more q (Err e) x old xs mid ys new f g = λ n. let k = g n in
+    (k.0, ap distinct (sym (append_assoc old xs ys)) ∙ ap (λ ns. distinct (ns ++ ys)) (sym f.0) ∙ k.1)
+
+-- a refusal that `?` hands on, whatever names come after
+pub adds-passed : {T U : Type 0} (q : Result T Refusal) (r : Result U Refusal) (e : Refusal) (old xs mid ys zs new end : List Name) → mid ≡ old ++ xs
+    → q ≡ Err e → IsErrAnd r (λ y. y ≡ e) → Adds q mid ys new → Adds r old (xs ++ (ys ++ zs)) end
+adds-passed q (Ok y) e old xs mid ys zs new end at was bad h = absurd bad
+adds-passed {T} q (Err y) e old xs mid ys zs new end at was bad h = λ n.
+    let P : Result T Refusal → Type 0 = λ o. Adds o mid ys new in
+    let k : Adds {T = T} (Err y) mid ys new = subst P (was ∙ ap Err (sym bad)) h in
+    let f = k n in
+    let same : old ++ (xs ++ (ys ++ zs)) ≡ (mid ++ ys) ++ zs = sym (append_assoc old xs (ys ++ zs)) ∙ ap (λ ns. ns ++ (ys ++ zs)) (sym at)
+    ∙ sym (append_assoc mid ys zs) in
+    (f.0, ap distinct same ∙ longer (mid ++ ys) zs f.1)
+
+-- ---- names of items one after another
+
+module _ {X : Type 0} (all : List X → List Name) (app : (xs ys : List X) → all (xs ++ ys) ≡ all xs ++ all ys) where
+  pub adds-next : (old mid new ns : List Name) (xs : List X) (i : ℕ) (x : X) → i < length xs → x ≡ get_or xs i x → all (x ∷ []) ≡ ns
+      → Adds {T = Unit {0}} (Ok tt) old (all (take i xs)) mid → Adds {T = Unit {0}} (Ok tt) mid ns new
+      → Adds {T = Unit {0}} (Ok tt) old (all (take (i + 1) xs)) new
+  adds-next old mid new ns xs i x l is one f g =
+      let same : all (take i xs) ++ ns ≡ all (take (i + 1) xs) = ap (λ ms. all (take i xs) ++ ms) (sym one) ∙ sym (app (take i xs) (x ∷ [])) ∙ ap all
+      (sym (take_item xs i x l is)) in
+      (g.0 ∙ ap (λ ms. ms ++ ns) f.0 ∙ append_assoc old (all (take i xs)) ns ∙ ap (λ ms. old ++ ms) same, λ h. g.1 (f.1 h))
+
+  pub adds-fails : {T U : Type 0} (q : Result T Refusal) (r : Result U Refusal) (e : Refusal) (old mid new end ns : List Name) (xs : List X) (i : ℕ)
+      (x : X) → i < length xs → x ≡ get_or xs i x → all (x ∷ []) ≡ ns
+      → Adds {T = Unit {0}} (Ok tt) old (all (take i xs)) mid → q ≡ Err e → IsErrAnd r (λ y. y ≡ e) → Adds q mid ns new → Adds r old (all xs) end
+  adds-fails q r e old mid new end ns xs i x l is one f was bad h =
+      let P : List Name → Type 0 = λ ms. Adds r old ms end in
+      let rest : all (x ∷ drop (i + 1) xs) ≡ ns ++ all (drop (i + 1) xs) = app (x ∷ []) (drop (i + 1) xs) ∙ ap (λ ms. ms ++ all (drop (i + 1) xs)) one in
+      let same : all (take i xs) ++ (ns ++ all (drop (i + 1) xs)) ≡ all xs = ap (λ ms. all (take i xs) ++ ms) (sym rest)
+      ∙ sym (app (take i xs) (x ∷ drop (i + 1) xs)) ∙ ap all (split-at xs i x l is) in
+      subst P same (adds-passed q r e old (all (take i xs)) mid ns (all (drop (i + 1) xs)) new end f.0 was bad h)
+
+  pub adds-all : (old new : List Name) (xs : List X) (i : ℕ) → length xs ≤ i → Adds {T = Unit {0}} (Ok tt) old (all (take i xs)) new
+      → Adds {T = Unit {0}} (Ok tt) old (all xs) new
+  adds-all old new xs i l f =
+      let P : List X → Type 0 = λ ys. Adds {T = Unit {0}} (Ok tt) old (all ys) new in
+      subst P (sym (append-nil (take i xs)) ∙ ap (λ ys. take i xs ++ ys) (sym (drop_all i xs l)) ∙ take-append-drop i xs) f
+
+-- the names that declarations give
+abbrev pub all_declared : List Declaration → List Name
+all_declared ds = flat_map declared_names (tree_of ds)
+
+pub declared-append : (xs ys : List Declaration) → all_declared (xs ++ ys) ≡ all_declared xs ++ all_declared ys
+declared-append xs ys = ap (flat_map declared_names) (map-append declaration_of xs ys) ∙ flat_map-append declared_names (tree_of xs) (tree_of ys)
+
+pub declared-one : (d : Declaration) → all_declared (d ∷ []) ≡ declared_names (declaration_of d)
+declared-one d = append-nil (declared_names (declaration_of d))
+
+-- the first name of a declaration is there already
+pub first-fails : {T U : Type 0} (q : Result T Refusal) (r : Result U Refusal) (e : Refusal) (old new end : List Name) (d : DeclarationTree) (n : Name)
+    → n ≡ declared_name d
+    → q ≡ Err e → IsErrAnd r (λ y. y ≡ e) → Adds q old (n ∷ []) new → Adds r old (declared_names d) end
+first-fails q r e old new end d n is was bad h = go d is
+  where
+    under : (ns : List Name) → Adds r old (n ∷ ns) end
+    under ns = adds-passed q r e old [] old (n ∷ []) ns new end (sym (append-nil old)) was bad h
+
+    at : (m : Name) (ns : List Name) → n ≡ m → Adds r old (m ∷ ns) end
+    at m ns same = let P : Name → Type 0 = λ x. Adds r old (x ∷ ns) end in subst P same (under ns)
+
+    go : (d : DeclarationTree) → n ≡ declared_name d → Adds r old (declared_names d) end
+    go (declared_type t) is = at t.name (constants_of t.form) is
+    go (automaton a) is = at a.name [] is
+    go (composition c) is = at c.name [] is
+
+pub adds-say : {T : Type 0} (r : Result T Refusal) (old more end : List Name) → IsErr r → Adds r old more end
+    → SaysOrMemory r (distinct (old ++ more)) (tells duplicate_name)
+adds-say (Ok x) old more end bad h = absurd (cc)
+adds-say (Err e) old more end bad h = h

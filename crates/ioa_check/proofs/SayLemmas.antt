@@ -1,5 +1,5 @@
 -- What an answer says about tests that are joined.
-use Rattle.std.proofs.Common.{◌≡◌, ℕ, ◌+◌, ◌<◌, Bool, true, ◌&&◌, List, ◌∷◌, map, drop, length, get_or, take, ◌++◌, Result, Ok, Err, IsErr, sym, ap, subst, ◌∙◌, take-append-drop}
+use Rattle.std.proofs.Common.{◌≡◌, ℕ, ◌+◌, ◌<◌, Bool, true, false, ◌&&◌, List, ◌∷◌, map, drop, length, get_or, take, ◌++◌, Result, Ok, Err, IsErr, sym, ap, subst, ◌∙◌, take-append-drop}
 use Rattle.std.proofs.lemmas.List.{map-append}
 use Rattle.std.proofs.lemmas.List.Folds.{list_any-append}
 use Rattle.std.specs.List.{list_all, list_any}
@@ -8,7 +8,7 @@ use Rattle.std.proofs.lemmas.Bool.{and_left, and_right, and_from, or_left, or_ri
 use Rattle.ioa_lex.specs.declared.refusal.Refusal.{Refusal}
 use Rattle.ioa_check.specs.Codes.{Code, tells}
 use Rattle.ioa_check.specs.Reasons.{Reasons, broken, in_any}
-use Rattle.ioa_check.specs.Verdicts.{Says}
+use Rattle.ioa_check.specs.Verdicts.{Says, SaysOrMemory}
 use Rattle.ioa_value.proofs.ItemLemmas.{drop_item, all_fails}
 
 -- the last of two tests decides
@@ -70,3 +70,19 @@ err-first (Err x) a b w bad h = (h.0, and_left a b h.1)
 pub err-last : {T : Type 0} (r : Result T Refusal) (a b : Bool) (w : Reasons) → IsErr r → Says r b w → Says r (a && b) w
 err-last (Ok x) a b w bad h = absurd (cc)
 err-last (Err x) a b w bad h = (h.0, and_right a b h.1)
+
+-- ---- where memory may be short
+
+pub says-memory : {T : Type 0} (r : Result T Refusal) (b : Bool) (w : Reasons) → Says r b w → SaysOrMemory r b w
+says-memory (Ok x) b w h = h
+says-memory (Err x) b w h = λ n. h
+
+-- an error that `?` hands on, for a test that joins others
+pub memory-passed : {T U : Type 0} (q : Result T Refusal) (o : Result U Refusal) (e : Refusal) (b c : Bool) (w v : Reasons) → q ≡ Err e → IsErrAnd o (λ y. y ≡ e) → SaysOrMemory q b w
+    → ((r : Refusal) → w r ≡ true → b ≡ false → (v r ≡ true) × (c ≡ false)) → SaysOrMemory o c v
+memory-passed q (Ok y) e b c w v was bad h f = absurd bad
+memory-passed {T} q (Err y) e b c w v was bad h f = λ n.
+    let P : Result T Refusal → Type 0 = λ o. SaysOrMemory o b w in
+    let k : SaysOrMemory {T = T} (Err y) b w = subst P (was ∙ ap Err (sym bad)) h in
+    let r = k n in
+    f y r.0 r.1

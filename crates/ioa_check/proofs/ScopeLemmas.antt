@@ -11,6 +11,7 @@ use Rattle.ioa_check.specs.declared.scope.Scope.{Scope}
 use Rattle.ioa_check.specs.Scopes.{context}
 use Rattle.ioa_check.specs.Fields.{field_in, type_under}
 use Rattle.ioa_syntax.specs.View.{variable_of, position_of}
+use Rattle.ioa_check.specs.Known.{early}
 use Rattle.ioa_check.proofs.ViewLemmas.{fields-of_variables, fields-of_positions}
 use Rattle.ioa_value.proofs.ItemLemmas.{drop_item}
 
@@ -45,19 +46,19 @@ chained : (a b c : Context) (x : Name) → type_in ((a ++ b) ++ c) x ≡ option_
 chained a b c x = type_in-append (a ++ b) c x ∙ ap (λ o. option_or o (type_in c x)) (type_in-append a b x)
 
 -- a name of a scope is a variable, or else a formal, or else a parameter
-pub lookup-is : (s : Scope) (x : Name) → type_in (context s) x ≡ option_or (option_or (type_in (context_of s.types.now (map (λ v. field_of v.field) s.variables.now)) x) (type_in (context_of s.types.now (map field_of s.formals.now)) x)) (type_in (context_of s.types.now (map (λ p. field_in (position_of p)) s.positions.now)) x)
+pub lookup-is : (s : Scope) (x : Name) → type_in (context s) x ≡ option_or (option_or (type_in (context_of (early s.known) (map (λ v. field_of v.field) s.variables.now)) x) (type_in (context_of (early s.known) (map field_of s.formals.now)) x)) (type_in (context_of (early s.known) (map (λ p. field_in (position_of p)) s.positions.now)) x)
 lookup-is s x =
-    chained (context_of s.types.now (map (λ v. v.field) (map variable_of s.variables.now))) (context_of s.types.now (map field_of s.formals.now)) (context_of s.types.now (position_fields (map position_of s.positions.now))) x
-    ∙ ap (λ fs. option_or (option_or (type_in (context_of s.types.now fs) x) (type_in (context_of s.types.now (map field_of s.formals.now)) x)) (type_in (context_of s.types.now (position_fields (map position_of s.positions.now))) x)) (fields-of_variables s.variables.now)
-    ∙ ap (λ fs. option_or (option_or (type_in (context_of s.types.now (map (λ v. field_of v.field) s.variables.now)) x) (type_in (context_of s.types.now (map field_of s.formals.now)) x)) (type_in (context_of s.types.now fs) x)) (fields-of_positions s.positions.now)
+    chained (context_of (early s.known) (map (λ v. v.field) (map variable_of s.variables.now))) (context_of (early s.known) (map field_of s.formals.now)) (context_of (early s.known) (position_fields (map position_of s.positions.now))) x
+    ∙ ap (λ fs. option_or (option_or (type_in (context_of (early s.known) fs) x) (type_in (context_of (early s.known) (map field_of s.formals.now)) x)) (type_in (context_of (early s.known) (position_fields (map position_of s.positions.now))) x)) (fields-of_variables s.variables.now)
+    ∙ ap (λ fs. option_or (option_or (type_in (context_of (early s.known) (map (λ v. field_of v.field) s.variables.now)) x) (type_in (context_of (early s.known) (map field_of s.formals.now)) x)) (type_in (context_of (early s.known) fs) x)) (fields-of_positions s.positions.now)
 
-pub lookup-variable : (s : Scope) (x : Name) (n : ℕ) → Some n ≡ type_in (context_of s.types.now (map (λ v. field_of v.field) s.variables.now)) x → Some n ≡ type_in (context s) x
-lookup-variable s x n h = ap (λ o. option_or (option_or o (type_in (context_of s.types.now (map field_of s.formals.now)) x)) (type_in (context_of s.types.now (map (λ p. field_in (position_of p)) s.positions.now)) x)) h ∙ sym (lookup-is s x)
+pub lookup-variable : (s : Scope) (x : Name) (n : ℕ) → Some n ≡ type_in (context_of (early s.known) (map (λ v. field_of v.field) s.variables.now)) x → Some n ≡ type_in (context s) x
+lookup-variable s x n h = ap (λ o. option_or (option_or o (type_in (context_of (early s.known) (map field_of s.formals.now)) x)) (type_in (context_of (early s.known) (map (λ p. field_in (position_of p)) s.positions.now)) x)) h ∙ sym (lookup-is s x)
 
-pub lookup-formal : (s : Scope) (x : Name) (n : ℕ) → None ≡ type_in (context_of s.types.now (map (λ v. field_of v.field) s.variables.now)) x → Some n ≡ type_in (context_of s.types.now (map field_of s.formals.now)) x → Some n ≡ type_in (context s) x
-lookup-formal s x n g h = ap (λ o. option_or (option_or None o) (type_in (context_of s.types.now (map (λ p. field_in (position_of p)) s.positions.now)) x)) h
-    ∙ ap (λ o. option_or (option_or o (type_in (context_of s.types.now (map field_of s.formals.now)) x)) (type_in (context_of s.types.now (map (λ p. field_in (position_of p)) s.positions.now)) x)) g ∙ sym (lookup-is s x)
+pub lookup-formal : (s : Scope) (x : Name) (n : ℕ) → None ≡ type_in (context_of (early s.known) (map (λ v. field_of v.field) s.variables.now)) x → Some n ≡ type_in (context_of (early s.known) (map field_of s.formals.now)) x → Some n ≡ type_in (context s) x
+lookup-formal s x n g h = ap (λ o. option_or (option_or None o) (type_in (context_of (early s.known) (map (λ p. field_in (position_of p)) s.positions.now)) x)) h
+    ∙ ap (λ o. option_or (option_or o (type_in (context_of (early s.known) (map field_of s.formals.now)) x)) (type_in (context_of (early s.known) (map (λ p. field_in (position_of p)) s.positions.now)) x)) g ∙ sym (lookup-is s x)
 
-pub lookup-parameter : (s : Scope) (x : Name) (r : Option ℕ) → None ≡ type_in (context_of s.types.now (map (λ v. field_of v.field) s.variables.now)) x → None ≡ type_in (context_of s.types.now (map field_of s.formals.now)) x → r ≡ type_in (context_of s.types.now (map (λ p. field_in (position_of p)) s.positions.now)) x → r ≡ type_in (context s) x
-lookup-parameter s x r f g h = h ∙ ap (λ o. option_or (option_or None o) (type_in (context_of s.types.now (map (λ p. field_in (position_of p)) s.positions.now)) x)) g
-    ∙ ap (λ o. option_or (option_or o (type_in (context_of s.types.now (map field_of s.formals.now)) x)) (type_in (context_of s.types.now (map (λ p. field_in (position_of p)) s.positions.now)) x)) f ∙ sym (lookup-is s x)
+pub lookup-parameter : (s : Scope) (x : Name) (r : Option ℕ) → None ≡ type_in (context_of (early s.known) (map (λ v. field_of v.field) s.variables.now)) x → None ≡ type_in (context_of (early s.known) (map field_of s.formals.now)) x → r ≡ type_in (context_of (early s.known) (map (λ p. field_in (position_of p)) s.positions.now)) x → r ≡ type_in (context s) x
+lookup-parameter s x r f g h = h ∙ ap (λ o. option_or (option_or None o) (type_in (context_of (early s.known) (map (λ p. field_in (position_of p)) s.positions.now)) x)) g
+    ∙ ap (λ o. option_or (option_or o (type_in (context_of (early s.known) (map field_of s.formals.now)) x)) (type_in (context_of (early s.known) (map (λ p. field_in (position_of p)) s.positions.now)) x)) f ∙ sym (lookup-is s x)

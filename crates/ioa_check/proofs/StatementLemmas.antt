@@ -21,62 +21,62 @@ and-assoc : (a b c : Bool) → (a && (b && c)) ≡ ((a && b) && c)
 and-assoc true b c = refl
 and-assoc false b c = refl
 
-module _ (t : Table) (a : AutomatonTree) (e : EntryTree) where
+module _ (t early : Table) (a : AutomatonTree) (e : EntryTree) where
   abbrev pub is_arm_fine : Expr × Stmts → Bool
-  is_arm_fine p = has_ty t (scope t [] a e) p.0 0 && stmts_fine t [] a e p.1
+  is_arm_fine p = has_ty t early (scope t early [] a e) p.0 0 && stmts_fine t early [] a e p.1
 
   abbrev pub in_arm : Expr × Stmts → Reasons
-  in_arm p = in_condition t [] a e p.0 or in_stmts t [] a e p.1
+  in_arm p = in_condition t early [] a e p.0 or in_stmts t early [] a e p.1
 
   -- ---- one after another
 
-  pub each_statement : (ss : List Statement) → stmts_fine t [] a e (stmts_of ss) ≡ list_all (stmt_fine t [] a e) (map stmt_of ss)
+  pub each_statement : (ss : List Statement) → stmts_fine t early [] a e (stmts_of ss) ≡ list_all (stmt_fine t early [] a e) (map stmt_of ss)
   each_statement [] = refl
-  each_statement (s ∷ ss) = ap (λ b. stmt_fine t [] a e (stmt_of s) && b) (each_statement ss)
+  each_statement (s ∷ ss) = ap (λ b. stmt_fine t early [] a e (stmt_of s) && b) (each_statement ss)
 
-  in_each_statement : (ss : List Statement) (r : Refusal) → in_any (in_stmt t [] a e) (map stmt_of ss) r ≡ in_stmts t [] a e (stmts_of ss) r
+  in_each_statement : (ss : List Statement) (r : Refusal) → in_any (in_stmt t early [] a e) (map stmt_of ss) r ≡ in_stmts t early [] a e (stmts_of ss) r
   in_each_statement [] r = refl
-  in_each_statement (s ∷ ss) r = ap (λ b. in_stmt t [] a e (stmt_of s) r || b) (in_each_statement ss r)
+  in_each_statement (s ∷ ss) r = ap (λ b. in_stmt t early [] a e (stmt_of s) r || b) (in_each_statement ss r)
 
-  pub each_arm : (xs : List Arm) → arms_fine t [] a e (arms_of xs) ≡ list_all is_arm_fine (map arm_of xs)
+  pub each_arm : (xs : List Arm) → arms_fine t early [] a e (arms_of xs) ≡ list_all is_arm_fine (map arm_of xs)
   each_arm [] = refl
   each_arm (x ∷ xs) =
-      ap (λ b. has_ty t (scope t [] a e) (expr_of x.condition) 0 && (stmts_fine t [] a e (stmts_of x.statements.items) && b)) (each_arm xs)
-      ∙ and-assoc (has_ty t (scope t [] a e) (expr_of x.condition) 0) (stmts_fine t [] a e (stmts_of x.statements.items)) (list_all is_arm_fine (map arm_of xs))
+      ap (λ b. has_ty t early (scope t early [] a e) (expr_of x.condition) 0 && (stmts_fine t early [] a e (stmts_of x.statements.items) && b)) (each_arm xs)
+      ∙ and-assoc (has_ty t early (scope t early [] a e) (expr_of x.condition) 0) (stmts_fine t early [] a e (stmts_of x.statements.items)) (list_all is_arm_fine (map arm_of xs))
 
-  in_each_arm : (xs : List Arm) (r : Refusal) → in_any in_arm (map arm_of xs) r ≡ in_arms t [] a e (arms_of xs) r
+  in_each_arm : (xs : List Arm) (r : Refusal) → in_any in_arm (map arm_of xs) r ≡ in_arms t early [] a e (arms_of xs) r
   in_each_arm [] r = refl
   in_each_arm (x ∷ xs) r = ap (λ b. in_arm (arm_of x) r || b) (in_each_arm xs r)
 
-  pub statements-say : {T : Type 0} (r : Result T Refusal) (ss : List Statement) → Says r (list_all (stmt_fine t [] a e) (map stmt_of ss)) (in_any (in_stmt t [] a e) (map stmt_of ss)) → Says r (stmts_fine t [] a e (stmts_of ss)) (in_stmts t [] a e (stmts_of ss))
+  pub statements-say : {T : Type 0} (r : Result T Refusal) (ss : List Statement) → Says r (list_all (stmt_fine t early [] a e) (map stmt_of ss)) (in_any (in_stmt t early [] a e) (map stmt_of ss)) → Says r (stmts_fine t early [] a e (stmts_of ss)) (in_stmts t early [] a e (stmts_of ss))
   statements-say r ss h = says-at r _ _ _ (sym (each_statement ss)) (says-more r _ _ _ (λ x k. sym (in_each_statement ss x) ∙ k) h)
 
-  pub arms-say : {T : Type 0} (r : Result T Refusal) (xs : List Arm) → Says r (list_all is_arm_fine (map arm_of xs)) (in_any in_arm (map arm_of xs)) → Says r (arms_fine t [] a e (arms_of xs)) (in_arms t [] a e (arms_of xs))
+  pub arms-say : {T : Type 0} (r : Result T Refusal) (xs : List Arm) → Says r (list_all is_arm_fine (map arm_of xs)) (in_any in_arm (map arm_of xs)) → Says r (arms_fine t early [] a e (arms_of xs)) (in_arms t early [] a e (arms_of xs))
   arms-say r xs h = says-at r _ _ _ (sym (each_arm xs)) (says-more r _ _ _ (λ x k. sym (in_each_arm xs x) ∙ k) h)
 
-  pub same-statements-say : {T : Type 0} (r : Result T Refusal) (xs ys : List Statement) → xs ≡ ys → Says r (stmts_fine t [] a e (stmts_of xs)) (in_stmts t [] a e (stmts_of xs)) → Says r (stmts_fine t [] a e (stmts_of ys)) (in_stmts t [] a e (stmts_of ys))
-  same-statements-say {T} r xs ys i h = let P : List Statement → Type 0 = λ ss. Says r (stmts_fine t [] a e (stmts_of ss)) (in_stmts t [] a e (stmts_of ss)) in subst P i h
+  pub same-statements-say : {T : Type 0} (r : Result T Refusal) (xs ys : List Statement) → xs ≡ ys → Says r (stmts_fine t early [] a e (stmts_of xs)) (in_stmts t early [] a e (stmts_of xs)) → Says r (stmts_fine t early [] a e (stmts_of ys)) (in_stmts t early [] a e (stmts_of ys))
+  same-statements-say {T} r xs ys i h = let P : List Statement → Type 0 = λ ss. Says r (stmts_fine t early [] a e (stmts_of ss)) (in_stmts t early [] a e (stmts_of ss)) in subst P i h
 
   -- ---- a choice: its arms, then its other statements
 
   choice_tree : (s : Statement) (arms : Vec Arm Global) (others : Vec Statement Global) (line : ℕ) (xs : List Arm) (ss : List Statement) → s ≡ If arms others line → xs ≡ arms.items → ss ≡ others.items → choose (arms_of xs) (stmts_of ss) ≡ stmt_of s
   choice_tree s arms others line xs ss i p q = ap (λ ys. choose (arms_of ys) (stmts_of ss)) p ∙ ap (λ ys. choose (arms_of arms.items) (stmts_of ys)) q ∙ sym (stmt_chosen s arms others line i)
 
-  says-shown : {T : Type 0} (r : Result T Refusal) (s u : Stmt) → s ≡ u → Says r (stmt_fine t [] a e s) (in_stmt t [] a e s) → Says r (stmt_fine t [] a e u) (in_stmt t [] a e u)
-  says-shown {T} r s u i h = let P : Stmt → Type 0 = λ v. Says r (stmt_fine t [] a e v) (in_stmt t [] a e v) in subst P i h
+  says-shown : {T : Type 0} (r : Result T Refusal) (s u : Stmt) → s ≡ u → Says r (stmt_fine t early [] a e s) (in_stmt t early [] a e s) → Says r (stmt_fine t early [] a e u) (in_stmt t early [] a e u)
+  says-shown {T} r s u i h = let P : Stmt → Type 0 = λ v. Says r (stmt_fine t early [] a e v) (in_stmt t early [] a e v) in subst P i h
 
   -- an arm is not
   pub arms-passed : {T U : Type 0} (q : Result U Refusal) (r : Result T Refusal) (x : Refusal) (s : Statement) (arms : Vec Arm Global) (others : Vec Statement Global) (line : ℕ) (xs : List Arm) → s ≡ If arms others line → xs ≡ arms.items →
-      q ≡ Err x → IsErrAnd r (λ y. y ≡ x) → Says q (arms_fine t [] a e (arms_of xs)) (in_arms t [] a e (arms_of xs)) → Says r (stmt_fine t [] a e (stmt_of s)) (in_stmt t [] a e (stmt_of s))
+      q ≡ Err x → IsErrAnd r (λ y. y ≡ x) → Says q (arms_fine t early [] a e (arms_of xs)) (in_arms t early [] a e (arms_of xs)) → Says r (stmt_fine t early [] a e (stmt_of s)) (in_stmt t early [] a e (stmt_of s))
   arms-passed {T} q r x s arms others line xs i p was bad h = fails r bad (says-passed q r x _ _ was bad h)
     where
-      fails : (r : Result T Refusal) → IsErrAnd r (λ y. y ≡ x) → Says r (arms_fine t [] a e (arms_of xs)) (in_arms t [] a e (arms_of xs)) → Says r (stmt_fine t [] a e (stmt_of s)) (in_stmt t [] a e (stmt_of s))
+      fails : (r : Result T Refusal) → IsErrAnd r (λ y. y ≡ x) → Says r (arms_fine t early [] a e (arms_of xs)) (in_arms t early [] a e (arms_of xs)) → Says r (stmt_fine t early [] a e (stmt_of s)) (in_stmt t early [] a e (stmt_of s))
       fails (Ok y) bad k = absurd bad
       fails (Err y) bad k = says-shown {T = T} (Err y) _ _ (choice_tree s arms others line xs others.items i p refl) (or_left _ _ k.0, and_left _ _ k.1)
 
   -- the arms are fine, and the other statements decide
   pub others-say : {T : Type 0} (r : Result T Refusal) (s : Statement) (arms : Vec Arm Global) (others : Vec Statement Global) (line : ℕ) (xs : List Arm) (ss : List Statement) → s ≡ If arms others line → xs ≡ arms.items → ss ≡ others.items →
-      arms_fine t [] a e (arms_of xs) ≡ true → Says r (stmts_fine t [] a e (stmts_of ss)) (in_stmts t [] a e (stmts_of ss)) → Says r (stmt_fine t [] a e (stmt_of s)) (in_stmt t [] a e (stmt_of s))
+      arms_fine t early [] a e (arms_of xs) ≡ true → Says r (stmts_fine t early [] a e (stmts_of ss)) (in_stmts t early [] a e (stmts_of ss)) → Says r (stmt_fine t early [] a e (stmt_of s)) (in_stmt t early [] a e (stmt_of s))
   others-say r s arms others line xs ss i p q f h =
       says-shown r _ _ (choice_tree s arms others line xs ss i p q) (says-more r _ _ _ (λ x k. or_right _ _ k) (says-last r _ _ _ f h))
 

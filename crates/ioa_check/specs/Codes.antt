@@ -11,6 +11,7 @@ pub data Code : Type 0 where
   bad_signature : Code
   no_proposal : Code
   too_many : Code
+  too_wide : Code
 
 -- the number behind the E that is printed
 abbrev pub number : Code → ℕ
@@ -20,8 +21,9 @@ number type_mismatch = 7
 number bad_signature = 8
 number no_proposal = 9
 number too_many = 10
+number too_wide = 11
 
--- the refusal's code: TooWide has none, since no type can be declared that is too wide
+-- the refusal's code, where it is one of these
 abbrev pub code_of : Refusal → Option Code
 code_of TextTooLong = None
 code_of (BadByte line) = None
@@ -33,7 +35,7 @@ code_of (TypeMismatch line) = Some type_mismatch
 code_of (BadSignature line) = Some bad_signature
 code_of (NoProposal line) = Some no_proposal
 code_of (TooMany line) = Some too_many
-code_of (TooWide line) = None
+code_of (TooWide line) = Some too_wide
 code_of (ArgMismatch i) = None
 code_of (CrashName i) = None
 code_of (Clash i j name) = None

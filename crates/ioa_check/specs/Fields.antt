@@ -8,6 +8,6 @@ use Rattle.ioa_syntax.specs.Tree.{FieldTree, PositionTree, typed}
 abbrev pub field_in : PositionTree → FieldTree
 field_in (typed f) = f
 
--- the field's type, where it has this name
+-- the field's type, where it has this name and its type is among these
 abbrev pub type_under : Table → FieldTree → Name → Option ℕ
 type_under t f x = if bytes_eq f.name x then type_named t f.ty else None

@@ -5,15 +5,16 @@ use Rattle.std.specs.Option.{option_map_or}
 use Rattle.ioa_value.specs.Actions.{Name}
 use Rattle.ioa_value.specs.Arithmetic.{fits}
 use Rattle.ioa_value.specs.Operators.{op_type}
-use Rattle.ioa_value.specs.Table.{Table, type_named}
+use Rattle.ioa_value.specs.Table.{Table, type_named, item_type}
 use Rattle.ioa_lex.specs.declared.refusal.Refusal.{Refusal}
-use Rattle.ioa_syntax.specs.Tree.{Expr, number, truth, named, parens, prefix, binary, EntryTree, VariableTree, ProposalTree, Stmt, assign, choose, Stmts, stop, seq, Arms, no_arm, arm, TransitionTree, AutomatonTree, InstanceTree, CompositionTree, DeclarationTree, automaton, composition, SourceTree}
-use Rattle.ioa_syntax.specs.Instances.{position_name}
+use Rattle.ioa_syntax.specs.Tree.{Expr, number, truth, named, parens, prefix, binary, empty, EntryTree, VariableTree, ProposalTree, Stmt, assign, choose, Stmts, stop, seq, Arms, no_arm, arm, TransitionTree, AutomatonTree, InstanceTree, CompositionTree, FormTree, enumeration, tuple, sequence, DeclarationTree, declared_type, automaton, composition, SourceTree}
+use Rattle.ioa_syntax.specs.Instances.{field_names, position_name}
+use Rattle.ioa_syntax.specs.Meaning.{or_else}
 use Rattle.ioa_value.specs.declared.limits.TheConstants.{LIMITS}
-use Rattle.ioa_syntax.specs.Types.{types_of}
+use Rattle.ioa_syntax.specs.Types.{with_type, types_of, constant_type}
 use Rattle.ioa_syntax.specs.WellFormed as well_formed
-use Rattle.ioa_syntax.specs.WellFormed.{Context, type_in, type_of, infix_type, distinct, apart, is_type, context_of, position_fields, variable_fields, is_input, is_automaton_of, global_names, source_within}
-use Rattle.ioa_check.specs.Codes.{Code, duplicate_name, unknown_name, type_mismatch, bad_signature, no_proposal, too_many, tells}
+use Rattle.ioa_syntax.specs.WellFormed.{Context, type_in, type_of, infix_type, distinct, apart, is_type, context_of, position_fields, variable_fields, is_input, is_automaton_of, global_names, source_within, types_narrow}
+use Rattle.ioa_check.specs.Codes.{Code, duplicate_name, unknown_name, type_mismatch, bad_signature, no_proposal, too_many, too_wide, tells}
 
 -- the refusals that have their reason in a part of a source
 abbrev pub Reasons : Type 0
@@ -52,58 +53,68 @@ taken (Some a) (Some b) f = is_some (f (a ∷ b ∷ []))
 taken (Some a) None f = true
 taken None o f = true
 
+-- `empty` of a name: it is an earlier type's, and this type is a sequence
+abbrev pub in_empty : Table → Name → Reasons
+in_empty early x = broken unknown_name (is_some (type_named early x))
+    or broken type_mismatch (option_map_or (λ ty. is_some (item_type early ty)) (type_named early x) true)
+
 -- an expression: its numbers fit, its names are known, and its operators take the types of their operands
-abbrev pub in_expression : Table → Context → Expr → Reasons
-in_expression t c (number n) = broken type_mismatch (fits (pos n))
-in_expression t c (truth b) = none
-in_expression t c (named x) = broken unknown_name (is_some (type_in c x))
-in_expression t c (parens e) = in_expression t c e
-in_expression t c (prefix o e) = in_expression t c e or broken type_mismatch (one_taken (type_of t c e) (op_type t o))
-in_expression t c (binary l o r) = in_expression t c l or in_expression t c r or broken type_mismatch (taken (type_of t c l) (type_of t c r) (infix_type t o))
+abbrev pub in_expression : Table → Table → Context → Expr → Reasons
+in_expression t early c (number n) = broken type_mismatch (fits (pos n))
+in_expression t early c (truth b) = none
+in_expression t early c (named x) = broken unknown_name (is_some (or_else (type_in c x) (constant_type early x)))
+in_expression t early c (parens e) = in_expression t early c e
+in_expression t early c (prefix o e) = in_expression t early c e or broken type_mismatch (one_taken (type_of t early c e) (op_type t o))
+in_expression t early c (binary l o r) =
+    in_expression t early c l or in_expression t early c r
+    or broken type_mismatch (taken (type_of t early c l) (type_of t early c r) (infix_type t o))
+in_expression t early c (empty x) = in_empty early x
 
 -- an expression where one of a type is wanted: this type is known, and the expression has no other
-abbrev pub in_place : Table → Option ℕ → Context → Expr → Reasons
-in_place t (Some ty) c e = in_expression t c e or broken type_mismatch (option_map_or (λ own. own == ty) (type_of t c e) true)
-in_place t None c e = broken unknown_name false
+abbrev pub in_place : Table → Table → Option ℕ → Context → Expr → Reasons
+in_place t early (Some ty) c e = in_expression t early c e or broken type_mismatch (option_map_or (λ own. own == ty) (type_of t early c e) true)
+in_place t early None c e = broken unknown_name false
 
-module _ (t : Table) (globals : List Name) (a : AutomatonTree) where
+module _ (t early : Table) (globals : List Name) (a : AutomatonTree) where
   -- formals and variables
   abbrev pub in_fields : Reasons
-  in_fields = broken duplicate_name (distinct (well_formed.local_names t globals a) && apart (well_formed.local_names t globals a) globals)
-      or broken unknown_name (list_all (is_type t) a.formals && list_all (is_type t) (variable_fields a))
+  in_fields = broken duplicate_name (distinct (well_formed.local_names t early globals a) && apart (well_formed.local_names t early globals a) globals)
+      or broken unknown_name (list_all (is_type early) a.formals && list_all (is_type early) (variable_fields a))
 
   abbrev pub in_start : VariableTree → Reasons
-  in_start v = in_some (in_place t (type_named t v.field.ty) (well_formed.formals t globals a)) v.start
+  in_start v = in_some (in_place t early (type_named early v.field.ty) (well_formed.formals t early globals a)) v.start
 
   -- an entry's parameters
   abbrev pub in_entry : EntryTree → Reasons
-  in_entry e = broken duplicate_name (distinct (map position_name e.positions) && apart (map position_name e.positions) (globals ++ well_formed.local_names t globals a))
-      or broken unknown_name (list_all (is_type t) (position_fields e.positions))
+  in_entry e = broken duplicate_name (distinct (map position_name e.positions) && apart (map position_name e.positions)
+      (globals ++ well_formed.local_names t early globals a))
+      or broken unknown_name (list_all (is_type early) (position_fields e.positions))
 
   abbrev pub in_entries : Reasons
   in_entries = broken duplicate_name (distinct (map (λ e. e.name) a.entries)) or in_any in_entry a.entries
 
   -- a precondition, or the condition of a choice
   abbrev pub in_condition : EntryTree → Expr → Reasons
-  in_condition e c = in_place t (Some 0) (well_formed.scope t globals a e) c
+  in_condition e c = in_place t early (Some 0) (well_formed.scope t early globals a e) c
 
   abbrev pub in_proposal : EntryTree → ProposalTree → Reasons
-  in_proposal e p = in_place t (type_in (context_of t (position_fields e.positions)) p.name) (well_formed.held t globals a) p.value
+  in_proposal e p = in_place t early (type_in (context_of early (position_fields e.positions)) p.name) (well_formed.held t early globals a) p.value
 
   abbrev pub in_proposals : EntryTree → TransitionTree → Reasons
   in_proposals e r = in_any (in_proposal e) r.proposals or broken duplicate_name (distinct (map (λ p. p.name) r.proposals))
 
   -- what an output or internal transition has before its effect
   abbrev pub in_local : EntryTree → TransitionTree → Reasons
-  in_local e r = in_some (in_condition e) r.pre or in_proposals e r or broken no_proposal (well_formed.all_proposed t globals a e r)
+  in_local e r = in_some (in_condition e) r.pre or in_proposals e r or broken no_proposal (well_formed.all_proposed t early globals a e r)
 
   abbrev pub before_effect : EntryTree → TransitionTree → Reasons
-  before_effect e r = in_case (is_input r.kind) (broken bad_signature (well_formed.input_fine t globals a r)) or in_case (not (is_input r.kind)) (in_local e r)
+  before_effect e r = in_case (is_input r.kind) (broken bad_signature (well_formed.input_fine t early globals a r)) or in_case (not (is_input r.kind))
+      (in_local e r)
 
   -- statements: assignments and conditions, also those within arms
   abbrev mutual
     pub in_stmt : EntryTree → Stmt → Reasons
-    in_stmt e (assign x v) = in_place t (type_in (context_of t (variable_fields a)) x) (well_formed.scope t globals a e) v
+    in_stmt e (assign x v) = in_place t early (type_in (context_of early (variable_fields a)) x) (well_formed.scope t early globals a e) v
     in_stmt e (choose arms others) = in_arms e arms or in_stmts e others
 
     pub in_stmts : EntryTree → Stmts → Reasons
@@ -119,32 +130,49 @@ module _ (t : Table) (globals : List Name) (a : AutomatonTree) where
 
   -- a transition, if it is the entry's
   abbrev pub in_pair : EntryTree → TransitionTree → Reasons
-  in_pair e r = in_case (well_formed.matches t globals a e r) (in_transition e r)
+  in_pair e r = in_case (well_formed.matches t early globals a e r) (in_transition e r)
 
   abbrev pub in_transitions : Reasons
   in_transitions = in_any (λ e. in_any (in_pair e) a.transitions) a.entries
 
   abbrev pub in_automaton : Reasons
   in_automaton = in_fields or in_any in_start a.variables or in_entries
-      or broken bad_signature (well_formed.one_to_one t globals a) or in_transitions
+      or broken bad_signature (well_formed.one_to_one t early globals a) or in_transitions
 
-module _ (t : Table) where
-  -- a component: its automaton is declared before, and its arguments stand without any name
+-- ---- declarations
+
+-- what a type is declared to be: a tuple's fields have names of their own, and it names earlier types alone
+abbrev pub in_form : Table → FormTree → Reasons
+in_form early (enumeration ns) = none
+in_form early (tuple fs) = broken duplicate_name (distinct (field_names fs)) or broken unknown_name (list_all (is_type early) fs)
+in_form early (sequence most of) = broken unknown_name (is_some (type_named early of))
+
+module _ (t early : Table) where
+  -- a component: its automaton is declared before, and its arguments stand without any name of an automaton
   abbrev pub in_instance : SourceTree → InstanceTree → Reasons
-  in_instance before i = broken unknown_name (list_any (is_automaton_of i.automaton) before) or in_any (in_expression t []) i.arguments
+  in_instance before i = broken unknown_name (list_any (is_automaton_of i.automaton) before) or in_any (in_expression t early []) i.arguments
 
   abbrev pub in_composition : SourceTree → CompositionTree → Reasons
   in_composition before c = broken duplicate_name (distinct (map (λ i. i.name) c.instances)) or in_any (in_instance before) c.instances
 
-  abbrev pub in_declaration : List Name → SourceTree → DeclarationTree → Reasons
-  in_declaration globals before (automaton a) = in_automaton t globals a
-  in_declaration globals before (composition c) = in_composition before c
+module _ (t : Table) (globals : List Name) where
+  abbrev pub in_declaration : SourceTree → DeclarationTree → Reasons
+  in_declaration before (declared_type d) = in_form (types_of before) d.form
+  in_declaration before (automaton a) = in_automaton t (types_of before) globals a
+  in_declaration before (composition c) = in_composition t (types_of before) before c
 
   -- each declaration, over those before it
-  abbrev pub in_declarations : List Name → SourceTree → SourceTree → Reasons
-  in_declarations globals before [] = none
-  in_declarations globals before (d ∷ ds) = in_declaration globals before d or in_declarations globals (before ++ d ∷ []) ds
+  abbrev pub in_declarations : SourceTree → SourceTree → Reasons
+  in_declarations before [] = none
+  in_declarations before (d ∷ ds) = in_declaration before d or in_declarations (before ++ d ∷ []) ds
+
+-- the declarations of types, each over the types before it
+abbrev pub in_types : Table → SourceTree → Reasons
+in_types types [] = none
+in_types types (declared_type d ∷ ds) = in_form types d.form or in_types (with_type types d) ds
+in_types types (automaton a ∷ ds) = in_types types ds
+in_types types (composition c ∷ ds) = in_types types ds
 
 abbrev pub in_source : SourceTree → Reasons
 in_source s = broken too_many (source_within LIMITS s) or broken duplicate_name (distinct (global_names s))
-    or in_declarations (types_of s) (global_names s) [] s
+    or in_declarations (types_of s) (global_names s) [] s or broken too_wide (types_narrow LIMITS s)

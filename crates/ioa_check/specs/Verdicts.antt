@@ -1,5 +1,5 @@
 -- What an answer of the checker says about a part of a source: of the test that it is, and of the reasons for a refusal.
-use Rattle.std.specs.Prelude.{◌≡◌, ℕ, Bool, true, false, Option, Some, None, Result, Ok, Err}
+use Rattle.std.specs.Prelude.{◌≡◌, ◌≢◌, ℕ, Bool, true, false, Option, Some, None, Result, Ok, Err}
 use Rattle.ioa_value.specs.declared.value.Ty.{Ty}
 use Rattle.ioa_lex.specs.declared.refusal.Refusal.{Refusal}
 use Rattle.ioa_lex.specs.declared.refusal.Refusal.TheVariants.{OutOfMemory}
@@ -13,8 +13,7 @@ Says (Err r) test reasons = (reasons r ≡ true) × (test ≡ false)
 -- the same, where memory may be short
 abbrev pub SaysOrMemory : {T : Type 0} → Result T Refusal → Bool → Reasons → Type 0
 SaysOrMemory (Ok x) test reasons = test ≡ true
-SaysOrMemory (Err OutOfMemory) test reasons = Unit {0}
-SaysOrMemory (Err r) test reasons = (reasons r ≡ true) × (test ≡ false)
+SaysOrMemory (Err r) test reasons = r ≢ OutOfMemory → (reasons r ≡ true) × (test ≡ false)
 
 -- the type, or where there is none, a refusal that has its reason
 abbrev pub Finds : Result Ty Refusal → Option ℕ → Reasons → Type 0

@@ -8,7 +8,7 @@ ghost use Rattle.ioa_lex.specs.declared.refusal.Refusal.TheVariants.{OutOfMemory
 
 use crate::declarations::source_fine;
 use ioa_syntax::{Declaration, Refusal, Source};
-use ioa_value::{Declarations, Types};
+use ioa_value::Types;
 use std::alloc::Global;
 use std::marker::Model;
 
@@ -59,7 +59,7 @@ impl Checked {
 ///
 /// # Errors
 /// `DuplicateName`, `UnknownName` (also a name used before its declaration, or where it may not stand), `TypeMismatch`,
-/// `BadSignature`, `NoProposal` and `TooMany`, each only where a rule of its own is broken somewhere in the source; which of
+/// `BadSignature`, `NoProposal`, `TooMany` and `TooWide`, each only where a rule of its own is broken somewhere in the source; which of
 /// several comes first, and that its line is the one at fault, is tested, not proved. `OutOfMemory`.
 pub fn check(alloc: Global, source: Source) -> Result<Checked, Refusal>
     ensures same { IfOk result (λ c. tree_of c ≡ tree_of source) }
@@ -67,7 +67,6 @@ pub fn check(alloc: Global, source: Source) -> Result<Checked, Refusal>
     ensures refused { IfErr result (λ r. r ≢ OutOfMemory → WellFormed (tree_of source) → ⊥) }
     ensures reason { IfErr result (λ r. r ≢ OutOfMemory → IsTrue (in_source (tree_of source) r)) }
 {
-    let types = Declarations::new(alloc)?.finish(alloc)?;
-    source_fine(alloc, &types, source.declarations())?;
+    let types = source_fine(alloc, source.declarations())?;
     Ok(Checked { source, types })
 }

@@ -2,33 +2,26 @@ ghost use Rattle.std.specs.Prelude.{◌≡◌, [], ◌∷◌, Some};
 ghost use Rattle.std.specs.Option.{option_map};
 ghost use Rattle.ioa_value.specs.Operators as operators;
 ghost use Rattle.ioa_value.specs.Plain.{number as number_of_type};
-ghost use Rattle.ioa_syntax.specs.View.{expr_of};
+ghost use Rattle.ioa_syntax.specs.Types.{sequence_named};
+ghost use Rattle.ioa_syntax.specs.View.{expr_of, name_of};
 ghost use Rattle.ioa_syntax.specs.Tree.{number};
 ghost use Rattle.ioa_syntax.specs.WellFormed as well_formed;
+ghost use Rattle.ioa_check.specs.Known.{whole, early};
 ghost use Rattle.ioa_check.specs.Scopes.{context};
 ghost use Rattle.ioa_check.specs.Codes.{type_mismatch, tells};
 ghost use Rattle.ioa_check.specs.Reasons as reasons;
 ghost use Rattle.ioa_check.specs.Verdicts.{Says, Finds};
 
+use crate::known::Known;
 use crate::scope::Scope;
-use ioa_syntax::{Expression, Infix, Refusal};
-use ioa_value::{Op, Ty, Types, op_type};
+use ioa_syntax::{Expression, Infix, Name, Refusal};
+use ioa_value::{Form, Op, Ty, Types, op_type};
 
-/// The line of an expression's first token.
-pub(crate) fn line_of(expression: &Expression) -> u32 {
-    match expression {
-        Expression::Number(_, line)
-        | Expression::Truth(_, line)
-        | Expression::Parentheses(_, line)
-        | Expression::Prefix(_, _, line) => *line,
-        Expression::Name(name) => name.line,
-        Expression::Binary(left, _, _) => line_of(left),
-    }
-}
-
-/// The type of an expression. A line is that of an unknown name, or of an operand whose type its operator does not take.
+/// The type of an expression. A line is that of a name that is not known or, after `empty`, of no sequence, or of an
+/// operand whose type its operator does not take.
 pub(crate) fn type_of(scope: &Scope, expression: &Expression) -> Result<Ty, Refusal>
-    ensures { Finds result (well_formed.type_of scope.now.types.now (context scope.now) (expr_of expression.now)) (reasons.in_expression scope.now.types.now (context scope.now) (expr_of expression.now)) }
+    ensures { let k = scope.now.known in
+        Finds result (well_formed.type_of (whole k) (early k) (context scope.now) (expr_of expression.now)) (reasons.in_expression (whole k) (early k) (context scope.now) (expr_of expression.now)) }
 {
     match expression {
         Expression::Number(n, line) => number_type(*n, *line),
@@ -40,25 +33,26 @@ pub(crate) fn type_of(scope: &Scope, expression: &Expression) -> Result<Ty, Refu
         Expression::Parentheses(inner, _) => type_of(scope, inner),
         Expression::Prefix(op, operand, _) => {
             let own = type_of(scope, operand)?;
-            prefix_type(scope.types, *op, own, line_of(operand))
+            prefix_type(scope.known.types, *op, own, operand.line())
         }
-        Expression::Binary(left, operator, right) => {
+        Expression::Binary(left, operator, right, _) => {
             let first = type_of(scope, left)?;
             let second = type_of(scope, right)?;
             binary_type(
-                scope.types,
+                scope.known.types,
                 *operator,
                 first,
                 second,
-                line_of(left),
-                line_of(right),
+                left.line(),
+                right.line(),
             )
         }
+        Expression::Empty(name, _) => empty_type(&scope.known, name),
     }
 }
 
 fn number_type(n: u64, line: u32) -> Result<Ty, Refusal>
-    ensures { Finds result (well_formed.type_of [] [] (number n)) (tells type_mismatch) }
+    ensures { Finds result (well_formed.type_of [] [] [] (number n)) (tells type_mismatch) }
 {
     if n <= 0x7fff_ffff_ffff_ffff {
         Ok(Ty::INT)
@@ -67,7 +61,20 @@ fn number_type(n: u64, line: u32) -> Result<Ty, Refusal>
     }
 }
 
-/// The type of what an operator before its operand gives, where it takes one of this type. The line is the operand's.
+/// The sequence type of this name.
+fn empty_type(known: &Known, name: &Name) -> Result<Ty, Refusal>
+    ensures { Finds result (sequence_named (early known.now) (name_of name.now)) (reasons.in_empty (early known.now) (name_of name.now)) }
+{
+    let Some(ty) = known.named(name) else {
+        return Err(Refusal::UnknownName(name.line));
+    };
+    match known.form(ty) {
+        Some(Form::Sequence(_, _)) => Ok(ty),
+        _ => Err(Refusal::TypeMismatch(name.line)),
+    }
+}
+
+/// The type of what an operator on one operand gives, where it takes one of this type. The line is the operand's.
 fn prefix_type(types: &Types, op: Op, operand: Ty, line: u32) -> Result<Ty, Refusal>
     ensures { Finds result (operators.op_type types.now op (operand.0 ∷ [])) (tells type_mismatch) }
 {
@@ -91,10 +98,22 @@ fn binary_type(
     if let Some(ty) = infix_type(types, operator, left, right) {
         return Ok(ty);
     }
-    // Where both operands may be of the left one's type, the right one is at fault.
-    let is_left_taken = infix_type(types, operator, left, left).is_some();
-    let line = if is_left_taken { right_line } else { left_line };
+    let line = if is_left_taken(types, operator, left) {
+        right_line
+    } else {
+        left_line
+    };
     Err(Refusal::TypeMismatch(line))
+}
+
+/// Whether some right operand may stand beside a left one of this type. Only a fault asks, once.
+fn is_left_taken(types: &Types, operator: Infix, left: Ty) -> bool {
+    for n in 0..types.len() {
+        if infix_type(types, operator, left, Ty(n as u16)).is_some() {
+            return true;
+        }
+    }
+    false
 }
 
 fn infix_type(types: &Types, operator: Infix, left: Ty, right: Ty) -> Option<Ty>
@@ -119,11 +138,12 @@ fn of_truths(left: Ty, right: Ty) -> Option<Ty>
 
 /// Whether an expression has this type. A line is that of the expression, or of what is wrong in it.
 pub(crate) fn expect_type(scope: &Scope, expression: &Expression, ty: Ty) -> Result<(), Refusal>
-    ensures { Says result (well_formed.has_ty scope.now.types.now (context scope.now) (expr_of expression.now) ty.0) (reasons.in_place scope.now.types.now (Some ty.0) (context scope.now) (expr_of expression.now)) }
+    ensures { let k = scope.now.known in
+        Says result (well_formed.has_ty (whole k) (early k) (context scope.now) (expr_of expression.now) ty.0) (reasons.in_place (whole k) (early k) (Some ty.0) (context scope.now) (expr_of expression.now)) }
 {
     let own = type_of(scope, expression)?;
     if own.0 != ty.0 {
-        return Err(Refusal::TypeMismatch(line_of(expression)));
+        return Err(Refusal::TypeMismatch(expression.line()));
     }
     Ok(())
 }

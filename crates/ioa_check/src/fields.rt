@@ -10,8 +10,10 @@ ghost use Rattle.ioa_value.specs.Table.{AreTypes};
 ghost use Rattle.ioa_syntax.specs.WellFormed.{type_in, context_of, is_type};
 ghost use Rattle.ioa_check.specs.Fields.{type_under};
 ghost use Rattle.ioa_check.specs.Codes.{unknown_name, tells};
+ghost use Rattle.ioa_check.specs.Known.{early};
 ghost use Rattle.ioa_check.specs.Verdicts.{Says};
 
+use crate::known::Known;
 use crate::names::same_name;
 use ioa_syntax::{Field, Name, Position, Refusal, Variable};
 use ioa_value::{Ty, Types};
@@ -67,11 +69,11 @@ pub fn type_named(types: &Types, name: &Name) -> Option<Ty>
 }
 
 /// The type of the first of the items that has this name and a type.
-pub(crate) fn find_type<T: Typed>(types: &Types, items: &[T], name: &Name) -> Option<Ty>
-    ensures { option_map number result ≡ type_in (context_of types.now (map T.tree items.now)) (name_of name.now) }
+pub(crate) fn find_type<T: Typed>(known: &Known, items: &[T], name: &Name) -> Option<Ty>
+    ensures { option_map number result ≡ type_in (context_of (early known.now) (map T.tree items.now)) (name_of name.now) }
 {
     for item in items {
-        if let Some(ty) = type_under(types, item.field(), name) {
+        if let Some(ty) = type_under(known, item.field(), name) {
             return Some(ty);
         }
     }
@@ -79,23 +81,23 @@ pub(crate) fn find_type<T: Typed>(types: &Types, items: &[T], name: &Name) -> Op
 }
 
 /// The type of a field, where it has this name.
-fn type_under(types: &Types, field: &Field, name: &Name) -> Option<Ty>
-    ensures { option_map number result ≡ type_under types.now (view.field_of field.now) (name_of name.now) }
+fn type_under(known: &Known, field: &Field, name: &Name) -> Option<Ty>
+    ensures { option_map number result ≡ type_under (early known.now) (view.field_of field.now) (name_of name.now) }
 {
     if same_name(&field.name, name) {
-        type_named(types, &field.ty)
+        known.named(&field.ty)
     } else {
         None
     }
 }
 
-/// Whether each item's type is declared. A line is that of the name of a type that is not.
-pub(crate) fn types_known<T: Typed>(types: &Types, items: &[T]) -> Result<(), Refusal>
-    ensures { Says result (list_all (is_type types.now) (map T.tree items.now)) (tells unknown_name) }
+/// Whether each item's type is declared before. A line is that of the name of a type that is not.
+pub(crate) fn types_known<T: Typed>(known: &Known, items: &[T]) -> Result<(), Refusal>
+    ensures { Says result (list_all (is_type (early known.now)) (map T.tree items.now)) (tells unknown_name) }
 {
     for item in items {
         let ty = &item.field().ty;
-        if type_named(types, ty).is_none() {
+        if known.named(ty).is_none() {
             return Err(Refusal::UnknownName(ty.line));
         }
     }

@@ -1,16 +1,17 @@
-ghost use Rattle.std.specs.Prelude.{◌≡◌, IfOk, map};
-ghost use Rattle.ioa_syntax.specs.View.{name_of, tree_of};
+ghost use Rattle.std.specs.Prelude.{◌≡◌, [], ◌∷◌, IfOk, map};
+ghost use Rattle.ioa_syntax.specs.View.{name_of, declaration_of, tree_of};
 ghost use Rattle.ioa_syntax.specs.WellFormed as well_formed;
 ghost use Rattle.ioa_check.specs.Codes.{duplicate_name, tells};
 ghost use Rattle.ioa_check.specs.Verdicts.{Says, SaysOrMemory};
-ghost use Rattle.ioa_check.specs.Globals.{texts};
+ghost use Rattle.ioa_check.specs.Globals.{texts, Adds};
 
 use crate::names::Named;
 use indexmap::IndexSet;
-use ioa_syntax::{Declaration, Name, Refusal};
+use ioa_syntax::{Declaration, Name, Refusal, TypeDeclaration, TypeForm};
 use std::alloc::Global;
 
-/// The names of the global space: the types that are there without a declaration, and what the source declares.
+/// The names of the global space: the types that are there without a declaration, and what the source declares, with the
+/// names of enumerations.
 pub(crate) fn global_names(
     alloc: Global,
     declarations: &[Declaration],
@@ -22,12 +23,56 @@ pub(crate) fn global_names(
     names.insert("Bool")?;
     names.insert("Int")?;
     for declaration in declarations {
-        let name = declaration.name();
-        if !names.insert(name.text.as_str())? {
-            return Err(Refusal::DuplicateName(name.line));
-        }
+        add_declared(&mut names, declaration)?;
     }
     Ok(names)
+}
+
+/// Puts the names that a declaration gives among the others.
+fn add_declared<'a>(
+    names: &mut IndexSet<&'a str>,
+    declaration: &'a Declaration,
+) -> Result<(), Refusal>
+    ensures { Adds result (texts names.old) (well_formed.declared_names (declaration_of declaration.now)) (texts names.new) }
+{
+    add(names, declaration.name())?;
+    add_all(names, constants_of(declaration))
+}
+
+/// The names of the enumeration that is declared, if one is.
+fn constants_of(declaration: &Declaration) -> &[Name]
+    ensures { well_formed.declared_names (declaration_of declaration.now) ≡ well_formed.declared_name (declaration_of declaration.now) ∷ map name_of result.now }
+{
+    match declaration {
+        Declaration::Type(
+            TypeDeclaration {
+                form: TypeForm::Enumeration(names),
+                ..
+            },
+        ) => names,
+        _ => &[],
+    }
+}
+
+/// Puts names among the others. A line is that of the first that is there already.
+fn add_all<'a>(names: &mut IndexSet<&'a str>, added: &'a [Name]) -> Result<(), Refusal>
+    ensures { Adds result (texts names.old) (map name_of added.now) (texts names.new) }
+{
+    for name in added {
+        add(names, name)?;
+    }
+    Ok(())
+}
+
+/// Puts a name among the others. A line is that of the name, if it is there already.
+fn add<'a>(names: &mut IndexSet<&'a str>, name: &'a Name) -> Result<(), Refusal>
+    ensures { Adds result (texts names.old) (name_of name.now ∷ []) (texts names.new) }
+{
+    if names.insert(name.text.as_str())? {
+        Ok(())
+    } else {
+        Err(Refusal::DuplicateName(name.line))
+    }
 }
 
 /// Whether no item has a global name. A line is that of the item.

@@ -7,11 +7,13 @@ mod declarations;
 mod expressions;
 mod fields;
 mod globals;
+mod known;
 mod limits;
 mod names;
 mod scope;
 mod statements;
 mod transitions;
+mod types;
 
 pub use checked::{Checked, check};
 pub use fields::type_named;

@@ -1,15 +1,15 @@
 ghost use Rattle.std.specs.Prelude.{◌≡◌, ◌+◌, ◌≤◌, ◌&&◌, map, length, filter, sum, nat_le};
 ghost use Rattle.std.specs.List.{list_all};
-ghost use Rattle.ioa_syntax.specs.View.{automaton_of, assembly_of, entry_of, transition_of, declaration_of, tree_of, proposal_of, stmt_of, stmts_of, arms_of, expr_of};
+ghost use Rattle.ioa_syntax.specs.View.{automaton_of, assembly_of, entry_of, transition_of, declaration_of, type_declaration_of, tree_of, proposal_of, stmt_of, stmts_of, arms_of, expr_of};
 ghost use Rattle.ioa_syntax.specs.WellFormed as well_formed;
 ghost use Rattle.ioa_check.specs.Codes.{too_many, tells};
-ghost use Rattle.ioa_check.specs.Sizes.{counted, Counts};
+ghost use Rattle.ioa_check.specs.Sizes.{counted, Counts, is_of_kind};
 ghost use Rattle.ioa_check.specs.Verdicts.{Says};
 
-use crate::expressions::line_of;
 use crate::names::{Named, at_most};
 use ioa_syntax::{
     Arm, Automaton, Declaration, Entry, Expression, Proposal, Refusal, Statement, Transition,
+    TypeDeclaration, TypeForm,
 };
 use ioa_value::LIMITS;
 
@@ -17,18 +17,20 @@ use ioa_value::LIMITS;
 pub(crate) fn source_within(declarations: &[Declaration]) -> Result<(), Refusal>
     ensures { Says result (well_formed.source_within LIMITS (tree_of declarations.now)) (tells too_many) }
 {
-    declarations_counted(declarations)?;
+    kind_within(declarations, true, LIMITS.types)?;
+    kind_within(declarations, false, LIMITS.automata)?;
     each_declaration_within(declarations)
 }
 
-/// Whether there are no more automata and compositions than the limit. A line is that of the first that is too many.
-fn declarations_counted(declarations: &[Declaration]) -> Result<(), Refusal>
-    ensures { Says result (nat_le (length (filter well_formed.is_counted (tree_of declarations.now))) LIMITS.automata) (tells too_many) }
+/// Whether there are no more declarations of types than this, or no more of automata and compositions. A line is that of
+/// the first that is too many.
+fn kind_within(declarations: &[Declaration], types: bool, most: usize) -> Result<(), Refusal>
+    ensures { Says result (nat_le (length (filter (is_of_kind types) (tree_of declarations.now))) most) (tells too_many) }
 {
     let mut count = 0;
     for declaration in declarations {
-        if is_counted(declaration) {
-            if count == LIMITS.automata {
+        if is_type(declaration) == types {
+            if count == most {
                 return Err(Refusal::TooMany(declaration.name().line));
             }
             count += 1;
@@ -37,13 +39,10 @@ fn declarations_counted(declarations: &[Declaration]) -> Result<(), Refusal>
     Ok(())
 }
 
-fn is_counted(declaration: &Declaration) -> bool
-    ensures { result ≡ well_formed.is_counted (declaration_of declaration.now) }
+fn is_type(declaration: &Declaration) -> bool
+    ensures { result ≡ well_formed.is_type_declaration (declaration_of declaration.now) }
 {
-    matches!(
-        declaration,
-        Declaration::Automaton(_) | Declaration::Composition(_)
-    )
+    matches!(declaration, Declaration::Type(_))
 }
 
 fn each_declaration_within(declarations: &[Declaration]) -> Result<(), Refusal>
@@ -59,10 +58,34 @@ fn declaration_within(declaration: &Declaration) -> Result<(), Refusal>
     ensures { Says result (well_formed.declaration_within LIMITS (declaration_of declaration.now)) (tells too_many) }
 {
     match declaration {
+        Declaration::Type(declared) => form_within(declared),
         Declaration::Automaton(automaton) => automaton_within(automaton),
         Declaration::Composition(composition) => {
             at_most(&composition.instances, LIMITS.components)
         }
+    }
+}
+
+/// Whether an enumeration's names, a tuple's fields or a sequence's capacity are from one up to their limit. A line is that
+/// of the type's name, or of the capacity.
+fn form_within(declared: &TypeDeclaration) -> Result<(), Refusal>
+    ensures { Says result (well_formed.form_within LIMITS (type_declaration_of declared.now).form) (tells too_many) }
+{
+    let line = declared.name.line;
+    match &declared.form {
+        TypeForm::Enumeration(names) => some_within(LIMITS.names, names.len() as u64, line),
+        TypeForm::Tuple(fields) => some_within(LIMITS.fields, fields.len() as u64, line),
+        TypeForm::Sequence(most, _, line) => some_within(LIMITS.capacity, *most, *line),
+    }
+}
+
+fn some_within(limit: usize, count: u64, line: u32) -> Result<(), Refusal>
+    ensures { Says result (well_formed.some_within limit count) (tells too_many) }
+{
+    if 1 <= count && count <= limit as u64 {
+        Ok(())
+    } else {
+        Err(Refusal::TooMany(line))
     }
 }
 
@@ -120,7 +143,7 @@ fn pre_within(transition: &Transition) -> Result<(), Refusal>
     ensures { Says result (well_formed.pre_within LIMITS (transition_of transition.now)) (tells too_many) }
 {
     match &transition.pre {
-        Some(pre) if nodes(pre) > LIMITS.nodes => Err(Refusal::TooMany(line_of(pre))),
+        Some(pre) if nodes(pre) > LIMITS.nodes => Err(Refusal::TooMany(pre.line())),
         _ => Ok(()),
     }
 }
@@ -184,7 +207,7 @@ fn arms_counted(before: usize, arms: &[Arm]) -> Result<usize, Refusal>
     let mut count = before;
     for arm in arms {
         let condition = &arm.condition;
-        let with_condition = count_on(count, nodes(condition), line_of(condition))?;
+        let with_condition = count_on(count, nodes(condition), condition.line())?;
         count = statements_counted(with_condition, &arm.statements)?;
     }
     Ok(count)
@@ -208,11 +231,14 @@ fn nodes(expression: &Expression) -> usize
     ensures { result ≡ counted (expr_of expression.now) }
 {
     match expression {
-        Expression::Number(_, _) | Expression::Truth(_, _) | Expression::Name(_) => 1,
+        Expression::Number(_, _)
+        | Expression::Truth(_, _)
+        | Expression::Name(_)
+        | Expression::Empty(_, _) => 1,
         Expression::Parentheses(inner, _) | Expression::Prefix(_, inner, _) => {
             (nodes(inner) + 1).min(LIMITS.nodes + 1)
         }
-        Expression::Binary(left, _, right) => {
+        Expression::Binary(left, _, right, _) => {
             (nodes(left) + nodes(right) + 1).min(LIMITS.nodes + 1)
         }
     }

@@ -88,6 +88,7 @@ impl Named for Declaration {
 
     fn name(&self) -> &Name {
         match self {
+            Declaration::Type(declared) => &declared.name,
             Declaration::Automaton(automaton) => &automaton.name,
             Declaration::Composition(composition) => &composition.name,
         }

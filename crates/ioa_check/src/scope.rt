@@ -4,16 +4,21 @@ ghost use Rattle.ioa_syntax.specs.View.{name_of, automaton_of, entry_of};
 ghost use Rattle.ioa_value.specs.Plain.{number};
 ghost use Rattle.ioa_syntax.specs.WellFormed as well_formed;
 ghost use Rattle.ioa_syntax.specs.WellFormed.{type_in};
+ghost use Rattle.ioa_syntax.specs.Meaning.{or_else};
+ghost use Rattle.ioa_syntax.specs.Types.{constant_type};
+ghost use Rattle.ioa_check.specs.Known.{whole, early};
 ghost use Rattle.ioa_check.specs.Scopes.{context};
 
 use crate::fields::find_type;
+use crate::known::Known;
 use ioa_syntax::{Automaton, Entry, Field, Name, Position, Variable};
-use ioa_value::{Ty, Types};
+use ioa_value::Ty;
 
-/// The types, and the names that an expression may use: variables, formals and an entry's parameters.
+/// The types, and the names that an expression may use: variables, formals and an entry's parameters, beside those of
+/// enumerations.
 #[derive(Clone, Copy)]
 pub(crate) struct Scope<'a> {
-    pub(crate) types: &'a Types,
+    pub(crate) known: Known<'a>,
     pub(crate) variables: &'a [Variable],
     pub(crate) formals: &'a [Field],
     pub(crate) positions: &'a [Position],
@@ -21,12 +26,12 @@ pub(crate) struct Scope<'a> {
 
 impl<'a> Scope<'a> {
     /// No name at all: the scope of an argument.
-    pub(crate) fn empty(types: &'a Types) -> Scope<'a>
-        ensures types { result.types.now ≡ types.now }
+    pub(crate) fn empty(known: &Known<'a>) -> Scope<'a>
+        ensures known { result.known ≡ known.now }
         ensures names { context result ≡ [] }
     {
         Scope {
-            types,
+            known: *known,
             variables: &[],
             formals: &[],
             positions: &[],
@@ -34,12 +39,12 @@ impl<'a> Scope<'a> {
     }
 
     /// The formals: the scope of a start expression.
-    pub(crate) fn of_starts(types: &'a Types, automaton: &'a Automaton) -> Scope<'a>
-        ensures types { result.types.now ≡ types.now }
-        ensures names { context result ≡ well_formed.formals types.now [] (automaton_of automaton.now) }
+    pub(crate) fn of_starts(known: &Known<'a>, automaton: &'a Automaton) -> Scope<'a>
+        ensures known { result.known ≡ known.now }
+        ensures names { context result ≡ well_formed.formals (whole known.now) (early known.now) [] (automaton_of automaton.now) }
     {
         Scope {
-            types,
+            known: *known,
             variables: &[],
             formals: &automaton.formals,
             positions: &[],
@@ -47,12 +52,12 @@ impl<'a> Scope<'a> {
     }
 
     /// Variables and formals: the scope of a proposal.
-    pub(crate) fn of_proposals(types: &'a Types, automaton: &'a Automaton) -> Scope<'a>
-        ensures types { result.types.now ≡ types.now }
-        ensures names { context result ≡ well_formed.held types.now [] (automaton_of automaton.now) }
+    pub(crate) fn of_proposals(known: &Known<'a>, automaton: &'a Automaton) -> Scope<'a>
+        ensures known { result.known ≡ known.now }
+        ensures names { context result ≡ well_formed.held (whole known.now) (early known.now) [] (automaton_of automaton.now) }
     {
         Scope {
-            types,
+            known: *known,
             variables: &automaton.variables,
             formals: &automaton.formals,
             positions: &[],
@@ -61,31 +66,41 @@ impl<'a> Scope<'a> {
 
     /// Variables, formals and the entry's parameters: the scope of a precondition or an effect.
     pub(crate) fn of_entry(
-        types: &'a Types,
+        known: &Known<'a>,
         automaton: &'a Automaton,
         entry: &'a Entry,
     ) -> Scope<'a>
-        ensures types { result.types.now ≡ types.now }
-        ensures names { context result ≡ well_formed.scope types.now [] (automaton_of automaton.now) (entry_of entry.now) }
+        ensures known { result.known ≡ known.now }
+        ensures names { context result ≡ well_formed.scope (whole known.now) (early known.now) [] (automaton_of automaton.now) (entry_of entry.now) }
     {
         Scope {
-            types,
+            known: *known,
             variables: &automaton.variables,
             formals: &automaton.formals,
             positions: &entry.positions,
         }
     }
 
-    /// The type of what has this name.
+    /// The type of what has this name: of a variable, a formal or a parameter, or else of an enumeration's name.
     pub(crate) fn lookup(&self, name: &Name) -> Option<Ty>
+        ensures { option_map number result ≡ or_else (type_in (context self.now) (name_of name.now)) (constant_type (early self.now.known) (name_of name.now)) }
+    {
+        match self.held(name) {
+            Some(ty) => Some(ty),
+            None => self.known.constant(name),
+        }
+    }
+
+    /// The type of the variable, formal or parameter of this name.
+    fn held(&self, name: &Name) -> Option<Ty>
         ensures { option_map number result ≡ type_in (context self.now) (name_of name.now) }
     {
-        if let Some(ty) = find_type(self.types, self.variables, name) {
+        if let Some(ty) = find_type(&self.known, self.variables, name) {
             return Some(ty);
         }
-        if let Some(ty) = find_type(self.types, self.formals, name) {
+        if let Some(ty) = find_type(&self.known, self.formals, name) {
             return Some(ty);
         }
-        find_type(self.types, self.positions, name)
+        find_type(&self.known, self.positions, name)
     }
 }

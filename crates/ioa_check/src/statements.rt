@@ -2,46 +2,48 @@ ghost use Rattle.std.specs.Prelude.{◌≡◌, ◌&&◌, []};
 ghost use Rattle.ioa_syntax.specs.Tree.{assign};
 ghost use Rattle.ioa_syntax.specs.View.{automaton_of, entry_of, name_of, expr_of, stmt_of, stmts_of, arms_of};
 ghost use Rattle.ioa_syntax.specs.WellFormed as well_formed;
+ghost use Rattle.ioa_check.specs.Known.{whole, early};
 ghost use Rattle.ioa_check.specs.Reasons as reasons;
 ghost use Rattle.ioa_check.specs.Reasons.{◌or◌};
 ghost use Rattle.ioa_check.specs.Verdicts.{Says};
 
 use crate::expressions::expect_type;
 use crate::fields::find_type;
+use crate::known::Known;
 use crate::scope::Scope;
 use ioa_syntax::{Arm, Automaton, Entry, Expression, Name, Refusal, Statement};
-use ioa_value::{Ty, Types};
+use ioa_value::Ty;
 
 /// Whether each statement is well formed, also those within arms.
 #[cycle(statements)]
 pub(crate) fn statements_fine(
-    types: &Types,
+    known: &Known,
     automaton: &Automaton,
     entry: &Entry,
     statements: &[Statement],
 ) -> Result<(), Refusal>
-    ensures { let a = automaton_of automaton.now in let e = entry_of entry.now in let ss = stmts_of statements.now in Says result (well_formed.stmts_fine types.now [] a e ss) (reasons.in_stmts types.now [] a e ss) }
+    ensures { let a = automaton_of automaton.now in let e = entry_of entry.now in let ss = stmts_of statements.now in Says result (well_formed.stmts_fine (whole known.now) (early known.now) [] a e ss) (reasons.in_stmts (whole known.now) (early known.now) [] a e ss) }
 {
     for statement in statements {
-        statement_fine(types, automaton, entry, statement)?;
+        statement_fine(known, automaton, entry, statement)?;
     }
     Ok(())
 }
 
 #[cycle(statements)]
 fn statement_fine(
-    types: &Types,
+    known: &Known,
     automaton: &Automaton,
     entry: &Entry,
     statement: &Statement,
 ) -> Result<(), Refusal>
-    ensures { let a = automaton_of automaton.now in let e = entry_of entry.now in let s = stmt_of statement.now in Says result (well_formed.stmt_fine types.now [] a e s) (reasons.in_stmt types.now [] a e s) }
+    ensures { let a = automaton_of automaton.now in let e = entry_of entry.now in let s = stmt_of statement.now in Says result (well_formed.stmt_fine (whole known.now) (early known.now) [] a e s) (reasons.in_stmt (whole known.now) (early known.now) [] a e s) }
 {
     match statement {
-        Statement::Assign(name, value) => assignment_fine(types, automaton, entry, name, value),
+        Statement::Assign(name, value) => assignment_fine(known, automaton, entry, name, value),
         Statement::If(arms, others, _) => {
-            arms_fine(types, automaton, entry, arms)?;
-            statements_fine(types, automaton, entry, others)
+            arms_fine(known, automaton, entry, arms)?;
+            statements_fine(known, automaton, entry, others)
         }
     }
 }
@@ -49,57 +51,57 @@ fn statement_fine(
 /// Whether each arm is well formed.
 #[cycle(statements)]
 fn arms_fine(
-    types: &Types,
+    known: &Known,
     automaton: &Automaton,
     entry: &Entry,
     arms: &[Arm],
 ) -> Result<(), Refusal>
-    ensures { let a = automaton_of automaton.now in let e = entry_of entry.now in let more = arms_of arms.now in Says result (well_formed.arms_fine types.now [] a e more) (reasons.in_arms types.now [] a e more) }
+    ensures { let a = automaton_of automaton.now in let e = entry_of entry.now in let more = arms_of arms.now in Says result (well_formed.arms_fine (whole known.now) (early known.now) [] a e more) (reasons.in_arms (whole known.now) (early known.now) [] a e more) }
 {
     for arm in arms {
-        arm_fine(types, automaton, entry, arm)?;
+        arm_fine(known, automaton, entry, arm)?;
     }
     Ok(())
 }
 
 /// Whether the condition is a truth value, and the statements after it are well formed.
 #[cycle(statements)]
-fn arm_fine(types: &Types, automaton: &Automaton, entry: &Entry, arm: &Arm) -> Result<(), Refusal>
+fn arm_fine(known: &Known, automaton: &Automaton, entry: &Entry, arm: &Arm) -> Result<(), Refusal>
     ensures { let a = automaton_of automaton.now in let e = entry_of entry.now in let c = expr_of arm.now.condition in let ss = stmts_of arm.now.statements.items in
-        Says result (well_formed.has_ty types.now (well_formed.scope types.now [] a e) c 0 && well_formed.stmts_fine types.now [] a e ss) (reasons.in_condition types.now [] a e c or reasons.in_stmts types.now [] a e ss) }
+        Says result (well_formed.has_ty (whole known.now) (early known.now) (well_formed.scope (whole known.now) (early known.now) [] a e) c 0 && well_formed.stmts_fine (whole known.now) (early known.now) [] a e ss) (reasons.in_condition (whole known.now) (early known.now) [] a e c or reasons.in_stmts (whole known.now) (early known.now) [] a e ss) }
 {
-    condition_fine(types, automaton, entry, &arm.condition)?;
-    statements_fine(types, automaton, entry, &arm.statements)
+    condition_fine(known, automaton, entry, &arm.condition)?;
+    statements_fine(known, automaton, entry, &arm.statements)
 }
 
 /// Whether an assignment is to a variable, and of its type.
 #[tactic(auto, using(crate::proofs::ViewLemmas::views))]
 fn assignment_fine(
-    types: &Types,
+    known: &Known,
     automaton: &Automaton,
     entry: &Entry,
     name: &Name,
     value: &Expression,
 ) -> Result<(), Refusal>
-    ensures { let a = automaton_of automaton.now in let e = entry_of entry.now in let s = assign (name_of name.now) (expr_of value.now) in Says result (well_formed.stmt_fine types.now [] a e s) (reasons.in_stmt types.now [] a e s) }
+    ensures { let a = automaton_of automaton.now in let e = entry_of entry.now in let s = assign (name_of name.now) (expr_of value.now) in Says result (well_formed.stmt_fine (whole known.now) (early known.now) [] a e s) (reasons.in_stmt (whole known.now) (early known.now) [] a e s) }
 {
-    match find_type(types, &automaton.variables, name) {
-        Some(ty) => expect_type(&Scope::of_entry(types, automaton, entry), value, ty),
+    match find_type(known, &automaton.variables, name) {
+        Some(ty) => expect_type(&Scope::of_entry(known, automaton, entry), value, ty),
         None => Err(Refusal::UnknownName(name.line)),
     }
 }
 
 /// Whether a condition is a truth value.
 pub(crate) fn condition_fine(
-    types: &Types,
+    known: &Known,
     automaton: &Automaton,
     entry: &Entry,
     condition: &Expression,
 ) -> Result<(), Refusal>
-    ensures { let a = automaton_of automaton.now in let e = entry_of entry.now in let c = expr_of condition.now in Says result (well_formed.has_ty types.now (well_formed.scope types.now [] a e) c 0) (reasons.in_condition types.now [] a e c) }
+    ensures { let a = automaton_of automaton.now in let e = entry_of entry.now in let c = expr_of condition.now in Says result (well_formed.has_ty (whole known.now) (early known.now) (well_formed.scope (whole known.now) (early known.now) [] a e) c 0) (reasons.in_condition (whole known.now) (early known.now) [] a e c) }
 {
     expect_type(
-        &Scope::of_entry(types, automaton, entry),
+        &Scope::of_entry(known, automaton, entry),
         condition,
         Ty::BOOL,
     )

@@ -3,25 +3,25 @@ ghost use Rattle.std.specs.List.{list_all, list_any};
 ghost use Rattle.std.specs.Str.{bytes_eq};
 ghost use Rattle.ioa_syntax.specs.View.{automaton_of, entry_of, transition_of, proposal_of, name_of};
 ghost use Rattle.ioa_syntax.specs.View as view;
-ghost use Rattle.ioa_value.specs.Table as table;
 ghost use Rattle.ioa_syntax.specs.WellFormed as well_formed;
 ghost use Rattle.ioa_check.specs.Codes.{bad_signature, no_proposal, tells};
+ghost use Rattle.ioa_check.specs.Known.{whole, early};
 ghost use Rattle.ioa_check.specs.Reasons as reasons;
 ghost use Rattle.ioa_check.specs.Verdicts.{Says};
 
 use crate::expressions::expect_type;
-use crate::fields;
 use crate::fields::{Typed, find_type};
+use crate::known::Known;
 use crate::names::{distinct, find_name, same_name};
 use crate::scope::Scope;
 use crate::statements::{condition_fine, statements_fine};
 use ioa_syntax::{Automaton, Entry, Field, Kind, Name, Proposal, Refusal, Transition};
-use ioa_value::{Ty, Types};
+use ioa_value::Form;
 
 /// Whether each entry has one transition of its kind and name, and each transition an entry. A line is that of a
 /// transition without entry, of an entry without transition, or of an entry's second transition.
 pub(crate) fn one_to_one(automaton: &Automaton) -> Result<(), Refusal>
-    ensures { Says result (well_formed.one_to_one [] [] (automaton_of automaton.now)) (tells bad_signature) }
+    ensures { Says result (well_formed.one_to_one [] [] [] (automaton_of automaton.now)) (tells bad_signature) }
 {
     each_has_entry(automaton)?;
     each_has_transition(automaton)
@@ -29,7 +29,7 @@ pub(crate) fn one_to_one(automaton: &Automaton) -> Result<(), Refusal>
 
 /// Whether each transition has an entry.
 fn each_has_entry(automaton: &Automaton) -> Result<(), Refusal>
-    ensures { let a = automaton_of automaton.now in Says result (list_all (λ r. list_any (λ e. well_formed.matches [] [] a e r) a.entries) a.transitions) (tells bad_signature) }
+    ensures { let a = automaton_of automaton.now in Says result (list_all (λ r. list_any (λ e. well_formed.matches [] [] [] a e r) a.entries) a.transitions) (tells bad_signature) }
 {
     for transition in &automaton.transitions {
         if !has_entry(automaton, transition) {
@@ -40,7 +40,7 @@ fn each_has_entry(automaton: &Automaton) -> Result<(), Refusal>
 }
 
 fn has_entry(automaton: &Automaton, transition: &Transition) -> bool
-    ensures { let a = automaton_of automaton.now in result ≡ list_any (λ e. well_formed.matches [] [] a e (transition_of transition.now)) a.entries }
+    ensures { let a = automaton_of automaton.now in result ≡ list_any (λ e. well_formed.matches [] [] [] a e (transition_of transition.now)) a.entries }
 {
     for entry in &automaton.entries {
         if matches(entry, transition) {
@@ -52,7 +52,7 @@ fn has_entry(automaton: &Automaton, transition: &Transition) -> bool
 
 /// Whether each entry has one transition and no second.
 fn each_has_transition(automaton: &Automaton) -> Result<(), Refusal>
-    ensures { let a = automaton_of automaton.now in Says result (list_all (λ e. length (filter (well_formed.matches [] [] a e) a.transitions) == 1) a.entries) (tells bad_signature) }
+    ensures { let a = automaton_of automaton.now in Says result (list_all (λ e. length (filter (well_formed.matches [] [] [] a e) a.transitions) == 1) a.entries) (tells bad_signature) }
 {
     for entry in &automaton.entries {
         one_transition(automaton, entry)?;
@@ -62,7 +62,7 @@ fn each_has_transition(automaton: &Automaton) -> Result<(), Refusal>
 
 /// Whether the entry has one transition and no second.
 fn one_transition(automaton: &Automaton, entry: &Entry) -> Result<(), Refusal>
-    ensures { let a = automaton_of automaton.now in Says result (length (filter (well_formed.matches [] [] a (entry_of entry.now)) a.transitions) == 1) (tells bad_signature) }
+    ensures { let a = automaton_of automaton.now in Says result (length (filter (well_formed.matches [] [] [] a (entry_of entry.now)) a.transitions) == 1) (tells bad_signature) }
 {
     let mut found = false;
     for transition in &automaton.transitions {
@@ -104,79 +104,79 @@ fn is_input(kind: Kind) -> bool
 }
 
 /// Whether the transitions of each entry are well formed.
-pub(crate) fn transitions_fine(types: &Types, automaton: &Automaton) -> Result<(), Refusal>
-    ensures { let a = automaton_of automaton.now in Says result (list_all (λ e. list_all (λ r. not (well_formed.matches types.now [] a e r) || well_formed.transition_fine types.now [] a e r) a.transitions) a.entries) (reasons.in_transitions types.now [] a) }
+pub(crate) fn transitions_fine(known: &Known, automaton: &Automaton) -> Result<(), Refusal>
+    ensures { let a = automaton_of automaton.now in Says result (list_all (λ e. list_all (λ r. not (well_formed.matches (whole known.now) (early known.now) [] a e r) || well_formed.transition_fine (whole known.now) (early known.now) [] a e r) a.transitions) a.entries) (reasons.in_transitions (whole known.now) (early known.now) [] a) }
 {
     for entry in &automaton.entries {
-        transitions_of_entry_fine(types, automaton, entry)?;
+        transitions_of_entry_fine(known, automaton, entry)?;
     }
     Ok(())
 }
 
 fn transitions_of_entry_fine(
-    types: &Types,
+    known: &Known,
     automaton: &Automaton,
     entry: &Entry,
 ) -> Result<(), Refusal>
-    ensures { let a = automaton_of automaton.now in let e = entry_of entry.now in Says result (list_all (λ r. not (well_formed.matches types.now [] a e r) || well_formed.transition_fine types.now [] a e r) a.transitions)
-        (reasons.in_any (reasons.in_pair types.now [] a e) a.transitions) }
+    ensures { let a = automaton_of automaton.now in let e = entry_of entry.now in Says result (list_all (λ r. not (well_formed.matches (whole known.now) (early known.now) [] a e r) || well_formed.transition_fine (whole known.now) (early known.now) [] a e r) a.transitions)
+        (reasons.in_any (reasons.in_pair (whole known.now) (early known.now) [] a e) a.transitions) }
 {
     for transition in &automaton.transitions {
-        pair_fine(types, automaton, entry, transition)?;
+        pair_fine(known, automaton, entry, transition)?;
     }
     Ok(())
 }
 
 /// Whether a transition is well formed, where it is one of this entry.
 fn pair_fine(
-    types: &Types,
+    known: &Known,
     automaton: &Automaton,
     entry: &Entry,
     transition: &Transition,
 ) -> Result<(), Refusal>
     ensures { let a = automaton_of automaton.now in let e = entry_of entry.now in let r = transition_of transition.now in
-        Says result (not (well_formed.matches types.now [] a e r) || well_formed.transition_fine types.now [] a e r) (reasons.in_pair types.now [] a e r) }
+        Says result (not (well_formed.matches (whole known.now) (early known.now) [] a e r) || well_formed.transition_fine (whole known.now) (early known.now) [] a e r) (reasons.in_pair (whole known.now) (early known.now) [] a e r) }
 {
     if matches(entry, transition) {
-        transition_fine(types, automaton, entry, transition)
+        transition_fine(known, automaton, entry, transition)
     } else {
         Ok(())
     }
 }
 
 fn transition_fine(
-    types: &Types,
+    known: &Known,
     automaton: &Automaton,
     entry: &Entry,
     transition: &Transition,
 ) -> Result<(), Refusal>
-    ensures { let a = automaton_of automaton.now in let e = entry_of entry.now in let r = transition_of transition.now in Says result (well_formed.transition_fine types.now [] a e r) (reasons.in_transition types.now [] a e r) }
+    ensures { let a = automaton_of automaton.now in let e = entry_of entry.now in let r = transition_of transition.now in Says result (well_formed.transition_fine (whole known.now) (early known.now) [] a e r) (reasons.in_transition (whole known.now) (early known.now) [] a e r) }
 {
-    before_effect_fine(types, automaton, entry, transition)?;
-    statements_fine(types, automaton, entry, &transition.effect)
+    before_effect_fine(known, automaton, entry, transition)?;
+    statements_fine(known, automaton, entry, &transition.effect)
 }
 
 /// Whether an input has neither precondition nor proposals, and those of an output or internal transition are well formed.
 fn before_effect_fine(
-    types: &Types,
+    known: &Known,
     automaton: &Automaton,
     entry: &Entry,
     transition: &Transition,
 ) -> Result<(), Refusal>
     ensures { let a = automaton_of automaton.now in let e = entry_of entry.now in let r = transition_of transition.now in
-        Says result (if well_formed.is_input r.kind then well_formed.input_fine types.now [] a r else well_formed.pre_fine types.now [] a e r && well_formed.proposals_fine types.now [] a e r && well_formed.all_proposed types.now [] a e r)
-        (reasons.before_effect types.now [] a e r) }
+        Says result (if well_formed.is_input r.kind then well_formed.input_fine (whole known.now) (early known.now) [] a r else well_formed.pre_fine (whole known.now) (early known.now) [] a e r && well_formed.proposals_fine (whole known.now) (early known.now) [] a e r && well_formed.all_proposed (whole known.now) (early known.now) [] a e r)
+        (reasons.before_effect (whole known.now) (early known.now) [] a e r) }
 {
     if is_input(transition.kind) {
         input_fine(transition, automaton)
     } else {
-        local_fine(types, automaton, entry, transition)
+        local_fine(known, automaton, entry, transition)
     }
 }
 
 /// Whether an input has neither precondition nor proposals.
 fn input_fine(transition: &Transition, _automaton: &Automaton) -> Result<(), Refusal>
-    ensures { Says result (well_formed.input_fine [] [] (automaton_of _automaton.now) (transition_of transition.now)) (tells bad_signature) }
+    ensures { Says result (well_formed.input_fine [] [] [] (automaton_of _automaton.now) (transition_of transition.now)) (tells bad_signature) }
 {
     if transition.pre.is_some() || transition.proposals.len() > 0 {
         return Err(Refusal::BadSignature(transition.name.line));
@@ -186,56 +186,56 @@ fn input_fine(transition: &Transition, _automaton: &Automaton) -> Result<(), Ref
 
 /// Whether precondition and proposals of an output or internal transition are well formed.
 fn local_fine(
-    types: &Types,
+    known: &Known,
     automaton: &Automaton,
     entry: &Entry,
     transition: &Transition,
 ) -> Result<(), Refusal>
     ensures { let a = automaton_of automaton.now in let e = entry_of entry.now in let r = transition_of transition.now in
-        Says result (well_formed.pre_fine types.now [] a e r && well_formed.proposals_fine types.now [] a e r && well_formed.all_proposed types.now [] a e r) (reasons.in_local types.now [] a e r) }
+        Says result (well_formed.pre_fine (whole known.now) (early known.now) [] a e r && well_formed.proposals_fine (whole known.now) (early known.now) [] a e r && well_formed.all_proposed (whole known.now) (early known.now) [] a e r) (reasons.in_local (whole known.now) (early known.now) [] a e r) }
 {
-    pre_fine(types, automaton, entry, transition)?;
-    proposals_fine(types, automaton, entry, transition)?;
-    all_proposed(types, automaton, entry, transition)
+    pre_fine(known, automaton, entry, transition)?;
+    proposals_fine(known, automaton, entry, transition)?;
+    all_proposed(known, automaton, entry, transition)
 }
 
 fn pre_fine(
-    types: &Types,
+    known: &Known,
     automaton: &Automaton,
     entry: &Entry,
     transition: &Transition,
 ) -> Result<(), Refusal>
-    ensures { let a = automaton_of automaton.now in let e = entry_of entry.now in let r = transition_of transition.now in Says result (well_formed.pre_fine types.now [] a e r) (reasons.in_some (reasons.in_condition types.now [] a e) r.pre) }
+    ensures { let a = automaton_of automaton.now in let e = entry_of entry.now in let r = transition_of transition.now in Says result (well_formed.pre_fine (whole known.now) (early known.now) [] a e r) (reasons.in_some (reasons.in_condition (whole known.now) (early known.now) [] a e) r.pre) }
 {
     match &transition.pre {
         None => Ok(()),
-        Some(pre) => condition_fine(types, automaton, entry, pre),
+        Some(pre) => condition_fine(known, automaton, entry, pre),
     }
 }
 
 #[tactic(auto, using(crate::proofs::ViewLemmas::views))]
 fn proposals_fine(
-    types: &Types,
+    known: &Known,
     automaton: &Automaton,
     entry: &Entry,
     transition: &Transition,
 ) -> Result<(), Refusal>
-    ensures { let a = automaton_of automaton.now in let e = entry_of entry.now in let r = transition_of transition.now in Says result (well_formed.proposals_fine types.now [] a e r) (reasons.in_proposals types.now [] a e r) }
+    ensures { let a = automaton_of automaton.now in let e = entry_of entry.now in let r = transition_of transition.now in Says result (well_formed.proposals_fine (whole known.now) (early known.now) [] a e r) (reasons.in_proposals (whole known.now) (early known.now) [] a e r) }
 {
-    each_proposal_fine(types, automaton, entry, transition)?;
+    each_proposal_fine(known, automaton, entry, transition)?;
     distinct(&transition.proposals)
 }
 
 fn each_proposal_fine(
-    types: &Types,
+    known: &Known,
     automaton: &Automaton,
     entry: &Entry,
     transition: &Transition,
 ) -> Result<(), Refusal>
-    ensures { let a = automaton_of automaton.now in let e = entry_of entry.now in let ps = (transition_of transition.now).proposals in Says result (list_all (well_formed.proposal_fine types.now [] a e) ps) (reasons.in_any (reasons.in_proposal types.now [] a e) ps) }
+    ensures { let a = automaton_of automaton.now in let e = entry_of entry.now in let ps = (transition_of transition.now).proposals in Says result (list_all (well_formed.proposal_fine (whole known.now) (early known.now) [] a e) ps) (reasons.in_any (reasons.in_proposal (whole known.now) (early known.now) [] a e) ps) }
 {
     for proposal in &transition.proposals {
-        proposal_fine(types, automaton, entry, proposal)?;
+        proposal_fine(known, automaton, entry, proposal)?;
     }
     Ok(())
 }
@@ -243,51 +243,51 @@ fn each_proposal_fine(
 /// Whether a proposal is for a parameter of the entry, and of its type.
 #[tactic(auto, using(crate::proofs::ViewLemmas::views))]
 fn proposal_fine(
-    types: &Types,
+    known: &Known,
     automaton: &Automaton,
     entry: &Entry,
     proposal: &Proposal,
 ) -> Result<(), Refusal>
-    ensures { let a = automaton_of automaton.now in let e = entry_of entry.now in let p = proposal_of proposal.now in Says result (well_formed.proposal_fine types.now [] a e p) (reasons.in_proposal types.now [] a e p) }
+    ensures { let a = automaton_of automaton.now in let e = entry_of entry.now in let p = proposal_of proposal.now in Says result (well_formed.proposal_fine (whole known.now) (early known.now) [] a e p) (reasons.in_proposal (whole known.now) (early known.now) [] a e p) }
 {
-    match find_type(types, &entry.positions, &proposal.name) {
-        Some(ty) => expect_type(&Scope::of_proposals(types, automaton), &proposal.value, ty),
+    match find_type(known, &entry.positions, &proposal.name) {
+        Some(ty) => expect_type(&Scope::of_proposals(known, automaton), &proposal.value, ty),
         None => Err(Refusal::UnknownName(proposal.name.line)),
     }
 }
 
-/// Whether each parameter that is no Bool has a proposal.
+/// Whether each parameter that is neither a Bool nor of an enumeration has a proposal.
 fn all_proposed(
-    types: &Types,
+    known: &Known,
     _automaton: &Automaton,
     entry: &Entry,
     transition: &Transition,
 ) -> Result<(), Refusal>
-    ensures { Says result (well_formed.all_proposed types.now [] (automaton_of _automaton.now) (entry_of entry.now) (transition_of transition.now)) (tells no_proposal) }
+    ensures { Says result (well_formed.all_proposed (whole known.now) (early known.now) [] (automaton_of _automaton.now) (entry_of entry.now) (transition_of transition.now)) (tells no_proposal) }
 {
     for position in &entry.positions {
-        if !is_proposed(types, position.field(), transition) {
+        if !is_proposed(known, position.field(), transition) {
             return Err(Refusal::NoProposal(transition.name.line));
         }
     }
     Ok(())
 }
 
-/// Whether a parameter is a Bool or has a proposal.
+/// Whether a parameter's values are tried by their numbers, or it has a proposal.
 #[tactic(auto, using(crate::proofs::ViewLemmas::views))]
-fn is_proposed(types: &Types, field: &Field, transition: &Transition) -> bool
+fn is_proposed(known: &Known, field: &Field, transition: &Transition) -> bool
     ensures { let f = view.field_of field.now in
-        result ≡ (well_formed.is_some_of (table.type_named types.now f.ty) 0 || well_formed.contains (map (λ p. p.name) (transition_of transition.now).proposals) f.name) }
+        result ≡ (well_formed.is_tried (early known.now) f || well_formed.contains (map (λ p. p.name) (transition_of transition.now).proposals) f.name) }
 {
-    is_bool(types, &field.ty) || find_name(&transition.proposals, &field.name).is_some()
+    is_tried(known, field) || find_name(&transition.proposals, &field.name).is_some()
 }
 
-/// Whether this is the name of the type of the truth values.
-fn is_bool(types: &Types, name: &Name) -> bool
-    ensures { result ≡ well_formed.is_some_of (table.type_named types.now (name_of name.now)) 0 }
+/// Whether a parameter is a Bool or of an enumeration.
+fn is_tried(known: &Known, field: &Field) -> bool
+    ensures { result ≡ well_formed.is_tried (early known.now) (view.field_of field.now) }
 {
-    match fields::type_named(types, name) {
-        Some(ty) => ty.0 == Ty::BOOL.0,
+    match known.named(&field.ty) {
+        Some(ty) => matches!(known.form(ty), Some(Form::Truths | Form::Names(_))),
         None => false,
     }
 }

@@ -2,7 +2,8 @@ use Rattle.std.proofs.Common.{◌≡◌, [], map, drop}
 use Rattle.std.specs.List.{list_all}
 use Rattle.ioa_syntax.specs.View.{automaton_of, variable_of}
 use Rattle.ioa_syntax.specs.WellFormed as well_formed
+use Rattle.ioa_check.specs.Known.{whole, early}
 use Rattle.ioa_check.proofs.automata.starts_fine.Given as goal
 
 abbrev pub invariant-loop-variable : goal.invariant-loop-variable
-invariant-loop-variable l = list_all (well_formed.start_fine l.types [] (automaton_of l.automaton)) (map variable_of (drop l.variable-index l.automaton.variables.items)) ≡ list_all (well_formed.start_fine l.types [] (automaton_of l.automaton)) (map variable_of l.automaton.variables.items)
+invariant-loop-variable l = list_all (well_formed.start_fine (whole l.known) (early l.known) [] (automaton_of l.automaton)) (map variable_of (drop l.variable-index l.automaton.variables.items)) ≡ list_all (well_formed.start_fine (whole l.known) (early l.known) [] (automaton_of l.automaton)) (map variable_of l.automaton.variables.items)

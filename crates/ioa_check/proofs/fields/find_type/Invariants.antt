@@ -1,7 +1,8 @@
 use Rattle.std.proofs.Common.{◌≡◌, map, drop}
 use Rattle.ioa_syntax.specs.View.{name_of}
 use Rattle.ioa_syntax.specs.WellFormed as well_formed
+use Rattle.ioa_check.specs.Known.{early}
 use Rattle.ioa_check.proofs.fields.find_type.Given as goal
 
 abbrev pub invariant-loop-item : goal.invariant-loop-item
-invariant-loop-item g l = well_formed.type_in (well_formed.context_of l.types (map g.T.Typed.tree (drop l.item-index l.items))) (name_of l.name) ≡ well_formed.type_in (well_formed.context_of l.types (map g.T.Typed.tree l.items)) (name_of l.name)
+invariant-loop-item g l = well_formed.type_in (well_formed.context_of (early l.known) (map g.T.Typed.tree (drop l.item-index l.items))) (name_of l.name) ≡ well_formed.type_in (well_formed.context_of (early l.known) (map g.T.Typed.tree l.items)) (name_of l.name)

@@ -1,7 +1,8 @@
 use Rattle.std.proofs.Common.{◌≡◌, map, drop}
 use Rattle.std.specs.List.{list_all}
 use Rattle.ioa_syntax.specs.WellFormed as well_formed
+use Rattle.ioa_check.specs.Known.{early}
 use Rattle.ioa_check.proofs.fields.types_known.Given as goal
 
 abbrev pub invariant-loop-item : goal.invariant-loop-item
-invariant-loop-item g l = list_all (well_formed.is_type l.types) (map g.T.Typed.tree (drop l.item-index l.items)) ≡ list_all (well_formed.is_type l.types) (map g.T.Typed.tree l.items)
+invariant-loop-item g l = list_all (well_formed.is_type (early l.known)) (map g.T.Typed.tree (drop l.item-index l.items)) ≡ list_all (well_formed.is_type (early l.known)) (map g.T.Typed.tree l.items)

@@ -1,15 +1,18 @@
-use Rattle.std.proofs.Common.{refl, ◌∙◌}
-use Rattle.ioa_check.proofs.GlobalLemmas.{names-grow, names-again}
+use Rattle.std.proofs.Common.{map}
+use Rattle.ioa_value.specs.Table.{basic}
+use Rattle.ioa_syntax.specs.View.{declaration_of}
+use Rattle.ioa_syntax.specs.WellFormed.{declared_names}
+use Rattle.ioa_check.specs.Globals.{texts}
+use Rattle.ioa_check.proofs.GlobalLemmas.{adds-fails, adds-say, all_declared, declared-append, declared-one}
 use Rattle.ioa_check.proofs.globals.global_names.Goals as goal
 
-pub returns-then-not-branch-clause-distinct : goal.returns-then-not-branch-clause-distinct
-returns-then-not-branch-clause-distinct c = (
-  refl,
-  names-again c.loop-declaration.names.keys c.as_str.result _ c.args.declarations.now _ c.declaration-item.result c.loop-declaration-test.true c.declaration-item.is
-      (c.as_str.ensures.value ∙ c.name-name.ensures) c.in_ok-insert-3.ensures.added c.if-not-branch.true c.loop-declaration.invariant.0,
-)
-
-pub loop-declaration-preserved : goal.loop-declaration-preserved
-loop-declaration-preserved c =
-    names-grow c.loop-declaration.names.keys _ c.as_str.result _ c.args.declarations.now _ c.declaration-item.result c.loop-declaration-test.true c.declaration-item.is
-    (c.as_str.ensures.value ∙ c.name-name.ensures) c.in_ok-insert-3.ensures.added c.in_ok-insert-3.ensures.keys c.if-not-branch.false c.loop-declaration.invariant
+pub returns-in_err-add_declared-clause-distinct : goal.returns-in_err-add_declared-clause-distinct
+returns-in_err-add_declared-clause-distinct c =
+    let start = map (λ d. d.name) basic in
+    let ds = c.args.declarations.now in
+    adds-say c.from_residual-in_err-add_declared.result start (all_declared ds) (texts c.loop-declaration.names) c.from_residual-in_err-add_declared.ensures.0
+    (adds-fails all_declared declared-append c.add_declared.result c.from_residual-in_err-add_declared.result _ start (texts c.loop-declaration.names)
+    (texts c.add_declared.new.names) (texts c.loop-declaration.names)
+    (declared_names (declaration_of c.declaration-item.result)) ds c.loop-declaration.declaration-index c.declaration-item.result
+    c.loop-declaration-test.true c.declaration-item.is (declared-one c.declaration-item.result)
+    c.loop-declaration.invariant c.in_err-add_declared.was c.from_residual-in_err-add_declared.ensures.1 c.add_declared.ensures)

@@ -5,4 +5,4 @@ use Rattle.ioa_syntax.specs.WellFormed as well_formed
 use Rattle.ioa_check.proofs.transitions.each_has_entry.Given as goal
 
 abbrev pub invariant-loop-transition : goal.invariant-loop-transition
-invariant-loop-transition l = list_all (λ r. list_any (λ e. well_formed.matches [] [] (automaton_of l.automaton) e r) (automaton_of l.automaton).entries) (map transition_of (drop l.transition-index l.automaton.transitions.items)) ≡ list_all (λ r. list_any (λ e. well_formed.matches [] [] (automaton_of l.automaton) e r) (automaton_of l.automaton).entries) (map transition_of l.automaton.transitions.items)
+invariant-loop-transition l = list_all (λ r. list_any (λ e. well_formed.matches [] [] [] (automaton_of l.automaton) e r) (automaton_of l.automaton).entries) (map transition_of (drop l.transition-index l.automaton.transitions.items)) ≡ list_all (λ r. list_any (λ e. well_formed.matches [] [] [] (automaton_of l.automaton) e r) (automaton_of l.automaton).entries) (map transition_of l.automaton.transitions.items)

@@ -4,4 +4,4 @@ use Rattle.ioa_syntax.specs.WellFormed as well_formed
 use Rattle.ioa_check.proofs.transitions.one_transition.Given as goal
 
 abbrev pub invariant-loop-transition : goal.invariant-loop-transition
-invariant-loop-transition l = cond l.found 1 0 + length (filter (well_formed.matches [] [] (automaton_of l.automaton) (entry_of l.entry)) (map transition_of (drop l.transition-index l.automaton.transitions.items))) ≡ length (filter (well_formed.matches [] [] (automaton_of l.automaton) (entry_of l.entry)) (map transition_of l.automaton.transitions.items))
+invariant-loop-transition l = cond l.found 1 0 + length (filter (well_formed.matches [] [] [] (automaton_of l.automaton) (entry_of l.entry)) (map transition_of (drop l.transition-index l.automaton.transitions.items))) ≡ length (filter (well_formed.matches [] [] [] (automaton_of l.automaton) (entry_of l.entry)) (map transition_of l.automaton.transitions.items))

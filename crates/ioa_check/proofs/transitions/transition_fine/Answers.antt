@@ -1,10 +1,11 @@
 use Rattle.std.proofs.lemmas.Bool.{or_right}
 use Rattle.ioa_syntax.specs.View.{automaton_of, entry_of}
+use Rattle.ioa_check.specs.Known.{whole, early}
 use Rattle.ioa_check.proofs.SayLemmas.{says-first, says-more}
 use Rattle.ioa_check.proofs.StatementLemmas.{same-statements-say}
 use Rattle.ioa_check.proofs.transitions.transition_fine.Goals as goal
 
 pub returns : goal.returns
 returns c =
-    let effect = same-statements-say c.args.types.now (automaton_of c.args.automaton.now) (entry_of c.args.entry.now) c.statements_fine.result _ c.args.transition.now.effect.items c.deref.ensures.value c.statements_fine.ensures in
+    let effect = same-statements-say (whole c.args.known.now) (early c.args.known.now) (automaton_of c.args.automaton.now) (entry_of c.args.entry.now) c.statements_fine.result _ c.args.transition.now.effect.items c.deref.ensures.value c.statements_fine.ensures in
     says-more c.statements_fine.result _ _ _ (λ x k. or_right _ _ k) (says-first c.statements_fine.result _ _ _ c.in_ok-before_effect_fine.ensures effect)

@@ -1,5 +1,5 @@
 use Rattle.ioa_check.proofs.ScopeLemmas.{lookup-variable, lookup-formal, lookup-parameter}
-use Rattle.ioa_check.proofs.scope.Scope.lookup.Goals as goal
+use Rattle.ioa_check.proofs.scope.Scope.held.Goals as goal
 
 pub returns-in-Some : goal.returns-in-Some
 returns-in-Some c = lookup-variable c.args.self.now _ _ c.in-Some.ensures
