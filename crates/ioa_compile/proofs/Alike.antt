@@ -40,7 +40,7 @@ use Rattle.ioa_compile.specs.Matching.{AreTypesOf, MatchesEntry}
 use Rattle.ioa_compile.specs.Translated.{IsGuard, IsGuardFor, codes_of, IsEntryOf, IsTranslated, IsFor}
 use Rattle.ioa_compile.proofs.Looks.{look, values_look, or_else-none, stands, look_outside, look_inside, outside_both, distinct_apart, apart_outside}
 use Rattle.ioa_compile.proofs.Fits.{types_long, position_names, fit_have, have_fit}
-use Rattle.ioa_compile.proofs.Fine.{Setting, setting, is_scope, variables_long, type_at, fine_of, guard_typed, effect_typed, GuardTyped, StmtsTyped}
+use Rattle.ioa_compile.proofs.Fine.{Setting, setting, is_scope, variables_long, type_look, fine_of, guard_typed, effect_typed, GuardTyped, StmtsTyped}
 use Rattle.ioa_compile.proofs.Validity.{found_slot}
 use Rattle.ioa_compile.proofs.Running as running
 use Rattle.ioa_compile.proofs.Running.{Comes, Breaks, Reaches, Knows, on, push_comes, expr_runs}
@@ -115,8 +115,8 @@ module _ (m : Member) (e : EntryTree) (vs ps : List ℕ) (h : Setting m e vs ps)
       go true v-is true f-is p p-is =
           let no = distinct_apart (field_names m.instance.automaton.formals) (variable_names m.instance.automaton) x h.parts.distinct_names f-is in absurd (cc)
       go true v-is false f-is true p-is =
-          let out = apart_outside (map position_name e.positions) (h.globals ++ local_names m.instance.types h.globals m.instance.automaton) x h.entry.apart_names p-is in
-          let local = (outside_both h.globals (local_names m.instance.types h.globals m.instance.automaton) x out).1 in
+          let out = apart_outside (map position_name e.positions) (h.globals ++ local_names m.instance.types m.instance.types h.globals m.instance.automaton) x h.entry.apart_names p-is in
+          let local = (outside_both h.globals (local_names m.instance.types m.instance.types h.globals m.instance.automaton) x out).1 in
           let no = (outside_both (field_names m.instance.automaton.formals) (variable_names m.instance.automaton) x local).1 in absurd (cc)
 
   stood : (slots : List Val) (x : Name) → or_else (look (field_names m.instance.automaton.formals) m.instance.arguments x) (or_else (look (map position_name e.positions) args x) (look (variable_names m.instance.automaton) slots x)) ≡ stands (scope_of m e) slots m.instance.arguments args x
@@ -134,7 +134,7 @@ module _ (m : Member) (e : EntryTree) (vs ps : List ℕ) (h : Setting m e vs ps)
   module _ (part : Part) (over : part.code.types ≡ m.instance.types) (declared : AreTypes m.instance.types) where
     -- the types of the names in this entry, and of the variables
     abbrev names_in : Context
-    names_in = scope m.instance.types h.globals m.instance.automaton e
+    names_in = scope m.instance.types m.instance.types h.globals m.instance.automaton e
 
     abbrev variables_in : Context
     variables_in = context_of m.instance.types (variable_fields m.instance.automaton)
@@ -142,13 +142,14 @@ module _ (m : Member) (e : EntryTree) (vs ps : List ℕ) (h : Setting m e vs ps)
     knows : Knows part.code (scope_of m e) args m.instance.types names_in variables_in vs h.types ps
     knows = record {
       same_types = over;
+      own_types = refl;
       declared = declared;
       variables = variables_long m e vs ps h;
       formals = (is_scope m e vs ps h).given;
       parameters = args_long;
       given = h.given;
       values = values;
-      names = type_at m e vs ps h;
+      names = type_look m e vs ps h;
       found = found_slot m e vs ps h part.code;
     }
 
@@ -184,7 +185,7 @@ module _ (m : Member) (e : EntryTree) (vs ps : List ℕ) (h : Setting m e vs ps)
         let own = holds env slots c in
         let suits = running.suits part.code s args types names_in variables_in vs h.types ps knows inner slots own in
         let agree = running.agree part.code s args types names_in variables_in vs h.types ps knows inner slots own in
-        answer_comes part s slots args (val types x inner) (some_answer 0 (val types x inner) (val_typed types declared names_in inner x 0 suits t)) (expr_runs part.code s args types over names_in x 0 0 (length part.code.instrs) [] slots inner t agree k.has)
+        answer_comes part s slots args (val types x inner) (some_answer 0 (val types x inner) (val_typed types declared names_in inner x 0 suits t)) (expr_runs part.code s args types over refl names_in x 0 0 (length part.code.instrs) [] slots inner t agree k.has)
 
     kept_corresponds : (env : Env) (slots : List Val) → Holds env slots → Corresponds m.instance (kept (variable_names m.instance.automaton) env) slots
     kept_corresponds env slots k = record {

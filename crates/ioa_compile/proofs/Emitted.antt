@@ -2,7 +2,7 @@
 use Rattle.ioa_syntax.specs.declared.tree.Kind.{Kind}
 use Rattle.ioa_syntax.specs.declared.tree.Kind.TheVariants.{Output, Internal}
 use Rattle.ioa_compile.specs.Translated.{IsGuard, IsGuardFor}
-use Rattle.std.proofs.Common.{◌≡◌, ◌⊎◌, ⊎_elim, ℕ, ◌+◌, ◌<◌, Bool, true, false, List, [], ◌∷◌, ◌++◌, length, map, Option, Some, None, refl, sym, ap, ◌∙◌, subst, arith, length-append}
+use Rattle.std.proofs.Common.{◌≡◌, ◌⊎◌, ⊎_elim, ℕ, ◌+◌, ◌<◌, Bool, true, false, List, [], ◌∷◌, ◌++◌, length, map, Option, Some, None, IsSome, refl, sym, ap, ◌∙◌, subst, arith, length-append}
 use Rattle.std.specs.Prelude.{slice_get}
 use Rattle.ioa_syntax.specs.WellFormed.{nodes, stmts_nodes, arms_nodes}
 use Rattle.std.proofs.lemmas.Option.{slice_get-map, slice_get_read}
@@ -21,8 +21,9 @@ use Rattle.ioa_code.specs.declared.instr.Instr.TheVariants.{Const, Slot, Arg, St
 use Rattle.ioa_code.specs.Machine.{Listing}
 use Rattle.ioa_syntax.specs.declared.tree.Infix.{Infix}
 use Rattle.ioa_syntax.specs.declared.tree.Infix.TheVariants.{Operator, And, Or, Implies}
-use Rattle.ioa_syntax.specs.Tree.{Expr, number, truth, named, parens, prefix, binary, Stmt, assign, choose, Stmts, stop, seq, Arms, no_arm, arm}
-use Rattle.ioa_compile.specs.Scopes.{Scope, Origin, slot, formal, parameter, unknown, origin}
+use Rattle.ioa_syntax.specs.Tree.{Expr, number, truth, named, parens, prefix, binary, empty, Stmt, assign, choose, Stmts, stop, seq, Arms, no_arm, arm}
+use Rattle.ioa_compile.specs.Scopes.{Scope, Origin, slot, formal, parameter, fixed, unknown, origin, IsOrigin}
+use Rattle.ioa_syntax.specs.Types.{constant, empty_of}
 use Rattle.ioa_compile.specs.Placed.{Stretch, At, Pushes, PushesTruth, Brings, Applies, Chooses, Combines, HasExpr, HasGuard, HasStmt, HasStmts, HasArms}
 use Rattle.ioa_compile.specs.Emitting.{Keeps, Adds, AddsInstr, AddsConst, AddsExpr, AddsCombined, AddsTrueSide, AddsFalseSide, AddsStmt, AddsStmts, IsGrown}
 use Rattle.ioa_compile.specs.Extents.{extent, stmts_extent, arms_extent}
@@ -65,7 +66,7 @@ adds_const c d v k k-is t-is i-is c-is ty = record {
 
 pub origin_formal : (s : Scope) (x : Name) (i : ℕ) → place_from 0 s.variables x ≡ None → place_from 0 s.formals x ≡ Some i → origin s x ≡ formal i
 origin_formal s x i e f =
-    let third : Origin = option_map_or parameter (place_from 0 s.parameters x) unknown in
+    let third : Origin = option_map_or parameter (place_from 0 s.parameters x) (option_map_or fixed (constant s.types x) unknown) in
     let second : Option ℕ → Origin = λ o. option_map_or formal o third in
     ap (λ o. option_map_or slot o (second (place_from 0 s.formals x))) e ∙ ap second f
 
@@ -74,6 +75,20 @@ origin_slot s x i e = rw e refl
 
 pub origin_parameter : (s : Scope) (x : Name) (i : ℕ) → place_from 0 s.variables x ≡ None → place_from 0 s.formals x ≡ None → place_from 0 s.parameters x ≡ Some i → origin s x ≡ parameter i
 origin_parameter s x i e f g = rw e (rw f (rw g refl))
+
+-- a name that has no place is an enumeration's
+pub known_constant : (s : Scope) (x : Name) → place_from 0 s.variables x ≡ None → place_from 0 s.formals x ≡ None → place_from 0 s.parameters x ≡ None → IsOrigin (origin s x) → IsSome (constant s.types x)
+known_constant s x e f g h =
+    let last : Origin = option_map_or fixed (constant s.types x) unknown in
+    let is : origin s x ≡ last = rw e (rw f (rw g refl)) in
+    go (constant s.types x) (subst IsOrigin is h)
+  where
+    go : (o : Option Val) → IsOrigin (option_map_or fixed o unknown) → IsSome o
+    go (Some v) k = refl
+    go None k = absurd k
+
+pub origin_fixed : (s : Scope) (x : Name) (v : Val) → place_from 0 s.variables x ≡ None → place_from 0 s.formals x ≡ None → place_from 0 s.parameters x ≡ None → constant s.types x ≡ Some v → origin s x ≡ fixed v
+origin_fixed s x v e f g h = rw e (rw f (rw g (rw h refl)))
 
 -- an instruction that brings the name's value
 pub adds_slot : (c d : Listing) (s : Scope) (x : Name) (i : ℕ) → origin s x ≡ slot i → AddsInstr c d (Slot i) → AddsExpr c d s (named x)
@@ -90,6 +105,13 @@ adds_named c d s x i v e f h = record {
   has = (subst (Brings d s (length c.instrs)) (sym e) (v, f, h.has.0), h.has.1);
   few = h.few;
 }
+
+pub adds_fixed : (c d : Listing) (s : Scope) (x : Name) (v : Val) → origin s x ≡ fixed v → AddsConst c d v → AddsExpr c d s (named x)
+adds_fixed c d s x v e h =
+    record { keeps = h.keeps; has = (subst (Brings d s (length c.instrs)) (sym e) h.has.0, h.has.1); few = h.few }
+
+pub adds_empty : (c d : Listing) (s : Scope) (x : Name) (v : Val) → empty_of s.types x ≡ Some v → AddsConst c d v → AddsExpr c d s (empty x)
+adds_empty c d s x v e h = record { keeps = h.keeps; has = (v, e, h.has.0, h.has.1); few = h.few }
 
 -- the formal's value, by its place
 pub argument_at : (items : List Value) (i : ℕ) (v copy : Value) → i < length items → v ≡ get_or items i v → plain copy ≡ plain v → slice_get (map plain items) i ≡ Some (plain copy)
@@ -111,6 +133,7 @@ module _ (c d : Listing) (k : Keeps c d) where
   Brings-keeps s p (slot i) h = k.instr p _ h
   Brings-keeps s p (formal i) h = (h.0, h.1, Pushes-keeps c d k p h.0 h.2)
   Brings-keeps s p (parameter i) h = k.instr p _ h
+  Brings-keeps s p (fixed v) h = Pushes-keeps c d k p v h
   Brings-keeps s p unknown h = absurd h
 
   Applies-keeps : (o : Op) (A B : Stretch) → ((p q : ℕ) → A p q → B p q) → (p q : ℕ) → Applies c o A p q → Applies d o B p q
@@ -138,6 +161,7 @@ module _ (c d : Listing) (k : Keeps c d) where
       Applies-keeps o (HasExpr c s e) (HasExpr d s e) (HasExpr-keeps s e) p q h
   HasExpr-keeps s (binary l o r) p q h =
       (h.0, HasExpr-keeps s l p h.0 h.1, Combines-keeps o (HasExpr c s r) (HasExpr d s r) (HasExpr-keeps s r) h.0 q h.2)
+  HasExpr-keeps s (empty x) p q h = (h.0, h.1, Pushes-keeps c d k p h.0 h.2, h.3)
 
   pub HasGuard-keeps : (s : Scope) (e : Option Expr) (p q : ℕ) → HasGuard c s e p q → HasGuard d s e p q
   HasGuard-keeps s None p q h = truth_kept true c d k p q h

@@ -11,24 +11,27 @@ use Rattle.ioa_value.specs.Actions.{Name}
 use Rattle.ioa_value.specs.Arithmetic.{fits}
 use Rattle.ioa_value.specs.Operators.{op_type}
 use Rattle.ioa_value.specs.Table.{Table, place_from}
-use Rattle.ioa_value.specs.Typing.{HaveTypes}
+use Rattle.ioa_value.specs.Typing.{HaveTypes, own}
 use Rattle.ioa_value.proofs.ItemLemmas.{all_at, some_at}
 use Rattle.ioa_value.proofs.TypingLemmas.{HaveTypes-length, HaveTypes-owns}
 use Rattle.ioa_syntax.specs.declared.tree.Kind.{Kind}
 use Rattle.ioa_syntax.specs.declared.tree.Kind.TheVariants.{Input, Output, Internal}
-use Rattle.ioa_syntax.specs.Tree.{Expr, number, truth, named, parens, prefix, binary, Stmt, assign, choose, Stmts, stop, seq, Arms, no_arm, arm, AutomatonTree, EntryTree, TransitionTree}
+use Rattle.ioa_syntax.specs.Tree.{Expr, number, truth, named, parens, prefix, binary, empty, Stmt, assign, choose, Stmts, stop, seq, Arms, no_arm, arm, AutomatonTree, EntryTree, TransitionTree}
+use Rattle.ioa_syntax.specs.Meaning.{or_else}
+use Rattle.ioa_syntax.specs.Types.{constant_type}
 use Rattle.ioa_syntax.specs.Instances.{variable_names, position_name, transition_for}
 use Rattle.ioa_syntax.specs.Compositions.{Member}
 use Rattle.ioa_syntax.specs.WellFormed.{Context, type_in, type_of, infix_type, is_some_of, has_ty, nodes, stmts_nodes, is_type, context_of, position_fields, variable_fields, same_kind, is_input, scope, entry_fine, matches, pre_fine, stmt_fine, stmts_fine, arms_fine, effect_fine, input_fine, proposals_fine, all_proposed, transition_fine, pre_within, proposals_within, effect_within, transition_within, entry_within}
 use Rattle.ioa_syntax.proofs.FineParts.{FineParts, fine_parts, EntryParts, entry_parts, within_parts}
 use Rattle.ioa_syntax.proofs.ValTyped.{type_of_one, types_of_both}
 use Rattle.ioa_compose.specs.Fine.{IsFine, component_limits}
-use Rattle.ioa_compile.specs.Scopes.{scope_of, Origin, slot, formal, parameter, unknown, origin, IsOrigin, IsKnown, IsKnownStmt, AreKnown, AreKnownArms, IsKnownGuard, IsScope}
+use Rattle.ioa_compile.specs.Scopes.{scope_of, Origin, slot, formal, parameter, fixed, unknown, origin, IsOrigin, IsKnown, IsKnownStmt, AreKnown, AreKnownArms, IsKnownGuard, IsScope}
 use Rattle.ioa_compile.specs.Emitting.{guard_nodes}
 use Rattle.ioa_compile.specs.Matching.{AreTypesOf}
 use Rattle.ioa_compile.specs.Translated.{IsEntryOf}
-use Rattle.ioa_compile.proofs.Looks.{look, at, stands_at, looks, Looked, same_name, name_same}
+use Rattle.ioa_compile.proofs.Looks.{look, at, stands, stands_at, looks, Looked, same_name, name_same}
 use Rattle.ioa_compile.proofs.Fits.{fit_types, types_long, scope_look, fields_look, variables_names, position_names}
+use Rattle.ioa_compile.proofs.Fixed.{own_constant, empty_known}
 use Rattle.ioa_compile.proofs.Finds.{IsFirst, finds, same_item}
 
 -- ---- the transition of an entry
@@ -49,7 +52,7 @@ pub record Found (types : Table) (g : List Name) (a : AutomatonTree) (e : EntryT
   pub place : ℕ
   pub here : slice_get a.transitions place ≡ Some transition
   pub found : transition_for a e ≡ Some transition
-  pub fine : IsTrue (transition_fine types g a e transition)
+  pub fine : IsTrue (transition_fine types types g a e transition)
 
 or_right : (a b : Bool) → IsTrue (not a || b) → a ≡ true → IsTrue b
 or_right true b h e = h
@@ -58,41 +61,41 @@ or_right false b h e = absurd (cc)
 one_positive : (n : ℕ) → IsTrue (n == 1) → 0 < n
 one_positive n h = grind (arith, nat_tests)
 
-module _ (types : Table) (g : List Name) (a : AutomatonTree) (p : FineParts types g a) (e : EntryTree) (i : ℕ) (here : slice_get a.entries i ≡ Some e) where
-  each_one : IsTrue (list_all (λ e. length (filter (matches types g a e) a.transitions) == 1) a.entries) × IsTrue (list_all (λ r. list_any (λ e. matches types g a e r) a.entries) a.transitions)
+module _ (types : Table) (g : List Name) (a : AutomatonTree) (p : FineParts types types g a) (e : EntryTree) (i : ℕ) (here : slice_get a.entries i ≡ Some e) where
+  each_one : IsTrue (list_all (λ e. length (filter (matches types types g a e) a.transitions) == 1) a.entries) × IsTrue (list_all (λ r. list_any (λ e. matches types types g a e r) a.entries) a.transitions)
   each_one = and_parts _ _ p.one_each
 
   first_named : IsFirst (λ t. bytes_eq t.name e.name) a.transitions (transition_for a e)
   first_named =
-      let one = all_at (λ e. length (filter (matches types g a e) a.transitions) == 1) a.entries i e each_one.0 here in
-      finds (λ t. bytes_eq t.name e.name) (matches types g a e) (λ r h. name_same r.name e.name (sym (same_name e.name r.name (and_parts (same_kind e.kind r.kind) (bytes_eq e.name r.name) h).1))) a.transitions (one_positive (length (filter (matches types g a e) a.transitions)) one)
+      let one = all_at (λ e. length (filter (matches types types g a e) a.transitions) == 1) a.entries i e each_one.0 here in
+      finds (λ t. bytes_eq t.name e.name) (matches types types g a e) (λ r h. name_same r.name e.name (sym (same_name e.name r.name (and_parts (same_kind e.kind r.kind) (bytes_eq e.name r.name) h).1))) a.transitions (one_positive (length (filter (matches types types g a e) a.transitions)) one)
 
   pub transition_found : Found types g a e
   transition_found =
       let t = first_named.item in
-      let owner = some_at (λ e. matches types g a e t) a.entries (all_at (λ r. list_any (λ e. matches types g a e r) a.entries) a.transitions first_named.place t each_one.1 first_named.here) in
+      let owner = some_at (λ e. matches types types g a e t) a.entries (all_at (λ r. list_any (λ e. matches types types g a e r) a.entries) a.transitions first_named.place t each_one.1 first_named.here) in
       let its_name = (and_parts (same_kind owner.0.kind t.kind) (bytes_eq owner.0.name t.name) owner.3).1 in
       let names : owner.0.name ≡ e.name = same_name owner.0.name t.name its_name ∙ same_name t.name e.name first_named.passes in
       let same = same_item (λ e. e.name) a.entries owner.1 i owner.0 e p.entry_names owner.2 here names in
-      let match : matches types g a e t ≡ true = subst (λ (x : EntryTree). matches types g a x t ≡ true) same owner.3 in
-      let tests = all_at (λ e. list_all (λ r. not (matches types g a e r) || transition_fine types g a e r) a.transitions) a.entries i e p.transitions here in
-      let test = all_at (λ r. not (matches types g a e r) || transition_fine types g a e r) a.transitions first_named.place t tests first_named.here in
+      let match : matches types types g a e t ≡ true = subst (λ (x : EntryTree). matches types types g a x t ≡ true) same owner.3 in
+      let tests = all_at (λ e. list_all (λ r. not (matches types types g a e r) || transition_fine types types g a e r) a.transitions) a.entries i e p.transitions here in
+      let test = all_at (λ r. not (matches types types g a e r) || transition_fine types types g a e r) a.transitions first_named.place t tests first_named.here in
       record {
         transition = t;
         place = first_named.place;
         here = first_named.here;
         found = first_named.found;
-        fine = or_right (matches types g a e t) (transition_fine types g a e t) test match;
+        fine = or_right (matches types types g a e t) (transition_fine types types g a e t) test match;
       }
 
 -- ---- typed preconditions and statements
 
 abbrev pub GuardTyped : Table → Context → Option Expr → Type 0
-GuardTyped types c o = IfSome o (λ p. type_of types c p ≡ Some 0)
+GuardTyped types c o = IfSome o (λ p. type_of types types c p ≡ Some 0)
 
 abbrev mutual
   pub StmtTyped : Table → Context → Context → Stmt → Type 0
-  StmtTyped types c v (assign x e) = (ty : ℕ) × (type_in v x ≡ Some ty) × (type_of types c e ≡ Some ty)
+  StmtTyped types c v (assign x e) = (ty : ℕ) × (type_in v x ≡ Some ty) × (type_of types types c e ≡ Some ty)
   StmtTyped types c v (choose arms others) = ArmsTyped types c v arms × StmtsTyped types c v others
 
   pub StmtsTyped : Table → Context → Context → Stmts → Type 0
@@ -101,59 +104,59 @@ abbrev mutual
 
   pub ArmsTyped : Table → Context → Context → Arms → Type 0
   ArmsTyped types c v no_arm = Unit {0}
-  ArmsTyped types c v (arm e ss more) = (type_of types c e ≡ Some 0) × StmtsTyped types c v ss × ArmsTyped types c v more
+  ArmsTyped types c v (arm e ss more) = (type_of types types c e ≡ Some 0) × StmtsTyped types c v ss × ArmsTyped types c v more
 
 some_of : (o : Option ℕ) (ty : ℕ) → IsTrue (is_some_of o ty) → o ≡ Some ty
 some_of (Some t) ty h = let same : t ≡ ty = grind (arith, nat_tests) in ap Some same
 some_of None ty h = absurd (cc)
 
 module _ (types : Table) (g : List Name) (a : AutomatonTree) (e : EntryTree) where
-  guard_tests : (o : Option Expr) → IsTrue (option_map_or (λ p. is_some_of (type_of types (scope types g a e) p) 0) o true) → GuardTyped types (scope types g a e) o
+  guard_tests : (o : Option Expr) → IsTrue (option_map_or (λ p. is_some_of (type_of types types (scope types types g a e) p) 0) o true) → GuardTyped types (scope types types g a e) o
   guard_tests None h = tt
-  guard_tests (Some p) h = some_of (type_of types (scope types g a e) p) 0 h
+  guard_tests (Some p) h = some_of (type_of types types (scope types types g a e) p) 0 h
 
-  none_typed : (o : Option Expr) → IsTrue (option_map_or (λ p. false) o true) → GuardTyped types (scope types g a e) o
+  none_typed : (o : Option Expr) → IsTrue (option_map_or (λ p. false) o true) → GuardTyped types (scope types types g a e) o
   none_typed None h = tt
   none_typed (Some p) h = absurd (cc)
 
-  guard_cases : (b : Bool) (r : TransitionTree) → IsTrue (if b then input_fine types g a r else pre_fine types g a e r && proposals_fine types g a e r && all_proposed types g a e r) → GuardTyped types (scope types g a e) r.pre
+  guard_cases : (b : Bool) (r : TransitionTree) → IsTrue (if b then input_fine types types g a r else pre_fine types types g a e r && proposals_fine types types g a e r && all_proposed types types g a e r) → GuardTyped types (scope types types g a e) r.pre
   guard_cases true r h = none_typed r.pre (and_parts (option_map_or (λ p. false) r.pre true) (length r.proposals == 0) h).0
   guard_cases false r h =
-      let q = pre_fine types g a e r in
-      guard_tests r.pre (and_parts q (proposals_fine types g a e r) (and_parts (q && proposals_fine types g a e r) (all_proposed types g a e r) h).0).0
+      let q = pre_fine types types g a e r in
+      guard_tests r.pre (and_parts q (proposals_fine types types g a e r) (and_parts (q && proposals_fine types types g a e r) (all_proposed types types g a e r) h).0).0
 
-  pub guard_typed : (r : TransitionTree) → IsTrue (transition_fine types g a e r) → GuardTyped types (scope types g a e) r.pre
-  guard_typed r h = guard_cases (is_input r.kind) r (and_parts (effect_fine types g a e r) _ h).1
+  pub guard_typed : (r : TransitionTree) → IsTrue (transition_fine types types g a e r) → GuardTyped types (scope types types g a e) r.pre
+  guard_typed r h = guard_cases (is_input r.kind) r (and_parts (effect_fine types types g a e r) _ h).1
 
-  assign_tests : (x : Name) (v : Expr) → IsTrue (stmt_fine types g a e (assign x v)) → StmtTyped types (scope types g a e) (context_of types (variable_fields a)) (assign x v)
+  assign_tests : (x : Name) (v : Expr) → IsTrue (stmt_fine types types g a e (assign x v)) → StmtTyped types (scope types types g a e) (context_of types (variable_fields a)) (assign x v)
   assign_tests x v h = go (type_in (context_of types (variable_fields a)) x) refl h
     where
-      go : (o : Option ℕ) → type_in (context_of types (variable_fields a)) x ≡ o → IsTrue (option_map_or (λ ty. is_some_of (type_of types (scope types g a e) v) ty) o false) → StmtTyped types (scope types g a e) (context_of types (variable_fields a)) (assign x v)
+      go : (o : Option ℕ) → type_in (context_of types (variable_fields a)) x ≡ o → IsTrue (option_map_or (λ ty. is_some_of (type_of types types (scope types types g a e) v) ty) o false) → StmtTyped types (scope types types g a e) (context_of types (variable_fields a)) (assign x v)
       go None t h = absurd (cc)
-      go (Some ty) t h = (ty, t, some_of (type_of types (scope types g a e) v) ty h)
+      go (Some ty) t h = (ty, t, some_of (type_of types types (scope types types g a e) v) ty h)
 
   mutual
-    stmt_tests : (s : Stmt) → IsTrue (stmt_fine types g a e s) → StmtTyped types (scope types g a e) (context_of types (variable_fields a)) s
+    stmt_tests : (s : Stmt) → IsTrue (stmt_fine types types g a e s) → StmtTyped types (scope types types g a e) (context_of types (variable_fields a)) s
     stmt_tests (assign x v) h = assign_tests x v h
     stmt_tests (choose arms others) h =
-        let parts = and_parts (arms_fine types g a e arms) (stmts_fine types g a e others) h in
+        let parts = and_parts (arms_fine types types g a e arms) (stmts_fine types types g a e others) h in
         (arms_tests arms parts.0, stmts_tests others parts.1)
 
-    stmts_tests : (ss : Stmts) → IsTrue (stmts_fine types g a e ss) → StmtsTyped types (scope types g a e) (context_of types (variable_fields a)) ss
+    stmts_tests : (ss : Stmts) → IsTrue (stmts_fine types types g a e ss) → StmtsTyped types (scope types types g a e) (context_of types (variable_fields a)) ss
     stmts_tests stop h = tt
     stmts_tests (seq s ss) h =
-        let parts = and_parts (stmt_fine types g a e s) (stmts_fine types g a e ss) h in
+        let parts = and_parts (stmt_fine types types g a e s) (stmts_fine types types g a e ss) h in
         (stmt_tests s parts.0, stmts_tests ss parts.1)
 
-    arms_tests : (arms : Arms) → IsTrue (arms_fine types g a e arms) → ArmsTyped types (scope types g a e) (context_of types (variable_fields a)) arms
+    arms_tests : (arms : Arms) → IsTrue (arms_fine types types g a e arms) → ArmsTyped types (scope types types g a e) (context_of types (variable_fields a)) arms
     arms_tests no_arm h = tt
     arms_tests (arm c ss more) h =
-        let parts = and_parts (has_ty types (scope types g a e) c 0) (stmts_fine types g a e ss && arms_fine types g a e more) h in
-        let inner = and_parts (stmts_fine types g a e ss) (arms_fine types g a e more) parts.1 in
-        (some_of (type_of types (scope types g a e) c) 0 parts.0, stmts_tests ss inner.0, arms_tests more inner.1)
+        let parts = and_parts (has_ty types types (scope types types g a e) c 0) (stmts_fine types types g a e ss && arms_fine types types g a e more) h in
+        let inner = and_parts (stmts_fine types types g a e ss) (arms_fine types types g a e more) parts.1 in
+        (some_of (type_of types types (scope types types g a e) c) 0 parts.0, stmts_tests ss inner.0, arms_tests more inner.1)
 
-  pub effect_typed : (r : TransitionTree) → IsTrue (transition_fine types g a e r) → StmtsTyped types (scope types g a e) (context_of types (variable_fields a)) r.effect
-  effect_typed r h = stmts_tests r.effect (and_parts (effect_fine types g a e r) _ h).0
+  pub effect_typed : (r : TransitionTree) → IsTrue (transition_fine types types g a e r) → StmtsTyped types (scope types types g a e) (context_of types (variable_fields a)) r.effect
+  effect_typed r h = stmts_tests r.effect (and_parts (effect_fine types types g a e r) _ h).0
 
 -- ---- the sizes of a transition's trees
 
@@ -179,8 +182,8 @@ small r h =
 
 pub record Setting (m : Member) (e : EntryTree) (vs ps : List ℕ) : Type 0 where
   pub globals : List Name
-  pub parts : FineParts m.instance.types globals m.instance.automaton
-  pub entry : EntryParts m.instance.types globals m.instance.automaton e
+  pub parts : FineParts m.instance.types m.instance.types globals m.instance.automaton
+  pub entry : EntryParts m.instance.types m.instance.types globals m.instance.automaton e
   pub few_variables : length m.instance.automaton.variables ≤ component_limits.variables
   pub few_positions : length e.positions ≤ component_limits.parameters
   pub variables : AreTypesOf m.instance.types (variable_fields m.instance.automaton) vs
@@ -191,15 +194,15 @@ pub record Setting (m : Member) (e : EntryTree) (vs ps : List ℕ) : Type 0 wher
   pub transition : Found m.instance.types globals m.instance.automaton e
 
 module _ (m : Member) (e : EntryTree) (h : IsFine component_limits m) (own : IsEntryOf m e) where
-  pub parts_of : FineParts m.instance.types h.automaton.0 m.instance.automaton
-  parts_of = fine_parts m.instance.types h.automaton.0 m.instance.automaton h.automaton.1
+  pub parts_of : FineParts m.instance.types m.instance.types h.automaton.0 m.instance.automaton
+  parts_of = fine_parts m.instance.types m.instance.types h.automaton.0 m.instance.automaton h.automaton.1
 
-  pub entry_of : EntryParts m.instance.types h.automaton.0 m.instance.automaton e
+  pub entry_of : EntryParts m.instance.types m.instance.types h.automaton.0 m.instance.automaton e
   entry_of =
       let t = m.instance.types in
       let g = h.automaton.0 in
       let a = m.instance.automaton in
-      entry_parts t g a e (all_at (entry_fine t g a) a.entries own.place e parts_of.entries own.here)
+      entry_parts t t g a e (all_at (entry_fine t t g a) a.entries own.place e parts_of.entries own.here)
 
   pub found_of : Found m.instance.types h.automaton.0 m.instance.automaton e
   found_of = transition_found m.instance.types h.automaton.0 m.instance.automaton parts_of e own.place own.here
@@ -211,11 +214,11 @@ module _ (m : Member) (e : EntryTree) (h : IsFine component_limits m) (own : IsE
       grind (arith, nat_tests)
 
   -- the transition that is found is a fine one
-  pub fine_of : (t : TransitionTree) → transition_for m.instance.automaton e ≡ Some t → IsTrue (transition_fine m.instance.types h.automaton.0 m.instance.automaton e t)
+  pub fine_of : (t : TransitionTree) → transition_for m.instance.automaton e ≡ Some t → IsTrue (transition_fine m.instance.types m.instance.types h.automaton.0 m.instance.automaton e t)
   fine_of t is =
       let both : Some found_of.transition ≡ Some t = sym found_of.found ∙ is in
       let same : found_of.transition ≡ t = cc in
-      subst (λ r. IsTrue (transition_fine m.instance.types h.automaton.0 m.instance.automaton e r)) same found_of.fine
+      subst (λ r. IsTrue (transition_fine m.instance.types m.instance.types h.automaton.0 m.instance.automaton e r)) same found_of.fine
 
   -- and its trees are small
   pub small_of : (t : TransitionTree) → transition_for m.instance.automaton e ≡ Some t → IsSmall t
@@ -258,10 +261,15 @@ module _ (m : Member) (e : EntryTree) (vs ps : List ℕ) (h : Setting m e vs ps)
   pub variables_long : length (variable_names m.instance.automaton) ≡ length vs
   variables_long = ap length (sym (variables_names m.instance.automaton)) ∙ types_long m.instance.types (variable_fields m.instance.automaton) vs h.variables
 
-  pub type_at : (x : Name) → type_in (scope m.instance.types h.globals m.instance.automaton e) x ≡ at (origin (scope_of m e) x) vs h.types ps
+  -- the types of names, but for those of enumerations
+  pub type_look : (x : Name) → type_in (scope m.instance.types m.instance.types h.globals m.instance.automaton e) x ≡ stands (scope_of m e) vs h.types ps x
+  type_look x = scope_look h.globals m e vs h.types ps x h.variables h.formals h.parameters
+
+  pub type_at : (x : Name) → or_else (type_in (scope m.instance.types m.instance.types h.globals m.instance.automaton e) x) (constant_type m.instance.types x) ≡ at own (origin (scope_of m e) x) vs h.types ps
   type_at x =
-      scope_look h.globals m e vs h.types ps x h.variables h.formals h.parameters
-      ∙ stands_at (scope_of m e) vs h.types ps x variables_long (types_long m.instance.types m.instance.automaton.formals h.types h.formals) (ap length (sym (position_names e.positions)) ∙ types_long m.instance.types (position_fields e.positions) ps h.parameters)
+      ap (λ o. or_else o (constant_type m.instance.types x)) (type_look x)
+      ∙ ap (or_else (stands (scope_of m e) vs h.types ps x)) (own_constant m.instance.types x)
+      ∙ stands_at own (scope_of m e) vs h.types ps x variables_long (types_long m.instance.types m.instance.automaton.formals h.types h.formals) (ap length (sym (position_names e.positions)) ∙ types_long m.instance.types (position_fields e.positions) ps h.parameters)
 
   -- a variable's place, and its type there
   pub variable_at : (x : Name) (ty : ℕ) → type_in (context_of m.instance.types (variable_fields m.instance.automaton)) x ≡ Some ty → (i : ℕ) × (place_from 0 (variable_names m.instance.automaton) x ≡ Some i) × (slice_get vs i ≡ Some ty)
@@ -274,31 +282,33 @@ module _ (m : Member) (e : EntryTree) (vs ps : List ℕ) (h : Setting m e vs ps)
       go place o e (inl r) = let n : 0 + r.at ≡ r.at = omega arith in (r.at, r.place_is ∙ ap Some n, r.item_is ∙ sym r.look_is ∙ e)
       go place o e (inr r) = let no = r.no_look in absurd (cc)
 
-  origin_there : (o : Origin) (ty : ℕ) → at o vs h.types ps ≡ Some ty → IsOrigin o
+  origin_there : (o : Origin) (ty : ℕ) → at own o vs h.types ps ≡ Some ty → IsOrigin o
   origin_there (slot i) ty t = tt
   origin_there (formal i) ty t = tt
   origin_there (parameter i) ty t = tt
+  origin_there (fixed v) ty t = tt
   origin_there unknown ty t = absurd (cc)
 
   number_fits : (n ty : ℕ) (b : Bool) → fits (pos n) ≡ b → cond b (Some 1) None ≡ Some ty → IsTrue (fits (pos n))
   number_fits n ty true f t = f
   number_fits n ty false f t = absurd (cc)
 
-  pub known : (x : Expr) (ty : ℕ) → type_of m.instance.types (scope m.instance.types h.globals m.instance.automaton e) x ≡ Some ty → IsKnown (scope_of m e) x
+  pub known : (x : Expr) (ty : ℕ) → type_of m.instance.types m.instance.types (scope m.instance.types m.instance.types h.globals m.instance.automaton e) x ≡ Some ty → IsKnown (scope_of m e) x
   known (number n) ty t = number_fits n ty (fits (pos n)) refl t
   known (truth b) ty t = tt
   known (named x) ty t = origin_there (origin (scope_of m e) x) ty (sym (type_at x) ∙ t)
   known (parens y) ty t = known y ty t
   known (prefix o y) ty t =
-      let c = scope m.instance.types h.globals m.instance.automaton e in
-      let operand = type_of_one (type_of m.instance.types c y) (op_type m.instance.types o) ty t in
+      let c = scope m.instance.types m.instance.types h.globals m.instance.automaton e in
+      let operand = type_of_one (type_of m.instance.types m.instance.types c y) (op_type m.instance.types o) ty t in
       known y operand.0 operand.1
   known (binary l o r) ty t =
-      let c = scope m.instance.types h.globals m.instance.automaton e in
-      let both = types_of_both (type_of m.instance.types c l) (type_of m.instance.types c r) (infix_type m.instance.types o) ty t in
+      let c = scope m.instance.types m.instance.types h.globals m.instance.automaton e in
+      let both = types_of_both (type_of m.instance.types m.instance.types c l) (type_of m.instance.types m.instance.types c r) (infix_type m.instance.types o) ty t in
       (known l both.0 both.2, known r both.1 both.3)
+  known (empty x) ty t = empty_known m.instance.types x ty t
 
-  pub known_guard : (o : Option Expr) → GuardTyped m.instance.types (scope m.instance.types h.globals m.instance.automaton e) o → IsKnownGuard (scope_of m e) o
+  pub known_guard : (o : Option Expr) → GuardTyped m.instance.types (scope m.instance.types m.instance.types h.globals m.instance.automaton e) o → IsKnownGuard (scope_of m e) o
   known_guard None t = tt
   known_guard (Some x) t = known x 0 t
 
@@ -306,7 +316,7 @@ module _ (m : Member) (e : EntryTree) (vs ps : List ℕ) (h : Setting m e vs ps)
   is_some o i t = rw t refl
 
   abbrev names_typed : Context
-  names_typed = scope m.instance.types h.globals m.instance.automaton e
+  names_typed = scope m.instance.types m.instance.types h.globals m.instance.automaton e
 
   abbrev variables_typed : Context
   variables_typed = context_of m.instance.types (variable_fields m.instance.automaton)
@@ -327,4 +337,4 @@ module _ (m : Member) (e : EntryTree) (vs ps : List ℕ) (h : Setting m e vs ps)
     known_arms (arm c ss more) t = (known c 0 t.0, (known_stmts ss t.1, known_arms more t.2))
 
 pub variables_known : (m : Member) → IsFine component_limits m → IsTrue (list_all (is_type m.instance.types) (variable_fields m.instance.automaton))
-variables_known m h = (fine_parts m.instance.types h.automaton.0 m.instance.automaton h.automaton.1).variable_types
+variables_known m h = (fine_parts m.instance.types m.instance.types h.automaton.0 m.instance.automaton h.automaton.1).variable_types

@@ -3,7 +3,7 @@ use Rattle.std.proofs.Common.{◌≡◌, ℕ, ◌+◌, ◌*◌, ◌≤◌, true,
 use Rattle.ioa_code.specs.Machine.{Listing}
 use Rattle.ioa_syntax.specs.declared.tree.Infix.{Infix}
 use Rattle.ioa_syntax.specs.declared.tree.Infix.TheVariants.{Operator, And, Or, Implies}
-use Rattle.ioa_syntax.specs.Tree.{Expr, number, truth, named, parens, prefix, binary, Stmt, assign, choose, Stmts, stop, seq, Arms, no_arm, arm}
+use Rattle.ioa_syntax.specs.Tree.{Expr, number, truth, named, parens, prefix, binary, empty, Stmt, assign, choose, Stmts, stop, seq, Arms, no_arm, arm}
 use Rattle.ioa_syntax.specs.WellFormed.{nodes, stmt_nodes, stmts_nodes, arms_nodes}
 use Rattle.ioa_compile.specs.Scopes.{Scope}
 use Rattle.ioa_compile.specs.Placed.{Stretch, PushesTruth, Chooses, Combines, HasExpr, HasGuard, HasStmt, HasStmts, HasArms}
@@ -32,6 +32,7 @@ module _ (code : Listing) where
     expr_long (prefix o e) p q h = omega (arith, expr_long e p h.0 h.1, h.3)
     expr_long (binary l o r) p q h =
         omega (arith, expr_long l p h.0 h.1, combines_long o (HasExpr code s r) (extent r) (expr_long r) h.0 q h.2)
+    expr_long (empty x) p q h = h.3
 
     pub guard_long : (g : Option Expr) (p q : ℕ) → HasGuard code s g p q → q ≡ p + guard_extent g
     guard_long None p q h = h.1
@@ -64,6 +65,7 @@ expr_small (named x) = omega arith
 expr_small (parens e) = omega (arith, expr_small e)
 expr_small (prefix o e) = omega (arith, expr_small e)
 expr_small (binary l o r) = omega (arith, expr_small l, expr_small r, infix_small o)
+expr_small (empty x) = omega arith
 
 pub guard_small : (g : Option Expr) → guard_extent g ≤ 4 * guard_nodes g
 guard_small None = omega arith

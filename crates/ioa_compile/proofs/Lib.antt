@@ -1,8 +1,10 @@
 pub mod Views
+pub mod Arities
 pub mod Lengths
 pub mod Emitted
 pub mod Paired
 pub mod Looks
+pub mod Fixed
 pub mod Fits
 pub mod Finds
 pub mod Fine

@@ -1,6 +1,7 @@
 -- The machine follows the tree.
 use Rattle.std.proofs.Common.{◌≡◌, ℕ, suc, ◌+◌, ◌<◌, ◌≤◌, ◌==◌, Bool, true, false, cond, List, [], ◌∷◌, ◌++◌, length, Option, Some, None, pos, refl, sym, ap, ◌∙◌, subst, arith, append_assoc}
 use Rattle.std.specs.Prelude.{slice_get, slice_set}
+use Rattle.std.specs.Option.{option_map}
 use Rattle.std.specs.Str.{bytes_eq}
 use Rattle.std.proofs.lemmas.Option.{slice_get_within}
 use Rattle.ioa_value.specs.declared.arithmetic.Fault.{Fault}
@@ -19,18 +20,19 @@ use Rattle.ioa_code.proofs.Lists.{on_top-append}
 use Rattle.ioa_node.specs.Runs.{no_words}
 use Rattle.ioa_syntax.specs.declared.tree.Infix.{Infix}
 use Rattle.ioa_syntax.specs.declared.tree.Infix.TheVariants.{Operator, And, Or, Implies}
-use Rattle.ioa_syntax.specs.Tree.{Expr, number, truth, named, parens, prefix, binary, Stmt, assign, choose, Stmts, stop, seq, Arms, no_arm, arm}
+use Rattle.ioa_syntax.specs.Tree.{Expr, number, truth, named, parens, prefix, binary, empty, Stmt, assign, choose, Stmts, stop, seq, Arms, no_arm, arm}
 use Rattle.ioa_syntax.specs.Meaning as Meaning
 use Rattle.ioa_syntax.specs.Meaning.{Env, val, then_value, combined, value_of, Outcome, becomes, breaks, nowhere, assigned, then_do, chosen, does, picks, eff, with_name, or_else}
+use Rattle.ioa_syntax.specs.Types.{constant, empty_of}
 use Rattle.ioa_syntax.specs.WellFormed.{Context, type_in, type_of, infix_type}
-use Rattle.ioa_syntax.specs.Answers.{Stands, Suits}
+use Rattle.ioa_syntax.specs.Answers.{Suits}
 use Rattle.ioa_syntax.proofs.ValTyped.{val_typed, type_of_one, types_of_both}
-use Rattle.ioa_compile.specs.Scopes.{Scope, Origin, slot, formal, parameter, unknown, origin}
+use Rattle.ioa_compile.specs.Scopes.{Scope, Origin, slot, formal, parameter, fixed, unknown, origin}
 use Rattle.ioa_compile.specs.Placed.{Stretch, At, Pushes, PushesTruth, Brings, Chooses, Combines, HasExpr, HasStmt, HasStmts, HasArms}
 use Rattle.ioa_compile.proofs.Lengths.{expr_long, stmts_long, arms_long}
 use Rattle.ioa_compile.proofs.Fine.{StmtTyped, StmtsTyped, ArmsTyped}
-use Rattle.ioa_compile.proofs.Looks.{look, at, stands, stands_at, look_set}
-use Rattle.ioa_compile.proofs.Validity.{takes_one, takes_two}
+use Rattle.ioa_compile.proofs.Looks.{look, at, stands, stands_at, look_at, look_set, Paired, stands-paired}
+use Rattle.ioa_compile.proofs.Arities.{takes_one, takes_two}
 
 module _ (code : Listing) (s : Scope) (args : List Val) where
   -- the machine at a place
@@ -99,16 +101,17 @@ module _ (code : Listing) (s : Scope) (args : List Val) where
   read_comes : (p : ℕ) (stack slots : List Val) (i : Instr) (o : Option Val) (v : Val) → At code p i → act code i (on p stack slots) ≡ pushed o (on p stack slots) → o ≡ Some v → Comes (on p stack slots) (on (p + 1) (stack ++ v ∷ []) slots)
   read_comes p stack slots i o v h e k = step _ _ (omega arith) (moves p stack slots i _ h (e ∙ ap (λ x. pushed x (on p stack slots)) k))
 
-  brings_comes : (p : ℕ) (stack slots : List Val) (o : Origin) (v : Val) → at o slots s.arguments args ≡ Some v → Brings code s p o → Comes (on p stack slots) (on (p + 1) (stack ++ v ∷ []) slots)
+  brings_comes : (p : ℕ) (stack slots : List Val) (o : Origin) (v : Val) → at (λ w. w) o slots s.arguments args ≡ Some v → Brings code s p o → Comes (on p stack slots) (on (p + 1) (stack ++ v ∷ []) slots)
   brings_comes p stack slots (slot i) v e h = read_comes p stack slots (Slot i) (slice_get slots i) v h refl e
   brings_comes p stack slots (formal i) v e h =
       let both : Some h.0 ≡ Some v = sym h.1 ∙ e in
       let same : h.0 ≡ v = cc in
       push_comes p stack slots v (subst (Pushes code p) same h.2)
   brings_comes p stack slots (parameter i) v e h = read_comes p stack slots (Arg i) (slice_get args i) v h refl e
+  brings_comes p stack slots (fixed w) v e h = let same : w ≡ v = cc in push_comes p stack slots v (subst (Pushes code p) same h)
   brings_comes p stack slots unknown v e h = absurd h
 
-  brings_reaches : (p : ℕ) (stack slots : List Val) (o : Option Val) (w : Origin) → o ≡ at w slots s.arguments args → Brings code s p w → Reaches (on p stack slots) (p + 1) stack slots (value_of o)
+  brings_reaches : (p : ℕ) (stack slots : List Val) (o : Option Val) (w : Origin) → o ≡ at (λ v. v) w slots s.arguments args → Brings code s p w → Reaches (on p stack slots) (p + 1) stack slots (value_of o)
   brings_reaches p stack slots None w e h = tt
   brings_reaches p stack slots (Some v) w e h = brings_comes p stack slots w v (sym e) h
 
@@ -156,10 +159,10 @@ module _ (code : Listing) (s : Scope) (args : List Val) where
   truth_on b m n h = omega (arith, h.1)
 
   -- what a name stands for is where its code finds it
-  abbrev pub Agrees : Env → List Val → Type 0
-  Agrees env slots = (x : Name) → env x ≡ at (origin s x) slots s.arguments args
+  abbrev pub Agrees : Table → Env → List Val → Type 0
+  Agrees types env slots = (x : Name) → or_else (env x) (constant types x) ≡ at (λ v. v) (origin s x) slots s.arguments args
 
-  module _ (types : Table) (same_types : code.types ≡ types) where
+  module _ (types : Table) (same_types : code.types ≡ types) (own_types : s.types ≡ types) where
     apply_reaches : (p : ℕ) (stack operands slots : List Val) (op : Op) → At code p (Apply op) → length operands ≡ arity types op → Reaches (on p (stack ++ operands) slots) (p + 1) stack slots (operate types op operands)
     apply_reaches p stack operands slots op h e =
         let takes : length operands ≡ arity code.types op = e ∙ ap (λ t. arity t op) (sym same_types) in
@@ -185,37 +188,42 @@ module _ (code : Listing) (s : Scope) (args : List Val) where
     expr_on : (e : Expr) (m n : ℕ) → HasExpr code s e m n → m ≤ n
     expr_on e m n h = omega (arith, expr_long code s e m n h)
 
-    pub expr_runs : (c : Context) (e : Expr) (ty p q : ℕ) (stack slots : List Val) (env : Env) → type_of types c e ≡ Some ty → Agrees env slots → HasExpr code s e p q → Reaches (on p stack slots) q stack slots (val types e env)
+    pub expr_runs : (c : Context) (e : Expr) (ty p q : ℕ) (stack slots : List Val) (env : Env) → type_of types types c e ≡ Some ty → Agrees types env slots → HasExpr code s e p q → Reaches (on p stack slots) q stack slots (val types e env)
     expr_runs c (number n) ty p q stack slots env t g h =
         subst (λ k. Comes (on p stack slots) (on k (stack ++ plain.num (pos n) ∷ []) slots)) (sym h.1) (push_comes p stack slots (plain.num (pos n)) h.0)
     expr_runs c (truth b) ty p q stack slots env t g h = truth_reaches b stack slots p q h
     expr_runs c (named x) ty p q stack slots env t g h =
-        subst (λ k. Reaches (on p stack slots) k stack slots (value_of (env x))) (sym h.1) (brings_reaches p stack slots (env x) (origin s x) (g x) h.0)
+        subst (λ k. Reaches (on p stack slots) k stack slots (value_of (or_else (env x) (constant types x)))) (sym h.1) (brings_reaches p stack slots (or_else (env x) (constant types x)) (origin s x) (g x) h.0)
     expr_runs c (parens e) ty p q stack slots env t g h = expr_runs c e ty p q stack slots env t g h
     expr_runs c (prefix o e) ty p q stack slots env t g h =
-        let operand = type_of_one (type_of types c e) (op_type types o) ty t in
+        let operand = type_of_one (type_of types types c e) (op_type types o) ty t in
         let go : Val → Answer = λ x. operate types o (x ∷ []) in
         subst (λ k. Reaches (on p stack slots) k stack slots (then_value (val types e env) go)) (sym h.3)
         (then_reaches (on p stack slots) h.0 (h.0 + 1) stack stack slots (val types e env) go (expr_runs c e operand.0 p h.0 stack slots env operand.1 g h.1)
         (λ x. apply_reaches h.0 stack (x ∷ []) slots o h.2 (sym (takes_one types o operand.0 ty operand.2))))
     expr_runs c (binary l o r) ty p q stack slots env t g h =
-        let both = types_of_both (type_of types c l) (type_of types c r) (infix_type types o) ty t in
+        let both = types_of_both (type_of types types c l) (type_of types types c r) (infix_type types o) ty t in
         let go : Val → Answer = λ x. combined types o x (val types r env) in
         then_reaches (on p stack slots) h.0 q stack stack slots (val types l env) go (expr_runs c l both.0 p h.0 stack slots env both.2 g h.1)
         (λ x. combines_reaches (HasExpr code s r) h.0 q stack slots x (val types r env) both.0 both.1 ty (λ m n under k. expr_runs c r both.1 m n under slots env both.3 g k) (expr_on r) o both.4 h.2)
+    expr_runs c (empty x) ty p q stack slots env t g h =
+        let there : empty_of types x ≡ Some h.0 = ap (λ l. empty_of l x) (sym own_types) ∙ h.1 in
+        subst (λ o. Reaches (on p stack slots) q stack slots (value_of o)) (sym there)
+        (subst (λ k. Comes (on p stack slots) (on k (stack ++ h.0 ∷ []) slots)) (sym h.3) (push_comes p stack slots h.0 h.2))
 
   -- ---- statements, where the code is typed
 
   -- what is known of a scope's typed code: the types of its names, and that its values have them
   pub record Knows (types : Table) (c v : Context) (vs fs ps : List ℕ) : Type 0 where
     pub same_types : code.types ≡ types
+    pub own_types : s.types ≡ types
     pub declared : AreTypes types
     pub variables : length s.variables ≡ length vs
     pub formals : length s.formals ≡ length s.arguments
     pub parameters : length s.parameters ≡ length args
     pub given : HaveTypes types s.arguments fs
     pub values : HaveTypes types args ps
-    pub names : (x : Name) → type_in c x ≡ at (origin s x) vs fs ps
+    pub names : (x : Name) → type_in c x ≡ stands s vs fs ps x
     pub found : (x : Name) (ty i : ℕ) → type_in v x ≡ Some ty → place_from 0 s.variables x ≡ Some i → slice_get vs i ≡ Some ty
 
   module _ (types : Table) (c v : Context) (vs fs ps : List ℕ) (known : Knows types c v vs fs ps) where
@@ -224,22 +232,29 @@ module _ (code : Listing) (s : Scope) (args : List Val) where
       pub agrees : (x : Name) → env x ≡ stands s slots s.arguments args x
       pub typed : HaveTypes types slots vs
 
-    pub agree : (env : Env) (slots : List Val) → Holds env slots → Agrees env slots
+    slots_long : (env : Env) (slots : List Val) → Holds env slots → length s.variables ≡ length slots
+    slots_long env slots h = known.variables ∙ sym (HaveTypes-length types slots vs h.typed)
+
+    pub agree : (env : Env) (slots : List Val) → Holds env slots → Agrees types env slots
     agree env slots h x =
-        h.agrees x ∙ stands_at s slots s.arguments args x (known.variables ∙ sym (HaveTypes-length types slots vs h.typed)) known.formals known.parameters
-
-    stood : (xs : List Val) (tys : List ℕ) (i ty : ℕ) → HaveTypes types xs tys → slice_get tys i ≡ Some ty → Stands types ty (slice_get xs i)
-    stood xs tys i ty h e = let at_i = HaveTypes-get types xs tys i ty h e in subst (Stands types ty) (sym at_i.1) at_i.2
-
-    at_typed : (o : Origin) (slots : List Val) (ty : ℕ) → HaveTypes types slots vs → at o vs fs ps ≡ Some ty → Stands types ty (at o slots s.arguments args)
-    at_typed (slot i) slots ty h e = stood slots vs i ty h e
-    at_typed (formal i) slots ty h e = stood s.arguments fs i ty known.given e
-    at_typed (parameter i) slots ty h e = stood args ps i ty known.values e
-    at_typed unknown slots ty h e = absurd (cc)
+        ap (λ o. or_else o (constant types x)) (h.agrees x)
+        ∙ ap (or_else (stands s slots s.arguments args x)) (itself (constant types x) ∙ ap (λ t. option_map (λ v. v) (constant t x)) (sym known.own_types))
+        ∙ stands_at (λ v. v) s slots s.arguments args x (slots_long env slots h) known.formals known.parameters
+      where
+        itself : (o : Option Val) → o ≡ option_map (λ v. v) o
+        itself (Some v) = refl
+        itself None = refl
 
     pub suits : (env : Env) (slots : List Val) → Holds env slots → Suits types c env
-    suits env slots h x ty t =
-        subst (Stands types ty) (sym (agree env slots h x)) (at_typed (origin s x) slots ty h.typed (sym (known.names x) ∙ t))
+    suits env slots h = record {
+      stands = λ x ty t. subst (λ o. Paired types o (env x)) t (both x);
+      others = λ x t. subst (λ o. Paired types o (env x)) t (both x);
+    }
+      where
+        both : (x : Name) → Paired types (type_in c x) (env x)
+        both x =
+            subst (λ o. Paired types o (env x)) (sym (known.names x))
+            (subst (Paired types (stands s vs fs ps x)) (sym (h.agrees x)) (stands-paired types s slots s.arguments args vs fs ps x h.typed known.given known.values))
 
     -- the machine comes to q with the new variables, or ends by the fault
     abbrev pub RunsTo : State → ℕ → Outcome → Type 0
@@ -267,7 +282,7 @@ module _ (code : Listing) (s : Scope) (args : List Val) where
 
     holds_set : (env : Env) (slots : List Val) (x : Name) (i ty : ℕ) (w : Val) → Holds env slots → place_from 0 s.variables x ≡ Some i → slice_get vs i ≡ Some ty → HasType types w ty → Holds (with_name env x w) (slice_set slots i w)
     holds_set env slots x i ty w h place t k =
-        let long = known.variables ∙ sym (HaveTypes-length types slots vs h.typed) in
+        let long = slots_long env slots h in
         let n : i ≡ 0 + i = omega arith in
         record {
           agrees = λ y.
@@ -279,9 +294,6 @@ module _ (code : Listing) (s : Scope) (args : List Val) where
         go : (y : Name) (b : Bool) → cond b (Some w) (env y) ≡ or_else (cond b (Some w) (look s.variables slots y)) (or_else (look s.formals s.arguments y) (look s.parameters args y))
         go y true = refl
         go y false = h.agrees y
-
-    variable_origin : (x : Name) (i : ℕ) → place_from 0 s.variables x ≡ Some i → origin s x ≡ slot i
-    variable_origin x i e = rw e refl
 
     assigns : (m i ty : ℕ) (slots : List Val) (x : Name) (env : Env) (start : State) (a : Answer) (old : Option Val) (was : Val) → Holds env slots → At code m (Store i) → place_from 0 s.variables x ≡ Some i → slice_get vs i ≡ Some ty → slice_get slots i ≡ Some was → HasType types was ty → old ≡ Some was → IsTypedAnswer types ty a → Reaches start m [] slots a → RunsTo start (m + 1) (assigned x env a old)
     assigns m i ty slots x env start (gives w) None was h k place t now kept e typed r = absurd (cc)
@@ -297,9 +309,9 @@ module _ (code : Listing) (s : Scope) (args : List Val) where
         let i = k.1 in
         let slot_ty = known.found x ty i t.1 k.4 in
         let now = HaveTypes-get types slots vs i ty h.typed slot_ty in
-        let old : env x ≡ Some now.0 = agree env slots h x ∙ ap (λ o. at o slots s.arguments args) (variable_origin x i k.4) ∙ now.1 in
+        let old : env x ≡ Some now.0 = h.agrees x ∙ ap (λ o. or_else o (or_else (look s.formals s.arguments x) (look s.parameters args x))) (look_at s.variables slots x i now.0 (slots_long env slots h) k.4 now.1) in
         let typed = val_typed types known.declared c env e ty (suits env slots h) t.2 in
-        let run = expr_runs types known.same_types c e ty p m [] slots env t.2 (agree env slots h) k.2 in
+        let run = expr_runs types known.same_types known.own_types c e ty p m [] slots env t.2 (agree env slots h) k.2 in
         subst (λ n. RunsTo (on p [] slots) n (assigned x env (val types e env) (env x))) (sym k.5)
         (assigns m i ty slots x env (on p [] slots) (val types e env) (env x) now.0 h k.3 k.4 slot_ty now.1 now.2 old typed run)
 
@@ -353,4 +365,4 @@ module _ (code : Listing) (s : Scope) (args : List Val) where
           k.2
           (val types e env)
           (val_typed types known.declared c env e 0 (suits env slots h) t.0)
-          (expr_runs types known.same_types c e 0 p k.0 [] slots env t.0 (agree env slots h) k.1)
+          (expr_runs types known.same_types known.own_types c e 0 p k.0 [] slots env t.0 (agree env slots h) k.1)

@@ -149,7 +149,7 @@ module _ (m : Member) (c : MemberCode) (fine : IsFine component_limits m) (same_
   pub is_member : c.name ≡ m.name → AreTypesOf m.instance.types (variable_fields m.instance.automaton) c.start.types → HaveTypes m.instance.types c.start.values c.start.types → AllZip (IsTranslated m c.start.types) m.instance.automaton.entries c.entries → IsMember m.instance.types c
   is_member name types start all =
       let a = m.instance.automaton in
-      let whole = fine_parts m.instance.types fine.automaton.0 a fine.automaton.1 in
+      let whole = fine_parts m.instance.types m.instance.types fine.automaton.0 a fine.automaton.1 in
       let few = within_parts component_limits a fine.within in
       let names : map (λ e. e.name) c.entries ≡ map (λ t. t.name) a.entries =
       paired_map (IsTranslated m c.start.types) (λ t. t.name) (λ e. e.name) (λ t e h. h.name) a.entries c.entries all in

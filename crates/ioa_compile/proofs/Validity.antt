@@ -5,13 +5,12 @@ use Rattle.std.specs.Option.{option_map}
 use Rattle.std.proofs.lemmas.Bool.Decides.{nat_tests}
 use Rattle.std.proofs.lemmas.Option.{slice_get-map}
 use Rattle.ioa_value.specs.declared.operator.Op.{Op}
-use Rattle.ioa_value.specs.declared.operator.Op.TheVariants.{Neg, Add, Sub, Mul, Div, Mod, Lt, Le, Gt, Ge, Not, Eq, Ne}
 use Rattle.ioa_value.specs.Actions.{Name}
 use Rattle.ioa_value.specs.Arithmetic.{fits}
 use Rattle.ioa_value.specs.Operators.{op_type, arity}
 use Rattle.ioa_value.specs.Plain as plain
 use Rattle.ioa_value.specs.Plain.{Val}
-use Rattle.ioa_value.specs.Table.{Table, place_from}
+use Rattle.ioa_value.specs.Table.{place_from}
 use Rattle.ioa_value.specs.Typing.{HasType, HaveTypes, own}
 use Rattle.ioa_value.proofs.TypingLemmas.{own_type, HaveTypes-get}
 use Rattle.ioa_code.specs.declared.instr.Instr.TheVariants.{Const, Slot, Arg, Store, Apply}
@@ -22,48 +21,20 @@ use Rattle.ioa_code.specs.Valid.{Part, Valid, after, way, reads_arguments, write
 use Rattle.ioa_code.proofs.Lists.{on_top-append}
 use Rattle.ioa_syntax.specs.declared.tree.Infix.{Infix}
 use Rattle.ioa_syntax.specs.declared.tree.Infix.TheVariants.{Operator, And, Or, Implies}
-use Rattle.ioa_syntax.specs.Tree.{Expr, number, truth, named, parens, prefix, binary, Stmt, assign, choose, Stmts, stop, seq, Arms, no_arm, arm, EntryTree}
+use Rattle.ioa_syntax.specs.Tree.{Expr, number, truth, named, parens, prefix, binary, empty, Stmt, assign, choose, Stmts, stop, seq, Arms, no_arm, arm, EntryTree}
+use Rattle.ioa_syntax.specs.Meaning.{or_else}
+use Rattle.ioa_syntax.specs.Types.{constant_type, empty_of}
 use Rattle.ioa_syntax.specs.Compositions.{Member}
 use Rattle.ioa_syntax.specs.WellFormed.{Context, type_in, type_of, of_truths, infix_type, scope, context_of, variable_fields}
 use Rattle.ioa_syntax.proofs.ValTyped.{type_of_one, types_of_both, are_truths}
-use Rattle.ioa_compile.specs.Scopes.{Scope, scope_of, Origin, slot, formal, parameter, unknown, origin}
+use Rattle.ioa_compile.specs.Scopes.{Scope, scope_of, Origin, slot, formal, parameter, fixed, unknown, origin}
 use Rattle.ioa_compile.specs.Placed.{Stretch, At, Pushes, PushesTruth, Brings, Chooses, Combines, HasExpr, HasGuard, HasStmt, HasStmts, HasArms}
 use Rattle.ioa_compile.specs.Translated.{IsGuard, IsEffect}
 use Rattle.ioa_compile.proofs.Looks.{at}
 use Rattle.ioa_compile.proofs.Fine.{Setting, type_at, variable_at, GuardTyped, StmtTyped, StmtsTyped, ArmsTyped}
+use Rattle.ioa_compile.proofs.Arities.{takes_one, takes_two}
+use Rattle.ioa_compile.proofs.Fixed.{own_empty}
 use Rattle.ioa_compile.proofs.Blocks.{Block, none, one, join, fork, valid}
-
--- an operator that has a type for one operand takes one
-pub takes_one : (types : Table) (o : Op) (a ty : ℕ) → op_type types o (a ∷ []) ≡ Some ty → arity types o ≡ 1
-takes_one types Neg a ty h = refl
-takes_one types Add a ty h = absurd (cc)
-takes_one types Sub a ty h = absurd (cc)
-takes_one types Mul a ty h = absurd (cc)
-takes_one types Div a ty h = absurd (cc)
-takes_one types Mod a ty h = absurd (cc)
-takes_one types Lt a ty h = absurd (cc)
-takes_one types Le a ty h = absurd (cc)
-takes_one types Gt a ty h = absurd (cc)
-takes_one types Ge a ty h = absurd (cc)
-takes_one types Not a ty h = refl
-takes_one types Eq a ty h = absurd (cc)
-takes_one types Ne a ty h = absurd (cc)
-
--- so for two
-pub takes_two : (types : Table) (o : Op) (a b ty : ℕ) → op_type types o (a ∷ b ∷ []) ≡ Some ty → arity types o ≡ 2
-takes_two types Neg a b ty h = absurd (cc)
-takes_two types Add a b ty h = refl
-takes_two types Sub a b ty h = refl
-takes_two types Mul a b ty h = refl
-takes_two types Div a b ty h = refl
-takes_two types Mod a b ty h = refl
-takes_two types Lt a b ty h = refl
-takes_two types Le a b ty h = refl
-takes_two types Gt a b ty h = refl
-takes_two types Ge a b ty h = refl
-takes_two types Not a b ty h = absurd (cc)
-takes_two types Eq a b ty h = refl
-takes_two types Ne a b ty h = refl
 
 -- the types of what names stand for, in a part for variables vs and values ps
 pub record Reads (part : Part) (s : Scope) (c : Context) (vs fs ps : List ℕ) : Type 0 where
@@ -71,7 +42,8 @@ pub record Reads (part : Part) (s : Scope) (c : Context) (vs fs ps : List ℕ) :
   pub args : part.args ≡ ps
   pub reads : reads_arguments part.kind ≡ true
   pub given : HaveTypes part.code.types s.arguments fs
-  pub names : (x : Name) → type_in c x ≡ at (origin s x) vs fs ps
+  pub table : s.types ≡ part.code.types
+  pub names : (x : Name) → or_else (type_in c x) (constant_type part.code.types x) ≡ at own (origin s x) vs fs ps
 
 module _ (part : Part) (s : Scope) (c : Context) (vs fs ps : List ℕ) (h : Reads part s c vs fs ps) where
   push_block : (p : ℕ) (v : Val) (ty : ℕ) (ts : List ℕ) → own v ≡ ty → Pushes part.code p v → Block part p (p + 1) ts (ts ++ ty ∷ [])
@@ -86,7 +58,7 @@ module _ (part : Part) (s : Scope) (c : Context) (vs fs ps : List ℕ) (h : Read
       let same : at_i.0 ≡ v = cc in
       own_type part.code.types v ty (subst (λ x. HasType part.code.types x ty) same at_i.2)
 
-  brings_block : (p : ℕ) (o : Origin) (ty : ℕ) (ts : List ℕ) → at o vs fs ps ≡ Some ty → Brings part.code s p o → Block part p (p + 1) ts (ts ++ ty ∷ [])
+  brings_block : (p : ℕ) (o : Origin) (ty : ℕ) (ts : List ℕ) → at own o vs fs ps ≡ Some ty → Brings part.code s p o → Block part p (p + 1) ts (ts ++ ty ∷ [])
   brings_block p (slot i) ty ts e k =
       let there : slice_get part.slots i ≡ Some ty = ap (λ l. slice_get l i) h.slots ∙ e in one part p (Slot i) ts (ts ++ ty ∷ []) k (rw there refl)
   brings_block p (formal i) ty ts e k =
@@ -94,6 +66,7 @@ module _ (part : Part) (s : Scope) (c : Context) (vs fs ps : List ℕ) (h : Read
   brings_block p (parameter i) ty ts e k =
       let there : slice_get part.args i ≡ Some ty = ap (λ l. slice_get l i) h.args ∙ e in
       one part p (Arg i) ts (ts ++ ty ∷ []) k (rw h.reads (rw there refl))
+  brings_block p (fixed v) ty ts e k = let is : own v ≡ ty = cc in push_block p v ty ts is k
   brings_block p unknown ty ts e k = absurd k
 
   at_end : (p q r : ℕ) (ts us : List ℕ) → q ≡ r → Block part p r ts us → Block part p q ts us
@@ -140,7 +113,7 @@ module _ (part : Part) (s : Scope) (c : Context) (vs fs ps : List ℕ) (h : Read
     combines_block Implies t k =
         truths_block p q a b ty ts t (chooses_block Second (PushesTruth part.code true) p q ts _ (second_truth t) (λ m n h. truth_block true m n ts h) k)
 
-  pub expr_block : (x : Expr) (ty p q : ℕ) (ts : List ℕ) → type_of part.code.types c x ≡ Some ty → HasExpr part.code s x p q → Block part p q ts (ts ++ ty ∷ [])
+  pub expr_block : (x : Expr) (ty p q : ℕ) (ts : List ℕ) → type_of part.code.types part.code.types c x ≡ Some ty → HasExpr part.code s x p q → Block part p q ts (ts ++ ty ∷ [])
   expr_block (number n) ty p q ts t k =
       at_end p q (p + 1) ts _ k.1 (push_block p (plain.num (pos n)) ty ts (number_is n ty (fits (pos n)) t) k.0)
   expr_block (truth b) ty p q ts t k =
@@ -150,14 +123,17 @@ module _ (part : Part) (s : Scope) (c : Context) (vs fs ps : List ℕ) (h : Read
       at_end p q (p + 1) ts _ k.1 (brings_block p (origin s x) ty ts (sym (h.names x) ∙ t) k.0)
   expr_block (parens y) ty p q ts t k = expr_block y ty p q ts t k
   expr_block (prefix o y) ty p q ts t k =
-      let operand = type_of_one (type_of part.code.types c y) (op_type part.code.types o) ty t in
+      let operand = type_of_one (type_of part.code.types part.code.types c y) (op_type part.code.types o) ty t in
       let last = apply_block k.0 o (operand.0 ∷ []) ty ts (takes_one part.code.types o operand.0 ty operand.2) operand.2 k.2 in
       at_end p q (k.0 + 1) ts _ k.3 (join part p k.0 (k.0 + 1) ts _ _ (expr_block y operand.0 p k.0 ts operand.1 k.1) last)
   expr_block (binary l o r) ty p q ts t k =
-      let both = types_of_both (type_of part.code.types c l) (type_of part.code.types c r) (infix_type part.code.types o) ty t in
+      let both = types_of_both (type_of part.code.types part.code.types c l) (type_of part.code.types part.code.types c r) (infix_type part.code.types o) ty t in
       let a = both.0 in
       let b = both.1 in
       join part p k.0 q ts (ts ++ a ∷ []) _ (expr_block l a p k.0 ts both.2 k.1) (combines_block (HasExpr part.code s r) a b ty k.0 q ts (λ m n us h. expr_block r b m n us both.3 h) o both.4 k.2)
+  expr_block (empty x) ty p q ts t k =
+      let there : empty_of part.code.types x ≡ Some k.0 = ap (λ l. empty_of l x) (sym h.table) ∙ k.1 in
+      at_end p q (p + 1) ts _ k.3 (push_block p k.0 ty ts (own_empty part.code.types x k.0 ty there t) k.2)
 
   pub guard_block : (g : Option Expr) (p q : ℕ) → GuardTyped part.code.types c g → HasGuard part.code s g p q → Block part p q [] (0 ∷ [])
   guard_block None p q t k = truth_block true p q [] k
@@ -197,18 +173,18 @@ module _ (m : Member) (e : EntryTree) (vs ps : List ℕ) (h : Setting m e vs ps)
       subst (λ n. slice_get vs n ≡ Some ty) same at_x.2
 
   module _ (over : code.types ≡ m.instance.types) where
-    reads : (kind : PartKind) (result : List ℕ) → reads_arguments kind ≡ true → Reads (record { code = code; kind = kind; slots = vs; args = ps; result = result }) (scope_of m e) (scope m.instance.types h.globals m.instance.automaton e) vs h.types ps
-    reads kind result r = record { slots = refl; args = refl; reads = r; given = subst (λ t. HaveTypes t m.instance.arguments h.types) (sym over) h.given; names = type_at m e vs ps h }
+    reads : (kind : PartKind) (result : List ℕ) → reads_arguments kind ≡ true → Reads (record { code = code; kind = kind; slots = vs; args = ps; result = result }) (scope_of m e) (scope m.instance.types m.instance.types h.globals m.instance.automaton e) vs h.types ps
+    reads kind result r = record { slots = refl; args = refl; reads = r; given = subst (λ t. HaveTypes t m.instance.arguments h.types) (sym over) h.given; table = sym over; names = subst (λ t. (x : Name) → or_else (type_in (scope m.instance.types m.instance.types h.globals m.instance.automaton e) x) (constant_type t x) ≡ at own (origin (scope_of m e) x) vs h.types ps) (sym over) (type_at m e vs ps h) }
 
-    pub guard_valid : (g : Option Expr) → GuardTyped m.instance.types (scope m.instance.types h.globals m.instance.automaton e) g → IsGuard code (scope_of m e) g → Valid (record { code = code; kind = Pre; slots = vs; args = ps; result = 0 ∷ [] })
+    pub guard_valid : (g : Option Expr) → GuardTyped m.instance.types (scope m.instance.types m.instance.types h.globals m.instance.automaton e) g → IsGuard code (scope_of m e) g → Valid (record { code = code; kind = Pre; slots = vs; args = ps; result = 0 ∷ [] })
     guard_valid g t k =
         let part : Part = record { code = code; kind = Pre; slots = vs; args = ps; result = 0 ∷ [] } in
-        let c = scope m.instance.types h.globals m.instance.automaton e in
+        let c = scope m.instance.types m.instance.types h.globals m.instance.automaton e in
         valid part (guard_block part (scope_of m e) c vs h.types ps (reads Pre (0 ∷ []) refl) g 0 (length code.instrs) (subst (λ l. GuardTyped l c g) (sym over) t) k.has)
 
-    pub effect_valid : (ss : Stmts) → StmtsTyped m.instance.types (scope m.instance.types h.globals m.instance.automaton e) (context_of m.instance.types (variable_fields m.instance.automaton)) ss → IsEffect code (scope_of m e) ss → Valid (record { code = code; kind = Eff; slots = vs; args = ps; result = [] })
+    pub effect_valid : (ss : Stmts) → StmtsTyped m.instance.types (scope m.instance.types m.instance.types h.globals m.instance.automaton e) (context_of m.instance.types (variable_fields m.instance.automaton)) ss → IsEffect code (scope_of m e) ss → Valid (record { code = code; kind = Eff; slots = vs; args = ps; result = [] })
     effect_valid ss t k =
         let part : Part = record { code = code; kind = Eff; slots = vs; args = ps; result = [] } in
-        let c = scope m.instance.types h.globals m.instance.automaton e in
+        let c = scope m.instance.types m.instance.types h.globals m.instance.automaton e in
         let v = context_of m.instance.types (variable_fields m.instance.automaton) in
         valid part (stmts_block part (scope_of m e) c vs h.types ps (reads Eff [] refl) v refl found_slot ss 0 (length code.instrs) (subst (λ l. StmtsTyped l c v ss) (sym over) t) k.has)

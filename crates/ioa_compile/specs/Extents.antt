@@ -2,7 +2,7 @@
 use Rattle.std.specs.Prelude.{ℕ, ◌+◌, Option, Some, None}
 use Rattle.ioa_syntax.specs.declared.tree.Infix.{Infix}
 use Rattle.ioa_syntax.specs.declared.tree.Infix.TheVariants.{Operator, And, Or, Implies}
-use Rattle.ioa_syntax.specs.Tree.{Expr, number, truth, named, parens, prefix, binary, Stmt, assign, choose, Stmts, stop, seq, Arms, no_arm, arm}
+use Rattle.ioa_syntax.specs.Tree.{Expr, number, truth, named, parens, prefix, binary, empty, Stmt, assign, choose, Stmts, stop, seq, Arms, no_arm, arm}
 
 -- beside the operands' code: the operator, or two jumps and a constant
 abbrev pub infix_extent : Infix → ℕ
@@ -18,6 +18,7 @@ extent (named x) = 1
 extent (parens e) = extent e
 extent (prefix o e) = extent e + 1
 extent (binary l o r) = extent l + extent r + infix_extent o
+extent (empty x) = 1
 
 -- an omitted precondition is a constant
 abbrev pub guard_extent : Option Expr → ℕ

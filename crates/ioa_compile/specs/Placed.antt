@@ -8,9 +8,10 @@ use Rattle.ioa_code.specs.declared.instr.Instr.TheVariants.{Const, Slot, Arg, St
 use Rattle.ioa_code.specs.Machine.{Listing}
 use Rattle.ioa_syntax.specs.declared.tree.Infix.{Infix}
 use Rattle.ioa_syntax.specs.declared.tree.Infix.TheVariants.{Operator, And, Or, Implies}
-use Rattle.ioa_syntax.specs.Tree.{Expr, number, truth, named, parens, prefix, binary, Stmt, assign, choose, Stmts, stop, seq, Arms, no_arm, arm}
+use Rattle.ioa_syntax.specs.Tree.{Expr, number, truth, named, parens, prefix, binary, empty, Stmt, assign, choose, Stmts, stop, seq, Arms, no_arm, arm}
+use Rattle.ioa_syntax.specs.Types.{empty_of}
 use Rattle.ioa_value.specs.Table.{place_from}
-use Rattle.ioa_compile.specs.Scopes.{Scope, Origin, slot, formal, parameter, unknown, origin}
+use Rattle.ioa_compile.specs.Scopes.{Scope, Origin, slot, formal, parameter, fixed, unknown, origin}
 
 -- the instruction stands at this place
 abbrev pub At : Listing → ℕ → Instr → Type 0
@@ -20,11 +21,12 @@ At code p i = slice_get code.instrs p ≡ Some i
 abbrev pub Pushes : Listing → ℕ → Val → Type 0
 Pushes code p v = (k : ℕ) × At code p (Const k) × (slice_get code.consts k ≡ Some v)
 
--- the value is pushed from where it comes; a formal's is a constant
+-- the value is pushed from where it comes; a formal's and an enumeration's name's are constants
 abbrev pub Brings : Listing → Scope → ℕ → Origin → Type 0
 Brings code s p (slot i) = At code p (Slot i)
 Brings code s p (formal i) = (v : Val) × (slice_get s.arguments i ≡ Some v) × Pushes code p v
 Brings code s p (parameter i) = At code p (Arg i)
+Brings code s p (fixed v) = Pushes code p v
 Brings code s p unknown = ⊥
 
 -- code from one place up to another
@@ -60,6 +62,7 @@ HasExpr code s (named x) p q = Brings code s p (origin s x) × (q ≡ p + 1)
 HasExpr code s (parens e) p q = HasExpr code s e p q
 HasExpr code s (prefix o e) p q = Applies code o (HasExpr code s e) p q
 HasExpr code s (binary l o r) p q = (m : ℕ) × HasExpr code s l p m × Combines code o (HasExpr code s r) m q
+HasExpr code s (empty x) p q = (v : Val) × (empty_of s.types x ≡ Some v) × Pushes code p v × (q ≡ p + 1)
 
 -- an omitted precondition is the constant true
 abbrev pub HasGuard : Listing → Scope → Option Expr → Stretch

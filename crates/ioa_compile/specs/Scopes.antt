@@ -6,7 +6,8 @@ use Rattle.ioa_value.specs.Arithmetic.{fits}
 use Rattle.ioa_value.specs.Plain.{Val}
 use Rattle.ioa_value.specs.Table.{Table, place_from}
 use Rattle.ioa_value.specs.Typing.{OwnTypes}
-use Rattle.ioa_syntax.specs.Tree.{Expr, number, truth, named, parens, prefix, binary, Stmt, assign, choose, Stmts, stop, seq, Arms, no_arm, arm, EntryTree}
+use Rattle.ioa_syntax.specs.Tree.{Expr, number, truth, named, parens, prefix, binary, empty, Stmt, assign, choose, Stmts, stop, seq, Arms, no_arm, arm, EntryTree}
+use Rattle.ioa_syntax.specs.Types.{constant, empty_of}
 use Rattle.ioa_syntax.specs.Instances.{field_names, variable_names, position_name}
 use Rattle.ioa_syntax.specs.Compositions.{Member}
 use Rattle.ioa_syntax.specs.declared.tree.Entry as tree
@@ -15,8 +16,9 @@ use Rattle.ioa_compose.specs.declared.member.Member as held
 use Rattle.ioa_compose.specs.Held.{member_of}
 use Rattle.ioa_compose.specs.Fine.{component_limits}
 
--- the names that an entry's code may use: variables, formals with their values, and the entry's parameters
+-- the names that an entry's code may use: variables, formals with their values, the entry's parameters, and those of the types
 pub record Scope : Type 0 where
+  pub types : Table
   pub variables : List Name
   pub formals : List Name
   pub arguments : List Val
@@ -24,6 +26,7 @@ pub record Scope : Type 0 where
 
 abbrev pub scope_of : Member → EntryTree → Scope
 scope_of m e = record {
+  types = m.instance.types;
   variables = variable_names m.instance.automaton;
   formals = field_names m.instance.automaton.formals;
   arguments = m.instance.arguments;
@@ -34,26 +37,29 @@ scope_of m e = record {
 abbrev pub scope_in : held.Member → tree.Entry → Scope
 scope_in m e = scope_of (member_of m) (entry_of e)
 
--- each by its place
+-- each by its place, and an enumeration's name by its value
 pub data Origin : Type 0 where
   slot : ℕ → Origin
   formal : ℕ → Origin
   parameter : ℕ → Origin
+  fixed : Val → Origin
   unknown : Origin
 
 abbrev pub origin : Scope → Name → Origin
 origin s x =
     option_map_or slot (place_from 0 s.variables x)
     (option_map_or formal (place_from 0 s.formals x)
-    (option_map_or parameter (place_from 0 s.parameters x) unknown))
+    (option_map_or parameter (place_from 0 s.parameters x)
+    (option_map_or fixed (constant s.types x) unknown)))
 
 abbrev pub IsOrigin : Origin → Type 0
 IsOrigin (slot i) = Unit {0}
 IsOrigin (formal i) = Unit {0}
 IsOrigin (parameter i) = Unit {0}
+IsOrigin (fixed v) = Unit {0}
 IsOrigin unknown = ⊥
 
--- each name is one of the scope's, and each number fits
+-- each name is one of the scope's, each number fits, and an empty sequence is one of a sequence type
 abbrev pub IsKnown : Scope → Expr → Type 0
 IsKnown s (number n) = IsTrue (fits (pos n))
 IsKnown s (truth b) = Unit {0}
@@ -61,6 +67,7 @@ IsKnown s (named x) = IsOrigin (origin s x)
 IsKnown s (parens e) = IsKnown s e
 IsKnown s (prefix o e) = IsKnown s e
 IsKnown s (binary l o r) = IsKnown s l × IsKnown s r
+IsKnown s (empty x) = IsSome (empty_of s.types x)
 
 -- what scopes of well-formed automata keep
 pub record IsScope (types : Table) (s : Scope) : Type 0 where

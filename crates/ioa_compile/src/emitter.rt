@@ -14,7 +14,7 @@ ghost use Rattle.ioa_compile.specs.Emitting.{AddsInstr, AddsConst, AddsExpr, Add
 use crate::extents::{arms_extent, expression_extent, statements_extent};
 use crate::places::{field_place, position_place, variable_place};
 use ioa_code::{Code, Instr};
-use ioa_compose::Member;
+use ioa_compose::{Member, constant, empty};
 use ioa_syntax::{Arm, Entry, Expression, Infix, Name, Statement};
 use ioa_value::{OutOfMemory, Value};
 use std::alloc::Global;
@@ -149,12 +149,13 @@ fn emit_expression(
         Expression::Number(n, _) => put_constant(out, Value::Num(*n as i64)),
         Expression::Truth(b, _) => put_constant(out, Value::Truth(*b)),
         Expression::Name(name) => emit_name(alloc, out, member, entry, name),
+        Expression::Empty(name, _) => put_constant(out, empty(alloc, &member.types, name)),
         Expression::Parentheses(inner, _) => emit_expression(alloc, out, member, entry, inner),
         Expression::Prefix(op, inner, _) => {
             emit_expression(alloc, out, member, entry, inner)?;
             put(out, Instr::Apply(*op))
         }
-        Expression::Binary(left, operator, right) => {
+        Expression::Binary(left, operator, right, _) => {
             emit_expression(alloc, out, member, entry, left)?;
             emit_combined(alloc, out, member, entry, *operator, right)
         }
@@ -233,7 +234,7 @@ fn emit_where_false(
     emit_expression(alloc, out, member, entry, e)
 }
 
-/// The code that brings the value of a variable, a formal or a parameter.
+/// The code that brings the value of a variable, a formal or a parameter, or what an enumeration's name stands for.
 fn emit_name(
     alloc: Global,
     out: &mut Code,
@@ -254,7 +255,7 @@ fn emit_name(
     }
     match position_place(&entry.positions, name) {
         Some(i) => put(out, Instr::Arg(i as u16)),
-        None => unreachable!(),
+        None => put_constant(out, constant(&member.types, name)),
     }
 }
 

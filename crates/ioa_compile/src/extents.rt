@@ -10,10 +10,13 @@ pub(crate) fn expression_extent(e: &Expression) -> usize
     ensures { result ≡ extent (expr_of e.now) }
 {
     match e {
-        Expression::Number(_, _) | Expression::Truth(_, _) | Expression::Name(_) => 1,
+        Expression::Number(_, _)
+        | Expression::Truth(_, _)
+        | Expression::Name(_)
+        | Expression::Empty(_, _) => 1,
         Expression::Parentheses(inner, _) => expression_extent(inner),
         Expression::Prefix(_, inner, _) => expression_extent(inner) + 1,
-        Expression::Binary(left, operator, right) => {
+        Expression::Binary(left, operator, right, _) => {
             expression_extent(left) + expression_extent(right) + extent_beside(*operator)
         }
     }

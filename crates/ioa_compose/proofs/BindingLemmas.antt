@@ -123,7 +123,7 @@ pub faults-in : {X : Type 0} (r : Result X Refusal) (ns : List Instance) (k : �
 faults-in (Ok x) ns k n e h = tt
 faults-in (Err x) ns k n e h = faults-one ns k n (reason_of x) e h
 
-pub sound-at : (types : Table) (bs : List Binding) (k : ℕ) (b : Binding) → AllSound (map (instance_in types) bs) → k < length bs → b ≡ get_or bs k b → (g : List Name) × (automaton_fine types g (instance_in types b).automaton ≡ true)
+pub sound-at : (types : Table) (bs : List Binding) (k : ℕ) (b : Binding) → AllSound (map (instance_in types) bs) → k < length bs → b ≡ get_or bs k b → (g : List Name) × (automaton_fine types types g (instance_in types b).automaton ≡ true)
 sound-at types [] k b h l e = absurd (omega arith)
-sound-at types (c ∷ cs) zero b h l e = subst (λ x. (g : List Name) × (automaton_fine types g (instance_in types x).automaton ≡ true)) (sym e) h.0
+sound-at types (c ∷ cs) zero b h l e = subst (λ x. (g : List Name) × (automaton_fine types types g (instance_in types x).automaton ≡ true)) (sym e) h.0
 sound-at types (c ∷ cs) (suc k) b h l e = sound-at types cs k b h.1 (omega arith) e

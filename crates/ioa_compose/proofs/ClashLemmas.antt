@@ -187,15 +187,15 @@ module _ (types : Table) where
   kinds-clashing Output Input o p e f h = absurd (cc)
 
   -- entries that clash types have an action in common, on which the instances clash
-  pub clashing-from : AreTypes types → (a b : AutomatonTree) (vs ws : List Val) (ga gb : List Name) (name : Name) → automaton_fine types ga a ≡ true → automaton_fine types gb b ≡ true → ClashAt types a b name → Clashing name (instance_with types a vs) (instance_with types b ws)
+  pub clashing-from : AreTypes types → (a b : AutomatonTree) (vs ws : List Val) (ga gb : List Name) (name : Name) → automaton_fine types types ga a ≡ true → automaton_fine types types gb b ≡ true → ClashAt types a b name → Clashing name (instance_with types a vs) (instance_with types b ws)
   clashing-from d a b vs ws ga gb x fa fb h =
       let e = h.0 in
       let f = h.1 in
-      let pa = fine_parts types ga a fa in
-      let pb = fine_parts types gb b fb in
+      let pa = fine_parts types types ga a fa in
+      let pb = fine_parts types types gb b fb in
       let parts = and_parts (bytes_eq e.name f.name && all_alike types e.positions f.positions) (kinds_clash e.kind f.kind) h.6 in
       let front = and_parts (bytes_eq e.name f.name) (all_alike types e.positions f.positions) parts.0 in
-      let fine = all_at (entry_fine types ga a) a.entries h.2 e pa.entries h.4 in
+      let fine = all_at (entry_fine types types ga a) a.entries h.2 e pa.entries h.4 in
       let known = and_parts _ (list_all (is_type types) (position_fields e.positions)) fine in
       let itself : bytes_eq e.name e.name ≡ true = (bytes_eq-Decides e.name e.name).1 refl in
       let has_mine = has-firsts d e.positions known.1 in
@@ -296,9 +296,9 @@ module _ (types : Table) where
           third (bytes_eq e.name f.name) (all_alike types e.positions f.positions) (kinds_clash e.kind f.kind) (same-bytes e.name f.name act.name mine.0 theirs.0) (positions-alike e.positions f.positions act.vals mine.1 theirs.1)
           (not-true (clash types e f) (subst (λ z. not (clash types z f) ≡ true) (sym same) second.1))
 
-  pub first-entry : (a b : AutomatonTree) (vs ws : List Val) (g : List Name) (x : Name) → automaton_fine types g a ≡ true → ClashAt types a b x → IsFirstEntry x (instance_with types a vs) (instance_with types b ws)
+  pub first-entry : (a b : AutomatonTree) (vs ws : List Val) (g : List Name) (x : Name) → automaton_fine types types g a ≡ true → ClashAt types a b x → IsFirstEntry x (instance_with types a vs) (instance_with types b ws)
   first-entry a b vs ws g x fine h = λ k l e d at named less before c.
-      let pa = fine_parts types g a fine in
+      let pa = fine_parts types types g a fine in
       let place = place-once a.entries k h.2 e h.0 pa.entry_names at h.4 ((bytes_eq-Decides e.name h.0.name).1 (named ∙ h.7)) in
       entry-apart a b vs ws l d pa.entry_names before (h.8 l d (subst (λ z. l < z) place less) before) c
 

@@ -24,13 +24,13 @@ member-fine s i m d legal named h b =
     let types = types_of s in
     let a = m.instance.automaton in
     let fine = named_fine s i.automaton a h b.automaton in
-    let p = fine_parts types (global_names s) a fine in
+    let p = fine_parts types types (global_names s) a fine in
     let started : all_values (start_value types (values_of (field_names a.formals) m.instance.arguments)) a.variables ≡ Ok m.starts =
     ap (λ t. all_values (start_value t (values_of (field_names a.formals) m.instance.arguments)) a.variables) (sym b.types) ∙ b.starts in
     record {
       legal = subst IsName (sym b.name) named;
       legal_entries = legal_entries a (legal_automaton s i.automaton a legal b.automaton);
-      automaton = (global_names s, subst (λ t. automaton_fine t (global_names s) a ≡ true) (sym b.types) fine);
+      automaton = (global_names s, subst (λ t. automaton_fine t t (global_names s) a ≡ true) (sym b.types) fine);
       within = named_within s i.automaton a h b.automaton;
       arguments = subst (λ t. Fit t a.formals m.instance.arguments) (sym b.types) b.fit;
       starts = subst (λ t. Fit t (variable_fields a) m.starts) (sym b.types) (starts_fit types d (global_names s) a m.instance.arguments b.fit a.variables m.starts p.starts p.variable_types started);
@@ -51,9 +51,9 @@ members-over s (i ∷ is) [] b = absurd b
 members-over s (i ∷ is) (m ∷ ms) b = (b.0.types, members-over s is ms b.1)
 
 -- a fine automaton of bound instances
-bound-fine : (s : SourceTree) (i : InstanceTree) (n : Instance) → well_formed s ≡ true → IsBound s i n → automaton_fine n.types (global_names s) n.automaton ≡ true
+bound-fine : (s : SourceTree) (i : InstanceTree) (n : Instance) → well_formed s ≡ true → IsBound s i n → automaton_fine n.types n.types (global_names s) n.automaton ≡ true
 bound-fine s i n h b =
-    subst (λ t. automaton_fine t (global_names s) n.automaton ≡ true) (sym b.types) (named_fine s i.automaton n.automaton h b.automaton)
+    subst (λ t. automaton_fine t t (global_names s) n.automaton ≡ true) (sym b.types) (named_fine s i.automaton n.automaton h b.automaton)
 
 pub all-sound : (s : SourceTree) (is : List InstanceTree) (ns : List Instance) → well_formed s ≡ true → AreBound s is ns → AllSound ns
 all-sound s [] [] h b = tt
@@ -61,8 +61,8 @@ all-sound s [] (n ∷ ns) h b = absurd b
 all-sound s (i ∷ is) [] h b = absurd b
 all-sound s (i ∷ is) (n ∷ ns) h b = ((global_names s, bound-fine s i n h b.0), all-sound s is ns h b.1)
 
-starts-well : (types : Table) (g : List Name) (a : AutomatonTree) → automaton_fine types g a ≡ true → StartsWell types a
-starts-well types g a h = let p = fine_parts types g a h in record { fine = p.starts; known = p.variable_types }
+starts-well : (types : Table) (g : List Name) (a : AutomatonTree) → automaton_fine types types g a ≡ true → StartsWell types a
+starts-well types g a h = let p = fine_parts types types g a h in record { fine = p.starts; known = p.variable_types }
 
 -- bound instances can start
 pub all-startable : (s : SourceTree) (is : List InstanceTree) (ns : List Instance) → well_formed s ≡ true → AreBound s is ns → AllStartable ns

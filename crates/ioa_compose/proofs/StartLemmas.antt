@@ -35,8 +35,8 @@ started-at types (Ok r) e v fs xs vs ys p q s h =
     ∙ sym (ap (λ x. settled (option_map_or (λ d. val types d env) x (gives (first_named types v.field.ty)))) s)
 
 -- each variable's start expression and type
-pub fine-at : (types : Table) (a : AutomatonTree) (vs ys : List Variable) (i : ℕ) (v : Variable) → list_all (start_fine types [] a) (map variable_of vs) ≡ true → ys ≡ vs → i < length ys → v ≡ get_or ys i v → start_fine types [] a (variable_of v) ≡ true
-fine-at types a vs ys i v h q l e = passes_at (start_fine types [] a) variable_of ys i v (ap (λ us. list_all (start_fine types [] a) (map variable_of us)) q ∙ h) l e
+pub fine-at : (types : Table) (a : AutomatonTree) (vs ys : List Variable) (i : ℕ) (v : Variable) → list_all (start_fine types types [] a) (map variable_of vs) ≡ true → ys ≡ vs → i < length ys → v ≡ get_or ys i v → start_fine types types [] a (variable_of v) ≡ true
+fine-at types a vs ys i v h q l e = passes_at (start_fine types types [] a) variable_of ys i v (ap (λ us. list_all (start_fine types types [] a) (map variable_of us)) q ∙ h) l e
 
 pub known-at : (types : Table) (vs ys : List Variable) (i : ℕ) (v : Variable) → list_all (is_type types) (map (λ u. u.field) (map variable_of vs)) ≡ true → ys ≡ vs → i < length ys → v ≡ get_or ys i v → is_type types (field_of v.field) ≡ true
 known-at types vs ys i v h q l e =

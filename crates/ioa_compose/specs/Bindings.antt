@@ -35,9 +35,9 @@ fit types [] (v ∷ vs) = false
 fit types (f ∷ fs) [] = false
 fit types (f ∷ fs) (v ∷ vs) = is_named types f.ty v && fit types fs vs
 
--- the expression has a type without any name
+-- the expression has a type without any name of an automaton
 abbrev pub closed : Table → Expr → Bool
-closed types e = option_map_or (λ ty. true) (type_of types [] e) false
+closed types e = option_map_or (λ ty. true) (type_of types types [] e) false
 
 -- an automaton with arguments
 abbrev pub instance_with : Table → AutomatonTree → List Val → Instance
@@ -80,7 +80,7 @@ pub record IsComposable (s : SourceTree) (c : CompositionTree) : Type 0 where
 
 -- start expressions have their variables' types, which are known
 pub record StartsWell (types : Table) (a : AutomatonTree) : Type 0 where
-  pub fine : list_all (start_fine types [] a) a.variables ≡ true
+  pub fine : list_all (start_fine types types [] a) a.variables ≡ true
   pub known : list_all (is_type types) (variable_fields a) ≡ true
 
 -- an instance whose start can be evaluated
@@ -100,4 +100,4 @@ AllStarted (m ∷ ms) = (start_values m.instance ≡ Ok m.starts) × AllStarted 
 -- the instances' automata are well formed
 abbrev pub AllSound : List Instance → Type 0
 AllSound [] = Unit {0}
-AllSound (n ∷ ns) = ((globals : List Name) × (automaton_fine n.types globals n.automaton ≡ true)) × AllSound ns
+AllSound (n ∷ ns) = ((globals : List Name) × (automaton_fine n.types n.types globals n.automaton ≡ true)) × AllSound ns

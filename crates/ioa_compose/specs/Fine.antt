@@ -17,7 +17,7 @@ use Rattle.ioa_syntax.specs.WellFormed.{distinct, variable_fields, automaton_fin
 pub record IsFine (most : Limits) (m : Member) : Type 0 where
   pub legal : IsName m.name
   pub legal_entries : All (λ e. IsName e.name) m.instance.automaton.entries
-  pub automaton : (globals : List Name) × IsTrue (automaton_fine m.instance.types globals m.instance.automaton)
+  pub automaton : (globals : List Name) × IsTrue (automaton_fine m.instance.types m.instance.types globals m.instance.automaton)
   pub within : IsTrue (automaton_within most m.instance.automaton)
   pub arguments : Fit m.instance.types m.instance.automaton.formals m.instance.arguments
   pub starts : Fit m.instance.types (variable_fields m.instance.automaton) m.starts

@@ -33,12 +33,13 @@ fn copied_expression(alloc: Global, expression: &Expression) -> Result<Expressio
             let operand = copied_expression(alloc, operand)?;
             Ok(Expression::Prefix(*operator, Box::new(alloc, operand)?, *line))
         }
-        Expression::Binary(left, operator, right) => {
+        Expression::Binary(left, operator, right, line) => {
             let left = copied_expression(alloc, left)?;
             let right = copied_expression(alloc, right)?;
             let left = Box::new(alloc, left)?;
-            Ok(Expression::Binary(left, *operator, Box::new(alloc, right)?))
+            Ok(Expression::Binary(left, *operator, Box::new(alloc, right)?, *line))
         }
+        Expression::Empty(name, line) => Ok(Expression::Empty(copied_name(alloc, name)?, *line)),
     }
 }
 

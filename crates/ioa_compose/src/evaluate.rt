@@ -8,6 +8,7 @@ ghost use Rattle.ioa_syntax.specs.Instances.{Fit, field_names};
 ghost use Rattle.ioa_syntax.specs.WellFormed.{type_of, context_of};
 ghost use Rattle.ioa_compose.specs.Operands.{Asks, AreOperands};
 
+use crate::constants::{constant, empty};
 use ioa_syntax::{Expression, Field, Infix};
 use ioa_value::{Fault, OutOfMemory, Types, Value, apply};
 use std::alloc::Global;
@@ -32,7 +33,7 @@ fn found<'a>(fields: &[Field], values: &'a [Value], name: &str) -> Option<&'a Va
     }
 }
 
-/// The value of a well typed expression over these fields, or its fault.
+/// The value of a well typed expression over these fields, or its fault. A name that is no field's is an enumeration's.
 pub(crate) fn evaluate(
     alloc: Global,
     types: &Types,
@@ -42,7 +43,7 @@ pub(crate) fn evaluate(
 ) -> Result<Result<Value, Fault>, OutOfMemory>
     requires types { AreTypes types.now }
     requires fit { Fit types.now (map field_of fields.now) (map plain values.now) }
-    requires typed { (ty : ℕ) × (type_of types.now (context_of types.now (map field_of fields.now)) (expr_of expression.now) ≡ Some ty) }
+    requires typed { (ty : ℕ) × (type_of types.now types.now (context_of types.now (map field_of fields.now)) (expr_of expression.now) ≡ Some ty) }
     ensures { IfOk result (λ r. answer_of r ≡ val types.now (expr_of expression.now) (values_of (field_names (map field_of fields.now)) (map plain values.now))) }
 {
     match expression {
@@ -50,8 +51,9 @@ pub(crate) fn evaluate(
         Expression::Truth(b, _) => Ok(Ok(Value::Truth(*b))),
         Expression::Name(name) => match found(fields, values, name.text.as_str()) {
             Some(value) => Ok(Ok(value.try_copy(alloc)?)),
-            None => unreachable!(),
+            None => Ok(Ok(constant(types, name))),
         },
+        Expression::Empty(name, _) => Ok(Ok(empty(alloc, types, name))),
         Expression::Parentheses(inner, _) => evaluate(alloc, types, fields, values, inner),
         Expression::Prefix(operator, operand, _) => {
             match evaluate(alloc, types, fields, values, operand)? {
@@ -59,7 +61,7 @@ pub(crate) fn evaluate(
                 Err(fault) => Ok(Err(fault)),
             }
         }
-        Expression::Binary(left, operator, right) => {
+        Expression::Binary(left, operator, right, _) => {
             let first = match evaluate(alloc, types, fields, values, left)? {
                 Ok(value) => value,
                 Err(fault) => return Ok(Err(fault)),

@@ -4,6 +4,7 @@
 mod binding;
 mod clashes;
 mod composition;
+mod constants;
 mod copies;
 mod evaluate;
 mod member;
@@ -11,5 +12,6 @@ mod picks;
 mod starts;
 
 pub use composition::{Composition, compose};
+pub use constants::{constant, empty};
 pub use ioa_syntax::Refusal;
 pub use member::Member;

@@ -88,7 +88,7 @@ fn start_value(
 ) -> Result<Result<Value, Fault>, OutOfMemory>
     requires declared { AreTypes types.now }
     requires fit { Fit types.now (instance_in types.now binding.now).automaton.formals (instance_in types.now binding.now).arguments }
-    requires fine { start_fine types.now [] (automaton_of binding.now.automaton.now) (variable_of variable.now) ≡ true }
+    requires fine { start_fine types.now types.now [] (automaton_of binding.now.automaton.now) (variable_of variable.now) ≡ true }
     requires known { is_type types.now (variable_of variable.now).field ≡ true }
     ensures { let n = instance_in types.now binding.now in IfOk result (λ r. value_in r ≡ instances.start_value n.types (values_of (field_names n.automaton.formals) n.arguments) (variable_of variable.now)) }
 {

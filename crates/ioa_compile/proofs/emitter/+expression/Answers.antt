@@ -6,14 +6,15 @@ use Rattle.std.proofs.lemmas.Result.{on_ok_weaker}
 use Rattle.ioa_value.specs.Arithmetic.{fits}
 use Rattle.ioa_value.specs.Plain.{num, plain}
 use Rattle.ioa_code.specs.Parts.{listing}
-use Rattle.ioa_syntax.specs.View.{expr_of}
+use Rattle.ioa_syntax.specs.View.{expr_of, name_of}
 use Rattle.ioa_syntax.specs.Tree.{binary}
 use Rattle.ioa_syntax.specs.WellFormed.{nodes}
 use Rattle.ioa_syntax.specs.declared.tree.Expression.TheViews.{the_lemmas}
 use Rattle.ioa_compile.specs.Extents.{extent, infix_extent}
 use Rattle.ioa_compile.specs.Scopes.{scope_in, IsKnown}
 use Rattle.ioa_compile.specs.Emitting.{AddsConst, AddsExpr, AddsCombined}
-use Rattle.ioa_compile.proofs.Emitted.{adds_binary, adds_prefix, adds_operator, adds_true_side, adds_false_side}
+use Rattle.ioa_compile.proofs.Emitted.{adds_binary, adds_prefix, adds_operator, adds_true_side, adds_false_side, adds_empty}
+use Rattle.ioa_compile.proofs.Fixed.{empty_own}
 use Rattle.ioa_compile.proofs.Lengths.{expr_long}
 use Rattle.ioa_compile.proofs.emitter.+expression.Goals as goal
 
@@ -40,6 +41,22 @@ emit_expression-returns-in-Truth t c =
     on_ok_weaker c.put_constant-in-Truth.result
     (λ more. subst (λ e. AddsExpr c0 c1 s (expr_of e)) (sym c.in-Truth.is) (more types refl))
     c.put_constant-in-Truth.ensures
+
+pub emit_expression-empty-requires : goal.emit_expression-empty-requires
+emit_expression-empty-requires t c =
+    subst (IsKnown (scope_in c.args.member.now c.args.entry.now)) (ap expr_of c.in-Empty.is) c.requires.known
+
+pub emit_expression-returns-in-Empty : goal.emit_expression-returns-in-Empty
+emit_expression-returns-in-Empty t c =
+    let s = scope_in c.args.member.now c.args.entry.now in
+    let types = c.args.member.now.types in
+    let c0 = listing types c.args.out.now in
+    let c1 = listing types c.put_constant-in-Empty.new.out in
+    let x = name_of c.in-Empty.name in
+    let v = plain c.empty.result in
+    on_ok_weaker c.put_constant-in-Empty.result
+    (λ more. subst (λ e. AddsExpr c0 c1 s (expr_of e)) (sym c.in-Empty.is) (adds_empty c0 c1 s x v c.empty.ensures (more types (empty_own types x v c.empty.ensures))))
+    c.put_constant-in-Empty.ensures
 
 pub emit_expression-returns-in_ok-emit_expression-in-Prefix : goal.emit_expression-returns-in_ok-emit_expression-in-Prefix
 emit_expression-returns-in_ok-emit_expression-in-Prefix t c =

@@ -9,7 +9,8 @@ use Rattle.ioa_compose.specs.Held.{member_of}
 use Rattle.ioa_compose.specs.Fine.{component_limits}
 use Rattle.ioa_compile.specs.Scopes.{scope_of}
 use Rattle.ioa_value.proofs.PlaceLemmas.{place_in, place_below}
-use Rattle.ioa_compile.proofs.Emitted.{none_from, origin_slot, origin_parameter, adds_slot, adds_argument, origin_formal, adds_named, argument_at}
+use Rattle.ioa_compile.proofs.Emitted.{none_from, origin_slot, origin_parameter, adds_slot, adds_argument, origin_formal, adds_named, argument_at, known_constant, origin_fixed, adds_fixed}
+use Rattle.ioa_compile.proofs.Fixed.{constant_own}
 use Rattle.ioa_value.proofs.TypingLemmas.{OwnTypes-get}
 use Rattle.ioa_compile.proofs.emitter.emit_name.Goals as goal
 
@@ -68,8 +69,8 @@ returns-in-Some c =
     let place = place_in _ s.variables x c.variable_place.result c.variable_place.ensures (ap (λ l. map (λ v. v.field.name) (map variable_of l)) c.deref.ensures.value) in
     on_ok_weaker c.put.result (λ more. adds_slot (listing types c.args.out.now) (listing types c.put.new.out) s x c.in-Some.i (origin_slot s x c.in-Some.i (place ∙ c.in-Some.is)) (more types)) c.put.ensures
 
-pub returns : goal.returns
-returns c =
+pub returns-in-Some-position_place : goal.returns-in-Some-position_place
+returns-in-Some-position_place c =
     let s = scope_of (member_of c.args.member.now) (entry_of c.args.entry.now) in
     let types = c.args.member.now.types in
     let x = name_of c.args.name.now in
@@ -79,3 +80,24 @@ returns c =
     let third = place_in _ s.parameters x c.position_place.result c.position_place.ensures (ap (λ l. map position_name (map position_of l)) c.deref-3.ensures.value) in
     let from = origin_parameter s x i (first ∙ none_from c.variable_place.result c.in_default.not-Some) (second ∙ none_from c.field_place.result c.in_default-field_place.not-Some) (third ∙ c.in-Some-position_place.is) in
     on_ok_weaker c.put-in-Some-position_place.result (λ more. adds_argument (listing types c.args.out.now) (listing types c.put-in-Some-position_place.new.out) s x i from (more types)) c.put-in-Some-position_place.ensures
+
+pub constant-requires : goal.constant-requires
+constant-requires c =
+    let s = scope_of (member_of c.args.member.now) (entry_of c.args.entry.now) in
+    let x = name_of c.args.name.now in
+    let first = place_in _ s.variables x c.variable_place.result c.variable_place.ensures (ap (λ l. map (λ v. v.field.name) (map variable_of l)) c.deref.ensures.value) in
+    let second = place_in _ s.formals x c.field_place.result c.field_place.ensures (ap (λ l. field_names (map field_of l)) c.deref-2.ensures.value) in
+    let third = place_in _ s.parameters x c.position_place.result c.position_place.ensures (ap (λ l. map position_name (map position_of l)) c.deref-3.ensures.value) in
+    known_constant s x (first ∙ none_from c.variable_place.result c.in_default.not-Some) (second ∙ none_from c.field_place.result c.in_default-field_place.not-Some) (third ∙ c.in-None.is) c.requires.known
+
+pub returns-in-None : goal.returns-in-None
+returns-in-None c =
+    let s = scope_of (member_of c.args.member.now) (entry_of c.args.entry.now) in
+    let types = c.args.member.now.types in
+    let x = name_of c.args.name.now in
+    let v = plain c.constant.result in
+    let first = place_in _ s.variables x c.variable_place.result c.variable_place.ensures (ap (λ l. map (λ v. v.field.name) (map variable_of l)) c.deref.ensures.value) in
+    let second = place_in _ s.formals x c.field_place.result c.field_place.ensures (ap (λ l. field_names (map field_of l)) c.deref-2.ensures.value) in
+    let third = place_in _ s.parameters x c.position_place.result c.position_place.ensures (ap (λ l. map position_name (map position_of l)) c.deref-3.ensures.value) in
+    let from = origin_fixed s x v (first ∙ none_from c.variable_place.result c.in_default.not-Some) (second ∙ none_from c.field_place.result c.in_default-field_place.not-Some) (third ∙ c.in-None.is) c.constant.ensures in
+    on_ok_weaker c.put_constant-in-None.result (λ more. adds_fixed (listing types c.args.out.now) (listing types c.put_constant-in-None.new.out) s x v from (more types (constant_own types x v c.constant.ensures))) c.put_constant-in-None.ensures

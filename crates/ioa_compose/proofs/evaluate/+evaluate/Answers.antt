@@ -1,23 +1,33 @@
 use Rattle.std.proofs.Common.{◌≡◌, ap, sym, ◌∙◌, arith, map, subst}
 use Rattle.ioa_value.specs.Plain.{plain}
 use Rattle.ioa_value.specs.Operators.{answer_of}
-use Rattle.ioa_syntax.specs.Tree.{named, prefix, binary}
+use Rattle.ioa_syntax.specs.Tree.{named, prefix, binary, empty}
 use Rattle.ioa_syntax.specs.View.{expr_of, name_of, field_of}
 use Rattle.ioa_syntax.specs.Meaning.{values_of, val}
 use Rattle.ioa_syntax.specs.Instances.{field_names}
 use Rattle.ioa_syntax.specs.WellFormed.{context_of, nodes}
 use Rattle.ioa_syntax.proofs.Starts.{suits_of_fit}
-use Rattle.ioa_compose.proofs.EvaluateLemmas.{operand_typed, left_typed, right_typed, operand_taken, operands_typed, fault_stays, name_stands, HasSome}
+use Rattle.ioa_compose.proofs.EvaluateLemmas.{operand_typed, left_typed, right_typed, operand_taken, operands_typed, fault_stays, name_known, empty_known, HasSome}
 use Rattle.ioa_compose.proofs.evaluate.+evaluate.Goals as goal
 
-pub unreachable-requires : goal.unreachable-requires
-unreachable-requires t c =
+pub constant-requires : goal.constant-requires
+constant-requires t c =
+    let types = c.args.types.now in
     let fs = map field_of c.args.fields.now in
     let vs = map plain c.args.values.now in
-    let shown : expr_of c.args.expression.now ≡ named (name_of c.in-Name.name) = ap expr_of c.in-Name.is in
-    let h : HasSome c.args.types.now (context_of c.args.types.now fs) (named (name_of c.in-Name.name)) = subst (HasSome c.args.types.now (context_of c.args.types.now fs)) shown c.requires.typed in
-    name_stands c.args.types.now h.0 _ (suits_of_fit c.args.types.now fs vs c.requires.fit (name_of c.in-Name.name) h.0 h.1)
+    let x = name_of c.in-Name.name in
+    let shown : expr_of c.args.expression.now ≡ named x = ap expr_of c.in-Name.is in
+    let h : HasSome types (context_of types fs) (named x) = subst (HasSome types (context_of types fs)) shown c.requires.typed in
+    name_known types (context_of types fs) (values_of (field_names fs) vs) x (suits_of_fit types fs vs c.requires.fit) h
     (ap (values_of (field_names fs) vs) (sym c.as_str.ensures.value) ∙ c.in-None.ensures.missing)
+
+pub empty-requires : goal.empty-requires
+empty-requires t c =
+    let types = c.args.types.now in
+    let fs = map field_of c.args.fields.now in
+    let x = name_of c.in-Empty.name in
+    let shown : expr_of c.args.expression.now ≡ empty x = ap expr_of c.in-Empty.is in
+    empty_known types (context_of types fs) x (subst (HasSome types (context_of types fs)) shown c.requires.typed)
 
 pub evaluate-requires-in-Binary : goal.evaluate-requires-in-Binary
 evaluate-requires-in-Binary t c =

@@ -9,7 +9,7 @@ use Rattle.ioa_compose.proofs.starts.start_value.Goals as goal
 pub evaluate-requires-clause-typed : goal.evaluate-requires-clause-typed
 evaluate-requires-clause-typed c =
     let t = start_typed c.args.types.now [] (automaton_of c.args.binding.now.automaton.now) (variable_of c.args.variable.now) (expr_of c.in-Some.expression) (ap (option_map expr_of) c.in-Some.is) c.requires.fine in
-    (t.0, ap (λ fs. type_of c.args.types.now (context_of c.args.types.now (map field_of fs)) (expr_of c.in-Some.expression)) c.deref.ensures.value ∙ t.1)
+    (t.0, ap (λ fs. type_of c.args.types.now c.args.types.now (context_of c.args.types.now (map field_of fs)) (expr_of c.in-Some.expression)) c.deref.ensures.value ∙ t.1)
 
 pub returns-in-Some : goal.returns-in-Some
 returns-in-Some c =
