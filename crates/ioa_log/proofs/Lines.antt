@@ -89,25 +89,50 @@ one_byte seen xs i b l e = append_assoc seen (take i xs) (b ∷ []) ∙ ap (λ z
 
 -- ---- what has come
 
+-- what came, and a line's further bytes
+with_rest : (p : Prog) (seen bs : List ℕ) (r : Reading) (h : HasSeen p seen r) → seen ++ bs ≡ ended h.lines ++ (r.line.items ++ bs)
+with_rest p seen bs r h = ap (λ xs. xs ++ bs) h.bytes ∙ append_assoc (ended h.lines) r.line.items bs
+
 pub seen_part : (p : Prog) (seen : List ℕ) (r now : Reading) (bs : List ℕ) → HasSeen p seen r → IsLineText bs → now.line.items ≡ r.line.items ++ bs
     → ((ls : List (List ℕ)) → HasRead p ls r → HasRead p ls now) → HasSeen p (seen ++ bs) now
 seen_part p seen r now bs h t l keeps = record {
   lines = h.lines;
   whole = h.whole;
   unended = rw l (joined r.line.items bs h.unended t);
-  bytes = rw l (ap (λ xs. xs ++ bs) h.bytes ∙ append_assoc (ended h.lines) r.line.items bs);
+  bytes = rw l (with_rest p seen bs r h);
   read = keeps h.lines h.read;
 }
 
-pub seen_line : (p : Prog) (seen : List ℕ) (r now : Reading) → HasSeen p seen r → now.line.items ≡ []
-    → ((ls : List (List ℕ)) → HasRead p ls r → HasRead p (ls ++ r.line.items ∷ []) now) → HasSeen p (seen ++ 10 ∷ []) now
-seen_line p seen r now h l reads = record {
-  lines = h.lines ++ r.line.items ∷ [];
-  whole = All-append IsLineText h.lines (r.line.items ∷ []) h.whole (All-cons IsLineText r.line.items [] h.unended (All-nil IsLineText));
-  unended = rw l refl;
-  bytes = rw (l, ended_more h.lines r.line.items) (ap (λ bs. bs ++ 10 ∷ []) h.bytes ∙ append_assoc (ended h.lines) r.line.items (10 ∷ []) ∙ sym (append-nil (ended h.lines ++ (r.line.items ++ 10 ∷ []))));
-  read = reads h.lines h.read;
-}
+pub seen_line : (p : Prog) (seen bs : List ℕ) (r now : Reading) → HasSeen p seen r → IsLineText bs → now.line.items ≡ []
+    → ((ls : List (List ℕ)) → HasRead p ls r → HasRead p (ls ++ (r.line.items ++ bs) ∷ []) now) → HasSeen p ((seen ++ bs) ++ 10 ∷ []) now
+seen_line p seen bs r now h t l reads =
+    let line : List ℕ = r.line.items ++ bs in
+    let text : seen ++ bs ≡ ended h.lines ++ line = with_rest p seen bs r h in
+    record {
+      lines = h.lines ++ line ∷ [];
+      whole = All-append IsLineText h.lines (line ∷ []) h.whole (All-cons IsLineText line [] (joined r.line.items bs h.unended t) (All-nil IsLineText));
+      unended = rw l refl;
+      bytes = rw (l, ended_more h.lines line) (ap (λ xs. xs ++ 10 ∷ []) text ∙ append_assoc (ended h.lines) line (10 ∷ []) ∙ sym (append-nil (ended h.lines ++ (line ++ 10 ∷ []))));
+      read = reads h.lines h.read;
+    }
+
+-- what end_line says of a line that is no action, of which these are the further bytes
+abbrev pub Refuses : Prog → Reading → List ℕ → ℕ → Type 0
+Refuses p r bs n = (ls : List (List ℕ)) → HasRead p ls r → (n ≡ length ls + 1) × (IsLine p.types (r.line.items ++ bs) → ⊥)
+
+bad_here : (p : Prog) (seen bs rest : List ℕ) (r : Reading) (n : ℕ) → HasSeen p seen r → IsLineText bs → Refuses p r bs n → BadLine p.types ((seen ++ bs) ++ 10 ∷ rest) n
+bad_here p seen bs rest r n h t refuses =
+    let line : List ℕ = r.line.items ++ bs in
+    let k = refuses h.lines h.read in
+    let text : (seen ++ bs) ++ 10 ∷ rest ≡ ended h.lines ++ (line ++ (10 ∷ rest)) = ap (λ z. z ++ 10 ∷ rest) (with_rest p seen bs r h) ∙ append_assoc (ended h.lines) line (10 ∷ rest) in (
+      h.lines,
+      line,
+      lines rest,
+      good p.types h.lines h.read.acts h.read.reads,
+      k.1,
+      ap lines text ∙ lines_ended h.lines (line ++ (10 ∷ rest)) h.whole ∙ ap (λ ls. h.lines ++ ls) (lines_line line rest (joined r.line.items bs h.unended t)),
+      k.0,
+    )
 
 -- a piece is fed up to a place: what came before the line that stands there is seen, and the line has no LF yet
 pub record Fed (start now : Reading) (xs : List ℕ) (from at : ℕ) : Type 0 where
@@ -128,13 +153,20 @@ module _ (start r : Reading) (xs : List ℕ) (from at : ℕ) (f : Fed start r xs
   fed_part mid l keeps p seen h =
       subst (λ bs. HasSeen p bs mid) (up_to seen xs from at f.within) (seen_part p (seen ++ take from xs) r mid (part xs from at) (f.seen p seen h) f.line l (keeps p))
 
-  pub fed_line : (mid now : Reading) → at < length xs → get_or xs at 0 ≡ 10 → mid.line.items ≡ r.line.items ++ part xs from at → Keeps r mid → now.line.items ≡ []
-      → ((p : Prog) (ls : List (List ℕ)) → HasRead p ls mid → HasRead p (ls ++ mid.line.items ∷ []) now) → Fed start now xs (at + 1) (at + 1)
-  fed_line mid now lt e l keeps none reads = record {
+  pub fed_line : (now : Reading) → at < length xs → get_or xs at 0 ≡ 10 → now.line.items ≡ []
+      → ((p : Prog) (ls : List (List ℕ)) → HasRead p ls r → HasRead p (ls ++ (r.line.items ++ part xs from at) ∷ []) now) → Fed start now xs (at + 1) (at + 1)
+  fed_line now lt e none reads = record {
     within = omega arith;
     line = no_part xs (at + 1);
-    seen = λ p seen h. subst (λ bs. HasSeen p bs now) (one_byte seen xs at 10 lt e) (seen_line p (seen ++ take at xs) mid now (fed_part mid l keeps p seen h) none (reads p));
+    seen = λ p seen h. subst (λ bs. HasSeen p bs now) (ap (λ z. z ++ 10 ∷ []) (up_to seen xs from at f.within) ∙ one_byte seen xs at 10 lt e)
+        (seen_line p (seen ++ take from xs) (part xs from at) r now (f.seen p seen h) f.line none (reads p));
   }
+
+  pub bad_fed : (p : Prog) (seen more : List ℕ) (n : ℕ) → at < length xs → get_or xs at 0 ≡ 10 → HasSeen p seen start → Refuses p r (part xs from at) n → BadLine p.types (seen ++ (xs ++ more)) n
+  bad_fed p seen more n lt e h refuses =
+      let rest : List ℕ = drop (at + 1) xs ++ more in
+      subst (λ bs. BadLine p.types bs n) (sym (byte_at seen xs more at 10 lt e ∙ ap (λ z. z ++ 10 ∷ rest) (sym (up_to seen xs from at f.within))))
+      (bad_here p (seen ++ take from xs) (part xs from at) rest r n (f.seen p seen h) f.line refuses)
 
   pub fed_byte : at < length xs → (b : ℕ) → get_or xs at 0 ≡ b → (b ≡ 10 → ⊥) → Fed start r xs from (at + 1)
   fed_byte lt b e n = record { within = let w = f.within in omega arith; line = part_more xs from at b f.within lt e (no_feed b n) f.line; seen = f.seen }
@@ -143,23 +175,6 @@ pub fed_whole : (start r now : Reading) (xs : List ℕ) (from : ℕ) → Fed sta
     → (p : Prog) (seen : List ℕ) → HasSeen p seen start → HasSeen p (seen ++ xs) now
 fed_whole start r now xs from f l keeps p seen h =
     subst (λ bs. HasSeen p (seen ++ bs) now) (take_all (length xs) xs (omega arith)) (fed_part start r xs from (length xs) f now l keeps p seen h)
-
--- what end_line says of a line that is no action
-abbrev pub Refuses : Prog → Reading → ℕ → Type 0
-Refuses p r n = (ls : List (List ℕ)) → HasRead p ls r → (n ≡ length ls + 1) × (IsLine p.types r.line.items → ⊥)
-
-pub bad_here : (p : Prog) (seen rest : List ℕ) (r : Reading) (n : ℕ) → HasSeen p seen r → Refuses p r n → BadLine p.types (seen ++ 10 ∷ rest) n
-bad_here p seen rest r n h refuses =
-    let k = refuses h.lines h.read in
-    let text : seen ++ 10 ∷ rest ≡ ended h.lines ++ (r.line.items ++ (10 ∷ rest)) = ap (λ bs. bs ++ 10 ∷ rest) h.bytes ∙ append_assoc (ended h.lines) r.line.items (10 ∷ rest) in (
-      h.lines,
-      r.line.items,
-      lines rest,
-      good p.types h.lines h.read.acts h.read.reads,
-      k.1,
-      ap lines text ∙ lines_ended h.lines (r.line.items ++ (10 ∷ rest)) h.whole ∙ ap (λ ls. h.lines ++ ls) (lines_line r.line.items rest h.unended),
-      k.0,
-    )
 
 -- the lines, where the last has no LF
 last : (p : Prog) (seen : List ℕ) (r : Reading) (h : HasSeen p seen r) → 0 < length r.line.items → lines seen ≡ h.lines ++ r.line.items ∷ []
@@ -170,7 +185,8 @@ last p seen r h l =
     go [] u l = absurd (omega arith)
     go (b ∷ bs) u l = lines_last b bs u
 
-pub bad_last : (p : Prog) (seen : List ℕ) (r : Reading) (n : ℕ) → HasSeen p seen r → 0 < length r.line.items → Refuses p r n → BadLine p.types seen n
+pub bad_last : (p : Prog) (seen : List ℕ) (r : Reading) (n : ℕ) → HasSeen p seen r → 0 < length r.line.items
+    → ((ls : List (List ℕ)) → HasRead p ls r → (n ≡ length ls + 1) × (IsLine p.types r.line.items → ⊥)) → BadLine p.types seen n
 bad_last p seen r n h l refuses =
     let k = refuses h.lines h.read in
     (h.lines, r.line.items, [], good p.types h.lines h.read.acts h.read.reads, k.1, last p seen r h l, k.0)

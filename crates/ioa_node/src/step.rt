@@ -1,10 +1,10 @@
-ghost use Rattle.std.specs.Prelude.{◌≡◌, ◌≢◌, Bool, ◌∷◌, [], ◌++◌, ◌+◌, ◌<◌, ◌^◌, map, length, IfOk, OnOk};
+ghost use Rattle.std.specs.Prelude.{◌≡◌, ◌≢◌, Bool, ◌∷◌, [], ◌++◌, ◌+◌, ◌<◌, ◌≤◌, ◌^◌, map, take, length, IfOk, OnOk};
 ghost use Rattle.ioa_value.specs.Plain.{plain, truth};
 ghost use Rattle.ioa_code.specs.Machine.{act, stuck};
 ghost use Rattle.ioa_node.specs.Steps.{at, moved, Reads};
 
 use ioa_code::{Instr, Verified};
-use ioa_value::{Fault, OutOfMemory, Value, apply};
+use ioa_value::{Fault, OutOfMemory, Value, apply_last};
 use std::alloc::Global;
 
 /// One instruction, which finds what it needs: the next place, or a fault.
@@ -37,6 +37,7 @@ pub(crate) fn write(
 }
 
 /// One instruction, which finds what it needs and changes no variable: the next place, or a fault.
+#[inline(always)]
 pub(crate) fn read(
     alloc: Global,
     code: &Verified,
@@ -75,13 +76,8 @@ pub(crate) fn read(
         }
         Instr::Apply(op) => {
             let types = code.types();
-            let below = stack.len() - op.arity(types);
-            match apply(alloc, types, op, &stack[below..])? {
-                Ok(value) => {
-                    stack.truncate(below);
-                    stack.push(value)?;
-                    Ok(Ok(place + 1))
-                }
+            match apply_last(alloc, types, op, stack)? {
+                Ok(()) => Ok(Ok(place + 1)),
                 Err(fault) => Ok(Err(fault)),
             }
         }
@@ -89,11 +85,39 @@ pub(crate) fn read(
 }
 
 // A value that equals this one, on the stack.
+#[inline(always)]
 fn push(alloc: Global, stack: &mut Vec<Value>, value: &Value) -> Result<(), OutOfMemory>
     ensures { OnOk result (map plain stack.new.items ≡ map plain stack.old.items ++ plain value.now ∷ []) }
 {
-    stack.push(value.try_copy(alloc)?)?;
+    match value {
+        Value::Num(n) => put(stack, Value::Num(*n)),
+        Value::Truth(b) => put(stack, Value::Truth(*b)),
+        Value::Name(..) | Value::Tuple(..) | Value::Items(..) => put(stack, value.try_copy(alloc)?),
+    }
+}
+
+// The value on the stack. Room that is there is taken at once: the call that asks for more is not small.
+#[inline(always)]
+fn put(stack: &mut Vec<Value>, value: Value) -> Result<(), OutOfMemory>
+    ensures { OnOk result (stack.new.items ≡ stack.old.items ++ value ∷ []) }
+{
+    if stack.len() < stack.capacity() {
+        stack.push_reserved(value);
+    } else {
+        stack.push(value)?;
+    }
     Ok(())
+}
+
+// The stack's first items, so many, which are there.
+#[inline(always)]
+pub(crate) fn cut(stack: &mut Vec<Value>, count: usize)
+    requires { count ≤ length stack.old.items }
+    ensures { stack.new.items ≡ take count stack.old.items }
+{
+    while stack.len() > count {
+        let _top = stack.take_last();
+    }
 }
 
 // The top of the stack, which is there.
@@ -101,10 +125,7 @@ fn pop(stack: &mut Vec<Value>) -> Value
     requires { 0 < length stack.old.items }
     ensures { stack.old.items ≡ stack.new.items ++ result ∷ [] }
 {
-    match stack.pop() {
-        Some(value) => value,
-        None => unreachable!(),
-    }
+    stack.take_last()
 }
 
 /// The truth value, which it is.

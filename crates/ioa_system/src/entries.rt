@@ -1,5 +1,6 @@
 ghost use Rattle.std.specs.Prelude.{◌≡◌, map};
 ghost use Rattle.std.specs.Option.{option_map};
+ghost use Rattle.std.specs.Str.{bytes_eq};
 ghost use Rattle.ioa_value.specs.Actions.{act_of};
 ghost use Rattle.ioa_value.specs.Plain.{plain};
 ghost use Rattle.ioa_compile.specs.Shown.{position_code, entry_code, member_code};
@@ -24,7 +25,23 @@ pub(crate) fn entry_of<'a>(member: &'a Member, action: &Action) -> Option<&'a En
 fn is_in(types: &Types, action: &Action, entry: &Entry) -> bool
     ensures { result ≡ tables.is_in types.now (act_of action.now) (entry_code entry.now) }
 {
-    entry.name == action.name && positions_hold(types, &entry.positions, &action.vals)
+    same_name(entry.name.as_bytes(), action.name.as_bytes())
+        && positions_hold(types, &entry.positions, &action.vals)
+}
+
+/// Whether two names are equal. Names are short: a call that compares words of memory costs more than their few bytes.
+fn same_name(a: &[u8], b: &[u8]) -> bool
+    ensures { result ≡ bytes_eq a.now b.now }
+{
+    if a.len() != b.len() {
+        return false;
+    }
+    for i in 0..a.len() {
+        if a[i] != b[i] {
+            return false;
+        }
+    }
+    true
 }
 
 fn positions_hold(types: &Types, positions: &[Position], values: &[Value]) -> bool

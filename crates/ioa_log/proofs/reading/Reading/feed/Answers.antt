@@ -1,22 +1,16 @@
-use Rattle.std.proofs.Common.{◌≡◌, ◌+◌, ◌++◌, ℕ, List, take, drop, get_or, length, sym, subst, refl, rules}
-use Rattle.ioa_value.specs.Lists.{BadLine}
+use Rattle.std.proofs.Common.{◌≡◌, ◌+◌, ℕ, List, get_or, length, sym, subst, refl, rules}
 use Rattle.ioa_log.specs.declared.reading.Reading.{Reading}
-use Rattle.ioa_log.specs.Readings.{HasSeen}
-use Rattle.ioa_log.proofs.Lines.{Fed, bad_here, byte_at, fed_byte, fed_line, fed_none, fed_part, fed_whole}
+use Rattle.ioa_log.proofs.Lines.{Fed, bad_fed, fed_byte, fed_line, fed_none, fed_whole}
 use Rattle.ioa_log.proofs.reading.Reading.feed.Goals as goal
-use Rattle.ioa_log.proofs.reading.Reading.feed.Goals.{then-piece-at-eq10+in_ok-extend_from_slice+in_ok-end_line, else-piece-at-eq10}
+use Rattle.ioa_log.proofs.reading.Reading.feed.Goals.{then-piece-at-eq10+in_ok-end_line, else-piece-at-eq10}
 
 pub loop-at-init : goal.loop-at-init
 loop-at-init c = fed_none c.args.self.now c.args.piece.now
 
 pub returns-in_err-end_line-clause-bad : goal.returns-in_err-end_line-clause-bad
 returns-in_err-end_line-clause-bad c = λ n e p seen more h.
-    let at : ℕ = c.loop-at.at in
-    let xs : List ℕ = c.args.piece.now in
-    let s : HasSeen p (seen ++ take at xs) _ = fed_part c.args.self.now c.loop-at.self xs c.loop-at.from at c.loop-at.invariant _ c.in_ok-extend_from_slice.ensures.items
-    (λ p ls k. record { acts = k.acts; types = k.types; reads = k.reads; count = k.count; performed = k.performed }) p seen h in
-    subst (λ bs. BadLine p.types bs n) (sym (byte_at seen xs more at 10 c.loop-at-test.true c.if-piece-at-eq10.true))
-    (bad_here p (seen ++ take at xs) (drop (at + 1) xs ++ more) _ n s (λ ls k. c.in_err-end_line.ensures.bad n (search rules) p ls k))
+    bad_fed c.args.self.now c.loop-at.self c.args.piece.now c.loop-at.from c.loop-at.at c.loop-at.invariant p seen more n c.loop-at-test.true c.if-piece-at-eq10.true h
+    (λ ls k. c.in_err-end_line.ensures.bad n (search rules) p ls k)
 
 pub loop-at-preserved : goal.loop-at-preserved
 loop-at-preserved c =
@@ -24,11 +18,10 @@ loop-at-preserved c =
     let xs : List ℕ = c.args.piece.now in
     let start : Reading = c.args.self.now in
     elim c.if-piece-at-eq10.branch [
-      | then-piece-at-eq10+in_ok-extend_from_slice+in_ok-end_line w ↦
+      | then-piece-at-eq10+in_ok-end_line w ↦
           subst (λ (r : Reading). Fed start r xs c.if-piece-at-eq10.from (at + 1)) (sym w.self-is)
           (subst (λ f. Fed start w.end_line.new.self xs f (at + 1)) (sym w.from-is)
-          (fed_line start c.loop-at.self xs c.loop-at.from at c.loop-at.invariant _ w.end_line.new.self c.loop-at-test.true w.if-piece-at-eq10.true w.in_ok-extend_from_slice.ensures.items
-          (λ p ls k. record { acts = k.acts; types = k.types; reads = k.reads; count = k.count; performed = k.performed })
+          (fed_line start c.loop-at.self xs c.loop-at.from at c.loop-at.invariant w.end_line.new.self c.loop-at-test.true w.if-piece-at-eq10.true
           w.in_ok-end_line.ensures.next (λ p ls k. w.in_ok-end_line.ensures.ok p ls k)))
       | else-piece-at-eq10 w ↦
           subst (λ (r : Reading). Fed start r xs c.if-piece-at-eq10.from (at + 1)) (sym w.self-is)
@@ -41,5 +34,5 @@ returns-clause-ok c = λ p seen h.
     let xs : List ℕ = c.args.piece.now in
     let over : c.loop-at.at ≡ length xs = search rules in
     let f : Fed c.args.self.now c.loop-at.self xs c.loop-at.from (length xs) = subst (λ n. Fed c.args.self.now c.loop-at.self xs c.loop-at.from n) over c.loop-at.invariant in
-    fed_whole c.args.self.now c.loop-at.self _ xs c.loop-at.from f c.in_ok-extend_from_slice-2.ensures.items
+    fed_whole c.args.self.now c.loop-at.self _ xs c.loop-at.from f c.in_ok-extend_from_slice.ensures.items
     (λ p ls k. record { acts = k.acts; types = k.types; reads = k.reads; count = k.count; performed = k.performed }) p seen h

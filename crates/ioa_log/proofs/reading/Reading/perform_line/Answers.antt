@@ -1,18 +1,13 @@
-use Rattle.std.proofs.Common.{sym, ap, subst, ◌∙◌}
+use Rattle.std.proofs.Common.{sym, ◌∙◌}
 use Rattle.std.proofs.lemmas.Bool.{MatchBool-at_true}
 use Rattle.ioa_value.specs.Actions.{act_of}
-use Rattle.ioa_value.specs.Reads.{Reads}
-use Rattle.ioa_value.specs.Lists.{is_skipped}
 use Rattle.ioa_log.proofs.Lines.{one_skipped, one_performed}
 use Rattle.ioa_log.proofs.reading.Reading.perform_line.Goals as goal
 
 pub returns-then-is_skipped-clause-ok : goal.returns-then-is_skipped-clause-ok
-returns-then-is_skipped-clause-ok c = λ p ls h.
-    one_skipped p ls c.args.self.now.line.items c.args.self.now h (ap is_skipped (sym c.deref.ensures.value) ∙ sym c.is_skipped.ensures ∙ c.if-is_skipped.true)
+returns-then-is_skipped-clause-ok c = λ p ls h. one_skipped p ls c.args.line.now c.args.self.now h (sym c.is_skipped.ensures ∙ c.if-is_skipped.true)
 
 pub returns-clause-ok : goal.returns-clause-ok
 returns-clause-ok c = λ p ls h.
-    let f = MatchBool-at_true _ _ c.if-not-branch.false c.in_ok-read.ensures.found in
-    let r : Reads c.args.self.now.types.now c.args.self.now.line.items (act_of c.read.new.self) = subst (λ bs. Reads c.args.self.now.types.now bs (act_of c.read.new.self)) c.deref-2.ensures.value f in
-    one_performed p ls c.args.self.now.line.items (act_of c.read.new.self) c.args.self.now c.perform.new.self h r
+    one_performed p ls c.args.line.now (act_of c.read.new.self) c.args.self.now c.perform.new.self h (MatchBool-at_true _ _ c.if-not-branch.false c.in_ok-read.ensures.found)
     (λ acts t g. c.in_ok-perform.ensures.performed p acts t g)
