@@ -1,5 +1,5 @@
 -- What is written to explain a code. What the words of an explanation say is not told here.
-use Rattle.std.specs.Prelude.{ℕ, ◌++◌, ◌∷◌, [], List, Option, take, codes}
+use Rattle.std.specs.Prelude.{ℕ, ◌≡◌, ◌++◌, ◌∷◌, [], List, Option, take, codes}
 use Rattle.std.specs.Io.KnownBytes.{Appends, Keeps}
 use Rattle.ioa_log.specs.declared.failure.LogErr.{LogErr}
 use Rattle.ioac.specs.declared.code.Code.{Code}
@@ -19,18 +19,19 @@ example_text (Example.Replay source list) =
 example_text (Example.Told sentence) = sentence.now ++ 10 ∷ []
 
 abbrev pub explanation_text : Explanation → List ℕ
-explanation_text e = e.meaning.now ++ (gap ++ (example_text e.example ++ (10 ∷ e.mending.now ++ 10 ∷ [])))
+explanation_text e =
+    spelling e.code ++ (codes ": " ++ (e.meaning.now ++ (gap ++ (example_text e.example ++ (10 ∷ e.mending.now ++ 10 ∷ [])))))
 
 -- the code is explained in some words
 abbrev pub IsExplained : Code → Option (List ℕ) → Option (List ℕ) → Type 0
-IsExplained code before after = (e : Explanation) × Appends before after (spelling code ++ (codes ": " ++ explanation_text e))
+IsExplained code before after = (e : Explanation) × (e.code ≡ code) × Appends before after (explanation_text e)
 
 -- memory is short, and nothing was written; or the device failed, and a beginning of an explanation was
 abbrev pub IsUnexplained : Code → Type 0 → Option (List ℕ) → Option (List ℕ) → Failure → Type 0
 IsUnexplained code failed before after (Failure.Refused r) = ⊥
 IsUnexplained code failed before after (Failure.List (LogErr.BadLine n)) = ⊥
 IsUnexplained code failed before after (Failure.List LogErr.Io) =
-    failed × ((e : Explanation) × (k : ℕ) × Appends before after (take k (spelling code ++ (codes ": " ++ explanation_text e))))
+    failed × ((e : Explanation) × (k : ℕ) × (e.code ≡ code) × Appends before after (take k (explanation_text e)))
 IsUnexplained code failed before after (Failure.List LogErr.OutOfMemory) = ⊥
 IsUnexplained code failed before after Failure.Io = ⊥
 IsUnexplained code failed before after Failure.OutOfMemory = Keeps before after

@@ -19,7 +19,7 @@ pub fn explain<W: OutputDevice>(alloc: Global, code: Code, output: &mut W) -> Re
         (W.contents output.old) (W.contents output.new) e) }
 {
     let explanation = explanation(code);
-    let text = format!(in alloc; "{code}: {explanation}")?;
+    let text = format!(in alloc; "{explanation}")?;
     send_all(output, text.as_bytes())?;
     Ok(())
 }

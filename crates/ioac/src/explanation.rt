@@ -1,8 +1,10 @@
+use crate::code::Code;
 use std::fmt;
 
 /// What a code means, in words for someone who writes a first protocol.
 #[derive(Clone, Copy, Debug)]
 pub struct Explanation {
+    pub code: Code,
     pub meaning: &'static str,
     pub example: Example,
     /// What to do then.
@@ -49,10 +51,11 @@ impl fmt::Display for Explanation {
 
     fn fmt<W: fmt::Write>(&self, f: &mut fmt::Formatter<W>) -> fmt::Result {
         let Explanation {
+            code,
             meaning,
             example,
             mending,
         } = self;
-        write!(f, "{meaning}\n\n{example}\n{mending}\n")
+        write!(f, "{code}: {meaning}\n\n{example}\n{mending}\n")
     }
 }

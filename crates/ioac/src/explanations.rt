@@ -3,11 +3,15 @@ mod runs;
 mod sources;
 mod texts;
 
+ghost use Rattle.std.specs.Prelude.{◌≡◌};
+
 use crate::code::Code;
 use crate::explanation::Explanation;
 
 /// What a code means.
-pub fn explanation(code: Code) -> Explanation {
+pub fn explanation(code: Code) -> Explanation
+    ensures { result.code ≡ code }
+{
     match code {
         Code::E1 => texts::E1,
         Code::E2 => texts::E2,

@@ -1,8 +1,10 @@
 //! What is wrong with a composition.
 
+use crate::code::Code;
 use crate::explanation::{Example, Explanation};
 
 pub const E12: Explanation = Explanation {
+    code: Code::E12,
     meaning: "The arguments of a component are not those of its automaton's formals, in number or type. Components count\n\
         from 0.",
     example: Example::Source(
@@ -16,6 +18,7 @@ pub const E12: Explanation = Explanation {
 };
 
 pub const E13: Explanation = Explanation {
+    code: Code::E13,
     meaning: "The names by which a component crashes and recovers are one name, or one that its automaton has.",
     example: Example::Told(
         "No source of this version gives it, since components cannot crash yet.",
@@ -24,6 +27,7 @@ pub const E13: Explanation = Explanation {
 };
 
 pub const E14: Explanation = Explanation {
+    code: Code::E14,
     meaning: "Two components are not compatible: both have one output, or one has an action as internal that the other has\n\
         too.",
     example: Example::Told(
@@ -33,12 +37,14 @@ pub const E14: Explanation = Explanation {
 };
 
 pub const E15: Explanation = Explanation {
+    code: Code::E15,
     meaning: "A name that is to be hidden is no output of a component.",
     example: Example::Told("No source of this version gives it, since no names can be hidden yet."),
     mending: "There is nothing to mend.",
 };
 
 pub const E16: Explanation = Explanation {
+    code: Code::E16,
     meaning: "A component cannot start: one of its arguments, or a start expression, faults. Components count from 0. Fault 1\n\
         is a number that does not fit into 64 bits.",
     example: Example::Source(
@@ -52,6 +58,7 @@ pub const E16: Explanation = Explanation {
 };
 
 pub const E17: Explanation = Explanation {
+    code: Code::E17,
     meaning: "The source has no composition of the name that was asked for, or none at all, so there is nothing to run.",
     example: Example::Source(
         "automaton Door\n\

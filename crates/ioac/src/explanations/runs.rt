@@ -1,8 +1,10 @@
 //! What is wrong with a list, a device or a file.
 
+use crate::code::Code;
 use crate::explanation::{Example, Explanation};
 
 pub const L2: Explanation = Explanation {
+    code: Code::L2,
     meaning: "This line of the list is no action. An action is a name and, for one value or more, the values in parentheses.",
     example: Example::Replay {
         source: "automaton Counter\n\
@@ -18,6 +20,7 @@ pub const L2: Explanation = Explanation {
 };
 
 pub const L8: Explanation = Explanation {
+    code: Code::L8,
     meaning: "Reading the list, or writing the answer, failed. A beginning of the answer may have been written.",
     example: Example::Told(
         "No source or list gives it. A full disk does, or a pipe whose reader has gone.",
@@ -26,6 +29,7 @@ pub const L8: Explanation = Explanation {
 };
 
 pub const MEMORY: Explanation = Explanation {
+    code: Code::Memory,
     meaning: "There was not enough memory.",
     example: Example::Told(
         "No source or list gives it by itself. A list that is too long for the machine's memory does.",
@@ -34,6 +38,7 @@ pub const MEMORY: Explanation = Explanation {
 };
 
 pub const IO: Explanation = Explanation {
+    code: Code::Io,
     meaning: "The file cannot be read.",
     example: Example::Told(
         "No source or list gives it. A name that no file has does, or a file that you may not read.",

@@ -1,8 +1,10 @@
 //! What is wrong with a source that is not well formed.
 
+use crate::code::Code;
 use crate::explanation::{Example, Explanation};
 
 pub const E5: Explanation = Explanation {
+    code: Code::E5,
     meaning: "A name is declared twice, or has two entries or two proposals. Within an automaton its formals, its variables\n\
         and the parameters of an entry differ from each other, and from the names of types, automata and compositions.",
     example: Example::Source(
@@ -15,6 +17,7 @@ pub const E5: Explanation = Explanation {
 };
 
 pub const E6: Explanation = Explanation {
+    code: Code::E6,
     meaning: "A name is not known here: it is declared nowhere, or only later, or it may not stand in this place. Only\n\
         variables are assigned to; start expressions and arguments read no variable.",
     example: Example::Source(
@@ -27,6 +30,7 @@ pub const E6: Explanation = Explanation {
 };
 
 pub const E7: Explanation = Explanation {
+    code: Code::E7,
     meaning: "An expression has another type than its place wants: a Bool where an Int belongs, or the other way round.",
     example: Example::Source(
         "automaton Door\n\
@@ -38,6 +42,7 @@ pub const E7: Explanation = Explanation {
 };
 
 pub const E8: Explanation = Explanation {
+    code: Code::E8,
     meaning: "Entries of the signature and transitions do not match: each entry has exactly one transition of its kind and\n\
         name. An input is always enabled, so it has neither `pre` nor `propose`.",
     example: Example::Source(
@@ -51,8 +56,9 @@ pub const E8: Explanation = Explanation {
 };
 
 pub const E9: Explanation = Explanation {
+    code: Code::E9,
     meaning: "An output or internal action has a parameter for which no value is proposed. A runner would not know which\n\
-        value to try; only Bool parameters need no proposal.",
+        value to try; only parameters of Bool or of an enumeration need no proposal.",
     example: Example::Source(
         "automaton Counter\n\
         signature output tick(k: Int)\n\
@@ -63,8 +69,10 @@ pub const E9: Explanation = Explanation {
 };
 
 pub const E10: Explanation = Explanation {
-    meaning: "A limit is passed: 256 automata and compositions, 32 components, 64 variables or entries of an automaton,\n\
-        8 formals or parameters, 4,096 nodes in a precondition, a transition's proposals, or an effect.",
+    code: Code::E10,
+    meaning: "A limit is passed: 1,024 types, 256 names of an enumeration, 16 fields of a tuple, a capacity from 1 to 256,\n\
+        256 automata and compositions, 32 components, 64 variables or entries of an automaton, 8 formals or parameters,\n\
+        4,096 nodes in a precondition, a transition's proposals, or an effect.",
     example: Example::Source(
         "automaton Door(a: Int, b: Int, c: Int, d: Int, e: Int, f: Int, g: Int, h: Int, i: Int)\n\
         signature input open\n\
@@ -74,9 +82,12 @@ pub const E10: Explanation = Explanation {
 };
 
 pub const E11: Explanation = Explanation {
-    meaning: "A declared type has values that are too large.",
-    example: Example::Told(
-        "No source of this version gives it, since no types can be declared yet.",
+    code: Code::E11,
+    meaning: "A type's values are too large: they would take more than 4,096 words. A truth value, a number and a name of an\n\
+        enumeration take one, a tuple those of its fields, a sequence one and its capacity times an item's.",
+    example: Example::Source(
+        "type Row = seq 256 of Int\n\
+        type Board = seq 16 of Row",
     ),
-    mending: "There is nothing to mend.",
+    mending: "Make a capacity smaller, or leave out a field. Here 15 rows are the most.",
 };

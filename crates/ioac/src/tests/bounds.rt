@@ -1,5 +1,4 @@
-use crate::tests::shelf::{Given, REPLAY, Wanted, expect, status_in};
-use crate::tests::tables::{column, columns, is_row};
+use crate::tests::shelf::{First, expect_rows};
 use std::test::Fail;
 
 /// A source, a list, what is printed, what is told of errors, and the exit status.
@@ -49,19 +48,5 @@ automaton A signature output a(k: Int); input b states c: Int transitions output
 
 #[test]
 fn keeps_bounds(rt: HostRuntime) -> Result<(), Fail> {
-    for row in ROWS.lines().filter(|line| is_row(line)) {
-        let columns = columns(rt.alloc(), row)?;
-        let given = Given {
-            words: REPLAY.as_slice(),
-            file: column(&columns, 0),
-            list: column(&columns, 1),
-        };
-        let wanted = Wanted {
-            output: column(&columns, 2),
-            errors: column(&columns, 3),
-            status: status_in(&columns, 4)?,
-        };
-        expect(&rt, rt.alloc(), row, &given, &wanted)?;
-    }
-    Ok(())
+    expect_rows(&rt, rt.alloc(), ROWS, First::File)
 }

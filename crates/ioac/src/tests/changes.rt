@@ -123,7 +123,7 @@ fn changes_are_refused(rt: HostRuntime) -> Result<(), Fail> {
         assert!(rt; changed.is_some(), "{row}");
         let file = changed.ok_or("nowhere")?;
         let given = Given {
-            words: REPLAY.as_slice(),
+            words: REPLAY,
             file: file.as_str(),
             list: "",
         };

@@ -1,4 +1,4 @@
-use crate::tests::shelf::{Given, REPLAY, Wanted, expect, status_in};
+use crate::tests::shelf::{Given, REPLAY, expect, wanted_in};
 use crate::tests::tables::{column, columns, is_row};
 use std::alloc::{AllocError, Global};
 use std::test::Fail;
@@ -107,15 +107,11 @@ fn chooses(rt: HostRuntime) -> Result<(), Fail> {
         let columns = columns(rt.alloc(), row)?;
         let file = counter(rt.alloc(), column(&columns, 0), column(&columns, 1))?;
         let given = Given {
-            words: REPLAY.as_slice(),
+            words: REPLAY,
             file: file.as_str(),
             list: column(&columns, 2),
         };
-        let wanted = Wanted {
-            output: column(&columns, 3),
-            errors: column(&columns, 4),
-            status: status_in(&columns, 5)?,
-        };
+        let wanted = wanted_in(&columns, 3)?;
         expect(&rt, rt.alloc(), row, &given, &wanted)?;
     }
     Ok(())

@@ -1,5 +1,4 @@
-use crate::tests::shelf::{Given, Wanted, expect, status_in};
-use crate::tests::tables::{column, columns, is_row};
+use crate::tests::shelf::{First, expect_rows};
 use std::test::Fail;
 
 /// Two compositions of one counter.
@@ -31,25 +30,5 @@ replay f --comp |  |  | error: a value is required for '--comp <NAME>' but none 
 
 #[test]
 fn answers_command_lines(rt: HostRuntime) -> Result<(), Fail> {
-    let alloc = rt.alloc();
-    for row in ROWS.lines().filter(|line| is_row(line)) {
-        let columns = columns(alloc, row)?;
-        let mut words = Vec::new(alloc);
-        words.push("ioac")?;
-        for word in column(&columns, 0).split_whitespace() {
-            words.push(word)?;
-        }
-        let given = Given {
-            words: words.as_slice(),
-            file: TWO,
-            list: column(&columns, 1),
-        };
-        let wanted = Wanted {
-            output: column(&columns, 2),
-            errors: column(&columns, 3),
-            status: status_in(&columns, 4)?,
-        };
-        expect(&rt, alloc, row, &given, &wanted)?;
-    }
-    Ok(())
+    expect_rows(&rt, rt.alloc(), ROWS, First::Words(TWO))
 }

@@ -1,42 +1,11 @@
 use crate::code::Code;
-use crate::command::command;
 use crate::explanation::Example;
 use crate::explanations::explanation;
 use crate::status::Status;
-use crate::tests::shelf::{REPLAY, Shelf};
+use crate::tests::shelf::{Given, REPLAY, run, run_on};
 use ioa_log::Counted;
 use std::alloc::Global;
 use std::test::Fail;
-
-/// What a run of the program printed, and its exit status.
-#[derive(Drop)]
-struct Ran {
-    output: Vec<u8>,
-    errors: Vec<u8>,
-    status: u8,
-}
-
-fn run(alloc: Global, words: &[&str], file: &str, list: &str) -> Result<Ran, Fail> {
-    let mut store = Shelf {
-        bytes: file.as_bytes(),
-    };
-    let mut input = Counted::new(list.as_bytes());
-    let mut output = Counted::new(Vec::new(alloc));
-    let mut errors = Vec::new(alloc);
-    let status = command(
-        alloc,
-        words,
-        &mut store,
-        &mut input,
-        &mut output,
-        &mut errors,
-    );
-    Ok(Ran {
-        output: output.into_inner(),
-        errors,
-        status,
-    })
-}
 
 /// The source and the list that give a code, if any do.
 fn example(alloc: Global, code: Code) -> Result<Option<(String, &'static str)>, Fail> {
@@ -66,10 +35,15 @@ fn tells(errors: &[u8], code: Code) -> bool {
 
 #[test]
 fn examples_give_their_codes(rt: HostRuntime) -> Result<(), Fail> {
-    let mut given = Vec::new(rt.alloc());
+    let mut shown = Vec::new(rt.alloc());
     for code in Code::ALL {
         if let Some((source, list)) = example(rt.alloc(), code)? {
-            let ran = run(rt.alloc(), REPLAY.as_slice(), source.as_str(), list)?;
+            let given = Given {
+                words: REPLAY,
+                file: source.as_str(),
+                list,
+            };
+            let ran = run(rt.alloc(), &given)?;
             let wanted = if code == Code::L2 {
                 Status::ListRefused
             } else {
@@ -78,20 +52,25 @@ fn examples_give_their_codes(rt: HostRuntime) -> Result<(), Fail> {
             assert!(rt; tells(ran.errors.as_slice(), code), "{code}");
             assert!(rt; ran.output.is_empty(), "{code}");
             assert!(rt; ran.status == wanted.number(), "{code}");
-            given.push(code)?;
+            shown.push(code)?;
         }
     }
-    assert_eq!(rt; given.len(), 14);
+    assert_eq!(rt; shown.len(), 15);
     Ok(())
 }
 
 #[test]
 fn each_code_is_explained(rt: HostRuntime) -> Result<(), Fail> {
     for code in Code::ALL {
-        let words = ["ioac", "explain", code.spelling()];
-        let ran = run(rt.alloc(), words.as_slice(), "", "")?;
+        let words = format!(in rt.alloc(); "explain {code}")?;
+        let given = Given {
+            words: words.as_str(),
+            file: "",
+            list: "",
+        };
+        let ran = run(rt.alloc(), &given)?;
         let wanted = explanation(code);
-        let text = format!(in rt.alloc(); "{code}: {wanted}")?;
+        let text = format!(in rt.alloc(); "{wanted}")?;
         assert!(rt; ran.output.as_slice() == text.as_bytes(), "{code}");
         assert!(rt; ran.errors.is_empty(), "{code}");
         assert!(rt; ran.status == Status::Done.number(), "{code}");
@@ -100,28 +79,22 @@ fn each_code_is_explained(rt: HostRuntime) -> Result<(), Fail> {
 }
 
 /// Runs the program on the words where so many bytes can be written, and answers the exit status and what is told.
-fn cramped(alloc: Global, words: &[&str], room: &mut [u8]) -> Result<(u8, Vec<u8>), Fail> {
-    let mut store = Shelf {
-        bytes: b"automaton A signature input a transitions input a".as_slice(),
+fn cramped(alloc: Global, words: &str, room: &mut [u8]) -> Result<(u8, Vec<u8>), Fail> {
+    let given = Given {
+        words,
+        file: "automaton A signature input a transitions input a",
+        list: "",
     };
-    let mut input = Counted::new(b"".as_slice());
+    let mut input = Counted::new(given.list.as_bytes());
     let mut output = Counted::new(room);
     let mut errors = Vec::new(alloc);
-    let status = command(
-        alloc,
-        words,
-        &mut store,
-        &mut input,
-        &mut output,
-        &mut errors,
-    );
+    let status = run_on(alloc, &given, &mut input, &mut output, &mut errors)?;
     Ok((status, errors))
 }
 
 #[test]
 fn full_devices_are_told(rt: HostRuntime) -> Result<(), Fail> {
-    let rows: [&[&str]; 2] = [&["ioac", "check", "f"], &["ioac", "explain", "E1"]];
-    for words in rows {
+    for words in ["check f", "explain E1"] {
         let mut room = [0u8; 2];
         let (status, errors) = cramped(rt.alloc(), words, room.as_mut_slice())?;
         assert_eq!(rt; status, Status::Broken.number());

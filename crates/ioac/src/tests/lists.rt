@@ -1,5 +1,4 @@
-use crate::tests::shelf::{COUNTER, Given, REPLAY, Wanted, expect, status_in};
-use crate::tests::tables::{column, columns, is_row};
+use crate::tests::shelf::{COUNTER, First, expect_rows};
 use std::test::Fail;
 
 /// A list for the counter, what is printed, what is told of errors, and the exit status.
@@ -47,19 +46,5 @@ tick(5)^(^) |  | L2 line 2^ | 4
 
 #[test]
 fn replays_lists(rt: HostRuntime) -> Result<(), Fail> {
-    for row in ROWS.lines().filter(|line| is_row(line)) {
-        let columns = columns(rt.alloc(), row)?;
-        let given = Given {
-            words: REPLAY.as_slice(),
-            file: COUNTER,
-            list: column(&columns, 0),
-        };
-        let wanted = Wanted {
-            output: column(&columns, 1),
-            errors: column(&columns, 2),
-            status: status_in(&columns, 3)?,
-        };
-        expect(&rt, rt.alloc(), row, &given, &wanted)?;
-    }
-    Ok(())
+    expect_rows(&rt, rt.alloc(), ROWS, First::List(COUNTER))
 }

@@ -1,5 +1,4 @@
-use crate::tests::shelf::{Given, Wanted, expect, status_in};
-use crate::tests::tables::{column, columns, is_row};
+use crate::tests::shelf::{First, expect_rows};
 use std::test::Fail;
 
 /// The words after the program's name, a source, what is printed, what is told of errors, and the exit status.
@@ -30,25 +29,5 @@ replay --version |  |  | error: unexpected argument '--version' found^^  tip: to
 
 #[test]
 fn answers_requests(rt: HostRuntime) -> Result<(), Fail> {
-    let alloc = rt.alloc();
-    for row in ROWS.lines().filter(|line| is_row(line)) {
-        let columns = columns(alloc, row)?;
-        let mut words = Vec::new(alloc);
-        words.push("ioac")?;
-        for word in column(&columns, 0).split_whitespace() {
-            words.push(word)?;
-        }
-        let given = Given {
-            words: words.as_slice(),
-            file: column(&columns, 1),
-            list: "",
-        };
-        let wanted = Wanted {
-            output: column(&columns, 2),
-            errors: column(&columns, 3),
-            status: status_in(&columns, 4)?,
-        };
-        expect(&rt, alloc, row, &given, &wanted)?;
-    }
-    Ok(())
+    expect_rows(&rt, rt.alloc(), ROWS, First::Request)
 }

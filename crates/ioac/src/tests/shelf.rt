@@ -3,10 +3,11 @@ ghost use Rattle.ioa_value.specs.Table as tables;
 
 use crate::command::command;
 use crate::store::{Store, StoreErr};
-use crate::tests::tables::column;
-use ioa_log::Counted;
+use crate::tests::tables::{column, columns, is_row};
+use ioa_log::{Counted, InputDevice, OutputDevice};
 use ioa_value::{Declarations, OutOfMemory, Types};
 use std::alloc::Global;
+use std::io::Write;
 use std::process::Abort;
 use std::test::Fail;
 
@@ -16,8 +17,8 @@ pub const COUNTER: &str =
     states c: Int := start transitions output tick pre k = c propose k := c eff c := c + 1 \
     input reset eff c := start composition One components A: Counter(5)";
 
-/// The words that most tests give.
-pub const REPLAY: [&str; 3] = ["ioac", "replay", "f"];
+/// The words, after the program's name, that most tests give.
+pub const REPLAY: &str = "replay f";
 
 /// Bool and Int alone.
 pub fn basic(alloc: Global) -> Result<Types, OutOfMemory>
@@ -48,10 +49,11 @@ impl<'a> Store for Shelf<'a> {
     }
 }
 
-/// What a run of the program is given: the words of its command line, the file `f`, and standard input.
+/// What a run of the program is given: the words of its command line after the program's name, parted by spaces, the file
+/// `f`, and standard input.
 #[derive(Clone, Copy)]
 pub struct Given<'a> {
-    pub words: &'a [&'a str],
+    pub words: &'a str,
     pub file: &'a str,
     pub list: &'a str,
 }
@@ -64,9 +66,44 @@ pub struct Wanted<'a> {
     pub status: u8,
 }
 
-/// The exit status that the column of this number wants.
-pub fn status_in(columns: &[String], number: usize) -> Result<u8, Fail> {
-    Ok(column(columns, number).parse::<u8>()?)
+/// What a run of the program printed, and its exit status.
+#[derive(Drop)]
+pub struct Ran {
+    pub output: Vec<u8>,
+    pub errors: Vec<u8>,
+    pub status: u8,
+}
+
+/// Runs the program on devices, and answers its exit status.
+pub fn run_on<R: InputDevice, W: OutputDevice, E: Write>(
+    alloc: Global,
+    given: &Given<'_>,
+    input: &mut R,
+    output: &mut W,
+    errors: &mut E,
+) -> Result<u8, Fail> {
+    let mut words = Vec::new(alloc);
+    words.push("ioac")?;
+    for word in given.words.split_whitespace() {
+        words.push(word)?;
+    }
+    let mut store = Shelf {
+        bytes: given.file.as_bytes(),
+    };
+    Ok(command(alloc, words.as_slice(), &mut store, input, output, errors))
+}
+
+/// Runs the program.
+pub fn run(alloc: Global, given: &Given<'_>) -> Result<Ran, Fail> {
+    let mut input = Counted::new(given.list.as_bytes());
+    let mut output = Counted::new(Vec::new(alloc));
+    let mut errors = Vec::new(alloc);
+    let status = run_on(alloc, given, &mut input, &mut output, &mut errors)?;
+    Ok(Ran {
+        output: output.into_inner(),
+        errors,
+        status,
+    })
 }
 
 /// Runs the program and compares what it prints. It tells the row that fails.
@@ -77,29 +114,67 @@ pub fn expect(
     given: &Given<'_>,
     wanted: &Wanted<'_>,
 ) -> Result<(), Fail> {
-    let mut store = Shelf {
-        bytes: given.file.as_bytes(),
-    };
-    let mut input = Counted::new(given.list.as_bytes());
-    let mut output = Counted::new(Vec::new(alloc));
-    let mut errors = Vec::new(alloc);
-    let status = command(
-        alloc,
-        given.words,
-        &mut store,
-        &mut input,
-        &mut output,
-        &mut errors,
-    );
-    let written: Vec<u8> = output.into_inner();
+    let ran = run(alloc, given)?;
     assert!(rt;
-        errors.as_slice() == wanted.errors.as_bytes(),
+        ran.errors.as_slice() == wanted.errors.as_bytes(),
         "errors in {row}"
     );
     assert!(rt;
-        written.as_slice() == wanted.output.as_bytes(),
+        ran.output.as_slice() == wanted.output.as_bytes(),
         "output in {row}"
     );
-    assert!(rt; status == wanted.status, "status in {row}");
+    assert!(rt; ran.status == wanted.status, "status in {row}");
+    Ok(())
+}
+
+/// What the first columns of a table are.
+#[derive(Clone, Copy)]
+pub enum First<'a> {
+    /// A list, to be replayed on this file.
+    List(&'a str),
+    /// A file to replay, and a list.
+    File,
+    /// The words after the program's name, and a list, for this file.
+    Words(&'a str),
+    /// The words after the program's name, and a file.
+    Request,
+}
+
+// What the first columns give, and how many they are.
+fn given_in<'a>(first: First<'a>, columns: &'a [String]) -> (Given<'a>, usize) {
+    let one = column(columns, 0);
+    let two = column(columns, 1);
+    let (words, file, list, count) = match first {
+        First::List(file) => (REPLAY, file, one, 1),
+        First::File => (REPLAY, one, two, 2),
+        First::Words(file) => (one, file, two, 2),
+        First::Request => (one, two, "", 2),
+    };
+    (Given { words, file, list }, count)
+}
+
+/// What has to be printed, told of errors, and answered as exit status: the columns from this number on.
+pub fn wanted_in(columns: &[String], number: usize) -> Result<Wanted<'_>, Fail> {
+    Ok(Wanted {
+        output: column(columns, number),
+        errors: column(columns, number.saturating_add(1)),
+        status: column(columns, number.saturating_add(2)).parse::<u8>()?,
+    })
+}
+
+/// Runs the program on each row of a table and compares what it prints: after the first columns come what is printed, what is
+/// told of errors, and the exit status.
+pub fn expect_rows(
+    rt: &impl Abort,
+    alloc: Global,
+    rows: &str,
+    first: First<'_>,
+) -> Result<(), Fail> {
+    for row in rows.lines().filter(|line| is_row(line)) {
+        let columns = columns(alloc, row)?;
+        let (given, count) = given_in(first, &columns);
+        let wanted = wanted_in(&columns, count)?;
+        expect(rt, alloc, row, &given, &wanted)?;
+    }
     Ok(())
 }

@@ -1,6 +1,5 @@
-use crate::command::command;
 use crate::status::Status;
-use crate::tests::shelf::{COUNTER, REPLAY, Shelf};
+use crate::tests::shelf::{COUNTER, Given, REPLAY, Ran, run_on};
 use ioa_log::{Counted, Device};
 use std::alloc::Global;
 use std::io;
@@ -73,17 +72,24 @@ impl<'a> Read for Dripping<'a> {
     }
 }
 
-const LIST: &[u8; 22] = b"tick(5)\ntick(6)\nreset\n";
+const LIST: &str = "tick(5)\ntick(6)\nreset\n";
 
 const PRINTED: &[u8; 40] = b"tick(5)\ntick(6)\nreset\nend: done after 3\n";
 
-/// Replays the list on a device that fails after so many calls, and the answer is printed on one that takes so many.
-fn replayed(alloc: Global, reads: u64, writes: u64) -> Result<Ran, Fail> {
-    let mut store = Shelf {
-        bytes: COUNTER.as_bytes(),
-    };
+/// The counter with the list, for these words.
+fn given(words: &str) -> Given<'_> {
+    Given {
+        words,
+        file: COUNTER,
+        list: LIST,
+    }
+}
+
+/// Replays the list on a device that fails after so many calls, and the answer is printed on one that takes so many; with
+/// how many calls failed.
+fn replayed(alloc: Global, reads: u64, writes: u64) -> Result<(Ran, u64), Fail> {
     let mut input = Counted::new(Dripping {
-        bytes: LIST.as_slice(),
+        bytes: LIST.as_bytes(),
         left: reads,
     });
     let mut output = Counted::new(Slow {
@@ -91,88 +97,54 @@ fn replayed(alloc: Global, reads: u64, writes: u64) -> Result<Ran, Fail> {
         left: writes,
     });
     let mut errors = Vec::new(alloc);
-    let status = command(
-        alloc,
-        REPLAY.as_slice(),
-        &mut store,
-        &mut input,
-        &mut output,
-        &mut errors,
-    );
+    let status = run_on(alloc, &given(REPLAY), &mut input, &mut output, &mut errors)?;
     let failures = input.failures().saturating_add(output.failures());
-    Ok(Ran {
-        status,
-        failures,
-        printed: output.into_inner().held,
+    let ran = Ran {
+        output: output.into_inner().held,
         errors,
-    })
-}
-
-/// How a replay on devices ended: its status, how many calls failed, and what was printed.
-#[derive(Drop)]
-struct Ran {
-    status: u8,
-    failures: u64,
-    printed: Vec<u8>,
-    errors: Vec<u8>,
+        status,
+    };
+    Ok((ran, failures))
 }
 
 #[test]
 fn fails_with_its_devices(rt: HostRuntime) -> Result<(), Fail> {
     let alloc = rt.alloc();
     for reads in 0..23u64 {
-        let ran = replayed(alloc, reads, 40)?;
-        assert_failed(&rt, &ran);
-        assert!(rt; ran.printed.is_empty());
+        let (ran, failures) = replayed(alloc, reads, 40)?;
+        assert_failed(&rt, &ran, failures);
+        assert!(rt; ran.output.is_empty());
     }
     for writes in 0..40u64 {
-        let ran = replayed(alloc, 23, writes)?;
-        assert_failed(&rt, &ran);
-        assert_eq!(rt; ran.printed.len() as u64, writes);
-        assert!(rt; PRINTED.starts_with(ran.printed.as_slice()));
+        let (ran, failures) = replayed(alloc, 23, writes)?;
+        assert_failed(&rt, &ran, failures);
+        assert_eq!(rt; ran.output.len() as u64, writes);
+        assert!(rt; PRINTED.starts_with(ran.output.as_slice()));
     }
-    let ran = replayed(alloc, 23, 40)?;
+    let (ran, failures) = replayed(alloc, 23, 40)?;
     assert_eq!(rt; ran.status, Status::Done.number());
-    assert_eq!(rt; ran.failures, 0);
-    assert!(rt; ran.printed.as_slice() == PRINTED.as_slice());
+    assert_eq!(rt; failures, 0);
+    assert!(rt; ran.output.as_slice() == PRINTED.as_slice());
     assert!(rt; ran.errors.is_empty());
     Ok(())
 }
 
-fn assert_failed(rt: &impl Abort, ran: &Ran) {
+fn assert_failed(rt: &impl Abort, ran: &Ran, failures: u64) {
     assert_eq!(rt; ran.status, Status::Broken.number());
-    assert_eq!(rt; ran.failures, 1);
+    assert_eq!(rt; failures, 1);
     assert!(rt; ran.errors.as_slice() == b"L8\n".as_slice());
 }
 
 /// Runs the program on the words where nothing can be printed.
-fn silenced(alloc: Global, words: &[&str]) -> Result<u8, Fail> {
-    let mut store = Shelf {
-        bytes: COUNTER.as_bytes(),
-    };
-    let mut input = Counted::new(LIST.as_slice());
+fn silenced(alloc: Global, words: &str) -> Result<u8, Fail> {
+    let mut input = Counted::new(LIST.as_bytes());
     let mut output = Counted::new(Full);
-    let mut errors = Full;
-    Ok(command(
-        alloc,
-        words,
-        &mut store,
-        &mut input,
-        &mut output,
-        &mut errors,
-    ))
+    run_on(alloc, &given(words), &mut input, &mut output, &mut Full)
 }
 
 #[test]
 fn fails_where_nothing_is_printed(rt: HostRuntime) -> Result<(), Fail> {
-    let rows: [&[&str]; 5] = [
-        &["ioac", "replay", "f"],
-        &["ioac", "replay", "g"],
-        &["ioac", "replay", "f", "--comp", "Nine"],
-        &["ioac", "--help"],
-        &["ioac"],
-    ];
-    for words in rows {
+    for words in ["replay f", "replay g", "replay f --comp Nine", "--help", ""] {
         assert_eq!(rt; silenced(rt.alloc(), words)?, Status::Broken.number());
     }
     Ok(())
