@@ -1,30 +1,34 @@
 ghost use Rattle.std.specs.Prelude.{◌≡◌, ◌≢◌, Bool, ◌∷◌, [], ◌++◌, ◌+◌, ◌<◌, ◌≤◌, ◌^◌, map, take, length, IfOk, OnOk};
 ghost use Rattle.ioa_value.specs.Plain.{plain, truth};
 ghost use Rattle.ioa_code.specs.Machine.{act, stuck};
+ghost use Rattle.ioa_node.specs.Drafts.{standing};
 ghost use Rattle.ioa_node.specs.Steps.{at, moved, Reads};
 
+use crate::draft::Draft;
 use ioa_code::{Instr, Verified};
 use ioa_value::{Fault, OutOfMemory, Value, apply_last};
 use std::alloc::Global;
 
-/// One instruction, which finds what it needs: the next place, or a fault.
+/// One instruction, which finds what it needs: the next place, or a fault. The variables are the slots, with the draft's
+/// new values in their places.
 pub(crate) fn write(
     alloc: Global,
     code: &Verified,
     instr: Instr,
     place: usize,
     stack: &mut Vec<Value>,
-    slots: &mut Vec<Value>,
+    slots: &[Value],
+    draft: &mut Draft,
     values: &[Value],
 ) -> Result<Result<usize, Fault>, OutOfMemory>
-    requires fine { act code.now.code instr (at place stack.old.items slots.old.items values.now) ≢ stuck }
+    requires fine { act code.now.code instr (at place stack.old.items (standing draft.old (map plain slots.now)) values.now) ≢ stuck }
     requires small { place + 1 < 2 ^ 64 }
-    ensures { IfOk result (λ r. moved r stack.new.items slots.new.items values.now ≡ act code.now.code instr (at place stack.old.items slots.old.items values.now)) }
+    ensures { IfOk result (λ r. moved r stack.new.items (standing draft.new (map plain slots.now)) values.now ≡ act code.now.code instr (at place stack.old.items (standing draft.old (map plain slots.now)) values.now)) }
 {
     match instr {
         Instr::Store(i) => {
             let value = pop(stack);
-            slots[i as usize] = value;
+            draft.write(i as usize, value)?;
             Ok(Ok(place + 1))
         }
         Instr::Const(_)
@@ -32,7 +36,7 @@ pub(crate) fn write(
         | Instr::Arg(_)
         | Instr::Jump(_)
         | Instr::JumpIfFalse(_)
-        | Instr::Apply(_) => read(alloc, code, instr, place, stack, slots, values),
+        | Instr::Apply(_) => read(alloc, code, instr, place, stack, slots, draft, values),
     }
 }
 
@@ -45,12 +49,13 @@ pub(crate) fn read(
     place: usize,
     stack: &mut Vec<Value>,
     slots: &[Value],
+    draft: &Draft,
     values: &[Value],
 ) -> Result<Result<usize, Fault>, OutOfMemory>
-    requires fine { act code.now.code instr (at place stack.old.items slots.now values.now) ≢ stuck }
+    requires fine { act code.now.code instr (at place stack.old.items (standing draft.now (map plain slots.now)) values.now) ≢ stuck }
     requires reads { Reads instr }
     requires small { place + 1 < 2 ^ 64 }
-    ensures { IfOk result (λ r. moved r stack.new.items slots.now values.now ≡ act code.now.code instr (at place stack.old.items slots.now values.now)) }
+    ensures { IfOk result (λ r. moved r stack.new.items (standing draft.now (map plain slots.now)) values.now ≡ act code.now.code instr (at place stack.old.items (standing draft.now (map plain slots.now)) values.now)) }
 {
     match instr {
         Instr::Const(k) => {
@@ -58,7 +63,7 @@ pub(crate) fn read(
             Ok(Ok(place + 1))
         }
         Instr::Slot(i) => {
-            push(alloc, stack, &slots[i as usize])?;
+            push(alloc, stack, draft.read(slots, i as usize))?;
             Ok(Ok(place + 1))
         }
         Instr::Arg(i) => {

@@ -1,6 +1,7 @@
 -- The participants that are found for an action, and their states.
 use Rattle.std.proofs.Common.{◌≡◌, ℕ, zero, suc, ◌+◌, ◌<◌, ◌≤◌, List, [], ◌∷◌, ◌++◌, length, get_or, drop, map, filter, All, append_assoc, Bool, true, false, None, Some, refl, sym, ◌∙◌, ap, subst, arith}
-use Rattle.std.specs.Prelude.{slice_get}
+use Rattle.std.specs.Prelude.{nat_eq, slice_get}
+use Rattle.std.specs.List.{IsDistinct}
 use Rattle.std.proofs.lemmas.List.{append-nil, drop_all, map-append}
 use Rattle.std.proofs.lemmas.List.Elements.{All-cons, All-append}
 use Rattle.std.proofs.lemmas.Option.{slice_get-get_or}
@@ -15,7 +16,7 @@ use Rattle.ioa_compile.specs.Shown.{entry_code}
 use Rattle.ioa_compile.specs.Tables.{entry_of, table_component}
 use Rattle.ioa_system.specs.declared.participation.Participant.{Participant}
 use Rattle.ioa_system.specs.Found.{member_of, component_of, components_of, numbers_of, HaveEntries, AreParticipants}
-use Rattle.ioa_system.proofs.Participating.{owns_none}
+use Rattle.ioa_system.proofs.Participating.{owns_none, participants_differ}
 
 abbrev pub tables : List MemberCode → List (Component (List Val))
 tables ms = map table_component ms
@@ -53,10 +54,10 @@ pub record Finds (a : Act) (ms : List MemberCode) (qs : List Participant) (i : �
   pub entries : HaveEntries a qs
   pub places : All (λ q. q.place ≡ q.component) qs
 
-no_item : {X : Type 0} (P : X → Type 0) → All P []
+pub no_item : {X : Type 0} (P : X → Type 0) → All P []
 no_item P = λ k d l. absurd (omega arith)
 
-one_item : {X : Type 0} (P : X → Type 0) (x : X) → P x → All P (x ∷ [])
+pub one_item : {X : Type 0} (P : X → Type 0) (x : X) → P x → All P (x ∷ [])
 one_item P x h = All-cons P x [] h (no_item P)
 
 pub finds_begin : (a : Act) (ms : List MemberCode) → Finds a ms [] 0
@@ -112,6 +113,9 @@ finds_end a ms qs i f l =
       members = f.members;
       entries = f.entries;
     }
+
+pub numbers_distinct : (a : Act) (ms : List MemberCode) (qs : List Participant) → AreParticipants a ms qs → IsDistinct nat_eq (numbers_of qs)
+numbers_distinct a ms qs p = subst (IsDistinct nat_eq) (sym p.numbers) (participants_differ a 0 (tables ms))
 
 -- ---- external actions
 

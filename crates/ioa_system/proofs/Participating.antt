@@ -1,7 +1,8 @@
 -- A step is its participants' step.
 use Rattle.std.proofs.Common.{◌≡◌, ℕ, zero, suc, ◌+◌, ◌<◌, List, [], ◌∷◌, ◌++◌, length, get_or, take, drop, map, filter, All, append_assoc, Bool, true, false, cond, Option, None, Some, Result, Ok, Err, refl, sym, ◌∙◌, ap, subst, arith, length-append}
-use Rattle.std.specs.Prelude.{slice_get, slice_index, slice_set}
-use Rattle.std.specs.List.{list_any}
+use Rattle.std.specs.Prelude.{nat_eq, slice_get, slice_index, slice_set}
+use Rattle.std.specs.List.{AllByRecursion, IsDistinct, list_any}
+use Rattle.std.proofs.lemmas.Bool.Decides.{nat_tests}
 use Rattle.std.proofs.Math.Seq.{set-append_seam}
 use Rattle.std.proofs.lemmas.List.{append-nil, drop_all, map-set, take_all}
 use Rattle.std.proofs.lemmas.List.Elements.{All-head, All-tail}
@@ -88,6 +89,26 @@ any_filtered a (p ∷ ps) = elim (takes a p 0 ps) [
   | participates h n f ↦ rw (f, h) refl
   | stays h n f ↦ rw (f, h) (any_filtered a ps)
 ]
+
+-- participants have numbers of their own, from i on
+apart_from : {S : Type 0} (a : Act) (n i : ℕ) (ps : List (Component S)) → n < i → AllByRecursion (λ m. nat_eq n m ≡ false) (participants_from i ps a)
+apart_from a n i [] l = tt
+apart_from a n i (p ∷ ps) l =
+    let more : AllByRecursion (λ m. nat_eq n m ≡ false) (participants_from (i + 1) ps a) = apart_from a n (i + 1) ps (omega arith) in
+    elim (takes a p i ps) [
+      | participates h e f ↦ subst (AllByRecursion (λ m. nat_eq n m ≡ false)) (sym e) (grind (arith, nat_tests), more)
+      | stays h e f ↦ subst (AllByRecursion (λ m. nat_eq n m ≡ false)) (sym e) more
+    ]
+
+pub participants_differ : {S : Type 0} (a : Act) (i : ℕ) (ps : List (Component S)) → IsDistinct nat_eq (participants_from i ps a)
+unfolding IsDistinct
+participants_differ a i [] = tt
+participants_differ a i (p ∷ ps) =
+    let more : IsDistinct nat_eq (participants_from (i + 1) ps a) = participants_differ a (i + 1) ps in
+    elim (takes a p i ps) [
+      | participates h e f ↦ subst (IsDistinct nat_eq) (sym e) (apart_from a i (i + 1) ps (omega arith), more)
+      | stays h e f ↦ subst (IsDistinct nat_eq) (sym e) more
+    ]
 
 -- the places of a list that come from i on in another
 abbrev Stands : {X : Type 0} → List X → ℕ → List X → Type 0

@@ -87,15 +87,8 @@ lent_all a ms ns qs p places t =
 
 -- the participants' numbers are the states' places
 pub within_all : (a : Act) (ms : List MemberCode) (ns : List Node) (qs : List Participant) → AreParticipants a ms qs → types_of ns ≡ slot_types ms
-    → All (λ n. n < length ns) (numbers_of qs)
-within_all a ms ns qs p t = go qs p.members
-  where
-    go : (rs : List Participant) → All (λ q. slice_get ms q.component ≡ Some (member_of q)) rs → All (λ n. n < length ns) (numbers_of rs)
-    go [] h = λ k d l. absurd (omega arith)
-    go (q ∷ rs) h =
-        All-cons (λ n. n < length ns) q.component (numbers_of rs)
-        (stands ms ns q.component (member_of q) t (All-head (λ p. slice_get ms p.component ≡ Some (member_of p)) q rs h)).within
-        (go rs (All-tail (λ p. slice_get ms p.component ≡ Some (member_of p)) q rs h))
+    → All (λ q. q.component < length ns) qs
+within_all a ms ns qs p t = λ k d l. let q : Participant = get_or qs k d in (stands ms ns q.component (member_of q) t (p.members k d l)).within
 
 -- ---- the participants' states alone at hand
 

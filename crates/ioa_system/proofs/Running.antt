@@ -1,6 +1,7 @@
 -- A running program's states.
-use Rattle.std.proofs.Common.{◌≡◌, ℕ, ◌+◌, ◌<◌, List, [], ◌∷◌, length, get_or, drop, map, set, All, refl, sym, ◌∙◌, ap, subst, arith}
+use Rattle.std.proofs.Common.{◌≡◌, ℕ, ◌<◌, List, [], ◌∷◌, length, map, All, refl, sym, ◌∙◌, ap, subst}
 use Rattle.std.proofs.lemmas.List.{length-map}
+use Rattle.std.proofs.lemmas.List.Elements.{All-head, All-tail, All-cons}
 use Rattle.ioa_value.specs.Actions.{Name, Act}
 use Rattle.ioa_value.specs.Plain.{Val}
 use Rattle.ioa_node.specs.Nodes.{Node}
@@ -9,16 +10,16 @@ use Rattle.ioa_syntax.specs.Steps.{Moved, next, step}
 use Rattle.ioa_compile.specs.Programs.{MemberCode, Prog}
 use Rattle.ioa_compile.specs.Tables.{tabled}
 use Rattle.ioa_system.specs.declared.participation.Participant.{Participant}
-use Rattle.ioa_system.specs.declared.answer.Moved.{Moved as Answer}
 use Rattle.ioa_system.specs.declared.answer.Step.{Step}
-use Rattle.ioa_system.specs.Answers.{AreOfTypes, KeepsUnlessNext, moved_of, step_of}
-use Rattle.ioa_system.specs.Found.{components_of, numbers_of, AreParticipants, lent, lent_types}
-use Rattle.ioa_system.specs.Participants.{taken, put_back, renumbered, all_back}
+use Rattle.ioa_system.specs.Answers.{KeepsUnlessNext, step_of}
+use Rattle.ioa_system.specs.Drafted.{AreDrafts, ArePlaces, drafted}
+use Rattle.ioa_system.specs.Found.{components_of, numbers_of, AreParticipants, lent}
+use Rattle.ioa_system.specs.Participants.{put_back, renumbered, all_back}
 use Rattle.ioa_system.specs.Systems.{Running, types_of, values_of, slot_types, slots_of}
 use Rattle.ioa_system.proofs.Participating.{put_back-taken, map_put_back, step_taken}
-use Rattle.ioa_system.proofs.Finding.{external_filtered, read_map}
-use Rattle.ioa_value.proofs.ItemLemmas.{drop_item}
-use Rattle.ioa_system.proofs.Readying.{lent_all, same_length, types_taken}
+use Rattle.ioa_system.proofs.Finding.{external_filtered, no_item, numbers_distinct}
+use Rattle.ioa_system.proofs.Readying.{lent_all, same_length, within_all}
+use Rattle.ioa_system.proofs.Drafting.{Draft, drafted_taken}
 
 start_map : {X : Type 0} (f : Node → X) (ms : List MemberCode) → map f (map (λ (m : MemberCode). m.start) ms) ≡ map (λ (m : MemberCode). f m.start) ms
 start_map f [] = refl
@@ -56,44 +57,30 @@ step_put p a ns qs m r e =
 pub values_put : (ns : List ℕ) (changed before after : List Node) → after ≡ put_back ns changed before → next (values_of after) ≡ all_back ns (values_of before) (next (values_of changed))
 values_put ns changed before after e = ap (λ (xs : List (List Val)). next xs) (ap values_of e ∙ map_put_back (λ (n : Node). n.values) ns changed before)
 
-pub types_put : (ns : List ℕ) (changed before after : List Node) → All (λ n. n < length before) ns → after ≡ put_back ns changed before
-    → types_of changed ≡ taken ns (types_of before) → types_of after ≡ types_of before
-types_put ns changed before after w e t =
-    let v : All (λ n. n < length (types_of before)) ns = subst (λ j. All (λ n. n < j) ns) (sym (length-map before slots_of)) w in
-    ap types_of e ∙ map_put_back slots_of ns changed before ∙ rw t (put_back-taken ns (types_of before) v)
+numbers_within : (qs : List Participant) (n : ℕ) → All (λ q. q.component < n) qs → All (λ m. m < n) (numbers_of qs)
+numbers_within [] n h = no_item (λ m. m < n)
+numbers_within (q ∷ qs) n h =
+    All-cons (λ m. m < n) q.component (numbers_of qs) (All-head (λ (p : Participant). p.component < n) q qs h) (numbers_within qs n (All-tail (λ (p : Participant). p.component < n) q qs h))
+
+-- the participants that are found among all components, and their states
+pub places_found : (p : Prog) (a : Act) (ns : List Node) (qs : List Participant) → Runs p a ns qs → ArePlaces qs ns
+places_found p a ns qs r = record {
+  within = within_all a p.members ns qs r.found r.types;
+  places = r.places;
+  distinct = numbers_distinct a p.members qs r.found;
+}
+
+pub types_put : (qs : List Participant) (ds : List Draft) (before after : List Node) → ArePlaces qs before → AreDrafts before qs ds
+    → after ≡ put_back (numbers_of qs) (drafted before qs ds) before → types_of after ≡ types_of before
+types_put qs ds before after p h e =
+    let v : All (λ n. n < length (types_of before)) (numbers_of qs) = subst (λ j. All (λ n. n < j) (numbers_of qs)) (sym (length-map before slots_of)) (numbers_within qs (length before) p.within) in
+    ap types_of e ∙ map_put_back slots_of (numbers_of qs) (drafted before qs ds) before ∙ rw (drafted_taken before qs ds p h.count) (put_back-taken (numbers_of qs) (types_of before) v)
 
 pub kept_values : (s : Step) (before after : List Node) → KeepsUnlessNext s before after → KeepsUnlessNext s (values_of before) (values_of after)
 kept_values Step.Next before after k = tt
 kept_values Step.NotAnAction before after k = ap values_of k
 kept_values Step.NotEnabled before after k = ap values_of k
 kept_values (Step.Fault c f) before after k = ap values_of k
-
--- the new states' types, among those of all components
-pub types_due : (p : Prog) (a : Act) (ns : List Node) (qs : List Participant) → Runs p a ns qs → lent_types qs ≡ taken (numbers_of qs) (types_of ns)
-types_due p a ns qs r =
-    let f : AreParticipants a p.members qs = r.found in
-    rw (r.types, f.numbers) (sym (types_taken a p.members qs f))
-
--- ---- new states, one by one
-
-pub number_within : (qs : List Participant) (k n : ℕ) (q : Participant) → All (λ m. m < n) (numbers_of qs) → k < length qs → q ≡ get_or qs k q → q.component < n
-number_within qs k n q w l e =
-    let b : k < length (numbers_of qs) = omega (arith, length-map qs (λ (p : Participant). p.component)) in
-    subst (λ m. m < n) (sym (read_map (λ (p : Participant). p.component) qs k q q e)) (w k q.component b)
-
-pub puts_next : (qs : List Participant) (k : ℕ) (q : Participant) (now items more : List Node) (new : Node) → k < length qs → q ≡ get_or qs k q → items ≡ new ∷ more
-    → put_back (numbers_of (drop (k + 1) qs)) more (set now q.component new) ≡ put_back (numbers_of (drop k qs)) items now
-puts_next qs k q now items more new l e i = let d : drop k qs ≡ q ∷ drop (k + 1) qs = drop_item qs k q l e in rw (d, i) refl
-
-put_none : (ns : List ℕ) (xs : List Node) → put_back ns [] xs ≡ xs
-put_none [] xs = refl
-put_none (n ∷ ns) xs = refl
-
-pub puts_none : (qs : List Participant) (k : ℕ) (q : Participant) (now items more : List Node) → k < length qs → q ≡ get_or qs k q → items ≡ [] → more ≡ []
-    → put_back (numbers_of (drop (k + 1) qs)) more now ≡ put_back (numbers_of (drop k qs)) items now
-puts_none qs k q now items more l e i m =
-    let d : drop k qs ≡ q ∷ drop (k + 1) qs = drop_item qs k q l e in
-    rw (d, i, m) (put_none (numbers_of (drop (k + 1) qs)) now)
 
 -- ---- a step of all components
 
@@ -104,15 +91,13 @@ pub record Settled (p : Prog) (a : Act) (before after : List Node) (s : Step) : 
   pub kept : KeepsUnlessNext s (values_of before) (values_of after)
   pub count : length after ≡ length before
 
-pub settled : (p : Prog) (a : Act) (before after : List Node) (qs : List Participant) (m : Answer) (s : Step) → Runs p a before qs
-    → moved_of m ≡ renumbered (numbers_of qs) (step (components_of qs) a (lent before qs)) → AreOfTypes (lent_types qs) m
-    → step_of s (values_of after) ≡ all_back (numbers_of qs) (values_of before) (moved_of m) → KeepsUnlessNext s before after
-    → (AreOfTypes (taken (numbers_of qs) (types_of before)) m → types_of after ≡ types_of before) → Settled p a before after s
-settled p a before after qs m s r e t b k f =
-    let types : types_of after ≡ types_of before = f (subst (λ ts. AreOfTypes ts m) (types_due p a before qs r) t) in
-    record {
-      answer = b ∙ step_put p a before qs (moved_of m) r e;
-      types = types ∙ r.types;
-      kept = kept_values s before after k;
-      count = sym (length-map after slots_of) ∙ ap length types ∙ length-map before slots_of;
-    }
+pub settled : (p : Prog) (a : Act) (before after : List Node) (qs : List Participant) (m : Moved (List Val)) (s : Step) → Runs p a before qs
+    → m ≡ renumbered (numbers_of qs) (step (components_of qs) a (lent before qs))
+    → step_of s (values_of after) ≡ all_back (numbers_of qs) (values_of before) m → KeepsUnlessNext s before after
+    → types_of after ≡ types_of before → Settled p a before after s
+settled p a before after qs m s r e b k types = record {
+  answer = b ∙ step_put p a before qs m r e;
+  types = types ∙ r.types;
+  kept = kept_values s before after k;
+  count = sym (length-map after slots_of) ∙ ap length types ∙ length-map before slots_of;
+}

@@ -1,26 +1,30 @@
 -- The step of participants, one by one.
-use Rattle.std.proofs.Common.{◌≡◌, ℕ, ◌+◌, ◌<◌, ◌≤◌, List, [], ◌∷◌, ◌++◌, length, get_or, drop, append_assoc, Bool, true, false, Some, Result, Ok, Err, IfOk, refl, sym, ◌∙◌, ap, subst, arith}
+use Rattle.std.proofs.Common.{◌≡◌, ℕ, ◌+◌, ◌<◌, ◌≤◌, List, [], ◌∷◌, ◌++◌, length, get_or, take, drop, set, All, Bool, true, false, Some, Result, Ok, Err, IfOk, refl, sym, ◌∙◌, ap, subst, arith}
 use Rattle.std.specs.Prelude.{slice_index}
 use Rattle.std.specs.List.{list_any}
-use Rattle.std.proofs.lemmas.List.{append-nil, drop_all, get_or_default, length-map, map-append}
+use Rattle.std.proofs.lemmas.List.{append-nil, drop_all, get_or_default, get_or-set_same, length-map, length-set, map-append}
+use Rattle.std.proofs.lemmas.List.Elements.{All-append}
 use Rattle.ioa_value.proofs.ItemLemmas.{drop_item}
 use Rattle.ioa_value.specs.declared.arithmetic.Fault.{Fault}
 use Rattle.ioa_value.specs.Actions.{Act}
 use Rattle.ioa_value.specs.Plain.{Val}
+use Rattle.ioa_node.specs.Drafts.{with_draft}
 use Rattle.ioa_node.specs.Nodes.{Node}
 use Rattle.ioa_syntax.specs.Components.{has, owns, is_local}
 use Rattle.ioa_syntax.specs.Steps.{Moved, next, fault, Asked, free, owned, asked, with_state, then_rest, effects, allowed, step}
 use Rattle.ioa_compile.specs.Shown.{entry_code}
 use Rattle.ioa_compile.specs.Tables.{AreEntries, entry_of}
-use Rattle.ioa_system.specs.declared.answer.Moved as Moved
+use Rattle.ioa_system.specs.declared.answer.Step.{Step}
 use Rattle.ioa_system.specs.declared.participation.Participant.{Participant}
 use Rattle.ioa_system.specs.declared.moves.Consent.{Consent}
-use Rattle.ioa_system.specs.Answers.{AreOfTypes, moved_of}
-use Rattle.ioa_system.specs.Found.{member_of, component_of, components_of, consented, numbers_of, state_of, lent, lent_types, IsLent, AreReady}
+use Rattle.ioa_system.specs.Answers.{step_of}
+use Rattle.ioa_system.specs.Drafted.{AreDrafts, IsTyped, drafted}
+use Rattle.ioa_system.specs.Found.{member_of, component_of, components_of, consented, numbers_of, state_of, lent, IsLent, AreReady}
 use Rattle.ioa_system.specs.Participants.{renumbered}
-use Rattle.ioa_system.specs.Systems.{types_of, values_of, Slots, slots_of}
+use Rattle.ioa_system.specs.Systems.{values_of}
 use Rattle.ioa_system.proofs.Participating.{asked_renumbered, put_before, put_before_more, put_before_none}
-use Rattle.ioa_system.proofs.Finding.{has_found, owns_found, read_map}
+use Rattle.ioa_system.proofs.Finding.{has_found, no_item, one_item, owns_found, read_map}
+use Rattle.ioa_system.proofs.Drafting.{Draft, drafted_more, drafted_later, drafted_whole}
 
 -- a participant at its turn
 pub record AtTurn (a : Act) (ns : List Node) (qs : List Participant) (k : ℕ) (q : Participant) : Type 0 where
@@ -69,51 +73,53 @@ asks_other a ns qs k q t h = let o : owns a (component_of q) ≡ false = t.owns 
 abbrev pub acts_from : Act → List Node → List Participant → ℕ → Moved (List Val)
 acts_from a ns qs k = effects k (components_of (drop k qs)) a (lent ns (drop k qs))
 
--- what stands where the participants before k have new states
-pub record ActsOn (a : Act) (ns : List Node) (qs : List Participant) (after : List Node) (k : ℕ) : Type 0 where
-  pub rest : put_before (values_of after) (acts_from a ns qs k) ≡ acts_from a ns qs 0
-  pub types : types_of after ++ lent_types (drop k qs) ≡ lent_types qs
+-- what stands where the participants before k have their drafts
+pub record ActsOn (a : Act) (ns : List Node) (qs : List Participant) (ds : List Draft) (k : ℕ) : Type 0 where
+  pub rest : put_before (values_of (drafted ns (take k qs) ds)) (acts_from a ns qs k) ≡ acts_from a ns qs 0
+  pub typed : All IsTyped (drafted ns (take k qs) ds)
 
-pub acts_begin : (a : Act) (ns : List Node) (qs : List Participant) → ActsOn a ns qs [] 0
-acts_begin a ns qs = record { rest = put_before_none (acts_from a ns qs 0); types = refl }
+pub acts_begin : (a : Act) (ns : List Node) (qs : List Participant) (ds : List Draft) → ActsOn a ns qs ds 0
+acts_begin a ns qs ds = record { rest = put_before_none (acts_from a ns qs 0); typed = no_item IsTyped }
 
 acts_here : (a : Act) (ns : List Node) (qs : List Participant) (k : ℕ) (q : Participant) → AtTurn a ns qs k q
     → acts_from a ns qs k ≡ then_rest k ((component_of q).effect a (state_of ns q).values) (acts_from a ns qs (k + 1))
 acts_here a ns qs k q t = let h : has a (component_of q) ≡ true = t.has in rw (t.rest, h) refl
 
-pub acts_next : (a : Act) (ns : List Node) (qs : List Participant) (after : List Node) (k : ℕ) (q : Participant) (new : Node) → ActsOn a ns qs after k → AtTurn a ns qs k q
-    → Ok new.values ≡ (component_of q).effect a (state_of ns q).values → slots_of new ≡ slots_of (state_of ns q) → ActsOn a ns qs (after ++ new ∷ []) (k + 1)
-acts_next a ns qs after k q new s t e ty =
+pub acts_next : (a : Act) (ns : List Node) (qs : List Participant) (ds : List Draft) (k : ℕ) (q : Participant) (d : Draft) → ActsOn a ns qs ds k → AtTurn a ns qs k q
+    → k < length qs → q ≡ get_or qs k q → k < length ds
+    → Ok (with_draft d (state_of ns q)).values ≡ (component_of q).effect a (state_of ns q).values → IsTyped (with_draft d (state_of ns q)) → ActsOn a ns qs (set ds k d) (k + 1)
+acts_next a ns qs ds k q d s t l g m e ty =
     let more : Moved (List Val) = acts_from a ns qs (k + 1) in
+    let after : List Node = drafted ns (take k qs) ds in
+    let new : Node = with_draft d (state_of ns q) in
     let r : acts_from a ns qs k ≡ with_state new.values more = acts_here a ns qs k q t ∙ ap (λ (y : Result (List Val) Fault). then_rest k y more) (sym e) in
     let v : values_of (after ++ new ∷ []) ≡ values_of after ++ new.values ∷ [] = map-append (λ (y : Node). y.values) after (new ∷ []) in
-    let u : types_of (after ++ new ∷ []) ≡ types_of after ++ slots_of new ∷ [] = map-append slots_of after (new ∷ []) in
-    let d : slots_of new ∷ lent_types (drop (k + 1) qs) ≡ lent_types (drop k qs) =
-    ap (λ (y : Slots). y ∷ lent_types (drop (k + 1) qs)) (ty ∙ t.lent.1) ∙ sym (ap lent_types t.rest) in
+    let long : length (set ds k d) ≡ length ds = length-set ds k d in
+    let n : drafted ns (take (k + 1) qs) (set ds k d) ≡ after ++ new ∷ [] =
+    drafted_more ns qs (set ds k d) k q d l g (omega arith) (sym (get_or-set_same ds k d d m)) ∙ ap (λ ts. ts ++ new ∷ []) (drafted_later ns qs ds k d) in
     record {
-      rest = rw v (sym (put_before_more (values_of after) new.values more) ∙ ap (put_before (values_of after)) (sym r) ∙ s.rest);
-      types = rw (u, append_assoc) (ap (λ ts. types_of after ++ ts) d ∙ s.types);
+      rest = rw (n, v) (sym (put_before_more (values_of after) new.values more) ∙ ap (put_before (values_of after)) (sym r) ∙ s.rest);
+      typed = subst (All IsTyped) (sym n) (All-append IsTyped after (new ∷ []) s.typed (one_item IsTyped new ty));
     }
 
-pub acts_fault : (a : Act) (ns : List Node) (qs : List Participant) (after : List Node) (k : ℕ) (q : Participant) (f : Fault) → ActsOn a ns qs after k → AtTurn a ns qs k q
+pub acts_fault : (a : Act) (ns : List Node) (qs : List Participant) (ds : List Draft) (k : ℕ) (q : Participant) (f : Fault) → ActsOn a ns qs ds k → AtTurn a ns qs k q
     → Err f ≡ (component_of q).effect a (state_of ns q).values → fault q.component f ≡ renumbered (numbers_of qs) (acts_from a ns qs 0)
-acts_fault a ns qs after k q f s t e =
+acts_fault a ns qs ds k q f s t e =
     let r : acts_from a ns qs k ≡ fault k f = acts_here a ns qs k q t ∙ ap (λ (y : Result (List Val) Fault). then_rest k y (acts_from a ns qs (k + 1))) (sym e) in
-    let p : fault k f ≡ acts_from a ns qs 0 = ap (put_before (values_of after)) (sym r) ∙ s.rest in
+    let p : fault k f ≡ acts_from a ns qs 0 = ap (put_before (values_of (drafted ns (take k qs) ds))) (sym r) ∙ s.rest in
     ap (λ j. fault j f) (sym t.number) ∙ ap (renumbered (numbers_of qs)) p
 
-pub acts_end : (a : Act) (ns : List Node) (qs : List Participant) (after : List Node) (k : ℕ) → ActsOn a ns qs after k → length qs ≤ k
-    → next (values_of after) ≡ renumbered (numbers_of qs) (acts_from a ns qs 0)
-acts_end a ns qs after k s l =
+pub acts_end : (a : Act) (ns : List Node) (qs : List Participant) (ds : List Draft) (k : ℕ) → ActsOn a ns qs ds k → length qs ≤ k
+    → next (values_of (drafted ns qs ds)) ≡ renumbered (numbers_of qs) (acts_from a ns qs 0)
+acts_end a ns qs ds k s l =
+    let after : List Node = drafted ns (take k qs) ds in
     let r : acts_from a ns qs k ≡ next [] = rw (drop_all k qs l) refl in
     let p : put_before (values_of after) (next []) ≡ acts_from a ns qs 0 = ap (put_before (values_of after)) (sym r) ∙ s.rest in
     let w : next (values_of after) ≡ acts_from a ns qs 0 = rw append-nil at p in
-    ap (renumbered (numbers_of qs)) w
+    ap (λ (ts : List Node). next (values_of ts)) (sym (drafted_whole ns qs ds k l)) ∙ ap (renumbered (numbers_of qs)) w
 
-pub types_end : (a : Act) (ns : List Node) (qs : List Participant) (after : List Node) (k : ℕ) → ActsOn a ns qs after k → length qs ≤ k → types_of after ≡ lent_types qs
-types_end a ns qs after k s l =
-    let d : lent_types (drop k qs) ≡ [] = rw (drop_all k qs l) refl in
-    sym (append-nil (types_of after)) ∙ ap (λ ts. types_of after ++ ts) (sym d) ∙ s.types
+pub drafts_end : (a : Act) (ns : List Node) (qs : List Participant) (ds : List Draft) (k : ℕ) → ActsOn a ns qs ds k → length qs ≤ k → length qs ≤ length ds → AreDrafts ns qs ds
+drafts_end a ns qs ds k s l c = record { count = c; typed = subst (All IsTyped) (drafted_whole ns qs ds k l) s.typed }
 
 -- ---- the step
 
@@ -154,9 +160,5 @@ pub answers : (a : Act) (ns : List Node) (qs : List Participant) (r : Consent) �
     → ((m : Moved (List Val)) → consented r (renumbered (numbers_of qs) m) ≡ renumbered (numbers_of qs) (allowed (asks_from a ns qs 0) m)) → Answers a ns qs r
 answers a ns qs r ready l h = h (acts_from a ns qs 0) ∙ step_is a ns qs ready l
 
-pub told : {E : Type 0} (r : Result Moved.Moved E) (x y : Moved (List Val)) → x ≡ y → IfOk r (λ m. moved_of m ≡ x) → IfOk r (λ m. moved_of m ≡ y)
-told (Ok m) x y e h = h ∙ e
-told (Err e) x y q h = tt
-
-pub types_told : {E : Type 0} (r : Result Moved.Moved E) (x y : List Slots) → x ≡ y → IfOk r (AreOfTypes x) → IfOk r (AreOfTypes y)
-types_told r x y e h = subst (λ ts. IfOk r (AreOfTypes ts)) e h
+pub told : {E : Type 0} (r : Result Step E) (ts : List (List Val)) (x y : Moved (List Val)) → x ≡ y → IfOk r (λ s. step_of s ts ≡ x) → IfOk r (λ s. step_of s ts ≡ y)
+told r ts x y e h = subst (λ z. IfOk r (λ s. step_of s ts ≡ z)) e h

@@ -36,6 +36,13 @@ KeepsUnlessNext Step.NotAnAction before after = after ≡ before
 KeepsUnlessNext Step.NotEnabled before after = after ≡ before
 KeepsUnlessNext (Step.Fault c f) before after = after ≡ before
 
+-- what holds where the answer is Next
+abbrev pub IfNext : Step → Type 0 → Type 0
+IfNext Step.Next holds = holds
+IfNext Step.NotAnAction holds = Unit {0}
+IfNext Step.NotEnabled holds = Unit {0}
+IfNext (Step.Fault c f) holds = Unit {0}
+
 abbrev pub ending_of : End → Ending
 ending_of (End.Done n) = done n
 ending_of (End.NotAnAction i) = not_an_action_at i

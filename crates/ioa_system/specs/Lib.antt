@@ -3,6 +3,7 @@ pub mod Participants
 pub mod Answers
 pub mod Endings
 pub mod Found
+pub mod Drafted
 pub mod Progress
 pub mod Records
 pub mod Sources

@@ -1,20 +1,22 @@
-ghost use Rattle.std.specs.Prelude.{◌≡◌, List, IfOk, map, Some};
+ghost use Rattle.std.specs.Prelude.{◌≡◌, ◌≤◌, All, List, IfOk, OnOk, length, map, Some};
 ghost use Rattle.ioa_value.specs.Plain.{Val};
 ghost use Rattle.ioa_value.specs.Actions.{act_of};
-ghost use Rattle.ioa_node.specs.Runs.{changed};
+ghost use Rattle.ioa_node.specs.Drafts.{standing, with_draft};
+ghost use Rattle.ioa_node.specs.Runs.{left_by};
 ghost use Rattle.ioa_syntax.specs.Steps as steps;
 ghost use Rattle.ioa_compile.specs.Shown.{entry_code, member_code};
 ghost use Rattle.ioa_compile.specs.Tables as tables;
 ghost use Rattle.ioa_compile.specs.Tables.{AreEntries, table_component, tabled};
-ghost use Rattle.ioa_system.specs.Answers.{AreOfTypes, moved_of};
-ghost use Rattle.ioa_system.specs.Found.{AreReady, components_of, consented, lent, lent_types, numbers_of, placed};
+ghost use Rattle.ioa_system.specs.Answers.{AreOfTypes, IfNext, moved_of, step_of};
+ghost use Rattle.ioa_system.specs.Found.{AreReady, IsLent, components_of, consented, lent, lent_types, numbers_of, placed};
+ghost use Rattle.ioa_system.specs.Drafted.{AreDrafts, IsTyped, drafted};
 ghost use Rattle.ioa_system.specs.Participants as spec;
 ghost use Rattle.ioa_system.specs.Systems.{slot_types, slots_of, types_of, values_of};
 
-use crate::answer::Moved;
+use crate::answer::{Moved, Step};
 use crate::participation::{Participant, find, is_local};
 use ioa_compile::{Entry, Member, Program};
-use ioa_node::{NodeState, effect_with, enabled_with};
+use ioa_node::{Draft, NodeState, draft_effect, enabled_with};
 use ioa_value::{Action, Fault, OutOfMemory, Value};
 use std::alloc::Global;
 
@@ -45,7 +47,17 @@ pub fn step_from(
     let mut participants = Vec::new(alloc);
     find(program.members(), action, &mut participants)?;
     place_in_order(&mut participants);
-    moved(alloc, &mut Vec::new(alloc), &participants, action, states)
+    let participants = participants.as_slice();
+    let mut drafts = Vec::new(alloc);
+    let step = moved(
+        alloc,
+        &mut Vec::new(alloc),
+        &mut drafts,
+        participants,
+        action,
+        states,
+    )?;
+    answer(alloc, participants, states, &mut drafts, step)
 }
 
 /// Says of the participants' states that they alone are at hand, in order.
@@ -57,26 +69,82 @@ fn place_in_order(participants: &mut [Participant<'_>])
     }
 }
 
-/// What the participants' step answers from the states at hand. The stack is room for the machine, used again.
+/// The step's answer with the states that it makes of the participants'.
+fn answer(
+    alloc: Global,
+    participants: &[Participant<'_>],
+    states: &[NodeState],
+    drafts: &mut [Draft],
+    step: Step,
+) -> Result<Moved, OutOfMemory>
+    requires states { All (IsLent states.now) participants.now }
+    requires drafts { IfNext step (AreDrafts states.now participants.now drafts.old) }
+    ensures value { IfOk result (λ m. moved_of m ≡ step_of step (values_of (drafted states.now participants.now drafts.old))) }
+    ensures types { IfOk result (AreOfTypes (lent_types participants.now)) }
+{
+    match step {
+        Step::Next => Ok(Moved::Next(changed(alloc, participants, states, drafts)?)),
+        Step::NotAnAction => Ok(Moved::NotAnAction),
+        Step::NotEnabled => Ok(Moved::NotEnabled),
+        Step::Fault(component, fault) => Ok(Moved::Fault(component, fault)),
+    }
+}
+
+/// Equals of the participants' states, with the new values of their drafts.
+fn changed(
+    alloc: Global,
+    participants: &[Participant<'_>],
+    states: &[NodeState],
+    drafts: &mut [Draft],
+) -> Result<Vec<NodeState>, OutOfMemory>
+    requires states { All (IsLent states.now) participants.now }
+    requires drafts { AreDrafts states.now participants.now drafts.old }
+    ensures { IfOk result (λ after. after.items ≡ drafted states.now participants.now drafts.old) }
+{
+    let mut after = Vec::new(alloc);
+    for i in 0..participants.len() {
+        let participant = &participants[i];
+        let mut state = states[participant.place].try_copy(alloc)?;
+        state.change(&mut drafts[i]);
+        after.push(state)?;
+    }
+    Ok(after)
+}
+
+/// What the participants' step answers from the states at hand. Where it answers `Next`, the drafts hold the new values of
+/// the participants' variables, in order; the states stay as they are. The stack is room for the machine, used again as
+/// the drafts are.
 pub(crate) fn moved(
     alloc: Global,
     stack: &mut Vec<Value>,
+    drafts: &mut Vec<Draft>,
     participants: &[Participant<'_>],
     action: &Action,
     states: &[NodeState],
-) -> Result<Moved, OutOfMemory>
+) -> Result<Step, OutOfMemory>
     requires { AreReady (act_of action.now) states.now participants.now }
-    ensures value { IfOk result (λ m. moved_of m ≡ spec.renumbered (numbers_of participants.now) (steps.step (components_of participants.now) (act_of action.now) (lent states.now participants.now))) }
-    ensures types { IfOk result (AreOfTypes (lent_types participants.now)) }
+    ensures value { IfOk result (λ s. step_of s (values_of (drafted states.now participants.now drafts.new.items)) ≡ spec.renumbered (numbers_of participants.now) (steps.step (components_of participants.now) (act_of action.now) (lent states.now participants.now))) }
+    ensures drafts { IfOk result (λ s. IfNext s (AreDrafts states.now participants.now drafts.new.items)) }
 {
     if participants.is_empty() {
-        return Ok(Moved::NotAnAction);
+        return Ok(Step::NotAnAction);
     }
+    make_room(alloc, drafts, participants.len())?;
     match asked(alloc, stack, participants, action, states)? {
-        Consent::Given => effects(alloc, stack, participants, action, states),
-        Consent::Denied => Ok(Moved::NotEnabled),
-        Consent::Faulted(component, fault) => Ok(Moved::Fault(component, fault)),
+        Consent::Given => effects(alloc, stack, drafts, participants, action, states),
+        Consent::Denied => Ok(Step::NotEnabled),
+        Consent::Faulted(component, fault) => Ok(Step::Fault(component, fault)),
     }
+}
+
+/// Sees to it that there are so many drafts, or more.
+fn make_room(alloc: Global, drafts: &mut Vec<Draft>, count: usize) -> Result<(), OutOfMemory>
+    ensures { OnOk result (count ≤ length drafts.new.items) }
+{
+    while drafts.len() < count {
+        drafts.push(Draft::new(alloc))?;
+    }
+    Ok(())
 }
 
 /// Whether the owner lets the action be performed.
@@ -119,34 +187,37 @@ fn consent_by(owner: usize, answer: Result<bool, Fault>) -> Consent
     }
 }
 
-/// The participants' effects in order, each on its own state, up to the first fault.
+/// The participants' effects in order, each on a draft of its own over its own state, up to the first fault.
 fn effects(
     alloc: Global,
     stack: &mut Vec<Value>,
+    drafts: &mut [Draft],
     participants: &[Participant<'_>],
     action: &Action,
     states: &[NodeState],
-) -> Result<Moved, OutOfMemory>
-    requires { AreReady (act_of action.now) states.now participants.now }
-    ensures value { IfOk result (λ m. moved_of m ≡ spec.renumbered (numbers_of participants.now) (steps.effects 0 (components_of participants.now) (act_of action.now) (lent states.now participants.now))) }
-    ensures types { IfOk result (AreOfTypes (lent_types participants.now)) }
+) -> Result<Step, OutOfMemory>
+    requires ready { AreReady (act_of action.now) states.now participants.now }
+    requires room { length participants.now ≤ length drafts.old }
+    ensures value { IfOk result (λ s. step_of s (values_of (drafted states.now participants.now drafts.new)) ≡ spec.renumbered (numbers_of participants.now) (steps.effects 0 (components_of participants.now) (act_of action.now) (lent states.now participants.now))) }
+    ensures drafts { IfOk result (λ s. IfNext s (AreDrafts states.now participants.now drafts.new)) }
 {
-    let mut next = Vec::new(alloc);
-    for participant in participants {
+    for i in 0..participants.len() {
+        let participant = &participants[i];
         let state = &states[participant.place];
         match effect_on(
             alloc,
             stack,
+            &mut drafts[i],
             participant.member,
             participant.entry,
             action,
             state,
         )? {
-            Ok(after) => next.push(after)?,
-            Err(fault) => return Ok(Moved::Fault(participant.component, fault)),
+            Ok(()) => {}
+            Err(fault) => return Ok(Step::Fault(participant.component, fault)),
         }
     }
-    Ok(Moved::Next(next))
+    Ok(Step::Next)
 }
 
 /// What the component's precondition answers in this state. An entry without one allows its action.
@@ -169,20 +240,21 @@ fn guard(
     }
 }
 
-/// The component's state after its effect on this one, or the effect's fault.
+/// The new values that the component's effect gives to this state's variables, in the draft, or the effect's fault.
 fn effect_on(
     alloc: Global,
     stack: &mut Vec<Value>,
+    draft: &mut Draft,
     member: &Member,
     entry: &Entry,
     action: &Action,
     state: &NodeState,
-) -> Result<Result<NodeState, Fault>, OutOfMemory>
+) -> Result<Result<(), Fault>, OutOfMemory>
     requires sound { AreEntries (member_code member.now) (member_code member.now).entries }
     requires found { tables.entry_of (member_code member.now) (act_of action.now) ≡ Some (entry_code entry.now) }
     requires slots { slots_of state.now ≡ slots_of (member_code member.now).start }
-    ensures value { IfOk result (λ r. changed r ≡ (table_component (member_code member.now)).effect (act_of action.now) state.now.values) }
-    ensures types { IfOk result (λ r. IfOk r (λ after. slots_of after ≡ slots_of state.now)) }
+    ensures value { IfOk result (λ r. left_by r (standing draft.new state.now.values) ≡ (table_component (member_code member.now)).effect (act_of action.now) state.now.values) }
+    ensures types { IfOk result (λ r. IfOk r (λ _. IsTyped (with_draft draft.new state.now))) }
 {
-    effect_with(alloc, stack, &entry.effect, state, &action.vals)
+    draft_effect(alloc, stack, draft, &entry.effect, state, &action.vals)
 }

@@ -1,19 +1,20 @@
-ghost use Rattle.std.specs.Prelude.{◌≡◌, ◌<◌, All, IfOk, OnErr, length, map};
+ghost use Rattle.std.specs.Prelude.{◌≡◌, IfOk, OnErr, map};
 ghost use Rattle.ioa_value.specs.Actions.{act_of};
 ghost use Rattle.ioa_syntax.specs.Runs as runs;
 ghost use Rattle.ioa_syntax.specs.Steps as steps;
 ghost use Rattle.ioa_compile.specs.Shown.{member_code};
 ghost use Rattle.ioa_compile.specs.Tables.{start_states, tabled};
-ghost use Rattle.ioa_system.specs.Answers.{AreOfTypes, KeepsUnlessNext, moved_of, step_of};
+ghost use Rattle.ioa_system.specs.Answers.{IfNext, KeepsUnlessNext, step_of};
+ghost use Rattle.ioa_system.specs.Drafted.{AreDrafts, ArePlaces, drafted};
 ghost use Rattle.ioa_system.specs.Found.{numbers_of};
-ghost use Rattle.ioa_system.specs.Participants.{all_back, put_back, taken};
+ghost use Rattle.ioa_system.specs.Participants.{all_back, put_back};
 ghost use Rattle.ioa_system.specs.Systems.{slot_types, types_of, values_of};
 
-use crate::answer::{Moved, Step};
+use crate::answer::Step;
 use crate::moves::moved;
 use crate::participation::{Participant, find, shows};
 use ioa_compile::{Member, Program};
-use ioa_node::NodeState;
+use ioa_node::{Draft, NodeState};
 use ioa_value::{Action, OutOfMemory, Value};
 use std::alloc::Global;
 use std::marker::Model;
@@ -35,6 +36,8 @@ pub struct System<'a> {
     participants: Vec<Participant<'a>>,
     /// Room for the machine's stack, kept from step to step.
     stack: Vec<Value>,
+    /// Room for the participants' new values, kept from step to step.
+    drafts: Vec<Draft>,
 }
 
 impl<'a> Model for System<'a> {
@@ -62,6 +65,7 @@ impl<'a> System<'a> {
             states,
             participants: Vec::new(alloc),
             stack: Vec::new(alloc),
+            drafts: Vec::new(alloc),
         })
     }
 
@@ -87,14 +91,15 @@ impl<'a> System<'a> {
         let program = self.program;
         find(program.members(), action, &mut self.participants)?;
         let external = shows(program.hidden(), &self.participants, action);
-        let moved = moved(
+        let step = moved(
             self.alloc,
             &mut self.stack,
+            &mut self.drafts,
             &self.participants,
             action,
             &self.states,
         )?;
-        let step = settle(&self.participants, &mut self.states, moved);
+        settle(&self.participants, &mut self.states, &mut self.drafts, step);
         Ok(Performed { step, external })
     }
 
@@ -133,33 +138,33 @@ fn start_of(alloc: Global, members: &[Member]) -> Result<Vec<NodeState>, OutOfMe
     Ok(states)
 }
 
-/// What the participants' answer makes of the components' states.
-fn settle(participants: &[Participant<'_>], states: &mut [NodeState], moved: Moved) -> Step
-    requires { All (λ n. n < length states.old) (numbers_of participants.now) }
-    ensures step { step_of result (values_of states.new) ≡ all_back (numbers_of participants.now) (values_of states.old) (moved_of moved) }
-    ensures kept { KeepsUnlessNext result states.old states.new }
-    ensures types { AreOfTypes (taken (numbers_of participants.now) (types_of states.old)) moved → types_of states.new ≡ types_of states.old }
+/// Puts the participants' new values in place where the step is performed. Otherwise the states stay as they are.
+fn settle(
+    participants: &[Participant<'_>],
+    states: &mut [NodeState],
+    drafts: &mut [Draft],
+    step: Step,
+)
+    requires places { ArePlaces participants.now states.old }
+    requires drafts { IfNext step (AreDrafts states.old participants.now drafts.old) }
+    ensures step { step_of step (values_of states.new) ≡ all_back (numbers_of participants.now) (values_of states.old) (step_of step (values_of (drafted states.old participants.now drafts.old))) }
+    ensures kept { KeepsUnlessNext step states.old states.new }
+    ensures types { types_of states.new ≡ types_of states.old }
 {
-    match moved {
-        Moved::Next(changed) => {
-            install(participants, states, changed);
-            Step::Next
-        }
-        Moved::NotAnAction => Step::NotAnAction,
-        Moved::NotEnabled => Step::NotEnabled,
-        Moved::Fault(component, fault) => Step::Fault(component, fault),
+    match step {
+        Step::Next => install(participants, states, drafts),
+        Step::NotAnAction | Step::NotEnabled | Step::Fault(_, _) => {}
     }
 }
 
-/// Puts the participants' new states in their components' places.
-fn install(participants: &[Participant<'_>], states: &mut [NodeState], changed: Vec<NodeState>)
-    requires { All (λ n. n < length states.old) (numbers_of participants.now) }
-    ensures { states.new ≡ put_back (numbers_of participants.now) changed.items states.old }
+/// Moves the participants' new values to their components' states.
+fn install(participants: &[Participant<'_>], states: &mut [NodeState], drafts: &mut [Draft])
+    requires places { ArePlaces participants.now states.old }
+    requires drafts { AreDrafts states.old participants.now drafts.old }
+    ensures { states.new ≡ put_back (numbers_of participants.now) (drafted states.old participants.now drafts.old) states.old }
 {
-    let mut rest = changed.into_iter();
-    for participant in participants {
-        if let Some(state) = rest.next() {
-            states[participant.component] = state;
-        }
+    for i in 0..participants.len() {
+        let participant = &participants[i];
+        states[participant.component].change(&mut drafts[i]);
     }
 }

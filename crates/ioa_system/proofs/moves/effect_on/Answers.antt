@@ -13,18 +13,18 @@ acted c =
     acts (member_code c.args.member.now) (act_of c.args.action.now) (entry_code c.args.entry.now) (slots_of c.args.state.now)
     c.requires.sound c.requires.found c.requires.slots
 
-pub effect_with-requires-clause-types : goal.effect_with-requires-clause-types
-effect_with-requires-clause-types c = (acted c).types
+pub draft_effect-requires-clause-types : goal.draft_effect-requires-clause-types
+draft_effect-requires-clause-types c = (acted c).types
 
-pub effect_with-requires-clause-kind : goal.effect_with-requires-clause-kind
-effect_with-requires-clause-kind c = (acted c).kind
+pub draft_effect-requires-clause-kind : goal.draft_effect-requires-clause-kind
+draft_effect-requires-clause-kind c = (acted c).kind
 
-pub effect_with-requires-clause-result : goal.effect_with-requires-clause-result
-effect_with-requires-clause-result c = (acted c).result
+pub draft_effect-requires-clause-result : goal.draft_effect-requires-clause-result
+draft_effect-requires-clause-result c = (acted c).result
 
-pub effect_with-requires-clause-slots : goal.effect_with-requires-clause-slots
-effect_with-requires-clause-slots c = (acted c).slots_are
+pub draft_effect-requires-clause-slots : goal.draft_effect-requires-clause-slots
+draft_effect-requires-clause-slots c = (acted c).slots_are
 
-pub effect_with-requires-clause-arguments : goal.effect_with-requires-clause-arguments
-effect_with-requires-clause-arguments c =
+pub draft_effect-requires-clause-arguments : goal.draft_effect-requires-clause-arguments
+draft_effect-requires-clause-arguments c =
     subst (λ (vs : List Value). HaveTypes c.args.entry.now.effect.code.types (map plain vs) c.args.entry.now.effect.args) (sym c.deref.ensures.value) (acted c).arguments
