@@ -178,24 +178,24 @@ abbrev pub AfterArms : Language
 AfterArms left = AfterStatements left × (sees terminals.Elseif left ≡ false)
 
 ends_semicolon : (z : List Tok) → Ends 0 (terminal terminals.Semicolon ∷ z)
-unfolding terminal_at operator_of same_terminal
-ends_semicolon z = tt
+unfolding terminal_at operator_of sees same_terminal
+ends_semicolon z = (tt, refl, refl)
 
 ends_then : (z : List Tok) → Ends 0 (terminal terminals.Then ∷ z)
-unfolding terminal_at operator_of same_terminal
-ends_then z = tt
+unfolding terminal_at operator_of sees same_terminal
+ends_then z = (tt, refl, refl)
 
 at_elseif : (z : List Tok) → AfterStatements (terminal terminals.Elseif ∷ z)
 unfolding sees same_terminal terminal_at operator_of sees_statement sees_name
-at_elseif z = record { ends = tt; semicolon = refl; begins = refl }
+at_elseif z = record { ends = (tt, refl, refl); semicolon = refl; begins = refl }
 
 at_else : (z : List Tok) → AfterArms (terminal terminals.Else ∷ z)
 unfolding sees same_terminal terminal_at operator_of sees_statement sees_name
-at_else z = (record { ends = tt; semicolon = refl; begins = refl }, refl)
+at_else z = (record { ends = (tt, refl, refl); semicolon = refl; begins = refl }, refl)
 
 at_fi : (z : List Tok) → AfterArms (terminal terminals.Fi ∷ z)
 unfolding sees same_terminal terminal_at operator_of sees_statement sees_name
-at_fi z = (record { ends = tt; semicolon = refl; begins = refl }, refl)
+at_fi z = (record { ends = (tt, refl, refl); semicolon = refl; begins = refl }, refl)
 
 fi_is_no_else : (z : List Tok) → sees terminals.Else (terminal terminals.Fi ∷ z) ≡ false
 unfolding sees same_terminal

@@ -1,15 +1,17 @@
--- One operator more.
-use Rattle.std.proofs.Common.{◌≡◌, ℕ, suc, ◌+◌, ◌-◌, ◌<◌, ◌≤◌, List, refl, ap, ◌∙◌, arith, Some, Ok, Err, true, nat_le}
+-- One operator more, or one field.
+use Rattle.std.proofs.Common.{◌≡◌, ℕ, suc, ◌+◌, ◌-◌, ◌<◌, ◌≤◌, List, refl, ap, sym, ◌∙◌, arith, Some, Ok, Err, true, nat_le}
 use Rattle.std.proofs.lemmas.Bool.Decides.{nat_tests}
 use Rattle.ioa_lex.specs.Tokens.{Tok}
 use Rattle.ioa_syntax.specs.declared.tree.Infix.{Infix}
-use Rattle.ioa_syntax.specs.Tree.{Expr, binary}
+use Rattle.ioa_value.specs.declared.terminal.Terminal.TheVariants as terminals
+use Rattle.ioa_value.specs.Actions.{Name}
+use Rattle.ioa_syntax.specs.Tree.{Expr, binary, select}
 use Rattle.ioa_syntax.specs.Depth.{depth_of}
 use Rattle.ioa_syntax.specs.Operators.{right_of, after_of}
 use Rattle.ioa_syntax.specs.declared.fault.Fault.{Fault}
 use Rattle.ioa_syntax.specs.declared.fault.ReadError.{ReadError}
 use Rattle.ioa_syntax.specs.declared.fault.ReadError.TheVariants as errors
-use Rattle.ioa_syntax.specs.Reading.{climb, expr, first, operator_at, rest, Reader, Fails, ◌>>=◌}
+use Rattle.ioa_syntax.specs.Reading.{climb, expr, first, operator_at, rest, sees, after, a_name, fields_from, Reader, Fails, ◌>>=◌}
 
 pub le_holds : (a b : ℕ) → a ≤ b → nat_le a b ≡ true
 le_holds a b h = grind (arith, nat_tests)
@@ -43,9 +45,22 @@ climb_fails depth counter least below r o left ts after (errors.Fault f) early a
     let turn : depth - counter ≡ suc (depth - (counter + 1)) = omega arith in
     ap (λ n. climb depth (expr depth) n least below left ts) turn ∙ climb_errs depth (expr depth) (depth - (counter + 1)) least below o left ts f at fits (rw (skipped, ris) at failed)
 
-pub expr_starts : (depth least below : ℕ) (ts left_over : List Tok) (e : Expr) → 0 < depth → first least (expr (depth - 1)) ts ≡ Ok ((e, below), left_over) →
+pub expr_starts : (depth least below : ℕ) (ts left_over : List Tok) (e : Expr) → 0 < depth → first (depth - 1) least (expr (depth - 1)) ts ≡ Ok ((e, below), left_over) →
     expr depth least ts ≡ climb (depth - 1) (expr (depth - 1)) (depth - 1) least below e left_over
 unfolding expr
 expr_starts depth least below ts left_over e some read =
     let turn : depth ≡ suc (depth - 1) = omega arith in
     ap (λ n. expr n least ts) turn ∙ ap (λ o. o >>= λ p. climb (depth - 1) (expr (depth - 1)) (depth - 1) least p.0.1 p.0.0 p.1) read
+
+fields_takes : (depth n : ℕ) (e : Expr) (name : Name) (ts left : List Tok) → sees terminals.Dot ts ≡ true → depth_of e ≤ depth → a_name (after terminals.Dot ts) ≡ Ok (name, left) →
+    fields_from depth (suc n) e ts ≡ fields_from depth n (select e name) left
+unfolding fields_from
+fields_takes depth n e name ts left seen fits read = let small = le_holds _ _ fits in rw (seen, small, read) refl
+
+pub fields_turn : (depth counter : ℕ) (e e' : Expr) (name : Name) (ts next left : List Tok) →
+    counter < depth → sees terminals.Dot ts ≡ true → next ≡ after terminals.Dot ts → depth_of e ≤ depth → a_name next ≡ Ok (name, left) → e' ≡ select e name →
+    fields_from depth (depth - (counter + 1)) e' left ≡ fields_from depth (depth - counter) e ts
+fields_turn depth counter e e' name ts next left early seen skipped fits read is =
+    let turn : depth - counter ≡ suc (depth - (counter + 1)) = omega arith in
+    ap (λ e. fields_from depth (depth - (counter + 1)) e left) is
+    ∙ sym (ap (λ n. fields_from depth n e ts) turn ∙ fields_takes depth (depth - (counter + 1)) e name ts left seen fits (ap a_name (sym skipped) ∙ read))

@@ -4,13 +4,15 @@ use Rattle.ioa_lex.specs.Tokens.{Tok}
 use Rattle.ioa_syntax.specs.declared.fault.Fault.TheVariants.{Syntax, TooDeep}
 use Rattle.ioa_syntax.specs.Tree.{Expr}
 use Rattle.ioa_syntax.specs.Depth.{depth_of}
+use Rattle.ioa_syntax.specs.Operators.{tightest}
 use Rattle.ioa_syntax.specs.Grammar.{SameHead, SpellsExpr}
 use Rattle.ioa_syntax.specs.Reading.{expr, operand, expression}
 use Rattle.ioa_syntax.proofs.Outcomes.{AtMost, Alike, refused_at}
-use Rattle.ioa_syntax.proofs.Exact.{ExactFor, Exact, Below, any}
+use Rattle.ioa_syntax.proofs.Exact.{ExactFor, Exact, Below}
 use Rattle.ioa_syntax.proofs.Endings.{Ends}
-use Rattle.ioa_syntax.proofs.Operands.{Opens, operand_exact}
-use Rattle.ioa_syntax.proofs.Complete.{depth_positive, complete_more}
+use Rattle.ioa_syntax.proofs.Spelled.{depth_positive}
+use Rattle.ioa_syntax.proofs.Operands.{operand_exact}
+use Rattle.ioa_syntax.proofs.Complete.{complete_more}
 use Rattle.ioa_syntax.proofs.Sound.{Reads, sound_more}
 use Rattle.ioa_syntax.proofs.Local.{shrinks_more, no_expr, alike_more, long_more}
 
@@ -19,7 +21,7 @@ abbrev Expressions : ℕ → Type 0
 Expressions n = (k : ℕ) → ExactFor {I = Below n} (λ b. b.0) (SpellsExpr k) depth_of (Ends k) (λ b. expr b.0 k)
 
 module _ (n : ℕ) (inner : Expressions n) where
-  operands : ExactFor {I = Below n} (λ b. suc b.0) Opens depth_of any (λ b. operand (expr b.0 0))
+  operands : ExactFor {I = Below n} (λ b. suc b.0) (SpellsExpr tightest) depth_of (Ends tightest) (λ b. operand b.0 (expr b.0 0))
   operands = operand_exact (inner 0)
 
   abbrev at : (b : ℕ) → suc b < suc n → Below n
@@ -28,7 +30,7 @@ module _ (n : ℕ) (inner : Expressions n) where
   complete : (b : ℕ) → b < suc n → (k : ℕ) (t : Expr) (ts left : List Tok) → SpellsExpr k t ts → depth_of t ≤ b → Ends k left → expr b k (ts ++ left) ≡ Ok (t, left)
   complete zero less k t ts left s d f = absurd (omega (arith, depth_positive t))
   complete (suc b) less k t ts left s d f =
-      complete_more b (λ t k a s d left f. (inner k).complete (at b less) t a left s d f) (λ t a left s d. operands.complete (at b less) t a left s d tt) t k ts s d left f
+      complete_more b (λ t k a s d left f. (inner k).complete (at b less) t a left s d f) (λ t a left s d f. operands.complete (at b less) t a left s d f) t k ts s d left f
 
   sound : (b : ℕ) → b < suc n → (k : ℕ) (ts : List Tok) (t : Expr) (left : List Tok) → expr b k ts ≡ Ok (t, left) → Reads b k ts t left
   unfolding expr

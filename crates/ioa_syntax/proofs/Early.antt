@@ -3,19 +3,21 @@ use Rattle.std.proofs.Common.{◌≡◌, inl, inr, ℕ, ◌+◌, Bool, true, fal
 use Rattle.std.specs.Prelude.{slice_get}
 use Rattle.std.specs.List.{list_any, list_all}
 use Rattle.std.specs.Option.{option_map, option_map_or, option_or}
+use Rattle.std.proofs.lemmas.Option.{option_and_then_some}
 use Rattle.std.specs.Str.{bytes_eq}
 use Rattle.std.proofs.lemmas.Bool.{and_parts, and_from, or_cases, or_left, or_right, eq-eqb}
 use Rattle.std.proofs.lemmas.List.{map-append}
 use Rattle.ioa_value.specs.Actions.{Name}
+use Rattle.ioa_value.specs.declared.operator.Op.TheVariants.{Make}
 use Rattle.ioa_value.specs.Operators.{op_type}
 use Rattle.ioa_value.specs.Table.{Table, Declaration, Shape, names_in, shape_at, item_of, item_type, place_from, type_named, constant_from, constant_named}
 use Rattle.ioa_value.proofs.ItemLemmas.{get_append}
-use Rattle.ioa_syntax.specs.Tree.{Expr, number, truth, named, parens, prefix, binary, empty, FieldTree, EntryTree, VariableTree, ProposalTree, Stmt, assign, choose, Stmts, stop, seq, Arms, no_arm, arm, TransitionTree, AutomatonTree, InstanceTree, CompositionTree, SourceTree}
+use Rattle.ioa_syntax.specs.Tree.{Expr, number, truth, named, parens, prefix, binary, empty, make, select, Exprs, no_expr, also, FieldTree, EntryTree, VariableTree, ProposalTree, Stmt, assign, choose, Stmts, stop, seq, Arms, no_arm, arm, TransitionTree, AutomatonTree, InstanceTree, CompositionTree, SourceTree}
 use Rattle.ioa_syntax.specs.Meaning.{or_else}
 use Rattle.ioa_syntax.specs.Types.{sequence_named, constant_type}
-use Rattle.ioa_syntax.specs.WellFormed.{Context, type_in, type_of, one_type, both_types, infix_type, is_some_of, same_type, has_ty, contains, distinct, apart, is_type, typed_field, context_of, position_fields, variable_fields, is_input, is_numbered, is_tried, formals, held, scope, local_names, fields_fine, start_fine, entry_fine, matches, one_to_one, pre_fine, proposal_fine, proposals_fine, all_proposed, stmt_fine, stmts_fine, arms_fine, input_fine, transition_fine, automaton_fine, is_automaton_of, instance_fine, composition_fine}
+use Rattle.ioa_syntax.specs.WellFormed.{Context, type_in, type_of, types_of_all, one_type, both_types, infix_type, made_type, selected_type, is_some_of, same_type, has_ty, contains, distinct, apart, is_type, typed_field, context_of, position_fields, variable_fields, is_input, is_numbered, is_tried, formals, held, scope, local_names, fields_fine, start_fine, entry_fine, matches, one_to_one, pre_fine, proposal_fine, proposals_fine, all_proposed, stmt_fine, stmts_fine, arms_fine, input_fine, transition_fine, automaton_fine, is_automaton_of, instance_fine, composition_fine}
 use Rattle.ioa_syntax.specs.Instances.{position_name}
-use Rattle.ioa_syntax.proofs.ValTyped.{types_of_both, type_of_one}
+use Rattle.ioa_syntax.proofs.ValTyped.{types_of_both, types_of_row, type_of_one}
 use Rattle.ioa_syntax.proofs.EffectTyped.{some_type}
 use Rattle.ioa_syntax.proofs.FineParts.{FineParts, fine_parts, EntryParts, entry_parts}
 use Rattle.ioa_syntax.proofs.Starts.{same_types, some_there}
@@ -151,23 +153,42 @@ module _ (types early : Table) (begins : Begins early types) where
 
   -- ---- expressions
 
-  pub expr_stays : (c : Context) (e : Expr) (ty : ℕ) → type_of types early c e ≡ Some ty → type_of types types c e ≡ Some ty
-  expr_stays c (number n) ty h = h
-  expr_stays c (truth b) ty h = h
-  expr_stays c (named x) ty h = go (type_in c x) h
-    where
-      go : (o : Option ℕ) → or_else o (constant_type early x) ≡ Some ty → or_else o (constant_type types x) ≡ Some ty
-      go (Some t) h = h
-      go None h = constant_type_stays x ty h
-  expr_stays c (parens e) ty h = expr_stays c e ty h
-  expr_stays c (prefix o e) ty h =
-      let t = type_of_one (type_of types early c e) (op_type types o) ty h in
-      ap (λ a. one_type a (op_type types o)) (expr_stays c e t.0 t.1) ∙ t.2
-  expr_stays c (binary l o r) ty h =
-      let t = types_of_both (type_of types early c l) (type_of types early c r) (infix_type types o) ty h in
-      ap (λ a. both_types a (type_of types types c r) (infix_type types o)) (expr_stays c l t.0 t.2)
-      ∙ ap (λ b. both_types (Some t.0) b (infix_type types o)) (expr_stays c r t.1 t.3) ∙ t.4
-  expr_stays c (empty x) ty h = sequence_stays x ty h
+  made_stays : (x : Name) (tys : List ℕ) (ty : ℕ) → made_type types (type_named early x) tys ≡ Some ty → made_type types (type_named types x) tys ≡ Some ty
+  made_stays x tys ty h =
+      let made : ℕ → Option ℕ = λ n. op_type types (Make (record { 0 = n })) tys in
+      option_and_then_some made (type_named early x) ty h (λ n named takes. ap (option_and_then made) (type_stays x n named) ∙ takes)
+
+  mutual
+    pub expr_stays : (c : Context) (e : Expr) (ty : ℕ) → type_of types early c e ≡ Some ty → type_of types types c e ≡ Some ty
+    expr_stays c (number n) ty h = h
+    expr_stays c (truth b) ty h = h
+    expr_stays c (named x) ty h = go (type_in c x) h
+      where
+        go : (o : Option ℕ) → or_else o (constant_type early x) ≡ Some ty → or_else o (constant_type types x) ≡ Some ty
+        go (Some t) h = h
+        go None h = constant_type_stays x ty h
+    expr_stays c (parens e) ty h = expr_stays c e ty h
+    expr_stays c (prefix o e) ty h =
+        let t = type_of_one (type_of types early c e) (op_type types o) ty h in
+        ap (λ a. one_type a (op_type types o)) (expr_stays c e t.0 t.1) ∙ t.2
+    expr_stays c (binary l o r) ty h =
+        let t = types_of_both (type_of types early c l) (type_of types early c r) (infix_type types o) ty h in
+        ap (λ a. both_types a (type_of types types c r) (infix_type types o)) (expr_stays c l t.0 t.2)
+        ∙ ap (λ b. both_types (Some t.0) b (infix_type types o)) (expr_stays c r t.1 t.3) ∙ t.4
+    expr_stays c (empty x) ty h = sequence_stays x ty h
+    expr_stays c (make x es) ty h =
+        option_and_then_some (made_type types (type_named early x)) (types_of_all types early c es) ty h
+        (λ tys known takes. ap (option_and_then (made_type types (type_named types x))) (exprs_stay c es tys known) ∙ made_stays x tys ty takes)
+    expr_stays c (select e x) ty h =
+        option_and_then_some (selected_type types x) (type_of types early c e) ty h
+        (λ a known has. ap (option_and_then (selected_type types x)) (expr_stays c e a known) ∙ has)
+
+    exprs_stay : (c : Context) (es : Exprs) (tys : List ℕ) → types_of_all types early c es ≡ Some tys → types_of_all types types c es ≡ Some tys
+    exprs_stay c no_expr tys h = h
+    exprs_stay c (also e es) tys h =
+        let t = types_of_row (type_of types early c e) (types_of_all types early c es) tys h in
+        let row : Option (List ℕ) → Option ℕ → Option (List ℕ) = λ r s. option_and_then (λ a. option_map (λ bs. a ∷ bs) r) s in
+        ap (row (types_of_all types types c es)) (expr_stays c e t.0 t.2) ∙ ap (λ r. row r (Some t.0)) (exprs_stay c es t.1 t.3) ∙ ap Some t.4
 
   pub has_ty_stays : (c : Context) (e : Expr) (ty : ℕ) → Implies (has_ty types early c e ty) (has_ty types types c e ty)
   has_ty_stays c e ty h = ap (λ o. is_some_of o ty) (expr_stays c e ty (some_type (type_of types early c e) ty h)) ∙ eq-eqb ty ty refl

@@ -22,7 +22,7 @@ use Rattle.ioa_value.specs.declared.terminal.Terminal.TheVariants as terminals
 use Rattle.ioa_value.specs.declared.operator.Op.{Op}
 use Rattle.ioa_lex.specs.Tokens as tokens
 use Rattle.ioa_lex.specs.Tokens.{Tok, terminal}
-use Rattle.ioa_syntax.specs.Reading.{Outcome, expression, expr, first, operand, start_at, start_of, climb, operator_at, operator_of, prefix_at, prefix_of, terminal_at, same_terminal, sees, sign, statements, statement, in_sequence, terminated, items_from, sees_statement, sees_name, after, choice, an_arm, more_arms, many, many_from, introduced, assignment, a_name}
+use Rattle.ioa_syntax.specs.Reading.{Outcome, expression, expr, first, operand, fields_from, after_name, primary, start_at, start_of, climb, operator_at, operator_of, prefix_at, prefix_of, terminal_at, same_terminal, sees, sign, statements, statement, in_sequence, terminated, items_from, sees_statement, sees_name, after, choice, an_arm, more_arms, many, many_from, introduced, assignment, a_name}
 
 abbrev pub field : Name → Name → FieldTree
 field x t = record { name = x; ty = t }
@@ -299,62 +299,62 @@ read ts = expression 6 ts
 
 -- 3 - 2 - 1 is (3 - 2) - 1
 groups_to_the_left : read (n 3 ∷ word terminals.Minus ∷ n 2 ∷ word terminals.Minus ∷ n 1 ∷ []) ≡ Ok (between (between (number 3) Sub (number 2)) Sub (number 1), [])
-unfolding expression expr first prefix_at prefix_of operand start_at start_of climb operator_at operator_of terminal_at same_terminal
+unfolding expression expr first prefix_at prefix_of operand primary after_name fields_from sees after start_at start_of climb operator_at operator_of terminal_at same_terminal
 groups_to_the_left = refl
 
 -- 1 = 3 - 2 is 1 = (3 - 2)
 binds_sums_first : read (n 1 ∷ word terminals.Equal ∷ n 3 ∷ word terminals.Minus ∷ n 2 ∷ []) ≡ Ok (between (number 1) Eq (between (number 3) Sub (number 2)), [])
-unfolding expression expr first prefix_at prefix_of operand start_at start_of climb operator_at operator_of terminal_at same_terminal
+unfolding expression expr first prefix_at prefix_of operand primary after_name fields_from sees after start_at start_of climb operator_at operator_of terminal_at same_terminal
 binds_sums_first = refl
 
 -- of 1 = 2 = 3 the second sign is left
 has_no_neighbour : read (n 1 ∷ word terminals.Equal ∷ n 2 ∷ word terminals.Equal ∷ n 3 ∷ []) ≡ Ok (between (number 1) Eq (number 2), word terminals.Equal ∷ n 3 ∷ [])
-unfolding expression expr first prefix_at prefix_of operand start_at start_of climb operator_at operator_of terminal_at same_terminal
+unfolding expression expr first prefix_at prefix_of operand primary after_name fields_from sees after start_at start_of climb operator_at operator_of terminal_at same_terminal
 has_no_neighbour = refl
 
 -- 1 + 2 * 3 is 1 + (2 * 3)
 binds_products_first : read (n 1 ∷ word terminals.Plus ∷ n 2 ∷ word terminals.Star ∷ n 3 ∷ []) ≡ Ok (between (number 1) Add (between (number 2) Mul (number 3)), [])
-unfolding expression expr first prefix_at prefix_of operand start_at start_of climb operator_at operator_of terminal_at same_terminal
+unfolding expression expr first prefix_at prefix_of operand primary after_name fields_from sees after start_at start_of climb operator_at operator_of terminal_at same_terminal
 binds_products_first = refl
 
 -- 7 div 2 mod 3 is (7 div 2) mod 3
 groups_products_to_the_left : read (n 7 ∷ word terminals.Div ∷ n 2 ∷ word terminals.Mod ∷ n 3 ∷ []) ≡ Ok (between (between (number 7) Div (number 2)) Mod (number 3), [])
-unfolding expression expr first prefix_at prefix_of operand start_at start_of climb operator_at operator_of terminal_at same_terminal
+unfolding expression expr first prefix_at prefix_of operand primary after_name fields_from sees after start_at start_of climb operator_at operator_of terminal_at same_terminal
 groups_products_to_the_left = refl
 
 -- -7 div 2 is (-7) div 2
 negates_first : read (word terminals.Minus ∷ n 7 ∷ word terminals.Div ∷ n 2 ∷ []) ≡ Ok (between (prefix Neg (number 7)) Div (number 2), [])
-unfolding expression expr first prefix_at prefix_of operand start_at start_of climb operator_at operator_of terminal_at same_terminal
+unfolding expression expr first prefix_at prefix_of operand primary after_name fields_from sees after start_at start_of climb operator_at operator_of terminal_at same_terminal
 negates_first = refl
 
 -- 7 - - 2 is 7 - (-2)
 negates_after_minus : read (n 7 ∷ word terminals.Minus ∷ word terminals.Minus ∷ n 2 ∷ []) ≡ Ok (between (number 7) Sub (prefix Neg (number 2)), [])
-unfolding expression expr first prefix_at prefix_of operand start_at start_of climb operator_at operator_of terminal_at same_terminal
+unfolding expression expr first prefix_at prefix_of operand primary after_name fields_from sees after start_at start_of climb operator_at operator_of terminal_at same_terminal
 negates_after_minus = refl
 
 -- ~ 1 < 2 is ~ (1 < 2)
 denies_comparisons : read (word terminals.Not ∷ n 1 ∷ word terminals.Less ∷ n 2 ∷ []) ≡ Ok (prefix Not (between (number 1) Lt (number 2)), [])
-unfolding expression expr first prefix_at prefix_of operand start_at start_of climb operator_at operator_of terminal_at same_terminal
+unfolding expression expr first prefix_at prefix_of operand primary after_name fields_from sees after start_at start_of climb operator_at operator_of terminal_at same_terminal
 denies_comparisons = refl
 
 -- ~ true /\ false is (~ true) /\ false
 denies_first : read (word terminals.Not ∷ word terminals.True ∷ word terminals.And ∷ word terminals.False ∷ []) ≡ Ok (binary (prefix Not (truth true)) And (truth false), [])
-unfolding expression expr first prefix_at prefix_of operand start_at start_of climb operator_at operator_of terminal_at same_terminal
+unfolding expression expr first prefix_at prefix_of operand primary after_name fields_from sees after start_at start_of climb operator_at operator_of terminal_at same_terminal
 denies_first = refl
 
 -- 1 = ~ true is no expression: the sign ~ has no place there
 denies_no_operand : read (n 1 ∷ word terminals.Equal ∷ word terminals.Not ∷ word terminals.True ∷ []) ≡ Err (Syntax 2)
-unfolding expression expr first prefix_at prefix_of operand start_at start_of climb operator_at operator_of terminal_at same_terminal
+unfolding expression expr first prefix_at prefix_of operand primary after_name fields_from sees after start_at start_of climb operator_at operator_of terminal_at same_terminal
 denies_no_operand = refl
 
 -- true => false => true is true => (false => true)
 implies_to_the_right : read (word terminals.True ∷ word terminals.Implies ∷ word terminals.False ∷ word terminals.Implies ∷ word terminals.True ∷ []) ≡ Ok (binary (truth true) Implies (binary (truth false) Implies (truth true)), [])
-unfolding expression expr first prefix_at prefix_of operand start_at start_of climb operator_at operator_of terminal_at same_terminal
+unfolding expression expr first prefix_at prefix_of operand primary after_name fields_from sees after start_at start_of climb operator_at operator_of terminal_at same_terminal
 implies_to_the_right = refl
 
 -- true \/ false /\ true => false is (true \/ (false /\ true)) => false
 mixes_levels : read (word terminals.True ∷ word terminals.Or ∷ word terminals.False ∷ word terminals.And ∷ word terminals.True ∷ word terminals.Implies ∷ word terminals.False ∷ []) ≡ Ok (binary (binary (truth true) Or (binary (truth false) And (truth true))) Implies (truth false), [])
-unfolding expression expr first prefix_at prefix_of operand start_at start_of climb operator_at operator_of terminal_at same_terminal
+unfolding expression expr first prefix_at prefix_of operand primary after_name fields_from sees after start_at start_of climb operator_at operator_of terminal_at same_terminal
 mixes_levels = refl
 
 -- ---- how choices are read
@@ -372,22 +372,22 @@ tested ts = word terminals.True ∷ word terminals.Then ∷ ts
 
 chooses : statements 3 (word terminals.If ∷ tested (setting 1 (word terminals.Elseif ∷ tested (setting 2 (word terminals.Else ∷ setting 3 (word terminals.Fi ∷ []))))))
     ≡ Ok (seq (choose (arm (truth true) (set 1) (arm (truth true) (set 2) no_arm)) (set 3)) stop, [])
-unfolding statements statement in_sequence terminated items_from sees_statement sees_name sees after choice an_arm more_arms many many_from introduced assignment sign a_name expression expr first prefix_at prefix_of operand start_at start_of climb operator_at operator_of terminal_at same_terminal
+unfolding statements statement in_sequence terminated items_from sees_statement sees_name sees after choice an_arm more_arms many many_from introduced assignment sign a_name expression expr first prefix_at prefix_of operand primary after_name fields_from start_at start_of climb operator_at operator_of terminal_at same_terminal
 chooses = refl
 
 -- an arm has statements
 chooses_nothing : statements 3 (word terminals.If ∷ tested (word terminals.Fi ∷ [])) ≡ Err (Syntax 1)
-unfolding statements statement in_sequence terminated items_from sees_statement sees_name sees after choice an_arm more_arms many many_from introduced assignment sign a_name expression expr first prefix_at prefix_of operand start_at start_of climb operator_at operator_of terminal_at same_terminal
+unfolding statements statement in_sequence terminated items_from sees_statement sees_name sees after choice an_arm more_arms many many_from introduced assignment sign a_name expression expr first prefix_at prefix_of operand primary after_name fields_from start_at start_of climb operator_at operator_of terminal_at same_terminal
 chooses_nothing = refl
 
 -- a choice ends with `fi`
 never_ends : statements 3 (word terminals.If ∷ tested (setting 1 [])) ≡ Err (Syntax 0)
-unfolding statements statement in_sequence terminated items_from sees_statement sees_name sees after choice an_arm more_arms many many_from introduced assignment sign a_name expression expr first prefix_at prefix_of operand start_at start_of climb operator_at operator_of terminal_at same_terminal
+unfolding statements statement in_sequence terminated items_from sees_statement sees_name sees after choice an_arm more_arms many many_from introduced assignment sign a_name expression expr first prefix_at prefix_of operand primary after_name fields_from start_at start_of climb operator_at operator_of terminal_at same_terminal
 never_ends = refl
 
 -- an assignment in a choice is two levels deep
 chooses_too_deep : statements 1 (word terminals.If ∷ tested (setting 1 (word terminals.Fi ∷ []))) ≡ Err TooDeep
-unfolding statements statement in_sequence terminated items_from sees_statement sees_name sees after choice an_arm more_arms many many_from introduced assignment sign a_name expression expr first prefix_at prefix_of operand start_at start_of climb operator_at operator_of terminal_at same_terminal
+unfolding statements statement in_sequence terminated items_from sees_statement sees_name sees after choice an_arm more_arms many many_from introduced assignment sign a_name expression expr first prefix_at prefix_of operand primary after_name fields_from start_at start_of climb operator_at operator_of terminal_at same_terminal
 chooses_too_deep = refl
 
 -- ---- what the composition does

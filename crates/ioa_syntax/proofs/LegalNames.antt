@@ -11,18 +11,18 @@ use Rattle.ioa_lex.specs.Tokens as tokens
 use Rattle.ioa_lex.specs.Tokens.{Tok}
 use Rattle.ioa_value.specs.Actions.{Name}
 use Rattle.ioa_value.specs.Names.{IsName}
-use Rattle.ioa_syntax.specs.Tree.{Expr, number, truth, named, parens, prefix, binary, empty, FieldTree, PositionTree, typed, EntryTree, VariableTree, Stmt, assign, choose, Stmts, stop, seq, Arms, no_arm, arm, TransitionTree, AutomatonTree, InstanceTree, CompositionTree, FormTree, enumeration, tuple, sequence, TypeTree, DeclarationTree, declared_type, automaton, composition, SourceTree}
+use Rattle.ioa_syntax.specs.Tree.{Expr, number, truth, named, parens, prefix, binary, empty, make, select, Exprs, no_expr, also, FieldTree, PositionTree, typed, EntryTree, VariableTree, Stmt, assign, choose, Stmts, stop, seq, Arms, no_arm, arm, TransitionTree, AutomatonTree, InstanceTree, CompositionTree, FormTree, enumeration, tuple, sequence, TypeTree, DeclarationTree, declared_type, automaton, composition, SourceTree}
 use Rattle.ioa_syntax.specs.declared.tree.Infix.TheVariants.{Operator}
-use Rattle.ioa_syntax.specs.Operators.{left_of, right_of, operator_word}
-use Rattle.ioa_syntax.specs.Grammar.{Language, ◌▹◌, word, called, perhaps, optional, optional_list, each_after, separated, terminated, many, single, enclosed, braced, kind_word, SpellsExpr, SpellsField, SpellsFields, SpellsPosition, SpellsPositions, SpellsEntry, SpellsVariable, SpellsProposal, SpellsStmt, SpellsStmts, SpellsMore, SpellsAfter, SpellsArms, SpellsTransition, SpellsAutomaton, SpellsArguments, SpellsInstance, SpellsInstances, SpellsComposition, SpellsForm, SpellsType, SpellsDeclaration}
+use Rattle.ioa_syntax.specs.Operators.{left_of, right_of, operator_word, tightest}
+use Rattle.ioa_syntax.specs.Grammar.{Language, ◌▹◌, word, called, perhaps, optional, optional_list, each_after, separated, terminated, many, single, enclosed, braced, kind_word, SpellsExpr, SpellsExprs, SpellsOthers, SpellsField, SpellsFields, SpellsPosition, SpellsPositions, SpellsEntry, SpellsVariable, SpellsProposal, SpellsStmt, SpellsStmts, SpellsMore, SpellsAfter, SpellsArms, SpellsTransition, SpellsAutomaton, SpellsArguments, SpellsInstance, SpellsInstances, SpellsComposition, SpellsForm, SpellsType, SpellsDeclaration}
 use Rattle.ioa_syntax.specs.Source.{AreTokens, IsSource}
 use Rattle.ioa_syntax.specs.Compositions.{automata, compositions, first_item, picked, automaton_named}
-use Rattle.ioa_syntax.specs.Names.{names_of_expr, names_of_option, names_of_field, names_of_position, names_of_entry, names_of_variable, names_of_proposal, names_of_stmt, names_of_stmts, names_of_arms, names_of_transition, names_of_automaton, names_of_instance, names_of_composition, names_of_form, names_of_type, names_of_declaration, LegalNames}
+use Rattle.ioa_syntax.specs.Names.{names_of_expr, names_of_exprs, names_of_option, names_of_field, names_of_position, names_of_entry, names_of_variable, names_of_proposal, names_of_stmt, names_of_stmts, names_of_arms, names_of_transition, names_of_automaton, names_of_instance, names_of_composition, names_of_form, names_of_type, names_of_declaration, LegalNames}
 
 abbrev AreNames : List Name → Type 0
 AreNames ns = All IsName ns
 
-tokens_apart : (a b : List Tok) → AreTokens (a ++ b) → AreTokens a × AreTokens b
+pub tokens_apart : (a b : List Tok) → AreTokens (a ++ b) → AreTokens a × AreTokens b
 tokens_apart [] b h = (tt, h)
 tokens_apart (t ∷ a) b h = let r = tokens_apart a b h.1 in ((h.0, r.0), r.1)
 
@@ -90,23 +90,37 @@ again a b c d = ap (λ l. a ++ l) (sym (append_assoc b c d)) ∙ sym (append_ass
 enclosed_lawful : (L : Language) (ns : List Name) → Lawful L ns → Lawful (enclosed L) ns
 enclosed_lawful L ns inner = after_word terminals.Open (L ▹ word terminals.Close) ns (before_lawful L (word terminals.Close) ns inner)
 
-expr_lawful : (k : ℕ) (e : Expr) → Lawful (SpellsExpr k e) (names_of_expr e)
-expr_lawful k (number n) ts h s = none_lawful (SpellsExpr k (number n)) ts h s
-expr_lawful k (truth b) ts h s = none_lawful (SpellsExpr k (truth b)) ts h s
-expr_lawful k (named x) ts h s = called_lawful x ts h s
-expr_lawful k (parens e) ts h s = enclosed_lawful (SpellsExpr 0 e) (names_of_expr e) (expr_lawful 0 e) ts h s
-expr_lawful k (prefix o e) ts h (inl s) = after_word (operator_word (Operator o)) (SpellsExpr (right_of (Operator o)) e) (names_of_expr e) (expr_lawful (right_of (Operator o)) e) ts h s.2
-expr_lawful k (prefix o e) ts h (inr s) =
-    after_word (operator_word (Operator o)) (enclosed (SpellsExpr 0 e)) (names_of_expr e) (enclosed_lawful (SpellsExpr 0 e) (names_of_expr e) (expr_lawful 0 e)) ts h s.1
-expr_lawful k (binary l o r) ts h (inl s) =
-    then_lawful (SpellsExpr (left_of o) l) (word (operator_word o) ▹ SpellsExpr (right_of o) r) (names_of_expr l) (names_of_expr r) (expr_lawful (left_of o) l)
-    (after_word (operator_word o) (SpellsExpr (right_of o) r) (names_of_expr r) (expr_lawful (right_of o) r)) ts h s.2
-expr_lawful k (binary l o r) ts h (inr s) =
-    let inner = SpellsExpr 0 l ▹ (word terminals.Comma ▹ SpellsExpr 0 r) in
-    after_word (operator_word o) (enclosed inner) (names_of_expr (binary l o r))
-    (enclosed_lawful inner (names_of_expr (binary l o r))
-    (then_lawful (SpellsExpr 0 l) (word terminals.Comma ▹ SpellsExpr 0 r) (names_of_expr l) (names_of_expr r) (expr_lawful 0 l) (after_word terminals.Comma (SpellsExpr 0 r) (names_of_expr r) (expr_lawful 0 r)))) ts h s.1
-expr_lawful k (empty n) ts h s = after_word terminals.Empty (enclosed (called n)) (n ∷ []) (enclosed_lawful (called n) (n ∷ []) (called_lawful n)) ts h s
+mutual
+  expr_lawful : (k : ℕ) (e : Expr) → Lawful (SpellsExpr k e) (names_of_expr e)
+  expr_lawful k (number n) ts h s = none_lawful (SpellsExpr k (number n)) ts h s
+  expr_lawful k (truth b) ts h s = none_lawful (SpellsExpr k (truth b)) ts h s
+  expr_lawful k (named x) ts h s = called_lawful x ts h s
+  expr_lawful k (parens e) ts h s = enclosed_lawful (SpellsExpr 0 e) (names_of_expr e) (expr_lawful 0 e) ts h s
+  expr_lawful k (prefix o e) ts h (inl s) = after_word (operator_word (Operator o)) (SpellsExpr (right_of (Operator o)) e) (names_of_expr e) (expr_lawful (right_of (Operator o)) e) ts h s.2
+  expr_lawful k (prefix o e) ts h (inr s) =
+      after_word (operator_word (Operator o)) (enclosed (SpellsExpr 0 e)) (names_of_expr e) (enclosed_lawful (SpellsExpr 0 e) (names_of_expr e) (expr_lawful 0 e)) ts h s.1
+  expr_lawful k (binary l o r) ts h (inl s) =
+      then_lawful (SpellsExpr (left_of o) l) (word (operator_word o) ▹ SpellsExpr (right_of o) r) (names_of_expr l) (names_of_expr r) (expr_lawful (left_of o) l)
+      (after_word (operator_word o) (SpellsExpr (right_of o) r) (names_of_expr r) (expr_lawful (right_of o) r)) ts h s.2
+  expr_lawful k (binary l o r) ts h (inr s) =
+      let inner = SpellsExpr 0 l ▹ (word terminals.Comma ▹ SpellsExpr 0 r) in
+      after_word (operator_word o) (enclosed inner) (names_of_expr (binary l o r))
+      (enclosed_lawful inner (names_of_expr (binary l o r))
+      (then_lawful (SpellsExpr 0 l) (word terminals.Comma ▹ SpellsExpr 0 r) (names_of_expr l) (names_of_expr r) (expr_lawful 0 l) (after_word terminals.Comma (SpellsExpr 0 r) (names_of_expr r) (expr_lawful 0 r)))) ts h s.1
+  expr_lawful k (empty n) ts h s = after_word terminals.Empty (enclosed (called n)) (n ∷ []) (enclosed_lawful (called n) (n ∷ []) (called_lawful n)) ts h s
+  expr_lawful k (make n es) ts h s = name_then n (enclosed (SpellsExprs es)) (names_of_exprs es) (enclosed_lawful (SpellsExprs es) (names_of_exprs es) (exprs_lawful es)) ts h s
+  expr_lawful k (select e n) ts h s =
+      then_lawful (SpellsExpr tightest e) (word terminals.Dot ▹ called n) (names_of_expr e) (n ∷ []) (expr_lawful tightest e) (after_word terminals.Dot (called n) (n ∷ []) (called_lawful n)) ts h s
+
+  exprs_lawful : (es : Exprs) → Lawful (SpellsExprs es) (names_of_exprs es)
+  exprs_lawful no_expr ts h s = absurd s
+  exprs_lawful (also e es) ts h s = then_lawful (SpellsExpr 0 e) (SpellsOthers es) (names_of_expr e) (names_of_exprs es) (expr_lawful 0 e) (others_lawful es) ts h s
+
+  others_lawful : (es : Exprs) → Lawful (SpellsOthers es) (names_of_exprs es)
+  others_lawful no_expr ts h s = none_lawful (SpellsOthers no_expr) ts h s
+  others_lawful (also e es) ts h s =
+      after_word terminals.Comma (SpellsExpr 0 e ▹ SpellsOthers es) (names_of_exprs (also e es))
+      (then_lawful (SpellsExpr 0 e) (SpellsOthers es) (names_of_expr e) (names_of_exprs es) (expr_lawful 0 e) (others_lawful es)) ts h s
 
 field_lawful : (f : FieldTree) → Lawful (SpellsField f) (names_of_field f)
 field_lawful f =
@@ -215,16 +229,10 @@ instance_lawful i =
     (name_then i.automaton arguments (flat_map names_of_expr i.arguments)
     (optional_list_lawful names_of_expr terminals.Open SpellsArguments i.arguments (closed_lawful names_of_expr (SpellsExpr 0) (expr_lawful 0)))))
 
-instances_lawful : (is : List InstanceTree) → Lawful (SpellsInstances is) (flat_map names_of_instance is)
-instances_lawful [] ts h s = absurd s
-instances_lawful (i ∷ []) ts h s =
-    All-append IsName (names_of_instance i) [] (before_lawful (SpellsInstance i) (perhaps terminals.Semicolon) (names_of_instance i) (instance_lawful i) ts h s) (All-nil IsName)
-instances_lawful (i ∷ j ∷ rest) ts h s = absurd s
-
 composition_lawful : (c : CompositionTree) → Lawful (SpellsComposition c) (names_of_composition c)
 composition_lawful c =
     name_then c.name (word terminals.Components ▹ SpellsInstances c.instances) (flat_map names_of_instance c.instances)
-    (after_word terminals.Components (SpellsInstances c.instances) (flat_map names_of_instance c.instances) (instances_lawful c.instances))
+    (after_word terminals.Components (SpellsInstances c.instances) (flat_map names_of_instance c.instances) (terminated_lawful names_of_instance SpellsInstance instance_lawful terminals.Semicolon c.instances))
 
 braced_lawful : {A : Type 0} (f : A → List Name) (L : A → Language) → ((x : A) → Lawful (L x) (f x)) → (xs : List A) → Lawful (braced L xs) (flat_map f xs)
 braced_lawful f L each xs =

@@ -10,13 +10,13 @@ use Rattle.ioa_syntax.specs.declared.tree.Infix.TheVariants.{Operator}
 use Rattle.ioa_syntax.specs.Tree.{Expr, prefix, binary}
 use Rattle.ioa_syntax.specs.Depth.{depth_of}
 use Rattle.ioa_syntax.specs.Operators.{right_of, after_of, tightest}
-use Rattle.ioa_syntax.specs.Grammar.{SameHead}
-use Rattle.ioa_syntax.specs.Reading.{climb, climb_by, stop_by, expr, first, prefix_at, prefix_in, operand, start_at, operator_at, operator_in, terminal_at, terminal_in, allowed, rest, Outcome, Reader, ◌>>=◌, built}
+use Rattle.ioa_syntax.specs.Grammar.{SameHead, SpellsExpr}
+use Rattle.ioa_syntax.specs.Reading.{climb, climb_by, stop_by, expr, first, prefix_at, prefix_in, operand, primary, start_at, operator_at, operator_in, terminal_at, terminal_in, allowed, rest, Outcome, Reader, ◌>>=◌, built}
 use Rattle.ioa_syntax.proofs.Outcomes.{bind_err, AtMost, at_most_more, at_most_then, Shrinks, Alike, Past, past_at_most, alike_then, alike_rest, refused_at, went, front_length, same_head, LooksAhead, head_alike, rest_length}
 use Rattle.ioa_syntax.proofs.Exact.{Found}
 use Rattle.ioa_syntax.proofs.Endings.{mark}
-use Rattle.ioa_syntax.proofs.Operands.{Opens}
-use Rattle.ioa_syntax.proofs.Complete.{spelled_deep, depth_positive, first_plain, first_marked, first_loose, climbs}
+use Rattle.ioa_syntax.proofs.Spelled.{spelled_deep, depth_positive}
+use Rattle.ioa_syntax.proofs.Complete.{first_plain, first_marked, first_loose, climbs}
 use Rattle.ioa_syntax.proofs.Sound.{Reads, next_cases, beginning, begins_plain, begins_marked, begins_loose, first_sound}
 
 operator_alike : (least below : ℕ) → LooksAhead (operator_at least below)
@@ -32,8 +32,8 @@ prefix_alike = head_alike prefix_at None (λ x. prefix_in (terminal_in x)) refl 
 abbrev pub EachShrinks : (ℕ → Reader Expr) → Type 0
 EachShrinks e = (k : ℕ) → Shrinks (e k)
 
-abbrev plain : Reader Expr → Reader (Expr × ℕ)
-plain inner = built (λ t. (t, tightest)) (operand inner)
+abbrev plain : ℕ → Reader Expr → Reader (Expr × ℕ)
+plain b inner = built (λ t. (t, tightest)) (operand b inner)
 
 abbrev marked : Op → Reader Expr → Reader (Expr × ℕ)
 marked o inner = built (λ t. (prefix o t, after_of (Operator o))) inner
@@ -44,34 +44,34 @@ built_shrinks f p shrinks ts = at_most_then (length ts) (p ts) (λ x. Ok (f x.0,
 built_alike : {A B : Type 0} (f : A → B) (p p' : Reader A) (s s' : List Tok) → ((c : List Tok) → Alike s s' (p (c ++ s)) (p' (c ++ s'))) → (c : List Tok) → Alike s s' (built f p (c ++ s)) (built f p' (c ++ s'))
 built_alike f p p' s s' alike c = alike_then s s' (p (c ++ s)) (p' (c ++ s')) (λ x. Ok (f x.0, x.1)) (λ x. Ok (f x.0, x.1)) (alike c) (λ x h. h) (λ x d was is. went s s' (f x) d)
 
-first_shrinks : (least : ℕ) (e : ℕ → Reader Expr) → EachShrinks e → Shrinks (operand (e 0)) → Shrinks (first least e)
-first_shrinks least e shrinks operands ts =
+first_shrinks : (b least : ℕ) (e : ℕ → Reader Expr) → EachShrinks e → Shrinks (operand b (e 0)) → Shrinks (first b least e)
+first_shrinks b least e shrinks operands ts =
     elim (beginning least ts) [
-      | begins_plain none ↦ subst (AtMost (length ts)) (sym (first_plain least e ts none)) (built_shrinks (λ t. (t, tightest)) (operand (e 0)) operands ts)
+      | begins_plain none ↦ subst (AtMost (length ts)) (sym (first_plain b least e ts none)) (built_shrinks (λ t. (t, tightest)) (operand b (e 0)) operands ts)
       | begins_marked o is at before low ↦
-          subst (AtMost (length ts)) (sym (first_marked least e o ts is low))
+          subst (AtMost (length ts)) (sym (first_marked b least e o ts is low))
           (at_most_more (length (rest ts)) (length ts) (marked o (e (right_of (Operator o))) (rest ts)) (rest_length ts) (built_shrinks (λ t. (prefix o t, after_of (Operator o))) (e (right_of (Operator o))) (shrinks (right_of (Operator o))) (rest ts)))
-      | begins_loose o is at high ↦ subst (AtMost (length ts)) (sym (first_loose least e o ts is high)) (omega arith)
+      | begins_loose o is at high ↦ subst (AtMost (length ts)) (sym (first_loose b least e o ts is high)) (omega arith)
     ]
 
-module _ (least : ℕ) (e e' : ℕ → Reader Expr) (shrinks : EachShrinks e) (s s' : List Tok) (same : SameHead s s') (alike : (k : ℕ) (c : List Tok) → Alike s s' (e k (c ++ s)) (e' k (c ++ s')))
-    (operands : (c : List Tok) → Alike s s' (operand (e 0) (c ++ s)) (operand (e' 0) (c ++ s'))) where
-  first_as : (c : List Tok) (o o' : Outcome (Expr × ℕ)) → first least e (c ++ s) ≡ o → first least e' (c ++ s') ≡ o' → Alike s s' o o' → Alike s s' (first least e (c ++ s)) (first least e' (c ++ s'))
-  first_as c o o' was is a = subst (λ z. Alike s s' z (first least e' (c ++ s'))) (sym was) (subst (λ z. Alike s s' o z) (sym is) a)
+module _ (b b' least : ℕ) (e e' : ℕ → Reader Expr) (shrinks : EachShrinks e) (s s' : List Tok) (same : SameHead s s') (alike : (k : ℕ) (c : List Tok) → Alike s s' (e k (c ++ s)) (e' k (c ++ s')))
+    (operands : (c : List Tok) → Alike s s' (operand b (e 0) (c ++ s)) (operand b' (e' 0) (c ++ s'))) where
+  first_as : (c : List Tok) (o o' : Outcome (Expr × ℕ)) → first b least e (c ++ s) ≡ o → first b' least e' (c ++ s') ≡ o' → Alike s s' o o' → Alike s s' (first b least e (c ++ s)) (first b' least e' (c ++ s'))
+  first_as c o o' was is a = subst (λ z. Alike s s' z (first b' least e' (c ++ s'))) (sym was) (subst (λ z. Alike s s' o z) (sym is) a)
 
-  first_alike : (c : List Tok) → Alike s s' (first least e (c ++ s)) (first least e' (c ++ s'))
+  first_alike : (c : List Tok) → Alike s s' (first b least e (c ++ s)) (first b' least e' (c ++ s'))
   first_alike c =
       let here : prefix_at (c ++ s) ≡ prefix_at (c ++ s') = prefix_alike (c ++ s) (c ++ s') (same_head s s' same c) in
       elim (beginning least (c ++ s)) [
         | begins_plain none ↦
-            first_as c (plain (e 0) (c ++ s)) (plain (e' 0) (c ++ s')) (first_plain least e (c ++ s) none) (first_plain least e' (c ++ s') (sym here ∙ none))
-            (built_alike (λ t. (t, tightest)) (operand (e 0)) (operand (e' 0)) s s' operands c)
+            first_as c (plain b (e 0) (c ++ s)) (plain b' (e' 0) (c ++ s')) (first_plain b least e (c ++ s) none) (first_plain b' least e' (c ++ s') (sym here ∙ none))
+            (built_alike (λ t. (t, tightest)) (operand b (e 0)) (operand b' (e' 0)) s s' operands c)
         | begins_marked o is at before low ↦
             let r : ℕ = right_of (Operator o) in
-            first_as c (marked o (e r) (rest (c ++ s))) (marked o (e' r) (rest (c ++ s'))) (first_marked least e o (c ++ s) is low) (first_marked least e' o (c ++ s') (sym here ∙ is) low)
+            first_as c (marked o (e r) (rest (c ++ s))) (marked o (e' r) (rest (c ++ s'))) (first_marked b least e o (c ++ s) is low) (first_marked b' least e' o (c ++ s') (sym here ∙ is) low)
             (alike_rest s s' (marked o (e r)) (marked o (e' r)) same (built_shrinks (λ t. (prefix o t, after_of (Operator o))) (e r) (shrinks r)) (built_alike (λ t. (prefix o t, after_of (Operator o))) (e r) (e' r) s s' (alike r)) c (omega (arith, ap length at)))
         | begins_loose o is at high ↦
-            first_as c (Err (Syntax (length (c ++ s)))) (Err (Syntax (length (c ++ s')))) (first_loose least e o (c ++ s) is high) (first_loose least e' o (c ++ s') (sym here ∙ is) high)
+            first_as c (Err (Syntax (length (c ++ s)))) (Err (Syntax (length (c ++ s')))) (first_loose b least e o (c ++ s) is high) (first_loose b' least e' o (c ++ s') (sym here ∙ is) high)
             (refused_at s s' (length (c ++ s)) (length (c ++ s')) (front_length c s))
       ]
 
@@ -110,10 +110,10 @@ unfolding climb
 climb_none b e zero least below left ts absent = rw absent refl
 climb_none b e (suc n) least below left ts absent = rw absent refl
 
-pub shrinks_more : (b : ℕ) → EachShrinks (expr b) → Shrinks (operand (expr b 0)) → EachShrinks (expr (suc b))
+pub shrinks_more : (b : ℕ) → EachShrinks (expr b) → Shrinks (operand b (expr b 0)) → EachShrinks (expr (suc b))
 unfolding expr
 shrinks_more b inner operands k ts =
-    at_most_then (length ts) (first k (expr b) ts) (climbs b k) (first_shrinks k (expr b) inner operands ts)
+    at_most_then (length ts) (first b k (expr b) ts) (climbs b k) (first_shrinks b k (expr b) inner operands ts)
     (λ p h. at_most_more (length p.1) (length ts) (climbs b k p) h (climb_shrinks b (expr b) inner b k p.0.1 p.0.0 p.1))
 
 module _ (b b' : ℕ) (e e' : ℕ → Reader Expr) (deeper : b ≤ b') (shrinks_e : EachShrinks e) (s s' : List Tok) (same : SameHead s s') (inner : (k : ℕ) (c : List Tok) → Alike s s' (e k (c ++ s)) (e' k (c ++ s'))) where
@@ -156,16 +156,16 @@ module _ (b b' : ℕ) (e e' : ℕ → Reader Expr) (deeper : b ≤ b') (shrinks_
       ]
 
 pub no_expr : (b k : ℕ) → expr b k [] ≡ Err (Syntax 0)
-unfolding expr first prefix_at terminal_at operand start_at
+unfolding expr first prefix_at terminal_at operand primary start_at
 no_expr zero k = refl
 no_expr (suc b) k = refl
 
 pub alike_more : (b b' : ℕ) → b ≤ b' → (s s' : List Tok) → SameHead s s' → EachShrinks (expr b) → ((k : ℕ) (c : List Tok) → Alike s s' (expr b k (c ++ s)) (expr b' k (c ++ s'))) →
-    ((c : List Tok) → Alike s s' (operand (expr b 0) (c ++ s)) (operand (expr b' 0) (c ++ s'))) → (k : ℕ) (c : List Tok) → Alike s s' (expr (suc b) k (c ++ s)) (expr (suc b') k (c ++ s'))
+    ((c : List Tok) → Alike s s' (operand b (expr b 0) (c ++ s)) (operand b' (expr b' 0) (c ++ s'))) → (k : ℕ) (c : List Tok) → Alike s s' (expr (suc b) k (c ++ s)) (expr (suc b') k (c ++ s'))
 unfolding expr
 alike_more b b' le s s' same shrinks inner operands k c =
-    alike_then s s' (first k (expr b) (c ++ s)) (first k (expr b') (c ++ s')) (climbs b k) (climbs b' k)
-    (first_alike k (expr b) (expr b') shrinks s s' same inner operands c)
+    alike_then s s' (first b k (expr b) (c ++ s)) (first b' k (expr b') (c ++ s')) (climbs b k) (climbs b' k)
+    (first_alike b b' k (expr b) (expr b') shrinks s s' same inner operands c)
     (λ p h. past_at_most s (length p.1) (climbs b k p) h (climb_shrinks b (expr b) shrinks b k p.0.1 p.0.0 p.1))
     (λ t d was is. climb_alike b b' (expr b) (expr b') le shrinks s s' same inner b b' le k t.1 t.0 d)
 
@@ -173,20 +173,20 @@ alike_more b b' le s s' same shrinks inner operands k c =
 
 module _ (b : ℕ) (e : ℕ → Reader Expr) (deep : (k : ℕ) (ts : List Tok) → e k ts ≡ Err TooDeep → b < length ts)
     (reads : (k : ℕ) (ts : List Tok) (t : Expr) (left : List Tok) → e k ts ≡ Ok (t, left) → (front : List Tok) × (depth_of t ≤ length front) × (ts ≡ front ++ left))
-    (operands : (ts : List Tok) → operand (e 0) ts ≡ Err TooDeep → suc b < length ts) where
-  first_long : (least : ℕ) (ts : List Tok) → first least e ts ≡ Err TooDeep → suc b < length ts
+    (operands : (ts : List Tok) → operand b (e 0) ts ≡ Err TooDeep → suc b < length ts) where
+  first_long : (least : ℕ) (ts : List Tok) → first b least e ts ≡ Err TooDeep → suc b < length ts
   first_long least ts h =
       elim (beginning least ts) [
-        | begins_plain none ↦ elim (bind_err (operand (e 0) ts) (λ x. Ok ((x.0, tightest), x.1)) TooDeep (sym (first_plain least e ts none) ∙ h)) [
+        | begins_plain none ↦ elim (bind_err (operand b (e 0) ts) (λ x. Ok ((x.0, tightest), x.1)) TooDeep (sym (first_plain b least e ts none) ∙ h)) [
           | inl far ↦ operands ts far
           | inr never ↦ absurd (cc (never.2))
         ]
         | begins_marked o is at before low ↦
-            elim (bind_err (e (right_of (Operator o)) (rest ts)) (λ x. Ok ((prefix o x.0, after_of (Operator o)), x.1)) TooDeep (sym (first_marked least e o ts is low) ∙ h)) [
+            elim (bind_err (e (right_of (Operator o)) (rest ts)) (λ x. Ok ((prefix o x.0, after_of (Operator o)), x.1)) TooDeep (sym (first_marked b least e o ts is low) ∙ h)) [
               | inl far ↦ let more = deep (right_of (Operator o)) (rest ts) far in omega (arith, ap length at)
               | inr never ↦ absurd (cc (never.2))
             ]
-        | begins_loose o is at high ↦ let never = sym (first_loose least e o ts is high) ∙ h in absurd (cc)
+        | begins_loose o is at high ↦ let never = sym (first_loose b least e o ts is high) ∙ h in absurd (cc)
       ]
 
   climb_long : (n least below : ℕ) (left : Expr) (a ts : List Tok) → depth_of left ≤ length a → b < n + depth_of left → climb b e n least below left ts ≡ Err TooDeep → suc b < length (a ++ ts)
@@ -222,14 +222,14 @@ module _ (b : ℕ) (e : ℕ → Reader Expr) (deep : (k : ℕ) (ts : List Tok) �
 
 pub long_more : (b : ℕ) → ((k : ℕ) (ts : List Tok) → expr b k ts ≡ Err TooDeep → b < length ts) →
     ((k : ℕ) (ts : List Tok) (t : Expr) (left : List Tok) → expr b k ts ≡ Ok (t, left) → Reads b k ts t left) →
-    ((ts : List Tok) (t : Expr) (left : List Tok) → operand (expr b 0) ts ≡ Ok (t, left) → Found Opens depth_of (suc b) ts t left) →
-    ((ts : List Tok) → operand (expr b 0) ts ≡ Err TooDeep → suc b < length ts) →
+    ((ts : List Tok) (t : Expr) (left : List Tok) → operand b (expr b 0) ts ≡ Ok (t, left) → Found (SpellsExpr tightest) depth_of (suc b) ts t left) →
+    ((ts : List Tok) → operand b (expr b 0) ts ≡ Err TooDeep → suc b < length ts) →
     (k : ℕ) (ts : List Tok) → expr (suc b) k ts ≡ Err TooDeep → suc b < length ts
 unfolding expr
 long_more b deep sound sound_operands operands k ts h =
     let reads : (k : ℕ) (ts : List Tok) (t : Expr) (left : List Tok) → expr b k ts ≡ Ok (t, left) → (front : List Tok) × (depth_of t ≤ length front) × (ts ≡ front ++ left) =
     λ k ts t left h. let r = sound k ts t left h in (r.front, spelled_deep t k r.front r.spells, r.apart) in
-    elim (bind_err (first k (expr b) ts) (climbs b k) TooDeep h) [
+    elim (bind_err (first b k (expr b) ts) (climbs b k) TooDeep h) [
       | inl far ↦ first_long b (expr b) deep reads operands k ts far
       | inr later ↦
           let r = first_sound b (expr b) sound sound_operands k ts later.0.0.0 later.0.0.1 later.0.1 later.1 in

@@ -7,14 +7,15 @@ use Rattle.ioa_lex.specs.Tokens.{Tok, terminal}
 use Rattle.ioa_lex.specs.Lexing.{Lexes, is_blank}
 use Rattle.ioa_lex.specs.Spaced.{Spaced, IsToken, text_of}
 use Rattle.ioa_lex.proofs.SpacedLemmas.{spaced_lexes, spaced_append, spaced_one}
-use Rattle.ioa_syntax.specs.Tree.{Expr, number, truth, named, parens, prefix, binary, empty, FieldTree, PositionTree, typed, EntryTree, VariableTree, ProposalTree, Stmt, assign, choose, Stmts, stop, seq, Arms, no_arm, arm, TransitionTree, AutomatonTree, InstanceTree, CompositionTree, FormTree, enumeration, tuple, sequence, TypeTree, DeclarationTree, declared_type, automaton, composition, SourceTree}
+use Rattle.ioa_syntax.specs.Tree.{Expr, number, truth, named, parens, prefix, binary, empty, make, select, Exprs, no_expr, also, FieldTree, PositionTree, typed, EntryTree, VariableTree, ProposalTree, Stmt, assign, choose, Stmts, stop, seq, Arms, no_arm, arm, TransitionTree, AutomatonTree, InstanceTree, CompositionTree, FormTree, enumeration, tuple, sequence, TypeTree, DeclarationTree, declared_type, automaton, composition, SourceTree}
 use Rattle.ioa_value.specs.declared.operator.Op.{Op}
 use Rattle.ioa_syntax.specs.declared.tree.Infix.{Infix}
 use Rattle.ioa_syntax.specs.declared.tree.Infix.TheVariants.{Operator}
-use Rattle.ioa_syntax.specs.Operators.{operator_word, left_of, right_of}
-use Rattle.ioa_syntax.specs.Grammar.{Language, ◌▹◌, single, word, called, nothing, optional, optional_list, each_after, perhaps, separated, terminated, many, enclosed, braced, kind_word, SpellsExpr, SpellsField, SpellsFields, SpellsPosition, SpellsPositions, SpellsEntry, SpellsVariable, SpellsProposal, SpellsStmt, SpellsStmts, SpellsMore, SpellsAfter, SpellsArms, SpellsTransition, SpellsAutomaton, SpellsArguments, SpellsInstance, SpellsInstances, SpellsComposition, SpellsForm, SpellsType, SpellsDeclaration, SpellsSource}
+use Rattle.ioa_syntax.specs.Operators.{operator_word, left_of, right_of, tightest}
+use Rattle.ioa_syntax.specs.Grammar.{Language, ◌▹◌, single, word, called, nothing, optional, optional_list, each_after, perhaps, separated, terminated, many, enclosed, braced, kind_word, SpellsExpr, SpellsExprs, SpellsOthers, SpellsField, SpellsFields, SpellsPosition, SpellsPositions, SpellsEntry, SpellsVariable, SpellsProposal, SpellsStmt, SpellsStmts, SpellsMore, SpellsAfter, SpellsArms, SpellsTransition, SpellsAutomaton, SpellsArguments, SpellsInstance, SpellsInstances, SpellsComposition, SpellsForm, SpellsType, SpellsDeclaration, SpellsSource}
 use Rattle.ioa_syntax.specs.Source.{AreTokens, IsSource, plain}
-use Rattle.ioa_syntax.specs.Layout.{space, line, text_word, text_name, text_more, text_list, text_all, text_optional_list, text_parens, before_list, before_option, text_number, text_enclosed, text_expr, text_option, text_field, text_position, text_entry, text_variable, text_binding, text_proposal, text_stmt, text_stmts, text_more_stmts, text_after, text_arms, text_transition, text_behaviour, text_automaton, text_instance, text_composition, text_braces, text_form, text_type, text_declaration, text_source}
+use Rattle.ioa_syntax.specs.Layout.{space, line, text_word, text_name, text_more, text_list, text_all, text_optional_list, text_parens, before_list, before_option, text_number, text_enclosed, text_expr, text_exprs, text_others, text_option, text_field, text_position, text_entry, text_variable, text_binding, text_proposal, text_stmt, text_stmts, text_more_stmts, text_after, text_arms, text_transition, text_behaviour, text_automaton, text_instance, text_composition, text_braces, text_form, text_type, text_declaration, text_source}
+use Rattle.ioa_syntax.proofs.LegalNames.{tokens_apart}
 use Rattle.ioa_syntax.proofs.Binding.{before_encloses, between_encloses, around_stands}
 
 -- the text has tokens of the language
@@ -25,13 +26,9 @@ Prints L text = (us : List Tok) × L us × Spaced us text
 abbrev pub Reprints : Language → List ℕ → Type 0
 Reprints L text = (ts : List Tok) → L ts → AreTokens ts → Prints L text
 
-are_parts : (a b : List Tok) → AreTokens (a ++ b) → AreTokens a × AreTokens b
-are_parts [] b h = (tt, h)
-are_parts (x ∷ a) b h = let m = are_parts a b h.1 in ((h.0, m.0), m.1)
-
 then_reprints : (L M : Language) (a b : List ℕ) → Reprints L a → Reprints M b → Reprints (L ▹ M) (a ++ b)
 then_reprints L M a b p q ts s are =
-    let legal = are_parts s.0 s.1 (subst AreTokens s.4 are) in
+    let legal = tokens_apart s.0 s.1 (subst AreTokens s.4 are) in
     let first = p s.0 s.2 legal.0 in
     let second = q s.1 s.3 legal.1 in
     (first.0 ++ second.0, (first.0, second.0, first.1, second.1, refl), spaced_append first.0 second.0 a b first.2 second.2)
@@ -50,7 +47,7 @@ nothing_reprints ts s are = ([], refl, refl)
 
 -- what may end with a word is written without it
 unended_reprints : (t : Terminal) (L : Language) (a : List ℕ) → Reprints L a → Reprints (L ▹ perhaps t) a
-unended_reprints t L a p ts s are = let m = p s.0 s.2 (are_parts s.0 s.1 (subst AreTokens s.4 are)).0 in (m.0, (m.0, [], m.1, inr refl, sym (append-nil m.0)), m.2)
+unended_reprints t L a p ts s are = let m = p s.0 s.2 (tokens_apart s.0 s.1 (subst AreTokens s.4 are)).0 in (m.0, (m.0, [], m.1, inr refl, sym (append-nil m.0)), m.2)
 
 -- the same text, put together in another way
 as_text : (L : Language) (a b : List ℕ) → a ≡ b → Reprints L a → Reprints L b
@@ -155,16 +152,32 @@ binary_reprints l o r k b blank first second left right ts s are = by s
         let m = call_reprints w (SpellsExpr 0 l ▹ (word terminals.Comma ▹ SpellsExpr 0 r)) parts b blank inside ts s.1 are in
         (m.0, inr (s.0, m.1), subst (λ v. Spaced m.0 (text v)) (sym (around_stands o 2 refl s.0)) m.2)
 
-expr_reprints : (e : Expr) (k b : ℕ) → is_blank b ≡ true → Reprints (SpellsExpr k e) (text_expr b e)
-expr_reprints (number n) k b blank = single_reprints (tokens.number n) b blank
-expr_reprints (truth true) k b blank = word_reprints terminals.True b blank
-expr_reprints (truth false) k b blank = word_reprints terminals.False b blank
-expr_reprints (named n) k b blank = name_reprints n b blank
-expr_reprints (parens e) k b blank = enclosed_reprints (SpellsExpr 0 e) (text_expr space e) b blank (expr_reprints e 0 space space_blank)
-expr_reprints (prefix o e) k b blank = prefix_reprints o e k b blank (expr_reprints e (right_of (Operator o)) b blank) (expr_reprints e 0 space space_blank)
-expr_reprints (binary l o r) k b blank =
-    binary_reprints l o r k b blank (expr_reprints l (left_of o) space space_blank) (expr_reprints r (right_of o) b blank) (expr_reprints l 0 space space_blank) (expr_reprints r 0 space space_blank)
-expr_reprints (empty n) k b blank = call_reprints terminals.Empty (called n) (text_name space n) b blank (name_reprints n space space_blank)
+mutual
+  expr_reprints : (e : Expr) (k b : ℕ) → is_blank b ≡ true → Reprints (SpellsExpr k e) (text_expr b e)
+  expr_reprints (number n) k b blank = single_reprints (tokens.number n) b blank
+  expr_reprints (truth true) k b blank = word_reprints terminals.True b blank
+  expr_reprints (truth false) k b blank = word_reprints terminals.False b blank
+  expr_reprints (named n) k b blank = name_reprints n b blank
+  expr_reprints (parens e) k b blank = enclosed_reprints (SpellsExpr 0 e) (text_expr space e) b blank (expr_reprints e 0 space space_blank)
+  expr_reprints (prefix o e) k b blank = prefix_reprints o e k b blank (expr_reprints e (right_of (Operator o)) b blank) (expr_reprints e 0 space space_blank)
+  expr_reprints (binary l o r) k b blank =
+      binary_reprints l o r k b blank (expr_reprints l (left_of o) space space_blank) (expr_reprints r (right_of o) b blank) (expr_reprints l 0 space space_blank) (expr_reprints r 0 space space_blank)
+  expr_reprints (empty n) k b blank = call_reprints terminals.Empty (called n) (text_name space n) b blank (name_reprints n space space_blank)
+  expr_reprints (make n es) k b blank =
+      then_reprints (called n) (enclosed (SpellsExprs es)) (text_name space n) (text_enclosed b (text_exprs es)) (name_reprints n space space_blank) (enclosed_reprints (SpellsExprs es) (text_exprs es) b blank (exprs_reprint es))
+  expr_reprints (select e n) k b blank =
+      then_reprints (SpellsExpr tightest e) (word terminals.Dot ▹ called n) (text_expr space e) (text_word space terminals.Dot ++ text_name b n) (expr_reprints e tightest space space_blank)
+      (then_reprints (word terminals.Dot) (called n) (text_word space terminals.Dot) (text_name b n) (word_reprints terminals.Dot space space_blank) (name_reprints n b blank))
+
+  exprs_reprint : (es : Exprs) → Reprints (SpellsExprs es) (text_exprs es)
+  exprs_reprint no_expr = λ ts s are. absurd s
+  exprs_reprint (also e es) = then_reprints (SpellsExpr 0 e) (SpellsOthers es) (text_expr space e) (text_others es) (expr_reprints e 0 space space_blank) (others_reprint es)
+
+  others_reprint : (es : Exprs) → Reprints (SpellsOthers es) (text_others es)
+  others_reprint no_expr = nothing_reprints
+  others_reprint (also e es) =
+      then_reprints (word terminals.Comma) (SpellsExpr 0 e ▹ SpellsOthers es) (text_word space terminals.Comma) (text_expr space e ++ text_others es) (word_reprints terminals.Comma space space_blank)
+      (then_reprints (SpellsExpr 0 e) (SpellsOthers es) (text_expr space e) (text_others es) (expr_reprints e 0 space space_blank) (others_reprint es))
 
 option_reprints : (t : Terminal) (x : Option Expr) → Reprints (optional t (SpellsExpr 0) x) (text_option (text_word space t) x)
 option_reprints t None = nothing_reprints
@@ -302,18 +315,10 @@ instance_reprints i =
     let colon = then_reprints (word terminals.Colon) (called i.automaton ▹ optional_list terminals.Open SpellsArguments i.arguments) (text_word space terminals.Colon) (text_name (before_list i.arguments) i.automaton ++ text_parens (text_expr space) i.arguments) (word_reprints terminals.Colon space space_blank) last in
     then_reprints (called i.name) (word terminals.Colon ▹ (called i.automaton ▹ optional_list terminals.Open SpellsArguments i.arguments)) (text_name space i.name) (text_word space terminals.Colon ++ (text_name (before_list i.arguments) i.automaton ++ text_parens (text_expr space) i.arguments)) (name_reprints i.name space space_blank) colon
 
-instances_reprint : (is : List InstanceTree) → Reprints (SpellsInstances is) (text_all text_instance is)
-unfolding text_all
-instances_reprint [] = λ ts s are. absurd s
-instances_reprint (i ∷ []) = λ ts s are.
-    let m = instance_reprints i s.0 s.2 (are_parts s.0 s.1 (subst AreTokens s.4 are)).0 in
-    (m.0, (m.0, [], m.1, inr refl, sym (append-nil m.0)), subst (Spaced m.0) (sym (append-nil (text_instance i))) m.2)
-instances_reprint (i ∷ j ∷ more) = λ ts s are. absurd s
-
 composition_reprints : (c : CompositionTree) → Reprints (SpellsComposition c) (text_composition c)
 composition_reprints c =
-    then_reprints (called c.name) (word terminals.Components ▹ SpellsInstances c.instances) (text_name space c.name) (text_word line terminals.Components ++ text_all text_instance c.instances) (name_reprints c.name space space_blank)
-    (then_reprints (word terminals.Components) (SpellsInstances c.instances) (text_word line terminals.Components) (text_all text_instance c.instances) (word_reprints terminals.Components line line_blank) (instances_reprint c.instances))
+    then_reprints (called c.name) (word terminals.Components ▹ SpellsInstances c.instances) (text_name space c.name) (text_word line terminals.Components ++ text_list terminals.Semicolon text_instance c.instances) (name_reprints c.name space space_blank)
+    (then_reprints (word terminals.Components) (SpellsInstances c.instances) (text_word line terminals.Components) (text_list terminals.Semicolon text_instance c.instances) (word_reprints terminals.Components line line_blank) (terminated_reprints terminals.Semicolon SpellsInstance text_instance instance_reprints c.instances))
 
 braced_reprints : {A : Type 0} (L : A → Language) (f : A → List ℕ) → ((x : A) → Reprints (L x) (f x)) → (xs : List A) → Reprints (braced L xs) (text_braces f xs)
 braced_reprints L f each xs =

@@ -1,5 +1,5 @@
 -- Each reader of a production against its language.
-use Rattle.std.proofs.Common.{◌≡◌, ℕ, ◌<◌, max, ◌⊎◌, inl, inr, Bool, true, false, List, [], ◌∷◌, ◌++◌, length, refl, sym, ap, ◌∙◌, subst, arith, Option, Some, None, Ok, length-append, append_assoc, is_some}
+use Rattle.std.proofs.Common.{◌≡◌, ℕ, ◌<◌, max, ◌⊎◌, inl, inr, Bool, true, false, List, [], ◌∷◌, ◌++◌, length, refl, sym, ap, ◌∙◌, subst, arith, Option, Some, None, length-append, append_assoc, is_some}
 use Rattle.ioa_value.specs.declared.terminal.Terminal.{Terminal}
 use Rattle.ioa_value.specs.declared.terminal.Terminal.TheVariants as terminals
 use Rattle.ioa_lex.specs.Tokens as tokens
@@ -11,18 +11,18 @@ use Rattle.ioa_syntax.specs.Tree.{Expr, FieldTree, PositionTree, typed, EntryTre
 use Rattle.ioa_syntax.specs.Depth.{depth_of, deepest, deep_option, deep_variable, deep_proposal, deep_stmts, stmts_depth, deep_transition, deep_automaton, deep_instance, deep_composition, deep}
 use Rattle.ioa_syntax.specs.Grammar as grammar
 use Rattle.ioa_syntax.specs.Grammar.{Language, SameHead, ◌▹◌, single, word, called, nothing, empty, kind_word, SpellsExpr, SpellsField, SpellsFields, SpellsPosition, SpellsPositions, SpellsEntry, SpellsVariable, SpellsProposal, SpellsAfter, SpellsTransition, SpellsAutomaton, SpellsArguments, SpellsInstance, SpellsInstances, SpellsComposition, SpellsForm, SpellsType, SpellsDeclaration}
-use Rattle.ioa_syntax.specs.Reading.{Reader, built, perhaps, sees, after, sees_name, sees_statement, sees_kind, kind_at, kind_of, terminal_at, same_terminal, is_name, operator_of, field, fields, position, positions, entry, entries, variable, variables, proposal, proposals, introduced, statements, transition, transitions, an_automaton, arguments, instance, instances, a_composition, many, rest, an_enumeration, a_tuple, a_sequence, sequence_form, compound_form, type_form, a_type, composed, machine, declaration}
-use Rattle.ioa_syntax.proofs.Outcomes.{LooksAhead, head_alike, went, alike_rest, ok_pair, Alike, same_head}
-use Rattle.ioa_syntax.proofs.Exact.{Found, Exact, any, flat, deep_as, before, then, built_as, said_as}
-use Rattle.ioa_syntax.proofs.Singles.{sign_exact, name_exact, number_exact, kind_exact, kind_is, kind_alike, seen, sees_alike, after_seen, after_unseen, after_word, after_length, seen_some, either_exact}
+use Rattle.ioa_syntax.specs.Reading.{built, sees, sees_name, sees_statement, sees_kind, kind_at, kind_of, terminal_at, same_terminal, is_name, operator_of, field, fields, position, positions, entry, entries, variable, variables, proposal, proposals, introduced, statements, transition, transitions, an_automaton, arguments, instance, instances, a_composition, many, an_enumeration, a_tuple, a_sequence, sequence_form, compound_form, type_form, a_type, composed, machine, declaration}
+use Rattle.ioa_syntax.proofs.Outcomes.{LooksAhead, head_alike}
+use Rattle.ioa_syntax.proofs.Exact.{Exact, any, flat, deep_as, before, then, built_as, said_as}
+use Rattle.ioa_syntax.proofs.Singles.{sign_exact, name_exact, number_exact, kind_exact, kind_is, kind_alike, either_exact}
 use Rattle.ioa_syntax.proofs.Absent.{into_exact, Image, image_exact, deep_some, optional_exact, optional_list_exact}
 use Rattle.ioa_syntax.proofs.Lists.{terminated_exact, separated_exact, many_exact}
 use Rattle.ioa_syntax.proofs.FirstTokens.{first_some, first_of_all, leads, by_list, by_two}
 use Rattle.ioa_syntax.proofs.ChoiceLemmas.{by_after}
 use Rattle.ioa_syntax.proofs.Levels.{after_word_exact}
 use Rattle.ioa_syntax.proofs.Enclosed.{closing_exact, braced_exact}
-use Rattle.ioa_syntax.proofs.Endings.{Ends, ends_close, ends_comma}
-use Rattle.ioa_syntax.proofs.Complete.{spelled_deep, depth_positive}
+use Rattle.ioa_syntax.proofs.Endings.{Ends, ends_close, ends_comma, comma_close}
+use Rattle.ioa_syntax.proofs.Spelled.{expression_some}
 use Rattle.ioa_syntax.proofs.Deepening.{expression_exact}
 
 deepest_flat : {A : Type 0} (xs : List A) → deepest flat xs ≡ 0
@@ -40,10 +40,6 @@ field_exact =
 
 field_some : (f : FieldTree) (ts : List Tok) → SpellsField f ts → 0 < length ts
 field_some f ts s = first_some (tokens.name f.name) (word terminals.Colon ▹ called f.ty) ts s
-
-comma_close : (z : List Tok) → sees terminals.Comma (terminal terminals.Close ∷ z) ≡ false
-unfolding sees same_terminal
-comma_close z = refl
 
 pub fields_exact : Exact SpellsFields flat any (λ b. fields)
 unfolding fields
@@ -136,7 +132,7 @@ variable_begins v ts left s =
 
 after_semicolon : (z : List Tok) → AfterVariable (terminal terminals.Semicolon ∷ z)
 unfolding sees same_terminal terminal_at operator_of
-after_semicolon z = (tt, refl)
+after_semicolon z = ((tt, refl, refl), refl)
 
 abbrev AfterVariables : Language
 AfterVariables left = AfterVariable left × (sees terminals.Semicolon left ≡ false) × (sees_name left ≡ false)
@@ -181,15 +177,15 @@ BeforeProposals left = Ends 0 left × (sees terminals.Pre left ≡ false)
 
 at_eff : (z : List Tok) → BeforeEffect (terminal terminals.Eff ∷ z)
 unfolding sees same_terminal terminal_at operator_of
-at_eff z = ((tt, refl), refl)
+at_eff z = (((tt, refl, refl), refl), refl)
 
 pre_eff : (z : List Tok) → BeforeProposals (terminal terminals.Eff ∷ z)
 unfolding sees same_terminal terminal_at operator_of
-pre_eff z = (tt, refl)
+pre_eff z = ((tt, refl, refl), refl)
 
 pre_propose : (z : List Tok) → BeforeProposals (terminal terminals.Propose ∷ z)
 unfolding sees same_terminal terminal_at operator_of
-pre_propose z = (tt, refl)
+pre_propose z = ((tt, refl, refl), refl)
 
 parted_bare : {A : Type 0} (t : Terminal) (L : A → Language) (ts : List Tok) → grammar.separated t L [] ts → ⊥
 parted_bare t L ts s = s
@@ -224,9 +220,9 @@ transition_some t ts s = omega (arith, ap length s.4, length-append s.0 s.1, ap 
 
 at_kind : (k : Kind) (z : List Tok) → AfterTransition (terminal (kind_word k) ∷ z)
 unfolding sees same_terminal terminal_at operator_of sees_statement sees_name
-at_kind Input z = record { ends = tt; semicolon = refl; begins = refl; comma = refl; eff = refl; propose = refl; pre = refl }
-at_kind Output z = record { ends = tt; semicolon = refl; begins = refl; comma = refl; eff = refl; propose = refl; pre = refl }
-at_kind Internal z = record { ends = tt; semicolon = refl; begins = refl; comma = refl; eff = refl; propose = refl; pre = refl }
+at_kind Input z = record { ends = (tt, refl, refl); semicolon = refl; begins = refl; comma = refl; eff = refl; propose = refl; pre = refl }
+at_kind Output z = record { ends = (tt, refl, refl); semicolon = refl; begins = refl; comma = refl; eff = refl; propose = refl; pre = refl }
+at_kind Internal z = record { ends = (tt, refl, refl); semicolon = refl; begins = refl; comma = refl; eff = refl; propose = refl; pre = refl }
 
 first_kind : (F : Language) (t : TransitionTree) (ts left : List Tok) → ((z : List Tok) → F (terminal (kind_word t.kind) ∷ z)) → SpellsTransition t ts → F (ts ++ left)
 first_kind F t ts left h s =
@@ -253,7 +249,7 @@ BeforeStates left = AfterVariables left × (sees terminals.States left ≡ false
 
 at_transitions : (z : List Tok) → BeforeStates (terminal terminals.Transitions ∷ z)
 unfolding sees same_terminal terminal_at operator_of sees_name
-at_transitions z = (((tt, refl), refl, refl), refl)
+at_transitions z = ((((tt, refl, refl), refl), refl, refl), refl)
 
 entries_transitions : (z : List Tok) → AfterEntries (terminal terminals.Transitions ∷ z)
 unfolding sees same_terminal sees_kind kind_at terminal_at kind_of
@@ -297,9 +293,6 @@ automaton_exact =
 
 -- ---- compositions
 
-expression_some : (e : Expr) (ts : List Tok) → SpellsExpr 0 e ts → 0 < length ts
-expression_some e ts s = omega (arith, spelled_deep e 0 ts s, depth_positive e)
-
 pub arguments_exact : Exact SpellsArguments (deepest depth_of) any arguments
 unfolding arguments
 arguments_exact = closing_exact (separated_exact terminals.Comma expression_exact expression_some (ends_comma 0)) (λ z. (ends_close 0 z, comma_close z))
@@ -311,63 +304,18 @@ instance_exact =
     (built_as (λ p. record { name = p.0; automaton = p.1.1.0; arguments = p.1.1.1 }) (λ i. (i.name, (tt, (i.automaton, i.arguments)))) (λ i. refl) (λ p. refl)
     (then name_exact (then (sign_exact terminals.Colon) (then name_exact (optional_list_exact terminals.Open arguments_exact (closed_bare terminals.Comma terminals.Close (SpellsExpr 0)) refl) (λ y ts left s g. tt)) (λ y ts left s g. tt)) (λ y ts left s g. tt)))
 
-perhaps_sound : (t : Terminal) (b : ℕ) (ts : List Tok) (x : Unit {0}) (left : List Tok) → perhaps t ts ≡ Ok (x, left) → Found (λ (u : Unit {0}). grammar.perhaps t) flat b ts x left
-perhaps_sound t b ts x left h = by (sees t ts) refl
-  where
-    same : after t ts ≡ left
-    same = (ok_pair tt x (after t ts) left h).1
+instance_some : (i : InstanceTree) (ts : List Tok) → SpellsInstance i ts → 0 < length ts
+instance_some i ts s = first_some (tokens.name i.name) (word terminals.Colon ▹ (called i.automaton ▹ grammar.optional_list terminals.Open SpellsArguments i.arguments)) ts s
 
-    by : (v : Bool) → sees t ts ≡ v → Found (λ (u : Unit {0}). grammar.perhaps t) flat b ts x left
-    by true e = record { front = terminal t ∷ []; spells = inl refl; apart = seen t ts e ∙ ap (λ z. terminal t ∷ z) (sym (after_seen t ts e) ∙ same); within = omega arith }
-    by false e = record { front = []; spells = inr refl; apart = sym (after_unseen t ts e) ∙ same; within = omega arith }
-
-abbrev pass : Reader (Unit {0})
-pass ts = Ok (tt, ts)
-
-perhaps_alike : (t : Terminal) (s s' : List Tok) → SameHead s s' → (c : List Tok) → Alike s s' (perhaps t (c ++ s)) (perhaps t (c ++ s'))
-perhaps_alike t s s' h c = by (sees t (c ++ s)) refl
-  where
-    same : sees t (c ++ s) ≡ sees t (c ++ s')
-    same = sees_alike t (c ++ s) (c ++ s') (same_head s s' h c)
-
-    by : (v : Bool) → sees t (c ++ s) ≡ v → Alike s s' (perhaps t (c ++ s)) (perhaps t (c ++ s'))
-    by true e =
-        subst (λ z. Alike s s' (Ok (tt, z)) (perhaps t (c ++ s'))) (sym (after_seen t (c ++ s) e))
-        (subst (λ z. Alike s s' (Ok (tt, rest (c ++ s))) (Ok (tt, z))) (sym (after_seen t (c ++ s') (sym same ∙ e)))
-        (alike_rest s s' pass pass h (λ ts. omega arith) (λ c. went s s' tt c) c (seen_some t (c ++ s) e)))
-    by false e =
-        subst (λ z. Alike s s' (Ok (tt, z)) (perhaps t (c ++ s'))) (sym (after_unseen t (c ++ s) e))
-        (subst (λ z. Alike s s' (Ok (tt, c ++ s)) (Ok (tt, z))) (sym (after_unseen t (c ++ s') (sym same ∙ e))) (went s s' tt c))
-
-perhaps_complete : (t : Terminal) (ts left : List Tok) → grammar.perhaps t ts → sees t left ≡ false → after t (ts ++ left) ≡ left
-perhaps_complete t ts left (inl s) f = ap (λ z. after t (z ++ left)) s ∙ after_word t left
-perhaps_complete t ts left (inr s) f = ap (λ z. after t (z ++ left)) s ∙ after_unseen t left f
-
-perhaps_exact : (t : Terminal) → Exact (λ (u : Unit {0}). grammar.perhaps t) flat (λ left. sees t left ≡ false) (λ b. perhaps t)
-perhaps_exact t = record {
-  complete = λ b x ts left s d f. ap (λ z. Ok (tt, z)) (perhaps_complete t ts left s f);
-  sound = perhaps_sound t;
-  shrinks = λ b ts. after_length t ts;
-  alike = λ b b' le s s' h c. perhaps_alike t s s' h c;
-  long = λ b ts h. absurd (cc (h));
-}
+instance_begins : (i : InstanceTree) (ts left : List Tok) → SpellsInstance i ts → sees_name (ts ++ left) ≡ true
+instance_begins i ts left s = leads (λ z. sees_name z ≡ true) (tokens.name i.name) (word terminals.Colon ▹ (called i.automaton ▹ grammar.optional_list terminals.Open SpellsArguments i.arguments)) ts left (sees_name_called i.name) s
 
 abbrev pub AfterInstances : Language
-AfterInstances left = AfterEntry left × (sees terminals.Semicolon left ≡ false)
-
-perhaps_follows : (ts left : List Tok) → grammar.perhaps terminals.Semicolon ts → AfterInstances left → AfterEntry (ts ++ left)
-perhaps_follows ts left (inl s) a = subst (λ z. AfterEntry (z ++ left)) (sym s) (tt, open_semicolon left)
-perhaps_follows ts left (inr s) a = subst (λ z. AfterEntry (z ++ left)) (sym s) a.0
+AfterInstances left = AfterEntry left × (sees terminals.Semicolon left ≡ false) × (sees_name left ≡ false)
 
 pub instances_exact : Exact SpellsInstances (deepest deep_instance) AfterInstances instances
 unfolding instances
-instances_exact =
-    into_exact (λ p. p.0 ∷ []) (then instance_exact (before AfterInstances (λ left a. a.1) (perhaps_exact terminals.Semicolon)) (λ y ts left s a. perhaps_follows ts left s a)) SpellsInstances (deepest deep_instance) of (λ x ts s. s) (λ x. omega arith)
-  where
-    of : (y : List InstanceTree) (ts : List Tok) → SpellsInstances y ts → (x : InstanceTree × Unit {0}) × ((x.0 ∷ []) ≡ y) × (SpellsInstance x.0 ▹ grammar.perhaps terminals.Semicolon) ts
-    of [] ts s = absurd s
-    of (i ∷ []) ts s = ((i, tt), refl, s)
-    of (i ∷ j ∷ more) ts s = absurd s
+instances_exact = terminated_exact sees_name sees_name_alike terminals.Semicolon instance_exact instance_some (λ ts. (tt, open_semicolon ts)) instance_begins
 
 pub composition_exact : Exact SpellsComposition deep_composition AfterInstances a_composition
 unfolding a_composition
@@ -625,19 +573,19 @@ declaration_some (composition c) ts s = first_some (terminal terminals.Compositi
 
 pub at_type : (z : List Tok) → AfterDeclaration (terminal terminals.Type ∷ z)
 unfolding sees same_terminal sees_kind kind_at terminal_at kind_of operator_of sees_statement sees_name
-at_type z = ((record { ends = tt; semicolon = refl; begins = refl; comma = refl; eff = refl; propose = refl; pre = refl }, refl), ((tt, refl), refl))
+at_type z = ((record { ends = (tt, refl, refl); semicolon = refl; begins = refl; comma = refl; eff = refl; propose = refl; pre = refl }, refl), ((tt, refl), refl, refl))
 
 pub at_automaton : (z : List Tok) → AfterDeclaration (terminal terminals.Automaton ∷ z)
 unfolding sees same_terminal sees_kind kind_at terminal_at kind_of operator_of sees_statement sees_name
-at_automaton z = ((record { ends = tt; semicolon = refl; begins = refl; comma = refl; eff = refl; propose = refl; pre = refl }, refl), ((tt, refl), refl))
+at_automaton z = ((record { ends = (tt, refl, refl); semicolon = refl; begins = refl; comma = refl; eff = refl; propose = refl; pre = refl }, refl), ((tt, refl), refl, refl))
 
 pub at_composition : (z : List Tok) → AfterDeclaration (terminal terminals.Composition ∷ z)
 unfolding sees same_terminal sees_kind kind_at terminal_at kind_of operator_of sees_statement sees_name
-at_composition z = ((record { ends = tt; semicolon = refl; begins = refl; comma = refl; eff = refl; propose = refl; pre = refl }, refl), ((tt, refl), refl))
+at_composition z = ((record { ends = (tt, refl, refl); semicolon = refl; begins = refl; comma = refl; eff = refl; propose = refl; pre = refl }, refl), ((tt, refl), refl, refl))
 
 pub at_end : AfterDeclaration []
 unfolding sees same_terminal sees_kind kind_at terminal_at kind_of operator_of sees_statement sees_name
-at_end = ((record { ends = tt; semicolon = refl; begins = refl; comma = refl; eff = refl; propose = refl; pre = refl }, refl), ((tt, refl), refl))
+at_end = ((record { ends = (tt, refl, refl); semicolon = refl; begins = refl; comma = refl; eff = refl; propose = refl; pre = refl }, refl), ((tt, refl), refl, refl))
 
 pub declaration_leads : (F : Language) (d : DeclarationTree) (ts left : List Tok) → ((z : List Tok) → F (terminal terminals.Type ∷ z)) → ((z : List Tok) → F (terminal terminals.Automaton ∷ z)) →
     ((z : List Tok) → F (terminal terminals.Composition ∷ z)) → SpellsDeclaration d ts → F (ts ++ left)

@@ -105,7 +105,7 @@ module _ {X : Type 0} (f : List Tok → Option X) (of : X → Tok) (P : Reader X
 
 module _ {I X A : Type 0} {size : I → ℕ} (f : List Tok → Option X) (of : X → Tok) (V : X → Type 0) (look : LooksAhead f) (none : f [] ≡ None)
     (is : (x : X) (ts : List Tok) → V x → f (of x ∷ ts) ≡ Some x) (only : (ts : List Tok) (x : X) → f ts ≡ Some x → (ts ≡ of x ∷ rest ts) × V x)
-    {L : X → A → Language} {D : A → ℕ} {P : I → X → Reader A} (each : (x : X) → V x → ExactFor size (L x) D any (λ b. P b x))
+    {L : X → A → Language} {D : A → ℕ} {F : Language} {P : I → X → Reader A} (each : (x : X) → V x → ExactFor size (L x) D F (λ b. P b x))
     (E : A → ℕ) (deep : (y : A) → E y ≡ suc (D y)) where
   abbrev pub Begun : A → Language
   Begun y = λ ts. (x : X) × V x × (single (of x) ▹ L x y) ts
@@ -119,12 +119,12 @@ module _ {I X A : Type 0} {size : I → ℕ} (f : List Tok → Option X) (of : X
   begun_none : (b : I) (ts : List Tok) → f ts ≡ None → reads b ts ≡ Err (Syntax (length ts))
   begun_none b ts e = ap (begun (P b) ts) e
 
-  begun_complete : (b : I) (y : A) (ts left : List Tok) → Begun y ts → E y ≤ suc (size b) → any left → reads b (ts ++ left) ≡ Ok (y, left)
+  begun_complete : (b : I) (y : A) (ts left : List Tok) → Begun y ts → E y ≤ suc (size b) → F left → reads b (ts ++ left) ≡ Ok (y, left)
   begun_complete b y ts left s d g =
       let x = s.0 in
       let m = s.2 in
       let apart : ts ++ left ≡ of x ∷ (m.1 ++ left) = ap (λ z. z ++ left) (m.4 ∙ ap (λ z. z ++ m.1) m.2) in
-      ap (reads b) apart ∙ begun_some b (of x ∷ (m.1 ++ left)) x (is x (m.1 ++ left) s.1) ∙ (each x s.1).complete b y m.1 left m.3 (omega (arith, deep y)) tt
+      ap (reads b) apart ∙ begun_some b (of x ∷ (m.1 ++ left)) x (is x (m.1 ++ left) s.1) ∙ (each x s.1).complete b y m.1 left m.3 (omega (arith, deep y)) g
 
   begun_sound : (b : I) (ts : List Tok) (y : A) (left : List Tok) → reads b ts ≡ Ok (y, left) → Found Begun E (suc (size b)) ts y left
   begun_sound b ts y left h = by (f ts) refl
@@ -177,7 +177,7 @@ module _ {I X A : Type 0} {size : I → ℕ} (f : List Tok → Option X) (of : X
           let far = (each x at.1).long b (rest ts) (sym (begun_some b ts x e) ∙ h) in
           omega (arith, ap length at.0)
 
-  pub begun_exact : ExactFor (λ b. suc (size b)) Begun E any reads
+  pub begun_exact : ExactFor (λ b. suc (size b)) Begun E F reads
   begun_exact = record {
     complete = begun_complete;
     sound = begun_sound;

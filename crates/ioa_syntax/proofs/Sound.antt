@@ -16,8 +16,8 @@ use Rattle.ioa_syntax.proofs.Outcomes.{bind_ok, ok_pair, guard_ok}
 use Rattle.ioa_syntax.proofs.Exact.{Found}
 use Rattle.ioa_syntax.proofs.Binding.{found_only, prefix_only, left_again}
 use Rattle.ioa_syntax.proofs.Endings.{mark}
-use Rattle.ioa_syntax.proofs.Operands.{Opens, opens_spells}
-use Rattle.ioa_syntax.proofs.Complete.{prefix_join, binary_join, first_plain, first_marked, first_loose, climbs}
+use Rattle.ioa_syntax.proofs.Spelled.{prefix_join, binary_join, at_any}
+use Rattle.ioa_syntax.proofs.Complete.{first_plain, first_marked, first_loose, climbs}
 
 pub le_of : (a b : ℕ) → nat_le a b ≡ true → a ≤ b
 le_of a b h = grind (arith, nat_tests)
@@ -96,18 +96,17 @@ pub record ReadsFirst (b least : ℕ) (ts : List Tok) (t : Expr) (below : ℕ) (
   pub within : depth_of t ≤ b
 
 module _ (b : ℕ) (e : ℕ → Reader Expr) (inner : (k : ℕ) (ts : List Tok) (t : Expr) (left : List Tok) → e k ts ≡ Ok (t, left) → Reads b k ts t left)
-    (operands : (ts : List Tok) (t : Expr) (left : List Tok) → operand (e 0) ts ≡ Ok (t, left) → Found Opens depth_of (suc b) ts t left) where
-  plain_sound : (least : ℕ) (ts : List Tok) (t : Expr) (below : ℕ) (left : List Tok) → built {B = Expr × ℕ} (λ t. (t, tightest)) (operand (e 0)) ts ≡ Ok ((t, below), left) → ReadsFirst (suc b) least ts t below left
+    (operands : (ts : List Tok) (t : Expr) (left : List Tok) → operand b (e 0) ts ≡ Ok (t, left) → Found (SpellsExpr tightest) depth_of (suc b) ts t left) where
+  plain_sound : (least : ℕ) (ts : List Tok) (t : Expr) (below : ℕ) (left : List Tok) → built {B = Expr × ℕ} (λ t. (t, tightest)) (operand b (e 0)) ts ≡ Ok ((t, below), left) → ReadsFirst (suc b) least ts t below left
   plain_sound least ts t below left h =
-      let one = bind_ok (operand (e 0) ts) (λ x. Ok ((x.0, tightest), x.1)) ((t, below), left) h in
+      let one = bind_ok (operand b (e 0) ts) (λ x. Ok ((x.0, tightest), x.1)) ((t, below), left) h in
       let same = ok_pair (one.0.0, tightest) (t, below) one.0.1 left one.2 in
       let r = operands ts one.0.0 one.0.1 one.1 in
-      let at_any : (k : ℕ) → SpellsExpr k one.0.0 r.front = opens_spells one.0.0 r.front r.spells in
       let is : one.0.0 ≡ t = ap (λ p. p.0) same.0 in
       record {
         front = r.front;
-        spells = subst (λ t. SpellsExpr least t r.front) is (at_any least);
-        takes_left = λ o _. subst (λ t. SpellsExpr (left_of o) t r.front) is (at_any (left_of o));
+        spells = subst (λ t. SpellsExpr least t r.front) is (at_any one.0.0 r.front r.spells least);
+        takes_left = λ o _. subst (λ t. SpellsExpr (left_of o) t r.front) is (at_any one.0.0 r.front r.spells (left_of o));
         apart = r.apart ∙ ap (λ z. r.front ++ z) same.1;
         within = subst (λ t. depth_of t ≤ suc b) is r.within;
       }
@@ -129,12 +128,12 @@ module _ (b : ℕ) (e : ℕ → Reader Expr) (inner : (k : ℕ) (ts : List Tok) 
         within = subst (λ t. depth_of t ≤ suc b) is (omega (arith, r.within));
       }
 
-  pub first_sound : (least : ℕ) (ts : List Tok) (t : Expr) (below : ℕ) (left : List Tok) → first least e ts ≡ Ok ((t, below), left) → ReadsFirst (suc b) least ts t below left
+  pub first_sound : (least : ℕ) (ts : List Tok) (t : Expr) (below : ℕ) (left : List Tok) → first b least e ts ≡ Ok ((t, below), left) → ReadsFirst (suc b) least ts t below left
   first_sound least ts t below left h =
       elim (beginning least ts) [
-        | begins_plain none ↦ plain_sound least ts t below left (sym (first_plain least e ts none) ∙ h)
-        | begins_marked o is at before low ↦ marked_sound least o ts t below left at before (le_of _ _ low) (sym (first_marked least e o ts is low) ∙ h)
-        | begins_loose o is at high ↦ let never = sym (first_loose least e o ts is high) ∙ h in absurd (cc)
+        | begins_plain none ↦ plain_sound least ts t below left (sym (first_plain b least e ts none) ∙ h)
+        | begins_marked o is at before low ↦ marked_sound least o ts t below left at before (le_of _ _ low) (sym (first_marked b least e o ts is low) ∙ h)
+        | begins_loose o is at high ↦ let never = sym (first_loose b least e o ts is high) ∙ h in absurd (cc)
       ]
 
   abbrev Climbs : ℕ → Type 0
@@ -177,11 +176,11 @@ module _ (b : ℕ) (e : ℕ → Reader Expr) (inner : (k : ℕ) (ts : List Tok) 
       ]
 
 pub sound_more : (b : ℕ) → ((k : ℕ) (ts : List Tok) (t : Expr) (left : List Tok) → expr b k ts ≡ Ok (t, left) → Reads b k ts t left) →
-    ((ts : List Tok) (t : Expr) (left : List Tok) → operand (expr b 0) ts ≡ Ok (t, left) → Found Opens depth_of (suc b) ts t left) →
+    ((ts : List Tok) (t : Expr) (left : List Tok) → operand b (expr b 0) ts ≡ Ok (t, left) → Found (SpellsExpr tightest) depth_of (suc b) ts t left) →
     (k : ℕ) (ts : List Tok) (t : Expr) (left : List Tok) → expr (suc b) k ts ≡ Ok (t, left) → Reads (suc b) k ts t left
 unfolding expr
 sound_more b inner operands k ts t left h =
-    let x = bind_ok (first k (expr b) ts) (climbs b k) (t, left) h in
+    let x = bind_ok (first b k (expr b) ts) (climbs b k) (t, left) h in
     let begun = first_sound b (expr b) inner operands k ts x.0.0.0 x.0.0.1 x.0.1 x.1 in
     let more = climb_sound b (expr b) inner operands b k x.0.0.1 x.0.0.0 x.0.1 t left x.2 begun.front begun.spells begun.takes_left begun.within in
     record { front = more.front; spells = more.spells; apart = begun.apart ∙ more.apart; within = more.within }

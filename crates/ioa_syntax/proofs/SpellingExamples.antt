@@ -1,18 +1,19 @@
--- Small lists of tokens, what they spell and how they are read: operators around their operands, empty sequences, and declarations of types.
-use Rattle.std.proofs.Common.{◌≡◌, ℕ, List, [], ◌∷◌, ◌++◌, Ok, Err, refl, codes, inl, inr, arith}
+-- Small lists of tokens, what they spell and how they are read: operators around their operands, empty sequences, tuples and fields, and
+-- declarations of types.
+use Rattle.std.proofs.Common.{◌≡◌, ℕ, true, List, [], ◌∷◌, ◌++◌, Ok, Err, refl, codes, inl, inr, arith}
 use Rattle.ioa_value.specs.Actions.{Name}
 use Rattle.ioa_value.specs.declared.terminal.Terminal.{Terminal}
 use Rattle.ioa_value.specs.declared.terminal.Terminal.TheVariants as terminals
-use Rattle.ioa_value.specs.declared.operator.Op.TheVariants.{Neg, Add, Not, Len, Head, Append, Member, Field}
+use Rattle.ioa_value.specs.declared.operator.Op.TheVariants.{Neg, Add, Eq, Not, Len, Head, Append, Member, Field}
 use Rattle.ioa_lex.specs.Tokens as tokens
 use Rattle.ioa_lex.specs.Tokens.{Tok, terminal}
 use Rattle.ioa_syntax.specs.declared.tree.Infix.TheVariants.{Operator, And}
 use Rattle.ioa_syntax.specs.declared.fault.Fault.TheVariants.{Syntax, TooDeep}
-use Rattle.ioa_syntax.specs.Tree.{Expr, number, named, prefix, binary, empty, FormTree, enumeration, tuple, sequence, TypeTree, declared_type}
+use Rattle.ioa_syntax.specs.Tree.{Expr, number, truth, named, parens, prefix, binary, empty, make, select, no_expr, also, FormTree, enumeration, tuple, sequence, TypeTree, declared_type}
 use Rattle.ioa_syntax.specs.Depth.{depth_of}
 use Rattle.ioa_syntax.specs.Grammar.{SpellsExpr}
 use Rattle.ioa_syntax.specs.Layout.{space, text_number, text_expr, text_all, text_type, text_source}
-use Rattle.ioa_syntax.specs.Reading.{Outcome, expression, expr, first, operand, start_at, start_of, around_of, around, around_one, around_two, an_empty, enclosed, closing, climb, operator_at, operator_of, prefix_at, prefix_of, terminal_at, same_terminal, sign, a_name, a_number, sees, after, items_from, separated, braced, field, an_enumeration, a_tuple, a_sequence, sequence_form, compound_form, type_form, a_type}
+use Rattle.ioa_syntax.specs.Reading.{Outcome, expression, expr, first, operand, fields_from, after_name, primary, start_at, start_of, around_of, around, around_one, around_two, an_empty, enclosed, closing, climb, operator_at, operator_of, prefix_at, prefix_of, terminal_at, same_terminal, sign, a_name, a_number, sees, after, items_from, separated, braced, field, an_enumeration, a_tuple, a_sequence, sequence_form, compound_form, type_form, a_type}
 
 abbrev word : Terminal → Tok
 word = terminal
@@ -26,6 +27,14 @@ called = tokens.name
 -- what stands between parentheses
 abbrev within : List Tok → List Tok
 within ts = word terminals.Open ∷ (ts ++ word terminals.Close ∷ [])
+
+-- .name
+abbrev dot : Name → List Tok
+dot f = word terminals.Dot ∷ called f ∷ []
+
+-- P(1, true)
+abbrev pair : List Tok
+pair = called (codes "P") ∷ within (n 1 ∷ word terminals.Comma ∷ word terminals.True ∷ [])
 
 abbrev s : Expr
 s = named (codes "s")
@@ -41,76 +50,157 @@ read ts = expression 6 ts
 
 -- len(s)
 takes_one : read (word terminals.Len ∷ within (called (codes "s") ∷ [])) ≡ Ok (prefix Len s, [])
-unfolding expression expr first prefix_at prefix_of operand start_at start_of around_of around around_one enclosed closing climb operator_at operator_of terminal_at same_terminal sign sees
+unfolding expression expr first prefix_at prefix_of operand primary after_name fields_from after start_at start_of around_of around around_one enclosed closing climb operator_at operator_of terminal_at same_terminal sign sees
 takes_one = refl
 
 -- append(s, 1)
 takes_two : read (word terminals.Append ∷ within (called (codes "s") ∷ word terminals.Comma ∷ n 1 ∷ [])) ≡ Ok (binary s (Operator Append) (number 1), [])
-unfolding expression expr first prefix_at prefix_of operand start_at start_of around_of around around_two enclosed closing climb operator_at operator_of terminal_at same_terminal sign sees
+unfolding expression expr first prefix_at prefix_of operand primary after_name fields_from after start_at start_of around_of around around_two enclosed closing climb operator_at operator_of terminal_at same_terminal sign sees
 takes_two = refl
 
 -- empty(Ints)
 takes_a_name : read (word terminals.Empty ∷ within (called (codes "Ints") ∷ [])) ≡ Ok (empty (codes "Ints"), [])
-unfolding expression expr first prefix_at prefix_of operand start_at start_of an_empty enclosed closing a_name climb operator_at operator_of terminal_at same_terminal sign sees
+unfolding expression expr first prefix_at prefix_of operand primary after_name fields_from after start_at start_of an_empty enclosed closing a_name climb operator_at operator_of terminal_at same_terminal sign sees
 takes_a_name = refl
 
 -- member(x, append(s, head(s)))
 nests : read (word terminals.Member ∷ within (called (codes "x") ∷ word terminals.Comma ∷ word terminals.Append ∷ within (called (codes "s") ∷ word terminals.Comma ∷ word terminals.Head ∷ within (called (codes "s") ∷ []))))
     ≡ Ok (binary x (Operator Member) (binary s (Operator Append) (prefix Head s)), [])
-unfolding expression expr first prefix_at prefix_of operand start_at start_of around_of around around_one around_two enclosed closing climb operator_at operator_of terminal_at same_terminal sign sees
+unfolding expression expr first prefix_at prefix_of operand primary after_name fields_from after start_at start_of around_of around around_one around_two enclosed closing climb operator_at operator_of terminal_at same_terminal sign sees
 nests = refl
 
 -- -len(s) + 1 is (-len(s)) + 1
 negates_a_length : read (word terminals.Minus ∷ word terminals.Len ∷ (within (called (codes "s") ∷ []) ++ word terminals.Plus ∷ n 1 ∷ [])) ≡ Ok (binary (prefix Neg (prefix Len s)) (Operator Add) (number 1), [])
-unfolding expression expr first prefix_at prefix_of operand start_at start_of around_of around around_one enclosed closing climb operator_at operator_of terminal_at same_terminal sign sees
+unfolding expression expr first prefix_at prefix_of operand primary after_name fields_from after start_at start_of around_of around around_one enclosed closing climb operator_at operator_of terminal_at same_terminal sign sees
 negates_a_length = refl
 
 -- ~ member(x, s) /\ b is (~ member(x, s)) /\ b
 denies_a_member : read (word terminals.Not ∷ word terminals.Member ∷ (within (called (codes "x") ∷ word terminals.Comma ∷ called (codes "s") ∷ []) ++ word terminals.And ∷ called (codes "b") ∷ []))
     ≡ Ok (binary (prefix Not (binary x (Operator Member) s)) And (named (codes "b")), [])
-unfolding expression expr first prefix_at prefix_of operand start_at start_of around_of around around_two enclosed closing climb operator_at operator_of terminal_at same_terminal sign sees
+unfolding expression expr first prefix_at prefix_of operand primary after_name fields_from after start_at start_of around_of around around_two enclosed closing climb operator_at operator_of terminal_at same_terminal sign sees
 denies_a_member = refl
 
 -- append(s) is refused at `)`
 wants_two : read (word terminals.Append ∷ within (called (codes "s") ∷ [])) ≡ Err (Syntax 1)
-unfolding expression expr first prefix_at prefix_of operand start_at start_of around_of around around_two enclosed closing climb operator_at operator_of terminal_at same_terminal sign sees
+unfolding expression expr first prefix_at prefix_of operand primary after_name fields_from after start_at start_of around_of around around_two enclosed closing climb operator_at operator_of terminal_at same_terminal sign sees
 wants_two = refl
 
 -- len(x, s) is refused at `,`
 wants_one : read (word terminals.Len ∷ within (called (codes "x") ∷ word terminals.Comma ∷ called (codes "s") ∷ [])) ≡ Err (Syntax 3)
-unfolding expression expr first prefix_at prefix_of operand start_at start_of around_of around around_one enclosed closing climb operator_at operator_of terminal_at same_terminal sign sees
+unfolding expression expr first prefix_at prefix_of operand primary after_name fields_from after start_at start_of around_of around around_one enclosed closing climb operator_at operator_of terminal_at same_terminal sign sees
 wants_one = refl
 
 -- len() is refused at `)`
 wants_any : read (word terminals.Len ∷ within []) ≡ Err (Syntax 1)
-unfolding expression expr first prefix_at prefix_of operand start_at start_of around_of around around_one enclosed closing terminal_at same_terminal sign sees
+unfolding expression expr first prefix_at prefix_of operand primary after_name fields_from after start_at start_of around_of around around_one enclosed closing terminal_at same_terminal sign sees
 wants_any = refl
 
 -- len s is refused at s
 wants_parentheses : read (word terminals.Len ∷ called (codes "s") ∷ []) ≡ Err (Syntax 1)
-unfolding expression expr first prefix_at prefix_of operand start_at start_of around_of around around_one enclosed terminal_at same_terminal sign sees
+unfolding expression expr first prefix_at prefix_of operand primary after_name fields_from after start_at start_of around_of around around_one enclosed terminal_at same_terminal sign sees
 wants_parentheses = refl
 
 -- empty(1) is refused at 1
 wants_a_name : read (word terminals.Empty ∷ within (n 1 ∷ [])) ≡ Err (Syntax 2)
-unfolding expression expr first prefix_at prefix_of operand start_at start_of an_empty enclosed closing a_name terminal_at same_terminal sign sees
+unfolding expression expr first prefix_at prefix_of operand primary after_name fields_from after start_at start_of an_empty enclosed closing a_name terminal_at same_terminal sign sees
 wants_a_name = refl
 
--- of S(x) and s.f the tokens after the name are left
-makes_nothing : read (called (codes "S") ∷ within (called (codes "x") ∷ [])) ≡ Ok (named (codes "S"), within (called (codes "x") ∷ []))
-unfolding expression expr first prefix_at operand start_at climb operator_at operator_of terminal_at same_terminal
-makes_nothing = refl
+-- ---- tuples and fields
 
-has_no_fields : read (called (codes "s") ∷ word terminals.Dot ∷ called (codes "f") ∷ []) ≡ Ok (s, word terminals.Dot ∷ called (codes "f") ∷ [])
-unfolding expression expr first prefix_at operand start_at climb operator_at operator_of terminal_at same_terminal
-has_no_fields = refl
+-- P(1, true)
+makes_a_tuple : read (pair ++ []) ≡ Ok (make (codes "P") (also (number 1) (also (truth true) no_expr)), [])
+unfolding expression expr first prefix_at prefix_of operand primary start_at start_of after_name fields_from sees after a_name separated items_from sign closing climb operator_at operator_of terminal_at same_terminal
+makes_a_tuple = refl
+
+-- P(1, true).a
+takes_a_field : read (pair ++ dot (codes "a")) ≡ Ok (select (make (codes "P") (also (number 1) (also (truth true) no_expr))) (codes "a"), [])
+unfolding expression expr first prefix_at prefix_of operand primary start_at start_of after_name fields_from sees after a_name separated items_from sign closing climb operator_at operator_of terminal_at same_terminal
+takes_a_field = refl
+
+-- x.a.b
+takes_fields_in_turn : read (called (codes "x") ∷ (dot (codes "a") ++ dot (codes "b"))) ≡ Ok (select (select x (codes "a")) (codes "b"), [])
+unfolding expression expr first prefix_at prefix_of operand primary start_at start_of after_name fields_from sees after a_name separated items_from sign closing climb operator_at operator_of terminal_at same_terminal
+takes_fields_in_turn = refl
+
+-- - x.a is -(x.a)
+negates_a_field : read (word terminals.Minus ∷ called (codes "x") ∷ dot (codes "a")) ≡ Ok (prefix Neg (select x (codes "a")), [])
+unfolding expression expr first prefix_at prefix_of operand primary start_at start_of after_name fields_from sees after a_name separated items_from sign closing climb operator_at operator_of terminal_at same_terminal
+negates_a_field = refl
+
+-- f.a + g.b is (f.a) + (g.b)
+adds_fields : read (called (codes "f") ∷ (dot (codes "a") ++ word terminals.Plus ∷ called (codes "g") ∷ dot (codes "b")))
+    ≡ Ok (binary (select (named (codes "f")) (codes "a")) (Operator Add) (select (named (codes "g")) (codes "b")), [])
+unfolding expression expr first prefix_at prefix_of operand primary start_at start_of after_name fields_from sees after a_name separated items_from sign closing climb operator_at operator_of terminal_at same_terminal
+adds_fields = refl
+
+-- head(q).tag = 1
+takes_a_field_of_a_head : read (word terminals.Head ∷ (within (called (codes "q") ∷ []) ++ (dot (codes "tag") ++ word terminals.Equal ∷ n 1 ∷ [])))
+    ≡ Ok (binary (select (prefix Head (named (codes "q"))) (codes "tag")) (Operator Eq) (number 1), [])
+unfolding expression expr first prefix_at prefix_of operand primary start_at start_of around_of around around_one enclosed after_name fields_from sees after a_name separated items_from sign closing climb operator_at operator_of terminal_at same_terminal
+takes_a_field_of_a_head = refl
+
+-- (x).a
+takes_a_field_of_parentheses : read (within (called (codes "x") ∷ []) ++ dot (codes "a")) ≡ Ok (select (parens x) (codes "a"), [])
+unfolding expression expr first prefix_at prefix_of operand primary start_at start_of after_name fields_from sees after a_name separated items_from sign closing climb operator_at operator_of terminal_at same_terminal
+takes_a_field_of_parentheses = refl
+
+-- P(Q(1), head(q))
+makes_of_tuples : read (called (codes "P") ∷ within (called (codes "Q") ∷ (within (n 1 ∷ []) ++ word terminals.Comma ∷ word terminals.Head ∷ within (called (codes "q") ∷ []))))
+    ≡ Ok (make (codes "P") (also (make (codes "Q") (also (number 1) no_expr)) (also (prefix Head (named (codes "q"))) no_expr)), [])
+unfolding expression expr first prefix_at prefix_of operand primary start_at start_of around_of around around_one enclosed after_name fields_from sees after a_name separated items_from sign closing climb operator_at operator_of terminal_at same_terminal
+makes_of_tuples = refl
+
+-- P() is refused at `)`, and so is P(1,)
+wants_a_field : read (called (codes "P") ∷ within []) ≡ Err (Syntax 1)
+unfolding expression expr first prefix_at prefix_of operand primary start_at start_of around_of after_name fields_from sees after a_name separated items_from sign closing climb operator_at operator_of terminal_at same_terminal
+wants_a_field = refl
+
+wants_another_field : read (called (codes "P") ∷ within (n 1 ∷ word terminals.Comma ∷ [])) ≡ Err (Syntax 1)
+unfolding expression expr first prefix_at prefix_of operand primary start_at start_of around_of after_name fields_from sees after a_name separated items_from sign closing climb operator_at operator_of terminal_at same_terminal
+wants_another_field = refl
+
+-- x. is refused at the end, and x.(a) at `(`
+wants_a_field_name : read (called (codes "x") ∷ word terminals.Dot ∷ []) ≡ Err (Syntax 0)
+unfolding expression expr first prefix_at prefix_of operand primary start_at start_of after_name fields_from sees after a_name separated items_from sign closing climb operator_at operator_of terminal_at same_terminal
+wants_a_field_name = refl
+
+takes_no_parentheses : read (called (codes "x") ∷ word terminals.Dot ∷ within (called (codes "a") ∷ [])) ≡ Err (Syntax 3)
+unfolding expression expr first prefix_at prefix_of operand primary start_at start_of after_name fields_from sees after a_name separated items_from sign closing climb operator_at operator_of terminal_at same_terminal
+takes_no_parentheses = refl
+
+-- of 1 2, 1(2) and x.a(b) the tokens behind the first operand are left
+reads_one : read (n 1 ∷ n 2 ∷ []) ≡ Ok (number 1, n 2 ∷ [])
+unfolding expression expr first prefix_at prefix_of operand primary start_at start_of after_name fields_from sees after a_name separated items_from sign closing climb operator_at operator_of terminal_at same_terminal
+reads_one = refl
+
+makes_of_names_alone : read (n 1 ∷ within (n 2 ∷ [])) ≡ Ok (number 1, within (n 2 ∷ []))
+unfolding expression expr first prefix_at prefix_of operand primary start_at start_of after_name fields_from sees after a_name separated items_from sign closing climb operator_at operator_of terminal_at same_terminal
+makes_of_names_alone = refl
+
+calls_no_field : read (called (codes "x") ∷ (dot (codes "a") ++ within (called (codes "b") ∷ []))) ≡ Ok (select x (codes "a"), within (called (codes "b") ∷ []))
+unfolding expression expr first prefix_at prefix_of operand primary start_at start_of after_name fields_from sees after a_name separated items_from sign closing climb operator_at operator_of terminal_at same_terminal
+calls_no_field = refl
+
+-- x.a.b is three levels deep
+deepens_by_fields : depth_of (select (select x (codes "a")) (codes "b")) ≡ 3
+deepens_by_fields = refl
+
+fields_go_too_deep : expression 2 (called (codes "x") ∷ (dot (codes "a") ++ dot (codes "b"))) ≡ Err TooDeep
+unfolding expression expr first prefix_at prefix_of operand primary start_at start_of after_name fields_from sees after a_name separated items_from sign closing climb operator_at operator_of terminal_at same_terminal
+fields_go_too_deep = refl
+
+fields_go_as_deep : expression 3 (called (codes "x") ∷ (dot (codes "a") ++ dot (codes "b"))) ≡ Ok (select (select x (codes "a")) (codes "b"), [])
+unfolding expression expr first prefix_at prefix_of operand primary start_at start_of after_name fields_from sees after a_name separated items_from sign closing climb operator_at operator_of terminal_at same_terminal
+fields_go_as_deep = refl
+
+-- ---- depth
 
 -- len(len(s)) is three levels deep
 goes_deeper : depth_of (prefix Len (prefix Len s)) ≡ 3
 goes_deeper = refl
 
 goes_too_deep : expression 2 (word terminals.Len ∷ within (word terminals.Len ∷ within (called (codes "s") ∷ []))) ≡ Err TooDeep
-unfolding expression expr first prefix_at prefix_of operand start_at start_of around_of around around_one enclosed closing terminal_at same_terminal sign sees
+unfolding expression expr first prefix_at prefix_of operand primary after_name fields_from after start_at start_of around_of around around_one enclosed closing terminal_at same_terminal sign sees
 goes_too_deep = refl
 
 -- ---- what the grammar says of them
@@ -138,6 +228,22 @@ spells_empty k = (
   (word terminals.Open ∷ [], called (codes "Ints") ∷ word terminals.Close ∷ [], refl, (called (codes "Ints") ∷ [], word terminals.Close ∷ [], refl, refl, refl), refl),
   refl,
 )
+
+-- x.a, at each level
+spells_field : (k : ℕ) → SpellsExpr k (select x (codes "a")) (called (codes "x") ∷ dot (codes "a"))
+spells_field k = (called (codes "x") ∷ [], dot (codes "a"), refl, (word terminals.Dot ∷ [], called (codes "a") ∷ [], refl, refl, refl), refl)
+
+-- nothing spells a tuple without fields
+makes_of_some : (k : ℕ) (ts : List Tok) → SpellsExpr k (make (codes "P") no_expr) ts → ⊥
+makes_of_some k ts m = m.3.3.2
+
+-- nothing spells a field of a sum without parentheses
+takes_no_field_of_a_sum : (k : ℕ) (ts : List Tok) → SpellsExpr k (select (binary s (Operator Add) x) (codes "a")) ts → ⊥
+takes_no_field_of_a_sum k ts m =
+    elim m.2 [
+      | inl between ↦ absurd (omega (arith, between.1))
+      | inr around ↦ absurd (omega (arith, around.0))
+    ]
 
 -- nothing spells an operator on another number of operands than it is written around, nor one that no word is for
 appends_two : (k : ℕ) (ts : List Tok) → SpellsExpr k (prefix Append s) ts → ⊥
@@ -213,6 +319,9 @@ wants_a_form = refl
 
 prints_calls : text_expr space (binary (prefix Len s) (Operator Add) (binary x (Operator Member) (empty (codes "Ints")))) ≡ codes "len ( s ) + member ( x , empty ( Ints ) ) "
 prints_calls = refl
+
+prints_tuples : text_expr space (select (make (codes "P") (also x (also (truth true) no_expr))) (codes "a")) ≡ codes "P ( x , true ) . a "
+prints_tuples = refl
 
 prints_types : text_source (declared_type (is (enumeration (codes "data" ∷ codes "ack" ∷ []))) ∷ declared_type (is (tuple (record { name = codes "a"; ty = codes "Int" } ∷ []))) ∷ [])
     ≡ codes "type T = enum { data , ack }\ntype T = tuple { a : Int }\n"

@@ -1,16 +1,24 @@
--- How deep trees are: parentheses and operators are one deeper than the deepest part, and so is a choice than the deepest
+-- How deep trees are: parentheses, operators, tuples and fields are one deeper than the deepest part, and so is a choice than the deepest
 -- statement in it.
 use Rattle.std.specs.Prelude.{ℕ, ◌+◌, max, List, [], ◌∷◌, Option, Some, None}
-use Rattle.ioa_syntax.specs.Tree.{Expr, number, truth, named, parens, prefix, binary, empty, VariableTree, ProposalTree, Stmt, assign, choose, Stmts, stop, seq, Arms, no_arm, arm, TransitionTree, AutomatonTree, InstanceTree, CompositionTree, DeclarationTree, declared_type, automaton, composition, SourceTree}
+use Rattle.ioa_syntax.specs.Tree.{Expr, number, truth, named, parens, prefix, binary, empty, make, select, Exprs, no_expr, also, VariableTree, ProposalTree, Stmt, assign, choose, Stmts, stop, seq, Arms, no_arm, arm, TransitionTree, AutomatonTree, InstanceTree, CompositionTree, DeclarationTree, declared_type, automaton, composition, SourceTree}
 
-abbrev pub depth_of : Expr → ℕ
-depth_of (number n) = 1
-depth_of (truth b) = 1
-depth_of (named n) = 1
-depth_of (parens e) = depth_of e + 1
-depth_of (prefix o e) = depth_of e + 1
-depth_of (binary l o r) = max (depth_of l) (depth_of r) + 1
-depth_of (empty n) = 1
+abbrev mutual
+  pub depth_of : Expr → ℕ
+  depth_of (number n) = 1
+  depth_of (truth b) = 1
+  depth_of (named n) = 1
+  depth_of (parens e) = depth_of e + 1
+  depth_of (prefix o e) = depth_of e + 1
+  depth_of (binary l o r) = max (depth_of l) (depth_of r) + 1
+  depth_of (empty n) = 1
+  depth_of (make n es) = exprs_depth es + 1
+  depth_of (select e n) = depth_of e + 1
+
+  -- the deepest of expressions, or 0
+  pub exprs_depth : Exprs → ℕ
+  exprs_depth no_expr = 0
+  exprs_depth (also e es) = max (depth_of e) (exprs_depth es)
 
 -- the greatest that f gives, or 0
 abbrev pub deepest : {A : Type 0} → (A → ℕ) → List A → ℕ

@@ -8,9 +8,9 @@ use Rattle.ioa_value.specs.Actions.{Name}
 use Rattle.ioa_syntax.specs.declared.tree.Kind.{Kind}
 use Rattle.ioa_syntax.specs.declared.tree.Kind.TheVariants.{Input, Output, Internal}
 use Rattle.ioa_syntax.specs.declared.tree.Infix.TheVariants.{Operator}
-use Rattle.ioa_syntax.specs.Operators.{stands_before, stands_between, encloses, level_of, left_of, right_of, operator_word}
+use Rattle.ioa_syntax.specs.Operators.{stands_before, stands_between, encloses, level_of, left_of, right_of, operator_word, tightest}
 use Rattle.ioa_syntax.specs.Tree as tree
-use Rattle.ioa_syntax.specs.Tree.{Expr, number, truth, named, parens, prefix, binary, FieldTree, PositionTree, typed, EntryTree, VariableTree, ProposalTree, Stmt, assign, choose, Stmts, stop, seq, Arms, no_arm, arm, TransitionTree, AutomatonTree, InstanceTree, CompositionTree, FormTree, enumeration, tuple, sequence, TypeTree, DeclarationTree, declared_type, automaton, composition, SourceTree}
+use Rattle.ioa_syntax.specs.Tree.{Expr, number, truth, named, parens, prefix, binary, make, select, Exprs, no_expr, also, FieldTree, PositionTree, typed, EntryTree, VariableTree, ProposalTree, Stmt, assign, choose, Stmts, stop, seq, Arms, no_arm, arm, TransitionTree, AutomatonTree, InstanceTree, CompositionTree, FormTree, enumeration, tuple, sequence, TypeTree, DeclarationTree, declared_type, automaton, composition, SourceTree}
 
 abbrev pub Language : Type 1
 Language = List Tok → Type 0
@@ -82,19 +82,33 @@ braced L xs = word terminals.OpenBrace ▹ (separated terminals.Comma L xs ▹ w
 -- ---- expressions
 
 -- an expression whose operators outside parentheses have at least this level
-abbrev pub SpellsExpr : ℕ → Expr → Language
-SpellsExpr k (number n) = single (tokens.number n)
-SpellsExpr k (truth true) = word terminals.True
-SpellsExpr k (truth false) = word terminals.False
-SpellsExpr k (named n) = called n
-SpellsExpr k (parens e) = enclosed (SpellsExpr 0 e)
-SpellsExpr k (prefix o e) = λ ts.
-    (IsTrue (stands_before o) × (k ≤ level_of (Operator o)) × (word (operator_word (Operator o)) ▹ SpellsExpr (right_of (Operator o)) e) ts)
-    ⊎ ((encloses (Operator o) ≡ 1) × (word (operator_word (Operator o)) ▹ enclosed (SpellsExpr 0 e)) ts)
-SpellsExpr k (binary l o r) = λ ts.
-    (IsTrue (stands_between o) × (k ≤ level_of o) × (SpellsExpr (left_of o) l ▹ (word (operator_word o) ▹ SpellsExpr (right_of o) r)) ts)
-    ⊎ ((encloses o ≡ 2) × (word (operator_word o) ▹ enclosed (SpellsExpr 0 l ▹ (word terminals.Comma ▹ SpellsExpr 0 r))) ts)
-SpellsExpr k (tree.empty n) = word terminals.Empty ▹ enclosed (called n)
+abbrev mutual
+  pub SpellsExpr : ℕ → Expr → Language
+  SpellsExpr k (number n) = single (tokens.number n)
+  SpellsExpr k (truth true) = word terminals.True
+  SpellsExpr k (truth false) = word terminals.False
+  SpellsExpr k (named n) = called n
+  SpellsExpr k (parens e) = enclosed (SpellsExpr 0 e)
+  SpellsExpr k (prefix o e) = λ ts.
+      (IsTrue (stands_before o) × (k ≤ level_of (Operator o)) × (word (operator_word (Operator o)) ▹ SpellsExpr (right_of (Operator o)) e) ts)
+      ⊎ ((encloses (Operator o) ≡ 1) × (word (operator_word (Operator o)) ▹ enclosed (SpellsExpr 0 e)) ts)
+  SpellsExpr k (binary l o r) = λ ts.
+      (IsTrue (stands_between o) × (k ≤ level_of o) × (SpellsExpr (left_of o) l ▹ (word (operator_word o) ▹ SpellsExpr (right_of o) r)) ts)
+      ⊎ ((encloses o ≡ 2) × (word (operator_word o) ▹ enclosed (SpellsExpr 0 l ▹ (word terminals.Comma ▹ SpellsExpr 0 r))) ts)
+  SpellsExpr k (tree.empty n) = word terminals.Empty ▹ enclosed (called n)
+  SpellsExpr k (make n es) = called n ▹ enclosed (SpellsExprs es)
+  -- of an expression without operators outside parentheses
+  SpellsExpr k (select e n) = SpellsExpr tightest e ▹ (word terminals.Dot ▹ called n)
+
+  -- one expression or more, with commas between them
+  pub SpellsExprs : Exprs → Language
+  SpellsExprs no_expr = empty
+  SpellsExprs (also e es) = SpellsExpr 0 e ▹ SpellsOthers es
+
+  -- each expression after a comma
+  pub SpellsOthers : Exprs → Language
+  SpellsOthers no_expr = nothing
+  SpellsOthers (also e es) = word terminals.Comma ▹ (SpellsExpr 0 e ▹ SpellsOthers es)
 
 -- ---- automata
 
@@ -174,11 +188,8 @@ SpellsArguments es = separated terminals.Comma (SpellsExpr 0) es ▹ word termin
 abbrev pub SpellsInstance : InstanceTree → Language
 SpellsInstance i = called i.name ▹ (word terminals.Colon ▹ (called i.automaton ▹ optional_list terminals.Open SpellsArguments i.arguments))
 
--- one component, and no more
 abbrev pub SpellsInstances : List InstanceTree → Language
-SpellsInstances [] = empty
-SpellsInstances (i ∷ []) = SpellsInstance i ▹ perhaps terminals.Semicolon
-SpellsInstances (i ∷ j ∷ rest) = empty
+SpellsInstances is = terminated terminals.Semicolon SpellsInstance is
 
 -- after the word `composition`
 abbrev pub SpellsComposition : CompositionTree → Language

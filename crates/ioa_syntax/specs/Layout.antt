@@ -7,7 +7,7 @@ use Rattle.ioa_value.specs.declared.terminal.Terminal.TheVariants as terminals
 use Rattle.ioa_value.specs.Spelling.{spelling_of}
 use Rattle.ioa_value.specs.Actions.{Name}
 use Rattle.ioa_syntax.specs.Tree as tree
-use Rattle.ioa_syntax.specs.Tree.{Expr, truth, named, parens, prefix, binary, FieldTree, PositionTree, typed, EntryTree, VariableTree, ProposalTree, Stmt, assign, choose, Stmts, stop, seq, Arms, no_arm, arm, TransitionTree, AutomatonTree, InstanceTree, CompositionTree, FormTree, enumeration, tuple, sequence, TypeTree, DeclarationTree, declared_type, automaton, composition, SourceTree}
+use Rattle.ioa_syntax.specs.Tree.{Expr, truth, named, parens, prefix, binary, make, select, Exprs, no_expr, also, FieldTree, PositionTree, typed, EntryTree, VariableTree, ProposalTree, Stmt, assign, choose, Stmts, stop, seq, Arms, no_arm, arm, TransitionTree, AutomatonTree, InstanceTree, CompositionTree, FormTree, enumeration, tuple, sequence, TypeTree, DeclarationTree, declared_type, automaton, composition, SourceTree}
 use Rattle.ioa_syntax.specs.declared.tree.Infix.TheVariants.{Operator}
 use Rattle.ioa_syntax.specs.Operators.{operator_word, stands_around}
 use Rattle.ioa_syntax.specs.Grammar.{kind_word}
@@ -66,19 +66,32 @@ before_option (Some x) = space
 abbrev pub text_enclosed : ℕ → List ℕ → List ℕ
 text_enclosed b text = text_word space terminals.Open ++ (text ++ text_word b terminals.Close)
 
-abbrev pub text_expr : ℕ → Expr → List ℕ
-text_expr b (tree.number n) = text_number b n
-text_expr b (truth true) = text_word b terminals.True
-text_expr b (truth false) = text_word b terminals.False
-text_expr b (named n) = text_name b n
-text_expr b (parens e) = text_enclosed b (text_expr space e)
-text_expr b (prefix o e) =
-    text_word space (operator_word (Operator o)) ++ (if stands_around (Operator o) then text_enclosed b (text_expr space e) else text_expr b e)
-text_expr b (binary l o r) =
-    if stands_around o
-    then text_word space (operator_word o) ++ text_enclosed b (text_expr space l ++ (text_word space terminals.Comma ++ text_expr space r))
-    else text_expr space l ++ (text_word space (operator_word o) ++ text_expr b r)
-text_expr b (tree.empty n) = text_word space terminals.Empty ++ text_enclosed b (text_name space n)
+abbrev mutual
+  pub text_expr : ℕ → Expr → List ℕ
+  text_expr b (tree.number n) = text_number b n
+  text_expr b (truth true) = text_word b terminals.True
+  text_expr b (truth false) = text_word b terminals.False
+  text_expr b (named n) = text_name b n
+  text_expr b (parens e) = text_enclosed b (text_expr space e)
+  text_expr b (prefix o e) =
+      text_word space (operator_word (Operator o)) ++ (if stands_around (Operator o) then text_enclosed b (text_expr space e) else text_expr b e)
+  text_expr b (binary l o r) =
+      if stands_around o
+      then text_word space (operator_word o) ++ text_enclosed b (text_expr space l ++ (text_word space terminals.Comma ++ text_expr space r))
+      else text_expr space l ++ (text_word space (operator_word o) ++ text_expr b r)
+  text_expr b (tree.empty n) = text_word space terminals.Empty ++ text_enclosed b (text_name space n)
+  text_expr b (make n es) = text_name space n ++ text_enclosed b (text_exprs es)
+  text_expr b (select e n) = text_expr space e ++ (text_word space terminals.Dot ++ text_name b n)
+
+  -- with commas between them
+  pub text_exprs : Exprs → List ℕ
+  text_exprs no_expr = []
+  text_exprs (also e es) = text_expr space e ++ text_others es
+
+  -- a comma and an expression, for each expression
+  pub text_others : Exprs → List ℕ
+  text_others no_expr = []
+  text_others (also e es) = text_word space terminals.Comma ++ (text_expr space e ++ text_others es)
 
 abbrev pub text_option : List ℕ → Option Expr → List ℕ
 text_option w None = []
@@ -174,7 +187,7 @@ abbrev pub text_instance : InstanceTree → List ℕ
 text_instance i = text_name space i.name ++ (text_word space terminals.Colon ++ (text_name (before_list i.arguments) i.automaton ++ text_parens (text_expr space) i.arguments))
 
 abbrev pub text_composition : CompositionTree → List ℕ
-text_composition c = text_name space c.name ++ (text_word line terminals.Components ++ text_all text_instance c.instances)
+text_composition c = text_name space c.name ++ (text_word line terminals.Components ++ text_list terminals.Semicolon text_instance c.instances)
 
 abbrev pub text_declaration : DeclarationTree → List ℕ
 text_declaration (declared_type t) = text_word space terminals.Type ++ text_type t

@@ -1,15 +1,18 @@
 -- What expressions and effects mean (effects of transitions: Lynch 1996, section 8.1; IOA's notation).
 use Rattle.std.specs.Prelude.{true, false, if◌then◌else◌, List, [], ◌∷◌, Option, Some, None, pos}
 use Rattle.std.specs.List.{list_any}
+use Rattle.std.specs.Option.{option_map_or}
 use Rattle.std.specs.Str.{bytes_eq}
 use Rattle.ioa_value.specs.declared.arithmetic.Fault.{Fault}
 use Rattle.ioa_value.specs.Actions.{Name}
 use Rattle.ioa_value.specs.Plain.{Val, truth as truth_value, num, name, tuple, items}
-use Rattle.ioa_value.specs.Table.{Table}
+use Rattle.ioa_value.specs.Table.{Table, type_named, field_place}
+use Rattle.ioa_value.specs.Typing.{own}
+use Rattle.ioa_value.specs.declared.operator.Op.TheVariants.{Make, Field}
 use Rattle.ioa_value.specs.Operators.{Answer, gives, faults, nothing, operate}
 use Rattle.ioa_syntax.specs.declared.tree.Infix.{Infix}
 use Rattle.ioa_syntax.specs.declared.tree.Infix.TheVariants.{Operator, And, Or, Implies}
-use Rattle.ioa_syntax.specs.Tree.{Expr, number, truth, named, parens, prefix, binary, empty, Stmt, assign, choose, Stmts, stop, seq, Arms, no_arm, arm}
+use Rattle.ioa_syntax.specs.Tree.{Expr, number, truth, named, parens, prefix, binary, empty, make, select, Exprs, no_expr, also, Stmt, assign, choose, Stmts, stop, seq, Arms, no_arm, arm}
 use Rattle.ioa_syntax.specs.Types.{constant, empty_of}
 
 -- what each name stands for, but for those of enumerations
@@ -67,16 +70,32 @@ combined types And x second = decided x second (gives (truth_value false))
 combined types Or x second = decided x (gives (truth_value true)) second
 combined types Implies x second = decided x second (gives (truth_value true))
 
+-- the tuple of the type of this name, of these fields
+abbrev pub made : Table → Name → List Val → Answer
+made types x vs = option_map_or (λ ty. operate types (Make (record { 0 = ty })) vs) (type_named types x) nothing
+
+-- the field of this name of a tuple, by its place in the tuple's type
+abbrev pub selected : Table → Name → Val → Answer
+selected types x v = option_map_or (λ j. operate types (Field j) (v ∷ [])) (field_place types (own v) x) nothing
+
 -- the value of an expression, or its fault: operands go left to right and the first fault wins; a name that the environment
 -- does not know is an enumeration's
-abbrev pub val : Table → Expr → Env → Answer
-val types (number n) env = gives (num (pos n))
-val types (truth b) env = gives (truth_value b)
-val types (named x) env = value_of (or_else (env x) (constant types x))
-val types (parens e) env = val types e env
-val types (prefix o e) env = then_value (val types e env) (λ x. operate types o (x ∷ []))
-val types (binary l o r) env = then_value (val types l env) (λ x. combined types o x (val types r env))
-val types (empty x) env = value_of (empty_of types x)
+abbrev mutual
+  pub val : Table → Expr → Env → Answer
+  val types (number n) env = gives (num (pos n))
+  val types (truth b) env = gives (truth_value b)
+  val types (named x) env = value_of (or_else (env x) (constant types x))
+  val types (parens e) env = val types e env
+  val types (prefix o e) env = then_value (val types e env) (λ x. operate types o (x ∷ []))
+  val types (binary l o r) env = then_value (val types l env) (λ x. combined types o x (val types r env))
+  val types (empty x) env = value_of (empty_of types x)
+  val types (make x es) env = then_all types es env (made types x)
+  val types (select e x) env = then_value (val types e env) (selected types x)
+
+  -- goes on with the values of expressions in order; the first fault stays
+  pub then_all : Table → Exprs → Env → (List Val → Answer) → Answer
+  then_all types no_expr env go = go []
+  then_all types (also e es) env go = then_value (val types e env) (λ v. then_all types es env (λ vs. go (v ∷ vs)))
 
 -- what statements leave: an environment, a fault, or nothing, where a name or a value is missing
 pub data Outcome : Type 0 where

@@ -3,16 +3,23 @@ use Rattle.std.specs.Prelude.{List, [], ◌∷◌, ◌++◌, Option, Some, None,
 use Rattle.std.specs.List.{flat_map}
 use Rattle.ioa_value.specs.Actions.{Name}
 use Rattle.ioa_value.specs.Names.{IsName}
-use Rattle.ioa_syntax.specs.Tree.{Expr, number, truth, named, parens, prefix, binary, empty, FieldTree, PositionTree, typed, EntryTree, VariableTree, ProposalTree, Stmt, assign, choose, Stmts, stop, seq, Arms, no_arm, arm, TransitionTree, AutomatonTree, InstanceTree, CompositionTree, FormTree, enumeration, tuple, sequence, TypeTree, DeclarationTree, declared_type, automaton, composition, SourceTree}
+use Rattle.ioa_syntax.specs.Tree.{Expr, number, truth, named, parens, prefix, binary, empty, make, select, Exprs, no_expr, also, FieldTree, PositionTree, typed, EntryTree, VariableTree, ProposalTree, Stmt, assign, choose, Stmts, stop, seq, Arms, no_arm, arm, TransitionTree, AutomatonTree, InstanceTree, CompositionTree, FormTree, enumeration, tuple, sequence, TypeTree, DeclarationTree, declared_type, automaton, composition, SourceTree}
 
-abbrev pub names_of_expr : Expr → List Name
-names_of_expr (number n) = []
-names_of_expr (truth b) = []
-names_of_expr (named x) = x ∷ []
-names_of_expr (parens e) = names_of_expr e
-names_of_expr (prefix o e) = names_of_expr e
-names_of_expr (binary l o r) = names_of_expr l ++ names_of_expr r
-names_of_expr (empty n) = n ∷ []
+abbrev mutual
+  pub names_of_expr : Expr → List Name
+  names_of_expr (number n) = []
+  names_of_expr (truth b) = []
+  names_of_expr (named x) = x ∷ []
+  names_of_expr (parens e) = names_of_expr e
+  names_of_expr (prefix o e) = names_of_expr e
+  names_of_expr (binary l o r) = names_of_expr l ++ names_of_expr r
+  names_of_expr (empty n) = n ∷ []
+  names_of_expr (make n es) = n ∷ names_of_exprs es
+  names_of_expr (select e n) = names_of_expr e ++ n ∷ []
+
+  pub names_of_exprs : Exprs → List Name
+  names_of_exprs no_expr = []
+  names_of_exprs (also e es) = names_of_expr e ++ names_of_exprs es
 
 abbrev pub names_of_option : Option Expr → List Name
 names_of_option None = []

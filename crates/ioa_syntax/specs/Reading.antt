@@ -17,7 +17,7 @@ use Rattle.ioa_syntax.specs.declared.fault.ReadError.TheVariants as errors
 use Rattle.ioa_syntax.specs.declared.tree.Kind.{Kind}
 use Rattle.ioa_syntax.specs.declared.tree.Kind.TheVariants as kinds
 use Rattle.ioa_syntax.specs.Tree as tree
-use Rattle.ioa_syntax.specs.Tree.{Expr, truth, named, parens, prefix, binary, FieldTree, PositionTree, typed, EntryTree, VariableTree, ProposalTree, Stmt, assign, choose, Stmts, stop, seq, Arms, no_arm, arm, TransitionTree, AutomatonTree, InstanceTree, CompositionTree, FormTree, enumeration, tuple, TypeTree, DeclarationTree, declared_type, automaton, composition, SourceTree}
+use Rattle.ioa_syntax.specs.Tree.{Expr, truth, named, parens, prefix, binary, make, select, Exprs, no_expr, also, FieldTree, PositionTree, typed, EntryTree, VariableTree, ProposalTree, Stmt, assign, choose, Stmts, stop, seq, Arms, no_arm, arm, TransitionTree, AutomatonTree, InstanceTree, CompositionTree, FormTree, enumeration, tuple, TypeTree, DeclarationTree, declared_type, automaton, composition, SourceTree}
 use Rattle.ioa_syntax.specs.Depth.{depth_of}
 use Rattle.ioa_syntax.specs.declared.tree.Infix.{Infix}
 use Rattle.ioa_syntax.specs.declared.tree.Infix.TheVariants.{Operator}
@@ -125,10 +125,6 @@ a_kind ts = taken ts (kind_at ts)
 -- what the word or sign introduces, where that comes next
 unfoldable pub optional : {A : Type 0} → Terminal → Reader A → Reader (Option A)
 optional t p ts = if sees t ts then built Some p (after t ts) else Ok (None, after t ts)
-
--- the word or sign, where it comes next
-abbrev pub perhaps : Terminal → Reader (Unit {0})
-perhaps t ts = Ok (tt, after t ts)
 
 -- the same of a list, which is empty where it is absent
 unfoldable pub optional_list : {A : Type 0} → Terminal → Reader (List A) → Reader (List A)
@@ -260,11 +256,21 @@ around inner o ts = if encloses (Operator o) == 1 then around_one inner o ts els
 unfoldable pub an_empty : Reader Expr
 an_empty = built tree.empty (enclosed a_name)
 
--- the rest of an operand that begins so
+-- expressions of a list in order
+abbrev pub in_order : List Expr → Exprs
+in_order [] = no_expr
+in_order (e ∷ es) = also e (in_order es)
+
+-- after a name: fields in parentheses make a tuple of the type of this name
+unfoldable pub after_name : Reader Expr → actions.Name → Reader Expr
+after_name inner n ts =
+    if sees terminals.Open ts then built (λ es. make n (in_order es)) (closing (separated terminals.Comma inner)) (after terminals.Open ts) else Ok (named n, after terminals.Open ts)
+
+-- the rest of a primary that begins so
 abbrev pub operand_after : Reader Expr → Start → Reader Expr
 operand_after inner (with_number n) ts = Ok (tree.number n, ts)
 operand_after inner (with_truth b) ts = Ok (truth b, ts)
-operand_after inner (with_name n) ts = Ok (named n, ts)
+operand_after inner (with_name n) ts = after_name inner n ts
 operand_after inner with_open ts = built parens (closing inner) ts
 operand_after inner with_empty ts = an_empty ts
 operand_after inner (with_operator o) ts = around inner o ts
@@ -274,9 +280,20 @@ abbrev pub begun : {A B : Type 0} → (A → Reader B) → List Tok → Option A
 begun p ts None = Err (Syntax (length ts))
 begun p ts (Some x) = p x (rest ts)
 
--- an operand, whose inner expressions are read so
-unfoldable pub operand : Reader Expr → Reader Expr
-operand inner ts = begun (operand_after inner) ts (start_at ts)
+-- a primary, whose inner expressions are read so
+unfoldable pub primary : Reader Expr → Reader Expr
+primary inner ts = begun (operand_after inner) ts (start_at ts)
+
+-- fields of an expression of at most depth levels, and so on: at most so many
+module _ (depth : ℕ) where
+  unfoldable pub fields_from : ℕ → Expr → Reader Expr
+  fields_from zero e ts = if sees terminals.Dot ts then Err TooDeep else Ok (e, after terminals.Dot ts)
+  fields_from (suc n) e ts =
+      if sees terminals.Dot ts then (if nat_le (depth_of e) depth then (a_name (after terminals.Dot ts) >>= λ p. fields_from n (select e p.0) p.1) else Err TooDeep) else Ok (e, after terminals.Dot ts)
+
+-- an operand, whose inner expressions are of at most depth levels and are read so
+unfoldable pub operand : ℕ → Reader Expr → Reader Expr
+operand depth inner ts = primary inner ts >>= λ p. fields_from depth depth p.0 p.1
 
 -- expr: an expression of at most depth levels, at the level that it is given
 module _ (depth : ℕ) (expr : ℕ → Reader Expr) where
@@ -301,17 +318,17 @@ no_depth (x ∷ ts) = Err TooDeep
 
 -- what an expression begins with: an operator and its operand, where the operator's level is from least on, or an operand
 -- without one; the number bounds the level of the operators that may follow
-abbrev pub first_by : ℕ → (ℕ → Reader Expr) → List Tok → Option Op → Outcome (Expr × ℕ)
-first_by least expr ts None = built (λ e. (e, tightest)) (operand (expr 0)) ts
-first_by least expr ts (Some o) =
+abbrev pub first_by : ℕ → ℕ → (ℕ → Reader Expr) → List Tok → Option Op → Outcome (Expr × ℕ)
+first_by depth least expr ts None = built (λ e. (e, tightest)) (operand depth (expr 0)) ts
+first_by depth least expr ts (Some o) =
     if nat_le least (level_of (Operator o)) then built (λ e. (prefix o e, after_of (Operator o))) (expr (right_of (Operator o))) (rest ts) else Err (Syntax (length ts))
 
-unfoldable pub first : ℕ → (ℕ → Reader Expr) → Reader (Expr × ℕ)
-first least expr ts = first_by least expr ts (prefix_at ts)
+unfoldable pub first : ℕ → ℕ → (ℕ → Reader Expr) → Reader (Expr × ℕ)
+first depth least expr ts = first_by depth least expr ts (prefix_at ts)
 
 unfoldable pub expr : ℕ → ℕ → Reader Expr
 expr zero least ts = no_depth ts
-expr (suc depth) least ts = first least (expr depth) ts >>= λ p. climb depth (expr depth) depth least p.0.1 p.0.0 p.1
+expr (suc depth) least ts = first depth least (expr depth) ts >>= λ p. climb depth (expr depth) depth least p.0.1 p.0.0 p.1
 
 unfoldable pub expression : ℕ → Reader Expr
 expression depth = expr depth 0
@@ -422,7 +439,7 @@ instance depth =
     (a_name ▸ (sign terminals.Colon ▸ (a_name ▸ optional_list terminals.Open (arguments depth))))
 
 unfoldable pub instances : ℕ → Reader (List InstanceTree)
-instances depth = built (λ p. p.0 ∷ []) (instance depth ▸ perhaps terminals.Semicolon)
+instances depth = terminated sees_name terminals.Semicolon (instance depth)
 
 -- after the word `composition`
 unfoldable pub a_composition : ℕ → Reader CompositionTree

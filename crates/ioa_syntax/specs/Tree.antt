@@ -5,15 +5,22 @@ use Rattle.ioa_value.specs.declared.operator.Op.{Op}
 use Rattle.ioa_syntax.specs.declared.tree.Infix.{Infix}
 use Rattle.ioa_syntax.specs.declared.tree.Kind.{Kind}
 
--- an expression
-pub data Expr : Type 0 where
-  number : ℕ → Expr
-  truth : Bool → Expr
-  named : Name → Expr
-  parens : Expr → Expr
-  prefix : Op → Expr → Expr
-  binary : Expr → Infix → Expr → Expr
-  empty : Name → Expr
+-- an expression, and expressions in order: those of a tuple's fields
+mutual
+  pub data Expr : Type 0 where
+    number : ℕ → Expr
+    truth : Bool → Expr
+    named : Name → Expr
+    parens : Expr → Expr
+    prefix : Op → Expr → Expr
+    binary : Expr → Infix → Expr → Expr
+    empty : Name → Expr
+    make : Name → Exprs → Expr
+    select : Expr → Name → Expr
+
+  pub data Exprs : Type 0 where
+    no_expr : Exprs
+    also : Expr → Exprs → Exprs
 
 -- a name and the name of its type: a formal, a variable or a parameter
 pub record FieldTree : Type 0 where

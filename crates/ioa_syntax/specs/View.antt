@@ -1,10 +1,10 @@
--- The tree that a value of the program is: no places in memory, no lines.
-use Rattle.std.specs.Prelude.{List, [], ◌∷◌, map}
+-- The tree that a value of the program is: no places in memory, no lines. The line of an expression is told apart from it.
+use Rattle.std.specs.Prelude.{ℕ, List, [], ◌∷◌, map}
 use Rattle.std.specs.Option.{option_map}
 use Rattle.std.specs.String.{string_bytes}
 use Rattle.ioa_value.specs.Actions as actions
 use Rattle.ioa_syntax.specs.declared.tree.Name.{Name}
-use Rattle.ioa_syntax.specs.declared.tree.Expression.{Expression}
+use Rattle.ioa_syntax.specs.declared.tree.Expression.{Expression, Row_of-Expression, end_of-Expression, more_of-Expression}
 use Rattle.ioa_syntax.specs.declared.tree.Expression.TheVariants as expressions
 use Rattle.ioa_syntax.specs.declared.tree.Field.{Field}
 use Rattle.ioa_syntax.specs.declared.tree.Position.{Position}
@@ -25,19 +25,43 @@ use Rattle.ioa_syntax.specs.declared.tree.TypeForm.TheVariants as forms
 use Rattle.ioa_syntax.specs.declared.tree.TypeDeclaration.{TypeDeclaration}
 use Rattle.ioa_syntax.specs.declared.tree.Declaration.{Declaration}
 use Rattle.ioa_syntax.specs.declared.tree.Declaration.TheVariants as declarations
-use Rattle.ioa_syntax.specs.Tree.{Expr, number, truth, named, parens, prefix, binary, empty, FieldTree, PositionTree, typed, EntryTree, VariableTree, ProposalTree, Stmt, assign, choose, Stmts, stop, seq, Arms, no_arm, arm, TransitionTree, AutomatonTree, InstanceTree, CompositionTree, FormTree, enumeration, tuple, sequence, TypeTree, DeclarationTree, declared_type, automaton, composition, SourceTree}
+use Rattle.ioa_syntax.specs.Tree.{Expr, number, truth, named, parens, prefix, binary, empty, make, select, Exprs, no_expr, also, FieldTree, PositionTree, typed, EntryTree, VariableTree, ProposalTree, Stmt, assign, choose, Stmts, stop, seq, Arms, no_arm, arm, TransitionTree, AutomatonTree, InstanceTree, CompositionTree, FormTree, enumeration, tuple, sequence, TypeTree, DeclarationTree, declared_type, automaton, composition, SourceTree}
 
 abbrev pub name_of : Name → actions.Name
 name_of n = string_bytes n.text
 
-abbrev pub expr_of : Expression → Expr
-expr_of (expressions.Number n line) = number n
-expr_of (expressions.Truth b line) = truth b
-expr_of (expressions.Name n) = named (name_of n)
-expr_of (expressions.Parentheses' p e line) = parens (expr_of e)
-expr_of (expressions.Prefix' o p e line) = prefix o (expr_of e)
-expr_of (expressions.Binary' p l o q r line) = binary (expr_of l) o (expr_of r)
-expr_of (expressions.Empty n line) = empty (name_of n)
+abbrev mutual
+  pub expr_of : Expression → Expr
+  expr_of (expressions.Number n line) = number n
+  expr_of (expressions.Truth b line) = truth b
+  expr_of (expressions.Name n) = named (name_of n)
+  expr_of (expressions.Parentheses' p e line) = parens (expr_of e)
+  expr_of (expressions.Prefix' o p e line) = prefix o (expr_of e)
+  expr_of (expressions.Binary' p l o q r line) = binary (expr_of l) o (expr_of r)
+  expr_of (expressions.Empty n line) = empty (name_of n)
+  expr_of (expressions.Make' n shape fields) = make (name_of n) (row_exprs fields)
+  expr_of (expressions.Select' p e n line) = select (expr_of e) (name_of n)
+
+  pub row_exprs : {m : _} → Row_of-Expression m → Exprs
+  row_exprs end_of-Expression = no_expr
+  row_exprs (more_of-Expression e rest) = also (expr_of e) (row_exprs rest)
+
+-- the line of its first token
+abbrev pub first_line : Expression → ℕ
+first_line (expressions.Number n line) = line
+first_line (expressions.Truth b line) = line
+first_line (expressions.Name n) = n.line
+first_line (expressions.Parentheses' p e line) = line
+first_line (expressions.Prefix' o p e line) = line
+first_line (expressions.Binary' p l o q r line) = line
+first_line (expressions.Empty n line) = line
+first_line (expressions.Make' n shape fields) = n.line
+first_line (expressions.Select' p e n line) = line
+
+-- expressions of a list in order
+abbrev pub exprs_of : List Expression → Exprs
+exprs_of [] = no_expr
+exprs_of (e ∷ es) = also (expr_of e) (exprs_of es)
 
 abbrev pub field_of : Field → FieldTree
 field_of f = record { name = name_of f.name; ty = name_of f.ty }

@@ -1,20 +1,21 @@
 -- Which sources are well formed.
-use Rattle.std.specs.Prelude.{ℕ, ◌+◌, ◌==◌, nat_le, Bool, true, false, not, ◌&&◌, ◌||◌, List, [], ◌∷◌, ◌++◌, map, filter, length, sum, Option, Some, None, pos, IsTrue, if◌then◌else◌}
+use Rattle.std.specs.Prelude.{ℕ, ◌+◌, ◌==◌, nat_le, Bool, true, false, not, ◌&&◌, ◌||◌, List, [], ◌∷◌, ◌++◌, map, filter, length, sum, Option, Some, None, option_and_then, pos, IsTrue, if◌then◌else◌}
 use Rattle.std.specs.List.{list_any, list_all, flat_map}
-use Rattle.std.specs.Option.{option_map_or}
+use Rattle.std.specs.Option.{option_map, option_map_or}
 use Rattle.std.specs.Str.{bytes_eq}
 use Rattle.ioa_value.specs.Actions.{Name}
 use Rattle.ioa_value.specs.Arithmetic.{fits}
 use Rattle.ioa_value.specs.Operators.{op_type, of_two, given}
 pub use Rattle.ioa_value.specs.Table.{contains, distinct, apart}
-use Rattle.ioa_value.specs.Table.{Table, Shape, truths, numbers, names, fields, basic, shape_at, type_named}
+use Rattle.ioa_value.specs.Table.{Table, Shape, truths, numbers, names, fields, basic, shape_at, type_named, field_place}
+use Rattle.ioa_value.specs.declared.operator.Op.TheVariants.{Make, Field}
 use Rattle.ioa_value.specs.Table.{sequence as sequence_shape}
 use Rattle.ioa_value.specs.Widths.{widths}
 use Rattle.ioa_syntax.specs.declared.tree.Infix.{Infix}
 use Rattle.ioa_syntax.specs.declared.tree.Infix.TheVariants.{Operator, And, Or, Implies}
 use Rattle.ioa_syntax.specs.declared.tree.Kind.{Kind}
 use Rattle.ioa_syntax.specs.declared.tree.Kind.TheVariants.{Input, Output, Internal}
-use Rattle.ioa_syntax.specs.Tree.{Expr, number, truth, named, parens, prefix, binary, empty, FieldTree, PositionTree, typed, EntryTree, VariableTree, ProposalTree, Stmt, assign, choose, Stmts, stop, seq, Arms, no_arm, arm, TransitionTree, AutomatonTree, InstanceTree, CompositionTree, FormTree, enumeration, tuple, sequence, TypeTree, DeclarationTree, declared_type, automaton, composition, SourceTree}
+use Rattle.ioa_syntax.specs.Tree.{Expr, number, truth, named, parens, prefix, binary, empty, make, select, Exprs, no_expr, also, FieldTree, PositionTree, typed, EntryTree, VariableTree, ProposalTree, Stmt, assign, choose, Stmts, stop, seq, Arms, no_arm, arm, TransitionTree, AutomatonTree, InstanceTree, CompositionTree, FormTree, enumeration, tuple, sequence, TypeTree, DeclarationTree, declared_type, automaton, composition, SourceTree}
 use Rattle.ioa_syntax.specs.Meaning.{or_else}
 use Rattle.ioa_syntax.specs.Types.{types_of, sequence_named, constant_type}
 use Rattle.ioa_value.specs.declared.limits.Limits.{Limits}
@@ -49,15 +50,32 @@ infix_type types And tys = of_truths tys
 infix_type types Or tys = of_truths tys
 infix_type types Implies tys = of_truths tys
 
+-- of a tuple type, which takes fields of its own types
+abbrev pub made_type : Table → Option ℕ → List ℕ → Option ℕ
+made_type types ty tys = option_and_then (λ n. op_type types (Make (record { 0 = n })) tys) ty
+
+-- of the field of this name, where the type is of tuples that have it
+abbrev pub selected_type : Table → Name → ℕ → Option ℕ
+selected_type types x ty = option_and_then (λ j. op_type types (Field j) (ty ∷ [])) (field_place types ty x)
+
 -- the type of an expression, where it has one: its names are those of the context and of enumerations among the earlier types
-abbrev pub type_of : Table → Table → Context → Expr → Option ℕ
-type_of types early c (number n) = if fits (pos n) then Some 1 else None
-type_of types early c (truth b) = Some 0
-type_of types early c (named x) = or_else (type_in c x) (constant_type early x)
-type_of types early c (parens e) = type_of types early c e
-type_of types early c (prefix o e) = one_type (type_of types early c e) (op_type types o)
-type_of types early c (binary l o r) = both_types (type_of types early c l) (type_of types early c r) (infix_type types o)
-type_of types early c (empty x) = sequence_named early x
+abbrev mutual
+  pub type_of : Table → Table → Context → Expr → Option ℕ
+  type_of types early c (number n) = if fits (pos n) then Some 1 else None
+  type_of types early c (truth b) = Some 0
+  type_of types early c (named x) = or_else (type_in c x) (constant_type early x)
+  type_of types early c (parens e) = type_of types early c e
+  type_of types early c (prefix o e) = one_type (type_of types early c e) (op_type types o)
+  type_of types early c (binary l o r) = both_types (type_of types early c l) (type_of types early c r) (infix_type types o)
+  type_of types early c (empty x) = sequence_named early x
+  type_of types early c (make x es) = option_and_then (made_type types (type_named early x)) (types_of_all types early c es)
+  type_of types early c (select e x) = option_and_then (selected_type types x) (type_of types early c e)
+
+  -- the types of expressions in order, where all have one
+  pub types_of_all : Table → Table → Context → Exprs → Option (List ℕ)
+  types_of_all types early c no_expr = Some []
+  types_of_all types early c (also e es) =
+      option_and_then (λ ty. option_map (λ tys. ty ∷ tys) (types_of_all types early c es)) (type_of types early c e)
 
 abbrev pub is_some_of : Option ℕ → ℕ → Bool
 is_some_of o ty = option_map_or (λ t. t == ty) o false
@@ -239,14 +257,21 @@ is_type_declaration (automaton a) = false
 is_type_declaration (composition c) = false
 
 -- the nodes of a tree; a pair of parentheses is one
-abbrev pub nodes : Expr → ℕ
-nodes (number n) = 1
-nodes (truth b) = 1
-nodes (named x) = 1
-nodes (parens e) = nodes e + 1
-nodes (prefix o e) = nodes e + 1
-nodes (binary l o r) = nodes l + nodes r + 1
-nodes (empty x) = 1
+abbrev mutual
+  pub nodes : Expr → ℕ
+  nodes (number n) = 1
+  nodes (truth b) = 1
+  nodes (named x) = 1
+  nodes (parens e) = nodes e + 1
+  nodes (prefix o e) = nodes e + 1
+  nodes (binary l o r) = nodes l + nodes r + 1
+  nodes (empty x) = 1
+  nodes (make x es) = exprs_nodes es + 1
+  nodes (select e x) = nodes e + 1
+
+  pub exprs_nodes : Exprs → ℕ
+  exprs_nodes no_expr = 0
+  exprs_nodes (also e es) = nodes e + exprs_nodes es
 
 -- a statement is one
 abbrev mutual

@@ -56,15 +56,19 @@ fn instance(cursor: &mut Cursor<'_>) -> Result<Instance, ReadError>
     })
 }
 
-/// The one component of a composition, with or without a semicolon.
-#[tactic(auto, unfolding(crate::specs::Reading::instances))]
+/// The components of a composition, the last of them with or without a semicolon.
+#[tactic(auto, unfolding(crate::specs::Reading::instances, crate::specs::Reading::terminated), using(crate::proofs::Turns::items_turn, crate::proofs::Turns::items_close, crate::proofs::Turns::items_fail, crate::proofs::Turns::items_spent))]
 fn instances(cursor: &mut Cursor<'_>) -> Result<Vec<Instance>, ReadError>
     ensures { Reads (λ v. map instance_of v.items) (spec.instances LIMITS.depth (tokens_shown cursor.old)) result (tokens_shown cursor.new) }
 {
     let mut found = Vec::new(cursor.alloc());
-    found.push(instance(cursor)?)?;
-    cursor.take(Terminal::Semicolon);
-    Ok(found)
+    for _turn in 0..cursor.left() {
+        found.push(instance(cursor)?)?;
+        if !cursor.take(Terminal::Semicolon) || !cursor.sees_name() {
+            return Ok(found);
+        }
+    }
+    Err(cursor.fault())
 }
 
 /// What stands after the word `composition`.

@@ -6,7 +6,7 @@ ghost use Rattle.ioa_syntax.specs.Reading as spec;
 ghost use Rattle.ioa_syntax.specs.Reading.{Reads};
 ghost use Rattle.ioa_syntax.specs.View.{expr_of};
 
-use crate::calls::{around, empty};
+use crate::calls::{after_name, around, empty, selected};
 use crate::cursor::Cursor;
 use crate::fault::{Fault, ReadError};
 use crate::measured::Measured;
@@ -73,7 +73,7 @@ pub(crate) fn expression(
 #[tactic(auto, unfolding(crate::specs::Reading::first))]
 fn first(cursor: &mut Cursor<'_>, depth: u32, least: u32) -> Result<(Measured, u32), ReadError>
     requires { depth < 999 }
-    ensures read { Reads (λ p. (expr_of p.0.expression, p.1)) (spec.first least (spec.expr depth) (tokens_shown cursor.old)) result (tokens_shown cursor.new) }
+    ensures read { Reads (λ p. (expr_of p.0.expression, p.1)) (spec.first depth least (spec.expr depth) (tokens_shown cursor.old)) result (tokens_shown cursor.new) }
     ensures within { IfOk result (λ p. p.0.depth ≤ depth + 1) }
 {
     let Some(operator) = prefix_at(cursor) else {
@@ -90,13 +90,25 @@ fn first(cursor: &mut Cursor<'_>, depth: u32, least: u32) -> Result<(Measured, u
     Ok((whole, after_of(before)))
 }
 
-/// A number, a truth value, a name, an empty sequence, or expressions of at most `depth` levels in parentheses, alone or
-/// after the word of an operator.
+/// A primary, whose inner expressions have at most `depth` levels, and fields of it.
 #[cycle(expression)]
-#[tactic(auto, unfolding(crate::specs::Reading::operand, crate::specs::Reading::start_at, crate::specs::Reading::start_of, crate::specs::Reading::closing, crate::specs::Reading::a_name))]
+#[tactic(auto, unfolding(crate::specs::Reading::operand))]
 fn operand(cursor: &mut Cursor<'_>, depth: u32) -> Result<Measured, ReadError>
     requires { depth < 999 }
-    ensures read { Reads (λ m. expr_of m.expression) (spec.operand (spec.expr depth 0) (tokens_shown cursor.old)) result (tokens_shown cursor.new) }
+    ensures read { Reads (λ m. expr_of m.expression) (spec.operand depth (spec.expr depth 0) (tokens_shown cursor.old)) result (tokens_shown cursor.new) }
+    ensures within { IfOk result (λ m. m.depth ≤ depth + 1) }
+{
+    let whole = primary(cursor, depth)?;
+    selected(cursor, whole, depth)
+}
+
+/// A number, a truth value, a name, an empty sequence, or expressions of at most `depth` levels in parentheses, alone or
+/// after the word of an operator or the name of a type.
+#[cycle(expression)]
+#[tactic(auto, unfolding(crate::specs::Reading::primary, crate::specs::Reading::start_at, crate::specs::Reading::start_of, crate::specs::Reading::closing, crate::specs::Reading::a_name))]
+fn primary(cursor: &mut Cursor<'_>, depth: u32) -> Result<Measured, ReadError>
+    requires { depth < 999 }
+    ensures read { Reads (λ m. expr_of m.expression) (spec.primary (spec.expr depth 0) (tokens_shown cursor.old)) result (tokens_shown cursor.new) }
     ensures within { IfOk result (λ m. m.depth ≤ depth + 1) }
 {
     let Some(Token { kind, line }) = cursor.peek() else {
@@ -107,7 +119,10 @@ fn operand(cursor: &mut Cursor<'_>, depth: u32) -> Result<Measured, ReadError>
             cursor.skip();
             Ok(Measured::number(*n, *line))
         }
-        Kind::Name(_) => Ok(Measured::name(cursor.name()?)),
+        Kind::Name(_) => {
+            let name = cursor.name()?;
+            after_name(cursor, name, depth)
+        }
         Kind::Terminal(Terminal::True) => {
             cursor.skip();
             Ok(Measured::truth(true, *line))

@@ -1,10 +1,10 @@
 //! Expressions with their depth.
 
-ghost use Rattle.std.specs.Prelude.{◌≡◌, ◌<◌, ◌≤◌, ◌+◌, IfOk};
+ghost use Rattle.std.specs.Prelude.{◌≡◌, ◌<◌, IfOk};
 ghost use Rattle.ioa_syntax.specs.Tree as spec;
-ghost use Rattle.ioa_syntax.specs.Tree.{truth, named, parens, prefix, binary, empty};
-ghost use Rattle.ioa_syntax.specs.Depth.{depth_of};
-ghost use Rattle.ioa_syntax.specs.View.{expr_of, name_of};
+ghost use Rattle.ioa_syntax.specs.Tree.{truth, named, parens, prefix, binary, empty, make, select};
+ghost use Rattle.ioa_syntax.specs.Depth.{depth_of, exprs_depth};
+ghost use Rattle.ioa_syntax.specs.View.{expr_of, exprs_of, name_of};
 
 use crate::tree::{Expression, Infix, Name};
 use ioa_value::Op;
@@ -105,6 +105,31 @@ impl Measured {
                 line,
             ),
             depth: depth.max(other_depth) + 1,
+        })
+    }
+
+    /// A tuple of the type of this name, of these fields, the deepest of which has this depth.
+    pub fn make(name: Name, fields: Vec<Expression>, deepest: u32) -> Measured
+        requires small { deepest < 1000 }
+        requires exact { deepest ≡ exprs_depth (exprs_of fields.items) }
+        ensures { expr_of result.expression ≡ make (name_of name) (exprs_of fields.items) }
+    {
+        Measured {
+            expression: Expression::Make(name, fields),
+            depth: deepest + 1,
+        }
+    }
+
+    /// The field of this name of the expression.
+    pub fn select(self, alloc: Global, name: Name) -> Result<Measured, AllocError>
+        requires { self.depth < 1000 }
+        ensures { IfOk result (λ m. expr_of m.expression ≡ select (expr_of self.expression) (name_of name)) }
+    {
+        let Measured { expression, depth } = self;
+        let line = expression.line();
+        Ok(Measured {
+            expression: Expression::Select(Box::new(alloc, expression)?, name, line),
+            depth: depth + 1,
         })
     }
 }

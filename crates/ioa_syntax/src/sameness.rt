@@ -2,7 +2,7 @@
 
 ghost use Rattle.std.specs.Prelude.{◌≡◌, ◌↔◌, IsTrue, map};
 ghost use Rattle.std.specs.Option.{option_map};
-ghost use Rattle.ioa_syntax.specs.View.{expr_of, stmt_of, stmts_of, arm_of, arms_of};
+ghost use Rattle.ioa_syntax.specs.View.{expr_of, exprs_of, stmt_of, stmts_of, arm_of, arms_of};
 
 use crate::tree::{
     Arm, Assembly, Automaton, Declaration, Entry, Expression, Field, Instance, Name, Position,
@@ -48,6 +48,8 @@ impl Same for Name {
     }
 }
 
+#[cycle(same_expression)]
+#[tactic(auto, using(crate::proofs::Tuples::expr_made))]
 fn same_expression(this: &Expression, that: &Expression) -> bool
     ensures { IsTrue result ↔ (expr_of this.now ≡ expr_of that.now) }
 {
@@ -62,8 +64,27 @@ fn same_expression(this: &Expression, that: &Expression) -> bool
             o == p && same_expression(a, c) && same_expression(b, d)
         }
         (Expression::Empty(a, _), Expression::Empty(b, _)) => a.same(b),
+        (Expression::Make(a, xs), Expression::Make(b, ys)) => a.same(b) && same_expressions(xs, ys),
+        (Expression::Select(a, x, _), Expression::Select(b, y, _)) => {
+            same_expression(a, b) && x.same(y)
+        }
         _ => false,
     }
+}
+
+#[cycle(same_expression)]
+fn same_expressions(these: &[Expression], those: &[Expression]) -> bool
+    ensures { IsTrue result ↔ (exprs_of these.now ≡ exprs_of those.now) }
+{
+    if these.len() != those.len() {
+        return false;
+    }
+    for (i, this) in these.iter().enumerate() {
+        if !same_expression(this, &those[i]) {
+            return false;
+        }
+    }
+    true
 }
 
 impl Same for Expression {

@@ -1,3 +1,6 @@
+ghost use Rattle.std.specs.Prelude.{◌≡◌};
+ghost use Rattle.ioa_syntax.specs.View.{first_line};
+
 use ioa_value::Op;
 
 /// A name as it stands in a source, with its line (from 1).
@@ -33,19 +36,26 @@ pub enum Expression {
     Binary(Box<Expression>, Infix, Box<Expression>, u32),
     /// The empty sequence of a type.
     Empty(Name, u32),
+    /// A tuple of a type, of these fields.
+    Make(Name, Vec<Expression>),
+    /// A field of a tuple.
+    Select(Box<Expression>, Name, u32),
 }
 
 impl Expression {
     /// The line of its first token.
-    pub fn line(&self) -> u32 {
+    pub fn line(&self) -> u32
+        ensures { result ≡ first_line self.now }
+    {
         match self {
-            Expression::Name(name) => name.line,
+            Expression::Name(name) | Expression::Make(name, _) => name.line,
             Expression::Number(_, line)
             | Expression::Truth(_, line)
             | Expression::Parentheses(_, line)
             | Expression::Prefix(_, _, line)
             | Expression::Binary(_, _, _, line)
-            | Expression::Empty(_, line) => *line,
+            | Expression::Empty(_, line)
+            | Expression::Select(_, _, line) => *line,
         }
     }
 }

@@ -21,7 +21,7 @@ use Rattle.ioa_value.specs.Table.{Table, TupleField, Shape, truths, numbers, nam
 use Rattle.ioa_value.specs.Typing.{of_fields, HasType, HaveTypes, own}
 use Rattle.ioa_value.specs.Same.{same}
 use Rattle.ioa_value.specs.Sequences.{last_item, all_but_first, all_but_last, item_at, without_first}
-use Rattle.ioa_value.specs.Operators.{Answer, gives, faults, nothing, of_number, of_item, of_items, of_field, on_number, on_numbers, on_truth, on_alike, on_sequence, on_sequence_and_item, on_sequence_and_number, on_item_and_sequence, on_tuple, operate, class_of, of_one, of_two, given, is_that, are_these, type_of, op_type, IsSequence, TakesBy, Takes, IsTypedAnswer}
+use Rattle.ioa_value.specs.Operators.{Answer, gives, faults, nothing, of_number, of_item, of_items, of_field, on_number, on_numbers, on_truth, on_alike, on_sequence, on_sequence_and_item, on_sequence_and_number, on_item_and_sequence, on_tuple, operate, class_of, of_one, of_two, given, is_that, are_these, type_of, op_type, arity_of, arity, IsSequence, TakesBy, Takes, IsTypedAnswer}
 use Rattle.ioa_value.proofs.PlainLemmas.{length-listed}
 use Rattle.ioa_value.proofs.SameLemmas.{equal, equal_numbers}
 use Rattle.ioa_value.proofs.TableLemmas.{stands}
@@ -75,6 +75,40 @@ field_shape (Some numbers) j t e = absurd (cc)
 field_shape (Some (names ns)) j t e = absurd (cc)
 field_shape (Some (sequence most of)) j t e = absurd (cc)
 field_shape None j t e = absurd (cc)
+
+-- ---- an operator that has a type for operands takes so many
+
+one_taken : (f : ℕ → Option ℕ) (tys : List ℕ) (ty : ℕ) → of_one f tys ≡ Some ty → 1 ≡ length tys
+one_taken f [] ty e = absurd (cc)
+one_taken f (a ∷ []) ty e = refl
+one_taken f (a ∷ b ∷ tys) ty e = absurd (cc)
+
+two_taken : (f : ℕ → ℕ → Option ℕ) (tys : List ℕ) (ty : ℕ) → of_two f tys ≡ Some ty → 2 ≡ length tys
+two_taken f [] ty e = absurd (cc)
+two_taken f (a ∷ []) ty e = absurd (cc)
+two_taken f (a ∷ b ∷ []) ty e = refl
+two_taken f (a ∷ b ∷ c ∷ tys) ty e = absurd (cc)
+
+class_takes_all : (types : Table) (class : Class) (tys : List ℕ) (ty : ℕ) → type_of types class tys ≡ Some ty → arity_of types class ≡ length tys
+class_takes_all types Negation tys ty e = one_taken _ tys ty e
+class_takes_all types Arithmetic tys ty e = two_taken _ tys ty e
+class_takes_all types Comparison tys ty e = two_taken _ tys ty e
+class_takes_all types Denial tys ty e = one_taken _ tys ty e
+class_takes_all types Equality tys ty e = two_taken _ tys ty e
+class_takes_all types Size tys ty e = one_taken _ tys ty e
+class_takes_all types Item tys ty e = one_taken _ tys ty e
+class_takes_all types Shortening tys ty e = one_taken _ tys ty e
+class_takes_all types Change tys ty e = two_taken _ tys ty e
+class_takes_all types Index tys ty e = two_taken _ tys ty e
+class_takes_all types Membership tys ty e = two_taken _ tys ty e
+class_takes_all types (Construction s) tys ty e =
+    let p = given_passes s.0 ty (of_fields (shape_at types s.0) (are_these tys)) e in
+    let q = fields_shape (shape_at types s.0) (are_these tys) p.0 in
+    ap (λ o. length (types_of (fields_of o))) q.1 ∙ ap length (sym (these_equal tys (types_of q.0) q.2))
+class_takes_all types (Projection j) tys ty e = one_taken _ tys ty e
+
+pub takes_all : (types : Table) (op : Op) (tys : List ℕ) (ty : ℕ) → op_type types op tys ≡ Some ty → arity types op ≡ length tys
+takes_all types op tys ty e = class_takes_all types (class_of op) tys ty e
 
 module _ (types : Table) (declared : AreTypes types) where
   -- ---- the operands of operators on one value and on two

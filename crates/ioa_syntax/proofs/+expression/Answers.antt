@@ -1,9 +1,12 @@
-use Rattle.std.proofs.Common.{rules, arith, ◌≡◌, ◌≤◌, ◌∙◌, Some, ap, sym, subst}
+use Rattle.std.proofs.Common.{rules, arith, ◌≡◌, ◌≤◌, ◌+◌, ◌-◌, ◌∙◌, Some, Ok, map, refl, ap, sym, subst}
+use Rattle.ioa_value.specs.declared.terminal.Terminal.TheVariants as terminals
 use Rattle.ioa_lex.specs.Tokens.{tokens_shown}
 use Rattle.ioa_syntax.specs.Reading as spec
-use Rattle.ioa_syntax.specs.Tree.{Expr}
-use Rattle.ioa_syntax.specs.View.{expr_of}
-use Rattle.ioa_syntax.specs.Depth.{depth_of}
+use Rattle.ioa_syntax.specs.Tree.{Expr, make}
+use Rattle.ioa_syntax.specs.View.{expr_of, exprs_of, name_of}
+use Rattle.ioa_syntax.specs.Depth.{depth_of, exprs_depth}
+use Rattle.ioa_syntax.proofs.Tuples.{tuple_read, in_order_shown, depth_pushed}
+use Rattle.ioa_syntax.proofs.Turns.{items_turn, items_close}
 use Rattle.ioa_syntax.proofs.Climb.{climb_turn, climb_fails, expr_starts}
 use Rattle.ioa_syntax.proofs.+expression.Goals as goal
 
@@ -30,3 +33,30 @@ pub expressions::expression-returns-clause-read : goal.expressions::expression-r
 expressions::expression-returns-clause-read t c =
     let starts = expr_starts c.args.depth c.args.least _ (tokens_shown c.args.cursor.now) _ _ (omega arith) c.in_ok-left.ensures.read in
     subst (λ (o : spec.Outcome Expr). spec.Reads (λ m. expr_of m.expression) o c.climb.result (tokens_shown c.climb.new.cursor)) (sym starts) c.climb.ensures.read
+
+pub calls::after_name-returns-clause-read : goal.calls::after_name-returns-clause-read
+calls::after_name-returns-clause-read t c =
+    tuple_read (spec.expr c.args.depth 0) (name_of c.args.name) (tokens_shown c.args.cursor.now) _ _ _ _ (sym c.take.ensures.found ∙ c.if-not-take.false) c.take.ensures.after c.in_ok-fields.ensures.read c.in_ok-expect.ensures
+    ∙ ap (λ e. Ok (e, tokens_shown c.expect.new.self)) (ap (make (name_of c.args.name)) (in_order_shown c.in_ok-fields.fields.items) ∙ sym c.make.ensures)
+
+pub calls::fields-returns-then-not-take-clause-read : goal.calls::fields-returns-then-not-take-clause-read
+calls::fields-returns-then-not-take-clause-read t c =
+    sym c.loop-turn.invariant.same
+    ∙ items_close expr_of spec.always terminals.Comma (spec.expr c.args.depth 0) _ _ _ _ _ _ _ _ c.loop-turn-test.true c.in_ok-field.ensures.read c.take.ensures.after (sym c.take.ensures.found ∙ c.if-not-take.true) c.in_ok-push.ensures.items
+
+pub calls::fields-returns-then-not-take-clause-exact : goal.calls::fields-returns-then-not-take-clause-exact
+calls::fields-returns-then-not-take-clause-exact t c =
+    let pushed = ap (λ xs. exprs_depth (exprs_of xs)) c.in_ok-push.ensures.items ∙ depth_pushed c.loop-turn.found.items c.in_ok-field.field.expression in
+    omega (arith, pushed, c.max-deepest.ensures, c.in_ok-field.field.exact, c.loop-turn.invariant.exact)
+
+pub calls::fields-loop-turn-preserved : goal.calls::fields-loop-turn-preserved
+calls::fields-loop-turn-preserved t c = record {
+  same =
+      ap (λ xs. spec.items_from spec.always terminals.Comma (spec.expr c.args.depth 0) (c.left-turn-end.result - (c.loop-turn._turn + 1)) (map expr_of xs) (tokens_shown c.take.new.self)) c.in_ok-push.ensures.items
+      ∙ items_turn expr_of spec.always terminals.Comma (spec.expr c.args.depth 0) _ _ _ _ _ _ _ c.loop-turn-test.true c.in_ok-field.ensures.read (sym c.take.ensures.found ∙ c.if-not-take.false) c.take.ensures.after refl
+      ∙ c.loop-turn.invariant.same;
+  exact =
+      let pushed = ap (λ xs. exprs_depth (exprs_of xs)) c.in_ok-push.ensures.items ∙ depth_pushed c.loop-turn.found.items c.in_ok-field.field.expression in
+      omega (arith, pushed, c.max-deepest.ensures, c.in_ok-field.field.exact, c.loop-turn.invariant.exact);
+  within = omega (arith, c.max-deepest.ensures, c.in_ok-field.ensures.within, c.loop-turn.invariant.within);
+}

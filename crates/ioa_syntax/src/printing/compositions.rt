@@ -5,22 +5,12 @@ ghost use Rattle.std.specs.String.{string_bytes};
 ghost use Rattle.ioa_syntax.specs.Layout as spec;
 ghost use Rattle.ioa_syntax.specs.View.{expr_of, instance_of, assembly_of};
 
-use crate::printing::expressions::expression;
+use crate::printing::expressions::{expression, more_expressions};
 use crate::printing::signatures::before;
 use crate::printing::words::{LINE, SPACE, name, word};
 use crate::tree::{Assembly, Expression, Instance};
 use ioa_lex::Terminal;
 use ioa_value::OutOfMemory;
-
-fn more_arguments(text: &mut String, arguments: &[Expression]) -> Result<(), OutOfMemory>
-    ensures { OnOk result (string_bytes text.new ≡ string_bytes text.old ++ spec.text_more Terminal.Comma (spec.text_expr spec.space) (map expr_of arguments.now)) }
-{
-    for argument in arguments {
-        word(text, Terminal::Comma, SPACE)?;
-        expression(text, argument, SPACE)?;
-    }
-    Ok(())
-}
 
 fn arguments(text: &mut String, arguments: &[Expression]) -> Result<(), OutOfMemory>
     ensures { OnOk result (string_bytes text.new ≡ string_bytes text.old ++ spec.text_parens (spec.text_expr spec.space) (map expr_of arguments.now)) }
@@ -30,7 +20,7 @@ fn arguments(text: &mut String, arguments: &[Expression]) -> Result<(), OutOfMem
     };
     word(text, Terminal::Open, SPACE)?;
     expression(text, first, SPACE)?;
-    more_arguments(text, more)?;
+    more_expressions(text, more)?;
     word(text, Terminal::Close, LINE)
 }
 
@@ -43,14 +33,24 @@ fn instance(text: &mut String, instance: &Instance) -> Result<(), OutOfMemory>
     arguments(text, &instance.arguments)
 }
 
-#[tactic(auto, unfolding(crate::specs::Layout::text_all))]
-fn instances(text: &mut String, instances: &[Instance]) -> Result<(), OutOfMemory>
-    ensures { OnOk result (string_bytes text.new ≡ string_bytes text.old ++ spec.text_all spec.text_instance (map instance_of instances.now)) }
+fn more_instances(text: &mut String, instances: &[Instance]) -> Result<(), OutOfMemory>
+    ensures { OnOk result (string_bytes text.new ≡ string_bytes text.old ++ spec.text_more Terminal.Semicolon spec.text_instance (map instance_of instances.now)) }
 {
     for each in instances {
+        word(text, Terminal::Semicolon, SPACE)?;
         instance(text, each)?;
     }
     Ok(())
+}
+
+fn instances(text: &mut String, instances: &[Instance]) -> Result<(), OutOfMemory>
+    ensures { OnOk result (string_bytes text.new ≡ string_bytes text.old ++ spec.text_list Terminal.Semicolon spec.text_instance (map instance_of instances.now)) }
+{
+    let Some((first, more)) = instances.split_first() else {
+        return Ok(());
+    };
+    instance(text, first)?;
+    more_instances(text, more)
 }
 
 /// Writes what stands after the word `composition`.

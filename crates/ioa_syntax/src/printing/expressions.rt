@@ -1,8 +1,8 @@
 //! Expressions as they are printed.
 
-ghost use Rattle.std.specs.Prelude.{◌≡◌, ◌++◌, ◌<◌, OnOk};
+ghost use Rattle.std.specs.Prelude.{◌≡◌, ◌++◌, ◌<◌, map, OnOk};
 ghost use Rattle.std.specs.String.{string_bytes};
-ghost use Rattle.ioa_syntax.specs.Layout.{text_expr};
+ghost use Rattle.ioa_syntax.specs.Layout.{space, text_expr, text_more};
 ghost use Rattle.ioa_syntax.specs.View.{expr_of};
 
 use crate::operators::{stands_around, word_of};
@@ -12,6 +12,8 @@ use ioa_lex::Terminal;
 use ioa_value::OutOfMemory;
 
 /// Writes an expression.
+#[cycle(expression)]
+#[tactic(auto, using(crate::proofs::Tuples::expr_made))]
 pub(crate) fn expression(
     text: &mut String,
     expression: &Expression,
@@ -56,5 +58,34 @@ pub(crate) fn expression(
             name(text, of, SPACE)?;
             word(text, Terminal::Close, end)
         }
+        Expression::Make(of, fields) => {
+            name(text, of, SPACE)?;
+            word(text, Terminal::Open, SPACE)?;
+            if let Some((first, more)) = fields.split_first() {
+                self::expression(text, first, SPACE)?;
+                more_expressions(text, more)?;
+            }
+            word(text, Terminal::Close, end)
+        }
+        Expression::Select(inner, field, _) => {
+            self::expression(text, inner, SPACE)?;
+            word(text, Terminal::Dot, SPACE)?;
+            name(text, field, end)
+        }
     }
+}
+
+/// Writes a comma and an expression, for each expression.
+#[cycle(expression)]
+pub(crate) fn more_expressions(
+    text: &mut String,
+    expressions: &[Expression],
+) -> Result<(), OutOfMemory>
+    ensures { OnOk result (string_bytes text.new ≡ string_bytes text.old ++ text_more Terminal.Comma (text_expr space) (map expr_of expressions.now)) }
+{
+    for each in expressions {
+        word(text, Terminal::Comma, SPACE)?;
+        expression(text, each, SPACE)?;
+    }
+    Ok(())
 }
