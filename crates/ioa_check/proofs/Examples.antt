@@ -5,7 +5,7 @@ use Rattle.ioa_value.specs.declared.operator.Op.TheVariants.{Eq, Add, Not}
 use Rattle.ioa_lex.specs.declared.refusal.Refusal.{Refusal}
 use Rattle.ioa_lex.specs.declared.refusal.Refusal.TheVariants.{DuplicateName, UnknownName, TypeMismatch, BadSignature, NoProposal, TooMany, TooWide}
 use Rattle.ioa_syntax.specs.declared.tree.Infix.TheVariants.{Operator, And}
-use Rattle.ioa_syntax.specs.Tree.{number, truth, named, prefix, binary, empty, assign, choose, stop, seq, no_arm, arm, enumeration, tuple, sequence, automaton, composition, SourceTree}
+use Rattle.ioa_syntax.specs.Tree.{Expr, number, truth, named, prefix, binary, empty, make, select, no_expr, also, assign, choose, stop, seq, no_arm, arm, enumeration, tuple, sequence, automaton, composition, SourceTree}
 use Rattle.ioa_syntax.proofs.Examples.{field, count_variable, tick_proposal, tick_transition, reset_transition, counter, one, source, with_formals, with_variables, with_transitions, with_pre, with_proposals, with_effect, plain_variable, variables_from}
 use Rattle.ioa_syntax.proofs.TypeExamples.{of_type, type, kind, packet, three, cell, comparing, starting, one_type, nested, fields_from, sender}
 use Rattle.ioa_check.specs.Codes as codes_of
@@ -192,3 +192,49 @@ takes_wide_values = refl
 
 takes_too_wide_values : told (nested 16) ≡ 11 ∷ []
 takes_too_wide_values = refl
+
+-- ---- tuples
+
+-- Pkt(k, n)
+abbrev packed : Expr → Expr → Expr
+packed k n = make (codes "Pkt") (also k (also n no_expr))
+
+abbrev acked : Expr
+acked = packed (named (codes "ack")) (number 7)
+
+makes_a_tuple : told (starting (codes "Pkt") acked) ≡ []
+makes_a_tuple = refl
+
+takes_a_field : told (starting (codes "Int") (select acked (codes "tag"))) ≡ []
+takes_a_field = refl
+
+makes_no_type : told (starting (codes "Pkt") (make (codes "Pack") (also (named (codes "ack")) (also (number 7) no_expr)))) ≡ 6 ∷ []
+makes_no_type = refl
+
+makes_a_later_type : told (kind ∷ cell (of_type (codes "x") (codes "Bool")) (Some (binary acked (Operator Eq) acked)) ∷ packet ∷ []) ≡ 6 ∷ []
+makes_a_later_type = refl
+
+makes_no_tuple : told (starting (codes "Kind") (make (codes "Kind") (also (number 7) no_expr))) ≡ 7 ∷ []
+makes_no_tuple = refl
+
+makes_of_too_few : told (starting (codes "Pkt") (make (codes "Pkt") (also (named (codes "ack")) no_expr))) ≡ 7 ∷ []
+makes_of_too_few = refl
+
+makes_of_too_many : told (starting (codes "Pkt") (make (codes "Pkt") (also (named (codes "ack")) (also (number 7) (also (number 8) no_expr))))) ≡ 7 ∷ []
+makes_of_too_many = refl
+
+makes_of_another_type : told (starting (codes "Pkt") (packed (number 7) (named (codes "ack")))) ≡ 7 ∷ []
+makes_of_another_type = refl
+
+-- a field that is not known tells nothing of types
+makes_of_nothing : told (starting (codes "Pkt") (packed (named (codes "nak")) (truth true))) ≡ 6 ∷ []
+makes_of_nothing = refl
+
+takes_an_unknown_field : told (starting (codes "Int") (select acked (codes "size"))) ≡ 6 ∷ []
+takes_an_unknown_field = refl
+
+takes_a_field_of_a_number : told (starting (codes "Int") (select (number 7) (codes "tag"))) ≡ 7 ∷ []
+takes_a_field_of_a_number = refl
+
+takes_a_field_of_nothing : told (starting (codes "Int") (select (named (codes "nak")) (codes "tag"))) ≡ 6 ∷ []
+takes_a_field_of_nothing = refl

@@ -9,4 +9,5 @@ pub mod TypeLemmas
 pub mod DeclarationLemmas
 pub mod SourceLemmas
 pub mod StatementLemmas
+pub mod TupleLemmas
 mod Examples

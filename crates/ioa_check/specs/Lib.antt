@@ -7,3 +7,4 @@ pub mod Known
 pub mod Scopes
 pub mod Sizes
 pub mod Types
+pub mod Tuples

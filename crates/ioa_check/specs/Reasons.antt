@@ -1,19 +1,19 @@
 -- Why a source is refused: the rules that are broken in it, each with the code that tells it.
-use Rattle.std.specs.Prelude.{ℕ, ◌==◌, Bool, true, false, not, ◌&&◌, ◌||◌, List, [], ◌∷◌, ◌++◌, map, Option, Some, None, is_some, pos}
+use Rattle.std.specs.Prelude.{ℕ, ◌==◌, Bool, true, false, not, ◌&&◌, ◌||◌, List, [], ◌∷◌, ◌++◌, map, length, Option, Some, None, is_some, pos}
 use Rattle.std.specs.List.{list_any, list_all}
 use Rattle.std.specs.Option.{option_map_or}
 use Rattle.ioa_value.specs.Actions.{Name}
 use Rattle.ioa_value.specs.Arithmetic.{fits}
 use Rattle.ioa_value.specs.Operators.{op_type}
-use Rattle.ioa_value.specs.Table.{Table, type_named, item_type}
+use Rattle.ioa_value.specs.Table.{Table, type_named, item_type, field_types, field_place}
 use Rattle.ioa_lex.specs.declared.refusal.Refusal.{Refusal}
-use Rattle.ioa_syntax.specs.Tree.{Expr, number, truth, named, parens, prefix, binary, empty, EntryTree, VariableTree, ProposalTree, Stmt, assign, choose, Stmts, stop, seq, Arms, no_arm, arm, TransitionTree, AutomatonTree, InstanceTree, CompositionTree, FormTree, enumeration, tuple, sequence, DeclarationTree, declared_type, automaton, composition, SourceTree}
+use Rattle.ioa_syntax.specs.Tree.{Expr, number, truth, named, parens, prefix, binary, empty, make, select, Exprs, no_expr, also, EntryTree, VariableTree, ProposalTree, Stmt, assign, choose, Stmts, stop, seq, Arms, no_arm, arm, TransitionTree, AutomatonTree, InstanceTree, CompositionTree, FormTree, enumeration, tuple, sequence, DeclarationTree, declared_type, automaton, composition, SourceTree}
 use Rattle.ioa_syntax.specs.Instances.{field_names, position_name}
 use Rattle.ioa_syntax.specs.Meaning.{or_else}
 use Rattle.ioa_value.specs.declared.limits.TheConstants.{LIMITS}
 use Rattle.ioa_syntax.specs.Types.{with_type, types_of, constant_type}
 use Rattle.ioa_syntax.specs.WellFormed as well_formed
-use Rattle.ioa_syntax.specs.WellFormed.{Context, type_in, type_of, infix_type, distinct, apart, is_type, context_of, position_fields, variable_fields, is_input, is_automaton_of, global_names, source_within, types_narrow}
+use Rattle.ioa_syntax.specs.WellFormed.{Context, type_in, type_of, types_of_all, made_type, infix_type, distinct, apart, is_type, context_of, position_fields, variable_fields, is_input, is_automaton_of, global_names, source_within, types_narrow}
 use Rattle.ioa_check.specs.Codes.{Code, duplicate_name, unknown_name, type_mismatch, bad_signature, no_proposal, too_many, too_wide, tells}
 
 -- the refusals that have their reason in a part of a source
@@ -58,17 +58,44 @@ abbrev pub in_empty : Table → Name → Reasons
 in_empty early x = broken unknown_name (is_some (type_named early x))
     or broken type_mismatch (option_map_or (λ ty. is_some (item_type early ty)) (type_named early x) true)
 
+-- tuples of the type have fields: it is a tuple type
+abbrev pub has_fields : Table → ℕ → Bool
+has_fields types ty = not (length (field_types types ty) == 0)
+
+-- a tuple takes fields of these types, where its type is known and all of them have one
+abbrev pub all_taken : Table → Option ℕ → Option (List ℕ) → Bool
+all_taken t (Some ty) (Some tys) = is_some (made_type t (Some ty) tys)
+all_taken t (Some ty) None = true
+all_taken t None tys = true
+
+-- a name before fields in parentheses: it is an earlier type's, this type is a tuple, and takes the fields
+abbrev pub in_made : Table → Table → Name → Option (List ℕ) → Reasons
+in_made t early x tys = broken unknown_name (is_some (type_named early x))
+    or broken type_mismatch (option_map_or (has_fields t) (type_named early x) true && all_taken t (type_named early x) tys)
+
+-- a field of what is of a type, where it has one: this is a tuple, and has such a field
+abbrev pub in_selected : Table → Name → Option ℕ → Reasons
+in_selected t x (Some ty) = broken type_mismatch (has_fields t ty) or in_case (has_fields t ty) (broken unknown_name (is_some (field_place t ty x)))
+in_selected t x None = none
+
 -- an expression: its numbers fit, its names are known, and its operators take the types of their operands
-abbrev pub in_expression : Table → Table → Context → Expr → Reasons
-in_expression t early c (number n) = broken type_mismatch (fits (pos n))
-in_expression t early c (truth b) = none
-in_expression t early c (named x) = broken unknown_name (is_some (or_else (type_in c x) (constant_type early x)))
-in_expression t early c (parens e) = in_expression t early c e
-in_expression t early c (prefix o e) = in_expression t early c e or broken type_mismatch (one_taken (type_of t early c e) (op_type t o))
-in_expression t early c (binary l o r) =
-    in_expression t early c l or in_expression t early c r
-    or broken type_mismatch (taken (type_of t early c l) (type_of t early c r) (infix_type t o))
-in_expression t early c (empty x) = in_empty early x
+abbrev mutual
+  pub in_expression : Table → Table → Context → Expr → Reasons
+  in_expression t early c (number n) = broken type_mismatch (fits (pos n))
+  in_expression t early c (truth b) = none
+  in_expression t early c (named x) = broken unknown_name (is_some (or_else (type_in c x) (constant_type early x)))
+  in_expression t early c (parens e) = in_expression t early c e
+  in_expression t early c (prefix o e) = in_expression t early c e or broken type_mismatch (one_taken (type_of t early c e) (op_type t o))
+  in_expression t early c (binary l o r) =
+      in_expression t early c l or in_expression t early c r
+      or broken type_mismatch (taken (type_of t early c l) (type_of t early c r) (infix_type t o))
+  in_expression t early c (empty x) = in_empty early x
+  in_expression t early c (make x es) = in_made t early x (types_of_all t early c es) or in_expressions t early c es
+  in_expression t early c (select e x) = in_expression t early c e or in_selected t x (type_of t early c e)
+
+  pub in_expressions : Table → Table → Context → Exprs → Reasons
+  in_expressions t early c no_expr = none
+  in_expressions t early c (also e es) = in_expression t early c e or in_expressions t early c es
 
 -- an expression where one of a type is wanted: this type is known, and the expression has no other
 abbrev pub in_place : Table → Table → Option ℕ → Context → Expr → Reasons

@@ -3,22 +3,42 @@ ghost use Rattle.std.specs.Option.{option_map};
 ghost use Rattle.ioa_value.specs.Operators as operators;
 ghost use Rattle.ioa_value.specs.Plain.{number as number_of_type};
 ghost use Rattle.ioa_syntax.specs.Types.{sequence_named};
-ghost use Rattle.ioa_syntax.specs.View.{expr_of, name_of};
-ghost use Rattle.ioa_syntax.specs.Tree.{number};
+ghost use Rattle.ioa_syntax.specs.View.{expr_of, exprs_of, name_of, automaton_of, entry_of};
+ghost use Rattle.ioa_syntax.specs.Tree.{number, make};
 ghost use Rattle.ioa_syntax.specs.WellFormed as well_formed;
 ghost use Rattle.ioa_check.specs.Known.{whole, early};
 ghost use Rattle.ioa_check.specs.Scopes.{context};
 ghost use Rattle.ioa_check.specs.Codes.{type_mismatch, tells};
 ghost use Rattle.ioa_check.specs.Reasons as reasons;
+ghost use Rattle.ioa_check.specs.Tuples.{are_fields, in_fields_made};
 ghost use Rattle.ioa_check.specs.Verdicts.{Says, Finds};
 
 use crate::known::Known;
 use crate::scope::Scope;
-use ioa_syntax::{Expression, Infix, Name, Refusal};
+use crate::tuples::{is_field, selected_type, tuple_named};
+use ioa_syntax::{Automaton, Entry, Expression, Infix, Name, Refusal};
 use ioa_value::{Form, Op, Ty, Types, op_type};
 
-/// The type of an expression. A line is that of a name that is not known or, after `empty`, of no sequence, or of an
-/// operand whose type its operator does not take.
+/// The type of an expression in a precondition or an effect of an automaton's entry, where it has one.
+pub fn expression_type(
+    types: &Types,
+    automaton: &Automaton,
+    entry: &Entry,
+    expression: &Expression,
+) -> Option<Ty>
+    ensures { option_map number_of_type result ≡ well_formed.type_of types.now types.now (well_formed.scope types.now types.now [] (automaton_of automaton.now) (entry_of entry.now)) (expr_of expression.now) }
+{
+    let known = Known::of_all(types);
+    match type_of(&Scope::of_entry(&known, automaton, entry), expression) {
+        Ok(ty) => Some(ty),
+        Err(_) => None,
+    }
+}
+
+/// The type of an expression. A line is that of a name that is not known or is not of the type that its place wants (a
+/// sequence's after `empty`, a tuple's before fields), of an operand whose type its operator does not take, or of a
+/// field whose type is not that of its place.
+#[cycle(typing)]
 pub(crate) fn type_of(scope: &Scope, expression: &Expression) -> Result<Ty, Refusal>
     ensures { let k = scope.now.known in
         Finds result (well_formed.type_of (whole k) (early k) (context scope.now) (expr_of expression.now)) (reasons.in_expression (whole k) (early k) (context scope.now) (expr_of expression.now)) }
@@ -48,6 +68,47 @@ pub(crate) fn type_of(scope: &Scope, expression: &Expression) -> Result<Ty, Refu
             )
         }
         Expression::Empty(name, _) => empty_type(&scope.known, name),
+        Expression::Make(name, fields) => made_type(scope, name, fields),
+        Expression::Select(operand, name, _) => {
+            let own = type_of(scope, operand)?;
+            selected_type(scope.known.types, own, name, operand.line())
+        }
+    }
+}
+
+/// The tuple type of this name, where these are its fields.
+#[cycle(typing)]
+fn made_type(scope: &Scope, name: &Name, fields: &[Expression]) -> Result<Ty, Refusal>
+    ensures { let k = scope.now.known in let made = make (name_of name.now) (exprs_of fields.now) in
+        Finds result (well_formed.type_of (whole k) (early k) (context scope.now) made) (reasons.in_expression (whole k) (early k) (context scope.now) made) }
+{
+    let ty = tuple_named(&scope.known, name)?;
+    fields_fine(scope, ty, fields, name.line)?;
+    Ok(ty)
+}
+
+/// Whether these are the fields of a tuple type: as many, and each of the type of its place. What is wrong within a field
+/// comes first, since a field without a type is of no other one. A line is that of the first field whose type is not that
+/// of its place or, where there are too few or too many, this one.
+#[cycle(typing)]
+fn fields_fine(scope: &Scope, tuple: Ty, fields: &[Expression], line: u32) -> Result<(), Refusal>
+    ensures { let k = scope.now.known in let es = exprs_of fields.now in
+        Says result (are_fields (whole k) (early k) (context scope.now) es tuple.0) (in_fields_made (whole k) (early k) (context scope.now) es tuple.0) }
+{
+    let types = scope.known.types;
+    let mut odd = None;
+    for (i, field) in fields.iter().enumerate() {
+        let ty = type_of(scope, field)?;
+        if odd.is_none() && !is_field(types, tuple, i, ty) {
+            odd = Some(field.line());
+        }
+    }
+    if fields.len() != Op::Make(tuple).arity(types) {
+        return Err(Refusal::TypeMismatch(line));
+    }
+    match odd {
+        Some(line) => Err(Refusal::TypeMismatch(line)),
+        None => Ok(()),
     }
 }
 

@@ -5,7 +5,7 @@ ghost use Rattle.ioa_value.specs.Shapes.{shape};
 ghost use Rattle.ioa_value.specs.Table as table;
 ghost use Rattle.ioa_syntax.specs.Types.{constant_type};
 ghost use Rattle.ioa_syntax.specs.View.{name_of};
-ghost use Rattle.ioa_check.specs.Known.{early};
+ghost use Rattle.ioa_check.specs.Known.{whole, early};
 
 use ioa_syntax::Name;
 use ioa_value::{Form, Ty, Types};
@@ -18,6 +18,17 @@ pub(crate) struct Known<'a> {
 }
 
 impl<'a> Known<'a> {
+    /// All of these types.
+    pub(crate) fn of_all(types: &'a Types) -> Known<'a>
+        ensures whole { whole result ≡ types.now }
+        ensures early { early result ≡ types.now }
+    {
+        Known {
+            types,
+            count: types.len(),
+        }
+    }
+
     /// The type of this name, if it is declared before.
     pub(crate) fn named(&self, name: &Name) -> Option<Ty>
         ensures { option_map number result ≡ table.type_named (early self.now) (name_of name.now) }

@@ -13,8 +13,10 @@ mod names;
 mod scope;
 mod statements;
 mod transitions;
+mod tuples;
 mod types;
 
 pub use checked::{Checked, check};
+pub use expressions::expression_type;
 pub use fields::type_named;
 pub use ioa_syntax::Refusal;

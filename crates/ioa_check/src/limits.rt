@@ -1,9 +1,9 @@
 ghost use Rattle.std.specs.Prelude.{◌≡◌, ◌+◌, ◌≤◌, ◌&&◌, map, length, filter, sum, nat_le};
 ghost use Rattle.std.specs.List.{list_all};
-ghost use Rattle.ioa_syntax.specs.View.{automaton_of, assembly_of, entry_of, transition_of, declaration_of, type_declaration_of, tree_of, proposal_of, stmt_of, stmts_of, arms_of, expr_of};
+ghost use Rattle.ioa_syntax.specs.View.{automaton_of, assembly_of, entry_of, transition_of, declaration_of, type_declaration_of, tree_of, proposal_of, stmt_of, stmts_of, arms_of, expr_of, exprs_of};
 ghost use Rattle.ioa_syntax.specs.WellFormed as well_formed;
 ghost use Rattle.ioa_check.specs.Codes.{too_many, tells};
-ghost use Rattle.ioa_check.specs.Sizes.{counted, Counts, is_of_kind};
+ghost use Rattle.ioa_check.specs.Sizes.{counted, all_counted, Counts, is_of_kind};
 ghost use Rattle.ioa_check.specs.Verdicts.{Says};
 
 use crate::names::{Named, at_most};
@@ -227,6 +227,7 @@ fn count_on(before: usize, more: usize, line: u32) -> Result<usize, Refusal>
 }
 
 /// How many nodes an expression has, but no more than one past the limit.
+#[cycle(nodes)]
 fn nodes(expression: &Expression) -> usize
     ensures { result ≡ counted (expr_of expression.now) }
 {
@@ -235,11 +236,24 @@ fn nodes(expression: &Expression) -> usize
         | Expression::Truth(_, _)
         | Expression::Name(_)
         | Expression::Empty(_, _) => 1,
-        Expression::Parentheses(inner, _) | Expression::Prefix(_, inner, _) => {
-            (nodes(inner) + 1).min(LIMITS.nodes + 1)
-        }
+        Expression::Parentheses(inner, _)
+        | Expression::Prefix(_, inner, _)
+        | Expression::Select(inner, _, _) => (nodes(inner) + 1).min(LIMITS.nodes + 1),
         Expression::Binary(left, _, right, _) => {
             (nodes(left) + nodes(right) + 1).min(LIMITS.nodes + 1)
         }
+        Expression::Make(_, fields) => (nodes_of_all(fields) + 1).min(LIMITS.nodes + 1),
     }
+}
+
+/// How many nodes expressions have together, but no more than one past the limit.
+#[cycle(nodes)]
+fn nodes_of_all(expressions: &[Expression]) -> usize
+    ensures { result ≡ all_counted (exprs_of expressions.now) }
+{
+    let mut count = 0;
+    for expression in expressions {
+        count = (count + nodes(expression)).min(LIMITS.nodes + 1);
+    }
+    count
 }
