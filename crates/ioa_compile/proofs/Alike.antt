@@ -143,6 +143,7 @@ module _ (m : Member) (e : EntryTree) (vs ps : List ℕ) (h : Setting m e vs ps)
     knows = record {
       same_types = over;
       own_types = refl;
+      context = refl;
       declared = declared;
       variables = variables_long m e vs ps h;
       formals = (is_scope m e vs ps h).given;
@@ -185,7 +186,7 @@ module _ (m : Member) (e : EntryTree) (vs ps : List ℕ) (h : Setting m e vs ps)
         let own = holds env slots c in
         let suits = running.suits part.code s args types names_in variables_in vs h.types ps knows inner slots own in
         let agree = running.agree part.code s args types names_in variables_in vs h.types ps knows inner slots own in
-        answer_comes part s slots args (val types x inner) (some_answer 0 (val types x inner) (val_typed types declared names_in inner x 0 suits t)) (expr_runs part.code s args types over refl names_in x 0 0 (length part.code.instrs) [] slots inner t agree k.has)
+        answer_comes part s slots args (val types x inner) (some_answer 0 (val types x inner) (val_typed types declared names_in inner x 0 suits t)) (expr_runs part.code s args types over refl declared names_in refl inner suits slots agree x 0 0 (length part.code.instrs) [] t k.has)
 
     kept_corresponds : (env : Env) (slots : List Val) → Holds env slots → Corresponds m.instance (kept (variable_names m.instance.automaton) env) slots
     kept_corresponds env slots k = record {

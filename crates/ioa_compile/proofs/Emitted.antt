@@ -4,7 +4,7 @@ use Rattle.ioa_syntax.specs.declared.tree.Kind.TheVariants.{Output, Internal}
 use Rattle.ioa_compile.specs.Translated.{IsGuard, IsGuardFor}
 use Rattle.std.proofs.Common.{◌≡◌, ◌⊎◌, ⊎_elim, ℕ, ◌+◌, ◌<◌, Bool, true, false, List, [], ◌∷◌, ◌++◌, length, map, Option, Some, None, IsSome, refl, sym, ap, ◌∙◌, subst, arith, length-append}
 use Rattle.std.specs.Prelude.{slice_get}
-use Rattle.ioa_syntax.specs.WellFormed.{nodes, stmts_nodes, arms_nodes}
+use Rattle.ioa_syntax.specs.WellFormed.{nodes, exprs_nodes, stmts_nodes, arms_nodes}
 use Rattle.std.proofs.lemmas.Option.{slice_get-map, slice_get_read}
 use Rattle.std.specs.Option.{option_map, option_map_or}
 use Rattle.std.specs.Prelude.{get_or}
@@ -13,7 +13,8 @@ use Rattle.ioa_value.specs.Plain as plain
 use Rattle.ioa_value.specs.Plain.{Val, plain}
 use Rattle.ioa_value.specs.Actions.{Name}
 use Rattle.ioa_value.specs.declared.operator.Op.{Op}
-use Rattle.ioa_value.specs.Table.{place_from}
+use Rattle.ioa_value.specs.declared.operator.Op.TheVariants.{Make, Field}
+use Rattle.ioa_value.specs.Table.{place_from, type_named}
 use Rattle.ioa_value.specs.Typing.{HasType, OwnTypes, own}
 use Rattle.ioa_value.proofs.ItemLemmas.{get_append, get_last}
 use Rattle.ioa_value.proofs.TypingLemmas.{OwnTypes-push}
@@ -21,11 +22,11 @@ use Rattle.ioa_code.specs.declared.instr.Instr.TheVariants.{Const, Slot, Arg, St
 use Rattle.ioa_code.specs.Machine.{Listing}
 use Rattle.ioa_syntax.specs.declared.tree.Infix.{Infix}
 use Rattle.ioa_syntax.specs.declared.tree.Infix.TheVariants.{Operator, And, Or, Implies}
-use Rattle.ioa_syntax.specs.Tree.{Expr, number, truth, named, parens, prefix, binary, empty, Stmt, assign, choose, Stmts, stop, seq, Arms, no_arm, arm}
-use Rattle.ioa_compile.specs.Scopes.{Scope, Origin, slot, formal, parameter, fixed, unknown, origin, IsOrigin}
+use Rattle.ioa_syntax.specs.Tree.{Expr, number, truth, named, parens, prefix, binary, empty, make, select, Exprs, no_expr, also, Stmt, assign, choose, Stmts, stop, seq, Arms, no_arm, arm}
+use Rattle.ioa_compile.specs.Scopes.{Scope, Origin, slot, formal, parameter, fixed, unknown, origin, IsOrigin, place_of}
 use Rattle.ioa_syntax.specs.Types.{constant, empty_of}
-use Rattle.ioa_compile.specs.Placed.{Stretch, At, Pushes, PushesTruth, Brings, Applies, Chooses, Combines, HasExpr, HasGuard, HasStmt, HasStmts, HasArms}
-use Rattle.ioa_compile.specs.Emitting.{Keeps, Adds, AddsInstr, AddsConst, AddsExpr, AddsCombined, AddsTrueSide, AddsFalseSide, AddsStmt, AddsStmts, IsGrown}
+use Rattle.ioa_compile.specs.Placed.{Stretch, At, Pushes, PushesTruth, Brings, Applies, Chooses, Combines, HasExpr, HasExprs, HasGuard, HasStmt, HasStmts, HasArms}
+use Rattle.ioa_compile.specs.Emitting.{Keeps, Adds, AddsInstr, AddsConst, AddsExpr, AddsExprs, AddsCombined, AddsTrueSide, AddsFalseSide, AddsStmt, AddsStmts, IsGrown}
 use Rattle.ioa_compile.specs.Extents.{extent, stmts_extent, arms_extent}
 use Rattle.ioa_compile.proofs.Lengths.{expr_long, stmts_long, arms_long}
 
@@ -152,16 +153,25 @@ module _ (c d : Listing) (k : Keeps c d) where
       Chooses-keeps A (PushesTruth c true) B (PushesTruth d true) f (truth_kept true c d k) p q h
 
   -- code that stands goes on standing
-  pub HasExpr-keeps : (s : Scope) (e : Expr) (p q : ℕ) → HasExpr c s e p q → HasExpr d s e p q
-  HasExpr-keeps s (number n) p q h = (Pushes-keeps c d k p _ h.0, h.1)
-  HasExpr-keeps s (truth b) p q h = truth_kept b c d k p q h
-  HasExpr-keeps s (named x) p q h = (Brings-keeps s p (origin s x) h.0, h.1)
-  HasExpr-keeps s (parens e) p q h = HasExpr-keeps s e p q h
-  HasExpr-keeps s (prefix o e) p q h =
-      Applies-keeps o (HasExpr c s e) (HasExpr d s e) (HasExpr-keeps s e) p q h
-  HasExpr-keeps s (binary l o r) p q h =
-      (h.0, HasExpr-keeps s l p h.0 h.1, Combines-keeps o (HasExpr c s r) (HasExpr d s r) (HasExpr-keeps s r) h.0 q h.2)
-  HasExpr-keeps s (empty x) p q h = (h.0, h.1, Pushes-keeps c d k p h.0 h.2, h.3)
+  mutual
+    pub HasExpr-keeps : (s : Scope) (e : Expr) (p q : ℕ) → HasExpr c s e p q → HasExpr d s e p q
+    HasExpr-keeps s (number n) p q h = (Pushes-keeps c d k p _ h.0, h.1)
+    HasExpr-keeps s (truth b) p q h = truth_kept b c d k p q h
+    HasExpr-keeps s (named x) p q h = (Brings-keeps s p (origin s x) h.0, h.1)
+    HasExpr-keeps s (parens e) p q h = HasExpr-keeps s e p q h
+    HasExpr-keeps s (prefix o e) p q h =
+        Applies-keeps o (HasExpr c s e) (HasExpr d s e) (HasExpr-keeps s e) p q h
+    HasExpr-keeps s (binary l o r) p q h =
+        (h.0, HasExpr-keeps s l p h.0 h.1, Combines-keeps o (HasExpr c s r) (HasExpr d s r) (HasExpr-keeps s r) h.0 q h.2)
+    HasExpr-keeps s (empty x) p q h = (h.0, h.1, Pushes-keeps c d k p h.0 h.2, h.3)
+    HasExpr-keeps s (make x es) p q h =
+        (h.0, h.1, Applies-keeps (Make (record { 0 = h.0 })) (HasExprs c s es) (HasExprs d s es) (HasExprs-keeps s es) p q h.2)
+    HasExpr-keeps s (select e x) p q h =
+        (h.0, h.1, Applies-keeps (Field h.0) (HasExpr c s e) (HasExpr d s e) (HasExpr-keeps s e) p q h.2)
+
+    pub HasExprs-keeps : (s : Scope) (es : Exprs) (p q : ℕ) → HasExprs c s es p q → HasExprs d s es p q
+    HasExprs-keeps s no_expr p q h = h
+    HasExprs-keeps s (also e es) p q h = (h.0, HasExpr-keeps s e p h.0 h.1, HasExprs-keeps s es h.0 q h.2)
 
   pub HasGuard-keeps : (s : Scope) (e : Option Expr) (p q : ℕ) → HasGuard c s e p q → HasGuard d s e p q
   HasGuard-keeps s None p q h = truth_kept true c d k p q h
@@ -184,24 +194,49 @@ module _ (c d : Listing) (k : Keeps c d) where
 pub expr_kept : (s : Scope) (e : Expr) → IsKept (λ code p q. HasExpr code s e p q)
 expr_kept s e c d k p q h = HasExpr-keeps c d k s e p q h
 
+pub exprs_kept : (s : Scope) (es : Exprs) → IsKept (λ code p q. HasExprs code s es p q)
+exprs_kept s es c d k p q h = HasExprs-keeps c d k s es p q h
+
 pub stmts_kept : (s : Scope) (ts : Stmts) → IsKept (λ code p q. HasStmts code s ts p q)
 stmts_kept s ts c d k p q h = HasStmts-keeps c d k s ts p q h
 
 -- an operator after its last operand
-pub adds_applied : (c0 c1 c2 : Listing) (s : Scope) (e : Expr) (o : Op) → AddsExpr c0 c1 s e → AddsInstr c1 c2 (Apply o) → Adds c0 c2 (nodes e + 1) (λ code p q. Applies code o (HasExpr code s e) p q)
-adds_applied c0 c1 c2 s e o x y = record {
+pub adds_applied : (c0 c1 c2 : Listing) (Operands : Listing → Stretch) (n : ℕ) (o : Op) → IsKept Operands → Adds c0 c1 n Operands → AddsInstr c1 c2 (Apply o) → Adds c0 c2 (n + 1) (λ code p q. Applies code o (Operands code) p q)
+adds_applied c0 c1 c2 Operands n o kept x y = record {
   keeps = Keeps-trans c0 c1 c2 x.keeps y.keeps;
-  has = (length c1.instrs, HasExpr-keeps c1 c2 y.keeps s e _ _ x.has, y.has.0, y.has.1);
+  has = (length c1.instrs, kept c1 c2 y.keeps (length c0.instrs) (length c1.instrs) x.has, y.has.0, y.has.1);
   few = omega (arith, x.few, y.few);
 }
 
 pub adds_prefix : (c0 c1 c2 : Listing) (s : Scope) (e : Expr) (o : Op) → AddsExpr c0 c1 s e → AddsInstr c1 c2 (Apply o) → AddsExpr c0 c2 s (prefix o e)
 adds_prefix c0 c1 c2 s e o x y =
-    let a = adds_applied c0 c1 c2 s e o x y in record { keeps = a.keeps; has = a.has; few = a.few }
+    let a = adds_applied c0 c1 c2 (λ code p q. HasExpr code s e p q) (nodes e) o (expr_kept s e) x y in
+    record { keeps = a.keeps; has = a.has; few = a.few }
 
 pub adds_operator : (c0 c1 c2 : Listing) (s : Scope) (e : Expr) (o : Op) → AddsExpr c0 c1 s e → AddsInstr c1 c2 (Apply o) → AddsCombined c0 c2 s (Operator o) e
 adds_operator c0 c1 c2 s e o x y =
-    let a = adds_applied c0 c1 c2 s e o x y in record { keeps = a.keeps; has = a.has; few = a.few }
+    let a = adds_applied c0 c1 c2 (λ code p q. HasExpr code s e p q) (nodes e) o (expr_kept s e) x y in
+    record { keeps = a.keeps; has = a.has; few = a.few }
+
+pub adds_make : (c0 c1 c2 : Listing) (s : Scope) (x : Name) (es : Exprs) (ty : ℕ) → type_named s.types x ≡ Some ty → AddsExprs c0 c1 s es → AddsInstr c1 c2 (Apply (Make (record { 0 = ty }))) → AddsExpr c0 c2 s (make x es)
+adds_make c0 c1 c2 s x es ty is y z =
+    let a = adds_applied c0 c1 c2 (λ code p q. HasExprs code s es p q) (exprs_nodes es) (Make (record { 0 = ty })) (exprs_kept s es) y z in
+    record { keeps = a.keeps; has = (ty, is, a.has); few = a.few }
+
+pub adds_select : (c0 c1 c2 : Listing) (s : Scope) (e : Expr) (x : Name) (j : ℕ) → place_of s e x ≡ Some j → AddsExpr c0 c1 s e → AddsInstr c1 c2 (Apply (Field j)) → AddsExpr c0 c2 s (select e x)
+adds_select c0 c1 c2 s e x j is y z =
+    let a = adds_applied c0 c1 c2 (λ code p q. HasExpr code s e p q) (nodes e) (Field j) (expr_kept s e) y z in
+    record { keeps = a.keeps; has = (j, is, a.has); few = a.few }
+
+pub adds_no_expr : (c : Listing) (s : Scope) → AddsExprs c c s no_expr
+adds_no_expr c s = record { keeps = Keeps-self c; has = refl; few = omega arith }
+
+pub adds_also : (c0 c1 c2 : Listing) (s : Scope) (e : Expr) (es : Exprs) → AddsExpr c0 c1 s e → AddsExprs c1 c2 s es → AddsExprs c0 c2 s (also e es)
+adds_also c0 c1 c2 s e es y z = record {
+  keeps = Keeps-trans c0 c1 c2 y.keeps z.keeps;
+  has = (length c1.instrs, HasExpr-keeps c1 c2 z.keeps s e _ _ y.has, z.has);
+  few = omega (arith, y.few, z.few);
+}
 
 pub adds_binary : (c0 c1 c2 : Listing) (s : Scope) (l r : Expr) (o : Infix) → AddsExpr c0 c1 s l → AddsCombined c1 c2 s o r → AddsExpr c0 c2 s (binary l o r)
 adds_binary c0 c1 c2 s l r o x y = record {

@@ -10,28 +10,29 @@ use Rattle.std.proofs.lemmas.List.{length-map}
 use Rattle.ioa_value.specs.Actions.{Name}
 use Rattle.ioa_value.specs.Arithmetic.{fits}
 use Rattle.ioa_value.specs.Operators.{op_type}
-use Rattle.ioa_value.specs.Table.{Table, place_from}
+use Rattle.ioa_value.specs.Table.{Table, place_from, type_named}
 use Rattle.ioa_value.specs.Typing.{HaveTypes, own}
 use Rattle.ioa_value.proofs.ItemLemmas.{all_at, some_at}
 use Rattle.ioa_value.proofs.TypingLemmas.{HaveTypes-length, HaveTypes-owns}
 use Rattle.ioa_syntax.specs.declared.tree.Kind.{Kind}
 use Rattle.ioa_syntax.specs.declared.tree.Kind.TheVariants.{Input, Output, Internal}
-use Rattle.ioa_syntax.specs.Tree.{Expr, number, truth, named, parens, prefix, binary, empty, Stmt, assign, choose, Stmts, stop, seq, Arms, no_arm, arm, AutomatonTree, EntryTree, TransitionTree}
+use Rattle.ioa_syntax.specs.Tree.{Expr, number, truth, named, parens, prefix, binary, empty, make, select, Exprs, no_expr, also, Stmt, assign, choose, Stmts, stop, seq, Arms, no_arm, arm, AutomatonTree, EntryTree, TransitionTree}
 use Rattle.ioa_syntax.specs.Meaning.{or_else}
 use Rattle.ioa_syntax.specs.Types.{constant_type}
 use Rattle.ioa_syntax.specs.Instances.{variable_names, position_name, transition_for}
 use Rattle.ioa_syntax.specs.Compositions.{Member}
-use Rattle.ioa_syntax.specs.WellFormed.{Context, type_in, type_of, infix_type, is_some_of, has_ty, nodes, stmts_nodes, is_type, context_of, position_fields, variable_fields, same_kind, is_input, scope, entry_fine, matches, pre_fine, stmt_fine, stmts_fine, arms_fine, effect_fine, input_fine, proposals_fine, all_proposed, transition_fine, pre_within, proposals_within, effect_within, transition_within, entry_within}
+use Rattle.ioa_syntax.specs.WellFormed.{Context, type_in, type_of, types_of_all, infix_type, is_some_of, has_ty, nodes, stmts_nodes, is_type, context_of, position_fields, variable_fields, same_kind, is_input, scope, entry_fine, matches, pre_fine, stmt_fine, stmts_fine, arms_fine, effect_fine, input_fine, proposals_fine, all_proposed, transition_fine, pre_within, proposals_within, effect_within, transition_within, entry_within}
 use Rattle.ioa_syntax.proofs.FineParts.{FineParts, fine_parts, EntryParts, entry_parts, within_parts}
-use Rattle.ioa_syntax.proofs.ValTyped.{type_of_one, types_of_both}
+use Rattle.ioa_syntax.proofs.ValTyped.{type_of_one, types_of_both, types_of_row}
 use Rattle.ioa_compose.specs.Fine.{IsFine, component_limits}
-use Rattle.ioa_compile.specs.Scopes.{scope_of, Origin, slot, formal, parameter, fixed, unknown, origin, IsOrigin, IsKnown, IsKnownStmt, AreKnown, AreKnownArms, IsKnownGuard, IsScope}
+use Rattle.ioa_compile.specs.Scopes.{scope_of, Origin, slot, formal, parameter, fixed, unknown, origin, IsOrigin, IsKnown, AreAllKnown, IsKnownStmt, AreKnown, AreKnownArms, IsKnownGuard, IsScope, place_of}
 use Rattle.ioa_compile.specs.Emitting.{guard_nodes}
 use Rattle.ioa_compile.specs.Matching.{AreTypesOf}
 use Rattle.ioa_compile.specs.Translated.{IsEntryOf}
 use Rattle.ioa_compile.proofs.Looks.{look, at, stands, stands_at, looks, Looked, same_name, name_same}
 use Rattle.ioa_compile.proofs.Fits.{fit_types, types_long, scope_look, fields_look, variables_names, position_names}
 use Rattle.ioa_compile.proofs.Fixed.{own_constant, empty_known}
+use Rattle.ioa_compile.proofs.Tuples.{of_make, of_select, place_is}
 use Rattle.ioa_compile.proofs.Finds.{IsFirst, finds, same_item}
 
 -- ---- the transition of an entry
@@ -293,30 +294,41 @@ module _ (m : Member) (e : EntryTree) (vs ps : List ℕ) (h : Setting m e vs ps)
   number_fits n ty true f t = f
   number_fits n ty false f t = absurd (cc)
 
-  pub known : (x : Expr) (ty : ℕ) → type_of m.instance.types m.instance.types (scope m.instance.types m.instance.types h.globals m.instance.automaton e) x ≡ Some ty → IsKnown (scope_of m e) x
-  known (number n) ty t = number_fits n ty (fits (pos n)) refl t
-  known (truth b) ty t = tt
-  known (named x) ty t = origin_there (origin (scope_of m e) x) ty (sym (type_at x) ∙ t)
-  known (parens y) ty t = known y ty t
-  known (prefix o y) ty t =
-      let c = scope m.instance.types m.instance.types h.globals m.instance.automaton e in
-      let operand = type_of_one (type_of m.instance.types m.instance.types c y) (op_type m.instance.types o) ty t in
-      known y operand.0 operand.1
-  known (binary l o r) ty t =
-      let c = scope m.instance.types m.instance.types h.globals m.instance.automaton e in
-      let both = types_of_both (type_of m.instance.types m.instance.types c l) (type_of m.instance.types m.instance.types c r) (infix_type m.instance.types o) ty t in
-      (known l both.0 both.2, known r both.1 both.3)
-  known (empty x) ty t = empty_known m.instance.types x ty t
-
-  pub known_guard : (o : Option Expr) → GuardTyped m.instance.types (scope m.instance.types m.instance.types h.globals m.instance.automaton e) o → IsKnownGuard (scope_of m e) o
-  known_guard None t = tt
-  known_guard (Some x) t = known x 0 t
-
   is_some : (o : Option ℕ) (i : ℕ) → o ≡ Some i → IsSome o
   is_some o i t = rw t refl
 
   abbrev names_typed : Context
   names_typed = scope m.instance.types m.instance.types h.globals m.instance.automaton e
+
+  mutual
+    pub known : (x : Expr) (ty : ℕ) → type_of m.instance.types m.instance.types names_typed x ≡ Some ty → IsKnown (scope_of m e) x
+    known (number n) ty t = number_fits n ty (fits (pos n)) refl t
+    known (truth b) ty t = tt
+    known (named x) ty t = origin_there (origin (scope_of m e) x) ty (sym (type_at x) ∙ t)
+    known (parens y) ty t = known y ty t
+    known (prefix o y) ty t =
+        let operand = type_of_one (type_of m.instance.types m.instance.types names_typed y) (op_type m.instance.types o) ty t in
+        known y operand.0 operand.1
+    known (binary l o r) ty t =
+        let both = types_of_both (type_of m.instance.types m.instance.types names_typed l) (type_of m.instance.types m.instance.types names_typed r) (infix_type m.instance.types o) ty t in
+        (known l both.0 both.2, known r both.1 both.3)
+    known (empty x) ty t = empty_known m.instance.types x ty t
+    known (make x es) ty t =
+        let parts = of_make m.instance.types names_typed x es ty t in
+        (is_some (type_named m.instance.types x) parts.0 parts.2, all_known es parts.1 parts.3)
+    known (select y x) ty t =
+        let parts = of_select m.instance.types names_typed y x ty t in
+        let place = place_is m.instance.types names_typed (scope_of m e) y x parts.0 refl refl parts.2 ∙ parts.3 in
+        (is_some (place_of (scope_of m e) y x) parts.1 place, known y parts.0 parts.2)
+
+    all_known : (es : Exprs) (tys : List ℕ) → types_of_all m.instance.types m.instance.types names_typed es ≡ Some tys → AreAllKnown (scope_of m e) es
+    all_known no_expr tys t = tt
+    all_known (also y ys) tys t =
+        let parts = types_of_row (type_of m.instance.types m.instance.types names_typed y) (types_of_all m.instance.types m.instance.types names_typed ys) tys t in (known y parts.0 parts.2, all_known ys parts.1 parts.3)
+
+  pub known_guard : (o : Option Expr) → GuardTyped m.instance.types (scope m.instance.types m.instance.types h.globals m.instance.automaton e) o → IsKnownGuard (scope_of m e) o
+  known_guard None t = tt
+  known_guard (Some x) t = known x 0 t
 
   abbrev variables_typed : Context
   variables_typed = context_of m.instance.types (variable_fields m.instance.automaton)

@@ -3,12 +3,12 @@ use Rattle.std.proofs.Common.{◌≡◌, ℕ, ◌+◌, ◌*◌, ◌≤◌, true,
 use Rattle.ioa_code.specs.Machine.{Listing}
 use Rattle.ioa_syntax.specs.declared.tree.Infix.{Infix}
 use Rattle.ioa_syntax.specs.declared.tree.Infix.TheVariants.{Operator, And, Or, Implies}
-use Rattle.ioa_syntax.specs.Tree.{Expr, number, truth, named, parens, prefix, binary, empty, Stmt, assign, choose, Stmts, stop, seq, Arms, no_arm, arm}
-use Rattle.ioa_syntax.specs.WellFormed.{nodes, stmt_nodes, stmts_nodes, arms_nodes}
+use Rattle.ioa_syntax.specs.Tree.{Expr, number, truth, named, parens, prefix, binary, empty, make, select, Exprs, no_expr, also, Stmt, assign, choose, Stmts, stop, seq, Arms, no_arm, arm}
+use Rattle.ioa_syntax.specs.WellFormed.{nodes, exprs_nodes, stmt_nodes, stmts_nodes, arms_nodes}
 use Rattle.ioa_compile.specs.Scopes.{Scope}
-use Rattle.ioa_compile.specs.Placed.{Stretch, PushesTruth, Chooses, Combines, HasExpr, HasGuard, HasStmt, HasStmts, HasArms}
+use Rattle.ioa_compile.specs.Placed.{Stretch, PushesTruth, Chooses, Combines, HasExpr, HasExprs, HasGuard, HasStmt, HasStmts, HasArms}
 use Rattle.ioa_compile.specs.Emitting.{guard_nodes}
-use Rattle.ioa_compile.specs.Extents.{extent, infix_extent, guard_extent, stmt_extent, stmts_extent, arms_extent}
+use Rattle.ioa_compile.specs.Extents.{extent, exprs_extent, infix_extent, guard_extent, stmt_extent, stmts_extent, arms_extent}
 
 module _ (code : Listing) where
   chooses_long : (This Other : Stretch) (a b : ℕ) → ((p q : ℕ) → This p q → q ≡ p + a) → ((p q : ℕ) → Other p q → q ≡ p + b) → (p q : ℕ) → Chooses code This Other p q → q ≡ p + (a + b + 2)
@@ -24,15 +24,22 @@ module _ (code : Listing) where
       omega (arith, chooses_long Second (PushesTruth code true) a 1 f (λ m n k. k.1) p q h)
 
   module _ (s : Scope) where
-    pub expr_long : (e : Expr) (p q : ℕ) → HasExpr code s e p q → q ≡ p + extent e
-    expr_long (number n) p q h = h.1
-    expr_long (truth b) p q h = h.1
-    expr_long (named x) p q h = h.1
-    expr_long (parens e) p q h = expr_long e p q h
-    expr_long (prefix o e) p q h = omega (arith, expr_long e p h.0 h.1, h.3)
-    expr_long (binary l o r) p q h =
-        omega (arith, expr_long l p h.0 h.1, combines_long o (HasExpr code s r) (extent r) (expr_long r) h.0 q h.2)
-    expr_long (empty x) p q h = h.3
+    mutual
+      pub expr_long : (e : Expr) (p q : ℕ) → HasExpr code s e p q → q ≡ p + extent e
+      expr_long (number n) p q h = h.1
+      expr_long (truth b) p q h = h.1
+      expr_long (named x) p q h = h.1
+      expr_long (parens e) p q h = expr_long e p q h
+      expr_long (prefix o e) p q h = omega (arith, expr_long e p h.0 h.1, h.3)
+      expr_long (binary l o r) p q h =
+          omega (arith, expr_long l p h.0 h.1, combines_long o (HasExpr code s r) (extent r) (expr_long r) h.0 q h.2)
+      expr_long (empty x) p q h = h.3
+      expr_long (make x es) p q h = omega (arith, exprs_long es p h.2.0 h.2.1, h.2.3)
+      expr_long (select e x) p q h = omega (arith, expr_long e p h.2.0 h.2.1, h.2.3)
+
+      pub exprs_long : (es : Exprs) (p q : ℕ) → HasExprs code s es p q → q ≡ p + exprs_extent es
+      exprs_long no_expr p q h = omega (arith, h)
+      exprs_long (also e es) p q h = omega (arith, expr_long e p h.0 h.1, exprs_long es h.0 q h.2)
 
     pub guard_long : (g : Option Expr) (p q : ℕ) → HasGuard code s g p q → q ≡ p + guard_extent g
     guard_long None p q h = h.1
@@ -58,14 +65,21 @@ infix_small And = omega arith
 infix_small Or = omega arith
 infix_small Implies = omega arith
 
-pub expr_small : (e : Expr) → extent e + 3 ≤ 4 * nodes e
-expr_small (number n) = omega arith
-expr_small (truth b) = omega arith
-expr_small (named x) = omega arith
-expr_small (parens e) = omega (arith, expr_small e)
-expr_small (prefix o e) = omega (arith, expr_small e)
-expr_small (binary l o r) = omega (arith, expr_small l, expr_small r, infix_small o)
-expr_small (empty x) = omega arith
+mutual
+  pub expr_small : (e : Expr) → extent e + 3 ≤ 4 * nodes e
+  expr_small (number n) = omega arith
+  expr_small (truth b) = omega arith
+  expr_small (named x) = omega arith
+  expr_small (parens e) = omega (arith, expr_small e)
+  expr_small (prefix o e) = omega (arith, expr_small e)
+  expr_small (binary l o r) = omega (arith, expr_small l, expr_small r, infix_small o)
+  expr_small (empty x) = omega arith
+  expr_small (make x es) = omega (arith, exprs_small es)
+  expr_small (select e x) = omega (arith, expr_small e)
+
+  exprs_small : (es : Exprs) → exprs_extent es ≤ 4 * exprs_nodes es
+  exprs_small no_expr = omega arith
+  exprs_small (also e es) = omega (arith, expr_small e, exprs_small es)
 
 pub guard_small : (g : Option Expr) → guard_extent g ≤ 4 * guard_nodes g
 guard_small None = omega arith

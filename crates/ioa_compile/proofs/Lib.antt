@@ -1,5 +1,5 @@
 pub mod Views
-pub mod Arities
+pub mod Tuples
 pub mod Lengths
 pub mod Emitted
 pub mod Paired

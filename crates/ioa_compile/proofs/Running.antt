@@ -1,18 +1,20 @@
 -- The machine follows the tree.
-use Rattle.std.proofs.Common.{◌≡◌, ℕ, suc, ◌+◌, ◌<◌, ◌≤◌, ◌==◌, Bool, true, false, cond, List, [], ◌∷◌, ◌++◌, length, Option, Some, None, pos, refl, sym, ap, ◌∙◌, subst, arith, append_assoc}
+use Rattle.std.proofs.Common.{◌≡◌, ℕ, suc, ◌+◌, ◌<◌, ◌≤◌, ◌==◌, Bool, true, false, cond, List, [], ◌∷◌, ◌++◌, length, Option, Some, None, pos, refl, sym, ap, ◌∙◌, subst, arith, append_assoc, append-nil}
 use Rattle.std.specs.Prelude.{slice_get, slice_set}
 use Rattle.std.specs.Option.{option_map}
 use Rattle.std.specs.Str.{bytes_eq}
 use Rattle.std.proofs.lemmas.Option.{slice_get_within}
 use Rattle.ioa_value.specs.declared.arithmetic.Fault.{Fault}
 use Rattle.ioa_value.specs.declared.operator.Op.{Op}
+use Rattle.ioa_value.specs.declared.operator.Op.TheVariants.{Make, Field}
 use Rattle.ioa_value.specs.Actions.{Name}
 use Rattle.ioa_value.specs.Operators.{Answer, gives, faults, nothing, IsTypedAnswer, operate, op_type, arity}
 use Rattle.ioa_value.specs.Plain as plain
 use Rattle.ioa_value.specs.Plain.{Val}
-use Rattle.ioa_value.specs.Table.{Table, AreTypes, place_from}
+use Rattle.ioa_value.specs.Table.{Table, AreTypes, place_from, type_named, field_place}
 use Rattle.ioa_value.specs.Typing.{HasType, HaveTypes, own}
-use Rattle.ioa_value.proofs.TypingLemmas.{alike_own, is_truth, HaveTypes-length, HaveTypes-get, HaveTypes-set}
+use Rattle.ioa_value.proofs.OperatorTyping.{takes_all}
+use Rattle.ioa_value.proofs.TypingLemmas.{own_type, alike_own, is_truth, HaveTypes-length, HaveTypes-get, HaveTypes-set}
 use Rattle.ioa_code.specs.declared.instr.Instr.{Instr}
 use Rattle.ioa_code.specs.declared.instr.Instr.TheVariants.{Const, Slot, Arg, Store, Jump, JumpIfFalse, Apply}
 use Rattle.ioa_code.specs.Machine.{Listing, State, state, End, fault, Move, goes, over, stuck, act, next, pushed, replaced, stored, decided, branched, answered, fetched, move, After, Ends}
@@ -20,19 +22,19 @@ use Rattle.ioa_code.proofs.Lists.{on_top-append}
 use Rattle.ioa_node.specs.Runs.{no_words}
 use Rattle.ioa_syntax.specs.declared.tree.Infix.{Infix}
 use Rattle.ioa_syntax.specs.declared.tree.Infix.TheVariants.{Operator, And, Or, Implies}
-use Rattle.ioa_syntax.specs.Tree.{Expr, number, truth, named, parens, prefix, binary, empty, Stmt, assign, choose, Stmts, stop, seq, Arms, no_arm, arm}
+use Rattle.ioa_syntax.specs.Tree.{Expr, number, truth, named, parens, prefix, binary, empty, make, select, Exprs, no_expr, also, Stmt, assign, choose, Stmts, stop, seq, Arms, no_arm, arm}
 use Rattle.ioa_syntax.specs.Meaning as Meaning
-use Rattle.ioa_syntax.specs.Meaning.{Env, val, then_value, combined, value_of, Outcome, becomes, breaks, nowhere, assigned, then_do, chosen, does, picks, eff, with_name, or_else}
+use Rattle.ioa_syntax.specs.Meaning.{Env, val, then_value, then_all, made, selected, combined, value_of, Outcome, becomes, breaks, nowhere, assigned, then_do, chosen, does, picks, eff, with_name, or_else}
 use Rattle.ioa_syntax.specs.Types.{constant, empty_of}
-use Rattle.ioa_syntax.specs.WellFormed.{Context, type_in, type_of, infix_type}
+use Rattle.ioa_syntax.specs.WellFormed.{Context, type_in, type_of, types_of_all, infix_type}
 use Rattle.ioa_syntax.specs.Answers.{Suits}
-use Rattle.ioa_syntax.proofs.ValTyped.{val_typed, type_of_one, types_of_both}
+use Rattle.ioa_syntax.proofs.ValTyped.{val_typed, type_of_one, types_of_both, types_of_row}
 use Rattle.ioa_compile.specs.Scopes.{Scope, Origin, slot, formal, parameter, fixed, unknown, origin}
-use Rattle.ioa_compile.specs.Placed.{Stretch, At, Pushes, PushesTruth, Brings, Chooses, Combines, HasExpr, HasStmt, HasStmts, HasArms}
+use Rattle.ioa_compile.specs.Placed.{Stretch, At, Pushes, PushesTruth, Brings, Chooses, Combines, HasExpr, HasExprs, HasStmt, HasStmts, HasArms}
 use Rattle.ioa_compile.proofs.Lengths.{expr_long, stmts_long, arms_long}
 use Rattle.ioa_compile.proofs.Fine.{StmtTyped, StmtsTyped, ArmsTyped}
 use Rattle.ioa_compile.proofs.Looks.{look, at, stands, stands_at, look_at, look_set, Paired, stands-paired}
-use Rattle.ioa_compile.proofs.Arities.{takes_one, takes_two}
+use Rattle.ioa_compile.proofs.Tuples.{of_make, of_select, place_is, made_is, selected_is}
 
 module _ (code : Listing) (s : Scope) (args : List Val) where
   -- the machine at a place
@@ -163,9 +165,10 @@ module _ (code : Listing) (s : Scope) (args : List Val) where
   Agrees types env slots = (x : Name) → or_else (env x) (constant types x) ≡ at (λ v. v) (origin s x) slots s.arguments args
 
   module _ (types : Table) (same_types : code.types ≡ types) (own_types : s.types ≡ types) where
-    apply_reaches : (p : ℕ) (stack operands slots : List Val) (op : Op) → At code p (Apply op) → length operands ≡ arity types op → Reaches (on p (stack ++ operands) slots) (p + 1) stack slots (operate types op operands)
-    apply_reaches p stack operands slots op h e =
-        let takes : length operands ≡ arity code.types op = e ∙ ap (λ t. arity t op) (sym same_types) in
+    -- an operator that takes operands of as many types
+    apply_reaches : (p : ℕ) (stack operands slots : List Val) (op : Op) (tys : List ℕ) (ty : ℕ) → op_type types op tys ≡ Some ty → length operands ≡ length tys → At code p (Apply op) → Reaches (on p (stack ++ operands) slots) (p + 1) stack slots (operate types op operands)
+    apply_reaches p stack operands slots op tys ty t e h =
+        let takes : length operands ≡ arity code.types op = e ∙ sym (takes_all types op tys ty t) ∙ ap (λ l. arity l op) (sym same_types) in
         let here : Reaches (on p (stack ++ operands) slots) (p + 1) stack slots (operate code.types op operands) =
         answer_reaches p (stack ++ operands) stack slots (operate code.types op operands) (slice_get_within code.instrs p (Apply op) h)
         (moves p (stack ++ operands) slots (Apply op) _ h (on_top-append (arity code.types op) stack operands stuck (λ below top. answered (operate code.types op top) (on p (stack ++ operands) slots) below) takes)) in
@@ -177,7 +180,7 @@ module _ (code : Listing) (s : Scope) (args : List Val) where
           let go : Val → Answer = λ y. operate types o (x ∷ y ∷ []) in
           subst (λ k. Reaches (on p (stack ++ x ∷ []) slots) k stack slots (then_value answer go)) (sym h.3)
           (then_reaches (on p (stack ++ x ∷ []) slots) h.0 (h.0 + 1) (stack ++ x ∷ []) stack slots answer go (second p h.0 (stack ++ x ∷ []) h.1)
-          (λ y. subst (λ l. Reaches (on h.0 l slots) (h.0 + 1) stack slots (go y)) (sym (append_assoc stack (x ∷ []) (y ∷ []))) (apply_reaches h.0 stack (x ∷ y ∷ []) slots o h.2 (sym (takes_two types o a b ty t)))))
+          (λ y. subst (λ l. Reaches (on h.0 l slots) (h.0 + 1) stack slots (go y)) (sym (append_assoc stack (x ∷ []) (y ∷ []))) (apply_reaches h.0 stack (x ∷ y ∷ []) slots o (a ∷ b ∷ []) ty t refl h.2)))
       combines_reaches And t h =
           chooses_reaches Second (PushesTruth code false) p q stack slots answer (gives (plain.truth false)) (λ m n k. second m n stack k) (truth_reaches false stack slots) second_on (truth_on false) h x
       combines_reaches Or t h =
@@ -188,28 +191,70 @@ module _ (code : Listing) (s : Scope) (args : List Val) where
     expr_on : (e : Expr) (m n : ℕ) → HasExpr code s e m n → m ≤ n
     expr_on e m n h = omega (arith, expr_long code s e m n h)
 
-    pub expr_runs : (c : Context) (e : Expr) (ty p q : ℕ) (stack slots : List Val) (env : Env) → type_of types types c e ≡ Some ty → Agrees types env slots → HasExpr code s e p q → Reaches (on p stack slots) q stack slots (val types e env)
-    expr_runs c (number n) ty p q stack slots env t g h =
-        subst (λ k. Comes (on p stack slots) (on k (stack ++ plain.num (pos n) ∷ []) slots)) (sym h.1) (push_comes p stack slots (plain.num (pos n)) h.0)
-    expr_runs c (truth b) ty p q stack slots env t g h = truth_reaches b stack slots p q h
-    expr_runs c (named x) ty p q stack slots env t g h =
-        subst (λ k. Reaches (on p stack slots) k stack slots (value_of (or_else (env x) (constant types x)))) (sym h.1) (brings_reaches p stack slots (or_else (env x) (constant types x)) (origin s x) (g x) h.0)
-    expr_runs c (parens e) ty p q stack slots env t g h = expr_runs c e ty p q stack slots env t g h
-    expr_runs c (prefix o e) ty p q stack slots env t g h =
-        let operand = type_of_one (type_of types types c e) (op_type types o) ty t in
-        let go : Val → Answer = λ x. operate types o (x ∷ []) in
-        subst (λ k. Reaches (on p stack slots) k stack slots (then_value (val types e env) go)) (sym h.3)
-        (then_reaches (on p stack slots) h.0 (h.0 + 1) stack stack slots (val types e env) go (expr_runs c e operand.0 p h.0 stack slots env operand.1 g h.1)
-        (λ x. apply_reaches h.0 stack (x ∷ []) slots o h.2 (sym (takes_one types o operand.0 ty operand.2))))
-    expr_runs c (binary l o r) ty p q stack slots env t g h =
-        let both = types_of_both (type_of types types c l) (type_of types types c r) (infix_type types o) ty t in
-        let go : Val → Answer = λ x. combined types o x (val types r env) in
-        then_reaches (on p stack slots) h.0 q stack stack slots (val types l env) go (expr_runs c l both.0 p h.0 stack slots env both.2 g h.1)
-        (λ x. combines_reaches (HasExpr code s r) h.0 q stack slots x (val types r env) both.0 both.1 ty (λ m n under k. expr_runs c r both.1 m n under slots env both.3 g k) (expr_on r) o both.4 h.2)
-    expr_runs c (empty x) ty p q stack slots env t g h =
-        let there : empty_of types x ≡ Some h.0 = ap (λ l. empty_of l x) (sym own_types) ∙ h.1 in
-        subst (λ o. Reaches (on p stack slots) q stack slots (value_of o)) (sym there)
-        (subst (λ k. Comes (on p stack slots) (on k (stack ++ h.0 ∷ []) slots)) (sym h.3) (push_comes p stack slots h.0 h.2))
+    -- where each name of a context stands for a value of its type
+    module _ (declared : AreTypes types) (c : Context) (own_context : s.context ≡ c) (env : Env) (suits : Suits types c env) (slots : List Val) (agrees : Agrees types env slots) where
+      -- a value of this type, and what is done with it
+      typed_reaches : (x : State) (m q ty : ℕ) (stack : List Val) (a : Answer) (go : Val → Answer) → IsTypedAnswer types ty a → Reaches x m stack slots a → ((v : Val) → HasType types v ty → Reaches (on m (stack ++ v ∷ []) slots) q stack slots (go v)) → Reaches x q stack slots (then_value a go)
+      typed_reaches x m q ty stack (gives v) go t r k = after_comes x (on m (stack ++ v ∷ []) slots) q stack slots (go v) r (k v t)
+      typed_reaches x m q ty stack (faults f) go t r k = r
+      typed_reaches x m q ty stack nothing go t r k = tt
+
+      mutual
+        pub expr_runs : (e : Expr) (ty p q : ℕ) (stack : List Val) → type_of types types c e ≡ Some ty → HasExpr code s e p q → Reaches (on p stack slots) q stack slots (val types e env)
+        expr_runs (number n) ty p q stack t h =
+            subst (λ k. Comes (on p stack slots) (on k (stack ++ plain.num (pos n) ∷ []) slots)) (sym h.1) (push_comes p stack slots (plain.num (pos n)) h.0)
+        expr_runs (truth b) ty p q stack t h = truth_reaches b stack slots p q h
+        expr_runs (named x) ty p q stack t h =
+            subst (λ k. Reaches (on p stack slots) k stack slots (value_of (or_else (env x) (constant types x)))) (sym h.1) (brings_reaches p stack slots (or_else (env x) (constant types x)) (origin s x) (agrees x) h.0)
+        expr_runs (parens e) ty p q stack t h = expr_runs e ty p q stack t h
+        expr_runs (prefix o e) ty p q stack t h =
+            let operand = type_of_one (type_of types types c e) (op_type types o) ty t in
+            let go : Val → Answer = λ x. operate types o (x ∷ []) in
+            subst (λ k. Reaches (on p stack slots) k stack slots (then_value (val types e env) go)) (sym h.3)
+            (then_reaches (on p stack slots) h.0 (h.0 + 1) stack stack slots (val types e env) go (expr_runs e operand.0 p h.0 stack operand.1 h.1)
+            (λ x. apply_reaches h.0 stack (x ∷ []) slots o (operand.0 ∷ []) ty operand.2 refl h.2))
+        expr_runs (binary l o r) ty p q stack t h =
+            let both = types_of_both (type_of types types c l) (type_of types types c r) (infix_type types o) ty t in
+            let go : Val → Answer = λ x. combined types o x (val types r env) in
+            then_reaches (on p stack slots) h.0 q stack stack slots (val types l env) go (expr_runs l both.0 p h.0 stack both.2 h.1)
+            (λ x. combines_reaches (HasExpr code s r) h.0 q stack slots x (val types r env) both.0 both.1 ty (λ m n under k. expr_runs r both.1 m n under both.3 k) (expr_on r) o both.4 h.2)
+        expr_runs (empty x) ty p q stack t h =
+            let there : empty_of types x ≡ Some h.0 = ap (λ l. empty_of l x) (sym own_types) ∙ h.1 in
+            subst (λ o. Reaches (on p stack slots) q stack slots (value_of o)) (sym there)
+            (subst (λ k. Comes (on p stack slots) (on k (stack ++ h.0 ∷ []) slots)) (sym h.3) (push_comes p stack slots h.0 h.2))
+        expr_runs (make x es) ty p q stack t h =
+            let parts = of_make types c x es ty t in
+            let end = h.2.0 in
+            let named : type_named types x ≡ Some h.0 = ap (λ l. type_named l x) (sym own_types) ∙ h.1 in
+            let both : Some parts.0 ≡ Some h.0 = sym parts.2 ∙ named in
+            let same : parts.0 ≡ h.0 = cc in
+            let takes = subst (λ n. op_type types (Make (record { 0 = n })) parts.1 ≡ Some ty) same parts.4 in
+            subst (λ k. Reaches (on p stack slots) k stack slots (then_all types es env (made types x))) (sym h.2.3)
+            (exprs_run es parts.1 p end (end + 1) stack stack (made types x) parts.3 h.2.1
+            (λ vs long. subst (Reaches (on end (stack ++ vs) slots) (end + 1) stack slots) (sym (made_is types x h.0 vs named)) (apply_reaches end stack vs slots (Make (record { 0 = h.0 })) parts.1 ty takes long h.2.2)))
+        expr_runs (select e x) ty p q stack t h =
+            let parts = of_select types c e x ty t in
+            let end = h.2.0 in
+            let place : field_place types parts.0 x ≡ Some h.0 = sym (place_is types c s e x parts.0 own_types own_context parts.2) ∙ h.1 in
+            let both : Some parts.1 ≡ Some h.0 = sym parts.3 ∙ place in
+            let same : parts.1 ≡ h.0 = cc in
+            let takes = subst (λ j. op_type types (Field j) (parts.0 ∷ []) ≡ Some ty) same parts.4 in
+            subst (λ k. Reaches (on p stack slots) k stack slots (then_value (val types e env) (selected types x))) (sym h.2.3)
+            (typed_reaches (on p stack slots) end (end + 1) parts.0 stack (val types e env) (selected types x) (val_typed types declared c env e parts.0 suits parts.2) (expr_runs e parts.0 p end stack parts.2 h.2.1)
+            (λ v typed. subst (Reaches (on end (stack ++ v ∷ []) slots) (end + 1) stack slots) (sym (selected_is types x v parts.0 h.0 (own_type types v parts.0 typed) place)) (apply_reaches end stack (v ∷ []) slots (Field h.0) (parts.0 ∷ []) ty takes refl h.2.2)))
+
+        -- the machine pushes the values of expressions one after another, above what is under them
+        exprs_run : (es : Exprs) (tys : List ℕ) (p m q : ℕ) (under stack : List Val) (go : List Val → Answer) → types_of_all types types c es ≡ Some tys → HasExprs code s es p m → ((vs : List Val) → length vs ≡ length tys → Reaches (on m (under ++ vs) slots) q stack slots (go vs)) → Reaches (on p under slots) q stack slots (then_all types es env go)
+        exprs_run no_expr tys p m q under stack go t h k =
+            let is : [] ≡ tys = cc in
+            subst (λ l. Reaches (on p l slots) q stack slots (go [])) (append-nil under)
+            (subst (λ n. Reaches (on n (under ++ []) slots) q stack slots (go [])) h (k [] (ap length is)))
+        exprs_run (also e es) tys p m q under stack go t h k =
+            let parts = types_of_row (type_of types types c e) (types_of_all types types c es) tys t in
+            let more : Val → Answer = λ v. then_all types es env (λ vs. go (v ∷ vs)) in
+            then_reaches (on p under slots) h.0 q under stack slots (val types e env) more (expr_runs e parts.0 p h.0 under parts.2 h.1)
+            (λ v. exprs_run es parts.1 h.0 m q (under ++ v ∷ []) stack (λ vs. go (v ∷ vs)) parts.3 h.2
+            (λ vs long. subst (λ l. Reaches (on m l slots) q stack slots (go (v ∷ vs))) (sym (append_assoc under (v ∷ []) vs)) (k (v ∷ vs) (ap suc long ∙ ap length parts.4))))
 
   -- ---- statements, where the code is typed
 
@@ -217,6 +262,7 @@ module _ (code : Listing) (s : Scope) (args : List Val) where
   pub record Knows (types : Table) (c v : Context) (vs fs ps : List ℕ) : Type 0 where
     pub same_types : code.types ≡ types
     pub own_types : s.types ≡ types
+    pub context : s.context ≡ c
     pub declared : AreTypes types
     pub variables : length s.variables ≡ length vs
     pub formals : length s.formals ≡ length s.arguments
@@ -311,7 +357,7 @@ module _ (code : Listing) (s : Scope) (args : List Val) where
         let now = HaveTypes-get types slots vs i ty h.typed slot_ty in
         let old : env x ≡ Some now.0 = h.agrees x ∙ ap (λ o. or_else o (or_else (look s.formals s.arguments x) (look s.parameters args x))) (look_at s.variables slots x i now.0 (slots_long env slots h) k.4 now.1) in
         let typed = val_typed types known.declared c env e ty (suits env slots h) t.2 in
-        let run = expr_runs types known.same_types known.own_types c e ty p m [] slots env t.2 (agree env slots h) k.2 in
+        let run = expr_runs types known.same_types known.own_types known.declared c known.context env (suits env slots h) slots (agree env slots h) e ty p m [] t.2 k.2 in
         subst (λ n. RunsTo (on p [] slots) n (assigned x env (val types e env) (env x))) (sym k.5)
         (assigns m i ty slots x env (on p [] slots) (val types e env) (env x) now.0 h k.3 k.4 slot_ty now.1 now.2 old typed run)
 
@@ -365,4 +411,4 @@ module _ (code : Listing) (s : Scope) (args : List Val) where
           k.2
           (val types e env)
           (val_typed types known.declared c env e 0 (suits env slots h) t.0)
-          (expr_runs types known.same_types known.own_types c e 0 p k.0 [] slots env t.0 (agree env slots h) k.1)
+          (expr_runs types known.same_types known.own_types known.declared c known.context env (suits env slots h) slots (agree env slots h) e 0 p k.0 [] t.0 k.1)

@@ -1,17 +1,19 @@
 -- The code of typed trees is valid.
-use Rattle.std.proofs.Common.{◌≡◌, ℕ, ◌+◌, ◌==◌, Bool, true, false, cond, List, [], ◌∷◌, ◌++◌, length, map, Option, Some, None, Ok, pos, refl, sym, ap, ◌∙◌, subst, arith, append_assoc}
+use Rattle.std.proofs.Common.{◌≡◌, ℕ, ◌+◌, ◌==◌, Bool, true, false, cond, List, [], ◌∷◌, ◌++◌, length, map, Option, Some, None, Ok, pos, refl, sym, ap, ◌∙◌, subst, arith, append_assoc, append-nil}
 use Rattle.std.specs.Prelude.{slice_get}
 use Rattle.std.specs.Option.{option_map}
 use Rattle.std.proofs.lemmas.Bool.Decides.{nat_tests}
 use Rattle.std.proofs.lemmas.Option.{slice_get-map}
 use Rattle.ioa_value.specs.declared.operator.Op.{Op}
+use Rattle.ioa_value.specs.declared.operator.Op.TheVariants.{Make, Field}
 use Rattle.ioa_value.specs.Actions.{Name}
 use Rattle.ioa_value.specs.Arithmetic.{fits}
 use Rattle.ioa_value.specs.Operators.{op_type, arity}
 use Rattle.ioa_value.specs.Plain as plain
 use Rattle.ioa_value.specs.Plain.{Val}
-use Rattle.ioa_value.specs.Table.{place_from}
+use Rattle.ioa_value.specs.Table.{place_from, type_named}
 use Rattle.ioa_value.specs.Typing.{HasType, HaveTypes, own}
+use Rattle.ioa_value.proofs.OperatorTyping.{takes_all}
 use Rattle.ioa_value.proofs.TypingLemmas.{own_type, HaveTypes-get}
 use Rattle.ioa_code.specs.declared.instr.Instr.TheVariants.{Const, Slot, Arg, Store, Apply}
 use Rattle.ioa_code.specs.declared.instr.PartKind.{PartKind}
@@ -21,18 +23,18 @@ use Rattle.ioa_code.specs.Valid.{Part, Valid, after, way, reads_arguments, write
 use Rattle.ioa_code.proofs.Lists.{on_top-append}
 use Rattle.ioa_syntax.specs.declared.tree.Infix.{Infix}
 use Rattle.ioa_syntax.specs.declared.tree.Infix.TheVariants.{Operator, And, Or, Implies}
-use Rattle.ioa_syntax.specs.Tree.{Expr, number, truth, named, parens, prefix, binary, empty, Stmt, assign, choose, Stmts, stop, seq, Arms, no_arm, arm, EntryTree}
+use Rattle.ioa_syntax.specs.Tree.{Expr, number, truth, named, parens, prefix, binary, empty, make, select, Exprs, no_expr, also, Stmt, assign, choose, Stmts, stop, seq, Arms, no_arm, arm, EntryTree}
 use Rattle.ioa_syntax.specs.Meaning.{or_else}
 use Rattle.ioa_syntax.specs.Types.{constant_type, empty_of}
 use Rattle.ioa_syntax.specs.Compositions.{Member}
-use Rattle.ioa_syntax.specs.WellFormed.{Context, type_in, type_of, of_truths, infix_type, scope, context_of, variable_fields}
-use Rattle.ioa_syntax.proofs.ValTyped.{type_of_one, types_of_both, are_truths}
+use Rattle.ioa_syntax.specs.WellFormed.{Context, type_in, type_of, types_of_all, of_truths, infix_type, scope, context_of, variable_fields}
+use Rattle.ioa_syntax.proofs.ValTyped.{type_of_one, types_of_both, types_of_row, are_truths}
 use Rattle.ioa_compile.specs.Scopes.{Scope, scope_of, Origin, slot, formal, parameter, fixed, unknown, origin}
-use Rattle.ioa_compile.specs.Placed.{Stretch, At, Pushes, PushesTruth, Brings, Chooses, Combines, HasExpr, HasGuard, HasStmt, HasStmts, HasArms}
+use Rattle.ioa_compile.specs.Placed.{Stretch, At, Pushes, PushesTruth, Brings, Applies, Chooses, Combines, HasExpr, HasExprs, HasGuard, HasStmt, HasStmts, HasArms}
 use Rattle.ioa_compile.specs.Translated.{IsGuard, IsEffect}
 use Rattle.ioa_compile.proofs.Looks.{at}
 use Rattle.ioa_compile.proofs.Fine.{Setting, type_at, variable_at, GuardTyped, StmtTyped, StmtsTyped, ArmsTyped}
-use Rattle.ioa_compile.proofs.Arities.{takes_one, takes_two}
+use Rattle.ioa_compile.proofs.Tuples.{of_make, of_select, place_is}
 use Rattle.ioa_compile.proofs.Fixed.{own_empty}
 use Rattle.ioa_compile.proofs.Blocks.{Block, none, one, join, fork, valid}
 
@@ -43,6 +45,7 @@ pub record Reads (part : Part) (s : Scope) (c : Context) (vs fs ps : List ℕ) :
   pub reads : reads_arguments part.kind ≡ true
   pub given : HaveTypes part.code.types s.arguments fs
   pub table : s.types ≡ part.code.types
+  pub context : s.context ≡ c
   pub names : (x : Name) → or_else (type_in c x) (constant_type part.code.types x) ≡ at own (origin s x) vs fs ps
 
 module _ (part : Part) (s : Scope) (c : Context) (vs fs ps : List ℕ) (h : Reads part s c vs fs ps) where
@@ -77,12 +80,18 @@ module _ (part : Part) (s : Scope) (c : Context) (vs fs ps : List ℕ) (h : Read
   number_is n ty false t = absurd (cc)
 
   -- an operator on the types on top
-  applied : (p : ℕ) (o : Op) (operands : List ℕ) (ty : ℕ) (ts : List ℕ) → arity part.code.types o ≡ length operands → op_type part.code.types o operands ≡ Some ty → after part p (Apply o) (ts ++ operands) ≡ Ok (way (p + 1) (ts ++ ty ∷ []) ∷ [])
-  applied p o operands ty ts takes gives = rw (on_top-append (arity part.code.types o) ts operands _ _ (sym takes)) (rw gives refl)
+  applied : (p : ℕ) (o : Op) (operands : List ℕ) (ty : ℕ) (ts : List ℕ) → op_type part.code.types o operands ≡ Some ty → after part p (Apply o) (ts ++ operands) ≡ Ok (way (p + 1) (ts ++ ty ∷ []) ∷ [])
+  applied p o operands ty ts gives =
+      rw (on_top-append (arity part.code.types o) ts operands _ _ (sym (takes_all part.code.types o operands ty gives))) (rw gives refl)
 
-  apply_block : (p : ℕ) (o : Op) (operands : List ℕ) (ty : ℕ) (ts : List ℕ) → arity part.code.types o ≡ length operands → op_type part.code.types o operands ≡ Some ty → At part.code p (Apply o) → Block part p (p + 1) (ts ++ operands) (ts ++ ty ∷ [])
-  apply_block p o operands ty ts takes gives k =
-      one part p (Apply o) (ts ++ operands) (ts ++ ty ∷ []) k (applied p o operands ty ts takes gives)
+  apply_block : (p : ℕ) (o : Op) (operands : List ℕ) (ty : ℕ) (ts : List ℕ) → op_type part.code.types o operands ≡ Some ty → At part.code p (Apply o) → Block part p (p + 1) (ts ++ operands) (ts ++ ty ∷ [])
+  apply_block p o operands ty ts gives k =
+      one part p (Apply o) (ts ++ operands) (ts ++ ty ∷ []) k (applied p o operands ty ts gives)
+
+  -- an operator after its operands' code
+  applies_block : (Operands : Stretch) (p q : ℕ) (o : Op) (operands : List ℕ) (ty : ℕ) (ts : List ℕ) → ((m n : ℕ) → Operands m n → Block part m n ts (ts ++ operands)) → op_type part.code.types o operands ≡ Some ty → Applies part.code o Operands p q → Block part p q ts (ts ++ ty ∷ [])
+  applies_block Operands p q o operands ty ts f gives k =
+      at_end p q (k.0 + 1) ts _ k.3 (join part p k.0 (k.0 + 1) ts (ts ++ operands) _ (f p k.0 k.1) (apply_block k.0 o operands ty ts gives k.2))
 
   truth_block : (b : Bool) (p q : ℕ) (ts : List ℕ) → PushesTruth part.code b p q → Block part p q ts (ts ++ 0 ∷ [])
   truth_block b p q ts k = at_end p q (p + 1) ts _ k.1 (push_block p (plain.truth b) 0 ts refl k.0)
@@ -104,7 +113,7 @@ module _ (part : Part) (s : Scope) (c : Context) (vs fs ps : List ℕ) (h : Read
     combines_block : (o : Infix) → infix_type part.code.types o (a ∷ b ∷ []) ≡ Some ty → Combines part.code o Second p q → Block part p q (ts ++ a ∷ []) (ts ++ ty ∷ [])
     combines_block (Operator o) t k =
         let top : (ts ++ a ∷ []) ++ b ∷ [] ≡ ts ++ (a ∷ b ∷ []) = append_assoc ts (a ∷ []) (b ∷ []) in
-        let last = apply_block k.0 o (a ∷ b ∷ []) ty ts (takes_two part.code.types o a b ty t) t k.2 in
+        let last = apply_block k.0 o (a ∷ b ∷ []) ty ts t k.2 in
         at_end p q (k.0 + 1) (ts ++ a ∷ []) _ k.3 (join part p k.0 (k.0 + 1) _ _ _ (second p k.0 (ts ++ a ∷ []) k.1) (subst (λ l. Block part k.0 (k.0 + 1) l (ts ++ ty ∷ [])) (sym top) last))
     combines_block And t k =
         truths_block p q a b ty ts t (chooses_block Second (PushesTruth part.code false) p q ts _ (second_truth t) (λ m n h. truth_block false m n ts h) k)
@@ -113,27 +122,50 @@ module _ (part : Part) (s : Scope) (c : Context) (vs fs ps : List ℕ) (h : Read
     combines_block Implies t k =
         truths_block p q a b ty ts t (chooses_block Second (PushesTruth part.code true) p q ts _ (second_truth t) (λ m n h. truth_block true m n ts h) k)
 
-  pub expr_block : (x : Expr) (ty p q : ℕ) (ts : List ℕ) → type_of part.code.types part.code.types c x ≡ Some ty → HasExpr part.code s x p q → Block part p q ts (ts ++ ty ∷ [])
-  expr_block (number n) ty p q ts t k =
-      at_end p q (p + 1) ts _ k.1 (push_block p (plain.num (pos n)) ty ts (number_is n ty (fits (pos n)) t) k.0)
-  expr_block (truth b) ty p q ts t k =
-      let is : 0 ≡ ty = cc in
-      at_end p q (p + 1) ts _ k.1 (push_block p (plain.truth b) ty ts is k.0)
-  expr_block (named x) ty p q ts t k =
-      at_end p q (p + 1) ts _ k.1 (brings_block p (origin s x) ty ts (sym (h.names x) ∙ t) k.0)
-  expr_block (parens y) ty p q ts t k = expr_block y ty p q ts t k
-  expr_block (prefix o y) ty p q ts t k =
-      let operand = type_of_one (type_of part.code.types part.code.types c y) (op_type part.code.types o) ty t in
-      let last = apply_block k.0 o (operand.0 ∷ []) ty ts (takes_one part.code.types o operand.0 ty operand.2) operand.2 k.2 in
-      at_end p q (k.0 + 1) ts _ k.3 (join part p k.0 (k.0 + 1) ts _ _ (expr_block y operand.0 p k.0 ts operand.1 k.1) last)
-  expr_block (binary l o r) ty p q ts t k =
-      let both = types_of_both (type_of part.code.types part.code.types c l) (type_of part.code.types part.code.types c r) (infix_type part.code.types o) ty t in
-      let a = both.0 in
-      let b = both.1 in
-      join part p k.0 q ts (ts ++ a ∷ []) _ (expr_block l a p k.0 ts both.2 k.1) (combines_block (HasExpr part.code s r) a b ty k.0 q ts (λ m n us h. expr_block r b m n us both.3 h) o both.4 k.2)
-  expr_block (empty x) ty p q ts t k =
-      let there : empty_of part.code.types x ≡ Some k.0 = ap (λ l. empty_of l x) (sym h.table) ∙ k.1 in
-      at_end p q (p + 1) ts _ k.3 (push_block p k.0 ty ts (own_empty part.code.types x k.0 ty there t) k.2)
+  mutual
+    pub expr_block : (x : Expr) (ty p q : ℕ) (ts : List ℕ) → type_of part.code.types part.code.types c x ≡ Some ty → HasExpr part.code s x p q → Block part p q ts (ts ++ ty ∷ [])
+    expr_block (number n) ty p q ts t k =
+        at_end p q (p + 1) ts _ k.1 (push_block p (plain.num (pos n)) ty ts (number_is n ty (fits (pos n)) t) k.0)
+    expr_block (truth b) ty p q ts t k =
+        let is : 0 ≡ ty = cc in
+        at_end p q (p + 1) ts _ k.1 (push_block p (plain.truth b) ty ts is k.0)
+    expr_block (named x) ty p q ts t k =
+        at_end p q (p + 1) ts _ k.1 (brings_block p (origin s x) ty ts (sym (h.names x) ∙ t) k.0)
+    expr_block (parens y) ty p q ts t k = expr_block y ty p q ts t k
+    expr_block (prefix o y) ty p q ts t k =
+        let operand = type_of_one (type_of part.code.types part.code.types c y) (op_type part.code.types o) ty t in
+        applies_block (HasExpr part.code s y) p q o (operand.0 ∷ []) ty ts (λ m n l. expr_block y operand.0 m n ts operand.1 l) operand.2 k
+    expr_block (binary l o r) ty p q ts t k =
+        let both = types_of_both (type_of part.code.types part.code.types c l) (type_of part.code.types part.code.types c r) (infix_type part.code.types o) ty t in
+        let a = both.0 in
+        let b = both.1 in
+        join part p k.0 q ts (ts ++ a ∷ []) _ (expr_block l a p k.0 ts both.2 k.1) (combines_block (HasExpr part.code s r) a b ty k.0 q ts (λ m n us h. expr_block r b m n us both.3 h) o both.4 k.2)
+    expr_block (empty x) ty p q ts t k =
+        let there : empty_of part.code.types x ≡ Some k.0 = ap (λ l. empty_of l x) (sym h.table) ∙ k.1 in
+        at_end p q (p + 1) ts _ k.3 (push_block p k.0 ty ts (own_empty part.code.types x k.0 ty there t) k.2)
+    expr_block (make x es) ty p q ts t k =
+        let parts = of_make part.code.types c x es ty t in
+        let both : Some parts.0 ≡ Some k.0 = sym parts.2 ∙ ap (λ l. type_named l x) (sym h.table) ∙ k.1 in
+        let same : parts.0 ≡ k.0 = cc in
+        let gives = subst (λ n. op_type part.code.types (Make (record { 0 = n })) parts.1 ≡ Some ty) same parts.4 in
+        applies_block (HasExprs part.code s es) p q (Make (record { 0 = k.0 })) parts.1 ty ts (λ m n l. exprs_block es parts.1 m n ts parts.3 l) gives k.2
+    expr_block (select y x) ty p q ts t k =
+        let parts = of_select part.code.types c y x ty t in
+        let both : Some parts.1 ≡ Some k.0 = sym parts.3 ∙ sym (place_is part.code.types c s y x parts.0 h.table h.context parts.2) ∙ k.1 in
+        let same : parts.1 ≡ k.0 = cc in
+        let gives = subst (λ j. op_type part.code.types (Field j) (parts.0 ∷ []) ≡ Some ty) same parts.4 in
+        applies_block (HasExpr part.code s y) p q (Field k.0) (parts.0 ∷ []) ty ts (λ m n l. expr_block y parts.0 m n ts parts.2 l) gives k.2
+
+    exprs_block : (es : Exprs) (tys : List ℕ) (p q : ℕ) (ts : List ℕ) → types_of_all part.code.types part.code.types c es ≡ Some tys → HasExprs part.code s es p q → Block part p q ts (ts ++ tys)
+    exprs_block no_expr tys p q ts t k =
+        let is : [] ≡ tys = cc in
+        let same : ts ≡ ts ++ tys = sym (append-nil ts) ∙ ap (λ l. ts ++ l) is in
+        at_end p q p ts _ k (subst (Block part p p ts) same (none part p ts))
+    exprs_block (also y ys) tys p q ts t k =
+        let parts = types_of_row (type_of part.code.types part.code.types c y) (types_of_all part.code.types part.code.types c ys) tys t in
+        let a = parts.0 in
+        let same : (ts ++ a ∷ []) ++ parts.1 ≡ ts ++ tys = append_assoc ts (a ∷ []) parts.1 ∙ ap (λ l. ts ++ l) parts.4 in
+        subst (Block part p q ts) same (join part p k.0 q ts (ts ++ a ∷ []) _ (expr_block y a p k.0 ts parts.2 k.1) (exprs_block ys parts.1 k.0 q (ts ++ a ∷ []) parts.3 k.2))
 
   pub guard_block : (g : Option Expr) (p q : ℕ) → GuardTyped part.code.types c g → HasGuard part.code s g p q → Block part p q [] (0 ∷ [])
   guard_block None p q t k = truth_block true p q [] k
@@ -174,7 +206,7 @@ module _ (m : Member) (e : EntryTree) (vs ps : List ℕ) (h : Setting m e vs ps)
 
   module _ (over : code.types ≡ m.instance.types) where
     reads : (kind : PartKind) (result : List ℕ) → reads_arguments kind ≡ true → Reads (record { code = code; kind = kind; slots = vs; args = ps; result = result }) (scope_of m e) (scope m.instance.types m.instance.types h.globals m.instance.automaton e) vs h.types ps
-    reads kind result r = record { slots = refl; args = refl; reads = r; given = subst (λ t. HaveTypes t m.instance.arguments h.types) (sym over) h.given; table = sym over; names = subst (λ t. (x : Name) → or_else (type_in (scope m.instance.types m.instance.types h.globals m.instance.automaton e) x) (constant_type t x) ≡ at own (origin (scope_of m e) x) vs h.types ps) (sym over) (type_at m e vs ps h) }
+    reads kind result r = record { slots = refl; args = refl; reads = r; given = subst (λ t. HaveTypes t m.instance.arguments h.types) (sym over) h.given; table = sym over; context = refl; names = subst (λ t. (x : Name) → or_else (type_in (scope m.instance.types m.instance.types h.globals m.instance.automaton e) x) (constant_type t x) ≡ at own (origin (scope_of m e) x) vs h.types ps) (sym over) (type_at m e vs ps h) }
 
     pub guard_valid : (g : Option Expr) → GuardTyped m.instance.types (scope m.instance.types m.instance.types h.globals m.instance.automaton e) g → IsGuard code (scope_of m e) g → Valid (record { code = code; kind = Pre; slots = vs; args = ps; result = 0 ∷ [] })
     guard_valid g t k =

@@ -1,12 +1,20 @@
--- Statements of the program that choose, by slices of their parts.
+-- Statements of the program that choose, and expressions that make tuples, by slices of their parts.
 use Rattle.std.proofs.Common.{◌≡◌, ℕ, ◌+◌, ◌<◌, ◌^◌, arith, List, refl, sym, ap, ◌∙◌, Vec, Global}
 use Rattle.ioa_syntax.specs.declared.tree.Statement.{Statement}
 use Rattle.ioa_syntax.specs.declared.tree.Statement.TheVariants.{If}
 use Rattle.ioa_syntax.specs.declared.tree.Arm.{Arm}
-use Rattle.ioa_syntax.specs.Tree.{choose}
-use Rattle.ioa_syntax.specs.View.{stmt_of, stmts_of, arms_of}
+use Rattle.ioa_syntax.specs.declared.tree.Name.{Name}
+use Rattle.ioa_syntax.specs.declared.tree.Expression.{Expression}
+use Rattle.ioa_syntax.specs.declared.tree.Expression.TheVariants.{Make}
+use Rattle.ioa_syntax.specs.Tree.{make, choose}
+use Rattle.ioa_syntax.specs.View.{name_of, expr_of, exprs_of, stmt_of, stmts_of, arms_of}
 use Rattle.ioa_syntax.proofs.Sequences.{stmt_choose}
+use Rattle.ioa_syntax.proofs.Tuples.{expr_made}
 use Rattle.ioa_compile.specs.Extents.{stmt_extent, stmts_extent, arms_extent}
+
+-- the tree of an expression that makes a tuple, by a slice of its fields
+pub made_of_slice : (e : Expression) (x : Name) (fields : Vec Expression Global) (these : List Expression) → e ≡ Make x fields → these ≡ fields.items → expr_of e ≡ make (name_of x) (exprs_of these)
+made_of_slice e x fields these is a = expr_made e x fields is ∙ ap (λ es. make (name_of x) (exprs_of es)) (sym a)
 
 -- the tree of a statement that chooses, by slices of its arms and of its other statements
 pub stmt_chosen : (s : Statement) (arms : Vec Arm Global) (others : Vec Statement Global) (line : ℕ) (these : List Arm) (those : List Statement) → s ≡ If arms others line → these ≡ arms.items → those ≡ others.items → stmt_of s ≡ choose (arms_of these) (stmts_of those)

@@ -5,10 +5,10 @@ use Rattle.ioa_value.specs.Typing.{OwnTypes}
 use Rattle.ioa_code.specs.declared.instr.Instr.{Instr}
 use Rattle.ioa_code.specs.Machine.{Listing}
 use Rattle.ioa_syntax.specs.declared.tree.Infix.{Infix}
-use Rattle.ioa_syntax.specs.Tree.{Expr, Stmt, Stmts}
-use Rattle.ioa_syntax.specs.WellFormed.{nodes, stmt_nodes, stmts_nodes}
+use Rattle.ioa_syntax.specs.Tree.{Expr, Exprs, Stmt, Stmts}
+use Rattle.ioa_syntax.specs.WellFormed.{nodes, exprs_nodes, stmt_nodes, stmts_nodes}
 use Rattle.ioa_compile.specs.Scopes.{Scope}
-use Rattle.ioa_compile.specs.Placed.{At, Pushes, PushesTruth, Chooses, Combines, HasExpr, HasGuard, HasStmt, HasStmts}
+use Rattle.ioa_compile.specs.Placed.{At, Pushes, PushesTruth, Chooses, Combines, HasExpr, HasExprs, HasGuard, HasStmt, HasStmts}
 
 -- what stands in the old code stands in the new one too
 pub record Keeps (old new : Listing) : Type 0 where
@@ -31,6 +31,9 @@ AddsConst old new v = Adds old new 1 (λ code p q. Pushes code p v × (q ≡ p +
 
 abbrev pub AddsExpr : Listing → Listing → Scope → Expr → Type 0
 AddsExpr old new s e = Adds old new (nodes e) (λ code p q. HasExpr code s e p q)
+
+abbrev pub AddsExprs : Listing → Listing → Scope → Exprs → Type 0
+AddsExprs old new s es = Adds old new (exprs_nodes es) (λ code p q. HasExprs code s es p q)
 
 -- an infix with its second operand
 abbrev pub AddsCombined : Listing → Listing → Scope → Infix → Expr → Type 0

@@ -2,7 +2,7 @@
 use Rattle.std.specs.Prelude.{ℕ, ◌+◌, Option, Some, None}
 use Rattle.ioa_syntax.specs.declared.tree.Infix.{Infix}
 use Rattle.ioa_syntax.specs.declared.tree.Infix.TheVariants.{Operator, And, Or, Implies}
-use Rattle.ioa_syntax.specs.Tree.{Expr, number, truth, named, parens, prefix, binary, empty, Stmt, assign, choose, Stmts, stop, seq, Arms, no_arm, arm}
+use Rattle.ioa_syntax.specs.Tree.{Expr, number, truth, named, parens, prefix, binary, empty, make, select, Exprs, no_expr, also, Stmt, assign, choose, Stmts, stop, seq, Arms, no_arm, arm}
 
 -- beside the operands' code: the operator, or two jumps and a constant
 abbrev pub infix_extent : Infix → ℕ
@@ -11,14 +11,21 @@ infix_extent And = 3
 infix_extent Or = 3
 infix_extent Implies = 3
 
-abbrev pub extent : Expr → ℕ
-extent (number n) = 1
-extent (truth b) = 1
-extent (named x) = 1
-extent (parens e) = extent e
-extent (prefix o e) = extent e + 1
-extent (binary l o r) = extent l + extent r + infix_extent o
-extent (empty x) = 1
+abbrev mutual
+  pub extent : Expr → ℕ
+  extent (number n) = 1
+  extent (truth b) = 1
+  extent (named x) = 1
+  extent (parens e) = extent e
+  extent (prefix o e) = extent e + 1
+  extent (binary l o r) = extent l + extent r + infix_extent o
+  extent (empty x) = 1
+  extent (make x es) = exprs_extent es + 1
+  extent (select e x) = extent e + 1
+
+  pub exprs_extent : Exprs → ℕ
+  exprs_extent no_expr = 0
+  exprs_extent (also e es) = extent e + exprs_extent es
 
 -- an omitted precondition is a constant
 abbrev pub guard_extent : Option Expr → ℕ

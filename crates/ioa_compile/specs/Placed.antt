@@ -1,6 +1,7 @@
 -- The code of a tree, as a relation between the tree and the places where its code stands.
 use Rattle.std.specs.Prelude.{◌≡◌, ℕ, ◌+◌, Bool, true, false, Option, Some, None, pos, slice_get}
 use Rattle.ioa_value.specs.declared.operator.Op.{Op}
+use Rattle.ioa_value.specs.declared.operator.Op.TheVariants.{Make, Field}
 use Rattle.ioa_value.specs.Plain as plain
 use Rattle.ioa_value.specs.Plain.{Val}
 use Rattle.ioa_code.specs.declared.instr.Instr.{Instr}
@@ -8,10 +9,10 @@ use Rattle.ioa_code.specs.declared.instr.Instr.TheVariants.{Const, Slot, Arg, St
 use Rattle.ioa_code.specs.Machine.{Listing}
 use Rattle.ioa_syntax.specs.declared.tree.Infix.{Infix}
 use Rattle.ioa_syntax.specs.declared.tree.Infix.TheVariants.{Operator, And, Or, Implies}
-use Rattle.ioa_syntax.specs.Tree.{Expr, number, truth, named, parens, prefix, binary, empty, Stmt, assign, choose, Stmts, stop, seq, Arms, no_arm, arm}
+use Rattle.ioa_syntax.specs.Tree.{Expr, number, truth, named, parens, prefix, binary, empty, make, select, Exprs, no_expr, also, Stmt, assign, choose, Stmts, stop, seq, Arms, no_arm, arm}
 use Rattle.ioa_syntax.specs.Types.{empty_of}
-use Rattle.ioa_value.specs.Table.{place_from}
-use Rattle.ioa_compile.specs.Scopes.{Scope, Origin, slot, formal, parameter, fixed, unknown, origin}
+use Rattle.ioa_value.specs.Table.{place_from, type_named}
+use Rattle.ioa_compile.specs.Scopes.{Scope, Origin, slot, formal, parameter, fixed, unknown, origin, place_of}
 
 -- the instruction stands at this place
 abbrev pub At : Listing → ℕ → Instr → Type 0
@@ -55,14 +56,22 @@ Combines code Or Second p q = Chooses code (PushesTruth code true) Second p q
 Combines code Implies Second p q = Chooses code Second (PushesTruth code true) p q
 
 -- the expression's code stands from p up to q
-abbrev pub HasExpr : Listing → Scope → Expr → Stretch
-HasExpr code s (number n) p q = Pushes code p (plain.num (pos n)) × (q ≡ p + 1)
-HasExpr code s (truth b) p q = PushesTruth code b p q
-HasExpr code s (named x) p q = Brings code s p (origin s x) × (q ≡ p + 1)
-HasExpr code s (parens e) p q = HasExpr code s e p q
-HasExpr code s (prefix o e) p q = Applies code o (HasExpr code s e) p q
-HasExpr code s (binary l o r) p q = (m : ℕ) × HasExpr code s l p m × Combines code o (HasExpr code s r) m q
-HasExpr code s (empty x) p q = (v : Val) × (empty_of s.types x ≡ Some v) × Pushes code p v × (q ≡ p + 1)
+abbrev mutual
+  pub HasExpr : Listing → Scope → Expr → Stretch
+  HasExpr code s (number n) p q = Pushes code p (plain.num (pos n)) × (q ≡ p + 1)
+  HasExpr code s (truth b) p q = PushesTruth code b p q
+  HasExpr code s (named x) p q = Brings code s p (origin s x) × (q ≡ p + 1)
+  HasExpr code s (parens e) p q = HasExpr code s e p q
+  HasExpr code s (prefix o e) p q = Applies code o (HasExpr code s e) p q
+  HasExpr code s (binary l o r) p q = (m : ℕ) × HasExpr code s l p m × Combines code o (HasExpr code s r) m q
+  HasExpr code s (empty x) p q = (v : Val) × (empty_of s.types x ≡ Some v) × Pushes code p v × (q ≡ p + 1)
+  HasExpr code s (make x es) p q = (ty : ℕ) × (type_named s.types x ≡ Some ty) × Applies code (Make (record { 0 = ty })) (HasExprs code s es) p q
+  HasExpr code s (select e x) p q = (j : ℕ) × (place_of s e x ≡ Some j) × Applies code (Field j) (HasExpr code s e) p q
+
+  -- the code of expressions, one after another
+  pub HasExprs : Listing → Scope → Exprs → Stretch
+  HasExprs code s no_expr p q = q ≡ p
+  HasExprs code s (also e es) p q = (m : ℕ) × HasExpr code s e p m × HasExprs code s es m q
 
 -- an omitted precondition is the constant true
 abbrev pub HasGuard : Listing → Scope → Option Expr → Stretch

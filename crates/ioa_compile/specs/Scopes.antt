@@ -1,14 +1,15 @@
 -- Where the value of a name comes from in the code of an entry.
-use Rattle.std.specs.Prelude.{◌≡◌, ℕ, ◌≤◌, List, map, length, Option, Some, None, IsSome, pos, IsTrue}
+use Rattle.std.specs.Prelude.{◌≡◌, ℕ, ◌≤◌, List, [], map, length, Option, Some, None, option_and_then, IsSome, pos, IsTrue}
 use Rattle.std.specs.Option.{option_map_or}
 use Rattle.ioa_value.specs.Actions.{Name}
 use Rattle.ioa_value.specs.Arithmetic.{fits}
 use Rattle.ioa_value.specs.Plain.{Val}
-use Rattle.ioa_value.specs.Table.{Table, place_from}
+use Rattle.ioa_value.specs.Table.{Table, place_from, type_named, field_place}
 use Rattle.ioa_value.specs.Typing.{OwnTypes}
-use Rattle.ioa_syntax.specs.Tree.{Expr, number, truth, named, parens, prefix, binary, empty, Stmt, assign, choose, Stmts, stop, seq, Arms, no_arm, arm, EntryTree}
+use Rattle.ioa_syntax.specs.Tree.{Expr, number, truth, named, parens, prefix, binary, empty, make, select, Exprs, no_expr, also, Stmt, assign, choose, Stmts, stop, seq, Arms, no_arm, arm, EntryTree}
 use Rattle.ioa_syntax.specs.Types.{constant, empty_of}
 use Rattle.ioa_syntax.specs.Instances.{field_names, variable_names, position_name}
+use Rattle.ioa_syntax.specs.WellFormed.{Context, type_of, scope}
 use Rattle.ioa_syntax.specs.Compositions.{Member}
 use Rattle.ioa_syntax.specs.declared.tree.Entry as tree
 use Rattle.ioa_syntax.specs.View.{entry_of}
@@ -16,13 +17,15 @@ use Rattle.ioa_compose.specs.declared.member.Member as held
 use Rattle.ioa_compose.specs.Held.{member_of}
 use Rattle.ioa_compose.specs.Fine.{component_limits}
 
--- the names that an entry's code may use: variables, formals with their values, the entry's parameters, and those of the types
+-- the names that an entry's code may use: variables, formals with their values, the entry's parameters, and those of the types; and
+-- the types of what they stand for
 pub record Scope : Type 0 where
   pub types : Table
   pub variables : List Name
   pub formals : List Name
   pub arguments : List Val
   pub parameters : List Name
+  pub context : Context
 
 abbrev pub scope_of : Member → EntryTree → Scope
 scope_of m e = record {
@@ -31,6 +34,7 @@ scope_of m e = record {
   formals = field_names m.instance.automaton.formals;
   arguments = m.instance.arguments;
   parameters = map position_name e.positions;
+  context = scope m.instance.types m.instance.types [] m.instance.automaton e;
 }
 
 -- for what the program holds of them
@@ -59,15 +63,27 @@ IsOrigin (parameter i) = Unit {0}
 IsOrigin (fixed v) = Unit {0}
 IsOrigin unknown = ⊥
 
--- each name is one of the scope's, each number fits, and an empty sequence is one of a sequence type
-abbrev pub IsKnown : Scope → Expr → Type 0
-IsKnown s (number n) = IsTrue (fits (pos n))
-IsKnown s (truth b) = Unit {0}
-IsKnown s (named x) = IsOrigin (origin s x)
-IsKnown s (parens e) = IsKnown s e
-IsKnown s (prefix o e) = IsKnown s e
-IsKnown s (binary l o r) = IsKnown s l × IsKnown s r
-IsKnown s (empty x) = IsSome (empty_of s.types x)
+-- the place of the field of this name in the expression's type
+abbrev pub place_of : Scope → Expr → Name → Option ℕ
+place_of s e x = option_and_then (λ ty. field_place s.types ty x) (type_of s.types s.types s.context e)
+
+-- each name is one of the scope's or, of a tuple or a field, of its types; each number fits, and an empty sequence is one of a
+-- sequence type
+abbrev mutual
+  pub IsKnown : Scope → Expr → Type 0
+  IsKnown s (number n) = IsTrue (fits (pos n))
+  IsKnown s (truth b) = Unit {0}
+  IsKnown s (named x) = IsOrigin (origin s x)
+  IsKnown s (parens e) = IsKnown s e
+  IsKnown s (prefix o e) = IsKnown s e
+  IsKnown s (binary l o r) = IsKnown s l × IsKnown s r
+  IsKnown s (empty x) = IsSome (empty_of s.types x)
+  IsKnown s (make x es) = IsSome (type_named s.types x) × AreAllKnown s es
+  IsKnown s (select e x) = IsSome (place_of s e x) × IsKnown s e
+
+  pub AreAllKnown : Scope → Exprs → Type 0
+  AreAllKnown s no_expr = Unit {0}
+  AreAllKnown s (also e es) = IsKnown s e × AreAllKnown s es
 
 -- what scopes of well-formed automata keep
 pub record IsScope (types : Table) (s : Scope) : Type 0 where

@@ -4,19 +4,20 @@ ghost use Rattle.std.specs.Option.{option_map};
 ghost use Rattle.ioa_value.specs.Plain.{plain};
 ghost use Rattle.ioa_value.specs.Typing.{HasType, own};
 ghost use Rattle.ioa_code.specs.Parts.{listing};
-ghost use Rattle.ioa_syntax.specs.View.{name_of, expr_of, stmt_of, stmts_of, arms_of};
+ghost use Rattle.ioa_syntax.specs.View.{name_of, expr_of, exprs_of, stmt_of, stmts_of, arms_of};
 ghost use Rattle.ioa_syntax.specs.Tree.{named, assign, choose};
-ghost use Rattle.ioa_syntax.specs.WellFormed.{nodes, stmt_nodes, stmts_nodes};
-ghost use Rattle.ioa_compile.specs.Scopes.{scope_in, IsScope, IsKnown, IsKnownStmt, AreKnown, IsKnownGuard, IsOrigin, origin};
-ghost use Rattle.ioa_compile.specs.Extents.{extent, infix_extent, guard_extent, stmt_extent, stmts_extent};
-ghost use Rattle.ioa_compile.specs.Emitting.{AddsInstr, AddsConst, AddsExpr, AddsCombined, AddsTrueSide, AddsFalseSide, AddsGuard, AddsStmt, AddsStmts, guard_nodes};
+ghost use Rattle.ioa_syntax.specs.WellFormed.{nodes, exprs_nodes, stmt_nodes, stmts_nodes};
+ghost use Rattle.ioa_compile.specs.Scopes.{scope_in, IsScope, IsKnown, AreAllKnown, IsKnownStmt, AreKnown, IsKnownGuard, IsOrigin, origin};
+ghost use Rattle.ioa_compile.specs.Extents.{extent, exprs_extent, infix_extent, guard_extent, stmt_extent, stmts_extent};
+ghost use Rattle.ioa_compile.specs.Emitting.{AddsInstr, AddsConst, AddsExpr, AddsExprs, AddsCombined, AddsTrueSide, AddsFalseSide, AddsGuard, AddsStmt, AddsStmts, guard_nodes};
 
 use crate::extents::{arms_extent, expression_extent, statements_extent};
-use crate::places::{field_place, position_place, variable_place};
+use crate::places::{field_place, position_place, tuple_place, variable_place};
+use crate::types::named_type;
 use ioa_code::{Code, Instr};
 use ioa_compose::{Member, constant, empty};
 use ioa_syntax::{Arm, Entry, Expression, Infix, Name, Statement};
-use ioa_value::{OutOfMemory, Value};
+use ioa_value::{Op, OutOfMemory, Value};
 use std::alloc::Global;
 
 /// The code of a precondition. An omitted one is the constant true.
@@ -159,7 +160,37 @@ fn emit_expression(
             emit_expression(alloc, out, member, entry, left)?;
             emit_combined(alloc, out, member, entry, *operator, right)
         }
+        Expression::Make(name, fields) => {
+            emit_expressions(alloc, out, member, entry, fields)?;
+            put(out, Instr::Apply(Op::Make(named_type(&member.types, name))))
+        }
+        Expression::Select(inner, name, _) => {
+            emit_expression(alloc, out, member, entry, inner)?;
+            let place = tuple_place(member, entry, inner, name);
+            put(out, Instr::Apply(Op::Field(place)))
+        }
     }
+}
+
+/// The code of expressions, one after another, which leaves their values on the stack.
+#[cycle(expression)]
+fn emit_expressions(
+    alloc: Global,
+    out: &mut Code,
+    member: &Member,
+    entry: &Entry,
+    expressions: &[Expression],
+) -> Result<(), OutOfMemory>
+    requires scope { IsScope member.now.types (scope_in member.now entry.now) }
+    requires known { AreAllKnown (scope_in member.now entry.now) (exprs_of expressions.now) }
+    requires room { length out.old.consts.items + exprs_nodes (exprs_of expressions.now) < 2 ^ 16 }
+    requires short { length out.old.instrs.items + exprs_extent (exprs_of expressions.now) < 2 ^ 16 }
+    ensures { OnOk result (AddsExprs (listing member.now.types out.old) (listing member.now.types out.new) (scope_in member.now entry.now) (exprs_of expressions.now)) }
+{
+    for expression in expressions {
+        emit_expression(alloc, out, member, entry, expression)?;
+    }
+    Ok(())
 }
 
 /// What stands after a first operand's code: the second's, and the operator, or a choice whether it is asked for.

@@ -1,10 +1,11 @@
 ghost use Rattle.std.specs.Prelude.{◌≡◌, ◌<◌, ◌^◌};
-ghost use Rattle.ioa_syntax.specs.View.{expr_of, stmt_of, stmts_of, arms_of};
-ghost use Rattle.ioa_compile.specs.Extents.{extent, infix_extent, stmt_extent, stmts_extent, arms_extent as extent_of_arms};
+ghost use Rattle.ioa_syntax.specs.View.{expr_of, exprs_of, stmt_of, stmts_of, arms_of};
+ghost use Rattle.ioa_compile.specs.Extents.{extent, exprs_extent, infix_extent, stmt_extent, stmts_extent, arms_extent as extent_of_arms};
 
 use ioa_syntax::{Arm, Expression, Infix, Statement};
 
 /// How many instructions the code of an expression has.
+#[cycle(expression)]
 pub(crate) fn expression_extent(e: &Expression) -> usize
     requires { extent (expr_of e.now) < 2 ^ 16 }
     ensures { result ≡ extent (expr_of e.now) }
@@ -15,11 +16,27 @@ pub(crate) fn expression_extent(e: &Expression) -> usize
         | Expression::Name(_)
         | Expression::Empty(_, _) => 1,
         Expression::Parentheses(inner, _) => expression_extent(inner),
-        Expression::Prefix(_, inner, _) => expression_extent(inner) + 1,
+        Expression::Prefix(_, inner, _) | Expression::Select(inner, _, _) => {
+            expression_extent(inner) + 1
+        }
         Expression::Binary(left, operator, right, _) => {
             expression_extent(left) + expression_extent(right) + extent_beside(*operator)
         }
+        Expression::Make(_, fields) => expressions_extent(fields) + 1,
     }
+}
+
+/// How many instructions the code of expressions has.
+#[cycle(expression)]
+fn expressions_extent(expressions: &[Expression]) -> usize
+    requires { exprs_extent (exprs_of expressions.now) < 2 ^ 16 }
+    ensures { result ≡ exprs_extent (exprs_of expressions.now) }
+{
+    let mut total = 0;
+    for expression in expressions {
+        total += expression_extent(expression);
+    }
+    total
 }
 
 /// How many instructions stand beside the code of two operands: the operator, or two jumps and a constant.

@@ -1,9 +1,12 @@
-ghost use Rattle.std.specs.Prelude.{◌≡◌, map};
-ghost use Rattle.ioa_syntax.specs.View.{name_of, field_of, position_of, variable_of};
+ghost use Rattle.std.specs.Prelude.{◌≡◌, map, Some, IsSome};
+ghost use Rattle.ioa_syntax.specs.View.{name_of, expr_of, field_of, position_of, variable_of};
 ghost use Rattle.ioa_value.specs.Table.{place_from};
 ghost use Rattle.ioa_syntax.specs.Instances.{field_names, position_name};
+ghost use Rattle.ioa_compile.specs.Scopes.{scope_in, place_of};
 
-use ioa_syntax::{Field, Name, Position, Variable};
+use ioa_check::expression_type;
+use ioa_compose::Member;
+use ioa_syntax::{Entry, Expression, Field, Name, Position, Variable};
 
 /// The place of the first field of this name.
 pub(crate) fn field_place(fields: &[Field], name: &Name) -> Option<usize>
@@ -28,4 +31,18 @@ pub(crate) fn position_place(positions: &[Position], name: &Name) -> Option<usiz
     positions.iter().position(|position| match position {
         Position::Typed(field) => field.name.text.as_str() == name.text.as_str(),
     })
+}
+
+/// The place of the field of this name in the tuples that an expression gives.
+pub(crate) fn tuple_place(member: &Member, entry: &Entry, e: &Expression, name: &Name) -> u16
+    requires { IsSome (place_of (scope_in member.now entry.now) (expr_of e.now) (name_of name.now)) }
+    ensures { place_of (scope_in member.now entry.now) (expr_of e.now) (name_of name.now) ≡ Some result }
+{
+    match expression_type(&member.types, &member.automaton, entry, e) {
+        Some(ty) => match member.types.field(ty, name.text.as_str()) {
+            Some(place) => place,
+            None => unreachable!(),
+        },
+        None => unreachable!(),
+    }
 }

@@ -1,12 +1,13 @@
-ghost use Rattle.std.specs.Prelude.{◌≡◌, map, IfOk, IsTrue};
+ghost use Rattle.std.specs.Prelude.{◌≡◌, map, Some, IfOk, IsSome, IsTrue};
 ghost use Rattle.std.specs.List.{list_all};
 ghost use Rattle.ioa_value.specs.Plain.{number};
+ghost use Rattle.ioa_value.specs.Table.{type_named};
 ghost use Rattle.ioa_syntax.specs.View.{name_of, field_of, position_of, variable_of};
 ghost use Rattle.ioa_syntax.specs.WellFormed.{is_type, position_fields};
 ghost use Rattle.ioa_compile.specs.Matching.{IsTypeOf, AreTypesOf};
 ghost use Rattle.ioa_compile.specs.Translated.{position_field};
 
-use ioa_syntax::{Field, Position, Variable};
+use ioa_syntax::{Field, Name, Position, Variable};
 use ioa_value::{OutOfMemory, Ty, Types};
 use std::alloc::Global;
 
@@ -57,7 +58,15 @@ fn type_of(types: &Types, field: &Field) -> Ty
     requires { IsTrue (is_type types.now (field_of field.now)) }
     ensures { IsTypeOf types.now (field_of field.now) (number result) }
 {
-    match types.named(field.ty.text.as_str()) {
+    named_type(types, &field.ty)
+}
+
+/// The type of this name, which is declared.
+pub(crate) fn named_type(types: &Types, name: &Name) -> Ty
+    requires { IsSome (type_named types.now (name_of name.now)) }
+    ensures { type_named types.now (name_of name.now) ≡ Some (number result) }
+{
+    match types.named(name.text.as_str()) {
         Some(ty) => ty,
         None => unreachable!(),
     }

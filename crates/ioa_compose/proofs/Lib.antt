@@ -7,4 +7,3 @@ pub mod SourceLemmas
 pub mod FineLemmas
 pub mod ClashLemmas
 pub mod ComposeLemmas
-pub mod CopyLemmas

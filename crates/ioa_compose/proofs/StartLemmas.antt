@@ -20,7 +20,7 @@ use Rattle.ioa_syntax.specs.WellFormed.{start_fine, is_type}
 use Rattle.ioa_compose.specs.Bindings.{value_in}
 use Rattle.ioa_value.proofs.ItemLemmas.{passes_at}
 
-settled-answer : (r : Result Value Fault) → value_in r ≡ settled (answer_of r)
+pub settled-answer : (r : Result Value Fault) → value_in r ≡ settled (answer_of r)
 settled-answer (Ok v) = refl
 settled-answer (Err f) = refl
 

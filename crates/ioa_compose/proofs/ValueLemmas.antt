@@ -23,3 +23,10 @@ values-go-on f view xs ys i x vs v q l e h k =
     ∙ ap (λ r. prepended vs (with_value r (all_values f (map view (drop (i + 1) ys))))) (sym k)
     ∙ ap (λ zs. prepended vs (all_values f (map view zs))) (sym (drop_item ys i x l e))
     ∙ ap (λ zs. prepended vs (all_values f (map view (drop i zs)))) q ∙ h
+
+pub values-stop : {X Y : Type 0} (f : Y → Result Val Fault) (view : X → Y) (xs : List X) (i : ℕ) (x : X) (vs : List Val) (e : Fault) → i < length xs → x ≡ get_or xs i x
+    → prepended vs (all_values f (map view (drop i xs))) ≡ all_values f (map view xs) → f (view x) ≡ Err e → Err e ≡ all_values f (map view xs)
+values-stop f view xs i x vs e l at h k =
+    sym (ap (λ r. prepended vs (with_value r (all_values f (map view (drop (i + 1) xs))))) k)
+    ∙ ap (λ zs. prepended vs (all_values f (map view zs))) (sym (drop_item xs i x l at))
+    ∙ h

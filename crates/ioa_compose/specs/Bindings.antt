@@ -13,9 +13,10 @@ use Rattle.ioa_syntax.specs.Tree.{Expr, FieldTree, AutomatonTree, InstanceTree, 
 use Rattle.ioa_syntax.specs.View.{automaton_of}
 use Rattle.ioa_syntax.specs.Types.{types_of, is_named}
 use Rattle.ioa_value.specs.declared.limits.TheConstants.{LIMITS}
-use Rattle.ioa_syntax.specs.Instances.{Instance, Fit, argument_values, start_values}
+use Rattle.ioa_syntax.specs.Meaning.{Env, val}
+use Rattle.ioa_syntax.specs.Instances.{Instance, Fit, settled, argument_values, start_values}
 use Rattle.ioa_syntax.specs.Compositions.{Member, automaton_named}
-use Rattle.ioa_syntax.specs.WellFormed.{distinct, type_of, start_fine, is_type, variable_fields, automaton_fine}
+use Rattle.ioa_syntax.specs.WellFormed.{Context, distinct, type_of, start_fine, is_type, variable_fields, automaton_fine}
 use Rattle.ioa_compose.specs.declared.binding.Binding.{Binding}
 
 -- a value, or a fault
@@ -35,9 +36,17 @@ fit types [] (v ∷ vs) = false
 fit types (f ∷ fs) [] = false
 fit types (f ∷ fs) (v ∷ vs) = is_named types f.ty v && fit types fs vs
 
--- the expression has a type without any name of an automaton
+-- the expression has a type in the context
+abbrev pub typed : Table → Context → Expr → Bool
+typed types c e = option_map_or (λ ty. true) (type_of types types c e) false
+
+-- without any name of an automaton
 abbrev pub closed : Table → Expr → Bool
-closed types e = option_map_or (λ ty. true) (type_of types types [] e) false
+closed types e = typed types [] e
+
+-- the expression's value, or its fault
+abbrev pub start_of : Table → Env → Expr → Result Val Fault
+start_of types env e = settled (val types e env)
 
 -- an automaton with arguments
 abbrev pub instance_with : Table → AutomatonTree → List Val → Instance

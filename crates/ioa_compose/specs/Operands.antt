@@ -1,8 +1,11 @@
--- Two operands of what stands between expressions.
-use Rattle.std.specs.Prelude.{◌≡◌, ◌≢◌, ℕ, true, false, [], ◌∷◌, Some}
+-- Operands of what stands between expressions, and those that make a tuple or have a field.
+use Rattle.std.specs.Prelude.{◌≡◌, ◌≢◌, ℕ, true, false, List, [], ◌∷◌, Some}
 use Rattle.ioa_value.specs.Plain.{Val, truth}
-use Rattle.ioa_value.specs.Table.{Table}
-use Rattle.ioa_value.specs.Typing.{HasType}
+use Rattle.ioa_value.specs.Actions.{Name}
+use Rattle.ioa_value.specs.declared.operator.Op.TheVariants.{Make, Field}
+use Rattle.ioa_value.specs.Operators.{Takes}
+use Rattle.ioa_value.specs.Table.{Table, type_named, field_place}
+use Rattle.ioa_value.specs.Typing.{HasType, own}
 use Rattle.ioa_syntax.specs.declared.tree.Infix.{Infix}
 use Rattle.ioa_syntax.specs.declared.tree.Infix.TheVariants.{Operator, And, Or, Implies}
 use Rattle.ioa_syntax.specs.WellFormed.{infix_type}
@@ -17,3 +20,11 @@ Asks Implies x = x ≢ truth false
 -- both are of types that it takes
 abbrev pub AreOperands : Table → Infix → Val → Val → Type 0
 AreOperands types i x y = (a : ℕ) × (b : ℕ) × (c : ℕ) × HasType types x a × HasType types y b × (infix_type types i (a ∷ b ∷ []) ≡ Some c)
+
+-- the values are the fields of a tuple of the type of this name
+abbrev pub AreFields : Table → Name → List Val → Type 0
+AreFields types x vs = (ty : ℕ) × (type_named types x ≡ Some ty) × Takes types (Make (record { 0 = ty })) vs
+
+-- the value is a tuple with a field of this name
+abbrev pub HasField : Table → Name → Val → Type 0
+HasField types x v = (j : ℕ) × (field_place types (own v) x ≡ Some j) × Takes types (Field j) (v ∷ [])

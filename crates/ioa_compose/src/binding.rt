@@ -11,7 +11,7 @@ ghost use Rattle.ioa_syntax.specs.Compositions as spec;
 ghost use Rattle.ioa_compose.specs.Bindings.{IsReady, AllReady, IsBound, AreBound, fit, closed, values_in, instance_in};
 ghost use Rattle.ioa_compose.specs.Refusals.{IsRefused, IsRefusedAt, reason_of};
 
-use crate::evaluate::evaluate;
+use crate::evaluate::evaluate_all;
 use crate::picks::automaton_named;
 use ioa_syntax::{Automaton, Declaration, Expression, Field, Instance, Name, Refusal};
 use ioa_value::{Fault, OutOfMemory, Types, Value, has_type};
@@ -97,14 +97,7 @@ fn argument_values(
     requires closed { list_all (closed types.now) (map expr_of arguments.now) ≡ true }
     ensures { IfOk result (λ r. values_in r ≡ instances.argument_values types.now (map expr_of arguments.now)) }
 {
-    let mut values = Vec::new(alloc);
-    for argument in arguments {
-        match evaluate(alloc, types, &[], &[], argument)? {
-            Ok(value) => values.push(value)?,
-            Err(fault) => return Ok(Err(fault)),
-        }
-    }
-    Ok(Ok(values))
+    evaluate_all(alloc, types, &[], &[], arguments)
 }
 
 /// Whether the values are of the fields' types, one for each.

@@ -18,6 +18,7 @@ fn copied_name(alloc: Global, name: &Name) -> Result<Name, OutOfMemory>
     })
 }
 
+#[cycle(expression)]
 fn copied_expression(alloc: Global, expression: &Expression) -> Result<Expression, OutOfMemory>
     ensures { IfOk result (λ copy. view.expr_of copy ≡ view.expr_of expression.now) }
 {
@@ -40,7 +41,30 @@ fn copied_expression(alloc: Global, expression: &Expression) -> Result<Expressio
             Ok(Expression::Binary(left, *operator, Box::new(alloc, right)?, *line))
         }
         Expression::Empty(name, line) => Ok(Expression::Empty(copied_name(alloc, name)?, *line)),
+        Expression::Make(name, fields) => {
+            let name = copied_name(alloc, name)?;
+            Ok(Expression::Make(name, copied_expressions(alloc, fields)?))
+        }
+        Expression::Select(tuple, name, line) => {
+            let tuple = copied_expression(alloc, tuple)?;
+            let name = copied_name(alloc, name)?;
+            Ok(Expression::Select(Box::new(alloc, tuple)?, name, *line))
+        }
     }
+}
+
+#[cycle(expression)]
+fn copied_expressions(
+    alloc: Global,
+    expressions: &[Expression],
+) -> Result<Vec<Expression>, OutOfMemory>
+    ensures { IfOk result (λ copies. view.exprs_of copies.items ≡ view.exprs_of expressions.now) }
+{
+    let mut out = Vec::new(alloc);
+    for expression in expressions {
+        out.push(copied_expression(alloc, expression)?)?;
+    }
+    Ok(out)
 }
 
 fn copied_option(

@@ -1,16 +1,20 @@
-ghost use Rattle.std.specs.Prelude.{◌≡◌, ◌<◌, ◌^◌, ℕ, pos, Some, None, map, IfOk, IfSome, IfNone};
+ghost use Rattle.std.specs.Prelude.{◌≡◌, ◌<◌, ◌^◌, ℕ, pos, true, Some, None, map, IfOk, IfSome, IfNone};
+ghost use Rattle.std.specs.List.{list_all};
 ghost use Rattle.ioa_value.specs.Plain.{plain, truth};
-ghost use Rattle.ioa_value.specs.Operators.{Answer, answer_of, gives};
+ghost use Rattle.ioa_value.specs.Operators.{Answer, answer_of, gives, operate, Takes};
+ghost use Rattle.ioa_value.specs.Table.{Table, AreTypes, field_place};
+ghost use Rattle.ioa_value.specs.Typing.{own};
 ghost use Rattle.ioa_syntax.specs.View.{expr_of, name_of, field_of};
-ghost use Rattle.ioa_value.specs.Table.{Table, AreTypes};
+ghost use Rattle.ioa_syntax.specs.Meaning as meaning;
 ghost use Rattle.ioa_syntax.specs.Meaning.{combined, val, values_of};
-ghost use Rattle.ioa_syntax.specs.Instances.{Fit, field_names};
+ghost use Rattle.ioa_syntax.specs.Instances.{Fit, field_names, all_values};
 ghost use Rattle.ioa_syntax.specs.WellFormed.{type_of, context_of};
-ghost use Rattle.ioa_compose.specs.Operands.{Asks, AreOperands};
+ghost use Rattle.ioa_compose.specs.Bindings.{typed, start_of, values_in};
+ghost use Rattle.ioa_compose.specs.Operands.{Asks, AreOperands, AreFields, HasField};
 
 use crate::constants::{constant, empty};
-use ioa_syntax::{Expression, Field, Infix};
-use ioa_value::{Fault, OutOfMemory, Types, Value, apply};
+use ioa_syntax::{Expression, Field, Infix, Name};
+use ioa_value::{Fault, Op, OutOfMemory, Types, Value, apply_last};
 use std::alloc::Global;
 
 /// The value of the first of the fields that has this name. Automata have few formals, so the recursion is short.
@@ -34,6 +38,7 @@ fn found<'a>(fields: &[Field], values: &'a [Value], name: &str) -> Option<&'a Va
 }
 
 /// The value of a well typed expression over these fields, or its fault. A name that is no field's is an enumeration's.
+#[cycle(evaluate)]
 pub(crate) fn evaluate(
     alloc: Global,
     types: &Types,
@@ -57,7 +62,7 @@ pub(crate) fn evaluate(
         Expression::Parentheses(inner, _) => evaluate(alloc, types, fields, values, inner),
         Expression::Prefix(operator, operand, _) => {
             match evaluate(alloc, types, fields, values, operand)? {
-                Ok(value) => apply(alloc, types, *operator, &[value]),
+                Ok(value) => applied(alloc, types, *operator, Vec::from_array(alloc, [value])?),
                 Err(fault) => Ok(Err(fault)),
             }
         }
@@ -75,7 +80,43 @@ pub(crate) fn evaluate(
             };
             joined(alloc, types, *operator, first, second)
         }
+        Expression::Make(name, parts) => {
+            match evaluate_all(alloc, types, fields, values, parts)? {
+                Ok(parts) => made(alloc, types, name, parts),
+                Err(fault) => Ok(Err(fault)),
+            }
+        }
+        Expression::Select(tuple, name, _) => {
+            match evaluate(alloc, types, fields, values, tuple)? {
+                Ok(tuple) => selected(alloc, types, name, tuple),
+                Err(fault) => Ok(Err(fault)),
+            }
+        }
     }
+}
+
+/// The values of well typed expressions in order, or the first fault.
+#[cycle(evaluate)]
+pub(crate) fn evaluate_all(
+    alloc: Global,
+    types: &Types,
+    fields: &[Field],
+    values: &[Value],
+    expressions: &[Expression],
+) -> Result<Result<Vec<Value>, Fault>, OutOfMemory>
+    requires types { AreTypes types.now }
+    requires fit { Fit types.now (map field_of fields.now) (map plain values.now) }
+    requires typed { list_all (typed types.now (context_of types.now (map field_of fields.now))) (map expr_of expressions.now) ≡ true }
+    ensures { IfOk result (λ r. values_in r ≡ all_values (start_of types.now (values_of (field_names (map field_of fields.now)) (map plain values.now))) (map expr_of expressions.now)) }
+{
+    let mut found = Vec::new(alloc);
+    for expression in expressions {
+        match evaluate(alloc, types, fields, values, expression)? {
+            Ok(value) => found.push(value)?,
+            Err(fault) => return Ok(Err(fault)),
+        }
+    }
+    Ok(Ok(found))
 }
 
 /// What the first operand decides, where the second is not asked for.
@@ -105,8 +146,76 @@ fn joined(
     ensures { IfOk result (λ r. answer_of r ≡ combined types.now operator (plain first) (gives (plain second))) }
 {
     match operator {
-        Infix::Operator(operator) => apply(alloc, types, operator, &[first, second]),
+        Infix::Operator(operator) => {
+            let operands = Vec::from_array(alloc, [first, second])?;
+            applied(alloc, types, operator, operands)
+        }
         Infix::And | Infix::Or | Infix::Implies => Ok(Ok(second)),
+    }
+}
+
+/// The tuple of the type of this name, of these fields.
+fn made(
+    alloc: Global,
+    types: &Types,
+    name: &Name,
+    fields: Vec<Value>,
+) -> Result<Result<Value, Fault>, OutOfMemory>
+    requires { AreFields types.now (name_of name.now) (map plain fields.items) }
+    ensures { IfOk result (λ r. answer_of r ≡ meaning.made types.now (name_of name.now) (map plain fields.items)) }
+{
+    match types.named(name.text.as_str()) {
+        Some(ty) => applied(alloc, types, Op::Make(ty), fields),
+        None => unreachable!(),
+    }
+}
+
+/// The field of this name of a tuple.
+fn selected(
+    alloc: Global,
+    types: &Types,
+    name: &Name,
+    tuple: Value,
+) -> Result<Result<Value, Fault>, OutOfMemory>
+    requires { HasField types.now (name_of name.now) (plain tuple) }
+    ensures { IfOk result (λ r. answer_of r ≡ meaning.selected types.now (name_of name.now) (plain tuple)) }
+{
+    let place = place_in(types, &tuple, name);
+    let operands = Vec::from_array(alloc, [tuple])?;
+    applied(alloc, types, Op::Field(place), operands)
+}
+
+/// The place of the field of this name in a tuple.
+fn place_in(types: &Types, tuple: &Value, name: &Name) -> u16
+    requires { HasField types.now (name_of name.now) (plain tuple.now) }
+    ensures { field_place types.now (own (plain tuple.now)) (name_of name.now) ≡ Some result }
+{
+    let Value::Tuple(ty, _) = tuple else {
+        unreachable!()
+    };
+    match types.field(*ty, name.text.as_str()) {
+        Some(place) => place,
+        None => unreachable!(),
+    }
+}
+
+/// The operator's value or fault. The operands move into it.
+fn applied(
+    alloc: Global,
+    types: &Types,
+    operator: Op,
+    operands: Vec<Value>,
+) -> Result<Result<Value, Fault>, OutOfMemory>
+    requires { Takes types.now operator (map plain operands.items) }
+    ensures { IfOk result (λ r. answer_of r ≡ operate types.now operator (map plain operands.items)) }
+{
+    let mut stack = operands;
+    match apply_last(alloc, types, operator, &mut stack)? {
+        Ok(()) => match stack.pop() {
+            Some(value) => Ok(Ok(value)),
+            None => unreachable!(),
+        },
+        Err(fault) => Ok(Err(fault)),
     }
 }
 

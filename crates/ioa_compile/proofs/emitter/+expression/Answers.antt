@@ -1,21 +1,25 @@
-use Rattle.std.proofs.Common.{◌≡◌, ℕ, ◌∙◌, ◌+◌, ◌<◌, ◌^◌, length, IsTrue, pos, w64, refl, sym, ap, subst, rules, arith}
+use Rattle.std.proofs.Common.{◌≡◌, ℕ, ◌∙◌, ◌+◌, ◌<◌, ◌^◌, List, ◌∷◌, drop, length, Some, IsSome, IsTrue, pos, w64, refl, sym, ap, subst, rules, arith}
 use Rattle.std.proofs.lemmas.Bool.Decides.{nat_tests}
 use Rattle.std.proofs.lemmas.Int.{to_z_pos}
-use Rattle.std.proofs.lemmas.List.{length-map}
+use Rattle.std.proofs.lemmas.List.{length-map, drop_all}
 use Rattle.std.proofs.lemmas.Result.{on_ok_weaker}
 use Rattle.ioa_value.specs.Arithmetic.{fits}
 use Rattle.ioa_value.specs.Plain.{num, plain}
+use Rattle.ioa_value.specs.Table.{type_named}
+use Rattle.ioa_value.proofs.ItemLemmas.{drop_item}
 use Rattle.ioa_code.specs.Parts.{listing}
-use Rattle.ioa_syntax.specs.View.{expr_of, name_of}
-use Rattle.ioa_syntax.specs.Tree.{binary}
-use Rattle.ioa_syntax.specs.WellFormed.{nodes}
+use Rattle.ioa_syntax.specs.View.{expr_of, exprs_of, name_of}
+use Rattle.ioa_syntax.specs.Tree.{make, binary}
+use Rattle.ioa_syntax.specs.WellFormed.{nodes, exprs_nodes}
+use Rattle.ioa_syntax.specs.declared.tree.Expression.{Expression}
 use Rattle.ioa_syntax.specs.declared.tree.Expression.TheViews.{the_lemmas}
-use Rattle.ioa_compile.specs.Extents.{extent, infix_extent}
-use Rattle.ioa_compile.specs.Scopes.{scope_in, IsKnown}
-use Rattle.ioa_compile.specs.Emitting.{AddsConst, AddsExpr, AddsCombined}
-use Rattle.ioa_compile.proofs.Emitted.{adds_binary, adds_prefix, adds_operator, adds_true_side, adds_false_side, adds_empty}
+use Rattle.ioa_compile.specs.Extents.{extent, exprs_extent, infix_extent}
+use Rattle.ioa_compile.specs.Scopes.{scope_in, place_of, IsKnown, AreAllKnown}
+use Rattle.ioa_compile.specs.Emitting.{AddsConst, AddsExpr, AddsExprs, AddsCombined}
+use Rattle.ioa_compile.proofs.Emitted.{adds_binary, adds_prefix, adds_operator, adds_true_side, adds_false_side, adds_empty, adds_make, adds_select, adds_no_expr, adds_also}
 use Rattle.ioa_compile.proofs.Fixed.{empty_own}
 use Rattle.ioa_compile.proofs.Lengths.{expr_long}
+use Rattle.ioa_compile.proofs.Views.{made_of_slice}
 use Rattle.ioa_compile.proofs.emitter.+expression.Goals as goal
 
 pub emit_expression-returns-in-Number : goal.emit_expression-returns-in-Number
@@ -98,6 +102,79 @@ emit_expression-returns-in_ok-emit_expression-in-Binary t c =
     (λ y. subst (λ e. AddsExpr c0 c2 s (expr_of e)) (sym c.in-Binary.is)
     (adds_binary c0 c1 c2 s (expr_of c.in-Binary.left.value) (expr_of c.in-Binary.right.value) c.in-Binary.operator x (subst (λ e. AddsCombined c1 c2 s c.in-Binary.operator (expr_of e)) c.deref-in-Binary-2.ensures y)))
     c.emit_combined.ensures
+
+pub emit_expression-emit_expressions-requires : goal.emit_expression-emit_expressions-requires
+emit_expression-emit_expressions-requires t c =
+    let s = scope_in c.args.member.now c.args.entry.now in
+    let x = name_of c.in-Make.name in
+    let fields = exprs_of c.deref-in-Make.result.now in
+    let is : expr_of c.args.e.now ≡ make x fields = made_of_slice c.args.e.now c.in-Make.name c.in-Make.fields c.deref-in-Make.result.now c.in-Make.is c.deref-in-Make.ensures.value in
+    let known : IsSome (type_named s.types x) × AreAllKnown s fields = subst (IsKnown s) is c.requires.known in
+    let room : length c.args.out.now.consts.items + (exprs_nodes fields + 1) < 2 ^ 16 = subst (λ e. length c.args.out.now.consts.items + nodes e < 65536) is c.requires.room in
+    let short : length c.args.out.now.instrs.items + (exprs_extent fields + 1) < 2 ^ 16 = subst (λ e. length c.args.out.now.instrs.items + extent e < 65536) is c.requires.short in
+    (search (rules, the_lemmas), (c.requires.scope, (known.1, (omega (arith, room), omega (arith, short)))))
+
+pub emit_expression-returns-in_ok-emit_expressions-in-Make : goal.emit_expression-returns-in_ok-emit_expressions-in-Make
+emit_expression-returns-in_ok-emit_expressions-in-Make t c =
+    let s = scope_in c.args.member.now c.args.entry.now in
+    let types = c.args.member.now.types in
+    let c0 = listing types c.args.out.now in
+    let c1 = listing types c.emit_expressions.new.out in
+    let c2 = listing types c.put-in-Make.new.out in
+    let x = name_of c.in-Make.name in
+    let fields = exprs_of c.deref-in-Make.result.now in
+    let is : expr_of c.args.e.now ≡ make x fields = made_of_slice c.args.e.now c.in-Make.name c.in-Make.fields c.deref-in-Make.result.now c.in-Make.is c.deref-in-Make.ensures.value in
+    on_ok_weaker c.put-in-Make.result
+    (λ z. subst (AddsExpr c0 c2 s) (sym is) (adds_make c0 c1 c2 s x fields c.named_type.result.0 c.named_type.ensures c.in_ok-emit_expressions-in-Make.ensures (z types)))
+    c.put-in-Make.ensures
+
+pub emit_expression-returns-in_ok-emit_expression-in-Select : goal.emit_expression-returns-in_ok-emit_expression-in-Select
+emit_expression-returns-in_ok-emit_expression-in-Select t c =
+    let s = scope_in c.args.member.now c.args.entry.now in
+    let types = c.args.member.now.types in
+    let c0 = listing types c.args.out.now in
+    let c1 = listing types c.emit_expression-in-Select.new.out in
+    let c2 = listing types c.put-in-Select.new.out in
+    let x = name_of c.in-Select.name in
+    let j = c.tuple_place-place.result in
+    let operand = subst (λ e. AddsExpr c0 c1 s (expr_of e)) c.deref-in-Select.ensures c.in_ok-emit_expression-in-Select.ensures in
+    let place = subst (λ e. place_of s (expr_of e) x ≡ Some j) c.deref-in-Select-2.ensures c.tuple_place-place.ensures in
+    on_ok_weaker c.put-in-Select.result
+    (λ z. subst (λ e. AddsExpr c0 c2 s (expr_of e)) (sym c.in-Select.is) (adds_select c0 c1 c2 s (expr_of c.in-Select.inner.value) x j place operand (z types)))
+    c.put-in-Select.ensures
+
+pub emit_expressions-loop-expression-preserved : goal.emit_expressions-loop-expression-preserved
+emit_expressions-loop-expression-preserved t c =
+    let s = scope_in c.args.member.now c.args.entry.now in
+    let types = c.args.member.now.types in
+    let xs = c.args.expressions.now in
+    let i = c.loop-expression.expression-index in
+    let x = c.expression-item.result in
+    let rest = exprs_of (drop (i + 1) xs) in
+    let out = c.loop-expression.out in
+    let c0 = listing types out in
+    let c1 = listing types c.emit_expression.new.out in
+    let next : drop i xs ≡ x ∷ drop (i + 1) xs = drop_item xs i x (omega arith) c.expression-item.is in
+    let inv = c.loop-expression.invariant in
+    let known : IsKnown s (expr_of x) × AreAllKnown s rest = subst (λ (l : List Expression). AreAllKnown s (exprs_of l)) next inv.known in
+    let room : length out.consts.items + (nodes (expr_of x) + exprs_nodes rest) < 65536 = subst (λ (l : List Expression). length out.consts.items + exprs_nodes (exprs_of l) < 65536) next inv.room in
+    let short : length out.instrs.items + (extent (expr_of x) + exprs_extent rest) < 65536 = subst (λ (l : List Expression). length out.instrs.items + exprs_extent (exprs_of l) < 65536) next inv.short in
+    let y = c.in_ok-emit_expression.ensures in
+    let long : length c.emit_expression.new.out.instrs.items ≡ length out.instrs.items + extent (expr_of x) = expr_long c1 s (expr_of x) (length c0.instrs) (length c1.instrs) y.has in
+    record {
+      known = known.1;
+      room = omega (arith, room, y.few, length-map out.consts.items plain, length-map c.emit_expression.new.out.consts.items plain);
+      short = omega (arith, short, long);
+      rest = λ new h. inv.rest new (subst (λ (l : List Expression). AddsExprs c0 new s (exprs_of l)) (sym next) (adds_also c0 c1 new s (expr_of x) rest y h));
+    }
+
+pub emit_expressions-returns : goal.emit_expressions-returns
+emit_expressions-returns t c =
+    let s = scope_in c.args.member.now c.args.entry.now in
+    let types = c.args.member.now.types in
+    let out = listing types c.loop-expression.out in
+    let none = drop_all c.loop-expression.expression-index c.args.expressions.now (omega arith) in
+    c.loop-expression.invariant.rest out (subst (λ (l : List Expression). AddsExprs out out s (exprs_of l)) (sym none) (adds_no_expr out s))
 
 pub emit_combined-returns-in_ok-emit_expression-in-Operator : goal.emit_combined-returns-in_ok-emit_expression-in-Operator
 emit_combined-returns-in_ok-emit_expression-in-Operator t c =

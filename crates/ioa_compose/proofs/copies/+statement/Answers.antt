@@ -3,8 +3,7 @@ use Rattle.std.proofs.lemmas.List.{take_all}
 use Rattle.ioa_syntax.specs.Tree.{choose}
 use Rattle.ioa_syntax.specs.View.{stmt_of, stmts_of, arms_of}
 use Rattle.ioa_syntax.specs.View.{arm_of}
-use Rattle.ioa_syntax.proofs.Sequences.{stmt_choose}
-use Rattle.ioa_compose.proofs.CopyLemmas.{stmts_of_map, arms_of_map}
+use Rattle.ioa_syntax.proofs.Sequences.{stmt_choose, alike_stmts, alike_arms}
 use Rattle.ioa_compose.proofs.copies.+statement.Goals as goal
 
 pub copied_statement-returns-in_ok-others-in-If : goal.copied_statement-returns-in_ok-others-in-If
@@ -17,8 +16,8 @@ copied_statement-returns-in_ok-others-in-If t c =
 
 pub copied_statements-returns : goal.copied_statements-returns
 copied_statements-returns t c =
-    stmts_of_map _ _ (c.loop-statement.invariant ∙ ap (map stmt_of) (take_all c.loop-statement.statement-index c.args.statements.now c.loop-statement-test.false))
+    alike_stmts _ _ (c.loop-statement.invariant ∙ ap (map stmt_of) (take_all c.loop-statement.statement-index c.args.statements.now c.loop-statement-test.false))
 
 pub copied_arms-returns : goal.copied_arms-returns
 copied_arms-returns t c =
-    arms_of_map _ _ (c.loop-arm.invariant ∙ ap (map arm_of) (take_all c.loop-arm.arm-index c.args.arms.now c.loop-arm-test.false))
+    alike_arms _ _ (c.loop-arm.invariant ∙ ap (map arm_of) (take_all c.loop-arm.arm-index c.args.arms.now c.loop-arm-test.false))
