@@ -4,6 +4,7 @@ mod changes;
 mod choices;
 mod code;
 mod commands;
+mod composed;
 mod declared;
 mod explained;
 mod lists;

@@ -30,10 +30,14 @@ pub const E14: Explanation = Explanation {
     code: Code::E14,
     meaning: "Two components are not compatible: both have one output, or one has an action as internal that the other has\n\
         too.",
-    example: Example::Told(
-        "No source of this version gives it, since a composition has one component.",
+    example: Example::Source(
+        "automaton Door\n\
+        signature output open\n\
+        transitions output open\n\
+        composition Two components A: Door; B: Door",
     ),
-    mending: "There is nothing to mend.",
+    mending: "An action has one owner, and an internal one is nobody else's: give one of the two another name, or make an output\n\
+        an input of the other component. Here one Door is enough.",
 };
 
 pub const E15: Explanation = Explanation {

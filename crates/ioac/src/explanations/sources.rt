@@ -18,8 +18,8 @@ pub const E5: Explanation = Explanation {
 
 pub const E6: Explanation = Explanation {
     code: Code::E6,
-    meaning: "A name is not known here: it is declared nowhere, or only later, or it may not stand in this place. Only\n\
-        variables are assigned to; start expressions and arguments read no variable.",
+    meaning: "A name is not known here: it is declared nowhere, or only later, or it may not stand in this place; or a tuple\n\
+        has no field of this name. Only variables are assigned to; start expressions and arguments read no variable.",
     example: Example::Source(
         "automaton Door\n\
         signature input open\n\
@@ -31,7 +31,8 @@ pub const E6: Explanation = Explanation {
 
 pub const E7: Explanation = Explanation {
     code: Code::E7,
-    meaning: "An expression has another type than its place wants: a Bool where an Int belongs, or the other way round.",
+    meaning: "An expression has another type than its place wants: a Bool where an Int belongs, or the other way round. A\n\
+        tuple wants a value for each of its fields, each of the field's type; only tuples have fields.",
     example: Example::Source(
         "automaton Door\n\
         signature input open\n\

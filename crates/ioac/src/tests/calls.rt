@@ -11,7 +11,9 @@ use ioa_compile::{Program, compile};
 use ioa_compose::compose;
 use ioa_node::{NodeState, state_values};
 use ioa_syntax::{Refusal, parse, print};
-use ioa_system::{End, Moved, Step, System, is_external, owner, participants, run_list, step_from};
+use ioa_system::{
+    End, Moved, Run, Step, System, is_external, owner, participants, run_list, step_from,
+};
 use ioa_value::{
     Action, Fault, Op, OutOfMemory, Ty, Value, apply, first, has_type, print_action, read_action,
     same,
@@ -92,33 +94,53 @@ fn action(alloc: Global, name: &str, value: Option<i64>) -> Result<Action, OutOf
     })
 }
 
+/// An action of the counter, its owner, and how many components have it.
+const OWNERS: [(&str, Option<i64>, Option<usize>, usize); 3] = [
+    ("tick", Some(5), Some(0), 1),
+    ("reset", None, None, 1),
+    ("tock", None, None, 0),
+];
+
 #[test]
-fn runs_a_program(rt: HostRuntime) -> Result<(), Fail> {
+fn knows_owners_and_participants(rt: HostRuntime) -> Result<(), Fail> {
     let alloc = rt.alloc();
     let program = counter(alloc)?;
-    let tick = action(alloc, "tick", Some(5))?;
-    let reset = action(alloc, "reset", None)?;
-    let tock = action(alloc, "tock", None)?;
-    assert_eq!(rt; owner(&program, &tick), Some(0));
-    assert_eq!(rt; owner(&program, &reset), None);
-    assert_eq!(rt;
-        participants(alloc, &program, &reset)?.as_slice(),
-        [0usize].as_slice()
-    );
-    assert!(rt; participants(alloc, &program, &tock)?.is_empty());
-    assert!(rt; is_external(&program, &reset));
+    for (name, value, wanted, count) in OWNERS {
+        let action = action(alloc, name, value)?;
+        assert_eq!(rt; owner(&program, &action), wanted);
+        assert_eq!(rt; participants(alloc, &program, &action)?.len(), count);
+    }
+    assert!(rt; is_external(&program, &action(alloc, "reset", None)?));
+    Ok(())
+}
+
+/// The number that is the first variable of a state.
+fn number_in(alloc: Global, state: &NodeState) -> Result<Option<i64>, OutOfMemory> {
+    match state_values(alloc, state)?.first() {
+        Some(Value::Num(number)) => Ok(Some(*number)),
+        _ => Ok(None),
+    }
+}
+
+/// Runs the counter on ticks and, for no number, resets.
+fn run_of(alloc: Global, numbers: &[Option<i64>]) -> Result<Run, Refusal> {
+    let program = counter(alloc)?;
     let mut actions = Vec::new(alloc);
-    actions.push(tick)?;
-    actions.push(reset)?;
-    actions.push(action(alloc, "tick", Some(6))?)?;
-    let run = run_list(alloc, &program, actions.as_slice())?;
+    for number in numbers {
+        let name = if number.is_some() { "tick" } else { "reset" };
+        actions.push(action(alloc, name, *number)?)?;
+    }
+    Ok(run_list(alloc, &program, &actions)?)
+}
+
+#[test]
+fn runs_a_program(rt: HostRuntime) -> Result<(), Fail> {
+    let run = run_of(rt.alloc(), &[Some(5), None, Some(6)])?;
     assert_eq!(rt; run.performed, 2);
     assert_eq!(rt; run.end, End::NotEnabled(2));
     assert_eq!(rt; run.trace.len(), 2);
     assert_eq!(rt; run.states.len(), 1);
-    let values = state_values(alloc, &run.states[0])?;
-    assert_eq!(rt; values.len(), 1);
-    assert!(rt; same(&values[0], &Value::Num(5)));
+    assert_eq!(rt; number_in(rt.alloc(), &run.states[0])?, Some(5));
     Ok(())
 }
 
@@ -228,34 +250,51 @@ fn lent(alloc: Global, system: &System<'_>, action: &Action) -> Result<Vec<NodeS
     Ok(lent)
 }
 
-fn moved(alloc: Global, system: &System<'_>, action: &Action) -> Result<Moved, OutOfMemory> {
+/// What a step answers on equals of the participants' states, without the new states.
+fn step_on_copies(
+    alloc: Global,
+    system: &System<'_>,
+    action: &Action,
+) -> Result<Step, OutOfMemory> {
     let states = lent(alloc, system, action)?;
-    step_from(alloc, system.program(), action, &states)
+    Ok(match step_from(alloc, system.program(), action, &states)? {
+        Moved::Next(_) => Step::Next,
+        Moved::NotAnAction => Step::NotAnAction,
+        Moved::NotEnabled => Step::NotEnabled,
+        Moved::Fault(component, fault) => Step::Fault(component, fault),
+    })
 }
+
+/// Actions of the counter, one after another, and what each step answers.
+const STEPS: [(&str, Option<i64>, Step); 6] = [
+    ("tick", Some(6), Step::NotEnabled),
+    ("tock", None, Step::NotAnAction),
+    ("tick", Some(5), Step::Next),
+    ("tick", Some(6), Step::Next),
+    ("reset", None, Step::Next),
+    ("tick", Some(7), Step::NotEnabled),
+];
 
 #[test]
 fn steps_a_program(rt: HostRuntime) -> Result<(), Fail> {
     let alloc = rt.alloc();
     let program = counter(alloc)?;
     let mut system = System::start(alloc, &program)?;
-    let five = action(alloc, "tick", Some(5))?;
-    let six = action(alloc, "tick", Some(6))?;
-    let unknown = action(alloc, "tock", None)?;
-    assert!(rt; matches!(moved(alloc, &system, &six)?, Moved::NotEnabled));
-    assert!(rt; matches!(moved(alloc, &system, &unknown)?, Moved::NotAnAction));
-    match moved(alloc, &system, &five)? {
-        Moved::Next(states) => {
-            assert_eq!(rt; states.len(), 1);
-            let values = state_values(alloc, &states[0])?;
-            assert_eq!(rt; values.len(), 1);
-            assert!(rt; same(&values[0], &Value::Num(6)));
-        }
-        _ => assert!(rt; false),
+    for (name, value, wanted) in &STEPS {
+        let action = action(alloc, name, *value)?;
+        assert_eq!(rt; step_on_copies(alloc, &system, &action)?, *wanted);
+        assert_eq!(rt; system.step(&action)?, *wanted);
     }
-    assert_eq!(rt; system.step(&six)?, Step::NotEnabled);
-    assert_eq!(rt; system.step(&unknown)?, Step::NotAnAction);
-    assert_eq!(rt; system.step(&five)?, Step::Next);
-    assert_eq!(rt; system.step(&six)?, Step::Next);
+    Ok(())
+}
+
+#[test]
+fn steps_change_states(rt: HostRuntime) -> Result<(), Fail> {
+    let alloc = rt.alloc();
+    let program = counter(alloc)?;
+    let mut system = System::start(alloc, &program)?;
+    assert_eq!(rt; system.step(&action(alloc, "tick", Some(5))?)?, Step::Next);
     assert_eq!(rt; system.states().len(), 1);
+    assert_eq!(rt; number_in(alloc, &system.states()[0])?, Some(6));
     Ok(())
 }
