@@ -1,11 +1,10 @@
 -- What the definitions say of operators on some operands, and of texts of values: each answer is computed.
-use Rattle.std.proofs.Common.{◌≡◌, ℕ, ℤ, pos, neg_ℤ, true, false, List, [], ◌∷◌, Option, Some, None, codes, refl}
+use Rattle.std.proofs.Common.{◌≡◌, ℕ, ℤ, pos, neg_ℤ, true, false, [], ◌∷◌, Some, None, codes, refl}
 use Rattle.ioa_value.specs.declared.arithmetic.Fault.TheVariants.{Overflow, ZeroDivisor}
 use Rattle.ioa_value.specs.declared.operator.Op.{Op}
 use Rattle.ioa_value.specs.declared.operator.Op.TheVariants.{Neg, Add, Sub, Mul, Div, Mod, Lt, Le, Gt, Ge, Not, Eq, Ne}
 use Rattle.ioa_value.specs.Plain.{Val, num, truth, name, tuple, items, none, more}
 use Rattle.ioa_value.specs.Table.{Table, bool, int, names, fields, sequence, basic}
-use Rattle.ioa_value.specs.Actions.{Act}
 use Rattle.ioa_value.specs.Scanning.{scan_value}
 use Rattle.ioa_value.specs.Widths.{widths}
 use Rattle.ioa_value.specs.Written.{written_value, written_action}
@@ -127,7 +126,7 @@ no_truth_of_two = refl
 -- ---- texts of values
 
 -- Kind, type 2; Pkt, type 3, of a Kind and three numbers; S, type 4, of one number at most; Mode, type 5
-abbrev sample : Table
+abbrev pub sample : Table
 sample =
     bool ∷ int ∷ record { name = codes "Kind"; shape = names (codes "data" ∷ codes "ack" ∷ []) }
     ∷ record {
@@ -136,10 +135,10 @@ sample =
     }
     ∷ record { name = codes "S"; shape = sequence 1 1 } ∷ record { name = codes "Mode"; shape = names (codes "idle" ∷ []) } ∷ []
 
-abbrev packet : Val
+abbrev pub packet : Val
 packet = tuple 3 (more (name 2 0) (more (num (pos 1)) (more (num (pos 0)) (more (num (pos 7)) none))))
 
-abbrev single : Val
+abbrev pub single : Val
 single = items 4 (more (num (pos 1)) none)
 
 sample_widths : widths sample ≡ 1 ∷ 1 ∷ 1 ∷ 4 ∷ 2 ∷ 1 ∷ []

@@ -12,6 +12,7 @@ pub mod SpellLemmas
 pub mod ItemLemmas
 pub mod NamedLemmas
 pub mod FirstLemmas
+pub mod PositionLemmas
 pub mod FieldLemmas
 pub mod NumeralLemmas
 pub mod Spellings
@@ -33,3 +34,4 @@ pub mod OperandLemmas
 pub mod DivisionLemmas
 pub mod Examples
 pub mod SequenceExamples
+pub mod PositionExamples

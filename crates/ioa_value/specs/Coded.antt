@@ -2,6 +2,7 @@
 use Rattle.std.specs.Prelude.{◌≡◌, ◌⊎◌, ℕ, ℤ, Bool, true, false, List, [], ◌∷◌}
 use Rattle.std.specs.Coded.{Coded, code_by, coded×, coded⊎, coded_ℕ, coded_ℤ, coded_bool, coded_list}
 use Rattle.ioa_value.specs.Plain.{Val, Vals, truth, num, name, tuple, items, none, more}
+use Rattle.ioa_value.specs.Positions.{Domain, every, single}
 use Rattle.ioa_value.specs.Table.{TupleField, Shape, truths, numbers, names, fields, sequence, Declaration, Table}
 use base.Stored.{coded_unit}
 use mathlib.Core.Logic.{inl, inr}
@@ -84,6 +85,22 @@ coded_val = code_by (List Part) (coded_list coded_part) parts_of value_of value_
 -- the code of values in a list
 abbrev pub coded_vals : Coded (List Val)
 coded_vals = coded_list coded_val
+
+abbrev pub domain_parts : Domain → ℕ ⊎ Val
+domain_parts (every ty) = inl ty
+domain_parts (single v) = inr v
+
+abbrev pub domain_from : ℕ ⊎ Val → Domain
+domain_from (inl ty) = every ty
+domain_from (inr v) = single v
+
+pub domain_from-domain_parts : (d : Domain) → domain_from (domain_parts d) ≡ d
+domain_from-domain_parts (every ty) = refl
+domain_from-domain_parts (single v) = refl
+
+-- the code of a position's domain
+abbrev pub coded_domain : Coded Domain
+coded_domain = code_by (ℕ ⊎ Val) (coded⊎ coded_ℕ coded_val) domain_parts domain_from domain_from-domain_parts
 
 -- the code of a declaration, and of a table of them
 abbrev pub coded_tuple_field : Coded TupleField

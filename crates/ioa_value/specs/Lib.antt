@@ -6,6 +6,7 @@ pub mod Table
 pub mod Shapes
 pub mod Typing
 pub mod Same
+pub mod Positions
 pub mod Sequences
 pub mod Operators
 pub mod Actions
