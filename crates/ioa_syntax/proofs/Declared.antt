@@ -1,5 +1,5 @@
 -- What the declarations of a well formed source keep over all its types.
-use Rattle.std.proofs.Common.{◌≡◌, true, ◌++◌, List, [], ◌∷◌, map, Option, Some, None, refl, sym, ap, subst, ◌∙◌, append-nil, append_assoc}
+use Rattle.std.proofs.Common.{◌≡◌, true, ◌&&◌, ◌++◌, List, [], ◌∷◌, map, Option, Some, None, refl, sym, ap, subst, ◌∙◌, append-nil, append_assoc}
 use Rattle.std.specs.List.{list_any, list_all}
 use Rattle.std.specs.Option.{option_map_or}
 use Rattle.std.proofs.lemmas.Bool.{and_parts, and_from, or_left}
@@ -71,7 +71,7 @@ instance_among types early before ds i h =
 composition_among : (types early : Table) (before ds : SourceTree) (c : CompositionTree) → composition_fine types early before c ≡ true
     → composition_fine types early (before ++ ds) c ≡ true
 composition_among types early before ds c =
-    let names = distinct (map (λ i. i.name) c.instances) in
+    let names = distinct (map (λ i. i.name) c.instances) && distinct c.hidden in
     and_implies names (list_all (instance_fine types early before) c.instances) names (list_all (instance_fine types early (before ++ ds)) c.instances) (λ h. h)
     (each_implies (instance_fine types early before) (instance_fine types early (before ++ ds)) c.instances (instance_among types early before ds))
 

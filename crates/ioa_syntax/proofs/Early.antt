@@ -1,5 +1,5 @@
 -- What is fine over the types that are declared before is fine over all types.
-use Rattle.std.proofs.Common.{◌≡◌, inl, inr, ℕ, ◌+◌, Bool, true, false, cond, not, ◌&&◌, ◌||◌, ◌++◌, List, [], ◌∷◌, map, Option, Some, None, option_and_then, refl, sym, ap, ◌∙◌}
+use Rattle.std.proofs.Common.{◌≡◌, inl, inr, ℕ, ◌+◌, Bool, true, false, cond, not, ◌&&◌, ◌||◌, ◌++◌, List, [], ◌∷◌, map, Option, Some, None, is_some, option_and_then, refl, sym, ap, ◌∙◌}
 use Rattle.std.specs.Prelude.{slice_get}
 use Rattle.std.specs.List.{list_any, list_all}
 use Rattle.std.specs.Option.{option_map, option_map_or, option_or}
@@ -12,11 +12,10 @@ use Rattle.ioa_value.specs.declared.operator.Op.TheVariants.{Make}
 use Rattle.ioa_value.specs.Operators.{op_type}
 use Rattle.ioa_value.specs.Table.{Table, Declaration, Shape, names_in, shape_at, item_of, item_type, place_from, type_named, constant_from, constant_named}
 use Rattle.ioa_value.proofs.ItemLemmas.{get_append}
-use Rattle.ioa_syntax.specs.Tree.{Expr, number, truth, named, parens, prefix, binary, empty, make, select, Exprs, no_expr, also, FieldTree, EntryTree, VariableTree, ProposalTree, Stmt, assign, choose, Stmts, stop, seq, Arms, no_arm, arm, TransitionTree, AutomatonTree, InstanceTree, CompositionTree, SourceTree}
+use Rattle.ioa_syntax.specs.Tree.{Expr, number, truth, named, parens, prefix, binary, empty, make, select, Exprs, no_expr, also, FieldTree, ConstantTree, positive, negative, truth_literal, reference, PositionTree, typed, only, EntryTree, VariableTree, ProposalTree, Stmt, assign, choose, Stmts, stop, seq, Arms, no_arm, arm, TransitionTree, AutomatonTree, InstanceTree, CompositionTree, SourceTree}
 use Rattle.ioa_syntax.specs.Meaning.{or_else}
 use Rattle.ioa_syntax.specs.Types.{sequence_named, constant_type}
-use Rattle.ioa_syntax.specs.WellFormed.{Context, type_in, type_of, types_of_all, one_type, both_types, infix_type, made_type, selected_type, is_some_of, same_type, has_ty, contains, distinct, apart, is_type, typed_field, context_of, position_fields, variable_fields, is_input, is_numbered, is_tried, formals, held, scope, local_names, fields_fine, start_fine, entry_fine, matches, one_to_one, pre_fine, proposal_fine, proposals_fine, all_proposed, stmt_fine, stmts_fine, arms_fine, input_fine, transition_fine, automaton_fine, is_automaton_of, instance_fine, composition_fine}
-use Rattle.ioa_syntax.specs.Instances.{position_name}
+use Rattle.ioa_syntax.specs.WellFormed.{Context, type_in, type_of, types_of_all, one_type, both_types, infix_type, made_type, selected_type, is_some_of, same_type, has_ty, contains, distinct, apart, is_type, typed_field, context_of, position_fields, constant_fine, position_fine, parameter_names, variable_fields, is_input, is_numbered, is_tried, formals, held, scope, local_names, fields_fine, start_fine, entry_fine, matches, one_to_one, pre_fine, proposal_fine, proposals_fine, all_proposed, stmt_fine, stmts_fine, arms_fine, input_fine, transition_fine, automaton_fine, is_automaton_of, instance_fine, composition_fine}
 use Rattle.ioa_syntax.proofs.ValTyped.{types_of_both, types_of_row, type_of_one}
 use Rattle.ioa_syntax.proofs.EffectTyped.{some_type}
 use Rattle.ioa_syntax.proofs.FineParts.{FineParts, fine_parts, EntryParts, entry_parts}
@@ -151,6 +150,21 @@ module _ (types early : Table) (begins : Begins early types) where
       let p = and_parts (is_type early f) (list_all (is_type early) fs) h in
       ap (λ c. c ++ context_of types fs) (field_stays f p.0) ∙ ap (λ c. typed_field early f ++ c) (context_stays fs p.1)
 
+  constant_fine_stays : (c : Context) (k : ConstantTree) → Implies (constant_fine early c k) (constant_fine types c k)
+  constant_fine_stays c (positive n) h = h
+  constant_fine_stays c (negative n) h = h
+  constant_fine_stays c (truth_literal b) h = h
+  constant_fine_stays c (reference x) h = go (type_in c x) (constant_type early x) refl h
+    where
+      go : (o p : Option ℕ) → constant_type early x ≡ p → is_some (or_else o p) ≡ true → is_some (or_else o (constant_type types x)) ≡ true
+      go (Some t) p at h = h
+      go None (Some ty) at h = ap is_some (constant_type_stays x ty at)
+      go None None at h = absurd (cc)
+
+  position_stays : (c d : Context) → d ≡ c → (p : PositionTree) → Implies (position_fine early c p) (position_fine types d p)
+  position_stays c d same (typed f) h = known_stays f h
+  position_stays c d same (only k) h = ap (λ x. constant_fine types x k) same ∙ constant_fine_stays c k h
+
   -- ---- expressions
 
   made_stays : (x : Name) (tys : List ℕ) (ty : ℕ) → made_type types (type_named early x) tys ≡ Some ty → made_type types (type_named types x) tys ≡ Some ty
@@ -229,10 +243,12 @@ module _ (types early : Table) (begins : Begins early types) where
 
     entry_stays : (e : EntryTree) → Implies (entry_fine types early globals a e) (entry_fine types types globals a e)
     entry_stays e =
-        let names = map position_name e.positions in
+        let names = parameter_names e in
         let apart_names = distinct names && apart names (globals ++ local_names types early globals a) in
-        and_implies apart_names (list_all (is_type early) (position_fields e.positions)) apart_names (list_all (is_type types) (position_fields e.positions))
-        (λ h. h) (each_implies (is_type early) (is_type types) (position_fields e.positions) known_stays)
+        let c = formals types early globals a in
+        let d = formals types types globals a in
+        and_implies apart_names (list_all (position_fine early c) e.positions) apart_names (list_all (position_fine types d) e.positions)
+        (λ h. h) (each_implies (position_fine early c) (position_fine types d) e.positions (position_stays c d formals_stay))
 
     module _ (e : EntryTree) (parts : EntryParts types early globals a e) where
       positions_stay : context_of types (position_fields e.positions) ≡ context_of early (position_fields e.positions)
@@ -366,6 +382,6 @@ module _ (types early : Table) (begins : Begins early types) where
 
   pub composition_stays : (before : SourceTree) (c : CompositionTree) → Implies (composition_fine types early before c) (composition_fine types types before c)
   composition_stays before c =
-      let names = distinct (map (λ i. i.name) c.instances) in
+      let names = distinct (map (λ i. i.name) c.instances) && distinct c.hidden in
       and_implies names (list_all (instance_fine types early before) c.instances) names (list_all (instance_fine types types before) c.instances) (λ h. h)
       (each_implies (instance_fine types early before) (instance_fine types types before) c.instances (instance_stays before))

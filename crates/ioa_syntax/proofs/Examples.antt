@@ -65,7 +65,7 @@ abbrev pub component : List Expr → InstanceTree
 component arguments = record { name = codes "A"; automaton = codes "Counter"; arguments = arguments }
 
 abbrev pub one : List Expr → CompositionTree
-one arguments = record { name = codes "One"; instances = component arguments ∷ [] }
+one arguments = record { name = codes "One"; instances = component arguments ∷ []; hidden = [] }
 
 abbrev pub source : SourceTree
 source = automaton counter ∷ composition (one (number 5 ∷ [])) ∷ []

@@ -1,19 +1,27 @@
 -- What fine automata and sources keep, part by part.
-use Rattle.std.proofs.Common.{ℕ, ◌≤◌, not, ◌&&◌, ◌||◌, ◌++◌, nat_le, IsTrue, List, [], map, filter, length, arith}
+use Rattle.std.proofs.Common.{ℕ, ◌≤◌, not, ◌&&◌, ◌||◌, ◌++◌, nat_le, IsTrue, List, [], ◌∷◌, map, filter, length, refl, arith}
 use Rattle.std.specs.List.{list_all}
-use Rattle.std.proofs.lemmas.Bool.{and_parts}
+use Rattle.std.proofs.lemmas.Bool.{and_parts, and_from}
 use Rattle.std.proofs.lemmas.Bool.Decides.{nat_tests}
 use Rattle.ioa_value.specs.Actions.{Name}
 use Rattle.ioa_value.specs.Table.{Table}
-use Rattle.ioa_syntax.specs.Tree.{AutomatonTree, EntryTree, SourceTree}
+use Rattle.ioa_syntax.specs.Tree.{PositionTree, typed, only, AutomatonTree, EntryTree, SourceTree}
 use Rattle.ioa_syntax.specs.Types.{types_of}
 use Rattle.ioa_value.specs.declared.limits.Limits.{Limits}
 use Rattle.ioa_value.specs.declared.limits.TheConstants.{LIMITS}
-use Rattle.ioa_syntax.specs.Instances.{position_name}
-use Rattle.ioa_syntax.specs.WellFormed.{distinct, apart, is_type, position_fields, variable_fields, local_names, fields_fine, start_fine, entry_fine, matches, one_to_one, transition_fine, automaton_fine, transition_within, entry_within, automaton_within, declarations_fine, declaration_within, source_within, global_names, is_type_declaration, is_counted, types_narrow, well_formed}
+use Rattle.ioa_syntax.specs.WellFormed.{distinct, apart, Context, is_type, position_fields, position_fine, parameter_names, variable_fields, formals, local_names, fields_fine, start_fine, entry_fine, matches, one_to_one, transition_fine, automaton_fine, transition_within, entry_within, automaton_within, declarations_fine, declaration_within, source_within, global_names, is_type_declaration, is_counted, types_narrow, well_formed}
 
 pub at_most : (n m : ℕ) → IsTrue (nat_le n m) → n ≤ m
 at_most n m h = grind (arith, nat_tests)
+
+-- the types of parameters are known, where all positions are fine
+pub parameters_known : (early : Table) (c : Context) (ps : List PositionTree) → IsTrue (list_all (position_fine early c) ps)
+    → IsTrue (list_all (is_type early) (position_fields ps))
+parameters_known early c [] h = refl
+parameters_known early c (typed f ∷ ps) h =
+    let p = and_parts (is_type early f) (list_all (position_fine early c) ps) h in
+    and_from (is_type early f) (list_all (is_type early) (position_fields ps)) p.0 (parameters_known early c ps p.1)
+parameters_known early c (only k ∷ ps) h = parameters_known early c ps (and_parts (position_fine early c (only k)) (list_all (position_fine early c) ps) h).1
 
 module _ (types early : Table) (globals : List Name) (a : AutomatonTree) where
   -- what a fine automaton keeps
@@ -53,16 +61,19 @@ module _ (types early : Table) (globals : List Name) (a : AutomatonTree) where
 
   -- what a fine entry keeps
   pub record EntryParts (e : EntryTree) : Type 0 where
-    pub distinct_names : IsTrue (distinct (map position_name e.positions))
-    pub apart_names : IsTrue (apart (map position_name e.positions) (globals ++ local_names types early globals a))
+    pub distinct_names : IsTrue (distinct (parameter_names e))
+    pub apart_names : IsTrue (apart (parameter_names e) (globals ++ local_names types early globals a))
+    pub positions : IsTrue (list_all (position_fine early (formals types early globals a)) e.positions)
     pub position_types : IsTrue (list_all (is_type early) (position_fields e.positions))
 
   pub entry_parts : (e : EntryTree) → IsTrue (entry_fine types early globals a e) → EntryParts e
   entry_parts e h =
-      let names = map position_name e.positions in
-      let p2 = and_parts (distinct names && apart names (globals ++ local_names types early globals a)) (list_all (is_type early) (position_fields e.positions)) h in
-      let p1 = and_parts (distinct names) (apart names (globals ++ local_names types early globals a)) p2.0 in
-      record { distinct_names = p1.0; apart_names = p1.1; position_types = p2.1 }
+      let names = parameter_names e in
+      let others = globals ++ local_names types early globals a in
+      let c = formals types early globals a in
+      let p2 = and_parts (distinct names && apart names others) (list_all (position_fine early c) e.positions) h in
+      let p1 = and_parts (distinct names) (apart names others) p2.0 in
+      record { distinct_names = p1.0; apart_names = p1.1; positions = p2.1; position_types = parameters_known early c e.positions p2.1 }
 
 -- ---- limits
 

@@ -11,13 +11,13 @@ use Rattle.ioa_lex.specs.Tokens as tokens
 use Rattle.ioa_lex.specs.Tokens.{Tok}
 use Rattle.ioa_value.specs.Actions.{Name}
 use Rattle.ioa_value.specs.Names.{IsName}
-use Rattle.ioa_syntax.specs.Tree.{Expr, number, truth, named, parens, prefix, binary, empty, make, select, Exprs, no_expr, also, FieldTree, PositionTree, typed, EntryTree, VariableTree, Stmt, assign, choose, Stmts, stop, seq, Arms, no_arm, arm, TransitionTree, AutomatonTree, InstanceTree, CompositionTree, FormTree, enumeration, tuple, sequence, TypeTree, DeclarationTree, declared_type, automaton, composition, SourceTree}
+use Rattle.ioa_syntax.specs.Tree.{Expr, number, truth, named, parens, prefix, binary, empty, make, select, Exprs, no_expr, also, FieldTree, ConstantTree, positive, negative, truth_literal, reference, PositionTree, typed, only, EntryTree, VariableTree, Stmt, assign, choose, Stmts, stop, seq, Arms, no_arm, arm, TransitionTree, AutomatonTree, InstanceTree, CompositionTree, FormTree, enumeration, tuple, sequence, TypeTree, DeclarationTree, declared_type, automaton, composition, SourceTree}
 use Rattle.ioa_syntax.specs.declared.tree.Infix.TheVariants.{Operator}
 use Rattle.ioa_syntax.specs.Operators.{left_of, right_of, operator_word, tightest}
-use Rattle.ioa_syntax.specs.Grammar.{Language, ◌▹◌, word, called, perhaps, optional, optional_list, each_after, separated, terminated, many, single, enclosed, braced, kind_word, SpellsExpr, SpellsExprs, SpellsOthers, SpellsField, SpellsFields, SpellsPosition, SpellsPositions, SpellsEntry, SpellsVariable, SpellsProposal, SpellsStmt, SpellsStmts, SpellsMore, SpellsAfter, SpellsArms, SpellsTransition, SpellsAutomaton, SpellsArguments, SpellsInstance, SpellsInstances, SpellsComposition, SpellsForm, SpellsType, SpellsDeclaration}
+use Rattle.ioa_syntax.specs.Grammar.{Language, ◌▹◌, word, called, perhaps, optional, optional_list, each_after, separated, terminated, many, single, enclosed, braced, kind_word, SpellsExpr, SpellsExprs, SpellsOthers, SpellsField, SpellsFields, SpellsConstant, SpellsPosition, SpellsPositions, SpellsEntry, SpellsVariable, SpellsProposal, SpellsStmt, SpellsStmts, SpellsMore, SpellsAfter, SpellsArms, SpellsTransition, SpellsAutomaton, SpellsArguments, SpellsInstance, SpellsInstances, SpellsHidden, SpellsComposition, SpellsForm, SpellsType, SpellsDeclaration}
 use Rattle.ioa_syntax.specs.Source.{AreTokens, IsSource}
 use Rattle.ioa_syntax.specs.Compositions.{automata, compositions, first_item, picked, automaton_named}
-use Rattle.ioa_syntax.specs.Names.{names_of_expr, names_of_exprs, names_of_option, names_of_field, names_of_position, names_of_entry, names_of_variable, names_of_proposal, names_of_stmt, names_of_stmts, names_of_arms, names_of_transition, names_of_automaton, names_of_instance, names_of_composition, names_of_form, names_of_type, names_of_declaration, LegalNames}
+use Rattle.ioa_syntax.specs.Names.{names_of_expr, names_of_exprs, names_of_option, names_of_field, names_of_constant, names_of_position, names_of_entry, names_of_variable, names_of_proposal, names_of_stmt, names_of_stmts, names_of_arms, names_of_transition, names_of_automaton, names_of_instance, names_of_composition, names_of_form, names_of_type, names_of_declaration, LegalNames}
 
 abbrev AreNames : List Name → Type 0
 AreNames ns = All IsName ns
@@ -126,8 +126,15 @@ field_lawful : (f : FieldTree) → Lawful (SpellsField f) (names_of_field f)
 field_lawful f =
     name_then f.name (word terminals.Colon ▹ called f.ty) (f.ty ∷ []) (after_word terminals.Colon (called f.ty) (f.ty ∷ []) (called_lawful f.ty))
 
+constant_lawful : (c : ConstantTree) → Lawful (SpellsConstant c) (names_of_constant c)
+constant_lawful (positive n) = none_lawful (SpellsConstant (positive n))
+constant_lawful (negative n) = none_lawful (SpellsConstant (negative n))
+constant_lawful (truth_literal b) = none_lawful (SpellsConstant (truth_literal b))
+constant_lawful (reference x) = called_lawful x
+
 position_lawful : (p : PositionTree) → Lawful (SpellsPosition p) (names_of_position p)
 position_lawful (typed f) = field_lawful f
+position_lawful (only c) = after_word terminals.Const (SpellsConstant c) (names_of_constant c) (constant_lawful c)
 
 entry_lawful : (e : EntryTree) → Lawful (SpellsEntry e) (names_of_entry e)
 entry_lawful e =
@@ -229,19 +236,29 @@ instance_lawful i =
     (name_then i.automaton arguments (flat_map names_of_expr i.arguments)
     (optional_list_lawful names_of_expr terminals.Open SpellsArguments i.arguments (closed_lawful names_of_expr (SpellsExpr 0) (expr_lawful 0)))))
 
+names_alone : (ns : List Name) → flat_map (λ n. n ∷ []) ns ≡ ns
+names_alone [] = refl
+names_alone (n ∷ ns) = ap (λ r. n ∷ r) (names_alone ns)
+
+hidden_lawful : (ns : List Name) → Lawful (SpellsHidden ns) (flat_map (λ n. n ∷ []) ns)
+hidden_lawful ns =
+    let names = separated terminals.Comma called ns in
+    before_lawful names (perhaps terminals.Semicolon) (flat_map (λ n. n ∷ []) ns) (separated_lawful (λ n. n ∷ []) called called_lawful terminals.Comma ns)
+
 composition_lawful : (c : CompositionTree) → Lawful (SpellsComposition c) (names_of_composition c)
 composition_lawful c =
-    name_then c.name (word terminals.Components ▹ SpellsInstances c.instances) (flat_map names_of_instance c.instances)
-    (after_word terminals.Components (SpellsInstances c.instances) (flat_map names_of_instance c.instances) (terminated_lawful names_of_instance SpellsInstance instance_lawful terminals.Semicolon c.instances))
+    let hidden = optional_list terminals.Hidden SpellsHidden c.hidden in
+    let of_instances = flat_map names_of_instance c.instances in
+    name_then c.name (word terminals.Components ▹ (SpellsInstances c.instances ▹ hidden)) (of_instances ++ c.hidden)
+    (after_word terminals.Components (SpellsInstances c.instances ▹ hidden) (of_instances ++ c.hidden)
+    (then_lawful (SpellsInstances c.instances) hidden of_instances c.hidden
+    (terminated_lawful names_of_instance SpellsInstance instance_lawful terminals.Semicolon c.instances)
+    (λ ts h s. subst AreNames (names_alone c.hidden) (optional_list_lawful (λ n. n ∷ []) terminals.Hidden SpellsHidden c.hidden hidden_lawful ts h s))))
 
 braced_lawful : {A : Type 0} (f : A → List Name) (L : A → Language) → ((x : A) → Lawful (L x) (f x)) → (xs : List A) → Lawful (braced L xs) (flat_map f xs)
 braced_lawful f L each xs =
     after_word terminals.OpenBrace (separated terminals.Comma L xs ▹ word terminals.CloseBrace) (flat_map f xs)
     (before_lawful (separated terminals.Comma L xs) (word terminals.CloseBrace) (flat_map f xs) (separated_lawful f L each terminals.Comma xs))
-
-names_alone : (ns : List Name) → flat_map (λ n. n ∷ []) ns ≡ ns
-names_alone [] = refl
-names_alone (n ∷ ns) = ap (λ r. n ∷ r) (names_alone ns)
 
 form_lawful : (f : FormTree) → Lawful (SpellsForm f) (names_of_form f)
 form_lawful (enumeration ns) ts h s =
@@ -342,5 +359,13 @@ legal_composition s None c h e =
 -- the names of a composition's components
 pub legal_instances : (c : CompositionTree) → All IsName (names_of_composition c) → All (λ i. IsName i.name) c.instances
 legal_instances c h =
+    let of_instances = flat_map names_of_instance c.instances in
+    let inside = all_left IsName of_instances c.hidden (All-tail IsName c.name (of_instances ++ c.hidden) h) in
     All-weaker (λ (i : InstanceTree). AreNames (names_of_instance i)) (λ i. IsName i.name) (λ i k. All-head IsName i.name (i.automaton ∷ flat_map names_of_expr i.arguments) k) c.instances
-    (all_each IsName names_of_instance c.instances (All-tail IsName c.name (flat_map names_of_instance c.instances) h))
+    (all_each IsName names_of_instance c.instances inside)
+
+-- the names that a composition hides
+pub legal_hidden : (c : CompositionTree) → All IsName (names_of_composition c) → All IsName c.hidden
+legal_hidden c h =
+    let of_instances = flat_map names_of_instance c.instances in
+    all_right IsName of_instances c.hidden (All-tail IsName c.name (of_instances ++ c.hidden) h)

@@ -7,14 +7,14 @@ use Rattle.ioa_lex.specs.Tokens.{Tok, terminal}
 use Rattle.ioa_lex.specs.Lexing.{Lexes, is_blank}
 use Rattle.ioa_lex.specs.Spaced.{Spaced, IsToken, text_of}
 use Rattle.ioa_lex.proofs.SpacedLemmas.{spaced_lexes, spaced_append, spaced_one}
-use Rattle.ioa_syntax.specs.Tree.{Expr, number, truth, named, parens, prefix, binary, empty, make, select, Exprs, no_expr, also, FieldTree, PositionTree, typed, EntryTree, VariableTree, ProposalTree, Stmt, assign, choose, Stmts, stop, seq, Arms, no_arm, arm, TransitionTree, AutomatonTree, InstanceTree, CompositionTree, FormTree, enumeration, tuple, sequence, TypeTree, DeclarationTree, declared_type, automaton, composition, SourceTree}
+use Rattle.ioa_syntax.specs.Tree.{Expr, number, truth, named, parens, prefix, binary, empty, make, select, Exprs, no_expr, also, FieldTree, ConstantTree, positive, negative, truth_literal, reference, PositionTree, typed, only, EntryTree, VariableTree, ProposalTree, Stmt, assign, choose, Stmts, stop, seq, Arms, no_arm, arm, TransitionTree, AutomatonTree, InstanceTree, CompositionTree, FormTree, enumeration, tuple, sequence, TypeTree, DeclarationTree, declared_type, automaton, composition, SourceTree}
 use Rattle.ioa_value.specs.declared.operator.Op.{Op}
 use Rattle.ioa_syntax.specs.declared.tree.Infix.{Infix}
 use Rattle.ioa_syntax.specs.declared.tree.Infix.TheVariants.{Operator}
 use Rattle.ioa_syntax.specs.Operators.{operator_word, left_of, right_of, tightest}
-use Rattle.ioa_syntax.specs.Grammar.{Language, ◌▹◌, single, word, called, nothing, optional, optional_list, each_after, perhaps, separated, terminated, many, enclosed, braced, kind_word, SpellsExpr, SpellsExprs, SpellsOthers, SpellsField, SpellsFields, SpellsPosition, SpellsPositions, SpellsEntry, SpellsVariable, SpellsProposal, SpellsStmt, SpellsStmts, SpellsMore, SpellsAfter, SpellsArms, SpellsTransition, SpellsAutomaton, SpellsArguments, SpellsInstance, SpellsInstances, SpellsComposition, SpellsForm, SpellsType, SpellsDeclaration, SpellsSource}
+use Rattle.ioa_syntax.specs.Grammar.{Language, ◌▹◌, single, word, called, nothing, optional, optional_list, each_after, perhaps, separated, terminated, many, enclosed, braced, kind_word, SpellsExpr, SpellsExprs, SpellsOthers, SpellsField, SpellsFields, SpellsConstant, SpellsPosition, SpellsPositions, SpellsEntry, SpellsVariable, SpellsProposal, SpellsStmt, SpellsStmts, SpellsMore, SpellsAfter, SpellsArms, SpellsTransition, SpellsAutomaton, SpellsArguments, SpellsInstance, SpellsInstances, SpellsHidden, SpellsComposition, SpellsForm, SpellsType, SpellsDeclaration, SpellsSource}
 use Rattle.ioa_syntax.specs.Source.{AreTokens, IsSource, plain}
-use Rattle.ioa_syntax.specs.Layout.{space, line, text_word, text_name, text_more, text_list, text_all, text_optional_list, text_parens, before_list, before_option, text_number, text_enclosed, text_expr, text_exprs, text_others, text_option, text_field, text_position, text_entry, text_variable, text_binding, text_proposal, text_stmt, text_stmts, text_more_stmts, text_after, text_arms, text_transition, text_behaviour, text_automaton, text_instance, text_composition, text_braces, text_form, text_type, text_declaration, text_source}
+use Rattle.ioa_syntax.specs.Layout.{space, line, text_word, text_name, text_more, text_list, text_all, text_optional_list, text_parens, before_list, before_option, text_number, text_enclosed, text_expr, text_exprs, text_others, text_option, text_field, text_constant, text_position, text_entry, text_variable, text_binding, text_proposal, text_stmt, text_stmts, text_more_stmts, text_after, text_arms, text_transition, text_behaviour, text_automaton, text_instance, text_hidden, text_composition, text_braces, text_form, text_type, text_declaration, text_source}
 use Rattle.ioa_syntax.proofs.LegalNames.{tokens_apart}
 use Rattle.ioa_syntax.proofs.Binding.{before_encloses, between_encloses, around_stands}
 
@@ -190,8 +190,17 @@ field_reprints b blank f =
     then_reprints (called f.name) (word terminals.Colon ▹ called f.ty) (text_name space f.name) (text_word space terminals.Colon ++ text_name b f.ty) (name_reprints f.name space space_blank)
     (then_reprints (word terminals.Colon) (called f.ty) (text_word space terminals.Colon) (text_name b f.ty) (word_reprints terminals.Colon space space_blank) (name_reprints f.ty b blank))
 
+constant_reprints : (c : ConstantTree) → Reprints (SpellsConstant c) (text_constant c)
+constant_reprints (positive n) = single_reprints (tokens.number n) space space_blank
+constant_reprints (negative n) =
+    then_reprints (word terminals.Minus) (single (tokens.number n)) (text_word space terminals.Minus) (text_number space n) (word_reprints terminals.Minus space space_blank) (single_reprints (tokens.number n) space space_blank)
+constant_reprints (truth_literal true) = word_reprints terminals.True space space_blank
+constant_reprints (truth_literal false) = word_reprints terminals.False space space_blank
+constant_reprints (reference x) = name_reprints x space space_blank
+
 position_reprints : (p : PositionTree) → Reprints (SpellsPosition p) (text_position p)
 position_reprints (typed f) = field_reprints space space_blank f
+position_reprints (only c) = then_reprints (word terminals.Const) (SpellsConstant c) (text_word space terminals.Const) (text_constant c) (word_reprints terminals.Const space space_blank) (constant_reprints c)
 
 entry_reprints : (e : EntryTree) → Reprints (SpellsEntry e) (text_entry e)
 entry_reprints e =
@@ -315,10 +324,18 @@ instance_reprints i =
     let colon = then_reprints (word terminals.Colon) (called i.automaton ▹ optional_list terminals.Open SpellsArguments i.arguments) (text_word space terminals.Colon) (text_name (before_list i.arguments) i.automaton ++ text_parens (text_expr space) i.arguments) (word_reprints terminals.Colon space space_blank) last in
     then_reprints (called i.name) (word terminals.Colon ▹ (called i.automaton ▹ optional_list terminals.Open SpellsArguments i.arguments)) (text_name space i.name) (text_word space terminals.Colon ++ (text_name (before_list i.arguments) i.automaton ++ text_parens (text_expr space) i.arguments)) (name_reprints i.name space space_blank) colon
 
+hidden_reprints : (ns : List (List ℕ)) → Reprints (optional_list terminals.Hidden SpellsHidden ns) (text_hidden ns)
+hidden_reprints ns =
+    optional_reprints terminals.Hidden space SpellsHidden (text_list terminals.Comma (text_name line)) space_blank
+    (λ ns. unended_reprints terminals.Semicolon (separated terminals.Comma called ns) (text_list terminals.Comma (text_name line) ns) (list_reprints terminals.Comma called (text_name line) (λ n. name_reprints n line line_blank) ns)) ns
+
 composition_reprints : (c : CompositionTree) → Reprints (SpellsComposition c) (text_composition c)
 composition_reprints c =
-    then_reprints (called c.name) (word terminals.Components ▹ SpellsInstances c.instances) (text_name space c.name) (text_word line terminals.Components ++ text_list terminals.Semicolon text_instance c.instances) (name_reprints c.name space space_blank)
-    (then_reprints (word terminals.Components) (SpellsInstances c.instances) (text_word line terminals.Components) (text_list terminals.Semicolon text_instance c.instances) (word_reprints terminals.Components line line_blank) (terminated_reprints terminals.Semicolon SpellsInstance text_instance instance_reprints c.instances))
+    let hidden = optional_list terminals.Hidden SpellsHidden c.hidden in
+    let instances = text_list terminals.Semicolon text_instance c.instances in
+    then_reprints (called c.name) (word terminals.Components ▹ (SpellsInstances c.instances ▹ hidden)) (text_name space c.name) (text_word line terminals.Components ++ (instances ++ text_hidden c.hidden)) (name_reprints c.name space space_blank)
+    (then_reprints (word terminals.Components) (SpellsInstances c.instances ▹ hidden) (text_word line terminals.Components) (instances ++ text_hidden c.hidden) (word_reprints terminals.Components line line_blank)
+    (then_reprints (SpellsInstances c.instances) hidden instances (text_hidden c.hidden) (terminated_reprints terminals.Semicolon SpellsInstance text_instance instance_reprints c.instances) (hidden_reprints c.hidden)))
 
 braced_reprints : {A : Type 0} (L : A → Language) (f : A → List ℕ) → ((x : A) → Reprints (L x) (f x)) → (xs : List A) → Reprints (braced L xs) (text_braces f xs)
 braced_reprints L f each xs =

@@ -7,14 +7,14 @@ use Rattle.ioa_lex.specs.Tokens.{Tok, terminal}
 use Rattle.ioa_value.specs.Actions.{Name}
 use Rattle.ioa_syntax.specs.declared.tree.Kind.{Kind}
 use Rattle.ioa_syntax.specs.declared.tree.Kind.TheVariants.{Input, Output, Internal}
-use Rattle.ioa_syntax.specs.Tree.{Expr, FieldTree, PositionTree, typed, EntryTree, VariableTree, ProposalTree, Stmts, TransitionTree, AutomatonTree, InstanceTree, CompositionTree, FormTree, enumeration, tuple, sequence, TypeTree, DeclarationTree, declared_type, automaton, composition}
+use Rattle.ioa_syntax.specs.Tree.{Expr, FieldTree, ConstantTree, positive, negative, truth_literal, reference, PositionTree, typed, only, EntryTree, VariableTree, ProposalTree, Stmts, TransitionTree, AutomatonTree, InstanceTree, CompositionTree, FormTree, enumeration, tuple, sequence, TypeTree, DeclarationTree, declared_type, automaton, composition}
 use Rattle.ioa_syntax.specs.Depth.{depth_of, deepest, deep_option, deep_variable, deep_proposal, deep_stmts, stmts_depth, deep_transition, deep_automaton, deep_instance, deep_composition, deep}
 use Rattle.ioa_syntax.specs.Grammar as grammar
-use Rattle.ioa_syntax.specs.Grammar.{Language, SameHead, ◌▹◌, single, word, called, nothing, empty, kind_word, SpellsExpr, SpellsField, SpellsFields, SpellsPosition, SpellsPositions, SpellsEntry, SpellsVariable, SpellsProposal, SpellsAfter, SpellsTransition, SpellsAutomaton, SpellsArguments, SpellsInstance, SpellsInstances, SpellsComposition, SpellsForm, SpellsType, SpellsDeclaration}
-use Rattle.ioa_syntax.specs.Reading.{built, sees, sees_name, sees_statement, sees_kind, kind_at, kind_of, terminal_at, same_terminal, is_name, operator_of, field, fields, position, positions, entry, entries, variable, variables, proposal, proposals, introduced, statements, transition, transitions, an_automaton, arguments, instance, instances, a_composition, many, an_enumeration, a_tuple, a_sequence, sequence_form, compound_form, type_form, a_type, composed, machine, declaration}
+use Rattle.ioa_syntax.specs.Grammar.{Language, ◌▹◌, single, word, called, empty, kind_word, SpellsExpr, SpellsField, SpellsFields, SpellsConstant, SpellsPosition, SpellsPositions, SpellsEntry, SpellsVariable, SpellsProposal, SpellsAfter, SpellsTransition, SpellsAutomaton, SpellsArguments, SpellsInstance, SpellsInstances, SpellsHidden, SpellsComposition, SpellsForm, SpellsType, SpellsDeclaration}
+use Rattle.ioa_syntax.specs.Reading.{built, taken, sees, sees_name, sees_statement, sees_kind, kind_at, kind_of, terminal_at, same_terminal, is_name, operator_of, field, fields, literal_of, literal_in, literal_at, literal, a_constant, position, positions, entry, entries, variable, variables, proposal, proposals, optional_list, introduced, statements, transition, transitions, an_automaton, arguments, instance, instances, hidden_names, a_composition, rest, many, an_enumeration, a_tuple, a_sequence, sequence_form, compound_form, type_form, a_type, composed, machine, declaration}
 use Rattle.ioa_syntax.proofs.Outcomes.{LooksAhead, head_alike}
 use Rattle.ioa_syntax.proofs.Exact.{Exact, any, flat, deep_as, before, then, built_as, said_as}
-use Rattle.ioa_syntax.proofs.Singles.{sign_exact, name_exact, number_exact, kind_exact, kind_is, kind_alike, either_exact}
+use Rattle.ioa_syntax.proofs.Singles.{sign_exact, name_exact, number_exact, kind_exact, kind_is, kind_alike, either_exact, token_of, perhaps_exact}
 use Rattle.ioa_syntax.proofs.Absent.{into_exact, Image, image_exact, deep_some, optional_exact, optional_list_exact}
 use Rattle.ioa_syntax.proofs.Lists.{terminated_exact, separated_exact, many_exact}
 use Rattle.ioa_syntax.proofs.FirstTokens.{first_some, first_of_all, leads, by_list, by_two}
@@ -45,15 +45,119 @@ pub fields_exact : Exact SpellsFields flat any (λ b. fields)
 unfolding fields
 fields_exact = deep_as flat (λ x. sym (deepest_flat x)) (closing_exact (separated_exact terminals.Comma field_exact field_some (λ ts. tt)) (λ z. (tt, comma_close z)))
 
+-- a constant that is written with one token, and that token
+abbrev IsLiteral : ConstantTree → Type 0
+IsLiteral (positive n) = Unit {0}
+IsLiteral (negative n) = ⊥
+IsLiteral (truth_literal b) = Unit {0}
+IsLiteral (reference x) = Unit {0}
+
+abbrev literal_token : ConstantTree → Tok
+literal_token (positive n) = tokens.number n
+literal_token (negative n) = tokens.number n
+literal_token (truth_literal true) = terminal terminals.True
+literal_token (truth_literal false) = terminal terminals.False
+literal_token (reference x) = tokens.name x
+
+abbrev Literal : ConstantTree → Language
+Literal c = λ ts. IsLiteral c × single (literal_token c) ts
+
+-- a constant with a sign
+abbrev Signed : ConstantTree → Language
+Signed c = word terminals.Minus ▹ Image negative (λ n. single (tokens.number n)) c
+
+literal_takes : (ts : List Tok) → literal ts ≡ taken ts (literal_at ts)
+unfolding literal
+literal_takes ts = refl
+
+literal_alike : LooksAhead literal_at
+unfolding literal_at
+literal_alike = head_alike literal_at None literal_in refl (λ x ts. refl)
+
+literal_none : literal_at [] ≡ None
+unfolding literal_at
+literal_none = refl
+
+literal_is : (c : ConstantTree) (ts : List Tok) → IsLiteral c → literal_at (literal_token c ∷ ts) ≡ Some c
+unfolding literal_at literal_of
+literal_is (positive n) ts v = refl
+literal_is (negative n) ts v = absurd v
+literal_is (truth_literal true) ts v = refl
+literal_is (truth_literal false) ts v = refl
+literal_is (reference x) ts v = refl
+
+-- what the token says of the constant
+literal_from : (t : Terminal) (c : ConstantTree) → literal_of t ≡ Some c → (terminal t ≡ literal_token c) × IsLiteral c
+unfolding literal_of
+literal_from terminals.True c h = let same : truth_literal true ≡ c = cc in subst (λ c. (terminal terminals.True ≡ literal_token c) × IsLiteral c) same (refl, tt)
+literal_from terminals.False c h = let same : truth_literal false ≡ c = cc in subst (λ c. (terminal terminals.False ≡ literal_token c) × IsLiteral c) same (refl, tt)
+literal_from _ c h = absurd (cc)
+
+literal_only : (ts : List Tok) (c : ConstantTree) → literal_at ts ≡ Some c → (ts ≡ literal_token c ∷ rest ts) × IsLiteral c
+unfolding literal_at
+literal_only [] c h = absurd (cc)
+literal_only (tokens.number n ∷ ts) c h = let same : positive n ≡ c = cc in subst (λ c. (tokens.number n ∷ ts ≡ literal_token c ∷ ts) × IsLiteral c) same (refl, tt)
+literal_only (tokens.name n ∷ ts) c h = let same : reference n ≡ c = cc in subst (λ c. (tokens.name n ∷ ts ≡ literal_token c ∷ ts) × IsLiteral c) same (refl, tt)
+literal_only (terminal t ∷ ts) c h = let from = literal_from t c h in (ap (λ x. x ∷ ts) from.0, from.1)
+
+literal_exact : Exact Literal flat any (λ b. literal)
+literal_exact = token_of literal_at literal_token IsLiteral literal literal_takes literal_alike literal_none literal_is literal_only
+
+minus_literal : (c : ConstantTree) (z : List Tok) → IsLiteral c → sees terminals.Minus (literal_token c ∷ z) ≡ false
+unfolding sees same_terminal
+minus_literal (positive n) z v = refl
+minus_literal (negative n) z v = refl
+minus_literal (truth_literal true) z v = refl
+minus_literal (truth_literal false) z v = refl
+minus_literal (reference x) z v = refl
+
+constant_exact : Exact SpellsConstant flat any (λ b. a_constant)
+unfolding a_constant
+constant_exact =
+    said_as SpellsConstant of to
+    (either_exact terminals.Minus (image_exact negative flat (λ n. refl) number_exact) literal_exact any (λ left f. f) (λ left f. f)
+    (λ c ts left s f. ap (λ z. sees terminals.Minus (z ++ left)) s.1 ∙ minus_literal c left s.0))
+  where
+    of : (c : ConstantTree) (ts : List Tok) → SpellsConstant c ts → Signed c ts ⊎ Literal c ts
+    of (positive n) ts s = inr (tt, s)
+    of (negative n) ts s = inl (s.0, s.1, s.2, (n, refl, s.3), s.4)
+    of (truth_literal true) ts s = inr (tt, s)
+    of (truth_literal false) ts s = inr (tt, s)
+    of (reference x) ts s = inr (tt, s)
+
+    plain : (c : ConstantTree) (ts : List Tok) → IsLiteral c → single (literal_token c) ts → SpellsConstant c ts
+    plain (positive n) ts v s = s
+    plain (negative n) ts v s = absurd v
+    plain (truth_literal true) ts v s = s
+    plain (truth_literal false) ts v s = s
+    plain (reference x) ts v s = s
+
+    to : (c : ConstantTree) (ts : List Tok) → Signed c ts ⊎ Literal c ts → SpellsConstant c ts
+    to c ts (inl s) = subst (λ c. SpellsConstant c ts) s.3.1 (s.0, s.1, s.2, s.3.2, s.4)
+    to c ts (inr s) = plain c ts s.0 s.1
+
+const_name : (n : Name) (z : List Tok) → sees terminals.Const (tokens.name n ∷ z) ≡ false
+unfolding sees
+const_name n z = refl
+
 pub position_exact : Exact SpellsPosition flat any (λ b. position)
 unfolding position
-position_exact = into_exact typed field_exact SpellsPosition flat of (λ f ts s. s) (λ f. refl)
+position_exact =
+    said_as SpellsPosition of to
+    (either_exact terminals.Const (image_exact only flat (λ c. refl) constant_exact) (image_exact typed flat (λ f. refl) field_exact) any (λ left f. f) (λ left f. f)
+    (λ p ts left s f. leads (λ z. sees terminals.Const z ≡ false) (tokens.name s.0.name) (word terminals.Colon ▹ called s.0.ty) ts left (const_name s.0.name) s.2))
   where
-    of : (y : PositionTree) (ts : List Tok) → SpellsPosition y ts → (f : FieldTree) × (typed f ≡ y) × SpellsField f ts
-    of (typed f) ts s = (f, refl, s)
+    of : (p : PositionTree) (ts : List Tok) → SpellsPosition p ts → ((word terminals.Const ▹ Image only SpellsConstant p) ts) ⊎ Image typed SpellsField p ts
+    of (typed f) ts s = inr (f, refl, s)
+    of (only c) ts s = inl (s.0, s.1, s.2, (c, refl, s.3), s.4)
+
+    to : (p : PositionTree) (ts : List Tok) → ((word terminals.Const ▹ Image only SpellsConstant p) ts) ⊎ Image typed SpellsField p ts → SpellsPosition p ts
+    to p ts (inl s) = subst (λ p. SpellsPosition p ts) s.3.1 (s.0, s.1, s.2, s.3.2, s.4)
+    to p ts (inr s) = subst (λ p. SpellsPosition p ts) s.1 s.2
 
 position_some : (p : PositionTree) (ts : List Tok) → SpellsPosition p ts → 0 < length ts
 position_some (typed f) ts s = field_some f ts s
+position_some (only c) ts s = first_some (terminal terminals.Const) (SpellsConstant c) ts s
 
 pub positions_exact : Exact SpellsPositions flat any (λ b. positions)
 unfolding positions
@@ -317,17 +421,48 @@ pub instances_exact : Exact SpellsInstances (deepest deep_instance) AfterInstanc
 unfolding instances
 instances_exact = terminated_exact sees_name sees_name_alike terminals.Semicolon instance_exact instance_some (λ ts. (tt, open_semicolon ts)) instance_begins
 
-pub composition_exact : Exact SpellsComposition deep_composition AfterInstances a_composition
+name_some : (n : Name) (ts : List Tok) → called n ts → 0 < length ts
+name_some n ts s = omega (arith, ap length s)
+
+abbrev AfterHidden : Language
+AfterHidden left = (sees terminals.Semicolon left ≡ false) × (sees terminals.Comma left ≡ false)
+
+comma_semicolon : (z : List Tok) → sees terminals.Comma (terminal terminals.Semicolon ∷ z) ≡ false
+unfolding sees same_terminal
+comma_semicolon z = refl
+
+hidden_exact : Exact SpellsHidden flat AfterHidden (λ b. hidden_names)
+unfolding hidden_names
+hidden_exact =
+    deep_as flat (λ ns. omega (arith, deepest_flat ns))
+    (built_as (λ p. p.0) (λ ns. (ns, tt)) (λ ns. refl) (λ p. refl)
+    (then (separated_exact terminals.Comma name_exact name_some (λ ts. tt)) (before AfterHidden (λ left f. f.0) (perhaps_exact terminals.Semicolon)) (λ y ts left s g. follows ts left s g)))
+  where
+    follows : (ts left : List Tok) → grammar.perhaps terminals.Semicolon ts → AfterHidden left → any (ts ++ left) × (sees terminals.Comma (ts ++ left) ≡ false)
+    follows ts left (inl s) g = (tt, ap (λ z. sees terminals.Comma (z ++ left)) s ∙ comma_semicolon left)
+    follows ts left (inr s) g = (tt, ap (λ z. sees terminals.Comma (z ++ left)) s ∙ g.1)
+
+abbrev pub AfterComposition : Language
+AfterComposition left = AfterInstances left × (sees terminals.Comma left ≡ false) × (sees terminals.Hidden left ≡ false)
+
+instances_hidden : (z : List Tok) → AfterInstances (terminal terminals.Hidden ∷ z)
+unfolding sees same_terminal sees_name
+instances_hidden z = ((tt, refl), refl, refl)
+
+pub composition_exact : Exact SpellsComposition deep_composition AfterComposition a_composition
 unfolding a_composition
 composition_exact =
     deep_as deep_composition (λ c. omega arith)
-    (built_as (λ p. record { name = p.0; instances = p.1.1 }) (λ c. (c.name, (tt, c.instances))) (λ c. refl) (λ p. refl)
-    (then name_exact (then (sign_exact terminals.Components) instances_exact (λ y ts left s g. tt)) (λ y ts left s g. tt)))
+    (built_as (λ p. record { name = p.0; instances = p.1.1.0; hidden = p.1.1.1 }) (λ c. (c.name, (tt, (c.instances, c.hidden)))) (λ c. refl) (λ p. refl)
+    (then name_exact (then (sign_exact terminals.Components) (then instances_exact hides hides_follow) (λ y ts left s g. tt)) (λ y ts left s g. tt)))
+  where
+    hides : Exact (grammar.optional_list terminals.Hidden SpellsHidden) flat AfterComposition (λ b. optional_list terminals.Hidden hidden_names)
+    hides = before AfterComposition (λ left f. ((f.0.1, f.1), f.2)) (optional_list_exact terminals.Hidden hidden_exact (λ ts s. s.2) refl)
+
+    hides_follow : (ns : List Name) (ts left : List Tok) → grammar.optional_list terminals.Hidden SpellsHidden ns ts → AfterComposition left → AfterInstances (ts ++ left)
+    hides_follow ns ts left s g = by_list AfterInstances terminals.Hidden SpellsHidden ns ts left instances_hidden g.0 s
 
 -- ---- types
-
-name_some : (n : Name) (ts : List Tok) → called n ts → 0 < length ts
-name_some n ts s = omega (arith, ap length s)
 
 abbrev ByNames : FormTree → Language
 ByNames (enumeration ns) = grammar.braced called ns
@@ -494,7 +629,7 @@ by_automaton_exact = into_exact automaton automaton_exact ByAutomaton deep of (�
     of (automaton a) ts s = (a, refl, s)
     of (composition c) ts s = absurd s
 
-composed_exact : Exact ByComposition deep AfterInstances composed
+composed_exact : Exact ByComposition deep AfterComposition composed
 unfolding composed
 composed_exact = into_exact (λ p. composition p.1) (then (sign_exact terminals.Composition) composition_exact (λ y ts left s g. tt)) ByComposition deep of (λ x ts s. s) (λ x. omega arith)
   where
@@ -504,7 +639,7 @@ composed_exact = into_exact (λ p. composition p.1) (then (sign_exact terminals.
     of (composition c) ts s = ((tt, c), refl, s)
 
 abbrev pub AfterDeclaration : Language
-AfterDeclaration left = AfterTransitions left × AfterInstances left
+AfterDeclaration left = AfterTransitions left × AfterComposition left
 
 automaton_composition : (z : List Tok) → sees terminals.Automaton (terminal terminals.Composition ∷ z) ≡ false
 unfolding sees same_terminal
@@ -573,19 +708,19 @@ declaration_some (composition c) ts s = first_some (terminal terminals.Compositi
 
 pub at_type : (z : List Tok) → AfterDeclaration (terminal terminals.Type ∷ z)
 unfolding sees same_terminal sees_kind kind_at terminal_at kind_of operator_of sees_statement sees_name
-at_type z = ((record { ends = (tt, refl, refl); semicolon = refl; begins = refl; comma = refl; eff = refl; propose = refl; pre = refl }, refl), ((tt, refl), refl, refl))
+at_type z = ((record { ends = (tt, refl, refl); semicolon = refl; begins = refl; comma = refl; eff = refl; propose = refl; pre = refl }, refl), (((tt, refl), refl, refl), refl, refl))
 
 pub at_automaton : (z : List Tok) → AfterDeclaration (terminal terminals.Automaton ∷ z)
 unfolding sees same_terminal sees_kind kind_at terminal_at kind_of operator_of sees_statement sees_name
-at_automaton z = ((record { ends = (tt, refl, refl); semicolon = refl; begins = refl; comma = refl; eff = refl; propose = refl; pre = refl }, refl), ((tt, refl), refl, refl))
+at_automaton z = ((record { ends = (tt, refl, refl); semicolon = refl; begins = refl; comma = refl; eff = refl; propose = refl; pre = refl }, refl), (((tt, refl), refl, refl), refl, refl))
 
 pub at_composition : (z : List Tok) → AfterDeclaration (terminal terminals.Composition ∷ z)
 unfolding sees same_terminal sees_kind kind_at terminal_at kind_of operator_of sees_statement sees_name
-at_composition z = ((record { ends = (tt, refl, refl); semicolon = refl; begins = refl; comma = refl; eff = refl; propose = refl; pre = refl }, refl), ((tt, refl), refl, refl))
+at_composition z = ((record { ends = (tt, refl, refl); semicolon = refl; begins = refl; comma = refl; eff = refl; propose = refl; pre = refl }, refl), (((tt, refl), refl, refl), refl, refl))
 
 pub at_end : AfterDeclaration []
 unfolding sees same_terminal sees_kind kind_at terminal_at kind_of operator_of sees_statement sees_name
-at_end = ((record { ends = (tt, refl, refl); semicolon = refl; begins = refl; comma = refl; eff = refl; propose = refl; pre = refl }, refl), ((tt, refl), refl, refl))
+at_end = ((record { ends = (tt, refl, refl); semicolon = refl; begins = refl; comma = refl; eff = refl; propose = refl; pre = refl }, refl), (((tt, refl), refl, refl), refl, refl))
 
 pub declaration_leads : (F : Language) (d : DeclarationTree) (ts left : List Tok) → ((z : List Tok) → F (terminal terminals.Type ∷ z)) → ((z : List Tok) → F (terminal terminals.Automaton ∷ z)) →
     ((z : List Tok) → F (terminal terminals.Composition ∷ z)) → SpellsDeclaration d ts → F (ts ++ left)

@@ -10,10 +10,11 @@ use Rattle.ioa_value.specs.Actions as actions
 use Rattle.ioa_syntax.specs.declared.tree.Kind.{Kind}
 use Rattle.ioa_syntax.specs.declared.tree.Kind.TheVariants.{Input, Output, Internal}
 use Rattle.ioa_syntax.specs.declared.fault.Fault.TheVariants.{Syntax, TooDeep}
+use Rattle.ioa_syntax.specs.Grammar as grammar
 use Rattle.ioa_syntax.specs.Grammar.{Language, SameHead, ◌▹◌, single, word, called, nothing, kind_word}
-use Rattle.ioa_syntax.specs.Reading.{Outcome, Reader, rest, taken, begun, a_number, sees, after, is_terminal, same_terminal, sign, a_name, a_kind, kind_at, kind_of, kind_in, terminal_at, terminal_in}
+use Rattle.ioa_syntax.specs.Reading.{Outcome, Reader, rest, taken, begun, perhaps, a_number, sees, after, is_terminal, same_terminal, sign, a_name, a_kind, kind_at, kind_of, kind_in, terminal_at, terminal_in}
 use Rattle.ioa_syntax.proofs.Outcomes.{ok_pair, AtMost, at_most_more, Shrinks, Alike, alike_rest, refused_at, went, front_length, same_head, LooksAhead, head_alike, rest_length}
-use Rattle.ioa_syntax.proofs.Exact.{Found, ExactFor, Exact, any, flat}
+use Rattle.ioa_syntax.proofs.Exact.{Found, ExactFor, Exact, any, flat, read_as, before, said_as}
 
 -- ---- tests
 
@@ -53,17 +54,17 @@ after_length t ts = by (sees t ts) refl
 pub seen_some : (t : Terminal) (ts : List Tok) → sees t ts ≡ true → 0 < length ts
 seen_some t ts h = omega (arith, ap length (seen t ts h))
 
--- ---- one token, as f sees it
+-- ---- one token, as f sees it: V holds of all that it can see
 
 taken_shrinks : {X : Type 0} (ts : List Tok) (x : Option X) → AtMost (length ts) (taken ts x)
 taken_shrinks ts None = omega arith
 taken_shrinks ts (Some x) = rest_length ts
 
-module _ {X : Type 0} (f : List Tok → Option X) (of : X → Tok) (P : Reader X)
+module _ {X : Type 0} (f : List Tok → Option X) (of : X → Tok) (V : X → Type 0) (P : Reader X)
     (takes : (ts : List Tok) → P ts ≡ taken ts (f ts)) (look : LooksAhead f) (none : f [] ≡ None)
-    (is : (x : X) (ts : List Tok) → f (of x ∷ ts) ≡ Some x) (only : (ts : List Tok) (x : X) → f ts ≡ Some x → ts ≡ of x ∷ rest ts) where
+    (is : (x : X) (ts : List Tok) → V x → f (of x ∷ ts) ≡ Some x) (only : (ts : List Tok) (x : X) → f ts ≡ Some x → (ts ≡ of x ∷ rest ts) × V x) where
   abbrev One : X → Language
-  One x = single (of x)
+  One x = λ ts. V x × single (of x) ts
 
   token_sound : (b : ℕ) (ts : List Tok) (x : X) (left : List Tok) → P ts ≡ Ok (x, left) → Found One flat b ts x left
   token_sound b ts x left h = by (f ts) refl (sym (takes ts) ∙ h)
@@ -72,12 +73,13 @@ module _ {X : Type 0} (f : List Tok → Option X) (of : X → Tok) (P : Reader X
       by None e h = absurd (cc)
       by (Some y) e h =
           let same = ok_pair y x (rest ts) left h in
-          record { front = of x ∷ []; spells = refl; apart = only ts y e ∙ ap (λ y. of y ∷ rest ts) same.0 ∙ ap (λ r. of x ∷ r) same.1; within = omega arith }
+          let at = only ts y e in
+          record { front = of x ∷ []; spells = (subst V same.0 at.1, refl); apart = at.0 ∙ ap (λ y. of y ∷ rest ts) same.0 ∙ ap (λ r. of x ∷ r) same.1; within = omega arith }
 
   taken_alike : (s s' : List Tok) → SameHead s s' → (c : List Tok) (o : Option X) → f (c ++ s) ≡ o → Alike s s' (taken (c ++ s) o) (taken (c ++ s') o)
   taken_alike s s' h c None e = refused_at s s' (length (c ++ s)) (length (c ++ s')) (front_length c s)
   taken_alike s s' h c (Some x) e =
-      alike_rest s s' (λ ts. Ok (x, ts)) (λ ts. Ok (x, ts)) h (λ ts. omega arith) (λ c. went s s' x c) c (omega (arith, ap length (only (c ++ s) x e)))
+      alike_rest s s' (λ ts. Ok (x, ts)) (λ ts. Ok (x, ts)) h (λ ts. omega arith) (λ c. went s s' x c) c (omega (arith, ap length (only (c ++ s) x e).0))
 
   token_alike : (s s' : List Tok) → SameHead s s' → (c : List Tok) → Alike s s' (P (c ++ s)) (P (c ++ s'))
   token_alike s s' h c =
@@ -92,14 +94,19 @@ module _ {X : Type 0} (f : List Tok → Option X) (of : X → Tok) (P : Reader X
       by None h = absurd (cc)
       by (Some y) h = absurd (cc)
 
-  pub token : {I : Type 0} {size : I → ℕ} → ExactFor size One flat any (λ b. P)
-  token {size = size} = record {
-    complete = λ b x ts left s d h. ap (λ z. P (z ++ left)) s ∙ takes (of x ∷ left) ∙ ap (taken (of x ∷ left)) (is x left);
+  pub token_of : {I : Type 0} {size : I → ℕ} → ExactFor size One flat any (λ b. P)
+  token_of {size = size} = record {
+    complete = λ b x ts left s d h. ap (λ z. P (z ++ left)) s.1 ∙ takes (of x ∷ left) ∙ ap (taken (of x ∷ left)) (is x left s.0);
     sound = λ b. token_sound (size b);
     shrinks = λ b ts. subst (AtMost (length ts)) (sym (takes ts)) (taken_shrinks ts (f ts));
     alike = λ b b' le s s' h c. token_alike s s' h c;
     long = λ b. token_long (size b);
   }
+
+pub token : {I X : Type 0} {size : I → ℕ} (f : List Tok → Option X) (of : X → Tok) (P : Reader X) → ((ts : List Tok) → P ts ≡ taken ts (f ts)) → LooksAhead f → f [] ≡ None →
+    ((x : X) (ts : List Tok) → f (of x ∷ ts) ≡ Some x) → ((ts : List Tok) (x : X) → f ts ≡ Some x → ts ≡ of x ∷ rest ts) → ExactFor size (λ x. single (of x)) flat any (λ b. P)
+token f of P takes look none is only =
+    said_as (λ x. single (of x)) (λ x ts s. (tt, s)) (λ x ts s. s.1) (token_of f of (λ x. Unit {0}) P takes look none (λ x ts v. is x ts) (λ ts x h. (only ts x h, tt)))
 
 -- ---- one token, and what comes after it, as the token says
 
@@ -403,3 +410,23 @@ module _ {I : Type 0} {size : I → ℕ} {A : Type 0} (t : Terminal) (absent : A
 
   pub introduced_exact : ExactFor size Introduced D Unseen (λ b ts. if sees t ts then P b (after t ts) else Ok (absent, after t ts))
   introduced_exact = either_exact t p (absent_exact absent D shallow) Unseen (λ left f. f.0) (λ left f. tt) (λ x ts left s f. ap (λ z. sees t (z ++ left)) s.1 ∙ f.1)
+
+-- ---- a word or sign that may be absent
+
+pub perhaps_exact : {I : Type 0} {size : I → ℕ} (t : Terminal) → ExactFor size (λ (u : Unit {0}). grammar.perhaps t) flat (λ left. sees t left ≡ false) (λ b. perhaps t)
+unfolding perhaps
+perhaps_exact t =
+    before (λ left. sees t left ≡ false) (λ left f. (tt, f))
+    (said_as (λ u. grammar.perhaps t) of to (read_as (λ b. perhaps t) (λ b ts. same ts (sees t ts)) (introduced_exact t tt (absent_exact tt flat refl) refl)))
+  where
+    of : (u : Unit {0}) (ts : List Tok) → grammar.perhaps t ts → ((word t ▹ Absent tt flat refl u) ts) ⊎ ((u ≡ tt) × nothing ts)
+    of u ts (inl s) = inl (terminal t ∷ [], [], refl, (refl, refl), s)
+    of u ts (inr s) = inr (refl, s)
+
+    to : (u : Unit {0}) (ts : List Tok) → ((word t ▹ Absent tt flat refl u) ts) ⊎ ((u ≡ tt) × nothing ts) → grammar.perhaps t ts
+    to u ts (inl s) = inl (s.4 ∙ ap (λ a. a ++ s.1) s.2 ∙ ap (λ b. terminal t ∷ b) s.3.1)
+    to u ts (inr s) = inr s.1
+
+    same : (ts : List Tok) (v : Bool) → ◌≡◌ {A = Outcome (Unit {0})} (Ok (tt, after t ts)) (if v then Ok (tt, after t ts) else Ok (tt, after t ts))
+    same ts true = refl
+    same ts false = refl

@@ -1,5 +1,5 @@
--- Small lists of tokens, what they spell and how they are read: operators around their operands, empty sequences, tuples and fields, and
--- declarations of types.
+-- Small lists of tokens, what they spell and how they are read: operators around their operands, empty sequences, tuples and fields,
+-- declarations of types, constants of positions and hidden names.
 use Rattle.std.proofs.Common.{◌≡◌, ℕ, true, List, [], ◌∷◌, ◌++◌, Ok, Err, refl, codes, inl, inr, arith}
 use Rattle.ioa_value.specs.Actions.{Name}
 use Rattle.ioa_value.specs.declared.terminal.Terminal.{Terminal}
@@ -8,12 +8,13 @@ use Rattle.ioa_value.specs.declared.operator.Op.TheVariants.{Neg, Add, Eq, Not, 
 use Rattle.ioa_lex.specs.Tokens as tokens
 use Rattle.ioa_lex.specs.Tokens.{Tok, terminal}
 use Rattle.ioa_syntax.specs.declared.tree.Infix.TheVariants.{Operator, And}
+use Rattle.ioa_syntax.specs.declared.tree.Kind.TheVariants.{Input}
 use Rattle.ioa_syntax.specs.declared.fault.Fault.TheVariants.{Syntax, TooDeep}
-use Rattle.ioa_syntax.specs.Tree.{Expr, number, truth, named, parens, prefix, binary, empty, make, select, no_expr, also, FormTree, enumeration, tuple, sequence, TypeTree, declared_type}
+use Rattle.ioa_syntax.specs.Tree.{Expr, number, truth, named, parens, prefix, binary, empty, make, select, no_expr, also, positive, negative, truth_literal, reference, PositionTree, typed, only, EntryTree, CompositionTree, FormTree, enumeration, tuple, sequence, TypeTree, declared_type, composition}
 use Rattle.ioa_syntax.specs.Depth.{depth_of}
-use Rattle.ioa_syntax.specs.Grammar.{SpellsExpr}
-use Rattle.ioa_syntax.specs.Layout.{space, text_number, text_expr, text_all, text_type, text_source}
-use Rattle.ioa_syntax.specs.Reading.{Outcome, expression, expr, first, operand, fields_from, after_name, primary, start_at, start_of, around_of, around, around_one, around_two, an_empty, enclosed, closing, climb, operator_at, operator_of, prefix_at, prefix_of, terminal_at, same_terminal, sign, a_name, a_number, sees, after, items_from, separated, braced, field, an_enumeration, a_tuple, a_sequence, sequence_form, compound_form, type_form, a_type}
+use Rattle.ioa_syntax.specs.Grammar.{SpellsExpr, SpellsPosition, SpellsHidden}
+use Rattle.ioa_syntax.specs.Layout.{space, text_number, text_expr, text_position, text_entry, text_all, text_type, text_source}
+use Rattle.ioa_syntax.specs.Reading.{Outcome, expression, expr, first, operand, fields_from, after_name, primary, start_at, start_of, around_of, around, around_one, around_two, an_empty, enclosed, closing, climb, operator_at, operator_of, prefix_at, prefix_of, terminal_at, same_terminal, sign, a_name, a_number, sees, after, items_from, separated, braced, field, an_enumeration, a_tuple, a_sequence, sequence_form, compound_form, type_form, a_type, literal, literal_at, literal_of, a_constant, position, positions, optional_list, kind_of, kind_at, a_kind, entry, perhaps, terminated, sees_name, instance, instances, hidden_names, a_composition}
 
 abbrev word : Terminal → Tok
 word = terminal
@@ -315,6 +316,87 @@ wants_a_form : declares (called (codes "Int") ∷ []) ≡ Err (Syntax 1)
 unfolding a_type type_form compound_form sequence_form sees after sign a_name same_terminal
 wants_a_form = refl
 
+-- ---- constants of positions
+
+abbrev comma : Tok
+comma = word terminals.Comma
+
+abbrev const : Tok
+const = word terminals.Const
+
+-- input put(..)
+abbrev enters : List Tok → Outcome EntryTree
+enters ts = entry (word terminals.Input ∷ called (codes "put") ∷ within ts)
+
+abbrev put : List PositionTree → EntryTree
+put ps = record { kind = Input; name = codes "put"; positions = ps }
+
+abbrev parameter_a : PositionTree
+parameter_a = typed (record { name = codes "a"; ty = codes "Int" })
+
+-- input put(const 0, a: Int)
+takes_a_constant : enters (const ∷ n 0 ∷ comma ∷ field_a) ≡ Ok (put (only (positive 0) ∷ parameter_a ∷ []), [])
+unfolding entry a_kind kind_at kind_of terminal_at optional_list positions position field a_constant literal literal_at literal_of closing separated items_from sees after sign a_name a_number same_terminal
+takes_a_constant = refl
+
+-- input put(const -5, const true, const data)
+takes_constants : enters (const ∷ word terminals.Minus ∷ n 5 ∷ comma ∷ const ∷ word terminals.True ∷ comma ∷ const ∷ called (codes "data") ∷ [])
+    ≡ Ok (put (only (negative 5) ∷ only (truth_literal true) ∷ only (reference (codes "data")) ∷ []), [])
+unfolding entry a_kind kind_at kind_of terminal_at optional_list positions position field a_constant literal literal_at literal_of closing separated items_from sees after sign a_name a_number same_terminal
+takes_constants = refl
+
+-- put(const) is refused at `)`, put(const -a) at a, and put(const a: Int) at `:`
+wants_a_constant : enters (const ∷ []) ≡ Err (Syntax 1)
+unfolding entry a_kind kind_at kind_of terminal_at optional_list positions position field a_constant literal literal_at literal_of closing separated items_from sees after sign a_name a_number same_terminal
+wants_a_constant = refl
+
+wants_digits : enters (const ∷ word terminals.Minus ∷ called (codes "a") ∷ []) ≡ Err (Syntax 2)
+unfolding entry a_kind kind_at kind_of terminal_at optional_list positions position field a_constant literal literal_at literal_of closing separated items_from sees after sign a_name a_number same_terminal
+wants_digits = refl
+
+wants_no_type : enters (const ∷ field_a) ≡ Err (Syntax 3)
+unfolding entry a_kind kind_at kind_of terminal_at optional_list positions position field a_constant literal literal_at literal_of closing separated items_from sees after sign a_name a_number same_terminal
+wants_no_type = refl
+
+-- const -5
+spells_a_constant : SpellsPosition (only (negative 5)) (const ∷ word terminals.Minus ∷ n 5 ∷ [])
+spells_a_constant = (const ∷ [], word terminals.Minus ∷ n 5 ∷ [], refl, (word terminals.Minus ∷ [], n 5 ∷ [], refl, refl, refl), refl)
+
+-- ---- hidden names
+
+-- composition C components c: A; hidden ..
+abbrev composes : List Tok → Outcome CompositionTree
+composes ts =
+    a_composition 6 (called (codes "C") ∷ word terminals.Components ∷ called (codes "c") ∷ word terminals.Colon ∷ called (codes "A") ∷ word terminals.Semicolon ∷ word terminals.Hidden ∷ ts)
+
+abbrev hides : List Name → CompositionTree
+hides ns = record { name = codes "C"; instances = record { name = codes "c"; automaton = codes "A"; arguments = [] } ∷ []; hidden = ns }
+
+abbrev a_and_b : List Tok
+a_and_b = called (codes "a") ∷ comma ∷ called (codes "b") ∷ []
+
+hides_names : composes a_and_b ≡ Ok (hides (codes "a" ∷ codes "b" ∷ []), [])
+unfolding a_composition instances instance terminated optional_list hidden_names perhaps separated items_from sees_name sees after sign a_name same_terminal
+hides_names = refl
+
+-- with a semicolon at their end
+ends_with_a_semicolon : composes (a_and_b ++ word terminals.Semicolon ∷ []) ≡ Ok (hides (codes "a" ∷ codes "b" ∷ []), [])
+unfolding a_composition instances instance terminated optional_list hidden_names perhaps separated items_from sees_name sees after sign a_name same_terminal
+ends_with_a_semicolon = refl
+
+-- `hidden` alone is refused at the end, and so is a comma there
+wants_a_hidden_name : composes [] ≡ Err (Syntax 0)
+unfolding a_composition instances instance terminated optional_list hidden_names perhaps separated items_from sees_name sees after sign a_name same_terminal
+wants_a_hidden_name = refl
+
+wants_another_name : composes (a_and_b ++ comma ∷ []) ≡ Err (Syntax 0)
+unfolding a_composition instances instance terminated optional_list hidden_names perhaps separated items_from sees_name sees after sign a_name same_terminal
+wants_another_name = refl
+
+-- nothing spells no hidden names
+hides_some : (ts : List Tok) → SpellsHidden [] ts → ⊥
+hides_some ts m = m.2
+
 -- ---- how they are printed
 
 prints_calls : text_expr space (binary (prefix Len s) (Operator Add) (binary x (Operator Member) (empty (codes "Ints")))) ≡ codes "len ( s ) + member ( x , empty ( Ints ) ) "
@@ -330,3 +412,14 @@ prints_types = refl
 
 prints_capacities : text_type (is (sequence 16 (codes "Int"))) ≡ codes "T = seq " ++ (text_number space 16 ++ codes "of Int\n")
 prints_capacities = refl
+
+prints_constants : text_entry (put (only (truth_literal true) ∷ only (reference (codes "data")) ∷ parameter_a ∷ [])) ≡ codes "input put ( const true , const data , a : Int )\n"
+prints_constants = refl
+
+prints_a_sign : text_position (only (negative 5)) ≡ codes "const - " ++ text_number space 5
+prints_a_sign = refl
+
+prints_hidden_names : text_source (composition (hides (codes "a" ∷ codes "b" ∷ [])) ∷ composition (hides []) ∷ [])
+    ≡ codes "composition C components\nc : A\nhidden a\n, b\ncomposition C components\nc : A\n"
+unfolding text_all
+prints_hidden_names = refl

@@ -158,7 +158,7 @@ starts_empty_of_no_type = refl
 abbrev pub given : FieldTree → Expr → SourceTree
 given f e =
     three ++ automaton (record { name = codes "Cell"; formals = f ∷ []; entries = []; variables = []; transitions = [] })
-    ∷ composition (record { name = codes "One"; instances = record { name = codes "A"; automaton = codes "Cell"; arguments = e ∷ [] } ∷ [] }) ∷ []
+    ∷ composition (record { name = codes "One"; instances = record { name = codes "A"; automaton = codes "Cell"; arguments = e ∷ [] } ∷ []; hidden = [] }) ∷ []
 
 -- an argument may be a constant
 gives_a_constant : well_formed (given (of_type (codes "k") (codes "Kind")) (named (codes "ack"))) ≡ true
@@ -212,13 +212,13 @@ sent = record { kind = Output; name = codes "send"; positions = typed (of_type (
 abbrev pub send : Val → Act
 send v = record { name = codes "send"; vals = v ∷ [] }
 
-has_each_name : entry_has table (send (name_value 2 1)) sent ≡ true
+has_each_name : entry_has (holding []) (send (name_value 2 1)) sent ≡ true
 has_each_name = refl
 
-has_no_other_name : entry_has table (send (name_value 2 2)) sent ≡ false
+has_no_other_name : entry_has (holding []) (send (name_value 2 2)) sent ≡ false
 has_no_other_name = refl
 
-has_no_number : entry_has table (send (num (pos 1))) sent ≡ false
+has_no_number : entry_has (holding []) (send (num (pos 1))) sent ≡ false
 has_no_number = refl
 
 -- ---- limits

@@ -1,5 +1,6 @@
 -- The composition that a source declares under a name (Lynch 1996, section 8.2).
-use Rattle.std.specs.Prelude.{List, [], ◌∷◌, map, find, reverse, Option, Some, None, Ok, ◌≡◌}
+use Rattle.std.specs.Prelude.{Bool, ◌&&◌, IsTrue, List, [], ◌∷◌, map, find, reverse, Option, Some, None, Ok, ◌≡◌}
+use Rattle.std.specs.List.{list_any, list_all}
 use Rattle.std.specs.Str.{bytes_eq}
 use Rattle.ioa_value.specs.Actions.{Name}
 use Rattle.ioa_value.specs.Plain.{Val}
@@ -8,7 +9,7 @@ use Rattle.ioa_syntax.specs.Tree.{AutomatonTree, InstanceTree, CompositionTree, 
 use Rattle.ioa_syntax.specs.Meaning.{Env}
 use Rattle.ioa_syntax.specs.Types.{types_of}
 use Rattle.ioa_syntax.specs.Instances.{Instance, component_of, argument_values, start_values, Fit, state_of}
-use Rattle.ioa_syntax.specs.Components.{Component, Compatible}
+use Rattle.ioa_syntax.specs.Components.{Component, Compatible, is_output}
 
 abbrev pub automata : SourceTree → List AutomatonTree
 automata [] = []
@@ -71,10 +72,22 @@ components_of c = map (λ m. component_of m.instance) c.members
 abbrev pub starts_of : Composed → List Env
 starts_of c = map (λ m. state_of m.instance.automaton m.starts) c.members
 
--- the composition that the source's tree stands for; nothing can be hidden yet
+-- an output of the automaton has this name
+abbrev pub has_output : Name → AutomatonTree → Bool
+has_output x a = list_any (λ e. is_output (Some e.kind) && bytes_eq e.name x) a.entries
+
+-- an output of one of the instances has this name
+abbrev pub is_output_of : List Instance → Name → Bool
+is_output_of is x = list_any (λ i. has_output x i.automaton) is
+
+abbrev pub instances_of : Composed → List Instance
+instances_of c = map (λ m. m.instance) c.members
+
+-- the composition that the source's tree stands for: each name that it hides is an output's
 pub record IsComposed (s : SourceTree) (t : CompositionTree) (c : Composed) : Type 0 where
   pub types : c.types ≡ types_of s
   pub name : c.name ≡ t.name
   pub members : AreMembers s t.instances c.members
-  pub hidden : c.hidden ≡ []
+  pub hidden : c.hidden ≡ t.hidden
+  pub outputs : IsTrue (list_all (is_output_of (instances_of c)) t.hidden)
   pub compatible : Compatible (components_of c)

@@ -10,7 +10,7 @@ use Rattle.ioa_syntax.specs.declared.tree.Kind.TheVariants.{Input, Output, Inter
 use Rattle.ioa_syntax.specs.declared.tree.Infix.TheVariants.{Operator}
 use Rattle.ioa_syntax.specs.Operators.{stands_before, stands_between, encloses, level_of, left_of, right_of, operator_word, tightest}
 use Rattle.ioa_syntax.specs.Tree as tree
-use Rattle.ioa_syntax.specs.Tree.{Expr, number, truth, named, parens, prefix, binary, make, select, Exprs, no_expr, also, FieldTree, PositionTree, typed, EntryTree, VariableTree, ProposalTree, Stmt, assign, choose, Stmts, stop, seq, Arms, no_arm, arm, TransitionTree, AutomatonTree, InstanceTree, CompositionTree, FormTree, enumeration, tuple, sequence, TypeTree, DeclarationTree, declared_type, automaton, composition, SourceTree}
+use Rattle.ioa_syntax.specs.Tree.{Expr, number, truth, named, parens, prefix, binary, make, select, Exprs, no_expr, also, FieldTree, ConstantTree, positive, negative, truth_literal, reference, PositionTree, typed, only, EntryTree, VariableTree, ProposalTree, Stmt, assign, choose, Stmts, stop, seq, Arms, no_arm, arm, TransitionTree, AutomatonTree, InstanceTree, CompositionTree, FormTree, enumeration, tuple, sequence, TypeTree, DeclarationTree, declared_type, automaton, composition, SourceTree}
 
 abbrev pub Language : Type 1
 Language = List Tok → Type 0
@@ -123,8 +123,16 @@ kind_word Input = terminals.Input
 kind_word Output = terminals.Output
 kind_word Internal = terminals.Internal
 
+abbrev pub SpellsConstant : ConstantTree → Language
+SpellsConstant (positive n) = single (tokens.number n)
+SpellsConstant (negative n) = word terminals.Minus ▹ single (tokens.number n)
+SpellsConstant (truth_literal true) = word terminals.True
+SpellsConstant (truth_literal false) = word terminals.False
+SpellsConstant (reference x) = called x
+
 abbrev pub SpellsPosition : PositionTree → Language
 SpellsPosition (typed f) = SpellsField f
+SpellsPosition (only c) = word terminals.Const ▹ SpellsConstant c
 
 abbrev pub SpellsPositions : List PositionTree → Language
 SpellsPositions ps = separated terminals.Comma SpellsPosition ps ▹ word terminals.Close
@@ -191,9 +199,14 @@ SpellsInstance i = called i.name ▹ (word terminals.Colon ▹ (called i.automat
 abbrev pub SpellsInstances : List InstanceTree → Language
 SpellsInstances is = terminated terminals.Semicolon SpellsInstance is
 
+-- after the word `hidden`
+abbrev pub SpellsHidden : List Name → Language
+SpellsHidden ns = separated terminals.Comma called ns ▹ perhaps terminals.Semicolon
+
 -- after the word `composition`
 abbrev pub SpellsComposition : CompositionTree → Language
-SpellsComposition c = called c.name ▹ (word terminals.Components ▹ SpellsInstances c.instances)
+SpellsComposition c =
+    called c.name ▹ (word terminals.Components ▹ (SpellsInstances c.instances ▹ optional_list terminals.Hidden SpellsHidden c.hidden))
 
 -- ---- types
 

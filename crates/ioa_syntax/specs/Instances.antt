@@ -1,16 +1,17 @@
 -- Automata with argument values: their signatures, starts and steps (Lynch 1996, section 8.1).
-use Rattle.std.specs.Prelude.{◌≡◌, ℕ, Bool, true, false, ◌&&◌, List, [], ◌∷◌, map, find, Option, Some, None, Result, Ok, Err}
+use Rattle.std.specs.Prelude.{◌≡◌, ℕ, pos, neg_ℤ, Bool, true, false, ◌&&◌, List, [], ◌∷◌, map, find, Option, Some, None, Result, Ok, Err}
 use Rattle.std.specs.Option.{option_map, option_map_or}
 use Rattle.std.specs.Str.{bytes_eq}
 use Rattle.ioa_value.specs.declared.arithmetic.Fault.{Fault}
 use Rattle.ioa_value.specs.Actions.{Name, Act}
 use Rattle.ioa_value.specs.Plain.{Val, truth as truth_value, num, name, tuple, items}
+use Rattle.ioa_value.specs.Same.{same}
 use Rattle.ioa_value.specs.Table.{Table, type_named}
 use Rattle.ioa_value.specs.Operators.{Answer, gives, faults, nothing}
 use Rattle.ioa_value.specs.Typing.{HasType}
-use Rattle.ioa_syntax.specs.Tree.{Expr, FieldTree, PositionTree, typed, EntryTree, VariableTree, TransitionTree, AutomatonTree}
-use Rattle.ioa_syntax.specs.Meaning.{Env, nothing_known, values_of, over, kept, val, Outcome, becomes, breaks, nowhere, eff}
-use Rattle.ioa_syntax.specs.Types.{is_named, first_named}
+use Rattle.ioa_syntax.specs.Tree.{Expr, FieldTree, ConstantTree, positive, negative, truth_literal, reference, PositionTree, typed, only, EntryTree, VariableTree, TransitionTree, AutomatonTree}
+use Rattle.ioa_syntax.specs.Meaning.{Env, nothing_known, values_of, or_else, over, kept, val, Outcome, becomes, breaks, nowhere, eff}
+use Rattle.ioa_syntax.specs.Types.{is_named, first_named, constant}
 use Rattle.ioa_syntax.specs.Components.{Component}
 
 -- an automaton with values for its formals
@@ -25,36 +26,58 @@ field_names fs = map (λ f. f.name) fs
 abbrev pub variable_names : AutomatonTree → List Name
 variable_names a = map (λ v. v.field.name) a.variables
 
--- a parameter stands for each value of its type
-abbrev pub position_has : Table → PositionTree → Val → Bool
-position_has t (typed f) v = is_named t f.ty v
+-- the values of the formals
+abbrev pub formal_values : Instance → Env
+formal_values i = values_of (field_names i.automaton.formals) i.arguments
 
-abbrev pub positions_have : Table → List PositionTree → List Val → Bool
-positions_have t [] [] = true
-positions_have t [] (v ∷ vs) = false
-positions_have t (p ∷ ps) [] = false
-positions_have t (p ∷ ps) (v ∷ vs) = position_has t p v && positions_have t ps vs
+-- what a constant stands for: its number or truth value, and a name for its formal's value or for an enumeration's
+abbrev pub constant_value : Instance → ConstantTree → Option Val
+constant_value i (positive n) = Some (num (pos n))
+constant_value i (negative n) = Some (num (neg_ℤ (pos n)))
+constant_value i (truth_literal b) = Some (truth_value b)
+constant_value i (reference x) = or_else (formal_values i x) (constant i.types x)
+
+-- a parameter stands for each value of its type, a constant for the value that equals it
+abbrev pub position_has : Instance → PositionTree → Val → Bool
+position_has i (typed f) v = is_named i.types f.ty v
+position_has i (only c) v = option_map_or (λ w. same w v) (constant_value i c) false
+
+abbrev pub positions_have : Instance → List PositionTree → List Val → Bool
+positions_have i [] [] = true
+positions_have i [] (v ∷ vs) = false
+positions_have i (p ∷ ps) [] = false
+positions_have i (p ∷ ps) (v ∷ vs) = position_has i p v && positions_have i ps vs
 
 -- the action is in the entry: the names agree, the number of positions agrees, and each value is one of its position's
-abbrev pub entry_has : Table → Act → EntryTree → Bool
-entry_has t a e = bytes_eq e.name a.name && positions_have t e.positions a.vals
+abbrev pub entry_has : Instance → Act → EntryTree → Bool
+entry_has i a e = bytes_eq e.name a.name && positions_have i e.positions a.vals
 
 -- the entry that has the action
 abbrev pub entry_for : Instance → Act → Option EntryTree
-entry_for i a = find (entry_has i.types a) i.automaton.entries
+entry_for i a = find (entry_has i a) i.automaton.entries
 
 -- the entry's transition
 abbrev pub transition_for : AutomatonTree → EntryTree → Option TransitionTree
 transition_for a e = find (λ t. bytes_eq t.name e.name) a.transitions
 
-abbrev pub position_name : PositionTree → Name
-position_name (typed f) = f.name
+-- the parameters among the positions: a constant has no name
+abbrev pub position_fields : List PositionTree → List FieldTree
+position_fields [] = []
+position_fields (typed f ∷ ps) = f ∷ position_fields ps
+position_fields (only c ∷ ps) = position_fields ps
+
+-- their values, among those of all positions
+abbrev pub parameter_values : List PositionTree → List Val → List Val
+parameter_values [] vs = []
+parameter_values (p ∷ ps) [] = []
+parameter_values (typed f ∷ ps) (v ∷ vs) = v ∷ parameter_values ps vs
+parameter_values (only c ∷ ps) (v ∷ vs) = parameter_values ps vs
 
 -- formals, the entry's parameters and the state's variables; in a well-formed automaton their names differ, so that none
 -- stands in front of another
 abbrev pub environment : Instance → EntryTree → List Val → Env → Env
 environment i e vs s =
-    over (values_of (field_names i.automaton.formals) i.arguments) (over (values_of (map position_name e.positions) vs) s)
+    over (formal_values i) (over (values_of (field_names (position_fields e.positions)) (parameter_values e.positions vs)) s)
 
 -- a precondition's answer; it is a truth value or a fault, since it has the type Bool
 abbrev pub truth_of : Answer → Result Bool Fault
@@ -124,7 +147,7 @@ argument_values types es = all_values (λ e. settled (val types e nothing_known)
 
 -- the variables' start values in order, or the first fault
 abbrev pub start_values : Instance → Result (List Val) Fault
-start_values i = all_values (start_value i.types (values_of (field_names i.automaton.formals) i.arguments)) i.automaton.variables
+start_values i = all_values (start_value i.types (formal_values i)) i.automaton.variables
 
 -- the values are of the types of the fields, one for each
 abbrev pub Fit : Table → List FieldTree → List Val → Type 0

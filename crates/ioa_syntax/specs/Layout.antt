@@ -7,7 +7,7 @@ use Rattle.ioa_value.specs.declared.terminal.Terminal.TheVariants as terminals
 use Rattle.ioa_value.specs.Spelling.{spelling_of}
 use Rattle.ioa_value.specs.Actions.{Name}
 use Rattle.ioa_syntax.specs.Tree as tree
-use Rattle.ioa_syntax.specs.Tree.{Expr, truth, named, parens, prefix, binary, make, select, Exprs, no_expr, also, FieldTree, PositionTree, typed, EntryTree, VariableTree, ProposalTree, Stmt, assign, choose, Stmts, stop, seq, Arms, no_arm, arm, TransitionTree, AutomatonTree, InstanceTree, CompositionTree, FormTree, enumeration, tuple, sequence, TypeTree, DeclarationTree, declared_type, automaton, composition, SourceTree}
+use Rattle.ioa_syntax.specs.Tree.{Expr, truth, named, parens, prefix, binary, make, select, Exprs, no_expr, also, FieldTree, ConstantTree, positive, negative, truth_literal, reference, PositionTree, typed, only, EntryTree, VariableTree, ProposalTree, Stmt, assign, choose, Stmts, stop, seq, Arms, no_arm, arm, TransitionTree, AutomatonTree, InstanceTree, CompositionTree, FormTree, enumeration, tuple, sequence, TypeTree, DeclarationTree, declared_type, automaton, composition, SourceTree}
 use Rattle.ioa_syntax.specs.declared.tree.Infix.TheVariants.{Operator}
 use Rattle.ioa_syntax.specs.Operators.{operator_word, stands_around}
 use Rattle.ioa_syntax.specs.Grammar.{kind_word}
@@ -102,8 +102,16 @@ text_option w (Some e) = w ++ text_expr line e
 abbrev pub text_field : ℕ → FieldTree → List ℕ
 text_field b f = text_name space f.name ++ (text_word space terminals.Colon ++ text_name b f.ty)
 
+abbrev pub text_constant : ConstantTree → List ℕ
+text_constant (positive n) = text_number space n
+text_constant (negative n) = text_word space terminals.Minus ++ text_number space n
+text_constant (truth_literal true) = text_word space terminals.True
+text_constant (truth_literal false) = text_word space terminals.False
+text_constant (reference x) = text_name space x
+
 abbrev pub text_position : PositionTree → List ℕ
 text_position (typed f) = text_field space f
+text_position (only c) = text_word space terminals.Const ++ text_constant c
 
 abbrev pub text_entry : EntryTree → List ℕ
 text_entry e = text_word space (kind_word e.kind) ++ (text_name (before_list e.positions) e.name ++ text_parens text_position e.positions)
@@ -186,8 +194,13 @@ text_type t = text_name space t.name ++ (text_word space terminals.Equal ++ text
 abbrev pub text_instance : InstanceTree → List ℕ
 text_instance i = text_name space i.name ++ (text_word space terminals.Colon ++ (text_name (before_list i.arguments) i.automaton ++ text_parens (text_expr space) i.arguments))
 
+-- names after their word, each on a line, or nothing
+abbrev pub text_hidden : List Name → List ℕ
+text_hidden ns = text_optional_list (text_word space terminals.Hidden) (text_list terminals.Comma (text_name line)) ns
+
 abbrev pub text_composition : CompositionTree → List ℕ
-text_composition c = text_name space c.name ++ (text_word line terminals.Components ++ text_list terminals.Semicolon text_instance c.instances)
+text_composition c =
+    text_name space c.name ++ (text_word line terminals.Components ++ (text_list terminals.Semicolon text_instance c.instances ++ text_hidden c.hidden))
 
 abbrev pub text_declaration : DeclarationTree → List ℕ
 text_declaration (declared_type t) = text_word space terminals.Type ++ text_type t

@@ -16,6 +16,7 @@ pub mod Steps
 pub mod Runs
 pub mod Likes
 pub mod Instances
+pub mod Domains
 pub mod WellFormed
 pub mod Answers
 pub mod Compositions

@@ -3,7 +3,7 @@ use Rattle.std.specs.Prelude.{List, [], ◌∷◌, ◌++◌, Option, Some, None,
 use Rattle.std.specs.List.{flat_map}
 use Rattle.ioa_value.specs.Actions.{Name}
 use Rattle.ioa_value.specs.Names.{IsName}
-use Rattle.ioa_syntax.specs.Tree.{Expr, number, truth, named, parens, prefix, binary, empty, make, select, Exprs, no_expr, also, FieldTree, PositionTree, typed, EntryTree, VariableTree, ProposalTree, Stmt, assign, choose, Stmts, stop, seq, Arms, no_arm, arm, TransitionTree, AutomatonTree, InstanceTree, CompositionTree, FormTree, enumeration, tuple, sequence, TypeTree, DeclarationTree, declared_type, automaton, composition, SourceTree}
+use Rattle.ioa_syntax.specs.Tree.{Expr, number, truth, named, parens, prefix, binary, empty, make, select, Exprs, no_expr, also, FieldTree, ConstantTree, positive, negative, truth_literal, reference, PositionTree, typed, only, EntryTree, VariableTree, ProposalTree, Stmt, assign, choose, Stmts, stop, seq, Arms, no_arm, arm, TransitionTree, AutomatonTree, InstanceTree, CompositionTree, FormTree, enumeration, tuple, sequence, TypeTree, DeclarationTree, declared_type, automaton, composition, SourceTree}
 
 abbrev mutual
   pub names_of_expr : Expr → List Name
@@ -28,8 +28,15 @@ names_of_option (Some e) = names_of_expr e
 abbrev pub names_of_field : FieldTree → List Name
 names_of_field f = f.name ∷ f.ty ∷ []
 
+abbrev pub names_of_constant : ConstantTree → List Name
+names_of_constant (positive n) = []
+names_of_constant (negative n) = []
+names_of_constant (truth_literal b) = []
+names_of_constant (reference x) = x ∷ []
+
 abbrev pub names_of_position : PositionTree → List Name
 names_of_position (typed f) = names_of_field f
+names_of_position (only c) = names_of_constant c
 
 abbrev pub names_of_entry : EntryTree → List Name
 names_of_entry e = e.name ∷ flat_map names_of_position e.positions
@@ -65,7 +72,7 @@ abbrev pub names_of_instance : InstanceTree → List Name
 names_of_instance i = i.name ∷ i.automaton ∷ flat_map names_of_expr i.arguments
 
 abbrev pub names_of_composition : CompositionTree → List Name
-names_of_composition c = c.name ∷ flat_map names_of_instance c.instances
+names_of_composition c = c.name ∷ (flat_map names_of_instance c.instances ++ c.hidden)
 
 abbrev pub names_of_form : FormTree → List Name
 names_of_form (enumeration ns) = ns

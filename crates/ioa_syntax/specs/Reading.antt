@@ -17,7 +17,7 @@ use Rattle.ioa_syntax.specs.declared.fault.ReadError.TheVariants as errors
 use Rattle.ioa_syntax.specs.declared.tree.Kind.{Kind}
 use Rattle.ioa_syntax.specs.declared.tree.Kind.TheVariants as kinds
 use Rattle.ioa_syntax.specs.Tree as tree
-use Rattle.ioa_syntax.specs.Tree.{Expr, truth, named, parens, prefix, binary, make, select, Exprs, no_expr, also, FieldTree, PositionTree, typed, EntryTree, VariableTree, ProposalTree, Stmt, assign, choose, Stmts, stop, seq, Arms, no_arm, arm, TransitionTree, AutomatonTree, InstanceTree, CompositionTree, FormTree, enumeration, tuple, TypeTree, DeclarationTree, declared_type, automaton, composition, SourceTree}
+use Rattle.ioa_syntax.specs.Tree.{Expr, truth, named, parens, prefix, binary, make, select, Exprs, no_expr, also, FieldTree, ConstantTree, positive, negative, truth_literal, reference, PositionTree, typed, only, EntryTree, VariableTree, ProposalTree, Stmt, assign, choose, Stmts, stop, seq, Arms, no_arm, arm, TransitionTree, AutomatonTree, InstanceTree, CompositionTree, FormTree, enumeration, tuple, TypeTree, DeclarationTree, declared_type, automaton, composition, SourceTree}
 use Rattle.ioa_syntax.specs.Depth.{depth_of}
 use Rattle.ioa_syntax.specs.declared.tree.Infix.{Infix}
 use Rattle.ioa_syntax.specs.declared.tree.Infix.TheVariants.{Operator}
@@ -158,6 +158,10 @@ enclosed p = built (λ p. p.1) (sign terminals.Open ▸ closing p)
 -- one item or more between braces
 unfoldable pub braced : {A : Type 0} → Reader A → Reader (List A)
 braced p = built (λ p. p.1.0) (sign terminals.OpenBrace ▸ (separated terminals.Comma p ▸ sign terminals.CloseBrace))
+
+-- this word or sign, where it comes next
+unfoldable pub perhaps : Terminal → Reader (Unit {0})
+perhaps t ts = Ok (tt, after t ts)
 
 -- items as long as the tokens begin one
 unfoldable pub many_from : {A : Type 0} → (List Tok → Bool) → Reader A → ℕ → List A → Reader (List A)
@@ -341,8 +345,30 @@ field = built (λ p. record { name = p.0; ty = p.1.1 }) (a_name ▸ (sign termin
 unfoldable pub fields : Reader (List FieldTree)
 fields = closing (separated terminals.Comma field)
 
+unfoldable pub literal_of : Terminal → Option ConstantTree
+literal_of terminals.True = Some (truth_literal true)
+literal_of terminals.False = Some (truth_literal false)
+literal_of _ = None
+
+abbrev pub literal_in : Tok → Option ConstantTree
+literal_in (number n) = Some (positive n)
+literal_in (name n) = Some (reference n)
+literal_in (terminal t) = literal_of t
+
+-- the constant that is written with the next token alone
+unfoldable pub literal_at : List Tok → Option ConstantTree
+literal_at [] = None
+literal_at (x ∷ ts) = literal_in x
+
+unfoldable pub literal : Reader ConstantTree
+literal ts = taken ts (literal_at ts)
+
+-- after the word `const`
+unfoldable pub a_constant : Reader ConstantTree
+a_constant ts = if sees terminals.Minus ts then built negative a_number (after terminals.Minus ts) else literal (after terminals.Minus ts)
+
 unfoldable pub position : Reader PositionTree
-position = built typed field
+position ts = if sees terminals.Const ts then built only a_constant (after terminals.Const ts) else built typed field (after terminals.Const ts)
 
 unfoldable pub positions : Reader (List PositionTree)
 positions = closing (separated terminals.Comma position)
@@ -441,9 +467,15 @@ instance depth =
 unfoldable pub instances : ℕ → Reader (List InstanceTree)
 instances depth = terminated sees_name terminals.Semicolon (instance depth)
 
+-- after the word `hidden`
+unfoldable pub hidden_names : Reader (List actions.Name)
+hidden_names = built (λ p. p.0) (separated terminals.Comma a_name ▸ perhaps terminals.Semicolon)
+
 -- after the word `composition`
 unfoldable pub a_composition : ℕ → Reader CompositionTree
-a_composition depth = built (λ p. record { name = p.0; instances = p.1.1 }) (a_name ▸ (sign terminals.Components ▸ instances depth))
+a_composition depth =
+    built (λ p. record { name = p.0; instances = p.1.1.0; hidden = p.1.1.1 })
+    (a_name ▸ (sign terminals.Components ▸ (instances depth ▸ optional_list terminals.Hidden hidden_names)))
 
 unfoldable pub composed : ℕ → Reader DeclarationTree
 composed depth = built (λ p. composition p.1) (sign terminals.Composition ▸ a_composition depth)

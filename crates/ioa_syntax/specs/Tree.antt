@@ -27,9 +27,17 @@ pub record FieldTree : Type 0 where
   pub name : Name
   pub ty : Name
 
--- a position of an entry: a parameter, which stands for any value of its type
+-- a constant: a number without or with `-` before it, a truth value, or the name of a formal or of an enumeration's value
+pub data ConstantTree : Type 0 where
+  positive : ℕ → ConstantTree
+  negative : ℕ → ConstantTree
+  truth_literal : Bool → ConstantTree
+  reference : Name → ConstantTree
+
+-- a position of an entry: a parameter, which stands for any value of its type, or one value only
 pub data PositionTree : Type 0 where
   typed : FieldTree → PositionTree
+  only : ConstantTree → PositionTree
 
 -- an entry of a signature
 pub record EntryTree : Type 0 where
@@ -82,9 +90,11 @@ pub record InstanceTree : Type 0 where
   pub automaton : Name
   pub arguments : List Expr
 
+-- a composition: its components, and the names of the outputs that it hides
 pub record CompositionTree : Type 0 where
   pub name : Name
   pub instances : List InstanceTree
+  pub hidden : List Name
 
 -- what a type is declared to be: the names of an enumeration, the fields of a tuple, or at most so many items of a type
 pub data FormTree : Type 0 where

@@ -7,8 +7,10 @@ use Rattle.ioa_syntax.specs.declared.tree.Name.{Name}
 use Rattle.ioa_syntax.specs.declared.tree.Expression.{Expression, Row_of-Expression, end_of-Expression, more_of-Expression}
 use Rattle.ioa_syntax.specs.declared.tree.Expression.TheVariants as expressions
 use Rattle.ioa_syntax.specs.declared.tree.Field.{Field}
+use Rattle.ioa_syntax.specs.declared.tree.Constant.{Constant}
+use Rattle.ioa_syntax.specs.declared.tree.Constant.TheVariants as constants
 use Rattle.ioa_syntax.specs.declared.tree.Position.{Position}
-use Rattle.ioa_syntax.specs.declared.tree.Position.TheVariants.{Typed}
+use Rattle.ioa_syntax.specs.declared.tree.Position.TheVariants as positions
 use Rattle.ioa_syntax.specs.declared.tree.Entry.{Entry}
 use Rattle.ioa_syntax.specs.declared.tree.Variable.{Variable}
 use Rattle.ioa_syntax.specs.declared.tree.Proposal.{Proposal}
@@ -25,7 +27,7 @@ use Rattle.ioa_syntax.specs.declared.tree.TypeForm.TheVariants as forms
 use Rattle.ioa_syntax.specs.declared.tree.TypeDeclaration.{TypeDeclaration}
 use Rattle.ioa_syntax.specs.declared.tree.Declaration.{Declaration}
 use Rattle.ioa_syntax.specs.declared.tree.Declaration.TheVariants as declarations
-use Rattle.ioa_syntax.specs.Tree.{Expr, number, truth, named, parens, prefix, binary, empty, make, select, Exprs, no_expr, also, FieldTree, PositionTree, typed, EntryTree, VariableTree, ProposalTree, Stmt, assign, choose, Stmts, stop, seq, Arms, no_arm, arm, TransitionTree, AutomatonTree, InstanceTree, CompositionTree, FormTree, enumeration, tuple, sequence, TypeTree, DeclarationTree, declared_type, automaton, composition, SourceTree}
+use Rattle.ioa_syntax.specs.Tree.{Expr, number, truth, named, parens, prefix, binary, empty, make, select, Exprs, no_expr, also, FieldTree, ConstantTree, positive, negative, truth_literal, reference, PositionTree, typed, only, EntryTree, VariableTree, ProposalTree, Stmt, assign, choose, Stmts, stop, seq, Arms, no_arm, arm, TransitionTree, AutomatonTree, InstanceTree, CompositionTree, FormTree, enumeration, tuple, sequence, TypeTree, DeclarationTree, declared_type, automaton, composition, SourceTree}
 
 abbrev pub name_of : Name → actions.Name
 name_of n = string_bytes n.text
@@ -66,8 +68,22 @@ exprs_of (e ∷ es) = also (expr_of e) (exprs_of es)
 abbrev pub field_of : Field → FieldTree
 field_of f = record { name = name_of f.name; ty = name_of f.ty }
 
+abbrev pub constant_of : Constant → ConstantTree
+constant_of (constants.Number n line) = positive n
+constant_of (constants.Negative n line) = negative n
+constant_of (constants.Truth b line) = truth_literal b
+constant_of (constants.Name n) = reference (name_of n)
+
+-- the line of its first token after `const`
+abbrev pub constant_line : Constant → ℕ
+constant_line (constants.Number n line) = line
+constant_line (constants.Negative n line) = line
+constant_line (constants.Truth b line) = line
+constant_line (constants.Name n) = n.line
+
 abbrev pub position_of : Position → PositionTree
-position_of (Typed f) = typed (field_of f)
+position_of (positions.Typed f) = typed (field_of f)
+position_of (positions.Constant c) = only (constant_of c)
 
 abbrev pub entry_of : Entry → EntryTree
 entry_of e = record { kind = e.kind; name = name_of e.name; positions = map position_of e.positions.items }
@@ -126,7 +142,7 @@ abbrev pub instance_of : Instance → InstanceTree
 instance_of i = record { name = name_of i.name; automaton = name_of i.automaton; arguments = map expr_of i.arguments.items }
 
 abbrev pub assembly_of : Assembly → CompositionTree
-assembly_of c = record { name = name_of c.name; instances = map instance_of c.instances.items }
+assembly_of c = record { name = name_of c.name; instances = map instance_of c.instances.items; hidden = map name_of c.hidden.items }
 
 abbrev pub type_form_of : TypeForm → FormTree
 type_form_of (forms.Enumeration ns) = enumeration (map name_of ns.items)

@@ -1,5 +1,5 @@
 -- Which sources are well formed.
-use Rattle.std.specs.Prelude.{ℕ, ◌+◌, ◌==◌, nat_le, Bool, true, false, not, ◌&&◌, ◌||◌, List, [], ◌∷◌, ◌++◌, map, filter, length, sum, Option, Some, None, option_and_then, pos, IsTrue, if◌then◌else◌}
+use Rattle.std.specs.Prelude.{ℕ, ◌+◌, ◌==◌, nat_le, Bool, true, false, not, ◌&&◌, ◌||◌, List, [], ◌∷◌, ◌++◌, map, filter, length, sum, Option, Some, None, is_some, option_and_then, pos, neg_ℤ, IsTrue, if◌then◌else◌}
 use Rattle.std.specs.List.{list_any, list_all, flat_map}
 use Rattle.std.specs.Option.{option_map, option_map_or}
 use Rattle.std.specs.Str.{bytes_eq}
@@ -15,12 +15,13 @@ use Rattle.ioa_syntax.specs.declared.tree.Infix.{Infix}
 use Rattle.ioa_syntax.specs.declared.tree.Infix.TheVariants.{Operator, And, Or, Implies}
 use Rattle.ioa_syntax.specs.declared.tree.Kind.{Kind}
 use Rattle.ioa_syntax.specs.declared.tree.Kind.TheVariants.{Input, Output, Internal}
-use Rattle.ioa_syntax.specs.Tree.{Expr, number, truth, named, parens, prefix, binary, empty, make, select, Exprs, no_expr, also, FieldTree, PositionTree, typed, EntryTree, VariableTree, ProposalTree, Stmt, assign, choose, Stmts, stop, seq, Arms, no_arm, arm, TransitionTree, AutomatonTree, InstanceTree, CompositionTree, FormTree, enumeration, tuple, sequence, TypeTree, DeclarationTree, declared_type, automaton, composition, SourceTree}
+use Rattle.ioa_syntax.specs.Tree.{Expr, number, truth, named, parens, prefix, binary, empty, make, select, Exprs, no_expr, also, FieldTree, ConstantTree, positive, negative, truth_literal, reference, PositionTree, typed, only, EntryTree, VariableTree, ProposalTree, Stmt, assign, choose, Stmts, stop, seq, Arms, no_arm, arm, TransitionTree, AutomatonTree, InstanceTree, CompositionTree, FormTree, enumeration, tuple, sequence, TypeTree, DeclarationTree, declared_type, automaton, composition, SourceTree}
 use Rattle.ioa_syntax.specs.Meaning.{or_else}
 use Rattle.ioa_syntax.specs.Types.{types_of, sequence_named, constant_type}
 use Rattle.ioa_value.specs.declared.limits.Limits.{Limits}
 use Rattle.ioa_value.specs.declared.limits.TheConstants.{LIMITS}
-use Rattle.ioa_syntax.specs.Instances.{field_names, variable_names, position_name}
+use Rattle.ioa_syntax.specs.Instances.{field_names, variable_names}
+pub use Rattle.ioa_syntax.specs.Instances.{position_fields}
 
 -- names with the numbers of their types
 abbrev pub Context : Type 0
@@ -121,9 +122,21 @@ typed_field t f = option_map_or (λ n. (f.name, n) ∷ []) (type_named t f.ty) [
 abbrev pub context_of : Table → List FieldTree → Context
 context_of t fs = flat_map (typed_field t) fs
 
-abbrev pub position_fields : List PositionTree → List FieldTree
-position_fields [] = []
-position_fields (typed f ∷ ps) = f ∷ position_fields ps
+-- a constant's number fits, and its name is one of the context's or an enumeration's
+abbrev pub constant_fine : Table → Context → ConstantTree → Bool
+constant_fine early c (positive n) = fits (pos n)
+constant_fine early c (negative n) = fits (neg_ℤ (pos n))
+constant_fine early c (truth_literal b) = true
+constant_fine early c (reference x) = is_some (or_else (type_in c x) (constant_type early x))
+
+-- a parameter's type is known, and a constant is fine
+abbrev pub position_fine : Table → Context → PositionTree → Bool
+position_fine early c (typed f) = is_type early f
+position_fine early c (only k) = constant_fine early c k
+
+-- the names of an entry's parameters
+abbrev pub parameter_names : EntryTree → List Name
+parameter_names e = field_names (position_fields e.positions)
 
 abbrev pub variable_fields : AutomatonTree → List FieldTree
 variable_fields a = map (λ v. v.field) a.variables
@@ -179,10 +192,10 @@ module _ (t early : Table) (globals : List Name) (a : AutomatonTree) where
   abbrev pub start_fine : VariableTree → Bool
   start_fine v = option_map_or (λ e. same_type (type_of t early formals e) (type_named early v.field.ty)) v.start true
 
-  -- the parameters of an entry have names of their own and known types
+  -- the parameters of an entry have names of their own and known types, and its constants name formals alone
   abbrev pub entry_fine : EntryTree → Bool
-  entry_fine e = distinct (map position_name e.positions) && apart (map position_name e.positions) (globals ++ local_names)
-      && list_all (is_type early) (position_fields e.positions)
+  entry_fine e = distinct (parameter_names e) && apart (parameter_names e) (globals ++ local_names)
+      && list_all (position_fine early formals) e.positions
 
   -- entry and transition are of one kind and one name
   abbrev pub matches : EntryTree → TransitionTree → Bool
@@ -312,7 +325,7 @@ module _ (most : Limits) where
       && list_all entry_within a.entries && list_all transition_within a.transitions
 
   abbrev pub composition_within : CompositionTree → Bool
-  composition_within c = nat_le (length c.instances) most.components
+  composition_within c = nat_le (length c.instances) most.components && nat_le (length c.hidden) most.hidden
 
   abbrev pub form_within : FormTree → Bool
   form_within (enumeration ns) = some_within most.names (length ns)
@@ -351,7 +364,7 @@ module _ (t early : Table) where
       && list_all (λ e. option_map_or (λ ty. true) (type_of t early [] e) false) i.arguments
 
   abbrev pub composition_fine : SourceTree → CompositionTree → Bool
-  composition_fine before c = distinct (map (λ i. i.name) c.instances) && list_all (instance_fine before) c.instances
+  composition_fine before c = distinct (map (λ i. i.name) c.instances) && distinct c.hidden && list_all (instance_fine before) c.instances
 
 module _ (types : Table) (globals : List Name) where
   -- a declaration names the types that are declared before it

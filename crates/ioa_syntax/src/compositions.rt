@@ -5,12 +5,13 @@ ghost use Rattle.std.specs.Prelude.{◌≡◌, map};
 ghost use Rattle.ioa_lex.specs.Tokens.{tokens_shown};
 ghost use Rattle.ioa_syntax.specs.Reading as spec;
 ghost use Rattle.ioa_syntax.specs.Reading.{Reads};
-ghost use Rattle.ioa_syntax.specs.View.{expr_of, instance_of, assembly_of};
+ghost use Rattle.ioa_syntax.specs.View.{name_of, expr_of, instance_of, assembly_of};
 
 use crate::cursor::Cursor;
 use crate::expressions::whole_expression;
 use crate::fault::ReadError;
-use crate::tree::{Assembly, Expression, Instance};
+use crate::tree::{Assembly, Expression, Instance, Name};
+use crate::types::name_list;
 use ioa_lex::Terminal;
 
 #[tactic(auto, unfolding(crate::specs::Reading::separated), using(crate::proofs::Turns::items_turn, crate::proofs::Turns::items_close, crate::proofs::Turns::items_fail, crate::proofs::Turns::items_spent))]
@@ -71,6 +72,19 @@ fn instances(cursor: &mut Cursor<'_>) -> Result<Vec<Instance>, ReadError>
     Err(cursor.fault())
 }
 
+/// The names after the word `hidden`, with or without a semicolon at their end, or none.
+#[tactic(auto, unfolding(crate::specs::Reading::optional_list, crate::specs::Reading::hidden_names, crate::specs::Reading::perhaps))]
+fn hidden(cursor: &mut Cursor<'_>) -> Result<Vec<Name>, ReadError>
+    ensures { Reads (λ v. map name_of v.items) (spec.optional_list Terminal.Hidden spec.hidden_names (tokens_shown cursor.old)) result (tokens_shown cursor.new) }
+{
+    if !cursor.take(Terminal::Hidden) {
+        return Ok(Vec::new(cursor.alloc()));
+    }
+    let found = name_list(cursor)?;
+    cursor.take(Terminal::Semicolon);
+    Ok(found)
+}
+
 /// What stands after the word `composition`.
 #[tactic(auto, unfolding(crate::specs::Reading::a_composition))]
 pub(crate) fn composition(cursor: &mut Cursor<'_>) -> Result<Assembly, ReadError>
@@ -79,5 +93,10 @@ pub(crate) fn composition(cursor: &mut Cursor<'_>) -> Result<Assembly, ReadError
     let name = cursor.name()?;
     cursor.expect(Terminal::Components)?;
     let instances = instances(cursor)?;
-    Ok(Assembly { name, instances })
+    let hidden = hidden(cursor)?;
+    Ok(Assembly {
+        name,
+        instances,
+        hidden,
+    })
 }

@@ -28,6 +28,6 @@ pub use parsing::parse;
 pub use printing::print;
 pub use source::Source;
 pub use tree::{
-    Arm, Assembly, Automaton, Declaration, Entry, Expression, Field, Infix, Instance, Kind, Name,
-    Position, Proposal, Statement, Transition, TypeDeclaration, TypeForm, Variable,
+    Arm, Assembly, Automaton, Constant, Declaration, Entry, Expression, Field, Infix, Instance,
+    Kind, Name, Position, Proposal, Statement, Transition, TypeDeclaration, TypeForm, Variable,
 };

@@ -5,8 +5,8 @@ ghost use Rattle.std.specs.Option.{option_map};
 ghost use Rattle.ioa_syntax.specs.View.{expr_of, exprs_of, stmt_of, stmts_of, arm_of, arms_of};
 
 use crate::tree::{
-    Arm, Assembly, Automaton, Declaration, Entry, Expression, Field, Instance, Name, Position,
-    Proposal, Statement, Transition, TypeDeclaration, TypeForm, Variable,
+    Arm, Assembly, Automaton, Constant, Declaration, Entry, Expression, Field, Instance, Name,
+    Position, Proposal, Statement, Transition, TypeDeclaration, TypeForm, Variable,
 };
 
 /// Values that stand for trees.
@@ -123,6 +123,25 @@ impl Same for Field {
     }
 }
 
+impl Same for Constant {
+    ghost use Rattle.ioa_syntax.specs.Tree.{ConstantTree};
+    ghost use Rattle.ioa_syntax.specs.View.{constant_of};
+
+    ghost Tree = { ConstantTree };
+
+    ghost tree = { constant_of };
+
+    fn same(&self, other: &Constant) -> bool {
+        match (self, other) {
+            (Constant::Number(a, _), Constant::Number(b, _)) => a == b,
+            (Constant::Negative(a, _), Constant::Negative(b, _)) => a == b,
+            (Constant::Truth(a, _), Constant::Truth(b, _)) => a == b,
+            (Constant::Name(a), Constant::Name(b)) => a.same(b),
+            _ => false,
+        }
+    }
+}
+
 impl Same for Position {
     ghost use Rattle.ioa_syntax.specs.Tree.{PositionTree};
     ghost use Rattle.ioa_syntax.specs.View.{position_of};
@@ -132,8 +151,11 @@ impl Same for Position {
     ghost tree = { position_of };
 
     fn same(&self, other: &Position) -> bool {
-        let (Position::Typed(this), Position::Typed(that)) = (self, other);
-        this.same(that)
+        match (self, other) {
+            (Position::Typed(a), Position::Typed(b)) => a.same(b),
+            (Position::Constant(a), Position::Constant(b)) => a.same(b),
+            _ => false,
+        }
     }
 }
 
@@ -300,7 +322,9 @@ impl Same for Assembly {
     ghost tree = { assembly_of };
 
     fn same(&self, other: &Assembly) -> bool {
-        self.name.same(&other.name) && same_list(&self.instances, &other.instances)
+        self.name.same(&other.name)
+            && same_list(&self.instances, &other.instances)
+            && same_list(&self.hidden, &other.hidden)
     }
 }
 

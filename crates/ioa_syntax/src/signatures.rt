@@ -4,12 +4,12 @@ ghost use Rattle.std.specs.Prelude.{◌≡◌, map};
 ghost use Rattle.ioa_lex.specs.Tokens.{tokens_shown};
 ghost use Rattle.ioa_syntax.specs.Reading as spec;
 ghost use Rattle.ioa_syntax.specs.Reading.{Reads};
-ghost use Rattle.ioa_syntax.specs.View.{field_of, position_of, entry_of};
+ghost use Rattle.ioa_syntax.specs.View.{field_of, constant_of, position_of, entry_of};
 
 use crate::cursor::Cursor;
 use crate::fault::ReadError;
-use crate::tree::{Entry, Field, Position};
-use ioa_lex::Terminal;
+use crate::tree::{Constant, Entry, Field, Position};
+use ioa_lex::{Kind, Terminal, Token};
 
 /// A name and its type.
 #[tactic(auto, unfolding(crate::specs::Reading::field))]
@@ -50,10 +50,44 @@ pub(crate) fn formals(cursor: &mut Cursor<'_>) -> Result<Vec<Field>, ReadError>
     Ok(found)
 }
 
+/// A constant that is written with one token.
+#[tactic(auto, unfolding(crate::specs::Reading::literal, crate::specs::Reading::literal_at, crate::specs::Reading::literal_of, crate::specs::Reading::a_name))]
+fn literal(cursor: &mut Cursor<'_>) -> Result<Constant, ReadError>
+    ensures { Reads constant_of (spec.literal (tokens_shown cursor.old)) result (tokens_shown cursor.new) }
+{
+    let Some(Token { kind, line }) = cursor.peek() else {
+        return Err(cursor.fault());
+    };
+    let constant = match kind {
+        Kind::Number(n) => Constant::Number(*n, *line),
+        Kind::Terminal(Terminal::True) => Constant::Truth(true, *line),
+        Kind::Terminal(Terminal::False) => Constant::Truth(false, *line),
+        Kind::Name(_) => return Ok(Constant::Name(cursor.name()?)),
+        Kind::Terminal(_) => return Err(cursor.fault()),
+    };
+    cursor.skip();
+    Ok(constant)
+}
+
+/// What stands after the word `const`.
+#[tactic(auto, unfolding(crate::specs::Reading::a_constant))]
+fn constant(cursor: &mut Cursor<'_>) -> Result<Constant, ReadError>
+    ensures { Reads constant_of (spec.a_constant (tokens_shown cursor.old)) result (tokens_shown cursor.new) }
+{
+    let line = cursor.line();
+    if cursor.take(Terminal::Minus) {
+        return Ok(Constant::Negative(cursor.number()?, line));
+    }
+    literal(cursor)
+}
+
 #[tactic(auto, unfolding(crate::specs::Reading::position))]
 fn position(cursor: &mut Cursor<'_>) -> Result<Position, ReadError>
     ensures { Reads position_of (spec.position (tokens_shown cursor.old)) result (tokens_shown cursor.new) }
 {
+    if cursor.take(Terminal::Const) {
+        return Ok(Position::Constant(constant(cursor)?));
+    }
     Ok(Position::Typed(field(cursor)?))
 }
 

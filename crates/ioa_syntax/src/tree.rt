@@ -1,5 +1,5 @@
 ghost use Rattle.std.specs.Prelude.{◌≡◌};
-ghost use Rattle.ioa_syntax.specs.View.{first_line};
+ghost use Rattle.ioa_syntax.specs.View.{first_line, constant_line};
 
 use ioa_value::Op;
 
@@ -75,11 +75,38 @@ pub enum Kind {
     Internal,
 }
 
+/// The constant of a position, with the line of its first token.
+#[derive(Drop)]
+pub enum Constant {
+    Number(u64, u32),
+    /// A number after `-`.
+    Negative(u64, u32),
+    Truth(bool, u32),
+    /// A formal, or a name of an enumeration.
+    Name(Name),
+}
+
+impl Constant {
+    /// The line of its first token.
+    pub fn line(&self) -> u32
+        ensures { result ≡ constant_line self.now }
+    {
+        match self {
+            Constant::Name(name) => name.line,
+            Constant::Number(_, line) | Constant::Negative(_, line) | Constant::Truth(_, line) => {
+                *line
+            }
+        }
+    }
+}
+
 /// A position of a signature's entry.
 #[derive(Drop)]
 pub enum Position {
     /// A parameter, which stands for any value of its type.
     Typed(Field),
+    /// One value only: a constant has no name.
+    Constant(Constant),
 }
 
 /// An entry of a signature.
@@ -154,6 +181,8 @@ pub struct Instance {
 pub struct Assembly {
     pub name: Name,
     pub instances: Vec<Instance>,
+    /// The names of the outputs that are hidden.
+    pub hidden: Vec<Name>,
 }
 
 /// What a type is declared to be.

@@ -12,8 +12,9 @@ use crate::signatures::field_list;
 use crate::tree::{Field, Name, TypeDeclaration, TypeForm};
 use ioa_lex::Terminal;
 
+/// Names, with commas between them.
 #[tactic(auto, unfolding(crate::specs::Reading::separated), using(crate::proofs::Turns::items_turn, crate::proofs::Turns::items_close, crate::proofs::Turns::items_fail, crate::proofs::Turns::items_spent))]
-fn name_list(cursor: &mut Cursor<'_>) -> Result<Vec<Name>, ReadError>
+pub(crate) fn name_list(cursor: &mut Cursor<'_>) -> Result<Vec<Name>, ReadError>
     ensures { Reads (λ v. map name_of v.items) (spec.separated Terminal.Comma spec.a_name (tokens_shown cursor.old)) result (tokens_shown cursor.new) }
 {
     let mut found = Vec::new(cursor.alloc());

@@ -3,12 +3,13 @@
 ghost use Rattle.std.specs.Prelude.{◌≡◌, ◌++◌, ◌<◌, map, OnOk};
 ghost use Rattle.std.specs.String.{string_bytes};
 ghost use Rattle.ioa_syntax.specs.Layout as spec;
-ghost use Rattle.ioa_syntax.specs.View.{expr_of, instance_of, assembly_of};
+ghost use Rattle.ioa_syntax.specs.View.{name_of, expr_of, instance_of, assembly_of};
 
 use crate::printing::expressions::{expression, more_expressions};
 use crate::printing::signatures::before;
+use crate::printing::types::name_list;
 use crate::printing::words::{LINE, SPACE, name, word};
-use crate::tree::{Assembly, Expression, Instance};
+use crate::tree::{Assembly, Expression, Instance, Name};
 use ioa_lex::Terminal;
 use ioa_value::OutOfMemory;
 
@@ -53,11 +54,22 @@ fn instances(text: &mut String, instances: &[Instance]) -> Result<(), OutOfMemor
     more_instances(text, more)
 }
 
+fn hidden(text: &mut String, names: &[Name]) -> Result<(), OutOfMemory>
+    ensures { OnOk result (string_bytes text.new ≡ string_bytes text.old ++ spec.text_hidden (map name_of names.now)) }
+{
+    if names.is_empty() {
+        return Ok(());
+    }
+    word(text, Terminal::Hidden, SPACE)?;
+    name_list(text, names, LINE)
+}
+
 /// Writes what stands after the word `composition`.
 pub(crate) fn composition(text: &mut String, composition: &Assembly) -> Result<(), OutOfMemory>
     ensures { OnOk result (string_bytes text.new ≡ string_bytes text.old ++ spec.text_composition (assembly_of composition.now)) }
 {
     name(text, &composition.name, SPACE)?;
     word(text, Terminal::Components, LINE)?;
-    instances(text, &composition.instances)
+    instances(text, &composition.instances)?;
+    hidden(text, &composition.hidden)
 }

@@ -4,10 +4,10 @@ ghost use Rattle.std.specs.Prelude.{◌≡◌, ◌++◌, ◌<◌, map, OnOk};
 ghost use Rattle.std.specs.String.{string_bytes};
 ghost use Rattle.ioa_syntax.specs.Grammar.{kind_word};
 ghost use Rattle.ioa_syntax.specs.Layout as spec;
-ghost use Rattle.ioa_syntax.specs.View.{field_of, position_of, entry_of};
+ghost use Rattle.ioa_syntax.specs.View.{field_of, constant_of, position_of, entry_of};
 
-use crate::printing::words::{LINE, SPACE, name, word};
-use crate::tree::{Entry, Field, Kind, Position};
+use crate::printing::words::{LINE, SPACE, name, number, word};
+use crate::tree::{Constant, Entry, Field, Kind, Position};
 use ioa_lex::Terminal;
 use ioa_value::OutOfMemory;
 
@@ -71,11 +71,30 @@ pub(crate) fn formals(text: &mut String, fields: &[Field]) -> Result<(), OutOfMe
     word(text, Terminal::Close, LINE)
 }
 
+fn constant(text: &mut String, constant: &Constant) -> Result<(), OutOfMemory>
+    ensures { OnOk result (string_bytes text.new ≡ string_bytes text.old ++ spec.text_constant (constant_of constant.now)) }
+{
+    match constant {
+        Constant::Number(n, _) => number(text, *n, SPACE),
+        Constant::Negative(n, _) => {
+            word(text, Terminal::Minus, SPACE)?;
+            number(text, *n, SPACE)
+        }
+        Constant::Truth(true, _) => word(text, Terminal::True, SPACE),
+        Constant::Truth(false, _) => word(text, Terminal::False, SPACE),
+        Constant::Name(inner) => name(text, inner, SPACE),
+    }
+}
+
 fn position(text: &mut String, position: &Position) -> Result<(), OutOfMemory>
     ensures { OnOk result (string_bytes text.new ≡ string_bytes text.old ++ spec.text_position (position_of position.now)) }
 {
     match position {
-        Position::Typed(typed) => field(text, typed, SPACE),
+        Position::Typed(inner) => field(text, inner, SPACE),
+        Position::Constant(inner) => {
+            word(text, Terminal::Const, SPACE)?;
+            constant(text, inner)
+        }
     }
 }
 

@@ -11,31 +11,34 @@ use crate::tree::{Field, Name, TypeDeclaration, TypeForm};
 use ioa_lex::Terminal;
 use ioa_value::OutOfMemory;
 
-fn more_names(text: &mut String, names: &[Name]) -> Result<(), OutOfMemory>
-    ensures { OnOk result (string_bytes text.new ≡ string_bytes text.old ++ spec.text_more Terminal.Comma (spec.text_name spec.space) (map name_of names.now)) }
+fn more_names(text: &mut String, names: &[Name], end: char) -> Result<(), OutOfMemory>
+    requires { end < 128 }
+    ensures { OnOk result (string_bytes text.new ≡ string_bytes text.old ++ spec.text_more Terminal.Comma (spec.text_name end) (map name_of names.now)) }
 {
     for each in names {
         word(text, Terminal::Comma, SPACE)?;
-        name(text, each, SPACE)?;
+        name(text, each, end)?;
     }
     Ok(())
 }
 
-fn name_list(text: &mut String, names: &[Name]) -> Result<(), OutOfMemory>
-    ensures { OnOk result (string_bytes text.new ≡ string_bytes text.old ++ spec.text_list Terminal.Comma (spec.text_name spec.space) (map name_of names.now)) }
+/// Writes names, with commas between them.
+pub(crate) fn name_list(text: &mut String, names: &[Name], end: char) -> Result<(), OutOfMemory>
+    requires { end < 128 }
+    ensures { OnOk result (string_bytes text.new ≡ string_bytes text.old ++ spec.text_list Terminal.Comma (spec.text_name end) (map name_of names.now)) }
 {
     let Some((first, more)) = names.split_first() else {
         return Ok(());
     };
-    name(text, first, SPACE)?;
-    more_names(text, more)
+    name(text, first, end)?;
+    more_names(text, more, end)
 }
 
 fn names(text: &mut String, names: &[Name]) -> Result<(), OutOfMemory>
     ensures { OnOk result (string_bytes text.new ≡ string_bytes text.old ++ spec.text_braces (spec.text_name spec.space) (map name_of names.now)) }
 {
     word(text, Terminal::OpenBrace, SPACE)?;
-    name_list(text, names)?;
+    name_list(text, names, SPACE)?;
     word(text, Terminal::CloseBrace, LINE)
 }
 
