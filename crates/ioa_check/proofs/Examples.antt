@@ -1,12 +1,14 @@
 -- Small sources that break rules, and the codes that have their reason in each: computed.
-use Rattle.std.proofs.Common.{◌≡◌, ℕ, List, [], ◌∷◌, ◌++◌, map, filter, Some, None, true, false, refl, codes}
+use Rattle.std.proofs.Common.{◌≡◌, ℕ, List, [], ◌∷◌, ◌++◌, map, filter, Some, None, true, false, replicate, refl, codes}
 use Rattle.std.specs.Option.{option_map_or}
+use Rattle.ioa_value.specs.Actions.{Name}
 use Rattle.ioa_value.specs.declared.operator.Op.TheVariants.{Eq, Add, Not}
 use Rattle.ioa_lex.specs.declared.refusal.Refusal.{Refusal}
 use Rattle.ioa_lex.specs.declared.refusal.Refusal.TheVariants.{DuplicateName, UnknownName, TypeMismatch, BadSignature, NoProposal, TooMany, TooWide}
 use Rattle.ioa_syntax.specs.declared.tree.Infix.TheVariants.{Operator, And}
-use Rattle.ioa_syntax.specs.Tree.{Expr, number, truth, named, prefix, binary, empty, make, select, no_expr, also, assign, choose, stop, seq, no_arm, arm, enumeration, tuple, sequence, automaton, composition, SourceTree}
-use Rattle.ioa_syntax.proofs.Examples.{field, count_variable, tick_proposal, tick_transition, reset_transition, counter, one, source, with_formals, with_variables, with_transitions, with_pre, with_proposals, with_effect, plain_variable, variables_from}
+use Rattle.ioa_syntax.specs.Tree.{Expr, number, truth, named, prefix, binary, empty, make, select, no_expr, also, ConstantTree, positive, negative, truth_literal, reference, PositionTree, only, assign, choose, stop, seq, no_arm, arm, enumeration, tuple, sequence, automaton, composition, SourceTree}
+use Rattle.ioa_syntax.specs.WellFormed.{well_formed}
+use Rattle.ioa_syntax.proofs.Examples.{field, tick_entry, reset_entry, count_variable, tick_proposal, tick_transition, reset_transition, counter, one, source, with_formals, with_entries, with_variables, with_transitions, with_pre, with_proposals, with_effect, plain_variable, variables_from}
 use Rattle.ioa_syntax.proofs.TypeExamples.{of_type, type, kind, packet, three, cell, comparing, starting, one_type, nested, fields_from, sender}
 use Rattle.ioa_check.specs.Codes as codes_of
 use Rattle.ioa_check.specs.Codes.{code_of}
@@ -238,3 +240,64 @@ takes_a_field_of_a_number = refl
 
 takes_a_field_of_nothing : told (starting (codes "Int") (select (named (codes "nak")) (codes "tag"))) ≡ 6 ∷ []
 takes_a_field_of_nothing = refl
+
+-- ---- constants of positions
+
+-- the counter whose reset is at a constant
+abbrev resets_at : ConstantTree → SourceTree
+resets_at k = with_entries (tick_entry ∷ record reset_entry { positions = only k ∷ [] } ∷ [])
+
+resets_at_a_formal : told (resets_at (reference (codes "start"))) ≡ []
+resets_at_a_formal = refl
+
+resets_at_a_name_of_a_type : told (kind ∷ resets_at (reference (codes "ack"))) ≡ []
+resets_at_a_name_of_a_type = refl
+
+resets_at_a_later_name : told (resets_at (reference (codes "ack")) ++ kind ∷ []) ≡ 6 ∷ []
+resets_at_a_later_name = refl
+
+resets_at_nothing : told (resets_at (reference (codes "d"))) ≡ 6 ∷ []
+resets_at_nothing = refl
+
+resets_at_a_variable : told (resets_at (reference (codes "c"))) ≡ 6 ∷ []
+resets_at_a_variable = refl
+
+resets_at_the_least : told (resets_at (negative 9223372036854775808)) ≡ []
+resets_at_the_least = refl
+
+resets_at_less : told (resets_at (negative 9223372036854775809)) ≡ 7 ∷ []
+resets_at_less = refl
+
+resets_at_too_much : told (resets_at (positive 9223372036854775808)) ≡ 7 ∷ []
+resets_at_too_much = refl
+
+-- the counter whose tick has other positions
+abbrev ticks_at : List PositionTree → SourceTree
+ticks_at ps = with_entries (record tick_entry { positions = ps } ∷ reset_entry ∷ [])
+
+-- a constant has no name, needs no proposal, and counts as a position
+ticks_beside_constants : told (ticks_at (only (truth_literal true) ∷ only (positive 0) ∷ tick_entry.positions)) ≡ []
+ticks_beside_constants = refl
+
+ticks_twice : told (ticks_at (only (positive 0) ∷ tick_entry.positions ++ tick_entry.positions)) ≡ 5 ∷ []
+ticks_twice = refl
+
+ticks_at_too_many : told (ticks_at (replicate 8 (only (positive 0)) ++ tick_entry.positions)) ≡ 10 ∷ []
+ticks_at_too_many = refl
+
+-- ---- hidden names
+
+abbrev hiding : List Name → SourceTree
+hiding hidden = automaton counter ∷ composition (record (one (number 5 ∷ [])) { hidden = hidden }) ∷ []
+
+hides_one : told (hiding (codes "tick" ∷ [])) ≡ []
+hides_one = refl
+
+hides_one_twice : told (hiding (codes "tick" ∷ codes "tick" ∷ [])) ≡ 5 ∷ []
+hides_one_twice = refl
+
+hides_one_twice_in_vain : well_formed (hiding (codes "tick" ∷ codes "tick" ∷ [])) ≡ false
+hides_one_twice_in_vain = refl
+
+hides_too_many : told (hiding (replicate 65 (codes "tick"))) ≡ 5 ∷ 10 ∷ []
+hides_too_many = refl

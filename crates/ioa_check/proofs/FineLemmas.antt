@@ -1,56 +1,44 @@
 -- What the parts of a source say, joined.
-use Rattle.std.proofs.Common.{◌≡◌, Bool, true, ◌&&◌, List, [], ◌++◌, map, Result, IsErr, sym, ap, ◌∙◌}
+use Rattle.std.proofs.Common.{◌≡◌, Bool, true, ◌&&◌, List, ◌++◌, map, Result, sym, ap, subst, ◌∙◌}
 use Rattle.std.specs.List.{list_all}
 use Rattle.std.proofs.lemmas.Bool.{and_from, or_right}
-use Rattle.ioa_value.specs.Actions.{Name}
+use Rattle.ioa_value.specs.Actions as actions
 use Rattle.ioa_lex.specs.declared.refusal.Refusal.{Refusal}
-use Rattle.ioa_syntax.specs.declared.tree.Field.{Field}
-use Rattle.ioa_syntax.specs.declared.tree.Variable.{Variable}
+use Rattle.ioa_syntax.specs.declared.tree.Name.{Name}
 use Rattle.ioa_syntax.specs.declared.tree.Position.{Position}
 use Rattle.ioa_syntax.specs.declared.tree.Entry.{Entry}
 use Rattle.ioa_syntax.specs.declared.tree.Proposal.{Proposal}
 use Rattle.ioa_syntax.specs.declared.tree.Instance.{Instance}
+use Rattle.ioa_syntax.specs.Instances.{field_names}
 use Rattle.ioa_syntax.specs.Tree.{AutomatonTree, EntryTree, ProposalTree, SourceTree}
-use Rattle.ioa_syntax.specs.View.{name_of, field_of, variable_of, position_of, entry_of, proposal_of, instance_of}
+use Rattle.ioa_syntax.specs.View.{name_of, position_of, entry_of, proposal_of, instance_of}
 use Rattle.ioa_value.specs.Table.{Table}
-use Rattle.ioa_syntax.specs.Instances.{position_name}
 use Rattle.ioa_syntax.specs.WellFormed as well_formed
-use Rattle.ioa_syntax.specs.WellFormed.{distinct, apart, is_type, position_fields}
-use Rattle.ioa_check.specs.Fields.{field_in}
-use Rattle.ioa_check.specs.Codes.{duplicate_name, unknown_name, tells}
+use Rattle.ioa_syntax.specs.WellFormed.{Context, distinct, apart, parameter_names}
+use Rattle.ioa_check.specs.Fields.{parameters}
+use Rattle.ioa_check.specs.Codes.{duplicate_name, tells}
 use Rattle.ioa_check.specs.Reasons as reasons
 use Rattle.ioa_check.specs.Reasons.{Reasons, broken, in_any, ◌or◌}
 use Rattle.ioa_check.specs.Verdicts.{Says}
-use Rattle.ioa_check.proofs.SayLemmas.{says-last, says-at, says-more, says-broken, err-first, err-last}
-use Rattle.ioa_value.proofs.NameLemmas.{apart-append}
-use Rattle.ioa_check.proofs.ViewLemmas.{names-of_fields, names-of_variables, names-of_positions, names-of_entries, names-of_proposals, names-of_instances, fields-of_positions}
+use Rattle.ioa_check.proofs.SayLemmas.{says-last, says-at, says-more, says-broken}
+use Rattle.ioa_check.proofs.ViewLemmas.{names-of_entries, names-of_proposals, names-of_instances}
 
-abbrev position_names : List Position → List Name
-position_names ps = map (λ p. position_name (position_of p)) ps
-
-abbrev formal_names : List Field → List Name
-formal_names fs = map (λ f. name_of f.name) fs
-
-abbrev state_names : List Variable → List Name
-state_names vs = map (λ v. name_of v.field.name) vs
-
-pub parameters-apart : (g : List Name) (ps : List Position) (fs : List Field) (vs : List Variable) → (apart (position_names ps) g && (apart (position_names ps) (formal_names fs) && apart (position_names ps) (state_names vs))) ≡ apart (map position_name (map position_of ps)) (g ++ (map (λ f. f.name) (map field_of fs) ++ map (λ v. v.field.name) (map variable_of vs)))
-parameters-apart g ps fs vs =
-    sym (ap (λ ns. apart ns (g ++ (map (λ f. f.name) (map field_of fs) ++ map (λ v. v.field.name) (map variable_of vs)))) (names-of_positions ps)
-    ∙ ap (λ ns. apart (position_names ps) (g ++ (ns ++ map (λ v. v.field.name) (map variable_of vs)))) (names-of_fields fs)
-    ∙ ap (λ ns. apart (position_names ps) (g ++ (formal_names fs ++ ns))) (names-of_variables vs)
-    ∙ apart-append (position_names ps) g (formal_names fs ++ state_names vs)
-    ∙ ap (λ b. apart (position_names ps) g && b) (apart-append (position_names ps) (formal_names fs) (state_names vs)))
-
-pub entry-says : {T : Type 0} (r : Result T Refusal) (t early : Table) (g : List Name) (a : AutomatonTree) (e : Entry) (xs ys : List Position) → xs ≡ e.positions.items → ys ≡ e.positions.items →
-    distinct (position_names xs) ≡ true → apart (map position_name (map position_of e.positions.items)) (g ++ well_formed.local_names t early [] a) ≡ true →
-    Says r (list_all (is_type early) (map (λ p. field_in (position_of p)) ys)) (tells unknown_name) → Says r (well_formed.entry_fine t early g a (entry_of e)) (reasons.in_entry t early g a (entry_of e))
-entry-says r t early g a e xs ys p q d n h =
-    let ps = e.positions.items in
-    let once : distinct (map position_name (map position_of ps)) ≡ true = ap distinct (names-of_positions ps) ∙ ap (λ us. distinct (position_names us)) (sym p) ∙ d in
-    says-more r _ _ _ (λ x k. or_right _ _ k)
-    (says-last r _ _ _ (and_from _ _ once n) (says-broken r unknown_name _
-    (says-at r _ _ _ (ap (λ us. list_all (is_type early) (map (λ p. field_in (position_of p)) us)) q ∙ ap (list_all (is_type early)) (sym (fields-of_positions ps))) h)))
+-- what is said over the scope of starts, whose names are the formals
+pub entry-says : {T : Type 0} (r : Result T Refusal) (t early k : Table) (g : List actions.Name) (a : AutomatonTree) (c : Context) (e : Entry)
+    → (xs ys zs : List Position) → k ≡ early → c ≡ well_formed.formals t early g a
+    → xs ≡ e.positions.items → ys ≡ e.positions.items → zs ≡ e.positions.items
+    → distinct (field_names (parameters xs)) ≡ true → apart (field_names (parameters ys)) (g ++ well_formed.local_names t early g a) ≡ true
+    → Says r (list_all (well_formed.position_fine k c) (map position_of zs)) (in_any (reasons.in_position k c) (map position_of zs))
+    → Says r (well_formed.entry_fine t early g a (entry_of e)) (reasons.in_entry t early g a (entry_of e))
+entry-says r t early k g a c e xs ys zs known names p q s d n h =
+    let says : Table → Context → List Position → Type 0 =
+    λ k c ps. Says r (list_all (well_formed.position_fine k c) (map position_of ps)) (in_any (reasons.in_position k c) (map position_of ps)) in
+    let others = g ++ well_formed.local_names t early g a in
+    let once : distinct (parameter_names (entry_of e)) ≡ true = ap (λ us. distinct (field_names (parameters us))) (sym p) ∙ d in
+    let away : apart (parameter_names (entry_of e)) others ≡ true = ap (λ us. apart (field_names (parameters us)) others) (sym q) ∙ n in
+    says-more r _ _ _ (λ x m. or_right _ _ m)
+    (says-last r _ _ _ (and_from _ _ once away)
+    (subst (λ ps. says early (well_formed.formals t early g a) ps) s (subst (λ c. says early c zs) names (subst (λ k. says k c zs) known h))))
 
 pub entries-say : {T : Type 0} (r : Result T Refusal) (f : EntryTree → Bool) (w : EntryTree → Reasons) (es xs : List Entry) → xs ≡ es → distinct (map (λ e. name_of e.name) xs) ≡ true → Says r (list_all f (map entry_of es)) (in_any w (map entry_of es)) →
     Says r (distinct (map (λ e. e.name) (map entry_of es)) && list_all f (map entry_of es)) (broken duplicate_name (distinct (map (λ e. e.name) (map entry_of es))) or in_any w (map entry_of es))
@@ -64,25 +52,14 @@ proposals-say r f w ps xs p h d =
     says-more r _ _ _ (λ x k. or_right _ _ k)
     (says-last r _ _ _ h (says-broken r duplicate_name _ (says-at r _ _ _ (ap (λ us. distinct (map (λ p. name_of p.name) us)) p ∙ ap distinct (sym (names-of_proposals ps))) d)))
 
-pub composition-says : {T : Type 0} (r : Result T Refusal) (t early : Table) (before : SourceTree) (is xs : List Instance) → xs ≡ is → distinct (map (λ i. name_of i.name) xs) ≡ true →
-    Says r (list_all (well_formed.instance_fine t early before) (map instance_of is)) (in_any (reasons.in_instance t early before) (map instance_of is)) →
-    Says r (distinct (map (λ i. i.name) (map instance_of is)) && list_all (well_formed.instance_fine t early before) (map instance_of is))
-    (broken duplicate_name (distinct (map (λ i. i.name) (map instance_of is))) or in_any (reasons.in_instance t early before) (map instance_of is))
-composition-says r t early before is xs p d h =
-    says-more r _ _ _ (λ x k. or_right _ _ k)
-    (says-last r _ _ _ (ap distinct (names-of_instances is) ∙ ap (λ us. distinct (map (λ i. name_of i.name) us)) (sym p) ∙ d) h)
-
-pub parameters-say-formals : {T : Type 0} (r : Result T Refusal) (g : List Name) (ps xs : List Position) (fs ys : List Field) (vs : List Variable) → xs ≡ ps → ys ≡ fs → IsErr r → Says r (apart (position_names xs) (formal_names ys)) (tells duplicate_name) →
-    Says r (apart (map position_name (map position_of ps)) (g ++ (map (λ f. f.name) (map field_of fs) ++ map (λ v. v.field.name) (map variable_of vs)))) (tells duplicate_name)
-parameters-say-formals r g ps xs fs ys vs p q bad h =
-    says-at r _ _ _ (parameters-apart g ps fs vs)
-    (err-last r _ _ _ bad (err-first r _ _ _ bad (says-at r _ _ _ (ap (λ us. apart (position_names us) (formal_names ys)) p ∙ ap (λ us. apart (position_names ps) (formal_names us)) q) h)))
-
-pub parameters-say : {T : Type 0} (r : Result T Refusal) (g : List Name) (ps : List Position) (fs : List Field) (vs : List Variable) (xs xs1 xs2 : List Position) (ys : List Field) (zs : List Variable) → xs ≡ ps → xs1 ≡ ps → ys ≡ fs → xs2 ≡ ps → zs ≡ vs →
-    apart (position_names xs) g ≡ true → apart (position_names xs1) (formal_names ys) ≡ true → Says r (apart (position_names xs2) (state_names zs)) (tells duplicate_name) →
-    Says r (apart (map position_name (map position_of ps)) (g ++ (map (λ f. f.name) (map field_of fs) ++ map (λ v. v.field.name) (map variable_of vs)))) (tells duplicate_name)
-parameters-say r g ps fs vs xs xs1 xs2 ys zs p p1 q p2 s a b h =
-    says-at r _ _ _ (parameters-apart g ps fs vs)
-    (says-last r _ _ _ (ap (λ us. apart (position_names us) g) (sym p) ∙ a)
-    (says-last r _ _ _ (ap (λ us. apart (position_names us) (formal_names fs)) (sym p1) ∙ ap (λ us. apart (position_names xs1) (formal_names us)) (sym q) ∙ b)
-    (says-at r _ _ _ (ap (λ us. apart (position_names us) (state_names zs)) p2 ∙ ap (λ us. apart (position_names ps) (state_names us)) s) h)))
+pub composition-says : {T : Type 0} (r : Result T Refusal) (t early : Table) (before : SourceTree) (is xs : List Instance) (hs ys : List Name)
+    → xs ≡ is → ys ≡ hs → distinct (map (λ i. name_of i.name) xs) ≡ true → distinct (map name_of ys) ≡ true
+    → Says r (list_all (well_formed.instance_fine t early before) (map instance_of is)) (in_any (reasons.in_instance t early before) (map instance_of is))
+    → Says r (distinct (map (λ i. i.name) (map instance_of is)) && distinct (map name_of hs) && list_all (well_formed.instance_fine t early before) (map instance_of is))
+    (broken duplicate_name (distinct (map (λ i. i.name) (map instance_of is)) && distinct (map name_of hs))
+    or in_any (reasons.in_instance t early before) (map instance_of is))
+composition-says r t early before is xs hs ys p q d e h =
+    let components : distinct (map (λ i. i.name) (map instance_of is)) ≡ true =
+    ap distinct (names-of_instances is) ∙ ap (λ us. distinct (map (λ i. name_of i.name) us)) (sym p) ∙ d in
+    let hidden : distinct (map name_of hs) ≡ true = ap (λ us. distinct (map name_of us)) (sym q) ∙ e in
+    says-more r _ _ _ (λ x k. or_right _ _ k) (says-last r _ _ _ (and_from _ _ components hidden) h)

@@ -2,6 +2,7 @@
 use Rattle.std.proofs.Common.{◌≡◌, ℕ, ◌||◌, List, [], ◌∷◌, map, refl, ap, ◌∙◌}
 use Rattle.std.specs.List.{list_any}
 use Rattle.std.specs.Str.{bytes_eq}
+use Rattle.std.proofs.lemmas.List.Folds.{list_any-append}
 use denote.Ref.{Bor}
 use Rattle.ioa_value.specs.Table.{contains}
 use Rattle.ioa_value.proofs.NameLemmas.{bytes_eq-sym, distinct-append, apart-append, append-apart}
@@ -11,4 +12,4 @@ pub contains-texts : (ks : List (Bor (List ℕ))) (x : List ℕ) → list_any (�
 contains-texts [] x = refl
 contains-texts (k ∷ ks) x = ap (λ b. b || list_any (λ k. bytes_eq x k.now) ks) (bytes_eq-sym x k.now) ∙ ap (λ b. bytes_eq k.now x || b) (contains-texts ks x)
 
-pub ruleset joins = (distinct-append, apart-append, append-apart)
+pub ruleset joins = (distinct-append, apart-append, append-apart, list_any-append)

@@ -1,5 +1,5 @@
 -- What an answer says about tests that are joined.
-use Rattle.std.proofs.Common.{◌≡◌, ℕ, ◌+◌, ◌<◌, Bool, true, false, ◌&&◌, List, ◌∷◌, map, drop, length, get_or, take, ◌++◌, Result, Ok, Err, IsErr, sym, ap, subst, ◌∙◌, take-append-drop}
+use Rattle.std.proofs.Common.{◌≡◌, ℕ, ◌+◌, ◌<◌, Bool, true, false, ◌&&◌, List, ◌∷◌, map, drop, length, get_or, take, ◌++◌, Result, Ok, Err, sym, ap, subst, ◌∙◌, take-append-drop}
 use Rattle.std.proofs.lemmas.List.{map-append}
 use Rattle.std.proofs.lemmas.List.Folds.{list_any-append}
 use Rattle.std.specs.List.{list_all, list_any}
@@ -61,15 +61,6 @@ says-in-list q r e f w v xs ys i x at l is h was bad k = fails r bad (says-passe
     fails (Ok y) bad k = absurd bad
     fails (Err y) bad k =
         (ap (λ zs. list_any (λ z. w z y) (map v zs)) (sym at) ∙ any-at (λ z. w z y) v ys i x l is k.0, all_fails f v xs ys i x _ at l is h k.1)
-
--- an error at one of two tests is one for both
-pub err-first : {T : Type 0} (r : Result T Refusal) (a b : Bool) (w : Reasons) → IsErr r → Says r a w → Says r (a && b) w
-err-first (Ok x) a b w bad h = absurd (cc)
-err-first (Err x) a b w bad h = (h.0, and_left a b h.1)
-
-pub err-last : {T : Type 0} (r : Result T Refusal) (a b : Bool) (w : Reasons) → IsErr r → Says r b w → Says r (a && b) w
-err-last (Ok x) a b w bad h = absurd (cc)
-err-last (Err x) a b w bad h = (h.0, and_right a b h.1)
 
 -- ---- where memory may be short
 

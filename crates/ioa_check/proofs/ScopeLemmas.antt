@@ -6,13 +6,13 @@ use Rattle.ioa_value.specs.Actions.{Name}
 use Rattle.ioa_syntax.specs.Tree.{FieldTree}
 use Rattle.ioa_syntax.specs.View.{field_of}
 use Rattle.ioa_value.specs.Table.{Table, type_named}
-use Rattle.ioa_syntax.specs.WellFormed.{Context, type_in, context_of, position_fields}
+use Rattle.ioa_syntax.specs.WellFormed.{Context, type_in, context_of}
 use Rattle.ioa_check.specs.declared.scope.Scope.{Scope}
 use Rattle.ioa_check.specs.Scopes.{context}
-use Rattle.ioa_check.specs.Fields.{field_in, type_under}
-use Rattle.ioa_syntax.specs.View.{variable_of, position_of}
+use Rattle.ioa_check.specs.Fields.{parameters, type_under}
+use Rattle.ioa_syntax.specs.View.{variable_of}
 use Rattle.ioa_check.specs.Known.{early}
-use Rattle.ioa_check.proofs.ViewLemmas.{fields-of_variables, fields-of_positions}
+use Rattle.ioa_check.proofs.ViewLemmas.{fields-of_variables}
 use Rattle.ioa_value.proofs.ItemLemmas.{drop_item}
 
 pub type_in-append : (c d : Context) (x : Name) → type_in (c ++ d) x ≡ option_or (type_in c x) (type_in d x)
@@ -45,20 +45,30 @@ types-stop t tree xs i y x n l e h k =
 chained : (a b c : Context) (x : Name) → type_in ((a ++ b) ++ c) x ≡ option_or (option_or (type_in a x) (type_in b x)) (type_in c x)
 chained a b c x = type_in-append (a ++ b) c x ∙ ap (λ o. option_or o (type_in c x)) (type_in-append a b x)
 
--- a name of a scope is a variable, or else a formal, or else a parameter
-pub lookup-is : (s : Scope) (x : Name) → type_in (context s) x ≡ option_or (option_or (type_in (context_of (early s.known) (map (λ v. field_of v.field) s.variables.now)) x) (type_in (context_of (early s.known) (map field_of s.formals.now)) x)) (type_in (context_of (early s.known) (map (λ p. field_in (position_of p)) s.positions.now)) x)
-lookup-is s x =
-    chained (context_of (early s.known) (map (λ v. v.field) (map variable_of s.variables.now))) (context_of (early s.known) (map field_of s.formals.now)) (context_of (early s.known) (position_fields (map position_of s.positions.now))) x
-    ∙ ap (λ fs. option_or (option_or (type_in (context_of (early s.known) fs) x) (type_in (context_of (early s.known) (map field_of s.formals.now)) x)) (type_in (context_of (early s.known) (position_fields (map position_of s.positions.now))) x)) (fields-of_variables s.variables.now)
-    ∙ ap (λ fs. option_or (option_or (type_in (context_of (early s.known) (map (λ v. field_of v.field) s.variables.now)) x) (type_in (context_of (early s.known) (map field_of s.formals.now)) x)) (type_in (context_of (early s.known) fs) x)) (fields-of_positions s.positions.now)
+module _ (s : Scope) (x : Name) where
+  abbrev at_variable : Option ℕ
+  at_variable = type_in (context_of (early s.known) (map (λ v. field_of v.field) s.variables.now)) x
 
-pub lookup-variable : (s : Scope) (x : Name) (n : ℕ) → Some n ≡ type_in (context_of (early s.known) (map (λ v. field_of v.field) s.variables.now)) x → Some n ≡ type_in (context s) x
-lookup-variable s x n h = ap (λ o. option_or (option_or o (type_in (context_of (early s.known) (map field_of s.formals.now)) x)) (type_in (context_of (early s.known) (map (λ p. field_in (position_of p)) s.positions.now)) x)) h ∙ sym (lookup-is s x)
+  abbrev at_formal : Option ℕ
+  at_formal = type_in (context_of (early s.known) (map field_of s.formals.now)) x
 
-pub lookup-formal : (s : Scope) (x : Name) (n : ℕ) → None ≡ type_in (context_of (early s.known) (map (λ v. field_of v.field) s.variables.now)) x → Some n ≡ type_in (context_of (early s.known) (map field_of s.formals.now)) x → Some n ≡ type_in (context s) x
-lookup-formal s x n g h = ap (λ o. option_or (option_or None o) (type_in (context_of (early s.known) (map (λ p. field_in (position_of p)) s.positions.now)) x)) h
-    ∙ ap (λ o. option_or (option_or o (type_in (context_of (early s.known) (map field_of s.formals.now)) x)) (type_in (context_of (early s.known) (map (λ p. field_in (position_of p)) s.positions.now)) x)) g ∙ sym (lookup-is s x)
+  abbrev at_parameter : Option ℕ
+  at_parameter = type_in (context_of (early s.known) (parameters s.positions.now)) x
 
-pub lookup-parameter : (s : Scope) (x : Name) (r : Option ℕ) → None ≡ type_in (context_of (early s.known) (map (λ v. field_of v.field) s.variables.now)) x → None ≡ type_in (context_of (early s.known) (map field_of s.formals.now)) x → r ≡ type_in (context_of (early s.known) (map (λ p. field_in (position_of p)) s.positions.now)) x → r ≡ type_in (context s) x
-lookup-parameter s x r f g h = h ∙ ap (λ o. option_or (option_or None o) (type_in (context_of (early s.known) (map (λ p. field_in (position_of p)) s.positions.now)) x)) g
-    ∙ ap (λ o. option_or (option_or o (type_in (context_of (early s.known) (map field_of s.formals.now)) x)) (type_in (context_of (early s.known) (map (λ p. field_in (position_of p)) s.positions.now)) x)) f ∙ sym (lookup-is s x)
+  -- a name of a scope is a variable, or else a formal, or else a parameter
+  lookup-is : type_in (context s) x ≡ option_or (option_or at_variable at_formal) at_parameter
+  lookup-is =
+      let k = early s.known in
+      chained (context_of k (map (λ v. v.field) (map variable_of s.variables.now))) (context_of k (map field_of s.formals.now))
+      (context_of k (parameters s.positions.now)) x
+      ∙ ap (λ fs. option_or (option_or (type_in (context_of k fs) x) at_formal) at_parameter) (fields-of_variables s.variables.now)
+
+  pub lookup-variable : (n : ℕ) → Some n ≡ at_variable → Some n ≡ type_in (context s) x
+  lookup-variable n h = ap (λ o. option_or (option_or o at_formal) at_parameter) h ∙ sym lookup-is
+
+  pub lookup-formal : (n : ℕ) → None ≡ at_variable → Some n ≡ at_formal → Some n ≡ type_in (context s) x
+  lookup-formal n g h = ap (λ o. option_or (option_or None o) at_parameter) h ∙ ap (λ o. option_or (option_or o at_formal) at_parameter) g ∙ sym lookup-is
+
+  pub lookup-parameter : (r : Option ℕ) → None ≡ at_variable → None ≡ at_formal → r ≡ at_parameter → r ≡ type_in (context s) x
+  lookup-parameter r f g h =
+      h ∙ ap (λ o. option_or (option_or None o) at_parameter) g ∙ ap (λ o. option_or (option_or o at_formal) at_parameter) f ∙ sym lookup-is

@@ -1,27 +1,20 @@
 -- The names and the fields of what a source lists, read off the values of the program.
-use Rattle.std.proofs.Common.{◌≡◌, List, [], ◌∷◌, map, refl, ap}
+use Rattle.std.proofs.Common.{◌≡◌, List, map}
 use Rattle.std.proofs.lemmas.Simd.{map-map}
 use Rattle.ioa_syntax.specs.declared.tree.Field.{Field}
 use Rattle.ioa_syntax.specs.declared.tree.Variable.{Variable}
-use Rattle.ioa_syntax.specs.declared.tree.Position.{Position}
-use Rattle.ioa_syntax.specs.declared.tree.Position.TheVariants.{Typed}
 use Rattle.ioa_syntax.specs.declared.tree.Entry.{Entry}
 use Rattle.ioa_syntax.specs.declared.tree.Proposal.{Proposal}
 use Rattle.ioa_syntax.specs.declared.tree.Instance.{Instance}
 use Rattle.ioa_syntax.specs.declared.tree.Declaration.{Declaration}
-use Rattle.ioa_syntax.specs.View.{name_of, field_of, variable_of, position_of, entry_of, proposal_of, instance_of, declaration_of}
-use Rattle.ioa_syntax.specs.Instances.{position_name}
-use Rattle.ioa_syntax.specs.WellFormed.{position_fields, declared_name}
-use Rattle.ioa_check.specs.Fields.{field_in}
+use Rattle.ioa_syntax.specs.View.{name_of, field_of, variable_of, entry_of, proposal_of, instance_of, declaration_of}
+use Rattle.ioa_syntax.specs.WellFormed.{declared_name}
 
 pub names-of_fields : (fs : List Field) → map (λ f. f.name) (map field_of fs) ≡ map (λ f. name_of f.name) fs
 names-of_fields fs = map-map (λ f. f.name) field_of fs
 
 pub names-of_variables : (vs : List Variable) → map (λ v. v.field.name) (map variable_of vs) ≡ map (λ v. name_of v.field.name) vs
 names-of_variables vs = map-map (λ v. v.field.name) variable_of vs
-
-pub names-of_positions : (ps : List Position) → map position_name (map position_of ps) ≡ map (λ p. position_name (position_of p)) ps
-names-of_positions ps = map-map position_name position_of ps
 
 pub names-of_entries : (es : List Entry) → map (λ e. e.name) (map entry_of es) ≡ map (λ e. name_of e.name) es
 names-of_entries es = map-map (λ e. e.name) entry_of es
@@ -38,8 +31,4 @@ names-of_declarations ds = map-map declared_name declaration_of ds
 pub fields-of_variables : (vs : List Variable) → map (λ v. v.field) (map variable_of vs) ≡ map (λ v. field_of v.field) vs
 fields-of_variables vs = map-map (λ v. v.field) variable_of vs
 
-pub fields-of_positions : (ps : List Position) → position_fields (map position_of ps) ≡ map (λ p. field_in (position_of p)) ps
-fields-of_positions [] = refl
-fields-of_positions (Typed f ∷ ps) = ap (λ fs. field_of f ∷ fs) (fields-of_positions ps)
-
-pub ruleset views = (names-of_fields, names-of_variables, names-of_positions, names-of_entries, names-of_proposals, names-of_instances, names-of_declarations, fields-of_variables, fields-of_positions)
+pub ruleset views = (names-of_fields, names-of_variables, names-of_entries, names-of_proposals, names-of_instances, names-of_declarations, fields-of_variables)

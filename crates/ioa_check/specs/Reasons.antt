@@ -1,5 +1,5 @@
 -- Why a source is refused: the rules that are broken in it, each with the code that tells it.
-use Rattle.std.specs.Prelude.{ℕ, ◌==◌, Bool, true, false, not, ◌&&◌, ◌||◌, List, [], ◌∷◌, ◌++◌, map, length, Option, Some, None, is_some, pos}
+use Rattle.std.specs.Prelude.{ℕ, ◌==◌, Bool, true, false, not, ◌&&◌, ◌||◌, List, [], ◌∷◌, ◌++◌, map, length, Option, Some, None, is_some, pos, neg_ℤ}
 use Rattle.std.specs.List.{list_any, list_all}
 use Rattle.std.specs.Option.{option_map_or}
 use Rattle.ioa_value.specs.Actions.{Name}
@@ -7,13 +7,13 @@ use Rattle.ioa_value.specs.Arithmetic.{fits}
 use Rattle.ioa_value.specs.Operators.{op_type}
 use Rattle.ioa_value.specs.Table.{Table, type_named, item_type, field_types, field_place}
 use Rattle.ioa_lex.specs.declared.refusal.Refusal.{Refusal}
-use Rattle.ioa_syntax.specs.Tree.{Expr, number, truth, named, parens, prefix, binary, empty, make, select, Exprs, no_expr, also, EntryTree, VariableTree, ProposalTree, Stmt, assign, choose, Stmts, stop, seq, Arms, no_arm, arm, TransitionTree, AutomatonTree, InstanceTree, CompositionTree, FormTree, enumeration, tuple, sequence, DeclarationTree, declared_type, automaton, composition, SourceTree}
-use Rattle.ioa_syntax.specs.Instances.{field_names, position_name}
+use Rattle.ioa_syntax.specs.Tree.{Expr, number, truth, named, parens, prefix, binary, empty, make, select, Exprs, no_expr, also, ConstantTree, positive, negative, truth_literal, reference, PositionTree, typed, only, EntryTree, VariableTree, ProposalTree, Stmt, assign, choose, Stmts, stop, seq, Arms, no_arm, arm, TransitionTree, AutomatonTree, InstanceTree, CompositionTree, FormTree, enumeration, tuple, sequence, DeclarationTree, declared_type, automaton, composition, SourceTree}
+use Rattle.ioa_syntax.specs.Instances.{field_names}
 use Rattle.ioa_syntax.specs.Meaning.{or_else}
 use Rattle.ioa_value.specs.declared.limits.TheConstants.{LIMITS}
 use Rattle.ioa_syntax.specs.Types.{with_type, types_of, constant_type}
 use Rattle.ioa_syntax.specs.WellFormed as well_formed
-use Rattle.ioa_syntax.specs.WellFormed.{Context, type_in, type_of, types_of_all, made_type, infix_type, distinct, apart, is_type, context_of, position_fields, variable_fields, is_input, is_automaton_of, global_names, source_within, types_narrow}
+use Rattle.ioa_syntax.specs.WellFormed.{Context, type_in, type_of, types_of_all, made_type, infix_type, distinct, apart, is_type, context_of, position_fields, parameter_names, variable_fields, is_input, is_automaton_of, global_names, source_within, types_narrow}
 use Rattle.ioa_check.specs.Codes.{Code, duplicate_name, unknown_name, type_mismatch, bad_signature, no_proposal, too_many, too_wide, tells}
 
 -- the refusals that have their reason in a part of a source
@@ -102,6 +102,18 @@ abbrev pub in_place : Table → Table → Option ℕ → Context → Expr → Re
 in_place t early (Some ty) c e = in_expression t early c e or broken type_mismatch (option_map_or (λ own. own == ty) (type_of t early c e) true)
 in_place t early None c e = broken unknown_name false
 
+-- a constant: its number fits, and its name is known
+abbrev pub in_constant : Table → Context → ConstantTree → Reasons
+in_constant early c (positive n) = broken type_mismatch (fits (pos n))
+in_constant early c (negative n) = broken type_mismatch (fits (neg_ℤ (pos n)))
+in_constant early c (truth_literal b) = none
+in_constant early c (reference x) = broken unknown_name (is_some (or_else (type_in c x) (constant_type early x)))
+
+-- a position: its parameter's type is known, or its constant is fine
+abbrev pub in_position : Table → Context → PositionTree → Reasons
+in_position early c (typed f) = broken unknown_name (is_type early f)
+in_position early c (only k) = in_constant early c k
+
 module _ (t early : Table) (globals : List Name) (a : AutomatonTree) where
   -- formals and variables
   abbrev pub in_fields : Reasons
@@ -111,11 +123,10 @@ module _ (t early : Table) (globals : List Name) (a : AutomatonTree) where
   abbrev pub in_start : VariableTree → Reasons
   in_start v = in_some (in_place t early (type_named early v.field.ty) (well_formed.formals t early globals a)) v.start
 
-  -- an entry's parameters
+  -- an entry's parameters and constants
   abbrev pub in_entry : EntryTree → Reasons
-  in_entry e = broken duplicate_name (distinct (map position_name e.positions) && apart (map position_name e.positions)
-      (globals ++ well_formed.local_names t early globals a))
-      or broken unknown_name (list_all (is_type early) (position_fields e.positions))
+  in_entry e = broken duplicate_name (distinct (parameter_names e) && apart (parameter_names e) (globals ++ well_formed.local_names t early globals a))
+      or in_any (in_position early (well_formed.formals t early globals a)) e.positions
 
   abbrev pub in_entries : Reasons
   in_entries = broken duplicate_name (distinct (map (λ e. e.name) a.entries)) or in_any in_entry a.entries
@@ -180,7 +191,8 @@ module _ (t early : Table) where
   in_instance before i = broken unknown_name (list_any (is_automaton_of i.automaton) before) or in_any (in_expression t early []) i.arguments
 
   abbrev pub in_composition : SourceTree → CompositionTree → Reasons
-  in_composition before c = broken duplicate_name (distinct (map (λ i. i.name) c.instances)) or in_any (in_instance before) c.instances
+  in_composition before c = broken duplicate_name (distinct (map (λ i. i.name) c.instances) && distinct c.hidden)
+      or in_any (in_instance before) c.instances
 
 module _ (t : Table) (globals : List Name) where
   abbrev pub in_declaration : SourceTree → DeclarationTree → Reasons

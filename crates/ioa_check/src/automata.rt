@@ -1,7 +1,6 @@
-ghost use Rattle.std.specs.Prelude.{◌≡◌, ◌&&◌, ◌++◌, [], map};
+ghost use Rattle.std.specs.Prelude.{◌≡◌, ◌&&◌, [], map};
 ghost use Rattle.std.specs.List.{list_all};
 ghost use Rattle.ioa_syntax.specs.View.{automaton_of, entry_of, variable_of};
-ghost use Rattle.ioa_syntax.specs.Instances.{position_name};
 ghost use Rattle.ioa_syntax.specs.WellFormed as well_formed;
 ghost use Rattle.ioa_check.specs.Globals.{texts};
 ghost use Rattle.ioa_check.specs.Known.{whole, early};
@@ -14,6 +13,7 @@ use crate::fields::types_known;
 use crate::globals::apart_from_globals;
 use crate::known::Known;
 use crate::names::{apart, distinct};
+use crate::positions::{parameters_apart, parameters_distinct, positions_fine};
 use crate::scope::Scope;
 use crate::transitions::{one_to_one, transitions_fine};
 use indexmap::IndexSet;
@@ -91,7 +91,7 @@ fn start_fine(known: &Known, automaton: &Automaton, variable: &Variable) -> Resu
     }
 }
 
-/// Whether entries have names of their own, and parameters with names of their own and known types.
+/// Whether entries have names of their own, and parameters and constants that are fine.
 #[tactic(auto, using(crate::proofs::ViewLemmas::views))]
 fn entries_fine(
     known: &Known,
@@ -117,7 +117,7 @@ fn each_entry_fine(
     Ok(())
 }
 
-#[tactic(auto, using(crate::proofs::ViewLemmas::views))]
+/// Whether parameters have names of their own and known types, and constants name formals alone.
 fn entry_fine(
     known: &Known,
     automaton: &Automaton,
@@ -126,21 +126,7 @@ fn entry_fine(
 ) -> Result<(), Refusal>
     ensures { let a = automaton_of automaton.now in let e = entry_of entry.now in Says result (well_formed.entry_fine (whole known.now) (early known.now) (texts globals.now) a e) (reasons.in_entry (whole known.now) (early known.now) (texts globals.now) a e) }
 {
-    distinct(&entry.positions)?;
-    parameters_apart(automaton, entry, globals)?;
-    types_known(known, &entry.positions)
-}
-
-#[tactic(auto, using(crate::proofs::ViewLemmas::views, crate::proofs::NameLemmas::joins))]
-fn parameters_apart(
-    automaton: &Automaton,
-    entry: &Entry,
-    globals: &IndexSet<&str>,
-) -> Result<(), Refusal>
-    ensures { let a = automaton_of automaton.now in
-        Says result (well_formed.apart (map position_name (entry_of entry.now).positions) (texts globals.now ++ well_formed.local_names [] [] [] a)) (tells duplicate_name) }
-{
-    apart_from_globals(&entry.positions, globals)?;
-    apart(&entry.positions, &automaton.formals)?;
-    apart(&entry.positions, &automaton.variables)
+    parameters_distinct(&entry.positions)?;
+    parameters_apart(automaton, &entry.positions, globals)?;
+    positions_fine(&Scope::of_starts(known, automaton), &entry.positions)
 }

@@ -64,7 +64,7 @@ fn declarations_fine(
     Ok(())
 }
 
-/// Whether a composition's components have names of their own and are well formed.
+/// Whether a composition's components have names of their own and are well formed, and no hidden name stands twice.
 #[tactic(auto, using(crate::proofs::ViewLemmas::views))]
 fn composition_fine(
     known: &Known,
@@ -74,6 +74,7 @@ fn composition_fine(
     ensures { let c = assembly_of composition.now in Says result (well_formed.composition_fine (whole known.now) (early known.now) (tree_of before.now) c) (reasons.in_composition (whole known.now) (early known.now) (tree_of before.now) c) }
 {
     distinct(&composition.instances)?;
+    distinct(&composition.hidden)?;
     each_instance_fine(known, before, composition)
 }
 

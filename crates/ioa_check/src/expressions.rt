@@ -112,7 +112,8 @@ fn fields_fine(scope: &Scope, tuple: Ty, fields: &[Expression], line: u32) -> Re
     }
 }
 
-fn number_type(n: u64, line: u32) -> Result<Ty, Refusal>
+/// The type of a number, if it is none too large.
+pub(crate) fn number_type(n: u64, line: u32) -> Result<Ty, Refusal>
     ensures { Finds result (well_formed.type_of [] [] [] (number n)) (tells type_mismatch) }
 {
     if n <= 0x7fff_ffff_ffff_ffff {

@@ -1,8 +1,8 @@
 ghost use Rattle.std.specs.Prelude.{◌≡◌, ◌<◌, map, length, IfSome};
 ghost use Rattle.std.specs.List.{list_all};
 ghost use Rattle.std.specs.Option.{option_map};
-ghost use Rattle.ioa_syntax.specs.Tree.{FieldTree, typed};
-ghost use Rattle.ioa_syntax.specs.View.{name_of, position_of};
+ghost use Rattle.ioa_syntax.specs.Tree.{FieldTree};
+ghost use Rattle.ioa_syntax.specs.View.{name_of};
 ghost use Rattle.ioa_syntax.specs.View as view;
 ghost use Rattle.ioa_value.specs.Plain.{number};
 ghost use Rattle.ioa_value.specs.Table as table;
@@ -15,7 +15,7 @@ ghost use Rattle.ioa_check.specs.Verdicts.{Says};
 
 use crate::known::Known;
 use crate::names::same_name;
-use ioa_syntax::{Field, Name, Position, Refusal, Variable};
+use ioa_syntax::{Field, Name, Refusal, Variable};
 use ioa_value::{Ty, Types};
 
 /// What has a name and the name of a type in a source.
@@ -46,19 +46,6 @@ impl Typed for Variable {
     }
 }
 
-impl Typed for Position {
-    ghost use Rattle.ioa_syntax.specs.View.{position_of};
-    ghost use Rattle.ioa_check.specs.Fields.{field_in};
-
-    ghost tree = { λ p. field_in (position_of p) };
-
-    fn field(&self) -> &Field {
-        match self {
-            Position::Typed(field) => field,
-        }
-    }
-}
-
 /// The type of this name, where there is one.
 pub fn type_named(types: &Types, name: &Name) -> Option<Ty>
     ensures value { option_map number result ≡ table.type_named types.now (name_of name.now) }
@@ -81,7 +68,7 @@ pub(crate) fn find_type<T: Typed>(known: &Known, items: &[T], name: &Name) -> Op
 }
 
 /// The type of a field, where it has this name.
-fn type_under(known: &Known, field: &Field, name: &Name) -> Option<Ty>
+pub(crate) fn type_under(known: &Known, field: &Field, name: &Name) -> Option<Ty>
     ensures { option_map number result ≡ type_under (early known.now) (view.field_of field.now) (name_of name.now) }
 {
     if same_name(&field.name, name) {
@@ -91,15 +78,23 @@ fn type_under(known: &Known, field: &Field, name: &Name) -> Option<Ty>
     }
 }
 
-/// Whether each item's type is declared before. A line is that of the name of a type that is not.
+/// Whether each item's type is declared before.
 pub(crate) fn types_known<T: Typed>(known: &Known, items: &[T]) -> Result<(), Refusal>
     ensures { Says result (list_all (is_type (early known.now)) (map T.tree items.now)) (tells unknown_name) }
 {
     for item in items {
-        let ty = &item.field().ty;
-        if known.named(ty).is_none() {
-            return Err(Refusal::UnknownName(ty.line));
-        }
+        type_known(known, item.field())?;
+    }
+    Ok(())
+}
+
+/// Whether the type of a field is declared before. A line is that of the type's name.
+pub(crate) fn type_known(known: &Known, field: &Field) -> Result<(), Refusal>
+    ensures { Says result (is_type (early known.now) (view.field_of field.now)) (tells unknown_name) }
+{
+    let ty = &field.ty;
+    if known.named(ty).is_none() {
+        return Err(Refusal::UnknownName(ty.line));
     }
     Ok(())
 }

@@ -90,7 +90,8 @@ pub(crate) fn apart_from_globals<T: Named>(
     Ok(())
 }
 
-fn is_global(name: &Name, globals: &IndexSet<&str>) -> bool
+/// Whether something global has this name.
+pub(crate) fn is_global(name: &Name, globals: &IndexSet<&str>) -> bool
     ensures { result ≡ well_formed.contains (texts globals.now) (name_of name.now) }
 {
     globals.contains(name.text.as_str())

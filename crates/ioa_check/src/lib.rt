@@ -10,6 +10,7 @@ mod globals;
 mod known;
 mod limits;
 mod names;
+mod positions;
 mod scope;
 mod statements;
 mod transitions;

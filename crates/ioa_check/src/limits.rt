@@ -7,9 +7,10 @@ ghost use Rattle.ioa_check.specs.Sizes.{counted, all_counted, Counts, is_of_kind
 ghost use Rattle.ioa_check.specs.Verdicts.{Says};
 
 use crate::names::{Named, at_most};
+use crate::positions::positions_within;
 use ioa_syntax::{
-    Arm, Automaton, Declaration, Entry, Expression, Proposal, Refusal, Statement, Transition,
-    TypeDeclaration, TypeForm,
+    Arm, Assembly, Automaton, Declaration, Entry, Expression, Proposal, Refusal, Statement,
+    Transition, TypeDeclaration, TypeForm,
 };
 use ioa_value::LIMITS;
 
@@ -60,10 +61,16 @@ fn declaration_within(declaration: &Declaration) -> Result<(), Refusal>
     match declaration {
         Declaration::Type(declared) => form_within(declared),
         Declaration::Automaton(automaton) => automaton_within(automaton),
-        Declaration::Composition(composition) => {
-            at_most(&composition.instances, LIMITS.components)
-        }
+        Declaration::Composition(composition) => composition_within(composition),
     }
+}
+
+/// Whether there are no more components and hidden names than the limits.
+fn composition_within(composition: &Assembly) -> Result<(), Refusal>
+    ensures { Says result (well_formed.composition_within LIMITS (assembly_of composition.now)) (tells too_many) }
+{
+    at_most(&composition.instances, LIMITS.components)?;
+    at_most(&composition.hidden, LIMITS.hidden)
 }
 
 /// Whether an enumeration's names, a tuple's fields or a sequence's capacity are from one up to their limit. A line is that
@@ -119,7 +126,7 @@ fn entries_within(entries: &[Entry]) -> Result<(), Refusal>
 fn entry_within(entry: &Entry) -> Result<(), Refusal>
     ensures { Says result (well_formed.entry_within LIMITS (entry_of entry.now)) (tells too_many) }
 {
-    at_most(&entry.positions, LIMITS.parameters)
+    positions_within(&entry.positions)
 }
 
 fn transitions_within(transitions: &[Transition]) -> Result<(), Refusal>

@@ -1,15 +1,11 @@
 ghost use Rattle.std.specs.Prelude.{◌≡◌, ℕ, List, map, length, nat_le, is_some};
-ghost use Rattle.ioa_syntax.specs.Tree.{typed};
-ghost use Rattle.ioa_syntax.specs.View.{name_of, position_of};
-ghost use Rattle.ioa_syntax.specs.View as view;
+ghost use Rattle.ioa_syntax.specs.View.{name_of};
 ghost use Rattle.ioa_syntax.specs.WellFormed as well_formed;
 ghost use Rattle.std.specs.Str.{bytes_eq};
 ghost use Rattle.ioa_check.specs.Codes.{duplicate_name, too_many, tells};
 ghost use Rattle.ioa_check.specs.Verdicts.{Says};
 
-use ioa_syntax::{
-    Declaration, Entry, Field, Instance, Name, Position, Proposal, Refusal, Variable,
-};
+use ioa_syntax::{Declaration, Entry, Field, Instance, Name, Proposal, Refusal, Variable};
 
 /// What has a name in a source.
 pub(crate) trait Named {
@@ -17,6 +13,16 @@ pub(crate) trait Named {
 
     fn name(&self) -> &Name
         ensures { name_of result.now ≡ called self.now };
+}
+
+impl Named for Name {
+    ghost use Rattle.ioa_syntax.specs.View.{name_of};
+
+    ghost called = { name_of };
+
+    fn name(&self) -> &Name {
+        self
+    }
 }
 
 impl Named for Field {
@@ -36,17 +42,6 @@ impl Named for Variable {
 
     fn name(&self) -> &Name {
         &self.field.name
-    }
-}
-
-impl Named for Position {
-    ghost use Rattle.ioa_syntax.specs.View.{position_of};
-    ghost use Rattle.ioa_syntax.specs.Instances.{position_name};
-
-    ghost called = { λ p. position_name (position_of p) };
-
-    fn name(&self) -> &Name {
-        &field_of(self).name
     }
 }
 
@@ -92,15 +87,6 @@ impl Named for Declaration {
             Declaration::Automaton(automaton) => &automaton.name,
             Declaration::Composition(composition) => &composition.name,
         }
-    }
-}
-
-/// The parameter of a position.
-pub(crate) fn field_of(position: &Position) -> &Field
-    ensures { typed (view.field_of result.now) ≡ position_of position.now }
-{
-    match position {
-        Position::Typed(field) => field,
     }
 }
 

@@ -11,6 +11,7 @@ ghost use Rattle.ioa_check.specs.Scopes.{context};
 
 use crate::fields::find_type;
 use crate::known::Known;
+use crate::positions::find_parameter;
 use ioa_syntax::{Automaton, Entry, Field, Name, Position, Variable};
 use ioa_value::Ty;
 
@@ -101,6 +102,6 @@ impl<'a> Scope<'a> {
         if let Some(ty) = find_type(&self.known, self.formals, name) {
             return Some(ty);
         }
-        find_type(&self.known, self.positions, name)
+        find_parameter(&self.known, self.positions, name)
     }
 }

@@ -10,12 +10,12 @@ ghost use Rattle.ioa_check.specs.Reasons as reasons;
 ghost use Rattle.ioa_check.specs.Verdicts.{Says};
 
 use crate::expressions::expect_type;
-use crate::fields::{Typed, find_type};
 use crate::known::Known;
 use crate::names::{distinct, find_name, same_name};
+use crate::positions::find_parameter;
 use crate::scope::Scope;
 use crate::statements::{condition_fine, statements_fine};
-use ioa_syntax::{Automaton, Entry, Field, Kind, Name, Proposal, Refusal, Transition};
+use ioa_syntax::{Automaton, Entry, Field, Kind, Name, Position, Proposal, Refusal, Transition};
 use ioa_value::Form;
 
 /// Whether each entry has one transition of its kind and name, and each transition an entry. A line is that of a
@@ -250,13 +250,13 @@ fn proposal_fine(
 ) -> Result<(), Refusal>
     ensures { let a = automaton_of automaton.now in let e = entry_of entry.now in let p = proposal_of proposal.now in Says result (well_formed.proposal_fine (whole known.now) (early known.now) [] a e p) (reasons.in_proposal (whole known.now) (early known.now) [] a e p) }
 {
-    match find_type(known, &entry.positions, &proposal.name) {
+    match find_parameter(known, &entry.positions, &proposal.name) {
         Some(ty) => expect_type(&Scope::of_proposals(known, automaton), &proposal.value, ty),
         None => Err(Refusal::UnknownName(proposal.name.line)),
     }
 }
 
-/// Whether each parameter that is neither a Bool nor of an enumeration has a proposal.
+/// Whether each parameter that is neither a Bool nor of an enumeration has a proposal. A constant needs none.
 fn all_proposed(
     known: &Known,
     _automaton: &Automaton,
@@ -266,7 +266,9 @@ fn all_proposed(
     ensures { Says result (well_formed.all_proposed (whole known.now) (early known.now) [] (automaton_of _automaton.now) (entry_of entry.now) (transition_of transition.now)) (tells no_proposal) }
 {
     for position in &entry.positions {
-        if !is_proposed(known, position.field(), transition) {
+        if let Position::Typed(field) = position
+            && !is_proposed(known, field, transition)
+        {
             return Err(Refusal::NoProposal(transition.name.line));
         }
     }

@@ -8,4 +8,4 @@ pub returns-in-Some-find_type : goal.returns-in-Some-find_type
 returns-in-Some-find_type c = lookup-formal c.args.self.now _ _ c.in_default.ensures c.in-Some-find_type.ensures
 
 pub returns : goal.returns
-returns c = lookup-parameter c.args.self.now _ _ c.in_default.ensures c.in_default-find_type.ensures c.find_type-3.ensures
+returns c = lookup-parameter c.args.self.now _ _ c.in_default.ensures c.in_default-find_type.ensures c.find_parameter.ensures

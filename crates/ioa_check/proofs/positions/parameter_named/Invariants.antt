@@ -1,0 +1,11 @@
+use Rattle.std.proofs.Common.{◌≡◌, drop}
+use Rattle.ioa_syntax.specs.Instances.{field_names}
+use Rattle.ioa_syntax.specs.View.{name_of}
+use Rattle.ioa_syntax.specs.WellFormed as well_formed
+use Rattle.ioa_check.specs.Fields.{parameters}
+use Rattle.ioa_check.proofs.positions.parameter_named.Given as goal
+
+abbrev pub invariant-loop-position : goal.invariant-loop-position
+invariant-loop-position l =
+    well_formed.contains (field_names (parameters (drop l.position-index l.positions))) (name_of l.name)
+    ≡ well_formed.contains (field_names (parameters l.positions)) (name_of l.name)
