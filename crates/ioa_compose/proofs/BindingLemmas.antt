@@ -1,5 +1,5 @@
 -- Components on the way.
-use Rattle.std.proofs.Common.{◌≡◌, ℕ, zero, suc, ◌+◌, ◌<◌, true, false, List, [], ◌∷◌, ◌++◌, map, take, length, get_or, IfErr, Option, Some, None, Result, Ok, Err, refl, sym, ap, subst, ◌∙◌, arith, slice_get, inl}
+use Rattle.std.proofs.Common.{◌≡◌, ℕ, zero, suc, ◌+◌, ◌<◌, true, false, List, [], ◌∷◌, ◌++◌, map, take, length, get_or, IfErr, Option, Some, None, Result, Ok, Err, refl, sym, ap, subst, ◌∙◌, arith, slice_get}
 use Rattle.std.specs.Option.{option_map_or}
 use Rattle.ioa_value.specs.declared.value.Value.{Value}
 use Rattle.std.proofs.lemmas.Bool.{and_parts, and_from, both_ways}
@@ -11,9 +11,8 @@ use Rattle.ioa_value.specs.Typing.{is_of}
 use Rattle.ioa_lex.specs.declared.refusal.Refusal.{Refusal}
 use Rattle.ioa_syntax.specs.declared.tree.Field.{Field}
 use Rattle.ioa_syntax.specs.declared.tree.Instance.{Instance as TreeInstance}
-use Rattle.ioa_syntax.specs.declared.tree.Position.{Position}
 use Rattle.ioa_syntax.specs.Tree.{FieldTree, AutomatonTree, InstanceTree, SourceTree}
-use Rattle.ioa_syntax.specs.View.{field_of, position_of, instance_of}
+use Rattle.ioa_syntax.specs.View.{field_of, instance_of}
 use Rattle.ioa_syntax.specs.Types.{types_of, is_named}
 use Rattle.ioa_syntax.specs.Instances.{Instance, Fit, argument_values, start_values}
 use Rattle.ioa_syntax.specs.Compositions.{Member, automaton_named}
@@ -22,8 +21,7 @@ use Rattle.ioa_compose.specs.declared.binding.Binding.{Binding}
 use Rattle.ioa_compose.specs.declared.member.Member as held
 use Rattle.ioa_compose.specs.Held.{member_of}
 use Rattle.ioa_syntax.specs.WellFormed.{automaton_fine}
-use Rattle.ioa_compose.specs.Clashes.{all_alike}
-use Rattle.ioa_compose.specs.Refusals.{Reason, misfit, faulty, clashing, no_memory, other, reason_of, IsRefusedFor, IsRefused, IsRefusedAt, FaultsAt, FaultsIn, Misfits}
+use Rattle.ioa_compose.specs.Refusals.{Reason, misfit, faulty, clashing, hiding, no_memory, other, reason_of, IsUnbound, IsRefusedAt, FaultsAt, FaultsIn, Misfits}
 use Rattle.ioa_value.proofs.ItemLemmas.{take_item}
 use Rattle.ioa_value.proofs.SameLemmas.{both_false}
 
@@ -32,12 +30,6 @@ uneven-fit types [] [] e = absurd (e refl)
 uneven-fit types [] (v ∷ vs) e = refl
 uneven-fit types (f ∷ fs) [] e = refl
 uneven-fit types (f ∷ fs) (v ∷ vs) e = both_false _ _ (uneven-fit types fs vs (λ q. e (ap suc q)))
-
-pub uneven-alike : (types : Table) (ps qs : List Position) → (length ps ≡ length qs → ⊥) → false ≡ all_alike types (map position_of ps) (map position_of qs)
-uneven-alike types [] [] e = absurd (e refl)
-uneven-alike types [] (q ∷ qs) e = refl
-uneven-alike types (p ∷ ps) [] e = refl
-uneven-alike types (p ∷ ps) (q ∷ qs) e = both_false _ _ (uneven-alike types ps qs (λ r. e (ap suc r)))
 
 -- the test that values fit, and the fact
 pub fit-Fit : (types : Table) (fs : List FieldTree) (vs : List Val) → fit types fs vs ≡ true → Fit types fs vs
@@ -100,22 +92,24 @@ pub started-push : (types : Table) (ms new : List held.Member) (m : held.Member)
 started-push types ms new m b n h i k =
     subst AllStarted (sym (ap (map member_of) n ∙ map-append member_of ms (m ∷ []))) (started-append (map member_of ms) (member_of m) h (ap start_values i ∙ k))
 
--- refused in its place, and so refused
-refused-one : (s : SourceTree) (is : List InstanceTree) (k : ℕ) (n : InstanceTree) (r : Reason) → slice_get is k ≡ Some n → IsRefusedAt s k n r → IsRefusedFor s is r
-refused-one s is k n (misfit i) e h = (n, ap (slice_get is) h.0 ∙ e, h.1)
-refused-one s is k n (faulty i f) e h = (n, ap (slice_get is) h.0 ∙ e, inl h.1)
-refused-one s is k n (clashing i j m) e h = absurd h
-refused-one s is k n no_memory e h = tt
-refused-one s is k n other e h = absurd h
+-- refused in its place: so one has no instance
+unbound-one : (s : SourceTree) (is : List InstanceTree) (k : ℕ) (n : InstanceTree) (r : Reason) → slice_get is k ≡ Some n → IsRefusedAt s k n r → IsUnbound s is r
+unbound-one s is k n (misfit i) e h = (n, ap (slice_get is) h.0 ∙ e, h.1)
+unbound-one s is k n (faulty i f) e h = (n, ap (slice_get is) h.0 ∙ e, h.1)
+unbound-one s is k n (clashing i j m) e h = absurd h
+unbound-one s is k n (hiding x) e h = absurd h
+unbound-one s is k n no_memory e h = tt
+unbound-one s is k n other e h = absurd h
 
-pub refused-in : {X : Type 0} (r : Result X Refusal) (s : SourceTree) (is : List InstanceTree) (k : ℕ) (n : InstanceTree) → slice_get is k ≡ Some n → IfErr r (λ e. IsRefusedAt s k n (reason_of e)) → IfErr r (λ e. IsRefused s is e)
-refused-in (Ok x) s is k n e h = tt
-refused-in (Err x) s is k n e h = refused-one s is k n (reason_of x) e h
+pub unbound-in : {X : Type 0} (r : Result X Refusal) (s : SourceTree) (is : List InstanceTree) (k : ℕ) (n : InstanceTree) → slice_get is k ≡ Some n → IfErr r (λ e. IsRefusedAt s k n (reason_of e)) → IfErr r (λ e. IsUnbound s is (reason_of e))
+unbound-in (Ok x) s is k n e h = tt
+unbound-in (Err x) s is k n e h = unbound-one s is k n (reason_of x) e h
 
 faults-one : (ns : List Instance) (k : ℕ) (n : Instance) (r : Reason) → slice_get ns k ≡ Some n → FaultsAt k n r → FaultsIn ns r
 faults-one ns k n (misfit i) e h = absurd h
 faults-one ns k n (faulty i f) e h = (n, ap (slice_get ns) h.0 ∙ e, h.1)
 faults-one ns k n (clashing i j m) e h = absurd h
+faults-one ns k n (hiding x) e h = absurd h
 faults-one ns k n no_memory e h = tt
 faults-one ns k n other e h = absurd h
 

@@ -1,313 +1,285 @@
--- Automata that are clear of one another make compatible components.
-use Rattle.std.proofs.Common.{◌≡◌, ◌≢◌, ℕ, ◌<◌, ◌≤◌, ◌+◌, length, get_or, ◌&&◌, Bool, true, false, not, cond, List, [], ◌∷◌, map, find, Option, Some, None, refl, sym, ap, subst, ◌∙◌, arith, slice_get, ◌⊎◌, inl, inr, zero, suc}
-use Rattle.std.specs.List.{list_all}
+-- Instances whose signatures are clear of one another do not clash, and others do.
+use Rattle.std.proofs.Common.{◌≡◌, ℕ, ◌<◌, ◌&&◌, Bool, true, false, not, cond, List, [], ◌∷◌, length, map, find, Option, Some, None, refl, sym, ap, subst, ◌∙◌, arith, slice_get, ◌⊎◌, inl, inr, zero, suc, All}
+use Rattle.std.specs.List.{AllZip}
 use Rattle.std.specs.Str.{bytes_eq}
-use Rattle.std.specs.Option.{option_map, option_map_or}
-use Rattle.std.proofs.lemmas.Bool.{and_parts, and_from, or_left, or_right, not-true, both_ways, eqb-true, eq-eqb, cases_order, cases_lt}
-use Rattle.std.proofs.lemmas.Simd.{map-map}
+use Rattle.std.specs.Option.{option_map}
+use Rattle.std.proofs.lemmas.Bool.{and_parts, and_from, or_left, or_right, not-true, not-false, both_ways}
+use Rattle.std.proofs.lemmas.Option.{slice_get_within}
 use Rattle.std.proofs.lemmas.Slice.Eq.{bytes_eq-Decides}
 use Rattle.ioa_value.specs.Actions.{Name, Act}
-use Rattle.ioa_value.specs.Plain.{Val}
-use Rattle.ioa_value.specs.Table.{Table, AreTypes, type_named}
-use Rattle.ioa_value.specs.Typing.{is_of}
+use Rattle.ioa_value.specs.Positions.{all_take, all_meet, IsDomain}
+use Rattle.ioa_value.specs.Table.{Table, AreTypes}
+use Rattle.ioa_value.proofs.ItemLemmas.{find_at, all_at, fails_at}
+use Rattle.ioa_value.proofs.PositionLemmas.{all_take-meet, all_meet-some}
 use Rattle.ioa_syntax.specs.declared.tree.Kind.{Kind}
 use Rattle.ioa_syntax.specs.declared.tree.Kind.TheVariants.{Input, Output, Internal}
-use Rattle.ioa_syntax.specs.Tree.{PositionTree, typed, EntryTree, AutomatonTree}
-use Rattle.ioa_syntax.specs.View.{automaton_of}
-use Rattle.ioa_syntax.specs.Meaning.{Env}
-use Rattle.ioa_syntax.specs.Types.{is_named, first_named}
-use Rattle.ioa_syntax.specs.Instances.{positions_have, position_has, entry_has, entry_for, component_of}
-use Rattle.ioa_value.proofs.TypingLemmas.{own_type}
-use Rattle.ioa_syntax.specs.Components.{Component, Compatible}
-use Rattle.ioa_syntax.specs.WellFormed.{same_type, is_type, position_fields, entry_fine, contains, distinct, automaton_fine}
+use Rattle.ioa_syntax.specs.Tree.{EntryTree}
+use Rattle.ioa_syntax.specs.Instances.{Instance, Fit, positions_have, entry_has, entry_for, component_of}
+use Rattle.ioa_syntax.specs.WellFormed.{entry_fine, contains, distinct, automaton_fine}
+use Rattle.ioa_syntax.proofs.Domains.{domains_have, domains_are}
+use Rattle.ioa_syntax.proofs.FineParts.{fine_parts, entry_parts}
 use Rattle.ioa_compose.specs.declared.binding.Binding.{Binding}
-use Rattle.ioa_compose.specs.Bindings.{instance_with, instance_in}
-use Rattle.ioa_compose.specs.Clashes.{alike, all_alike, kinds_clash, clash, clear, PairsClear, ClashAt, NoneUpTo}
-use Rattle.ioa_compose.specs.Refusals.{Clashing, NoneClashes, IsFirstEntry}
-use Rattle.ioa_value.proofs.ItemLemmas.{find_at, find_both, all_at, get_map}
-use Rattle.ioa_syntax.proofs.Starts.{some_there, first_named_typed}
-use Rattle.std.proofs.lemmas.Option.{slice_get_within, slice_get_read}
-use Rattle.ioa_syntax.proofs.FineParts.{fine_parts}
+use Rattle.ioa_compose.specs.Bindings.{instance_in, AllSound, AllStartable}
+use Rattle.ioa_compose.specs.Clashes.{SignedEntry, IsSigned, IsSignatureOf, kinds_clash, clash, clear_of, clear, IsHit, IsClearTill}
+use Rattle.ioa_compose.specs.Refusals.{Clashing, NoneClash, NoneClashes, IsFirstEntry, ClashesIn, clashing}
+use Rattle.ioa_compose.proofs.SignatureLemmas.{zip-at, zip-to, same-item}
 
 same-bytes : (xs ys zs : List ℕ) → bytes_eq xs zs ≡ true → bytes_eq ys zs ≡ true → bytes_eq xs ys ≡ true
 same-bytes xs ys zs h g = (bytes_eq-Decides xs ys).1 ((bytes_eq-Decides xs zs).0 h ∙ sym ((bytes_eq-Decides ys zs).0 g))
 
+-- ---- kinds
+
+internal-right : (k : Kind) → kinds_clash k Internal ≡ true
+internal-right Input = refl
+internal-right Output = refl
+internal-right Internal = refl
+
+-- no action of one is internal to the other, and none is an output of both
+abbrev Apart : Option Kind → Option Kind → Type 0
+Apart k l = (k ≡ Some Internal → l ≡ None) × (l ≡ Some Internal → k ≡ None) × (k ≡ Some Output → l ≡ Some Output → ⊥)
+
+kinds-apart : (k l : Kind) → kinds_clash k l ≡ false → Apart (Some k) (Some l)
+kinds-apart k l h = (
+  (λ e. let q : k ≡ Internal = cc in absurd (both_ways (kinds_clash k l) h (ap (λ x. kinds_clash x l) q))),
+  (λ e. let q : l ≡ Internal = cc in absurd (both_ways (kinds_clash k l) h (ap (kinds_clash k) q ∙ internal-right k))),
+  (λ e g. let q : k ≡ Output = cc in let r : l ≡ Output = cc in both_ways (kinds_clash k l) h (ap (λ x. kinds_clash x l) q ∙ ap (kinds_clash Output) r)),
+)
+
+options-apart : (o p : Option EntryTree) → ((e f : EntryTree) → o ≡ Some e → p ≡ Some f → kinds_clash e.kind f.kind ≡ false)
+    → Apart (option_map (λ e. e.kind) o) (option_map (λ e. e.kind) p)
+options-apart (Some e) (Some f) h = kinds-apart e.kind f.kind (h e f refl refl)
+options-apart (Some e) None h = ((λ k. refl), (λ k. absurd (cc)), (λ k l. absurd (cc)))
+options-apart None (Some f) h = ((λ k. absurd (cc)), (λ k. refl), (λ k l. absurd (cc)))
+options-apart None None h = ((λ k. refl), (λ k. refl), (λ k l. absurd (cc)))
+
+kinds-clashing : (k l : Kind) (o p : Option Kind) → o ≡ Some k → p ≡ Some l → kinds_clash k l ≡ true
+    → ((o ≡ Some Internal) × (p ≡ None → ⊥)) ⊎ (((p ≡ Some Internal) × (o ≡ None → ⊥)) ⊎ ((o ≡ Some Output) × (p ≡ Some Output)))
+kinds-clashing Internal l o p e f h = inl (e, λ n. absurd (cc))
+kinds-clashing Input Internal o p e f h = inr (inl (f, λ n. absurd (cc)))
+kinds-clashing Output Internal o p e f h = inr (inl (f, λ n. absurd (cc)))
+kinds-clashing Output Output o p e f h = inr (inr (e, f))
+kinds-clashing Input Input o p e f h = absurd (cc)
+kinds-clashing Input Output o p e f h = absurd (cc)
+kinds-clashing Output Input o p e f h = absurd (cc)
+
+-- where the entries of each action are apart there is no clash
+no-clash : (m n : Instance) (x : Name) (c : Clashing x m n)
+    → ((e f : EntryTree) → entry_for m c.0 ≡ Some e → entry_for n c.0 ≡ Some f → kinds_clash e.kind f.kind ≡ false) → ⊥
+no-clash m n x c h =
+    let r = options-apart (entry_for m c.0) (entry_for n c.0) h in
+    elim c.2 [ inl p ↦ p.1 (r.0 p.0) | inr y ↦ elim y [ inl p ↦ p.1 (r.1 p.0) | inr p ↦ r.2 p.0 p.1 ] ]
+
+-- ---- entries of different names
+
+there : (es : List EntryTree) (k : ℕ) (e : EntryTree) (x : Name) → slice_get es k ≡ Some e → bytes_eq e.name x ≡ true → contains (map (λ d. d.name) es) x ≡ true
+there [] k e x h g = absurd (cc)
+there (d ∷ ds) zero e x h g = let q : d ≡ e = cc in or_left _ _ (ap (λ y. bytes_eq y.name x) q ∙ g)
+there (d ∷ ds) (suc k) e x h g = or_right _ _ (there ds k e x h g)
+
+-- a search by an action finds the one that has it
+find-named : (m : Instance) (act : Act) (es : List EntryTree) (k : ℕ) (e : EntryTree) → distinct (map (λ d. d.name) es) ≡ true
+    → slice_get es k ≡ Some e → entry_has m act e ≡ true → find (entry_has m act) es ≡ Some e
+find-named m act [] k e d h g = absurd (cc)
+find-named m act (x ∷ xs) zero e d h g =
+    let q : x ≡ e = cc in
+    ap (λ b. cond b (Some x) (find (entry_has m act) xs)) (ap (entry_has m act) q ∙ g) ∙ ap (λ y. Some y) q
+find-named m act (x ∷ xs) (suc k) e d h g =
+    let ds = and_parts (not (contains (map (λ d. d.name) xs) x.name)) (distinct (map (λ d. d.name) xs)) d in
+    let mine = and_parts (bytes_eq e.name act.name) (positions_have m e.positions act.vals) g in
+    split (entry_has m act x) refl ds.0 mine.0 (find-named m act xs k e ds.1 h g)
+  where
+    split : (b : Bool) → entry_has m act x ≡ b → not (contains (map (λ d. d.name) xs) x.name) ≡ true → bytes_eq e.name act.name ≡ true
+        → find (entry_has m act) xs ≡ Some e → cond b (Some x) (find (entry_has m act) xs) ≡ Some e
+    split false q n c later = later
+    split true q n c later =
+        let theirs = and_parts (bytes_eq x.name act.name) (positions_have m x.positions act.vals) q in
+        absurd (both_ways (contains (map (λ d. d.name) xs) x.name) (not-true _ n) (there xs k e x.name h (same-bytes e.name x.name act.name c theirs.0)))
+
+-- each name stands in one place
+place-once : (es : List EntryTree) (k l : ℕ) (e d : EntryTree) → distinct (map (λ x. x.name) es) ≡ true → slice_get es k ≡ Some e
+    → slice_get es l ≡ Some d → e.name ≡ d.name → k ≡ l
+place-once [] k l e d h p q n = absurd (cc)
+place-once (x ∷ xs) zero zero e d h p q n = refl
+place-once (x ∷ xs) zero (suc l) e d h p q n =
+    let hs = and_parts (not (contains (map (λ y. y.name) xs) x.name)) (distinct (map (λ y. y.name) xs)) h in
+    let s : x ≡ e = cc in
+    absurd (both_ways (contains (map (λ y. y.name) xs) x.name) (not-true _ hs.0)
+    (there xs l d x.name q ((bytes_eq-Decides d.name x.name).1 (sym n ∙ ap (λ y. y.name) (sym s)))))
+place-once (x ∷ xs) (suc k) zero e d h p q n =
+    let hs = and_parts (not (contains (map (λ y. y.name) xs) x.name)) (distinct (map (λ y. y.name) xs)) h in
+    let s : x ≡ d = cc in
+    absurd (both_ways (contains (map (λ y. y.name) xs) x.name) (not-true _ hs.0)
+    (there xs k e x.name p ((bytes_eq-Decides e.name x.name).1 (n ∙ ap (λ y. y.name) (sym s)))))
+place-once (x ∷ xs) (suc k) (suc l) e d h p q n =
+    let hs = and_parts (not (contains (map (λ y. y.name) xs) x.name)) (distinct (map (λ y. y.name) xs)) h in
+    ap suc (place-once xs k l e d hs.1 p q n)
+
+-- ---- instances with their signatures
+
+-- a fine automaton with arguments of its formals' types, over these types
+pub record IsKnown (types : Table) (m : Instance) (es : List SignedEntry) : Type 0 where
+  pub over : m.types ≡ types
+  pub signed : IsSignatureOf m es
+  pub globals : List Name
+  pub fine : automaton_fine m.types m.types globals m.automaton ≡ true
+  pub fit : Fit m.types m.automaton.formals m.arguments
+
 module _ (types : Table) where
-  -- a value is of one type
-  one-type : (v : Val) (m n : ℕ) → is_of types v m ≡ true → is_of types v n ≡ true → n ≡ m
-  one-type v m n h g = sym (own_type types v n g) ∙ own_type types v m h
+  -- the signed entry has the action
+  abbrev signed_has : Act → SignedEntry → Bool
+  signed_has act s = bytes_eq s.name act.name && all_take types s.domains act.vals
 
-  named-alike : (o p : Option ℕ) (v : Val) → option_map_or (λ n. is_of types v n) o false ≡ true → option_map_or (λ n. is_of types v n) p false ≡ true → same_type o p ≡ true
-  named-alike (Some m) (Some n) v h g = eq-eqb n m (one-type v m n h g)
-  named-alike (Some m) None v h g = absurd (cc)
-  named-alike None p v h g = absurd (cc)
-
-  position-alike : (p q : PositionTree) (v : Val) → position_has types p v ≡ true → position_has types q v ≡ true → alike types p q ≡ true
-  position-alike (typed f) (typed g) v h k = named-alike (type_named types f.ty) (type_named types g.ty) v h k
-
-  positions-alike : (ps qs : List PositionTree) (vs : List Val) → positions_have types ps vs ≡ true → positions_have types qs vs ≡ true → all_alike types ps qs ≡ true
-  positions-alike [] [] [] h g = refl
-  positions-alike [] [] (v ∷ vs) h g = absurd (cc)
-  positions-alike [] (q ∷ qs) [] h g = absurd (cc)
-  positions-alike [] (q ∷ qs) (v ∷ vs) h g = absurd (cc)
-  positions-alike (p ∷ ps) [] [] h g = absurd (cc)
-  positions-alike (p ∷ ps) [] (v ∷ vs) h g = absurd (cc)
-  positions-alike (p ∷ ps) (q ∷ qs) [] h g = absurd (cc)
-  positions-alike (p ∷ ps) (q ∷ qs) (v ∷ vs) h g =
-      let hs = and_parts (position_has types p v) (positions_have types ps vs) h in
-      let gs = and_parts (position_has types q v) (positions_have types qs vs) g in
-      and_from _ _ (position-alike p q v hs.0 gs.0) (positions-alike ps qs vs hs.1 gs.1)
+  signed-has : (m : Instance) (e : EntryTree) (s : SignedEntry) (act : Act) → m.types ≡ types → IsSigned m e s → entry_has m act e ≡ signed_has act s
+  signed-has m e s act over h =
+      ap (λ b. bytes_eq e.name act.name && b) (domains_have m e.positions s.domains act.vals h.domains ∙ ap (λ ts. all_take ts s.domains act.vals) over)
+      ∙ ap (λ x. bytes_eq x act.name && all_take types s.domains act.vals) (sym h.name)
 
   third : (a b c : Bool) → a ≡ true → b ≡ true → (a && b && c) ≡ false → c ≡ false
   third true true c h g k = k
   third true false c h g k = absurd (cc)
   third false b c h g k = absurd (cc)
 
-  -- entries of automata that are clear types of one another, with an action in common
-  common-clear : (a b : AutomatonTree) (vs ws : List Val) (act : Act) (e f : EntryTree) → clear types a b ≡ true → entry_for (instance_with types a vs) act ≡ Some e → entry_for (instance_with types b ws) act ≡ Some f → kinds_clash e.kind f.kind ≡ false
-  common-clear a b vs ws act e f h p q =
-      let first = find_both (entry_has types act) (λ x. list_all (λ y. not (clash types x y)) b.entries) a.entries e p h in
-      let second = find_both (entry_has types act) (λ y. not (clash types e y)) b.entries f q first.1 in
-      let mine = and_parts (bytes_eq e.name act.name) (positions_have types e.positions act.vals) first.0 in
-      let theirs = and_parts (bytes_eq f.name act.name) (positions_have types f.positions act.vals) second.0 in
-      third (bytes_eq e.name f.name) (all_alike types e.positions f.positions) (kinds_clash e.kind f.kind) (same-bytes e.name f.name act.name mine.0 theirs.0) (positions-alike e.positions f.positions act.vals mine.1 theirs.1)
-      (not-true (clash types e f) second.1)
+  -- an entry that has an action, with its place and how it is told
+  record Found (m : Instance) (es : List SignedEntry) (act : Act) (e : EntryTree) : Type 0 where
+    place : ℕ
+    here : slice_get m.automaton.entries place ≡ Some e
+    told : SignedEntry
+    there : slice_get es place ≡ Some told
+    signed : IsSigned m e told
+    name : bytes_eq told.name act.name ≡ true
+    takes : all_take types told.domains act.vals ≡ true
 
-  internal-right : (k : Kind) → kinds_clash k Internal ≡ true
-  internal-right Input = refl
-  internal-right Output = refl
-  internal-right Internal = refl
+  found : (m : Instance) (es : List SignedEntry) (act : Act) (e : EntryTree) → IsKnown types m es → entry_for m act ≡ Some e → Found m es act e
+  found m es act e k h =
+      let at = find_at (entry_has m act) m.automaton.entries e h in
+      let s = zip-at (IsSigned m) m.automaton.entries es at.0 e k.signed at.1 in
+      let has = and_parts (bytes_eq s.0.name act.name) (all_take types s.0.domains act.vals) (sym (signed-has m e s.0 act k.over s.2) ∙ at.2) in
+      record { place = at.0; here = at.1; told = s.0; there = s.1; signed = s.2; name = has.0; takes = has.1 }
 
-  -- no action of one is internal to the other, and none is an output of both
-  abbrev Apart : Option Kind → Option Kind → Type 0
-  Apart k l = (k ≡ Some Internal → l ≡ None) × (l ≡ Some Internal → k ≡ None) × (k ≡ Some Output → l ≡ Some Output → ⊥)
+  -- two entries with an action in common that do not clash
+  kinds-clear : (m n : Instance) (es fs : List SignedEntry) (act : Act) (e f : EntryTree) (p : Found m es act e) (q : Found n fs act f)
+      → clash types p.told q.told ≡ false → kinds_clash e.kind f.kind ≡ false
+  kinds-clear m n es fs act e f p q h =
+      ap (λ k. kinds_clash k f.kind) (sym p.signed.kind) ∙ ap (kinds_clash p.told.kind) (sym q.signed.kind)
+      ∙ third (bytes_eq p.told.name q.told.name) (all_meet types p.told.domains q.told.domains) (kinds_clash p.told.kind q.told.kind)
+      (same-bytes p.told.name q.told.name act.name p.name q.name) (all_take-meet types p.told.domains q.told.domains act.vals p.takes q.takes) h
 
-  kinds-apart : (k l : Kind) → kinds_clash k l ≡ false → Apart (Some k) (Some l)
-  kinds-apart k l h = (
-    (λ e. let q : k ≡ Internal = cc in absurd (both_ways (kinds_clash k l) h (ap (λ x. kinds_clash x l) q))),
-    (λ e. let q : l ≡ Internal = cc in absurd (both_ways (kinds_clash k l) h (ap (kinds_clash k) q ∙ internal-right k))),
-    (λ e g. let q : k ≡ Output = cc in let r : l ≡ Output = cc in both_ways (kinds_clash k l) h (ap (λ x. kinds_clash x l) q ∙ ap (kinds_clash Output) r)),
-  )
+  none-of : (s t : SignedEntry) (fs : List SignedEntry) (k : ℕ) → clear_of types s fs ≡ true → slice_get fs k ≡ Some t → clash types s t ≡ false
+  none-of s t fs k h at = not-true (clash types s t) (all_at (λ f. not (clash types s f)) fs k t h at)
 
-  options-apart : (o p : Option EntryTree) → ((e f : EntryTree) → o ≡ Some e → p ≡ Some f → kinds_clash e.kind f.kind ≡ false) → Apart (option_map (λ e. e.kind) o) (option_map (λ e. e.kind) p)
-  options-apart (Some e) (Some f) h = kinds-apart e.kind f.kind (h e f refl refl)
-  options-apart (Some e) None h = ((λ k. refl), (λ k. absurd (cc)), (λ k l. absurd (cc)))
-  options-apart None (Some f) h = ((λ k. absurd (cc)), (λ k. refl), (λ k l. absurd (cc)))
-  options-apart None None h = ((λ k. refl), (λ k. refl), (λ k l. absurd (cc)))
+  -- signatures that are clear of one another
+  clear-none : (m n : Instance) (es fs : List SignedEntry) (x : Name) → IsKnown types m es → IsKnown types n fs → clear types es fs ≡ true → Clashing x m n → ⊥
+  clear-none m n es fs x a b h c = no-clash m n x c (λ e f i j.
+      let p = found m es c.0 e a i in
+      let q = found n fs c.0 f b j in
+      kinds-clear m n es fs c.0 e f p q (none-of p.told q.told fs q.place (all_at (λ s. clear_of types s fs) es p.place p.told h p.there) q.there))
 
-  pair-apart : (a b : AutomatonTree) (vs ws : List Val) (act : Act) → clear types a b ≡ true → Apart ((component_of (instance_with types a vs)).kind_of act) ((component_of (instance_with types b ws)).kind_of act)
-  pair-apart a b vs ws act h = options-apart (entry_for (instance_with types a vs) act) (entry_for (instance_with types b ws) act) (λ e f p q. common-clear a b vs ws act e f h p q)
+  -- an entry that is clear of a signature
+  entry-none : (m n : Instance) (es fs : List SignedEntry) (l : ℕ) (d : EntryTree) (s : SignedEntry) → IsKnown types m es → IsKnown types n fs
+      → slice_get m.automaton.entries l ≡ Some d → slice_get es l ≡ Some s → clear_of types s fs ≡ true
+      → Clashing d.name m n → ⊥
+  entry-none m n es fs l d s a b at told h c = no-clash m n d.name c (λ e f i j.
+      let p = found m es c.0 e a i in
+      let q = found n fs c.0 f b j in
+      let parts = fine_parts m.types m.types a.globals m.automaton a.fine in
+      let named : e.name ≡ d.name = sym p.signed.name ∙ (bytes_eq-Decides p.told.name c.0.name).0 p.name ∙ c.1 in
+      let place = place-once m.automaton.entries p.place l e d parts.entry_names p.here at named in
+      let same : s ≡ p.told = same-item told (ap (slice_get es) (sym place) ∙ p.there) in
+      kinds-clear m n es fs c.0 e f p q (none-of p.told q.told fs q.place (subst (λ t. clear_of types t fs ≡ true) same h) q.there))
 
-  abbrev Holds : Act → Component Env → Component Env → Type 0
-  Holds act p q = (p.kind_of act ≡ Some Internal → q.kind_of act ≡ None) × (p.kind_of act ≡ Some Output → q.kind_of act ≡ Some Output → ⊥)
-
-  pub compatible-from : (bs : List Binding) → PairsClear types bs → Compatible (map component_of (map (instance_in types) bs))
-  compatible-from bs h = λ i j p q act apart e f.
-      let made = λ (b : Binding). component_of (instance_in types b) in
-      let first = get_map made bs i p (sym (ap (λ cs. slice_get cs i) (map-map component_of (instance_in types) bs)) ∙ e) in
-      let second = get_map made bs j q (sym (ap (λ cs. slice_get cs j) (map-map component_of (instance_in types) bs)) ∙ f) in
-      let goes : Holds act (made first.0) (made second.0) = decide i j first.0 second.0 act apart first.1 second.1 (cases_order i j) in
-      subst (λ c. Holds act p c) second.2 (subst (λ c. Holds act c (made second.0)) first.2 goes)
+  -- entries that clash have an action in common, on which the instances clash
+  clashing-on : AreTypes types → (m n : Instance) (es fs : List SignedEntry) (k l : ℕ) (s t : SignedEntry) → IsKnown types m es → IsKnown types n fs
+      → slice_get es k ≡ Some s → slice_get fs l ≡ Some t → clash types s t ≡ true → Clashing s.name m n
+  clashing-on declared m n es fs k l s t a b at on h =
+      let parts = and_parts (bytes_eq s.name t.name && all_meet types s.domains t.domains) (kinds_clash s.kind t.kind) h in
+      let front = and_parts (bytes_eq s.name t.name) (all_meet types s.domains t.domains) parts.0 in
+      let e = zip-to (IsSigned m) m.automaton.entries es k s a.signed at in
+      let f = zip-to (IsSigned n) n.automaton.entries fs l t b.signed on in
+      let common = all_meet-some types s.domains t.domains declared (domains-of m es k e.0 s a e.1 e.2) (domains-of n fs l f.0 t b f.1 f.2) front.1 in
+      let act : Act = record { name = s.name; vals = common.0 } in
+      let itself : bytes_eq s.name s.name ≡ true = (bytes_eq-Decides s.name s.name).1 refl in
+      let other : bytes_eq t.name s.name ≡ true = (bytes_eq-Decides t.name s.name).1 (sym ((bytes_eq-Decides s.name t.name).0 front.0)) in
+      let mine = kind-of m es k e.0 s act a e.1 e.2 (and_from _ _ itself common.1) in
+      let theirs = kind-of n fs l f.0 t act b f.1 f.2 (and_from _ _ other common.2) in
+      (act, refl, kinds-clashing s.kind t.kind _ _ mine theirs parts.1)
     where
-      decide : (i j : ℕ) (b c : Binding) (act : Act) → i ≢ j → slice_get bs i ≡ Some b → slice_get bs j ≡ Some c → (i ≡ j) ⊎ ((i < j) ⊎ (j < i)) → Holds act (component_of (instance_in types b)) (component_of (instance_in types c))
-      decide i j b c act apart e f (inl same) = absurd (apart same)
-      decide i j b c act apart e f (inr (inl less)) =
-          let r = pair-apart (instance_in types b).automaton (instance_in types c).automaton (instance_in types b).arguments (instance_in types c).arguments act (h i j b c less e f) in (r.0, r.2)
-      decide i j b c act apart e f (inr (inr more)) =
-          let r = pair-apart (instance_in types c).automaton (instance_in types b).automaton (instance_in types c).arguments (instance_in types b).arguments act (h j i c b more f e) in (r.1, (λ k l. r.2 l k))
+      domains-of : (m : Instance) (es : List SignedEntry) (k : ℕ) (e : EntryTree) (s : SignedEntry) → IsKnown types m es
+          → slice_get m.automaton.entries k ≡ Some e → IsSigned m e s → All (IsDomain types) s.domains
+      domains-of m es k e s a at signed =
+          let parts = fine_parts m.types m.types a.globals m.automaton a.fine in
+          let fine = all_at (entry_fine m.types m.types a.globals m.automaton) m.automaton.entries k e parts.entries at in
+          subst (λ ts. All (IsDomain ts) s.domains) a.over
+          (domains_are m (subst AreTypes (sym a.over) declared) a.fit e.positions s.domains
+          (entry_parts m.types m.types a.globals m.automaton e fine).positions signed.domains)
 
-  -- an action of the first values of an entry's positions
-  abbrev first-in : PositionTree → Val
-  first-in (typed f) = first_named types f.ty
+      kind-of : (m : Instance) (es : List SignedEntry) (k : ℕ) (e : EntryTree) (s : SignedEntry) (act : Act) → IsKnown types m es
+          → slice_get m.automaton.entries k ≡ Some e → IsSigned m e s → signed_has act s ≡ true → (component_of m).kind_of act ≡ Some s.kind
+      kind-of m es k e s act a at signed has =
+          let parts = fine_parts m.types m.types a.globals m.automaton a.fine in
+          ap (option_map (λ d. d.kind)) (find-named m act m.automaton.entries k e parts.entry_names at (signed-has m e s act a.over signed ∙ has))
+          ∙ ap (λ q. Some q) (sym signed.kind)
 
-  abbrev firsts : List PositionTree → List Val
-  firsts ps = map first-in ps
+  -- ---- instances in order
 
-  abbrev example : EntryTree → Act
-  example e = record { name = e.name; vals = firsts e.positions }
+  known-at : (bs : List Binding) (ss : List (List SignedEntry)) (k : ℕ) (m : Instance) → AllZip IsSignatureOf (map (instance_in types) bs) ss
+      → AllSound (map (instance_in types) bs) → AllStartable (map (instance_in types) bs)
+      → slice_get (map (instance_in types) bs) k ≡ Some m → (es : List SignedEntry) × (slice_get ss k ≡ Some es) × IsKnown types m es
+  known-at [] ss k m z s t h = absurd (cc)
+  known-at (b ∷ bs) [] k m z s t h = absurd z
+  known-at (b ∷ bs) (es ∷ ss) zero m z s t h =
+      let q : instance_in types b ≡ m = cc in
+      (es, refl, subst (λ n. IsKnown types n es) q (record { over = refl; signed = z.0; globals = s.0.0; fine = s.0.1; fit = t.0.fit }))
+  known-at (b ∷ bs) (es ∷ ss) (suc k) m z s t h = known-at bs ss k m z.1 s.1 t.1 h
 
-  named-first : AreTypes types → (x : Name) → option_map_or (λ n. true) (type_named types x) false ≡ true → is_named types x (first_named types x) ≡ true
-  named-first d x h =
-      let t = some_there (type_named types x) h in
-      ap (λ o. option_map_or (λ n. is_of types (first_named types x) n) o false) t.1 ∙ first_named_typed types d x t.0 t.1
+  module _ (declared : AreTypes types) (bs : List Binding) (ss : List (List SignedEntry)) (z : AllZip IsSignatureOf (map (instance_in types) bs) ss)
+      (s : AllSound (map (instance_in types) bs)) (t : AllStartable (map (instance_in types) bs)) where
+    -- a signature that is clear of the later ones before the end
+    till-none : (k l end : ℕ) (m n : Instance) (x : Name) → IsClearTill types ss k end → k < l → l < end
+        → slice_get (map (instance_in types) bs) k ≡ Some m → slice_get (map (instance_in types) bs) l ≡ Some n → Clashing x m n → ⊥
+    till-none k l end m n x h less within e f =
+        let a = known-at bs ss k m z s t e in
+        let b = known-at bs ss l n z s t f in
+        clear-none m n a.0 b.0 x a.2 b.2 (h a.0 b.0 l a.1 b.1 less within)
 
-  has-firsts : AreTypes types → (ps : List PositionTree) → list_all (is_type types) (position_fields ps) ≡ true → positions_have types ps (firsts ps) ≡ true
-  has-firsts d [] h = refl
-  has-firsts d (typed f ∷ ps) h =
-      let hs = and_parts (is_type types f) (list_all (is_type types) (position_fields ps)) h in
-      and_from _ _ (named-first d f.ty hs.0) (has-firsts d ps hs.1)
+    -- the instance of a signature
+    known-from : (k : ℕ) (es : List SignedEntry) → slice_get ss k ≡ Some es
+        → (m : Instance) × (slice_get (map (instance_in types) bs) k ≡ Some m) × IsKnown types m es
+    known-from k es h =
+        let a = zip-to IsSignatureOf (map (instance_in types) bs) ss k es z h in
+        let b = known-at bs ss k a.0 z s t a.1 in
+        (a.0, a.1, subst (IsKnown types a.0) (same-item b.1 h) b.2)
 
-  types-alike : (o p : Option ℕ) (v : Val) → same_type o p ≡ true → option_map_or (λ n. is_of types v n) o false ≡ true → option_map_or (λ n. is_of types v n) p false ≡ true
-  types-alike (Some m) (Some n) v h g = subst (λ k. is_of types v k ≡ true) (sym (eqb-true n m h)) g
-  types-alike (Some m) None v h g = absurd (cc)
-  types-alike None p v h g = absurd (cc)
+    pub none-clash : (count : ℕ) → length ss ≡ count → ((k : ℕ) → k < count → IsClearTill types ss k count) → NoneClash (map (instance_in types) bs)
+    none-clash count q h = λ k l m n x less e f.
+        let b = known-at bs ss l n z s t f in
+        let within : l < count = subst (λ y. l < y) q (slice_get_within ss l b.0 b.1) in
+        till-none k l count m n x (h k (omega arith)) less within e f
 
-  position-too : (p q : PositionTree) (v : Val) → alike types p q ≡ true → position_has types p v ≡ true → position_has types q v ≡ true
-  position-too (typed f) (typed g) v h k = types-alike (type_named types f.ty) (type_named types g.ty) v h k
+    none-before : (count i j : ℕ) → length ss ≡ count → ((k : ℕ) → k < i → IsClearTill types ss k count) → IsClearTill types ss i j
+        → NoneClashes (map (instance_in types) bs) i j
+    none-before count i j q h here = λ k l m n x before e f.
+        let b = known-at bs ss l n z s t f in
+        let within : l < count = subst (λ y. l < y) q (slice_get_within ss l b.0 b.1) in
+        elim before.1 [
+          | inl less ↦ till-none k l count m n x (h k less) before.0 within e f
+          | inr at ↦ till-none k l j m n x (subst (λ y. IsClearTill types ss y j) (sym at.0) here) before.0 at.1 e f
+        ]
 
-  positions-too : (ps qs : List PositionTree) (vs : List Val) → all_alike types ps qs ≡ true → positions_have types ps vs ≡ true → positions_have types qs vs ≡ true
-  positions-too [] [] vs h g = g
-  positions-too [] (q ∷ qs) vs h g = absurd (cc)
-  positions-too (p ∷ ps) [] vs h g = absurd (cc)
-  positions-too (p ∷ ps) (q ∷ qs) [] h g = absurd (cc)
-  positions-too (p ∷ ps) (q ∷ qs) (v ∷ vs) h g =
-      let hs = and_parts (alike types p q) (all_alike types ps qs) h in
-      let gs = and_parts (position_has types p v) (positions_have types ps vs) g in
-      and_from _ _ (position-too p q v hs.0 gs.0) (positions-too ps qs vs hs.1 gs.1)
-
-  there : (es : List EntryTree) (k : ℕ) (e : EntryTree) (x : Name) → slice_get es k ≡ Some e → bytes_eq e.name x ≡ true → contains (map (λ d. d.name) es) x ≡ true
-  there [] k e x h g = absurd (cc)
-  there (d ∷ ds) zero e x h g = let q : d ≡ e = cc in or_left _ _ (ap (λ y. bytes_eq y.name x) q ∙ g)
-  there (d ∷ ds) (suc k) e x h g = or_right _ _ (there ds k e x h g)
-
-  -- among entries of different names a search by an action finds the one that has it
-  find-named : (act : Act) (es : List EntryTree) (k : ℕ) (e : EntryTree) → distinct (map (λ d. d.name) es) ≡ true → slice_get es k ≡ Some e → entry_has types act e ≡ true → find (entry_has types act) es ≡ Some e
-  find-named act [] k e d h g = absurd (cc)
-  find-named act (x ∷ xs) zero e d h g =
-      let q : x ≡ e = cc in
-      ap (λ b. cond b (Some x) (find (entry_has types act) xs)) (ap (entry_has types act) q ∙ g) ∙ ap (λ y. Some y) q
-  find-named act (x ∷ xs) (suc k) e d h g =
-      let ds = and_parts (not (contains (map (λ d. d.name) xs) x.name)) (distinct (map (λ d. d.name) xs)) d in
-      let mine = and_parts (bytes_eq e.name act.name) (positions_have types e.positions act.vals) g in
-      split (entry_has types act x) refl ds.0 mine.0 (find-named act xs k e ds.1 h g)
-    where
-      split : (b : Bool) → entry_has types act x ≡ b → not (contains (map (λ d. d.name) xs) x.name) ≡ true → bytes_eq e.name act.name ≡ true → find (entry_has types act) xs ≡ Some e → cond b (Some x) (find (entry_has types act) xs) ≡ Some e
-      split false q n m later = later
-      split true q n m later =
-          let theirs = and_parts (bytes_eq x.name act.name) (positions_have types x.positions act.vals) q in
-          absurd (both_ways (contains (map (λ d. d.name) xs) x.name) (not-true _ n) (there xs k e x.name h (same-bytes e.name x.name act.name m theirs.0)))
-
-  kinds-clashing : (k l : Kind) (o p : Option Kind) → o ≡ Some k → p ≡ Some l → kinds_clash k l ≡ true → ((o ≡ Some Internal) × (p ≡ None → ⊥)) ⊎ (((p ≡ Some Internal) × (o ≡ None → ⊥)) ⊎ ((o ≡ Some Output) × (p ≡ Some Output)))
-  kinds-clashing Internal l o p e f h = inl (e, λ n. absurd (cc))
-  kinds-clashing Input Internal o p e f h = inr (inl (f, λ n. absurd (cc)))
-  kinds-clashing Output Internal o p e f h = inr (inl (f, λ n. absurd (cc)))
-  kinds-clashing Output Output o p e f h = inr (inr (e, f))
-  kinds-clashing Input Input o p e f h = absurd (cc)
-  kinds-clashing Input Output o p e f h = absurd (cc)
-  kinds-clashing Output Input o p e f h = absurd (cc)
-
-  -- entries that clash types have an action in common, on which the instances clash
-  pub clashing-from : AreTypes types → (a b : AutomatonTree) (vs ws : List Val) (ga gb : List Name) (name : Name) → automaton_fine types types ga a ≡ true → automaton_fine types types gb b ≡ true → ClashAt types a b name → Clashing name (instance_with types a vs) (instance_with types b ws)
-  clashing-from d a b vs ws ga gb x fa fb h =
-      let e = h.0 in
-      let f = h.1 in
-      let pa = fine_parts types types ga a fa in
-      let pb = fine_parts types types gb b fb in
-      let parts = and_parts (bytes_eq e.name f.name && all_alike types e.positions f.positions) (kinds_clash e.kind f.kind) h.6 in
-      let front = and_parts (bytes_eq e.name f.name) (all_alike types e.positions f.positions) parts.0 in
-      let fine = all_at (entry_fine types types ga a) a.entries h.2 e pa.entries h.4 in
-      let known = and_parts _ (list_all (is_type types) (position_fields e.positions)) fine in
-      let itself : bytes_eq e.name e.name ≡ true = (bytes_eq-Decides e.name e.name).1 refl in
-      let has_mine = has-firsts d e.positions known.1 in
-      let mine : entry_has types (example e) e ≡ true = and_from _ _ itself has_mine in
-      let theirs : entry_has types (example e) f ≡ true = and_from _ _ (same-bytes f.name e.name e.name ((bytes_eq-Decides f.name e.name).1 (sym ((bytes_eq-Decides e.name f.name).0 front.0))) itself) (positions-too e.positions f.positions (firsts e.positions) front.1 has_mine) in
-      let found_mine = find-named (example e) a.entries h.2 e pa.entry_names h.4 mine in
-      let found_theirs = find-named (example e) b.entries h.3 f pb.entry_names h.5 theirs in
-      (example e, sym h.7, kinds-clashing e.kind f.kind _ _ (ap (option_map (λ d. d.kind)) found_mine) (ap (option_map (λ d. d.kind)) found_theirs) parts.1)
-
-  -- one more of the later ones is clear types of the i-th
-  abbrev pub ClearBelow : List Binding → ℕ → ℕ → Type 0
-  ClearBelow bs i k = (j : ℕ) (b c : Binding) → j < k → i < j → slice_get bs i ≡ Some b → slice_get bs j ≡ Some c → clear types (automaton_of b.automaton.now) (automaton_of c.automaton.now) ≡ true
-
-  same-item : {X : Type 0} {x y : X} {o : Option X} → o ≡ Some x → o ≡ Some y → x ≡ y
-  same-item {x = x} {y = y} e f = let q : Some x ≡ Some y = sym e ∙ f in cc
-
-  abbrev ClearTwo : Binding → Binding → Type 0
-  ClearTwo b c = clear types (automaton_of b.automaton.now) (automaton_of c.automaton.now) ≡ true
-
-  pub clear-more : (bs : List Binding) (i k : ℕ) (b c : Binding) → i < length bs → b ≡ get_or bs i b → k < length bs → c ≡ get_or bs k c → ClearTwo b c → ClearBelow bs i k → ClearBelow bs i (k + 1)
-  clear-more bs i k b c li eb lk ec h below = λ j x y l m e f. split j x y l m e f (cases_lt j k)
-    where
-      split : (j : ℕ) (x y : Binding) → j < k + 1 → i < j → slice_get bs i ≡ Some x → slice_get bs j ≡ Some y → (j < k) ⊎ (k ≤ j) → ClearTwo x y
-      split j x y l m e f (inl less) = below j x y less m e f
-      split j x y l m e f (inr more) =
-          let at : j ≡ k = omega arith in
-          let first : b ≡ x = same-item (slice_get_read bs (length bs) i b refl li eb) e in
-          let second : c ≡ y = same-item (slice_get_read bs (length bs) k c refl lk ec) (ap (slice_get bs) (sym at) ∙ f) in
-          subst (λ z. ClearTwo x z) second (subst (λ z. ClearTwo z c) first h)
-
-  pub clear-all : (bs : List Binding) (i k : ℕ) → length bs ≤ k → ClearBelow bs i k → (j : ℕ) (b c : Binding) → i < j → slice_get bs i ≡ Some b → slice_get bs j ≡ Some c → ClearTwo b c
-  clear-all bs i k l below j b c m e f = let w = slice_get_within bs j c f in below j b c (omega arith) m e f
-
-  pub clear-moved : (b c b' c' : Binding) → b' ≡ b → c' ≡ c → ClearTwo b' c' → ClearTwo b c
-  clear-moved b c b' c' p q h = subst (λ z. ClearTwo b z) q (subst (λ z. ClearTwo z c') p h)
-
-  pub clash-moved : (b c b' c' : Binding) (x : Name) → b' ≡ b → c' ≡ c → ClashAt types (automaton_of b'.automaton.now) (automaton_of c'.automaton.now) x → ClashAt types (automaton_of b.automaton.now) (automaton_of c.automaton.now) x
-  clash-moved b c b' c' x p q h =
-      subst (λ z. ClashAt types (automaton_of b.automaton.now) (automaton_of z.automaton.now) x) q (subst (λ z. ClashAt types (automaton_of z.automaton.now) (automaton_of c'.automaton.now) x) p h)
-
-  clear-apart : (a b : AutomatonTree) (vs ws : List Val) (x : Name) → clear types a b ≡ true → Clashing x (instance_with types a vs) (instance_with types b ws) → ⊥
-  clear-apart a b vs ws x h c =
-      let r = pair-apart a b vs ws c.0 h in
-      elim c.2 [ inl p ↦ p.1 (r.0 p.0) | inr y ↦ elim y [ inl p ↦ p.1 (r.1 p.0) | inr p ↦ r.2 p.0 p.1 ] ]
-
-  -- all that stand before the i-th are clear types of what comes after them
-  abbrev pub ClearTill : List Binding → ℕ → Type 0
-  ClearTill bs i = (k j : ℕ) (b c : Binding) → k < i → k < j → slice_get bs k ≡ Some b → slice_get bs j ≡ Some c → clear types (automaton_of b.automaton.now) (automaton_of c.automaton.now) ≡ true
-
-  pub none-before : (bs : List Binding) (i j : ℕ) → ClearTill bs i → ClearBelow bs i j → NoneClashes (map (instance_in types) bs) i j
-  none-before bs i j till below = λ k l m n x before e f clash.
-      let first = get_map (instance_in types) bs k m e in
-      let second = get_map (instance_in types) bs l n f in
-      clear-apart (instance_in types first.0).automaton (instance_in types second.0).automaton (instance_in types first.0).arguments (instance_in types second.0).arguments x
-      (two k l first.0 second.0 before.0 before.1 first.1 second.1)
-      (subst (λ z. Clashing x (instance_in types first.0) z) (sym second.2) (subst (λ z. Clashing x z n) (sym first.2) clash))
-    where
-      two : (k l : ℕ) (b c : Binding) → k < l → (k < i) ⊎ ((k ≡ i) × (l < j)) → slice_get bs k ≡ Some b → slice_get bs l ≡ Some c → ClearTwo b c
-      two k l b c m (inl less) e f = till k l b c less m e f
-      two k l b c m (inr same) e f = below l b c same.1 (subst (λ z. z < l) same.0 m) (sym (ap (slice_get bs) same.0) ∙ e) f
-
-  -- no two instances of clear types bindings clash
-  pub none-at-all : (bs : List Binding) → PairsClear types bs → (i j : ℕ) → NoneClashes (map (instance_in types) bs) i j
-  none-at-all bs h i j = none-before bs i j (λ k l b c less m e f. h k l b c m e f) (λ l b c less m e f. h i l b c m e f)
-
-  -- among entries of different names each name stands in one place
-  place-once : (es : List EntryTree) (k l : ℕ) (e d : EntryTree) → distinct (map (λ x. x.name) es) ≡ true → slice_get es k ≡ Some e → slice_get es l ≡ Some d → bytes_eq e.name d.name ≡ true → k ≡ l
-  place-once [] k l e d h p q n = absurd (cc)
-  place-once (x ∷ xs) zero zero e d h p q n = refl
-  place-once (x ∷ xs) zero (suc l) e d h p q n =
-      let hs = and_parts (not (contains (map (λ y. y.name) xs) x.name)) (distinct (map (λ y. y.name) xs)) h in
-      let s : x ≡ e = cc in
-      let m : bytes_eq d.name x.name ≡ true = (bytes_eq-Decides d.name x.name).1 (sym ((bytes_eq-Decides e.name d.name).0 n) ∙ ap (λ y. y.name) (sym s)) in
-      absurd (both_ways (contains (map (λ y. y.name) xs) x.name) (not-true _ hs.0) (there xs l d x.name q m))
-  place-once (x ∷ xs) (suc k) zero e d h p q n =
-      let hs = and_parts (not (contains (map (λ y. y.name) xs) x.name)) (distinct (map (λ y. y.name) xs)) h in
-      let s : x ≡ d = cc in
-      let m : bytes_eq e.name x.name ≡ true = (bytes_eq-Decides e.name x.name).1 ((bytes_eq-Decides e.name d.name).0 n ∙ ap (λ y. y.name) (sym s)) in
-      absurd (both_ways (contains (map (λ y. y.name) xs) x.name) (not-true _ hs.0) (there xs k e x.name p m))
-  place-once (x ∷ xs) (suc k) (suc l) e d h p q n =
-      let hs = and_parts (not (contains (map (λ y. y.name) xs) x.name)) (distinct (map (λ y. y.name) xs)) h in
-      ap suc (place-once xs k l e d hs.1 p q n)
-
-  -- an entry that is clear types of the other's entries has no action on which the instances clash
-  entry-apart : (a b : AutomatonTree) (vs ws : List Val) (l : ℕ) (d : EntryTree) → distinct (map (λ x. x.name) a.entries) ≡ true → slice_get a.entries l ≡ Some d → list_all (λ f. not (clash types d f)) b.entries ≡ true → Clashing d.name (instance_with types a vs) (instance_with types b ws) → ⊥
-  entry-apart a b vs ws l d apart at h c =
-      let r = options-apart (entry_for (instance_with types a vs) c.0) (entry_for (instance_with types b ws) c.0) (λ e f p q. one-clear c.0 e f c.1 p q) in
-      elim c.2 [ inl p ↦ p.1 (r.0 p.0) | inr y ↦ elim y [ inl p ↦ p.1 (r.1 p.0) | inr p ↦ r.2 p.0 p.1 ] ]
-    where
-      one-clear : (act : Act) (e f : EntryTree) → act.name ≡ d.name → entry_for (instance_with types a vs) act ≡ Some e → entry_for (instance_with types b ws) act ≡ Some f → kinds_clash e.kind f.kind ≡ false
-      one-clear act e f named p q =
-          let found = find_at (entry_has types act) a.entries e p in
-          let mine = and_parts (bytes_eq e.name act.name) (positions_have types e.positions act.vals) found.2 in
-          let place = place-once a.entries found.0 l e d apart found.1 at (subst (λ n. bytes_eq e.name n ≡ true) named mine.0) in
-          let same : e ≡ d = same-item found.1 (ap (slice_get a.entries) place ∙ at) in
-          let second = find_both (entry_has types act) (λ y. not (clash types d y)) b.entries f q h in
-          let theirs = and_parts (bytes_eq f.name act.name) (positions_have types f.positions act.vals) second.0 in
-          third (bytes_eq e.name f.name) (all_alike types e.positions f.positions) (kinds_clash e.kind f.kind) (same-bytes e.name f.name act.name mine.0 theirs.0) (positions-alike e.positions f.positions act.vals mine.1 theirs.1)
-          (not-true (clash types e f) (subst (λ z. not (clash types z f) ≡ true) (sym same) second.1))
-
-  pub first-entry : (a b : AutomatonTree) (vs ws : List Val) (g : List Name) (x : Name) → automaton_fine types types g a ≡ true → ClashAt types a b x → IsFirstEntry x (instance_with types a vs) (instance_with types b ws)
-  first-entry a b vs ws g x fine h = λ k l e d at named less before c.
-      let pa = fine_parts types types g a fine in
-      let place = place-once a.entries k h.2 e h.0 pa.entry_names at h.4 ((bytes_eq-Decides e.name h.0.name).1 (named ∙ h.7)) in
-      entry-apart a b vs ws l d pa.entry_names before (h.8 l d (subst (λ z. l < z) place less) before) c
-
-  pub none-more : (a b : AutomatonTree) (k : ℕ) (e : EntryTree) → slice_get a.entries k ≡ Some e → list_all (λ f. not (clash types e f)) b.entries ≡ true → NoneUpTo types a b k → NoneUpTo types a b (k + 1)
-  none-more a b k e at h none = λ n d less there. split n d less there (cases_lt n k)
-    where
-      split : (n : ℕ) (d : EntryTree) → n < k + 1 → slice_get a.entries n ≡ Some d → (n < k) ⊎ (k ≤ n) → list_all (λ f. not (clash types d f)) b.entries ≡ true
-      split n d less there (inl l) = none n d l there
-      split n d less there (inr m) =
-          let place : n ≡ k = omega arith in
-          let same : e ≡ d = same-item at (ap (slice_get a.entries) (sym place) ∙ there) in
-          subst (λ z. list_all (λ f. not (clash types z f)) b.entries ≡ true) same h
+    pub clashes-in : (count i j first : ℕ) (x : Name) → length ss ≡ count → ((k : ℕ) → k < i → IsClearTill types ss k count)
+        → IsClearTill types ss i j → (hit : IsHit types ss i j first) → x ≡ hit.entry.name
+        → ClashesIn (map (instance_in types) bs) (clashing i j x)
+    clashes-in count i j first x q h here hit named =
+        let a = known-from i hit.signature hit.here in
+        let b = known-from j hit.hit.0 hit.hit.1 in
+        let on = fails_at (λ f. not (clash types hit.entry f)) hit.hit.0 hit.hit.2 in
+        let two = clashing-on declared a.0 b.0 hit.signature hit.hit.0 first on.1 hit.entry on.0 a.2 b.2 hit.among on.2
+        (not-false (clash types hit.entry on.0) on.3) in
+        (a.0, b.0, hit.later, a.1, b.1, subst (λ y. Clashing y a.0 b.0) (sym named) two, none-before count i j q h here, first-of a.0 b.0 a.2 b.2)
+      where
+        first-of : (m n : Instance) → IsKnown types m hit.signature → IsKnown types n hit.hit.0 → IsFirstEntry x m n
+        first-of m n a b = λ k l e d at called less there c.
+            let e0 = zip-to (IsSigned m) m.automaton.entries hit.signature first hit.entry a.signed hit.among in
+            let parts = fine_parts m.types m.types a.globals m.automaton a.fine in
+            let place = place-once m.automaton.entries k first e e0.0 parts.entry_names at e0.1 (called ∙ named ∙ e0.2.name) in
+            let d0 = zip-at (IsSigned m) m.automaton.entries hit.signature l d a.signed there in
+            entry-none m n hit.signature hit.hit.0 l d d0.0 a b there d0.1 (hit.earlier l d0.0 (subst (λ y. l < y) place less) d0.1 hit.hit.0 hit.hit.1) c

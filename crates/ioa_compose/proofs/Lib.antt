@@ -5,5 +5,10 @@ pub mod BindingLemmas
 pub mod StartLemmas
 pub mod SourceLemmas
 pub mod FineLemmas
+pub mod SignatureLemmas
 pub mod ClashLemmas
+pub mod IndexLemmas
+pub mod SearchLemmas
 pub mod ComposeLemmas
+pub mod CompatibleLemmas
+pub mod RefusalLemmas

@@ -1,15 +1,14 @@
 -- What a well formed source says of the declarations that are picked from it.
-use Rattle.std.proofs.Common.{◌≡◌, ◌||◌, Bool, true, false, List, [], ◌∷◌, Option, Some, None, refl, subst, ◌∙◌, cond, map, length, nat_le, arith}
+use Rattle.std.proofs.Common.{◌≡◌, ◌&&◌, ◌||◌, Bool, true, false, List, [], ◌∷◌, ◌++◌, Option, Some, None, refl, subst, ◌∙◌, cond, map, length, nat_le}
 use Rattle.std.specs.List.{list_any, list_all, flat_map}
 use Rattle.std.specs.Str.{bytes_eq}
 use Rattle.std.proofs.lemmas.List.Elements.{All-head}
 use Rattle.ioa_value.specs.Names.{IsName}
 use Rattle.ioa_syntax.specs.Names.{LegalNames, names_of_instance}
-use Rattle.ioa_syntax.proofs.FineParts.{source_parts}
+use Rattle.ioa_syntax.proofs.FineParts.{source_parts, at_most}
 use Rattle.ioa_syntax.proofs.Declared.{automata_fine, compositions_fine}
 use Rattle.ioa_syntax.proofs.LegalNames.{legal_composition, legal_instances}
 use Rattle.std.proofs.lemmas.Bool.{and_from, and_parts}
-use Rattle.std.proofs.lemmas.Bool.Decides.{nat_tests}
 use Rattle.ioa_value.specs.Actions.{Name}
 use Rattle.ioa_syntax.specs.Tree.{AutomatonTree, InstanceTree, CompositionTree, declared_type, automaton, composition, SourceTree}
 use Rattle.ioa_syntax.specs.Types.{types_of}
@@ -88,7 +87,17 @@ picked_passes p s None c h e = last_passes p (compositions s) None c h (λ q. ab
 pub picked_composable : (s : SourceTree) (name : Option Name) (c : CompositionTree) → well_formed s ≡ true → LegalNames s → picked s name ≡ Some c → IsComposable s c
 picked_composable s name c h legal e =
     let fine = picked_passes (composition_fine (types_of s) (types_of s) s) s name c (compositions_fine s h) e in
-    let inner = and_parts (distinct (map (λ i. i.name) c.instances)) (list_all (instance_fine (types_of s) (types_of s) s) c.instances) fine in
-    let test : nat_le (length c.instances) LIMITS.components ≡ true = picked_passes (composition_within LIMITS) s name c (compositions_small s (declared_within s h)) e in
+    let inner = and_parts (distinct (map (λ i. i.name) c.instances) && distinct c.hidden) (list_all (instance_fine (types_of s) (types_of s) s) c.instances) fine in
+    let named = and_parts (distinct (map (λ i. i.name) c.instances)) (distinct c.hidden) inner.0 in
+    let test = picked_passes (composition_within LIMITS) s name c (compositions_small s (declared_within s h)) e in
+    let few = and_parts (nat_le (length c.instances) LIMITS.components) (nat_le (length c.hidden) LIMITS.hidden) test in
     let names = legal_composition s name c legal e in
-    record { legal = All-head IsName c.name (flat_map names_of_instance c.instances) names; legal_names = legal_instances c names; names = inner.0; few = grind (arith, nat_tests); ready = all_ready s c.instances inner.1 }
+    record {
+      legal = All-head IsName c.name (flat_map names_of_instance c.instances ++ c.hidden) names;
+      legal_names = legal_instances c names;
+      names = named.0;
+      few = at_most (length c.instances) LIMITS.components few.0;
+      ready = all_ready s c.instances inner.1;
+      hidden = named.1;
+      few_hidden = at_most (length c.hidden) LIMITS.hidden few.1;
+    }

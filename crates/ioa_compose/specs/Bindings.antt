@@ -79,13 +79,15 @@ AllReady s [] = Unit {0}
 AllReady s (i ∷ is) = IsReady s i × AllReady s is
 
 -- what a composition of a well formed source has: a legal name, components of different legal names, not too many, and each is
--- ready
+-- ready, and different hidden names, not too many
 pub record IsComposable (s : SourceTree) (c : CompositionTree) : Type 0 where
   pub legal : IsName c.name
   pub legal_names : All (λ i. IsName i.name) c.instances
   pub names : IsTrue (distinct (map (λ i. i.name) c.instances))
   pub few : length c.instances ≤ LIMITS.components
   pub ready : AllReady s c.instances
+  pub hidden : IsTrue (distinct c.hidden)
+  pub few_hidden : length c.hidden ≤ LIMITS.hidden
 
 -- start expressions have their variables' types, which are known
 pub record StartsWell (types : Table) (a : AutomatonTree) : Type 0 where

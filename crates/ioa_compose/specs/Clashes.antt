@@ -1,25 +1,41 @@
 -- When two entries have an action in common that may not be.
-use Rattle.std.specs.Prelude.{◌≡◌, ℕ, Bool, true, false, not, ◌&&◌, ◌<◌, List, [], ◌∷◌, Some, slice_get}
-use Rattle.std.specs.List.{list_all}
+use Rattle.std.specs.Prelude.{◌≡◌, ℕ, ◌<◌, ◌≤◌, Bool, true, false, not, ◌&&◌, List, map, Vec, Some, slice_get}
+use Rattle.std.specs.List.{AllZip, list_all}
+use Rattle.std.specs.Global.{Global}
 use Rattle.std.specs.Str.{bytes_eq}
 use Rattle.ioa_value.specs.Actions.{Name}
-use Rattle.ioa_value.specs.Table.{Table, type_named}
+use Rattle.ioa_value.specs.Positions.{Domain, domain_of, all_meet}
+use Rattle.ioa_value.specs.Table.{Table}
 use Rattle.ioa_syntax.specs.declared.tree.Kind.{Kind}
 use Rattle.ioa_syntax.specs.declared.tree.Kind.TheVariants.{Input, Output, Internal}
-use Rattle.ioa_syntax.specs.Tree.{PositionTree, typed, EntryTree, AutomatonTree}
-use Rattle.ioa_syntax.specs.View.{automaton_of}
-use Rattle.ioa_syntax.specs.WellFormed.{same_type}
-use Rattle.ioa_compose.specs.declared.binding.Binding.{Binding}
+use Rattle.ioa_syntax.specs.Tree.{EntryTree}
+use Rattle.ioa_syntax.specs.View.{name_of}
+use Rattle.ioa_syntax.specs.Instances.{Instance}
+use Rattle.ioa_syntax.specs.Domains.{AreDomainsOf}
+use Rattle.ioa_compose.specs.declared.signatures.SignedEntry as held
 
--- some value is of both positions
-abbrev pub alike : Table → PositionTree → PositionTree → Bool
-alike types (typed f) (typed g) = same_type (type_named types f.ty) (type_named types g.ty)
+-- an entry as its actions are told: its kind, its name, and the values that stand in its positions
+pub record SignedEntry : Type 0 where
+  pub kind : Kind
+  pub name : Name
+  pub domains : List Domain
 
-abbrev pub all_alike : Table → List PositionTree → List PositionTree → Bool
-all_alike types [] [] = true
-all_alike types [] (q ∷ qs) = false
-all_alike types (p ∷ ps) [] = false
-all_alike types (p ∷ ps) (q ∷ qs) = alike types p q && all_alike types ps qs
+-- the entry of an instance is told so
+pub record IsSigned (i : Instance) (e : EntryTree) (s : SignedEntry) : Type 0 where
+  pub kind : s.kind ≡ e.kind
+  pub name : s.name ≡ e.name
+  pub domains : AreDomainsOf i e.positions s.domains
+
+-- so is each of its entries, in order
+abbrev pub IsSignatureOf : Instance → List SignedEntry → Type 0
+IsSignatureOf i ss = AllZip (IsSigned i) i.automaton.entries ss
+
+-- without the memory that holds them
+abbrev pub signed_of : held.SignedEntry → SignedEntry
+signed_of e = record { kind = e.kind; name = name_of e.name.now; domains = map domain_of e.positions.items }
+
+abbrev pub signature_of : Vec held.SignedEntry Global → List SignedEntry
+signature_of es = map signed_of es.items
 
 -- one is internal, or both are outputs
 abbrev pub kinds_clash : Kind → Kind → Bool
@@ -31,21 +47,49 @@ kinds_clash Output Internal = true
 kinds_clash Output Output = true
 kinds_clash Output Input = false
 
-abbrev pub clash : Table → EntryTree → EntryTree → Bool
-clash types e f = bytes_eq e.name f.name && all_alike types e.positions f.positions && kinds_clash e.kind f.kind
+-- some action is in both entries, and internal to one of them or an output of both
+abbrev pub clash : Table → SignedEntry → SignedEntry → Bool
+clash types e f = bytes_eq e.name f.name && all_meet types e.domains f.domains && kinds_clash e.kind f.kind
 
--- no entry of one clashes with one of the other
-abbrev pub clear : Table → AutomatonTree → AutomatonTree → Bool
-clear types a b = list_all (λ e. list_all (λ f. not (clash types e f)) b.entries) a.entries
+-- the entry clashes with none of these
+abbrev pub clear_of : Table → SignedEntry → List SignedEntry → Bool
+clear_of types e fs = list_all (λ f. not (clash types e f)) fs
 
--- no entry of one before this place clashes with one of the other
-abbrev pub NoneUpTo : Table → AutomatonTree → AutomatonTree → ℕ → Type 0
-NoneUpTo types a b k = (n : ℕ) (d : EntryTree) → n < k → slice_get a.entries n ≡ Some d → list_all (λ f. not (clash types d f)) b.entries ≡ true
+-- no entry of one signature clashes with one of the other
+abbrev pub clear : Table → List SignedEntry → List SignedEntry → Bool
+clear types es fs = list_all (λ e. clear_of types e fs) es
 
--- two entries clash, the first has this name, and none before it clashes
-abbrev pub ClashAt : Table → AutomatonTree → AutomatonTree → Name → Type 0
-ClashAt types a b name = (e : EntryTree) × (f : EntryTree) × (k : ℕ) × (l : ℕ) × (slice_get a.entries k ≡ Some e) × (slice_get b.entries l ≡ Some f) × (clash types e f ≡ true) × (name ≡ e.name) × NoneUpTo types a b k
+-- among signatures in order
+module _ (types : Table) (ss : List (List SignedEntry)) where
+  -- the entry clashes with none of the signature in this place
+  abbrev pub IsClearAt : SignedEntry → ℕ → Type 0
+  IsClearAt e j = (fs : List SignedEntry) → slice_get ss j ≡ Some fs → clear_of types e fs ≡ true
 
--- the automata of any two of these are clear of one another
-abbrev pub PairsClear : Table → List Binding → Type 0
-PairsClear types bs = (i j : ℕ) (b c : Binding) → i < j → slice_get bs i ≡ Some b → slice_get bs j ≡ Some c → clear types (automaton_of b.automaton.now) (automaton_of c.automaton.now) ≡ true
+  -- the entry clashes with one of the signature in this place
+  abbrev pub HitsAt : SignedEntry → ℕ → Type 0
+  HitsAt e j = (fs : List SignedEntry) × (slice_get ss j ≡ Some fs) × (clear_of types e fs ≡ false)
+
+  -- the first place from the start on, and before the end, at which the entry clashes; or the end
+  pub record IsFirstHit (e : SignedEntry) (start end place : ℕ) : Type 0 where
+    pub within : place ≤ end
+    pub clear : (j : ℕ) → start ≤ j → j < place → IsClearAt e j
+    pub hit : place < end → (start ≤ place) × HitsAt e place
+
+  -- two signatures clash first on this entry of the first one
+  pub record IsHit (i j first : ℕ) : Type 0 where
+    pub later : i < j
+    pub signature : List SignedEntry
+    pub here : slice_get ss i ≡ Some signature
+    pub entry : SignedEntry
+    pub among : slice_get signature first ≡ Some entry
+    pub hit : HitsAt entry j
+    pub earlier : (l : ℕ) (e : SignedEntry) → l < first → slice_get signature l ≡ Some e → IsClearAt e j
+
+  -- no entry of this signature before the k-th clashes with a later signature before the end
+  abbrev pub IsClearUpTo : ℕ → ℕ → ℕ → Type 0
+  IsClearUpTo i k end = (es : List SignedEntry) (l : ℕ) (e : SignedEntry) (j : ℕ) → slice_get ss i ≡ Some es → l < k → slice_get es l ≡ Some e
+      → i < j → j < end → IsClearAt e j
+
+  -- no entry of it clashes so
+  abbrev pub IsClearTill : ℕ → ℕ → Type 0
+  IsClearTill i end = (es fs : List SignedEntry) (j : ℕ) → slice_get ss i ≡ Some es → slice_get ss j ≡ Some fs → i < j → j < end → clear types es fs ≡ true

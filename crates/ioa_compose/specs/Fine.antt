@@ -1,15 +1,14 @@
 -- What each component of a composition keeps.
-use Rattle.std.specs.Prelude.{◌≡◌, ◌≤◌, Bool, ◌&&◌, All, IsTrue, List, [], ◌∷◌, Some, Ok, map, length}
-use Rattle.std.specs.List.{list_any, list_all}
-use Rattle.std.specs.Str.{bytes_eq}
+use Rattle.std.specs.Prelude.{◌≡◌, ◌≤◌, All, IsTrue, List, [], ◌∷◌, Ok, map, length}
+use Rattle.std.specs.List.{list_all}
 use Rattle.ioa_value.specs.Actions.{Name}
 use Rattle.ioa_value.specs.Names.{IsName}
 use Rattle.ioa_value.specs.Table.{Table, AreTypes}
 use Rattle.ioa_value.specs.declared.limits.Limits.{Limits}
 use Rattle.ioa_value.specs.declared.limits.TheConstants.{LIMITS}
 use Rattle.ioa_syntax.specs.Instances.{Fit, start_values}
-use Rattle.ioa_syntax.specs.Components.{Compatible, is_output}
-use Rattle.ioa_syntax.specs.Compositions.{Member, Composed, components_of}
+use Rattle.ioa_syntax.specs.Components.{Compatible}
+use Rattle.ioa_syntax.specs.Compositions.{Member, Composed, components_of, instances_of, is_output_of}
 use Rattle.ioa_syntax.specs.WellFormed.{distinct, variable_fields, automaton_fine, automaton_within}
 
 -- the component's name and those of its entries are legal, the automaton is well formed and within these limits, the arguments
@@ -36,10 +35,6 @@ AreOver types (m ∷ ms) = (m.instance.types ≡ types) × AreOver types ms
 abbrev pub component_limits : Limits
 component_limits = LIMITS
 
--- an output of one of the components has this name
-abbrev pub is_output_of : Composed → Name → Bool
-is_output_of c x = list_any (λ m. list_any (λ e. is_output (Some e.kind) && bytes_eq e.name x) m.instance.automaton.entries) c.members
-
 -- what a composition keeps: its name is legal, the components have one table of types and different names, and so have the
 -- hidden outputs
 pub record IsSound (c : Composed) : Type 0 where
@@ -49,7 +44,7 @@ pub record IsSound (c : Composed) : Type 0 where
   pub few : length c.members ≤ component_limits.components
   pub hidden : IsTrue (distinct c.hidden)
   pub few_hidden : length c.hidden ≤ component_limits.hidden
-  pub outputs : IsTrue (list_all (is_output_of c) c.hidden)
+  pub outputs : IsTrue (list_all (is_output_of (instances_of c)) c.hidden)
   pub over : AreOver c.types c.members
   pub members : AllFine component_limits c.members
   pub compatible : Compatible (components_of c)

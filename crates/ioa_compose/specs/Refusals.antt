@@ -1,5 +1,6 @@
 -- Why a composition is refused.
-use Rattle.std.specs.Prelude.{◌≡◌, ℕ, ◌<◌, ◌⊎◌, List, Some, None, Ok, Err, slice_get}
+use Rattle.std.specs.Prelude.{◌≡◌, ℕ, ◌<◌, ◌⊎◌, true, false, List, Some, None, Ok, Err, slice_get}
+use Rattle.std.specs.List.{list_all}
 use Rattle.std.specs.String.{string_bytes}
 use Rattle.ioa_value.specs.declared.arithmetic.Fault.{Fault}
 use Rattle.ioa_value.specs.Actions.{Name, Act}
@@ -7,10 +8,11 @@ use Rattle.ioa_value.specs.Plain.{Val}
 use Rattle.ioa_lex.specs.declared.refusal.Refusal.{Refusal}
 use Rattle.ioa_lex.specs.declared.refusal.Refusal.TheVariants.{TextTooLong, BadByte, Syntax, TooDeep, DuplicateName, UnknownName, TypeMismatch, BadSignature, NoProposal, TooMany, TooWide, ArgMismatch, CrashName, Clash, HiddenUnknown, StartFault, NoComposition, OutOfMemory}
 use Rattle.ioa_syntax.specs.declared.tree.Kind.TheVariants.{Internal, Output}
-use Rattle.ioa_syntax.specs.Tree.{EntryTree, AutomatonTree, InstanceTree, SourceTree}
+use Rattle.ioa_syntax.specs.Tree.{EntryTree, AutomatonTree, InstanceTree, CompositionTree, SourceTree}
 use Rattle.ioa_syntax.specs.Types.{types_of}
 use Rattle.ioa_syntax.specs.Instances.{Instance, Fit, argument_values, start_values, component_of}
-use Rattle.ioa_syntax.specs.Compositions.{automaton_named}
+use Rattle.ioa_syntax.specs.Compositions.{automaton_named, is_output_of}
+use Rattle.ioa_syntax.specs.WellFormed.{contains}
 use Rattle.ioa_compose.specs.Bindings.{IsBound, AreBound}
 
 -- the arguments have values, and these are not of the formals' types, one for each
@@ -61,11 +63,20 @@ NoClash s is = (i j : ℕ) (m n : InstanceTree) (name : Name) → i < j → slic
 abbrev pub AllBound : SourceTree → List InstanceTree → Type 0
 AllBound s is = (ns : List Instance) × AreBound s is ns
 
+-- each hidden name is an output's of one of the components
+abbrev pub HidesOutputs : SourceTree → CompositionTree → Type 0
+HidesOutputs s t = (ns : List Instance) → AreBound s t.instances ns → list_all (is_output_of ns) t.hidden ≡ true
+
+-- the name is hidden, and is no output's of any component
+abbrev pub HidesNoOutput : SourceTree → CompositionTree → Name → Type 0
+HidesNoOutput s t x = (contains t.hidden x ≡ true) × (ns : List Instance) × AreBound s t.instances ns × (is_output_of ns x ≡ false)
+
 -- what composing can refuse
 pub data Reason : Type 0 where
   misfit : ℕ → Reason
   faulty : ℕ → Fault → Reason
   clashing : ℕ → ℕ → Name → Reason
+  hiding : Name → Reason
   no_memory : Reason
   other : Reason
 
@@ -86,26 +97,45 @@ reason_of (NoProposal line) = other
 reason_of (TooMany line) = other
 reason_of (TooWide line) = other
 reason_of (CrashName i) = other
-reason_of (HiddenUnknown name) = other
+reason_of (HiddenUnknown name) = hiding (string_bytes name)
 reason_of NoComposition = other
 
--- what holds of components that are refused so: a clash is told only where each has its instance, and a start expression's
--- fault only where no components clash
-abbrev pub IsRefusedFor : SourceTree → List InstanceTree → Reason → Type 0
-IsRefusedFor s is (misfit i) = (n : InstanceTree) × (slice_get is i ≡ Some n) × Misfits s n
-IsRefusedFor s is (faulty i f) = (n : InstanceTree) × (slice_get is i ≡ Some n) × ((argument_values (types_of s) n.arguments ≡ Err f) ⊎ (StartsWith s n f × NoClash s is))
-IsRefusedFor s is (clashing i j name) = (m : InstanceTree) × (n : InstanceTree) × (i < j) × (slice_get is i ≡ Some m) × (slice_get is j ≡ Some n) × (c : ClashOn s m n name) × IsFirstClash s is i j × IsFirstEntry name c.first c.second × AllBound s is
-IsRefusedFor s is no_memory = Unit {0}
-IsRefusedFor s is other = ⊥
+-- one of the components has no instance: its arguments are not those of its formals, or one of them faults
+abbrev pub IsUnbound : SourceTree → List InstanceTree → Reason → Type 0
+IsUnbound s is (misfit i) = (n : InstanceTree) × (slice_get is i ≡ Some n) × Misfits s n
+IsUnbound s is (faulty i f) = (n : InstanceTree) × (slice_get is i ≡ Some n) × (argument_values (types_of s) n.arguments ≡ Err f)
+IsUnbound s is (clashing i j name) = ⊥
+IsUnbound s is (hiding name) = ⊥
+IsUnbound s is no_memory = Unit {0}
+IsUnbound s is other = ⊥
 
-abbrev pub IsRefused : SourceTree → List InstanceTree → Refusal → Type 0
-IsRefused s is r = IsRefusedFor s is (reason_of r)
+-- a start expression of one of the components faults
+abbrev pub StartFaults : SourceTree → List InstanceTree → ℕ → Fault → Type 0
+StartFaults s is i f = (n : InstanceTree) × (slice_get is i ≡ Some n) × StartsWith s n f
+
+-- two of the components clash: the first two, on the first entry
+abbrev pub TwoClash : SourceTree → List InstanceTree → ℕ → ℕ → Name → Type 0
+TwoClash s is i j name = (m : InstanceTree) × (n : InstanceTree) × (i < j) × (slice_get is i ≡ Some m) × (slice_get is j ≡ Some n) × (c : ClashOn s m n name) × IsFirstClash s is i j × IsFirstEntry name c.first c.second
+
+-- what holds of a composition that is refused so: a clash is told only where each component has its instance, a hidden name that is
+-- no output's only where no components clash too, and a start expression's fault only where all hidden names are outputs' too
+abbrev pub IsRefusedFor : SourceTree → CompositionTree → Reason → Type 0
+IsRefusedFor s t (misfit i) = IsUnbound s t.instances (misfit i)
+IsRefusedFor s t (faulty i f) = IsUnbound s t.instances (faulty i f) ⊎ (StartFaults s t.instances i f × NoClash s t.instances × HidesOutputs s t)
+IsRefusedFor s t (clashing i j name) = TwoClash s t.instances i j name × AllBound s t.instances
+IsRefusedFor s t (hiding name) = HidesNoOutput s t name × NoClash s t.instances
+IsRefusedFor s t no_memory = Unit {0}
+IsRefusedFor s t other = ⊥
+
+abbrev pub IsRefused : SourceTree → CompositionTree → Refusal → Type 0
+IsRefused s t r = IsRefusedFor s t (reason_of r)
 
 -- what holds of one component that is refused in its place, before it starts
 abbrev pub IsRefusedAt : SourceTree → ℕ → InstanceTree → Reason → Type 0
 IsRefusedAt s k n (misfit i) = (i ≡ k) × Misfits s n
 IsRefusedAt s k n (faulty i f) = (i ≡ k) × (argument_values (types_of s) n.arguments ≡ Err f)
 IsRefusedAt s k n (clashing i j name) = ⊥
+IsRefusedAt s k n (hiding name) = ⊥
 IsRefusedAt s k n no_memory = Unit {0}
 IsRefusedAt s k n other = ⊥
 
@@ -114,6 +144,7 @@ abbrev pub FaultsAt : ℕ → Instance → Reason → Type 0
 FaultsAt k n (misfit i) = ⊥
 FaultsAt k n (faulty i f) = (i ≡ k) × (start_values n ≡ Err f)
 FaultsAt k n (clashing i j name) = ⊥
+FaultsAt k n (hiding name) = ⊥
 FaultsAt k n no_memory = Unit {0}
 FaultsAt k n other = ⊥
 
@@ -122,6 +153,7 @@ abbrev pub FaultsIn : List Instance → Reason → Type 0
 FaultsIn ns (misfit i) = ⊥
 FaultsIn ns (faulty i f) = (n : Instance) × (slice_get ns i ≡ Some n) × (start_values n ≡ Err f)
 FaultsIn ns (clashing i j name) = ⊥
+FaultsIn ns (hiding name) = ⊥
 FaultsIn ns no_memory = Unit {0}
 FaultsIn ns other = ⊥
 
@@ -129,10 +161,24 @@ FaultsIn ns other = ⊥
 abbrev pub NoneClashes : List Instance → ℕ → ℕ → Type 0
 NoneClashes ns i j = (k l : ℕ) (m n : Instance) (name : Name) → Before k l i j → slice_get ns k ≡ Some m → slice_get ns l ≡ Some n → Clashing name m n → ⊥
 
+-- no two of the instances clash
+abbrev pub NoneClash : List Instance → Type 0
+NoneClash ns = (k l : ℕ) (m n : Instance) (name : Name) → k < l → slice_get ns k ≡ Some m → slice_get ns l ≡ Some n → Clashing name m n → ⊥
+
 -- two of the instances clash, and none before them
 abbrev pub ClashesIn : List Instance → Reason → Type 0
 ClashesIn ns (misfit i) = ⊥
 ClashesIn ns (faulty i f) = ⊥
 ClashesIn ns (clashing i j name) = (m : Instance) × (n : Instance) × (i < j) × (slice_get ns i ≡ Some m) × (slice_get ns j ≡ Some n) × Clashing name m n × NoneClashes ns i j × IsFirstEntry name m n
+ClashesIn ns (hiding name) = ⊥
 ClashesIn ns no_memory = Unit {0}
 ClashesIn ns other = ⊥
+
+-- one of the hidden names is no output's of any of the instances
+abbrev pub HidesIn : List Instance → List Name → Reason → Type 0
+HidesIn ns hidden (misfit i) = ⊥
+HidesIn ns hidden (faulty i f) = ⊥
+HidesIn ns hidden (clashing i j name) = ⊥
+HidesIn ns hidden (hiding name) = (contains hidden name ≡ true) × (is_output_of ns name ≡ false)
+HidesIn ns hidden no_memory = Unit {0}
+HidesIn ns hidden other = ⊥

@@ -9,7 +9,7 @@ ghost use Rattle.ioa_syntax.specs.Instances as instances;
 ghost use Rattle.ioa_syntax.specs.Tree.{AutomatonTree};
 ghost use Rattle.ioa_syntax.specs.Compositions as spec;
 ghost use Rattle.ioa_compose.specs.Bindings.{IsReady, AllReady, IsBound, AreBound, fit, closed, values_in, instance_in};
-ghost use Rattle.ioa_compose.specs.Refusals.{IsRefused, IsRefusedAt, reason_of};
+ghost use Rattle.ioa_compose.specs.Refusals.{IsUnbound, IsRefusedAt, reason_of};
 
 use crate::evaluate::evaluate_all;
 use crate::picks::automaton_named;
@@ -37,7 +37,7 @@ pub(crate) fn bind_all<'a>(
     requires ready { AllReady (tree_of declarations.now) (map instance_of instances.now) }
     ensures bound { IfOk result (λ bs. AreBound (tree_of declarations.now) (map instance_of instances.now) (map (instance_in types.now) bs.items)) }
     ensures names { IfOk result (λ bs. map (λ b. name_of b.name.now) bs.items ≡ map (λ i. name_of i.name) instances.now) }
-    ensures refused { IfErr result (λ r. IsRefused (tree_of declarations.now) (map instance_of instances.now) r) }
+    ensures refused { IfErr result (λ r. IsUnbound (tree_of declarations.now) (map instance_of instances.now) (reason_of r)) }
 {
     let mut bindings = Vec::new(alloc);
     for index in 0..instances.len() {

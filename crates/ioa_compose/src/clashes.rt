@@ -1,115 +1,119 @@
-ghost use Rattle.std.specs.Prelude.{◌≡◌, ◌<◌, ◌≤◌, ◌+◌, ℕ, true, not, map, length, slice_get, Some, OnOk, IfErr, IfSome, IfNone};
-ghost use Rattle.std.specs.List.{list_all};
-ghost use Rattle.std.specs.Str.{bytes_eq};
-ghost use Rattle.ioa_syntax.specs.View.{name_of, entry_of, position_of, automaton_of};
+ghost use Rattle.std.specs.Prelude.{◌≡◌, ◌<◌, ◌≤◌, map, length, OnOk, IfErr, IfSome, IfNone};
 ghost use Rattle.ioa_value.specs.Table.{AreTypes};
-ghost use Rattle.ioa_compose.specs.Bindings.{instance_in, AllSound};
-ghost use Rattle.ioa_compose.specs.Refusals.{ClashesIn, reason_of};
+ghost use Rattle.ioa_compose.specs.Bindings.{instance_in, AllSound, AllStartable};
+ghost use Rattle.ioa_compose.specs.Refusals.{NoneClash, ClashesIn, reason_of};
 ghost use Rattle.ioa_compose.specs.Clashes as spec;
-ghost use Rattle.ioa_compose.specs.Clashes.{PairsClear, ClashAt, clear};
-ghost use Rattle.ioa_compose.specs.declared.binding.Binding.{Binding};
+ghost use Rattle.ioa_compose.specs.Clashes.{signed_of, signature_of, IsFirstHit, IsHit, IsClearTill};
+ghost use Rattle.ioa_compose.specs.Index.{IsAt, IsIndexOf};
 
 use crate::binding::Binding;
-use ioa_syntax::{Automaton, Entry, Kind, Name, Position, Refusal};
-use ioa_value::Types;
+use crate::index::{Index, Place};
+use crate::signatures::{SignedEntry, signatures};
+use ioa_syntax::{Kind, Refusal};
+use ioa_value::{Types, all_meet};
 use std::alloc::Global;
 
-/// Whether the automata of any two of these are clear of one another. It asks for well formed automata.
+/// Whether no two of these clash. It asks for well formed automata, with arguments of their formals' types.
 pub(crate) fn compatible(alloc: Global, types: &Types, bindings: &[Binding]) -> Result<(), Refusal>
     requires declared { AreTypes types.now }
     requires sound { AllSound (map (instance_in types.now) bindings.now) }
-    ensures ok { OnOk result (PairsClear types.now bindings.now) }
+    requires startable { AllStartable (map (instance_in types.now) bindings.now) }
+    ensures ok { OnOk result (NoneClash (map (instance_in types.now) bindings.now)) }
     ensures refused { IfErr result (λ r. ClashesIn (map (instance_in types.now) bindings.now) (reason_of r)) }
 {
-    for i in 0..bindings.len() {
-        clear_of_later(alloc, types, bindings, i)?;
+    let signatures = signatures(alloc, types, bindings)?;
+    let index = Index::of(alloc, &signatures)?;
+    for i in 0..signatures.len() {
+        if let Some(hit) = first_clash(types, &signatures, &index, i) {
+            let name = signatures[i][hit.entry].name.text.as_str();
+            return Err(Refusal::Clash(i, hit.other, String::from_str(alloc, name)?));
+        }
     }
     Ok(())
 }
 
-fn clear_of_later(
-    alloc: Global,
+/// An entry of a component, and the place of another component with which it clashes.
+#[derive(Clone, Copy)]
+struct Hit {
+    entry: usize,
+    other: usize,
+}
+
+/// The first later component with which this one clashes, and the first entry on which it does.
+fn first_clash(
     types: &Types,
-    bindings: &[Binding],
+    signatures: &[Vec<SignedEntry>],
+    index: &Index,
     i: usize,
-) -> Result<(), Refusal>
-    requires declared { AreTypes types.now }
-    requires within { i < length bindings.now }
-    requires before { (k j : ℕ) (b c : Binding) → k < i → k < j → slice_get bindings.now k ≡ Some b → slice_get bindings.now j ≡ Some c → clear types.now (automaton_of b.automaton.now) (automaton_of c.automaton.now) ≡ true }
-    requires sound { AllSound (map (instance_in types.now) bindings.now) }
-    ensures refused { IfErr result (λ r. ClashesIn (map (instance_in types.now) bindings.now) (reason_of r)) }
-    ensures ok { OnOk result ((j : ℕ) (b c : Binding) → i < j → slice_get bindings.now i ≡ Some b → slice_get bindings.now j ≡ Some c → clear types.now (automaton_of b.automaton.now) (automaton_of c.automaton.now) ≡ true) }
+) -> Option<Hit>
+    requires within { i < length signatures.now }
+    requires indexed { IsIndexOf index.now.places (map signature_of signatures.now) }
+    ensures none { IfNone result (IsClearTill types.now (map signature_of signatures.now) i (length signatures.now)) }
+    ensures before { IfSome result (λ c. IsClearTill types.now (map signature_of signatures.now) i c.other) }
+    ensures hit { IfSome result (λ c. IsHit types.now (map signature_of signatures.now) i c.other c.entry) }
 {
-    for j in i + 1..bindings.len() {
-        if let Some(name) = first_clash(types, bindings[i].automaton, bindings[j].automaton) {
-            return Err(Refusal::Clash(i, j, String::from_str(alloc, name.text.as_str())?));
+    let entries = signatures[i].as_slice();
+    let mut end = signatures.len();
+    let mut first = 0;
+    for k in 0..entries.len() {
+        let other = first_hit(types, signatures, index, &entries[k], i + 1, end);
+        if other < end {
+            end = other;
+            first = k;
         }
     }
-    Ok(())
+    if end == signatures.len() {
+        return None;
+    }
+    Some(Hit {
+        entry: first,
+        other: end,
+    })
 }
 
-/// The name of the first entry of one automaton that clashes with an entry of the other.
-fn first_clash<'a>(types: &Types, automaton: &'a Automaton, other: &Automaton) -> Option<&'a Name>
-    ensures clear { IfNone result (clear types.now (automaton_of automaton.now) (automaton_of other.now) ≡ true) }
-    ensures clash { IfSome result (λ name. ClashAt types.now (automaton_of automaton.now) (automaton_of other.now) (name_of name.now)) }
+/// The first component from the start on, and before the end, with which the entry clashes; or the end. Only entries of its
+/// name are tried.
+fn first_hit(
+    types: &Types,
+    signatures: &[Vec<SignedEntry>],
+    index: &Index,
+    entry: &SignedEntry,
+    start: usize,
+    end: usize,
+) -> usize
+    requires indexed { IsIndexOf index.now.places (map signature_of signatures.now) }
+    requires within { end ≤ length signatures.now }
+    ensures { IsFirstHit types.now (map signature_of signatures.now) (signed_of entry.now) start end result }
 {
-    for entry in &automaton.entries {
-        if clashes_with(types, entry, other) {
-            return Some(&entry.name);
+    let mut first = end;
+    let places = index.named(entry.name.text.as_str());
+    for k in 0..places.len() {
+        let place = places[k];
+        if start <= place.component
+            && place.component < first
+            && entries_clash(types, entry, entry_at(signatures, place))
+        {
+            first = place.component;
         }
     }
-    None
+    first
 }
 
-fn clashes_with(types: &Types, entry: &Entry, other: &Automaton) -> bool
-    ensures { not result ≡ list_all (λ f. not (spec.clash types.now (entry_of entry.now) f)) (automaton_of other.now).entries }
+/// The entry in this place.
+fn entry_at<'s, 'a>(signatures: &'s [Vec<SignedEntry<'a>>], place: Place) -> &'s SignedEntry<'a>
+    requires { (e : spec.SignedEntry) × IsAt (map signature_of signatures.now) place e }
+    ensures { IsAt (map signature_of signatures.now) place (signed_of result.now) }
 {
-    for theirs in &other.entries {
-        if clash(types, entry, theirs) {
-            return true;
-        }
-    }
-    false
+    &signatures[place.component][place.entry]
 }
 
 /// Whether two entries have an action in common that is internal to one of them, or an output of both.
-fn clash(types: &Types, a: &Entry, b: &Entry) -> bool
-    ensures { result ≡ spec.clash types.now (entry_of a.now) (entry_of b.now) }
+fn entries_clash(types: &Types, a: &SignedEntry, b: &SignedEntry) -> bool
+    ensures { result ≡ spec.clash types.now (signed_of a.now) (signed_of b.now) }
 {
     a.name.text.as_str() == b.name.text.as_str()
-        && all_alike(types, &a.positions, &b.positions)
+        && all_meet(types, &a.positions, &b.positions)
         && kinds_clash(a.kind, b.kind)
-}
-
-fn all_alike(types: &Types, a: &[Position], b: &[Position]) -> bool
-    ensures { result ≡ spec.all_alike types.now (map position_of a.now) (map position_of b.now) }
-{
-    if a.len() != b.len() {
-        return false;
-    }
-    for i in 0..a.len() {
-        if !alike(types, &a[i], &b[i]) {
-            return false;
-        }
-    }
-    true
-}
-
-/// Whether some value is of both positions: they are of one type.
-fn alike(types: &Types, a: &Position, b: &Position) -> bool
-    ensures { result ≡ spec.alike types.now (position_of a.now) (position_of b.now) }
-{
-    match (a, b) {
-        (Position::Typed(a), Position::Typed(b)) => {
-            match (
-                types.named(a.ty.text.as_str()),
-                types.named(b.ty.text.as_str()),
-            ) {
-                (Some(a), Some(b)) => b.0 == a.0,
-                (Some(_), None) | (None, _) => false,
-            }
-        }
-    }
 }
 
 /// Whether one is internal, or both are outputs.

@@ -14,6 +14,7 @@ ghost use Rattle.ioa_compose.specs.Held.{composed_of};
 
 use crate::binding::bind_all;
 use crate::clashes::compatible;
+use crate::hidden::hidden_outputs;
 use crate::member::Member;
 use crate::picks;
 use crate::starts::start_all;
@@ -79,7 +80,7 @@ impl Composition {
     }
 }
 
-/// The composition of this name, or the source's last one where no name is given.
+/// The composition of this name, or the source's last one where no name is given. Its hidden names are the declaration's.
 ///
 /// # Errors
 /// - `NoComposition`: there is no such composition.
@@ -87,12 +88,14 @@ impl Composition {
 /// - `StartFault`: an argument of a component faults, or a start expression.
 /// - `Clash`: two components are not compatible. They are the first two, by the first one's place and then the other's, and the
 ///   name is that of the first one's first entry that clashes.
+/// - `HiddenUnknown`: no component has an output of this hidden name. It comes after `Clash`, and before a start expression's
+///   `StartFault`.
 /// - `OutOfMemory`.
 pub fn compose(alloc: Global, checked: &Checked, name: Option<&str>) -> Result<Composition, Refusal>
     ensures composed { IfOk result (λ c. (t : CompositionTree) × (picked (tree_of checked.now) (option_copied name.entry) ≡ Some t) × IsComposed (tree_of checked.now) t (composed_of c)) }
     ensures missing { (picked (tree_of checked.now) (option_copied name.entry) ≡ None) ↔ IsErrOf result NoComposition }
     ensures exact { IfErr result (λ r. r ≢ OutOfMemory → (t : CompositionTree) → picked (tree_of checked.now) (option_copied name.entry) ≡ Some t → (c : Composed) → IsComposed (tree_of checked.now) t c → ⊥) }
-    ensures refused { (t : CompositionTree) → picked (tree_of checked.now) (option_copied name.entry) ≡ Some t → IfErr result (λ r. IsRefused (tree_of checked.now) t.instances r) }
+    ensures refused { (t : CompositionTree) → picked (tree_of checked.now) (option_copied name.entry) ≡ Some t → IfErr result (λ r. IsRefused (tree_of checked.now) t r) }
 {
     let declarations = checked.declarations();
     match picks::picked(declarations, name) {
@@ -113,17 +116,18 @@ fn composed(
     requires legal { LegalNames (tree_of declarations.now) }
     requires composable { IsComposable (tree_of declarations.now) (assembly_of assembly.now) }
     ensures composed { IfOk result (λ c. IsComposed (tree_of declarations.now) (assembly_of assembly.now) (composed_of c)) }
-    ensures refused { IfErr result (λ r. IsRefused (tree_of declarations.now) (assembly_of assembly.now).instances r) }
+    ensures refused { IfErr result (λ r. IsRefused (tree_of declarations.now) (assembly_of assembly.now) r) }
 {
     let shared = types.share()?;
     let bindings = bind_all(alloc, &shared, declarations, &assembly.instances)?;
     compatible(alloc, &shared, &bindings)?;
+    let hidden = hidden_outputs(alloc, &bindings, &assembly.hidden)?;
     let members = start_all(alloc, &shared, &bindings)?;
     let name = String::from_str(alloc, assembly.name.text.as_str())?;
     Ok(Composition {
         types: shared,
         name,
         members,
-        hidden: Vec::new(alloc),
+        hidden,
     })
 }

@@ -3,8 +3,8 @@ ghost use Rattle.std.specs.Option.{option_map};
 ghost use Rattle.ioa_syntax.specs.View as view;
 
 use ioa_syntax::{
-    Arm, Automaton, Entry, Expression, Field, Name, Position, Proposal, Statement, Transition,
-    Variable,
+    Arm, Automaton, Constant, Entry, Expression, Field, Name, Position, Proposal, Statement,
+    Transition, Variable,
 };
 use ioa_value::OutOfMemory;
 use std::alloc::Global;
@@ -98,11 +98,23 @@ fn copied_fields(alloc: Global, fields: &[Field]) -> Result<Vec<Field>, OutOfMem
     Ok(out)
 }
 
+fn copied_constant(alloc: Global, constant: &Constant) -> Result<Constant, OutOfMemory>
+    ensures { IfOk result (λ copy. view.constant_of copy ≡ view.constant_of constant.now) }
+{
+    match constant {
+        Constant::Number(n, line) => Ok(Constant::Number(*n, *line)),
+        Constant::Negative(n, line) => Ok(Constant::Negative(*n, *line)),
+        Constant::Truth(b, line) => Ok(Constant::Truth(*b, *line)),
+        Constant::Name(name) => Ok(Constant::Name(copied_name(alloc, name)?)),
+    }
+}
+
 fn copied_position(alloc: Global, position: &Position) -> Result<Position, OutOfMemory>
     ensures { IfOk result (λ copy. view.position_of copy ≡ view.position_of position.now) }
 {
     match position {
         Position::Typed(field) => Ok(Position::Typed(copied_field(alloc, field)?)),
+        Position::Constant(constant) => Ok(Position::Constant(copied_constant(alloc, constant)?)),
     }
 }
 

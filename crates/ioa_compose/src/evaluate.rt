@@ -18,7 +18,7 @@ use ioa_value::{Fault, Op, OutOfMemory, Types, Value, apply_last};
 use std::alloc::Global;
 
 /// The value of the first of the fields that has this name. Automata have few formals, so the recursion is short.
-fn found<'a>(fields: &[Field], values: &'a [Value], name: &str) -> Option<&'a Value>
+pub(crate) fn found<'a>(fields: &[Field], values: &'a [Value], name: &str) -> Option<&'a Value>
     ensures found { IfSome result (λ v. values_of (field_names (map field_of fields.now)) (map plain values.now) name.now ≡ Some (plain v.now)) }
     ensures missing { IfNone result (values_of (field_names (map field_of fields.now)) (map plain values.now) name.now ≡ None) }
 {
@@ -220,7 +220,7 @@ fn applied(
 }
 
 /// A number that fits 64 bits with a sign.
-fn number(n: u64) -> i64
+pub(crate) fn number(n: u64) -> i64
     requires { n < 2 ^ 63 }
     ensures { result ≡ pos n }
 {

@@ -1,6 +1,6 @@
 use Rattle.std.proofs.Common.{rules}
 use Rattle.ioa_syntax.specs.View.{name_of, instance_of, tree_of}
-use Rattle.ioa_compose.proofs.BindingLemmas.{ready-at, bound-push, refused-in}
+use Rattle.ioa_compose.proofs.BindingLemmas.{ready-at, bound-push, unbound-in}
 use Rattle.ioa_value.proofs.ItemLemmas.{at_map, map_push}
 use Rattle.ioa_compose.proofs.binding.bind_all.Goals as goal
 
@@ -9,7 +9,7 @@ bind-requires-clause-ready c = ready-at _ c.args.instances.now _ c.index-instanc
 
 pub returns-in_err-bind-clause-refused : goal.returns-in_err-bind-clause-refused
 returns-in_err-bind-clause-refused c =
-    refused-in c.from_residual.result (tree_of c.args.declarations.now) _ c.loop-index.index (instance_of c.index-instances-index.result)
+    unbound-in c.from_residual.result (tree_of c.args.declarations.now) _ c.loop-index.index (instance_of c.index-instances-index.result)
     (at_map instance_of c.args.instances.now _ c.index-instances-index.result c.loop-index-test.true c.index-instances-index.is) (search rules)
 
 pub loop-index-preserved : goal.loop-index-preserved

@@ -1,8 +1,6 @@
-use Rattle.std.proofs.Common.{◌≡◌, ◌<◌, ℕ, Some, true, slice_get}
-use Rattle.ioa_syntax.specs.View.{automaton_of}
-use Rattle.ioa_compose.specs.declared.binding.Binding.{Binding}
-use Rattle.ioa_compose.specs.Clashes as spec
+use Rattle.std.proofs.Common.{ℕ, ◌<◌, length, map}
+use Rattle.ioa_compose.specs.Clashes.{signature_of, IsClearTill}
 use Rattle.ioa_compose.proofs.clashes.compatible.Given as goal
 
 abbrev pub invariant-loop-i : goal.invariant-loop-i
-invariant-loop-i l = (i j : ℕ) (b c : Binding) → i < l.i → i < j → slice_get l.bindings i ≡ Some b → slice_get l.bindings j ≡ Some c → spec.clear l.types (automaton_of b.automaton.now) (automaton_of c.automaton.now) ≡ true
+invariant-loop-i l = (k : ℕ) → k < l.i → IsClearTill l.types (map signature_of l.signatures.items) k (length l.signatures.items)

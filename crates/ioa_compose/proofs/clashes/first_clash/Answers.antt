@@ -1,25 +1,40 @@
-use Rattle.std.proofs.Common.{not, refl, sym, ap, ◌∙◌, slice_get, map}
-use Rattle.std.proofs.lemmas.Bool.{not-false, not_from_true}
-use Rattle.std.specs.List.{list_all}
-use Rattle.ioa_syntax.specs.View.{entry_of, automaton_of}
-use Rattle.ioa_compose.specs.Clashes.{clash}
-use Rattle.ioa_value.proofs.ItemLemmas.{at_map, fails_at, all_goes_on}
-use Rattle.ioa_compose.proofs.ClashLemmas.{none-more}
+use Rattle.std.proofs.Common.{map, length, Some, ap, subst, sym, ◌∙◌, arith}
+use Rattle.std.proofs.lemmas.List.{length-map}
+use Rattle.ioa_value.proofs.ItemLemmas.{at_map}
+use Rattle.ioa_compose.specs.Clashes.{signed_of, signature_of, IsClearTill}
+use Rattle.ioa_compose.proofs.SearchLemmas.{better, no-better, till-from}
 use Rattle.ioa_compose.proofs.clashes.first_clash.Goals as goal
+use Rattle.ioa_compose.proofs.clashes.first_clash.Goals.{then-other-end, else-other-end}
 
-pub returns-then-clashes_with-clause-clash : goal.returns-then-clashes_with-clause-clash
-returns-then-clashes_with-clause-clash c =
-    let e = entry_of c.entry-item.result in
-    let found = fails_at (λ f. not (clash c.args.types.now e f)) (automaton_of c.args.other.now).entries (sym c.clashes_with.ensures ∙ not_from_true _ c.if-clashes_with.true) in
-    let here = ap (λ es. slice_get (map entry_of es) c.loop-entry.entry-index) (sym c.deref-entry-items.ensures.value)
-    ∙ at_map entry_of c.deref-entry-items.result.now c.loop-entry.entry-index c.entry-item.result c.loop-entry-test.true c.entry-item.is in
-    (e, found.0, c.loop-entry.entry-index, found.1, here, found.2, not-false _ found.3, refl, c.loop-entry.invariant.1)
+pub loop-k-preserved : goal.loop-k-preserved
+loop-k-preserved c =
+    let types = c.args.types.now in
+    let all = c.args.signatures.now in
+    let here = at_map signature_of all c.args.i c.index-signatures-i.result c.requires.within c.index-signatures-i.is
+    ∙ ap (λ es. Some (map signed_of es)) (sym c.as_slice-entries.ensures.value) in
+    let there = at_map signed_of c.as_slice-entries.result.now c.loop-k.k c.index-entries-k.result c.loop-k-test.true c.index-entries-k.is in
+    elim c.if-other-end.branch [
+      | then-other-end w ↦ better types (map signature_of all) (length all) c.args.i c.loop-k.k c.loop-k.end c.loop-k.first c.first_hit-other.result _
+          _ here there c.loop-k.invariant c.first_hit-other.ensures _ _ w.end-is w.first-is w.if-other-end.true
+      | else-other-end w ↦ no-better types (map signature_of all) (length all) c.args.i c.loop-k.k c.loop-k.end c.loop-k.first
+          c.first_hit-other.result _ _ here there c.loop-k.invariant c.first_hit-other.ensures _ _ w.end-is w.first-is w.if-other-end.false
+    ]
 
-pub loop-entry-preserved : goal.loop-entry-preserved
-loop-entry-preserved c =
-    let here = ap (λ es. slice_get (map entry_of es) c.loop-entry.entry-index) (sym c.deref-entry-items.ensures.value)
-    ∙ at_map entry_of c.deref-entry-items.result.now c.loop-entry.entry-index c.entry-item.result c.loop-entry-test.true c.entry-item.is in
-    let passes = sym c.clashes_with.ensures ∙ ap not c.if-clashes_with.false in (
-      all_goes_on (λ e. list_all (λ f. not (clash c.args.types.now e f)) (automaton_of c.args.other.now).entries) entry_of c.args.automaton.now.entries.items c.deref-entry-items.result.now c.loop-entry.entry-index c.entry-item.result _ c.deref-entry-items.ensures.value c.loop-entry-test.true c.entry-item.is c.loop-entry.invariant.0 passes,
-      none-more c.args.types.now (automaton_of c.args.automaton.now) (automaton_of c.args.other.now) c.loop-entry.entry-index (entry_of c.entry-item.result) here passes c.loop-entry.invariant.1,
-    )
+pub returns-then-end-signatures-clause-none : goal.returns-then-end-signatures-clause-none
+returns-then-end-signatures-clause-none c =
+    let all = c.args.signatures.now in
+    let signature = c.index-signatures-i.result in
+    let size = length-map signature.items signed_of in
+    let same = ap length c.as_slice-entries.ensures.value in
+    subst (λ n. IsClearTill c.args.types.now (map signature_of all) c.args.i n) c.if-end-signatures.true
+    (till-from c.args.types.now (map signature_of all) c.args.i c.loop-k.k c.loop-k.end (signature_of signature)
+    (at_map signature_of all c.args.i signature c.requires.within c.index-signatures-i.is) (omega arith) c.loop-k.invariant.clear)
+
+pub returns-clause-before : goal.returns-clause-before
+returns-clause-before c =
+    let all = c.args.signatures.now in
+    let signature = c.index-signatures-i.result in
+    let size = length-map signature.items signed_of in
+    let same = ap length c.as_slice-entries.ensures.value in
+    till-from c.args.types.now (map signature_of all) c.args.i c.loop-k.k c.loop-k.end (signature_of signature)
+    (at_map signature_of all c.args.i signature c.requires.within c.index-signatures-i.is) (omega arith) c.loop-k.invariant.clear

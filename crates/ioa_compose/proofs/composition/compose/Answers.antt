@@ -4,7 +4,7 @@ use Rattle.ioa_syntax.specs.View.{tree_of, assembly_of}
 use Rattle.ioa_syntax.specs.Names.{LegalNames}
 use Rattle.ioa_syntax.specs.WellFormed.{well_formed}
 use Rattle.ioa_compose.proofs.SourceLemmas.{picked_composable}
-use Rattle.ioa_compose.proofs.ComposeLemmas.{exact-from, refused-from}
+use Rattle.ioa_compose.proofs.RefusalLemmas.{exact-from, refused-from}
 use Rattle.ioa_compose.proofs.composition.compose.Goals as goal
 
 pub composed-requires-clause-composable : goal.composed-requires-clause-composable

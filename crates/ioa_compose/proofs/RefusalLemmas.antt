@@ -1,0 +1,225 @@
+-- Why there is no composition, and that there is none.
+use Rattle.std.proofs.Common.{◌≡◌, ◌≢◌, ℕ, true, zero, suc, List, [], ◌∷◌, map, Option, Some, Result, Ok, Err, IfErr, refl, sym, ap, subst, ◌∙◌, slice_get, inl, inr}
+use Rattle.std.specs.List.{list_all}
+use Rattle.std.specs.Str.{bytes_eq}
+use Rattle.std.proofs.lemmas.Bool.{both_ways}
+use Rattle.std.proofs.lemmas.Simd.{map-map}
+use Rattle.std.proofs.lemmas.Slice.Eq.{bytes_eq-Decides}
+use Rattle.ioa_value.specs.declared.arithmetic.Fault.{Fault}
+use Rattle.ioa_value.specs.Actions.{Name}
+use Rattle.ioa_value.specs.Plain.{Val}
+use Rattle.ioa_lex.specs.declared.refusal.Refusal.{Refusal}
+use Rattle.ioa_lex.specs.declared.refusal.Refusal.TheVariants.{TextTooLong, BadByte, Syntax, TooDeep, DuplicateName, UnknownName, TypeMismatch, BadSignature, NoProposal, TooMany, TooWide, ArgMismatch, CrashName, Clash, HiddenUnknown, StartFault, NoComposition, OutOfMemory}
+use Rattle.ioa_syntax.specs.declared.tree.Declaration.{Declaration}
+use Rattle.ioa_syntax.specs.Tree.{InstanceTree, CompositionTree, SourceTree}
+use Rattle.ioa_syntax.specs.View.{tree_of}
+use Rattle.ioa_syntax.specs.Components.{Compatible}
+use Rattle.ioa_syntax.specs.Types.{types_of}
+use Rattle.ioa_syntax.specs.Instances.{Instance, Fit, start_values, component_of}
+use Rattle.ioa_syntax.specs.Compositions.{Member, Composed, IsMember, AreMembers, IsComposed, instances_of, is_output_of, picked}
+use Rattle.ioa_compose.specs.Bindings.{instance_with, IsBound, AreBound}
+use Rattle.ioa_compose.specs.Refusals.{Clashing, ClashOn, Reason, misfit, faulty, clashing, hiding, no_memory, other, reason_of, IsUnbound, IsRefusedFor, IsRefused, IsFirstClash, NoClash, NoneClashes, NoneClash, FaultsIn, ClashesIn, HidesIn}
+use Rattle.ioa_value.proofs.ItemLemmas.{some_at, all_at}
+use Rattle.ioa_compose.proofs.CompatibleLemmas.{none-from}
+
+-- the tree in the place of an instance
+bound-place : (s : SourceTree) (is : List InstanceTree) (ns : List Instance) (k : ℕ) (n : Instance) → AreBound s is ns → slice_get ns k ≡ Some n → (i : InstanceTree) × (slice_get is k ≡ Some i) × IsBound s i n
+bound-place s [] [] k n b e = absurd (cc)
+bound-place s [] (m ∷ ms) k n b e = absurd b
+bound-place s (i ∷ is) [] k n b e = absurd b
+bound-place s (i ∷ is) (m ∷ ms) zero n b e = let q : m ≡ n = cc in (i, refl, subst (IsBound s i) q b.0)
+bound-place s (i ∷ is) (m ∷ ms) (suc k) n b e = bound-place s is ms k n b.1 e
+
+values-of : Result (List Val) Fault → List Val → List Val
+values-of (Ok vs) d = vs
+values-of (Err f) d = d
+
+abbrev made : List Val → Result (List Val) Fault
+made vs = Ok vs
+
+same-ok : (vs ws : List Val) → made vs ≡ made ws → vs ≡ ws
+unfolding values-of
+same-ok vs ws e = ap (λ (r : Result (List Val) Fault). values-of r vs) e
+
+same-instance : (m n : Instance) → m.types ≡ n.types → m.automaton ≡ n.automaton → m.arguments ≡ n.arguments → m ≡ n
+same-instance m n t a v =
+    ap (λ x. instance_with x m.automaton m.arguments) t ∙ ap (λ x. instance_with n.types x m.arguments) a ∙ ap (instance_with n.types n.automaton) v
+
+-- a tree is bound to one instance only
+one-bound : (s : SourceTree) (i : InstanceTree) (m n : Instance) → IsBound s i m → IsBound s i n → m ≡ n
+one-bound s i m n h b =
+    let found : Some m.automaton ≡ Some n.automaton = sym h.automaton ∙ b.automaton in
+    let same : m.automaton ≡ n.automaton = cc in
+    same-instance m n (h.types ∙ sym b.types) same (same-ok m.arguments n.arguments (sym h.arguments ∙ b.arguments))
+
+-- and trees in order to one list of them
+all-one : (s : SourceTree) (is : List InstanceTree) (ms ns : List Instance) → AreBound s is ms → AreBound s is ns → ms ≡ ns
+all-one s [] [] [] h b = refl
+all-one s [] (m ∷ ms) ns h b = absurd h
+all-one s [] [] (n ∷ ns) h b = absurd b
+all-one s (i ∷ is) [] ns h b = absurd h
+all-one s (i ∷ is) (m ∷ ms) [] h b = absurd b
+all-one s (i ∷ is) (m ∷ ms) (n ∷ ns) h b = ap (λ x. x ∷ ms) (one-bound s i m n h.0 b.0) ∙ ap (λ xs. n ∷ xs) (all-one s is ms ns h.1 b.1)
+
+-- the instance in the place of a tree
+bound-at : (s : SourceTree) (is : List InstanceTree) (ns : List Instance) (k : ℕ) (i : InstanceTree) → AreBound s is ns → slice_get is k ≡ Some i → (n : Instance) × (slice_get ns k ≡ Some n) × IsBound s i n
+bound-at s [] [] k i b e = absurd (cc)
+bound-at s [] (m ∷ ms) k i b e = absurd b
+bound-at s (j ∷ js) [] k i b e = absurd b
+bound-at s (j ∷ js) (m ∷ ms) zero i b e = let q : j ≡ i = cc in (m, refl, subst (λ t. IsBound s t m) q b.0)
+bound-at s (j ∷ js) (m ∷ ms) (suc k) i b e = bound-at s js ms k i b.1 e
+
+-- components clash as the instances to which they are bound
+clash-bound : (s : SourceTree) (i j : InstanceTree) (m n : Instance) (x : Name) → IsBound s i m → IsBound s j n → ClashOn s i j x → Clashing x m n
+clash-bound s i j m n x p q d =
+    subst (λ y. Clashing x m y) (one-bound s j d.second n d.second_bound q) (subst (λ y. Clashing x y d.second) (one-bound s i d.first m d.first_bound p) d.clash)
+
+first-clash : (s : SourceTree) (is : List InstanceTree) (ns : List Instance) (i j : ℕ) → AreBound s is ns → NoneClashes ns i j → IsFirstClash s is i j
+first-clash s is ns i j b none = λ k l m n x before e f d.
+    let p = bound-at s is ns k m b e in
+    let q = bound-at s is ns l n b f in
+    none k l p.0 q.0 x before p.1 q.1 (clash-bound s m n p.0 q.0 x p.2 q.2 d)
+
+-- where no instances clash, no components do
+clash-free : (s : SourceTree) (is : List InstanceTree) (ns : List Instance) → AreBound s is ns → NoneClash ns → NoClash s is
+clash-free s is ns b none = λ i j m n x less e f d.
+    let p = bound-at s is ns i m b e in
+    let q = bound-at s is ns j n b f in
+    none i j p.0 q.0 x less p.1 q.1 (clash-bound s m n p.0 q.0 x p.2 q.2 d)
+
+-- ---- why there is none: arguments, a clash, a hidden name that is no output's, and a start that faults
+
+pub unbound-refused : (s : SourceTree) (t : CompositionTree) (r : Reason) → IsUnbound s t.instances r → IsRefusedFor s t r
+unbound-refused s t (misfit i) h = h
+unbound-refused s t (faulty i f) h = inl h
+unbound-refused s t (clashing i j name) h = absurd h
+unbound-refused s t (hiding x) h = absurd h
+unbound-refused s t no_memory h = tt
+unbound-refused s t other h = absurd h
+
+pub clash-refused : (s : SourceTree) (t : CompositionTree) (ns : List Instance) (r : Reason) → AreBound s t.instances ns → ClashesIn ns r → IsRefusedFor s t r
+clash-refused s t ns (misfit i) b h = absurd h
+clash-refused s t ns (faulty i f) b h = absurd h
+clash-refused s t ns (clashing i j name) b h =
+    let p = bound-place s t.instances ns i h.0 b h.3 in
+    let q = bound-place s t.instances ns j h.1 b h.4 in
+    let on : ClashOn s p.0 q.0 name = record { first = h.0; second = h.1; first_bound = p.2; second_bound = q.2; clash = h.5 } in
+    ((p.0, q.0, h.2, p.1, q.1, on, first-clash s t.instances ns i j b h.6, h.7), (ns, b))
+clash-refused s t ns (hiding x) b h = absurd h
+clash-refused s t ns no_memory b h = tt
+clash-refused s t ns other b h = absurd h
+
+pub hiding-refused : (s : SourceTree) (t : CompositionTree) (ns : List Instance) (r : Reason) → AreBound s t.instances ns → NoneClash ns → HidesIn ns t.hidden r → IsRefusedFor s t r
+hiding-refused s t ns (misfit i) b none h = absurd h
+hiding-refused s t ns (faulty i f) b none h = absurd h
+hiding-refused s t ns (clashing i j name) b none h = absurd h
+hiding-refused s t ns (hiding x) b none h = ((h.0, ns, b, h.1), clash-free s t.instances ns b none)
+hiding-refused s t ns no_memory b none h = tt
+hiding-refused s t ns other b none h = absurd h
+
+pub start-refused : (s : SourceTree) (t : CompositionTree) (ns : List Instance) (r : Reason) → AreBound s t.instances ns → NoneClash ns → list_all (is_output_of ns) t.hidden ≡ true
+    → FaultsIn ns r → IsRefusedFor s t r
+start-refused s t ns (misfit i) b none outputs h = absurd h
+start-refused s t ns (faulty k f) b none outputs h =
+    let p = bound-place s t.instances ns k h.0 b h.1 in
+    inr (
+      (p.0, p.1, record { instance = h.0; bound = p.2; faulting = h.2 }),
+      clash-free s t.instances ns b none,
+      λ ms c. subst (λ us. list_all (is_output_of us) t.hidden ≡ true) (all-one s t.instances ns ms b c) outputs,
+    )
+start-refused s t ns (clashing i j m) b none outputs h = absurd h
+start-refused s t ns (hiding x) b none outputs h = absurd h
+start-refused s t ns no_memory b none outputs h = tt
+start-refused s t ns other b none outputs h = absurd h
+
+member-place : (s : SourceTree) (is : List InstanceTree) (ms : List Member) (k : ℕ) (i : InstanceTree) → AreMembers s is ms → slice_get is k ≡ Some i → (m : Member) × (slice_get ms k ≡ Some m) × IsMember s i m
+member-place s [] [] k i b e = absurd (cc)
+member-place s [] (m ∷ ms) k i b e = absurd b
+member-place s (j ∷ js) [] k i b e = absurd b
+member-place s (j ∷ js) (m ∷ ms) zero i b e = let q : j ≡ i = cc in (m, refl, subst (λ x. IsMember s x m) q b.0)
+member-place s (j ∷ js) (m ∷ ms) (suc k) i b e = member-place s js ms k i b.1 e
+
+-- the instance of a member is bound to its tree
+member-bound : (s : SourceTree) (i : InstanceTree) (m : Member) → IsMember s i m → IsBound s i m.instance
+member-bound s i m h = record { types = h.types; automaton = h.automaton; arguments = h.arguments; fit = h.fit }
+
+members-bound : (s : SourceTree) (is : List InstanceTree) (ms : List Member) → AreMembers s is ms → AreBound s is (map (λ m. m.instance) ms)
+members-bound s [] [] h = tt
+members-bound s [] (m ∷ ms) h = absurd h
+members-bound s (i ∷ is) [] h = absurd h
+members-bound s (i ∷ is) (m ∷ ms) h = (member-bound s i m h.0, members-bound s is ms h.1)
+
+ok-err : (vs : List Val) (f : Fault) → made vs ≡ Err f → ⊥
+ok-err vs f e = absurd (cc)
+
+-- of what is refused there is no composition
+none-for : (s : SourceTree) (t : CompositionTree) (r : Reason) (c : Composed) → IsRefusedFor s t r → r ≢ no_memory → IsComposed s t c → ⊥
+none-for s t (misfit k) c h memory i =
+    let p = bound-at s t.instances (instances_of c) k h.0 (members-bound s t.instances c.members i.members) h.1 in
+    let m = h.2 in
+    let q : Some m.automaton ≡ Some p.0.automaton = sym m.declared ∙ p.2.automaton in
+    let q' : m.automaton ≡ p.0.automaton = cc in
+    let v = same-ok m.arguments p.0.arguments (sym m.valued ∙ p.2.arguments) in
+    m.unfit (subst (λ a. Fit (types_of s) a.formals m.arguments) (sym q') (subst (λ vs. Fit (types_of s) p.0.automaton.formals vs) (sym v) p.2.fit))
+none-for s t (faulty k f) c h memory i = elim h [
+  | inl u ↦ (let p = member-place s t.instances c.members k u.0 i.members u.1 in ok-err p.0.instance.arguments f (sym p.2.arguments ∙ u.2))
+  | inr u ↦ (let p = member-place s t.instances c.members k u.0.0 i.members u.0.1 in
+      let b = u.0.2 in
+      ok-err p.0.starts f (sym p.2.starts ∙ ap start_values (one-bound s u.0.0 p.0.instance b.instance (member-bound s u.0.0 p.0 p.2) b.bound) ∙ b.faulting))
+]
+none-for s t (clashing k l name) c h memory i =
+    let u = h.0 in
+    let bound = members-bound s t.instances c.members i.members in
+    let p = bound-at s t.instances (instances_of c) k u.0 bound u.3 in
+    let q = bound-at s t.instances (instances_of c) l u.1 bound u.4 in
+    let apart = none-from (instances_of c) (subst Compatible (sym (map-map component_of (λ m. m.instance) c.members)) i.compatible) in
+    apart k l p.0 q.0 name u.2 p.1 q.1 (clash-bound s u.0 u.1 p.0 q.0 name p.2 q.2 u.5)
+none-for s t (hiding x) c h memory i =
+    let u = h.0 in
+    let at = some_at (λ n. bytes_eq n x) t.hidden u.0 in
+    let bound = members-bound s t.instances c.members i.members in
+    let shown = all_at (is_output_of (instances_of c)) t.hidden at.1 at.0 i.outputs at.2 in
+    let same : at.0 ≡ x = (bytes_eq-Decides at.0 x).0 at.3 in
+    both_ways (is_output_of u.1 x) u.3 (subst (λ ns. is_output_of ns x ≡ true) (all-one s t.instances (instances_of c) u.1 bound u.2) (subst (λ n. is_output_of (instances_of c) n ≡ true) same shown))
+none-for s t no_memory c h memory i = memory refl
+none-for s t other c h memory i = h
+
+-- no other refusal is for want of memory
+memory-is : (r : Refusal) → reason_of r ≡ no_memory → r ≡ OutOfMemory
+memory-is OutOfMemory e = refl
+memory-is (ArgMismatch i) e = absurd (cc)
+memory-is (StartFault i f) e = absurd (cc)
+memory-is (Clash i j name) e = absurd (cc)
+memory-is TextTooLong e = absurd (cc)
+memory-is (BadByte l) e = absurd (cc)
+memory-is (Syntax l) e = absurd (cc)
+memory-is (TooDeep l) e = absurd (cc)
+memory-is (DuplicateName l) e = absurd (cc)
+memory-is (UnknownName l) e = absurd (cc)
+memory-is (TypeMismatch l) e = absurd (cc)
+memory-is (BadSignature l) e = absurd (cc)
+memory-is (NoProposal l) e = absurd (cc)
+memory-is (TooMany l) e = absurd (cc)
+memory-is (TooWide l) e = absurd (cc)
+memory-is (CrashName i) e = absurd (cc)
+memory-is (HiddenUnknown name) e = absurd (cc)
+memory-is NoComposition e = absurd (cc)
+
+refused-none : (s : SourceTree) (t : CompositionTree) (r : Refusal) (c : Composed) → IsRefused s t r → r ≢ OutOfMemory → IsComposed s t c → ⊥
+refused-none s t r c h memory i = none-for s t (reason_of r) c h (λ e. memory (memory-is r e)) i
+
+pub exact-from : {X : Type 0} (r : Result X Refusal) (ds es : List Declaration) (o : Option Name) (t : CompositionTree) → ds ≡ es → Some t ≡ picked (tree_of ds) o → IfErr r (λ e. IsRefused (tree_of ds) t e)
+    → IfErr r (λ e. e ≢ OutOfMemory → (u : CompositionTree) → picked (tree_of es) o ≡ Some u → (c : Composed) → IsComposed (tree_of es) u c → ⊥)
+exact-from (Ok x) ds es o t q e h = tt
+exact-from (Err x) ds es o t q e h = λ no_memory u f c i.
+    let p : Some t ≡ Some u = e ∙ ap (λ xs. picked (tree_of xs) o) q ∙ f in
+    let same : t ≡ u = cc in
+    refused-none (tree_of es) u x c (subst (λ v. IsRefused (tree_of es) v x) same (subst (λ xs. IsRefused (tree_of xs) t x) q h)) no_memory i
+
+pub refused-from : {X : Type 0} (r : Result X Refusal) (ds es : List Declaration) (o : Option Name) (t : CompositionTree) → ds ≡ es → Some t ≡ picked (tree_of ds) o → IfErr r (λ e. IsRefused (tree_of ds) t e)
+    → (u : CompositionTree) → picked (tree_of es) o ≡ Some u → IfErr r (λ e. IsRefused (tree_of es) u e)
+refused-from (Ok x) ds es o t q e h = λ u f. tt
+refused-from (Err x) ds es o t q e h = λ u f.
+    let p : Some t ≡ Some u = e ∙ ap (λ xs. picked (tree_of xs) o) q ∙ f in
+    let same : t ≡ u = cc in
+    subst (λ v. IsRefused (tree_of es) v x) same (subst (λ xs. IsRefused (tree_of xs) t x) q h)

@@ -1,0 +1,62 @@
+ghost use Rattle.std.specs.Prelude.{◌≡◌, List, true, map, IfOk};
+ghost use Rattle.std.specs.List.{AllZip};
+ghost use Rattle.ioa_value.specs.Actions as actions;
+ghost use Rattle.ioa_value.specs.Table.{AreTypes};
+ghost use Rattle.ioa_syntax.specs.Instances.{Fit};
+ghost use Rattle.ioa_syntax.specs.WellFormed.{automaton_fine};
+ghost use Rattle.ioa_compose.specs.Bindings.{instance_in, AllSound, AllStartable};
+ghost use Rattle.ioa_compose.specs.Clashes.{IsSignatureOf, signature_of};
+
+use crate::binding::Binding;
+use crate::domains::positions;
+use ioa_syntax::{Kind, Name};
+use ioa_value::{OutOfMemory, Position, Types};
+use std::alloc::Global;
+
+/// An entry with the values of its constants.
+#[derive(Drop)]
+pub(crate) struct SignedEntry<'a> {
+    pub(crate) kind: Kind,
+    pub(crate) name: &'a Name,
+    pub(crate) positions: Vec<Position>,
+}
+
+/// The entries of each component, in order.
+pub(crate) fn signatures<'a>(
+    alloc: Global,
+    types: &Types,
+    bindings: &[Binding<'a>],
+) -> Result<Vec<Vec<SignedEntry<'a>>>, OutOfMemory>
+    requires declared { AreTypes types.now }
+    requires sound { AllSound (map (instance_in types.now) bindings.now) }
+    requires startable { AllStartable (map (instance_in types.now) bindings.now) }
+    ensures { IfOk result (λ ss. AllZip IsSignatureOf (map (instance_in types.now) bindings.now) (map signature_of ss.items)) }
+{
+    let mut signatures = Vec::with_capacity(alloc, bindings.len())?;
+    for binding in bindings {
+        signatures.push(signature(alloc, types, binding)?)?;
+    }
+    Ok(signatures)
+}
+
+fn signature<'a>(
+    alloc: Global,
+    types: &Types,
+    binding: &Binding<'a>,
+) -> Result<Vec<SignedEntry<'a>>, OutOfMemory>
+    requires declared { AreTypes types.now }
+    requires fit { let n = instance_in types.now binding.now in Fit n.types n.automaton.formals n.arguments }
+    requires sound { (globals : List actions.Name) × (automaton_fine types.now types.now globals (instance_in types.now binding.now).automaton ≡ true) }
+    ensures { IfOk result (λ s. IsSignatureOf (instance_in types.now binding.now) (signature_of s)) }
+{
+    let mut entries = Vec::with_capacity(alloc, binding.automaton.entries.len())?;
+    for entry in &binding.automaton.entries {
+        let positions = positions(alloc, types, binding.automaton, &binding.arguments, entry)?;
+        entries.push(SignedEntry {
+            kind: entry.kind,
+            name: &entry.name,
+            positions,
+        })?;
+    }
+    Ok(entries)
+}
