@@ -1,6 +1,6 @@
 -- The parts of a table's entry end as the transition says, and so the table's component does what its instance does.
-use Rattle.std.proofs.Common.{◌≡◌, ℕ, ◌⊎◌, inl, inr, Bool, true, false, cond, ◌&&◌, ◌++◌, IsTrue, List, [], ◌∷◌, length, map, Option, Some, None, IfSome, Result, Ok, Err, refl, sym, ap, ◌∙◌, subst, arith}
-use Rattle.std.specs.List.{AllZip, find}
+use Rattle.std.proofs.Common.{◌≡◌, ℕ, ◌⊎◌, inl, inr, Bool, true, false, cond, ◌++◌, IsTrue, List, [], ◌∷◌, length, Option, Some, None, IfSome, Result, Ok, Err, refl, sym, ap, ◌∙◌, subst, arith}
+use Rattle.std.specs.List.{AllZip}
 use Rattle.std.specs.Option.{option_map, option_map_or}
 use Rattle.std.specs.Str.{bytes_eq}
 use Rattle.std.proofs.lemmas.Bool.{and_parts}
@@ -10,7 +10,8 @@ use Rattle.ioa_value.specs.Operators.{Answer, gives, faults, nothing, IsTypedAns
 use Rattle.ioa_value.specs.Plain as plain
 use Rattle.ioa_value.specs.Plain.{Val}
 use Rattle.ioa_value.specs.Table.{Table, AreTypes}
-use Rattle.ioa_value.specs.Typing.{HaveTypes, is_of}
+use Rattle.ioa_value.specs.Typing.{HaveTypes}
+use Rattle.ioa_value.proofs.PositionLemmas.{all_take-typed}
 use Rattle.ioa_value.proofs.TypingLemmas.{HaveTypes-length}
 use Rattle.ioa_code.specs.Machine.{State, End, done, fault}
 use Rattle.ioa_code.specs.Outcome.{outcome}
@@ -20,13 +21,14 @@ use Rattle.ioa_node.specs.Runs as runs
 use Rattle.ioa_node.specs.Runs.{start, guard_answer, guard_of, effect_answer, effect_of}
 use Rattle.ioa_syntax.specs.declared.tree.Kind.{Kind}
 use Rattle.ioa_syntax.specs.declared.tree.Kind.TheVariants.{Input, Output, Internal}
-use Rattle.ioa_syntax.specs.Tree.{Expr, Stmts, PositionTree, typed, EntryTree}
+use Rattle.ioa_syntax.specs.Tree.{Expr, Stmts, EntryTree}
 use Rattle.ioa_syntax.specs.Meaning.{Env, values_of, or_else, kept, val, Outcome, becomes, breaks, nowhere, eff}
-use Rattle.ioa_syntax.specs.Instances.{Instance, field_names, variable_names, position_name, positions_have, entry_has, transition_for, environment, truth_of, enabling, next_state, component_of}
+use Rattle.ioa_syntax.specs.Instances.{Instance, field_names, variable_names, parameter_values, positions_have, entry_has, entry_for, transition_for, environment, truth_of, enabling, next_state, component_of}
 use Rattle.ioa_syntax.specs.Components.{is_local}
 use Rattle.ioa_syntax.specs.Compositions.{Member}
 use Rattle.ioa_syntax.specs.Likes.{AreLike}
-use Rattle.ioa_syntax.specs.WellFormed.{Context, contains, local_names, position_fields, variable_fields, context_of, scope}
+use Rattle.ioa_syntax.specs.WellFormed.{Context, contains, local_names, parameter_names, variable_fields, context_of, scope}
+use Rattle.ioa_syntax.proofs.Domains.{domains_have}
 use Rattle.ioa_syntax.proofs.ValTyped.{val_typed}
 use Rattle.ioa_compose.specs.Fine.{IsFine, component_limits}
 use Rattle.ioa_code.specs.declared.instr.PartKind.TheVariants.{Pre}
@@ -38,9 +40,11 @@ use Rattle.ioa_compile.specs.Placed.{HasStmts}
 use Rattle.ioa_compile.specs.CodeEnds.{required, GuardEnds, EffectEnds}
 use Rattle.ioa_compile.specs.Matching.{AreTypesOf, MatchesEntry}
 use Rattle.ioa_compile.specs.Translated.{IsGuard, IsGuardFor, codes_of, IsEntryOf, IsTranslated, IsFor}
-use Rattle.ioa_compile.proofs.Looks.{look, values_look, or_else-none, stands, look_outside, look_inside, outside_both, distinct_apart, apart_outside}
-use Rattle.ioa_compile.proofs.Fits.{types_long, position_names, fit_have, have_fit}
-use Rattle.ioa_compile.proofs.Fine.{Setting, setting, is_scope, variables_long, type_look, fine_of, guard_typed, effect_typed, GuardTyped, StmtsTyped}
+use Rattle.ioa_compile.proofs.Looks.{look, values_look, or_else-none, look_outside, look_inside, outside_both, distinct_apart, apart_outside}
+use Rattle.ioa_compile.proofs.Parameters.{passed, passed_outside, values_passed}
+use Rattle.ioa_compile.proofs.Standing.{stands}
+use Rattle.ioa_compile.proofs.Fits.{fit_have, have_fit}
+use Rattle.ioa_compile.proofs.Fine.{Setting, setting, is_scope, variables_long, parameters_long, type_look, fine_of, domains_of, guard_typed, effect_typed, GuardTyped, StmtsTyped}
 use Rattle.ioa_compile.proofs.Validity.{found_slot}
 use Rattle.ioa_compile.proofs.Running as running
 use Rattle.ioa_compile.proofs.Running.{Comes, Breaks, Reaches, Knows, on, push_comes, expr_runs}
@@ -93,43 +97,30 @@ swapped f p v (inl e) =
 swapped f p v (inr e) =
     ap (λ o. or_else o (or_else p v)) e.0 ∙ ap (λ o. or_else o v) e.1 ∙ sym (ap (λ o. or_else v (or_else o p)) e.0 ∙ ap (or_else v) e.1 ∙ or_else-none v)
 
-args_typed : (types : Table) (ps : List PositionTree) (vs : List Val) (ts : List ℕ) → IsTrue (positions_have types ps vs) → AreTypesOf types (position_fields ps) ts → HaveTypes types vs ts
-args_typed types [] [] [] h k = tt
-args_typed types [] [] (t ∷ ts) h k = absurd k
-args_typed types [] (v ∷ vs) ts h k = absurd (cc)
-args_typed types (typed f ∷ ps) [] ts h k = absurd (cc)
-args_typed types (typed f ∷ ps) (v ∷ vs) [] h k = absurd k
-args_typed types (typed f ∷ ps) (v ∷ vs) (t ∷ ts) h k =
-    let one : Option ℕ → Bool = λ o. option_map_or (λ n. is_of types v n) o false in
-    let h2 = subst (λ o. IsTrue (one o && positions_have types ps vs)) k.0 h in
-    let parts = and_parts (is_of types v t) (positions_have types ps vs) h2 in
-    (parts.0, args_typed types ps vs ts parts.1 k.1)
-
 module _ (m : Member) (e : EntryTree) (vs ps : List ℕ) (h : Setting m e vs ps) (args : List Val) (values : HaveTypes m.instance.types args ps) where
-  separate : (x : Name) → (contains (variable_names m.instance.automaton) x ≡ false) ⊎ ((contains (field_names m.instance.automaton.formals) x ≡ false) × (contains (map position_name e.positions) x ≡ false))
-  separate x = go (contains (variable_names m.instance.automaton) x) refl (contains (field_names m.instance.automaton.formals) x) refl (contains (map position_name e.positions) x) refl
+  separate : (x : Name) → (contains (variable_names m.instance.automaton) x ≡ false) ⊎ ((contains (field_names m.instance.automaton.formals) x ≡ false) × (contains (parameter_names e) x ≡ false))
+  separate x = go (contains (variable_names m.instance.automaton) x) refl (contains (field_names m.instance.automaton.formals) x) refl (contains (parameter_names e) x) refl
     where
-      go : (v : Bool) → contains (variable_names m.instance.automaton) x ≡ v → (f : Bool) → contains (field_names m.instance.automaton.formals) x ≡ f → (p : Bool) → contains (map position_name e.positions) x ≡ p → (v ≡ false) ⊎ ((f ≡ false) × (p ≡ false))
+      go : (v : Bool) → contains (variable_names m.instance.automaton) x ≡ v → (f : Bool) → contains (field_names m.instance.automaton.formals) x ≡ f → (p : Bool) → contains (parameter_names e) x ≡ p → (v ≡ false) ⊎ ((f ≡ false) × (p ≡ false))
       go false v-is f f-is p p-is = inl refl
       go true v-is false f-is false p-is = inr (refl, refl)
       go true v-is true f-is p p-is =
           let no = distinct_apart (field_names m.instance.automaton.formals) (variable_names m.instance.automaton) x h.parts.distinct_names f-is in absurd (cc)
       go true v-is false f-is true p-is =
-          let out = apart_outside (map position_name e.positions) (h.globals ++ local_names m.instance.types m.instance.types h.globals m.instance.automaton) x h.entry.apart_names p-is in
+          let out = apart_outside (parameter_names e) (h.globals ++ local_names m.instance.types m.instance.types h.globals m.instance.automaton) x h.entry.apart_names p-is in
           let local = (outside_both h.globals (local_names m.instance.types m.instance.types h.globals m.instance.automaton) x out).1 in
           let no = (outside_both (field_names m.instance.automaton.formals) (variable_names m.instance.automaton) x local).1 in absurd (cc)
 
-  stood : (slots : List Val) (x : Name) → or_else (look (field_names m.instance.automaton.formals) m.instance.arguments x) (or_else (look (map position_name e.positions) args x) (look (variable_names m.instance.automaton) slots x)) ≡ stands (scope_of m e) slots m.instance.arguments args x
+  stood : (slots : List Val) (x : Name) → or_else (look (field_names m.instance.automaton.formals) m.instance.arguments x) (or_else (passed e.positions args x) (look (variable_names m.instance.automaton) slots x)) ≡ stands (scope_of m e) slots m.instance.arguments args x
   stood slots x =
       swapped _ _ _ (go (separate x))
     where
-      go : (contains (variable_names m.instance.automaton) x ≡ false) ⊎ ((contains (field_names m.instance.automaton.formals) x ≡ false) × (contains (map position_name e.positions) x ≡ false)) → (look (variable_names m.instance.automaton) slots x ≡ None) ⊎ ((look (field_names m.instance.automaton.formals) m.instance.arguments x ≡ None) × (look (map position_name e.positions) args x ≡ None))
+      go : (contains (variable_names m.instance.automaton) x ≡ false) ⊎ ((contains (field_names m.instance.automaton.formals) x ≡ false) × (contains (parameter_names e) x ≡ false)) → (look (variable_names m.instance.automaton) slots x ≡ None) ⊎ ((look (field_names m.instance.automaton.formals) m.instance.arguments x ≡ None) × (passed e.positions args x ≡ None))
       go (inl k) = inl (look_outside (variable_names m.instance.automaton) slots x k)
-      go (inr k) = inr (look_outside (field_names m.instance.automaton.formals) m.instance.arguments x k.0, look_outside (map position_name e.positions) args x k.1)
+      go (inr k) = inr (look_outside (field_names m.instance.automaton.formals) m.instance.arguments x k.0, passed_outside e.positions args x k.1)
 
-  args_long : length (map position_name e.positions) ≡ length args
-  args_long =
-      ap length (sym (position_names e.positions)) ∙ types_long m.instance.types (position_fields e.positions) ps h.parameters ∙ sym (HaveTypes-length m.instance.types args ps values)
+  args_long : length e.positions ≡ length args
+  args_long = parameters_long m e vs ps h ∙ sym (HaveTypes-length m.instance.types args ps values)
 
   module _ (part : Part) (over : part.code.types ≡ m.instance.types) (declared : AreTypes m.instance.types) where
     -- the types of the names in this entry, and of the variables
@@ -161,9 +152,9 @@ module _ (m : Member) (e : EntryTree) (vs ps : List ℕ) (h : Setting m e vs ps)
     holds : (env : Env) (slots : List Val) → Corresponds m.instance env slots → Holds (environment m.instance e args env) slots
     holds env slots c = record {
       agrees = λ x.
-          ap (λ o. or_else o (or_else (values_of (map position_name e.positions) args x) (env x))) (values_look (field_names m.instance.automaton.formals) m.instance.arguments x)
-          ∙ ap (λ o. or_else (look (field_names m.instance.automaton.formals) m.instance.arguments x) (or_else o (env x))) (values_look (map position_name e.positions) args x)
-          ∙ ap (λ o. or_else (look (field_names m.instance.automaton.formals) m.instance.arguments x) (or_else (look (map position_name e.positions) args x) o)) (c.values x ∙ values_look (variable_names m.instance.automaton) slots x)
+          ap (λ o. or_else o (or_else (values_of (parameter_names e) (parameter_values e.positions args) x) (env x))) (values_look (field_names m.instance.automaton.formals) m.instance.arguments x)
+          ∙ ap (λ o. or_else (look (field_names m.instance.automaton.formals) m.instance.arguments x) (or_else o (env x))) (values_passed e.positions args x)
+          ∙ ap (λ o. or_else (look (field_names m.instance.automaton.formals) m.instance.arguments x) (or_else (passed e.positions args x) o)) (c.values x ∙ values_look (variable_names m.instance.automaton) slots x)
           ∙ stood slots x;
       typed = fit_have m.instance.types (variable_fields m.instance.automaton) slots vs c.typed h.variables;
     }
@@ -200,7 +191,7 @@ module _ (m : Member) (e : EntryTree) (vs ps : List ℕ) (h : Setting m e vs ps)
         go : (x : Name) (b : Bool) → contains (variable_names m.instance.automaton) x ≡ b → cond b (env x) None ≡ look (variable_names m.instance.automaton) slots x
         go x true t =
             let there = look_inside (variable_names m.instance.automaton) slots x long t in
-            k.agrees x ∙ ap (λ o. or_else o (or_else (look (field_names m.instance.automaton.formals) m.instance.arguments x) (look (map position_name e.positions) args x))) there.1 ∙ sym there.1
+            k.agrees x ∙ ap (λ o. or_else o (or_else (look (field_names m.instance.automaton.formals) m.instance.arguments x) (passed e.positions args x))) there.1 ∙ sym there.1
         go x false t = sym (look_outside (variable_names m.instance.automaton) slots x t)
 
     outcome_comes : (slots : List Val) (o : Outcome) → running.RunsTo part.code (scope_of m e) args m.instance.types names_in variables_in vs h.types ps knows (on part.code (scope_of m e) args 0 [] slots) (length part.code.instrs) o → EffectEnds m.instance part slots args o
@@ -227,7 +218,7 @@ on_part P Q Internal (Some p) s g h q f = f p h q
 pub entry_matches : (m : Member) (vs : List ℕ) (e : EntryTree) (c : EntryCode) → IsFine component_limits m → AreTypesOf m.instance.types (variable_fields m.instance.automaton) vs → IsTranslated m vs e c → IsEntryOf m e → MatchesEntry m e c
 entry_matches m vs e c fine types is own =
     let ps = position_types c.positions in
-    let all = setting m e fine own vs ps types is.positions in
+    let all = setting m e fine own vs ps c.positions types is.positions refl in
     let t = is.transition.0 in
     let ok = fine_of m e fine own t is.transition.1 in
     let declared = subst AreTypes is.effect.types_are is.effect.verified.types in
@@ -253,12 +244,15 @@ if_some : (P Q : Part → Type 0) (o : Option Part) → ((p : Part) → P p → 
 if_some P Q None f h = tt
 if_some P Q (Some p) f h = f p h
 
-module _ (m : Member) (vs : List ℕ) (fine : IsFine component_limits m) (types : AreTypesOf m.instance.types (variable_fields m.instance.automaton) vs) (a : Act) (e : EntryTree) (c : EntryCode) (is : IsTranslated m vs e c) (own : IsEntryOf m e) (has : entry_has m.instance.types a e ≡ true) where
+module _ (m : Member) (vs : List ℕ) (fine : IsFine component_limits m) (types : AreTypesOf m.instance.types (variable_fields m.instance.automaton) vs) (a : Act) (e : EntryTree) (c : EntryCode) (is : IsTranslated m vs e c) (own : IsEntryOf m e) (has : entry_has m.instance a e ≡ true) where
   matched : MatchesEntry m e c
   matched = entry_matches m vs e c fine types is own
 
   arguments : HaveTypes m.instance.types a.vals (position_types c.positions)
-  arguments = args_typed m.instance.types e.positions a.vals (position_types c.positions) (and_parts (bytes_eq e.name a.name) (positions_have m.instance.types e.positions a.vals) has).1 is.positions
+  arguments =
+      let declared = subst AreTypes is.effect.types_are is.effect.verified.types in
+      let there = (and_parts (bytes_eq e.name a.name) (positions_have m.instance e.positions a.vals) has).1 in
+      all_take-typed m.instance.types c.positions a.vals (domains_of m e fine own c.positions declared is.positions) (sym (domains_have m.instance e.positions c.positions a.vals is.positions) ∙ there)
 
   guard_same : (env : Env) (slots : List Val) → IsTrue (is_local (Some e.kind)) → Corresponds m.instance env slots → enabling m.instance.types matched.transition.pre (environment m.instance e a.vals env) ≡ allows c.pre slots a.vals
   guard_same env slots local r =
@@ -276,7 +270,7 @@ module _ (m : Member) (vs : List ℕ) (fine : IsFine component_limits m) (types 
 module _ (m : Member) (vs : List ℕ) (c : MemberCode) (fine : IsFine component_limits m) (same_types : c.start.table ≡ m.instance.types) (types : AreTypesOf m.instance.types (variable_fields m.instance.automaton) vs) (entries : AllZip (IsTranslated m vs) m.instance.automaton.entries c.entries) where
   module _ (a : Act) where
     abbrev tree_entry : Option EntryTree
-    tree_entry = find (entry_has m.instance.types a) m.instance.automaton.entries
+    tree_entry = entry_for m.instance a
 
     own_of : (r : Both m vs a m.instance.automaton.entries tree_entry (entry_of c a)) → IsEntryOf m r.entry
     own_of r = record { place = r.place; here = r.here }

@@ -23,7 +23,7 @@ use Rattle.ioa_code.specs.Machine.{Listing}
 use Rattle.ioa_syntax.specs.declared.tree.Infix.{Infix}
 use Rattle.ioa_syntax.specs.declared.tree.Infix.TheVariants.{Operator, And, Or, Implies}
 use Rattle.ioa_syntax.specs.Tree.{Expr, number, truth, named, parens, prefix, binary, empty, make, select, Exprs, no_expr, also, Stmt, assign, choose, Stmts, stop, seq, Arms, no_arm, arm}
-use Rattle.ioa_compile.specs.Scopes.{Scope, Origin, slot, formal, parameter, fixed, unknown, origin, IsOrigin, place_of}
+use Rattle.ioa_compile.specs.Scopes.{Scope, Origin, slot, formal, parameter, fixed, unknown, origin, IsOrigin, parameter_from, place_of}
 use Rattle.ioa_syntax.specs.Types.{constant, empty_of}
 use Rattle.ioa_compile.specs.Placed.{Stretch, At, Pushes, PushesTruth, Brings, Applies, Chooses, Combines, HasExpr, HasExprs, HasGuard, HasStmt, HasStmts, HasArms}
 use Rattle.ioa_compile.specs.Emitting.{Keeps, Adds, AddsInstr, AddsConst, AddsExpr, AddsExprs, AddsCombined, AddsTrueSide, AddsFalseSide, AddsStmt, AddsStmts, IsGrown}
@@ -67,18 +67,18 @@ adds_const c d v k k-is t-is i-is c-is ty = record {
 
 pub origin_formal : (s : Scope) (x : Name) (i : ℕ) → place_from 0 s.variables x ≡ None → place_from 0 s.formals x ≡ Some i → origin s x ≡ formal i
 origin_formal s x i e f =
-    let third : Origin = option_map_or parameter (place_from 0 s.parameters x) (option_map_or fixed (constant s.types x) unknown) in
+    let third : Origin = option_map_or parameter (parameter_from 0 s.parameters x) (option_map_or fixed (constant s.types x) unknown) in
     let second : Option ℕ → Origin = λ o. option_map_or formal o third in
     ap (λ o. option_map_or slot o (second (place_from 0 s.formals x))) e ∙ ap second f
 
 pub origin_slot : (s : Scope) (x : Name) (i : ℕ) → place_from 0 s.variables x ≡ Some i → origin s x ≡ slot i
 origin_slot s x i e = rw e refl
 
-pub origin_parameter : (s : Scope) (x : Name) (i : ℕ) → place_from 0 s.variables x ≡ None → place_from 0 s.formals x ≡ None → place_from 0 s.parameters x ≡ Some i → origin s x ≡ parameter i
+pub origin_parameter : (s : Scope) (x : Name) (i : ℕ) → place_from 0 s.variables x ≡ None → place_from 0 s.formals x ≡ None → parameter_from 0 s.parameters x ≡ Some i → origin s x ≡ parameter i
 origin_parameter s x i e f g = rw e (rw f (rw g refl))
 
 -- a name that has no place is an enumeration's
-pub known_constant : (s : Scope) (x : Name) → place_from 0 s.variables x ≡ None → place_from 0 s.formals x ≡ None → place_from 0 s.parameters x ≡ None → IsOrigin (origin s x) → IsSome (constant s.types x)
+pub known_constant : (s : Scope) (x : Name) → place_from 0 s.variables x ≡ None → place_from 0 s.formals x ≡ None → parameter_from 0 s.parameters x ≡ None → IsOrigin (origin s x) → IsSome (constant s.types x)
 known_constant s x e f g h =
     let last : Origin = option_map_or fixed (constant s.types x) unknown in
     let is : origin s x ≡ last = rw e (rw f (rw g refl)) in
@@ -88,7 +88,7 @@ known_constant s x e f g h =
     go (Some v) k = refl
     go None k = absurd k
 
-pub origin_fixed : (s : Scope) (x : Name) (v : Val) → place_from 0 s.variables x ≡ None → place_from 0 s.formals x ≡ None → place_from 0 s.parameters x ≡ None → constant s.types x ≡ Some v → origin s x ≡ fixed v
+pub origin_fixed : (s : Scope) (x : Name) (v : Val) → place_from 0 s.variables x ≡ None → place_from 0 s.formals x ≡ None → parameter_from 0 s.parameters x ≡ None → constant s.types x ≡ Some v → origin s x ≡ fixed v
 origin_fixed s x v e f g h = rw e (rw f (rw g (rw h refl)))
 
 -- an instruction that brings the name's value

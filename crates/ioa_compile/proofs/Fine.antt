@@ -1,5 +1,5 @@
 -- What a well-formed automaton's entry keeps.
-use Rattle.std.proofs.Common.{inl, inr, ◌≡◌, ℕ, ◌+◌, ◌<◌, ◌≤◌, Bool, true, false, cond, not, ◌&&◌, ◌||◌, ◌==◌, nat_le, if◌then◌else◌, IsTrue, List, length, Option, Some, None, IsSome, pos, refl, sym, ap, ◌∙◌, subst, arith}
+use Rattle.std.proofs.Common.{All, inl, inr, ◌≡◌, ℕ, ◌+◌, ◌<◌, ◌≤◌, Bool, true, false, cond, not, ◌&&◌, ◌||◌, ◌==◌, nat_le, if◌then◌else◌, IsTrue, List, length, Option, Some, None, IsSome, pos, refl, sym, ap, ◌∙◌, subst, arith}
 use Rattle.std.specs.Prelude.{slice_get, IfSome}
 use Rattle.std.specs.List.{list_all, list_any, filter}
 use Rattle.std.specs.Option.{option_map_or}
@@ -10,7 +10,8 @@ use Rattle.std.proofs.lemmas.List.{length-map}
 use Rattle.ioa_value.specs.Actions.{Name}
 use Rattle.ioa_value.specs.Arithmetic.{fits}
 use Rattle.ioa_value.specs.Operators.{op_type}
-use Rattle.ioa_value.specs.Table.{Table, place_from, type_named}
+use Rattle.ioa_value.specs.Positions.{Domain, IsDomain}
+use Rattle.ioa_value.specs.Table.{Table, AreTypes, place_from, type_named}
 use Rattle.ioa_value.specs.Typing.{HaveTypes, own}
 use Rattle.ioa_value.proofs.ItemLemmas.{all_at, some_at}
 use Rattle.ioa_value.proofs.TypingLemmas.{HaveTypes-length, HaveTypes-owns}
@@ -19,18 +20,23 @@ use Rattle.ioa_syntax.specs.declared.tree.Kind.TheVariants.{Input, Output, Inter
 use Rattle.ioa_syntax.specs.Tree.{Expr, number, truth, named, parens, prefix, binary, empty, make, select, Exprs, no_expr, also, Stmt, assign, choose, Stmts, stop, seq, Arms, no_arm, arm, AutomatonTree, EntryTree, TransitionTree}
 use Rattle.ioa_syntax.specs.Meaning.{or_else}
 use Rattle.ioa_syntax.specs.Types.{constant_type}
-use Rattle.ioa_syntax.specs.Instances.{variable_names, position_name, transition_for}
+use Rattle.ioa_syntax.specs.Instances.{variable_names, transition_for}
+use Rattle.ioa_syntax.specs.Domains.{AreDomainsOf}
 use Rattle.ioa_syntax.specs.Compositions.{Member}
-use Rattle.ioa_syntax.specs.WellFormed.{Context, type_in, type_of, types_of_all, infix_type, is_some_of, has_ty, nodes, stmts_nodes, is_type, context_of, position_fields, variable_fields, same_kind, is_input, scope, entry_fine, matches, pre_fine, stmt_fine, stmts_fine, arms_fine, effect_fine, input_fine, proposals_fine, all_proposed, transition_fine, pre_within, proposals_within, effect_within, transition_within, entry_within}
+use Rattle.ioa_syntax.specs.WellFormed.{Context, type_in, type_of, types_of_all, infix_type, is_some_of, has_ty, nodes, stmts_nodes, is_type, context_of, variable_fields, same_kind, is_input, scope, entry_fine, matches, pre_fine, stmt_fine, stmts_fine, arms_fine, effect_fine, input_fine, proposals_fine, all_proposed, transition_fine, pre_within, proposals_within, effect_within, transition_within, entry_within}
 use Rattle.ioa_syntax.proofs.FineParts.{FineParts, fine_parts, EntryParts, entry_parts, within_parts}
+use Rattle.ioa_syntax.proofs.Domains.{domains_are}
 use Rattle.ioa_syntax.proofs.ValTyped.{type_of_one, types_of_both, types_of_row}
 use Rattle.ioa_compose.specs.Fine.{IsFine, component_limits}
 use Rattle.ioa_compile.specs.Scopes.{scope_of, Origin, slot, formal, parameter, fixed, unknown, origin, IsOrigin, IsKnown, AreAllKnown, IsKnownStmt, AreKnown, AreKnownArms, IsKnownGuard, IsScope, place_of}
 use Rattle.ioa_compile.specs.Emitting.{guard_nodes}
 use Rattle.ioa_compile.specs.Matching.{AreTypesOf}
+use Rattle.ioa_compile.specs.Tables.{position_types}
 use Rattle.ioa_compile.specs.Translated.{IsEntryOf}
-use Rattle.ioa_compile.proofs.Looks.{look, at, stands, stands_at, looks, Looked, same_name, name_same}
-use Rattle.ioa_compile.proofs.Fits.{fit_types, types_long, scope_look, fields_look, variables_names, position_names}
+use Rattle.ioa_compile.proofs.Looks.{look, looks, Looked, same_name, name_same}
+use Rattle.ioa_compile.proofs.Parameters.{types_of_domains}
+use Rattle.ioa_compile.proofs.Standing.{at, stands, stands_at}
+use Rattle.ioa_compile.proofs.Fits.{fit_types, types_long, scope_look, fields_look, variables_names}
 use Rattle.ioa_compile.proofs.Fixed.{own_constant, empty_known}
 use Rattle.ioa_compile.proofs.Tuples.{of_make, of_select, place_is}
 use Rattle.ioa_compile.proofs.Finds.{IsFirst, finds, same_item}
@@ -188,7 +194,9 @@ pub record Setting (m : Member) (e : EntryTree) (vs ps : List ℕ) : Type 0 wher
   pub few_variables : length m.instance.automaton.variables ≤ component_limits.variables
   pub few_positions : length e.positions ≤ component_limits.parameters
   pub variables : AreTypesOf m.instance.types (variable_fields m.instance.automaton) vs
-  pub parameters : AreTypesOf m.instance.types (position_fields e.positions) ps
+  pub domains : List Domain
+  pub parameters : AreDomainsOf m.instance e.positions domains
+  pub types_are : ps ≡ position_types domains
   pub types : List ℕ
   pub formals : AreTypesOf m.instance.types m.instance.automaton.formals types
   pub given : HaveTypes m.instance.types m.instance.arguments types
@@ -232,8 +240,12 @@ module _ (m : Member) (e : EntryTree) (h : IsFine component_limits m) (own : IsE
   pub is_some_of_found : IsSome (transition_for m.instance.automaton e)
   is_some_of_found = rw found_of.found refl
 
-  pub setting : (vs ps : List ℕ) → AreTypesOf m.instance.types (variable_fields m.instance.automaton) vs → AreTypesOf m.instance.types (position_fields e.positions) ps → Setting m e vs ps
-  setting vs ps hv hp =
+  -- the values of its positions are of their types
+  pub domains_of : (ds : List Domain) → AreTypes m.instance.types → AreDomainsOf m.instance e.positions ds → All (IsDomain m.instance.types) ds
+  domains_of ds declared hp = domains_are m.instance declared h.arguments e.positions ds entry_of.positions hp
+
+  pub setting : (vs ps : List ℕ) (ds : List Domain) → AreTypesOf m.instance.types (variable_fields m.instance.automaton) vs → AreDomainsOf m.instance e.positions ds → ps ≡ position_types ds → Setting m e vs ps
+  setting vs ps ds hv hp types-are =
       let a = m.instance.automaton in
       let f = fit_types m.instance.types a.formals m.instance.arguments h.arguments in
       record {
@@ -243,7 +255,9 @@ module _ (m : Member) (e : EntryTree) (h : IsFine component_limits m) (own : IsE
         few_variables = (within_parts component_limits a h.within).variables;
         few_positions = few_positions_of;
         variables = hv;
+        domains = ds;
         parameters = hp;
+        types_are = types-are;
         types = f.0;
         formals = f.1;
         given = f.2;
@@ -254,7 +268,7 @@ module _ (m : Member) (e : EntryTree) (vs ps : List ℕ) (h : Setting m e vs ps)
   pub is_scope : IsScope m.instance.types (scope_of m e)
   is_scope = record {
     variables = omega (arith, length-map m.instance.automaton.variables (λ v. v.field.name), h.few_variables);
-    parameters = omega (arith, length-map e.positions position_name, h.few_positions);
+    parameters = h.few_positions;
     given = types_long m.instance.types m.instance.automaton.formals h.types h.formals ∙ sym (HaveTypes-length m.instance.types m.instance.arguments h.types h.given);
     typed = (HaveTypes-owns m.instance.types m.instance.arguments h.types h.given).1;
   }
@@ -262,15 +276,19 @@ module _ (m : Member) (e : EntryTree) (vs ps : List ℕ) (h : Setting m e vs ps)
   pub variables_long : length (variable_names m.instance.automaton) ≡ length vs
   variables_long = ap length (sym (variables_names m.instance.automaton)) ∙ types_long m.instance.types (variable_fields m.instance.automaton) vs h.variables
 
+  pub parameters_long : length e.positions ≡ length ps
+  parameters_long = types_of_domains m.instance e.positions h.domains h.parameters ∙ ap length (sym h.types_are)
+
   -- the types of names, but for those of enumerations
   pub type_look : (x : Name) → type_in (scope m.instance.types m.instance.types h.globals m.instance.automaton e) x ≡ stands (scope_of m e) vs h.types ps x
-  type_look x = scope_look h.globals m e vs h.types ps x h.variables h.formals h.parameters
+  type_look x =
+      scope_look h.globals m e vs h.types h.domains x h.variables h.formals h.parameters ∙ ap (λ l. stands (scope_of m e) vs h.types l x) (sym h.types_are)
 
   pub type_at : (x : Name) → or_else (type_in (scope m.instance.types m.instance.types h.globals m.instance.automaton e) x) (constant_type m.instance.types x) ≡ at own (origin (scope_of m e) x) vs h.types ps
   type_at x =
       ap (λ o. or_else o (constant_type m.instance.types x)) (type_look x)
       ∙ ap (or_else (stands (scope_of m e) vs h.types ps x)) (own_constant m.instance.types x)
-      ∙ stands_at own (scope_of m e) vs h.types ps x variables_long (types_long m.instance.types m.instance.automaton.formals h.types h.formals) (ap length (sym (position_names e.positions)) ∙ types_long m.instance.types (position_fields e.positions) ps h.parameters)
+      ∙ stands_at own (scope_of m e) vs h.types ps x variables_long (types_long m.instance.types m.instance.automaton.formals h.types h.formals) parameters_long
 
   -- a variable's place, and its type there
   pub variable_at : (x : Name) (ty : ℕ) → type_in (context_of m.instance.types (variable_fields m.instance.automaton)) x ≡ Some ty → (i : ℕ) × (place_from 0 (variable_names m.instance.automaton) x ≡ Some i) × (slice_get vs i ≡ Some ty)

@@ -1,23 +1,25 @@
 -- Values and fields: their types by number.
-use Rattle.std.proofs.Common.{◌≡◌, ◌<◌, ℕ, Bool, true, false, cond, List, [], ◌∷◌, ◌++◌, length, map, Option, Some, refl, sym, ap, ◌∙◌, subst, arith}
+use Rattle.std.proofs.Common.{◌≡◌, ℕ, Bool, true, false, cond, List, [], ◌∷◌, ◌++◌, length, Option, Some, refl, sym, ap, ◌∙◌, subst, arith}
 use Rattle.std.specs.Option.{option_map_or}
 use Rattle.std.specs.Str.{bytes_eq}
 use Rattle.ioa_value.specs.Actions.{Name}
 use Rattle.ioa_value.specs.Plain.{Val}
+use Rattle.ioa_value.specs.Positions.{Domain}
 use Rattle.ioa_value.specs.Table.{Table, type_named}
 use Rattle.ioa_value.specs.Typing.{HasType, HaveTypes}
-use Rattle.ioa_value.proofs.PlaceLemmas.{type_below}
-use Rattle.std.proofs.lemmas.List.Elements.{All-nil, All-cons}
 use Rattle.std.proofs.lemmas.Simd.{map-map}
-use Rattle.ioa_compile.specs.Tables.{AreDeclared}
-use Rattle.ioa_syntax.specs.Tree.{FieldTree, PositionTree, typed, AutomatonTree, EntryTree}
+use Rattle.ioa_compile.specs.Tables.{position_types}
+use Rattle.ioa_syntax.specs.Tree.{FieldTree, AutomatonTree, EntryTree}
+use Rattle.ioa_syntax.specs.Domains.{AreDomainsOf}
 use Rattle.ioa_syntax.specs.Meaning.{or_else}
-use Rattle.ioa_syntax.specs.Instances.{Fit, field_names, variable_names, position_name}
+use Rattle.ioa_syntax.specs.Instances.{Fit, field_names, variable_names}
 use Rattle.ioa_syntax.specs.Compositions.{Member}
 use Rattle.ioa_syntax.specs.WellFormed.{Context, type_in, context_of, position_fields, variable_fields, scope}
 use Rattle.ioa_compile.specs.Scopes.{scope_of}
 use Rattle.ioa_compile.specs.Matching.{AreTypesOf}
-use Rattle.ioa_compile.proofs.Looks.{look, stands, or_else-assoc}
+use Rattle.ioa_compile.proofs.Looks.{look, or_else-assoc}
+use Rattle.ioa_compile.proofs.Parameters.{fields_passed}
+use Rattle.ioa_compile.proofs.Standing.{stands}
 
 module _ (types : Table) where
   -- the types that values which fit have
@@ -54,13 +56,6 @@ module _ (types : Table) where
   types_long (f ∷ fs) [] h = absurd h
   types_long (f ∷ fs) (t ∷ ts) h = let e = types_long fs ts h.1 in omega arith
 
-  -- types of fields are declared
-  pub types_declared : (fs : List FieldTree) (tys : List ℕ) → AreTypesOf types fs tys → AreDeclared types tys
-  types_declared [] [] h = All-nil (λ ty. ty < length types)
-  types_declared [] (t ∷ ts) h = absurd h
-  types_declared (f ∷ fs) [] h = absurd h
-  types_declared (f ∷ fs) (t ∷ ts) h = All-cons (λ ty. ty < length types) t ts (type_below types f.ty t h.0) (types_declared fs ts h.1)
-
 pub type_in-append : (c d : Context) (x : Name) → type_in (c ++ d) x ≡ or_else (type_in c x) (type_in d x)
 type_in-append [] d x = refl
 type_in-append (p ∷ ps) d x = go (bytes_eq p.0 x) (type_in-append ps d x)
@@ -79,26 +74,21 @@ fields_look types (f ∷ fs) (t ∷ ts) x h =
     let one : Option ℕ → Context = λ o. option_map_or (λ n. (f.name, n) ∷ []) o [] in
     ap (λ o. type_in (one o ++ rest) x) h.0 ∙ ap (cond (bytes_eq f.name x) (Some t)) (fields_look types fs ts x h.1)
 
-pub position_names : (ps : List PositionTree) → field_names (position_fields ps) ≡ map position_name ps
-position_names [] = refl
-position_names (typed f ∷ ps) = ap (λ l. f.name ∷ l) (position_names ps)
-
 pub variables_names : (a : AutomatonTree) → field_names (variable_fields a) ≡ variable_names a
 variables_names a = map-map (λ f. f.name) (λ v. v.field) a.variables
 
 -- the types of the names that code may use
-pub scope_look : (globals : List Name) (m : Member) (e : EntryTree) (vs fs ps : List ℕ) (x : Name) → AreTypesOf m.instance.types (variable_fields m.instance.automaton) vs → AreTypesOf m.instance.types m.instance.automaton.formals fs → AreTypesOf m.instance.types (position_fields e.positions) ps → type_in (scope m.instance.types m.instance.types globals m.instance.automaton e) x ≡ stands (scope_of m e) vs fs ps x
-scope_look globals m e vs fs ps x hv hf hp =
+pub scope_look : (globals : List Name) (m : Member) (e : EntryTree) (vs fs : List ℕ) (ds : List Domain) (x : Name) → AreTypesOf m.instance.types (variable_fields m.instance.automaton) vs → AreTypesOf m.instance.types m.instance.automaton.formals fs → AreDomainsOf m.instance e.positions ds → type_in (scope m.instance.types m.instance.types globals m.instance.automaton e) x ≡ stands (scope_of m e) vs fs (position_types ds) x
+scope_look globals m e vs fs ds x hv hf hp =
     let a = m.instance.automaton in
     let v = context_of m.instance.types (variable_fields a) in
     let f = context_of m.instance.types a.formals in
     let p = context_of m.instance.types (position_fields e.positions) in
     let v-is : type_in v x ≡ look (variable_names a) vs x = fields_look m.instance.types (variable_fields a) vs x hv ∙ ap (λ ns. look ns vs x) (variables_names a) in
     let f-is : type_in f x ≡ look (field_names a.formals) fs x = fields_look m.instance.types a.formals fs x hf in
-    let p-is : type_in p x ≡ look (map position_name e.positions) ps x = fields_look m.instance.types (position_fields e.positions) ps x hp ∙ ap (λ ns. look ns ps x) (position_names e.positions) in
     type_in-append (v ++ f) p x
     ∙ ap (λ o. or_else o (type_in p x)) (type_in-append v f x)
     ∙ or_else-assoc (type_in v x) (type_in f x) (type_in p x)
     ∙ ap (λ o. or_else o (or_else (type_in f x) (type_in p x))) v-is
     ∙ ap (λ o. or_else (look (variable_names a) vs x) (or_else o (type_in p x))) f-is
-    ∙ ap (λ o. or_else (look (variable_names a) vs x) (or_else (look (field_names a.formals) fs x) o)) p-is
+    ∙ ap (λ o. or_else (look (variable_names a) vs x) (or_else (look (field_names a.formals) fs x) o)) (fields_passed m.instance e.positions ds x hp)

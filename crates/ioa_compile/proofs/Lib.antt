@@ -4,6 +4,8 @@ pub mod Lengths
 pub mod Emitted
 pub mod Paired
 pub mod Looks
+pub mod Parameters
+pub mod Standing
 pub mod Fixed
 pub mod Fits
 pub mod Finds

@@ -1,19 +1,16 @@
 -- What a name stands for, by its place among the names of a scope.
 use Rattle.std.proofs.Common.{◌≡◌, ℕ, zero, suc, ◌+◌, ◌⊎◌, inl, inr, Bool, true, false, cond, not, ◌||◌, IsTrue, List, [], ◌∷◌, ◌++◌, length, Option, Some, None, refl, sym, ap, ◌∙◌, subst, arith}
 use Rattle.std.specs.Prelude.{slice_get, slice_set}
-use Rattle.std.specs.Option.{option_map, option_map_or}
 use Rattle.std.specs.Str.{bytes_eq}
 use Rattle.std.proofs.lemmas.List.Folds.{list_any-append}
 use Rattle.std.proofs.lemmas.Slice.Eq.{bytes_eq-Decides}
 use Rattle.ioa_value.specs.Actions.{Name}
 use Rattle.ioa_value.specs.Plain.{Val}
-use Rattle.ioa_value.specs.Typing.{HaveTypes}
+use Rattle.ioa_value.specs.Typing.{HasType, HaveTypes}
 use Rattle.ioa_syntax.specs.Answers.{Stands}
 use Rattle.ioa_syntax.specs.Meaning.{values_of, or_else}
-use Rattle.ioa_syntax.specs.Types.{constant}
 use Rattle.ioa_value.specs.Table.{Table, place_from}
 use Rattle.ioa_syntax.specs.WellFormed.{contains, distinct, apart}
-use Rattle.ioa_compile.specs.Scopes.{Scope, Origin, slot, formal, parameter, fixed, unknown, origin}
 use Rattle.ioa_value.proofs.PlaceLemmas.{place_from_below}
 use Rattle.std.proofs.lemmas.Bool.{and_parts}
 
@@ -60,51 +57,16 @@ pub record IsNowhere {V : Type 0} (place : Option ℕ) (o : Option V) : Type 0 w
 abbrev pub Looked : {V : Type 0} → ℕ → Option ℕ → List V → Option V → Type 0
 Looked i place vs o = IsAt i place vs o ⊎ IsNowhere place o
 
+-- one item more in front, under this name or under none
+pub looked_first : {V : Type 0} (i : ℕ) (b : Bool) (place : Option ℕ) (v : V) (vs : List V) (o : Option V) → Looked (i + 1) place vs o → Looked i (cond b (Some i) place) (v ∷ vs) (cond b (Some v) o)
+looked_first i true place v vs o r = let k : i ≡ i + 0 = omega arith in inl (record { at = 0; value = v; place_is = ap Some k; item_is = refl; look_is = refl })
+looked_first i false place v vs o (inl r) = let k : i + 1 + r.at ≡ i + suc r.at = omega arith in inl (record { at = suc r.at; value = r.value; place_is = r.place_is ∙ ap Some k; item_is = r.item_is; look_is = r.look_is })
+looked_first i false place v vs o (inr r) = inr (record { no_place = r.no_place; no_look = r.no_look })
+
 pub looks : {V : Type 0} (i : ℕ) (ns : List Name) (vs : List V) (x : Name) → length ns ≡ length vs → Looked i (place_from i ns x) vs (look ns vs x)
 looks i [] vs x e = inr (record { no_place = refl; no_look = refl })
 looks i (n ∷ ns) [] x e = absurd (omega (arith, e))
-looks {V} i (n ∷ ns) (v ∷ vs) x e = go (bytes_eq n x) (looks (i + 1) ns vs x (omega arith))
-  where
-    go : (b : Bool) → Looked (i + 1) (place_from (i + 1) ns x) vs (look ns vs x) → Looked i (cond b (Some i) (place_from (i + 1) ns x)) (v ∷ vs) (cond b (Some v) (look ns vs x))
-    go true r = let k : i ≡ i + 0 = omega arith in inl (record { at = 0; value = v; place_is = ap Some k; item_is = refl; look_is = refl })
-    go false (inl r) = let k : i + 1 + r.at ≡ i + suc r.at = omega arith in inl (record { at = suc r.at; value = r.value; place_is = r.place_is ∙ ap Some k; item_is = r.item_is; look_is = r.look_is })
-    go false (inr r) = inr (record { no_place = r.no_place; no_look = r.no_look })
-
--- what an origin has, of what stands for variables, formals and parameters, and of what is made of a fixed value
-abbrev pub at : {V : Type 0} → (Val → V) → Origin → List V → List V → List V → Option V
-at of (slot i) vs fs ps = slice_get vs i
-at of (formal i) vs fs ps = slice_get fs i
-at of (parameter i) vs fs ps = slice_get ps i
-at of (fixed v) vs fs ps = Some (of v)
-at of unknown vs fs ps = None
-
--- what a name of the scope stands for, but for those of enumerations
-abbrev pub stands : {V : Type 0} → Scope → List V → List V → List V → Name → Option V
-stands s vs fs ps x = or_else (look s.variables vs x) (or_else (look s.formals fs x) (look s.parameters ps x))
-
-step : {V : Type 0} (make : ℕ → Origin) (get : Origin → Option V) (vs : List V) (place : Option ℕ) (o rest : Option V) (other : Origin) → ((k : ℕ) → get (make k) ≡ slice_get vs k) → rest ≡ get other → Looked 0 place vs o → or_else o rest ≡ get (option_map_or make place other)
-step make get vs place o rest other k e (inl r) =
-    let n : 0 + r.at ≡ r.at = omega arith in
-    ap (λ l. or_else l rest) r.look_is
-    ∙ sym (ap (λ p. get (option_map_or make p other)) (r.place_is ∙ ap Some n) ∙ k r.at ∙ r.item_is)
-step make get vs place o rest other k e (inr r) =
-    ap (λ l. or_else l rest) r.no_look ∙ e ∙ sym (ap (λ p. get (option_map_or make p other)) r.no_place)
-
-pub stands_at : {V : Type 0} (of : Val → V) (s : Scope) (vs fs ps : List V) (x : Name) → length s.variables ≡ length vs → length s.formals ≡ length fs → length s.parameters ≡ length ps
-    → or_else (stands s vs fs ps x) (option_map of (constant s.types x)) ≡ at of (origin s x) vs fs ps
-stands_at {V} of s vs fs ps x lv lf lp =
-    let get : Origin → Option V = λ o. at of o vs fs ps in
-    let last = option_map of (constant s.types x) in
-    let other : Origin = option_map_or fixed (constant s.types x) unknown in
-    let three = step parameter get ps (place_from 0 s.parameters x) (look s.parameters ps x) last other (λ k. refl) (kept (constant s.types x)) (looks 0 s.parameters ps x lp) in
-    let two = step formal get fs (place_from 0 s.formals x) (look s.formals fs x) (or_else (look s.parameters ps x) last) _ (λ k. refl) three (looks 0 s.formals fs x lf) in
-    or_else-assoc (look s.variables vs x) (or_else (look s.formals fs x) (look s.parameters ps x)) last
-    ∙ ap (or_else (look s.variables vs x)) (or_else-assoc (look s.formals fs x) (look s.parameters ps x) last)
-    ∙ step slot get vs (place_from 0 s.variables x) (look s.variables vs x) _ _ (λ k. refl) two (looks 0 s.variables vs x lv)
-  where
-    kept : (o : Option Val) → option_map of o ≡ at of (option_map_or fixed o unknown) vs fs ps
-    kept (Some v) = refl
-    kept None = refl
+looks i (n ∷ ns) (v ∷ vs) x e = looked_first i (bytes_eq n x) _ v vs _ (looks (i + 1) ns vs x (omega arith))
 
 -- what stands in the place of a name
 pub look_at : {V : Type 0} (ns : List Name) (vs : List V) (x : Name) (i : ℕ) (v : V) → length ns ≡ length vs → place_from 0 ns x ≡ Some i → slice_get vs i ≡ Some v → look ns vs x ≡ Some v
@@ -123,26 +85,17 @@ abbrev pub Paired : Table → Option ℕ → Option Val → Type 0
 Paired types (Some ty) o = Stands types ty o
 Paired types None o = o ≡ None
 
-or_else-paired : (types : Table) (a b : Option ℕ) (p q : Option Val) → Paired types a p → Paired types b q → Paired types (or_else a b) (or_else p q)
-or_else-paired types (Some ty) b (Some v) q h k = h
-or_else-paired types (Some ty) b None q h k = absurd h
-or_else-paired types None b p q h k = subst (λ o. Paired types b (or_else o q)) (sym h) k
+-- one value more in front, under this name or under none
+pub paired_first : (types : Table) (b : Bool) (ty : ℕ) (v : Val) (a : Option ℕ) (o : Option Val) → HasType types v ty → Paired types a o → Paired types (cond b (Some ty) a) (cond b (Some v) o)
+paired_first types true ty v a o h r = h
+paired_first types false ty v a o h r = r
 
-look-paired : (types : Table) (ns : List Name) (vs : List Val) (tys : List ℕ) (x : Name) → HaveTypes types vs tys → Paired types (look ns tys x) (look ns vs x)
+pub look-paired : (types : Table) (ns : List Name) (vs : List Val) (tys : List ℕ) (x : Name) → HaveTypes types vs tys → Paired types (look ns tys x) (look ns vs x)
 look-paired types [] vs tys x h = refl
 look-paired types (n ∷ ns) [] [] x h = refl
 look-paired types (n ∷ ns) [] (t ∷ ts) x h = absurd h
 look-paired types (n ∷ ns) (v ∷ vs) [] x h = absurd h
-look-paired types (n ∷ ns) (v ∷ vs) (t ∷ ts) x h = go (bytes_eq n x) (look-paired types ns vs ts x h.1)
-  where
-    go : (b : Bool) → Paired types (look ns ts x) (look ns vs x) → Paired types (cond b (Some t) (look ns ts x)) (cond b (Some v) (look ns vs x))
-    go true r = h.0
-    go false r = r
-
-pub stands-paired : (types : Table) (s : Scope) (vs fs ps : List Val) (vts fts pts : List ℕ) (x : Name) → HaveTypes types vs vts → HaveTypes types fs fts → HaveTypes types ps pts → Paired types (stands s vts fts pts x) (stands s vs fs ps x)
-stands-paired types s vs fs ps vts fts pts x hv hf hp =
-    or_else-paired types _ _ _ _ (look-paired types s.variables vs vts x hv)
-    (or_else-paired types _ _ _ _ (look-paired types s.formals fs fts x hf) (look-paired types s.parameters ps pts x hp))
+look-paired types (n ∷ ns) (v ∷ vs) (t ∷ ts) x h = paired_first types (bytes_eq n x) t v _ _ h.0 (look-paired types ns vs ts x h.1)
 
 -- a name that is not among the names
 pub look_outside : {V : Type 0} (ns : List Name) (vs : List V) (x : Name) → contains ns x ≡ false → look ns vs x ≡ None
@@ -175,7 +128,7 @@ pub not_true : (b : Bool) → IsTrue (not b) → b ≡ false
 not_true true h = absurd (cc)
 not_true false h = refl
 
-or_false : (a b : Bool) → (a || b) ≡ false → (a ≡ false) × (b ≡ false)
+pub or_false : (a b : Bool) → (a || b) ≡ false → (a ≡ false) × (b ≡ false)
 or_false true b h = absurd (cc)
 or_false false b h = (refl, h)
 

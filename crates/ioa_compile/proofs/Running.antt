@@ -33,7 +33,9 @@ use Rattle.ioa_compile.specs.Scopes.{Scope, Origin, slot, formal, parameter, fix
 use Rattle.ioa_compile.specs.Placed.{Stretch, At, Pushes, PushesTruth, Brings, Chooses, Combines, HasExpr, HasExprs, HasStmt, HasStmts, HasArms}
 use Rattle.ioa_compile.proofs.Lengths.{expr_long, stmts_long, arms_long}
 use Rattle.ioa_compile.proofs.Fine.{StmtTyped, StmtsTyped, ArmsTyped}
-use Rattle.ioa_compile.proofs.Looks.{look, at, stands, stands_at, look_at, look_set, Paired, stands-paired}
+use Rattle.ioa_compile.proofs.Looks.{look, look_at, look_set, Paired}
+use Rattle.ioa_compile.proofs.Parameters.{passed}
+use Rattle.ioa_compile.proofs.Standing.{at, stands, stands_at, stands-paired}
 use Rattle.ioa_compile.proofs.Tuples.{of_make, of_select, place_is, made_is, selected_is}
 
 module _ (code : Listing) (s : Scope) (args : List Val) where
@@ -333,11 +335,11 @@ module _ (code : Listing) (s : Scope) (args : List Val) where
         record {
           agrees = λ y.
               go y (bytes_eq x y)
-              ∙ sym (ap (λ o. or_else o (or_else (look s.formals s.arguments y) (look s.parameters args y))) (look_set 0 s.variables slots x y i w long (place ∙ ap Some n)));
+              ∙ sym (ap (λ o. or_else o (or_else (look s.formals s.arguments y) (passed s.parameters args y))) (look_set 0 s.variables slots x y i w long (place ∙ ap Some n)));
           typed = HaveTypes-set types slots vs i ty w h.typed t k;
         }
       where
-        go : (y : Name) (b : Bool) → cond b (Some w) (env y) ≡ or_else (cond b (Some w) (look s.variables slots y)) (or_else (look s.formals s.arguments y) (look s.parameters args y))
+        go : (y : Name) (b : Bool) → cond b (Some w) (env y) ≡ or_else (cond b (Some w) (look s.variables slots y)) (or_else (look s.formals s.arguments y) (passed s.parameters args y))
         go y true = refl
         go y false = h.agrees y
 
@@ -355,7 +357,7 @@ module _ (code : Listing) (s : Scope) (args : List Val) where
         let i = k.1 in
         let slot_ty = known.found x ty i t.1 k.4 in
         let now = HaveTypes-get types slots vs i ty h.typed slot_ty in
-        let old : env x ≡ Some now.0 = h.agrees x ∙ ap (λ o. or_else o (or_else (look s.formals s.arguments x) (look s.parameters args x))) (look_at s.variables slots x i now.0 (slots_long env slots h) k.4 now.1) in
+        let old : env x ≡ Some now.0 = h.agrees x ∙ ap (λ o. or_else o (or_else (look s.formals s.arguments x) (passed s.parameters args x))) (look_at s.variables slots x i now.0 (slots_long env slots h) k.4 now.1) in
         let typed = val_typed types known.declared c env e ty (suits env slots h) t.2 in
         let run = expr_runs types known.same_types known.own_types known.declared c known.context env (suits env slots h) slots (agree env slots h) e ty p m [] t.2 k.2 in
         subst (λ n. RunsTo (on p [] slots) n (assigned x env (val types e env) (env x))) (sym k.5)

@@ -2,7 +2,7 @@
 use Rattle.std.proofs.Common.{All, ◌≡◌, ℕ, zero, suc, ◌*◌, ◌<◌, ◌≤◌, ◌⊎◌, inl, inr, Bool, true, false, cond, ◌&&◌, List, [], ◌∷◌, length, map, get_or, Option, Some, None, IfSome, refl, sym, ap, ◌∙◌, subst, arith}
 use Rattle.std.specs.Prelude.{slice_get}
 use Rattle.std.specs.List.{AllZip, find, list_any, list_all}
-use Rattle.std.specs.Option.{option_map, option_map_or}
+use Rattle.std.specs.Option.{option_map}
 use Rattle.std.specs.Str.{bytes_eq}
 use Rattle.std.proofs.lemmas.List.{length-map}
 use Rattle.std.proofs.lemmas.List.Elements.{All-get_or}
@@ -11,50 +11,42 @@ use Rattle.ioa_value.specs.Actions.{Name, Act}
 use Rattle.ioa_value.specs.Names.{IsName}
 use Rattle.ioa_value.specs.Plain.{Val}
 use Rattle.ioa_value.specs.Table.{Table, AreTypes}
-use Rattle.ioa_value.specs.Typing.{HaveTypes, is_of}
+use Rattle.ioa_value.specs.Positions.{IsDomain}
+use Rattle.ioa_value.specs.Typing.{HaveTypes}
 use Rattle.ioa_code.specs.declared.instr.PartKind.{PartKind}
 use Rattle.ioa_code.specs.declared.instr.PartKind.TheVariants.{Pre, Eff}
 use Rattle.ioa_code.specs.Machine.{Listing}
 use Rattle.ioa_code.specs.Valid.{Part}
 use Rattle.ioa_syntax.specs.declared.tree.Kind.{Kind}
 use Rattle.ioa_syntax.specs.declared.tree.Kind.TheVariants.{Input, Output, Internal}
-use Rattle.ioa_syntax.specs.Tree.{Expr, PositionTree, typed, EntryTree}
+use Rattle.ioa_syntax.specs.Tree.{Expr, EntryTree}
 use Rattle.ioa_syntax.specs.Instances.{positions_have, entry_has, component_of}
 use Rattle.ioa_syntax.specs.Components.{Component, Compatible, is_output}
-use Rattle.ioa_syntax.specs.Compositions.{Member, Composed}
-use Rattle.ioa_syntax.specs.WellFormed.{distinct, position_fields, variable_fields}
+use Rattle.ioa_syntax.specs.Compositions.{Member, Composed, has_output, instances_of, is_output_of}
+use Rattle.ioa_syntax.specs.WellFormed.{distinct, variable_fields}
 use Rattle.ioa_compose.specs.declared.member.Member as held
 use Rattle.ioa_compose.specs.Held.{member_of}
-use Rattle.ioa_compose.specs.Fine.{IsFine, AllFine, AreOver, IsSound, is_output_of, component_limits}
-use Rattle.ioa_compile.specs.Programs as codes
-use Rattle.ioa_compile.specs.Programs.{PositionCode, EntryCode, MemberCode, Prog}
+use Rattle.ioa_compose.specs.Fine.{IsFine, AllFine, AreOver, IsSound, component_limits}
+use Rattle.ioa_compile.specs.Programs.{EntryCode, MemberCode, Prog}
 use Rattle.ioa_compile.specs.Tables as programs
-use Rattle.ioa_compile.specs.Tables.{positions_hold, is_in, table_component, position_types, HasPre, AreDeclared, IsPartOf, IsEntry, AreEntries, IsMember, AreMembers, IsProgram}
+use Rattle.ioa_compile.specs.Tables.{is_in, table_component, position_types, HasPre, IsPartOf, IsEntry, AreEntries, IsMember, AreMembers, IsProgram}
 use Rattle.ioa_compile.specs.Scopes.{Scope, scope_of}
 use Rattle.ioa_compile.specs.Matching.{AreTypesOf, MatchesEntry}
 use Rattle.ioa_compile.specs.Emitting.{guard_nodes}
 use Rattle.ioa_compile.specs.Translated.{IsGuard, IsGuardFor, IsFor, codes_of, IsTranslated, IsEntryOf, DoesSame}
-use Rattle.ioa_compile.proofs.Fine.{small_of, few_positions_of}
+use Rattle.ioa_compile.proofs.Fine.{small_of, few_positions_of, domains_of}
+use Rattle.ioa_syntax.proofs.Domains.{domains_have}
 use Rattle.ioa_syntax.proofs.FineParts.{fine_parts, within_parts}
-use Rattle.ioa_compile.proofs.Fits.{types_long, types_declared, variables_names}
-use Rattle.ioa_compile.proofs.Paired.{paired_map, paired_any, all_same}
-use Rattle.ioa_compile.proofs.Sizes.{guard_short, stmts_short, positions_long}
-
-positions_same : (types : Table) (ps : List PositionTree) (qs : List PositionCode) (vs : List Val) → AreTypesOf types (position_fields ps) (position_types qs) → positions_have types ps vs ≡ positions_hold types qs vs
-positions_same types [] [] [] h = refl
-positions_same types [] [] (v ∷ vs) h = refl
-positions_same types [] (codes.typed n ∷ qs) vs h = absurd h
-positions_same types (typed f ∷ ps) [] vs h = absurd h
-positions_same types (typed f ∷ ps) (codes.typed n ∷ qs) [] h = refl
-positions_same types (typed f ∷ ps) (codes.typed n ∷ qs) (v ∷ vs) h =
-    ap (λ o. option_map_or (λ k. is_of types v k) o false && positions_have types ps vs) h.0
-    ∙ ap (λ b. is_of types v n && b) (positions_same types ps qs vs h.1)
+use Rattle.ioa_compile.proofs.Fits.{types_long, variables_names}
+use Rattle.ioa_compile.proofs.Paired.{paired_map, paired_any, any_seen, all_same}
+use Rattle.ioa_compile.proofs.Parameters.{domains_long}
+use Rattle.ioa_compile.proofs.Sizes.{guard_short, stmts_short}
 
 module _ (m : Member) (slots : List ℕ) (a : Act) where
-  in_same : (types : Table) → types ≡ m.instance.types → (e : EntryTree) (c : EntryCode) → IsTranslated m slots e c → entry_has m.instance.types a e ≡ is_in types a c
+  in_same : (types : Table) → types ≡ m.instance.types → (e : EntryTree) (c : EntryCode) → IsTranslated m slots e c → entry_has m.instance a e ≡ is_in types a c
   in_same types same e c h =
-      ap (λ n. bytes_eq n a.name && positions_have m.instance.types e.positions a.vals) (sym h.name)
-      ∙ ap (λ b. bytes_eq c.name a.name && b) (positions_same m.instance.types e.positions c.positions a.vals h.positions)
+      ap (λ n. bytes_eq n a.name && positions_have m.instance e.positions a.vals) (sym h.name)
+      ∙ ap (λ b. bytes_eq c.name a.name && b) (domains_have m.instance e.positions c.positions a.vals h.positions)
       ∙ ap (λ l. is_in l a c) (sym same)
 
   -- the entries of the action in tree and table
@@ -66,19 +58,19 @@ module _ (m : Member) (slots : List ℕ) (a : Act) where
     pub same : IsTranslated m slots entry code
     pub place : ℕ
     pub here : slice_get es place ≡ Some entry
-    pub has : entry_has m.instance.types a entry ≡ true
+    pub has : entry_has m.instance a entry ≡ true
 
   pub record Neither (o : Option EntryTree) (p : Option EntryCode) : Type 0 where
     pub no_entry : o ≡ None
     pub no_code : p ≡ None
 
-  pub finds_same : (types : Table) → types ≡ m.instance.types → (es : List EntryTree) (cs : List EntryCode) → AllZip (IsTranslated m slots) es cs → Both es (find (entry_has m.instance.types a) es) (find (is_in types a) cs) ⊎ Neither (find (entry_has m.instance.types a) es) (find (is_in types a) cs)
+  pub finds_same : (types : Table) → types ≡ m.instance.types → (es : List EntryTree) (cs : List EntryCode) → AllZip (IsTranslated m slots) es cs → Both es (find (entry_has m.instance a) es) (find (is_in types a) cs) ⊎ Neither (find (entry_has m.instance a) es) (find (is_in types a) cs)
   finds_same types same [] [] h = inr (record { no_entry = refl; no_code = refl })
   finds_same types same [] (c ∷ cs) h = absurd h
   finds_same types same (e ∷ es) [] h = absurd h
-  finds_same types same (e ∷ es) (c ∷ cs) h = go (entry_has m.instance.types a e) refl (is_in types a c) (in_same types same e c h.0) (finds_same types same es cs h.1)
+  finds_same types same (e ∷ es) (c ∷ cs) h = go (entry_has m.instance a e) refl (is_in types a c) (in_same types same e c h.0) (finds_same types same es cs h.1)
     where
-      go : (b : Bool) → entry_has m.instance.types a e ≡ b → (d : Bool) → entry_has m.instance.types a e ≡ d → Both es (find (entry_has m.instance.types a) es) (find (is_in types a) cs) ⊎ Neither (find (entry_has m.instance.types a) es) (find (is_in types a) cs) → Both (e ∷ es) (cond b (Some e) (find (entry_has m.instance.types a) es)) (cond d (Some c) (find (is_in types a) cs)) ⊎ Neither (cond b (Some e) (find (entry_has m.instance.types a) es)) (cond d (Some c) (find (is_in types a) cs))
+      go : (b : Bool) → entry_has m.instance a e ≡ b → (d : Bool) → entry_has m.instance a e ≡ d → Both es (find (entry_has m.instance a) es) (find (is_in types a) cs) ⊎ Neither (find (entry_has m.instance a) es) (find (is_in types a) cs) → Both (e ∷ es) (cond b (Some e) (find (entry_has m.instance a) es)) (cond d (Some c) (find (is_in types a) cs)) ⊎ Neither (cond b (Some e) (find (entry_has m.instance a) es)) (cond d (Some c) (find (is_in types a) cs))
       go true t true u r = inl (record { entry = e; code = c; entry_is = refl; code_is = refl; same = h.0; place = 0; here = refl; has = t })
       go true t false u r = absurd (cc)
       go false t true u r = absurd (cc)
@@ -129,11 +121,11 @@ module _ (m : Member) (c : MemberCode) (fine : IsFine component_limits m) (same_
       let made = h.transition.2 in
       let code = e.effect.code in
       let positions = few_positions_of m t fine own in
-      let as_many = positions_long m.instance.types t.positions e.positions h.positions in
+      let as_many = domains_long m.instance t.positions e.positions h.positions in
       record {
         legal = subst IsName (sym h.name) (all_item (λ u. IsName u.name) m.instance.automaton.entries own.place t fine.legal_entries own.here);
         few_positions = omega arith;
-        positions = subst (λ l. AreDeclared l (position_types e.positions)) (sym same_types) (types_declared m.instance.types (position_fields t.positions) (position_types e.positions) h.positions);
+        positions = subst (λ l. All (IsDomain l) e.positions) (sym same_types) (domains_of m t fine own e.positions (subst AreTypes h.effect.types_are h.effect.verified.types) h.positions);
         pre = subst (λ k. HasPre c e k e.pre) (sym h.kind) (has_pre e t.kind e.pre (scope_of m t) r.pre few.guard made.pre h.pre);
         effect = part_of e Eff [] e.effect h.effect (omega (arith, few.effect, stmts_short code (scope_of m t) r.effect 0 (length code.instrs) made.effect.has));
         consts = one_table e.pre code made.consts;
@@ -169,6 +161,11 @@ pub fine_at : (xs : List held.Member) (i : ℕ) (x : held.Member) → AllFine co
 fine_at [] i x h lt e = absurd (omega arith)
 fine_at (y ∷ ys) zero x h lt e = subst (λ z. IsFine component_limits (member_of z)) (sym e) h.0
 fine_at (y ∷ ys) (suc i) x h lt e = fine_at ys i x h.1 (omega arith) e
+
+pub declared_at : (types : Table) (xs : List held.Member) (i : ℕ) (x : held.Member) → AreTypes types → AreOver types (map member_of xs) → i < length xs → x ≡ get_or xs i x → AreTypes x.types
+declared_at types [] i x d h lt e = absurd (omega arith)
+declared_at types (y ∷ ys) zero x d h lt e = subst (λ z. AreTypes z.types) (sym e) (subst AreTypes (sym h.0) d)
+declared_at types (y ∷ ys) (suc i) x d h lt e = declared_at types ys i x d h.1 (omega arith) e
 
 zip_back : {X Y : Type 0} (R : X → Y → Type 0) (xs : List X) (ys : List Y) (i : ℕ) (y : Y) → AllZip R xs ys → slice_get ys i ≡ Some y → (x : X) × (slice_get xs i ≡ Some x) × R x y
 zip_back R [] [] i y h e = absurd (cc)
@@ -209,10 +206,10 @@ is_program c p h name typed_so hides all =
     paired_map DoesSame (λ m. m.name) (λ m. m.name) (λ m n k. k.matches.name) c.members p.members all in
     let labels : (x : Name) (e : EntryTree) (d : EntryCode) (m : Member) → MatchesEntry m e d → (is_output (Some d.kind) && bytes_eq d.name x) ≡ (is_output (Some e.kind) && bytes_eq e.name x) =
     λ x e d m k. ap (λ l. is_output (Some l) && bytes_eq d.name x) k.kind ∙ ap (λ n. is_output (Some e.kind) && bytes_eq n x) k.name in
-    let outputs : (x : Name) → programs.is_output_of p x ≡ is_output_of c x =
-    λ x. paired_any DoesSame (λ m. list_any (λ e. is_output (Some e.kind) && bytes_eq e.name x) m.instance.automaton.entries) (λ m. list_any (λ e. is_output (Some e.kind) && bytes_eq e.name x) m.entries)
+    let outputs : (x : Name) → programs.is_output_of p x ≡ is_output_of (instances_of c) x =
+    λ x. paired_any DoesSame (λ m. has_output x m.instance.automaton) (λ m. list_any (λ e. is_output (Some e.kind) && bytes_eq e.name x) m.entries)
     (λ m n k. paired_any (MatchesEntry m) (λ e. is_output (Some e.kind) && bytes_eq e.name x) (λ e. is_output (Some e.kind) && bytes_eq e.name x) (λ e d j. labels x e d m j) m.instance.automaton.entries n.entries k.matches.entries)
-    c.members p.members all in
+    c.members p.members all ∙ sym (any_seen (λ m. m.instance) (λ i. has_output x i.automaton) c.members) in
     record {
       types = subst AreTypes (sym typed_so) h.types;
       legal = subst IsName (sym name) h.legal;
@@ -222,5 +219,5 @@ is_program c p h name typed_so hides all =
       compatible = compatible_same c.members p.members all h.compatible;
       few_hidden = subst (λ ns. length ns ≤ component_limits.hidden) (sym hides) h.few_hidden;
       hidden = ap distinct hides ∙ h.hidden;
-      outputs = all_same (programs.is_output_of p) (is_output_of c) outputs p.hidden ∙ ap (list_all (is_output_of c)) hides ∙ h.outputs;
+      outputs = all_same (programs.is_output_of p) (is_output_of (instances_of c)) outputs p.hidden ∙ ap (list_all (is_output_of (instances_of c))) hides ∙ h.outputs;
     }

@@ -32,7 +32,7 @@ use Rattle.ioa_syntax.proofs.ValTyped.{type_of_one, types_of_both, types_of_row,
 use Rattle.ioa_compile.specs.Scopes.{Scope, scope_of, Origin, slot, formal, parameter, fixed, unknown, origin}
 use Rattle.ioa_compile.specs.Placed.{Stretch, At, Pushes, PushesTruth, Brings, Applies, Chooses, Combines, HasExpr, HasExprs, HasGuard, HasStmt, HasStmts, HasArms}
 use Rattle.ioa_compile.specs.Translated.{IsGuard, IsEffect}
-use Rattle.ioa_compile.proofs.Looks.{at}
+use Rattle.ioa_compile.proofs.Standing.{at}
 use Rattle.ioa_compile.proofs.Fine.{Setting, type_at, variable_at, GuardTyped, StmtTyped, StmtsTyped, ArmsTyped}
 use Rattle.ioa_compile.proofs.Tuples.{of_make, of_select, place_is}
 use Rattle.ioa_compile.proofs.Fixed.{own_empty}

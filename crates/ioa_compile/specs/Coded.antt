@@ -1,32 +1,24 @@
 -- Programs as plain data in a row, so that models can hold programs.
-use Rattle.std.specs.Prelude.{◌≡◌, ℕ, List, Option, refl}
+use Rattle.std.specs.Prelude.{List, Option, refl}
 use Rattle.std.specs.Coded.{Coded, code_by, coded×, coded_ℕ, coded_list, coded_option}
 use Rattle.ioa_value.specs.Actions.{Name}
 use Rattle.ioa_value.specs.Table.{Table}
-use Rattle.ioa_value.specs.Coded.{coded_table}
+use Rattle.ioa_value.specs.Coded.{coded_domain, coded_table}
+use Rattle.ioa_value.specs.Positions.{Domain}
 use Rattle.ioa_code.specs.Coded.{coded_part}
 use Rattle.ioa_code.specs.Valid.{Part}
 use Rattle.ioa_node.specs.Coded.{coded_node}
 use Rattle.ioa_node.specs.Nodes.{Node}
 use Rattle.ioa_syntax.specs.declared.tree.Kind.{Kind}
 use Rattle.ioa_syntax.specs.contracts.tree.Kind as kinds
-use Rattle.ioa_compile.specs.Programs.{PositionCode, typed, EntryCode, MemberCode, Prog}
-
-abbrev pub type_of : PositionCode → ℕ
-type_of (typed ty) = ty
-
-pub typed-type_of : (p : PositionCode) → typed (type_of p) ≡ p
-typed-type_of (typed ty) = refl
+use Rattle.ioa_compile.specs.Programs.{EntryCode, MemberCode, Prog}
 
 abbrev pub coded_name : Coded Name
 coded_name = coded_list coded_ℕ
 
-abbrev pub coded_position : Coded PositionCode
-coded_position = code_by ℕ coded_ℕ type_of typed typed-type_of
-
 abbrev pub coded_entry : Coded EntryCode
 coded_entry =
-    code_by (Kind × (Name × (List PositionCode × (Option Part × Part)))) (coded× kinds.the_row.coded (coded× coded_name (coded× (coded_list coded_position) (coded× (coded_option coded_part) coded_part))))
+    code_by (Kind × (Name × (List Domain × (Option Part × Part)))) (coded× kinds.the_row.coded (coded× coded_name (coded× (coded_list coded_domain) (coded× (coded_option coded_part) coded_part))))
     (λ e. (e.kind, (e.name, (e.positions, (e.pre, e.effect)))))
     (λ p. record { kind = p.0; name = p.1.0; positions = p.1.1.0; pre = p.1.1.1.0; effect = p.1.1.1.1 }) (λ _. refl)
 

@@ -7,7 +7,8 @@ use Rattle.ioa_value.specs.Typing.{HaveTypes}
 use Rattle.ioa_syntax.specs.Tree.{FieldTree, EntryTree, TransitionTree}
 use Rattle.ioa_syntax.specs.Meaning.{Env, eff}
 use Rattle.ioa_syntax.specs.Instances.{transition_for, environment}
-use Rattle.ioa_syntax.specs.WellFormed.{position_fields, variable_fields}
+use Rattle.ioa_syntax.specs.Domains.{AreDomainsOf}
+use Rattle.ioa_syntax.specs.WellFormed.{variable_fields}
 use Rattle.ioa_syntax.specs.Compositions.{Member}
 use Rattle.ioa_compile.specs.CodeEnds.{required, GuardEnds, EffectEnds}
 use Rattle.ioa_compile.specs.Correspondence.{Corresponds}
@@ -26,7 +27,7 @@ AreTypesOf types fs ns = AllZip (IsTypeOf types) fs ns
 pub record MatchesEntry (m : Member) (e : EntryTree) (c : EntryCode) : Type 0 where
   pub kind : c.kind ≡ e.kind
   pub name : c.name ≡ e.name
-  pub positions : AreTypesOf m.instance.types (position_fields e.positions) (position_types c.positions)
+  pub positions : AreDomainsOf m.instance e.positions c.positions
   pub transition : TransitionTree
   pub found : transition_for m.instance.automaton e ≡ Some transition
   pub guard : IfSome c.pre (λ p. (env : Env) (slots args : List Val) → Corresponds m.instance env slots → HaveTypes m.instance.types args (position_types c.positions) → GuardEnds p slots args (required m.instance.types transition.pre (environment m.instance e args env)))

@@ -1,20 +1,18 @@
 -- Programs: what an object of a composition says, and no more. No tree is in them.
-use Rattle.std.specs.Prelude.{ℕ, List, Option}
+use Rattle.std.specs.Prelude.{List, Option}
 use Rattle.ioa_value.specs.Actions.{Name}
+use Rattle.ioa_value.specs.Positions.{Domain}
 use Rattle.ioa_value.specs.Table.{Table}
 use Rattle.ioa_code.specs.Valid.{Part}
 use Rattle.ioa_node.specs.Nodes.{Node}
 use Rattle.ioa_syntax.specs.declared.tree.Kind.{Kind}
 
--- a position of an entry: any value of the type of this number
-pub data PositionCode : Type 0 where
-  typed : ℕ → PositionCode
-
--- an entry with the code of its precondition, where it is locally controlled, and of its effect
+-- an entry: the values that stand in its positions, and the code of its precondition, where it is locally controlled, and of its
+-- effect
 pub record EntryCode : Type 0 where
   pub kind : Kind
   pub name : Name
-  pub positions : List PositionCode
+  pub positions : List Domain
   pub pre : Option Part
   pub effect : Part
 

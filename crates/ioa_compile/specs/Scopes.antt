@@ -1,14 +1,15 @@
 -- Where the value of a name comes from in the code of an entry.
-use Rattle.std.specs.Prelude.{◌≡◌, ℕ, ◌≤◌, List, [], map, length, Option, Some, None, option_and_then, IsSome, pos, IsTrue}
+use Rattle.std.specs.Prelude.{◌≡◌, ℕ, ◌≤◌, ◌+◌, if◌then◌else◌, List, [], ◌∷◌, length, Option, Some, None, option_and_then, IsSome, pos, IsTrue}
+use Rattle.std.specs.Str.{bytes_eq}
 use Rattle.std.specs.Option.{option_map_or}
 use Rattle.ioa_value.specs.Actions.{Name}
 use Rattle.ioa_value.specs.Arithmetic.{fits}
 use Rattle.ioa_value.specs.Plain.{Val}
 use Rattle.ioa_value.specs.Table.{Table, place_from, type_named, field_place}
 use Rattle.ioa_value.specs.Typing.{OwnTypes}
-use Rattle.ioa_syntax.specs.Tree.{Expr, number, truth, named, parens, prefix, binary, empty, make, select, Exprs, no_expr, also, Stmt, assign, choose, Stmts, stop, seq, Arms, no_arm, arm, EntryTree}
+use Rattle.ioa_syntax.specs.Tree.{Expr, number, truth, named, parens, prefix, binary, empty, make, select, Exprs, no_expr, also, Stmt, assign, choose, Stmts, stop, seq, Arms, no_arm, arm, PositionTree, typed, only, EntryTree}
 use Rattle.ioa_syntax.specs.Types.{constant, empty_of}
-use Rattle.ioa_syntax.specs.Instances.{field_names, variable_names, position_name}
+use Rattle.ioa_syntax.specs.Instances.{field_names, variable_names}
 use Rattle.ioa_syntax.specs.WellFormed.{Context, type_of, scope}
 use Rattle.ioa_syntax.specs.Compositions.{Member}
 use Rattle.ioa_syntax.specs.declared.tree.Entry as tree
@@ -24,7 +25,7 @@ pub record Scope : Type 0 where
   pub variables : List Name
   pub formals : List Name
   pub arguments : List Val
-  pub parameters : List Name
+  pub parameters : List PositionTree
   pub context : Context
 
 abbrev pub scope_of : Member → EntryTree → Scope
@@ -33,13 +34,19 @@ scope_of m e = record {
   variables = variable_names m.instance.automaton;
   formals = field_names m.instance.automaton.formals;
   arguments = m.instance.arguments;
-  parameters = map position_name e.positions;
+  parameters = e.positions;
   context = scope m.instance.types m.instance.types [] m.instance.automaton e;
 }
 
 -- for what the program holds of them
 abbrev pub scope_in : held.Member → tree.Entry → Scope
 scope_in m e = scope_of (member_of m) (entry_of e)
+
+-- the place of the parameter of this name among all positions, constants counted
+abbrev pub parameter_from : ℕ → List PositionTree → Name → Option ℕ
+parameter_from i [] x = None
+parameter_from i (typed f ∷ ps) x = if bytes_eq f.name x then Some i else parameter_from (i + 1) ps x
+parameter_from i (only c ∷ ps) x = parameter_from (i + 1) ps x
 
 -- each by its place, and an enumeration's name by its value
 pub data Origin : Type 0 where
@@ -53,7 +60,7 @@ abbrev pub origin : Scope → Name → Origin
 origin s x =
     option_map_or slot (place_from 0 s.variables x)
     (option_map_or formal (place_from 0 s.formals x)
-    (option_map_or parameter (place_from 0 s.parameters x)
+    (option_map_or parameter (parameter_from 0 s.parameters x)
     (option_map_or fixed (constant s.types x) unknown)))
 
 abbrev pub IsOrigin : Origin → Type 0

@@ -1,5 +1,5 @@
 -- What a program's table does: the components that its composition's step is made of.
-use Rattle.std.specs.Prelude.{◌≡◌, ◌<◌, ◌≤◌, All, IsTrue, length, ℕ, Bool, true, false, ◌&&◌, List, [], ◌∷◌, map, find, Option, Some, None, IfSome, Result, Ok}
+use Rattle.std.specs.Prelude.{◌≡◌, ◌≤◌, All, IsTrue, length, ℕ, Bool, true, false, ◌&&◌, List, [], ◌∷◌, map, find, Option, Some, None, IfSome, Result, Ok}
 use Rattle.std.specs.List.{list_any, list_all}
 use Rattle.std.specs.Option.{option_map, option_map_or}
 use Rattle.std.specs.Str.{bytes_eq}
@@ -8,7 +8,8 @@ use Rattle.ioa_value.specs.Actions.{Name, Act}
 use Rattle.ioa_value.specs.Names.{IsName}
 use Rattle.ioa_value.specs.Plain.{Val}
 use Rattle.ioa_value.specs.Table.{Table, AreTypes}
-use Rattle.ioa_value.specs.Typing.{HaveTypes, is_of}
+use Rattle.ioa_value.specs.Positions.{Domain, IsDomain, all_take, domain_type}
+use Rattle.ioa_value.specs.Typing.{HaveTypes}
 use Rattle.ioa_code.specs.declared.instr.PartKind.{PartKind}
 use Rattle.ioa_code.specs.declared.instr.PartKind.TheVariants.{Pre, Eff}
 use Rattle.ioa_code.specs.Parts.{IsVerified}
@@ -19,20 +20,11 @@ use Rattle.ioa_syntax.specs.declared.tree.Kind.TheVariants.{Input, Output, Inter
 use Rattle.ioa_syntax.specs.Components.{Component, Compatible, is_output}
 use Rattle.ioa_syntax.specs.WellFormed.{distinct}
 use Rattle.ioa_compose.specs.Fine.{component_limits}
-use Rattle.ioa_compile.specs.Programs.{PositionCode, typed, EntryCode, MemberCode, Prog}
-
-abbrev pub position_holds : Table → PositionCode → Val → Bool
-position_holds types (typed ty) v = is_of types v ty
-
-abbrev pub positions_hold : Table → List PositionCode → List Val → Bool
-positions_hold types [] [] = true
-positions_hold types [] (v ∷ vs) = false
-positions_hold types (p ∷ ps) [] = false
-positions_hold types (p ∷ ps) (v ∷ vs) = position_holds types p v && positions_hold types ps vs
+use Rattle.ioa_compile.specs.Programs.{EntryCode, MemberCode, Prog}
 
 -- the action is in the entry
 abbrev pub is_in : Table → Act → EntryCode → Bool
-is_in types a e = bytes_eq e.name a.name && positions_hold types e.positions a.vals
+is_in types a e = bytes_eq e.name a.name && all_take types e.positions a.vals
 
 -- the entry that has the action
 abbrev pub entry_of : MemberCode → Act → Option EntryCode
@@ -59,17 +51,13 @@ tabled p = map table_component p.members
 abbrev pub start_states : Prog → List (List Val)
 start_states p = map (λ m. m.start.values) p.members
 
-abbrev pub position_types : List PositionCode → List ℕ
-position_types [] = []
-position_types (typed ty ∷ ps) = ty ∷ position_types ps
+-- the types of what stands in positions, constants too
+abbrev pub position_types : List Domain → List ℕ
+position_types ds = map domain_type ds
 
 -- the places of a part's instructions, and of an entry's constants, fit 16 bits
 abbrev pub most_places : ℕ
 most_places = 65535
-
--- each of these is one of the declared types
-abbrev pub AreDeclared : Table → List ℕ → Type 0
-AreDeclared types tys = All (λ ty. ty < length types) tys
 
 -- the part is verified code of this kind, over the component's types and variables and the entry's values, and ends with
 -- values of these types on the stack
@@ -91,12 +79,12 @@ HasPre m e Output (Some part) = IsPartOf m e Pre (0 ∷ []) part
 HasPre m e Internal None = ⊥
 HasPre m e Internal (Some part) = IsPartOf m e Pre (0 ∷ []) part
 
--- the name is legal, and the positions are of declared types; an effect ends with nothing; the parts of an entry carry one
--- table of constants
+-- the name is legal, and each position has a value; an effect ends with nothing; the parts of an entry carry one table of
+-- constants
 pub record IsEntry (m : MemberCode) (e : EntryCode) : Type 0 where
   pub legal : IsName e.name
   pub few_positions : length e.positions ≤ component_limits.parameters
-  pub positions : AreDeclared m.start.table (position_types e.positions)
+  pub positions : All (IsDomain m.start.table) e.positions
   pub pre : HasPre m e e.kind e.pre
   pub effect : IsPartOf m e Eff [] e.effect
   pub consts : IfSome e.pre (λ part. part.code.consts ≡ e.effect.code.consts)

@@ -9,11 +9,12 @@ use Rattle.ioa_code.specs.Parts.{IsVerified}
 use Rattle.ioa_code.specs.Valid.{Part}
 use Rattle.ioa_syntax.specs.declared.tree.Kind.{Kind}
 use Rattle.ioa_syntax.specs.declared.tree.Kind.TheVariants.{Input, Output, Internal}
-use Rattle.ioa_syntax.specs.Tree.{Expr, Stmts, FieldTree, PositionTree, typed, EntryTree, TransitionTree}
+use Rattle.ioa_syntax.specs.Tree.{Expr, Stmts, EntryTree, TransitionTree}
 use Rattle.ioa_syntax.specs.Instances.{transition_for, component_of, state_of}
-use Rattle.ioa_syntax.specs.WellFormed.{position_fields, stmts_nodes}
+use Rattle.ioa_syntax.specs.Domains.{AreDomainsOf}
+use Rattle.ioa_syntax.specs.WellFormed.{stmts_nodes}
 use Rattle.ioa_syntax.specs.Compositions.{Member}
-use Rattle.ioa_compile.specs.Matching.{AreTypesOf, MatchesMember}
+use Rattle.ioa_compile.specs.Matching.{MatchesMember}
 use Rattle.ioa_compile.specs.Correspondence.{Corresponds}
 use Rattle.ioa_syntax.specs.Likes.{IsLike}
 use Rattle.ioa_compile.specs.Programs.{EntryCode, MemberCode}
@@ -21,9 +22,6 @@ use Rattle.ioa_compile.specs.Tables.{IsMember, table_component, position_types}
 use Rattle.ioa_compile.specs.Emitting.{guard_nodes}
 use Rattle.ioa_compile.specs.Scopes.{Scope, scope_of}
 use Rattle.ioa_compile.specs.Placed.{HasGuard, HasStmts}
-
-abbrev pub position_field : PositionTree → FieldTree
-position_field (typed f) = f
 
 -- the whole code is the precondition's
 pub record IsGuard (code : Listing) (s : Scope) (g : Option Expr) : Type 0 where
@@ -68,7 +66,7 @@ codes_of (Some p) = Some p.code
 pub record IsTranslated (m : Member) (slots : List ℕ) (e : EntryTree) (c : EntryCode) : Type 0 where
   pub kind : c.kind ≡ e.kind
   pub name : c.name ≡ e.name
-  pub positions : AreTypesOf m.instance.types (position_fields e.positions) (position_types c.positions)
+  pub positions : AreDomainsOf m.instance e.positions c.positions
   pub transition : (t : TransitionTree) × (transition_for m.instance.automaton e ≡ Some t) × IsTransition m e t (codes_of c.pre) c.effect.code
   pub pre : IfSome c.pre (λ p. IsFor p m.instance.types Pre (0 ∷ []) slots (position_types c.positions))
   pub effect : IsFor c.effect m.instance.types Eff [] slots (position_types c.positions)

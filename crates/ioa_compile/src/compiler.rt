@@ -1,7 +1,8 @@
 ghost use Rattle.std.specs.Prelude.{◌≡◌, map, IfOk};
 ghost use Rattle.std.specs.List.{AllZip};
 ghost use Rattle.std.specs.String.{string_bytes};
-ghost use Rattle.ioa_compose.specs.Fine.{IsFine, AllFine, component_limits};
+ghost use Rattle.ioa_value.specs.Table.{Table, AreTypes};
+ghost use Rattle.ioa_compose.specs.Fine.{IsFine, AllFine, AreOver, component_limits};
 ghost use Rattle.ioa_compose.specs.Held.{composed_of, member_of};
 ghost use Rattle.ioa_compile.specs.Means.{Means};
 ghost use Rattle.ioa_compile.specs.Shown.{member_code};
@@ -29,7 +30,8 @@ pub fn compile(alloc: Global, composition: &Composition) -> Result<Program, OutO
 
 /// The components, compiled, in order.
 fn compile_members(alloc: Global, members: &[MemberTree]) -> Result<Vec<Member>, OutOfMemory>
-    requires { AllFine component_limits (map member_of members.now) }
+    requires fine { AllFine component_limits (map member_of members.now) }
+    requires declared { (types : Table) × AreTypes types × AreOver types (map member_of members.now) }
     ensures { IfOk result (λ codes. AllZip DoesSame (map member_of members.now) (map member_code codes.items)) }
 {
     let mut codes = Vec::new(alloc);
@@ -41,7 +43,8 @@ fn compile_members(alloc: Global, members: &[MemberTree]) -> Result<Vec<Member>,
 
 /// A component, compiled.
 fn compile_member(alloc: Global, member: &MemberTree) -> Result<Member, OutOfMemory>
-    requires { IsFine component_limits (member_of member.now) }
+    requires fine { IsFine component_limits (member_of member.now) }
+    requires declared { AreTypes member.now.types }
     ensures { IfOk result (λ c. DoesSame (member_of member.now) (member_code c)) }
 {
     let slots = variable_types(alloc, &member.types, &member.automaton.variables)?;

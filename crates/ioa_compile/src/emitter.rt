@@ -12,7 +12,7 @@ ghost use Rattle.ioa_compile.specs.Extents.{extent, exprs_extent, infix_extent, 
 ghost use Rattle.ioa_compile.specs.Emitting.{AddsInstr, AddsConst, AddsExpr, AddsExprs, AddsCombined, AddsTrueSide, AddsFalseSide, AddsGuard, AddsStmt, AddsStmts, guard_nodes};
 
 use crate::extents::{arms_extent, expression_extent, statements_extent};
-use crate::places::{field_place, position_place, tuple_place, variable_place};
+use crate::places::{field_place, parameter_place, tuple_place, variable_place};
 use crate::types::named_type;
 use ioa_code::{Code, Instr};
 use ioa_compose::{Member, constant, empty};
@@ -284,7 +284,7 @@ fn emit_name(
     if let Some(i) = field_place(&member.automaton.formals, name) {
         return put_constant(out, member.arguments[i].try_copy(alloc)?);
     }
-    match position_place(&entry.positions, name) {
+    match parameter_place(&entry.positions, name) {
         Some(i) => put(out, Instr::Arg(i as u16)),
         None => put_constant(out, constant(&member.types, name)),
     }

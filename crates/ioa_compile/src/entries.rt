@@ -3,6 +3,7 @@ ghost use Rattle.std.specs.List.{AllZip};
 ghost use Rattle.std.specs.Option.{option_map};
 ghost use Rattle.ioa_code.specs.declared.instr.PartKind.TheVariants.{Pre};
 ghost use Rattle.ioa_value.specs.Plain.{plain, number};
+ghost use Rattle.ioa_value.specs.Table.{AreTypes};
 ghost use Rattle.ioa_value.specs.Typing.{OwnTypes};
 ghost use Rattle.ioa_code.specs.Valid.{Valid};
 ghost use Rattle.ioa_code.specs.Parts.{part, IsVerified};
@@ -11,16 +12,15 @@ ghost use Rattle.ioa_syntax.specs.Instances.{transition_for};
 ghost use Rattle.ioa_syntax.specs.WellFormed.{variable_fields};
 ghost use Rattle.ioa_compose.specs.Held.{member_of};
 ghost use Rattle.ioa_compose.specs.Fine.{IsFine, component_limits};
-ghost use Rattle.ioa_compile.specs.Shown.{entry_code, position_code};
-ghost use Rattle.ioa_compile.specs.Tables.{position_types as types_of_positions};
+ghost use Rattle.ioa_compile.specs.Shown.{entry_code};
 ghost use Rattle.ioa_compile.specs.Matching.{AreTypesOf};
 ghost use Rattle.ioa_compile.specs.Translated.{IsEntryOf, IsTranslated};
 
-use crate::table::{Entry, Position};
+use crate::table::Entry;
 use crate::transition::transition_code;
 use crate::types::position_types;
 use ioa_code::{Code, CodeErr, Env, PartKind, Verified, verify};
-use ioa_compose::Member;
+use ioa_compose::{Member, positions};
 use ioa_syntax::{Automaton, Entry as EntryTree, Transition};
 use ioa_value::{OutOfMemory, Ty, Types};
 use std::alloc::Global;
@@ -31,6 +31,7 @@ pub(crate) fn compile_entries(
     member: &Member,
     slots: &[Ty],
 ) -> Result<Vec<Entry>, OutOfMemory>
+    requires declared { AreTypes member.now.types }
     requires fine { IsFine component_limits (member_of member.now) }
     requires slots { AreTypesOf member.now.types (variable_fields (automaton_of member.now.automaton)) (map number slots.now) }
     ensures { IfOk result (λ entries. AllZip (IsTranslated (member_of member.now) (map number slots.now)) (automaton_of member.now.automaton).entries (map entry_code entries.items)) }
@@ -49,6 +50,7 @@ fn compile_entry(
     slots: &[Ty],
     entry: &EntryTree,
 ) -> Result<Entry, OutOfMemory>
+    requires declared { AreTypes member.now.types }
     requires fine { IsFine component_limits (member_of member.now) }
     requires slots { AreTypesOf member.now.types (variable_fields (automaton_of member.now.automaton)) (map number slots.now) }
     requires own { IsEntryOf (member_of member.now) (entry_of entry.now) }
@@ -56,12 +58,13 @@ fn compile_entry(
 {
     let transition = transition_of(&member.automaton, entry);
     let types = &member.types;
-    let arguments = position_types(alloc, types, &entry.positions)?;
+    let positions = positions(alloc, types, &member.automaton, &member.arguments, entry)?;
+    let arguments = position_types(alloc, &positions)?;
     let (guard, effect) = transition_code(alloc, member, entry, transition)?;
     Ok(Entry {
         kind: entry.kind,
         name: entry.name.text.clone()?,
-        positions: positions_of(alloc, &arguments)?,
+        positions,
         pre: guard_part(alloc, types, guard, slots, &arguments)?,
         effect: verified(alloc, types, effect, PartKind::Eff, slots, &arguments, &[])?,
     })
@@ -78,17 +81,6 @@ fn transition_of<'a>(automaton: &'a Automaton, entry: &EntryTree) -> &'a Transit
         }
     }
     unreachable!()
-}
-
-/// Positions that any value of their types takes.
-fn positions_of(alloc: Global, types: &[Ty]) -> Result<Vec<Position>, OutOfMemory>
-    ensures { IfOk result (λ positions. types_of_positions (map position_code positions.items) ≡ map number types.now) }
-{
-    let mut positions = Vec::new(alloc);
-    for ty in types {
-        positions.push(Position::Typed(*ty))?;
-    }
-    Ok(positions)
 }
 
 /// The code of a precondition, verified.

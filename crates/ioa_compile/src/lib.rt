@@ -13,4 +13,4 @@ mod types;
 
 pub use compiler::compile;
 pub use program::Program;
-pub use table::{Entry, Member, Position};
+pub use table::{Entry, Member};

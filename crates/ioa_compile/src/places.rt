@@ -1,8 +1,8 @@
 ghost use Rattle.std.specs.Prelude.{◌≡◌, map, Some, IsSome};
 ghost use Rattle.ioa_syntax.specs.View.{name_of, expr_of, field_of, position_of, variable_of};
 ghost use Rattle.ioa_value.specs.Table.{place_from};
-ghost use Rattle.ioa_syntax.specs.Instances.{field_names, position_name};
-ghost use Rattle.ioa_compile.specs.Scopes.{scope_in, place_of};
+ghost use Rattle.ioa_syntax.specs.Instances.{field_names};
+ghost use Rattle.ioa_compile.specs.Scopes.{scope_in, place_of, parameter_from};
 
 use ioa_check::expression_type;
 use ioa_compose::Member;
@@ -24,12 +24,13 @@ pub(crate) fn variable_place(variables: &[Variable], name: &Name) -> Option<usiz
     variables.iter().position(|variable| variable.field.name.text.as_str() == name.text.as_str())
 }
 
-/// The place of the first position whose parameter has this name.
-pub(crate) fn position_place(positions: &[Position], name: &Name) -> Option<usize>
-    ensures { result ≡ place_from 0 (map position_name (map position_of positions.now)) (name_of name.now) }
+/// The place of the parameter of this name among all positions; a constant has no name.
+pub(crate) fn parameter_place(positions: &[Position], name: &Name) -> Option<usize>
+    ensures { result ≡ parameter_from 0 (map position_of positions.now) (name_of name.now) }
 {
     positions.iter().position(|position| match position {
         Position::Typed(field) => field.name.text.as_str() == name.text.as_str(),
+        Position::Constant(_) => false,
     })
 }
 

@@ -1,20 +1,14 @@
 use ioa_code::Verified;
 use ioa_node::NodeState;
 use ioa_syntax::Kind;
-use ioa_value::Ty;
-
-/// A position of an entry.
-#[derive(Clone, Copy, Debug, PartialEq, Eq)]
-pub enum Position {
-    /// Any value of this type.
-    Typed(Ty),
-}
+use ioa_value::Position;
 
 /// An entry of a component's signature, with the code of its transition.
 #[derive(Drop)]
 pub struct Entry {
     pub kind: Kind,
     pub name: String,
+    /// What an action may have in its places.
     pub positions: Vec<Position>,
     /// The precondition of an output or internal entry.
     pub pre: Option<Verified>,

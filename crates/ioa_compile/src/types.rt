@@ -2,13 +2,14 @@ ghost use Rattle.std.specs.Prelude.{◌≡◌, map, Some, IfOk, IsSome, IsTrue};
 ghost use Rattle.std.specs.List.{list_all};
 ghost use Rattle.ioa_value.specs.Plain.{number};
 ghost use Rattle.ioa_value.specs.Table.{type_named};
-ghost use Rattle.ioa_syntax.specs.View.{name_of, field_of, position_of, variable_of};
-ghost use Rattle.ioa_syntax.specs.WellFormed.{is_type, position_fields};
+ghost use Rattle.ioa_value.specs.Positions.{domain_of};
+ghost use Rattle.ioa_syntax.specs.View.{name_of, field_of, variable_of};
+ghost use Rattle.ioa_syntax.specs.WellFormed.{is_type};
+ghost use Rattle.ioa_compile.specs.Tables.{position_types as types_of_positions};
 ghost use Rattle.ioa_compile.specs.Matching.{IsTypeOf, AreTypesOf};
-ghost use Rattle.ioa_compile.specs.Translated.{position_field};
 
-use ioa_syntax::{Field, Name, Position, Variable};
-use ioa_value::{OutOfMemory, Ty, Types};
+use ioa_syntax::{Field, Name, Variable};
+use ioa_value::{OutOfMemory, Position, Ty, Types};
 use std::alloc::Global;
 
 /// The types of variables, in order.
@@ -27,30 +28,15 @@ pub(crate) fn variable_types(
     Ok(found)
 }
 
-/// The types of an entry's positions, in order.
-pub(crate) fn position_types(
-    alloc: Global,
-    types: &Types,
-    positions: &[Position],
-) -> Result<Vec<Ty>, OutOfMemory>
-    requires { IsTrue (list_all (is_type types.now) (position_fields (map position_of positions.now))) }
-    ensures { IfOk result (λ found. AreTypesOf types.now (position_fields (map position_of positions.now)) (map number found.items)) }
+/// The types of what stands in positions, in order.
+pub(crate) fn position_types(alloc: Global, positions: &[Position]) -> Result<Vec<Ty>, OutOfMemory>
+    ensures { IfOk result (λ found. map number found.items ≡ types_of_positions (map domain_of positions.now)) }
 {
     let mut found = Vec::new(alloc);
     for position in positions {
-        found.push(type_of_position(types, position))?;
+        found.push(position.ty())?;
     }
     Ok(found)
-}
-
-/// The type of a position whose type is declared.
-fn type_of_position(types: &Types, position: &Position) -> Ty
-    requires { IsTrue (is_type types.now (position_field (position_of position.now))) }
-    ensures { IsTypeOf types.now (position_field (position_of position.now)) (number result) }
-{
-    match position {
-        Position::Typed(field) => type_of(types, field),
-    }
 }
 
 /// The type of a field whose type is declared.

@@ -17,7 +17,7 @@ from_values-requires c =
     let declared = m.instance.types in
     let slots = map number c.in_ok-slots.slots.items in
     let types = subst (λ l. AreTypesOf declared (map (λ v. v.field) (map variable_of l)) slots) c.deref.ensures.value c.in_ok-slots.ensures in
-    let all = fit_have declared (map (λ v. v.field) m.instance.automaton.variables) m.starts slots c.requires.starts types in
+    let all = fit_have declared (map (λ v. v.field) m.instance.automaton.variables) m.starts slots c.requires.fine.starts types in
     subst (λ l. HaveTypes declared (map plain c.deref-3.result.now) (map number l)) (sym c.deref-2.ensures.value)
     (subst (λ l. HaveTypes declared (map plain l) slots) (sym c.deref-3.ensures.value) all)
 
@@ -35,4 +35,4 @@ returns c =
     let slots-are : map number c.deref-4.result.now ≡ slots = ap (map number) c.deref-4.ensures.value in
     let entries = subst (λ l. AllZip (IsTranslated m l) m.instance.automaton.entries new.entries) slots-are c.in_ok-compile_entries.ensures in
     let name : new.name ≡ m.name = search rules in
-    does_same m slots new c.requires types name start entries
+    does_same m slots new c.requires.fine types name start entries

@@ -3,12 +3,17 @@ use Rattle.ioa_compose.specs.Held.{member_of}
 use Rattle.ioa_compile.specs.Shown.{member_code}
 use Rattle.ioa_compile.specs.Translated.{DoesSame}
 use Rattle.ioa_compile.proofs.Paired.{paired_next}
-use Rattle.ioa_compile.proofs.Twins.{fine_at}
+use Rattle.ioa_compile.proofs.Twins.{fine_at, declared_at}
 use Rattle.ioa_compile.proofs.compiler.compile_members.Goals as goal
 
-pub compile_member-requires : goal.compile_member-requires
-compile_member-requires c =
-    fine_at c.args.members.now c.loop-member.member-index c.member-item.result c.requires (omega arith) c.member-item.is
+pub compile_member-requires-clause-fine : goal.compile_member-requires-clause-fine
+compile_member-requires-clause-fine c =
+    fine_at c.args.members.now c.loop-member.member-index c.member-item.result c.requires.fine (omega arith) c.member-item.is
+
+pub compile_member-requires-clause-declared : goal.compile_member-requires-clause-declared
+compile_member-requires-clause-declared c =
+    let over = c.requires.declared in
+    declared_at over.0 c.args.members.now c.loop-member.member-index c.member-item.result over.1 over.2 (omega arith) c.member-item.is
 
 pub loop-member-preserved : goal.loop-member-preserved
 loop-member-preserved c =

@@ -1,46 +1,68 @@
-use Rattle.std.proofs.Common.{◌≡◌, List, [], ◌∷◌, map, IfSome, refl, sym, ap, ◌∙◌, subst, IsTrue, rules}
-use Rattle.std.specs.List.{list_all}
+use Rattle.std.proofs.Common.{◌≡◌, List, [], ◌∷◌, map, IfSome, refl, sym, ap, ◌∙◌, subst, rules}
 use Rattle.std.specs.Option.{option_map}
+use Rattle.ioa_value.specs.declared.positions.Position.{Position}
 use Rattle.ioa_value.specs.declared.value.Ty.{Ty}
+use Rattle.ioa_value.specs.declared.value.Value.{Value}
 use Rattle.ioa_code.specs.declared.instr.PartKind.TheVariants.{Pre, Eff}
-use Rattle.ioa_value.specs.Plain.{number}
+use Rattle.ioa_value.specs.Plain.{plain, number}
+use Rattle.ioa_value.specs.Positions.{domain_of}
 use Rattle.ioa_code.specs.Parts.{part, listing}
 use Rattle.ioa_code.specs.Valid.{Valid}
-use Rattle.ioa_syntax.specs.View.{entry_of, transition_of, position_of}
-use Rattle.ioa_syntax.specs.WellFormed.{is_type, position_fields}
+use Rattle.ioa_syntax.specs.declared.tree.Entry as tree
+use Rattle.ioa_syntax.specs.Domains.{AreDomainsOf}
+use Rattle.ioa_syntax.specs.View.{entry_of, transition_of, automaton_of}
+use Rattle.ioa_syntax.specs.WellFormed.{variable_fields}
+use Rattle.ioa_compose.specs.declared.member.Member as held
+use Rattle.ioa_compose.specs.Bindings.{instance_with}
+use Rattle.ioa_compose.specs.Fine.{IsFine, component_limits}
 use Rattle.ioa_compose.specs.Held.{member_of}
 use Rattle.ioa_compile.specs.Shown.{entry_code}
 use Rattle.ioa_compile.specs.Scopes.{scope_of}
 use Rattle.ioa_compile.specs.Matching.{AreTypesOf}
+use Rattle.ioa_compile.specs.Tables.{position_types}
+use Rattle.ioa_compile.specs.Translated.{IsEntryOf}
 use Rattle.ioa_compile.proofs.Fine as fine
-use Rattle.ioa_compile.proofs.Fine.{setting, fine_of, small_of, guard_typed, effect_typed, is_scope, known_guard, known_stmts, is_some_of_found}
+use Rattle.ioa_compile.proofs.Fine.{Setting, setting, fine_of, small_of, guard_typed, effect_typed, is_scope, known_guard, known_stmts, is_some_of_found}
 use Rattle.ioa_compile.proofs.Validity.{guard_valid, effect_valid}
 use Rattle.ioa_compile.proofs.Assembled.{on_guard, translated}
 use Rattle.ioa_compile.proofs.entries.compile_entry.Goals as goal
+
+-- the domains that are found over the formals' values are those of the member's entry
+found : (m : held.Member) (entry : tree.Entry) (values : List Value) → values ≡ m.arguments.items → (ps : List Position)
+    → AreDomainsOf (instance_with m.types (automaton_of m.automaton) (map plain values)) (entry_of entry).positions (map domain_of ps)
+    → AreDomainsOf (member_of m).instance (entry_of entry).positions (map domain_of ps)
+found m entry values same ps h =
+    subst (λ l. AreDomainsOf (instance_with m.types (automaton_of m.automaton) (map plain l)) (entry_of entry).positions (map domain_of ps)) same h
+
+-- what is known once they are found, and the types of what stands in them
+settled : (m : held.Member) (entry : tree.Entry) (slots : List Ty) → IsFine component_limits (member_of m) → IsEntryOf (member_of m) (entry_of entry)
+    → AreTypesOf m.types (variable_fields (automaton_of m.automaton)) (map number slots) → (values : List Value) → values ≡ m.arguments.items → (ps : List Position)
+    → AreDomainsOf (instance_with m.types (automaton_of m.automaton) (map plain values)) (entry_of entry).positions (map domain_of ps)
+    → (seen : List Position) → seen ≡ ps → (args : List Ty) → map number args ≡ position_types (map domain_of seen) → Setting (member_of m) (entry_of entry) (map number slots) (map number args)
+settled m entry slots is_fine own variables values values_are ps h seen seen_are args types_are =
+    setting (member_of m) (entry_of entry) is_fine own (map number slots) (map number args) (map domain_of ps) variables (found m entry values values_are ps h)
+    (types_are ∙ ap (λ l. position_types (map domain_of l)) seen_are)
 
 pub transition_of-transition-requires : goal.transition_of-transition-requires
 transition_of-transition-requires c =
     is_some_of_found (member_of c.args.member.now) (entry_of c.args.entry.now) c.requires.fine c.requires.own
 
-pub position_types-requires : goal.position_types-requires
-position_types-requires c =
-    let m = member_of c.args.member.now in
-    let e = entry_of c.args.entry.now in
-    subst (λ l. IsTrue (list_all (is_type m.instance.types) (position_fields (map position_of l)))) (sym c.deref.ensures.value) (fine.entry_of m e c.requires.fine c.requires.own).position_types
+pub positions-requires-clause-fine : goal.positions-requires-clause-fine
+positions-requires-clause-fine c =
+    (fine.entry_of (member_of c.args.member.now) (entry_of c.args.entry.now) c.requires.fine c.requires.own).positions
 
 pub transition_code-requires-clause-scope : goal.transition_code-requires-clause-scope
 transition_code-requires-clause-scope c =
-    let m = member_of c.args.member.now in
-    let e = entry_of c.args.entry.now in
-    let types = subst (λ l. AreTypesOf m.instance.types (position_fields (map position_of l)) (map number c.in_ok-arguments.arguments.items)) c.deref.ensures.value c.in_ok-arguments.ensures in
-    is_scope m e _ _ (setting m e c.requires.fine c.requires.own (map number c.args.slots.now) (map number c.in_ok-arguments.arguments.items) c.requires.slots types)
+    let all = settled c.args.member.now c.args.entry.now c.args.slots.now c.requires.fine c.requires.own c.requires.slots c.deref.result.now c.deref.ensures.value
+    c.in_ok-positions.positions.items c.in_ok-positions.ensures c.deref-2.result.now c.deref-2.ensures.value c.in_ok-arguments.arguments.items c.in_ok-arguments.ensures in
+    is_scope (member_of c.args.member.now) (entry_of c.args.entry.now) _ _ all
 
 pub transition_code-requires-clause-guard : goal.transition_code-requires-clause-guard
 transition_code-requires-clause-guard c =
     let m = member_of c.args.member.now in
     let e = entry_of c.args.entry.now in
-    let types = subst (λ l. AreTypesOf m.instance.types (position_fields (map position_of l)) (map number c.in_ok-arguments.arguments.items)) c.deref.ensures.value c.in_ok-arguments.ensures in
-    let all = setting m e c.requires.fine c.requires.own (map number c.args.slots.now) (map number c.in_ok-arguments.arguments.items) c.requires.slots types in
+    let all = settled c.args.member.now c.args.entry.now c.args.slots.now c.requires.fine c.requires.own c.requires.slots c.deref.result.now c.deref.ensures.value
+    c.in_ok-positions.positions.items c.in_ok-positions.ensures c.deref-2.result.now c.deref-2.ensures.value c.in_ok-arguments.arguments.items c.in_ok-arguments.ensures in
     let t = transition_of c.transition_of-transition.result.now in
     let is_fine = fine_of m e c.requires.fine c.requires.own t c.transition_of-transition.ensures in
     known_guard m e _ _ all t.pre (guard_typed m.instance.types all.globals m.instance.automaton e t is_fine)
@@ -49,8 +71,8 @@ pub transition_code-requires-clause-effect : goal.transition_code-requires-claus
 transition_code-requires-clause-effect c =
     let m = member_of c.args.member.now in
     let e = entry_of c.args.entry.now in
-    let types = subst (λ l. AreTypesOf m.instance.types (position_fields (map position_of l)) (map number c.in_ok-arguments.arguments.items)) c.deref.ensures.value c.in_ok-arguments.ensures in
-    let all = setting m e c.requires.fine c.requires.own (map number c.args.slots.now) (map number c.in_ok-arguments.arguments.items) c.requires.slots types in
+    let all = settled c.args.member.now c.args.entry.now c.args.slots.now c.requires.fine c.requires.own c.requires.slots c.deref.result.now c.deref.ensures.value
+    c.in_ok-positions.positions.items c.in_ok-positions.ensures c.deref-2.result.now c.deref-2.ensures.value c.in_ok-arguments.arguments.items c.in_ok-arguments.ensures in
     let t = transition_of c.transition_of-transition.result.now in
     let is_fine = fine_of m e c.requires.fine c.requires.own t c.transition_of-transition.ensures in
     known_stmts m e _ _ all t.effect (effect_typed m.instance.types all.globals m.instance.automaton e t is_fine)
@@ -67,25 +89,25 @@ pub guard_part-requires-clause-valid : goal.guard_part-requires-clause-valid
 guard_part-requires-clause-valid c =
     let m = member_of c.args.member.now in
     let e = entry_of c.args.entry.now in
-    let ps = c.in_ok-arguments.arguments.items in
+    let args = c.in_ok-arguments.arguments.items in
+    let all = settled c.args.member.now c.args.entry.now c.args.slots.now c.requires.fine c.requires.own c.requires.slots c.deref.result.now c.deref.ensures.value
+    c.in_ok-positions.positions.items c.in_ok-positions.ensures c.deref-2.result.now c.deref-2.ensures.value args c.in_ok-arguments.ensures in
     let declared = m.instance.types in
-    let types = subst (λ l. AreTypesOf declared (position_fields (map position_of l)) (map number ps)) c.deref.ensures.value c.in_ok-arguments.ensures in
-    let all = setting m e c.requires.fine c.requires.own (map number c.args.slots.now) (map number ps) c.requires.slots types in
     let t = transition_of c.transition_of-transition.result.now in
     let is_fine = fine_of m e c.requires.fine c.requires.own t c.transition_of-transition.ensures in
     let typed = guard_typed declared all.globals m.instance.automaton e t is_fine in
     let bools : List Ty = record { 0 = 0 } ∷ [] in
-    let result = on_guard declared (λ code. Valid (part declared code Pre c.args.slots.now ps bools)) e.kind c.in_ok-guard.guard (scope_of m e) t.pre c.in_ok-guard.ensures.pre (λ code h. guard_valid m e _ _ all (listing declared code) refl t.pre typed h) in
+    let result = on_guard declared (λ code. Valid (part declared code Pre c.args.slots.now args bools)) e.kind c.in_ok-guard.guard (scope_of m e) t.pre c.in_ok-guard.ensures.pre (λ code h. guard_valid m e _ _ all (listing declared code) refl t.pre typed h) in
     subst (λ l. IfSome c.in_ok-guard.guard (λ code. Valid (part declared code Pre c.args.slots.now l bools))) (sym c.deref-3.ensures.value) result
 
 pub verified-requires-clause-valid : goal.verified-requires-clause-valid
 verified-requires-clause-valid c =
     let m = member_of c.args.member.now in
     let e = entry_of c.args.entry.now in
-    let ps = c.in_ok-arguments.arguments.items in
+    let args = c.in_ok-arguments.arguments.items in
+    let all = settled c.args.member.now c.args.entry.now c.args.slots.now c.requires.fine c.requires.own c.requires.slots c.deref.result.now c.deref.ensures.value
+    c.in_ok-positions.positions.items c.in_ok-positions.ensures c.deref-2.result.now c.deref-2.ensures.value args c.in_ok-arguments.ensures in
     let declared = m.instance.types in
-    let types = subst (λ l. AreTypesOf declared (position_fields (map position_of l)) (map number ps)) c.deref.ensures.value c.in_ok-arguments.ensures in
-    let all = setting m e c.requires.fine c.requires.own (map number c.args.slots.now) (map number ps) c.requires.slots types in
     let t = transition_of c.transition_of-transition.result.now in
     let is_fine = fine_of m e c.requires.fine c.requires.own t c.transition_of-transition.ensures in
     let typed = effect_typed declared all.globals m.instance.automaton e t is_fine in
@@ -98,16 +120,17 @@ returns c =
     let m = member_of c.args.member.now in
     let e = entry_of c.args.entry.now in
     let slots = c.args.slots.now in
-    let ps = c.in_ok-arguments.arguments.items in
+    let args = c.in_ok-arguments.arguments.items in
+    let ps = c.in_ok-positions.positions.items in
+    let domains = found c.args.member.now c.args.entry.now c.deref.result.now c.deref.ensures.value ps c.in_ok-positions.ensures in
+    let types_are = c.in_ok-arguments.ensures ∙ ap (λ l. position_types (map domain_of l)) c.deref-2.ensures.value in
     let bools : List Ty = record { 0 = 0 } ∷ [] in
     let none : List Ty = [] in
     let declared = m.instance.types in
-    let types = subst (λ l. AreTypesOf declared (position_fields (map position_of l)) (map number ps)) c.deref.ensures.value c.in_ok-arguments.ensures in
     let t = transition_of c.transition_of-transition.result.now in
-    let new = entry_code record { kind = c.args.entry.now.kind; name = c.in_ok-clone.field-0; positions = c.in_ok-positions_of.field-0; pre = c.in_ok-guard_part.field-0; effect = c.in_ok-verified.field-0 } in
+    let new = entry_code record { kind = c.args.entry.now.kind; name = c.in_ok-clone.field-0; positions = c.in_ok-positions.positions; pre = c.in_ok-guard_part.field-0; effect = c.in_ok-verified.field-0 } in
     let name : new.name ≡ e.name = search rules in
-    translated declared slots ps bools refl m refl e new t c.in_ok-guard.guard c.in_ok-guard.effect refl name types
-    (c.in_ok-positions_of.ensures ∙ ap (map number) c.deref-2.ensures.value)
+    translated declared slots args bools refl m refl e new t c.in_ok-guard.guard c.in_ok-guard.effect refl name domains (sym types_are)
     c.transition_of-transition.ensures c.in_ok-guard.ensures
     (c.in_ok-guard_part.ensures.value ∙ ap (λ l. option_map (λ code. part declared code Pre slots l bools) c.in_ok-guard.guard) c.deref-3.ensures.value)
     (c.in_ok-verified.ensures.value ∙ ap (λ l. part declared c.in_ok-guard.effect Eff slots l none) c.deref-4.ensures.value)

@@ -1,0 +1,118 @@
+-- What stands for an entry's parameters, which are some of its positions: constants are passed over, but have their places.
+use Rattle.std.proofs.Common.{◌≡◌, ℕ, ◌+◌, ◌<◌, inr, Bool, true, false, cond, List, [], ◌∷◌, ◌++◌, length, map, Option, Some, None, refl, sym, ap, ◌∙◌, arith}
+use Rattle.std.specs.List.{position, position_from}
+use Rattle.std.specs.Option.{option_map_or}
+use Rattle.std.specs.Str.{bytes_eq}
+use Rattle.std.proofs.lemmas.Iterator.Adapters.{position_from-zero}
+use Rattle.std.proofs.lemmas.List.{length-map}
+use Rattle.std.proofs.lemmas.Slice.Zip.{AllZip-long}
+use Rattle.ioa_value.specs.Actions.{Name}
+use Rattle.ioa_value.specs.Plain.{Val}
+use Rattle.ioa_value.specs.Positions.{Domain, every, single, domain_type}
+use Rattle.ioa_value.specs.Table.{Table}
+use Rattle.ioa_value.specs.Typing.{HaveTypes}
+use Rattle.ioa_syntax.specs.declared.tree.Position.{Position}
+use Rattle.ioa_syntax.specs.declared.tree.Position.TheVariants.{Typed, Constant}
+use Rattle.ioa_syntax.specs.Domains.{IsDomainOf, AreDomainsOf}
+use Rattle.ioa_syntax.specs.Instances.{Instance, field_names, parameter_values, position_fields}
+use Rattle.ioa_syntax.specs.Meaning.{values_of}
+use Rattle.ioa_syntax.specs.Tree.{PositionTree, typed, only}
+use Rattle.ioa_syntax.specs.View.{name_of, position_of}
+use Rattle.ioa_syntax.specs.WellFormed.{Context, type_in, context_of, contains}
+use Rattle.ioa_compile.specs.Scopes.{parameter_from}
+use Rattle.ioa_compile.specs.Tables.{position_types}
+use Rattle.ioa_compile.proofs.Looks.{Looked, looked_first, Paired, paired_first, or_false}
+
+-- what stands for the parameter of this name, among what stands in all positions
+abbrev pub passed : {V : Type 0} → List PositionTree → List V → Name → Option V
+passed ps [] x = None
+passed [] (v ∷ vs) x = None
+passed (typed f ∷ ps) (v ∷ vs) x = cond (bytes_eq f.name x) (Some v) (passed ps vs x)
+passed (only c ∷ ps) (v ∷ vs) x = passed ps vs x
+
+pub passes_at : {V : Type 0} (i : ℕ) (ps : List PositionTree) (vs : List V) (x : Name) → length ps ≡ length vs → Looked i (parameter_from i ps x) vs (passed ps vs x)
+passes_at i [] [] x e = inr (record { no_place = refl; no_look = refl })
+passes_at i [] (v ∷ vs) x e = absurd (omega (arith, e))
+passes_at i (p ∷ ps) [] x e = absurd (omega (arith, e))
+passes_at i (typed f ∷ ps) (v ∷ vs) x e = looked_first i (bytes_eq f.name x) _ v vs _ (passes_at (i + 1) ps vs x (omega arith))
+passes_at i (only c ∷ ps) (v ∷ vs) x e = looked_first i false _ v vs _ (passes_at (i + 1) ps vs x (omega arith))
+
+pub passed-paired : (types : Table) (ps : List PositionTree) (vs : List Val) (tys : List ℕ) (x : Name) → HaveTypes types vs tys → Paired types (passed ps tys x) (passed ps vs x)
+passed-paired types ps [] [] x h = refl
+passed-paired types ps [] (t ∷ ts) x h = absurd h
+passed-paired types ps (v ∷ vs) [] x h = absurd h
+passed-paired types [] (v ∷ vs) (t ∷ ts) x h = refl
+passed-paired types (typed f ∷ ps) (v ∷ vs) (t ∷ ts) x h = paired_first types (bytes_eq f.name x) t v _ _ h.0 (passed-paired types ps vs ts x h.1)
+passed-paired types (only c ∷ ps) (v ∷ vs) (t ∷ ts) x h = passed-paired types ps vs ts x h.1
+
+-- a name that is no parameter's
+pub passed_outside : {V : Type 0} (ps : List PositionTree) (vs : List V) (x : Name) → contains (field_names (position_fields ps)) x ≡ false → passed ps vs x ≡ None
+passed_outside ps [] x h = refl
+passed_outside [] (v ∷ vs) x h = refl
+passed_outside (typed f ∷ ps) (v ∷ vs) x h =
+    let parts = or_false (bytes_eq f.name x) (contains (field_names (position_fields ps)) x) h in
+    ap (λ b. cond b (Some v) (passed ps vs x)) parts.0 ∙ passed_outside ps vs x parts.1
+passed_outside (only c ∷ ps) (v ∷ vs) x h = passed_outside ps vs x h
+
+-- the environment of an entry has what is passed
+pub values_passed : (ps : List PositionTree) (vs : List Val) (x : Name) → values_of (field_names (position_fields ps)) (parameter_values ps vs) x ≡ passed ps vs x
+values_passed [] [] x = refl
+values_passed [] (v ∷ vs) x = refl
+values_passed (p ∷ ps) [] x = none (field_names (position_fields (p ∷ ps)))
+  where
+    none : (ns : List Name) → values_of ns [] x ≡ None
+    none [] = refl
+    none (n ∷ ns) = refl
+values_passed (typed f ∷ ps) (v ∷ vs) x = ap (cond (bytes_eq f.name x) (Some v)) (values_passed ps vs x)
+values_passed (only c ∷ ps) (v ∷ vs) x = values_passed ps vs x
+
+-- the context of an entry has the types of what is passed
+pub fields_passed : (i : Instance) (ps : List PositionTree) (ds : List Domain) (x : Name) → AreDomainsOf i ps ds → type_in (context_of i.types (position_fields ps)) x ≡ passed ps (position_types ds) x
+fields_passed i [] [] x h = refl
+fields_passed i [] (d ∷ ds) x h = absurd h
+fields_passed i (p ∷ ps) [] x h = absurd h
+fields_passed i (typed f ∷ ps) (every t ∷ ds) x h =
+    let rest = context_of i.types (position_fields ps) in
+    let one : Option ℕ → Context = λ o. option_map_or (λ n. (f.name, n) ∷ []) o [] in
+    ap (λ o. type_in (one o ++ rest) x) h.0 ∙ ap (cond (bytes_eq f.name x) (Some t)) (fields_passed i ps ds x h.1)
+fields_passed i (typed f ∷ ps) (single v ∷ ds) x h = absurd h.0
+fields_passed i (only c ∷ ps) (every t ∷ ds) x h = absurd h.0
+fields_passed i (only c ∷ ps) (single v ∷ ds) x h = fields_passed i ps ds x h.1
+
+-- there are as many domains as positions
+pub domains_long : (i : Instance) (ps : List PositionTree) (ds : List Domain) → AreDomainsOf i ps ds → length ps ≡ length ds
+domains_long i ps ds h = sym (AllZip-long (IsDomainOf i) ps ds h)
+
+pub types_of_domains : (i : Instance) (ps : List PositionTree) (ds : List Domain) → AreDomainsOf i ps ds → length ps ≡ length (position_types ds)
+types_of_domains i ps ds h = domains_long i ps ds h ∙ sym (length-map ds domain_type)
+
+-- ---- the place of a parameter
+
+-- the parameter has this name
+abbrev pub is_called : Name → PositionTree → Bool
+is_called x (typed f) = bytes_eq f.name x
+is_called x (only c) = false
+
+places : (x : Name) (i : ℕ) (ps : List Position) → position_from (λ p. is_called x (position_of p)) i ps ≡ parameter_from i (map position_of ps) x
+places x i [] = refl
+places x i (Typed f ∷ ps) = ap (cond (bytes_eq (name_of f.name) x) (Some i)) (places x (i + 1) ps)
+places x i (Constant c ∷ ps) = places x (i + 1) ps
+
+pub position-parameter : (x : Name) (ps : List Position) → position (λ p. is_called x (position_of p)) ps ≡ parameter_from 0 (map position_of ps) x
+position-parameter x ps = position_from-zero (λ p. is_called x (position_of p)) ps ∙ places x 0 ps
+
+parameter_from_below : (i : ℕ) (ps : List PositionTree) (x : Name) (k : ℕ) → parameter_from i ps x ≡ Some k → k < i + length ps
+parameter_from_below i [] x k e = absurd (cc)
+parameter_from_below i (typed f ∷ ps) x k e = go (bytes_eq f.name x) e (parameter_from_below (i + 1) ps x k)
+  where
+    go : (b : Bool) → cond b (Some i) (parameter_from (i + 1) ps x) ≡ Some k → (parameter_from (i + 1) ps x ≡ Some k → k < i + 1 + length ps) → k < i + length (typed f ∷ ps)
+    go true e rest = let same : i ≡ k = cc in omega arith
+    go false e rest = let r = rest e in omega arith
+parameter_from_below i (only c ∷ ps) x k e = let r = parameter_from_below (i + 1) ps x k e in omega arith
+
+pub parameter_below : (ps : List PositionTree) (x : Name) (k : ℕ) → parameter_from 0 ps x ≡ Some k → k < length ps
+parameter_below ps x k e = let r = parameter_from_below 0 ps x k e in omega arith
+
+-- a place, among positions that are the same
+pub parameter_in : (ps qs : List PositionTree) (x : Name) (o : Option ℕ) → o ≡ parameter_from 0 ps x → ps ≡ qs → parameter_from 0 qs x ≡ o
+parameter_in ps qs x o e g = ap (λ l. parameter_from 0 l x) (sym g) ∙ sym e
