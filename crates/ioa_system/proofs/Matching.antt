@@ -1,38 +1,20 @@
 -- Entries that have an action, and the code that they hold.
-use Rattle.std.proofs.Common.{◌≡◌, ◌≢◌, ℕ, ◌&&◌, Bool, true, false, cond, List, [], ◌∷◌, length, find, Option, Some, None, refl, ap, subst, suc}
+use Rattle.std.proofs.Common.{◌≡◌, ℕ, Bool, true, false, cond, List, [], ◌∷◌, find, Option, Some, None, refl, ap, subst}
 use Rattle.ioa_value.specs.Actions.{Act}
 use Rattle.ioa_value.specs.Plain.{Val}
 use Rattle.ioa_value.specs.Table.{Table}
-use Rattle.ioa_value.specs.Typing.{is_of, HaveTypes}
+use Rattle.ioa_value.specs.Positions.{all_take}
+use Rattle.ioa_value.specs.Typing.{HaveTypes}
+use Rattle.ioa_value.proofs.PositionLemmas.{all_take-typed}
 use Rattle.ioa_system.specs.Systems.{Slots, slots_of}
 use Rattle.std.specs.Str.{bytes_eq}
 use Rattle.ioa_code.specs.declared.instr.PartKind.TheVariants.{Pre, Eff}
 use Rattle.ioa_code.specs.Valid.{Part}
 use Rattle.ioa_syntax.specs.declared.tree.Kind.{Kind}
 use Rattle.ioa_syntax.specs.declared.tree.Kind.TheVariants.{Input, Output, Internal}
-use Rattle.ioa_compile.specs.Programs.{PositionCode, typed, EntryCode, MemberCode}
-use Rattle.ioa_compile.specs.Tables.{positions_hold, position_holds, position_types, is_in, entry_of, IsEntry, AreEntries, IsPartOf, HasPre}
+use Rattle.ioa_compile.specs.Programs.{EntryCode, MemberCode}
+use Rattle.ioa_compile.specs.Tables.{position_types, is_in, entry_of, IsEntry, AreEntries, IsPartOf, HasPre}
 use Rattle.std.proofs.lemmas.Bool.{and_parts}
-
-and_false : (b : Bool) → b && false ≡ false
-and_false true = refl
-and_false false = refl
-
-pub positions_unequal : (types : Table) (ps : List PositionCode) (vs : List Val) → length ps ≢ length vs → positions_hold types ps vs ≡ false
-positions_unequal types [] [] h = absurd (h refl)
-positions_unequal types [] (v ∷ vs) h = refl
-positions_unequal types (p ∷ ps) [] h = refl
-positions_unequal types (p ∷ ps) (v ∷ vs) h =
-    let e : positions_hold types ps vs ≡ false = positions_unequal types ps vs (λ k. h (ap suc k)) in rw e (and_false (position_holds types p v))
-
--- values that fit an entry's positions have their types
-pub positions_typed : (types : Table) (ps : List PositionCode) (vs : List Val) → positions_hold types ps vs ≡ true → HaveTypes types vs (position_types ps)
-positions_typed types [] [] h = tt
-positions_typed types [] (v ∷ vs) h = absurd (cc)
-positions_typed types (typed ty ∷ ps) [] h = absurd (cc)
-positions_typed types (typed ty ∷ ps) (v ∷ vs) h =
-    let k : (is_of types v ty ≡ true) × (positions_hold types ps vs ≡ true) = and_parts (is_of types v ty) (positions_hold types ps vs) h in
-    (k.0, positions_typed types ps vs k.1)
 
 -- values of types that are the part's
 fit : {code types : Table} (vs : List Val) {args tys : List ℕ} → code ≡ types → args ≡ tys → HaveTypes types vs tys → HaveTypes code vs args
@@ -43,7 +25,8 @@ pub record Found (m : MemberCode) (a : Act) (e : EntryCode) : Type 0 where
   pub typed : HaveTypes m.start.table a.vals (position_types e.positions)
 
 found_here : (m : MemberCode) (a : Act) (x : EntryCode) → IsEntry m x → is_in m.start.table a x ≡ true → Found m a x
-found_here m a x h k = record { entry = h; typed = positions_typed m.start.table x.positions a.vals (and_parts (bytes_eq x.name a.name) (positions_hold m.start.table x.positions a.vals) k).1 }
+found_here m a x h k =
+    record { entry = h; typed = all_take-typed m.start.table x.positions a.vals h.positions (and_parts (bytes_eq x.name a.name) (all_take m.start.table x.positions a.vals) k).1 }
 
 found_first : (m : MemberCode) (a : Act) (x e : EntryCode) (more : Option EntryCode) (b : Bool) → is_in m.start.table a x ≡ b → IsEntry m x
     → (more ≡ Some e → Found m a e) → cond b (Some x) more ≡ Some e → Found m a e

@@ -1,13 +1,12 @@
-ghost use Rattle.std.specs.Prelude.{◌≡◌, map};
+ghost use Rattle.std.specs.Prelude.{◌≡◌};
 ghost use Rattle.std.specs.Option.{option_map};
 ghost use Rattle.std.specs.Str.{bytes_eq};
 ghost use Rattle.ioa_value.specs.Actions.{act_of};
-ghost use Rattle.ioa_value.specs.Plain.{plain};
-ghost use Rattle.ioa_compile.specs.Shown.{position_code, entry_code, member_code};
+ghost use Rattle.ioa_compile.specs.Shown.{entry_code, member_code};
 ghost use Rattle.ioa_compile.specs.Tables as tables;
 
-use ioa_compile::{Entry, Member, Position};
-use ioa_value::{Action, Types, Value, has_type};
+use ioa_compile::{Entry, Member};
+use ioa_value::{Action, Types, all_take};
 
 /// The component's entry that has the action.
 pub(crate) fn entry_of<'a>(member: &'a Member, action: &Action) -> Option<&'a Entry>
@@ -26,7 +25,7 @@ fn is_in(types: &Types, action: &Action, entry: &Entry) -> bool
     ensures { result ≡ tables.is_in types.now (act_of action.now) (entry_code entry.now) }
 {
     same_name(entry.name.as_bytes(), action.name.as_bytes())
-        && positions_hold(types, &entry.positions, &action.vals)
+        && all_take(types, &entry.positions, &action.vals)
 }
 
 /// Whether two names are equal. Names are short: a call that compares words of memory costs more than their few bytes.
@@ -42,26 +41,4 @@ fn same_name(a: &[u8], b: &[u8]) -> bool
         }
     }
     true
-}
-
-fn positions_hold(types: &Types, positions: &[Position], values: &[Value]) -> bool
-    ensures { result ≡ tables.positions_hold types.now (map position_code positions.now) (map plain values.now) }
-{
-    if positions.len() != values.len() {
-        return false;
-    }
-    for i in 0..positions.len() {
-        if !position_holds(types, positions[i], &values[i]) {
-            return false;
-        }
-    }
-    true
-}
-
-fn position_holds(types: &Types, position: Position, value: &Value) -> bool
-    ensures { result ≡ tables.position_holds types.now (position_code position) (plain value.now) }
-{
-    match position {
-        Position::Typed(ty) => has_type(types, value, ty),
-    }
 }
