@@ -20,14 +20,14 @@ use Rattle.ioac.specs.Failing.{Spells, IsRefusedSource, IsFailure, Begins, IsUnw
 
 pub uncomposed : (text : List ℕ) (name : Option Name) (s u : SourceTree) (x : Refusal) → Spells text s → u ≡ s → WellFormed s
     → (picked u name ≡ None → x ≡ refusals.NoComposition)
-    → ((t : CompositionTree) → picked u name ≡ Some t → compositions.IsRefused u t.instances x)
+    → ((t : CompositionTree) → picked u name ≡ Some t → compositions.IsRefused u t x)
     → IsRefusedSource text name x
 uncomposed text name s u x found same well missing refused = inr (inr (inr (s, found, well, go (picked s name) refl)))
   where
     go : (o : Option CompositionTree) → picked s name ≡ o
-        → ((picked s name ≡ None) × (x ≡ refusals.NoComposition)) ⊎ ((t : CompositionTree) × (picked s name ≡ Some t) × compositions.IsRefused s t.instances x)
+        → ((picked s name ≡ None) × (x ≡ refusals.NoComposition)) ⊎ ((t : CompositionTree) × (picked s name ≡ Some t) × compositions.IsRefused s t x)
     go None e = inl (e, missing (subst (λ v. picked v name ≡ None) (sym same) e))
-    go (Some t) e = inr (t, e, subst (λ v. compositions.IsRefused v t.instances x) same (refused t (subst (λ v. picked v name ≡ Some t) (sym same) e)))
+    go (Some t) e = inr (t, e, subst (λ v. compositions.IsRefused v t x) same (refused t (subst (λ v. picked v name ≡ Some t) (sym same) e)))
 
 pub refused_so : {T : Type 0} (r : Result T Failure) (y : Failure) (x : Refusal) (text : List ℕ) (name : Option Name) (bytes : Option (List ℕ)) (failed : Type 0)
     → r ≡ Err y → y ≡ Failure.Refused x → IsRefusedSource text name x → IfErr r (λ e. IsFailure text name bytes failed e)

@@ -32,7 +32,7 @@ IsIllFormed text r = (s : SourceTree) × Spells text s × (WellFormed s → ⊥)
 abbrev pub IsUncomposed : List ℕ → Option Name → Refusal → Type 0
 IsUncomposed text name r =
     (s : SourceTree) × Spells text s × WellFormed s
-    × (((picked s name ≡ None) × (r ≡ refusals.NoComposition)) ⊎ ((t : CompositionTree) × (picked s name ≡ Some t) × compositions.IsRefused s t.instances r))
+    × (((picked s name ≡ None) × (r ≡ refusals.NoComposition)) ⊎ ((t : CompositionTree) × (picked s name ≡ Some t) × compositions.IsRefused s t r))
 
 abbrev pub IsRefusedSource : List ℕ → Option Name → Refusal → Type 0
 IsRefusedSource text name r =

@@ -42,9 +42,16 @@ pub const E14: Explanation = Explanation {
 
 pub const E15: Explanation = Explanation {
     code: Code::E15,
-    meaning: "A name that is to be hidden is no output of a component.",
-    example: Example::Told("No source of this version gives it, since no names can be hidden yet."),
-    mending: "There is nothing to mend.",
+    meaning: "A name is hidden that is no output's of any component: inputs cannot be hidden, and internal actions are not seen\n\
+        anyway.",
+    example: Example::Source(
+        "automaton Door\n\
+        signature input open; output ring\n\
+        transitions input open output ring\n\
+        composition House components D: Door\n\
+        hidden open",
+    ),
+    mending: "Hide names of outputs alone. Here: `hidden ring`.",
 };
 
 pub const E16: Explanation = Explanation {

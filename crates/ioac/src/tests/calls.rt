@@ -115,7 +115,7 @@ fn knows_owners_and_participants(rt: HostRuntime) -> Result<(), Fail> {
 }
 
 /// The number that is the first variable of a state.
-fn number_in(alloc: Global, state: &NodeState) -> Result<Option<i64>, OutOfMemory> {
+pub fn number_in(alloc: Global, state: &NodeState) -> Result<Option<i64>, OutOfMemory> {
     match state_values(alloc, state)?.first() {
         Some(Value::Num(number)) => Ok(Some(*number)),
         _ => Ok(None),

@@ -55,7 +55,7 @@ fn examples_give_their_codes(rt: HostRuntime) -> Result<(), Fail> {
             shown.push(code)?;
         }
     }
-    assert_eq!(rt; shown.len(), 16);
+    assert_eq!(rt; shown.len(), 17);
     Ok(())
 }
 

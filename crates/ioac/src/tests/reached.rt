@@ -1,0 +1,101 @@
+//! The states that lists of actions reach.
+
+use crate::tests::calls::number_in;
+use crate::tests::shelf::COUNTER;
+use ioa_check::check;
+use ioa_compile::{Program, compile};
+use ioa_compose::compose;
+use ioa_syntax::{Refusal, parse};
+use ioa_system::{End, run_list};
+use ioa_value::{Action, Fault, read_list};
+use std::alloc::Global;
+use std::process::Abort;
+use std::test::Fail;
+
+const TWO: &str = "
+type S = seq 1 of Int
+automaton Go signature output go states n: Int transitions output go eff n := n + 1
+automaton Pick signature input go states s: S; x: Int transitions input go eff x := at(s, 0)
+automaton Top signature input go states x: Int := 9223372036854775807 transitions input go eff x := x + 1
+composition Two components G: Go; P: Pick; T: Top";
+
+const FULL: &str = "
+type S = seq 1 of Int
+automaton Go signature output go states n: Int transitions output go eff n := n + 1
+automaton Full signature input go states s: S transitions input go eff s := append(s, 1)
+composition Both components G: Go; F: Full";
+
+const PUTS: &str = "
+automaton Put(i: Int) signature output put(const i) states n: Int transitions output put eff n := n + 1
+automaton Cell signature input put(i: Int) states x: Int transitions input put eff x := 1 - x
+composition Puts components P: Put(0); Q: Put(1); C: Cell
+hidden put";
+
+/// A source, a list of actions, how the run ends, and what its first two components then have as their first variable, where this is a
+/// number.
+const RUNS: [(&str, &str, End, [Option<i64>; 2]); 4] = [
+    (
+        COUNTER,
+        "tick(5)\ntick(6)\nreset\n",
+        End::Done(3),
+        [Some(5), None],
+    ),
+    (
+        TWO,
+        "go",
+        End::Fault(1, Fault::OutOfRange, 0),
+        [Some(0), None],
+    ),
+    (
+        FULL,
+        "go\ngo",
+        End::Fault(1, Fault::Full, 1),
+        [Some(1), None],
+    ),
+    (
+        PUTS,
+        "put(0)\nput(1)\nput(1)\nput(2)",
+        End::Done(4),
+        [Some(1), Some(2)],
+    ),
+];
+
+fn program(alloc: Global, source: &str) -> Result<Program, Refusal> {
+    let checked = check(alloc, parse(alloc, source.as_bytes())?)?;
+    let composition = compose(alloc, &checked, None)?;
+    Ok(compile(alloc, &composition)?)
+}
+
+fn expect_run(
+    rt: &impl Abort,
+    alloc: Global,
+    program: &Program,
+    actions: &[Action],
+    end: End,
+    numbers: &[Option<i64>],
+) -> Result<(), Fail> {
+    let run = run_list(alloc, program, actions)?;
+    assert_eq!(rt; run.end, end);
+    assert_eq!(rt; run.performed, end.performed());
+    for (component, wanted) in numbers.iter().enumerate() {
+        let found = match run.states.get(component) {
+            Some(state) => number_in(alloc, state)?,
+            None => None,
+        };
+        assert_eq!(rt; found, *wanted);
+    }
+    Ok(())
+}
+
+#[test]
+fn runs_reach_their_states(rt: HostRuntime) -> Result<(), Fail> {
+    let alloc = rt.alloc();
+    for (source, list, end, numbers) in RUNS {
+        let program = program(alloc, source)?;
+        match read_list(alloc, program.types(), list.as_bytes())? {
+            Ok(actions) => expect_run(&rt, alloc, &program, &actions, end, &numbers)?,
+            Err(line) => assert_eq!(rt; line, 0, "{list}"),
+        }
+    }
+    Ok(())
+}
