@@ -29,9 +29,10 @@ test:
 examples: all
 	@sh examples/run.sh $(PROGRAM)
 
-# Figures: how time and memory grow with the list, with the source, and with the code that is verified.
+# Figures: how time and memory grow with the list, with the source, with the components, and with the code that is verified.
 bench: all
 	@sh bench/ratios.sh $(PROGRAM)
+	@sh bench/compose.sh $(PROGRAM)
 	@sh bench/verify.sh
 
 install: all
