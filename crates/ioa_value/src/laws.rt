@@ -1,7 +1,8 @@
 //! What follows from the definitions alone.
 
-ghost use Rattle.std.specs.Prelude.{◌≡◌, ◌≢◌, ◌↔◌, ◌⊎◌, ℕ, ◌<◌, ℤ, pos, ◌+ℤ◌, ◌*ℤ◌, unsigned_abs, List, All, length, Some, IsTrue};
+ghost use Rattle.std.specs.Prelude.{◌≡◌, ◌≢◌, ◌↔◌, ◌⊎◌, ℕ, ◌<◌, ℤ, pos, ◌+ℤ◌, ◌*ℤ◌, unsigned_abs, true, List, All, length, Some, IsTrue};
 ghost use Rattle.std.specs.Int.{int_div_euclid, int_rem_euclid};
+ghost use Rattle.ioa_value.specs.Positions.{Domain, IsDomain, all_meet, all_take};
 ghost use Rattle.ioa_value.specs.Plain.{Val};
 ghost use Rattle.ioa_value.specs.Table.{Table, AreTypes};
 ghost use Rattle.ioa_value.specs.Typing.{HasType, HaveTypes, first_of};
@@ -65,4 +66,10 @@ pub fn same_is_equal()
 pub fn quotient_and_remainder()
     ensures sum { (a b : ℤ) → b ≢ pos 0 → a ≡ (int_div_euclid a b *ℤ b) +ℤ int_rem_euclid a b }
     ensures rest { (a b : ℤ) → b ≢ pos 0 → (r : ℕ) × (int_rem_euclid a b ≡ pos r) × (r < unsigned_abs b) }
+{}
+
+/// Of positions with declared types and well typed constants: two lists meet exactly where some values may stand in both.
+pub fn positions_meet()
+    ensures some { (types : Table) (ds es : List Domain) → AreTypes types → All (IsDomain types) ds → All (IsDomain types) es → all_meet types ds es ≡ true → (vs : List Val) × (all_take types ds vs ≡ true) × (all_take types es vs ≡ true) }
+    ensures only { (types : Table) (ds es : List Domain) (vs : List Val) → all_take types ds vs ≡ true → all_take types es vs ≡ true → all_meet types ds es ≡ true }
 {}

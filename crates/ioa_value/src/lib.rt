@@ -33,7 +33,7 @@ pub use declarations::Declarations;
 pub use initial::first;
 pub use laws::{
     first_is_typed, list_or_bad_line, no_bad_line, one_action, one_bad_line, one_list,
-    operators_are_typed, quotient_and_remainder, same_is_equal, written_is_read,
+    operators_are_typed, positions_meet, quotient_and_remainder, same_is_equal, written_is_read,
 };
 pub use limits::{LIMITS, Limits};
 pub use listing::{is_skipped, read_list};

@@ -29,7 +29,7 @@ impl Position {
         }
     }
 
-    /// Whether some value may stand in both positions.
+    /// Whether some value may stand in both positions, which are of declared types and well typed constants.
     pub fn meets(&self, types: &Types, other: &Position) -> bool
         ensures { result ≡ spec.meets types.now (domain_of self.now) (domain_of other.now) }
     {
@@ -77,7 +77,7 @@ pub fn all_take(types: &Types, positions: &[Position], values: &[Value]) -> bool
     true
 }
 
-/// Whether some values may stand in both lists of positions.
+/// Whether some values may stand in both lists of positions, which are of declared types and well typed constants.
 pub fn all_meet(types: &Types, a: &[Position], b: &[Position]) -> bool
     ensures { result ≡ spec.all_meet types.now (map domain_of a.now) (map domain_of b.now) }
 {
