@@ -18,9 +18,9 @@ use Rattle.ioa_syntax.specs.Types.{types_of}
 use Rattle.ioa_syntax.specs.Instances.{Instance, Fit, start_values, component_of}
 use Rattle.ioa_syntax.specs.Compositions.{Member, Composed, IsMember, AreMembers, IsComposed, instances_of, is_output_of, picked}
 use Rattle.ioa_compose.specs.Bindings.{instance_with, IsBound, AreBound}
-use Rattle.ioa_compose.specs.Refusals.{Clashing, ClashOn, Reason, misfit, faulty, clashing, hiding, no_memory, other, reason_of, IsUnbound, IsRefusedFor, IsRefused, IsFirstClash, NoClash, NoneClashes, NoneClash, FaultsIn, ClashesIn, HidesIn}
+use Rattle.ioa_compose.specs.Refusals.{Clashing, ClashOn, Reason, misfit, faulty, clashing, hiding, no_memory, other, reason_of, IsUnbound, IsRefusedFor, IsRefused, IsFirstClash, NoClash, NoneClashes, NoneClash, FaultsIn, ClashesIn, HidesIn, TellsClash}
 use Rattle.ioa_value.proofs.ItemLemmas.{some_at, all_at}
-use Rattle.ioa_compose.proofs.CompatibleLemmas.{none-from}
+use Rattle.ioa_compose.proofs.CompatibleLemmas.{compatible-from, none-from}
 
 -- the tree in the place of an instance
 bound-place : (s : SourceTree) (is : List InstanceTree) (ns : List Instance) (k : ℕ) (n : Instance) → AreBound s is ns → slice_get ns k ≡ Some n → (i : InstanceTree) × (slice_get is k ≡ Some i) × IsBound s i n
@@ -125,7 +125,7 @@ start-refused s t ns (faulty k f) b none outputs h =
     inr (
       (p.0, p.1, record { instance = h.0; bound = p.2; faulting = h.2 }),
       clash-free s t.instances ns b none,
-      λ ms c. subst (λ us. list_all (is_output_of us) t.hidden ≡ true) (all-one s t.instances ns ms b c) outputs,
+      (ns, b, outputs),
     )
 start-refused s t ns (clashing i j m) b none outputs h = absurd h
 start-refused s t ns (hiding x) b none outputs h = absurd h
@@ -152,17 +152,24 @@ members-bound s (i ∷ is) (m ∷ ms) h = (member-bound s i m h.0, members-bound
 ok-err : (vs : List Val) (f : Fault) → made vs ≡ Err f → ⊥
 ok-err vs f e = absurd (cc)
 
--- of what is refused there is no composition
-none-for : (s : SourceTree) (t : CompositionTree) (r : Reason) (c : Composed) → IsRefusedFor s t r → r ≢ no_memory → IsComposed s t c → ⊥
-none-for s t (misfit k) c h memory i =
-    let p = bound-at s t.instances (instances_of c) k h.0 (members-bound s t.instances c.members i.members) h.1 in
+-- what is bound has arguments, and they fit
+bound-fits : (s : SourceTree) (is : List InstanceTree) (ns : List Instance) (k : ℕ) → AreBound s is ns → IsUnbound s is (misfit k) → ⊥
+bound-fits s is ns k b h =
+    let p = bound-at s is ns k h.0 b h.1 in
     let m = h.2 in
     let q : Some m.automaton ≡ Some p.0.automaton = sym m.declared ∙ p.2.automaton in
     let q' : m.automaton ≡ p.0.automaton = cc in
     let v = same-ok m.arguments p.0.arguments (sym m.valued ∙ p.2.arguments) in
     m.unfit (subst (λ a. Fit (types_of s) a.formals m.arguments) (sym q') (subst (λ vs. Fit (types_of s) p.0.automaton.formals vs) (sym v) p.2.fit))
+
+bound-valued : (s : SourceTree) (is : List InstanceTree) (ns : List Instance) (k : ℕ) (f : Fault) → AreBound s is ns → IsUnbound s is (faulty k f) → ⊥
+bound-valued s is ns k f b h = let p = bound-at s is ns k h.0 b h.1 in ok-err p.0.arguments f (sym p.2.arguments ∙ h.2)
+
+-- of what is refused there is no composition
+none-for : (s : SourceTree) (t : CompositionTree) (r : Reason) (c : Composed) → IsRefusedFor s t r → r ≢ no_memory → IsComposed s t c → ⊥
+none-for s t (misfit k) c h memory i = bound-fits s t.instances (instances_of c) k (members-bound s t.instances c.members i.members) h
 none-for s t (faulty k f) c h memory i = elim h [
-  | inl u ↦ (let p = member-place s t.instances c.members k u.0 i.members u.1 in ok-err p.0.instance.arguments f (sym p.2.arguments ∙ u.2))
+  | inl u ↦ bound-valued s t.instances (instances_of c) k f (members-bound s t.instances c.members i.members) u
   | inr u ↦ (let p = member-place s t.instances c.members k u.0.0 i.members u.0.1 in
       let b = u.0.2 in
       ok-err p.0.starts f (sym p.2.starts ∙ ap start_values (one-bound s u.0.0 p.0.instance b.instance (member-bound s u.0.0 p.0 p.2) b.bound) ∙ b.faulting))
@@ -183,6 +190,25 @@ none-for s t (hiding x) c h memory i =
     both_ways (is_output_of u.1 x) u.3 (subst (λ ns. is_output_of ns x ≡ true) (all-one s t.instances (instances_of c) u.1 bound u.2) (subst (λ n. is_output_of (instances_of c) n ≡ true) same shown))
 none-for s t no_memory c h memory i = memory refl
 none-for s t other c h memory i = h
+
+-- instances of components that do not clash do not
+free-none : (s : SourceTree) (is : List InstanceTree) (ns : List Instance) → AreBound s is ns → NoClash s is → NoneClash ns
+free-none s is ns b free = λ k l m n x less e f d.
+    let p = bound-place s is ns k m b e in
+    let q = bound-place s is ns l n b f in
+    free k l p.0 q.0 x less p.1 q.1 (record { first = m; second = n; first_bound = p.2; second_bound = q.2; clash = d })
+
+-- where all components have instances, and these are not compatible, a clash is told
+clash-for : (s : SourceTree) (t : CompositionTree) (ns : List Instance) (r : Reason) → AreBound s t.instances ns → (Compatible (map component_of ns) → ⊥) → IsRefusedFor s t r → r ≢ no_memory → TellsClash r
+clash-for s t ns (misfit k) b apart h memory = absurd (bound-fits s t.instances ns k b h)
+clash-for s t ns (faulty k f) b apart h memory = elim h [
+  | inl u ↦ absurd (bound-valued s t.instances ns k f b u)
+  | inr u ↦ absurd (apart (compatible-from ns (free-none s t.instances ns b u.1)))
+]
+clash-for s t ns (clashing i j x) b apart h memory = (i, j, x, refl)
+clash-for s t ns (hiding x) b apart h memory = absurd (apart (compatible-from ns (free-none s t.instances ns b h.1)))
+clash-for s t ns no_memory b apart h memory = absurd (memory refl)
+clash-for s t ns other b apart h memory = absurd h
 
 -- no other refusal is for want of memory
 memory-is : (r : Refusal) → reason_of r ≡ no_memory → r ≡ OutOfMemory
@@ -223,3 +249,11 @@ refused-from (Err x) ds es o t q e h = λ u f.
     let p : Some t ≡ Some u = e ∙ ap (λ xs. picked (tree_of xs) o) q ∙ f in
     let same : t ≡ u = cc in
     subst (λ v. IsRefused (tree_of es) v x) same (subst (λ xs. IsRefused (tree_of xs) t x) q h)
+
+pub clash-from : {X : Type 0} (r : Result X Refusal) (ds es : List Declaration) (o : Option Name) (t : CompositionTree) → ds ≡ es → Some t ≡ picked (tree_of ds) o → IfErr r (λ e. IsRefused (tree_of ds) t e)
+    → IfErr r (λ e. e ≢ OutOfMemory → (u : CompositionTree) → picked (tree_of es) o ≡ Some u → (ns : List Instance) → AreBound (tree_of es) u.instances ns → (Compatible (map component_of ns) → ⊥) → TellsClash (reason_of e))
+clash-from (Ok x) ds es o t q e h = tt
+clash-from (Err x) ds es o t q e h = λ no_memory u f ns b apart.
+    let p : Some t ≡ Some u = e ∙ ap (λ xs. picked (tree_of xs) o) q ∙ f in
+    let same : t ≡ u = cc in
+    clash-for (tree_of es) u ns (reason_of x) b apart (subst (λ v. IsRefused (tree_of es) v x) same (subst (λ xs. IsRefused (tree_of xs) t x) q h)) (λ m. no_memory (memory-is x m))

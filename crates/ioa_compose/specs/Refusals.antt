@@ -29,7 +29,7 @@ pub record StartsWith (s : SourceTree) (i : InstanceTree) (f : Fault) : Type 0 w
   pub bound : IsBound s i instance
   pub faulting : start_values instance ≡ Err f
 
--- an action of this name is internal to one of two and of the other too, or an output of both
+-- some action of this name is internal to one of the two and an action of the other, or an output of both
 abbrev pub Clashing : Name → Instance → Instance → Type 0
 Clashing name m n = (a : Act) × (a.name ≡ name)
     × (((component_of m).kind_of a ≡ Some Internal × ((component_of n).kind_of a ≡ None → ⊥))
@@ -63,11 +63,11 @@ NoClash s is = (i j : ℕ) (m n : InstanceTree) (name : Name) → i < j → slic
 abbrev pub AllBound : SourceTree → List InstanceTree → Type 0
 AllBound s is = (ns : List Instance) × AreBound s is ns
 
--- each hidden name is an output's of one of the components
+-- each component has its instance, and each hidden name is the name of an output of one of these
 abbrev pub HidesOutputs : SourceTree → CompositionTree → Type 0
-HidesOutputs s t = (ns : List Instance) → AreBound s t.instances ns → list_all (is_output_of ns) t.hidden ≡ true
+HidesOutputs s t = (ns : List Instance) × AreBound s t.instances ns × (list_all (is_output_of ns) t.hidden ≡ true)
 
--- the name is hidden, and is no output's of any component
+-- each component has its instance; the name is hidden, and is the name of no output of these
 abbrev pub HidesNoOutput : SourceTree → CompositionTree → Name → Type 0
 HidesNoOutput s t x = (contains t.hidden x ≡ true) × (ns : List Instance) × AreBound s t.instances ns × (is_output_of ns x ≡ false)
 
@@ -173,6 +173,10 @@ ClashesIn ns (clashing i j name) = (m : Instance) × (n : Instance) × (i < j) �
 ClashesIn ns (hiding name) = ⊥
 ClashesIn ns no_memory = Unit {0}
 ClashesIn ns other = ⊥
+
+-- a clash is told
+abbrev pub TellsClash : Reason → Type 0
+TellsClash r = (i : ℕ) × (j : ℕ) × (name : Name) × (r ≡ clashing i j name)
 
 -- one of the hidden names is no output's of any of the instances
 abbrev pub HidesIn : List Instance → List Name → Reason → Type 0

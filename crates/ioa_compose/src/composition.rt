@@ -1,4 +1,4 @@
-ghost use Rattle.std.specs.Prelude.{◌≡◌, ◌≢◌, ◌↔◌, Some, None, IfOk, IfErr, IsErrOf, option_copied, map};
+ghost use Rattle.std.specs.Prelude.{◌≡◌, ◌≢◌, ◌↔◌, List, Some, None, IfOk, IfErr, IsErrOf, option_copied, map};
 ghost use Rattle.std.specs.String.{string_bytes};
 ghost use Rattle.ioa_lex.specs.declared.refusal.Refusal.TheVariants.{NoComposition, OutOfMemory};
 ghost use Rattle.ioa_syntax.specs.Tree.{CompositionTree};
@@ -6,8 +6,10 @@ ghost use Rattle.ioa_syntax.specs.View.{tree_of, assembly_of};
 ghost use Rattle.ioa_syntax.specs.Names.{LegalNames};
 ghost use Rattle.ioa_syntax.specs.Types.{types_of};
 ghost use Rattle.ioa_syntax.specs.WellFormed.{WellFormed};
-ghost use Rattle.ioa_compose.specs.Bindings.{IsComposable};
-ghost use Rattle.ioa_compose.specs.Refusals.{IsRefused};
+ghost use Rattle.ioa_syntax.specs.Components.{Compatible};
+ghost use Rattle.ioa_syntax.specs.Instances.{Instance, component_of};
+ghost use Rattle.ioa_compose.specs.Bindings.{AreBound, IsComposable};
+ghost use Rattle.ioa_compose.specs.Refusals.{IsRefused, TellsClash, reason_of};
 ghost use Rattle.ioa_syntax.specs.Compositions.{Composed, IsComposed, picked};
 ghost use Rattle.ioa_compose.specs.Fine.{IsSound};
 ghost use Rattle.ioa_compose.specs.Held.{composed_of};
@@ -96,6 +98,7 @@ pub fn compose(alloc: Global, checked: &Checked, name: Option<&str>) -> Result<C
     ensures missing { (picked (tree_of checked.now) (option_copied name.entry) ≡ None) ↔ IsErrOf result NoComposition }
     ensures exact { IfErr result (λ r. r ≢ OutOfMemory → (t : CompositionTree) → picked (tree_of checked.now) (option_copied name.entry) ≡ Some t → (c : Composed) → IsComposed (tree_of checked.now) t c → ⊥) }
     ensures refused { (t : CompositionTree) → picked (tree_of checked.now) (option_copied name.entry) ≡ Some t → IfErr result (λ r. IsRefused (tree_of checked.now) t r) }
+    ensures clash { IfErr result (λ r. r ≢ OutOfMemory → (t : CompositionTree) → picked (tree_of checked.now) (option_copied name.entry) ≡ Some t → (ns : List Instance) → AreBound (tree_of checked.now) t.instances ns → (Compatible (map component_of ns) → ⊥) → TellsClash (reason_of r)) }
 {
     let declarations = checked.declarations();
     match picks::picked(declarations, name) {

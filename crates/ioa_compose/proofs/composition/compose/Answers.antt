@@ -4,7 +4,7 @@ use Rattle.ioa_syntax.specs.View.{tree_of, assembly_of}
 use Rattle.ioa_syntax.specs.Names.{LegalNames}
 use Rattle.ioa_syntax.specs.WellFormed.{well_formed}
 use Rattle.ioa_compose.proofs.SourceLemmas.{picked_composable}
-use Rattle.ioa_compose.proofs.RefusalLemmas.{exact-from, refused-from}
+use Rattle.ioa_compose.proofs.RefusalLemmas.{clash-from, exact-from, refused-from}
 use Rattle.ioa_compose.proofs.composition.compose.Goals as goal
 
 pub composed-requires-clause-composable : goal.composed-requires-clause-composable
@@ -21,4 +21,9 @@ returns-in-Some-clause-exact c =
 pub returns-in-Some-clause-refused : goal.returns-in-Some-clause-refused
 returns-in-Some-clause-refused c =
     refused-from c.composed.result c.declarations-declarations.result.now c.args.checked.now (option_copied c.args.name) (assembly_of c.in-Some.assembly.now)
+    c.declarations-declarations.ensures.value c.in-Some.ensures c.composed.ensures.refused
+
+pub returns-in-Some-clause-clash : goal.returns-in-Some-clause-clash
+returns-in-Some-clause-clash c =
+    clash-from c.composed.result c.declarations-declarations.result.now c.args.checked.now (option_copied c.args.name) (assembly_of c.in-Some.assembly.now)
     c.declarations-declarations.ensures.value c.in-Some.ensures c.composed.ensures.refused
