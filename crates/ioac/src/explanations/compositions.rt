@@ -36,13 +36,13 @@ pub const E14: Explanation = Explanation {
         transitions output open\n\
         composition Two components A: Door; B: Door",
     ),
-    mending: "An action has one owner, and an internal one is nobody else's: give one of the two another name, or make an output\n\
-        an input of the other component. Here one Door is enough.",
+    mending: "An action has one owner, and an internal one is nobody else's: give one of the two another name or another\n\
+        constant, or make an output an input of the other component. Here one Door is enough.",
 };
 
 pub const E15: Explanation = Explanation {
     code: Code::E15,
-    meaning: "A name is hidden that is no output's of any component: inputs cannot be hidden, and internal actions are not seen\n\
+    meaning: "A hidden name is the name of no component's output: inputs cannot be hidden, and internal actions are not seen\n\
         anyway.",
     example: Example::Source(
         "automaton Door\n\

@@ -5,8 +5,9 @@ use crate::explanation::{Example, Explanation};
 
 pub const E5: Explanation = Explanation {
     code: Code::E5,
-    meaning: "A name is declared twice, or has two entries or two proposals. Within an automaton its formals, its variables\n\
-        and the parameters of an entry differ from each other, and from the names of types, automata and compositions.",
+    meaning: "A name is declared twice, or has two entries or two proposals, or is hidden twice. Within an automaton its\n\
+        formals, its variables and the parameters of an entry differ from each other, and from the names of types, automata\n\
+        and compositions.",
     example: Example::Source(
         "automaton Door\n\
         signature input open\n\
@@ -19,7 +20,8 @@ pub const E5: Explanation = Explanation {
 pub const E6: Explanation = Explanation {
     code: Code::E6,
     meaning: "A name is not known here: it is declared nowhere, or only later, or it may not stand in this place; or a tuple\n\
-        has no field of this name. Only variables are assigned to; start expressions and arguments read no variable.",
+        has no field of this name. Only variables are assigned to; start expressions, arguments and constants of positions\n\
+        read no variable.",
     example: Example::Source(
         "automaton Door\n\
         signature input open\n\
@@ -72,8 +74,8 @@ pub const E9: Explanation = Explanation {
 pub const E10: Explanation = Explanation {
     code: Code::E10,
     meaning: "A limit is passed: 1,024 types, 256 names of an enumeration, 16 fields of a tuple, a capacity from 1 to 256,\n\
-        256 automata and compositions, 32 components, 64 variables or entries of an automaton, 8 formals or parameters,\n\
-        4,096 nodes in a precondition, a transition's proposals, or an effect.",
+        256 automata and compositions, 32 components, 64 hidden names, 64 variables or entries of an automaton, 8 formals,\n\
+        8 positions of an entry, 4,096 nodes in a precondition, a transition's proposals, or an effect.",
     example: Example::Source(
         "automaton Door(a: Int, b: Int, c: Int, d: Int, e: Int, f: Int, g: Int, h: Int, i: Int)\n\
         signature input open\n\

@@ -62,13 +62,24 @@ fn reads_and_prints_actions(rt: HostRuntime) -> Result<(), Fail> {
     Ok(())
 }
 
+/// Each form of a constant, and hidden names.
+const LINKS: &str = "
+type Kind = enum { data, ack }
+automaton Link(i: Int)
+signature output send(const i, m: Int); internal drop(const 0, const -5, const true, const false, const data)
+transitions output send propose m := i internal drop
+composition Links components A: Link(0); B: Link(1); hidden send";
+
 #[test]
 fn prints_what_is_parsed(rt: HostRuntime) -> Result<(), Fail> {
     let alloc = rt.alloc();
+    for spelled in [COUNTER, LINKS] {
+        let source = parse(alloc, spelled.as_bytes())?;
+        let text = print(alloc, &source)?;
+        let again = parse(alloc, text.as_slice())?;
+        assert!(rt; source.same(&again));
+    }
     let source = parse(alloc, COUNTER.as_bytes())?;
-    let text = print(alloc, &source)?;
-    let again = parse(alloc, text.as_slice())?;
-    assert!(rt; source.same(&again));
     let other = parse(
         alloc,
         b"automaton A signature internal a transitions internal a",

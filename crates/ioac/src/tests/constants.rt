@@ -29,6 +29,9 @@ check f | automaton A signature output send(const 0, m: Int)^transitions^output 
 -- 8 and 9 positions
 check f | automaton A signature input send(const 0&, const #@7&) transitions input send | ok^ |  | 0
 check f | automaton A signature input send(const 0&, const #@7&, ^const true) transitions input send |  | E10 line 2^ | 1
+check f | automaton A signature input send(const 0&, const #@7&, ^const 9, ^const true) transitions input send |  | E10 line 2^ | 1
+check f | automaton A signature input send(const 0&, const #@7&, const ^-9, ^m: Int) transitions input send |  | E10 line 2^ | 1
+check f | automaton A signature input send(const 0&, const #@7&, ^m: Int, ^const x) transitions input send |  | E10 line 2^ | 1
 -- hidden names
 check f | automaton D signature output open transitions output open composition C components A: D hidden open | ok^ |  | 0
 check f | automaton D signature output open; output close transitions output open output close composition C components A: D; hidden open, close; composition E components A: D hidden close | ok^ |  | 0
@@ -57,6 +60,9 @@ type Kind = enum { data, ack } automaton D signature output send(const ack) tran
 type Kind = enum { data, ack } automaton D signature output send(const ack) transitions output send automaton E signature output send(k: Kind) transitions output send composition C components A: D; B: E |  |  | E14 components 0 and 1 on send^ | 1
 type Kind = enum { data, ack } automaton D signature output send(const ack) transitions output send automaton E(k: Kind) signature internal send(const k) transitions internal send composition C components A: E(data); B: E(ack); F: D |  |  | E14 components 1 and 2 on send^ | 1
 automaton D signature output send(const true) transitions output send automaton E signature output send(k: Bool) transitions output send composition C components A: D; B: E |  |  | E14 components 0 and 1 on send^ | 1
+automaton D signature output send(const 0) transitions output send automaton E signature output send(const -0) transitions output send composition C components A: D; B: E |  |  | E14 components 0 and 1 on send^ | 1
+automaton D signature output a(const 0); output b transitions output a output b automaton E signature output a(const 1); output b transitions output a output b composition C components A: D; B: E |  |  | E14 components 0 and 1 on b^ | 1
+automaton D signature output a; output b transitions output a output b automaton E signature output b transitions output b automaton F signature output a transitions output a composition C components A: D; B: E; G: F |  |  | E14 components 0 and 1 on b^ | 1
 -- an action has the constants' values in their places; a formal stands for its value
 automaton A(i: Int) signature output put(const i, n: Int, const -5, m: Int) transitions output put pre n < m propose n := 0, m := i composition C components P: A(1) | put(1, 2, -5, 3)^put(1, 3, -5, 2) | put(1, 2, -5, 3)^end: not enabled at 1^ |  | 4
 automaton A(i: Int) signature output put(const i, n: Int, const -5, m: Int) transitions output put pre n < m propose n := 0, m := i composition C components P: A(1) | put(2, 2, -5, 3) | end: not an action at 0^ |  | 4
@@ -74,7 +80,10 @@ automaton Counter(start: Int) signature output tick(k: Int); input reset states 
 automaton D signature output send(const 0, m: Int) transitions output send propose m := 0 automaton R signature input send(k: Int, m: Int) transitions input send composition C components A: D; B: R hidden send | send(0, 7)^send(1, 7)^send(0, 8)^send(2, 0) | send(1, 7)^send(2, 0)^end: done after 4^ |  | 0
 automaton D signature output open; internal rest; output shut transitions output open internal rest output shut composition C components A: D hidden open | open^rest^shut^open | shut^end: done after 4^ |  | 0
 type S = seq 1 of Int automaton Go signature output go states n: Int transitions output go eff n := n + 1 automaton Full signature input go states s: S transitions input go eff s := append(s, 1) composition Both components G: Go; F: Full hidden go | go^go | end: fault 5 in component 1 at 1^ |  | 3
+automaton D signature internal x(const 0) transitions internal x automaton E signature output x(const 1) transitions output x composition C components A: D; B: E hidden x | x(0)^x(1)^x(2) | end: not an action at 2^ |  | 4
 -- arguments before clashes, clashes before hidden names, and these before starts
+automaton D(n: Int) signature output open states x: Int := 1 div n transitions output open composition C components A: D(0); B: D(true) |  |  | E12 component 1^ | 1
+automaton D(n: Int) signature output open states x: Int := 1 div n transitions output open composition C components A: D(0); B: D(1 div 0) hidden shut |  |  | E16 component 1 fault 2^ | 1
 automaton D(n: Int) signature output open states x: Int := 1 div n transitions output open composition C components A: D(true) hidden shut |  |  | E12 component 0^ | 1
 automaton D(n: Int) signature output open states x: Int := 1 div n transitions output open composition C components A: D(1 div 0) hidden shut |  |  | E16 component 0 fault 2^ | 1
 automaton D(n: Int) signature output open states x: Int := 1 div n transitions output open composition C components A: D(0); B: D(1) hidden shut |  |  | E14 components 0 and 1 on open^ | 1

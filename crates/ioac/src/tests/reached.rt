@@ -6,8 +6,8 @@ use ioa_check::check;
 use ioa_compile::{Program, compile};
 use ioa_compose::compose;
 use ioa_syntax::{Refusal, parse};
-use ioa_system::{End, run_list};
-use ioa_value::{Action, Fault, read_list};
+use ioa_system::{End, is_external, owner, participants, run_list};
+use ioa_value::{Action, Fault, read_action, read_list};
 use std::alloc::Global;
 use std::process::Abort;
 use std::test::Fail;
@@ -95,6 +95,31 @@ fn runs_reach_their_states(rt: HostRuntime) -> Result<(), Fail> {
         match read_list(alloc, program.types(), list.as_bytes())? {
             Ok(actions) => expect_run(&rt, alloc, &program, &actions, end, &numbers)?,
             Err(line) => assert_eq!(rt; line, 0, "{list}"),
+        }
+    }
+    Ok(())
+}
+
+/// An action of the cell and its writers, its owner, and how many components have it.
+const OWNERS: [(&str, Option<usize>, usize); 4] = [
+    ("put(0)", Some(0), 2),
+    ("put(1)", Some(1), 2),
+    ("put(2)", None, 1),
+    ("put(true)", None, 0),
+];
+
+#[test]
+fn constants_tell_owners(rt: HostRuntime) -> Result<(), Fail> {
+    let alloc = rt.alloc();
+    let program = program(alloc, PUTS)?;
+    for (text, wanted, count) in OWNERS {
+        match read_action(alloc, program.types(), text.as_bytes())? {
+            Some(action) => {
+                assert_eq!(rt; owner(&program, &action), wanted);
+                assert_eq!(rt; participants(alloc, &program, &action)?.len(), count);
+                assert!(rt; is_external(&program, &action) == wanted.is_none());
+            }
+            None => assert_eq!(rt; count, 0, "{text}"),
         }
     }
     Ok(())
