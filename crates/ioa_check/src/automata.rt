@@ -117,7 +117,7 @@ fn each_entry_fine(
     Ok(())
 }
 
-/// Whether parameters have names of their own and known types, and constants name formals alone.
+/// Whether parameters have names of their own and known types, and constants name no variable and no parameter.
 fn entry_fine(
     known: &Known,
     automaton: &Automaton,

@@ -192,7 +192,7 @@ module _ (t early : Table) (globals : List Name) (a : AutomatonTree) where
   abbrev pub start_fine : VariableTree → Bool
   start_fine v = option_map_or (λ e. same_type (type_of t early formals e) (type_named early v.field.ty)) v.start true
 
-  -- the parameters of an entry have names of their own and known types, and its constants name formals alone
+  -- the parameters of an entry have names of their own and known types, and its constants name no variable and no parameter
   abbrev pub entry_fine : EntryTree → Bool
   entry_fine e = distinct (parameter_names e) && apart (parameter_names e) (globals ++ local_names)
       && list_all (position_fine early formals) e.positions
