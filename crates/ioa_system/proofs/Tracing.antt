@@ -81,6 +81,12 @@ trace_more hidden ps acts a n b l x =
 
 -- ---- a run whose actions come one by one
 
+done_at : (e : End) (n : ℕ) → ending_of e ≡ done n → e ≡ End.Done n
+done_at (End.Done k) n e = cc
+done_at (End.NotAnAction i) n e = absurd (cc)
+done_at (End.NotEnabled i) n e = absurd (cc)
+done_at (End.Fault c f i) n e = absurd (cc)
+
 pub over_begin : (p : Prog) (r : Progress) → r ≡ record { program = p; states = start_states p; end = End.Done 0 } → IsRunOver p [] [] r
 over_begin p r e = record {
   program = ap (λ (q : Progress). q.program) e;
@@ -147,6 +153,11 @@ module _ (p : Prog) (acts traced : List Act) (a : Act) (r : Progress) (over : Is
         let t : traced ≡ trace p.hidden (tabled p) acts n = over.trace ∙ ap (trace p.hidden (tabled p) acts) (ap performed_by d) in
         ap (λ ts. ts ++ (if b then a ∷ [] else [])) t ∙ trace_more p.hidden (tabled p) acts a n b g x ∙ ap (trace p.hidden (tabled p) (acts ++ a ∷ [])) (sym (ap performed_by e));
   }
+
+  -- what has become of the action that was taken
+  pub over_took : (shown : List Act) (now : Progress) (n : ℕ) → IsRunOver p (acts ++ a ∷ []) shown now → ending_of r.end ≡ done n
+      → reached_by now ≡ after n r.states (step (tabled p) a r.states) (λ ts. run_from (n + 1) (tabled p) [] ts)
+  over_took shown now n o e = let d : r.end ≡ End.Done n = done_at r.end n e in o.reached ∙ more ∙ rw d refl
 
 -- what the table's run is, the source's run is
 pub source_run : (p : Prog) (acts : List Act) (r : Run) (c : Composed) → IsTableRun p acts r → Means p c → IsSourceRun c acts r

@@ -7,3 +7,4 @@ pub mod Drafted
 pub mod Progress
 pub mod Records
 pub mod Sources
+pub mod Logs

@@ -4,6 +4,7 @@
 mod answer;
 mod entries;
 mod laws;
+mod log;
 mod moves;
 mod participation;
 mod runner;
@@ -12,6 +13,7 @@ mod system;
 
 pub use answer::{End, Moved, Step};
 pub use laws::steps_are_the_sources;
+pub use log::{Log, LogEnd, LogEntry, worker};
 pub use moves::step_from;
 pub use participation::{is_external, owner, participants};
 pub use runner::Runner;

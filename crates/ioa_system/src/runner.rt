@@ -1,10 +1,12 @@
-ghost use Rattle.std.specs.Prelude.{◌≡◌, ◌++◌, ◌∷◌, [], List, IfOk, OnErr, if◌then◌else◌};
+ghost use Rattle.std.specs.Prelude.{◌≡◌, ◌++◌, ◌∷◌, [], List, IfOk, OnErr, OnOk, if◌then◌else◌, map};
 ghost use Rattle.ioa_value.specs.Actions.{Act, act_of};
 ghost use Rattle.ioa_compile.specs.Programs.{Prog};
 ghost use Rattle.ioa_system.specs.Progress.{IsRunOver};
+ghost use Rattle.ioa_system.specs.Records.{IsTableRun};
 ghost use Rattle.ioa_system.specs.Systems.{values_of};
 
 use crate::answer::End;
+use crate::runs::Run;
 use crate::system::System;
 use ioa_compile::Program;
 use ioa_node::NodeState;
@@ -67,6 +69,23 @@ impl<'a> Runner<'a> {
         }
     }
 
+    /// Hands the run its next action, and puts an equal of it at the trace's end where the trace goes on with it.
+    pub fn record(
+        &mut self,
+        alloc: Global,
+        action: &Action,
+        trace: &mut Vec<Action>,
+    ) -> Result<(), OutOfMemory>
+        ensures { OnOk result ((p : Prog) (acts : List Act) → IsRunOver p acts (map act_of trace.old.items) self.old
+            → IsRunOver p (acts ++ act_of action.now ∷ []) (map act_of trace.new.items) self.new) }
+    {
+        let goes_on = self.take(action)?;
+        if goes_on {
+            trace.push(action.try_copy(alloc)?)?;
+        }
+        Ok(())
+    }
+
     /// How the run over the actions so far ends.
     pub fn end(&self) -> End
         ensures { result ≡ self.now.end }
@@ -79,5 +98,17 @@ impl<'a> Runner<'a> {
         ensures { values_of result.items ≡ self.entry.states }
     {
         self.system.into_states()
+    }
+    /// The run over the actions so far, with the trace that was recorded.
+    pub fn into_run(self, trace: Vec<Action>) -> Run
+        ensures { (p : Prog) (acts : List Act) → IsRunOver p acts (map act_of trace.items) self.entry → IsTableRun p acts result }
+    {
+        let end = self.end;
+        Run {
+            performed: end.performed(),
+            states: self.into_states(),
+            end,
+            trace,
+        }
     }
 }

@@ -38,16 +38,7 @@ fn run_table(alloc: Global, program: &Program, actions: &[Action]) -> Result<Run
     let mut runner = Runner::start(alloc, program)?;
     let mut trace = Vec::new(alloc);
     for action in actions {
-        let goes_on = runner.take(action)?;
-        if goes_on {
-            trace.push(action.try_copy(alloc)?)?;
-        }
+        runner.record(alloc, action, &mut trace)?;
     }
-    let end = runner.end();
-    Ok(Run {
-        performed: end.performed(),
-        states: runner.into_states(),
-        end,
-        trace,
-    })
+    Ok(runner.into_run(trace))
 }
