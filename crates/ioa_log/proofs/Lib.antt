@@ -1,2 +1,16 @@
-pub mod Replaying
 pub mod Lines
+pub mod Ends
+pub mod LinesRead
+pub mod LogReading
+pub mod OneLog
+pub mod PlainTexts
+pub mod WrittenLogs
+pub mod Replaying
+pub mod Entries
+pub mod Judged
+pub mod Following
+pub mod Telling
+pub mod Monitored
+pub mod Accepting
+pub mod JudgingExamples
+pub mod LogExamples

@@ -29,7 +29,7 @@ starts b bs h = by (b == 10) refl
     by true e = let never : [] ≡ b ∷ bs = rw e at h in absurd (cc)
     by false e = let more : b ∷ first_line bs ≡ b ∷ bs = rw e at h in (e, cc)
 
-lines_line : (l rest : List ℕ) → IsLineText l → lines (l ++ (10 ∷ rest)) ≡ l ∷ lines rest
+pub lines_line : (l rest : List ℕ) → IsLineText l → lines (l ++ (10 ∷ rest)) ≡ l ∷ lines rest
 lines_line [] rest h = refl
 lines_line (b ∷ bs) rest h = let s = starts b bs h in rw (s.0, lines_line bs rest s.1) refl
 
@@ -250,6 +250,13 @@ known_more None left more xs ys c d = tt
 known_more (Some bs) None more xs ys c d = absurd c
 known_more (Some bs) (Some cs) None xs ys c d = absurd d
 known_more (Some bs) (Some cs) (Some zs) xs ys c d = c ∙ ap (λ z. xs ++ z) d ∙ sym (append_assoc xs ys zs)
+
+pub known_none : (known : Option (List ℕ)) (xs : List ℕ) → xs ≡ [] → Consumes known known xs
+known_none None xs e = tt
+known_none (Some bs) xs e = ap (λ zs. zs ++ bs) (sym e)
+
+pub known_pushed : (known left more : Option (List ℕ)) (xs ys zs : List ℕ) → zs ≡ xs ++ ys → Consumes known left xs → Consumes left more ys → Consumes known more zs
+known_pushed known left more xs ys zs e c d = subst (Consumes known more) (sym e) (known_more known left more xs ys c d)
 
 -- ---- failures
 

@@ -1,4 +1,11 @@
 pub mod Counts
 pub mod Failing
 pub mod Replays
+pub mod LogLines
+pub mod LogTexts
+pub mod Judging
+pub mod Agreeing
+pub mod Monitoring
+pub mod LinesRead
+pub mod Telling
 pub mod Readings

@@ -1,15 +1,25 @@
-//! Replays of lists of actions, over readers and writers that count their failures.
+//! Replays of lists of actions and texts of logs, over readers and writers that count their failures.
 #![tactic(auto)]
 
 mod counted;
 mod device;
+mod end_texts;
 mod failure;
+mod judge;
+mod laws;
+mod log_lines;
+mod logs;
+mod monitors;
 mod reading;
-mod replay;
+mod replays;
 mod streams;
 
 pub use counted::Counted;
 pub use device::{Device, Failed, InputDevice, OutputDevice};
 pub use failure::LogErr;
-pub use replay::replay_list;
+pub use judge::replay;
+pub use laws::{judged_is_the_run, monitored_is_the_run, no_refusal, one_log, written_log_is_read};
+pub use logs::{read_log, write_log};
+pub use monitors::{MonitorErr, monitor};
+pub use replays::replay_list;
 pub use streams::send_all;

@@ -1,8 +1,8 @@
-ghost use Rattle.std.specs.Prelude.{◌≡◌, ◌≤◌, ℕ, [], OnOk, OnErr, IfErr, IfSome, IsErrOf, take};
+ghost use Rattle.std.specs.Prelude.{◌≡◌, ◌≤◌, ◌⊎◌, ℕ, [], OnOk, OnErr, IfOk, IfErr, IfSome, IsErrOf, take};
 ghost use Rattle.std.specs.Io.KnownBytes.{Appends};
 ghost use Rattle.ioa_value.specs.Lists.{BadLine};
 ghost use Rattle.ioa_compile.specs.Programs.{Prog};
-ghost use Rattle.ioa_log.specs.Failing.{HasFailed};
+ghost use Rattle.ioa_log.specs.Failing.{HasFailed, IsListErr};
 ghost use Rattle.ioa_log.specs.Readings.{HasSeen};
 ghost use Rattle.ioa_log.specs.declared.failure.LogErr.{LogErr};
 
@@ -24,6 +24,7 @@ pub(crate) fn feed_all<R: InputDevice>(
     ensures bad { (n : ℕ) → IsErrOf result (LogErr.BadLine n) → IfSome (R.remaining input.old) (λ bytes. (p : Prog) → HasSeen p [] reading.old → BadLine p.types bytes n) }
     ensures io { IsErrOf result LogErr.Io → HasFailed (R.failure_count input.old) (R.failure_count input.new) }
     ensures counts { R.failure_count input.old ≤ R.failure_count input.new }
+    ensures only { IfErr result IsListErr }
 {
     let mut room = vec![in alloc; 0u8; PIECE]?;
     let piece = room.as_mut_slice();
@@ -34,6 +35,25 @@ pub(crate) fn feed_all<R: InputDevice>(
                 Ok(()) => {}
                 Err(error) => return Err(blamed(input, error)),
             },
+            Err(Failed) => return Err(LogErr::Io),
+        }
+    }
+    Err(blamed(input, LogErr::Io))
+}
+
+/// All that a reader gives.
+pub(crate) fn read_all<R: InputDevice>(alloc: Global, input: &mut R) -> Result<Vec<u8>, LogErr>
+    ensures ok { IfOk result (λ text. IfSome (R.remaining input.old) (λ bytes. text.items ≡ bytes)) }
+    ensures io { IsErrOf result LogErr.Io → HasFailed (R.failure_count input.old) (R.failure_count input.new) }
+    ensures only { IfErr result (λ e. (e ≡ LogErr.Io) ⊎ (e ≡ LogErr.OutOfMemory)) }
+{
+    let mut text = Vec::new(alloc);
+    let mut room = vec![in alloc; 0u8; PIECE]?;
+    let piece = room.as_mut_slice();
+    for _ in 0..u64::MAX {
+        match input.pull(piece) {
+            Ok(0) => return Ok(text),
+            Ok(count) => text.extend_from_slice(&piece[..count])?,
             Err(Failed) => return Err(LogErr::Io),
         }
     }

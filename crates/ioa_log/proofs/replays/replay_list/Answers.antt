@@ -1,5 +1,5 @@
 use Rattle.ioa_log.proofs.Replaying.{begun_sources, sources}
-use Rattle.ioa_log.proofs.replay.replay_list.Goals as goal
+use Rattle.ioa_log.proofs.replays.replay_list.Goals as goal
 
 pub returns-clause-source : goal.returns-clause-source
 returns-clause-source g c = sources c.args.program.now c.replay_table.result (g.R.Read.remaining c.args.input.now) (g.W.Write.contents c.args.output.now) (g.W.Write.contents c.replay_table.new.output) c.replay_table.ensures.ok

@@ -1,0 +1,59 @@
+-- Whether a specification accepts actions: it runs on those of them that its components have.
+use Rattle.std.specs.Prelude.{◌≡◌, ℕ, ◌+◌, ◌||◌, Bool, true, false, not, if◌then◌else◌, List, [], ◌∷◌, Option, Some, None}
+use Rattle.std.specs.List.{list_any}
+use Rattle.ioa_value.specs.Actions.{Act}
+use Rattle.ioa_syntax.specs.Components.{Component, has}
+use Rattle.ioa_syntax.specs.Steps.{Moved, next, not_an_action, not_enabled, fault, step}
+use Rattle.ioa_syntax.specs.Runs.{Ending, not_an_action_at, not_enabled_at, fault_at}
+use Rattle.ioa_syntax.specs.Compositions.{Composed}
+use Rattle.ioa_syntax.specs.declared.tree.Kind.{Kind}
+use Rattle.ioa_syntax.specs.declared.tree.Kind.TheVariants.{Input, Output, Internal}
+use Rattle.ioa_compile.specs.Programs.{Prog}
+use Rattle.ioa_system.specs.declared.answer.Step.{Step}
+use Rattle.ioa_log.specs.declared.monitors.MonitorErr.{MonitorErr}
+
+-- why the action of this index is not accepted, or what comes of the later ones
+abbrev pub after_action : {S : Type 0} → ℕ → Moved S → (List S → Option Ending) → Option Ending
+after_action n (next ss) more = more ss
+after_action n not_an_action more = Some (not_an_action_at n)
+after_action n not_enabled more = Some (not_enabled_at n)
+after_action n (fault c f) more = Some (fault_at c f n)
+
+-- the first action that is not accepted, by its index in the whole list; none where all are
+abbrev pub monitored_from : {S : Type 0} → ℕ → List (Component S) → List Act → List S → Option Ending
+monitored_from n ps [] ss = None
+monitored_from n ps (a ∷ acts) ss =
+    if list_any (has a) ps then after_action n (step ps a ss) (λ ts. monitored_from (n + 1) ps acts ts) else monitored_from (n + 1) ps acts ss
+
+abbrev pub monitored : {S : Type 0} → List (Component S) → List Act → List S → Option Ending
+monitored ps acts ss = monitored_from 0 ps acts ss
+
+-- what its components do is not all seen: an entry of the table is internal, or a name is hidden
+abbrev pub is_internal : Kind → Bool
+is_internal Input = false
+is_internal Output = false
+is_internal Internal = true
+
+abbrev pub is_nil : {X : Type 0} → List X → Bool
+is_nil [] = true
+is_nil (x ∷ xs) = false
+
+abbrev pub hides : Prog → Bool
+hides p = list_any (λ m. list_any (λ e. is_internal e.kind) m.entries) p.members || not (is_nil p.hidden)
+
+-- the same of a composition's automata
+abbrev pub hides_in : Composed → Bool
+hides_in c = list_any (λ m. list_any (λ e. is_internal e.kind) m.instance.automaton.entries) c.members || not (is_nil c.hidden)
+
+-- the answer to the action of this index is why it is not accepted
+abbrev pub IsRefusedAt : ℕ → Step → Option Ending → Type 0
+IsRefusedAt i Step.Next o = ⊥
+IsRefusedAt i Step.NotAnAction o = o ≡ Some (not_an_action_at i)
+IsRefusedAt i Step.NotEnabled o = o ≡ Some (not_enabled_at i)
+IsRefusedAt i (Step.Fault c f) o = o ≡ Some (fault_at c f i)
+
+-- the error is told of a specification that hides or not, and that refuses so
+abbrev pub IsRefusal : MonitorErr → Bool → Option Ending → Type 0
+IsRefusal MonitorErr.SpecHasInternal hides o = hides ≡ true
+IsRefusal (MonitorErr.At i s) hides o = (hides ≡ false) × IsRefusedAt i s o
+IsRefusal MonitorErr.OutOfMemory hides o = Unit {0}

@@ -1,0 +1,113 @@
+//! Monitors: specifications that accept actions.
+
+ghost use Rattle.std.specs.Prelude.{◌≡◌, ◌||◌, false, IfErr, OnOk, map, None};
+ghost use Rattle.std.specs.List.{list_any};
+ghost use Rattle.ioa_value.specs.Actions.{act_of};
+ghost use Rattle.ioa_syntax.specs.Compositions.{Composed, components_of, starts_of};
+ghost use Rattle.ioa_compile.specs.Means.{Means};
+ghost use Rattle.ioa_compile.specs.Shown.{entry_code, member_code};
+ghost use Rattle.ioa_compile.specs.Tables.{start_states, tabled};
+ghost use Rattle.ioa_log.specs.Monitoring as spec;
+ghost use Rattle.ioa_log.specs.Monitoring.{IsRefusal, hides_in, monitored};
+
+use ioa_compile::{Entry, Member, Program};
+use ioa_syntax::Kind;
+use ioa_system::{Step, System};
+use ioa_value::{Action, OutOfMemory};
+use std::alloc::Global;
+use thiserror::Error;
+
+/// Why a specification does not accept actions.
+#[derive(Clone, Copy, Debug, PartialEq, Eq, Error)]
+pub enum MonitorErr {
+    /// An entry of the specification is internal, or a name is hidden: it is none to monitor by.
+    #[error("the specification has internal actions")]
+    SpecHasInternal,
+    /// The action of this index in the whole list is the first that it does not perform.
+    #[error("not accepted at {index}")]
+    At { index: usize, answer: Step },
+    /// A growth of memory was refused.
+    #[error("memory")]
+    OutOfMemory,
+}
+
+/// Whether a specification accepts actions: whether it performs those of them that its components have, in order.
+///
+/// # Errors
+/// `SpecHasInternal`; `At` of the first action that is not performed, with its answer; `OutOfMemory`.
+pub fn monitor(alloc: Global, program: &Program, actions: &[Action]) -> Result<(), MonitorErr>
+    ensures accepted { OnOk result ((spec.hides program.now ≡ false) × (monitored (tabled program.now) (map act_of actions.now) (start_states program.now) ≡ None)) }
+    ensures source { OnOk result ((c : Composed) → Means program.now c → (hides_in c ≡ false) × (monitored (components_of c) (map act_of actions.now) (starts_of c) ≡ None)) }
+    ensures refused { IfErr result (λ e. IsRefusal e (spec.hides program.now) (monitored (tabled program.now) (map act_of actions.now) (start_states program.now))) }
+    ensures source_refused { IfErr result (λ e. (c : Composed) → Means program.now c → IsRefusal e (hides_in c) (monitored (components_of c) (map act_of actions.now) (starts_of c))) }
+{
+    monitor_table(alloc, program, actions)
+}
+
+impl From<OutOfMemory> for MonitorErr {
+    ghost use Rattle.std.specs.Prelude.{◌≡◌};
+    ghost use Rattle.ioa_log.specs.declared.monitors.MonitorErr.TheVariants as errors;
+
+    ghost from_gives = { λ _ e. e ≡ errors.OutOfMemory };
+
+    fn from(_error: OutOfMemory) -> MonitorErr {
+        MonitorErr::OutOfMemory
+    }
+}
+
+/// The same, said of the program's own table.
+fn monitor_table(alloc: Global, program: &Program, actions: &[Action]) -> Result<(), MonitorErr>
+    ensures accepted { OnOk result ((spec.hides program.now ≡ false) × (monitored (tabled program.now) (map act_of actions.now) (start_states program.now) ≡ None)) }
+    ensures refused { IfErr result (λ e. IsRefusal e (spec.hides program.now) (monitored (tabled program.now) (map act_of actions.now) (start_states program.now))) }
+{
+    if hides(program) {
+        return Err(MonitorErr::SpecHasInternal);
+    }
+    let mut system = System::start(alloc, program)?;
+    for index in 0..actions.len() {
+        let answer = system.step(&actions[index])?;
+        match answer {
+            Step::Next | Step::NotAnAction => {}
+            Step::NotEnabled | Step::Fault(_, _) => return Err(MonitorErr::At { index, answer }),
+        }
+    }
+    Ok(())
+}
+
+/// Whether an entry is internal, or a name is hidden.
+fn hides(program: &Program) -> bool
+    ensures { result ≡ spec.hides program.now }
+{
+    has_internal(program.members()) || !program.hidden().is_empty()
+}
+
+fn has_internal(members: &[Member]) -> bool
+    ensures { result ≡ list_any (λ m. list_any (λ e. spec.is_internal e.kind) m.entries) (map member_code members.now) }
+{
+    for member in members {
+        if keeps_inside(&member.entries) {
+            return true;
+        }
+    }
+    false
+}
+
+fn keeps_inside(entries: &[Entry]) -> bool
+    ensures { result ≡ list_any (λ e. spec.is_internal e.kind) (map entry_code entries.now) }
+{
+    for entry in entries {
+        if is_internal(entry.kind) {
+            return true;
+        }
+    }
+    false
+}
+
+fn is_internal(kind: Kind) -> bool
+    ensures { result ≡ spec.is_internal kind }
+{
+    match kind {
+        Kind::Input | Kind::Output => false,
+        Kind::Internal => true,
+    }
+}
