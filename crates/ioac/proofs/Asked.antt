@@ -1,17 +1,18 @@
 -- What the matches of a command line ask for.
-use Rattle.std.proofs.Common.{◌≡◌, List, Option, Some, None, refl, sym, ◌∙◌, ap, subst, codes, option_map, true, false}
-use Rattle.std.specs.Option.{option_copied}
+use Rattle.std.proofs.Common.{◌≡◌, List, Option, Some, None, IfNone, refl, sym, ◌∙◌, ap, subst, codes, option_map, true, false}
+use Rattle.std.specs.Option.{option_copied, option_map_or}
 use Rattle.std.specs.Str.{bytes_eq}
 use Rattle.std.proofs.lemmas.Bool.{false≢true}
 use Rattle.std.specs.Box.{box_value}
 use Rattle.std.specs.Borrow.{Bor}
-use Rattle.clap.specs.Words.{Row, Text, first_of, found_of, rows_of, subcommand_name_of, subcommand_rows, subcommand_rows_of}
+use Rattle.clap.specs.Words.{Row, Text, first_of, first_value, found_of, rows_of, subcommand_name_of, subcommand_rows, subcommand_rows_of}
 use Rattle.clap.specs.declared.parser.matches.ArgMatches.{ArgMatches}
 use Rattle.clap.specs.declared.parser.matches.ArgMatches.TheViews.{out-ArgMatches, out-SubCommand}
+use Rattle.clap.proofs.WalkLemmas.{first_value-rows}
 use Rattle.ioac.specs.declared.request.Request.{Request}
 use Rattle.ioac.specs.declared.code.Code.{Code}
 use Rattle.ioac.specs.Codes.{spelling}
-use Rattle.ioac.specs.CommandLine.{IsAskedBy}
+use Rattle.ioac.specs.CommandLine.{IsAskedBy, Names, is_set}
 
 name_in : (m : ArgMatches) → subcommand_name_of m ≡ option_map (λ p. p.0) (subcommand_rows_of m)
 name_in m =
@@ -20,66 +21,67 @@ name_in m =
       | Some b ↦ refl
     ]
 
--- the subcommand with its values, as the matches lend it
-pub lent : (m found : ArgMatches) (name : Text) → Some name ≡ subcommand_name_of m → Some (rows_of (found_of found)) ≡ option_map (λ p. p.1) (subcommand_rows_of m)
-    → subcommand_rows_of m ≡ Some (name, rows_of (found_of found))
-lent m found name e f = go (subcommand_rows_of m) (e ∙ name_in m) f
+-- the subcommand of this name with its values, as the matches lend it
+pub lent : (m found : ArgMatches) (name word : Text) → Some name ≡ subcommand_name_of m
+    → Some (rows_of (found_of found)) ≡ option_map (λ p. p.1) (subcommand_rows_of m) → name ≡ word → subcommand_rows_of m ≡ Some (word, rows_of (found_of found))
+lent m found name word e f is = go (subcommand_rows_of m) (e ∙ name_in m) f
   where
-    go : (o : Option (Text × List Row)) → Some name ≡ option_map (λ p. p.0) o → Some (rows_of (found_of found)) ≡ option_map (λ p. p.1) o → o ≡ Some (name, rows_of (found_of found))
+    go : (o : Option (Text × List Row)) → Some name ≡ option_map (λ p. p.0) o → Some (rows_of (found_of found)) ≡ option_map (λ p. p.1) o → o ≡ Some (word, rows_of (found_of found))
     go None h k = cc
     go (Some p) h k =
-        let a : name ≡ p.0 = cc in
+        let a : word ≡ p.0 = cc in
         let b : rows_of (found_of found) ≡ p.1 = cc in
-        ap (λ (n : Text). Some (n, p.1)) (sym a) ∙ ap (λ (rs : List Row). Some (name, rs)) (sym b)
+        ap (λ (n : Text). Some (n, p.1)) (sym a) ∙ ap (λ (rs : List Row). Some (word, rs)) (sym b)
 
--- the subcommands have names of their own
-replay_check : codes "replay" ≡ codes "check" → ⊥
-replay_check e = let z : false ≡ true = ap (λ (t : Text). bytes_eq t (codes "check")) e in false≢true z
-
-replay_explain : codes "replay" ≡ codes "explain" → ⊥
-replay_explain e = let z : false ≡ true = ap (λ (t : Text). bytes_eq t (codes "explain")) e in false≢true z
-
-check_explain : codes "check" ≡ codes "explain" → ⊥
-check_explain e = let z : false ≡ true = ap (λ (t : Text). bytes_eq t (codes "explain")) e in false≢true z
+-- two words, as they compute
+pub apart : (a b : Text) → bytes_eq a b ≡ false → bytes_eq b b ≡ true → a ≡ b → ⊥
+apart a b differs same e = false≢true (sym differs ∙ ap (λ (t : Text). bytes_eq t b) e ∙ same)
 
 -- nothing is asked for by a subcommand with these values
 abbrev pub AsksNothing : Option (Text × List Row) → Type 0
 AsksNothing o = (asked : Request) → IsAskedBy o asked → ⊥
 
-pub unasked : (o : Option (Text × List Row)) (name : Text) (rows : List Row) → o ≡ Some (name, rows) → AsksNothing (Some (name, rows)) → AsksNothing o
-unasked o name rows e none = subst AsksNothing (sym e) none
-
 -- where the file is missing
-pub no_replay : (rows : List Row) → first_of (codes "FILE") rows ≡ None → AsksNothing (Some (codes "replay", rows))
-no_replay rows none (Request.Replay file composition) h = let z : None ≡ Some file.now = sym none ∙ h.1 in cc
-no_replay rows none (Request.Check file) h = replay_check h.0
-no_replay rows none (Request.Explain code) h = replay_explain h.0
+no_file : (word : Text) (rows : List Row) → (word ≡ codes "explain" → ⊥) → first_of (codes "FILE") rows ≡ None → AsksNothing (Some (word, rows))
+no_file word rows other none (Request.Replay file composition) h = let z : None ≡ Some file.now = sym none ∙ h.2.0 in cc
+no_file word rows other none (Request.ReplayLog file composition) h = let z : None ≡ Some file.now = sym none ∙ h.2.0 in cc
+no_file word rows other none (Request.Monitor file composition) h = let z : None ≡ Some file.now = sym none ∙ h.1.0 in cc
+no_file word rows other none (Request.Check file) h = let z : None ≡ Some file.now = sym none ∙ h.1 in cc
+no_file word rows other none (Request.Explain code) h = other h.0
 
-pub no_check : (rows : List Row) → first_of (codes "FILE") rows ≡ None → AsksNothing (Some (codes "check", rows))
-no_check rows none (Request.Replay file composition) h = replay_check (sym h.0)
-no_check rows none (Request.Check file) h = let z : None ≡ Some file.now = sym none ∙ h.1 in cc
-no_check rows none (Request.Explain code) h = check_explain h.0
+pub unfiled : (m found : ArgMatches) (word : Text) (r : Option Request) → subcommand_rows_of m ≡ Some (word, rows_of (found_of found))
+    → (word ≡ codes "explain" → ⊥) → None ≡ first_value (found_of found) (codes "FILE") → r ≡ None → IfNone r (AsksNothing (subcommand_rows_of m))
+unfiled m found word r here other none is =
+    let missing : first_of (codes "FILE") (rows_of (found_of found)) ≡ None = sym (first_value-rows (found_of found) (codes "FILE")) ∙ sym none in
+    subst (λ o. IfNone o (AsksNothing (subcommand_rows_of m))) (sym is)
+    (subst AsksNothing (sym here) (no_file word (rows_of (found_of found)) other missing))
 
 -- where there is no such code
-pub no_explanation : (rows : List Row) → ((code : Code) → first_of (codes "CODE") rows ≡ Some (spelling code) → ⊥) → AsksNothing (Some (codes "explain", rows))
-no_explanation rows none (Request.Replay file composition) h = replay_explain (sym h.0)
-no_explanation rows none (Request.Check file) h = check_explain (sym h.0)
+no_explanation : (rows : List Row) → ((code : Code) → first_of (codes "CODE") rows ≡ Some (spelling code) → ⊥) → AsksNothing (Some (codes "explain", rows))
+no_explanation rows none (Request.Replay file composition) h = apart (codes "explain") (codes "replay") refl refl h.0
+no_explanation rows none (Request.ReplayLog file composition) h = apart (codes "explain") (codes "replay") refl refl h.0
+no_explanation rows none (Request.Monitor file composition) h = apart (codes "explain") (codes "monitor") refl refl h.0
+no_explanation rows none (Request.Check file) h = apart (codes "explain") (codes "check") refl refl h.0
 no_explanation rows none (Request.Explain code) h = none code h.1
 
-pub asks_replay : (o : Option (Text × List Row)) (rows : List Row) (file : Bor Text) (composition : Option (Bor Text)) → o ≡ Some (codes "replay", rows)
-    → first_of (codes "FILE") rows ≡ Some file.now → first_of (codes "comp") rows ≡ option_copied composition → IsAskedBy o (Request.Replay file composition)
-asks_replay o rows file composition e f c =
-    let k : IsAskedBy (Some (codes "replay", rows)) (Request.Replay file composition) = (refl, f, c) in
-    subst (λ x. IsAskedBy x (Request.Replay file composition)) (sym e) k
+pub uncoded : (m found : ArgMatches) (r : Option Request) (o : Option Text) → subcommand_rows_of m ≡ Some (codes "explain", rows_of (found_of found))
+    → o ≡ first_value (found_of found) (codes "CODE") → ((code : Code) → o ≡ Some (spelling code) → ⊥) → r ≡ None → IfNone r (AsksNothing (subcommand_rows_of m))
+uncoded m found r o here given none is =
+    let first : first_of (codes "CODE") (rows_of (found_of found)) ≡ o = sym (first_value-rows (found_of found) (codes "CODE")) ∙ sym given in
+    subst (λ o. IfNone o (AsksNothing (subcommand_rows_of m))) (sym is)
+    (subst AsksNothing (sym here) (no_explanation (rows_of (found_of found)) (λ code h. none code (sym first ∙ h))))
 
-pub asks_check : (o : Option (Text × List Row)) (rows : List Row) (file : Bor Text) → o ≡ Some (codes "check", rows)
-    → first_of (codes "FILE") rows ≡ Some file.now → IsAskedBy o (Request.Check file)
-asks_check o rows file e f =
-    let k : IsAskedBy (Some (codes "check", rows)) (Request.Check file) = (refl, f) in
-    subst (λ x. IsAskedBy x (Request.Check file)) (sym e) k
+-- the file and the composition that are named
+pub names : (found : ArgMatches) (file : Bor Text) (composition : Option (Bor Text)) → Some file.now ≡ first_value (found_of found) (codes "FILE")
+    → option_copied composition ≡ first_value (found_of found) (codes "comp") → Names (rows_of (found_of found)) file.now (option_copied composition)
+names found file composition f c = (sym (first_value-rows (found_of found) (codes "FILE")) ∙ sym f, sym (first_value-rows (found_of found) (codes "comp")) ∙ sym c)
 
-pub asks_explain : (o : Option (Text × List Row)) (rows : List Row) (code : Code) → o ≡ Some (codes "explain", rows)
-    → first_of (codes "CODE") rows ≡ Some (spelling code) → IsAskedBy o (Request.Explain code)
-asks_explain o rows code e f =
-    let k : IsAskedBy (Some (codes "explain", rows)) (Request.Explain code) = (refl, f) in
-    subst (λ x. IsAskedBy x (Request.Explain code)) (sym e) k
+pub asks : (m found : ArgMatches) (word : Text) (request : Request) → subcommand_rows_of m ≡ Some (word, rows_of (found_of found))
+    → IsAskedBy (Some (word, rows_of (found_of found))) request → IsAskedBy (subcommand_rows_of m) request
+asks m found word request here h = subst (λ x. IsAskedBy x request) (sym here) h
+
+-- a flag, as it is lent
+pub set_as : (found : ArgMatches) (flag : Text) (o : Option Text) → o ≡ first_value (found_of found) flag
+    → is_set flag (rows_of (found_of found)) ≡ option_map_or (λ value. bytes_eq value (codes "true")) o false
+set_as found flag o e =
+    ap (λ (p : Option Text). option_map_or (λ value. bytes_eq value (codes "true")) p false) (sym (first_value-rows (found_of found) flag) ∙ sym e)

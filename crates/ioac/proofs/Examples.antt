@@ -1,9 +1,9 @@
 -- What some command lines ask for, computed from the definition of the command line.
-use Rattle.std.proofs.Common.{◌≡◌, List, [], ◌∷◌, Option, Some, None, refl, codes, option_map}
+use Rattle.std.proofs.Common.{◌≡◌, Bool, true, false, List, [], ◌∷◌, Option, Some, None, refl, codes, option_map}
 use Rattle.clap.specs.Words.{Text, fault_of, first_of, subcommand_of}
 use Rattle.clap.specs.declared.error.kind.ErrorKind.TheVariants as kinds
 use Rattle.clap.proofs.OnLiterals.{clap_on_literals}
-use Rattle.ioac.specs.CommandLine.{ioac_app}
+use Rattle.ioac.specs.CommandLine.{ioac_app, is_set}
 
 -- the command, its file and its composition
 asked : List Text → Option (Text × Option Text × Option Text)
@@ -16,6 +16,27 @@ last_one = refl
 named_one : asked (codes "ioac" ∷ codes "replay" ∷ codes "--comp" ∷ codes "One" ∷ codes "f" ∷ []) ≡ Some (codes "replay", Some (codes "f"), Some (codes "One"))
 unfolding asked clap_on_literals
 named_one = refl
+
+-- the command, and whether its standard input is a log
+logged : List Text → Option (Text × Bool)
+logged words = option_map (λ p. (p.0, is_set (codes "log") p.1)) (subcommand_of ioac_app words)
+
+a_list : logged (codes "ioac" ∷ codes "replay" ∷ codes "f" ∷ []) ≡ Some (codes "replay", false)
+unfolding logged clap_on_literals
+a_list = refl
+
+a_log : logged (codes "ioac" ∷ codes "replay" ∷ codes "f" ∷ codes "--log" ∷ []) ≡ Some (codes "replay", true)
+unfolding logged clap_on_literals
+a_log = refl
+
+monitored : asked (codes "ioac" ∷ codes "monitor" ∷ codes "f" ∷ codes "--comp" ∷ codes "Spec" ∷ []) ≡ Some (codes "monitor", Some (codes "f"), Some (codes "Spec"))
+unfolding asked clap_on_literals
+monitored = refl
+
+-- the flag is the replay's alone
+no_log : fault_of ioac_app (codes "ioac" ∷ codes "monitor" ∷ codes "f" ∷ codes "--log" ∷ []) ≡ kinds.UnknownArgument ∷ []
+unfolding clap_on_literals
+no_log = refl
 
 help : fault_of ioac_app (codes "ioac" ∷ codes "--help" ∷ []) ≡ kinds.DisplayHelp ∷ []
 unfolding clap_on_literals

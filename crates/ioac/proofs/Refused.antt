@@ -1,22 +1,26 @@
--- From the clauses of the layers to why a replay does not come to an end.
-use Rattle.std.proofs.Common.{◌≡◌, ◌⊎◌, ℕ, inl, inr, List, Option, Some, None, Result, Err, IfErr, IfSome, refl, sym, ap, ◌∙◌, subst}
+-- From the clauses of the layers to why a replay or a monitor does not come to an end.
+use Rattle.std.proofs.Common.{◌≡◌, ◌⊎◌, ℕ, inl, inr, List, Option, Some, None, Result, Err, IfErr, IfSome, false, refl, sym, subst}
 use Rattle.std.specs.Result.{IsErrOf}
+use Rattle.std.proofs.lemmas.Option.{IfSome_then}
+use Rattle.std.specs.Io.KnownBytes.{Keeps}
 use Rattle.ioa_value.specs.Actions.{Name}
 use Rattle.ioa_value.specs.Lists as lists
+use Rattle.ioa_value.specs.Table.{Table}
 use Rattle.ioa_lex.specs.declared.refusal.Refusal.{Refusal}
 use Rattle.ioa_lex.specs.declared.refusal.Refusal.TheVariants as refusals
 use Rattle.ioa_syntax.specs.Tree.{SourceTree, CompositionTree}
-use Rattle.ioa_syntax.specs.Types.{types_of}
 use Rattle.ioa_syntax.specs.WellFormed.{WellFormed}
-use Rattle.ioa_syntax.specs.Compositions.{Composed, picked, IsComposed, components_of, starts_of}
+use Rattle.ioa_syntax.specs.Compositions.{Composed, picked, components_of, starts_of}
 use Rattle.ioa_compose.specs.Refusals as compositions
-use Rattle.ioa_compile.specs.Programs.{Prog}
-use Rattle.ioa_compile.specs.Means.{Means}
-use Rattle.std.specs.Io.KnownBytes.{Keeps}
+use Rattle.ioa_system.specs.Logs.{Logged}
 use Rattle.ioa_log.specs.declared.failure.LogErr.{LogErr}
-use Rattle.ioa_log.specs.Replays.{BeginsReplay}
+use Rattle.ioa_log.specs.Failing.{IsListErr, IsTextErr}
+use Rattle.ioa_log.specs.Judging.{IsJudged, judged, wrong_owner, diverges}
+use Rattle.ioa_log.specs.LogTexts.{GoesOnAt, HasNoEnd, NoEntryAt, NotJsonAt, ReadsLog}
+use Rattle.ioa_log.specs.Monitoring.{hides_in}
 use Rattle.ioac.specs.declared.failure.Failure.{Failure}
-use Rattle.ioac.specs.Failing.{Spells, IsRefusedSource, IsFailure, Begins, IsUnwritten}
+use Rattle.ioac.specs.Headline.{Declares, Spells}
+use Rattle.ioac.specs.Failing.{IsFailure, IsLogFailure, IsMonitorFailure, IsRefusedSource, IsUnwritten}
 
 pub uncomposed : (text : List ℕ) (name : Option Name) (s u : SourceTree) (x : Refusal) → Spells text s → u ≡ s → WellFormed s
     → (picked u name ≡ None → x ≡ refusals.NoComposition)
@@ -29,59 +33,105 @@ uncomposed text name s u x found same well missing refused = inr (inr (inr (s, f
     go None e = inl (e, missing (subst (λ v. picked v name ≡ None) (sym same) e))
     go (Some t) e = inr (t, e, subst (λ v. compositions.IsRefused v t x) same (refused t (subst (λ v. picked v name ≡ Some t) (sym same) e)))
 
-pub refused_so : {T : Type 0} (r : Result T Failure) (y : Failure) (x : Refusal) (text : List ℕ) (name : Option Name) (bytes : Option (List ℕ)) (failed : Type 0)
-    → r ≡ Err y → y ≡ Failure.Refused x → IsRefusedSource text name x → IfErr r (λ e. IsFailure text name bytes failed e)
-refused_so r y x text name bytes failed is of h =
-    subst (λ q. IfErr q (λ e. IsFailure text name bytes failed e)) (sym is) (subst (IsFailure text name bytes failed) (sym of) h)
-
--- a list that is refused, or a device that failed
-pub failed_by : (text : List ℕ) (name : Option Name) (bytes : Option (List ℕ)) (failed : Type 0) (s u : SourceTree) (c : Composed) (p : Prog) (x : LogErr) {T : Type 0}
-    → Spells text s → u ≡ s → WellFormed s
-    → ((t : CompositionTree) × (picked u name ≡ Some t) × IsComposed u t c)
-    → Means p c
-    → ((n : ℕ) → IsErrOf {T = T} (Err x) (LogErr.BadLine n) → IfSome bytes (λ xs. lists.BadLine p.types xs n))
-    → (IsErrOf {T = T} (Err x) LogErr.Io → failed)
-    → IsFailure text name bytes failed (Failure.List x)
-failed_by text name bytes failed s u c p LogErr.OutOfMemory found same well chosen means bad io = tt
-failed_by text name bytes failed s u c p LogErr.Io found same well chosen means bad io = io refl
-failed_by text name bytes failed s u c p (LogErr.BadLine n) found same well chosen means bad io =
-    let types : p.types ≡ types_of s = means.types ∙ chosen.2.types ∙ ap types_of same in
-    (s, found, well, subst (λ ts. IfSome bytes (λ xs. lists.BadLine ts xs n)) types (bad n refl))
-
-pub failed_so : {T : Type 0} (r : Result T Failure) (y : Failure) (x : LogErr) (text : List ℕ) (name : Option Name) (bytes : Option (List ℕ)) (failed : Type 0)
-    → r ≡ Err y → y ≡ Failure.List x → IsFailure text name bytes failed (Failure.List x) → IfErr r (λ e. IsFailure text name bytes failed e)
-failed_so r y x text name bytes failed is of h =
-    subst (λ q. IfErr q (λ e. IsFailure text name bytes failed e)) (sym is) (subst (IsFailure text name bytes failed) (sym of) h)
-
 pub same_refusal : {T : Type 0} (x y : Refusal) → IsErrOf {T = T} (Err x) y → x ≡ y
 same_refusal x y h = cc
 
--- the clauses of the list's replay, put together
-pub unwritten_by : (text : List ℕ) (name : Option Name) (bytes before after : Option (List ℕ)) (s u : SourceTree) (c : Composed) (x : LogErr) {T : Type 0}
-    → Spells text s → u ≡ s → WellFormed s
-    → ((t : CompositionTree) × (picked u name ≡ Some t) × IsComposed u t c)
-    → ((n : ℕ) → IsErrOf {T = T} (Err x) (LogErr.BadLine n) → Keeps before after)
-    → (IsErrOf {T = T} (Err x) LogErr.OutOfMemory → Keeps before after)
-    → (IsErrOf {T = T} (Err x) LogErr.Io → Keeps before after ⊎ IfSome bytes (λ xs. BeginsReplay c.types c.hidden (components_of c) (starts_of c) xs before after))
-    → IsUnwritten text name bytes before after (Failure.List x)
-unwritten_by text name bytes before after s u c (LogErr.BadLine n) found same well chosen bad memory io = bad n refl
-unwritten_by text name bytes before after s u c LogErr.OutOfMemory found same well chosen bad memory io = memory refl
-unwritten_by text name bytes before after s u c LogErr.Io found same well chosen bad memory io = elim (io refl) [ inl k ↦ inl k | inr b ↦ inr (go bytes b) ]
-  where
-    go : (o : Option (List ℕ)) → IfSome o (λ xs. BeginsReplay c.types c.hidden (components_of c) (starts_of c) xs before after) → IfSome o (λ xs. Begins text name xs before after)
-    go None b = tt
-    go (Some xs) b = record {
-      source = s;
-      tree = chosen.0;
-      composed = c;
-      spells = found;
-      well_formed = well;
-      picks = subst (λ v. picked v name ≡ Some chosen.0) same chosen.1;
-      is_composed = subst (λ v. IsComposed v chosen.0 c) same chosen.2;
-      begins = b;
-    }
+-- an error that a `?` hands on, made another's
+pub err_so : {T E : Type 0} (r : Result T E) (y z : E) (P : E → Type 0) → r ≡ Err y → y ≡ z → P z → IfErr r P
+err_so r y z P is of h = subst (λ q. IfErr q P) (sym is) (subst P (sym of) h)
 
-pub unwritten_so : {T : Type 0} (r : Result T Failure) (y : Failure) (x : LogErr) (text : List ℕ) (name : Option Name) (bytes before after : Option (List ℕ))
-    → r ≡ Err y → y ≡ Failure.List x → IsUnwritten text name bytes before after (Failure.List x) → IfErr r (λ e. IsUnwritten text name bytes before after e)
-unwritten_so r y x text name bytes before after is of h =
-    subst (λ q. IfErr q (λ e. IsUnwritten text name bytes before after e)) (sym is) (subst (IsUnwritten text name bytes before after) (sym of) h)
+-- a list that is refused, or a device that failed
+pub list_failed : (text : List ℕ) (name : Option Name) (bytes : Option (List ℕ)) (failed : Type 0) (c : Composed) (types : Table) (x : LogErr) {T : Type 0}
+    → Declares text name c → types ≡ c.types → IsListErr x
+    → ((n : ℕ) → IsErrOf {T = T} (Err x) (LogErr.BadLine n) → IfSome bytes (λ xs. lists.BadLine types xs n))
+    → (IsErrOf {T = T} (Err x) LogErr.Io → failed)
+    → IsFailure text name bytes failed (Failure.List x)
+list_failed text name bytes failed c types (LogErr.BadLine n) of same only bad io = (c, of, subst (λ ts. IfSome bytes (λ xs. lists.BadLine ts xs n)) same (bad n refl))
+list_failed text name bytes failed c types LogErr.Io of same only bad io = io refl
+list_failed text name bytes failed c types LogErr.OutOfMemory of same only bad io = tt
+list_failed text name bytes failed c types (LogErr.NotJson n) of same only bad io = absurd only
+list_failed text name bytes failed c types (LogErr.WrongOwner n) of same only bad io = absurd only
+list_failed text name bytes failed c types (LogErr.Diverges n) of same only bad io = absurd only
+list_failed text name bytes failed c types LogErr.NoEnd of same only bad io = absurd only
+list_failed text name bytes failed c types LogErr.AfterEnd of same only bad io = absurd only
+
+-- why a log is not read
+abbrev pub IsUnread : Table → Option (List ℕ) → Type 0 → LogErr → Type 0
+IsUnread types bytes failed (LogErr.NotJson n) = IfSome bytes (λ xs. NotJsonAt types xs n)
+IsUnread types bytes failed (LogErr.BadLine n) = IfSome bytes (λ xs. NoEntryAt types xs n)
+IsUnread types bytes failed (LogErr.WrongOwner n) = ⊥
+IsUnread types bytes failed (LogErr.Diverges n) = ⊥
+IsUnread types bytes failed LogErr.NoEnd = IfSome bytes (HasNoEnd types)
+IsUnread types bytes failed LogErr.AfterEnd = IfSome bytes (λ xs. (n : ℕ) × GoesOnAt types xs n)
+IsUnread types bytes failed LogErr.Io = failed
+IsUnread types bytes failed LogErr.OutOfMemory = Unit {0}
+
+pub unread : (types : Table) (bytes : Option (List ℕ)) (failed : Type 0) (x : LogErr) {T : Type 0} → IsTextErr x
+    → ((n : ℕ) → IsErrOf {T = T} (Err x) (LogErr.NotJson n) → IfSome bytes (λ xs. NotJsonAt types xs n))
+    → ((n : ℕ) → IsErrOf {T = T} (Err x) (LogErr.BadLine n) → IfSome bytes (λ xs. NoEntryAt types xs n))
+    → (IsErrOf {T = T} (Err x) LogErr.AfterEnd → IfSome bytes (λ xs. (n : ℕ) × GoesOnAt types xs n))
+    → (IsErrOf {T = T} (Err x) LogErr.NoEnd → IfSome bytes (HasNoEnd types))
+    → (IsErrOf {T = T} (Err x) LogErr.Io → failed)
+    → IsUnread types bytes failed x
+unread types bytes failed (LogErr.NotJson n) only not_json bad after no_end io = not_json n refl
+unread types bytes failed (LogErr.BadLine n) only not_json bad after no_end io = bad n refl
+unread types bytes failed LogErr.NoEnd only not_json bad after no_end io = no_end refl
+unread types bytes failed LogErr.AfterEnd only not_json bad after no_end io = after refl
+unread types bytes failed LogErr.Io only not_json bad after no_end io = io refl
+unread types bytes failed LogErr.OutOfMemory only not_json bad after no_end io = tt
+unread types bytes failed (LogErr.WrongOwner n) only not_json bad after no_end io = absurd only
+unread types bytes failed (LogErr.Diverges n) only not_json bad after no_end io = absurd only
+
+pub log_unread : (text : List ℕ) (name : Option Name) (bytes : Option (List ℕ)) (failed : Type 0) (c : Composed) (types : Table) (x : LogErr)
+    → Declares text name c → types ≡ c.types → IsUnread types bytes failed x → IsLogFailure text name bytes failed (Failure.List x)
+log_unread text name bytes failed c types x of same h = go x (subst (λ ts. IsUnread ts bytes failed x) same h)
+  where
+    go : (x : LogErr) → IsUnread c.types bytes failed x → IsLogFailure text name bytes failed (Failure.List x)
+    go (LogErr.NotJson n) h = (c, of, h)
+    go (LogErr.BadLine n) h = (c, of, h)
+    go LogErr.NoEnd h = (c, of, h)
+    go LogErr.AfterEnd h = (c, of, h)
+    go LogErr.Io h = h
+    go LogErr.OutOfMemory h = tt
+    go (LogErr.WrongOwner n) h = absurd h
+    go (LogErr.Diverges n) h = absurd h
+
+pub monitor_unread : (text : List ℕ) (name : Option Name) (bytes : Option (List ℕ)) (failed : Type 0) (c : Composed) (types : Table) (x : LogErr)
+    → Declares text name c → types ≡ c.types → hides_in c ≡ false → IsUnread types bytes failed x → IsMonitorFailure text name bytes failed (Failure.List x)
+monitor_unread text name bytes failed c types x of same seen h = go x (subst (λ ts. IsUnread ts bytes failed x) same h)
+  where
+    go : (x : LogErr) → IsUnread c.types bytes failed x → IsMonitorFailure text name bytes failed (Failure.List x)
+    go (LogErr.NotJson n) h = (c, of, seen, h)
+    go (LogErr.BadLine n) h = (c, of, seen, h)
+    go LogErr.NoEnd h = (c, of, seen, h)
+    go LogErr.AfterEnd h = (c, of, seen, h)
+    go LogErr.Io h = h
+    go LogErr.OutOfMemory h = tt
+    go (LogErr.WrongOwner n) h = absurd h
+    go (LogErr.Diverges n) h = absurd h
+
+-- a log that is not the run's
+pub log_judged : (text : List ℕ) (name : Option Name) (bytes : Option (List ℕ)) (failed : Type 0) (c : Composed) (log : Logged) (x : LogErr) {T : Type 0}
+    → Declares text name c → IfSome bytes (λ xs. ReadsLog c.types xs log) → IsJudged x
+    → ((n : ℕ) → IsErrOf {T = T} (Err x) (LogErr.WrongOwner n) → judged (components_of c) (starts_of c) log ≡ wrong_owner n)
+    → ((n : ℕ) → IsErrOf {T = T} (Err x) (LogErr.Diverges n) → judged (components_of c) (starts_of c) log ≡ diverges n)
+    → IsLogFailure text name bytes failed (Failure.List x)
+log_judged text name bytes failed c log (LogErr.WrongOwner n) of reads only owner diverging =
+    (c, of, IfSome_then bytes reads (λ xs r. (log, r, owner n refl)))
+log_judged text name bytes failed c log (LogErr.Diverges n) of reads only owner diverging =
+    (c, of, IfSome_then bytes reads (λ xs r. (log, r, diverging n refl)))
+log_judged text name bytes failed c log LogErr.OutOfMemory of reads only owner diverging = tt
+log_judged text name bytes failed c log (LogErr.NotJson n) of reads only owner diverging = absurd only
+log_judged text name bytes failed c log (LogErr.BadLine n) of reads only owner diverging = absurd only
+log_judged text name bytes failed c log LogErr.NoEnd of reads only owner diverging = absurd only
+log_judged text name bytes failed c log LogErr.AfterEnd of reads only owner diverging = absurd only
+log_judged text name bytes failed c log LogErr.Io of reads only owner diverging = absurd only
+
+-- nothing was written
+pub kept : (begins : Option (List ℕ) → Option (List ℕ) → Type 0) (before after : Option (List ℕ)) (e : Failure) → Keeps before after → IsUnwritten begins before after e
+kept begins before after (Failure.List LogErr.Io) k = inl k
+kept begins before after _ k = k
+
+pub keeps : (o : Option (List ℕ)) → Keeps o o
+keeps None = tt
+keeps (Some xs) = refl

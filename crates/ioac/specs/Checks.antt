@@ -7,7 +7,8 @@ use Rattle.ioa_syntax.specs.Source as texts
 use Rattle.ioa_syntax.specs.WellFormed.{WellFormed}
 use Rattle.ioa_log.specs.declared.failure.LogErr.{LogErr}
 use Rattle.ioac.specs.declared.failure.Failure.{Failure}
-use Rattle.ioac.specs.Failing.{Spells, IsIllFormed}
+use Rattle.ioac.specs.Headline.{Spells}
+use Rattle.ioac.specs.Failing.{IsDeviceErr, IsIllFormed}
 
 abbrev pub ok_line : List ℕ
 ok_line = codes "ok" ++ 10 ∷ []
@@ -23,9 +24,8 @@ IsCheck text before after = IsFine text × Appends before after ok_line
 -- short at any time, and neither a list nor a file is read.
 abbrev pub IsCheckFailure : List ℕ → Type 0 → Failure → Type 0
 IsCheckFailure text failed (Failure.Refused r) = (r ≡ refusals.OutOfMemory) ⊎ (texts.IsRefused text r ⊎ IsIllFormed text r)
-IsCheckFailure text failed (Failure.List (LogErr.BadLine n)) = ⊥
-IsCheckFailure text failed (Failure.List LogErr.Io) = IsFine text × failed
-IsCheckFailure text failed (Failure.List LogErr.OutOfMemory) = ⊥
+IsCheckFailure text failed (Failure.List e) = IsDeviceErr (IsFine text × failed) e
+IsCheckFailure text failed Failure.SpecHasInternal = ⊥
 IsCheckFailure text failed Failure.Io = ⊥
 IsCheckFailure text failed Failure.OutOfMemory = Unit {0}
 

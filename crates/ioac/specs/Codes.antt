@@ -23,7 +23,13 @@ spelling Code.E14 = codes "E14"
 spelling Code.E15 = codes "E15"
 spelling Code.E16 = codes "E16"
 spelling Code.E17 = codes "E17"
+spelling Code.L1 = codes "L1"
 spelling Code.L2 = codes "L2"
+spelling Code.L3 = codes "L3"
+spelling Code.L4 = codes "L4"
+spelling Code.L5 = codes "L5"
+spelling Code.L6 = codes "L6"
+spelling Code.L7 = codes "L7"
 spelling Code.L8 = codes "L8"
 spelling Code.Memory = codes "memory"
 spelling Code.Io = codes "io"
@@ -48,10 +54,19 @@ refusal_code (Refusal.StartFault i fault) = Code.E16
 refusal_code Refusal.NoComposition = Code.E17
 refusal_code Refusal.OutOfMemory = Code.Memory
 
+abbrev pub log_code : LogErr → Code
+log_code (LogErr.NotJson line) = Code.L1
+log_code (LogErr.BadLine line) = Code.L2
+log_code (LogErr.WrongOwner line) = Code.L3
+log_code (LogErr.Diverges line) = Code.L4
+log_code LogErr.NoEnd = Code.L5
+log_code LogErr.AfterEnd = Code.L6
+log_code LogErr.Io = Code.L8
+log_code LogErr.OutOfMemory = Code.Memory
+
 abbrev pub failure_code : Failure → Code
 failure_code (Failure.Refused refusal) = refusal_code refusal
-failure_code (Failure.List (LogErr.BadLine line)) = Code.L2
-failure_code (Failure.List LogErr.Io) = Code.L8
-failure_code (Failure.List LogErr.OutOfMemory) = Code.Memory
+failure_code (Failure.List e) = log_code e
+failure_code Failure.SpecHasInternal = Code.L7
 failure_code Failure.Io = Code.Io
 failure_code Failure.OutOfMemory = Code.Memory

@@ -1,8 +1,10 @@
 -- The command line that the program reads, in the words of the crate that parses it, and what it asks for.
-use Rattle.std.specs.Prelude.{◌≡◌, true, false, List, Option, Some, None, codes}
-use Rattle.std.specs.Option.{option_copied}
+use Rattle.std.specs.Prelude.{◌≡◌, Bool, true, false, List, Option, Some, None, codes}
+use Rattle.std.specs.Option.{option_copied, option_map_or}
+use Rattle.std.specs.Str.{bytes_eq}
 use Rattle.clap.specs.Words.{App, Row, Rule, Text, first_of, new_app, new_rule, subcommand_of, with_rule, with_subcommand}
 use Rattle.clap.specs.Simple.{on_top}
+use Rattle.clap.specs.declared.builder.action.ArgAction.{ArgAction}
 use Rattle.clap.specs.declared.builder.command.Command.{Command}
 use Rattle.clap.specs.declared.builder.command.Command.TheViews.{out-Command}
 use Rattle.ioac.specs.declared.request.Request.{Request}
@@ -19,6 +21,10 @@ code_rule = record (new_rule (codes "CODE")) { required = true }
 abbrev pub comp_rule : Rule
 comp_rule = record (new_rule (codes "comp")) { long = Some (codes "comp"); value_names = 1 }
 
+-- `--log`
+abbrev pub log_rule : Rule
+log_rule = record (new_rule (codes "log")) { long = Some (codes "log"); action = Some ArgAction.SetTrue }
+
 abbrev pub check_app : App
 check_app = with_rule (new_app (codes "check")) file_rule
 
@@ -26,24 +32,38 @@ abbrev pub explain_app : App
 explain_app = with_rule (new_app (codes "explain")) code_rule
 
 abbrev pub replay_app : App
-replay_app = with_rule (with_rule (new_app (codes "replay")) file_rule) comp_rule
+replay_app = with_rule (with_rule (with_rule (new_app (codes "replay")) file_rule) comp_rule) log_rule
+
+abbrev pub monitor_app : App
+monitor_app = with_rule (with_rule (new_app (codes "monitor")) file_rule) comp_rule
 
 -- a subcommand has to stand; where no word stands, help is given; there is a version
 abbrev pub bare_app : App
 bare_app = on_top (λ top. record top { has_version = true; subcommand_required = true; arg_required_else_help = true; disable_help_subcommand = true }) (new_app (codes "ioac"))
 
 abbrev pub ioac_app : App
-ioac_app = with_subcommand (with_subcommand (with_subcommand bare_app check_app.top) replay_app.top) explain_app.top
+ioac_app = with_subcommand (with_subcommand (with_subcommand (with_subcommand bare_app check_app.top) replay_app.top) monitor_app.top) explain_app.top
 
 -- no argument is one of the subcommands too
 abbrev pub IsLocal : Command → Type 0
 IsLocal command = (out-Command command).has_globals ≡ false
 
+-- a flag stands
+abbrev pub is_set : Text → List Row → Bool
+is_set flag rows = option_map_or (λ value. bytes_eq value (codes "true")) (first_of flag rows) false
+
+-- the file and the composition that a subcommand's values name
+abbrev pub Names : List Row → Text → Option Text → Type 0
+Names rows file composition = (first_of (codes "FILE") rows ≡ Some file) × (first_of (codes "comp") rows ≡ composition)
+
 -- a subcommand with its values, if there is one, asks for this
 abbrev pub IsAskedBy : Option (Text × List Row) → Request → Type 0
 IsAskedBy None request = ⊥
 IsAskedBy (Some found) (Request.Replay file composition) =
-    (found.0 ≡ codes "replay") × (first_of (codes "FILE") found.1 ≡ Some file.now) × (first_of (codes "comp") found.1 ≡ option_copied composition)
+    (found.0 ≡ codes "replay") × (is_set (codes "log") found.1 ≡ false) × Names found.1 file.now (option_copied composition)
+IsAskedBy (Some found) (Request.ReplayLog file composition) =
+    (found.0 ≡ codes "replay") × (is_set (codes "log") found.1 ≡ true) × Names found.1 file.now (option_copied composition)
+IsAskedBy (Some found) (Request.Monitor file composition) = (found.0 ≡ codes "monitor") × Names found.1 file.now (option_copied composition)
 IsAskedBy (Some found) (Request.Check file) = (found.0 ≡ codes "check") × (first_of (codes "FILE") found.1 ≡ Some file.now)
 IsAskedBy (Some found) (Request.Explain code) = (found.0 ≡ codes "explain") × (first_of (codes "CODE") found.1 ≡ Some (spelling code))
 

@@ -1,21 +1,25 @@
 -- What is written to explain a code. What the words of an explanation say is not told here.
 use Rattle.std.specs.Prelude.{ℕ, ◌≡◌, ◌++◌, ◌∷◌, [], List, Option, take, codes}
 use Rattle.std.specs.Io.KnownBytes.{Appends, Keeps}
-use Rattle.ioa_log.specs.declared.failure.LogErr.{LogErr}
 use Rattle.ioac.specs.declared.code.Code.{Code}
 use Rattle.ioac.specs.declared.explanation.Example.{Example}
 use Rattle.ioac.specs.declared.explanation.Explanation.{Explanation}
 use Rattle.ioac.specs.declared.failure.Failure.{Failure}
 use Rattle.ioac.specs.Codes.{spelling}
+use Rattle.ioac.specs.Failing.{IsDeviceErr}
 
 -- the end of a line, and an empty line
 abbrev pub gap : List ℕ
 gap = 10 ∷ 10 ∷ []
 
+abbrev pub input_text : List ℕ → List ℕ → List ℕ → List ℕ
+input_text source given input = codes "For example, this source:" ++ (gap ++ (source ++ (gap ++ (given ++ (gap ++ (input ++ 10 ∷ []))))))
+
 abbrev pub example_text : Example → List ℕ
 example_text (Example.Source source) = codes "For example, this source:" ++ (gap ++ (source.now ++ 10 ∷ []))
-example_text (Example.Replay source list) =
-    codes "For example, this source:" ++ (gap ++ (source.now ++ (gap ++ (codes "with this list:" ++ (gap ++ (list.now ++ 10 ∷ []))))))
+example_text (Example.Replay source list) = input_text source.now (codes "with this list:") list.now
+example_text (Example.ReplayLog source log) = input_text source.now (codes "with this log:") log.now
+example_text (Example.Monitor source log) = input_text source.now (codes "as a monitor of this log:") log.now
 example_text (Example.Told sentence) = sentence.now ++ 10 ∷ []
 
 abbrev pub explanation_text : Explanation → List ℕ
@@ -29,9 +33,8 @@ IsExplained code before after = (e : Explanation) × (e.code ≡ code) × Append
 -- memory is short, and nothing was written; or the device failed, and a beginning of an explanation was
 abbrev pub IsUnexplained : Code → Type 0 → Option (List ℕ) → Option (List ℕ) → Failure → Type 0
 IsUnexplained code failed before after (Failure.Refused r) = ⊥
-IsUnexplained code failed before after (Failure.List (LogErr.BadLine n)) = ⊥
-IsUnexplained code failed before after (Failure.List LogErr.Io) =
-    failed × ((e : Explanation) × (k : ℕ) × (e.code ≡ code) × Appends before after (take k (explanation_text e)))
-IsUnexplained code failed before after (Failure.List LogErr.OutOfMemory) = ⊥
+IsUnexplained code failed before after (Failure.List e) =
+    IsDeviceErr (failed × ((e : Explanation) × (k : ℕ) × (e.code ≡ code) × Appends before after (take k (explanation_text e)))) e
+IsUnexplained code failed before after Failure.SpecHasInternal = ⊥
 IsUnexplained code failed before after Failure.Io = ⊥
 IsUnexplained code failed before after Failure.OutOfMemory = Keeps before after

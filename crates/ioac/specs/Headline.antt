@@ -1,4 +1,5 @@
--- What a replay of a list in a composition of a source is, from the bytes that are read to the bytes that are written.
+-- What replays of lists, replays of logs and monitors are in a composition of a source, from the bytes that are read to the bytes that are
+-- written.
 use Rattle.std.specs.Prelude.{◌≡◌, ℕ, List, Option, Some}
 use Rattle.ioa_value.specs.Actions.{Name}
 use Rattle.ioa_lex.specs.Tokens.{Tok}
@@ -10,18 +11,33 @@ use Rattle.ioa_syntax.specs.WellFormed.{WellFormed}
 use Rattle.ioa_syntax.specs.Compositions.{Composed, picked, IsComposed, components_of, starts_of}
 use Rattle.ioa_syntax.specs.Runs.{Ending}
 use Rattle.ioa_log.specs.Replays.{Replays}
+use Rattle.ioac.specs.Logs.{ReplaysLog, Monitors}
 
--- The text spells a tree; the tree is well formed; the composition that is picked has these components and starts. The
--- bytes are a list of actions, and what is written are the external ones among those that the components perform, up to
--- the first that they cannot, and then the end: why it is the first, and its index.
-pub record IsReplay (text : List ℕ) (name : Option Name) (bytes : List ℕ) (ending : Ending) (before after : Option (List ℕ)) : Type 0 where
-  pub tokens : List (Tok × ℕ)
+-- the text's tokens spell the tree
+abbrev pub Spells : List ℕ → SourceTree → Type 0
+Spells text s = (ts : List (Tok × ℕ)) × Lexes text ts × SpellsSource s (plain ts)
+
+-- The text spells a tree; the tree is well formed; the composition of this name, the last one where none is given, has these
+-- components and starts.
+pub record Declares (text : List ℕ) (name : Option Name) (composed : Composed) : Type 0 where
   pub source : SourceTree
   pub tree : CompositionTree
-  pub composed : Composed
-  pub lexes : Lexes text tokens
-  pub spells : SpellsSource source (plain tokens)
+  pub spells : Spells text source
   pub well_formed : WellFormed source
   pub picks : picked source name ≡ Some tree
   pub is_composed : IsComposed source tree composed
-  pub replays : Replays composed.types composed.hidden (components_of composed) (starts_of composed) bytes ending before after
+
+-- The bytes are a list of actions, and what is written are the external ones among those that the components perform, up to
+-- the first that they cannot, and then the end: why it is the first, and its index.
+abbrev pub IsReplay : List ℕ → Option Name → List ℕ → Ending → Option (List ℕ) → Option (List ℕ) → Type 0
+IsReplay text name bytes ending before after =
+    (c : Composed) × Declares text name c × Replays c.types c.hidden (components_of c) (starts_of c) bytes ending before after
+
+-- The bytes are a log of the run that the components do, and what is written is the same as for the list of its actions.
+abbrev pub IsLogReplay : List ℕ → Option Name → List ℕ → Ending → Option (List ℕ) → Option (List ℕ) → Type 0
+IsLogReplay text name bytes ending before after = (c : Composed) × Declares text name c × ReplaysLog c bytes ending before after
+
+-- The bytes are a log, of these or of other components, and what is written is whether the components accept what it tells to be
+-- performed: the first action that they have and do not perform, if there is one.
+abbrev pub IsMonitoring : List ℕ → Option Name → List ℕ → Option Ending → Option (List ℕ) → Option (List ℕ) → Type 0
+IsMonitoring text name bytes answer before after = (c : Composed) × Declares text name c × Monitors c bytes answer before after

@@ -33,11 +33,20 @@ refusal_details (Refusal.StartFault i fault) =
 refusal_details Refusal.NoComposition = []
 refusal_details Refusal.OutOfMemory = []
 
+abbrev pub log_details : LogErr → List ℕ
+log_details (LogErr.NotJson line) = on_line line
+log_details (LogErr.BadLine line) = on_line line
+log_details (LogErr.WrongOwner line) = on_line line
+log_details (LogErr.Diverges line) = on_line line
+log_details LogErr.NoEnd = []
+log_details LogErr.AfterEnd = []
+log_details LogErr.Io = []
+log_details LogErr.OutOfMemory = []
+
 abbrev pub failure_details : Failure → List ℕ
 failure_details (Failure.Refused refusal) = refusal_details refusal
-failure_details (Failure.List (LogErr.BadLine line)) = on_line line
-failure_details (Failure.List LogErr.Io) = []
-failure_details (Failure.List LogErr.OutOfMemory) = []
+failure_details (Failure.List e) = log_details e
+failure_details Failure.SpecHasInternal = []
 failure_details Failure.Io = []
 failure_details Failure.OutOfMemory = []
 

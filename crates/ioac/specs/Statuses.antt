@@ -1,5 +1,5 @@
 -- The exit statuses: their numbers, and which one a run has.
-use Rattle.std.specs.Prelude.{ℕ}
+use Rattle.std.specs.Prelude.{ℕ, Option, Some, None}
 use Rattle.ioa_lex.specs.declared.refusal.Refusal.{Refusal}
 use Rattle.ioa_syntax.specs.Runs.{Ending, done, not_an_action_at, not_enabled_at, fault_at}
 use Rattle.ioa_log.specs.declared.failure.LogErr.{LogErr}
@@ -14,12 +14,17 @@ number_of Status.Faulted = 3
 number_of Status.ListRefused = 4
 number_of Status.Broken = 5
 
--- of a list that was replayed to this end
+-- of a list or a log that was replayed to this end
 abbrev pub ending_status : Ending → Status
 ending_status (done n) = Status.Done
 ending_status (not_an_action_at i) = Status.ListRefused
 ending_status (not_enabled_at i) = Status.ListRefused
 ending_status (fault_at c f i) = Status.Faulted
+
+-- of a monitor that gives this answer
+abbrev pub answer_status : Option Ending → Status
+answer_status None = Status.Done
+answer_status (Some end) = Status.ListRefused
 
 -- of a source that is refused
 abbrev pub refusal_status : Refusal → Status
@@ -42,10 +47,20 @@ refusal_status (Refusal.StartFault i fault) = Status.Refused
 refusal_status Refusal.NoComposition = Status.Refused
 refusal_status Refusal.OutOfMemory = Status.Broken
 
+-- of a list or a log that is refused
+abbrev pub log_status : LogErr → Status
+log_status (LogErr.NotJson line) = Status.ListRefused
+log_status (LogErr.BadLine line) = Status.ListRefused
+log_status (LogErr.WrongOwner line) = Status.ListRefused
+log_status (LogErr.Diverges line) = Status.ListRefused
+log_status LogErr.NoEnd = Status.ListRefused
+log_status LogErr.AfterEnd = Status.ListRefused
+log_status LogErr.Io = Status.Broken
+log_status LogErr.OutOfMemory = Status.Broken
+
 abbrev pub failure_status : Failure → Status
 failure_status (Failure.Refused refusal) = refusal_status refusal
-failure_status (Failure.List (LogErr.BadLine line)) = Status.ListRefused
-failure_status (Failure.List LogErr.Io) = Status.Broken
-failure_status (Failure.List LogErr.OutOfMemory) = Status.Broken
+failure_status (Failure.List e) = log_status e
+failure_status Failure.SpecHasInternal = Status.ListRefused
 failure_status Failure.Io = Status.Broken
 failure_status Failure.OutOfMemory = Status.Broken

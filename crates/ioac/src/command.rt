@@ -1,4 +1,4 @@
-ghost use Rattle.std.specs.Prelude.{◌≡◌, ◌⊎◌, map, IfOk, IfErr, IsSome};
+ghost use Rattle.std.specs.Prelude.{◌≡◌, ◌⊎◌, map, option_map, IfOk, IfErr, IsSome};
 ghost use Rattle.std.specs.Io.KnownBytes.{Keeps};
 ghost use Rattle.clap.specs.Words.{kind_of};
 ghost use Rattle.ioa_system.specs.Answers.{ending_of};
@@ -6,7 +6,7 @@ ghost use Rattle.ioa_log.specs.Failing.{HasFailed};
 ghost use Rattle.ioac.specs.CommandLine.{IsAsked};
 ghost use Rattle.ioac.specs.Commands.{IsAnswered, IsReported, IsUnasked, usage_status};
 ghost use Rattle.ioac.specs.Serving.{IsServed, IsUnserved};
-ghost use Rattle.ioac.specs.Statuses.{ending_status, number_of};
+ghost use Rattle.ioac.specs.Statuses.{answer_status, ending_status, number_of};
 ghost use Rattle.ioac.specs.declared.status.Status.{Status};
 ghost use Rattle.ioac.specs.declared.request.Request.{Request};
 ghost use Rattle.ioac.specs.declared.status.Status.TheVariants as statuses;
@@ -14,6 +14,8 @@ ghost use Rattle.ioac.specs.declared.status.Status.TheVariants as statuses;
 use crate::check::check_text;
 use crate::explain::explain;
 use crate::failure::Failure;
+use crate::log_replay::replay_log_text;
+use crate::monitor::monitor_text;
 use crate::replay::replay_text;
 use crate::request::{Request, parse, read_request};
 use crate::status::Status;
@@ -103,7 +105,7 @@ fn reported<E: Write>(failure: Failure, errors: &mut E) -> Status
 /// Does what is asked, and answers the exit status.
 ///
 /// # Errors
-/// `Io` or `OutOfMemory` where the file is not read, and those of the replay or the check of what it holds, or of the
+/// `Io` or `OutOfMemory` where the file is not read, and those of the replay, the monitor or the check of what it holds, or of the
 /// explanation. Nothing was written then, or, where a device failed, no more than a beginning of the text.
 fn serve<F: Store, R: InputDevice, W: OutputDevice>(
     alloc: Global,
@@ -123,6 +125,22 @@ fn serve<F: Store, R: InputDevice, W: OutputDevice>(
             let end = replay_text(alloc, text.as_slice(), *composition, input, output)?;
             Ok(status_of(end))
         }
+        Request::ReplayLog { file, composition } => {
+            let automata = store.load(alloc, file)?;
+            let end = replay_log_text(alloc, automata.as_slice(), *composition, input, output)?;
+            Ok(status_of(end))
+        }
+        Request::Monitor { file, composition } => {
+            let specification = store.load(alloc, file)?;
+            let answer = monitor_text(
+                alloc,
+                specification.as_slice(),
+                *composition,
+                input,
+                output,
+            )?;
+            Ok(status_of_answer(answer))
+        }
         Request::Check { file } => {
             let source = store.load(alloc, file)?;
             check_text(alloc, source.as_slice(), output)?;
@@ -135,7 +153,7 @@ fn serve<F: Store, R: InputDevice, W: OutputDevice>(
     }
 }
 
-/// The exit status of a list that was replayed to this end.
+/// The exit status of a list or a log that was replayed to this end.
 fn status_of(end: End) -> Status
     ensures { result ≡ ending_status (ending_of end) }
 {
@@ -143,6 +161,16 @@ fn status_of(end: End) -> Status
         End::Done(_) => Status::Done,
         End::NotAnAction(_) | End::NotEnabled(_) => Status::ListRefused,
         End::Fault(_, _, _) => Status::Faulted,
+    }
+}
+
+/// The exit status of a monitor that gives this answer.
+fn status_of_answer(answer: Option<End>) -> Status
+    ensures { result ≡ answer_status (option_map ending_of answer) }
+{
+    match answer {
+        None => Status::Done,
+        Some(_) => Status::ListRefused,
     }
 }
 

@@ -21,6 +21,16 @@ pub enum Example {
         source: &'static str,
         list: &'static str,
     },
+    /// This source with this log.
+    ReplayLog {
+        source: &'static str,
+        log: &'static str,
+    },
+    /// This source as a monitor of this log.
+    Monitor {
+        source: &'static str,
+        log: &'static str,
+    },
     /// No text that could stand here. The sentence says what does it.
     Told(&'static str),
 }
@@ -37,6 +47,14 @@ impl fmt::Display for Example {
             Example::Replay { source, list } => write!(
                 f,
                 "For example, this source:\n\n{source}\n\nwith this list:\n\n{list}\n"
+            ),
+            Example::ReplayLog { source, log } => write!(
+                f,
+                "For example, this source:\n\n{source}\n\nwith this log:\n\n{log}\n"
+            ),
+            Example::Monitor { source, log } => write!(
+                f,
+                "For example, this source:\n\n{source}\n\nas a monitor of this log:\n\n{log}\n"
             ),
             Example::Told(sentence) => write!(f, "{sentence}\n"),
         }

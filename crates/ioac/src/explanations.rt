@@ -1,4 +1,5 @@
 mod compositions;
+mod logs;
 mod runs;
 mod sources;
 mod texts;
@@ -30,7 +31,13 @@ pub fn explanation(code: Code) -> Explanation
         Code::E15 => compositions::E15,
         Code::E16 => compositions::E16,
         Code::E17 => compositions::E17,
+        Code::L1 => logs::L1,
         Code::L2 => runs::L2,
+        Code::L3 => logs::L3,
+        Code::L4 => logs::L4,
+        Code::L5 => logs::L5,
+        Code::L6 => logs::L6,
+        Code::L7 => logs::L7,
         Code::L8 => runs::L8,
         Code::Memory => runs::MEMORY,
         Code::Io => runs::IO,

@@ -1,3 +1,7 @@
+ghost use Rattle.std.specs.Prelude.{◌≡◌};
+ghost use Rattle.ioac.specs.Codes as codes;
+ghost use Rattle.ioac.specs.Statuses as statuses;
+
 use crate::code::Code;
 use crate::refusal::{Details, refusal_code, refusal_status};
 use crate::status::Status;
@@ -12,8 +16,10 @@ use std::fmt;
 pub enum Failure {
     /// The source or its composition is refused.
     Refused(Refusal),
-    /// The list is refused, or a device failed, also where there is no list.
+    /// The list or the log is refused, or a device failed, also where there is none.
     List(LogErr),
+    /// The composition has internal or hidden actions, and is no monitor.
+    SpecHasInternal,
     /// A file was not read.
     Io,
     /// A growth of memory was refused.
@@ -31,10 +37,10 @@ impl Failure {
     {
         match self {
             Failure::Refused(refusal) => refusal_code(refusal),
-            Failure::List(LogErr::BadLine(_)) => Code::L2,
-            Failure::List(LogErr::Io) => Code::L8,
-            Failure::List(LogErr::OutOfMemory) | Failure::OutOfMemory => Code::Memory,
+            Failure::List(error) => log_code(*error),
+            Failure::SpecHasInternal => Code::L7,
             Failure::Io => Code::Io,
+            Failure::OutOfMemory => Code::Memory,
         }
     }
 
@@ -44,12 +50,41 @@ impl Failure {
     {
         match self {
             Failure::Refused(refusal) => refusal_status(refusal),
-            Failure::List(LogErr::BadLine(_)) => Status::ListRefused,
-            Failure::List(LogErr::Io)
-            | Failure::List(LogErr::OutOfMemory)
-            | Failure::Io
-            | Failure::OutOfMemory => Status::Broken,
+            Failure::List(error) => log_status(*error),
+            Failure::SpecHasInternal => Status::ListRefused,
+            Failure::Io | Failure::OutOfMemory => Status::Broken,
         }
+    }
+}
+
+/// The code of a list or a log that is refused.
+fn log_code(error: LogErr) -> Code
+    ensures { result ≡ codes.log_code error }
+{
+    match error {
+        LogErr::NotJson(_) => Code::L1,
+        LogErr::BadLine(_) => Code::L2,
+        LogErr::WrongOwner(_) => Code::L3,
+        LogErr::Diverges(_) => Code::L4,
+        LogErr::NoEnd => Code::L5,
+        LogErr::AfterEnd => Code::L6,
+        LogErr::Io => Code::L8,
+        LogErr::OutOfMemory => Code::Memory,
+    }
+}
+
+/// The exit status of a list or a log that is refused.
+fn log_status(error: LogErr) -> Status
+    ensures { result ≡ statuses.log_status error }
+{
+    match error {
+        LogErr::NotJson(_)
+        | LogErr::BadLine(_)
+        | LogErr::WrongOwner(_)
+        | LogErr::Diverges(_)
+        | LogErr::NoEnd
+        | LogErr::AfterEnd => Status::ListRefused,
+        LogErr::Io | LogErr::OutOfMemory => Status::Broken,
     }
 }
 
@@ -66,9 +101,14 @@ impl fmt::Display for Failure {
                 let details = Details(refusal);
                 write!(f, "{code}{details}")
             }
-            Failure::List(LogErr::BadLine(line)) => write!(f, "{code} line {line}"),
-            Failure::List(LogErr::Io)
-            | Failure::List(LogErr::OutOfMemory)
+            Failure::List(
+                LogErr::NotJson(line)
+                | LogErr::BadLine(line)
+                | LogErr::WrongOwner(line)
+                | LogErr::Diverges(line),
+            ) => write!(f, "{code} line {line}"),
+            Failure::List(LogErr::NoEnd | LogErr::AfterEnd | LogErr::Io | LogErr::OutOfMemory)
+            | Failure::SpecHasInternal
             | Failure::Io
             | Failure::OutOfMemory => write!(f, "{code}"),
         }

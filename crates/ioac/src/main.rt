@@ -1,14 +1,17 @@
-//! `ioac`: checks, composes, compiles and replays I/O automata.
+//! `ioac`: checks, composes, compiles, replays and monitors I/O automata.
 #![tactic(auto)]
 
 mod check;
 mod code;
 mod command;
+mod compile;
 mod explain;
 mod explanation;
 mod explanations;
 mod failure;
 mod files;
+mod log_replay;
+mod monitor;
 mod refusal;
 mod replay;
 mod request;

@@ -2,15 +2,12 @@ ghost use Rattle.std.specs.Prelude.{◌⊎◌, IfOk, IfErr, IfSome};
 ghost use Rattle.std.specs.Option.{option_copied};
 ghost use Rattle.ioa_system.specs.Answers.{ending_of};
 ghost use Rattle.ioa_log.specs.Failing.{HasFailed};
-ghost use Rattle.ioac.specs.Failing.{IsFailure, IsUnwritten};
+ghost use Rattle.ioac.specs.Failing.{BeginsReplayOf, IsFailure, IsUnwritten};
 ghost use Rattle.ioac.specs.Headline.{IsReplay};
 
+use crate::compile::compile_text;
 use crate::failure::Failure;
-use ioa_check::check;
-use ioa_compile::compile;
-use ioa_compose::compose;
 use ioa_log::{InputDevice, OutputDevice, replay_list};
-use ioa_syntax::parse;
 use ioa_system::End;
 use std::alloc::Global;
 
@@ -35,12 +32,10 @@ pub fn replay_text<R: InputDevice, W: OutputDevice>(
         IsReplay text.now (option_copied composition.entry) bytes (ending_of end) (W.contents output.old) (W.contents output.new))) }
     ensures refused { IfErr result (λ e. IsFailure text.now (option_copied composition.entry) (R.remaining input.old)
         (HasFailed (R.failure_count input.old) (R.failure_count input.new) ⊎ HasFailed (W.failure_count output.old) (W.failure_count output.new)) e) }
-    ensures unwritten { IfErr result (λ e. IsUnwritten text.now (option_copied composition.entry) (R.remaining input.old) (W.contents output.old) (W.contents output.new) e) }
+    ensures unwritten { IfErr result (λ e. IsUnwritten (BeginsReplayOf text.now (option_copied composition.entry) (R.remaining input.old))
+        (W.contents output.old) (W.contents output.new) e) }
 {
-    let source = parse(alloc, text)?;
-    let checked = check(alloc, source)?;
-    let composed = compose(alloc, &checked, composition)?;
-    let program = compile(alloc, &composed)?;
+    let program = compile_text(alloc, text, composition)?;
     let end = replay_list(alloc, &program, input, output)?;
     Ok(end)
 }

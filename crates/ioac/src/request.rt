@@ -1,10 +1,11 @@
 ghost use Rattle.std.specs.Prelude.{◌≡◌, false, map, IfOk, IfErr, IfSome, IfNone};
-ghost use Rattle.clap.specs.Words.{HasKind, app_of, fault_of, rule_of, subcommand_of, subcommand_rows_of};
-ghost use Rattle.ioac.specs.CommandLine.{IsAskedBy, IsLocal, check_app, code_rule, comp_rule, explain_app, file_rule, ioac_app, replay_app};
+ghost use Rattle.clap.specs.Words.{HasKind, app_of, fault_of, found_of, rows_of, rule_of, subcommand_of, subcommand_rows_of};
+ghost use Rattle.ioac.specs.CommandLine as asked;
+ghost use Rattle.ioac.specs.CommandLine.{IsAskedBy, IsLocal, check_app, code_rule, comp_rule, explain_app, file_rule, ioac_app, log_rule, monitor_app, replay_app};
 ghost use Rattle.ioac.specs.declared.request.Request.{Request};
 
 use crate::code::Code;
-use clap::{Arg, ArgMatches, Command, Error};
+use clap::{Arg, ArgAction, ArgMatches, Command, Error};
 use std::alloc::{AllocError, Global};
 use std::convert::AsStr;
 
@@ -13,6 +14,16 @@ use std::convert::AsStr;
 pub enum Request<'a> {
     /// To replay the list on standard input in a composition of a source.
     Replay {
+        file: &'a str,
+        composition: Option<&'a str>,
+    },
+    /// To replay the log on standard input in a composition of a source.
+    ReplayLog {
+        file: &'a str,
+        composition: Option<&'a str>,
+    },
+    /// To monitor the log on standard input by a composition of a source.
+    Monitor {
         file: &'a str,
         composition: Option<&'a str>,
     },
@@ -45,6 +56,16 @@ fn composition_option<'a>(alloc: Global) -> Arg<'a>
     Arg::new(alloc, "comp").long("comp").value_name("NAME").help(
         "The composition to take; without it, the source's last one",
     )
+}
+
+fn log_flag<'a>(alloc: Global) -> Arg<'a>
+    ensures rule { rule_of result ≡ log_rule }
+    ensures local { result.global ≡ false }
+{
+    Arg::new(alloc, "log")
+        .long("log")
+        .action(ArgAction::SetTrue)
+        .help("Standard input is a log, which has to be of the composition's run")
 }
 
 fn code_argument<'a>(alloc: Global) -> Arg<'a>
@@ -89,8 +110,27 @@ fn replay_command<'a>(alloc: Global) -> Result<Command<'a>, AllocError>
         .about("Performs a list of actions, read on standard input, and prints its external trace")
         .after_help(
             "The list has one action a line, as `tick(5)`. Blank lines and lines that begin with % are skipped.\n\
+             A log has one JSON object a line, as `{\"act\":\"tick(5)\",\"who\":0}`, and last `{\"end\":\"done after 1\"}`.\n\
              Exit status: 0 done, 1 source refused, 2 bad command line, 3 ended by a fault,\n\
-             4 list refused, or ended not enabled or not an action, 5 memory or a device.",
+             4 list or log refused, or ended not enabled or not an action, 5 memory or a device.",
+        )
+        .arg(file_argument(alloc))?
+        .arg(composition_option(alloc))?
+        .arg(log_flag(alloc))
+}
+
+fn monitor_command<'a>(alloc: Global) -> Result<Command<'a>, AllocError>
+    ensures app { IfOk result (λ command. app_of command ≡ monitor_app) }
+    ensures local { IfOk result IsLocal }
+{
+    Command::new(alloc, "monitor")
+        .about(
+            "Reads a log on standard input, and prints whether a composition accepts its actions",
+        )
+        .after_help(
+            "The composition has no internal action, and hides none. It is run on those of the log's actions that its components have.\n\
+             Exit status: 0 accepted, 1 source refused, 2 bad command line,\n\
+             4 not accepted, log refused, or no monitor, 5 memory or a device.",
         )
         .arg(file_argument(alloc))?
         .arg(composition_option(alloc))
@@ -107,6 +147,7 @@ fn program<'a>(alloc: Global) -> Result<Command<'a>, AllocError>
         .disable_help_subcommand(true)
         .subcommand(check_command(alloc)?)?
         .subcommand(replay_command(alloc)?)?
+        .subcommand(monitor_command(alloc)?)?
         .subcommand(explain_command(alloc)?)
 }
 
@@ -116,6 +157,16 @@ pub fn parse<'a, S: AsStr>(alloc: Global, words: &'a [S]) -> Result<ArgMatches<'
     ensures faulty { IfErr result (HasKind (fault_of ioac_app (map S.text words.entry.now))) }
 {
     program(alloc)?.try_get_matches_from(words)
+}
+
+/// Whether a flag stands.
+fn is_set(found: &ArgMatches<'_>, flag: &str) -> bool
+    ensures { result ≡ asked.is_set flag.now (rows_of (found_of found.now)) }
+{
+    match found.get_str(flag) {
+        Some(value) => value == "true",
+        None => false,
+    }
 }
 
 /// The request that a command line has. None where a word is missing, which a parse rules out, or where there is no such
@@ -129,7 +180,19 @@ pub fn read_request<'a>(matches: &ArgMatches<'a>) -> Option<Request<'a>>
         "replay" => {
             let file = found.get_str("FILE")?;
             let composition = found.get_str("comp");
-            Some(Request::Replay { file, composition })
+            if is_set(found, "log") {
+                Some(Request::ReplayLog { file, composition })
+            } else {
+                Some(Request::Replay { file, composition })
+            }
+        }
+        "monitor" => {
+            let file = found.get_str("FILE")?;
+            let named = found.get_str("comp");
+            Some(Request::Monitor {
+                file,
+                composition: named,
+            })
         }
         "check" => {
             let file = found.get_str("FILE")?;

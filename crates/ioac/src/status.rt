@@ -8,9 +8,9 @@ pub enum Status {
     Refused = 1,
     /// The command line is not one that the program reads.
     BadCommandLine = 2,
-    /// The list ended by a fault.
+    /// The list or the log ended by a fault.
     Faulted = 3,
-    /// The list is refused, or it ended not enabled or not an action.
+    /// The list, the log or the monitor is refused, or the monitor refuses, or the list ended not enabled or not an action.
     ListRefused = 4,
     /// Memory was short, a device failed, or a file could not be read.
     Broken = 5,

@@ -9,6 +9,7 @@ mod constants;
 mod declared;
 mod explained;
 mod lists;
+mod logs;
 mod reached;
 mod requests;
 mod shelf;

@@ -1,11 +1,13 @@
-//! What is wrong with a list, a device or a file.
+//! What is wrong with a list or a line of a log, a device or a file.
 
 use crate::code::Code;
 use crate::explanation::{Example, Explanation};
 
 pub const L2: Explanation = Explanation {
     code: Code::L2,
-    meaning: "This line of the list is no action. An action is a name and, for one value or more, the values in parentheses.",
+    meaning: "This line of the list is no action. An action is a name and, for one value or more, the values in parentheses. Or this\n\
+        line of the log is neither an entry nor the end, as an entry is an object with `act`, such an action, and `who`, a number,\n\
+        and no other key.",
     example: Example::Replay {
         source: "automaton Counter\n\
         signature output tick(k: Int)\n\
@@ -15,13 +17,13 @@ pub const L2: Explanation = Explanation {
         list: "tick(0)\n\
         tick(1",
     },
-    mending: "Write the line as `reset` or `tick(5)`; blank lines, and lines that begin with %, are skipped. Nothing was\n\
-        performed.",
+    mending: "Write the line as `reset` or `tick(5)`; in a list blank lines, and lines that begin with %, are skipped. In a log write it as\n\
+        `{\"act\":\"tick(5)\",\"who\":0}`, or the last one as `{\"end\":\"done after 1\"}`. Nothing was performed.",
 };
 
 pub const L8: Explanation = Explanation {
     code: Code::L8,
-    meaning: "Reading the list, or writing the answer, failed. A beginning of the answer may have been written.",
+    meaning: "Reading the list or the log, or writing the answer, failed. A beginning of the answer may have been written.",
     example: Example::Told(
         "No source or list gives it. A full disk does, or a pipe whose reader has gone.",
     ),

@@ -7,12 +7,21 @@ use ioa_log::Counted;
 use std::alloc::Global;
 use std::test::Fail;
 
-/// The source and the list that give a code, if any do.
-fn example(alloc: Global, code: Code) -> Result<Option<(String, &'static str)>, Fail> {
+/// The words, the source and the standard input that give a code, if any do.
+fn example(
+    alloc: Global,
+    code: Code,
+) -> Result<Option<(&'static str, String, &'static str)>, Fail> {
     Ok(match explanation(code).example {
-        Example::Source(source) => Some((String::from_str(alloc, source)?, "")),
-        Example::Replay { source, list } => Some((String::from_str(alloc, source)?, list)),
-        Example::Told(_) if code == Code::E1 => Some((spaces(alloc, 1_048_577)?, "")),
+        Example::Source(source) => Some((REPLAY, String::from_str(alloc, source)?, "")),
+        Example::Replay { source, list } => Some((REPLAY, String::from_str(alloc, source)?, list)),
+        Example::ReplayLog { source, log } => {
+            Some(("replay f --log", String::from_str(alloc, source)?, log))
+        }
+        Example::Monitor { source, log } => {
+            Some(("monitor f", String::from_str(alloc, source)?, log))
+        }
+        Example::Told(_) if code == Code::E1 => Some((REPLAY, spaces(alloc, 1_048_577)?, "")),
         Example::Told(_) => None,
     })
 }
@@ -37,14 +46,14 @@ fn tells(errors: &[u8], code: Code) -> bool {
 fn examples_give_their_codes(rt: HostRuntime) -> Result<(), Fail> {
     let mut shown = Vec::new(rt.alloc());
     for code in Code::ALL {
-        if let Some((source, list)) = example(rt.alloc(), code)? {
+        if let Some((words, source, list)) = example(rt.alloc(), code)? {
             let given = Given {
-                words: REPLAY,
+                words,
                 file: source.as_str(),
                 list,
             };
             let ran = run(rt.alloc(), &given)?;
-            let wanted = if code == Code::L2 {
+            let wanted = if code.spelling().starts_with("L") {
                 Status::ListRefused
             } else {
                 Status::Refused
@@ -55,7 +64,7 @@ fn examples_give_their_codes(rt: HostRuntime) -> Result<(), Fail> {
             shown.push(code)?;
         }
     }
-    assert_eq!(rt; shown.len(), 17);
+    assert_eq!(rt; shown.len(), 23);
     Ok(())
 }
 

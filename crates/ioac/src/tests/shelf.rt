@@ -138,6 +138,8 @@ pub enum First<'a> {
     Words(&'a str),
     /// The words after the program's name, and a file.
     Request,
+    /// The words after the program's name, a file, and standard input.
+    All,
 }
 
 // What the first columns give, and how many they are.
@@ -149,6 +151,7 @@ fn given_in<'a>(first: First<'a>, columns: &'a [String]) -> (Given<'a>, usize) {
         First::File => (REPLAY, one, two, 2),
         First::Words(file) => (one, file, two, 2),
         First::Request => (one, two, "", 2),
+        First::All => (one, two, column(columns, 2), 3),
     };
     (Given { words, file, list }, count)
 }

@@ -1,0 +1,97 @@
+-- From the clauses of the layers to what a replay and a monitor of a log write.
+use Rattle.std.proofs.Common.{◌≡◌, ℕ, ◌-◌, ◌<◌, List, [], ◌∷◌, ◌++◌, map, length, take, Option, Some, None, IfSome, IfNone, IsSome, true, if◌then◌else◌, refl, sym, ap, ap₂, ◌∙◌, subst, arith, append-nil, append_assoc, length-append}
+use Rattle.std.specs.Option.{option_map, option_to_list}
+use Rattle.std.proofs.Math.Seq.{take-append_seam}
+use Rattle.std.proofs.lemmas.Bool.{false≢true}
+use Rattle.std.proofs.lemmas.List.{length-map, take-map}
+use Rattle.std.proofs.lemmas.Simd.{map-map}
+use Rattle.ioa_value.specs.declared.action.Action.{Action}
+use Rattle.ioa_value.specs.Actions.{Act, act_of}
+use Rattle.ioa_value.specs.Plain.{Val}
+use Rattle.ioa_value.specs.Table.{Table}
+use Rattle.ioa_value.specs.Written.{written_action}
+use Rattle.ioa_syntax.specs.Compositions.{Composed, components_of, starts_of}
+use Rattle.ioa_syntax.specs.Runs.{Ending, Reached, after, not_an_action_at, run, trace}
+use Rattle.ioa_system.specs.declared.answer.End.{End}
+use Rattle.ioa_system.specs.declared.answer.Step.{Step}
+use Rattle.ioa_system.specs.declared.log.Log.{Log}
+use Rattle.ioa_system.specs.declared.log.LogEnd.{LogEnd}
+use Rattle.ioa_system.specs.declared.log.LogEntry.{LogEntry}
+use Rattle.ioa_system.specs.declared.runs.Run.{Run}
+use Rattle.ioa_system.specs.Answers.{ending_of, step_of}
+use Rattle.ioa_system.specs.Logs.{actions_of, is_fault, log_end, log_entry, logged}
+use Rattle.ioa_system.specs.Records.{IsSourceRun, trace_of}
+use Rattle.ioa_log.specs.Monitoring.{IsRefusedAt}
+use Rattle.ioa_log.specs.Replays.{lines_of, replay_text, run_text}
+use Rattle.ioac.specs.Logs.{performed_in}
+
+pub lines_more : (types : Table) (xs : List Act) (a : Act) → lines_of types (xs ++ a ∷ []) ≡ lines_of types xs ++ (written_action types a ++ 10 ∷ [])
+lines_more types [] a = refl
+lines_more types (x ∷ xs) a =
+    let e : lines_of types (xs ++ a ∷ []) ≡ lines_of types xs ++ (written_action types a ++ 10 ∷ []) = lines_more types xs a in
+    rw (e, append_assoc) refl
+
+-- the text of a run is the text of the composition's run
+pub run_told : (c : Composed) (types : Table) (acts : List Act) (r : Run) → types ≡ c.types → IsSourceRun c acts r
+    → replay_text types (trace_of r) (ending_of r.end) ≡ run_text c.types c.hidden (components_of c) (starts_of c) acts
+run_told c types acts r same run =
+    ap (λ ts. replay_text ts (trace_of r) (ending_of r.end)) same
+    ∙ ap₂ (λ acts end. replay_text c.types acts end) (run.trace ∙ ap (trace c.hidden (components_of c) acts) (sym run.reached.performed)) (sym run.reached.ending)
+
+-- what is left where the last item is taken away
+popped : {X : Type 0} (xs ys : List X) (o : Option X) → xs ≡ ys ++ option_to_list o → (0 < length xs → IsSome o) → ys ≡ take (length xs - 1) xs
+popped [] ys None e some = sym (e ∙ append-nil ys)
+popped (x ∷ xs) ys None e some = let one : 0 < length (x ∷ xs) = omega arith in absurd (false≢true (some one))
+popped xs ys (Some x) e some =
+    let n : length xs - 1 ≡ length ys = omega (arith, ap length e, length-append ys (x ∷ [])) in
+    sym (ap₂ take n e ∙ take-append_seam ys (x ∷ []))
+
+-- the actions of a log's entries
+abbrev pub entered : List LogEntry → List Act
+entered es = map (λ e. act_of e.action) es
+
+entered_are : (l : Log) → actions_of (logged l) ≡ entered l.entries.items
+entered_are l = map-map (λ e. e.1) log_entry l.entries.items
+
+-- what is performed of a log with this end
+abbrev pub performed_by : LogEnd → List Act → List Act
+performed_by end acts = if is_fault (log_end end) then take (length acts - 1) acts else acts
+
+pub performed_are : (l : Log) → performed_in (logged l) ≡ performed_by l.end (entered l.entries.items)
+performed_are l =
+    let n : length (logged l).entries ≡ length (actions_of (logged l)) = sym (length-map (logged l).entries (λ e. e.1)) in
+    ap (λ m. if is_fault (log_end l.end) then take (m - 1) (actions_of (logged l)) else actions_of (logged l)) n
+    ∙ ap (performed_by l.end) (entered_are l)
+
+pub all_performed : (l : Log) (n : ℕ) (all : List Action) → l.end ≡ LogEnd.Done n → map act_of all ≡ entered l.entries.items → map act_of all ≡ performed_in (logged l)
+all_performed l n all is e = e ∙ ap (λ end. performed_by end (entered l.entries.items)) (sym is) ∙ sym (performed_are l)
+
+pub last_faulted : (l : Log) (end : LogEnd) (all rest : List Action) (o : Option Action) → l.end ≡ end → is_fault (log_end end) ≡ true → map act_of all ≡ entered l.entries.items
+    → all ≡ rest ++ option_to_list o → (0 < length all → IsSome o) → map act_of rest ≡ performed_in (logged l)
+last_faulted l end all rest o is fault e left some =
+    let n : length all ≡ length (entered l.entries.items) = sym (length-map all act_of) ∙ ap length e in
+    let f : is_fault (log_end l.end) ≡ true = ap (λ d. is_fault (log_end d)) is ∙ fault in
+    ap (map act_of) (popped all rest o left some) ∙ sym (take-map act_of (length all - 1) all)
+    ∙ ap₂ (λ k acts. take (k - 1) acts) n e
+    ∙ sym (ap (λ b. if b then take (length (entered l.entries.items) - 1) (entered l.entries.items) else entered l.entries.items) f)
+    ∙ sym (performed_are l)
+
+-- the end that an answer makes is the monitor's
+pub told_at : (s : Step) (n : ℕ) (r : Option End) (o : Option Ending) → IsRefusedAt n s o
+    → IfSome r (λ end. (ss ts : List (List Val)) → (more : List (List Val) → Reached (List Val))
+    → after n ss (step_of s ts) more ≡ record { performed = n; states = ss; ending = ending_of end })
+    → IfNone r (s ≡ Step.Next) → option_map ending_of r ≡ o
+told_at s n None o refused some none = absurd (subst (λ t. IsRefusedAt n t o) none refused)
+told_at s n (Some end) o refused some none = go s refused some
+  where
+    start : List (List Val) → Reached (List Val)
+    start ss = record { performed = 0; states = ss; ending = not_an_action_at 0 }
+
+    go : (s : Step) → IsRefusedAt n s o
+        → ((ss ts : List (List Val)) → (more : List (List Val) → Reached (List Val))
+        → after n ss (step_of s ts) more ≡ record { performed = n; states = ss; ending = ending_of end })
+        → Some (ending_of end) ≡ o
+    go Step.Next h e = absurd h
+    go Step.NotAnAction h e = ap (λ (r : Reached (List Val)). Some r.ending) (sym (e [] [] start)) ∙ sym h
+    go Step.NotEnabled h e = ap (λ (r : Reached (List Val)). Some r.ending) (sym (e [] [] start)) ∙ sym h
+    go (Step.Fault c f) h e = ap (λ (r : Reached (List Val)). Some r.ending) (sym (e [] [] start)) ∙ sym h

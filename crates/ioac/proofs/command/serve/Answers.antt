@@ -1,0 +1,13 @@
+use Rattle.std.proofs.Common.{inr, subst, sym}
+use Rattle.std.proofs.lemmas.Result.{err_from_is_err_and}
+use Rattle.ioac.proofs.Refused.{err_so}
+use Rattle.ioac.proofs.command.serve.Goals as goal
+
+pub returns-in_err-answer-in-Monitor-clause-refused : goal.returns-in_err-answer-in-Monitor-clause-refused
+returns-in_err-answer-in-Monitor-clause-refused g c =
+    let e = err_from_is_err_and c.from_residual-in_err-answer-in-Monitor.result c.from_residual-in_err-answer-in-Monitor.ensures.1 in
+    let text = c.as_slice-in-Monitor.result.now in
+    let held = subst (g.F.Store.holds c.args.store.now c.in-Monitor.file.now) (sym c.as_slice-in-Monitor.ensures.value) c.in_ok-specification-in-Monitor.ensures.ok in
+    let said = c.in_err-answer-in-Monitor.ensures in
+    err_so c.from_residual-in_err-answer-in-Monitor.result e.0 c.in_err-answer-in-Monitor.field-0.0 _ e.1 e.2
+    (rw c.in-Monitor.is (inr (text, held, said.refused, said.unwritten)))

@@ -1,0 +1,68 @@
+ghost use Rattle.std.specs.Prelude.{◌≡◌, ◌⊎◌, ◌++◌, ◌∷◌, [], IfOk, IfErr, IfSome, OnOk};
+ghost use Rattle.std.specs.Option.{option_copied};
+ghost use Rattle.std.specs.String.{string_bytes};
+ghost use Rattle.ioa_value.specs.Actions.{act_of};
+ghost use Rattle.ioa_value.specs.Written.{written_action};
+ghost use Rattle.ioa_system.specs.Answers.{ending_of};
+ghost use Rattle.ioa_system.specs.Records.{trace_of};
+ghost use Rattle.ioa_log.specs.Failing.{HasFailed};
+ghost use Rattle.ioa_log.specs.Replays as replays;
+ghost use Rattle.ioac.specs.Failing.{BeginsLogOf, IsLogFailure, IsUnwritten};
+ghost use Rattle.ioac.specs.Headline.{IsLogReplay};
+
+use crate::compile::compile_text;
+use crate::failure::Failure;
+use ioa_log::{InputDevice, OutputDevice, read_log, replay, send_all};
+use ioa_system::{End, Run};
+use ioa_value::{Action, OutOfMemory, Types, push_action};
+use std::alloc::Global;
+use std::fmt::Write;
+
+/// Replays a log in a composition of a source, both given as texts: where the log is of the composition's run, writes the
+/// external trace and how the log ends, and answers that end.
+///
+/// # Errors
+/// As those of a replay of a list; and `List` where the bytes are no log, or a log of another run: of another worker, or of what the
+/// composition does not do.
+pub fn replay_log_text<R: InputDevice, W: OutputDevice>(
+    alloc: Global,
+    text: &[u8],
+    composition: Option<&str>,
+    input: &mut R,
+    output: &mut W,
+) -> Result<End, Failure>
+    ensures replays { IfOk result (λ end. IfSome (R.remaining input.old) (λ bytes.
+        IsLogReplay text.now (option_copied composition.entry) bytes (ending_of end) (W.contents output.old) (W.contents output.new))) }
+    ensures refused { IfErr result (λ e. IsLogFailure text.now (option_copied composition.entry) (R.remaining input.old)
+        (HasFailed (R.failure_count input.old) (R.failure_count input.new) ⊎ HasFailed (W.failure_count output.old) (W.failure_count output.new)) e) }
+    ensures unwritten { IfErr result (λ e. IsUnwritten (BeginsLogOf text.now (option_copied composition.entry) (R.remaining input.old))
+        (W.contents output.old) (W.contents output.new) e) }
+{
+    let program = compile_text(alloc, text, composition)?;
+    let log = read_log(alloc, program.types(), input)?;
+    let run = replay(alloc, &program, &log)?;
+    let told = run_text(alloc, program.types(), &run)?;
+    send_all(output, told.as_bytes())?;
+    Ok(run.end)
+}
+
+/// A run's trace, one action a line, and then a line with its end.
+fn run_text(alloc: Global, types: &Types, run: &Run) -> Result<String, OutOfMemory>
+    ensures { IfOk result (λ text. string_bytes text ≡ replays.replay_text types.now (trace_of run.now) (ending_of run.now.end)) }
+{
+    let mut text = String::new(alloc);
+    for action in run.trace.as_slice() {
+        push_line(types, &mut text, action)?;
+    }
+    let end = run.end;
+    writeln!(text, "end: {end}")?;
+    Ok(text)
+}
+
+fn push_line(types: &Types, text: &mut String, action: &Action) -> Result<(), OutOfMemory>
+    ensures { OnOk result (string_bytes text.new ≡ string_bytes text.old ++ (written_action types.now (act_of action.now) ++ 10 ∷ [])) }
+{
+    push_action(types, text, action)?;
+    text.push_str("\n")?;
+    Ok(())
+}

@@ -1,0 +1,168 @@
+//! Logs that are replayed, and logs that are monitored.
+
+use crate::tests::shelf::{COUNTER, First, expect_rows};
+use std::test::Fail;
+
+/// The words after the program's name, a log of the counter, what is printed, what is told of errors, and the exit status.
+const REPLAYS: &str = r#"
+replay f --log | {"act":"tick(5)","who":0}^{"act":"tick(6)","who":0}^{"act":"reset","who":1}^{"end":"done after 3"}^ | tick(5)^tick(6)^reset^end: done after 3^ |  | 0
+replay f --log | {"act":"tick(5)","who":0}^{"act":"tick(6)","who":0}^{"act":"reset","who":1}^{"end":"done after 3"} | tick(5)^tick(6)^reset^end: done after 3^ |  | 0
+replay --log --comp One f | {"act":"reset","who":1}^{"act":"tick(5)","who":0}^{"end":"done after 2"}^ | reset^tick(5)^end: done after 2^ |  | 0
+replay f --log | {"end":"done after 0"}^ | end: done after 0^ |  | 0
+-- another worker; an action that no component has is not asked for one
+replay f --log | {"act":"tick(5)","who":1}^{"act":"tick(6)","who":0}^{"act":"reset","who":1}^{"end":"done after 3"}^ |  | L3 line 1^ | 4
+replay f --log | {"act":"tick(5)","who":0}^{"act":"tick(6)","who":0}^{"act":"reset","who":0}^{"end":"done after 3"}^ |  | L3 line 3^ | 4
+replay f --log | {"act":"reset","who":18446744073709551615}^{"end":"done after 1"}^ |  | L3 line 1^ | 4
+replay f --log | {"act":"tick(7)","who":1}^{"end":"done after 1"}^ |  | L3 line 1^ | 4
+replay f --log | {"act":"tock","who":7}^{"end":"done after 1"}^ |  | L4 line 1^ | 4
+replay f --log | {"act":"tick(true)","who":7}^{"end":"done after 1"}^ |  | L4 line 1^ | 4
+-- another run
+replay f --log | {"act":"tick(6)","who":0}^{"act":"tick(5)","who":0}^{"act":"reset","who":1}^{"end":"done after 3"}^ |  | L4 line 1^ | 4
+replay f --log | {"act":"tick(5)","who":0}^{"act":"tick(5)","who":0}^{"act":"reset","who":0}^{"end":"done after 3"}^ |  | L4 line 2^ | 4
+replay f --log | {"act":"tick(5)","who":0}^{"act":"tick(6)","who":0}^{"act":"reset","who":1}^{"end":"done after 2"}^ |  | L4 line 4^ | 4
+replay f --log | {"act":"tick(5)","who":0}^{"act":"tick(6)","who":0}^{"act":"reset","who":1}^{"end":"done after 4"}^ |  | L4 line 4^ | 4
+replay f --log | {"end":"done after 1"}^ |  | L4 line 1^ | 4
+replay f --log | {"end":"fault 1 in component 0 at 0"}^ |  | L4 line 1^ | 4
+replay f --log | {"act":"tick(5)","who":0}^{"end":"fault 1 in component 0 at 0"}^ |  | L4 line 1^ | 4
+replay f --log | {"act":"tick(5)","who":0}^{"act":"tick(7)","who":0}^{"end":"fault 1 in component 0 at 1"}^ |  | L4 line 2^ | 4
+-- no end, and lines after it
+replay f --log | {"act":"tick(5)","who":0}^{"act":"tick(6)","who":0}^{"act":"reset","who":1}^ |  | L5^ | 4
+replay f --log |  |  | L5^ | 4
+replay f --log | {"act":"tick(5)","who":0}^{"end":"done after 1"}^{"end":"done after 1"}^ |  | L6^ | 4
+replay f --log | {"act":"tick(5)","who":0}^{"end":"done after 1"}^{"act":"tick(6)","who":0}^ |  | L6^ | 4
+replay f --log | {"end":"done after 0"}^^ |  | L6^ | 4
+replay f --log | {"end":"done after 0"}^x^ |  | L6^ | 4
+-- lines that are no JSON
+replay f --log | {"act":"tick(5)","who":0}^x^{"act":"reset","who":1}^{"end":"done after 3"}^ |  | L1 line 2^ | 4
+replay f --log | ^{"end":"done after 0"}^ |  | L1 line 1^ | 4
+replay f --log | {"act":"tick(5)","who":0}^ ^{"end":"done after 1"}^ |  | L1 line 2^ | 4
+replay f --log | % a comment^{"end":"done after 0"}^ |  | L1 line 1^ | 4
+replay f --log | tick(5)^ |  | L1 line 1^ | 4
+replay f --log | {"act":"tick(5)","who":00}^{"end":"done after 1"}^ |  | L1 line 1^ | 4
+replay f --log | {"act":"tick(5)","who":0},^{"end":"done after 1"}^ |  | L1 line 1^ | 4
+replay f --log | {"act":"tick(5)",^"who":0}^{"end":"done after 1"}^ |  | L1 line 1^ | 4
+replay f --log | {'act':'tick(5)','who':0}^{"end":"done after 1"}^ |  | L1 line 1^ | 4
+replay f --log | &[@200&&]@200&^{"end":"done after 0"}^ |  | L1 line 1^ | 4
+-- lines of JSON that are neither entry nor end
+replay f --log | {"act":"tick(5)","who":0}^[]^{"act":"reset","who":1}^{"end":"done after 3"}^ |  | L2 line 2^ | 4
+replay f --log | {}^{"end":"done after 0"}^ |  | L2 line 1^ | 4
+replay f --log | "done after 0"^ |  | L2 line 1^ | 4
+replay f --log | {"act":"tick(5)","who":0,"at":0}^{"end":"done after 1"}^ |  | L2 line 1^ | 4
+replay f --log | {"act":"tick(5)"}^{"end":"done after 1"}^ |  | L2 line 1^ | 4
+replay f --log | {"act":"tick(5)","by":0}^{"end":"done after 1"}^ |  | L2 line 1^ | 4
+replay f --log | {"act":"tick(5)","end":"done after 1"}^{"end":"done after 1"}^ |  | L2 line 1^ | 4
+replay f --log | {"act":5,"who":0}^{"end":"done after 1"}^ |  | L2 line 1^ | 4
+replay f --log | {"act":"tick(5)","who":"0"}^{"end":"done after 1"}^ |  | L2 line 1^ | 4
+replay f --log | {"act":"tick(5)","who":-1}^{"end":"done after 1"}^ |  | L2 line 1^ | 4
+replay f --log | {"act":"tick(5)","who":0.0}^{"end":"done after 1"}^ |  | L2 line 1^ | 4
+replay f --log | {"act":"tick(5)","who":18446744073709551616}^{"end":"done after 1"}^ |  | L2 line 1^ | 4
+replay f --log | {"act":"tick(5","who":0}^{"end":"done after 1"}^ |  | L2 line 1^ | 4
+replay f --log | {"act":"recv(0, Pkt(data, 1, 0, 7))","who":0}^{"end":"done after 1"}^ |  | L2 line 1^ | 4
+replay f --log | {"act":"","who":0}^{"end":"done after 1"}^ |  | L2 line 1^ | 4
+-- an end has one spelling
+replay f --log | {"act":"tick(5)","who":0}^{"act":"tick(6)","who":0}^{"act":"reset","who":1}^{"end":"done after 03"}^ |  | L2 line 4^ | 4
+replay f --log | {"end":"done after 0 "}^ |  | L2 line 1^ | 4
+replay f --log | {"end":"Done after 0"}^ |  | L2 line 1^ | 4
+replay f --log | {"end":"done after -0"}^ |  | L2 line 1^ | 4
+replay f --log | {"end":"done after 18446744073709551616"}^ |  | L2 line 1^ | 4
+replay f --log | {"end":"not enabled at 0"}^ |  | L2 line 1^ | 4
+replay f --log | {"end":"not an action at 0"}^ |  | L2 line 1^ | 4
+replay f --log | {"end":"fault 6 in component 0 at 0"}^ |  | L2 line 1^ | 4
+replay f --log | {"end":"fault 0 in component 0 at 0"}^ |  | L2 line 1^ | 4
+replay f --log | {"end":0}^ |  | L2 line 1^ | 4
+replay f --log | {"end":"done after 0","who":0}^ |  | L2 line 1^ | 4
+-- an entry and an end have any spelling of JSON, and an action any of its own
+replay f --log | {"who":0,"act":"tick(5)"}^{"end":"done after 1"}^ | tick(5)^end: done after 1^ |  | 0
+replay f --log |  { "act" : "tick(5)" , "who" : 0 } ^ {"end" : "done after 1"} ^ | tick(5)^end: done after 1^ |  | 0
+replay f --log | {"\u0061ct":"\u0074ick\u00285)","who":0}^{"end":"done\u0020after 1"}^ | tick(5)^end: done after 1^ |  | 0
+replay f --log | {"act":" tick ( 005 )","who":0}^{"end":"done after 1"}^ | tick(5)^end: done after 1^ |  | 0
+-- of doubled keys the last counts
+replay f --log | {"act":"x","act":"tick(5)","who":7,"who":0}^{"end":"done after 9","end":"done after 1"}^ | tick(5)^end: done after 1^ |  | 0
+-- the whole log is read before it is replayed
+replay f --log | {"act":"tick(5)","who":1}^{"act":"tock","who":0}^x^ |  | L1 line 3^ | 4
+replay f --log | {"act":"tick(6)","who":0}^ |  | L5^ | 4
+-- a list is no log, and a log no list
+replay f | {"act":"tick(5)","who":0}^{"end":"done after 1"}^ |  | L2 line 1^ | 4
+-- the file and its composition come first
+replay g --log | x |  | io^ | 5
+replay f --log --comp Nine | x |  | E17^ | 1
+-- words
+replay f --log g |  |  | error: unexpected argument 'g' found^^Usage: ioac replay [OPTIONS] <FILE>^^For more information, try '--help'.^ | 2
+replay f --log --log |  |  | error: the argument '--log' cannot be used multiple times^^Usage: ioac replay [OPTIONS] <FILE>^^For more information, try '--help'.^ | 2
+replay --log |  |  | error: the following required arguments were not provided:^  <FILE>^^Usage: ioac replay --log <FILE>^^For more information, try '--help'.^ | 2
+"#;
+
+/// Logs with CR and tabs, which are blanks of JSON, and of actions.
+const BLANKS: &str = "\
+replay f --log | {\"act\":\"tick(5)\",\"who\":0}\r^{\"end\":\"done after 1\"}\r^ | tick(5)^end: done after 1^ |  | 0
+replay f --log | \t{\"act\":\"tick(\\t5)\\r\",\t\"who\":0}^{\"end\":\"done after 1\"}^ | tick(5)^end: done after 1^ |  | 0
+replay f --log | {\"end\":\"done after 0\\r\"}^ |  | L2 line 1^ | 4
+replay f --log | {\"end\":\"done after 0\"}^\r^ |  | L6^ | 4
+";
+
+/// The words after the program's name, a source, a log, what is printed, what is told of errors, and the exit status.
+const FAULTS: &str = r#"
+-- the last action of a log that ends by a fault is the one that faults
+replay f --log | automaton Top signature output up; output see(x: Int) states n: Int := 9223372036854775806 transitions output up eff n := n + 1 output see pre x = n propose x := n composition One components A: Top | {"act":"up","who":0}^{"act":"up","who":0}^{"end":"fault 1 in component 0 at 1"}^ | up^end: fault 1 in component 0 at 1^ |  | 3
+replay f --log | automaton Top signature output up; output see(x: Int) states n: Int := 9223372036854775806 transitions output up eff n := n + 1 output see pre x = n propose x := n composition One components A: Top | {"act":"up","who":0}^{"act":"up","who":0}^{"end":"fault 2 in component 0 at 1"}^ |  | L4 line 3^ | 4
+replay f --log | automaton Top signature output up; output see(x: Int) states n: Int := 9223372036854775806 transitions output up eff n := n + 1 output see pre x = n propose x := n composition One components A: Top | {"act":"up","who":0}^{"act":"up","who":0}^{"end":"fault 1 in component 1 at 1"}^ |  | L4 line 3^ | 4
+replay f --log | automaton Top signature output up; output see(x: Int) states n: Int := 9223372036854775806 transitions output up eff n := n + 1 output see pre x = n propose x := n composition One components A: Top | {"act":"up","who":0}^{"act":"up","who":0}^{"end":"fault 1 in component 0 at 2"}^ |  | L4 line 3^ | 4
+replay f --log | automaton Top signature output up; output see(x: Int) states n: Int := 9223372036854775806 transitions output up eff n := n + 1 output see pre x = n propose x := n composition One components A: Top | {"act":"up","who":0}^{"act":"up","who":0}^{"end":"done after 2"}^ |  | L4 line 2^ | 4
+replay f --log | automaton Top signature output up; output see(x: Int) states n: Int := 9223372036854775806 transitions output up eff n := n + 1 output see pre x = n propose x := n composition One components A: Top | {"act":"up","who":0}^{"act":"up","who":0}^{"act":"see(0)","who":0}^{"end":"fault 1 in component 0 at 1"}^ |  | L4 line 2^ | 4
+replay f --log | automaton Top signature output up; output see(x: Int) states n: Int := 9223372036854775806 transitions output up eff n := n + 1 output see pre x = n propose x := n composition One components A: Top | {"act":"up","who":0}^{"end":"fault 1 in component 0 at 0"}^ |  | L4 line 1^ | 4
+replay f --log | automaton Top signature output up; output see(x: Int) states n: Int := 9223372036854775806 transitions output up eff n := n + 1 output see pre x = n propose x := n composition One components A: Top | {"act":"up","who":0}^{"act":"up","who":1}^{"end":"fault 1 in component 0 at 1"}^ |  | L3 line 2^ | 4
+-- workers are owners; who performs an input is the environment; hidden actions leave no trace
+replay f --log | automaton A signature output put(x: Int) states n: Int transitions output put pre x = n propose x := n eff n := n + 1 automaton B signature input put(x: Int); internal rest; input stop states n: Int transitions input put eff n := n + x internal rest pre n > 0 eff n := 0 input stop composition C components P: B; Q: A hidden put | {"act":"put(0)","who":1}^{"act":"put(1)","who":1}^{"act":"rest","who":0}^{"act":"stop","who":2}^{"end":"done after 4"}^ | stop^end: done after 4^ |  | 0
+replay f --log | automaton A signature output put(x: Int) states n: Int transitions output put pre x = n propose x := n eff n := n + 1 automaton B signature input put(x: Int); internal rest; input stop states n: Int transitions input put eff n := n + x internal rest pre n > 0 eff n := 0 input stop composition C components P: B; Q: A hidden put | {"act":"put(0)","who":0}^{"end":"done after 1"}^ |  | L3 line 1^ | 4
+replay f --log | automaton A signature output put(x: Int) states n: Int transitions output put pre x = n propose x := n eff n := n + 1 automaton B signature input put(x: Int); internal rest; input stop states n: Int transitions input put eff n := n + x internal rest pre n > 0 eff n := 0 input stop composition C components P: B; Q: A hidden put | {"act":"stop","who":1}^{"end":"done after 1"}^ |  | L3 line 1^ | 4
+"#;
+
+/// The same of monitors.
+const MONITORS: &str = r#"
+monitor f | automaton Once(n: Int) signature output tick(k: Int); input reset states left: Int := n transitions output tick pre left > 0 propose k := 0 eff left := left - 1 input reset eff left := n composition Spec components M: Once(1) | {"act":"tick(5)","who":0}^{"act":"tick(6)","who":0}^{"act":"reset","who":1}^{"end":"done after 3"}^ | monitor: not enabled at 1^ |  | 4
+monitor f | automaton Once(n: Int) signature output tick(k: Int); input reset states left: Int := n transitions output tick pre left > 0 propose k := 0 eff left := left - 1 input reset eff left := n composition Spec components M: Once(2) | {"act":"tick(5)","who":0}^{"act":"tick(6)","who":0}^{"act":"reset","who":1}^{"end":"done after 3"}^ | monitor: ok^ |  | 0
+monitor f | automaton Once(n: Int) signature output tick(k: Int); input reset states left: Int := n transitions output tick pre left > 0 propose k := 0 eff left := left - 1 input reset eff left := n composition Spec components M: Once(1) composition Other components M: Once(2) | {"act":"tick(5)","who":0}^{"act":"tick(6)","who":0}^{"end":"done after 2"}^ | monitor: ok^ |  | 0
+monitor f --comp Spec | automaton Once(n: Int) signature output tick(k: Int); input reset states left: Int := n transitions output tick pre left > 0 propose k := 0 eff left := left - 1 input reset eff left := n composition Spec components M: Once(1) composition Other components M: Once(2) | {"act":"tick(5)","who":0}^{"act":"tick(6)","who":0}^{"end":"done after 2"}^ | monitor: not enabled at 1^ |  | 4
+monitor f | automaton Once signature output tick(k: Int) states left: Int := 1 transitions output tick pre left > 0 propose k := 0 eff left := left - 1 composition Spec components M: Once | {"end":"done after 0"} | monitor: ok^ |  | 0
+-- actions that the specification lacks are passed over, and counted; it is asked of no worker, and of no end
+monitor f | automaton Once signature output tick(k: Int) states left: Int := 1 transitions output tick pre left > 0 propose k := 0 eff left := left - 1 composition Spec components M: Once | {"act":"reset","who":1}^{"act":"tick(5)","who":0}^{"act":"tick(true)","who":0}^{"act":"tick(6)","who":0}^{"end":"done after 4"}^ | monitor: not enabled at 3^ |  | 4
+monitor f | automaton Once signature output tick(k: Int) states left: Int := 1 transitions output tick pre left > 0 propose k := 0 eff left := left - 1 composition Spec components M: Once | {"act":"tick(5)","who":9}^{"end":"done after 7"}^ | monitor: ok^ |  | 0
+monitor f | automaton Top signature output tick(k: Int) states x: Int := 9223372036854775807 transitions output tick propose k := 0 eff x := x + 1 composition Spec components M: Top | {"act":"reset","who":1}^{"act":"tick(5)","who":0}^{"act":"tick(5)","who":0}^{"end":"done after 3"}^ | monitor: fault 1 in component 0 at 1^ |  | 4
+-- the last action of a log that ends by a fault was not performed
+monitor f | automaton Once signature output tick(k: Int) states left: Int := 1 transitions output tick pre left > 0 propose k := 0 eff left := left - 1 composition Spec components M: Once | {"act":"tick(5)","who":0}^{"act":"tick(6)","who":0}^{"end":"fault 1 in component 0 at 1"}^ | monitor: ok^ |  | 0
+monitor f | automaton Once signature output tick(k: Int) states left: Int := 1 transitions output tick pre left > 0 propose k := 0 eff left := left - 1 composition Spec components M: Once | {"act":"tick(5)","who":0}^{"act":"tick(6)","who":0}^{"act":"tick(7)","who":0}^{"end":"fault 1 in component 0 at 2"}^ | monitor: not enabled at 1^ |  | 4
+monitor f | automaton Once signature output tick(k: Int) states left: Int := 1 transitions output tick pre left > 0 propose k := 0 eff left := left - 1 composition Spec components M: Once | {"end":"fault 1 in component 0 at 0"}^ | monitor: ok^ |  | 0
+-- a specification of which not all is seen, whatever is read
+monitor f | automaton Once(n: Int) signature internal tick(k: Int); input reset states left: Int := n transitions internal tick pre left > 0 propose k := 0 eff left := left - 1 input reset eff left := n composition Spec components M: Once(1) | {"act":"tick(5)","who":0}^{"act":"tick(6)","who":0}^{"act":"reset","who":1}^{"end":"done after 3"}^ |  | L7^ | 4
+monitor f | automaton Once signature internal tick(k: Int) states left: Int := 1 transitions internal tick pre left > 0 propose k := 0 eff left := left - 1 composition Spec components M: Once | x |  | L7^ | 4
+monitor f | automaton Once signature output tick(k: Int) states left: Int := 1 transitions output tick pre left > 0 propose k := 0 eff left := left - 1 composition Spec components M: Once hidden tick | {"end":"done after 0"}^ |  | L7^ | 4
+monitor f | automaton A signature output go transitions output go automaton B signature internal rest transitions internal rest composition Spec components P: A; Q: B | {"end":"done after 0"}^ |  | L7^ | 4
+-- what is no log
+monitor f | automaton A signature output go transitions output go composition Spec components P: A | {"act":"go","who":0}^x^{"end":"done after 1"}^ |  | L1 line 2^ | 4
+monitor f | automaton A signature output go transitions output go composition Spec components P: A | {"act":"go","who":0}^[]^{"end":"done after 1"}^ |  | L2 line 2^ | 4
+monitor f | automaton A signature output go transitions output go composition Spec components P: A | {"act":"put(data)","who":0}^{"end":"done after 1"}^ |  | L2 line 1^ | 4
+monitor f | type Kind = enum { data, ack } automaton A signature output go transitions output go composition Spec components P: A | {"act":"put(data)","who":0}^{"end":"done after 1"}^ | monitor: ok^ |  | 0
+monitor f | automaton A signature output go transitions output go composition Spec components P: A | {"act":"go","who":0}^ |  | L5^ | 4
+monitor f | automaton A signature output go transitions output go composition Spec components P: A | {"end":"done after 0"}^^ |  | L6^ | 4
+-- the file and its composition come first
+monitor g | automaton A signature output go transitions output go composition Spec components P: A | x |  | io^ | 5
+monitor f | automaton A signature internal go transitions internal go composition Spec components P: A hidden stop | x |  | E15 stop^ | 1
+monitor f --comp Nine | automaton A signature internal go transitions internal go composition Spec components P: A | x |  | E17^ | 1
+-- words
+monitor |  |  |  | error: the following required arguments were not provided:^  <FILE>^^Usage: ioac monitor <FILE>^^For more information, try '--help'.^ | 2
+monitor f --log |  |  |  | error: unexpected argument '--log' found^^  tip: to pass '--log' as a value, use '-- --log'^^Usage: ioac monitor <FILE>^^For more information, try '--help'.^ | 2
+check f --log |  |  |  | error: unexpected argument '--log' found^^  tip: to pass '--log' as a value, use '-- --log'^^Usage: ioac check <FILE>^^For more information, try '--help'.^ | 2
+monitor --help |  |  | Reads a log on standard input, and prints whether a composition accepts its actions^^Usage: ioac monitor [OPTIONS] <FILE>^^Arguments:^  <FILE>  A source of I/O automata^^Options:^      --comp <NAME>  The composition to take; without it, the source's last one^  -h, --help         Print help^^The composition has no internal action, and hides none. It is run on those of the log's actions that its components have.^Exit status: 0 accepted, 1 source refused, 2 bad command line,^4 not accepted, log refused, or no monitor, 5 memory or a device.^ |  | 0
+"#;
+
+#[test]
+fn replays_logs(rt: HostRuntime) -> Result<(), Fail> {
+    expect_rows(&rt, rt.alloc(), REPLAYS, First::Words(COUNTER))?;
+    expect_rows(&rt, rt.alloc(), BLANKS, First::Words(COUNTER))?;
+    expect_rows(&rt, rt.alloc(), FAULTS, First::All)
+}
+
+#[test]
+fn monitors_logs(rt: HostRuntime) -> Result<(), Fail> {
+    expect_rows(&rt, rt.alloc(), MONITORS, First::All)
+}
