@@ -1,7 +1,7 @@
 #!/bin/sh
 # How time and memory grow: bench/ratios.sh PROGRAM
 #
-# Replays lists of 100,000 and 1,000,000 actions, sources of 100 KiB and 1 MiB, and sources of 25 and 255 automata with
+# Replays lists and logs of 100,000 and 1,000,000 actions, sources of 100 KiB and 1 MiB, and sources of 25 and 255 automata with
 # as many variables and entries as there may be, and prints the seconds, their ratio, and the actions a second; and the
 # greatest memory of a replay beside its list and trace. The figures are of this machine and this run.
 #
@@ -43,14 +43,15 @@ crowd() {
   }'
 }
 bytes() { wc -c < "$work/$1"; }
-# replay SOURCE LIST: replays the list, both in the temporary folder
-replay() { "$program" replay "$work/$1" < "$work/$2" > "$work/trace"; }
-# seconds SOURCE LIST: of the best of three replays
+log() { awk -v n="$1" 'BEGIN { for (i = 0; i < n; i++) print "{\"act\":\"tick(" 5 + i ")\",\"who\":0}"; print "{\"end\":\"done after " n "\"}" }'; }
+# replay SOURCE LIST [--log]: replays the list or the log, both in the temporary folder
+replay() { "$program" replay "$work/$1" ${3-} < "$work/$2" > "$work/trace"; }
+# seconds SOURCE LIST [--log]: of the best of three replays
 seconds() {
   best=
   for turn in 1 2 3; do
     from=$(date +%s.%N)
-    replay "$1" "$2"
+    replay "$1" "$2" ${3-}
     till=$(date +%s.%N)
     best=$(awk -v a="$from" -v b="$till" -v best="$best" 'BEGIN { took = b - a; print (best == "" || took < best) ? took : best }')
   done
@@ -71,6 +72,8 @@ sys.stderr.write(str(resource.getrusage(resource.RUSAGE_CHILDREN).ru_maxrss))' \
 cp "$top/examples/counter/counter.ioa" "$work/counter.ioa"
 list 100000 > "$work/small.list"
 list 1000000 > "$work/large.list"
+log 100000 > "$work/small.log"
+log 1000000 > "$work/large.log"
 source_of 107000 > "$work/small.ioa"
 source_of 1048000 > "$work/large.ioa"
 crowd 25 > "$work/few.ioa"
@@ -81,6 +84,9 @@ printf 'e63\n' > "$work/last.list"
 small=$(seconds counter.ioa small.list)
 large=$(seconds counter.ioa large.list)
 awk -v s="$small" -v l="$large" 'BEGIN { printf "list of 100000: %.3f s; of 1000000: %.3f s; ratio %.1f; %d actions a second\n", s, l, l / s, 1000000 / l }'
+small=$(seconds counter.ioa small.log --log)
+large=$(seconds counter.ioa large.log --log)
+awk -v s="$small" -v l="$large" 'BEGIN { printf "log of 100000: %.3f s; of 1000000: %.3f s; ratio %.1f; %d entries a second\n", s, l, l / s, 1000000 / l }'
 small=$(seconds small.ioa one.list)
 large=$(seconds large.ioa one.list)
 awk -v s="$small" -v l="$large" -v a="$(bytes small.ioa)" -v b="$(bytes large.ioa)" 'BEGIN { printf "source of %d bytes: %.3f s; of %d: %.3f s; ratio %.1f\n", a, s, b, l, l / s }'
