@@ -1,10 +1,8 @@
 -- Why there is no composition, and that there is none.
 use Rattle.std.proofs.Common.{◌≡◌, ◌≢◌, ℕ, true, zero, suc, List, [], ◌∷◌, map, Option, Some, Result, Ok, Err, IfErr, refl, sym, ap, subst, ◌∙◌, slice_get, inl, inr}
 use Rattle.std.specs.List.{list_all}
-use Rattle.std.specs.Str.{bytes_eq}
 use Rattle.std.proofs.lemmas.Bool.{both_ways}
 use Rattle.std.proofs.lemmas.Simd.{map-map}
-use Rattle.std.proofs.lemmas.Slice.Eq.{bytes_eq-Decides}
 use Rattle.ioa_value.specs.declared.arithmetic.Fault.{Fault}
 use Rattle.ioa_value.specs.Actions.{Name}
 use Rattle.ioa_value.specs.Plain.{Val}
@@ -19,7 +17,7 @@ use Rattle.ioa_syntax.specs.Instances.{Instance, Fit, start_values, component_of
 use Rattle.ioa_syntax.specs.Compositions.{Member, Composed, IsMember, AreMembers, IsComposed, instances_of, is_output_of, picked}
 use Rattle.ioa_compose.specs.Bindings.{instance_with, IsBound, AreBound}
 use Rattle.ioa_compose.specs.Refusals.{Clashing, ClashOn, Reason, misfit, faulty, clashing, hiding, no_memory, other, reason_of, IsUnbound, IsRefusedFor, IsRefused, IsFirstClash, NoClash, NoneClashes, NoneClash, FaultsIn, ClashesIn, HidesIn, TellsClash}
-use Rattle.ioa_value.proofs.ItemLemmas.{some_at, all_at}
+use Rattle.ioa_value.proofs.ItemLemmas.{all_at}
 use Rattle.ioa_compose.proofs.CompatibleLemmas.{compatible-from, none-from}
 
 -- the tree in the place of an instance
@@ -113,7 +111,7 @@ pub hiding-refused : (s : SourceTree) (t : CompositionTree) (ns : List Instance)
 hiding-refused s t ns (misfit i) b none h = absurd h
 hiding-refused s t ns (faulty i f) b none h = absurd h
 hiding-refused s t ns (clashing i j name) b none h = absurd h
-hiding-refused s t ns (hiding x) b none h = ((h.0, ns, b, h.1), clash-free s t.instances ns b none)
+hiding-refused s t ns (hiding x) b none h = ((ns, b, h), clash-free s t.instances ns b none)
 hiding-refused s t ns no_memory b none h = tt
 hiding-refused s t ns other b none h = absurd h
 
@@ -183,11 +181,9 @@ none-for s t (clashing k l name) c h memory i =
     apart k l p.0 q.0 name u.2 p.1 q.1 (clash-bound s u.0 u.1 p.0 q.0 name p.2 q.2 u.5)
 none-for s t (hiding x) c h memory i =
     let u = h.0 in
-    let at = some_at (λ n. bytes_eq n x) t.hidden u.0 in
+    let shown = all_at (is_output_of (instances_of c)) t.hidden u.2.0 x i.outputs u.2.1 in
     let bound = members-bound s t.instances c.members i.members in
-    let shown = all_at (is_output_of (instances_of c)) t.hidden at.1 at.0 i.outputs at.2 in
-    let same : at.0 ≡ x = (bytes_eq-Decides at.0 x).0 at.3 in
-    both_ways (is_output_of u.1 x) u.3 (subst (λ ns. is_output_of ns x ≡ true) (all-one s t.instances (instances_of c) u.1 bound u.2) (subst (λ n. is_output_of (instances_of c) n ≡ true) same shown))
+    both_ways (is_output_of u.0 x) u.2.2 (subst (λ ns. is_output_of ns x ≡ true) (all-one s t.instances (instances_of c) u.0 bound u.1) shown)
 none-for s t no_memory c h memory i = memory refl
 none-for s t other c h memory i = h
 

@@ -1,5 +1,5 @@
 -- A search for the first clash of a signature with later ones.
-use Rattle.std.proofs.Common.{◌≡◌, ℕ, ◌<◌, ◌≤◌, ◌+◌, ◌&&◌, Bool, true, false, not, List, [], ◌∷◌, length, Some, refl, sym, ap, subst, ◌∙◌, arith, slice_get, ◌⊎◌, inl, inr, zero, suc, Vec, Global}
+use Rattle.std.proofs.Common.{◌≡◌, ℕ, ◌<◌, ◌≤◌, ◌+◌, ◌&&◌, Bool, true, false, not, List, [], ◌∷◌, length, take, Some, refl, sym, ap, subst, ◌∙◌, arith, slice_get, ◌⊎◌, inl, inr, zero, suc, Vec, Global}
 use Rattle.std.specs.List.{list_all}
 use Rattle.std.specs.BTreeMap.{BTreeMap}
 use Rattle.std.specs.Borrow.{Bor}
@@ -18,6 +18,15 @@ use Rattle.ioa_compose.proofs.SignatureLemmas.{same-item}
 all-from : {X : Type 0} (p : X → Bool) (xs : List X) → ((k : ℕ) (x : X) → slice_get xs k ≡ Some x → p x ≡ true) → list_all p xs ≡ true
 all-from p [] h = refl
 all-from p (x ∷ xs) h = and_from _ _ (h zero x refl) (all-from p xs (λ k y e. h (suc k) y e))
+
+-- a test that the items before one pass, and this one too
+pub one-more : {X : Type 0} (p : X → Bool) (xs : List X) (i : ℕ) (x : X) → slice_get xs i ≡ Some x → list_all p (take i xs) ≡ true → p x ≡ true → list_all p (take (i + 1) xs) ≡ true
+one-more {X = X} p xs i x e h k = subst (λ n. list_all p (take n xs) ≡ true) (let q : suc i ≡ i + 1 = omega arith in q) (go xs i e h)
+  where
+    go : (ys : List X) (j : ℕ) → slice_get ys j ≡ Some x → list_all p (take j ys) ≡ true → list_all p (take (suc j) ys) ≡ true
+    go [] j e h = absurd (cc)
+    go (y ∷ ys) zero e h = let q : y ≡ x = cc in and_from _ _ (subst (λ z. p z ≡ true) (sym q) k) refl
+    go (y ∷ ys) (suc j) e h = let r = and_parts (p y) (list_all p (take j ys)) h in and_from _ _ r.0 (go ys j e r.1)
 
 module _ (types : Table) (ss : List (List SignedEntry)) where
   -- what holds of the first clash with the entries in the places before the k-th

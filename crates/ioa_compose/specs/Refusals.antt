@@ -1,5 +1,5 @@
 -- Why a composition is refused.
-use Rattle.std.specs.Prelude.{◌≡◌, ℕ, ◌<◌, ◌⊎◌, true, false, List, Some, None, Ok, Err, slice_get}
+use Rattle.std.specs.Prelude.{◌≡◌, ℕ, ◌<◌, ◌⊎◌, true, false, List, take, Some, None, Ok, Err, slice_get}
 use Rattle.std.specs.List.{list_all}
 use Rattle.std.specs.String.{string_bytes}
 use Rattle.ioa_value.specs.declared.arithmetic.Fault.{Fault}
@@ -12,7 +12,6 @@ use Rattle.ioa_syntax.specs.Tree.{EntryTree, AutomatonTree, InstanceTree, Compos
 use Rattle.ioa_syntax.specs.Types.{types_of}
 use Rattle.ioa_syntax.specs.Instances.{Instance, Fit, argument_values, start_values, component_of}
 use Rattle.ioa_syntax.specs.Compositions.{automaton_named, is_output_of}
-use Rattle.ioa_syntax.specs.WellFormed.{contains}
 use Rattle.ioa_compose.specs.Bindings.{IsBound, AreBound}
 
 -- the arguments have values, and these are not of the formals' types, one for each
@@ -67,9 +66,13 @@ AllBound s is = (ns : List Instance) × AreBound s is ns
 abbrev pub HidesOutputs : SourceTree → CompositionTree → Type 0
 HidesOutputs s t = (ns : List Instance) × AreBound s t.instances ns × (list_all (is_output_of ns) t.hidden ≡ true)
 
--- each component has its instance; the name is hidden, and is the name of no output of these
+-- the name is the first of the hidden ones that is the name of no output of these instances
+abbrev pub IsFirstUnknown : List Instance → List Name → Name → Type 0
+IsFirstUnknown ns hidden x = (k : ℕ) × (slice_get hidden k ≡ Some x) × (is_output_of ns x ≡ false) × (list_all (is_output_of ns) (take k hidden) ≡ true)
+
+-- each component has its instance, and the name is the first hidden one that is the name of no output of these
 abbrev pub HidesNoOutput : SourceTree → CompositionTree → Name → Type 0
-HidesNoOutput s t x = (contains t.hidden x ≡ true) × (ns : List Instance) × AreBound s t.instances ns × (is_output_of ns x ≡ false)
+HidesNoOutput s t x = (ns : List Instance) × AreBound s t.instances ns × IsFirstUnknown ns t.hidden x
 
 -- what composing can refuse
 pub data Reason : Type 0 where
@@ -178,11 +181,11 @@ ClashesIn ns other = ⊥
 abbrev pub TellsClash : Reason → Type 0
 TellsClash r = (i : ℕ) × (j : ℕ) × (name : Name) × (r ≡ clashing i j name)
 
--- one of the hidden names is no output's of any of the instances
+-- one of the hidden names is the name of no output of the instances: the first such name
 abbrev pub HidesIn : List Instance → List Name → Reason → Type 0
 HidesIn ns hidden (misfit i) = ⊥
 HidesIn ns hidden (faulty i f) = ⊥
 HidesIn ns hidden (clashing i j name) = ⊥
-HidesIn ns hidden (hiding name) = (contains hidden name ≡ true) × (is_output_of ns name ≡ false)
+HidesIn ns hidden (hiding name) = IsFirstUnknown ns hidden name
 HidesIn ns hidden no_memory = Unit {0}
 HidesIn ns hidden other = ⊥

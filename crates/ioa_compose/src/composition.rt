@@ -90,8 +90,8 @@ impl Composition {
 /// - `StartFault`: an argument of a component faults, or a start expression.
 /// - `Clash`: two components are not compatible. They are the first two, by the first one's place and then the other's, and the
 ///   name is that of the first one's first entry that clashes.
-/// - `HiddenUnknown`: no component has an output of this hidden name. It comes after `Clash`, and before a start expression's
-///   `StartFault`.
+/// - `HiddenUnknown`: no component has an output of this hidden name, the first such one. It comes after `Clash`, and before a
+///   start expression's `StartFault`.
 /// - `OutOfMemory`.
 pub fn compose(alloc: Global, checked: &Checked, name: Option<&str>) -> Result<Composition, Refusal>
     ensures composed { IfOk result (λ c. (t : CompositionTree) × (picked (tree_of checked.now) (option_copied name.entry) ≡ Some t) × IsComposed (tree_of checked.now) t (composed_of c)) }

@@ -13,7 +13,7 @@ use crate::binding::Binding;
 use ioa_syntax::{Automaton, Entry, Kind, Name, Refusal};
 use std::alloc::Global;
 
-/// The hidden names in order, where each is the name of an output of one of the components; another one is refused.
+/// The hidden names in order, where each is the name of an output of one of the components; the first other one is refused.
 pub(crate) fn hidden_outputs(
     alloc: Global,
     bindings: &[Binding],
