@@ -74,22 +74,29 @@ impl<'a> Read for Dripping<'a> {
 
 const LIST: &str = "tick(5)\ntick(6)\nreset\n";
 
+const LOG: &str = "{\"act\":\"tick(5)\",\"who\":0}\n{\"act\":\"tick(6)\",\"who\":0}\n\
+    {\"act\":\"reset\",\"who\":1}\n{\"end\":\"done after 3\"}\n";
+
+/// The words, and what stands on standard input: a list, and its log.
+const GIVEN: [(&str, &str); 2] = [(REPLAY, LIST), ("replay f --log", LOG)];
+
+/// What is printed of each.
 const PRINTED: &[u8; 40] = b"tick(5)\ntick(6)\nreset\nend: done after 3\n";
 
-/// The counter with the list, for these words.
-fn given(words: &str) -> Given<'_> {
+/// The counter with this on standard input, for these words.
+fn given<'a>(words: &'a str, list: &'a str) -> Given<'a> {
     Given {
         words,
         file: COUNTER,
-        list: LIST,
+        list,
     }
 }
 
-/// Replays the list on a device that fails after so many calls, and the answer is printed on one that takes so many; with
-/// how many calls failed.
-fn replayed(alloc: Global, reads: u64, writes: u64) -> Result<(Ran, u64), Fail> {
+/// Replays what is given on a device that fails after so many calls, and the answer is printed on one that takes so many;
+/// with how many calls failed.
+fn replayed(alloc: Global, given: &Given<'_>, reads: u64, writes: u64) -> Result<(Ran, u64), Fail> {
     let mut input = Counted::new(Dripping {
-        bytes: LIST.as_bytes(),
+        bytes: given.list.as_bytes(),
         left: reads,
     });
     let mut output = Counted::new(Slow {
@@ -97,7 +104,7 @@ fn replayed(alloc: Global, reads: u64, writes: u64) -> Result<(Ran, u64), Fail> 
         left: writes,
     });
     let mut errors = Vec::new(alloc);
-    let status = run_on(alloc, &given(REPLAY), &mut input, &mut output, &mut errors)?;
+    let status = run_on(alloc, given, &mut input, &mut output, &mut errors)?;
     let failures = input.failures().saturating_add(output.failures());
     let ran = Ran {
         output: output.into_inner().held,
@@ -109,19 +116,27 @@ fn replayed(alloc: Global, reads: u64, writes: u64) -> Result<(Ran, u64), Fail> 
 
 #[test]
 fn fails_with_its_devices(rt: HostRuntime) -> Result<(), Fail> {
-    let alloc = rt.alloc();
-    for reads in 0..23u64 {
-        let (ran, failures) = replayed(alloc, reads, 40)?;
-        assert_failed(&rt, &ran, failures);
+    for (words, list) in GIVEN {
+        expect_failures(&rt, rt.alloc(), &given(words, list))?;
+    }
+    Ok(())
+}
+
+/// Replays on devices that fail at each call in turn, and on one that does not. The end is one more read.
+fn expect_failures(rt: &impl Abort, alloc: Global, given: &Given<'_>) -> Result<(), Fail> {
+    let all = (given.list.len() as u64).saturating_add(1);
+    for reads in 0..all {
+        let (ran, failures) = replayed(alloc, given, reads, 40)?;
+        assert_failed(rt, &ran, failures);
         assert!(rt; ran.output.is_empty());
     }
     for writes in 0..40u64 {
-        let (ran, failures) = replayed(alloc, 23, writes)?;
-        assert_failed(&rt, &ran, failures);
+        let (ran, failures) = replayed(alloc, given, all, writes)?;
+        assert_failed(rt, &ran, failures);
         assert_eq!(rt; ran.output.len() as u64, writes);
         assert!(rt; PRINTED.starts_with(ran.output.as_slice()));
     }
-    let (ran, failures) = replayed(alloc, 23, 40)?;
+    let (ran, failures) = replayed(alloc, given, all, 40)?;
     assert_eq!(rt; ran.status, Status::Done.number());
     assert_eq!(rt; failures, 0);
     assert!(rt; ran.output.as_slice() == PRINTED.as_slice());
@@ -139,7 +154,13 @@ fn assert_failed(rt: &impl Abort, ran: &Ran, failures: u64) {
 fn silenced(alloc: Global, words: &str) -> Result<u8, Fail> {
     let mut input = Counted::new(LIST.as_bytes());
     let mut output = Counted::new(Full);
-    run_on(alloc, &given(words), &mut input, &mut output, &mut Full)
+    run_on(
+        alloc,
+        &given(words, LIST),
+        &mut input,
+        &mut output,
+        &mut Full,
+    )
 }
 
 #[test]
