@@ -21,5 +21,6 @@ pub use judge::replay;
 pub use laws::{judged_is_the_run, monitored_is_the_run, no_refusal, one_log, written_log_is_read};
 pub use logs::{read_log, write_log};
 pub use monitors::{MonitorErr, monitor};
+pub use reading::push_line;
 pub use replays::replay_list;
 pub use streams::send_all;

@@ -1,5 +1,5 @@
 -- From the clauses of the layers to what a replay and a monitor of a log write.
-use Rattle.std.proofs.Common.{◌≡◌, ℕ, ◌-◌, ◌<◌, List, [], ◌∷◌, ◌++◌, map, length, take, Option, Some, None, IfSome, IfNone, IsSome, true, if◌then◌else◌, refl, sym, ap, ap₂, ◌∙◌, subst, arith, append-nil, append_assoc, length-append}
+use Rattle.std.proofs.Common.{◌≡◌, ℕ, ◌-◌, ◌<◌, List, [], ◌∷◌, ◌++◌, map, length, take, Option, Some, None, IfSome, IfNone, IsSome, true, if◌then◌else◌, sym, ap, ap₂, ◌∙◌, subst, arith, append-nil, length-append}
 use Rattle.std.specs.Option.{option_map, option_to_list}
 use Rattle.std.proofs.Math.Seq.{take-append_seam}
 use Rattle.std.proofs.lemmas.Bool.{false≢true}
@@ -9,7 +9,6 @@ use Rattle.ioa_value.specs.declared.action.Action.{Action}
 use Rattle.ioa_value.specs.Actions.{Act, act_of}
 use Rattle.ioa_value.specs.Plain.{Val}
 use Rattle.ioa_value.specs.Table.{Table}
-use Rattle.ioa_value.specs.Written.{written_action}
 use Rattle.ioa_syntax.specs.Compositions.{Composed, components_of, starts_of}
 use Rattle.ioa_syntax.specs.Runs.{Ending, Reached, after, not_an_action_at, run, trace}
 use Rattle.ioa_system.specs.declared.answer.End.{End}
@@ -24,12 +23,6 @@ use Rattle.ioa_system.specs.Records.{IsSourceRun, trace_of}
 use Rattle.ioa_log.specs.Monitoring.{IsRefusedAt}
 use Rattle.ioa_log.specs.Replays.{lines_of, replay_text, run_text}
 use Rattle.ioac.specs.Logs.{performed_in}
-
-pub lines_more : (types : Table) (xs : List Act) (a : Act) → lines_of types (xs ++ a ∷ []) ≡ lines_of types xs ++ (written_action types a ++ 10 ∷ [])
-lines_more types [] a = refl
-lines_more types (x ∷ xs) a =
-    let e : lines_of types (xs ++ a ∷ []) ≡ lines_of types xs ++ (written_action types a ++ 10 ∷ []) = lines_more types xs a in
-    rw (e, append_assoc) refl
 
 -- the text of a run is the text of the composition's run
 pub run_told : (c : Composed) (types : Table) (acts : List Act) (r : Run) → types ≡ c.types → IsSourceRun c acts r

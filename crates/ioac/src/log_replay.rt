@@ -1,8 +1,6 @@
-ghost use Rattle.std.specs.Prelude.{◌≡◌, ◌⊎◌, ◌++◌, ◌∷◌, [], IfOk, IfErr, IfSome, OnOk};
+ghost use Rattle.std.specs.Prelude.{◌≡◌, ◌⊎◌, IfOk, IfErr, IfSome};
 ghost use Rattle.std.specs.Option.{option_copied};
 ghost use Rattle.std.specs.String.{string_bytes};
-ghost use Rattle.ioa_value.specs.Actions.{act_of};
-ghost use Rattle.ioa_value.specs.Written.{written_action};
 ghost use Rattle.ioa_system.specs.Answers.{ending_of};
 ghost use Rattle.ioa_system.specs.Records.{trace_of};
 ghost use Rattle.ioa_log.specs.Failing.{HasFailed};
@@ -12,9 +10,9 @@ ghost use Rattle.ioac.specs.Headline.{IsLogReplay};
 
 use crate::compile::compile_text;
 use crate::failure::Failure;
-use ioa_log::{InputDevice, OutputDevice, read_log, replay, send_all};
+use ioa_log::{InputDevice, OutputDevice, push_line, read_log, replay, send_all};
 use ioa_system::{End, Run};
-use ioa_value::{Action, OutOfMemory, Types, push_action};
+use ioa_value::{OutOfMemory, Types};
 use std::alloc::Global;
 use std::fmt::Write;
 
@@ -52,17 +50,9 @@ fn run_text(alloc: Global, types: &Types, run: &Run) -> Result<String, OutOfMemo
 {
     let mut text = String::new(alloc);
     for action in run.trace.as_slice() {
-        push_line(types, &mut text, action)?;
+        push_line(&mut text, types, action)?;
     }
     let end = run.end;
     writeln!(text, "end: {end}")?;
     Ok(text)
-}
-
-fn push_line(types: &Types, text: &mut String, action: &Action) -> Result<(), OutOfMemory>
-    ensures { OnOk result (string_bytes text.new ≡ string_bytes text.old ++ (written_action types.now (act_of action.now) ++ 10 ∷ [])) }
-{
-    push_action(types, text, action)?;
-    text.push_str("\n")?;
-    Ok(())
 }

@@ -3,7 +3,7 @@ use Rattle.std.proofs.lemmas.List.{map_more}
 use Rattle.ioa_value.specs.Actions.{act_of}
 use Rattle.ioa_value.specs.Written.{written_action}
 use Rattle.ioa_log.specs.Replays.{lines_of}
-use Rattle.ioac.proofs.Logged.{lines_more}
+use Rattle.ioa_log.proofs.Replaying.{lines_more}
 use Rattle.ioac.proofs.log_replay.run_text.Goals as goal
 
 pub loop-action-preserved : goal.loop-action-preserved
