@@ -1,5 +1,5 @@
 -- Each spelling of a value at the front of a text is read, and no other value.
-use Rattle.std.proofs.Common.{◌≡◌, ℕ, zero, suc, ◌+◌, ◌<◌, Bool, true, false, cond, ◌&&◌, ◌||◌, ◌==◌, nat_lt, nat_le, ℤ, IsTrue, List, [], ◌∷◌, ◌++◌, length, get_or, codes, Option, Some, None, All, refl, sym, ap, subst, ◌∙◌, append_assoc, arith}
+use Rattle.std.proofs.Common.{◌≡◌, ℕ, zero, suc, ◌+◌, ◌<◌, Bool, true, false, cond, ◌&&◌, ◌||◌, ◌==◌, nat_lt, nat_le, ℤ, List, [], ◌∷◌, ◌++◌, length, get_or, codes, Option, Some, None, All, refl, sym, ap, subst, ◌∙◌, append_assoc, arith}
 use Rattle.std.specs.Prelude.{slice_get}
 use Rattle.std.specs.Option.{option_map, option_map_or, option_or}
 use Rattle.std.specs.Str.{bytes_eq}
@@ -16,8 +16,8 @@ use Rattle.ioa_value.specs.Table.{Table, Shape, Declaration, TupleField, truths,
 use Rattle.ioa_value.specs.Typing.{HasType, is_of, parts_are, items_are, of_fields, of_sequence, is_name_of}
 use Rattle.ioa_value.specs.Names.{IsName, is_name, begins_with_letter}
 use Rattle.ioa_value.specs.Reads.{IsBlank, Padded, Spells, SpellsRow, SpellsAfter, SpellsNumber, IsTyped}
-use Rattle.ioa_value.specs.Tokens.{after_blanks, word, first_word, after_first, is_inside}
-use Rattle.ioa_value.specs.Scanning.{truth_in, number_in, constant_in, at_word, after_mark, opening, closing, repeated, row_types, may_be_shorter, made, ending, early_ending, ended, followed, scan_after, scan_first, scan_row, scan_made, scan_shaped, scan_in, scan_of, leading_type, scan_value}
+use Rattle.ioa_value.specs.Tokens.{after_blanks, word, first_word, after_first}
+use Rattle.ioa_value.specs.Scanning.{truth_in, number_in, constant_in, at_word, after_mark, opening, closing, repeated, row_types, may_be_shorter, made, ending, early_ending, scan_after, scan_first, scan_row, scan_made, scan_shaped, scan_in, scan_of, leading_type, scan_value}
 use Rattle.ioa_value.proofs.SameLemmas.{equal, equal_numbers}
 use Rattle.ioa_value.proofs.TableLemmas.{stands}
 use Rattle.ioa_value.proofs.TokenLemmas.{IsWord, IsEnd, finds_word, finds_rest, skip}

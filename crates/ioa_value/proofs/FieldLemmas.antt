@@ -1,7 +1,6 @@
 -- Fields of a tuple, one by one: their names.
-use Rattle.std.proofs.Common.{◌≡◌, ℕ, zero, suc, ◌+◌, ◌<◌, ◌≤◌, Option, Some, None, refl, List, [], ◌∷◌, ◌++◌, map, take, get_or, length, All, string_bytes, sym, ap, subst, ◌∙◌, arith}
-use Rattle.std.proofs.lemmas.List.{map-append}
-use Rattle.std.proofs.lemmas.List.Elements.{All-head, All-tail, All-cons, All-nil, All-append}
+use Rattle.std.proofs.Common.{◌≡◌, ℕ, zero, suc, ◌+◌, ◌<◌, ◌≤◌, Some, None, refl, List, [], ◌∷◌, map, take, get_or, length, All, string_bytes, subst, arith}
+use Rattle.std.proofs.lemmas.List.Elements.{All-head, All-tail, All-cons, All-nil}
 use Rattle.ioa_value.specs.declared.types.Field.{Field}
 use Rattle.ioa_value.specs.Names.{IsName}
 use Rattle.ioa_value.specs.Actions.{Name}

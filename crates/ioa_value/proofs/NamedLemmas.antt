@@ -1,14 +1,14 @@
 -- What a name stands for in a table of types.
-use Rattle.std.proofs.Common.{◌≡◌, ℕ, zero, suc, ◌+◌, ◌<◌, Bool, true, false, not, ◌&&◌, ◌||◌, cond, IsTrue, List, [], ◌∷◌, ◌++◌, map, length, get_or, Option, Some, None, All, IsUtf8, IfSome, String, Vec, take, ◌≤◌, refl, sym, ap, subst, ◌∙◌, arith}
+use Rattle.std.proofs.Common.{◌≡◌, ℕ, zero, suc, ◌+◌, ◌<◌, Bool, true, false, not, ◌&&◌, ◌||◌, cond, List, [], ◌∷◌, ◌++◌, map, length, Option, Some, None, IsUtf8, IfSome, String, Vec, take, ◌≤◌, refl, sym, ap, subst, ◌∙◌, arith}
 use Rattle.std.specs.Prelude.{slice_get}
-use Rattle.std.specs.Option.{option_map, option_map_or, option_or, unwrap_or}
+use Rattle.std.specs.Option.{option_map, option_or, unwrap_or}
 use Rattle.std.specs.Str.{bytes_eq}
 use Rattle.std.specs.Global.{Global}
 use Rattle.std.specs.BTreeMap.{BTreeMap, get_by_text}
 use Rattle.std.proofs.lemmas.Bool.{and_parts, false≢true}
 use Rattle.std.proofs.lemmas.List.{map-append, length-map}
 use Rattle.std.proofs.lemmas.List.Concat.{flat_map-cons}
-use Rattle.std.proofs.lemmas.Option.{slice_get-map, slice_get_within, unwrap_or-slice_get}
+use Rattle.std.proofs.lemmas.Option.{slice_get-map, slice_get_within}
 use Rattle.ioa_value.specs.declared.value.Ty.{Ty}
 use Rattle.ioa_value.specs.declared.types.Form.{Form}
 use Rattle.ioa_value.specs.declared.types.Form.TheVariants.{Truths, Numbers, Names, Fields, Sequence}
@@ -16,7 +16,7 @@ use Rattle.ioa_value.specs.Plain.{number}
 use Rattle.ioa_value.specs.Shapes.{shape, place, FindsTypes, FindsConstants, FindsMore}
 use Rattle.ioa_value.specs.Actions.{Name}
 use Rattle.ioa_value.specs.Names.{IsName}
-use Rattle.ioa_value.specs.Table.{Table, Declaration, Shape, names, shape_at, type_name, type_named, names_in, constant_name, constant_from, constant_named, given_names, all_names, contains, distinct, apart, place_from, MayFollow, AreTypes}
+use Rattle.ioa_value.specs.Table.{Table, Declaration, type_named, names_in, constant_from, constant_named, given_names, all_names, contains, distinct, apart, place_from, MayFollow, AreTypes}
 use Rattle.ioa_value.proofs.NameLemmas.{bytes_eq-sym, not_true, outside_both, inside_left, inside_right, distinct_apart, distinct-append, own_name, same_name, apart_outside, inside_all, item_inside, place_is, place_inside, place_outside, first_there, first_last}
 use Rattle.ioa_value.proofs.SpellLemmas.{name_is_text}
 

@@ -1,17 +1,16 @@
 -- The number that a word spells is the one that is computed of it.
-use Rattle.std.proofs.Common.{◌≡◌, ℕ, ◌<◌, ◌≤◌, Bool, true, false, cond, ◌==◌, nat_lt, ℤ, pos, neg_ℤ, IsTrue, List, [], ◌∷◌, length, Option, Some, None, IfSome, IfNone, refl, sym, ap, subst, ◌∙◌, arith, inl, inr}
+use Rattle.std.proofs.Common.{◌≡◌, ℕ, ◌<◌, Bool, true, false, cond, ◌==◌, nat_lt, ℤ, pos, neg_ℤ, IsTrue, List, [], ◌∷◌, Option, Some, None, refl, sym, ap, ◌∙◌, arith, inl, inr}
 use Rattle.std.specs.Char.{digit_value}
 use Rattle.std.specs.List.{list_all}
 use Rattle.std.specs.Option.{option_map_or}
 use Rattle.std.specs.Str.Parse.{AllDigits, IsNumeral, digits_value}
-use Rattle.std.proofs.lemmas.Bool.{and_parts, false≢true, cases_Bool}
+use Rattle.std.proofs.lemmas.Bool.{and_parts, false≢true}
 use Rattle.std.proofs.lemmas.Bool.Decides.{nat_tests}
 use Rattle.std.proofs.lemmas.Str.Parse.{digit_from_value}
 use Rattle.ioa_value.specs.Arithmetic.{fits}
-use Rattle.ioa_value.specs.Names.{IsName, begins_with_letter}
+use Rattle.ioa_value.specs.Names.{begins_with_letter}
 use Rattle.ioa_value.specs.Reads.{SpellsNumber}
 use Rattle.ioa_value.specs.Scanning.{is_numeral, spelled_number, number_in}
-use Rattle.ioa_value.proofs.SpellLemmas.{begins_name}
 
 below : (c : ℕ) → nat_lt (digit_value c) 10 ≡ true → digit_value c < 10
 below c e = grind (arith, nat_tests)

@@ -9,19 +9,18 @@ use Rattle.std.proofs.lemmas.Bool.Decides.{nat_tests}
 use Rattle.std.proofs.lemmas.Option.{slice_get_within}
 use Rattle.ioa_value.specs.declared.arithmetic.Fault.{Fault}
 use Rattle.ioa_value.specs.declared.arithmetic.Fault.TheVariants.{Overflow, Empty, OutOfRange, Full}
-use Rattle.ioa_value.specs.declared.limits.TheConstants.{LIMITS}
 use Rattle.ioa_value.specs.declared.operator.Op.{Op}
 use Rattle.ioa_value.specs.declared.operator.Op.TheVariants.{Neg, Add, Sub, Mul, Div, Mod, Lt, Le, Gt, Ge, Not, Eq, Ne, Len, Head, Tail, Last, Init, Append, At, Member, Without, Make, Field}
 use Rattle.ioa_value.specs.declared.operator.Class.{Class}
 use Rattle.ioa_value.specs.declared.operator.Class.TheVariants.{Negation, Arithmetic, Comparison, Denial, Equality, Size, Item, Shortening, Change, Index, Membership, Construction, Projection}
 use Rattle.ioa_value.specs.declared.value.Ty.{Ty}
 use Rattle.ioa_value.specs.Arithmetic.{fits, tested, quotient, remainder}
-use Rattle.ioa_value.specs.Plain.{Val, Vals, truth, num, tuple, items, vals, listed, count}
+use Rattle.ioa_value.specs.Plain.{Val, Vals, truth, num, tuple, items, vals, listed}
 use Rattle.ioa_value.specs.Table.{Table, TupleField, Shape, truths, numbers, names, fields, sequence, shape_at, types_of, item_of, most_of, fields_of, item_type, capacity, field_types, AreTypes}
 use Rattle.ioa_value.specs.Typing.{of_fields, HasType, HaveTypes, own}
 use Rattle.ioa_value.specs.Same.{same}
 use Rattle.ioa_value.specs.Sequences.{last_item, all_but_first, all_but_last, item_at, without_first}
-use Rattle.ioa_value.specs.Operators.{Answer, gives, faults, nothing, of_number, of_item, of_items, of_field, on_number, on_numbers, on_truth, on_alike, on_sequence, on_sequence_and_item, on_sequence_and_number, on_item_and_sequence, on_tuple, operate, class_of, of_one, of_two, given, is_that, are_these, type_of, op_type, arity_of, arity, IsSequence, TakesBy, Takes, IsTypedAnswer}
+use Rattle.ioa_value.specs.Operators.{Answer, gives, faults, nothing, of_number, of_item, of_items, of_field, on_number, on_numbers, on_truth, on_alike, on_sequence, operate, class_of, of_one, of_two, given, is_that, are_these, type_of, op_type, arity_of, arity, TakesBy, Takes, IsTypedAnswer}
 use Rattle.ioa_value.proofs.PlainLemmas.{length-listed}
 use Rattle.ioa_value.proofs.SameLemmas.{equal, equal_numbers}
 use Rattle.ioa_value.proofs.TableLemmas.{stands}

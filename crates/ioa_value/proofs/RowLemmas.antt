@@ -5,7 +5,7 @@ use Rattle.std.specs.Option.{option_map, option_map_or, option_or}
 use Rattle.std.specs.Str.{bytes_eq}
 use Rattle.std.proofs.lemmas.List.Elements.{All-head, All-tail, All-nil}
 use Rattle.ioa_value.specs.Plain.{Val, Vals, none, more}
-use Rattle.ioa_value.specs.Table.{Table, Shape, truths, numbers, names, fields, sequence, shape_at, types_of, type_name, bool, int, MayStand, AreTypes}
+use Rattle.ioa_value.specs.Table.{Table, Shape, truths, numbers, names, fields, sequence, shape_at, type_name, bool, int, MayStand, AreTypes}
 use Rattle.ioa_value.specs.Tokens.{after_blanks, first_word, after_first}
 use Rattle.ioa_value.specs.Scanning.{after_mark, opening, closing, may_be_shorter, row_types, made, ending, early_ending, ended, followed, scan_after, scan_first, scan_row, scan_made, scan_shaped, scan_in, scan_of}
 use Rattle.ioa_value.proofs.TableLemmas.{stands}

@@ -1,24 +1,20 @@
 -- What is read at the front of a text is a spelling of the value, and each spelling of a value is read.
-use Rattle.std.proofs.Common.{◌≡◌, ℕ, zero, suc, ◌+◌, ◌<◌, Bool, true, false, cond, not, ◌&&◌, ◌||◌, ◌==◌, nat_lt, nat_le, ℤ, pos, IsTrue, List, [], ◌∷◌, ◌++◌, map, length, get_or, codes, Option, Some, None, All, refl, sym, ap, ap₂, subst, ◌∙◌, append_assoc, append-nil, arith, inl, inr}
+use Rattle.std.proofs.Common.{◌≡◌, ℕ, zero, suc, Bool, true, false, cond, ◌&&◌, ◌==◌, nat_lt, nat_le, ℤ, List, [], ◌∷◌, ◌++◌, length, get_or, codes, Option, Some, None, refl, sym, ap, ap₂, subst, ◌∙◌, append_assoc, arith}
 use Rattle.std.specs.Prelude.{slice_get}
 use Rattle.std.specs.Option.{option_map, option_map_or, option_or, unwrap_or}
 use Rattle.std.specs.Str.{bytes_eq}
-use Rattle.std.proofs.lemmas.Bool.{and_parts, false≢true, cases_Bool}
 use Rattle.std.proofs.lemmas.Bool.Decides.{nat_tests}
-use Rattle.std.proofs.lemmas.List.Elements.{All-head, All-tail}
 use Rattle.std.proofs.lemmas.Slice.Eq.{bytes_eq-Decides}
 use Rattle.std.proofs.lemmas.Option.{slice_get_within, unwrap_or-slice_get}
-use Rattle.ioa_value.specs.Arithmetic.{fits}
 use Rattle.ioa_value.specs.Actions.{Name}
 use Rattle.ioa_value.specs.Plain.{Val, Vals, truth, num, name, tuple, items, none, more, count}
-use Rattle.ioa_value.specs.Table.{Table, Shape, Declaration, truths, numbers, names, fields, sequence, shape_at, types_of, type_name, constant_named, constant_name, type_named, names_in, AreTypes}
+use Rattle.ioa_value.specs.Table.{Table, Shape, truths, numbers, names, fields, sequence, shape_at, types_of, type_name, constant_named, constant_name, names_in, AreTypes}
 use Rattle.ioa_value.specs.Typing.{HasType, is_of, parts_are, items_are, of_fields, of_sequence, is_name_of}
-use Rattle.ioa_value.specs.Names.{IsName, begins_with_letter}
 use Rattle.ioa_value.specs.Reads.{IsBlank, Padded, Spells, SpellsRow, SpellsAfter, IsTyped}
-use Rattle.ioa_value.specs.Tokens.{after_blanks, word, first_word, after_first}
-use Rattle.ioa_value.specs.Scanning.{truth_in, number_in, constant_in, at_word, after_mark, opening, closing, repeated, row_types, may_be_shorter, made, ending, early_ending, ended, followed, scan_after, scan_first, scan_row, scan_made, scan_shaped, scan_in, scan_of, leading_type, scan_value}
+use Rattle.ioa_value.specs.Tokens.{after_blanks, first_word, after_first}
+use Rattle.ioa_value.specs.Scanning.{truth_in, number_in, constant_in, at_word, after_mark, opening, closing, repeated, row_types, may_be_shorter, made, ending, early_ending, followed, scan_after, scan_first, scan_row, scan_made, scan_shaped, scan_in, leading_type, scan_value}
 use Rattle.ioa_value.proofs.SameLemmas.{equal, equal_numbers}
-use Rattle.ioa_value.proofs.TokenLemmas.{IsWord, IsEnd, finds_word, finds_rest, front, blanks, skip}
+use Rattle.ioa_value.proofs.TokenLemmas.{IsEnd, front, blanks}
 use Rattle.ioa_value.proofs.TableLemmas.{stands}
 use Rattle.ioa_value.proofs.NumeralLemmas.{number_is}
 use Rattle.ioa_value.proofs.NamedLemmas.{constant_at}

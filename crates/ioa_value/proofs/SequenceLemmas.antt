@@ -1,5 +1,5 @@
 -- What is left of a list of items, and what is found in it.
-use Rattle.std.proofs.Common.{◌≡◌, ℕ, zero, suc, ◌+◌, ◌-◌, ◌<◌, ◌≤◌, ◌==◌, Bool, true, false, cond, List, [], ◌∷◌, ◌++◌, length, map, take, drop, Option, Some, None, refl, sym, ap, ap₂, ◌∙◌, arith}
+use Rattle.std.proofs.Common.{◌≡◌, ℕ, zero, suc, ◌+◌, ◌<◌, ◌==◌, Bool, true, false, cond, List, [], ◌∷◌, ◌++◌, length, map, take, drop, Option, Some, None, refl, sym, ap, ap₂, ◌∙◌, arith}
 use Rattle.std.specs.Prelude.{nat_lt, is_some}
 use Rattle.std.specs.List.{list_any, position_from, take-map, drop-map}
 use Rattle.std.specs.Option.{option_map}
@@ -10,7 +10,7 @@ use Rattle.ioa_value.specs.declared.value.Value.{Value}
 use Rattle.ioa_value.specs.Plain.{Val, items, vals, plain, plain_all}
 use Rattle.ioa_value.specs.Same.{same}
 use Rattle.ioa_value.specs.Sequences.{last_item, all_but_first, all_but_last, without_first}
-use Rattle.ioa_value.specs.Operators.{Answer, gives, faults, of_item, of_items}
+use Rattle.ioa_value.specs.Operators.{gives, faults, of_item, of_items}
 use Rattle.ioa_value.proofs.PlainLemmas.{vals-plain}
 
 -- ---- the last item

@@ -1,5 +1,5 @@
 -- Operands on top of a stack, and what is below them.
-use Rattle.std.proofs.Common.{◌≡◌, ℕ, zero, suc, ◌<◌, ◌-◌, ◌+◌, List, [], ◌∷◌, ◌++◌, length, map, take, drop, get_or, None, cond, IfOk, Result, Ok, Err, refl, sym, ap, ap₂, ◌∙◌, subst, arith}
+use Rattle.std.proofs.Common.{◌≡◌, ℕ, zero, suc, ◌<◌, ◌-◌, ◌+◌, List, [], ◌∷◌, ◌++◌, length, map, take, drop, get_or, None, cond, IfOk, Result, Ok, Err, refl, sym, ap, ap₂, ◌∙◌, arith}
 use Rattle.std.proofs.lemmas.List.{length-map, length-drop, length-append, map-append, take-append-drop}
 use Rattle.std.proofs.Math.Seq.{take-length}
 use Rattle.std.specs.List.{take-map, drop-map}
@@ -8,7 +8,7 @@ use Rattle.ioa_value.specs.declared.operator.Op.{Op}
 use Rattle.ioa_value.specs.declared.operator.Op.TheVariants.{Make}
 use Rattle.ioa_value.specs.declared.value.Ty.{Ty}
 use Rattle.ioa_value.specs.declared.value.Value.{Value}
-use Rattle.ioa_value.specs.Plain.{Val, Vals, items, tuple, vals, listed, count, plain, plain_all}
+use Rattle.ioa_value.specs.Plain.{Val, Vals, items, tuple, vals, count, plain, plain_all}
 use Rattle.ioa_value.specs.Table.{Table, field_types}
 use Rattle.ioa_value.specs.Operators.{Answer, gives, nothing, with_items, on_sequence, on_item_and_sequence, operate, arity, IsSequence}
 use Rattle.ioa_value.proofs.PlainLemmas.{vals-plain, listed-plain, count-plain_all}

@@ -1,5 +1,5 @@
 -- The one spelling of values is a spelling of them.
-use Rattle.std.proofs.Common.{◌≡◌, ℕ, zero, suc, ◌+◌, ◌<◌, ◌≤◌, ◌^◌, Bool, true, false, ◌&&◌, ◌==◌, nat_le, pos, negsuc, neg_ℤ, IsTrue, List, [], ◌∷◌, ◌++◌, map, take, length, get_or, All, codes, refl, sym, ap, subst, ◌∙◌, append_assoc, append-nil, arith, inl, inr}
+use Rattle.std.proofs.Common.{◌≡◌, ℕ, zero, suc, ◌+◌, ◌<◌, ◌≤◌, ◌^◌, Bool, true, false, ◌&&◌, ◌==◌, nat_le, pos, negsuc, neg_ℤ, IsTrue, List, [], ◌∷◌, ◌++◌, map, take, length, get_or, All, codes, refl, sym, ap, ◌∙◌, append_assoc, append-nil, arith, inl, inr}
 use Rattle.std.specs.Fmt.{decimal}
 use Rattle.std.proofs.lemmas.Fmt.{decimal_is_IsNumeral}
 use Rattle.std.proofs.lemmas.Bool.{and_parts, false≢true}
@@ -9,11 +9,11 @@ use Rattle.ioa_value.specs.declared.value.Value.{Value}
 use Rattle.ioa_value.specs.Arithmetic.{fits}
 use Rattle.ioa_value.specs.Plain.{Val, Vals, truth, num, name, tuple, items, none, more, vals, count, plain, plain_all}
 use Rattle.ioa_value.specs.Table.{Table, shape_at, type_name, constant_name}
-use Rattle.ioa_value.specs.Typing.{HasType, is_of, parts_are, items_are}
+use Rattle.ioa_value.specs.Typing.{is_of, parts_are, items_are}
 use Rattle.ioa_value.specs.Actions.{Act}
 use Rattle.ioa_value.specs.Names.{IsName}
 use Rattle.ioa_value.specs.Written.{written_value, written_row, written_after, written_values, written_action}
-use Rattle.ioa_value.specs.Reads.{Padded, Spells, SpellsRow, SpellsAfter, IsTyped, ReadsValues, ReadsArguments, Reads}
+use Rattle.ioa_value.specs.Reads.{Padded, Spells, SpellsRow, SpellsAfter, IsTyped, ReadsArguments, Reads}
 use Rattle.ioa_value.proofs.PlainLemmas.{put_last, plain_all-last}
 use Rattle.ioa_value.proofs.ItemLemmas.{take_item}
 use Rattle.ioa_value.proofs.CompleteLemmas.{fields_of, sequence_of}

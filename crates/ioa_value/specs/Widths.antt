@@ -1,7 +1,7 @@
 -- How many words a value of a type takes at most.
 use Rattle.std.specs.Prelude.{ℕ, ◌+◌, ◌*◌, List, [], ◌∷◌, ◌++◌, map, get_or}
 use Rattle.std.specs.List.{sum}
-use Rattle.ioa_value.specs.Forms.{TupleField, Shape, truths, numbers, names, fields, sequence, Declaration}
+use Rattle.ioa_value.specs.Forms.{Shape, truths, numbers, names, fields, sequence, Declaration}
 
 -- the width at a place, or 0 past the end
 abbrev pub width_at : List ℕ → ℕ → ℕ

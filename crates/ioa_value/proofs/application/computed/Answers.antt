@@ -1,4 +1,4 @@
-use Rattle.std.proofs.Common.{◌≡◌, ℕ, ◌<◌, ◌^◌, pos, length, map, not, sym, subst, ap, ◌∙◌, arith, w64}
+use Rattle.std.proofs.Common.{◌<◌, ◌^◌, pos, length, map, not, sym, subst, ap, ◌∙◌, arith, w64}
 use Rattle.std.proofs.lemmas.Int.{to_z_pos}
 use Rattle.std.proofs.lemmas.List.{length-map}
 use Rattle.std.specs.Prelude.{is_some}

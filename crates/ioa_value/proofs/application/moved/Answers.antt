@@ -1,14 +1,13 @@
-use Rattle.std.proofs.Common.{◌≡◌, ◌-◌, ◌∷◌, [], ◌++◌, Some, map, length, take, drop, refl, sym, ap, ◌∙◌, subst, arith, w64, to_z, of_z}
+use Rattle.std.proofs.Common.{◌≡◌, ◌-◌, ◌∷◌, [], ◌++◌, map, length, take, drop, refl, sym, ap, ◌∙◌, subst, arith, w64, to_z, of_z}
 use Rattle.std.proofs.lemmas.Int.{to_z-of_z}
 use Rattle.std.specs.Prelude.{slice_get, nat_lt, if◌then◌else◌}
 use Rattle.std.specs.List.{drop-map}
-use Rattle.std.proofs.lemmas.List.{length-map}
 use Rattle.ioa_value.specs.declared.arithmetic.Fault.TheVariants.{Empty, OutOfRange, Full}
-use Rattle.ioa_value.specs.declared.operator.Op.TheVariants.{Head, Last, Tail, Init, Append, At, Without, Make, Field}
+use Rattle.ioa_value.specs.declared.operator.Op.TheVariants.{Head, Last, Tail, Init, Append, At, Without, Field}
 use Rattle.ioa_value.specs.Plain.{plain, plain_all, num, items, tuple, vals}
 use Rattle.ioa_value.specs.Table.{capacity}
 use Rattle.ioa_value.specs.Sequences.{last_item, all_but_first, all_but_last, item_at, without_first}
-use Rattle.ioa_value.specs.Operators.{Answer, gives, faults, of_item, of_items, of_field, operate, arity, Takes}
+use Rattle.ioa_value.specs.Operators.{gives, faults, of_item, of_items, of_field, operate, arity, Takes}
 use Rattle.ioa_value.proofs.PlainLemmas.{listed-plain, plain-Tuple}
 use Rattle.ioa_value.proofs.StackLemmas.{put, over, ok_map, topped, under, top_is, moved_as, both_moved, below_of, made_given, field_found}
 use Rattle.ioa_value.proofs.application.moved.Goals as goal

@@ -1,4 +1,4 @@
-use Rattle.std.proofs.Common.{◌≡◌, ◌-◌, map, length, sym, ap, ◌∙◌, subst, arith}
+use Rattle.std.proofs.Common.{◌≡◌, ◌-◌, length, sym, ap, ◌∙◌, subst, arith}
 use Rattle.ioa_value.specs.Operators.{arity, operate, Takes}
 use Rattle.ioa_value.proofs.StackLemmas.{top_of, below_of}
 use Rattle.ioa_value.proofs.application.taken_off.Goals as goal

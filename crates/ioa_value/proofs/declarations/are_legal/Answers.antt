@@ -1,4 +1,4 @@
-use Rattle.std.proofs.Common.{All, map, take, sym, ap, subst, refl, ◌∙◌, arith}
+use Rattle.std.proofs.Common.{All, map, sym, ap, subst, refl, ◌∙◌, arith}
 use Rattle.std.proofs.lemmas.List.{take_all}
 use Rattle.ioa_value.specs.Names.{IsName, is_name}
 use Rattle.ioa_value.specs.Table.{field_names}

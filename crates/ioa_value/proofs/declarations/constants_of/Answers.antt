@@ -1,4 +1,4 @@
-use Rattle.std.proofs.Common.{◌≡◌, ◌≤◌, ◌∷◌, [], ◌++◌, ◌+◌, Some, map, take, length, string_bytes, sym, ap, subst, ◌∙◌, arith}
+use Rattle.std.proofs.Common.{◌≡◌, ◌∷◌, [], ◌++◌, ◌+◌, Some, map, take, length, string_bytes, sym, ap, subst, ◌∙◌, arith}
 use Rattle.std.proofs.lemmas.List.{map-append, length-map}
 use Rattle.ioa_value.specs.Table.{names, names_in, shape_at}
 use Rattle.ioa_value.specs.Shapes.{shape, declaration, FindsConstants, FindsMore}

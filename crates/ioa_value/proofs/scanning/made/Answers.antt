@@ -1,4 +1,4 @@
-use Rattle.std.proofs.Common.{sym, ap, ◌∙◌, true, false, if◌then◌else◌}
+use Rattle.std.proofs.Common.{sym, ap, ◌∙◌, if◌then◌else◌}
 use Rattle.ioa_value.specs.Plain.{tuple, items, plain_all}
 use Rattle.ioa_value.proofs.PlainLemmas.{plain-Tuple, plain-Items}
 use Rattle.ioa_value.proofs.scanning.made.Goals as goal

@@ -1,4 +1,4 @@
-use Rattle.std.proofs.Common.{◌<◌, length, sym, ap, ◌∙◌, arith}
+use Rattle.std.proofs.Common.{sym, ◌∙◌}
 use Rattle.ioa_value.proofs.ItemLemmas.{item_there}
 use Rattle.ioa_value.proofs.scanning.opened.Goals as goal
 

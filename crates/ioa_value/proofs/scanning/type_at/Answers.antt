@@ -1,6 +1,5 @@
 use Rattle.std.proofs.Common.{Some, ap, sym, ◌∙◌, arith}
 use Rattle.std.specs.Prelude.{slice_get}
-use Rattle.ioa_value.specs.Plain.{number}
 use Rattle.ioa_value.specs.Shapes.{shape}
 use Rattle.ioa_value.specs.Scanning.{row_types}
 use Rattle.ioa_value.proofs.FieldLemmas.{type_there, type_past, repeated_there, repeated_past}

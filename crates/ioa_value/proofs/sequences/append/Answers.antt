@@ -1,4 +1,4 @@
-use Rattle.std.proofs.Common.{◌≡◌, ◌<◌, map, length, ap, ◌∙◌, arith}
+use Rattle.std.proofs.Common.{◌≡◌, ◌<◌, length, ap, ◌∙◌, arith}
 use Rattle.ioa_value.specs.Operators.{gives}
 use Rattle.ioa_value.specs.Table.{capacity}
 use Rattle.ioa_value.proofs.PlainLemmas.{plain-Items}

@@ -1,4 +1,4 @@
-use Rattle.std.proofs.Common.{map, take, drop, suc, sym, ap, ◌∙◌}
+use Rattle.std.proofs.Common.{sym, ap, ◌∙◌}
 use Rattle.ioa_value.specs.Plain.{plain, items}
 use Rattle.ioa_value.proofs.PlainLemmas.{plain-Items}
 use Rattle.ioa_value.proofs.SequenceLemmas.{placed_given, absent_given}
