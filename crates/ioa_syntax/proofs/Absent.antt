@@ -7,7 +7,7 @@ use Rattle.ioa_syntax.specs.Grammar as grammar
 use Rattle.ioa_syntax.specs.Grammar.{Language, ◌▹◌, word, nothing, empty}
 use Rattle.ioa_syntax.specs.Reading.{Outcome, Reader, ◌>>=◌, built, sees, optional, optional_list}
 use Rattle.ioa_syntax.proofs.Outcomes.{bind_ok, bind_err, ok_pair, at_most_then, alike_then, went}
-use Rattle.ioa_syntax.proofs.Exact.{Found, ExactFor, said_as}
+use Rattle.ioa_syntax.proofs.Exact.{Found, ExactFor, flat, said_as}
 use Rattle.ioa_syntax.proofs.Singles.{introduced_exact}
 
 -- what was read becomes a part of a larger type
@@ -57,6 +57,10 @@ image_exact {L = L} to E deep p = into_exact to p (Image to L) E (λ y ts s. s) 
 abbrev pub deep_some : {A : Type 0} → (A → ℕ) → Option A → ℕ
 deep_some D None = 0
 deep_some D (Some x) = D x
+
+pub deep_some_flat : {A : Type 0} (x : Option A) → deep_some flat x ≡ 0
+deep_some_flat None = refl
+deep_some_flat (Some x) = refl
 
 module _ {I : Type 0} {size : I → ℕ} {A : Type 0} (t : Terminal) {L : A → Language} {D : A → ℕ} {F : Language} {P : I → Reader A} (p : ExactFor size L D F P) where
   abbrev There : Option A → Language

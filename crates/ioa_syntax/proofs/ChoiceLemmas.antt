@@ -177,7 +177,7 @@ pub record AfterStatements (left : List Tok) : Type 0 where
 abbrev pub AfterArms : Language
 AfterArms left = AfterStatements left × (sees terminals.Elseif left ≡ false)
 
-ends_semicolon : (z : List Tok) → Ends 0 (terminal terminals.Semicolon ∷ z)
+pub ends_semicolon : (z : List Tok) → Ends 0 (terminal terminals.Semicolon ∷ z)
 unfolding terminal_at operator_of sees same_terminal
 ends_semicolon z = (tt, refl, refl)
 

@@ -6,7 +6,7 @@ use Rattle.std.proofs.lemmas.Bool.{and_parts, and_from, or_left}
 use Rattle.std.proofs.lemmas.List.Folds.{list_any-append}
 use Rattle.ioa_value.specs.Actions.{Name}
 use Rattle.ioa_value.specs.Table.{Table, Shape, basic}
-use Rattle.ioa_syntax.specs.Tree.{InstanceTree, CompositionTree, TypeTree, DeclarationTree, declared_type, automaton, composition, SourceTree}
+use Rattle.ioa_syntax.specs.Tree.{InstanceTree, CompositionTree, TypeTree, DeclarationTree, declared_type, automaton, composition, invariant, SourceTree}
 use Rattle.ioa_syntax.specs.Types.{shape_of, declared, with_type, declared_from, types_of}
 use Rattle.ioa_syntax.specs.Compositions.{automata, compositions}
 use Rattle.ioa_syntax.specs.WellFormed.{distinct, automaton_fine, is_automaton_of, instance_fine, composition_fine, declaration_fine, declarations_fine, global_names, well_formed}
@@ -38,18 +38,20 @@ declared_begins types (declared_type d ∷ ds) =
     begins_through types (with_type types d) (declared_from (with_type types d) ds) (type_begins types d) (declared_begins (with_type types d) ds)
 declared_begins types (automaton a ∷ ds) = declared_begins types ds
 declared_begins types (composition c ∷ ds) = declared_begins types ds
+declared_begins types (invariant i ∷ ds) = declared_begins types ds
 
 pub declared-append : (types : Table) (before ds : SourceTree) → declared_from types (before ++ ds) ≡ declared_from (declared_from types before) ds
 declared-append types [] ds = refl
 declared-append types (declared_type d ∷ before) ds = declared-append (with_type types d) before ds
 declared-append types (automaton a ∷ before) ds = declared-append types before ds
 declared-append types (composition c ∷ before) ds = declared-append types before ds
+declared-append types (invariant i ∷ before) ds = declared-append types before ds
 
 -- the types of the first declarations are the first of all
 pub types_begin : (before ds : SourceTree) → Begins (types_of before) (types_of (before ++ ds))
 types_begin before ds = subst (Begins (types_of before)) (sym (declared-append basic before ds)) (declared_begins (types_of before) ds)
 
--- ---- automata and compositions
+-- ---- automata, compositions and invariants
 
 -- a declaration is fine, and so are those after it
 pub first_fine : (types : Table) (globals : List Name) (before : SourceTree) (d : DeclarationTree) (ds : SourceTree)
@@ -57,7 +59,7 @@ pub first_fine : (types : Table) (globals : List Name) (before : SourceTree) (d 
     → (declaration_fine types globals before d ≡ true) × (declarations_fine types globals (before ++ d ∷ []) ds ≡ true)
 first_fine types globals before d ds h = and_parts (declaration_fine types globals before d) (declarations_fine types globals (before ++ d ∷ []) ds) h
 
-one_more : (before : SourceTree) (d : DeclarationTree) (ds : SourceTree) → (before ++ d ∷ []) ++ ds ≡ before ++ d ∷ ds
+pub one_more : (before : SourceTree) (d : DeclarationTree) (ds : SourceTree) → (before ++ d ∷ []) ++ ds ≡ before ++ d ∷ ds
 one_more before d ds = append_assoc before (d ∷ []) ds
 
 -- an automaton that is declared before is one of the source's
@@ -91,6 +93,9 @@ module _ (s : SourceTree) (globals : List Name) where
   each_automaton before (composition c ∷ ds) e h =
       let p = first_fine (types_of s) globals before (composition c) ds h in
       each_automaton (before ++ composition c ∷ []) ds (one_more before (composition c) ds ∙ e) p.1
+  each_automaton before (invariant i ∷ ds) e h =
+      let p = first_fine (types_of s) globals before (invariant i) ds h in
+      each_automaton (before ++ invariant i ∷ []) ds (one_more before (invariant i) ds ∙ e) p.1
 
   each_composition : (before ds : SourceTree) → before ++ ds ≡ s → declarations_fine (types_of s) globals before ds ≡ true
       → list_all (composition_fine (types_of s) (types_of s) s) (compositions ds) ≡ true
@@ -108,6 +113,9 @@ module _ (s : SourceTree) (globals : List Name) where
       and_from (composition_fine (types_of s) (types_of s) s c) (list_all (composition_fine (types_of s) (types_of s) s) (compositions ds))
       (subst (λ t. composition_fine (types_of s) (types_of s) t c ≡ true) e (composition_among (types_of s) (types_of s) before (composition c ∷ ds) c whole))
       (each_composition (before ++ composition c ∷ []) ds (one_more before (composition c) ds ∙ e) p.1)
+  each_composition before (invariant i ∷ ds) e h =
+      let p = first_fine (types_of s) globals before (invariant i) ds h in
+      each_composition (before ++ invariant i ∷ []) ds (one_more before (invariant i) ds ∙ e) p.1
 
 -- each automaton of a well formed source is fine over all its types
 pub automata_fine : (s : SourceTree) → well_formed s ≡ true → list_all (automaton_fine (types_of s) (types_of s) (global_names s)) (automata s) ≡ true

@@ -124,7 +124,7 @@ module _ (types early : Table) (begins : Begins early types) where
       go (Some s) at e = ap (option_and_then (λ s. option_map (λ of. s) (item_type types s))) (type_stays x s at) ∙ item s (item_type early s) refl e
       go None at e = absurd (cc)
 
-  known_stays : (f : FieldTree) → Implies (is_type early f) (is_type types f)
+  pub known_stays : (f : FieldTree) → Implies (is_type early f) (is_type types f)
   known_stays f h = let t = some_there (type_named early f.ty) h in ap (λ o. option_map_or (λ n. true) o false) (type_stays f.ty t.0 t.1)
 
   tried_stays : (f : FieldTree) → Implies (is_tried early f) (is_tried types f)
@@ -207,7 +207,7 @@ module _ (types early : Table) (begins : Begins early types) where
   pub has_ty_stays : (c : Context) (e : Expr) (ty : ℕ) → Implies (has_ty types early c e ty) (has_ty types types c e ty)
   has_ty_stays c e ty h = ap (λ o. is_some_of o ty) (expr_stays c e ty (some_type (type_of types early c e) ty h)) ∙ eq-eqb ty ty refl
 
-  has_ty_there : (c d : Context) → d ≡ c → (e : Expr) (ty : ℕ) → Implies (has_ty types early c e ty) (has_ty types types d e ty)
+  pub has_ty_there : (c d : Context) → d ≡ c → (e : Expr) (ty : ℕ) → Implies (has_ty types early c e ty) (has_ty types types d e ty)
   has_ty_there c d same e ty h = ap (λ x. has_ty types types x e ty) same ∙ has_ty_stays c e ty h
 
   -- the argument, or the start expression, has a type

@@ -34,7 +34,7 @@ abbrev pub reset_entry : EntryTree
 reset_entry = record { kind = Input; name = codes "reset"; positions = [] }
 
 abbrev pub count_variable : VariableTree
-count_variable = record { field = field (codes "c") (codes "Int"); start = Some (named (codes "start")) }
+count_variable = record { stable = false; field = field (codes "c") (codes "Int"); start = Some (named (codes "start")) }
 
 abbrev pub tick_proposal : ProposalTree
 tick_proposal = record { name = codes "k"; value = named (codes "c") }
@@ -62,7 +62,7 @@ counter = record {
 }
 
 abbrev pub component : List Expr → InstanceTree
-component arguments = record { name = codes "A"; automaton = codes "Counter"; arguments = arguments }
+component arguments = record { name = codes "A"; automaton = codes "Counter"; arguments = arguments; crash = None }
 
 abbrev pub one : List Expr → CompositionTree
 one arguments = record { name = codes "One"; instances = component arguments ∷ []; hidden = [] }
@@ -74,9 +74,15 @@ abbrev from : ℕ → Instance
 from n = record { types = basic; automaton = counter; arguments = num (pos n) ∷ [] }
 
 abbrev composed : ℕ → Composed
-composed n = record { types = basic; name = codes "One"; members = record { name = codes "A"; instance = from n; starts = num (pos n) ∷ [] } ∷ []; hidden = [] }
+composed n = record {
+  types = basic;
+  name = codes "One";
+  members = record { name = codes "A"; instance = from n; starts = num (pos n) ∷ []; declared = 1 } ∷ [];
+  hidden = [];
+  invariants = [];
+}
 
-abbrev tick : ℕ → Act
+abbrev pub tick : ℕ → Act
 tick k = record { name = codes "tick"; vals = num (pos k) ∷ [] }
 
 abbrev bare : Name → Act
@@ -128,7 +134,7 @@ with_effect effect = with_transitions (record tick_transition { effect = effect 
 
 -- a variable that has no start expression
 abbrev pub plain_variable : Name → VariableTree
-plain_variable x = record { field = field x (codes "Int"); start = None }
+plain_variable x = record { stable = false; field = field x (codes "Int"); start = None }
 
 -- a variable more is no fault, nor is a precondition less
 takes_more_variables : well_formed (with_variables (count_variable ∷ plain_variable (codes "d") ∷ [])) ≡ true
@@ -445,7 +451,7 @@ is_unknown = refl
 -- the counter with this precondition and this effect of tick, from 5
 abbrev pub choosing : Expr → Stmts → Composed
 choosing pre effect = record (composed 5) {
-  members = record { name = codes "A"; instance = record (from 5) { automaton = record counter { transitions = record tick_transition { pre = Some pre; effect = effect } ∷ reset_transition ∷ [] } }; starts = num (pos 5) ∷ [] } ∷ [];
+  members = record { name = codes "A"; instance = record (from 5) { automaton = record counter { transitions = record tick_transition { pre = Some pre; effect = effect } ∷ reset_transition ∷ [] } }; starts = num (pos 5) ∷ []; declared = 1 } ∷ [];
 }
 
 abbrev c : Expr

@@ -9,7 +9,7 @@ use Rattle.ioa_syntax.specs.Tree.{PositionTree, typed, only, AutomatonTree, Entr
 use Rattle.ioa_syntax.specs.Types.{types_of}
 use Rattle.ioa_value.specs.declared.limits.Limits.{Limits}
 use Rattle.ioa_value.specs.declared.limits.TheConstants.{LIMITS}
-use Rattle.ioa_syntax.specs.WellFormed.{distinct, apart, Context, is_type, position_fields, position_fine, parameter_names, variable_fields, formals, local_names, fields_fine, start_fine, entry_fine, matches, one_to_one, transition_fine, automaton_fine, transition_within, entry_within, automaton_within, declarations_fine, declaration_within, source_within, global_names, is_type_declaration, is_counted, types_narrow, well_formed}
+use Rattle.ioa_syntax.specs.WellFormed.{distinct, apart, Context, is_type, position_fields, position_fine, parameter_names, variable_fields, formals, local_names, fields_fine, start_fine, entry_fine, matches, one_to_one, transition_fine, automaton_fine, transition_within, entry_within, automaton_within, declarations_fine, declaration_within, source_within, global_names, is_type_declaration, is_counted, is_invariant, types_narrow, well_formed}
 
 pub at_most : (n m : ℕ) → IsTrue (nat_le n m) → n ≤ m
 at_most n m h = grind (arith, nat_tests)
@@ -106,6 +106,7 @@ pub record SourceParts (s : SourceTree) : Type 0 where
   pub declarations : IsTrue (declarations_fine (types_of s) (global_names s) [] s)
   pub limits : IsTrue (source_within LIMITS s)
   pub few : length (filter is_counted s) ≤ LIMITS.automata
+  pub few_invariants : length (filter is_invariant s) ≤ LIMITS.invariants
   pub within : IsTrue (list_all (declaration_within LIMITS) s)
   pub narrow : IsTrue (types_narrow LIMITS s)
 
@@ -115,13 +116,16 @@ source_parts s h =
     let p2 = and_parts (distinct (global_names s) && declarations_fine (types_of s) (global_names s) [] s) (source_within LIMITS s) p3.0 in
     let p1 = and_parts (distinct (global_names s)) (declarations_fine (types_of s) (global_names s) [] s) p2.0 in
     let few = nat_le (length (filter is_type_declaration s)) LIMITS.types && nat_le (length (filter is_counted s)) LIMITS.automata in
-    let w2 = and_parts few (list_all (declaration_within LIMITS) s) p2.1 in
+    let few_invariants = nat_le (length (filter is_invariant s)) LIMITS.invariants in
+    let w3 = and_parts (few && few_invariants) (list_all (declaration_within LIMITS) s) p2.1 in
+    let w2 = and_parts few few_invariants w3.0 in
     let w1 = and_parts (nat_le (length (filter is_type_declaration s)) LIMITS.types) (nat_le (length (filter is_counted s)) LIMITS.automata) w2.0 in
     record {
       distinct_names = p1.0;
       declarations = p1.1;
       limits = p2.1;
       few = at_most (length (filter is_counted s)) LIMITS.automata w1.1;
-      within = w2.1;
+      few_invariants = at_most (length (filter is_invariant s)) LIMITS.invariants w2.1;
+      within = w3.1;
       narrow = p3.1;
     }

@@ -1,5 +1,5 @@
 -- What a language's first tokens say of the tokens that begin with it.
-use Rattle.std.proofs.Common.{◌≡◌, ◌<◌, List, [], ◌∷◌, ◌++◌, length, sym, ap, ◌∙◌, subst, arith, Option, Some, None, length-append, append_assoc}
+use Rattle.std.proofs.Common.{◌≡◌, ◌<◌, Bool, true, false, List, [], ◌∷◌, ◌++◌, length, sym, ap, ◌∙◌, subst, arith, Option, Some, None, length-append, append_assoc}
 use Rattle.ioa_value.specs.declared.terminal.Terminal.{Terminal}
 use Rattle.ioa_lex.specs.Tokens.{Tok, terminal}
 use Rattle.ioa_syntax.specs.Grammar as grammar
@@ -26,6 +26,12 @@ by_list F t L (x ∷ xs) ts left h here s = leads F (terminal t) (L (x ∷ xs)) 
 pub by_option : {A : Type 0} (F : Language) (t : Terminal) (L : A → Language) (x : Option A) (ts left : List Tok) → ((z : List Tok) → F (terminal t ∷ z)) → F left → grammar.optional t L x ts → F (ts ++ left)
 by_option F t L None ts left h here s = alone F ts left s here
 by_option F t L (Some x) ts left h here s = leads F (terminal t) (L x) ts left h s
+
+-- a word that may be absent, and what comes after it
+pub by_flag : (F : Language) (t : Terminal) (v : Bool) (M : Language) (ts left : List Tok) → ((z : List Tok) → F (terminal t ∷ z)) →
+    ((m : List Tok) → M m → F (m ++ left)) → (grammar.flagged t v ▹ M) ts → F (ts ++ left)
+by_flag F t true M ts left h k s = leads F (terminal t) M ts left h s
+by_flag F t false M ts left h k s = subst (λ z. F (z ++ left)) (sym (s.4 ∙ ap (λ z. z ++ s.1) s.2)) (k s.1 s.3)
 
 -- one part and then another
 pub by_two : (F : Language) (L M : Language) (ts left : List Tok) → ((a b : List Tok) → L a → F (b ++ left) → F (a ++ (b ++ left))) → ((b : List Tok) → M b → F (b ++ left)) → (L ▹ M) ts → F (ts ++ left)

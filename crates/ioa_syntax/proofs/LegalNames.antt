@@ -11,13 +11,13 @@ use Rattle.ioa_lex.specs.Tokens as tokens
 use Rattle.ioa_lex.specs.Tokens.{Tok}
 use Rattle.ioa_value.specs.Actions.{Name}
 use Rattle.ioa_value.specs.Names.{IsName}
-use Rattle.ioa_syntax.specs.Tree.{Expr, number, truth, named, parens, prefix, binary, empty, make, select, Exprs, no_expr, also, FieldTree, ConstantTree, positive, negative, truth_literal, reference, PositionTree, typed, only, EntryTree, VariableTree, Stmt, assign, choose, Stmts, stop, seq, Arms, no_arm, arm, TransitionTree, AutomatonTree, InstanceTree, CompositionTree, FormTree, enumeration, tuple, sequence, TypeTree, DeclarationTree, declared_type, automaton, composition, SourceTree}
+use Rattle.ioa_syntax.specs.Tree.{Expr, number, truth, named, parens, prefix, binary, empty, make, select, Exprs, no_expr, also, FieldTree, ConstantTree, positive, negative, truth_literal, reference, PositionTree, typed, only, EntryTree, VariableTree, Stmt, assign, choose, Stmts, stop, seq, Arms, no_arm, arm, TransitionTree, AutomatonTree, CrashTree, InstanceTree, CompositionTree, InvariantTree, FormTree, enumeration, tuple, sequence, TypeTree, DeclarationTree, declared_type, automaton, composition, invariant, SourceTree}
 use Rattle.ioa_syntax.specs.declared.tree.Infix.TheVariants.{Operator}
 use Rattle.ioa_syntax.specs.Operators.{left_of, right_of, operator_word, tightest}
-use Rattle.ioa_syntax.specs.Grammar.{Language, ◌▹◌, word, called, perhaps, optional, optional_list, each_after, separated, terminated, many, single, enclosed, braced, kind_word, SpellsExpr, SpellsExprs, SpellsOthers, SpellsField, SpellsFields, SpellsConstant, SpellsPosition, SpellsPositions, SpellsEntry, SpellsVariable, SpellsProposal, SpellsStmt, SpellsStmts, SpellsMore, SpellsAfter, SpellsArms, SpellsTransition, SpellsAutomaton, SpellsArguments, SpellsInstance, SpellsInstances, SpellsHidden, SpellsComposition, SpellsForm, SpellsType, SpellsDeclaration}
+use Rattle.ioa_syntax.specs.Grammar.{Language, ◌▹◌, word, called, perhaps, optional, optional_list, flagged, each_after, separated, terminated, many, single, enclosed, braced, kind_word, SpellsExpr, SpellsExprs, SpellsOthers, SpellsField, SpellsFields, SpellsConstant, SpellsPosition, SpellsPositions, SpellsEntry, SpellsVariable, SpellsProposal, SpellsStmt, SpellsStmts, SpellsMore, SpellsAfter, SpellsArms, SpellsTransition, SpellsAutomaton, SpellsArguments, SpellsCrash, SpellsInstance, SpellsInstances, SpellsHidden, SpellsComposition, SpellsForm, SpellsType, SpellsInvariant, SpellsDeclaration}
 use Rattle.ioa_syntax.specs.Source.{AreTokens, IsSource}
-use Rattle.ioa_syntax.specs.Compositions.{automata, compositions, first_item, picked, automaton_named}
-use Rattle.ioa_syntax.specs.Names.{names_of_expr, names_of_exprs, names_of_option, names_of_field, names_of_constant, names_of_position, names_of_entry, names_of_variable, names_of_proposal, names_of_stmt, names_of_stmts, names_of_arms, names_of_transition, names_of_automaton, names_of_instance, names_of_composition, names_of_form, names_of_type, names_of_declaration, LegalNames}
+use Rattle.ioa_syntax.specs.Compositions.{automata, compositions, invariants, first_item, picked, automaton_named}
+use Rattle.ioa_syntax.specs.Names.{names_of_expr, names_of_exprs, names_of_option, names_of_field, names_of_constant, names_of_position, names_of_entry, names_of_variable, names_of_proposal, names_of_stmt, names_of_stmts, names_of_arms, names_of_transition, names_of_automaton, names_of_crash, names_of_instance, names_of_composition, names_of_form, names_of_type, names_of_invariant, names_of_declaration, LegalNames}
 
 abbrev AreNames : List Name → Type 0
 AreNames ns = All IsName ns
@@ -144,8 +144,11 @@ entry_lawful e =
 
 variable_lawful : (v : VariableTree) → Lawful (SpellsVariable v) (names_of_variable v)
 variable_lawful v =
-    then_lawful (SpellsField v.field) (optional terminals.Becomes (SpellsExpr 0) v.start) (names_of_field v.field) (names_of_option v.start)
-    (field_lawful v.field) (optional_lawful terminals.Becomes (SpellsExpr 0) v.start (expr_lawful 0))
+    let start = optional terminals.Becomes (SpellsExpr 0) v.start in
+    let flag = flagged terminals.Stable v.stable in
+    then_lawful flag (SpellsField v.field ▹ start) [] (names_of_field v.field ++ names_of_option v.start) (none_lawful flag)
+    (then_lawful (SpellsField v.field) start (names_of_field v.field) (names_of_option v.start)
+    (field_lawful v.field) (optional_lawful terminals.Becomes (SpellsExpr 0) v.start (expr_lawful 0)))
 
 bound_lawful : (x : Name) (e : Expr) → Lawful (called x ▹ (word terminals.Becomes ▹ SpellsExpr 0 e)) (x ∷ names_of_expr e)
 bound_lawful x e =
@@ -228,13 +231,23 @@ automaton_lawful a =
     (optional_list_lawful names_of_variable terminals.States (terminated terminals.Semicolon SpellsVariable) a.variables (terminated_lawful names_of_variable SpellsVariable variable_lawful terminals.Semicolon))
     (after_word terminals.Transitions (many SpellsTransition a.transitions) of_transitions (many_lawful names_of_transition SpellsTransition transition_lawful a.transitions))))))
 
+crash_lawful : (o : Option CrashTree) → Lawful (optional terminals.Crash SpellsCrash o) (names_of_crash o)
+crash_lawful None = none_lawful (optional terminals.Crash SpellsCrash None)
+crash_lawful (Some c) =
+    after_word terminals.Crash (SpellsCrash c) (c.crash ∷ c.recover ∷ [])
+    (name_then c.crash (word terminals.Recover ▹ called c.recover) (c.recover ∷ []) (after_word terminals.Recover (called c.recover) (c.recover ∷ []) (called_lawful c.recover)))
+
 instance_lawful : (i : InstanceTree) → Lawful (SpellsInstance i) (names_of_instance i)
 instance_lawful i =
     let arguments = optional_list terminals.Open SpellsArguments i.arguments in
-    name_then i.name (word terminals.Colon ▹ (called i.automaton ▹ arguments)) (i.automaton ∷ flat_map names_of_expr i.arguments)
-    (after_word terminals.Colon (called i.automaton ▹ arguments) (i.automaton ∷ flat_map names_of_expr i.arguments)
-    (name_then i.automaton arguments (flat_map names_of_expr i.arguments)
-    (optional_list_lawful names_of_expr terminals.Open SpellsArguments i.arguments (closed_lawful names_of_expr (SpellsExpr 0) (expr_lawful 0)))))
+    let crash = optional terminals.Crash SpellsCrash i.crash in
+    let inner = flat_map names_of_expr i.arguments ++ names_of_crash i.crash in
+    name_then i.name (word terminals.Colon ▹ (called i.automaton ▹ (arguments ▹ crash))) (i.automaton ∷ inner)
+    (after_word terminals.Colon (called i.automaton ▹ (arguments ▹ crash)) (i.automaton ∷ inner)
+    (name_then i.automaton (arguments ▹ crash) inner
+    (then_lawful arguments crash (flat_map names_of_expr i.arguments) (names_of_crash i.crash)
+    (optional_list_lawful names_of_expr terminals.Open SpellsArguments i.arguments (closed_lawful names_of_expr (SpellsExpr 0) (expr_lawful 0)))
+    (crash_lawful i.crash))))
 
 names_alone : (ns : List Name) → flat_map (λ n. n ∷ []) ns ≡ ns
 names_alone [] = refl
@@ -272,10 +285,19 @@ form_lawful (sequence most item) ts h s =
 type_lawful : (t : TypeTree) → Lawful (SpellsType t) (names_of_type t)
 type_lawful t = name_then t.name (word terminals.Equal ▹ SpellsForm t.form) (names_of_form t.form) (after_word terminals.Equal (SpellsForm t.form) (names_of_form t.form) (form_lawful t.form))
 
+invariant_lawful : (i : InvariantTree) → Lawful (SpellsInvariant i) (names_of_invariant i)
+invariant_lawful i =
+    let condition = SpellsExpr 0 i.condition ▹ perhaps terminals.Semicolon in
+    after_word terminals.Of (called i.automaton ▹ (word terminals.Colon ▹ condition)) (names_of_invariant i)
+    (name_then i.automaton (word terminals.Colon ▹ condition) (names_of_expr i.condition)
+    (after_word terminals.Colon condition (names_of_expr i.condition)
+    (before_lawful (SpellsExpr 0 i.condition) (perhaps terminals.Semicolon) (names_of_expr i.condition) (expr_lawful 0 i.condition))))
+
 declaration_lawful : (d : DeclarationTree) → Lawful (SpellsDeclaration d) (names_of_declaration d)
 declaration_lawful (declared_type t) = after_word terminals.Type (SpellsType t) (names_of_type t) (type_lawful t)
 declaration_lawful (automaton a) = after_word terminals.Automaton (SpellsAutomaton a) (names_of_automaton a) (automaton_lawful a)
 declaration_lawful (composition c) = after_word terminals.Composition (SpellsComposition c) (names_of_composition c) (composition_lawful c)
+declaration_lawful (invariant i) = after_word terminals.Invariant (SpellsInvariant i) (names_of_invariant i) (invariant_lawful i)
 
 -- a source has legal names alone
 pub source_legal : (s : SourceTree) → IsSource s → LegalNames s
@@ -318,6 +340,7 @@ legal_automata (automaton a ∷ ds) h =
     let D : DeclarationTree → Type 0 = λ d. AreNames (names_of_declaration d) in
     All-cons (λ a. AreNames (names_of_automaton a)) a (automata ds) (All-head D (automaton a) ds h) (legal_automata ds (All-tail D (automaton a) ds h))
 legal_automata (composition c ∷ ds) h = legal_automata ds (All-tail (λ d. AreNames (names_of_declaration d)) (composition c) ds h)
+legal_automata (invariant i ∷ ds) h = legal_automata ds (All-tail (λ d. AreNames (names_of_declaration d)) (invariant i) ds h)
 
 legal_compositions : (s : SourceTree) → All (λ d. AreNames (names_of_declaration d)) s → All (λ c. AreNames (names_of_composition c)) (compositions s)
 legal_compositions [] h = All-nil (λ c. AreNames (names_of_composition c))
@@ -326,6 +349,20 @@ legal_compositions (automaton a ∷ ds) h = legal_compositions ds (All-tail (λ 
 legal_compositions (composition c ∷ ds) h =
     let D : DeclarationTree → Type 0 = λ d. AreNames (names_of_declaration d) in
     All-cons (λ c. AreNames (names_of_composition c)) c (compositions ds) (All-head D (composition c) ds h) (legal_compositions ds (All-tail D (composition c) ds h))
+legal_compositions (invariant i ∷ ds) h = legal_compositions ds (All-tail (λ d. AreNames (names_of_declaration d)) (invariant i) ds h)
+
+-- the names of the invariants of declarations with legal names
+each_legal_invariant : (s : SourceTree) → All (λ d. AreNames (names_of_declaration d)) s → All (λ i. AreNames (names_of_invariant i)) (invariants s)
+each_legal_invariant [] h = All-nil (λ i. AreNames (names_of_invariant i))
+each_legal_invariant (declared_type t ∷ ds) h = each_legal_invariant ds (All-tail (λ d. AreNames (names_of_declaration d)) (declared_type t) ds h)
+each_legal_invariant (automaton a ∷ ds) h = each_legal_invariant ds (All-tail (λ d. AreNames (names_of_declaration d)) (automaton a) ds h)
+each_legal_invariant (composition c ∷ ds) h = each_legal_invariant ds (All-tail (λ d. AreNames (names_of_declaration d)) (composition c) ds h)
+each_legal_invariant (invariant i ∷ ds) h =
+    let D : DeclarationTree → Type 0 = λ d. AreNames (names_of_declaration d) in
+    All-cons (λ i. AreNames (names_of_invariant i)) i (invariants ds) (All-head D (invariant i) ds h) (each_legal_invariant ds (All-tail D (invariant i) ds h))
+
+pub legal_invariants : (s : SourceTree) → LegalNames s → All (λ i. All IsName (names_of_invariant i)) (invariants s)
+legal_invariants s h = each_legal_invariant s (all_each IsName names_of_declaration s h)
 
 pub legal_automaton : (s : SourceTree) (x : Name) (a : AutomatonTree) → LegalNames s → automaton_named s x ≡ Some a → All IsName (names_of_automaton a)
 legal_automaton s x a h e =
@@ -361,7 +398,16 @@ pub legal_instances : (c : CompositionTree) → All IsName (names_of_composition
 legal_instances c h =
     let of_instances = flat_map names_of_instance c.instances in
     let inside = all_left IsName of_instances c.hidden (All-tail IsName c.name (of_instances ++ c.hidden) h) in
-    All-weaker (λ (i : InstanceTree). AreNames (names_of_instance i)) (λ i. IsName i.name) (λ i k. All-head IsName i.name (i.automaton ∷ flat_map names_of_expr i.arguments) k) c.instances
+    All-weaker (λ (i : InstanceTree). AreNames (names_of_instance i)) (λ i. IsName i.name) (λ i k. All-head IsName i.name (i.automaton ∷ (flat_map names_of_expr i.arguments ++ names_of_crash i.crash)) k) c.instances
+    (all_each IsName names_of_instance c.instances inside)
+
+-- the names by which they crash and recover
+pub legal_crashes : (c : CompositionTree) → All IsName (names_of_composition c) → All (λ i. All IsName (names_of_crash i.crash)) c.instances
+legal_crashes c h =
+    let of_instances = flat_map names_of_instance c.instances in
+    let inside = all_left IsName of_instances c.hidden (All-tail IsName c.name (of_instances ++ c.hidden) h) in
+    All-weaker (λ (i : InstanceTree). AreNames (names_of_instance i)) (λ i. All IsName (names_of_crash i.crash))
+    (λ i k. all_right IsName (i.name ∷ i.automaton ∷ flat_map names_of_expr i.arguments) (names_of_crash i.crash) k) c.instances
     (all_each IsName names_of_instance c.instances inside)
 
 -- the names that a composition hides

@@ -21,7 +21,7 @@ node positions = record {
   name = codes "Node";
   formals = of_type (codes "i") (codes "Int") ∷ [];
   entries = entry positions ∷ [];
-  variables = record { field = of_type (codes "x") (codes "Int"); start = None } ∷ [];
+  variables = record { stable = false; field = of_type (codes "x") (codes "Int"); start = None } ∷ [];
   transitions = record { kind = Input; name = codes "put"; pre = None; proposals = []; effect = seq (assign (codes "x") (named (codes "m"))) stop } ∷ [];
 }
 

@@ -7,14 +7,14 @@ use Rattle.ioa_lex.specs.Tokens.{Tok, terminal}
 use Rattle.ioa_lex.specs.Lexing.{Lexes, is_blank}
 use Rattle.ioa_lex.specs.Spaced.{Spaced, IsToken, text_of}
 use Rattle.ioa_lex.proofs.SpacedLemmas.{spaced_lexes, spaced_append, spaced_one}
-use Rattle.ioa_syntax.specs.Tree.{Expr, number, truth, named, parens, prefix, binary, empty, make, select, Exprs, no_expr, also, FieldTree, ConstantTree, positive, negative, truth_literal, reference, PositionTree, typed, only, EntryTree, VariableTree, ProposalTree, Stmt, assign, choose, Stmts, stop, seq, Arms, no_arm, arm, TransitionTree, AutomatonTree, InstanceTree, CompositionTree, FormTree, enumeration, tuple, sequence, TypeTree, DeclarationTree, declared_type, automaton, composition, SourceTree}
+use Rattle.ioa_syntax.specs.Tree.{Expr, number, truth, named, parens, prefix, binary, empty, make, select, Exprs, no_expr, also, FieldTree, ConstantTree, positive, negative, truth_literal, reference, PositionTree, typed, only, EntryTree, VariableTree, ProposalTree, Stmt, assign, choose, Stmts, stop, seq, Arms, no_arm, arm, TransitionTree, AutomatonTree, CrashTree, InstanceTree, CompositionTree, InvariantTree, FormTree, enumeration, tuple, sequence, TypeTree, DeclarationTree, declared_type, automaton, composition, invariant, SourceTree}
 use Rattle.ioa_value.specs.declared.operator.Op.{Op}
 use Rattle.ioa_syntax.specs.declared.tree.Infix.{Infix}
 use Rattle.ioa_syntax.specs.declared.tree.Infix.TheVariants.{Operator}
 use Rattle.ioa_syntax.specs.Operators.{operator_word, left_of, right_of, tightest}
-use Rattle.ioa_syntax.specs.Grammar.{Language, ◌▹◌, single, word, called, nothing, optional, optional_list, each_after, perhaps, separated, terminated, many, enclosed, braced, kind_word, SpellsExpr, SpellsExprs, SpellsOthers, SpellsField, SpellsFields, SpellsConstant, SpellsPosition, SpellsPositions, SpellsEntry, SpellsVariable, SpellsProposal, SpellsStmt, SpellsStmts, SpellsMore, SpellsAfter, SpellsArms, SpellsTransition, SpellsAutomaton, SpellsArguments, SpellsInstance, SpellsInstances, SpellsHidden, SpellsComposition, SpellsForm, SpellsType, SpellsDeclaration, SpellsSource}
+use Rattle.ioa_syntax.specs.Grammar.{Language, ◌▹◌, single, word, called, nothing, optional, optional_list, flagged, each_after, perhaps, separated, terminated, many, enclosed, braced, kind_word, SpellsExpr, SpellsExprs, SpellsOthers, SpellsField, SpellsFields, SpellsConstant, SpellsPosition, SpellsPositions, SpellsEntry, SpellsVariable, SpellsProposal, SpellsStmt, SpellsStmts, SpellsMore, SpellsAfter, SpellsArms, SpellsTransition, SpellsAutomaton, SpellsArguments, SpellsCrash, SpellsInstance, SpellsInstances, SpellsHidden, SpellsComposition, SpellsForm, SpellsType, SpellsInvariant, SpellsDeclaration, SpellsSource}
 use Rattle.ioa_syntax.specs.Source.{AreTokens, IsSource, plain}
-use Rattle.ioa_syntax.specs.Layout.{space, line, text_word, text_name, text_more, text_list, text_all, text_optional_list, text_parens, before_list, before_option, text_number, text_enclosed, text_expr, text_exprs, text_others, text_option, text_field, text_constant, text_position, text_entry, text_variable, text_binding, text_proposal, text_stmt, text_stmts, text_more_stmts, text_after, text_arms, text_transition, text_behaviour, text_automaton, text_instance, text_hidden, text_composition, text_braces, text_form, text_type, text_declaration, text_source}
+use Rattle.ioa_syntax.specs.Layout.{space, line, text_word, text_name, text_more, text_list, text_all, text_optional_list, text_parens, before_list, before_option, text_flag, text_number, text_enclosed, text_expr, text_exprs, text_others, text_option, text_field, text_constant, text_position, text_entry, text_variable, text_binding, text_proposal, text_stmt, text_stmts, text_more_stmts, text_after, text_arms, text_transition, text_behaviour, text_automaton, text_crash, text_instance, text_hidden, text_composition, text_braces, text_form, text_type, text_invariant, text_declaration, text_source}
 use Rattle.ioa_syntax.proofs.LegalNames.{tokens_apart}
 use Rattle.ioa_syntax.proofs.Binding.{before_encloses, between_encloses, around_stands}
 
@@ -44,6 +44,10 @@ name_reprints n b blank = single_reprints (tokens.name n) b blank
 
 nothing_reprints : Reprints nothing []
 nothing_reprints ts s are = ([], refl, refl)
+
+flag_reprints : (t : Terminal) (v : Bool) → Reprints (flagged t v) (text_flag t v)
+flag_reprints t true = word_reprints t space refl
+flag_reprints t false = nothing_reprints
 
 -- what may end with a word is written without it
 unended_reprints : (t : Terminal) (L : Language) (a : List ℕ) → Reprints L a → Reprints (L ▹ perhaps t) a
@@ -209,8 +213,13 @@ entry_reprints e =
 
 variable_reprints : (v : VariableTree) → Reprints (SpellsVariable v) (text_variable v)
 variable_reprints v =
-    then_reprints (SpellsField v.field) (optional terminals.Becomes (SpellsExpr 0) v.start) (text_field (before_option v.start) v.field) (text_option (text_word space terminals.Becomes) v.start)
-    (field_reprints (before_option v.start) (option_blank v.start) v.field) (option_reprints terminals.Becomes v.start)
+    let start = optional terminals.Becomes (SpellsExpr 0) v.start in
+    let field_text = text_field (before_option v.start) v.field in
+    let start_text = text_option (text_word space terminals.Becomes) v.start in
+    let field_printed = field_reprints (before_option v.start) (option_blank v.start) v.field in
+    then_reprints (flagged terminals.Stable v.stable) (SpellsField v.field ▹ start) (text_flag terminals.Stable v.stable) (field_text ++ start_text)
+    (flag_reprints terminals.Stable v.stable)
+    (then_reprints (SpellsField v.field) start field_text start_text field_printed (option_reprints terminals.Becomes v.start))
 
 binding_reprints : (n : List ℕ) (e : Expr) → Reprints (called n ▹ (word terminals.Becomes ▹ SpellsExpr 0 e)) (text_binding n e)
 binding_reprints n e =
@@ -316,13 +325,36 @@ automaton_reprints a =
     regroup : (v w x y z : List ℕ) → (v ++ (w ++ (x ++ y))) ++ z ≡ v ++ (w ++ (x ++ (y ++ z)))
     regroup v w x y z = simp append_assoc
 
--- ---- compositions and sources
+-- ---- compositions, invariants and sources
+
+crash_reprints : (c : Option CrashTree) → Reprints (optional terminals.Crash SpellsCrash c) (text_crash c)
+crash_reprints None = nothing_reprints
+crash_reprints (Some c) =
+    let word_text = text_word space terminals.Recover in
+    let crash_text = text_name space c.crash in
+    let recover_text = text_name line c.recover in
+    then_reprints (word terminals.Crash) (SpellsCrash c) (text_word space terminals.Crash) (crash_text ++ (word_text ++ recover_text))
+    (word_reprints terminals.Crash space space_blank)
+    (then_reprints (called c.crash) (word terminals.Recover ▹ called c.recover) crash_text (word_text ++ recover_text) (name_reprints c.crash space space_blank)
+    (then_reprints (word terminals.Recover) (called c.recover) word_text recover_text (word_reprints terminals.Recover space space_blank)
+    (name_reprints c.recover line line_blank)))
 
 instance_reprints : (i : InstanceTree) → Reprints (SpellsInstance i) (text_instance i)
 instance_reprints i =
-    let last = then_reprints (called i.automaton) (optional_list terminals.Open SpellsArguments i.arguments) (text_name (before_list i.arguments) i.automaton) (text_parens (text_expr space) i.arguments) (name_reprints i.automaton (before_list i.arguments) (list_blank i.arguments)) (parens_reprints (SpellsExpr 0) (text_expr space) (λ e. expr_reprints e 0 space space_blank) i.arguments) in
-    let colon = then_reprints (word terminals.Colon) (called i.automaton ▹ optional_list terminals.Open SpellsArguments i.arguments) (text_word space terminals.Colon) (text_name (before_list i.arguments) i.automaton ++ text_parens (text_expr space) i.arguments) (word_reprints terminals.Colon space space_blank) last in
-    then_reprints (called i.name) (word terminals.Colon ▹ (called i.automaton ▹ optional_list terminals.Open SpellsArguments i.arguments)) (text_name space i.name) (text_word space terminals.Colon ++ (text_name (before_list i.arguments) i.automaton ++ text_parens (text_expr space) i.arguments)) (name_reprints i.name space space_blank) colon
+    let arguments = optional_list terminals.Open SpellsArguments i.arguments in
+    let crash = optional terminals.Crash SpellsCrash i.crash in
+    let automaton_text = text_name (before_list i.arguments) i.automaton in
+    let arguments_text = text_parens (text_expr space) i.arguments in
+    let crash_text = text_crash i.crash in
+    let text = automaton_text ++ (arguments_text ++ crash_text) in
+    then_reprints (called i.name) (word terminals.Colon ▹ (called i.automaton ▹ (arguments ▹ crash))) (text_name space i.name) (text_word space terminals.Colon ++ text)
+    (name_reprints i.name space space_blank)
+    (then_reprints (word terminals.Colon) (called i.automaton ▹ (arguments ▹ crash)) (text_word space terminals.Colon) text
+    (word_reprints terminals.Colon space space_blank)
+    (then_reprints (called i.automaton) (arguments ▹ crash) automaton_text (arguments_text ++ crash_text)
+    (name_reprints i.automaton (before_list i.arguments) (list_blank i.arguments))
+    (then_reprints arguments crash arguments_text crash_text
+    (parens_reprints (SpellsExpr 0) (text_expr space) (λ e. expr_reprints e 0 space space_blank) i.arguments) (crash_reprints i.crash))))
 
 hidden_reprints : (ns : List (List ℕ)) → Reprints (optional_list terminals.Hidden SpellsHidden ns) (text_hidden ns)
 hidden_reprints ns =
@@ -359,10 +391,24 @@ type_reprints t =
     then_reprints (called t.name) (word terminals.Equal ▹ SpellsForm t.form) (text_name space t.name) (text_word space terminals.Equal ++ text_form t.form) (name_reprints t.name space space_blank)
     (then_reprints (word terminals.Equal) (SpellsForm t.form) (text_word space terminals.Equal) (text_form t.form) (word_reprints terminals.Equal space space_blank) (form_reprints t.form))
 
+invariant_reprints : (i : InvariantTree) → Reprints (SpellsInvariant i) (text_invariant i)
+invariant_reprints i =
+    let ended = SpellsExpr 0 i.condition ▹ perhaps terminals.Semicolon in
+    let condition = text_expr line i.condition in
+    then_reprints (word terminals.Of) (called i.automaton ▹ (word terminals.Colon ▹ ended)) (text_word space terminals.Of)
+    (text_name space i.automaton ++ (text_word space terminals.Colon ++ condition)) (word_reprints terminals.Of space space_blank)
+    (then_reprints (called i.automaton) (word terminals.Colon ▹ ended) (text_name space i.automaton) (text_word space terminals.Colon ++ condition)
+    (name_reprints i.automaton space space_blank)
+    (then_reprints (word terminals.Colon) ended (text_word space terminals.Colon) condition (word_reprints terminals.Colon space space_blank)
+    (unended_reprints terminals.Semicolon (SpellsExpr 0 i.condition) condition (expr_reprints i.condition 0 line line_blank))))
+
 declaration_reprints : (d : DeclarationTree) → Reprints (SpellsDeclaration d) (text_declaration d)
 declaration_reprints (declared_type t) = then_reprints (word terminals.Type) (SpellsType t) (text_word space terminals.Type) (text_type t) (word_reprints terminals.Type space space_blank) (type_reprints t)
 declaration_reprints (automaton a) = then_reprints (word terminals.Automaton) (SpellsAutomaton a) (text_word space terminals.Automaton) (text_automaton a) (word_reprints terminals.Automaton space space_blank) (automaton_reprints a)
 declaration_reprints (composition c) = then_reprints (word terminals.Composition) (SpellsComposition c) (text_word space terminals.Composition) (text_composition c) (word_reprints terminals.Composition space space_blank) (composition_reprints c)
+declaration_reprints (invariant i) =
+    then_reprints (word terminals.Invariant) (SpellsInvariant i) (text_word space terminals.Invariant) (text_invariant i)
+    (word_reprints terminals.Invariant space space_blank) (invariant_reprints i)
 
 pub source_printed : (t : SourceTree) → IsSource t → (ts : List (Tok × ℕ)) × Lexes (text_source t) ts × SpellsSource t (plain ts)
 source_printed t source =

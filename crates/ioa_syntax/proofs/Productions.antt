@@ -1,5 +1,5 @@
 -- Each reader of a production against its language.
-use Rattle.std.proofs.Common.{◌≡◌, ℕ, ◌<◌, max, ◌⊎◌, inl, inr, Bool, true, false, List, [], ◌∷◌, ◌++◌, length, refl, sym, ap, ◌∙◌, subst, arith, Option, Some, None, length-append, append_assoc, is_some}
+use Rattle.std.proofs.Common.{◌≡◌, ℕ, ◌<◌, max, ◌||◌, ◌⊎◌, inl, inr, Bool, true, false, List, [], ◌∷◌, ◌++◌, length, refl, sym, ap, ◌∙◌, subst, arith, Option, Some, None, length-append, append_assoc, is_some}
 use Rattle.ioa_value.specs.declared.terminal.Terminal.{Terminal}
 use Rattle.ioa_value.specs.declared.terminal.Terminal.TheVariants as terminals
 use Rattle.ioa_lex.specs.Tokens as tokens
@@ -7,18 +7,19 @@ use Rattle.ioa_lex.specs.Tokens.{Tok, terminal}
 use Rattle.ioa_value.specs.Actions.{Name}
 use Rattle.ioa_syntax.specs.declared.tree.Kind.{Kind}
 use Rattle.ioa_syntax.specs.declared.tree.Kind.TheVariants.{Input, Output, Internal}
-use Rattle.ioa_syntax.specs.Tree.{Expr, FieldTree, ConstantTree, positive, negative, truth_literal, reference, PositionTree, typed, only, EntryTree, VariableTree, ProposalTree, Stmts, TransitionTree, AutomatonTree, InstanceTree, CompositionTree, FormTree, enumeration, tuple, sequence, TypeTree, DeclarationTree, declared_type, automaton, composition}
+use Rattle.ioa_syntax.specs.Tree.{Expr, FieldTree, ConstantTree, positive, negative, truth_literal, reference, PositionTree, typed, only, EntryTree, VariableTree, ProposalTree, Stmts, TransitionTree, AutomatonTree, CrashTree, InstanceTree, CompositionTree, InvariantTree, FormTree, enumeration, tuple, sequence, TypeTree, DeclarationTree, declared_type, automaton, composition, invariant}
 use Rattle.ioa_syntax.specs.Depth.{depth_of, deepest, deep_option, deep_variable, deep_proposal, deep_stmts, stmts_depth, deep_transition, deep_automaton, deep_instance, deep_composition, deep}
 use Rattle.ioa_syntax.specs.Grammar as grammar
-use Rattle.ioa_syntax.specs.Grammar.{Language, ◌▹◌, single, word, called, empty, kind_word, SpellsExpr, SpellsField, SpellsFields, SpellsConstant, SpellsPosition, SpellsPositions, SpellsEntry, SpellsVariable, SpellsProposal, SpellsAfter, SpellsTransition, SpellsAutomaton, SpellsArguments, SpellsInstance, SpellsInstances, SpellsHidden, SpellsComposition, SpellsForm, SpellsType, SpellsDeclaration}
-use Rattle.ioa_syntax.specs.Reading.{built, taken, sees, sees_name, sees_statement, sees_kind, kind_at, kind_of, terminal_at, same_terminal, is_name, operator_of, field, fields, literal_of, literal_in, literal_at, literal, a_constant, position, positions, entry, entries, variable, variables, proposal, proposals, optional_list, introduced, statements, transition, transitions, an_automaton, arguments, instance, instances, hidden_names, a_composition, rest, many, an_enumeration, a_tuple, a_sequence, sequence_form, compound_form, type_form, a_type, composed, machine, declaration}
+use Rattle.ioa_syntax.specs.Grammar.{Language, ◌▹◌, single, word, called, empty, kind_word, SpellsExpr, SpellsField, SpellsFields, SpellsConstant, SpellsPosition, SpellsPositions, SpellsEntry, SpellsVariable, SpellsProposal, SpellsAfter, SpellsTransition, SpellsAutomaton, SpellsArguments, SpellsCrash, SpellsInstance, SpellsInstances, SpellsHidden, SpellsComposition, SpellsForm, SpellsType, SpellsInvariant, SpellsDeclaration}
+use Rattle.ioa_syntax.specs.Reading as reading
+use Rattle.ioa_syntax.specs.Reading.{built, taken, sees, sees_name, is_terminal, sees_statement, sees_kind, kind_at, kind_of, terminal_at, same_terminal, is_name, operator_of, field, fields, literal_of, literal_in, literal_at, literal, a_constant, position, positions, entry, entries, flag, variable, sees_variable, variables, proposal, proposals, optional_list, introduced, statements, transition, transitions, an_automaton, arguments, a_crash, instance, instances, hidden_names, a_composition, rest, many, an_enumeration, a_tuple, a_sequence, sequence_form, compound_form, type_form, a_type, composed, an_invariant, machine, about_machines, declaration}
 use Rattle.ioa_syntax.proofs.Outcomes.{LooksAhead, head_alike}
 use Rattle.ioa_syntax.proofs.Exact.{Exact, any, flat, deep_as, before, then, built_as, said_as}
-use Rattle.ioa_syntax.proofs.Singles.{sign_exact, name_exact, number_exact, kind_exact, kind_is, kind_alike, either_exact, token_of, perhaps_exact}
-use Rattle.ioa_syntax.proofs.Absent.{into_exact, Image, image_exact, deep_some, optional_exact, optional_list_exact}
+use Rattle.ioa_syntax.proofs.Singles.{sign_exact, name_exact, number_exact, kind_exact, kind_is, kind_alike, either_exact, token_of, perhaps_exact, flag_exact}
+use Rattle.ioa_syntax.proofs.Absent.{into_exact, Image, image_exact, deep_some, deep_some_flat, optional_exact, optional_list_exact}
 use Rattle.ioa_syntax.proofs.Lists.{terminated_exact, separated_exact, many_exact}
-use Rattle.ioa_syntax.proofs.FirstTokens.{first_some, first_of_all, leads, by_list, by_two}
-use Rattle.ioa_syntax.proofs.ChoiceLemmas.{by_after}
+use Rattle.ioa_syntax.proofs.FirstTokens.{first_some, leads, by_list, by_option, by_flag, by_two}
+use Rattle.ioa_syntax.proofs.ChoiceLemmas.{by_after, ends_semicolon}
 use Rattle.ioa_syntax.proofs.Levels.{after_word_exact}
 use Rattle.ioa_syntax.proofs.Enclosed.{closing_exact, braced_exact}
 use Rattle.ioa_syntax.proofs.Endings.{Ends, ends_close, ends_comma, comma_close}
@@ -40,6 +41,13 @@ field_exact =
 
 field_some : (f : FieldTree) (ts : List Tok) → SpellsField f ts → 0 < length ts
 field_some f ts s = first_some (tokens.name f.name) (word terminals.Colon ▹ called f.ty) ts s
+
+-- what holds of each text that begins with the field's name
+field_leads : (F : Language) (f : FieldTree) (M : Language) (ts left : List Tok) → ((z : List Tok) → F (tokens.name f.name ∷ z)) →
+    (SpellsField f ▹ M) ts → F (ts ++ left)
+field_leads F f M ts left h s =
+    subst F (sym (ap (λ z. z ++ left) s.4 ∙ append_assoc s.0 s.1 left))
+    (leads F (tokens.name f.name) (word terminals.Colon ▹ called f.ty) s.0 (s.1 ++ left) h s.2)
 
 pub fields_exact : Exact SpellsFields flat any (λ b. fields)
 unfolding fields
@@ -211,15 +219,21 @@ deep_some_is (Some e) = refl
 abbrev AfterVariable : Language
 AfterVariable left = Ends 0 left × (sees terminals.Becomes left ≡ false)
 
+stable_name : (n : Name) (z : List Tok) → sees terminals.Stable (tokens.name n ∷ z) ≡ false
+unfolding sees
+stable_name n z = refl
+
 pub variable_exact : Exact SpellsVariable deep_variable AfterVariable variable
 unfolding variable
 variable_exact =
     deep_as deep_variable (λ v. omega (arith, deep_some_is v.start))
-    (built_as (λ p. record { field = p.0; start = p.1 }) (λ v. (v.field, v.start)) (λ v. refl) (λ p. refl)
-    (then field_exact (optional_exact terminals.Becomes expression_exact) (λ y ts left s g. tt)))
+    (built_as (λ p. record { stable = p.0; field = p.1.0; start = p.1.1 }) (λ v. (v.stable, (v.field, v.start))) (λ v. refl) (λ p. refl)
+    (then (flag_exact terminals.Stable) (then field_exact (optional_exact terminals.Becomes expression_exact) (λ y ts left s g. tt))
+    (λ y ts left s g.
+    field_leads (λ z. sees terminals.Stable z ≡ false) y.0 (grammar.optional terminals.Becomes (SpellsExpr 0) y.1) ts left (stable_name y.0.name) s)))
 
 variable_some : (v : VariableTree) (ts : List Tok) → SpellsVariable v ts → 0 < length ts
-variable_some v ts s = omega (arith, ap length s.4, length-append s.0 s.1, field_some v.field s.0 s.2)
+variable_some v ts s = omega (arith, ap length s.4, length-append s.0 s.1, ap length s.3.4, length-append s.3.0 s.3.1, field_some v.field s.3.0 s.3.2)
 
 pub sees_name_alike : LooksAhead sees_name
 unfolding sees_name
@@ -229,21 +243,34 @@ sees_name_called : (n : Name) (z : List Tok) → sees_name (tokens.name n ∷ z)
 unfolding sees_name
 sees_name_called n z = refl
 
-variable_begins : (v : VariableTree) (ts left : List Tok) → SpellsVariable v ts → sees_name (ts ++ left) ≡ true
+sees_variable_alike : LooksAhead sees_variable
+unfolding sees_variable sees_name sees
+sees_variable_alike = head_alike sees_variable false (λ x. is_name x || is_terminal terminals.Stable x) refl (λ x ts. refl)
+
+sees_variable_called : (n : Name) (z : List Tok) → sees_variable (tokens.name n ∷ z) ≡ true
+unfolding sees_variable sees_name
+sees_variable_called n z = refl
+
+sees_variable_stable : (z : List Tok) → sees_variable (terminal terminals.Stable ∷ z) ≡ true
+unfolding sees_variable sees_name sees same_terminal
+sees_variable_stable z = refl
+
+variable_begins : (v : VariableTree) (ts left : List Tok) → SpellsVariable v ts → sees_variable (ts ++ left) ≡ true
 variable_begins v ts left s =
-    let f = first_of_all (tokens.name v.field.name) (word terminals.Colon ▹ called v.field.ty) s.0 (s.1 ++ left) s.2 in
-    ap sees_name (ap (λ z. z ++ left) s.4 ∙ append_assoc s.0 s.1 left ∙ f.1) ∙ sees_name_called v.field.name f.0
+    let start = grammar.optional terminals.Becomes (SpellsExpr 0) v.start in
+    by_flag (λ z. sees_variable z ≡ true) terminals.Stable v.stable (SpellsField v.field ▹ start) ts left sees_variable_stable
+    (λ m t. field_leads (λ z. sees_variable z ≡ true) v.field start m left (sees_variable_called v.field.name) t) s
 
 after_semicolon : (z : List Tok) → AfterVariable (terminal terminals.Semicolon ∷ z)
 unfolding sees same_terminal terminal_at operator_of
 after_semicolon z = ((tt, refl, refl), refl)
 
 abbrev AfterVariables : Language
-AfterVariables left = AfterVariable left × (sees terminals.Semicolon left ≡ false) × (sees_name left ≡ false)
+AfterVariables left = AfterVariable left × (sees terminals.Semicolon left ≡ false) × (sees_variable left ≡ false)
 
 pub variables_exact : Exact (grammar.terminated terminals.Semicolon SpellsVariable) (deepest deep_variable) AfterVariables variables
 unfolding variables
-variables_exact = terminated_exact sees_name sees_name_alike terminals.Semicolon variable_exact variable_some after_semicolon variable_begins
+variables_exact = terminated_exact sees_variable sees_variable_alike terminals.Semicolon variable_exact variable_some after_semicolon variable_begins
 
 -- ---- transitions
 
@@ -352,7 +379,7 @@ abbrev BeforeStates : Language
 BeforeStates left = AfterVariables left × (sees terminals.States left ≡ false)
 
 at_transitions : (z : List Tok) → BeforeStates (terminal terminals.Transitions ∷ z)
-unfolding sees same_terminal terminal_at operator_of sees_name
+unfolding sees same_terminal terminal_at operator_of sees_variable sees_name
 at_transitions z = ((((tt, refl, refl), refl), refl, refl), refl)
 
 entries_transitions : (z : List Tok) → AfterEntries (terminal terminals.Transitions ∷ z)
@@ -401,25 +428,60 @@ pub arguments_exact : Exact SpellsArguments (deepest depth_of) any arguments
 unfolding arguments
 arguments_exact = closing_exact (separated_exact terminals.Comma expression_exact expression_some (ends_comma 0)) (λ z. (ends_close 0 z, comma_close z))
 
-pub instance_exact : Exact SpellsInstance deep_instance AfterEntry instance
+crash_exact : Exact SpellsCrash flat any (λ b. a_crash)
+unfolding a_crash
+crash_exact =
+    deep_as flat (λ c. omega arith)
+    (built_as (λ p. record { crash = p.0; recover = p.1.1 }) (λ c. (c.crash, (tt, c.recover))) (λ c. refl) (λ p. refl)
+    (then name_exact (then (sign_exact terminals.Recover) name_exact (λ y ts left s g. tt)) (λ y ts left s g. tt)))
+
+abbrev pub AfterInstance : Language
+AfterInstance left = AfterEntry left × (sees terminals.Crash left ≡ false)
+
+open_crash : (z : List Tok) → AfterEntry (terminal terminals.Crash ∷ z)
+unfolding sees same_terminal
+open_crash z = (tt, refl)
+
+-- arguments, crash and recover
+abbrev Crashes : InstanceTree → Language
+Crashes i = grammar.optional_list terminals.Open SpellsArguments i.arguments ▹ grammar.optional terminals.Crash SpellsCrash i.crash
+
+pub instance_exact : Exact SpellsInstance deep_instance AfterInstance instance
 unfolding instance
 instance_exact =
-    deep_as deep_instance (λ i. omega arith)
-    (built_as (λ p. record { name = p.0; automaton = p.1.1.0; arguments = p.1.1.1 }) (λ i. (i.name, (tt, (i.automaton, i.arguments)))) (λ i. refl) (λ p. refl)
-    (then name_exact (then (sign_exact terminals.Colon) (then name_exact (optional_list_exact terminals.Open arguments_exact (closed_bare terminals.Comma terminals.Close (SpellsExpr 0)) refl) (λ y ts left s g. tt)) (λ y ts left s g. tt)) (λ y ts left s g. tt)))
+    deep_as deep_instance (λ i. omega (arith, deep_some_flat i.crash))
+    (built_as (λ p. record { name = p.0; automaton = p.1.1.0; arguments = p.1.1.1.0; crash = p.1.1.1.1 })
+    (λ i. (i.name, (tt, (i.automaton, (i.arguments, i.crash))))) (λ i. refl) (λ p. refl)
+    (then name_exact (then (sign_exact terminals.Colon) (then name_exact (then gives crashes crash_follows)
+    (λ y ts left s g. tt)) (λ y ts left s g. tt)) (λ y ts left s g. tt)))
+  where
+    gives : Exact (grammar.optional_list terminals.Open SpellsArguments) (deepest depth_of) AfterEntry (λ b. optional_list terminals.Open (arguments b))
+    gives = optional_list_exact terminals.Open arguments_exact (closed_bare terminals.Comma terminals.Close (SpellsExpr 0)) refl
+
+    crashes : Exact (grammar.optional terminals.Crash SpellsCrash) (deep_some flat) AfterInstance (λ b. reading.optional terminals.Crash a_crash)
+    crashes = before AfterInstance (λ left f. (tt, f.1)) (optional_exact terminals.Crash crash_exact)
+
+    crash_follows : (c : Option CrashTree) (ts left : List Tok) → grammar.optional terminals.Crash SpellsCrash c ts → AfterInstance left →
+        AfterEntry (ts ++ left)
+    crash_follows c ts left s g = by_option AfterEntry terminals.Crash SpellsCrash c ts left open_crash g.0 s
 
 instance_some : (i : InstanceTree) (ts : List Tok) → SpellsInstance i ts → 0 < length ts
-instance_some i ts s = first_some (tokens.name i.name) (word terminals.Colon ▹ (called i.automaton ▹ grammar.optional_list terminals.Open SpellsArguments i.arguments)) ts s
+instance_some i ts s = first_some (tokens.name i.name) (word terminals.Colon ▹ (called i.automaton ▹ Crashes i)) ts s
 
 instance_begins : (i : InstanceTree) (ts left : List Tok) → SpellsInstance i ts → sees_name (ts ++ left) ≡ true
-instance_begins i ts left s = leads (λ z. sees_name z ≡ true) (tokens.name i.name) (word terminals.Colon ▹ (called i.automaton ▹ grammar.optional_list terminals.Open SpellsArguments i.arguments)) ts left (sees_name_called i.name) s
+instance_begins i ts left s =
+    leads (λ z. sees_name z ≡ true) (tokens.name i.name) (word terminals.Colon ▹ (called i.automaton ▹ Crashes i)) ts left (sees_name_called i.name) s
+
+instance_semicolon : (z : List Tok) → AfterInstance (terminal terminals.Semicolon ∷ z)
+unfolding sees same_terminal
+instance_semicolon z = ((tt, refl), refl)
 
 abbrev pub AfterInstances : Language
-AfterInstances left = AfterEntry left × (sees terminals.Semicolon left ≡ false) × (sees_name left ≡ false)
+AfterInstances left = AfterInstance left × (sees terminals.Semicolon left ≡ false) × (sees_name left ≡ false)
 
 pub instances_exact : Exact SpellsInstances (deepest deep_instance) AfterInstances instances
 unfolding instances
-instances_exact = terminated_exact sees_name sees_name_alike terminals.Semicolon instance_exact instance_some (λ ts. (tt, open_semicolon ts)) instance_begins
+instances_exact = terminated_exact sees_name sees_name_alike terminals.Semicolon instance_exact instance_some instance_semicolon instance_begins
 
 name_some : (n : Name) (ts : List Tok) → called n ts → 0 < length ts
 name_some n ts s = omega (arith, ap length s)
@@ -447,7 +509,7 @@ AfterComposition left = AfterInstances left × (sees terminals.Comma left ≡ fa
 
 instances_hidden : (z : List Tok) → AfterInstances (terminal terminals.Hidden ∷ z)
 unfolding sees same_terminal sees_name
-instances_hidden z = ((tt, refl), refl, refl)
+instances_hidden z = (((tt, refl), refl), refl, refl)
 
 pub composition_exact : Exact SpellsComposition deep_composition AfterComposition a_composition
 unfolding a_composition
@@ -590,28 +652,63 @@ type_exact =
     (built_as (λ p. record { name = p.0; form = p.1.1 }) (λ t. (t.name, (tt, t.form))) (λ t. refl) (λ p. refl)
     (then name_exact (then (sign_exact terminals.Equal) form_exact (λ y ts left s g. tt)) (λ y ts left s g. tt)))
 
+-- ---- invariants
+
+abbrev AfterInvariant : Language
+AfterInvariant left = Ends 0 left × (sees terminals.Semicolon left ≡ false)
+
+invariant_exact : Exact SpellsInvariant (λ i. depth_of i.condition) AfterInvariant an_invariant
+unfolding an_invariant
+invariant_exact =
+    deep_as (λ i. depth_of i.condition) (λ i. omega arith)
+    (built_as (λ p. record { automaton = p.1.0; condition = p.1.1.1.0 }) (λ i. (tt, (i.automaton, (tt, (i.condition, tt))))) (λ i. refl) (λ p. refl)
+    (then (sign_exact terminals.Of) (then name_exact (then (sign_exact terminals.Colon)
+    (then expression_exact (before AfterInvariant (λ left f. f.1) (perhaps_exact terminals.Semicolon)) (λ y ts left s g. follows ts left s g))
+    (λ y ts left s g. tt)) (λ y ts left s g. tt)) (λ y ts left s g. tt)))
+  where
+    follows : (ts left : List Tok) → grammar.perhaps terminals.Semicolon ts → AfterInvariant left → Ends 0 (ts ++ left)
+    follows ts left (inl s) g = subst (λ z. Ends 0 (z ++ left)) (sym s) (ends_semicolon left)
+    follows ts left (inr s) g = subst (λ z. Ends 0 (z ++ left)) (sym s) g.0
+
 -- ---- declarations
 
 abbrev ByType : DeclarationTree → Language
 ByType (declared_type t) = SpellsType t
 ByType (automaton a) = empty
 ByType (composition c) = empty
+ByType (invariant i) = empty
 
 abbrev ByAutomaton : DeclarationTree → Language
 ByAutomaton (declared_type t) = empty
 ByAutomaton (automaton a) = SpellsAutomaton a
 ByAutomaton (composition c) = empty
+ByAutomaton (invariant i) = empty
 
 abbrev ByComposition : DeclarationTree → Language
 ByComposition (declared_type t) = empty
 ByComposition (automaton a) = empty
 ByComposition (composition c) = word terminals.Composition ▹ SpellsComposition c
+ByComposition (invariant i) = empty
 
--- all but a type
+abbrev ByInvariant : DeclarationTree → Language
+ByInvariant (declared_type t) = empty
+ByInvariant (automaton a) = empty
+ByInvariant (composition c) = empty
+ByInvariant (invariant i) = SpellsInvariant i
+
+-- automata and compositions
 abbrev ByMachine : DeclarationTree → Language
 ByMachine (declared_type t) = empty
 ByMachine (automaton a) = SpellsDeclaration (automaton a)
 ByMachine (composition c) = SpellsDeclaration (composition c)
+ByMachine (invariant i) = empty
+
+-- all but a type
+abbrev AboutMachines : DeclarationTree → Language
+AboutMachines (declared_type t) = empty
+AboutMachines (automaton a) = SpellsDeclaration (automaton a)
+AboutMachines (composition c) = SpellsDeclaration (composition c)
+AboutMachines (invariant i) = SpellsDeclaration (invariant i)
 
 by_type_exact : Exact ByType deep any (λ b. built declared_type a_type)
 by_type_exact = into_exact declared_type type_exact ByType deep of (λ x ts s. s) (λ x. refl)
@@ -620,6 +717,7 @@ by_type_exact = into_exact declared_type type_exact ByType deep of (λ x ts s. s
     of (declared_type t) ts s = (t, refl, s)
     of (automaton a) ts s = absurd s
     of (composition c) ts s = absurd s
+    of (invariant i) ts s = absurd s
 
 by_automaton_exact : Exact ByAutomaton deep AfterTransitions (λ b. built automaton (an_automaton b))
 by_automaton_exact = into_exact automaton automaton_exact ByAutomaton deep of (λ x ts s. s) (λ x. refl)
@@ -628,6 +726,7 @@ by_automaton_exact = into_exact automaton automaton_exact ByAutomaton deep of (�
     of (declared_type t) ts s = absurd s
     of (automaton a) ts s = (a, refl, s)
     of (composition c) ts s = absurd s
+    of (invariant i) ts s = absurd s
 
 composed_exact : Exact ByComposition deep AfterComposition composed
 unfolding composed
@@ -637,6 +736,16 @@ composed_exact = into_exact (λ p. composition p.1) (then (sign_exact terminals.
     of (declared_type t) ts s = absurd s
     of (automaton a) ts s = absurd s
     of (composition c) ts s = ((tt, c), refl, s)
+    of (invariant i) ts s = absurd s
+
+by_invariant_exact : Exact ByInvariant deep AfterInvariant (λ b. built invariant (an_invariant b))
+by_invariant_exact = into_exact invariant invariant_exact ByInvariant deep of (λ x ts s. s) (λ x. refl)
+  where
+    of : (y : DeclarationTree) (ts : List Tok) → ByInvariant y ts → (i : InvariantTree) × (invariant i ≡ y) × SpellsInvariant i ts
+    of (declared_type t) ts s = absurd s
+    of (automaton a) ts s = absurd s
+    of (composition c) ts s = absurd s
+    of (invariant i) ts s = (i, refl, s)
 
 abbrev pub AfterDeclaration : Language
 AfterDeclaration left = AfterTransitions left × AfterComposition left
@@ -644,6 +753,14 @@ AfterDeclaration left = AfterTransitions left × AfterComposition left
 automaton_composition : (z : List Tok) → sees terminals.Automaton (terminal terminals.Composition ∷ z) ≡ false
 unfolding sees same_terminal
 automaton_composition z = refl
+
+invariant_automaton : (z : List Tok) → sees terminals.Invariant (terminal terminals.Automaton ∷ z) ≡ false
+unfolding sees same_terminal
+invariant_automaton z = refl
+
+invariant_composition : (z : List Tok) → sees terminals.Invariant (terminal terminals.Composition ∷ z) ≡ false
+unfolding sees same_terminal
+invariant_composition z = refl
 
 type_automaton : (z : List Tok) → sees terminals.Type (terminal terminals.Automaton ∷ z) ≡ false
 unfolding sees same_terminal
@@ -653,10 +770,15 @@ type_composition : (z : List Tok) → sees terminals.Type (terminal terminals.Co
 unfolding sees same_terminal
 type_composition z = refl
 
+type_invariant : (z : List Tok) → sees terminals.Type (terminal terminals.Invariant ∷ z) ≡ false
+unfolding sees same_terminal
+type_invariant z = refl
+
 by_composition_unseen : (d : DeclarationTree) (ts left : List Tok) → ByComposition d ts → sees terminals.Automaton (ts ++ left) ≡ false
 by_composition_unseen (declared_type t) ts left s = absurd s
 by_composition_unseen (automaton a) ts left s = absurd s
 by_composition_unseen (composition c) ts left s = leads (λ z. sees terminals.Automaton z ≡ false) (terminal terminals.Composition) (SpellsComposition c) ts left automaton_composition s
+by_composition_unseen (invariant i) ts left s = absurd s
 
 machine_exact : Exact ByMachine deep AfterDeclaration machine
 unfolding machine
@@ -668,6 +790,7 @@ machine_exact =
     of (declared_type t) ts s = absurd s
     of (automaton a) ts s = inl s
     of (composition c) ts s = inr s
+    of (invariant i) ts s = absurd s
 
     to : (d : DeclarationTree) (ts : List Tok) → ((word terminals.Automaton ▹ ByAutomaton d) ts) ⊎ ByComposition d ts → ByMachine d ts
     to (declared_type t) ts (inl s) = absurd (s.3)
@@ -676,57 +799,120 @@ machine_exact =
     to (automaton a) ts (inr s) = absurd s
     to (composition c) ts (inl s) = absurd (s.3)
     to (composition c) ts (inr s) = s
+    to (invariant i) ts (inl s) = absurd (s.3)
+    to (invariant i) ts (inr s) = absurd s
 
-by_machine_unseen : (d : DeclarationTree) (ts left : List Tok) → ByMachine d ts → sees terminals.Type (ts ++ left) ≡ false
+by_machine_unseen : (d : DeclarationTree) (ts left : List Tok) → ByMachine d ts → sees terminals.Invariant (ts ++ left) ≡ false
 by_machine_unseen (declared_type t) ts left s = absurd s
-by_machine_unseen (automaton a) ts left s = leads (λ z. sees terminals.Type z ≡ false) (terminal terminals.Automaton) (SpellsAutomaton a) ts left type_automaton s
-by_machine_unseen (composition c) ts left s = leads (λ z. sees terminals.Type z ≡ false) (terminal terminals.Composition) (SpellsComposition c) ts left type_composition s
+by_machine_unseen (automaton a) ts left s =
+    leads (λ z. sees terminals.Invariant z ≡ false) (terminal terminals.Automaton) (SpellsAutomaton a) ts left invariant_automaton s
+by_machine_unseen (composition c) ts left s =
+    leads (λ z. sees terminals.Invariant z ≡ false) (terminal terminals.Composition) (SpellsComposition c) ts left invariant_composition s
+by_machine_unseen (invariant i) ts left s = absurd s
+
+about_machines_exact : Exact AboutMachines deep AfterDeclaration about_machines
+unfolding about_machines
+about_machines_exact =
+    said_as AboutMachines of to
+    (either_exact terminals.Invariant by_invariant_exact machine_exact AfterDeclaration (λ left f. (f.0.0.ends, f.0.0.semicolon)) (λ left f. f)
+    (λ d ts left s f. by_machine_unseen d ts left s))
+  where
+    of : (d : DeclarationTree) (ts : List Tok) → AboutMachines d ts → ((word terminals.Invariant ▹ ByInvariant d) ts) ⊎ ByMachine d ts
+    of (declared_type t) ts s = absurd s
+    of (automaton a) ts s = inr s
+    of (composition c) ts s = inr s
+    of (invariant i) ts s = inl s
+
+    to : (d : DeclarationTree) (ts : List Tok) → ((word terminals.Invariant ▹ ByInvariant d) ts) ⊎ ByMachine d ts → AboutMachines d ts
+    to (declared_type t) ts (inl s) = absurd (s.3)
+    to (declared_type t) ts (inr s) = absurd s
+    to (automaton a) ts (inl s) = absurd (s.3)
+    to (automaton a) ts (inr s) = s
+    to (composition c) ts (inl s) = absurd (s.3)
+    to (composition c) ts (inr s) = s
+    to (invariant i) ts (inl s) = s
+    to (invariant i) ts (inr s) = absurd s
+
+about_machines_unseen : (d : DeclarationTree) (ts left : List Tok) → AboutMachines d ts → sees terminals.Type (ts ++ left) ≡ false
+about_machines_unseen (declared_type t) ts left s = absurd s
+about_machines_unseen (automaton a) ts left s =
+    leads (λ z. sees terminals.Type z ≡ false) (terminal terminals.Automaton) (SpellsAutomaton a) ts left type_automaton s
+about_machines_unseen (composition c) ts left s =
+    leads (λ z. sees terminals.Type z ≡ false) (terminal terminals.Composition) (SpellsComposition c) ts left type_composition s
+about_machines_unseen (invariant i) ts left s =
+    leads (λ z. sees terminals.Type z ≡ false) (terminal terminals.Invariant) (SpellsInvariant i) ts left type_invariant s
 
 pub declaration_exact : Exact SpellsDeclaration deep AfterDeclaration declaration
 unfolding declaration
 declaration_exact =
     said_as SpellsDeclaration of to
-    (either_exact terminals.Type by_type_exact machine_exact AfterDeclaration (λ left f. tt) (λ left f. f) (λ d ts left s f. by_machine_unseen d ts left s))
+    (either_exact terminals.Type by_type_exact about_machines_exact AfterDeclaration (λ left f. tt) (λ left f. f)
+    (λ d ts left s f. about_machines_unseen d ts left s))
   where
-    of : (d : DeclarationTree) (ts : List Tok) → SpellsDeclaration d ts → ((word terminals.Type ▹ ByType d) ts) ⊎ ByMachine d ts
+    of : (d : DeclarationTree) (ts : List Tok) → SpellsDeclaration d ts → ((word terminals.Type ▹ ByType d) ts) ⊎ AboutMachines d ts
     of (declared_type t) ts s = inl s
     of (automaton a) ts s = inr s
     of (composition c) ts s = inr s
+    of (invariant i) ts s = inr s
 
-    to : (d : DeclarationTree) (ts : List Tok) → ((word terminals.Type ▹ ByType d) ts) ⊎ ByMachine d ts → SpellsDeclaration d ts
+    to : (d : DeclarationTree) (ts : List Tok) → ((word terminals.Type ▹ ByType d) ts) ⊎ AboutMachines d ts → SpellsDeclaration d ts
     to (declared_type t) ts (inl s) = s
     to (declared_type t) ts (inr s) = absurd s
     to (automaton a) ts (inl s) = absurd (s.3)
     to (automaton a) ts (inr s) = s
     to (composition c) ts (inl s) = absurd (s.3)
     to (composition c) ts (inr s) = s
+    to (invariant i) ts (inl s) = absurd (s.3)
+    to (invariant i) ts (inr s) = s
 
 pub declaration_some : (d : DeclarationTree) (ts : List Tok) → SpellsDeclaration d ts → 0 < length ts
 declaration_some (declared_type t) ts s = first_some (terminal terminals.Type) (SpellsType t) ts s
 declaration_some (automaton a) ts s = first_some (terminal terminals.Automaton) (SpellsAutomaton a) ts s
 declaration_some (composition c) ts s = first_some (terminal terminals.Composition) (SpellsComposition c) ts s
+declaration_some (invariant i) ts s = first_some (terminal terminals.Invariant) (SpellsInvariant i) ts s
 
 pub at_type : (z : List Tok) → AfterDeclaration (terminal terminals.Type ∷ z)
 unfolding sees same_terminal sees_kind kind_at terminal_at kind_of operator_of sees_statement sees_name
-at_type z = ((record { ends = (tt, refl, refl); semicolon = refl; begins = refl; comma = refl; eff = refl; propose = refl; pre = refl }, refl), (((tt, refl), refl, refl), refl, refl))
+at_type z = (
+  (record { ends = (tt, refl, refl); semicolon = refl; begins = refl; comma = refl; eff = refl; propose = refl; pre = refl }, refl),
+  ((((tt, refl), refl), refl, refl), refl, refl),
+)
 
 pub at_automaton : (z : List Tok) → AfterDeclaration (terminal terminals.Automaton ∷ z)
 unfolding sees same_terminal sees_kind kind_at terminal_at kind_of operator_of sees_statement sees_name
-at_automaton z = ((record { ends = (tt, refl, refl); semicolon = refl; begins = refl; comma = refl; eff = refl; propose = refl; pre = refl }, refl), (((tt, refl), refl, refl), refl, refl))
+at_automaton z = (
+  (record { ends = (tt, refl, refl); semicolon = refl; begins = refl; comma = refl; eff = refl; propose = refl; pre = refl }, refl),
+  ((((tt, refl), refl), refl, refl), refl, refl),
+)
 
 pub at_composition : (z : List Tok) → AfterDeclaration (terminal terminals.Composition ∷ z)
 unfolding sees same_terminal sees_kind kind_at terminal_at kind_of operator_of sees_statement sees_name
-at_composition z = ((record { ends = (tt, refl, refl); semicolon = refl; begins = refl; comma = refl; eff = refl; propose = refl; pre = refl }, refl), (((tt, refl), refl, refl), refl, refl))
+at_composition z = (
+  (record { ends = (tt, refl, refl); semicolon = refl; begins = refl; comma = refl; eff = refl; propose = refl; pre = refl }, refl),
+  ((((tt, refl), refl), refl, refl), refl, refl),
+)
+
+pub at_invariant : (z : List Tok) → AfterDeclaration (terminal terminals.Invariant ∷ z)
+unfolding sees same_terminal sees_kind kind_at terminal_at kind_of operator_of sees_statement sees_name
+at_invariant z = (
+  (record { ends = (tt, refl, refl); semicolon = refl; begins = refl; comma = refl; eff = refl; propose = refl; pre = refl }, refl),
+  ((((tt, refl), refl), refl, refl), refl, refl),
+)
 
 pub at_end : AfterDeclaration []
 unfolding sees same_terminal sees_kind kind_at terminal_at kind_of operator_of sees_statement sees_name
-at_end = ((record { ends = (tt, refl, refl); semicolon = refl; begins = refl; comma = refl; eff = refl; propose = refl; pre = refl }, refl), (((tt, refl), refl, refl), refl, refl))
+at_end = (
+  (record { ends = (tt, refl, refl); semicolon = refl; begins = refl; comma = refl; eff = refl; propose = refl; pre = refl }, refl),
+  ((((tt, refl), refl), refl, refl), refl, refl),
+)
 
 pub declaration_leads : (F : Language) (d : DeclarationTree) (ts left : List Tok) → ((z : List Tok) → F (terminal terminals.Type ∷ z)) → ((z : List Tok) → F (terminal terminals.Automaton ∷ z)) →
-    ((z : List Tok) → F (terminal terminals.Composition ∷ z)) → SpellsDeclaration d ts → F (ts ++ left)
-declaration_leads F (declared_type t) ts left f h g s = leads F (terminal terminals.Type) (SpellsType t) ts left f s
-declaration_leads F (automaton a) ts left f h g s = leads F (terminal terminals.Automaton) (SpellsAutomaton a) ts left h s
-declaration_leads F (composition c) ts left f h g s = leads F (terminal terminals.Composition) (SpellsComposition c) ts left g s
+    ((z : List Tok) → F (terminal terminals.Composition ∷ z)) → ((z : List Tok) → F (terminal terminals.Invariant ∷ z))
+    → SpellsDeclaration d ts → F (ts ++ left)
+declaration_leads F (declared_type t) ts left f h g k s = leads F (terminal terminals.Type) (SpellsType t) ts left f s
+declaration_leads F (automaton a) ts left f h g k s = leads F (terminal terminals.Automaton) (SpellsAutomaton a) ts left h s
+declaration_leads F (composition c) ts left f h g k s = leads F (terminal terminals.Composition) (SpellsComposition c) ts left g s
+declaration_leads F (invariant i) ts left f h g k s = leads F (terminal terminals.Invariant) (SpellsInvariant i) ts left k s
 
 -- ---- sources
 
@@ -740,4 +926,5 @@ some_left_alike = head_alike some_left false (λ x. true) refl (λ x ts. refl)
 pub all_exact : Exact (grammar.many SpellsDeclaration) (deepest deep) (λ left. AfterDeclaration left × (some_left left ≡ false)) (λ b. many some_left (declaration b))
 all_exact =
     many_exact some_left some_left_alike refl declaration_exact declaration_some
-    (λ d ts left s. declaration_leads AfterDeclaration d ts left at_type at_automaton at_composition s) (λ d ts left s. declaration_leads (λ z. some_left z ≡ true) d ts left (λ z. refl) (λ z. refl) (λ z. refl) s)
+    (λ d ts left s. declaration_leads AfterDeclaration d ts left at_type at_automaton at_composition at_invariant s)
+    (λ d ts left s. declaration_leads (λ z. some_left z ≡ true) d ts left (λ z. refl) (λ z. refl) (λ z. refl) (λ z. refl) s)

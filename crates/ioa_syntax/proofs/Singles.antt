@@ -12,7 +12,7 @@ use Rattle.ioa_syntax.specs.declared.tree.Kind.TheVariants.{Input, Output, Inter
 use Rattle.ioa_syntax.specs.declared.fault.Fault.TheVariants.{Syntax, TooDeep}
 use Rattle.ioa_syntax.specs.Grammar as grammar
 use Rattle.ioa_syntax.specs.Grammar.{Language, SameHead, ◌▹◌, single, word, called, nothing, kind_word}
-use Rattle.ioa_syntax.specs.Reading.{Outcome, Reader, rest, taken, begun, perhaps, a_number, sees, after, is_terminal, same_terminal, sign, a_name, a_kind, kind_at, kind_of, kind_in, terminal_at, terminal_in}
+use Rattle.ioa_syntax.specs.Reading.{Outcome, Reader, rest, taken, begun, perhaps, flag, a_number, sees, after, is_terminal, same_terminal, sign, a_name, a_kind, kind_at, kind_of, kind_in, terminal_at, terminal_in}
 use Rattle.ioa_syntax.proofs.Outcomes.{ok_pair, AtMost, at_most_more, Shrinks, Alike, alike_rest, refused_at, went, front_length, same_head, LooksAhead, head_alike, rest_length}
 use Rattle.ioa_syntax.proofs.Exact.{Found, ExactFor, Exact, any, flat, read_as, before, said_as}
 
@@ -428,5 +428,27 @@ perhaps_exact t =
     to u ts (inr s) = inr s.1
 
     same : (ts : List Tok) (v : Bool) → ◌≡◌ {A = Outcome (Unit {0})} (Ok (tt, after t ts)) (if v then Ok (tt, after t ts) else Ok (tt, after t ts))
+    same ts true = refl
+    same ts false = refl
+
+-- ---- whether a word or sign comes next
+
+pub flag_exact : {I : Type 0} {size : I → ℕ} (t : Terminal) → ExactFor size (grammar.flagged t) flat (λ left. sees t left ≡ false) (λ b. flag t)
+unfolding flag
+flag_exact t =
+    before (λ left. sees t left ≡ false) (λ left f. (tt, f))
+    (said_as (grammar.flagged t) of to (read_as (λ b. flag t) (λ b ts. same ts (sees t ts)) (introduced_exact t false (absent_exact true flat refl) refl)))
+  where
+    of : (v : Bool) (ts : List Tok) → grammar.flagged t v ts → ((word t ▹ Absent true flat refl v) ts) ⊎ ((v ≡ false) × nothing ts)
+    of true ts s = inl (terminal t ∷ [], [], refl, (refl, refl), s)
+    of false ts s = inr (refl, s)
+
+    to : (v : Bool) (ts : List Tok) → ((word t ▹ Absent true flat refl v) ts) ⊎ ((v ≡ false) × nothing ts) → grammar.flagged t v ts
+    to true ts (inl s) = s.4 ∙ ap (λ a. a ++ s.1) s.2 ∙ ap (λ b. terminal t ∷ b) s.3.1
+    to true ts (inr s) = absurd (cc (s.0))
+    to false ts (inl s) = absurd (cc (s.3.0))
+    to false ts (inr s) = s.1
+
+    same : (ts : List Tok) (v : Bool) → ◌≡◌ {A = Outcome Bool} (Ok (v, after t ts)) (if v then Ok (true, after t ts) else Ok (false, after t ts))
     same ts true = refl
     same ts false = refl

@@ -17,11 +17,11 @@ use Rattle.ioa_value.specs.declared.limits.TheConstants.{LIMITS}
 use Rattle.ioa_value.proofs.NameLemmas.{distinct-append, append-apart}
 use Rattle.ioa_value.proofs.PlaceLemmas.{type_below}
 use Rattle.ioa_value.proofs.TableLemmas.{pushed, basic_types}
-use Rattle.ioa_syntax.specs.Tree.{FieldTree, FormTree, enumeration, tuple, sequence, TypeTree, DeclarationTree, declared_type, automaton, composition, SourceTree}
+use Rattle.ioa_syntax.specs.Tree.{FieldTree, FormTree, enumeration, tuple, sequence, TypeTree, InvariantTree, DeclarationTree, declared_type, automaton, composition, invariant, SourceTree}
 use Rattle.ioa_syntax.specs.Names.{names_of_field, names_of_form, names_of_declaration, LegalNames}
 use Rattle.ioa_syntax.specs.Types.{with_field, numbered, shape_of, declared, with_type, declared_from, types_of}
 use Rattle.ioa_syntax.specs.Instances.{field_names}
-use Rattle.ioa_syntax.specs.WellFormed.{is_type, constants_of, declared_names, global_names, is_type_declaration, is_counted, some_within, form_within, declaration_within, source_within, form_fine, type_fine, declarations_fine, types_narrow, well_formed}
+use Rattle.ioa_syntax.specs.WellFormed.{is_type, constants_of, declared_names, global_names, is_type_declaration, is_counted, is_invariant, some_within, form_within, declaration_within, source_within, form_fine, type_fine, declarations_fine, types_narrow, well_formed}
 use Rattle.ioa_syntax.proofs.Declared.{declared_begins, declared-append, first_fine}
 use Rattle.ioa_syntax.proofs.FineParts.{at_most, source_parts}
 use Rattle.ioa_syntax.proofs.LegalNames.{all_left, all_right}
@@ -150,6 +150,7 @@ types_fine types [] = true
 types_fine types (declared_type d ∷ ds) = type_fine types d && types_fine (with_type types d) ds
 types_fine types (automaton a ∷ ds) = types_fine types ds
 types_fine types (composition c ∷ ds) = types_fine types ds
+types_fine types (invariant i ∷ ds) = types_fine types ds
 
 each_type : (types : Table) (globals : List Name) (before ds : SourceTree) → declarations_fine types globals before ds ≡ true
     → types_fine (types_of before) ds ≡ true
@@ -166,6 +167,9 @@ each_type types globals before (automaton a ∷ ds) h =
 each_type types globals before (composition c ∷ ds) h =
     let p = first_fine types globals before (composition c) ds h in
     subst (λ t. types_fine t ds ≡ true) (declared-append basic before (composition c ∷ [])) (each_type types globals (before ++ composition c ∷ []) ds p.1)
+each_type types globals before (invariant i ∷ ds) h =
+    let p = first_fine types globals before (invariant i) ds h in
+    subst (λ t. types_fine t ds ≡ true) (declared-append basic before (invariant i ∷ [])) (each_type types globals (before ++ invariant i ∷ []) ds p.1)
 
 -- what declarations keep, of which none is read yet, over the types of those before them: they are not too many, and their names are new
 pub record Ready (types : Table) (ds : SourceTree) : Type 0 where
@@ -178,8 +182,10 @@ pub ready : (s : SourceTree) → LegalNames s → distinct (global_names s) ≡ 
 ready s legal new h =
     let types_few = nat_le (length (filter is_type_declaration s)) LIMITS.types in
     let others_few = nat_le (length (filter is_counted s)) LIMITS.automata in
-    let parts = and_parts (types_few && others_few) (list_all (declaration_within LIMITS) s) h in
-    let few = at_most (length (filter is_type_declaration s)) LIMITS.types (and_parts types_few others_few parts.0).0 in
+    let invariants_few = nat_le (length (filter is_invariant s)) LIMITS.invariants in
+    let parts = and_parts (types_few && others_few && invariants_few) (list_all (declaration_within LIMITS) s) h in
+    let counts = and_parts (types_few && others_few) invariants_few parts.0 in
+    let few = at_most (length (filter is_type_declaration s)) LIMITS.types (and_parts types_few others_few counts.0).0 in
     record { room = omega (arith, few); within_limits = parts.1; legal = legal; new = new }
 
 module _ (types : Table) (d : TypeTree) (ds : SourceTree) (r : Ready types (declared_type d ∷ ds)) where
@@ -240,6 +246,15 @@ ready_other types d n ds one none r = record {
   new = less (all_names types) n (flat_map declared_names ds) (subst (λ ns. distinct (all_names types ++ (ns ++ flat_map declared_names ds)) ≡ true) one r.new);
 }
 
+-- an invariant adds neither a name nor a type
+pub ready_invariant : (types : Table) (i : InvariantTree) (ds : SourceTree) → Ready types (invariant i ∷ ds) → Ready types ds
+ready_invariant types i ds r = record {
+  room = r.room;
+  within_limits = r.within_limits;
+  legal = all_right IsName (names_of_declaration (invariant i)) (flat_map names_of_declaration ds) r.legal;
+  new = r.new;
+}
+
 grown : (types : Table) (ds : SourceTree) → AreTypes types → Ready types ds → types_fine types ds ≡ true
     → list_all narrow (widths (declared_from types ds)) ≡ true → AreTypes (declared_from types ds)
 unfolding types_fine narrow
@@ -257,6 +272,7 @@ grown types (declared_type d ∷ ds) t r h k =
     grown (with_type types d) ds (subst AreTypes (sym more) now) (ready_type types d ds r a.0 a.1) fine.1 k
 grown types (automaton a ∷ ds) t r h k = grown types ds t (ready_other types (automaton a) a.name ds refl refl r) h k
 grown types (composition c ∷ ds) t r h k = grown types ds t (ready_other types (composition c) c.name ds refl refl r) h k
+grown types (invariant i ∷ ds) t r h k = grown types ds t (ready_invariant types i ds r) h k
 
 -- the types of a well formed source, whose names are legal, are types
 pub types_are : (s : SourceTree) → LegalNames s → well_formed s ≡ true → AreTypes (types_of s)

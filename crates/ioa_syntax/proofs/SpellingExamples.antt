@@ -1,6 +1,6 @@
 -- Small lists of tokens, what they spell and how they are read: operators around their operands, empty sequences, tuples and fields,
--- declarations of types, constants of positions and hidden names.
-use Rattle.std.proofs.Common.{◌≡◌, ℕ, true, List, [], ◌∷◌, ◌++◌, Ok, Err, refl, codes, inl, inr, arith}
+-- declarations of types, constants of positions, hidden names, stable variables, crash and recover.
+use Rattle.std.proofs.Common.{◌≡◌, ℕ, Bool, true, false, List, [], ◌∷◌, ◌++◌, Option, Some, None, Ok, Err, refl, codes, inl, inr, arith}
 use Rattle.ioa_value.specs.Actions.{Name}
 use Rattle.ioa_value.specs.declared.terminal.Terminal.{Terminal}
 use Rattle.ioa_value.specs.declared.terminal.Terminal.TheVariants as terminals
@@ -10,11 +10,11 @@ use Rattle.ioa_lex.specs.Tokens.{Tok, terminal}
 use Rattle.ioa_syntax.specs.declared.tree.Infix.TheVariants.{Operator, And}
 use Rattle.ioa_syntax.specs.declared.tree.Kind.TheVariants.{Input}
 use Rattle.ioa_syntax.specs.declared.fault.Fault.TheVariants.{Syntax, TooDeep}
-use Rattle.ioa_syntax.specs.Tree.{Expr, number, truth, named, parens, prefix, binary, empty, make, select, no_expr, also, positive, negative, truth_literal, reference, PositionTree, typed, only, EntryTree, CompositionTree, FormTree, enumeration, tuple, sequence, TypeTree, declared_type, composition}
+use Rattle.ioa_syntax.specs.Tree.{Expr, number, truth, named, parens, prefix, binary, empty, make, select, no_expr, also, positive, negative, truth_literal, reference, PositionTree, typed, only, EntryTree, VariableTree, CrashTree, InstanceTree, CompositionTree, FormTree, enumeration, tuple, sequence, TypeTree, declared_type, composition}
 use Rattle.ioa_syntax.specs.Depth.{depth_of}
-use Rattle.ioa_syntax.specs.Grammar.{SpellsExpr, SpellsPosition, SpellsHidden}
-use Rattle.ioa_syntax.specs.Layout.{space, text_number, text_expr, text_position, text_entry, text_all, text_type, text_source}
-use Rattle.ioa_syntax.specs.Reading.{Outcome, expression, expr, first, operand, fields_from, after_name, primary, start_at, start_of, around_of, around, around_one, around_two, an_empty, enclosed, closing, climb, operator_at, operator_of, prefix_at, prefix_of, terminal_at, same_terminal, sign, a_name, a_number, sees, after, items_from, separated, braced, field, an_enumeration, a_tuple, a_sequence, sequence_form, compound_form, type_form, a_type, literal, literal_at, literal_of, a_constant, position, positions, optional_list, kind_of, kind_at, a_kind, entry, perhaps, terminated, sees_name, instance, instances, hidden_names, a_composition}
+use Rattle.ioa_syntax.specs.Grammar.{SpellsExpr, SpellsPosition, SpellsVariable, SpellsHidden, SpellsInstance}
+use Rattle.ioa_syntax.specs.Layout.{space, line, text_number, text_expr, text_position, text_entry, text_variable, text_instance, text_all, text_type, text_source}
+use Rattle.ioa_syntax.specs.Reading.{Outcome, expression, expr, first, operand, fields_from, after_name, primary, start_at, start_of, around_of, around, around_one, around_two, an_empty, enclosed, closing, climb, operator_at, operator_of, prefix_at, prefix_of, terminal_at, same_terminal, sign, a_name, a_number, sees, after, items_from, separated, braced, field, an_enumeration, a_tuple, a_sequence, sequence_form, compound_form, type_form, a_type, literal, literal_at, literal_of, a_constant, position, positions, optional_list, kind_of, kind_at, a_kind, entry, perhaps, terminated, optional, flag, variable, variables, sees_variable, sees_name, arguments, a_crash, instance, instances, hidden_names, a_composition}
 
 abbrev word : Terminal → Tok
 word = terminal
@@ -370,32 +370,170 @@ composes ts =
     a_composition 6 (called (codes "C") ∷ word terminals.Components ∷ called (codes "c") ∷ word terminals.Colon ∷ called (codes "A") ∷ word terminals.Semicolon ∷ word terminals.Hidden ∷ ts)
 
 abbrev hides : List Name → CompositionTree
-hides ns = record { name = codes "C"; instances = record { name = codes "c"; automaton = codes "A"; arguments = [] } ∷ []; hidden = ns }
+hides ns = record { name = codes "C"; instances = record { name = codes "c"; automaton = codes "A"; arguments = []; crash = None } ∷ []; hidden = ns }
 
 abbrev a_and_b : List Tok
 a_and_b = called (codes "a") ∷ comma ∷ called (codes "b") ∷ []
 
 hides_names : composes a_and_b ≡ Ok (hides (codes "a" ∷ codes "b" ∷ []), [])
-unfolding a_composition instances instance terminated optional_list hidden_names perhaps separated items_from sees_name sees after sign a_name same_terminal
+unfolding a_composition instances instance terminated optional_list optional hidden_names perhaps separated items_from sees_name sees after sign a_name same_terminal
 hides_names = refl
 
 -- with a semicolon at their end
 ends_with_a_semicolon : composes (a_and_b ++ word terminals.Semicolon ∷ []) ≡ Ok (hides (codes "a" ∷ codes "b" ∷ []), [])
-unfolding a_composition instances instance terminated optional_list hidden_names perhaps separated items_from sees_name sees after sign a_name same_terminal
+unfolding a_composition instances instance terminated optional_list optional hidden_names perhaps separated items_from sees_name sees after sign a_name same_terminal
 ends_with_a_semicolon = refl
 
 -- `hidden` alone is refused at the end, and so is a comma there
 wants_a_hidden_name : composes [] ≡ Err (Syntax 0)
-unfolding a_composition instances instance terminated optional_list hidden_names perhaps separated items_from sees_name sees after sign a_name same_terminal
+unfolding a_composition instances instance terminated optional_list optional hidden_names perhaps separated items_from sees_name sees after sign a_name same_terminal
 wants_a_hidden_name = refl
 
 wants_another_name : composes (a_and_b ++ comma ∷ []) ≡ Err (Syntax 0)
-unfolding a_composition instances instance terminated optional_list hidden_names perhaps separated items_from sees_name sees after sign a_name same_terminal
+unfolding a_composition instances instance terminated optional_list optional hidden_names perhaps separated items_from sees_name sees after sign a_name same_terminal
 wants_another_name = refl
 
 -- nothing spells no hidden names
 hides_some : (ts : List Tok) → SpellsHidden [] ts → ⊥
 hides_some ts m = m.2
+
+-- ---- stable variables
+
+abbrev semicolon : Tok
+semicolon = word terminals.Semicolon
+
+abbrev stable : Tok
+stable = word terminals.Stable
+
+-- t: Int := 1
+abbrev begins_at_one : List Tok
+begins_at_one = called (codes "t") ∷ word terminals.Colon ∷ called (codes "Int") ∷ word terminals.Becomes ∷ n 1 ∷ []
+
+abbrev variable_t : Bool → VariableTree
+variable_t stable = record { stable = stable; field = record { name = codes "t"; ty = codes "Int" }; start = Some (number 1) }
+
+abbrev variable_a : Bool → VariableTree
+variable_a stable = record { stable = stable; field = record { name = codes "a"; ty = codes "Int" }; start = None }
+
+-- stable t: Int := 1; a: Int
+keeps_the_first : variables 6 (stable ∷ (begins_at_one ++ semicolon ∷ field_a)) ≡ Ok (variable_t true ∷ variable_a false ∷ [], [])
+unfolding variables variable flag sees_variable field optional terminated items_from sees_name sees after sign a_name same_terminal expression expr first prefix_at prefix_of operand primary start_at start_of after_name fields_from climb operator_at operator_of terminal_at
+keeps_the_first = refl
+
+-- a: Int; stable t: Int := 1
+keeps_the_last : variables 6 (field_a ++ semicolon ∷ stable ∷ begins_at_one) ≡ Ok (variable_a false ∷ variable_t true ∷ [], [])
+unfolding variables variable flag sees_variable field optional terminated items_from sees_name sees after sign a_name same_terminal expression expr first prefix_at prefix_of operand primary start_at start_of after_name fields_from climb operator_at operator_of terminal_at
+keeps_the_last = refl
+
+-- with a semicolon at their end
+ends_the_variables : variables 6 (stable ∷ (field_a ++ semicolon ∷ word terminals.Transitions ∷ []))
+    ≡ Ok (variable_a true ∷ [], word terminals.Transitions ∷ [])
+unfolding variables variable flag sees_variable field optional terminated items_from sees_name sees after sign a_name same_terminal
+ends_the_variables = refl
+
+-- `stable` alone is refused at the end, and twice at the second
+wants_a_variable : variables 6 (stable ∷ []) ≡ Err (Syntax 0)
+unfolding variables variable flag field terminated items_from sees after sign a_name same_terminal
+wants_a_variable = refl
+
+keeps_once : variables 6 (stable ∷ stable ∷ field_a) ≡ Err (Syntax 4)
+unfolding variables variable flag field terminated items_from sees after sign a_name same_terminal
+keeps_once = refl
+
+spells_a_stable_variable : SpellsVariable (variable_a true) (stable ∷ field_a)
+spells_a_stable_variable = (
+  stable ∷ [],
+  field_a,
+  refl,
+  (field_a, [], (called (codes "a") ∷ [], _, refl, (word terminals.Colon ∷ [], called (codes "Int") ∷ [], refl, refl, refl), refl), refl, refl),
+  refl,
+)
+
+-- ---- crash and recover
+
+-- A: Host ..
+abbrev stands : List Tok → Outcome InstanceTree
+stands ts = instance 6 (called (codes "A") ∷ word terminals.Colon ∷ called (codes "Host") ∷ ts)
+
+abbrev down_and_up : Option CrashTree
+down_and_up = Some (record { crash = codes "down"; recover = codes "up" })
+
+abbrev host : List Expr → Option CrashTree → InstanceTree
+host es c = record { name = codes "A"; automaton = codes "Host"; arguments = es; crash = c }
+
+-- crash down recover up
+abbrev crashes : List Tok
+crashes = word terminals.Crash ∷ called (codes "down") ∷ word terminals.Recover ∷ called (codes "up") ∷ []
+
+takes_no_crash : stands [] ≡ Ok (host [] None, [])
+unfolding instance optional_list optional sees after sign a_name same_terminal
+takes_no_crash = refl
+
+takes_a_crash : stands crashes ≡ Ok (host [] down_and_up, [])
+unfolding instance optional_list optional a_crash sees after sign a_name same_terminal
+takes_a_crash = refl
+
+-- A: Host(x, 1) crash down recover up
+crashes_after_arguments : stands (within (called (codes "x") ∷ comma ∷ n 1 ∷ []) ++ crashes) ≡ Ok (host (x ∷ number 1 ∷ []) down_and_up, [])
+unfolding instance optional_list arguments closing separated items_from optional a_crash sees after sign a_name same_terminal expression expr first prefix_at prefix_of operand primary start_at start_of after_name fields_from climb operator_at operator_of terminal_at
+crashes_after_arguments = refl
+
+-- with a semicolon at the end
+crashes_among_components : instances 6 (called (codes "A") ∷ word terminals.Colon ∷ called (codes "Host") ∷ (crashes ++ semicolon ∷ []))
+    ≡ Ok (host [] down_and_up ∷ [], [])
+unfolding instances instance terminated items_from optional_list optional a_crash sees_name sees after sign a_name same_terminal
+crashes_among_components = refl
+
+-- `crash` is refused at the end, and so is `crash down`; `crash down up` is at the second name
+wants_a_crash : stands (word terminals.Crash ∷ []) ≡ Err (Syntax 0)
+unfolding instance optional_list optional a_crash sees after sign a_name same_terminal
+wants_a_crash = refl
+
+wants_recover : stands (word terminals.Crash ∷ called (codes "down") ∷ []) ≡ Err (Syntax 0)
+unfolding instance optional_list optional a_crash sees after sign a_name same_terminal
+wants_recover = refl
+
+wants_the_word_recover : stands (word terminals.Crash ∷ called (codes "down") ∷ called (codes "up") ∷ []) ≡ Err (Syntax 1)
+unfolding instance optional_list optional a_crash sees after sign a_name same_terminal
+wants_the_word_recover = refl
+
+-- arguments stand before `crash` alone
+takes_no_arguments_after : stands (crashes ++ within (n 1 ∷ [])) ≡ Ok (host [] down_and_up, within (n 1 ∷ []))
+unfolding instance optional_list optional a_crash sees after sign a_name same_terminal
+takes_no_arguments_after = refl
+
+spells_a_crash : SpellsInstance (host [] down_and_up) (called (codes "A") ∷ word terminals.Colon ∷ called (codes "Host") ∷ crashes)
+spells_a_crash = (
+  called (codes "A") ∷ [],
+  _,
+  refl,
+  (
+    word terminals.Colon ∷ [],
+    _,
+    refl,
+    (
+      called (codes "Host") ∷ [],
+      _,
+      refl,
+      (
+        [],
+        crashes,
+        refl,
+        (
+          word terminals.Crash ∷ [],
+          _,
+          refl,
+          (called (codes "down") ∷ [], _, refl, (word terminals.Recover ∷ [], called (codes "up") ∷ [], refl, refl, refl), refl),
+          refl,
+        ),
+        refl,
+      ),
+      refl,
+    ),
+    refl,
+  ),
+  refl,
+)
 
 -- ---- how they are printed
 
@@ -423,3 +561,11 @@ prints_hidden_names : text_source (composition (hides (codes "a" ∷ codes "b" �
     ≡ codes "composition C components\nc : A\nhidden a\n, b\ncomposition C components\nc : A\n"
 unfolding text_all
 prints_hidden_names = refl
+
+prints_stable_variables : text_variable (variable_t true) ++ text_variable (variable_a false)
+    ≡ codes "stable t : Int := " ++ (text_expr line (number 1) ++ codes "a : Int\n")
+prints_stable_variables = refl
+
+prints_crashes : text_instance (host (x ∷ []) down_and_up) ++ text_instance (host [] down_and_up)
+    ≡ codes "A : Host ( x )\ncrash down recover up\nA : Host\ncrash down recover up\n"
+prints_crashes = refl

@@ -82,7 +82,9 @@ names_a_type_as_a_basic_one = refl
 
 -- an automaton with one variable, which starts at the expression
 abbrev pub with_variable : Name → FieldTree → Option Expr → DeclarationTree
-with_variable x f start = automaton (record { name = x; formals = []; entries = []; variables = record { field = f; start = start } ∷ []; transitions = [] })
+with_variable x f start =
+    let variables = record { stable = false; field = f; start = start } ∷ [] in
+    automaton (record { name = x; formals = []; entries = []; variables = variables; transitions = [] })
 
 abbrev pub cell : FieldTree → Option Expr → DeclarationTree
 cell f start = with_variable (codes "Cell") f start
@@ -158,7 +160,11 @@ starts_empty_of_no_type = refl
 abbrev pub given : FieldTree → Expr → SourceTree
 given f e =
     three ++ automaton (record { name = codes "Cell"; formals = f ∷ []; entries = []; variables = []; transitions = [] })
-    ∷ composition (record { name = codes "One"; instances = record { name = codes "A"; automaton = codes "Cell"; arguments = e ∷ [] } ∷ []; hidden = [] }) ∷ []
+    ∷ composition (record {
+      name = codes "One";
+      instances = record { name = codes "A"; automaton = codes "Cell"; arguments = e ∷ []; crash = None } ∷ [];
+      hidden = [];
+    }) ∷ []
 
 -- an argument may be a constant
 gives_a_constant : well_formed (given (of_type (codes "k") (codes "Kind")) (named (codes "ack"))) ≡ true
@@ -194,7 +200,7 @@ holding variables = record {
 }
 
 abbrev pub variable : Name → Option Expr → VariableTree
-variable t start = record { field = of_type (codes "x") t; start = start }
+variable t start = record { stable = false; field = of_type (codes "x") t; start = start }
 
 -- the first name, the tuple of first values, the empty sequence
 starts_first : start_values (holding (variable (codes "Kind") None ∷ variable (codes "Pkt") None ∷ variable (codes "Pkts") None ∷ []))
@@ -330,7 +336,7 @@ sender t proposals = three ++ automaton (record {
   name = codes "Sender";
   formals = [];
   entries = record { kind = Output; name = codes "send"; positions = typed (of_type (codes "p") t) ∷ [] } ∷ [];
-  variables = record { field = of_type (codes "x") t; start = None } ∷ [];
+  variables = record { stable = false; field = of_type (codes "x") t; start = None } ∷ [];
   transitions = record { kind = Output; name = codes "send"; pre = None; proposals = proposals; effect = stop } ∷ [];
 }) ∷ []
 

@@ -13,7 +13,7 @@ use Rattle.ioa_syntax.specs.Grammar.{SpellsSource, SpellsDeclaration, IsDeadEnd}
 use Rattle.ioa_syntax.specs.Reading.{Outcome, Reader, ◌>>=◌, many, many_from, declaration, source, source_from, declared_by, refusal_of}
 use Rattle.ioa_syntax.proofs.Outcomes.{bind_ok, ok_pair, Past, AtMost}
 use Rattle.ioa_syntax.proofs.Sound.{le_of}
-use Rattle.ioa_syntax.proofs.Productions.{AfterDeclaration, some_left, declaration_exact, declaration_some, declaration_leads, at_type, at_automaton, at_composition, at_end, all_exact}
+use Rattle.ioa_syntax.proofs.Productions.{AfterDeclaration, some_left, declaration_exact, declaration_some, declaration_leads, at_type, at_automaton, at_composition, at_invariant, at_end, all_exact}
 
 -- all of the tokens, as an outcome
 abbrev pub all : ℕ → Reader SourceTree
@@ -91,7 +91,7 @@ module _ (b : ℕ) (lines : ℕ → ℕ) where
 
   after_all : (es : SourceTree) (ts : List Tok) → SpellsSource es ts → AfterDeclaration ts
   after_all [] ts s = subst AfterDeclaration (sym s) at_end
-  after_all (e ∷ es) ts s = subst AfterDeclaration (sym s.4) (declaration_leads AfterDeclaration e s.0 s.1 at_type at_automaton at_composition s.2)
+  after_all (e ∷ es) ts s = subst AfterDeclaration (sym s.4) (declaration_leads AfterDeclaration e s.0 s.1 at_type at_automaton at_composition at_invariant s.2)
 
   -- what is read stays so at a greater depth
   deeper : (c : ℕ) → b ≤ c → (ts : List Tok) (d : DeclarationTree) (left : List Tok) → declaration b ts ≡ Ok (d, left) → declaration c ts ≡ Ok (d, left)

@@ -1,7 +1,7 @@
 -- How deep trees are: parentheses, operators, tuples and fields are one deeper than the deepest part, and so is a choice than the deepest
 -- statement in it.
 use Rattle.std.specs.Prelude.{ℕ, ◌+◌, max, List, [], ◌∷◌, Option, Some, None}
-use Rattle.ioa_syntax.specs.Tree.{Expr, number, truth, named, parens, prefix, binary, empty, make, select, Exprs, no_expr, also, VariableTree, ProposalTree, Stmt, assign, choose, Stmts, stop, seq, Arms, no_arm, arm, TransitionTree, AutomatonTree, InstanceTree, CompositionTree, DeclarationTree, declared_type, automaton, composition, SourceTree}
+use Rattle.ioa_syntax.specs.Tree.{Expr, number, truth, named, parens, prefix, binary, empty, make, select, Exprs, no_expr, also, VariableTree, ProposalTree, Stmt, assign, choose, Stmts, stop, seq, Arms, no_arm, arm, TransitionTree, AutomatonTree, InstanceTree, CompositionTree, DeclarationTree, declared_type, automaton, composition, invariant, SourceTree}
 
 abbrev mutual
   pub depth_of : Expr → ℕ
@@ -80,6 +80,7 @@ abbrev pub deep : DeclarationTree → ℕ
 deep (declared_type t) = 0
 deep (automaton a) = deep_automaton a
 deep (composition c) = deep_composition c
+deep (invariant i) = depth_of i.condition
 
 abbrev pub source_deep : SourceTree → ℕ
 source_deep ds = deepest deep ds

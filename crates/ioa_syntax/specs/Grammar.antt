@@ -1,5 +1,5 @@
 -- Which tokens spell a tree: the grammar, production by production. A language is a set of token lists.
-use Rattle.std.specs.Prelude.{◌≡◌, ℕ, ◌≤◌, ◌⊎◌, true, false, List, [], ◌∷◌, ◌++◌, Option, Some, None, IsTrue}
+use Rattle.std.specs.Prelude.{◌≡◌, ℕ, ◌≤◌, ◌⊎◌, Bool, true, false, List, [], ◌∷◌, ◌++◌, Option, Some, None, IsTrue}
 use Rattle.ioa_value.specs.declared.terminal.Terminal.{Terminal}
 use Rattle.ioa_value.specs.declared.terminal.Terminal.TheVariants as terminals
 use Rattle.ioa_lex.specs.Tokens as tokens
@@ -10,7 +10,7 @@ use Rattle.ioa_syntax.specs.declared.tree.Kind.TheVariants.{Input, Output, Inter
 use Rattle.ioa_syntax.specs.declared.tree.Infix.TheVariants.{Operator}
 use Rattle.ioa_syntax.specs.Operators.{stands_before, stands_between, encloses, level_of, left_of, right_of, operator_word, tightest}
 use Rattle.ioa_syntax.specs.Tree as tree
-use Rattle.ioa_syntax.specs.Tree.{Expr, number, truth, named, parens, prefix, binary, make, select, Exprs, no_expr, also, FieldTree, ConstantTree, positive, negative, truth_literal, reference, PositionTree, typed, only, EntryTree, VariableTree, ProposalTree, Stmt, assign, choose, Stmts, stop, seq, Arms, no_arm, arm, TransitionTree, AutomatonTree, InstanceTree, CompositionTree, FormTree, enumeration, tuple, sequence, TypeTree, DeclarationTree, declared_type, automaton, composition, SourceTree}
+use Rattle.ioa_syntax.specs.Tree.{Expr, number, truth, named, parens, prefix, binary, make, select, Exprs, no_expr, also, FieldTree, ConstantTree, positive, negative, truth_literal, reference, PositionTree, typed, only, EntryTree, VariableTree, ProposalTree, Stmt, assign, choose, Stmts, stop, seq, Arms, no_arm, arm, TransitionTree, AutomatonTree, CrashTree, InstanceTree, CompositionTree, InvariantTree, FormTree, enumeration, tuple, sequence, TypeTree, DeclarationTree, declared_type, automaton, composition, invariant, SourceTree}
 
 abbrev pub Language : Type 1
 Language = List Tok → Type 0
@@ -51,6 +51,11 @@ optional t L (Some x) = word t ▹ L x
 abbrev pub optional_list : {A : Type 0} → Terminal → (List A → Language) → List A → Language
 optional_list t L [] = nothing
 optional_list t L (x ∷ xs) = word t ▹ L (x ∷ xs)
+
+-- the word where it is so, and nothing where it is not
+abbrev pub flagged : Terminal → Bool → Language
+flagged t true = word t
+flagged t false = nothing
 
 -- each item after a separator
 abbrev pub each_after : {A : Type 0} → Terminal → (A → Language) → List A → Language
@@ -141,7 +146,7 @@ abbrev pub SpellsEntry : EntryTree → Language
 SpellsEntry e = word (kind_word e.kind) ▹ (called e.name ▹ optional_list terminals.Open SpellsPositions e.positions)
 
 abbrev pub SpellsVariable : VariableTree → Language
-SpellsVariable v = SpellsField v.field ▹ optional terminals.Becomes (SpellsExpr 0) v.start
+SpellsVariable v = flagged terminals.Stable v.stable ▹ (SpellsField v.field ▹ optional terminals.Becomes (SpellsExpr 0) v.start)
 
 abbrev pub SpellsProposal : ProposalTree → Language
 SpellsProposal p = called p.name ▹ (word terminals.Becomes ▹ SpellsExpr 0 p.value)
@@ -193,8 +198,14 @@ SpellsAutomaton a =
 abbrev pub SpellsArguments : List Expr → Language
 SpellsArguments es = separated terminals.Comma (SpellsExpr 0) es ▹ word terminals.Close
 
+-- after the word `crash`
+abbrev pub SpellsCrash : CrashTree → Language
+SpellsCrash c = called c.crash ▹ (word terminals.Recover ▹ called c.recover)
+
 abbrev pub SpellsInstance : InstanceTree → Language
-SpellsInstance i = called i.name ▹ (word terminals.Colon ▹ (called i.automaton ▹ optional_list terminals.Open SpellsArguments i.arguments))
+SpellsInstance i =
+    called i.name ▹ (word terminals.Colon ▹ (called i.automaton
+    ▹ (optional_list terminals.Open SpellsArguments i.arguments ▹ optional terminals.Crash SpellsCrash i.crash)))
 
 abbrev pub SpellsInstances : List InstanceTree → Language
 SpellsInstances is = terminated terminals.Semicolon SpellsInstance is
@@ -219,12 +230,20 @@ SpellsForm (sequence most of) = word terminals.Seq ▹ (single (tokens.number mo
 abbrev pub SpellsType : TypeTree → Language
 SpellsType t = called t.name ▹ (word terminals.Equal ▹ SpellsForm t.form)
 
+-- ---- invariants
+
+-- after the word `invariant`
+abbrev pub SpellsInvariant : InvariantTree → Language
+SpellsInvariant i =
+    word terminals.Of ▹ (called i.automaton ▹ (word terminals.Colon ▹ (SpellsExpr 0 i.condition ▹ perhaps terminals.Semicolon)))
+
 -- ---- sources
 
 abbrev pub SpellsDeclaration : DeclarationTree → Language
 SpellsDeclaration (declared_type t) = word terminals.Type ▹ SpellsType t
 SpellsDeclaration (automaton a) = word terminals.Automaton ▹ SpellsAutomaton a
 SpellsDeclaration (composition c) = word terminals.Composition ▹ SpellsComposition c
+SpellsDeclaration (invariant i) = word terminals.Invariant ▹ SpellsInvariant i
 
 -- These tokens, all of them, spell the source.
 abbrev pub SpellsSource : SourceTree → Language

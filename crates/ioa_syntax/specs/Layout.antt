@@ -1,5 +1,5 @@
 -- The text that `print` writes: after each token stands a space, or LF at the end of a line.
-use Rattle.std.specs.Prelude.{ℕ, true, false, if◌then◌else◌, List, [], ◌∷◌, ◌++◌, Option, Some, None}
+use Rattle.std.specs.Prelude.{ℕ, Bool, true, false, if◌then◌else◌, List, [], ◌∷◌, ◌++◌, Option, Some, None}
 use Rattle.std.specs.List.{flat_map}
 use Rattle.std.specs.Fmt.{decimal}
 use Rattle.ioa_value.specs.declared.terminal.Terminal.{Terminal}
@@ -7,7 +7,7 @@ use Rattle.ioa_value.specs.declared.terminal.Terminal.TheVariants as terminals
 use Rattle.ioa_value.specs.Spelling.{spelling_of}
 use Rattle.ioa_value.specs.Actions.{Name}
 use Rattle.ioa_syntax.specs.Tree as tree
-use Rattle.ioa_syntax.specs.Tree.{Expr, truth, named, parens, prefix, binary, make, select, Exprs, no_expr, also, FieldTree, ConstantTree, positive, negative, truth_literal, reference, PositionTree, typed, only, EntryTree, VariableTree, ProposalTree, Stmt, assign, choose, Stmts, stop, seq, Arms, no_arm, arm, TransitionTree, AutomatonTree, InstanceTree, CompositionTree, FormTree, enumeration, tuple, sequence, TypeTree, DeclarationTree, declared_type, automaton, composition, SourceTree}
+use Rattle.ioa_syntax.specs.Tree.{Expr, truth, named, parens, prefix, binary, make, select, Exprs, no_expr, also, FieldTree, ConstantTree, positive, negative, truth_literal, reference, PositionTree, typed, only, EntryTree, VariableTree, ProposalTree, Stmt, assign, choose, Stmts, stop, seq, Arms, no_arm, arm, TransitionTree, AutomatonTree, CrashTree, InstanceTree, CompositionTree, InvariantTree, FormTree, enumeration, tuple, sequence, TypeTree, DeclarationTree, declared_type, automaton, composition, invariant, SourceTree}
 use Rattle.ioa_syntax.specs.declared.tree.Infix.TheVariants.{Operator}
 use Rattle.ioa_syntax.specs.Operators.{operator_word, stands_around}
 use Rattle.ioa_syntax.specs.Grammar.{kind_word}
@@ -59,6 +59,11 @@ before_list (x ∷ xs) = space
 abbrev pub before_option : {A : Type 0} → Option A → ℕ
 before_option None = line
 before_option (Some x) = space
+
+-- the word where it is so, and nothing where it is not
+abbrev pub text_flag : Terminal → Bool → List ℕ
+text_flag t true = text_word space t
+text_flag t false = []
 
 -- ---- expressions, with the byte after the last token
 
@@ -117,7 +122,7 @@ abbrev pub text_entry : EntryTree → List ℕ
 text_entry e = text_word space (kind_word e.kind) ++ (text_name (before_list e.positions) e.name ++ text_parens text_position e.positions)
 
 abbrev pub text_variable : VariableTree → List ℕ
-text_variable v = text_field (before_option v.start) v.field ++ text_option (text_word space terminals.Becomes) v.start
+text_variable v = text_flag terminals.Stable v.stable ++ (text_field (before_option v.start) v.field ++ text_option (text_word space terminals.Becomes) v.start)
 
 -- an assignment or a proposal
 abbrev pub text_binding : Name → Expr → List ℕ
@@ -189,10 +194,17 @@ text_form (sequence most of) = text_word space terminals.Seq ++ (text_number spa
 abbrev pub text_type : TypeTree → List ℕ
 text_type t = text_name space t.name ++ (text_word space terminals.Equal ++ text_form t.form)
 
--- ---- compositions and sources
+-- ---- compositions, invariants and sources
+
+-- crash and recover, on a line, or nothing
+abbrev pub text_crash : Option CrashTree → List ℕ
+text_crash None = []
+text_crash (Some c) = text_word space terminals.Crash ++ (text_name space c.crash ++ (text_word space terminals.Recover ++ text_name line c.recover))
 
 abbrev pub text_instance : InstanceTree → List ℕ
-text_instance i = text_name space i.name ++ (text_word space terminals.Colon ++ (text_name (before_list i.arguments) i.automaton ++ text_parens (text_expr space) i.arguments))
+text_instance i =
+    text_name space i.name ++ (text_word space terminals.Colon
+    ++ (text_name (before_list i.arguments) i.automaton ++ (text_parens (text_expr space) i.arguments ++ text_crash i.crash)))
 
 -- names after their word, each on a line, or nothing
 abbrev pub text_hidden : List Name → List ℕ
@@ -202,10 +214,14 @@ abbrev pub text_composition : CompositionTree → List ℕ
 text_composition c =
     text_name space c.name ++ (text_word line terminals.Components ++ (text_list terminals.Semicolon text_instance c.instances ++ text_hidden c.hidden))
 
+abbrev pub text_invariant : InvariantTree → List ℕ
+text_invariant i = text_word space terminals.Of ++ (text_name space i.automaton ++ (text_word space terminals.Colon ++ text_expr line i.condition))
+
 abbrev pub text_declaration : DeclarationTree → List ℕ
 text_declaration (declared_type t) = text_word space terminals.Type ++ text_type t
 text_declaration (automaton a) = text_word space terminals.Automaton ++ text_automaton a
 text_declaration (composition c) = text_word space terminals.Composition ++ text_composition c
+text_declaration (invariant i) = text_word space terminals.Invariant ++ text_invariant i
 
 -- the source's text
 abbrev pub text_source : SourceTree → List ℕ

@@ -20,3 +20,5 @@ pub mod Domains
 pub mod WellFormed
 pub mod Answers
 pub mod Compositions
+pub mod Invariants
+pub mod Hosts

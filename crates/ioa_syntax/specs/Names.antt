@@ -3,7 +3,7 @@ use Rattle.std.specs.Prelude.{List, [], ◌∷◌, ◌++◌, Option, Some, None,
 use Rattle.std.specs.List.{flat_map}
 use Rattle.ioa_value.specs.Actions.{Name}
 use Rattle.ioa_value.specs.Names.{IsName}
-use Rattle.ioa_syntax.specs.Tree.{Expr, number, truth, named, parens, prefix, binary, empty, make, select, Exprs, no_expr, also, FieldTree, ConstantTree, positive, negative, truth_literal, reference, PositionTree, typed, only, EntryTree, VariableTree, ProposalTree, Stmt, assign, choose, Stmts, stop, seq, Arms, no_arm, arm, TransitionTree, AutomatonTree, InstanceTree, CompositionTree, FormTree, enumeration, tuple, sequence, TypeTree, DeclarationTree, declared_type, automaton, composition, SourceTree}
+use Rattle.ioa_syntax.specs.Tree.{Expr, number, truth, named, parens, prefix, binary, empty, make, select, Exprs, no_expr, also, FieldTree, ConstantTree, positive, negative, truth_literal, reference, PositionTree, typed, only, EntryTree, VariableTree, ProposalTree, Stmt, assign, choose, Stmts, stop, seq, Arms, no_arm, arm, TransitionTree, AutomatonTree, CrashTree, InstanceTree, CompositionTree, InvariantTree, FormTree, enumeration, tuple, sequence, TypeTree, DeclarationTree, declared_type, automaton, composition, invariant, SourceTree}
 
 abbrev mutual
   pub names_of_expr : Expr → List Name
@@ -68,8 +68,12 @@ names_of_automaton a =
     a.name ∷ (flat_map names_of_field a.formals ++ (flat_map names_of_entry a.entries
     ++ (flat_map names_of_variable a.variables ++ flat_map names_of_transition a.transitions)))
 
+abbrev pub names_of_crash : Option CrashTree → List Name
+names_of_crash None = []
+names_of_crash (Some c) = c.crash ∷ c.recover ∷ []
+
 abbrev pub names_of_instance : InstanceTree → List Name
-names_of_instance i = i.name ∷ i.automaton ∷ flat_map names_of_expr i.arguments
+names_of_instance i = i.name ∷ i.automaton ∷ (flat_map names_of_expr i.arguments ++ names_of_crash i.crash)
 
 abbrev pub names_of_composition : CompositionTree → List Name
 names_of_composition c = c.name ∷ (flat_map names_of_instance c.instances ++ c.hidden)
@@ -82,10 +86,14 @@ names_of_form (sequence most of) = of ∷ []
 abbrev pub names_of_type : TypeTree → List Name
 names_of_type t = t.name ∷ names_of_form t.form
 
+abbrev pub names_of_invariant : InvariantTree → List Name
+names_of_invariant i = i.automaton ∷ names_of_expr i.condition
+
 abbrev pub names_of_declaration : DeclarationTree → List Name
 names_of_declaration (declared_type t) = names_of_type t
 names_of_declaration (automaton a) = names_of_automaton a
 names_of_declaration (composition c) = names_of_composition c
+names_of_declaration (invariant i) = names_of_invariant i
 
 abbrev pub names_in : SourceTree → List Name
 names_in s = flat_map names_of_declaration s

@@ -17,7 +17,7 @@ use Rattle.ioa_syntax.specs.declared.fault.ReadError.TheVariants as errors
 use Rattle.ioa_syntax.specs.declared.tree.Kind.{Kind}
 use Rattle.ioa_syntax.specs.declared.tree.Kind.TheVariants as kinds
 use Rattle.ioa_syntax.specs.Tree as tree
-use Rattle.ioa_syntax.specs.Tree.{Expr, truth, named, parens, prefix, binary, make, select, Exprs, no_expr, also, FieldTree, ConstantTree, positive, negative, truth_literal, reference, PositionTree, typed, only, EntryTree, VariableTree, ProposalTree, Stmt, assign, choose, Stmts, stop, seq, Arms, no_arm, arm, TransitionTree, AutomatonTree, InstanceTree, CompositionTree, FormTree, enumeration, tuple, TypeTree, DeclarationTree, declared_type, automaton, composition, SourceTree}
+use Rattle.ioa_syntax.specs.Tree.{Expr, truth, named, parens, prefix, binary, make, select, Exprs, no_expr, also, FieldTree, ConstantTree, positive, negative, truth_literal, reference, PositionTree, typed, only, EntryTree, VariableTree, ProposalTree, Stmt, assign, choose, Stmts, stop, seq, Arms, no_arm, arm, TransitionTree, AutomatonTree, CrashTree, InstanceTree, CompositionTree, InvariantTree, FormTree, enumeration, tuple, TypeTree, DeclarationTree, declared_type, automaton, composition, invariant, SourceTree}
 use Rattle.ioa_syntax.specs.Depth.{depth_of}
 use Rattle.ioa_syntax.specs.declared.tree.Infix.{Infix}
 use Rattle.ioa_syntax.specs.declared.tree.Infix.TheVariants.{Operator}
@@ -379,11 +379,20 @@ entry = built (λ p. record { kind = p.0; name = p.1.0; positions = p.1.1 }) (a_
 unfoldable pub entries : Reader (List EntryTree)
 entries = terminated sees_kind terminals.Semicolon entry
 
+-- whether the word comes next
+unfoldable pub flag : Terminal → Reader Bool
+flag t ts = Ok (sees t ts, after t ts)
+
 unfoldable pub variable : ℕ → Reader VariableTree
-variable depth = built (λ p. record { field = p.0; start = p.1 }) (field ▸ optional terminals.Becomes (expression depth))
+variable depth =
+    built (λ p. record { stable = p.0; field = p.1.0; start = p.1.1 }) (flag terminals.Stable ▸ (field ▸ optional terminals.Becomes (expression depth)))
+
+-- the next token begins a variable
+unfoldable pub sees_variable : List Tok → Bool
+sees_variable ts = sees_name ts || sees terminals.Stable ts
 
 unfoldable pub variables : ℕ → Reader (List VariableTree)
-variables depth = terminated sees_name terminals.Semicolon (variable depth)
+variables depth = terminated sees_variable terminals.Semicolon (variable depth)
 
 unfoldable pub proposal : ℕ → Reader ProposalTree
 proposal depth = built (λ p. record { name = p.0; value = p.1.1 }) (a_name ▸ (sign terminals.Becomes ▸ expression depth))
@@ -459,10 +468,14 @@ an_automaton depth =
 unfoldable pub arguments : ℕ → Reader (List Expr)
 arguments depth = closing (separated terminals.Comma (expression depth))
 
+-- after the word `crash`
+unfoldable pub a_crash : Reader CrashTree
+a_crash = built (λ p. record { crash = p.0; recover = p.1.1 }) (a_name ▸ (sign terminals.Recover ▸ a_name))
+
 unfoldable pub instance : ℕ → Reader InstanceTree
 instance depth =
-    built (λ p. record { name = p.0; automaton = p.1.1.0; arguments = p.1.1.1 })
-    (a_name ▸ (sign terminals.Colon ▸ (a_name ▸ optional_list terminals.Open (arguments depth))))
+    built (λ p. record { name = p.0; automaton = p.1.1.0; arguments = p.1.1.1.0; crash = p.1.1.1.1 })
+    (a_name ▸ (sign terminals.Colon ▸ (a_name ▸ (optional_list terminals.Open (arguments depth) ▸ optional terminals.Crash a_crash))))
 
 unfoldable pub instances : ℕ → Reader (List InstanceTree)
 instances depth = terminated sees_name terminals.Semicolon (instance depth)
@@ -503,13 +516,25 @@ type_form ts = if sees terminals.Enum ts then an_enumeration (after terminals.En
 unfoldable pub a_type : Reader TypeTree
 a_type = built (λ p. record { name = p.0; form = p.1.1 }) (a_name ▸ (sign terminals.Equal ▸ type_form))
 
+-- after the word `invariant`
+unfoldable pub an_invariant : ℕ → Reader InvariantTree
+an_invariant depth =
+    built (λ p. record { automaton = p.1.0; condition = p.1.1.1.0 })
+    (sign terminals.Of ▸ (a_name ▸ (sign terminals.Colon ▸ (expression depth ▸ perhaps terminals.Semicolon))))
+
 -- an automaton or a composition
 unfoldable pub machine : ℕ → Reader DeclarationTree
 machine depth ts =
     if sees terminals.Automaton ts then built automaton (an_automaton depth) (after terminals.Automaton ts) else composed depth (after terminals.Automaton ts)
 
+-- all but a type
+unfoldable pub about_machines : ℕ → Reader DeclarationTree
+about_machines depth ts =
+    if sees terminals.Invariant ts then built invariant (an_invariant depth) (after terminals.Invariant ts) else machine depth (after terminals.Invariant ts)
+
 unfoldable pub declaration : ℕ → Reader DeclarationTree
-declaration depth ts = if sees terminals.Type ts then built declared_type a_type (after terminals.Type ts) else machine depth (after terminals.Type ts)
+declaration depth ts =
+    if sees terminals.Type ts then built declared_type a_type (after terminals.Type ts) else about_machines depth (after terminals.Type ts)
 
 -- ---- sources. A refusal names a line: lines gives that of the token before whose end so many tokens are left.
 

@@ -45,8 +45,9 @@ pub record EntryTree : Type 0 where
   pub name : Name
   pub positions : List PositionTree
 
--- a state variable, with its start expression where there is one
+-- a state variable, with its start expression where there is one; a crash keeps what is stable
 pub record VariableTree : Type 0 where
+  pub stable : Bool
   pub field : FieldTree
   pub start : Option Expr
 
@@ -84,11 +85,17 @@ pub record AutomatonTree : Type 0 where
   pub variables : List VariableTree
   pub transitions : List TransitionTree
 
--- a component: its name, its automaton's name and the arguments
+-- the names of the actions by which a component crashes and recovers
+pub record CrashTree : Type 0 where
+  pub crash : Name
+  pub recover : Name
+
+-- a component: its name, its automaton's name, the arguments, and its crash and recover, where it has them
 pub record InstanceTree : Type 0 where
   pub name : Name
   pub automaton : Name
   pub arguments : List Expr
+  pub crash : Option CrashTree
 
 -- a composition: its components, and the names of the outputs that it hides
 pub record CompositionTree : Type 0 where
@@ -106,10 +113,16 @@ pub record TypeTree : Type 0 where
   pub name : Name
   pub form : FormTree
 
+-- what is to hold in each state of an automaton: a condition on its variables and formals
+pub record InvariantTree : Type 0 where
+  pub automaton : Name
+  pub condition : Expr
+
 pub data DeclarationTree : Type 0 where
   declared_type : TypeTree → DeclarationTree
   automaton : AutomatonTree → DeclarationTree
   composition : CompositionTree → DeclarationTree
+  invariant : InvariantTree → DeclarationTree
 
 -- a source
 abbrev pub SourceTree : Type 0

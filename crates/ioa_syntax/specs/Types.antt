@@ -6,7 +6,7 @@ use Rattle.ioa_value.specs.Plain.{Val, truth, name, items, none}
 use Rattle.ioa_value.specs.Table.{Table, TupleField, Shape, names, fields, Declaration, basic, type_named, item_type, constant_named}
 use Rattle.ioa_value.specs.Table.{sequence as sequence_shape}
 use Rattle.ioa_value.specs.Typing.{is_of, first_of}
-use Rattle.ioa_syntax.specs.Tree.{FieldTree, FormTree, enumeration, tuple, sequence, TypeTree, declared_type, automaton, composition, SourceTree}
+use Rattle.ioa_syntax.specs.Tree.{FieldTree, FormTree, enumeration, tuple, sequence, TypeTree, declared_type, automaton, composition, invariant, SourceTree}
 
 -- ---- declared types
 
@@ -39,6 +39,7 @@ declared_from types [] = types
 declared_from types (declared_type d ∷ ds) = declared_from (with_type types d) ds
 declared_from types (automaton a ∷ ds) = declared_from types ds
 declared_from types (composition c ∷ ds) = declared_from types ds
+declared_from types (invariant i ∷ ds) = declared_from types ds
 
 -- the types that the source's expressions are of: Bool and Int, then those that it declares
 abbrev pub types_of : SourceTree → Table

@@ -20,14 +20,16 @@ use Rattle.ioa_syntax.specs.declared.tree.Statement.TheBlock.{Row_of-Arm, end_of
 use Rattle.ioa_syntax.specs.declared.tree.Arm.{Arm}
 use Rattle.ioa_syntax.specs.declared.tree.Transition.{Transition}
 use Rattle.ioa_syntax.specs.declared.tree.Automaton.{Automaton}
+use Rattle.ioa_syntax.specs.declared.tree.Crash.{Crash}
 use Rattle.ioa_syntax.specs.declared.tree.Instance.{Instance}
 use Rattle.ioa_syntax.specs.declared.tree.Assembly.{Assembly}
+use Rattle.ioa_syntax.specs.declared.tree.Invariant.{Invariant}
 use Rattle.ioa_syntax.specs.declared.tree.TypeForm.{TypeForm}
 use Rattle.ioa_syntax.specs.declared.tree.TypeForm.TheVariants as forms
 use Rattle.ioa_syntax.specs.declared.tree.TypeDeclaration.{TypeDeclaration}
 use Rattle.ioa_syntax.specs.declared.tree.Declaration.{Declaration}
 use Rattle.ioa_syntax.specs.declared.tree.Declaration.TheVariants as declarations
-use Rattle.ioa_syntax.specs.Tree.{Expr, number, truth, named, parens, prefix, binary, empty, make, select, Exprs, no_expr, also, FieldTree, ConstantTree, positive, negative, truth_literal, reference, PositionTree, typed, only, EntryTree, VariableTree, ProposalTree, Stmt, assign, choose, Stmts, stop, seq, Arms, no_arm, arm, TransitionTree, AutomatonTree, InstanceTree, CompositionTree, FormTree, enumeration, tuple, sequence, TypeTree, DeclarationTree, declared_type, automaton, composition, SourceTree}
+use Rattle.ioa_syntax.specs.Tree.{Expr, number, truth, named, parens, prefix, binary, empty, make, select, Exprs, no_expr, also, FieldTree, ConstantTree, positive, negative, truth_literal, reference, PositionTree, typed, only, EntryTree, VariableTree, ProposalTree, Stmt, assign, choose, Stmts, stop, seq, Arms, no_arm, arm, TransitionTree, AutomatonTree, CrashTree, InstanceTree, CompositionTree, InvariantTree, FormTree, enumeration, tuple, sequence, TypeTree, DeclarationTree, declared_type, automaton, composition, invariant, SourceTree}
 
 abbrev pub name_of : Name → actions.Name
 name_of n = string_bytes n.text
@@ -89,7 +91,7 @@ abbrev pub entry_of : Entry → EntryTree
 entry_of e = record { kind = e.kind; name = name_of e.name; positions = map position_of e.positions.items }
 
 abbrev pub variable_of : Variable → VariableTree
-variable_of v = record { field = field_of v.field; start = option_map expr_of v.start }
+variable_of v = record { stable = v.stable; field = field_of v.field; start = option_map expr_of v.start }
 
 abbrev pub proposal_of : Proposal → ProposalTree
 proposal_of p = record { name = name_of p.name; value = expr_of p.value }
@@ -138,8 +140,16 @@ automaton_of a = record {
   transitions = map transition_of a.transitions.items;
 }
 
+abbrev pub crash_of : Crash → CrashTree
+crash_of c = record { crash = name_of c.crash; recover = name_of c.recover }
+
 abbrev pub instance_of : Instance → InstanceTree
-instance_of i = record { name = name_of i.name; automaton = name_of i.automaton; arguments = map expr_of i.arguments.items }
+instance_of i = record {
+  name = name_of i.name;
+  automaton = name_of i.automaton;
+  arguments = map expr_of i.arguments.items;
+  crash = option_map crash_of i.crash;
+}
 
 abbrev pub assembly_of : Assembly → CompositionTree
 assembly_of c = record { name = name_of c.name; instances = map instance_of c.instances.items; hidden = map name_of c.hidden.items }
@@ -152,10 +162,14 @@ type_form_of (forms.Sequence most of line) = sequence most (name_of of)
 abbrev pub type_declaration_of : TypeDeclaration → TypeTree
 type_declaration_of t = record { name = name_of t.name; form = type_form_of t.form }
 
+abbrev pub invariant_of : Invariant → InvariantTree
+invariant_of i = record { automaton = name_of i.automaton; condition = expr_of i.condition }
+
 abbrev pub declaration_of : Declaration → DeclarationTree
 declaration_of (declarations.Type t) = declared_type (type_declaration_of t)
 declaration_of (declarations.Automaton a) = automaton (automaton_of a)
 declaration_of (declarations.Composition c) = composition (assembly_of c)
+declaration_of (declarations.Invariant i) = invariant (invariant_of i)
 
 -- the source's tree
 abbrev pub tree_of : List Declaration → SourceTree

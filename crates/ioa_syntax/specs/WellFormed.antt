@@ -15,11 +15,12 @@ use Rattle.ioa_syntax.specs.declared.tree.Infix.{Infix}
 use Rattle.ioa_syntax.specs.declared.tree.Infix.TheVariants.{Operator, And, Or, Implies}
 use Rattle.ioa_syntax.specs.declared.tree.Kind.{Kind}
 use Rattle.ioa_syntax.specs.declared.tree.Kind.TheVariants.{Input, Output, Internal}
-use Rattle.ioa_syntax.specs.Tree.{Expr, number, truth, named, parens, prefix, binary, empty, make, select, Exprs, no_expr, also, FieldTree, ConstantTree, positive, negative, truth_literal, reference, PositionTree, typed, only, EntryTree, VariableTree, ProposalTree, Stmt, assign, choose, Stmts, stop, seq, Arms, no_arm, arm, TransitionTree, AutomatonTree, InstanceTree, CompositionTree, FormTree, enumeration, tuple, sequence, TypeTree, DeclarationTree, declared_type, automaton, composition, SourceTree}
+use Rattle.ioa_syntax.specs.Tree.{Expr, number, truth, named, parens, prefix, binary, empty, make, select, Exprs, no_expr, also, FieldTree, ConstantTree, positive, negative, truth_literal, reference, PositionTree, typed, only, EntryTree, VariableTree, ProposalTree, Stmt, assign, choose, Stmts, stop, seq, Arms, no_arm, arm, TransitionTree, AutomatonTree, InstanceTree, CompositionTree, InvariantTree, FormTree, enumeration, tuple, sequence, TypeTree, DeclarationTree, declared_type, automaton, composition, invariant, SourceTree}
 use Rattle.ioa_syntax.specs.Meaning.{or_else}
 use Rattle.ioa_syntax.specs.Types.{types_of, sequence_named, constant_type}
 use Rattle.ioa_value.specs.declared.limits.Limits.{Limits}
 use Rattle.ioa_value.specs.declared.limits.TheConstants.{LIMITS}
+use Rattle.ioa_syntax.specs.Compositions.{automaton_named}
 use Rattle.ioa_syntax.specs.Instances.{field_names, variable_names}
 pub use Rattle.ioa_syntax.specs.Instances.{position_fields}
 
@@ -90,10 +91,12 @@ same_type None o = false
 abbrev pub has_ty : Table → Table → Context → Expr → ℕ → Bool
 has_ty types early c e ty = is_some_of (type_of types early c e) ty
 
-abbrev pub declared_name : DeclarationTree → Name
-declared_name (declared_type d) = d.name
-declared_name (automaton a) = a.name
-declared_name (composition c) = c.name
+-- the name that stands first in a declaration: that of what is declared, or of the automaton whose invariant it is
+abbrev pub first_name : DeclarationTree → Name
+first_name (declared_type d) = d.name
+first_name (automaton a) = a.name
+first_name (composition c) = c.name
+first_name (invariant i) = i.automaton
 
 -- the names of an enumeration
 abbrev pub constants_of : FormTree → List Name
@@ -106,6 +109,7 @@ abbrev pub declared_names : DeclarationTree → List Name
 declared_names (declared_type d) = d.name ∷ constants_of d.form
 declared_names (automaton a) = a.name ∷ []
 declared_names (composition c) = c.name ∷ []
+declared_names (invariant i) = []
 
 -- the names of the one global space
 abbrev pub global_names : SourceTree → List Name
@@ -255,6 +259,7 @@ abbrev pub is_automaton_of : Name → DeclarationTree → Bool
 is_automaton_of x (declared_type d) = false
 is_automaton_of x (automaton a) = bytes_eq a.name x
 is_automaton_of x (composition c) = false
+is_automaton_of x (invariant i) = false
 
 -- ---- limits
 
@@ -263,11 +268,19 @@ abbrev pub is_counted : DeclarationTree → Bool
 is_counted (declared_type d) = false
 is_counted (automaton a) = true
 is_counted (composition c) = true
+is_counted (invariant i) = false
 
 abbrev pub is_type_declaration : DeclarationTree → Bool
 is_type_declaration (declared_type d) = true
 is_type_declaration (automaton a) = false
 is_type_declaration (composition c) = false
+is_type_declaration (invariant i) = false
+
+abbrev pub is_invariant : DeclarationTree → Bool
+is_invariant (declared_type d) = false
+is_invariant (automaton a) = false
+is_invariant (composition c) = false
+is_invariant (invariant i) = true
 
 -- the nodes of a tree; a pair of parentheses is one
 abbrev mutual
@@ -336,11 +349,12 @@ module _ (most : Limits) where
   declaration_within (declared_type d) = form_within d.form
   declaration_within (automaton a) = automaton_within a
   declaration_within (composition c) = composition_within c
+  declaration_within (invariant i) = true
 
   -- automata and compositions are counted together
   abbrev pub source_within : SourceTree → Bool
   source_within s = nat_le (length (filter is_type_declaration s)) most.types && nat_le (length (filter is_counted s)) most.automata
-      && list_all declaration_within s
+      && nat_le (length (filter is_invariant s)) most.invariants && list_all declaration_within s
 
   -- no value of a type takes too many words
   abbrev pub types_narrow : SourceTree → Bool
@@ -366,12 +380,18 @@ module _ (t early : Table) where
   abbrev pub composition_fine : SourceTree → CompositionTree → Bool
   composition_fine before c = distinct (map (λ i. i.name) c.instances) && distinct c.hidden && list_all (instance_fine before) c.instances
 
+  -- an invariant is of an automaton declared before, and a Bool over its variables and formals
+  abbrev pub invariant_fine : SourceTree → InvariantTree → Bool
+  invariant_fine before i =
+      option_map_or (λ a. has_ty t early (held t early [] a) i.condition 0) (automaton_named before i.automaton) false
+
 module _ (types : Table) (globals : List Name) where
   -- a declaration names the types that are declared before it
   abbrev pub declaration_fine : SourceTree → DeclarationTree → Bool
   declaration_fine before (declared_type d) = type_fine (types_of before) d
   declaration_fine before (automaton a) = automaton_fine types (types_of before) globals a
   declaration_fine before (composition c) = composition_fine types (types_of before) before c
+  declaration_fine before (invariant i) = invariant_fine types (types_of before) before i
 
   -- each declaration is fine over those before it
   abbrev pub declarations_fine : SourceTree → SourceTree → Bool

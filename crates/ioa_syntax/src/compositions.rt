@@ -2,15 +2,16 @@
 
 ghost use Rattle.ioa_value.specs.declared.limits.TheConstants.{LIMITS};
 ghost use Rattle.std.specs.Prelude.{◌≡◌, map};
+ghost use Rattle.std.specs.Option.{option_map};
 ghost use Rattle.ioa_lex.specs.Tokens.{tokens_shown};
 ghost use Rattle.ioa_syntax.specs.Reading as spec;
 ghost use Rattle.ioa_syntax.specs.Reading.{Reads};
-ghost use Rattle.ioa_syntax.specs.View.{name_of, expr_of, instance_of, assembly_of};
+ghost use Rattle.ioa_syntax.specs.View.{name_of, expr_of, crash_of, instance_of, assembly_of};
 
 use crate::cursor::Cursor;
 use crate::expressions::whole_expression;
 use crate::fault::ReadError;
-use crate::tree::{Assembly, Expression, Instance, Name};
+use crate::tree::{Assembly, Crash, Expression, Instance, Name};
 use crate::types::name_list;
 use ioa_lex::Terminal;
 
@@ -41,7 +42,21 @@ fn arguments(cursor: &mut Cursor<'_>) -> Result<Vec<Expression>, ReadError>
     Ok(found)
 }
 
-/// A component: its name, its automaton's name, and the arguments.
+/// The names after the word `crash`, or none.
+#[tactic(auto, unfolding(crate::specs::Reading::optional, crate::specs::Reading::a_crash))]
+fn crash(cursor: &mut Cursor<'_>) -> Result<Option<Crash>, ReadError>
+    ensures { Reads (option_map crash_of) (spec.optional Terminal.Crash spec.a_crash (tokens_shown cursor.old)) result (tokens_shown cursor.new) }
+{
+    if !cursor.take(Terminal::Crash) {
+        return Ok(None);
+    }
+    let crash = cursor.name()?;
+    cursor.expect(Terminal::Recover)?;
+    let recover = cursor.name()?;
+    Ok(Some(Crash { crash, recover }))
+}
+
+/// A component: its name, its automaton's name, the arguments, and crash and recover.
 #[tactic(auto, unfolding(crate::specs::Reading::instance))]
 fn instance(cursor: &mut Cursor<'_>) -> Result<Instance, ReadError>
     ensures { Reads instance_of (spec.instance LIMITS.depth (tokens_shown cursor.old)) result (tokens_shown cursor.new) }
@@ -50,10 +65,12 @@ fn instance(cursor: &mut Cursor<'_>) -> Result<Instance, ReadError>
     cursor.expect(Terminal::Colon)?;
     let automaton = cursor.name()?;
     let arguments = arguments(cursor)?;
+    let crash = crash(cursor)?;
     Ok(Instance {
         name,
         automaton,
         arguments,
+        crash,
     })
 }
 

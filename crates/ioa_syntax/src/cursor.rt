@@ -268,4 +268,12 @@ impl<'a> Cursor<'a> {
     {
         self.sees_name() || self.sees(Terminal::If)
     }
+
+    /// Whether a variable comes next.
+    #[tactic(auto, unfolding(crate::specs::Reading::sees_variable))]
+    pub fn sees_variable(&self) -> bool
+        ensures { result ≡ spec.sees_variable (tokens_shown self.now) }
+    {
+        self.sees_name() || self.sees(Terminal::Stable)
+    }
 }

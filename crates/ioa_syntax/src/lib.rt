@@ -7,6 +7,7 @@ mod compositions;
 mod cursor;
 mod expressions;
 mod fault;
+mod invariants;
 mod laws;
 mod measured;
 mod operators;
@@ -28,6 +29,7 @@ pub use parsing::parse;
 pub use printing::print;
 pub use source::Source;
 pub use tree::{
-    Arm, Assembly, Automaton, Constant, Declaration, Entry, Expression, Field, Infix, Instance,
-    Kind, Name, Position, Proposal, Statement, Transition, TypeDeclaration, TypeForm, Variable,
+    Arm, Assembly, Automaton, Constant, Crash, Declaration, Entry, Expression, Field, Infix,
+    Instance, Invariant, Kind, Name, Position, Proposal, Statement, Transition, TypeDeclaration,
+    TypeForm, Variable,
 };

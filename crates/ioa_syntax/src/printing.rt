@@ -3,6 +3,7 @@
 mod automata;
 mod compositions;
 mod expressions;
+mod invariants;
 mod signatures;
 mod statements;
 mod types;
@@ -19,6 +20,7 @@ ghost use Rattle.ioa_syntax.specs.View.{declaration_of, tree_of};
 
 use crate::printing::automata::automaton;
 use crate::printing::compositions::composition;
+use crate::printing::invariants::invariant;
 use crate::printing::types::type_declaration;
 use crate::printing::words::{SPACE, word};
 use crate::source::Source;
@@ -42,6 +44,10 @@ fn declaration(text: &mut String, declaration: &Declaration) -> Result<(), OutOf
         Declaration::Composition(inner) => {
             word(text, Terminal::Composition, SPACE)?;
             composition(text, inner)
+        }
+        Declaration::Invariant(inner) => {
+            word(text, Terminal::Invariant, SPACE)?;
+            invariant(text, inner)
         }
     }
 }

@@ -5,8 +5,9 @@ ghost use Rattle.std.specs.Option.{option_map};
 ghost use Rattle.ioa_syntax.specs.View.{expr_of, exprs_of, stmt_of, stmts_of, arm_of, arms_of};
 
 use crate::tree::{
-    Arm, Assembly, Automaton, Constant, Declaration, Entry, Expression, Field, Instance, Name,
-    Position, Proposal, Statement, Transition, TypeDeclaration, TypeForm, Variable,
+    Arm, Assembly, Automaton, Constant, Crash, Declaration, Entry, Expression, Field, Instance,
+    Invariant, Name, Position, Proposal, Statement, Transition, TypeDeclaration, TypeForm,
+    Variable,
 };
 
 /// Values that stand for trees.
@@ -100,8 +101,8 @@ impl Same for Expression {
     }
 }
 
-fn same_option(this: &Option<Expression>, that: &Option<Expression>) -> bool
-    ensures { IsTrue result ↔ (option_map expr_of this.now ≡ option_map expr_of that.now) }
+fn same_option<T: Same>(this: &Option<T>, that: &Option<T>) -> bool
+    ensures { IsTrue result ↔ (option_map T.tree this.now ≡ option_map T.tree that.now) }
 {
     match (this, that) {
         (Some(a), Some(b)) => a.same(b),
@@ -183,7 +184,9 @@ impl Same for Variable {
     ghost tree = { variable_of };
 
     fn same(&self, other: &Variable) -> bool {
-        self.field.same(&other.field) && same_option(&self.start, &other.start)
+        self.stable == other.stable
+            && self.field.same(&other.field)
+            && same_option(&self.start, &other.start)
     }
 }
 
@@ -298,6 +301,19 @@ impl Same for Automaton {
     }
 }
 
+impl Same for Crash {
+    ghost use Rattle.ioa_syntax.specs.Tree.{CrashTree};
+    ghost use Rattle.ioa_syntax.specs.View.{crash_of};
+
+    ghost Tree = { CrashTree };
+
+    ghost tree = { crash_of };
+
+    fn same(&self, other: &Crash) -> bool {
+        self.crash.same(&other.crash) && self.recover.same(&other.recover)
+    }
+}
+
 impl Same for Instance {
     ghost use Rattle.ioa_syntax.specs.Tree.{InstanceTree};
     ghost use Rattle.ioa_syntax.specs.View.{instance_of};
@@ -310,6 +326,7 @@ impl Same for Instance {
         self.name.same(&other.name)
             && self.automaton.same(&other.automaton)
             && same_list(&self.arguments, &other.arguments)
+            && same_option(&self.crash, &other.crash)
     }
 }
 
@@ -325,6 +342,19 @@ impl Same for Assembly {
         self.name.same(&other.name)
             && same_list(&self.instances, &other.instances)
             && same_list(&self.hidden, &other.hidden)
+    }
+}
+
+impl Same for Invariant {
+    ghost use Rattle.ioa_syntax.specs.Tree.{InvariantTree};
+    ghost use Rattle.ioa_syntax.specs.View.{invariant_of};
+
+    ghost Tree = { InvariantTree };
+
+    ghost tree = { invariant_of };
+
+    fn same(&self, other: &Invariant) -> bool {
+        self.automaton.same(&other.automaton) && self.condition.same(&other.condition)
     }
 }
 
@@ -372,6 +402,7 @@ impl Same for Declaration {
             (Declaration::Type(a), Declaration::Type(b)) => a.same(b),
             (Declaration::Automaton(a), Declaration::Automaton(b)) => a.same(b),
             (Declaration::Composition(a), Declaration::Composition(b)) => a.same(b),
+            (Declaration::Invariant(a), Declaration::Invariant(b)) => a.same(b),
             _ => false,
         }
     }

@@ -9,7 +9,7 @@ use crate::sameness::same_list;
 use crate::tree::Declaration;
 use std::marker::Model;
 
-/// A source: types, automata and compositions in order. Some text spells it, and no expression is more than 64 deep.
+/// A source: types, automata, compositions and invariants in order. Some text spells it, and no expression is more than 64 deep.
 #[derive(Drop)]
 pub struct Source {
     declarations: Vec<Declaration>,

@@ -11,6 +11,7 @@ use crate::automata::automaton;
 use crate::compositions::composition;
 use crate::cursor::Cursor;
 use crate::fault::{Fault, ReadError};
+use crate::invariants::invariant;
 use crate::tree::Declaration;
 use crate::types::type_declaration;
 use ioa_lex::{Refusal, Terminal, Token};
@@ -36,7 +37,19 @@ fn machine(cursor: &mut Cursor<'_>) -> Result<Declaration, ReadError>
     }
 }
 
-/// A type, an automaton or a composition.
+/// An automaton, a composition or an invariant.
+#[tactic(auto, unfolding(crate::specs::Reading::about_machines))]
+fn about_machines(cursor: &mut Cursor<'_>) -> Result<Declaration, ReadError>
+    ensures { Reads declaration_of (spec.about_machines LIMITS.depth (tokens_shown cursor.old)) result (tokens_shown cursor.new) }
+{
+    if cursor.take(Terminal::Invariant) {
+        Ok(Declaration::Invariant(invariant(cursor)?))
+    } else {
+        machine(cursor)
+    }
+}
+
+/// A type, or what is about automata.
 #[tactic(auto, unfolding(crate::specs::Reading::declaration))]
 fn declaration(cursor: &mut Cursor<'_>) -> Result<Declaration, ReadError>
     ensures { Reads declaration_of (spec.declaration LIMITS.depth (tokens_shown cursor.old)) result (tokens_shown cursor.new) }
@@ -44,7 +57,7 @@ fn declaration(cursor: &mut Cursor<'_>) -> Result<Declaration, ReadError>
     if cursor.take(Terminal::Type) {
         Ok(Declaration::Type(type_declaration(cursor)?))
     } else {
-        machine(cursor)
+        about_machines(cursor)
     }
 }
 

@@ -26,13 +26,18 @@ fn start(cursor: &mut Cursor<'_>) -> Result<Option<Expression>, ReadError>
 }
 
 /// A variable with its start expression, if it has one.
-#[tactic(auto, unfolding(crate::specs::Reading::variable))]
+#[tactic(auto, unfolding(crate::specs::Reading::variable, crate::specs::Reading::flag))]
 fn variable(cursor: &mut Cursor<'_>) -> Result<Variable, ReadError>
     ensures { Reads variable_of (spec.variable LIMITS.depth (tokens_shown cursor.old)) result (tokens_shown cursor.new) }
 {
+    let stable = cursor.take(Terminal::Stable);
     let field = field(cursor)?;
     let start = start(cursor)?;
-    Ok(Variable { field, start })
+    Ok(Variable {
+        stable,
+        field,
+        start,
+    })
 }
 
 #[tactic(auto, unfolding(crate::specs::Reading::variables, crate::specs::Reading::terminated), using(crate::proofs::Turns::items_turn, crate::proofs::Turns::items_close, crate::proofs::Turns::items_fail, crate::proofs::Turns::items_spent))]
@@ -42,7 +47,7 @@ fn variables(cursor: &mut Cursor<'_>) -> Result<Vec<Variable>, ReadError>
     let mut found = Vec::new(cursor.alloc());
     for _turn in 0..cursor.left() {
         found.push(variable(cursor)?)?;
-        if !cursor.take(Terminal::Semicolon) || !cursor.sees_name() {
+        if !cursor.take(Terminal::Semicolon) || !cursor.sees_variable() {
             return Ok(found);
         }
     }

@@ -120,6 +120,8 @@ pub struct Entry {
 /// A state variable. Without a start expression it starts at the first value of its type.
 #[derive(Drop)]
 pub struct Variable {
+    /// Whether a crash keeps its value.
+    pub stable: bool,
     pub field: Field,
     pub start: Option<Expression>,
 }
@@ -168,12 +170,21 @@ pub struct Automaton {
     pub transitions: Vec<Transition>,
 }
 
+/// The names of the actions by which a component crashes and recovers.
+#[derive(Drop)]
+pub struct Crash {
+    pub crash: Name,
+    pub recover: Name,
+}
+
 /// A component of a composition: an automaton with its arguments.
 #[derive(Drop)]
 pub struct Instance {
     pub name: Name,
     pub automaton: Name,
     pub arguments: Vec<Expression>,
+    /// Where it is there, the component crashes and recovers.
+    pub crash: Option<Crash>,
 }
 
 /// A composition as it is declared.
@@ -203,10 +214,19 @@ pub struct TypeDeclaration {
     pub form: TypeForm,
 }
 
+/// An invariant as it is declared: what is to be true of each component of an automaton in each state.
+#[derive(Drop)]
+pub struct Invariant {
+    pub automaton: Name,
+    /// A condition on the automaton's variables and formals.
+    pub condition: Expression,
+}
+
 /// A declaration of a source.
 #[derive(Drop)]
 pub enum Declaration {
     Type(TypeDeclaration),
     Automaton(Automaton),
     Composition(Assembly),
+    Invariant(Invariant),
 }

@@ -32,6 +32,17 @@ fn optional(
     }
 }
 
+/// Writes a word where it is so.
+fn flag(text: &mut String, terminal: Terminal, stands: bool) -> Result<(), OutOfMemory>
+    ensures { OnOk result (string_bytes text.new ≡ string_bytes text.old ++ spec.text_flag terminal stands) }
+{
+    if stands {
+        word(text, terminal, SPACE)
+    } else {
+        Ok(())
+    }
+}
+
 fn variable(text: &mut String, variable: &Variable) -> Result<(), OutOfMemory>
     ensures { OnOk result (string_bytes text.new ≡ string_bytes text.old ++ spec.text_variable (variable_of variable.now)) }
 {
@@ -39,6 +50,7 @@ fn variable(text: &mut String, variable: &Variable) -> Result<(), OutOfMemory>
         None => LINE,
         Some(_) => SPACE,
     };
+    flag(text, Terminal::Stable, variable.stable)?;
     field(text, &variable.field, end)?;
     optional(text, Terminal::Becomes, &variable.start)
 }

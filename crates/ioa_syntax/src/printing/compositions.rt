@@ -1,15 +1,16 @@
 //! Compositions as they are printed.
 
 ghost use Rattle.std.specs.Prelude.{◌≡◌, ◌++◌, ◌<◌, map, OnOk};
+ghost use Rattle.std.specs.Option.{option_map};
 ghost use Rattle.std.specs.String.{string_bytes};
 ghost use Rattle.ioa_syntax.specs.Layout as spec;
-ghost use Rattle.ioa_syntax.specs.View.{name_of, expr_of, instance_of, assembly_of};
+ghost use Rattle.ioa_syntax.specs.View.{name_of, expr_of, crash_of, instance_of, assembly_of};
 
 use crate::printing::expressions::{expression, more_expressions};
 use crate::printing::signatures::before;
 use crate::printing::types::name_list;
 use crate::printing::words::{LINE, SPACE, name, word};
-use crate::tree::{Assembly, Expression, Instance, Name};
+use crate::tree::{Assembly, Crash, Expression, Instance, Name};
 use ioa_lex::Terminal;
 use ioa_value::OutOfMemory;
 
@@ -25,13 +26,29 @@ fn arguments(text: &mut String, arguments: &[Expression]) -> Result<(), OutOfMem
     word(text, Terminal::Close, LINE)
 }
 
+/// Writes by which actions a component crashes and recovers, or nothing.
+fn crash(text: &mut String, crash: &Option<Crash>) -> Result<(), OutOfMemory>
+    ensures { OnOk result (string_bytes text.new ≡ string_bytes text.old ++ spec.text_crash (option_map crash_of crash.now)) }
+{
+    match crash {
+        None => Ok(()),
+        Some(names) => {
+            word(text, Terminal::Crash, SPACE)?;
+            name(text, &names.crash, SPACE)?;
+            word(text, Terminal::Recover, SPACE)?;
+            name(text, &names.recover, LINE)
+        }
+    }
+}
+
 fn instance(text: &mut String, instance: &Instance) -> Result<(), OutOfMemory>
     ensures { OnOk result (string_bytes text.new ≡ string_bytes text.old ++ spec.text_instance (instance_of instance.now)) }
 {
     name(text, &instance.name, SPACE)?;
     word(text, Terminal::Colon, SPACE)?;
     name(text, &instance.automaton, before(&instance.arguments))?;
-    arguments(text, &instance.arguments)
+    arguments(text, &instance.arguments)?;
+    crash(text, &instance.crash)
 }
 
 fn more_instances(text: &mut String, instances: &[Instance]) -> Result<(), OutOfMemory>
