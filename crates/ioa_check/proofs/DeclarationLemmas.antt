@@ -1,6 +1,8 @@
 -- Declarations one after another: what is known before each, and what a fault of one is for the source.
-use Rattle.std.proofs.Common.{◌≡◌, inl, inr, ℕ, ◌+◌, ◌<◌, ◌≤◌, Bool, true, false, ◌&&◌, List, [], ◌∷◌, ◌++◌, take, drop, length, get_or, Result, Ok, Err, refl, sym, ap, subst, arith, ◌∙◌, append-nil, append_assoc, take-append-drop}
+use Rattle.std.proofs.Common.{◌≡◌, inl, inr, ℕ, ◌+◌, ◌<◌, ◌≤◌, Bool, true, false, cond, ◌&&◌, ◌||◌, List, [], ◌∷◌, ◌++◌, take, drop, length, get_or, Option, Some, None, is_some, option_map, Result, Ok, Err, refl, sym, ap, subst, arith, ◌∙◌, append-nil, append_assoc, take-append-drop}
+use Rattle.std.specs.List.{list_any}
 use Rattle.std.specs.Result.{IsErrAnd}
+use Rattle.std.specs.Str.{bytes_eq}
 use Rattle.std.proofs.lemmas.Bool.{and_left, and_right, and_parts, or_left, or_right, or_cases}
 use Rattle.std.proofs.lemmas.List.{map-append, length-append, drop_all}
 use Rattle.ioa_value.specs.Actions.{Name}
@@ -9,16 +11,18 @@ use Rattle.ioa_value.proofs.ItemLemmas.{drop_item, take_item}
 use Rattle.ioa_lex.specs.declared.refusal.Refusal.{Refusal}
 use Rattle.ioa_syntax.specs.declared.tree.Automaton.{Automaton}
 use Rattle.ioa_syntax.specs.declared.tree.Assembly.{Assembly}
+use Rattle.ioa_syntax.specs.declared.tree.Invariant.{Invariant}
 use Rattle.ioa_syntax.specs.declared.tree.Declaration.{Declaration}
 use Rattle.ioa_syntax.specs.declared.tree.Declaration.TheVariants as declarations
-use Rattle.ioa_syntax.specs.Tree.{TypeTree, DeclarationTree, declared_type, automaton, composition, SourceTree}
+use Rattle.ioa_syntax.specs.Tree.{TypeTree, AutomatonTree, DeclarationTree, declared_type, automaton, composition, invariant, SourceTree}
 use Rattle.ioa_syntax.specs.Types.{with_type, types_of}
-use Rattle.ioa_syntax.specs.View.{automaton_of, assembly_of, declaration_of, tree_of}
-use Rattle.ioa_syntax.specs.WellFormed.{type_fine, automaton_fine, composition_fine, declaration_fine, declarations_fine, is_type_declaration}
+use Rattle.ioa_syntax.specs.Compositions.{automaton_named}
+use Rattle.ioa_syntax.specs.View.{automaton_of, assembly_of, invariant_of, declaration_of, tree_of}
+use Rattle.ioa_syntax.specs.WellFormed.{type_fine, automaton_fine, composition_fine, invariant_fine, declaration_fine, declarations_fine, is_type_declaration, is_automaton_of}
 use Rattle.ioa_syntax.proofs.Declared.{declared-append, types_begin}
 use Rattle.ioa_check.specs.declared.known.Known.{Known}
 use Rattle.ioa_check.specs.Known.{whole, early}
-use Rattle.ioa_check.specs.Reasons.{in_form, in_types, in_automaton, in_composition, in_declaration, in_declarations}
+use Rattle.ioa_check.specs.Reasons.{Reasons, in_form, in_types, in_automaton, in_composition, in_invariant, in_declaration, in_declarations}
 use Rattle.ioa_check.specs.Types.{types_fine}
 use Rattle.ioa_check.specs.Verdicts.{Says}
 use Rattle.ioa_check.proofs.SayLemmas.{says-passed, split-at}
@@ -34,6 +38,7 @@ same_types : (before : SourceTree) (d : DeclarationTree) → is_type_declaration
 same_types before (declared_type d) e = absurd (cc)
 same_types before (automaton a) e = declared-append basic before (automaton a ∷ [])
 same_types before (composition c) e = declared-append basic before (composition c ∷ [])
+same_types before (invariant i) e = declared-append basic before (invariant i ∷ [])
 
 module _ (t : Table) (g : List Name) where
   -- a type that is not fine makes the declarations so
@@ -50,6 +55,8 @@ module _ (t : Table) (g : List Name) where
       and_right _ _ (types_fail (before ++ automaton a ∷ []) ds (ap (λ s. types_fine s ds) (same_types before (automaton a) refl) ∙ h))
   types_fail before (composition c ∷ ds) h =
       and_right _ _ (types_fail (before ++ composition c ∷ []) ds (ap (λ s. types_fine s ds) (same_types before (composition c) refl) ∙ h))
+  types_fail before (invariant i ∷ ds) h =
+      and_right _ _ (types_fail (before ++ invariant i ∷ []) ds (ap (λ s. types_fine s ds) (same_types before (invariant i) refl) ∙ h))
 
   -- a reason in a type is one in the declarations
   pub types_tell : (before ds : SourceTree) (r : Refusal) → in_types (types_of before) ds r ≡ true → in_declarations t g before ds r ≡ true
@@ -62,12 +69,37 @@ module _ (t : Table) (g : List Name) where
       or_right _ _ (types_tell (before ++ automaton a ∷ []) ds r (ap (λ s. in_types s ds r) (same_types before (automaton a) refl) ∙ h))
   types_tell before (composition c ∷ ds) r h =
       or_right _ _ (types_tell (before ++ composition c ∷ []) ds r (ap (λ s. in_types s ds r) (same_types before (composition c) refl) ∙ h))
+  types_tell before (invariant i ∷ ds) r h =
+      or_right _ _ (types_tell (before ++ invariant i ∷ []) ds r (ap (λ s. in_types s ds r) (same_types before (invariant i) refl) ∙ h))
 
   in_declarations-at : (before xs ys : SourceTree) (d : DeclarationTree) (r : Refusal) → in_declaration t g (before ++ xs) d r ≡ true
       → in_declarations t g before (xs ++ d ∷ ys) r ≡ true
   in_declarations-at before [] ys d r h = or_left _ _ (ap (λ b. in_declaration t g b d r) (sym (append-nil before)) ∙ h)
   in_declarations-at before (x ∷ xs) ys d r h =
       or_right _ _ (in_declarations-at (before ++ x ∷ []) xs ys d r (ap (λ b. in_declaration t g b d r) (append_assoc before (x ∷ []) xs) ∙ h))
+
+-- ---- automata
+
+automaton_there : (s : SourceTree) (x : Name) → is_some (automaton_named s x) ≡ list_any (is_automaton_of x) s
+automaton_there [] x = refl
+automaton_there (declared_type t ∷ ds) x = automaton_there ds x
+automaton_there (automaton a ∷ ds) x = first (bytes_eq a.name x) (automaton_there ds x)
+  where
+    first : (b : Bool) → is_some (automaton_named ds x) ≡ list_any (is_automaton_of x) ds
+        → is_some (cond b (Some a) (automaton_named ds x)) ≡ (b || list_any (is_automaton_of x) ds)
+    first true h = refl
+    first false h = h
+automaton_there (composition c ∷ ds) x = automaton_there ds x
+automaton_there (invariant i ∷ ds) x = automaton_there ds x
+
+-- an automaton is found where one of the name is declared
+pub automaton_found : {A : Type 0} (f : A → AutomatonTree) (o : Option A) (s : SourceTree) (x : Name) → option_map f o ≡ automaton_named s x
+    → is_some o ≡ list_any (is_automaton_of x) s
+automaton_found {A} f o s x h = same o ∙ ap is_some h ∙ automaton_there s x
+  where
+    same : (o : Option A) → is_some o ≡ is_some (option_map f o)
+    same (Some a) = refl
+    same None = refl
 
 -- ---- one declaration after another
 
@@ -92,6 +124,15 @@ module _ (t : Table) (g : List Name) (ds : List Declaration) (i : ℕ) (k : Know
       let begins = types_begin before (tree_of (drop i ds)) in
       let all : whole k ≡ types_of before ++ begins.more = r.table ∙ of ∙ ap types_of (sym split) ∙ begins.whole in
       ap (λ n. take n (whole k)) r.count ∙ ap (take (length (types_of before))) all ∙ take_length (types_of before) begins.more
+
+  -- what is said over the types that are known is said over those that are declared before
+  tables-say : {T : Type 0} (q : Result T Refusal) (fine : Table → Table → Bool) (why : Table → Table → Reasons)
+      → Says q (fine (whole k) (early k)) (why (whole k) (early k))
+      → Says q (fine t (types_of (tree_of (take i ds)))) (why t (types_of (tree_of (take i ds))))
+  tables-say q fine why h =
+      let Whole : Table → Type 0 = λ x. Says q (fine x (early k)) (why x (early k)) in
+      let Early : Table → Type 0 = λ x. Says q (fine t x) (why t x) in
+      subst Early early_is (subst Whole r.table h)
 
   module _ (d : Declaration) (l : i < length ds) (is : d ≡ get_or ds i d) where
     rest_is : tree_of (drop i ds) ≡ declaration_of d ∷ tree_of (drop (i + 1) ds)
@@ -151,6 +192,7 @@ module _ (t : Table) (g : List Name) (ds : List Declaration) (i : ℕ) (k : Know
         skipped types rest (declared_type x) e h = absurd (cc)
         skipped types rest (automaton x) e h = h
         skipped types rest (composition x) e h = h
+        skipped types rest (invariant x) e h = h
 
     -- a fault of the declaration is one of the source
     pub says-of_declarations : {T U : Type 0} (q : Result T Refusal) (o : Result U Refusal) (e : Refusal) → q ≡ Err e → IsErrAnd o (λ y. y ≡ e)
@@ -168,27 +210,36 @@ module _ (t : Table) (g : List Name) (ds : List Declaration) (i : ℕ) (k : Know
           sym here ∙ and_left _ _ h.1,
         )
 
-    -- what is said of an automaton, or of a composition
+    -- what is said of an automaton, of a composition or of an invariant
+    shown-says : {T : Type 0} (q : Result T Refusal) (x : DeclarationTree) → declaration_of d ≡ x
+        → Says q (declaration_fine t g (tree_of (take i ds)) x) (in_declaration t g (tree_of (take i ds)) x)
+        → Says q (declaration_fine t g (tree_of (take i ds)) (declaration_of d)) (in_declaration t g (tree_of (take i ds)) (declaration_of d))
+    shown-says q x shown h =
+        let Shown : DeclarationTree → Type 0 = λ y. Says q (declaration_fine t g (tree_of (take i ds)) y) (in_declaration t g (tree_of (take i ds)) y) in
+        subst Shown (sym shown) h
+
     pub automaton-says : {T : Type 0} (q : Result T Refusal) (a : Automaton) → d ≡ declarations.Automaton a
         → Says q (automaton_fine (whole k) (early k) g (automaton_of a)) (in_automaton (whole k) (early k) g (automaton_of a))
         → Says q (declaration_fine t g (tree_of (take i ds)) (declaration_of d)) (in_declaration t g (tree_of (take i ds)) (declaration_of d))
     automaton-says q a shown h =
-        let Whole : Table → Type 0 = λ x. Says q (automaton_fine x (early k) g (automaton_of a)) (in_automaton x (early k) g (automaton_of a)) in
-        let Early : Table → Type 0 = λ x. Says q (automaton_fine t x g (automaton_of a)) (in_automaton t x g (automaton_of a)) in
-        let Shown : DeclarationTree → Type 0 = λ x. Says q (declaration_fine t g (tree_of (take i ds)) x) (in_declaration t g (tree_of (take i ds)) x) in
-        subst Shown (sym (ap declaration_of shown)) (subst Early early_is (subst Whole r.table h))
+        shown-says q (automaton (automaton_of a)) (ap declaration_of shown)
+        (tables-say q (λ x y. automaton_fine x y g (automaton_of a)) (λ x y. in_automaton x y g (automaton_of a)) h)
 
     pub composition-says : {T : Type 0} (q : Result T Refusal) (c : Assembly) → d ≡ declarations.Composition c
         → Says q (composition_fine (whole k) (early k) (tree_of (take i ds)) (assembly_of c))
         (in_composition (whole k) (early k) (tree_of (take i ds)) (assembly_of c))
         → Says q (declaration_fine t g (tree_of (take i ds)) (declaration_of d)) (in_declaration t g (tree_of (take i ds)) (declaration_of d))
     composition-says q c shown h =
-        let Whole : Table → Type 0 = λ x. Says q (composition_fine x (early k) (tree_of (take i ds)) (assembly_of c))
-        (in_composition x (early k) (tree_of (take i ds)) (assembly_of c)) in
-        let Early : Table → Type 0 = λ x. Says q (composition_fine t x (tree_of (take i ds)) (assembly_of c))
-        (in_composition t x (tree_of (take i ds)) (assembly_of c)) in
-        let Shown : DeclarationTree → Type 0 = λ x. Says q (declaration_fine t g (tree_of (take i ds)) x) (in_declaration t g (tree_of (take i ds)) x) in
-        subst Shown (sym (ap declaration_of shown)) (subst Early early_is (subst Whole r.table h))
+        shown-says q (composition (assembly_of c)) (ap declaration_of shown)
+        (tables-say q (λ x y. composition_fine x y (tree_of (take i ds)) (assembly_of c)) (λ x y. in_composition x y (tree_of (take i ds)) (assembly_of c)) h)
+
+    pub invariant-says : {T : Type 0} (q : Result T Refusal) (v : Invariant) → d ≡ declarations.Invariant v
+        → Says q (invariant_fine (whole k) (early k) (tree_of (take i ds)) (invariant_of v))
+        (in_invariant (whole k) (early k) (tree_of (take i ds)) (invariant_of v))
+        → Says q (declaration_fine t g (tree_of (take i ds)) (declaration_of d)) (in_declaration t g (tree_of (take i ds)) (declaration_of d))
+    invariant-says q v shown h =
+        shown-says q (invariant (invariant_of v)) (ap declaration_of shown)
+        (tables-say q (λ x y. invariant_fine x y (tree_of (take i ds)) (invariant_of v)) (λ x y. in_invariant x y (tree_of (take i ds)) (invariant_of v)) h)
 
 pub reached_start : (t : Table) (g : List Name) (ds : List Declaration) (k : Known) → whole k ≡ t → k.count ≡ 2 → types_fine basic (tree_of ds) ≡ true
     → Reached t g ds 0 k

@@ -1,12 +1,13 @@
 -- Small sources that break rules, and the codes that have their reason in each: computed.
 use Rattle.std.proofs.Common.{◌≡◌, ℕ, List, [], ◌∷◌, ◌++◌, map, filter, Some, None, true, false, replicate, refl, codes}
+use Rattle.std.specs.List.{flat_map}
 use Rattle.std.specs.Option.{option_map_or}
 use Rattle.ioa_value.specs.Actions.{Name}
-use Rattle.ioa_value.specs.declared.operator.Op.TheVariants.{Eq, Add, Not}
+use Rattle.ioa_value.specs.declared.operator.Op.TheVariants.{Eq, Add, Le, Not}
 use Rattle.ioa_lex.specs.declared.refusal.Refusal.{Refusal}
 use Rattle.ioa_lex.specs.declared.refusal.Refusal.TheVariants.{DuplicateName, UnknownName, TypeMismatch, BadSignature, NoProposal, TooMany, TooWide}
 use Rattle.ioa_syntax.specs.declared.tree.Infix.TheVariants.{Operator, And}
-use Rattle.ioa_syntax.specs.Tree.{Expr, number, truth, named, prefix, binary, empty, make, select, no_expr, also, ConstantTree, positive, negative, truth_literal, reference, PositionTree, only, assign, choose, stop, seq, no_arm, arm, enumeration, tuple, sequence, automaton, composition, SourceTree}
+use Rattle.ioa_syntax.specs.Tree.{Expr, number, truth, named, prefix, binary, empty, make, select, no_expr, also, ConstantTree, positive, negative, truth_literal, reference, PositionTree, only, assign, choose, stop, seq, no_arm, arm, enumeration, tuple, sequence, automaton, composition, invariant, SourceTree}
 use Rattle.ioa_syntax.specs.WellFormed.{well_formed}
 use Rattle.ioa_syntax.proofs.Examples.{field, tick_entry, reset_entry, count_variable, tick_proposal, tick_transition, reset_transition, counter, one, source, with_formals, with_entries, with_variables, with_transitions, with_pre, with_proposals, with_effect, plain_variable, variables_from}
 use Rattle.ioa_syntax.proofs.TypeExamples.{of_type, type, kind, packet, three, cell, comparing, starting, one_type, nested, fields_from, sender}
@@ -301,3 +302,56 @@ hides_one_twice_in_vain = refl
 
 hides_too_many : told (hiding (replicate 65 (codes "tick"))) ≡ 5 ∷ 10 ∷ []
 hides_too_many = refl
+
+-- ---- invariants
+
+-- of an automaton of this name
+abbrev always : Name → Expr → SourceTree
+always x e = invariant (record { automaton = x; condition = e }) ∷ []
+
+-- c compared with the formal
+abbrev from_start : Expr
+from_start = binary (named (codes "start")) (Operator Le) (named (codes "c"))
+
+claims_a_truth : told (automaton counter ∷ always (codes "Counter") from_start) ≡ []
+claims_a_truth = refl
+
+-- an invariant has no name of its own
+claims_twice : told (automaton counter ∷ always (codes "Counter") from_start ++ always (codes "Counter") from_start) ≡ []
+claims_twice = refl
+
+claims_of_a_later_automaton : told (always (codes "Counter") from_start ++ automaton counter ∷ []) ≡ 6 ∷ []
+claims_of_a_later_automaton = refl
+
+claims_of_a_composition : told (source ++ always (codes "One") (truth true)) ≡ 6 ∷ []
+claims_of_a_composition = refl
+
+claims_a_number : told (automaton counter ∷ always (codes "Counter") (named (codes "c"))) ≡ 7 ∷ []
+claims_a_number = refl
+
+-- a parameter is no name for an invariant
+claims_of_a_parameter : told (automaton counter ∷ always (codes "Counter") (binary (named (codes "k")) (Operator Eq) (named (codes "c")))) ≡ 6 ∷ []
+claims_of_a_parameter = refl
+
+-- the cell of a kind, beside the counter
+abbrev kept : Expr
+kept = binary (named (codes "x")) (Operator Eq) (named (codes "x"))
+
+claims_of_another_automaton : told (automaton counter ∷ cell (of_type (codes "x") (codes "Int")) None ∷ always (codes "Counter") kept) ≡ 6 ∷ []
+claims_of_another_automaton = refl
+
+claims_of_its_own : told (automaton counter ∷ cell (of_type (codes "x") (codes "Int")) None ∷ always (codes "Cell") kept) ≡ []
+claims_of_its_own = refl
+
+-- an enumeration that is declared between the automaton and its invariant
+claims_of_constants : told (automaton counter ∷ kind ∷ always (codes "Counter") comparing) ≡ []
+claims_of_constants = refl
+
+claims_of_later_constants : told (automaton counter ∷ always (codes "Counter") comparing ++ kind ∷ []) ≡ 6 ∷ []
+claims_of_later_constants = refl
+
+claims_most : told (automaton counter ∷ flat_map (always (codes "Counter")) (replicate 256 (truth true))) ≡ []
+claims_most = refl
+
+claims_too_much : told (automaton counter ∷ flat_map (always (codes "Counter")) (replicate 257 (truth true))) ≡ 10 ∷ []
+claims_too_much = refl

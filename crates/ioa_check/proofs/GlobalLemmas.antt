@@ -14,8 +14,7 @@ use Rattle.ioa_value.proofs.NameLemmas.{distinct-again, distinct-append}
 use Rattle.ioa_lex.specs.declared.refusal.Refusal.{Refusal}
 use Rattle.ioa_syntax.specs.declared.tree.Declaration.{Declaration}
 use Rattle.ioa_syntax.specs.View.{declaration_of, tree_of}
-use Rattle.ioa_syntax.specs.Tree.{DeclarationTree, declared_type, automaton, composition}
-use Rattle.ioa_syntax.specs.WellFormed.{declared_name, declared_names, constants_of}
+use Rattle.ioa_syntax.specs.WellFormed.{declared_names}
 use Rattle.ioa_check.specs.Codes.{duplicate_name, tells}
 use Rattle.ioa_check.specs.Globals.{Adds}
 use Rattle.ioa_check.specs.Verdicts.{SaysOrMemory}
@@ -119,22 +118,10 @@ declared-append xs ys = ap (flat_map declared_names) (map-append declaration_of 
 pub declared-one : (d : Declaration) → all_declared (d ∷ []) ≡ declared_names (declaration_of d)
 declared-one d = append-nil (declared_names (declaration_of d))
 
--- the first name of a declaration is there already
-pub first-fails : {T U : Type 0} (q : Result T Refusal) (r : Result U Refusal) (e : Refusal) (old new end : List Name) (d : DeclarationTree) (n : Name)
-    → n ≡ declared_name d
-    → q ≡ Err e → IsErrAnd r (λ y. y ≡ e) → Adds q old (n ∷ []) new → Adds r old (declared_names d) end
-first-fails q r e old new end d n is was bad h = go d is
-  where
-    under : (ns : List Name) → Adds r old (n ∷ ns) end
-    under ns = adds-passed q r e old [] old (n ∷ []) ns new end (sym (append-nil old)) was bad h
-
-    at : (m : Name) (ns : List Name) → n ≡ m → Adds r old (m ∷ ns) end
-    at m ns same = let P : Name → Type 0 = λ x. Adds r old (x ∷ ns) end in subst P same (under ns)
-
-    go : (d : DeclarationTree) → n ≡ declared_name d → Adds r old (declared_names d) end
-    go (declared_type t) is = at t.name (constants_of t.form) is
-    go (automaton a) is = at a.name [] is
-    go (composition c) is = at c.name [] is
+-- the first of some names is there already
+pub first-fails : {T U : Type 0} (q : Result T Refusal) (r : Result U Refusal) (e : Refusal) (old ns new end : List Name) (n : Name)
+    → q ≡ Err e → IsErrAnd r (λ y. y ≡ e) → Adds q old (n ∷ []) new → Adds r old (n ∷ ns) end
+first-fails q r e old ns new end n was bad h = adds-passed q r e old [] old (n ∷ []) ns new end (sym (append-nil old)) was bad h
 
 pub adds-say : {T : Type 0} (r : Result T Refusal) (old more end : List Name) → IsErr r → Adds r old more end
     → SaysOrMemory r (distinct (old ++ more)) (tells duplicate_name)

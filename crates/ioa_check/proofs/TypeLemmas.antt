@@ -26,12 +26,12 @@ use Rattle.ioa_syntax.specs.declared.tree.TypeForm.TheVariants.{Tuple}
 use Rattle.ioa_syntax.specs.Instances.{field_names}
 use Rattle.ioa_syntax.specs.View.{name_of, field_of, type_form_of, type_declaration_of, declaration_of, tree_of}
 use Rattle.ioa_syntax.specs.Names.{names_of_type, names_of_form, names_of_declaration, LegalNames}
-use Rattle.ioa_syntax.specs.Tree.{FieldTree, FormTree, enumeration, tuple, sequence, TypeTree, DeclarationTree, declared_type, automaton, composition, SourceTree}
+use Rattle.ioa_syntax.specs.Tree.{FieldTree, FormTree, enumeration, tuple, sequence, TypeTree, DeclarationTree, declared_type, automaton, composition, invariant, SourceTree}
 use Rattle.ioa_syntax.specs.Types.{with_field, numbered, shape_of, declared, with_type, declared_from, types_of}
 use Rattle.ioa_syntax.specs.WellFormed.{is_type, declared_names, global_names, is_type_declaration, declaration_within, source_within, form_fine, type_fine, types_narrow}
 use Rattle.ioa_syntax.proofs.Declared.{declared_begins}
 use Rattle.ioa_syntax.proofs.LegalNames.{all_left}
-use Rattle.ioa_syntax.proofs.SourceTypes.{Ready, ready, adds, ready_type, ready_other, may_follow}
+use Rattle.ioa_syntax.proofs.SourceTypes.{Ready, ready, adds, ready_type, ready_other, ready_invariant, may_follow}
 use Rattle.ioa_syntax.proofs.Starts.{some_there}
 use Rattle.ioa_syntax.proofs.WidthLemmas.{narrow_there}
 use Rattle.ioa_check.specs.Codes.{duplicate_name, too_wide, tells}
@@ -226,6 +226,13 @@ made_other s types (composition c) rest e m = record {
   told = m.told;
   small = m.small;
 }
+made_other s types (invariant i) rest e m = record {
+  ready = ready_invariant types i rest m.ready;
+  reached = m.reached;
+  fine = m.fine;
+  told = m.told;
+  small = m.small;
+}
 
 -- all were added
 pub made_all : (s : SourceTree) (types : Table) → Making s types [] → ((types_fine basic s && types_narrow LIMITS s) ≡ true) × (types ≡ types_of s)
@@ -283,6 +290,7 @@ pub no_type : (d : Node) → ((t : TypeDeclaration) → d ≡ nodes.Type t → �
 no_type (nodes.Type t) h = absurd (h t refl)
 no_type (nodes.Automaton a) h = refl
 no_type (nodes.Composition c) h = refl
+no_type (nodes.Invariant i) h = refl
 
 module _ (s : SourceTree) (types : Table) (ds : List Node) (i : ℕ) (d : Node) (l : i < length ds) (is : d ≡ get_or ds i d)
     (m : Making s types (tree_of (drop i ds))) where

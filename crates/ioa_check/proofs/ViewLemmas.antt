@@ -6,9 +6,7 @@ use Rattle.ioa_syntax.specs.declared.tree.Variable.{Variable}
 use Rattle.ioa_syntax.specs.declared.tree.Entry.{Entry}
 use Rattle.ioa_syntax.specs.declared.tree.Proposal.{Proposal}
 use Rattle.ioa_syntax.specs.declared.tree.Instance.{Instance}
-use Rattle.ioa_syntax.specs.declared.tree.Declaration.{Declaration}
-use Rattle.ioa_syntax.specs.View.{name_of, field_of, variable_of, entry_of, proposal_of, instance_of, declaration_of}
-use Rattle.ioa_syntax.specs.WellFormed.{declared_name}
+use Rattle.ioa_syntax.specs.View.{name_of, field_of, variable_of, entry_of, proposal_of, instance_of}
 
 pub names-of_fields : (fs : List Field) → map (λ f. f.name) (map field_of fs) ≡ map (λ f. name_of f.name) fs
 names-of_fields fs = map-map (λ f. f.name) field_of fs
@@ -25,10 +23,7 @@ names-of_proposals ps = map-map (λ p. p.name) proposal_of ps
 pub names-of_instances : (is : List Instance) → map (λ i. i.name) (map instance_of is) ≡ map (λ i. name_of i.name) is
 names-of_instances is = map-map (λ i. i.name) instance_of is
 
-pub names-of_declarations : (ds : List Declaration) → map declared_name (map declaration_of ds) ≡ map (λ d. declared_name (declaration_of d)) ds
-names-of_declarations ds = map-map declared_name declaration_of ds
-
 pub fields-of_variables : (vs : List Variable) → map (λ v. v.field) (map variable_of vs) ≡ map (λ v. field_of v.field) vs
 fields-of_variables vs = map-map (λ v. v.field) variable_of vs
 
-pub ruleset views = (names-of_fields, names-of_variables, names-of_entries, names-of_proposals, names-of_instances, names-of_declarations, fields-of_variables)
+pub ruleset views = (names-of_fields, names-of_variables, names-of_entries, names-of_proposals, names-of_instances, fields-of_variables)

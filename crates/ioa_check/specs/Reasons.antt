@@ -7,11 +7,12 @@ use Rattle.ioa_value.specs.Arithmetic.{fits}
 use Rattle.ioa_value.specs.Operators.{op_type}
 use Rattle.ioa_value.specs.Table.{Table, type_named, item_type, field_types, field_place}
 use Rattle.ioa_lex.specs.declared.refusal.Refusal.{Refusal}
-use Rattle.ioa_syntax.specs.Tree.{Expr, number, truth, named, parens, prefix, binary, empty, make, select, Exprs, no_expr, also, ConstantTree, positive, negative, truth_literal, reference, PositionTree, typed, only, EntryTree, VariableTree, ProposalTree, Stmt, assign, choose, Stmts, stop, seq, Arms, no_arm, arm, TransitionTree, AutomatonTree, InstanceTree, CompositionTree, FormTree, enumeration, tuple, sequence, DeclarationTree, declared_type, automaton, composition, SourceTree}
+use Rattle.ioa_syntax.specs.Tree.{Expr, number, truth, named, parens, prefix, binary, empty, make, select, Exprs, no_expr, also, ConstantTree, positive, negative, truth_literal, reference, PositionTree, typed, only, EntryTree, VariableTree, ProposalTree, Stmt, assign, choose, Stmts, stop, seq, Arms, no_arm, arm, TransitionTree, AutomatonTree, InstanceTree, CompositionTree, InvariantTree, FormTree, enumeration, tuple, sequence, DeclarationTree, declared_type, automaton, composition, invariant, SourceTree}
 use Rattle.ioa_syntax.specs.Instances.{field_names}
 use Rattle.ioa_syntax.specs.Meaning.{or_else}
 use Rattle.ioa_value.specs.declared.limits.TheConstants.{LIMITS}
 use Rattle.ioa_syntax.specs.Types.{with_type, types_of, constant_type}
+use Rattle.ioa_syntax.specs.Compositions.{automaton_named}
 use Rattle.ioa_syntax.specs.WellFormed as well_formed
 use Rattle.ioa_syntax.specs.WellFormed.{Context, type_in, type_of, types_of_all, made_type, infix_type, distinct, apart, is_type, context_of, position_fields, parameter_names, variable_fields, is_input, is_automaton_of, global_names, source_within, types_narrow}
 use Rattle.ioa_check.specs.Codes.{Code, duplicate_name, unknown_name, type_mismatch, bad_signature, no_proposal, too_many, too_wide, tells}
@@ -194,11 +195,17 @@ module _ (t early : Table) where
   in_composition before c = broken duplicate_name (distinct (map (λ i. i.name) c.instances) && distinct c.hidden)
       or in_any (in_instance before) c.instances
 
+  -- an invariant: its automaton is declared before, and its condition is a truth value over that automaton's variables and formals
+  abbrev pub in_invariant : SourceTree → InvariantTree → Reasons
+  in_invariant before i = broken unknown_name (is_some (automaton_named before i.automaton))
+      or in_some (λ a. in_place t early (Some 0) (well_formed.held t early [] a) i.condition) (automaton_named before i.automaton)
+
 module _ (t : Table) (globals : List Name) where
   abbrev pub in_declaration : SourceTree → DeclarationTree → Reasons
   in_declaration before (declared_type d) = in_form (types_of before) d.form
   in_declaration before (automaton a) = in_automaton t (types_of before) globals a
   in_declaration before (composition c) = in_composition t (types_of before) before c
+  in_declaration before (invariant i) = in_invariant t (types_of before) before i
 
   -- each declaration, over those before it
   abbrev pub in_declarations : SourceTree → SourceTree → Reasons
@@ -211,6 +218,7 @@ in_types types [] = none
 in_types types (declared_type d ∷ ds) = in_form types d.form or in_types (with_type types d) ds
 in_types types (automaton a ∷ ds) = in_types types ds
 in_types types (composition c ∷ ds) = in_types types ds
+in_types types (invariant i ∷ ds) = in_types types ds
 
 abbrev pub in_source : SourceTree → Reasons
 in_source s = broken too_many (source_within LIMITS s) or broken duplicate_name (distinct (global_names s))

@@ -1,15 +1,18 @@
--- Declarations of a kind, and nodes of trees, counted no further than one past the limit.
-use Rattle.std.specs.Prelude.{◌≡◌, ℕ, ◌+◌, ◌<◌, ◌≤◌, Bool, true, false, min, Result, Ok, Err}
+-- Declarations that are counted together, and nodes of trees, counted no further than one past the limit.
+use Rattle.std.specs.Prelude.{◌≡◌, ℕ, ◌+◌, ◌<◌, ◌≤◌, Bool, true, min, Result, Ok, Err}
 use Rattle.ioa_value.specs.declared.limits.TheConstants.{LIMITS}
 use Rattle.ioa_lex.specs.declared.refusal.Refusal.{Refusal}
 use Rattle.ioa_syntax.specs.Tree.{Expr, Exprs, DeclarationTree}
-use Rattle.ioa_syntax.specs.WellFormed.{nodes, exprs_nodes, is_type_declaration, is_counted}
+use Rattle.ioa_syntax.specs.WellFormed.{nodes, exprs_nodes, is_type_declaration, is_counted, is_invariant}
+use Rattle.ioa_check.specs.declared.limits.Group.{Group}
+use Rattle.ioa_check.specs.declared.limits.Group.TheVariants.{Types, Machines, Invariants}
 use Rattle.ioa_check.specs.Codes.{too_many, tells}
 
--- a declaration of a type, or of an automaton or a composition
-abbrev pub is_of_kind : Bool → DeclarationTree → Bool
-is_of_kind true d = is_type_declaration d
-is_of_kind false d = is_counted d
+-- the declaration is one of the group
+abbrev pub is_among : Group → DeclarationTree → Bool
+is_among Types d = is_type_declaration d
+is_among Machines d = is_counted d
+is_among Invariants d = is_invariant d
 
 abbrev pub counted : Expr → ℕ
 counted e = min (nodes e) (LIMITS.nodes + 1)

@@ -6,7 +6,7 @@ use Rattle.ioa_value.specs.Names.{IsName}
 use Rattle.ioa_value.specs.Table.{Table, all_names, distinct}
 use Rattle.ioa_value.specs.Widths.{shape_width, widths}
 use Rattle.ioa_syntax.specs.Names.{names_of_type}
-use Rattle.ioa_syntax.specs.Tree.{TypeTree, declared_type, automaton, composition, SourceTree}
+use Rattle.ioa_syntax.specs.Tree.{TypeTree, declared_type, automaton, composition, invariant, SourceTree}
 use Rattle.ioa_syntax.specs.Types.{with_type, shape_of}
 use Rattle.ioa_syntax.specs.WellFormed.{form_within, type_fine, declared_names}
 
@@ -16,6 +16,7 @@ types_fine types [] = true
 types_fine types (declared_type d ∷ ds) = type_fine types d && types_fine (with_type types d) ds
 types_fine types (automaton a ∷ ds) = types_fine types ds
 types_fine types (composition c ∷ ds) = types_fine types ds
+types_fine types (invariant i ∷ ds) = types_fine types ds
 
 -- what a declaration keeps that comes after these types: there is room, it is within the limits, and its names are legal and new
 pub record ComesNext (types : Table) (d : TypeTree) : Type 0 where

@@ -1,6 +1,7 @@
-ghost use Rattle.std.specs.Prelude.{◌≡◌, ◌&&◌, [], map};
+ghost use Rattle.std.specs.Prelude.{◌≡◌, ◌&&◌, [], map, option_map};
 ghost use Rattle.std.specs.List.{list_all};
-ghost use Rattle.ioa_syntax.specs.View.{automaton_of, entry_of, variable_of};
+ghost use Rattle.ioa_syntax.specs.Compositions as compositions;
+ghost use Rattle.ioa_syntax.specs.View.{automaton_of, entry_of, variable_of, name_of, tree_of};
 ghost use Rattle.ioa_syntax.specs.WellFormed as well_formed;
 ghost use Rattle.ioa_check.specs.Globals.{texts};
 ghost use Rattle.ioa_check.specs.Known.{whole, early};
@@ -12,12 +13,29 @@ use crate::expressions::expect_type;
 use crate::fields::types_known;
 use crate::globals::apart_from_globals;
 use crate::known::Known;
-use crate::names::{apart, distinct};
+use crate::names::{apart, distinct, same_name};
 use crate::positions::{parameters_apart, parameters_distinct, positions_fine};
 use crate::scope::Scope;
 use crate::transitions::{one_to_one, transitions_fine};
 use indexmap::IndexSet;
-use ioa_syntax::{Automaton, Entry, Refusal, Variable};
+use ioa_syntax::{Automaton, Declaration, Entry, Name, Refusal, Variable};
+
+/// The automaton of this name.
+pub(crate) fn automaton_named<'a>(
+    declarations: &'a [Declaration],
+    name: &Name,
+) -> Option<&'a Automaton>
+    ensures { option_map (λ a. automaton_of a.now) result ≡ compositions.automaton_named (tree_of declarations.now) (name_of name.now) }
+{
+    for declaration in declarations {
+        if let Declaration::Automaton(automaton) = declaration
+            && same_name(&automaton.name, name)
+        {
+            return Some(automaton);
+        }
+    }
+    None
+}
 
 /// Whether an automaton is well formed beside these global names.
 pub(crate) fn automaton_fine(

@@ -12,12 +12,13 @@ ghost use Rattle.ioa_check.specs.Reasons as reasons;
 ghost use Rattle.ioa_check.specs.Types.{types_fine};
 ghost use Rattle.ioa_check.specs.Verdicts.{Says, SaysOrMemory};
 
-use crate::automata::automaton_fine;
+use crate::automata::{automaton_fine, automaton_named};
 use crate::expressions::type_of;
 use crate::globals::global_names;
+use crate::invariants::invariant_fine;
 use crate::known::Known;
 use crate::limits::source_within;
-use crate::names::{distinct, same_name};
+use crate::names::distinct;
 use crate::scope::Scope;
 use crate::types::source_types;
 use indexmap::IndexSet;
@@ -58,6 +59,9 @@ fn declarations_fine(
             Declaration::Automaton(automaton) => automaton_fine(&known, automaton, globals)?,
             Declaration::Composition(composition) => {
                 composition_fine(&known, &declarations[..i], composition)?
+            }
+            Declaration::Invariant(invariant) => {
+                invariant_fine(&known, &declarations[..i], invariant)?
             }
         }
     }
@@ -104,14 +108,7 @@ fn instance_fine(known: &Known, before: &[Declaration], instance: &Instance) -> 
 fn has_automaton(declarations: &[Declaration], name: &Name) -> bool
     ensures { result ≡ list_any (well_formed.is_automaton_of (name_of name.now)) (tree_of declarations.now) }
 {
-    for declaration in declarations {
-        if let Declaration::Automaton(automaton) = declaration
-            && same_name(&automaton.name, name)
-        {
-            return true;
-        }
-    }
-    false
+    automaton_named(declarations, name).is_some()
 }
 
 fn arguments_fine(known: &Known, arguments: &[Expression]) -> Result<(), Refusal>

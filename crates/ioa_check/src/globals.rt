@@ -1,5 +1,6 @@
 ghost use Rattle.std.specs.Prelude.{◌≡◌, [], ◌∷◌, IfOk, map};
-ghost use Rattle.ioa_syntax.specs.View.{name_of, declaration_of, tree_of};
+ghost use Rattle.ioa_syntax.specs.Tree.{declared_type};
+ghost use Rattle.ioa_syntax.specs.View.{name_of, declaration_of, type_declaration_of, type_form_of, tree_of};
 ghost use Rattle.ioa_syntax.specs.WellFormed as well_formed;
 ghost use Rattle.ioa_check.specs.Codes.{duplicate_name, tells};
 ghost use Rattle.ioa_check.specs.Verdicts.{Says, SaysOrMemory};
@@ -35,22 +36,29 @@ fn add_declared<'a>(
 ) -> Result<(), Refusal>
     ensures { Adds result (texts names.old) (well_formed.declared_names (declaration_of declaration.now)) (texts names.new) }
 {
-    add(names, declaration.name())?;
-    add_all(names, constants_of(declaration))
+    match declaration {
+        Declaration::Type(declared) => add_type(names, declared),
+        Declaration::Automaton(automaton) => add(names, &automaton.name),
+        Declaration::Composition(composition) => add(names, &composition.name),
+        Declaration::Invariant(_) => Ok(()),
+    }
 }
 
-/// The names of the enumeration that is declared, if one is.
-fn constants_of(declaration: &Declaration) -> &[Name]
-    ensures { well_formed.declared_names (declaration_of declaration.now) ≡ well_formed.declared_name (declaration_of declaration.now) ∷ map name_of result.now }
+/// Puts a type's name among the others, and those of the enumeration that it is, if it is one.
+fn add_type<'a>(names: &mut IndexSet<&'a str>, declared: &'a TypeDeclaration) -> Result<(), Refusal>
+    ensures { Adds result (texts names.old) (well_formed.declared_names (declared_type (type_declaration_of declared.now))) (texts names.new) }
 {
-    match declaration {
-        Declaration::Type(
-            TypeDeclaration {
-                form: TypeForm::Enumeration(names),
-                ..
-            },
-        ) => names,
-        _ => &[],
+    add(names, &declared.name)?;
+    add_all(names, constants_of(&declared.form))
+}
+
+/// The names of an enumeration; of what is none, no names.
+fn constants_of(form: &TypeForm) -> &[Name]
+    ensures { map name_of result.now ≡ well_formed.constants_of (type_form_of form.now) }
+{
+    match form {
+        TypeForm::Enumeration(names) => names,
+        TypeForm::Tuple(_) | TypeForm::Sequence(_, _, _) => &[],
     }
 }
 

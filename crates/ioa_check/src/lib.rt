@@ -7,6 +7,7 @@ mod declarations;
 mod expressions;
 mod fields;
 mod globals;
+mod invariants;
 mod known;
 mod limits;
 mod names;

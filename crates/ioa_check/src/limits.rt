@@ -3,7 +3,8 @@ ghost use Rattle.std.specs.List.{list_all};
 ghost use Rattle.ioa_syntax.specs.View.{automaton_of, assembly_of, entry_of, transition_of, declaration_of, type_declaration_of, tree_of, proposal_of, stmt_of, stmts_of, arms_of, expr_of, exprs_of};
 ghost use Rattle.ioa_syntax.specs.WellFormed as well_formed;
 ghost use Rattle.ioa_check.specs.Codes.{too_many, tells};
-ghost use Rattle.ioa_check.specs.Sizes.{counted, all_counted, Counts, is_of_kind};
+ghost use Rattle.ioa_check.specs.Sizes as sizes;
+ghost use Rattle.ioa_check.specs.Sizes.{counted, all_counted, Counts};
 ghost use Rattle.ioa_check.specs.Verdicts.{Says};
 
 use crate::names::{Named, at_most};
@@ -18,19 +19,28 @@ use ioa_value::LIMITS;
 pub(crate) fn source_within(declarations: &[Declaration]) -> Result<(), Refusal>
     ensures { Says result (well_formed.source_within LIMITS (tree_of declarations.now)) (tells too_many) }
 {
-    kind_within(declarations, true, LIMITS.types)?;
-    kind_within(declarations, false, LIMITS.automata)?;
+    group_within(declarations, Group::Types, LIMITS.types)?;
+    group_within(declarations, Group::Machines, LIMITS.automata)?;
+    group_within(declarations, Group::Invariants, LIMITS.invariants)?;
     each_declaration_within(declarations)
 }
 
-/// Whether there are no more declarations of types than this, or no more of automata and compositions. A line is that of
-/// the first that is too many.
-fn kind_within(declarations: &[Declaration], types: bool, most: usize) -> Result<(), Refusal>
-    ensures { Says result (nat_le (length (filter (is_of_kind types) (tree_of declarations.now))) most) (tells too_many) }
+/// Declarations that are counted together.
+#[derive(Clone, Copy)]
+enum Group {
+    Types,
+    /// Automata and compositions.
+    Machines,
+    Invariants,
+}
+
+/// Whether there are no more declarations of the group than this. A line is that of the first that is too many.
+fn group_within(declarations: &[Declaration], group: Group, most: usize) -> Result<(), Refusal>
+    ensures { Says result (nat_le (length (filter (sizes.is_among group) (tree_of declarations.now))) most) (tells too_many) }
 {
     let mut count = 0;
     for declaration in declarations {
-        if is_type(declaration) == types {
+        if is_among(group, declaration) {
             if count == most {
                 return Err(Refusal::TooMany(declaration.name().line));
             }
@@ -40,10 +50,20 @@ fn kind_within(declarations: &[Declaration], types: bool, most: usize) -> Result
     Ok(())
 }
 
-fn is_type(declaration: &Declaration) -> bool
-    ensures { result ≡ well_formed.is_type_declaration (declaration_of declaration.now) }
+/// Whether the declaration is one of the group.
+fn is_among(group: Group, declaration: &Declaration) -> bool
+    ensures { result ≡ sizes.is_among group (declaration_of declaration.now) }
 {
-    matches!(declaration, Declaration::Type(_))
+    match group {
+        Group::Types => matches!(declaration, Declaration::Type(_)),
+        Group::Machines => {
+            matches!(
+                declaration,
+                Declaration::Automaton(_) | Declaration::Composition(_)
+            )
+        }
+        Group::Invariants => matches!(declaration, Declaration::Invariant(_)),
+    }
 }
 
 fn each_declaration_within(declarations: &[Declaration]) -> Result<(), Refusal>
@@ -62,6 +82,7 @@ fn declaration_within(declaration: &Declaration) -> Result<(), Refusal>
         Declaration::Type(declared) => form_within(declared),
         Declaration::Automaton(automaton) => automaton_within(automaton),
         Declaration::Composition(composition) => composition_within(composition),
+        Declaration::Invariant(_) => Ok(()),
     }
 }
 

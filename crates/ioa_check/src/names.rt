@@ -77,15 +77,16 @@ impl Named for Instance {
 
 impl Named for Declaration {
     ghost use Rattle.ioa_syntax.specs.View.{declaration_of};
-    ghost use Rattle.ioa_syntax.specs.WellFormed.{declared_name};
+    ghost use Rattle.ioa_syntax.specs.WellFormed.{first_name};
 
-    ghost called = { λ d. declared_name (declaration_of d) };
+    ghost called = { λ d. first_name (declaration_of d) };
 
     fn name(&self) -> &Name {
         match self {
             Declaration::Type(declared) => &declared.name,
             Declaration::Automaton(automaton) => &automaton.name,
             Declaration::Composition(composition) => &composition.name,
+            Declaration::Invariant(invariant) => &invariant.automaton,
         }
     }
 }

@@ -52,7 +52,7 @@ impl<'a> Scope<'a> {
         }
     }
 
-    /// Variables and formals: the scope of a proposal.
+    /// Variables and formals: the scope of a proposal or an invariant.
     pub(crate) fn of_proposals(known: &Known<'a>, automaton: &'a Automaton) -> Scope<'a>
         ensures known { result.known ≡ known.now }
         ensures names { context result ≡ well_formed.held (whole known.now) (early known.now) [] (automaton_of automaton.now) }
