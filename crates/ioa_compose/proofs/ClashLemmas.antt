@@ -1,12 +1,14 @@
 -- Instances whose signatures are clear of one another do not clash, and others do.
 use Rattle.std.proofs.Common.{◌≡◌, ℕ, ◌<◌, ◌&&◌, Bool, true, false, not, cond, List, [], ◌∷◌, length, map, find, Option, Some, None, refl, sym, ap, subst, ◌∙◌, arith, slice_get, ◌⊎◌, inl, inr, zero, suc, All}
-use Rattle.std.specs.List.{AllZip}
+use Rattle.std.specs.List.{AllZip, list_all}
 use Rattle.std.specs.Str.{bytes_eq}
 use Rattle.std.specs.Option.{option_map}
 use Rattle.std.proofs.lemmas.Bool.{and_parts, and_from, or_left, or_right, not-true, not-false, both_ways}
 use Rattle.std.proofs.lemmas.Option.{slice_get_within}
+use Rattle.std.proofs.lemmas.List.Elements.{All-head, All-tail}
 use Rattle.std.proofs.lemmas.Slice.Eq.{bytes_eq-Decides}
 use Rattle.ioa_value.specs.Actions.{Name, Act}
+use Rattle.ioa_value.specs.Plain.{plain}
 use Rattle.ioa_value.specs.Positions.{all_take, all_meet, IsDomain}
 use Rattle.ioa_value.specs.Table.{Table, AreTypes}
 use Rattle.ioa_value.proofs.ItemLemmas.{find_at, all_at, fails_at}
@@ -15,13 +17,17 @@ use Rattle.ioa_syntax.specs.declared.tree.Kind.{Kind}
 use Rattle.ioa_syntax.specs.declared.tree.Kind.TheVariants.{Input, Output, Internal}
 use Rattle.ioa_syntax.specs.Tree.{EntryTree}
 use Rattle.ioa_syntax.specs.Instances.{Instance, Fit, positions_have, entry_has, entry_for, component_of}
-use Rattle.ioa_syntax.specs.WellFormed.{entry_fine, contains, distinct, automaton_fine}
+use Rattle.ioa_syntax.specs.View.{automaton_of}
+use Rattle.ioa_syntax.specs.Hosts.{crash_fine}
+use Rattle.ioa_syntax.specs.WellFormed.{position_fine, formals, entry_fine, contains, distinct, automaton_fine}
 use Rattle.ioa_syntax.proofs.Domains.{domains_have, domains_are}
 use Rattle.ioa_syntax.proofs.FineParts.{fine_parts, entry_parts}
+use Rattle.ioa_syntax.proofs.Early.{each_implies}
 use Rattle.ioa_compose.specs.declared.binding.Binding.{Binding}
-use Rattle.ioa_compose.specs.Bindings.{instance_in, AllSound, AllStartable}
+use Rattle.ioa_compose.specs.Bindings.{crash_in, plain_in, instance_in, IsStartable, AllSound, AllStartable, AllApart}
 use Rattle.ioa_compose.specs.Clashes.{SignedEntry, IsSigned, IsSignatureOf, kinds_clash, clash, clear_of, clear, IsHit, IsClearTill}
 use Rattle.ioa_compose.specs.Refusals.{Clashing, NoneClash, NoneClashes, IsFirstEntry, ClashesIn, clashing}
+use Rattle.ioa_compose.proofs.WithSignals.{PositionsFine, more_formals, more_names, more_positions}
 use Rattle.ioa_compose.proofs.SignatureLemmas.{zip-at, zip-to, same-item}
 
 same-bytes : (xs ys zs : List ℕ) → bytes_eq xs zs ≡ true → bytes_eq ys zs ≡ true → bytes_eq xs ys ≡ true
@@ -116,12 +122,12 @@ place-once (x ∷ xs) (suc k) (suc l) e d h p q n =
 
 -- ---- instances with their signatures
 
--- a fine automaton with arguments of its formals' types, over these types
+-- entries of different names, with fine positions, and arguments of the formals' types, over these types
 pub record IsKnown (types : Table) (m : Instance) (es : List SignedEntry) : Type 0 where
   pub over : m.types ≡ types
   pub signed : IsSignatureOf m es
-  pub globals : List Name
-  pub fine : automaton_fine m.types m.types globals m.automaton ≡ true
+  pub names : distinct (map (λ e. e.name) m.automaton.entries) ≡ true
+  pub positions : PositionsFine m.types m.automaton
   pub fit : Fit m.types m.automaton.formals m.arguments
 
 module _ (types : Table) where
@@ -181,9 +187,8 @@ module _ (types : Table) where
   entry-none m n es fs l d s a b at told h c = no-clash m n d.name c (λ e f i j.
       let p = found m es c.0 e a i in
       let q = found n fs c.0 f b j in
-      let parts = fine_parts m.types m.types a.globals m.automaton a.fine in
       let named : e.name ≡ d.name = sym p.signed.name ∙ (bytes_eq-Decides p.told.name c.0.name).0 p.name ∙ c.1 in
-      let place = place-once m.automaton.entries p.place l e d parts.entry_names p.here at named in
+      let place = place-once m.automaton.entries p.place l e d a.names p.here at named in
       let same : s ≡ p.told = same-item told (ap (slice_get es) (sym place) ∙ p.there) in
       kinds-clear m n es fs c.0 e f p q (none-of p.told q.told fs q.place (subst (λ t. clear_of types t fs ≡ true) same h) q.there))
 
@@ -206,39 +211,54 @@ module _ (types : Table) where
       domains-of : (m : Instance) (es : List SignedEntry) (k : ℕ) (e : EntryTree) (s : SignedEntry) → IsKnown types m es
           → slice_get m.automaton.entries k ≡ Some e → IsSigned m e s → All (IsDomain types) s.domains
       domains-of m es k e s a at signed =
-          let parts = fine_parts m.types m.types a.globals m.automaton a.fine in
-          let fine = all_at (entry_fine m.types m.types a.globals m.automaton) m.automaton.entries k e parts.entries at in
+          let fine = all_at (λ (x : EntryTree). list_all (position_fine m.types (formals m.types m.types [] m.automaton)) x.positions) m.automaton.entries k e a.positions at in
           subst (λ ts. All (IsDomain ts) s.domains) a.over
           (domains_are m (subst AreTypes (sym a.over) declared) a.fit e.positions s.domains
-          (entry_parts m.types m.types a.globals m.automaton e fine).positions signed.domains)
+          fine signed.domains)
 
       kind-of : (m : Instance) (es : List SignedEntry) (k : ℕ) (e : EntryTree) (s : SignedEntry) (act : Act) → IsKnown types m es
           → slice_get m.automaton.entries k ≡ Some e → IsSigned m e s → signed_has act s ≡ true → (component_of m).kind_of act ≡ Some s.kind
       kind-of m es k e s act a at signed has =
-          let parts = fine_parts m.types m.types a.globals m.automaton a.fine in
-          ap (option_map (λ d. d.kind)) (find-named m act m.automaton.entries k e parts.entry_names at (signed-has m e s act a.over signed ∙ has))
+          ap (option_map (λ d. d.kind)) (find-named m act m.automaton.entries k e a.names at (signed-has m e s act a.over signed ∙ has))
           ∙ ap (λ q. Some q) (sym signed.kind)
 
   -- ---- instances in order
 
+  one-known : (b : Binding) (es : List SignedEntry) → IsSignatureOf (instance_in types b) es
+      → ((g : List Name) × (automaton_fine types types g (automaton_of b.automaton.now) ≡ true)) → IsStartable (plain_in types b)
+      → crash_fine (crash_in b) (automaton_of b.automaton.now) ≡ true → IsKnown types (instance_in types b) es
+  one-known b es z s t p =
+      let a = automaton_of b.automaton.now in
+      let parts = fine_parts types types s.0 a s.1 in
+      let fine = λ (e : EntryTree). list_all (position_fine types (formals types types [] a)) e.positions in
+      record {
+        over = refl;
+        signed = z;
+        names = more_names (crash_in b) a p parts.entry_names;
+        positions = more_positions types (crash_in b) a
+            (each_implies (entry_fine types types s.0 a) fine a.entries (λ e h. (entry_parts types types s.0 a e h).positions) parts.entries);
+        fit = subst (λ fs. Fit types fs (map plain b.arguments.items)) (sym (more_formals (crash_in b) a)) t.fit;
+      }
+
   known-at : (bs : List Binding) (ss : List (List SignedEntry)) (k : ℕ) (m : Instance) → AllZip IsSignatureOf (map (instance_in types) bs) ss
-      → AllSound (map (instance_in types) bs) → AllStartable (map (instance_in types) bs)
+      → AllSound (map (plain_in types) bs) → AllStartable (map (plain_in types) bs) → AllApart bs
       → slice_get (map (instance_in types) bs) k ≡ Some m → (es : List SignedEntry) × (slice_get ss k ≡ Some es) × IsKnown types m es
-  known-at [] ss k m z s t h = absurd (cc)
-  known-at (b ∷ bs) [] k m z s t h = absurd z
-  known-at (b ∷ bs) (es ∷ ss) zero m z s t h =
+  known-at [] ss k m z s t p h = absurd (cc)
+  known-at (b ∷ bs) [] k m z s t p h = absurd z
+  known-at (b ∷ bs) (es ∷ ss) zero m z s t p h =
       let q : instance_in types b ≡ m = cc in
-      (es, refl, subst (λ n. IsKnown types n es) q (record { over = refl; signed = z.0; globals = s.0.0; fine = s.0.1; fit = t.0.fit }))
-  known-at (b ∷ bs) (es ∷ ss) (suc k) m z s t h = known-at bs ss k m z.1 s.1 t.1 h
+      (es, refl, subst (λ n. IsKnown types n es) q (one-known b es z.0 s.0 t.0 (All-head (λ (c : Binding). crash_fine (crash_in c) (automaton_of c.automaton.now) ≡ true) b bs p)))
+  known-at (b ∷ bs) (es ∷ ss) (suc k) m z s t p h =
+      known-at bs ss k m z.1 s.1 t.1 (All-tail (λ (c : Binding). crash_fine (crash_in c) (automaton_of c.automaton.now) ≡ true) b bs p) h
 
   module _ (declared : AreTypes types) (bs : List Binding) (ss : List (List SignedEntry)) (z : AllZip IsSignatureOf (map (instance_in types) bs) ss)
-      (s : AllSound (map (instance_in types) bs)) (t : AllStartable (map (instance_in types) bs)) where
+      (s : AllSound (map (plain_in types) bs)) (t : AllStartable (map (plain_in types) bs)) (p : AllApart bs) where
     -- a signature that is clear of the later ones before the end
     till-none : (k l end : ℕ) (m n : Instance) (x : Name) → IsClearTill types ss k end → k < l → l < end
         → slice_get (map (instance_in types) bs) k ≡ Some m → slice_get (map (instance_in types) bs) l ≡ Some n → Clashing x m n → ⊥
     till-none k l end m n x h less within e f =
-        let a = known-at bs ss k m z s t e in
-        let b = known-at bs ss l n z s t f in
+        let a = known-at bs ss k m z s t p e in
+        let b = known-at bs ss l n z s t p f in
         clear-none m n a.0 b.0 x a.2 b.2 (h a.0 b.0 l a.1 b.1 less within)
 
     -- the instance of a signature
@@ -246,19 +266,19 @@ module _ (types : Table) where
         → (m : Instance) × (slice_get (map (instance_in types) bs) k ≡ Some m) × IsKnown types m es
     known-from k es h =
         let a = zip-to IsSignatureOf (map (instance_in types) bs) ss k es z h in
-        let b = known-at bs ss k a.0 z s t a.1 in
+        let b = known-at bs ss k a.0 z s t p a.1 in
         (a.0, a.1, subst (IsKnown types a.0) (same-item b.1 h) b.2)
 
     pub none-clash : (count : ℕ) → length ss ≡ count → ((k : ℕ) → k < count → IsClearTill types ss k count) → NoneClash (map (instance_in types) bs)
     none-clash count q h = λ k l m n x less e f.
-        let b = known-at bs ss l n z s t f in
+        let b = known-at bs ss l n z s t p f in
         let within : l < count = subst (λ y. l < y) q (slice_get_within ss l b.0 b.1) in
         till-none k l count m n x (h k (omega arith)) less within e f
 
     none-before : (count i j : ℕ) → length ss ≡ count → ((k : ℕ) → k < i → IsClearTill types ss k count) → IsClearTill types ss i j
         → NoneClashes (map (instance_in types) bs) i j
     none-before count i j q h here = λ k l m n x before e f.
-        let b = known-at bs ss l n z s t f in
+        let b = known-at bs ss l n z s t p f in
         let within : l < count = subst (λ y. l < y) q (slice_get_within ss l b.0 b.1) in
         elim before.1 [
           | inl less ↦ till-none k l count m n x (h k less) before.0 within e f
@@ -279,7 +299,6 @@ module _ (types : Table) where
         first-of : (m n : Instance) → IsKnown types m hit.signature → IsKnown types n hit.hit.0 → IsFirstEntry x m n
         first-of m n a b = λ k l e d at called less there c.
             let e0 = zip-to (IsSigned m) m.automaton.entries hit.signature first hit.entry a.signed hit.among in
-            let parts = fine_parts m.types m.types a.globals m.automaton a.fine in
-            let place = place-once m.automaton.entries k first e e0.0 parts.entry_names at e0.1 (called ∙ named ∙ e0.2.name) in
+            let place = place-once m.automaton.entries k first e e0.0 a.names at e0.1 (called ∙ named ∙ e0.2.name) in
             let d0 = zip-at (IsSigned m) m.automaton.entries hit.signature l d a.signed there in
             entry-none m n hit.signature hit.hit.0 l d d0.0 a b there d0.1 (hit.earlier l d0.0 (subst (λ y. l < y) place less) d0.1 hit.hit.0 hit.hit.1) c

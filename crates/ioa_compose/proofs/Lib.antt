@@ -1,3 +1,4 @@
+pub mod ScopeLemmas
 pub mod EvaluateLemmas
 pub mod ValueLemmas
 pub mod PickLemmas
@@ -12,3 +13,22 @@ pub mod SearchLemmas
 pub mod ComposeLemmas
 pub mod CompatibleLemmas
 pub mod RefusalLemmas
+pub mod InvariantLemmas
+pub mod MemberLemmas
+pub mod QuestionLemmas
+pub mod SpelledNames
+pub mod SpelledTrees
+pub mod RewrittenNames
+pub mod RewrittenEntries
+pub mod ResetLemmas
+pub mod CrashLemmas
+pub mod RewrittenTypes
+pub mod RewrittenFine
+pub mod RewrittenLimits
+pub mod StaysLemmas
+pub mod StandLemmas
+pub mod RewritingLemmas
+pub mod WithSignals
+pub mod FirstVariables
+pub mod SignalLemmas
+pub mod HostLemmas

@@ -1,5 +1,5 @@
 -- Entries with the values of their constants.
-use Rattle.std.proofs.Common.{◌≡◌, ℕ, ◌+◌, ◌<◌, true, List, [], ◌∷◌, ◌++◌, map, take, length, get_or, Option, Some, None, refl, sym, ap, subst, ◌∙◌, zero, suc, slice_get, Vec, Global}
+use Rattle.std.proofs.Common.{◌≡◌, ℕ, ◌+◌, ◌<◌, true, List, [], ◌∷◌, ◌++◌, map, take, length, get_or, Option, Some, None, refl, sym, ap, subst, ◌∙◌, zero, suc, slice_get, Vec, Global, append_assoc}
 use Rattle.std.specs.List.{AllZip}
 use Rattle.std.specs.Option.{is_some}
 use Rattle.std.proofs.lemmas.List.{map-append}
@@ -27,6 +27,20 @@ zip-push {A = A} {B = B} R f g xs zs k x ys new y s l e n h r =
     subst (λ (bs : List B). AllZip R (map f (take (k + 1) xs)) bs) (sym (ap (map g) n ∙ map-append g ys (y ∷ [])))
     (subst (λ (as' : List A). AllZip R as' (map g ys ++ g y ∷ [])) (sym (ap (map f) here ∙ map-append f (take k xs) (x ∷ [])))
     (zip-append R (map f (take k xs)) (map g ys) (f x) (g y) h r))
+
+-- the same without images
+pub zip-more : {A B : Type 0} (R : A → B → Type 0) (xs : List A) (k : ℕ) (x : A) (ys new : List B) (y : B)
+    → k < length xs → x ≡ get_or xs k x → new ≡ ys ++ y ∷ [] → AllZip R (take k xs) ys → R x y → AllZip R (take (k + 1) xs) new
+zip-more {A} {B} R xs k x ys new y l e n h r =
+    subst (λ (bs : List B). AllZip R (take (k + 1) xs) bs) (sym n)
+    (subst (λ (us : List A). AllZip R us (ys ++ y ∷ [])) (sym (take_item xs k x l e)) (zip-append R (take k xs) ys x y h r))
+
+-- two more entries
+pub two-pushed : (xs ys zs : List held.SignedEntry) (e f : held.SignedEntry) → ys ≡ xs ++ e ∷ [] → zs ≡ ys ++ f ∷ [] → (s t : SignedEntry) → signed_of e ≡ s → signed_of f ≡ t
+    → map signed_of zs ≡ map signed_of xs ++ s ∷ t ∷ []
+two-pushed xs ys zs e f p q s t r w =
+    ap (map signed_of) (q ∙ ap (λ us. us ++ f ∷ []) p ∙ append_assoc xs (e ∷ []) (f ∷ [])) ∙ map-append signed_of xs (e ∷ f ∷ [])
+    ∙ ap (λ u. map signed_of xs ++ u ∷ signed_of f ∷ []) r ∙ ap (λ u. map signed_of xs ++ s ∷ u ∷ []) w
 
 -- item by item
 pub zip-at : {A B : Type 0} (R : A → B → Type 0) (xs : List A) (ys : List B) (k : ℕ) (x : A) → AllZip R xs ys → slice_get xs k ≡ Some x

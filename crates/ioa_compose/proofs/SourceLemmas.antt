@@ -7,10 +7,10 @@ use Rattle.ioa_value.specs.Names.{IsName}
 use Rattle.ioa_syntax.specs.Names.{LegalNames, names_of_instance}
 use Rattle.ioa_syntax.proofs.FineParts.{source_parts, at_most}
 use Rattle.ioa_syntax.proofs.Declared.{automata_fine, compositions_fine}
-use Rattle.ioa_syntax.proofs.LegalNames.{legal_composition, legal_instances}
+use Rattle.ioa_syntax.proofs.LegalNames.{legal_composition, legal_instances, legal_crashes}
 use Rattle.std.proofs.lemmas.Bool.{and_from, and_parts}
 use Rattle.ioa_value.specs.Actions.{Name}
-use Rattle.ioa_syntax.specs.Tree.{AutomatonTree, InstanceTree, CompositionTree, declared_type, automaton, composition, SourceTree}
+use Rattle.ioa_syntax.specs.Tree.{AutomatonTree, InstanceTree, CompositionTree, declared_type, automaton, composition, invariant, SourceTree}
 use Rattle.ioa_syntax.specs.Types.{types_of}
 use Rattle.ioa_value.specs.declared.limits.TheConstants.{LIMITS}
 use Rattle.ioa_syntax.specs.Compositions.{automata, compositions, picked, automaton_named}
@@ -32,6 +32,7 @@ automata_small (automaton a ∷ ds) h =
     let hs = and_parts (automaton_within LIMITS a) (list_all (declaration_within LIMITS) ds) h in and_from _ _ hs.0 (automata_small ds hs.1)
 automata_small (composition c ∷ ds) h =
     let hs = and_parts (composition_within LIMITS c) (list_all (declaration_within LIMITS) ds) h in automata_small ds hs.1
+automata_small (invariant v ∷ ds) h = automata_small ds h
 
 -- and each composition
 compositions_small : (ds : SourceTree) → list_all (declaration_within LIMITS) ds ≡ true → list_all (composition_within LIMITS) (compositions ds) ≡ true
@@ -42,6 +43,7 @@ compositions_small (automaton a ∷ ds) h =
     let hs = and_parts (automaton_within LIMITS a) (list_all (declaration_within LIMITS) ds) h in compositions_small ds hs.1
 compositions_small (composition c ∷ ds) h =
     let hs = and_parts (composition_within LIMITS c) (list_all (declaration_within LIMITS) ds) h in and_from _ _ hs.0 (compositions_small ds hs.1)
+compositions_small (invariant v ∷ ds) h = compositions_small ds h
 
 -- what all automata pass, one that is found passes
 named_passes : (p : AutomatonTree → Bool) (s : SourceTree) (x : Name) (a : AutomatonTree) → list_all p (automata s) ≡ true → automaton_named s x ≡ Some a → p a ≡ true
@@ -64,6 +66,7 @@ declared_found [] x h = absurd (cc)
 declared_found (declared_type t ∷ ds) x h = declared_found ds x h
 declared_found (automaton a ∷ ds) x h = some_automaton x (bytes_eq a.name x) a (automaton_named ds x) (list_any (is_automaton_of x) ds) h (declared_found ds x)
 declared_found (composition c ∷ ds) x h = declared_found ds x h
+declared_found (invariant v ∷ ds) x h = declared_found ds x h
 
 all_ready : (s : SourceTree) (is : List InstanceTree) → list_all (instance_fine (types_of s) (types_of s) s) is ≡ true → AllReady s is
 all_ready s [] h = tt
@@ -95,6 +98,7 @@ picked_composable s name c h legal e =
     record {
       legal = All-head IsName c.name (flat_map names_of_instance c.instances ++ c.hidden) names;
       legal_names = legal_instances c names;
+      legal_crashes = legal_crashes c names;
       names = named.0;
       few = at_most (length c.instances) LIMITS.components few.0;
       ready = all_ready s c.instances inner.1;

@@ -3,6 +3,7 @@ use Rattle.std.proofs.Common.{◌≡◌, ℕ, ◌<◌, true, List, [], map, leng
 use Rattle.std.specs.List.{list_all}
 use Rattle.std.specs.Option.{option_map_or}
 use Rattle.std.proofs.lemmas.Simd.{map-map}
+use Rattle.std.proofs.lemmas.List.{length-map}
 use Rattle.ioa_value.specs.declared.arithmetic.Fault.{Fault}
 use Rattle.ioa_value.specs.declared.memory.OutOfMemory.{OutOfMemory}
 use Rattle.ioa_value.specs.declared.value.Value.{Value}
@@ -19,6 +20,7 @@ use Rattle.ioa_syntax.specs.Instances.{field_names, settled, start_value}
 use Rattle.ioa_syntax.specs.WellFormed.{start_fine, is_type}
 use Rattle.ioa_compose.specs.Bindings.{value_in}
 use Rattle.ioa_value.proofs.ItemLemmas.{passes_at}
+use Rattle.ioa_compose.proofs.RewrittenNames.{names_of}
 
 pub settled-answer : (r : Result Value Fault) → value_in r ≡ settled (answer_of r)
 settled-answer (Ok v) = refl
@@ -42,3 +44,8 @@ pub known-at : (types : Table) (vs ys : List Variable) (i : ℕ) (v : Variable) 
 known-at types vs ys i v h q l e =
     passes_at (is_type types) (λ (u : Variable). field_of u.field) ys i v
     (sym (ap (list_all (is_type types)) (map-map (λ u. u.field) variable_of ys)) ∙ ap (λ us. list_all (is_type types) (map (λ u. u.field) (map variable_of us))) q ∙ h) l e
+
+-- one start value for each variable
+pub started-long : (vs : List Variable) (ws : List Value) → length (names_of (map variable_of vs)) ≡ length (map plain ws) → length ws ≡ length vs
+started-long vs ws h =
+    sym (h ∙ length-map ws plain) ∙ length-map (map variable_of vs) (λ v. v.field.name) ∙ length-map vs variable_of

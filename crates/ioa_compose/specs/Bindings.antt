@@ -1,7 +1,7 @@
 -- Components on the way: instances with the values of their arguments, and what evaluations leave.
-use Rattle.std.specs.Prelude.{◌≡◌, ◌≤◌, Bool, true, false, ◌&&◌, All, IsTrue, List, [], ◌∷◌, map, length, Some, Result, Ok, Err, Vec}
+use Rattle.std.specs.Prelude.{◌≡◌, ◌≤◌, Bool, true, false, ◌&&◌, All, IsTrue, List, [], ◌∷◌, map, length, Option, Some, Result, Ok, Err, Vec}
 use Rattle.std.specs.List.{list_all}
-use Rattle.std.specs.Option.{option_map_or}
+use Rattle.std.specs.Option.{option_map, option_map_or}
 use Rattle.std.specs.Global.{Global}
 use Rattle.ioa_value.specs.declared.arithmetic.Fault.{Fault}
 use Rattle.ioa_value.specs.declared.value.Value.{Value}
@@ -9,14 +9,18 @@ use Rattle.ioa_value.specs.Actions.{Name}
 use Rattle.ioa_value.specs.Names.{IsName}
 use Rattle.ioa_value.specs.Plain.{Val, plain}
 use Rattle.ioa_value.specs.Table.{Table}
-use Rattle.ioa_syntax.specs.Tree.{Expr, FieldTree, AutomatonTree, InstanceTree, CompositionTree, SourceTree}
-use Rattle.ioa_syntax.specs.View.{automaton_of}
+use Rattle.ioa_syntax.specs.Tree.{Expr, FieldTree, AutomatonTree, CrashTree, InstanceTree, CompositionTree, SourceTree}
+use Rattle.ioa_syntax.specs.Names.{names_of_crash}
+use Rattle.ioa_syntax.specs.View.{name_of, automaton_of, crash_of}
+use Rattle.ioa_syntax.specs.Hosts.{crash_fine, Host}
 use Rattle.ioa_syntax.specs.Types.{types_of, is_named}
 use Rattle.ioa_value.specs.declared.limits.TheConstants.{LIMITS}
 use Rattle.ioa_syntax.specs.Meaning.{Env, val}
 use Rattle.ioa_syntax.specs.Instances.{Instance, Fit, settled, argument_values, start_values}
 use Rattle.ioa_syntax.specs.Compositions.{Member, automaton_named}
 use Rattle.ioa_syntax.specs.WellFormed.{Context, distinct, type_of, start_fine, is_type, variable_fields, automaton_fine}
+use Rattle.ioa_compose.specs.Rewriting.{with_signals}
+use Rattle.ioa_compose.specs.Stands.{member_for}
 use Rattle.ioa_compose.specs.declared.binding.Binding.{Binding}
 
 -- a value, or a fault
@@ -52,21 +56,50 @@ start_of types env e = settled (val types e env)
 abbrev pub instance_with : Table → AutomatonTree → List Val → Instance
 instance_with types a vs = record { types = types; automaton = a; arguments = vs }
 
--- what a binding stands for
+-- the names by which it crashes and recovers
+abbrev pub crash_in : Binding → Option CrashTree
+crash_in b = option_map (λ c. crash_of c.now) b.crash
+
+-- the instance of its automaton
+abbrev pub plain_in : Table → Binding → Instance
+plain_in types b = instance_with types (automaton_of b.automaton.now) (map plain b.arguments.items)
+
+-- the instance with inputs for crash and recover
 abbrev pub instance_in : Table → Binding → Instance
-instance_in types b = instance_with types (automaton_of b.automaton.now) (map plain b.arguments.items)
+instance_in types b = instance_with types (with_signals (crash_in b) (automaton_of b.automaton.now)) (map plain b.arguments.items)
+
+-- the host that starts with these values
+abbrev pub host_in : Table → Binding → List Val → Host
+host_in types b starts = record { name = name_of b.name.now; instance = plain_in types b; starts = starts; crash = crash_in b }
+
+-- the component stands for the host that starts with the start values
+abbrev pub IsStarted : Table → Binding → Member → Type 0
+IsStarted types b m = (starts : List Val) × (start_values (plain_in types b) ≡ Ok starts) × (m ≡ member_for (host_in types b starts))
 
 -- what the instances of a well formed source have: a declared automaton, and arguments with types
 pub record IsReady (s : SourceTree) (i : InstanceTree) : Type 0 where
   pub automaton : (a : AutomatonTree) × (automaton_named s i.automaton ≡ Some a)
   pub arguments : list_all (closed (types_of s)) i.arguments ≡ true
 
--- the instance is that of the tree
+-- the binding is of the tree: the automaton of this name, with arguments that fit its formals, and with names of their own for crash
+-- and recover
+pub record Binds (s : SourceTree) (i : InstanceTree) (b : Binding) : Type 0 where
+  pub name : name_of b.name.now ≡ i.name
+  pub automaton : automaton_named s i.automaton ≡ Some (automaton_of b.automaton.now)
+  pub arguments : argument_values (types_of s) i.arguments ≡ Ok (map plain b.arguments.items)
+  pub fit : Fit (types_of s) (automaton_of b.automaton.now).formals (map plain b.arguments.items)
+  pub crash : crash_in b ≡ i.crash
+  pub fine : IsTrue (crash_fine i.crash (automaton_of b.automaton.now))
+
+-- the instance is that of the tree, with inputs for crash and recover
 pub record IsBound (s : SourceTree) (i : InstanceTree) (n : Instance) : Type 0 where
+  pub declared : AutomatonTree
   pub types : n.types ≡ types_of s
-  pub automaton : automaton_named s i.automaton ≡ Some n.automaton
+  pub named : automaton_named s i.automaton ≡ Some declared
+  pub automaton : n.automaton ≡ with_signals i.crash declared
   pub arguments : argument_values (types_of s) i.arguments ≡ Ok n.arguments
-  pub fit : Fit (types_of s) n.automaton.formals n.arguments
+  pub fit : Fit (types_of s) declared.formals n.arguments
+  pub fine : IsTrue (crash_fine i.crash declared)
 
 abbrev pub AreBound : SourceTree → List InstanceTree → List Instance → Type 0
 AreBound s [] [] = Unit {0}
@@ -78,11 +111,12 @@ abbrev pub AllReady : SourceTree → List InstanceTree → Type 0
 AllReady s [] = Unit {0}
 AllReady s (i ∷ is) = IsReady s i × AllReady s is
 
--- what a composition of a well formed source has: a legal name, components of different legal names, not too many, and each is
--- ready, and different hidden names, not too many
+-- what a composition of a well formed source has: a legal name, components of different legal names, with legal names for crash and
+-- recover, not too many, and each is ready, and different hidden names, not too many
 pub record IsComposable (s : SourceTree) (c : CompositionTree) : Type 0 where
   pub legal : IsName c.name
   pub legal_names : All (λ i. IsName i.name) c.instances
+  pub legal_crashes : All (λ i. All IsName (names_of_crash i.crash)) c.instances
   pub names : IsTrue (distinct (map (λ i. i.name) c.instances))
   pub few : length c.instances ≤ LIMITS.components
   pub ready : AllReady s c.instances
@@ -103,12 +137,11 @@ abbrev pub AllStartable : List Instance → Type 0
 AllStartable [] = Unit {0}
 AllStartable (n ∷ ns) = IsStartable n × AllStartable ns
 
--- the components' start values are those of their instances
-abbrev pub AllStarted : List Member → Type 0
-AllStarted [] = Unit {0}
-AllStarted (m ∷ ms) = (start_values m.instance ≡ Ok m.starts) × AllStarted ms
-
 -- the instances' automata are well formed
 abbrev pub AllSound : List Instance → Type 0
 AllSound [] = Unit {0}
 AllSound (n ∷ ns) = ((globals : List Name) × (automaton_fine n.types n.types globals n.automaton ≡ true)) × AllSound ns
+
+-- crash and recover have names of their own
+abbrev pub AllApart : List Binding → Type 0
+AllApart bs = All (λ b. IsTrue (crash_fine (crash_in b) (automaton_of b.automaton.now))) bs

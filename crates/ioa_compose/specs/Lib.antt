@@ -5,3 +5,8 @@ pub mod Clashes
 pub mod Index
 pub mod Refusals
 pub mod Operands
+pub mod Scopes
+pub mod Questions
+pub mod Rewriting
+pub mod Crashes
+pub mod Stands

@@ -12,6 +12,7 @@ use Rattle.ioa_syntax.specs.Tree.{EntryTree, AutomatonTree, InstanceTree, Compos
 use Rattle.ioa_syntax.specs.Types.{types_of}
 use Rattle.ioa_syntax.specs.Instances.{Instance, Fit, argument_values, start_values, component_of}
 use Rattle.ioa_syntax.specs.Compositions.{automaton_named, is_output_of}
+use Rattle.ioa_syntax.specs.Hosts.{crash_fine}
 use Rattle.ioa_compose.specs.Bindings.{IsBound, AreBound}
 
 -- the arguments have values, and these are not of the formals' types, one for each
@@ -21,6 +22,12 @@ pub record Misfits (s : SourceTree) (i : InstanceTree) : Type 0 where
   pub arguments : List Val
   pub valued : argument_values (types_of s) i.arguments ≡ Ok arguments
   pub unfit : Fit (types_of s) automaton.formals arguments → ⊥
+
+-- crash and recover are one name, or one of them is that of an entry
+pub record Misnames (s : SourceTree) (i : InstanceTree) : Type 0 where
+  pub automaton : AutomatonTree
+  pub declared : automaton_named s i.automaton ≡ Some automaton
+  pub unfine : crash_fine i.crash automaton ≡ false
 
 -- a start expression faults
 pub record StartsWith (s : SourceTree) (i : InstanceTree) (f : Fault) : Type 0 where
@@ -78,6 +85,7 @@ HidesNoOutput s t x = (ns : List Instance) × AreBound s t.instances ns × IsFir
 pub data Reason : Type 0 where
   misfit : ℕ → Reason
   faulty : ℕ → Fault → Reason
+  misnamed : ℕ → Reason
   clashing : ℕ → ℕ → Name → Reason
   hiding : Name → Reason
   no_memory : Reason
@@ -99,14 +107,16 @@ reason_of (BadSignature line) = other
 reason_of (NoProposal line) = other
 reason_of (TooMany line) = other
 reason_of (TooWide line) = other
-reason_of (CrashName i) = other
+reason_of (CrashName i) = misnamed i
 reason_of (HiddenUnknown name) = hiding (string_bytes name)
 reason_of NoComposition = other
 
--- one of the components has no instance: its arguments are not those of its formals, or one of them faults
+-- one of the components has no instance: its arguments are not those of its formals, or one of them faults, or crash and recover have no
+-- names of their own
 abbrev pub IsUnbound : SourceTree → List InstanceTree → Reason → Type 0
 IsUnbound s is (misfit i) = (n : InstanceTree) × (slice_get is i ≡ Some n) × Misfits s n
 IsUnbound s is (faulty i f) = (n : InstanceTree) × (slice_get is i ≡ Some n) × (argument_values (types_of s) n.arguments ≡ Err f)
+IsUnbound s is (misnamed i) = (n : InstanceTree) × (slice_get is i ≡ Some n) × Misnames s n
 IsUnbound s is (clashing i j name) = ⊥
 IsUnbound s is (hiding name) = ⊥
 IsUnbound s is no_memory = Unit {0}
@@ -125,6 +135,7 @@ TwoClash s is i j name = (m : InstanceTree) × (n : InstanceTree) × (i < j) × 
 abbrev pub IsRefusedFor : SourceTree → CompositionTree → Reason → Type 0
 IsRefusedFor s t (misfit i) = IsUnbound s t.instances (misfit i)
 IsRefusedFor s t (faulty i f) = IsUnbound s t.instances (faulty i f) ⊎ (StartFaults s t.instances i f × NoClash s t.instances × HidesOutputs s t)
+IsRefusedFor s t (misnamed i) = IsUnbound s t.instances (misnamed i)
 IsRefusedFor s t (clashing i j name) = TwoClash s t.instances i j name × AllBound s t.instances
 IsRefusedFor s t (hiding name) = HidesNoOutput s t name × NoClash s t.instances
 IsRefusedFor s t no_memory = Unit {0}
@@ -137,6 +148,7 @@ IsRefused s t r = IsRefusedFor s t (reason_of r)
 abbrev pub IsRefusedAt : SourceTree → ℕ → InstanceTree → Reason → Type 0
 IsRefusedAt s k n (misfit i) = (i ≡ k) × Misfits s n
 IsRefusedAt s k n (faulty i f) = (i ≡ k) × (argument_values (types_of s) n.arguments ≡ Err f)
+IsRefusedAt s k n (misnamed i) = (i ≡ k) × Misnames s n
 IsRefusedAt s k n (clashing i j name) = ⊥
 IsRefusedAt s k n (hiding name) = ⊥
 IsRefusedAt s k n no_memory = Unit {0}
@@ -146,6 +158,7 @@ IsRefusedAt s k n other = ⊥
 abbrev pub FaultsAt : ℕ → Instance → Reason → Type 0
 FaultsAt k n (misfit i) = ⊥
 FaultsAt k n (faulty i f) = (i ≡ k) × (start_values n ≡ Err f)
+FaultsAt k n (misnamed i) = ⊥
 FaultsAt k n (clashing i j name) = ⊥
 FaultsAt k n (hiding name) = ⊥
 FaultsAt k n no_memory = Unit {0}
@@ -155,6 +168,7 @@ FaultsAt k n other = ⊥
 abbrev pub FaultsIn : List Instance → Reason → Type 0
 FaultsIn ns (misfit i) = ⊥
 FaultsIn ns (faulty i f) = (n : Instance) × (slice_get ns i ≡ Some n) × (start_values n ≡ Err f)
+FaultsIn ns (misnamed i) = ⊥
 FaultsIn ns (clashing i j name) = ⊥
 FaultsIn ns (hiding name) = ⊥
 FaultsIn ns no_memory = Unit {0}
@@ -172,6 +186,7 @@ NoneClash ns = (k l : ℕ) (m n : Instance) (name : Name) → k < l → slice_ge
 abbrev pub ClashesIn : List Instance → Reason → Type 0
 ClashesIn ns (misfit i) = ⊥
 ClashesIn ns (faulty i f) = ⊥
+ClashesIn ns (misnamed i) = ⊥
 ClashesIn ns (clashing i j name) = (m : Instance) × (n : Instance) × (i < j) × (slice_get ns i ≡ Some m) × (slice_get ns j ≡ Some n) × Clashing name m n × NoneClashes ns i j × IsFirstEntry name m n
 ClashesIn ns (hiding name) = ⊥
 ClashesIn ns no_memory = Unit {0}
@@ -185,6 +200,7 @@ TellsClash r = (i : ℕ) × (j : ℕ) × (name : Name) × (r ≡ clashing i j na
 abbrev pub HidesIn : List Instance → List Name → Reason → Type 0
 HidesIn ns hidden (misfit i) = ⊥
 HidesIn ns hidden (faulty i f) = ⊥
+HidesIn ns hidden (misnamed i) = ⊥
 HidesIn ns hidden (clashing i j name) = ⊥
 HidesIn ns hidden (hiding name) = IsFirstUnknown ns hidden name
 HidesIn ns hidden no_memory = Unit {0}

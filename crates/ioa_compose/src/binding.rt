@@ -1,28 +1,32 @@
 ghost use Rattle.std.specs.Prelude.{◌≡◌, ◌&&◌, [], ◌∷◌, true, map, Some, Ok, Err, length, IfOk, IfErr};
-ghost use Rattle.std.specs.List.{list_all};
+ghost use Rattle.std.specs.List.{AllZip, list_all};
+ghost use Rattle.std.specs.Option.{option_map};
 ghost use Rattle.ioa_value.specs.Plain.{plain};
-ghost use Rattle.ioa_value.specs.Table.{AreTypes};
+ghost use Rattle.ioa_value.specs.Table.{AreTypes, contains};
 ghost use Rattle.ioa_syntax.specs.Types as named;
 ghost use Rattle.ioa_syntax.specs.Types.{types_of};
-ghost use Rattle.ioa_syntax.specs.View.{name_of, expr_of, field_of, instance_of, automaton_of, tree_of};
+ghost use Rattle.ioa_syntax.specs.View.{name_of, expr_of, field_of, crash_of, instance_of, automaton_of, tree_of};
+ghost use Rattle.ioa_syntax.specs.Hosts.{crash_fine};
 ghost use Rattle.ioa_syntax.specs.Instances as instances;
 ghost use Rattle.ioa_syntax.specs.Tree.{AutomatonTree};
 ghost use Rattle.ioa_syntax.specs.Compositions as spec;
-ghost use Rattle.ioa_compose.specs.Bindings.{IsReady, AllReady, IsBound, AreBound, fit, closed, values_in, instance_in};
+ghost use Rattle.ioa_compose.specs.Bindings.{IsReady, AllReady, Binds, fit, closed, values_in};
 ghost use Rattle.ioa_compose.specs.Refusals.{IsUnbound, IsRefusedAt, reason_of};
 
 use crate::evaluate::evaluate_all;
 use crate::picks::automaton_named;
-use ioa_syntax::{Automaton, Declaration, Expression, Field, Instance, Name, Refusal};
+use crate::scope::Scope;
+use ioa_syntax::{Automaton, Crash, Declaration, Expression, Field, Instance, Name, Refusal};
 use ioa_value::{Fault, OutOfMemory, Types, Value, has_type};
 use std::alloc::Global;
 
-/// A component's automaton with the values of its formals.
+/// A component's automaton with the values of its formals, and the names by which it crashes and recovers.
 #[derive(Drop)]
 pub(crate) struct Binding<'a> {
     pub(crate) name: &'a Name,
     pub(crate) automaton: &'a Automaton,
     pub(crate) arguments: Vec<Value>,
+    pub(crate) crash: Option<&'a Crash>,
 }
 
 /// The components' automata with their arguments, in order. It asks for instances of a well formed source.
@@ -35,8 +39,7 @@ pub(crate) fn bind_all<'a>(
     requires types { types.now ≡ types_of (tree_of declarations.now) }
     requires declared { AreTypes types.now }
     requires ready { AllReady (tree_of declarations.now) (map instance_of instances.now) }
-    ensures bound { IfOk result (λ bs. AreBound (tree_of declarations.now) (map instance_of instances.now) (map (instance_in types.now) bs.items)) }
-    ensures names { IfOk result (λ bs. map (λ b. name_of b.name.now) bs.items ≡ map (λ i. name_of i.name) instances.now) }
+    ensures bound { IfOk result (λ bs. AllZip (λ i b. Binds (tree_of declarations.now) (instance_of i) b) instances.now bs.items) }
     ensures refused { IfErr result (λ r. IsUnbound (tree_of declarations.now) (map instance_of instances.now) (reason_of r)) }
 {
     let mut bindings = Vec::new(alloc);
@@ -56,8 +59,7 @@ fn bind<'a>(
     requires types { types.now ≡ types_of (tree_of declarations.now) }
     requires declared { AreTypes types.now }
     requires ready { IsReady (tree_of declarations.now) (instance_of instance.now) }
-    ensures bound { IfOk result (λ b. IsBound (tree_of declarations.now) (instance_of instance.now) (instance_in types.now b)) }
-    ensures name { IfOk result (λ b. name_of b.name.now ≡ name_of instance.now.name) }
+    ensures bound { IfOk result (λ b. Binds (tree_of declarations.now) (instance_of instance.now) b) }
     ensures refused { IfErr result (λ r. IsRefusedAt (tree_of declarations.now) index (instance_of instance.now) (reason_of r)) }
 {
     let automaton = declared(declarations, &instance.automaton);
@@ -67,13 +69,43 @@ fn bind<'a>(
             if !fits(types, &automaton.formals, &arguments) {
                 return Err(Refusal::ArgMismatch(index));
             }
+            if !crashes_apart(&instance.crash, automaton) {
+                return Err(Refusal::CrashName(index));
+            }
             Ok(Binding {
                 name: &instance.name,
                 automaton,
                 arguments,
+                crash: instance.crash.as_ref(),
             })
         }
     }
+}
+
+/// Whether crash and recover have names of their own, where the component has them: two, and no entry's.
+fn crashes_apart(crash: &Option<Crash>, automaton: &Automaton) -> bool
+    ensures { result ≡ crash_fine (option_map crash_of crash.now) (automaton_of automaton.now) }
+{
+    match crash {
+        None => true,
+        Some(names) => {
+            names.crash.text.as_str() != names.recover.text.as_str()
+                && !has_entry(automaton, &names.crash)
+                && !has_entry(automaton, &names.recover)
+        }
+    }
+}
+
+/// Whether an entry of the automaton has this name.
+fn has_entry(automaton: &Automaton, name: &Name) -> bool
+    ensures { result ≡ contains (map (λ e. e.name) (automaton_of automaton.now).entries) (name_of name.now) }
+{
+    for entry in &automaton.entries {
+        if entry.name.text.as_str() == name.text.as_str() {
+            return true;
+        }
+    }
+    false
 }
 
 /// The automaton of this name, which is declared.
@@ -97,7 +129,7 @@ fn argument_values(
     requires closed { list_all (closed types.now) (map expr_of arguments.now) ≡ true }
     ensures { IfOk result (λ r. values_in r ≡ instances.argument_values types.now (map expr_of arguments.now)) }
 {
-    evaluate_all(alloc, types, &[], &[], arguments)
+    evaluate_all(alloc, &Scope::empty(types), arguments)
 }
 
 /// Whether the values are of the fields' types, one for each.

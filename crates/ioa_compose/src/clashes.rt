@@ -1,6 +1,6 @@
 ghost use Rattle.std.specs.Prelude.{◌≡◌, ◌<◌, ◌≤◌, map, length, OnOk, IfErr, IfSome, IfNone};
 ghost use Rattle.ioa_value.specs.Table.{AreTypes};
-ghost use Rattle.ioa_compose.specs.Bindings.{instance_in, AllSound, AllStartable};
+ghost use Rattle.ioa_compose.specs.Bindings.{plain_in, instance_in, AllSound, AllStartable, AllApart};
 ghost use Rattle.ioa_compose.specs.Refusals.{NoneClash, ClashesIn, reason_of};
 ghost use Rattle.ioa_compose.specs.Clashes as spec;
 ghost use Rattle.ioa_compose.specs.Clashes.{signed_of, signature_of, IsFirstHit, IsHit, IsClearTill};
@@ -13,11 +13,13 @@ use ioa_syntax::{Kind, Refusal};
 use ioa_value::{Types, all_meet};
 use std::alloc::Global;
 
-/// Whether no two of these clash. It asks for well formed automata, with arguments of their formals' types.
+/// Whether no two of these clash, with inputs for crash and recover. It asks for well formed automata, with arguments of their
+/// formals' types.
 pub(crate) fn compatible(alloc: Global, types: &Types, bindings: &[Binding]) -> Result<(), Refusal>
     requires declared { AreTypes types.now }
-    requires sound { AllSound (map (instance_in types.now) bindings.now) }
-    requires startable { AllStartable (map (instance_in types.now) bindings.now) }
+    requires sound { AllSound (map (plain_in types.now) bindings.now) }
+    requires startable { AllStartable (map (plain_in types.now) bindings.now) }
+    requires apart { AllApart bindings.now }
     ensures ok { OnOk result (NoneClash (map (instance_in types.now) bindings.now)) }
     ensures refused { IfErr result (λ r. ClashesIn (map (instance_in types.now) bindings.now) (reason_of r)) }
 {

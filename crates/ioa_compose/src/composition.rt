@@ -1,38 +1,46 @@
-ghost use Rattle.std.specs.Prelude.{◌≡◌, ◌≢◌, ◌↔◌, List, Some, None, IfOk, IfErr, IsErrOf, option_copied, map};
+ghost use Rattle.std.specs.Prelude.{◌≡◌, ◌≢◌, ◌↔◌, ◌<◌, ◌++◌, length, List, Some, None, IfOk, IfErr, IsErrOf, option_copied, map};
+ghost use Rattle.std.specs.Str.{bytes_eq};
 ghost use Rattle.std.specs.String.{string_bytes};
-ghost use Rattle.ioa_lex.specs.declared.refusal.Refusal.TheVariants.{NoComposition, OutOfMemory};
+ghost use Rattle.ioa_value.specs.Plain.{Val, plain};
+ghost use Rattle.ioa_lex.specs.declared.refusal.Refusal.TheVariants as refusals;
 ghost use Rattle.ioa_syntax.specs.Tree.{CompositionTree};
 ghost use Rattle.ioa_syntax.specs.View.{tree_of, assembly_of};
 ghost use Rattle.ioa_syntax.specs.Names.{LegalNames};
 ghost use Rattle.ioa_syntax.specs.Types.{types_of};
 ghost use Rattle.ioa_syntax.specs.WellFormed.{WellFormed};
 ghost use Rattle.ioa_syntax.specs.Components.{Compatible};
-ghost use Rattle.ioa_syntax.specs.Instances.{Instance, component_of};
+ghost use Rattle.ioa_syntax.specs.Instances.{Instance, component_of, state_of};
+ghost use Rattle.ioa_syntax.specs.Invariants as meaning;
 ghost use Rattle.ioa_compose.specs.Bindings.{AreBound, IsComposable};
 ghost use Rattle.ioa_compose.specs.Refusals.{IsRefused, TellsClash, reason_of};
-ghost use Rattle.ioa_syntax.specs.Compositions.{Composed, IsComposed, picked};
+ghost use Rattle.ioa_syntax.specs.Compositions.{picked};
+ghost use Rattle.ioa_syntax.specs.Hosts.{Hosted, IsHosted};
+ghost use Rattle.ioa_compose.specs.Stands.{Stands};
 ghost use Rattle.ioa_compose.specs.Fine.{IsSound};
 ghost use Rattle.ioa_compose.specs.Held.{composed_of};
+ghost use Rattle.ioa_compose.specs.Questions.{OfThese, IsQuestion};
 
 use crate::binding::bind_all;
 use crate::clashes::compatible;
 use crate::hidden::hidden_outputs;
+use crate::invariants::{declared_invariants, is_kept};
 use crate::member::Member;
 use crate::picks;
 use crate::starts::start_all;
 use ioa_check::Checked;
-use ioa_syntax::{Assembly, Declaration, Refusal};
-use ioa_value::Types;
+use ioa_syntax::{Assembly, Declaration, Invariant, Refusal};
+use ioa_value::{OutOfMemory, Types, Value};
 use std::alloc::Global;
 use std::marker::Model;
 
-/// A composition: its types, and its components in order, compatible with one another.
+/// A composition: its types, its components in order, compatible with one another, and the invariants of its source.
 #[derive(Drop)]
 pub struct Composition {
     types: Types,
     name: String,
     members: Vec<Member>,
     hidden: Vec<String>,
+    invariants: Vec<Invariant>,
 }
 
 impl Model for Composition {
@@ -45,9 +53,9 @@ impl Model for Composition {
 
     ghost coded = { held_code };
 
-    ghost view = { λ c. record { types = c.types; name = string_bytes c.name; members = c.members.items; hidden = map string_bytes c.hidden.items } };
+    ghost view = { λ c. record { types = c.types; name = string_bytes c.name; members = c.members.items; hidden = map string_bytes c.hidden.items; invariants = c.invariants.items } };
 
-    ghost invariant = { λ c. IsSound (composed_of (record { types = c.types; name = string_bytes c.name; members = c.members.items; hidden = map string_bytes c.hidden.items })) };
+    ghost invariant = { λ c. IsSound (composed_of (record { types = c.types; name = string_bytes c.name; members = c.members.items; hidden = map string_bytes c.hidden.items; invariants = c.invariants.items })) };
 }
 
 impl Composition {
@@ -80,13 +88,52 @@ impl Composition {
     {
         self.hidden.as_slice()
     }
+
+    /// The source's invariants in order, by which they are numbered.
+    pub fn invariants(&self) -> &[Invariant]
+        ensures value { result.now ≡ self.now.invariants }
+        ensures sound { IsSound (composed_of self.now) }
+    {
+        self.invariants.as_slice()
+    }
+
+    /// Whether the invariant is of the component's automaton.
+    pub fn is_about(&self, component: usize, invariant: usize) -> bool
+        requires component { component < length self.now.members }
+        requires invariant { invariant < length self.now.invariants }
+        ensures { OfThese (composed_of self.now) component invariant (λ m v. result ≡ bytes_eq v.automaton m.instance.automaton.name) }
+    {
+        let automaton = &self.members[component].automaton;
+        self.invariants[invariant].automaton.text.as_str() == automaton.name.text.as_str()
+    }
+
+    /// Whether the invariant, which is of the component's automaton, is true where the first `declared` of the component's variables
+    /// have these values, whatever the others have. A fault is not.
+    ///
+    /// # Errors
+    /// `OutOfMemory`.
+    pub fn holds(
+        &self,
+        component: usize,
+        invariant: usize,
+        values: &[Value],
+    ) -> Result<bool, OutOfMemory>
+        requires asked { IsQuestion (composed_of self.now) component invariant (map plain values.now) }
+        ensures { IfOk result (λ b. OfThese (composed_of self.now) component invariant (λ m v. (more : List Val) → b ≡ meaning.holds m.instance v.condition (state_of m.instance.automaton (map plain values.now ++ more)))) }
+    {
+        let member = &self.members[component];
+        let condition = &self.invariants[invariant].condition;
+        is_kept(*self.members.allocator(), member, condition, values)
+    }
 }
 
-/// The composition of this name, or the source's last one where no name is given. Its hidden names are the declaration's.
+/// The composition of this name, or the source's last one where no name is given. Its hidden names are the declaration's. A
+/// component that crashes and recovers is rewritten, and stands for one whose state is lost but for its stable variables.
 ///
 /// # Errors
 /// - `NoComposition`: there is no such composition.
 /// - `ArgMismatch`: a component's arguments are not of its formals' types, one for each.
+/// - `CrashName`: a component's crash and recover are one name, or one of them names an entry of its automaton.
 /// - `StartFault`: an argument of a component faults, or a start expression.
 /// - `Clash`: two components are not compatible. They are the first two, by the first one's place and then the other's, and the
 ///   name is that of the first one's first entry that clashes.
@@ -94,11 +141,11 @@ impl Composition {
 ///   start expression's `StartFault`.
 /// - `OutOfMemory`.
 pub fn compose(alloc: Global, checked: &Checked, name: Option<&str>) -> Result<Composition, Refusal>
-    ensures composed { IfOk result (λ c. (t : CompositionTree) × (picked (tree_of checked.now) (option_copied name.entry) ≡ Some t) × IsComposed (tree_of checked.now) t (composed_of c)) }
-    ensures missing { (picked (tree_of checked.now) (option_copied name.entry) ≡ None) ↔ IsErrOf result NoComposition }
-    ensures exact { IfErr result (λ r. r ≢ OutOfMemory → (t : CompositionTree) → picked (tree_of checked.now) (option_copied name.entry) ≡ Some t → (c : Composed) → IsComposed (tree_of checked.now) t c → ⊥) }
+    ensures composed { IfOk result (λ c. (t : CompositionTree) × (picked (tree_of checked.now) (option_copied name.entry) ≡ Some t) × (h : Hosted) × IsHosted (tree_of checked.now) t h × Stands h (composed_of c)) }
+    ensures missing { (picked (tree_of checked.now) (option_copied name.entry) ≡ None) ↔ IsErrOf result refusals.NoComposition }
+    ensures exact { IfErr result (λ r. r ≢ refusals.OutOfMemory → (t : CompositionTree) → picked (tree_of checked.now) (option_copied name.entry) ≡ Some t → (h : Hosted) → IsHosted (tree_of checked.now) t h → ⊥) }
     ensures refused { (t : CompositionTree) → picked (tree_of checked.now) (option_copied name.entry) ≡ Some t → IfErr result (λ r. IsRefused (tree_of checked.now) t r) }
-    ensures clash { IfErr result (λ r. r ≢ OutOfMemory → (t : CompositionTree) → picked (tree_of checked.now) (option_copied name.entry) ≡ Some t → (ns : List Instance) → AreBound (tree_of checked.now) t.instances ns → (Compatible (map component_of ns) → ⊥) → TellsClash (reason_of r)) }
+    ensures clash { IfErr result (λ r. r ≢ refusals.OutOfMemory → (t : CompositionTree) → picked (tree_of checked.now) (option_copied name.entry) ≡ Some t → (ns : List Instance) → AreBound (tree_of checked.now) t.instances ns → (Compatible (map component_of ns) → ⊥) → TellsClash (reason_of r)) }
 {
     let declarations = checked.declarations();
     match picks::picked(declarations, name) {
@@ -118,7 +165,7 @@ fn composed(
     requires well_formed { WellFormed (tree_of declarations.now) }
     requires legal { LegalNames (tree_of declarations.now) }
     requires composable { IsComposable (tree_of declarations.now) (assembly_of assembly.now) }
-    ensures composed { IfOk result (λ c. IsComposed (tree_of declarations.now) (assembly_of assembly.now) (composed_of c)) }
+    ensures composed { IfOk result (λ c. (h : Hosted) × IsHosted (tree_of declarations.now) (assembly_of assembly.now) h × Stands h (composed_of c)) }
     ensures refused { IfErr result (λ r. IsRefused (tree_of declarations.now) (assembly_of assembly.now) r) }
 {
     let shared = types.share()?;
@@ -127,10 +174,12 @@ fn composed(
     let hidden = hidden_outputs(alloc, &bindings, &assembly.hidden)?;
     let members = start_all(alloc, &shared, &bindings)?;
     let name = String::from_str(alloc, assembly.name.text.as_str())?;
+    let invariants = declared_invariants(alloc, declarations)?;
     Ok(Composition {
         types: shared,
         name,
         members,
         hidden,
+        invariants,
     })
 }

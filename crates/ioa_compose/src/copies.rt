@@ -3,13 +3,13 @@ ghost use Rattle.std.specs.Option.{option_map};
 ghost use Rattle.ioa_syntax.specs.View as view;
 
 use ioa_syntax::{
-    Arm, Automaton, Constant, Entry, Expression, Field, Name, Position, Proposal, Statement,
-    Transition, Variable,
+    Arm, Automaton, Constant, Entry, Expression, Field, Invariant, Name, Position, Proposal,
+    Statement, Transition, Variable,
 };
 use ioa_value::OutOfMemory;
 use std::alloc::Global;
 
-fn copied_name(alloc: Global, name: &Name) -> Result<Name, OutOfMemory>
+pub(crate) fn copied_name(alloc: Global, name: &Name) -> Result<Name, OutOfMemory>
     ensures { IfOk result (λ copy. view.name_of copy ≡ view.name_of name.now) }
 {
     Ok(Name {
@@ -19,7 +19,10 @@ fn copied_name(alloc: Global, name: &Name) -> Result<Name, OutOfMemory>
 }
 
 #[cycle(expression)]
-fn copied_expression(alloc: Global, expression: &Expression) -> Result<Expression, OutOfMemory>
+pub(crate) fn copied_expression(
+    alloc: Global,
+    expression: &Expression,
+) -> Result<Expression, OutOfMemory>
     ensures { IfOk result (λ copy. view.expr_of copy ≡ view.expr_of expression.now) }
 {
     match expression {
@@ -67,7 +70,7 @@ fn copied_expressions(
     Ok(out)
 }
 
-fn copied_option(
+pub(crate) fn copied_option(
     alloc: Global,
     expression: &Option<Expression>,
 ) -> Result<Option<Expression>, OutOfMemory>
@@ -88,7 +91,7 @@ fn copied_field(alloc: Global, field: &Field) -> Result<Field, OutOfMemory>
     })
 }
 
-fn copied_fields(alloc: Global, fields: &[Field]) -> Result<Vec<Field>, OutOfMemory>
+pub(crate) fn copied_fields(alloc: Global, fields: &[Field]) -> Result<Vec<Field>, OutOfMemory>
     ensures { IfOk result (λ copies. map view.field_of copies.items ≡ map view.field_of fields.now) }
 {
     let mut out = Vec::new(alloc);
@@ -128,7 +131,7 @@ fn copied_positions(alloc: Global, positions: &[Position]) -> Result<Vec<Positio
     Ok(out)
 }
 
-fn copied_entries(alloc: Global, entries: &[Entry]) -> Result<Vec<Entry>, OutOfMemory>
+pub(crate) fn copied_entries(alloc: Global, entries: &[Entry]) -> Result<Vec<Entry>, OutOfMemory>
     ensures { IfOk result (λ copies. map view.entry_of copies.items ≡ map view.entry_of entries.now) }
 {
     let mut out = Vec::new(alloc);
@@ -152,12 +155,16 @@ fn copied_variable(alloc: Global, variable: &Variable) -> Result<Variable, OutOf
     ensures { IfOk result (λ copy. view.variable_of copy ≡ view.variable_of variable.now) }
 {
     Ok(Variable {
+        stable: variable.stable,
         field: copied_field(alloc, &variable.field)?,
         start: copied_option(alloc, &variable.start)?,
     })
 }
 
-fn copied_variables(alloc: Global, variables: &[Variable]) -> Result<Vec<Variable>, OutOfMemory>
+pub(crate) fn copied_variables(
+    alloc: Global,
+    variables: &[Variable],
+) -> Result<Vec<Variable>, OutOfMemory>
     ensures { IfOk result (λ copies. map view.variable_of copies.items ≡ map view.variable_of variables.now) }
 {
     let mut out = Vec::new(alloc);
@@ -167,7 +174,10 @@ fn copied_variables(alloc: Global, variables: &[Variable]) -> Result<Vec<Variabl
     Ok(out)
 }
 
-fn copied_proposals(alloc: Global, proposals: &[Proposal]) -> Result<Vec<Proposal>, OutOfMemory>
+pub(crate) fn copied_proposals(
+    alloc: Global,
+    proposals: &[Proposal],
+) -> Result<Vec<Proposal>, OutOfMemory>
     ensures { IfOk result (λ copies. map view.proposal_of copies.items ≡ map view.proposal_of proposals.now) }
 {
     let mut out = Vec::new(alloc);
@@ -198,7 +208,10 @@ fn copied_statement(alloc: Global, statement: &Statement) -> Result<Statement, O
 }
 
 #[cycle(statement)]
-fn copied_statements(alloc: Global, statements: &[Statement]) -> Result<Vec<Statement>, OutOfMemory>
+pub(crate) fn copied_statements(
+    alloc: Global,
+    statements: &[Statement],
+) -> Result<Vec<Statement>, OutOfMemory>
     ensures { IfOk result (λ copies. view.stmts_of copies.items ≡ view.stmts_of statements.now) }
 {
     let mut out = Vec::new(alloc);
@@ -260,5 +273,18 @@ pub(crate) fn copied_automaton(
         entries: copied_entries(alloc, &automaton.entries)?,
         variables: copied_variables(alloc, &automaton.variables)?,
         transitions: copied_transitions(alloc, &automaton.transitions)?,
+    })
+}
+
+/// An invariant with the same tree.
+pub(crate) fn copied_invariant(
+    alloc: Global,
+    invariant: &Invariant,
+) -> Result<Invariant, OutOfMemory>
+    ensures { IfOk result (λ copy. view.invariant_of copy ≡ view.invariant_of invariant.now) }
+{
+    Ok(Invariant {
+        automaton: copied_name(alloc, &invariant.automaton)?,
+        condition: copied_expression(alloc, &invariant.condition)?,
     })
 }

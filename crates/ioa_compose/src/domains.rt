@@ -13,7 +13,8 @@ ghost use Rattle.ioa_syntax.specs.WellFormed.{constant_fine, position_fine, form
 ghost use Rattle.ioa_compose.specs.Bindings.{instance_with};
 
 use crate::constants::constant;
-use crate::evaluate::{found, number};
+use crate::evaluate::number;
+use crate::scope::found;
 use ioa_syntax::{Automaton, Constant, Entry, Name, Position as Declared};
 use ioa_value::{OutOfMemory, Position, Ty, Types, Value};
 use std::alloc::Global;

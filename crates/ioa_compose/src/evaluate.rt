@@ -1,93 +1,75 @@
-ghost use Rattle.std.specs.Prelude.{◌≡◌, ◌<◌, ◌^◌, ℕ, pos, true, Some, None, map, IfOk, IfSome, IfNone};
+ghost use Rattle.std.specs.Prelude.{◌≡◌, ◌<◌, ◌^◌, ℕ, pos, true, Some, map, IfOk, IfSome, IfNone};
 ghost use Rattle.std.specs.List.{list_all};
 ghost use Rattle.ioa_value.specs.Plain.{plain, truth};
 ghost use Rattle.ioa_value.specs.Operators.{Answer, answer_of, gives, operate, Takes};
 ghost use Rattle.ioa_value.specs.Table.{Table, AreTypes, field_place};
 ghost use Rattle.ioa_value.specs.Typing.{own};
-ghost use Rattle.ioa_syntax.specs.View.{expr_of, name_of, field_of};
+ghost use Rattle.ioa_syntax.specs.View.{expr_of, name_of};
 ghost use Rattle.ioa_syntax.specs.Meaning as meaning;
-ghost use Rattle.ioa_syntax.specs.Meaning.{combined, val, values_of};
-ghost use Rattle.ioa_syntax.specs.Instances.{Fit, field_names, all_values};
-ghost use Rattle.ioa_syntax.specs.WellFormed.{type_of, context_of};
+ghost use Rattle.ioa_syntax.specs.Meaning.{combined, val};
+ghost use Rattle.ioa_syntax.specs.Instances.{all_values};
+ghost use Rattle.ioa_syntax.specs.Answers.{Suits};
+ghost use Rattle.ioa_syntax.specs.WellFormed.{type_of};
 ghost use Rattle.ioa_compose.specs.Bindings.{typed, start_of, values_in};
+ghost use Rattle.ioa_compose.specs.Scopes.{context, environment};
 ghost use Rattle.ioa_compose.specs.Operands.{Asks, AreOperands, AreFields, HasField};
 
 use crate::constants::{constant, empty};
-use ioa_syntax::{Expression, Field, Infix, Name};
+use crate::scope::Scope;
+use ioa_syntax::{Expression, Infix, Name};
 use ioa_value::{Fault, Op, OutOfMemory, Types, Value, apply_last};
 use std::alloc::Global;
 
-/// The value of the first of the fields that has this name. Automata have few formals, so the recursion is short.
-pub(crate) fn found<'a>(fields: &[Field], values: &'a [Value], name: &str) -> Option<&'a Value>
-    ensures found { IfSome result (λ v. values_of (field_names (map field_of fields.now)) (map plain values.now) name.now ≡ Some (plain v.now)) }
-    ensures missing { IfNone result (values_of (field_names (map field_of fields.now)) (map plain values.now) name.now ≡ None) }
-{
-    match fields {
-        [] => None,
-        [field, fields @ ..] => match values {
-            [] => None,
-            [value, values @ ..] => {
-                if field.name.text.as_str() == name {
-                    Some(value)
-                } else {
-                    found(fields, values, name)
-                }
-            }
-        },
-    }
-}
-
-/// The value of a well typed expression over these fields, or its fault. A name that is no field's is an enumeration's.
+/// The value of a well typed expression, or its fault. A name that is neither a variable's nor a formal's is an enumeration's.
 #[cycle(evaluate)]
 pub(crate) fn evaluate(
     alloc: Global,
-    types: &Types,
-    fields: &[Field],
-    values: &[Value],
+    scope: &Scope<'_>,
     expression: &Expression,
 ) -> Result<Result<Value, Fault>, OutOfMemory>
-    requires types { AreTypes types.now }
-    requires fit { Fit types.now (map field_of fields.now) (map plain values.now) }
-    requires typed { (ty : ℕ) × (type_of types.now types.now (context_of types.now (map field_of fields.now)) (expr_of expression.now) ≡ Some ty) }
-    ensures { IfOk result (λ r. answer_of r ≡ val types.now (expr_of expression.now) (values_of (field_names (map field_of fields.now)) (map plain values.now))) }
+    requires types { AreTypes scope.now.types.now }
+    requires suits { Suits scope.now.types.now (context scope.now) (environment scope.now) }
+    requires typed { (ty : ℕ) × (type_of scope.now.types.now scope.now.types.now (context scope.now) (expr_of expression.now) ≡ Some ty) }
+    ensures { IfOk result (λ r. answer_of r ≡ val scope.now.types.now (expr_of expression.now) (environment scope.now)) }
 {
+    let types = scope.types;
     match expression {
         Expression::Number(n, _) => Ok(Ok(Value::Num(number(*n)))),
         Expression::Truth(b, _) => Ok(Ok(Value::Truth(*b))),
-        Expression::Name(name) => match found(fields, values, name.text.as_str()) {
+        Expression::Name(name) => match scope.value(name.text.as_str()) {
             Some(value) => Ok(Ok(value.try_copy(alloc)?)),
             None => Ok(Ok(constant(types, name))),
         },
         Expression::Empty(name, _) => Ok(Ok(empty(alloc, types, name))),
-        Expression::Parentheses(inner, _) => evaluate(alloc, types, fields, values, inner),
+        Expression::Parentheses(inner, _) => evaluate(alloc, scope, inner),
         Expression::Prefix(operator, operand, _) => {
-            match evaluate(alloc, types, fields, values, operand)? {
+            match evaluate(alloc, scope, operand)? {
                 Ok(value) => applied(alloc, types, *operator, Vec::from_array(alloc, [value])?),
                 Err(fault) => Ok(Err(fault)),
             }
         }
         Expression::Binary(left, operator, right, _) => {
-            let first = match evaluate(alloc, types, fields, values, left)? {
+            let first = match evaluate(alloc, scope, left)? {
                 Ok(value) => value,
                 Err(fault) => return Ok(Err(fault)),
             };
             if let Some(truth) = decided(*operator, &first) {
                 return Ok(Ok(Value::Truth(truth)));
             }
-            let second = match evaluate(alloc, types, fields, values, right)? {
+            let second = match evaluate(alloc, scope, right)? {
                 Ok(value) => value,
                 Err(fault) => return Ok(Err(fault)),
             };
             joined(alloc, types, *operator, first, second)
         }
         Expression::Make(name, parts) => {
-            match evaluate_all(alloc, types, fields, values, parts)? {
+            match evaluate_all(alloc, scope, parts)? {
                 Ok(parts) => made(alloc, types, name, parts),
                 Err(fault) => Ok(Err(fault)),
             }
         }
         Expression::Select(tuple, name, _) => {
-            match evaluate(alloc, types, fields, values, tuple)? {
+            match evaluate(alloc, scope, tuple)? {
                 Ok(tuple) => selected(alloc, types, name, tuple),
                 Err(fault) => Ok(Err(fault)),
             }
@@ -99,19 +81,17 @@ pub(crate) fn evaluate(
 #[cycle(evaluate)]
 pub(crate) fn evaluate_all(
     alloc: Global,
-    types: &Types,
-    fields: &[Field],
-    values: &[Value],
+    scope: &Scope<'_>,
     expressions: &[Expression],
 ) -> Result<Result<Vec<Value>, Fault>, OutOfMemory>
-    requires types { AreTypes types.now }
-    requires fit { Fit types.now (map field_of fields.now) (map plain values.now) }
-    requires typed { list_all (typed types.now (context_of types.now (map field_of fields.now))) (map expr_of expressions.now) ≡ true }
-    ensures { IfOk result (λ r. values_in r ≡ all_values (start_of types.now (values_of (field_names (map field_of fields.now)) (map plain values.now))) (map expr_of expressions.now)) }
+    requires types { AreTypes scope.now.types.now }
+    requires suits { Suits scope.now.types.now (context scope.now) (environment scope.now) }
+    requires typed { list_all (typed scope.now.types.now (context scope.now)) (map expr_of expressions.now) ≡ true }
+    ensures { IfOk result (λ r. values_in r ≡ all_values (start_of scope.now.types.now (environment scope.now)) (map expr_of expressions.now)) }
 {
     let mut found = Vec::new(alloc);
     for expression in expressions {
-        match evaluate(alloc, types, fields, values, expression)? {
+        match evaluate(alloc, scope, expression)? {
             Ok(value) => found.push(value)?,
             Err(fault) => return Ok(Err(fault)),
         }

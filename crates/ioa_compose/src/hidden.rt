@@ -6,7 +6,7 @@ ghost use Rattle.ioa_value.specs.Table.{Table};
 ghost use Rattle.ioa_syntax.specs.View.{name_of, entry_of, automaton_of};
 ghost use Rattle.ioa_syntax.specs.Components.{is_output};
 ghost use Rattle.ioa_syntax.specs.Compositions as spec;
-ghost use Rattle.ioa_compose.specs.Bindings.{instance_in};
+ghost use Rattle.ioa_compose.specs.Bindings.{plain_in};
 ghost use Rattle.ioa_compose.specs.Refusals.{HidesIn, reason_of};
 
 use crate::binding::Binding;
@@ -20,8 +20,8 @@ pub(crate) fn hidden_outputs(
     hidden: &[Name],
 ) -> Result<Vec<String>, Refusal>
     ensures names { IfOk result (λ names. map string_bytes names.items ≡ map name_of hidden.now) }
-    ensures outputs { (types : Table) → IfOk result (λ names. list_all (spec.is_output_of (map (instance_in types) bindings.now)) (map name_of hidden.now) ≡ true) }
-    ensures refused { (types : Table) → IfErr result (λ r. HidesIn (map (instance_in types) bindings.now) (map name_of hidden.now) (reason_of r)) }
+    ensures outputs { (types : Table) → IfOk result (λ names. list_all (spec.is_output_of (map (plain_in types) bindings.now)) (map name_of hidden.now) ≡ true) }
+    ensures refused { (types : Table) → IfErr result (λ r. HidesIn (map (plain_in types) bindings.now) (map name_of hidden.now) (reason_of r)) }
 {
     let mut names = Vec::new(alloc);
     for name in hidden {
@@ -36,7 +36,7 @@ pub(crate) fn hidden_outputs(
 
 /// Whether an output of one of the components has this name.
 fn is_output_of(bindings: &[Binding], name: &Name) -> bool
-    ensures { (types : Table) → result ≡ spec.is_output_of (map (instance_in types) bindings.now) (name_of name.now) }
+    ensures { (types : Table) → result ≡ spec.is_output_of (map (plain_in types) bindings.now) (name_of name.now) }
 {
     for binding in bindings {
         if has_output(binding.automaton, name) {

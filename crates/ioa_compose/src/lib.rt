@@ -10,8 +10,12 @@ mod domains;
 mod evaluate;
 mod hidden;
 mod index;
+mod invariants;
+mod laws;
 mod member;
 mod picks;
+mod rewriting;
+mod scope;
 mod signatures;
 mod starts;
 
@@ -19,4 +23,7 @@ pub use composition::{Composition, compose};
 pub use constants::{constant, empty};
 pub use domains::positions;
 pub use ioa_syntax::Refusal;
+pub use laws::{
+    hosts_stand, rewriting_means_crash, rewriting_stands, rewriting_stays_fine, signals_decide,
+};
 pub use member::Member;

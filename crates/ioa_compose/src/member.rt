@@ -2,7 +2,8 @@ use ioa_syntax::Automaton;
 use ioa_value::{Types, Value};
 
 /// A component of a composition: the composition's types, an automaton with the values of its formals, and the start values
-/// of its variables.
+/// of its variables. The first `declared` of these are the source's own. A component that crashes and recovers has another one
+/// behind them, `#up`, and formals for the start values of those that a crash resets.
 #[derive(Drop)]
 pub struct Member {
     pub name: String,
@@ -10,4 +11,5 @@ pub struct Member {
     pub automaton: Automaton,
     pub arguments: Vec<Value>,
     pub starts: Vec<Value>,
+    pub declared: usize,
 }

@@ -1,35 +1,38 @@
-ghost use Rattle.std.specs.Prelude.{◌≡◌, [], true, map, Ok, Err, IfOk, IfErr};
+ghost use Rattle.std.specs.Prelude.{◌≡◌, ◌++◌, [], true, map, length, Some, IfOk, IfErr};
+ghost use Rattle.std.specs.List.{AllZip};
 ghost use Rattle.ioa_value.specs.Plain.{plain};
 ghost use Rattle.ioa_value.specs.Table.{AreTypes};
 ghost use Rattle.ioa_syntax.specs.Types as named;
-ghost use Rattle.ioa_syntax.specs.View.{name_of, field_of, variable_of, automaton_of};
+ghost use Rattle.ioa_syntax.specs.View.{name_of, field_of, variable_of, crash_of, automaton_of};
 ghost use Rattle.ioa_syntax.specs.Meaning.{values_of};
 ghost use Rattle.ioa_syntax.specs.Instances.{Fit, field_names};
 ghost use Rattle.ioa_syntax.specs.Instances as instances;
 ghost use Rattle.ioa_syntax.specs.WellFormed.{start_fine, is_type};
-ghost use Rattle.ioa_compose.specs.Bindings.{value_in, values_in, instance_in, IsStartable, AllStartable, AllStarted};
+ghost use Rattle.ioa_compose.specs.Bindings.{value_in, values_in, plain_in, instance_in, host_in, IsStarted, IsStartable, AllStartable};
 ghost use Rattle.ioa_compose.specs.Refusals.{FaultsAt, FaultsIn, reason_of};
 ghost use Rattle.ioa_compose.specs.Held.{member_of};
+ghost use Rattle.ioa_compose.specs.Rewriting.{volatile_values};
+ghost use Rattle.ioa_compose.specs.Stands.{member_by, member_for};
 
 use crate::binding::Binding;
 use crate::copies::copied_automaton;
 use crate::evaluate::evaluate;
 use crate::member::Member;
-use ioa_syntax::{Name, Refusal, Variable};
+use crate::rewriting::rewritten;
+use crate::scope::Scope;
+use ioa_syntax::{Crash, Name, Refusal, Variable};
 use ioa_value::{Fault, OutOfMemory, Types, Value, copies, first};
 use std::alloc::Global;
 
-/// The components with the start values of their variables, in order.
+/// The components with the start values of their variables, in order. Those that crash and recover are rewritten.
 pub(crate) fn start_all(
     alloc: Global,
     types: &Types,
     bindings: &[Binding],
 ) -> Result<Vec<Member>, Refusal>
     requires declared { AreTypes types.now }
-    requires startable { AllStartable (map (instance_in types.now) bindings.now) }
-    ensures instances { IfOk result (λ ms. map (λ m. (member_of m).instance) ms.items ≡ map (instance_in types.now) bindings.now) }
-    ensures names { IfOk result (λ ms. map (λ m. (member_of m).name) ms.items ≡ map (λ b. name_of b.name.now) bindings.now) }
-    ensures started { IfOk result (λ ms. AllStarted (map member_of ms.items)) }
+    requires startable { AllStartable (map (plain_in types.now) bindings.now) }
+    ensures started { IfOk result (λ ms. AllZip (λ b m. IsStarted types.now b (member_of m)) bindings.now ms.items) }
     ensures refused { IfErr result (λ r. FaultsIn (map (instance_in types.now) bindings.now) (reason_of r)) }
 {
     let mut members = Vec::new(alloc);
@@ -41,22 +44,80 @@ pub(crate) fn start_all(
 
 fn start(alloc: Global, types: &Types, index: usize, binding: &Binding) -> Result<Member, Refusal>
     requires declared { AreTypes types.now }
-    requires startable { IsStartable (instance_in types.now binding.now) }
-    ensures instance { IfOk result (λ m. (member_of m).instance ≡ instance_in types.now binding.now) }
-    ensures name { IfOk result (λ m. (member_of m).name ≡ name_of binding.now.name.now) }
-    ensures started { IfOk result (λ m. instances.start_values (instance_in types.now binding.now) ≡ Ok (member_of m).starts) }
+    requires startable { IsStartable (plain_in types.now binding.now) }
+    ensures started { IfOk result (λ m. IsStarted types.now binding.now (member_of m)) }
     ensures refused { IfErr result (λ r. FaultsAt index (instance_in types.now binding.now) (reason_of r)) }
 {
     match start_values(alloc, types, binding)? {
         Err(fault) => Err(Refusal::StartFault(index, fault)),
-        Ok(starts) => Ok(Member {
+        Ok(starts) => Ok(member(alloc, types, binding, starts)?),
+    }
+}
+
+/// The component that starts with these values, rewritten where it crashes and recovers.
+fn member(
+    alloc: Global,
+    types: &Types,
+    binding: &Binding,
+    starts: Vec<Value>,
+) -> Result<Member, OutOfMemory>
+    requires { length starts.items ≡ length binding.now.automaton.now.variables.items }
+    ensures { IfOk result (λ m. member_of m ≡ member_for (host_in types.now binding.now (map plain starts.items))) }
+{
+    match binding.crash {
+        Some(names) => crashing(alloc, types, binding, names, starts),
+        None => Ok(Member {
             name: String::from_str(alloc, binding.name.text.as_str())?,
             types: types.share()?,
             automaton: copied_automaton(alloc, binding.automaton)?,
             arguments: copies(alloc, &binding.arguments)?,
             starts,
+            declared: binding.automaton.variables.len(),
         }),
     }
+}
+
+/// The component with the rewritten automaton: it starts up, and added formals have the values to which a crash resets variables.
+fn crashing(
+    alloc: Global,
+    types: &Types,
+    binding: &Binding,
+    names: &Crash,
+    starts: Vec<Value>,
+) -> Result<Member, OutOfMemory>
+    requires { length starts.items ≡ length binding.now.automaton.now.variables.items }
+    ensures { IfOk result (λ m. member_of m ≡ member_by (Some (crash_of names.now)) (host_in types.now binding.now (map plain starts.items))) }
+{
+    let arguments = crashing_arguments(alloc, binding, &starts)?;
+    let mut starts = starts;
+    starts.push(Value::Truth(true))?;
+    Ok(Member {
+        name: String::from_str(alloc, binding.name.text.as_str())?,
+        types: types.share()?,
+        automaton: rewritten(alloc, names, binding.automaton)?,
+        arguments,
+        starts,
+        declared: binding.automaton.variables.len(),
+    })
+}
+
+/// The arguments, and behind them the start values of the variables that a crash resets.
+fn crashing_arguments(
+    alloc: Global,
+    binding: &Binding,
+    starts: &[Value],
+) -> Result<Vec<Value>, OutOfMemory>
+    requires { length starts.now ≡ length binding.now.automaton.now.variables.items }
+    ensures { IfOk result (λ vs. map plain vs.items ≡ map plain binding.now.arguments.items ++ volatile_values (automaton_of binding.now.automaton.now).variables (map plain starts.now)) }
+{
+    let variables = binding.automaton.variables.as_slice();
+    let mut arguments = copies(alloc, &binding.arguments)?;
+    for i in 0..variables.len() {
+        if !variables[i].stable {
+            arguments.push(starts[i].try_copy(alloc)?)?;
+        }
+    }
+    Ok(arguments)
 }
 
 /// The start values of the variables in order, or the first fault.
@@ -66,8 +127,8 @@ fn start_values(
     binding: &Binding,
 ) -> Result<Result<Vec<Value>, Fault>, OutOfMemory>
     requires declared { AreTypes types.now }
-    requires startable { IsStartable (instance_in types.now binding.now) }
-    ensures { IfOk result (λ r. values_in r ≡ instances.start_values (instance_in types.now binding.now)) }
+    requires startable { IsStartable (plain_in types.now binding.now) }
+    ensures { IfOk result (λ r. values_in r ≡ instances.start_values (plain_in types.now binding.now)) }
 {
     let mut values = Vec::new(alloc);
     for variable in &binding.automaton.variables {
@@ -87,19 +148,16 @@ fn start_value(
     variable: &Variable,
 ) -> Result<Result<Value, Fault>, OutOfMemory>
     requires declared { AreTypes types.now }
-    requires fit { Fit types.now (instance_in types.now binding.now).automaton.formals (instance_in types.now binding.now).arguments }
+    requires fit { Fit types.now (plain_in types.now binding.now).automaton.formals (plain_in types.now binding.now).arguments }
     requires fine { start_fine types.now types.now [] (automaton_of binding.now.automaton.now) (variable_of variable.now) ≡ true }
     requires known { is_type types.now (variable_of variable.now).field ≡ true }
-    ensures { let n = instance_in types.now binding.now in IfOk result (λ r. value_in r ≡ instances.start_value n.types (values_of (field_names n.automaton.formals) n.arguments) (variable_of variable.now)) }
+    ensures { let n = plain_in types.now binding.now in IfOk result (λ r. value_in r ≡ instances.start_value n.types (values_of (field_names n.automaton.formals) n.arguments) (variable_of variable.now)) }
 {
     match &variable.start {
-        Some(expression) => evaluate(
-            alloc,
-            types,
-            &binding.automaton.formals,
-            &binding.arguments,
-            expression,
-        ),
+        Some(expression) => {
+            let scope = Scope::of_starts(types, &binding.automaton.formals, &binding.arguments);
+            evaluate(alloc, &scope, expression)
+        }
         None => Ok(Ok(first_named(alloc, types, &variable.field.ty)?)),
     }
 }

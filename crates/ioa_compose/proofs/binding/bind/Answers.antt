@@ -4,7 +4,7 @@ use Rattle.ioa_syntax.specs.View.{expr_of, field_of, instance_of, automaton_of, 
 use Rattle.ioa_syntax.specs.Types.{types_of}
 use Rattle.ioa_syntax.specs.Instances.{argument_values}
 use Rattle.ioa_compose.specs.Bindings.{fit, values_in}
-use Rattle.ioa_compose.proofs.BindingLemmas.{misfit-at, bound-at}
+use Rattle.ioa_compose.proofs.BindingLemmas.{misfit-at, fit-Fit, crash-lent}
 use Rattle.ioa_compose.proofs.binding.bind.Goals as goal
 
 pub returns-then-not-fits-clause-refused : goal.returns-then-not-fits-clause-refused
@@ -17,10 +17,27 @@ returns-then-not-fits-clause-refused c =
           ∙ ap (λ t. fit t (map field_of c.deref-in-Ok.result.now) (map plain c.deref-in-Ok-2.result.now)) (sym c.requires.types) ∙ sym c.fits.ensures ∙ c.if-not-fits.true),
     )
 
-pub returns-else-not-fits-clause-bound : goal.returns-else-not-fits-clause-bound
-returns-else-not-fits-clause-bound c =
+pub returns-then-not-crashes_apart-clause-refused : goal.returns-then-not-crashes_apart-clause-refused
+returns-then-not-crashes_apart-clause-refused c = (
+  refl,
+  record {
+    automaton = automaton_of c.declared-automaton.result.now;
+    declared = c.declared-automaton.ensures;
+    unfine = sym c.crashes_apart.ensures ∙ c.if-not-crashes_apart.true;
+  },
+)
+
+pub returns-else-not-crashes_apart-clause-bound : goal.returns-else-not-crashes_apart-clause-bound
+returns-else-not-crashes_apart-clause-bound c =
     let types = types_of (tree_of c.args.declarations.now) in
-    bound-at (tree_of c.args.declarations.now) (instance_of c.args.instance.now) c.args.types.now (automaton_of c.declared-automaton.result.now) (map plain c.in-Ok.arguments.items) c.requires.types c.declared-automaton.ensures
-    (ap (λ es. argument_values types (map expr_of es)) (sym c.deref.ensures.value) ∙ ap (λ t. argument_values t (map expr_of c.deref.result.now)) (sym c.requires.types) ∙ sym c.in_ok-fault.ensures ∙ ap values_in c.in-Ok.is)
-    (ap (λ fs. fit types (map field_of fs) (map plain c.in-Ok.arguments.items)) (sym c.deref-in-Ok.ensures.value) ∙ ap (λ vs. fit types (map field_of c.deref-in-Ok.result.now) (map plain vs)) (sym c.deref-in-Ok-2.ensures.value)
-    ∙ ap (λ t. fit t (map field_of c.deref-in-Ok.result.now) (map plain c.deref-in-Ok-2.result.now)) (sym c.requires.types) ∙ sym c.fits.ensures ∙ c.if-not-fits.false)
+    let a = automaton_of c.declared-automaton.result.now in
+    record {
+      name = refl;
+      automaton = c.declared-automaton.ensures;
+      arguments = ap (λ es. argument_values types (map expr_of es)) (sym c.deref.ensures.value) ∙ ap (λ t. argument_values t (map expr_of c.deref.result.now)) (sym c.requires.types) ∙ sym c.in_ok-fault.ensures ∙ ap values_in c.in-Ok.is;
+      fit = fit-Fit types a.formals (map plain c.in-Ok.arguments.items)
+          (ap (λ fs. fit types (map field_of fs) (map plain c.in-Ok.arguments.items)) (sym c.deref-in-Ok.ensures.value) ∙ ap (λ vs. fit types (map field_of c.deref-in-Ok.result.now) (map plain vs)) (sym c.deref-in-Ok-2.ensures.value)
+          ∙ ap (λ t. fit t (map field_of c.deref-in-Ok.result.now) (map plain c.deref-in-Ok-2.result.now)) (sym c.requires.types) ∙ sym c.fits.ensures ∙ c.if-not-fits.false);
+      crash = crash-lent c.as_ref.result c.args.instance.now.crash c.as_ref.ensures.value;
+      fine = sym c.crashes_apart.ensures ∙ c.if-not-crashes_apart.false;
+    }

@@ -1,7 +1,9 @@
 use Rattle.std.proofs.Common.{rules}
-use Rattle.ioa_syntax.specs.View.{name_of, instance_of, tree_of}
-use Rattle.ioa_compose.proofs.BindingLemmas.{ready-at, bound-push, unbound-in}
-use Rattle.ioa_value.proofs.ItemLemmas.{at_map, map_push}
+use Rattle.ioa_syntax.specs.View.{instance_of, tree_of}
+use Rattle.ioa_value.proofs.ItemLemmas.{at_map}
+use Rattle.ioa_compose.specs.Bindings.{Binds}
+use Rattle.ioa_compose.proofs.BindingLemmas.{ready-at, unbound-in}
+use Rattle.ioa_compose.proofs.SignatureLemmas.{zip-more}
 use Rattle.ioa_compose.proofs.binding.bind_all.Goals as goal
 
 pub bind-requires-clause-ready : goal.bind-requires-clause-ready
@@ -13,9 +15,7 @@ returns-in_err-bind-clause-refused c =
     (at_map instance_of c.args.instances.now _ c.index-instances-index.result c.loop-index-test.true c.index-instances-index.is) (search rules)
 
 pub loop-index-preserved : goal.loop-index-preserved
-loop-index-preserved c = record {
-  bound = bound-push (tree_of c.args.declarations.now) c.args.types.now c.args.instances.now _ c.index-instances-index.result c.loop-index.bindings.items _ c.in_ok-bind.field-0 c.loop-index-test.true c.index-instances-index.is c.in_ok-push.ensures.items
-      c.loop-index.invariant.bound c.in_ok-bind.ensures.bound;
-  names = map_push (λ b. name_of b.name.now) (λ i. name_of i.name) c.loop-index.bindings.items _ c.in_ok-bind.field-0 c.args.instances.now _ c.index-instances-index.result c.loop-index-test.true c.index-instances-index.is c.in_ok-push.ensures.items
-      c.loop-index.invariant.names c.in_ok-bind.ensures.name;
-}
+loop-index-preserved c =
+    zip-more (λ i b. Binds (tree_of c.args.declarations.now) (instance_of i) b) c.args.instances.now c.loop-index.index c.index-instances-index.result
+    c.loop-index.bindings.items _ c.in_ok-bind.field-0 c.loop-index-test.true c.index-instances-index.is c.in_ok-push.ensures.items c.loop-index.invariant
+    c.in_ok-bind.ensures.bound

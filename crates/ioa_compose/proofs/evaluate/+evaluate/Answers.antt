@@ -4,12 +4,13 @@ use Rattle.ioa_value.specs.Operators.{answer_of, Takes}
 use Rattle.std.proofs.lemmas.List.{map-append}
 use Rattle.ioa_value.proofs.ItemLemmas.{passes_at}
 use Rattle.ioa_syntax.specs.Tree.{named, prefix, binary, empty, select}
-use Rattle.ioa_syntax.specs.View.{expr_of, name_of, field_of}
-use Rattle.ioa_syntax.specs.Meaning.{values_of, val}
-use Rattle.ioa_syntax.specs.Instances.{field_names, all_values, settled}
-use Rattle.ioa_syntax.specs.WellFormed.{context_of, nodes}
-use Rattle.ioa_syntax.proofs.Starts.{suits_of_fit, some_there}
+use Rattle.ioa_syntax.specs.View.{expr_of, name_of}
+use Rattle.ioa_syntax.specs.Meaning.{val}
+use Rattle.ioa_syntax.specs.Instances.{all_values, settled}
+use Rattle.ioa_syntax.specs.WellFormed.{nodes}
+use Rattle.ioa_syntax.proofs.Starts.{some_there}
 use Rattle.ioa_compose.specs.Bindings.{typed, start_of, value_in, values_in}
+use Rattle.ioa_compose.specs.Scopes.{context, environment}
 use Rattle.ioa_compose.proofs.StartLemmas.{settled-answer}
 use Rattle.ioa_compose.proofs.ValueLemmas.{prepended, values-go-on, values-stop}
 use Rattle.ioa_compose.proofs.EvaluateLemmas.{operand_typed, left_typed, right_typed, operand_taken, operands_typed, fault_stays, name_known, empty_known, make_shown, parts_typed, tuple_typed, nodes_at, make_answer, fields_taken, field_there, HasSome}
@@ -17,140 +18,128 @@ use Rattle.ioa_compose.proofs.evaluate.+evaluate.Goals as goal
 
 pub evaluate-constant-requires : goal.evaluate-constant-requires
 evaluate-constant-requires t c =
-    let types = c.args.types.now in
-    let fs = map field_of c.args.fields.now in
-    let vs = map plain c.args.values.now in
+    let types = c.args.scope.now.types.now in
+    let env = environment c.args.scope.now in
     let x = name_of c.in-Name.name in
     let shown : expr_of c.args.expression.now ≡ named x = ap expr_of c.in-Name.is in
-    let h : HasSome types (context_of types fs) (named x) = subst (HasSome types (context_of types fs)) shown c.requires.typed in
-    name_known types (context_of types fs) (values_of (field_names fs) vs) x (suits_of_fit types fs vs c.requires.fit) h
-    (ap (values_of (field_names fs) vs) (sym c.as_str.ensures.value) ∙ c.in-None.ensures.missing)
+    let h : HasSome types (context c.args.scope.now) (named x) = subst (HasSome types (context c.args.scope.now)) shown c.requires.typed in
+    name_known types (context c.args.scope.now) env x c.requires.suits h
+    (ap env (sym c.as_str.ensures.value) ∙ c.in-None.ensures.missing)
 
 pub evaluate-empty-requires : goal.evaluate-empty-requires
 evaluate-empty-requires t c =
-    let types = c.args.types.now in
-    let fs = map field_of c.args.fields.now in
+    let types = c.args.scope.now.types.now in
     let x = name_of c.in-Empty.name in
     let shown : expr_of c.args.expression.now ≡ empty x = ap expr_of c.in-Empty.is in
-    empty_known types (context_of types fs) x (subst (HasSome types (context_of types fs)) shown c.requires.typed)
+    empty_known types (context c.args.scope.now) x (subst (HasSome types (context c.args.scope.now)) shown c.requires.typed)
 
 pub evaluate-evaluate-requires-in-Binary : goal.evaluate-evaluate-requires-in-Binary
 evaluate-evaluate-requires-in-Binary t c =
-    let ctx = context_of c.args.types.now (map field_of c.args.fields.now) in
+    let ctx = context c.args.scope.now in
     let shown : expr_of c.args.expression.now ≡ binary (expr_of c.in-Binary.left.value) c.in-Binary.operator (expr_of c.in-Binary.right.value) = ap expr_of c.in-Binary.is in
-    let h = left_typed c.args.types.now ctx _ _ _ _ shown c.requires.typed in
+    let h = left_typed c.args.scope.now.types.now ctx _ _ _ _ shown c.requires.typed in
     let size = ap nodes shown in
     let same = ap (λ e. nodes (expr_of e)) c.deref-in-Binary.ensures in
-    (omega arith, (c.requires.types, (c.requires.fit, subst (λ e. HasSome c.args.types.now ctx (expr_of e)) (sym c.deref-in-Binary.ensures) h)))
+    (omega arith, (c.requires.types, (c.requires.suits, subst (λ e. HasSome c.args.scope.now.types.now ctx (expr_of e)) (sym c.deref-in-Binary.ensures) h)))
 
 pub evaluate-evaluate-requires-in-Binary-2 : goal.evaluate-evaluate-requires-in-Binary-2
 evaluate-evaluate-requires-in-Binary-2 t c =
-    let ctx = context_of c.args.types.now (map field_of c.args.fields.now) in
+    let ctx = context c.args.scope.now in
     let shown : expr_of c.args.expression.now ≡ binary (expr_of c.in-Binary.left.value) c.in-Binary.operator (expr_of c.in-Binary.right.value) = ap expr_of c.in-Binary.is in
-    let h = right_typed c.args.types.now ctx _ _ _ _ shown c.requires.typed in
+    let h = right_typed c.args.scope.now.types.now ctx _ _ _ _ shown c.requires.typed in
     let size = ap nodes shown in
     let same = ap (λ e. nodes (expr_of e)) c.deref-in-Binary-2.ensures in
-    (omega arith, (c.requires.types, (c.requires.fit, subst (λ e. HasSome c.args.types.now ctx (expr_of e)) (sym c.deref-in-Binary-2.ensures) h)))
+    (omega arith, (c.requires.types, (c.requires.suits, subst (λ e. HasSome c.args.scope.now.types.now ctx (expr_of e)) (sym c.deref-in-Binary-2.ensures) h)))
 
 pub evaluate-evaluate-requires-in-Prefix : goal.evaluate-evaluate-requires-in-Prefix
 evaluate-evaluate-requires-in-Prefix t c =
-    let ctx = context_of c.args.types.now (map field_of c.args.fields.now) in
+    let ctx = context c.args.scope.now in
     let shown : expr_of c.args.expression.now ≡ prefix c.in-Prefix.operator (expr_of c.in-Prefix.operand.value) = ap expr_of c.in-Prefix.is in
-    let h = operand_typed c.args.types.now ctx _ _ _ shown c.requires.typed in
+    let h = operand_typed c.args.scope.now.types.now ctx _ _ _ shown c.requires.typed in
     let size = ap nodes shown in
     let same = ap (λ e. nodes (expr_of e)) c.deref-in-Prefix.ensures in
-    (omega arith, (c.requires.types, (c.requires.fit, subst (λ e. HasSome c.args.types.now ctx (expr_of e)) (sym c.deref-in-Prefix.ensures) h)))
+    (omega arith, (c.requires.types, (c.requires.suits, subst (λ e. HasSome c.args.scope.now.types.now ctx (expr_of e)) (sym c.deref-in-Prefix.ensures) h)))
 
 pub evaluate-applied-requires : goal.evaluate-applied-requires
 evaluate-applied-requires t c =
-    let fs = map field_of c.args.fields.now in
-    let vs = map plain c.args.values.now in
-    let env = values_of (field_names fs) vs in
+    let env = environment c.args.scope.now in
     let shown : expr_of c.args.expression.now ≡ prefix c.in-Prefix.operator (expr_of c.in-Prefix.operand.value) = ap expr_of c.in-Prefix.is in
-    let value = ap answer_of (sym c.in-Ok.is) ∙ c.in_ok-value-in-Prefix.ensures ∙ ap (λ e. val c.args.types.now (expr_of e) env) c.deref-in-Prefix.ensures in
-    subst (λ ops. Takes c.args.types.now c.in-Prefix.operator (map plain ops)) (sym c.in_ok-from_array-in-Ok.ensures.items)
-    (operand_taken c.args.types.now (context_of c.args.types.now fs) env _ _ _ _ c.requires.types (suits_of_fit c.args.types.now fs vs c.requires.fit) shown c.requires.typed value)
+    let value = ap answer_of (sym c.in-Ok.is) ∙ c.in_ok-value-in-Prefix.ensures ∙ ap (λ e. val c.args.scope.now.types.now (expr_of e) env) c.deref-in-Prefix.ensures in
+    subst (λ ops. Takes c.args.scope.now.types.now c.in-Prefix.operator (map plain ops)) (sym c.in_ok-from_array-in-Ok.ensures.items)
+    (operand_taken c.args.scope.now.types.now (context c.args.scope.now) env _ _ _ _ c.requires.types c.requires.suits shown c.requires.typed value)
 
 pub evaluate-joined-requires-clause-operands : goal.evaluate-joined-requires-clause-operands
 evaluate-joined-requires-clause-operands t c =
-    let fs = map field_of c.args.fields.now in
-    let vs = map plain c.args.values.now in
-    let env = values_of (field_names fs) vs in
+    let env = environment c.args.scope.now in
     let shown : expr_of c.args.expression.now ≡ binary (expr_of c.in-Binary.left.value) c.in-Binary.operator (expr_of c.in-Binary.right.value) = ap expr_of c.in-Binary.is in
-    let first = ap answer_of (sym c.in-Ok-2.is) ∙ c.in_ok-value-in-Binary.ensures ∙ ap (λ e. val c.args.types.now (expr_of e) env) c.deref-in-Binary.ensures in
-    let second = ap answer_of (sym c.in-Ok-3.is) ∙ c.in_ok-value-in-Binary-2.ensures ∙ ap (λ e. val c.args.types.now (expr_of e) env) c.deref-in-Binary-2.ensures in
-    operands_typed c.args.types.now (context_of c.args.types.now fs) env _ _ _ _ _ _ c.requires.types (suits_of_fit c.args.types.now fs vs c.requires.fit) shown c.requires.typed first second
+    let first = ap answer_of (sym c.in-Ok-2.is) ∙ c.in_ok-value-in-Binary.ensures ∙ ap (λ e. val c.args.scope.now.types.now (expr_of e) env) c.deref-in-Binary.ensures in
+    let second = ap answer_of (sym c.in-Ok-3.is) ∙ c.in_ok-value-in-Binary-2.ensures ∙ ap (λ e. val c.args.scope.now.types.now (expr_of e) env) c.deref-in-Binary-2.ensures in
+    operands_typed c.args.scope.now.types.now (context c.args.scope.now) env _ _ _ _ _ _ c.requires.types c.requires.suits shown c.requires.typed first second
 
 pub evaluate-returns-in-Err-3 : goal.evaluate-returns-in-Err-3
 evaluate-returns-in-Err-3 t c =
-    let fs = map field_of c.args.fields.now in
-    let vs = map plain c.args.values.now in
-    let env = values_of (field_names fs) vs in
+    let env = environment c.args.scope.now in
     let shown : expr_of c.args.expression.now ≡ binary (expr_of c.in-Binary.left.value) c.in-Binary.operator (expr_of c.in-Binary.right.value) = ap expr_of c.in-Binary.is in
-    let first = ap answer_of (sym c.in-Ok-2.is) ∙ c.in_ok-value-in-Binary.ensures ∙ ap (λ e. val c.args.types.now (expr_of e) env) c.deref-in-Binary.ensures in
-    let second = ap answer_of (sym c.in-Err-3.is) ∙ c.in_ok-value-in-Binary-2.ensures ∙ ap (λ e. val c.args.types.now (expr_of e) env) c.deref-in-Binary-2.ensures in
-    fault_stays c.args.types.now c.requires.types (context_of c.args.types.now fs) env _ _ _ _ _ _ (suits_of_fit c.args.types.now fs vs c.requires.fit) shown c.requires.typed first c.in_default.ensures.asked second
+    let first = ap answer_of (sym c.in-Ok-2.is) ∙ c.in_ok-value-in-Binary.ensures ∙ ap (λ e. val c.args.scope.now.types.now (expr_of e) env) c.deref-in-Binary.ensures in
+    let second = ap answer_of (sym c.in-Err-3.is) ∙ c.in_ok-value-in-Binary-2.ensures ∙ ap (λ e. val c.args.scope.now.types.now (expr_of e) env) c.deref-in-Binary-2.ensures in
+    fault_stays c.args.scope.now.types.now c.requires.types (context c.args.scope.now) env _ _ _ _ _ _ c.requires.suits shown c.requires.typed first c.in_default.ensures.asked second
 
 pub evaluate-evaluate_all-requires : goal.evaluate-evaluate_all-requires
 evaluate-evaluate_all-requires t c =
     let shown = make_shown _ _ _ c.deref-in-Make.result.now c.in-Make.is c.deref-in-Make.ensures.value in
     let size = ap nodes shown in
-    (omega arith, (c.requires.types, (c.requires.fit, parts_typed c.args.types.now (context_of c.args.types.now (map field_of c.args.fields.now)) _ _ _ shown c.requires.typed)))
+    (omega arith, (c.requires.types, (c.requires.suits, parts_typed c.args.scope.now.types.now (context c.args.scope.now) _ _ _ shown c.requires.typed)))
 
 pub evaluate-made-requires : goal.evaluate-made-requires
 evaluate-made-requires t c =
-    let suits = suits_of_fit c.args.types.now (map field_of c.args.fields.now) (map plain c.args.values.now) c.requires.fit in
     let shown = make_shown _ _ _ c.deref-in-Make.result.now c.in-Make.is c.deref-in-Make.ensures.value in
-    fields_taken c.args.types.now c.requires.types _ _ suits _ _ _ _ shown c.requires.typed (ap values_in (sym c.in-Ok-4.is) ∙ c.in_ok-parts-in-Make.ensures)
+    fields_taken c.args.scope.now.types.now c.requires.types _ _ c.requires.suits _ _ _ _ shown c.requires.typed (ap values_in (sym c.in-Ok-4.is) ∙ c.in_ok-parts-in-Make.ensures)
 
 pub evaluate-returns-in-Ok-4 : goal.evaluate-returns-in-Ok-4
 evaluate-returns-in-Ok-4 t c =
-    let suits = suits_of_fit c.args.types.now (map field_of c.args.fields.now) (map plain c.args.values.now) c.requires.fit in
     let shown = make_shown _ _ _ c.deref-in-Make.result.now c.in-Make.is c.deref-in-Make.ensures.value in
     subst (λ a. IfOk c.made.result (λ r. answer_of r ≡ a))
-    (make_answer c.args.types.now c.requires.types _ _ suits _ _ _ _ shown c.requires.typed (ap values_in (sym c.in-Ok-4.is) ∙ c.in_ok-parts-in-Make.ensures)) c.made.ensures
+    (make_answer c.args.scope.now.types.now c.requires.types _ _ c.requires.suits _ _ _ _ shown c.requires.typed (ap values_in (sym c.in-Ok-4.is) ∙ c.in_ok-parts-in-Make.ensures)) c.made.ensures
 
 pub evaluate-returns-in-Err-4 : goal.evaluate-returns-in-Err-4
 evaluate-returns-in-Err-4 t c =
-    let suits = suits_of_fit c.args.types.now (map field_of c.args.fields.now) (map plain c.args.values.now) c.requires.fit in
     let shown = make_shown _ _ _ c.deref-in-Make.result.now c.in-Make.is c.deref-in-Make.ensures.value in
-    make_answer c.args.types.now c.requires.types _ _ suits _ _ _ _ shown c.requires.typed (ap values_in (sym c.in-Err-4.is) ∙ c.in_ok-parts-in-Make.ensures)
+    make_answer c.args.scope.now.types.now c.requires.types _ _ c.requires.suits _ _ _ _ shown c.requires.typed (ap values_in (sym c.in-Err-4.is) ∙ c.in_ok-parts-in-Make.ensures)
 
 pub evaluate-evaluate-requires-in-Select : goal.evaluate-evaluate-requires-in-Select
 evaluate-evaluate-requires-in-Select t c =
-    let ctx = context_of c.args.types.now (map field_of c.args.fields.now) in
+    let ctx = context c.args.scope.now in
     let shown : expr_of c.args.expression.now ≡ select (expr_of c.in-Select.tuple.value) (name_of c.in-Select.name) = ap expr_of c.in-Select.is in
-    let h = tuple_typed c.args.types.now ctx _ _ _ shown c.requires.typed in
+    let h = tuple_typed c.args.scope.now.types.now ctx _ _ _ shown c.requires.typed in
     let size = ap nodes shown in
     let same = ap (λ e. nodes (expr_of e)) c.deref-in-Select.ensures in
-    (omega arith, (c.requires.types, (c.requires.fit, subst (λ e. HasSome c.args.types.now ctx (expr_of e)) (sym c.deref-in-Select.ensures) h)))
+    (omega arith, (c.requires.types, (c.requires.suits, subst (λ e. HasSome c.args.scope.now.types.now ctx (expr_of e)) (sym c.deref-in-Select.ensures) h)))
 
 pub evaluate-selected-requires : goal.evaluate-selected-requires
 evaluate-selected-requires t c =
-    let suits = suits_of_fit c.args.types.now (map field_of c.args.fields.now) (map plain c.args.values.now) c.requires.fit in
-    let env = values_of (field_names (map field_of c.args.fields.now)) (map plain c.args.values.now) in
+    let env = environment c.args.scope.now in
     let shown : expr_of c.args.expression.now ≡ select (expr_of c.in-Select.tuple.value) (name_of c.in-Select.name) = ap expr_of c.in-Select.is in
-    let value = ap answer_of (sym c.in-Ok-5.is) ∙ c.in_ok-tuple-in-Select.ensures ∙ ap (λ e. val c.args.types.now (expr_of e) env) c.deref-in-Select.ensures in
-    field_there c.args.types.now c.requires.types _ _ suits _ _ _ _ shown c.requires.typed value
+    let value = ap answer_of (sym c.in-Ok-5.is) ∙ c.in_ok-tuple-in-Select.ensures ∙ ap (λ e. val c.args.scope.now.types.now (expr_of e) env) c.deref-in-Select.ensures in
+    field_there c.args.scope.now.types.now c.requires.types _ _ c.requires.suits _ _ _ _ shown c.requires.typed value
 
 -- ---- expressions in order
 
 pub evaluate_all-evaluate-requires : goal.evaluate_all-evaluate-requires
 evaluate_all-evaluate-requires t c =
-    let types = c.args.types.now in
-    let ctx = context_of types (map field_of c.args.fields.now) in
+    let types = c.args.scope.now.types.now in
+    let ctx = context c.args.scope.now in
     let few = nodes_at c.args.expressions.now _ c.expression-item.result c.loop-expression-test.true c.expression-item.is in
-    (omega (arith, few), (c.requires.types, (c.requires.fit, some_there _ (passes_at (typed types ctx) expr_of c.args.expressions.now _ c.expression-item.result c.requires.typed c.loop-expression-test.true c.expression-item.is))))
+    (omega (arith, few), (c.requires.types, (c.requires.suits, some_there _ (passes_at (typed types ctx) expr_of c.args.expressions.now _ c.expression-item.result c.requires.typed c.loop-expression-test.true c.expression-item.is))))
 
 pub evaluate_all-returns-in-Err : goal.evaluate_all-returns-in-Err
 evaluate_all-returns-in-Err t c =
-    let start = start_of c.args.types.now (values_of (field_names (map field_of c.args.fields.now)) (map plain c.args.values.now)) in
+    let start = start_of c.args.scope.now.types.now (environment c.args.scope.now) in
     values-stop start expr_of c.args.expressions.now _ c.expression-item.result (map plain c.loop-expression.found.items) c.in-Err.fault c.loop-expression-test.true c.expression-item.is c.loop-expression.invariant
     (sym (ap settled c.in_ok-value.ensures) ∙ sym (settled-answer c.in_ok-value.field-0) ∙ ap value_in c.in-Err.is)
 
 pub evaluate_all-loop-expression-preserved : goal.evaluate_all-loop-expression-preserved
 evaluate_all-loop-expression-preserved t c =
-    let start = start_of c.args.types.now (values_of (field_names (map field_of c.args.fields.now)) (map plain c.args.values.now)) in
+    let start = start_of c.args.scope.now.types.now (environment c.args.scope.now) in
     let more = map expr_of (drop (c.loop-expression.expression-index + 1) c.args.expressions.now) in
     ap (λ vs. prepended vs (all_values start more)) (ap (map plain) c.in_ok-push-in-Ok.ensures.items ∙ map-append plain c.loop-expression.found.items (c.in-Ok.value ∷ []))
     ∙ values-go-on start expr_of c.args.expressions.now c.args.expressions.now _ c.expression-item.result (map plain c.loop-expression.found.items) (plain c.in-Ok.value) refl c.loop-expression-test.true c.expression-item.is c.loop-expression.invariant

@@ -1,10 +1,10 @@
 use Rattle.std.proofs.Common.{◌≡◌, ◌*◌, ◌+◌, map, drop}
 use Rattle.ioa_value.specs.Plain.{plain}
-use Rattle.ioa_syntax.specs.View.{expr_of, exprs_of, field_of}
-use Rattle.ioa_syntax.specs.Meaning.{values_of}
-use Rattle.ioa_syntax.specs.Instances.{all_values, field_names}
+use Rattle.ioa_syntax.specs.View.{expr_of, exprs_of}
+use Rattle.ioa_syntax.specs.Instances.{all_values}
 use Rattle.ioa_syntax.specs.WellFormed.{nodes, exprs_nodes}
 use Rattle.ioa_compose.specs.Bindings.{start_of}
+use Rattle.ioa_compose.specs.Scopes.{environment}
 use Rattle.ioa_compose.proofs.ValueLemmas.{prepended}
 use Rattle.ioa_compose.proofs.evaluate.+evaluate.Given as goal
 
@@ -17,5 +17,5 @@ decreases-evaluate_all l = 2 * exprs_nodes (exprs_of l.expressions.now) + 1
 
 abbrev pub invariant-evaluate_all-loop-expression : goal.invariant-evaluate_all-loop-expression
 invariant-evaluate_all-loop-expression l =
-    let start = start_of l.types (values_of (field_names (map field_of l.fields)) (map plain l.values)) in
+    let start = start_of l.scope.types.now (environment l.scope) in
     prepended (map plain l.found.items) (all_values start (map expr_of (drop l.expression-index l.expressions))) ≡ all_values start (map expr_of l.expressions)

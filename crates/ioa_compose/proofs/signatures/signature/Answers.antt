@@ -1,17 +1,23 @@
-use Rattle.std.proofs.Common.{◌≡◌, List, true, map, refl, sym, subst}
-use Rattle.std.specs.List.{list_all}
+use Rattle.std.proofs.Common.{◌≡◌, ◌≤◌, Bor, Vec, Global, List, true, length, map, refl, sym, ap, subst, ◌∙◌}
+use Rattle.std.specs.List.{AllZip, list_all}
+use Rattle.std.specs.Option.{option_map}
+use Rattle.std.proofs.lemmas.List.{take_all}
 use Rattle.ioa_value.specs.Plain.{plain}
 use Rattle.ioa_value.proofs.ItemLemmas.{passes_at}
 use Rattle.ioa_value.specs.Positions.{domain_of}
+use Rattle.ioa_syntax.specs.declared.tree.Crash.{Crash}
 use Rattle.ioa_syntax.specs.declared.tree.Entry.{Entry}
-use Rattle.ioa_syntax.specs.View.{automaton_of, entry_of}
+use Rattle.ioa_syntax.specs.View.{automaton_of, crash_of, entry_of}
 use Rattle.ioa_syntax.specs.Domains.{AreDomainsOf}
 use Rattle.ioa_syntax.specs.WellFormed.{entry_fine}
 use Rattle.ioa_syntax.proofs.FineParts.{fine_parts, entry_parts}
-use Rattle.ioa_compose.specs.Bindings.{instance_with, instance_in}
+use Rattle.ioa_compose.specs.Bindings.{instance_with, crash_in, plain_in}
+use Rattle.ioa_compose.specs.declared.signatures.SignedEntry as held
 use Rattle.ioa_compose.specs.Clashes.{IsSigned, signed_of}
-use Rattle.ioa_compose.proofs.SignatureLemmas.{zip-push}
+use Rattle.ioa_compose.proofs.SignatureLemmas.{zip-push, two-pushed}
+use Rattle.ioa_compose.proofs.WithSignals.{signed_none, signed_some}
 use Rattle.ioa_compose.proofs.signatures.signature.Goals as goal
+use Rattle.ioa_compose.proofs.signatures.signature.Goals.{in-Some+in_ok-push-2+in_ok-push-3, in_default}
 
 pub positions-requires-clause-fine : goal.positions-requires-clause-fine
 positions-requires-clause-fine c =
@@ -28,7 +34,7 @@ loop-entry-preserved c =
     let types = c.args.types.now in
     let b = c.args.binding.now in
     let a = automaton_of b.automaton.now in
-    zip-push (IsSigned (instance_in types b)) entry_of signed_of b.automaton.now.entries.items c.deref-entry-items.result.now c.loop-entry.entry-index
+    zip-push (IsSigned (plain_in types b)) entry_of signed_of b.automaton.now.entries.items c.deref-entry-items.result.now c.loop-entry.entry-index
     c.entry-item.result
     c.loop-entry.entries.items _ _ c.deref-entry-items.ensures.value c.loop-entry-test.true c.entry-item.is c.in_ok-push.ensures.items c.loop-entry.invariant
     (record {
@@ -37,3 +43,23 @@ loop-entry-preserved c =
       domains = subst (λ vs. AreDomainsOf (instance_with types a (map plain vs)) (entry_of c.entry-item.result).positions
           (map domain_of c.in_ok-positions.positions.items)) c.deref.ensures.value c.in_ok-positions.ensures;
     })
+
+pub returns : goal.returns
+returns c =
+    let types = c.args.types.now in
+    let b = c.args.binding.now in
+    let a = automaton_of b.automaton.now in
+    let vs = map plain b.arguments.items in
+    let told = c.loop-entry.entries.items in
+    let past = subst (λ (es : List Entry). length es ≤ c.loop-entry.entry-index) c.deref-entry-items.ensures.value c.loop-entry-test.false in
+    let all = subst (λ (es : List Entry). AllZip (IsSigned (plain_in types b)) (map entry_of es) (map signed_of told))
+    (take_all c.loop-entry.entry-index b.automaton.now.entries.items past) c.loop-entry.invariant in
+    elim c.match-binding.branch [
+      | in-Some+in_ok-push-2+in_ok-push-3 w ↦
+          signed_some types (crash_in b) (crash_of w.in-Some.names.now) a vs (map signed_of told) _ (ap (option_map (λ (n : Bor Crash). crash_of n.now)) w.in-Some.is)
+          (two-pushed told _ _ w.signal.result w.signal-in-Some.result w.in_ok-push-2.ensures.items (ap (λ (v : Vec held.SignedEntry Global). v.items) w.entries-is ∙ w.in_ok-push-3.ensures.items)
+          _ _ w.signal.ensures w.signal-in-Some.ensures) all
+      | in_default w ↦
+          signed_none types (crash_in b) a vs _ (ap (option_map (λ (n : Bor Crash). crash_of n.now)) w.in_default.is)
+          (subst (λ (v : Vec held.SignedEntry Global). AllZip (IsSigned (plain_in types b)) a.entries (map signed_of v.items)) (sym w.entries-is) all)
+    ]

@@ -1,9 +1,9 @@
 use Rattle.std.proofs.Common.{rules}
-use Rattle.ioa_syntax.specs.View.{name_of}
-use Rattle.ioa_compose.specs.Bindings.{instance_in}
+use Rattle.ioa_value.proofs.ItemLemmas.{at_map}
+use Rattle.ioa_compose.specs.Bindings.{instance_in, IsStarted}
 use Rattle.ioa_compose.specs.Held.{member_of}
-use Rattle.ioa_compose.proofs.BindingLemmas.{startable-at, started-push, faults-in}
-use Rattle.ioa_value.proofs.ItemLemmas.{at_map, map_push}
+use Rattle.ioa_compose.proofs.BindingLemmas.{startable-at, faults-in}
+use Rattle.ioa_compose.proofs.SignatureLemmas.{zip-more}
 use Rattle.ioa_compose.proofs.starts.start_all.Goals as goal
 
 pub start-requires-clause-startable : goal.start-requires-clause-startable
@@ -15,10 +15,7 @@ returns-in_err-start-clause-refused c =
     (at_map (instance_in c.args.types.now) c.args.bindings.now _ c.index-bindings-index.result c.loop-index-test.true c.index-bindings-index.is) (search rules)
 
 pub loop-index-preserved : goal.loop-index-preserved
-loop-index-preserved c = record {
-  instances = map_push (λ m. (member_of m).instance) (instance_in c.args.types.now) c.loop-index.members.items _ c.in_ok-start.field-0 c.args.bindings.now _ c.index-bindings-index.result c.loop-index-test.true c.index-bindings-index.is c.in_ok-push.ensures.items
-      c.loop-index.invariant.instances c.in_ok-start.ensures.instance;
-  names = map_push (λ m. (member_of m).name) (λ b. name_of b.name.now) c.loop-index.members.items _ c.in_ok-start.field-0 c.args.bindings.now _ c.index-bindings-index.result c.loop-index-test.true c.index-bindings-index.is c.in_ok-push.ensures.items
-      c.loop-index.invariant.names c.in_ok-start.ensures.name;
-  started = started-push c.args.types.now c.loop-index.members.items _ c.in_ok-start.field-0 c.index-bindings-index.result c.in_ok-push.ensures.items c.loop-index.invariant.started c.in_ok-start.ensures.instance c.in_ok-start.ensures.started;
-}
+loop-index-preserved c =
+    zip-more (λ b m. IsStarted c.args.types.now b (member_of m)) c.args.bindings.now c.loop-index.index c.index-bindings-index.result
+    c.loop-index.members.items _ c.in_ok-start.field-0 c.loop-index-test.true c.index-bindings-index.is c.in_ok-push.ensures.items c.loop-index.invariant
+    c.in_ok-start.ensures.started

@@ -1,0 +1,100 @@
+-- What is asked of a composition, over what it holds.
+use Rattle.std.proofs.Common.{◌≡◌, ℕ, zero, suc, ◌<◌, length, get_or, All, Bool, true, List, [], ◌∷◌, ◌++◌, map, take, Some, Result, Ok, Err, IfOk, sym, subst, ◌∙◌}
+use Rattle.std.specs.Prelude.{slice_get}
+use Rattle.std.specs.List.{list_all}
+use Rattle.std.specs.Str.{bytes_eq}
+use Rattle.std.proofs.lemmas.Option.{slice_get_within}
+use Rattle.std.proofs.lemmas.List.{length-map}
+use Rattle.std.proofs.lemmas.List.Elements.{All-head, All-tail}
+use Rattle.ioa_value.specs.declared.memory.OutOfMemory.{OutOfMemory}
+use Rattle.ioa_value.specs.Plain.{Val}
+use Rattle.ioa_value.proofs.ItemLemmas.{at_map}
+use Rattle.ioa_syntax.specs.declared.tree.Invariant.{Invariant}
+use Rattle.ioa_syntax.specs.Tree.{InvariantTree}
+use Rattle.ioa_syntax.specs.View.{invariant_of, automaton_of}
+use Rattle.ioa_syntax.specs.Names.{names_of_expr}
+use Rattle.ioa_syntax.specs.Instances.{Fit, state_of}
+use Rattle.ioa_syntax.specs.Invariants.{holds}
+use Rattle.ioa_syntax.specs.WellFormed.{variable_fields, held as held_names, has_ty}
+use Rattle.ioa_syntax.specs.Compositions as compositions
+use Rattle.ioa_compose.specs.declared.member.Member.{Member}
+use Rattle.ioa_compose.specs.Held.{Held, member_of, composed_of}
+use Rattle.ioa_compose.specs.Fine.{IsFine, IsSound, component_limits}
+use Rattle.ioa_compose.specs.Rewriting.{spelled}
+use Rattle.ioa_compose.specs.Questions.{OfThese, first_of, IsQuestion, IsAnswerable}
+use Rattle.ioa_compose.proofs.MemberLemmas.{fine_at, declared_at}
+use Rattle.ioa_compose.proofs.FirstVariables.{typed_front, holds_front}
+use Rattle.ioa_compose.proofs.RewrittenNames.{fit_length}
+
+-- a place that has an item is within the list
+within : {X Y : Type 0} (f : X → Y) (xs : List X) (i : ℕ) (y : Y) → slice_get (map f xs) i ≡ Some y → i < length xs
+within f xs i y e = subst (λ n. i < n) (length-map xs f) (slice_get_within (map f xs) i y e)
+
+pub all_found : {X : Type 0} (P : X → Type 0) (xs : List X) (i : ℕ) (x : X) → All P xs → slice_get xs i ≡ Some x → P x
+all_found P [] i x h e = absurd (cc)
+all_found P (y ∷ ys) zero x h e = let same : y ≡ x = cc in subst P same (All-head P y ys h)
+all_found P (y ∷ ys) (suc i) x h e = all_found P ys i x (All-tail P y ys h) e
+
+module _ (h : Held) (i k : ℕ) (values : List Val) (q : IsQuestion (composed_of h) i k values) (m : Member) (v : Invariant)
+    (e : m ≡ get_or h.members i m) (at : v ≡ get_or h.invariants k v) where
+  member-within : i < length h.members
+  member-within = within member_of h.members i q.member q.member_there
+
+  member-there : slice_get (map member_of h.members) i ≡ Some (member_of m)
+  member-there = at_map member_of h.members i m member-within e
+
+  invariant-there : slice_get (map invariant_of h.invariants) k ≡ Some (invariant_of v)
+  invariant-there = at_map invariant_of h.invariants k v (within invariant_of h.invariants k q.invariant q.invariant_there) at
+
+  asked-member : q.member ≡ member_of m
+  asked-member = cc (member-there, q.member_there)
+
+  asked-invariant : q.invariant ≡ invariant_of v
+  asked-invariant = cc (invariant-there, q.invariant_there)
+
+  fine : IsSound (composed_of h) → IsFine component_limits (member_of m)
+  fine s = fine_at h.members i m s.members member-within e
+
+  spells : IsSound (composed_of h) → list_all spelled (names_of_expr (invariant_of v).condition) ≡ true
+  spells s = all_found (λ (u : InvariantTree). list_all spelled (names_of_expr u.condition) ≡ true) (map invariant_of h.invariants) k (invariant_of v) s.conditions invariant-there
+
+  typed : IsSound (composed_of h) → has_ty m.types m.types (held_names m.types m.types [] (automaton_of m.automaton)) (invariant_of v).condition 0 ≡ true
+  typed s =
+      s.invariants i k (member_of m) (invariant_of v) member-there invariant-there
+      (subst (λ u. bytes_eq u.automaton (member_of m).instance.automaton.name ≡ true) asked-invariant
+      (subst (λ u. bytes_eq q.invariant.automaton u.instance.automaton.name ≡ true) asked-member q.about))
+
+  fits : Fit m.types (variable_fields (first_of m.declared (automaton_of m.automaton))) values
+  fits = subst (λ u. Fit u.instance.types (variable_fields (first_of u.declared u.instance.automaton)) values) asked-member q.fit
+
+  -- it has an answer
+  pub answerable : IsSound (composed_of h) → IsAnswerable (member_of m) (invariant_of v).condition values
+  answerable s = record {
+    types = declared_at h.types h.members i m s.types s.over member-within e;
+    within = (fine s).declared;
+    arguments = (fine s).arguments;
+    state = fits;
+    typed = typed_front (member_of m).instance m.declared (fine s).added (invariant_of v).condition (spells s) (typed s);
+  }
+
+  -- whatever the values of the variables behind them are
+  pub whatever : IsSound (composed_of h) → (r : Result Bool OutOfMemory)
+      → IfOk r (λ b. b ≡ holds (member_of m).instance (invariant_of v).condition (state_of (first_of m.declared (automaton_of m.automaton)) values))
+      → IfOk r (λ b. (more : List Val) → b ≡ holds (member_of m).instance (invariant_of v).condition (state_of (automaton_of m.automaton) (values ++ more)))
+  whatever s (Ok b) said = λ more. said ∙ holds_front (member_of m).instance m.declared (fine s).added (invariant_of v).condition (spells s) values more long
+    where
+      long : length values ≡ length (take m.declared (automaton_of m.automaton).variables)
+      long =
+          sym (fit_length m.types (variable_fields (first_of m.declared (automaton_of m.automaton))) values fits)
+          ∙ length-map (map (λ w. w.field) (take m.declared (automaton_of m.automaton).variables)) (λ f. f.name)
+          ∙ length-map (take m.declared (automaton_of m.automaton).variables) (λ w. w.field)
+  whatever s (Err x) said = tt
+
+  -- what is said of the component and the invariant that are found
+  pub answers : (r : Result Bool OutOfMemory) (p : Bool → compositions.Member → InvariantTree → Type 0)
+      → IfOk r (λ b. p b (member_of m) (invariant_of v)) → IfOk r (λ b. OfThese (composed_of h) i k (p b))
+  answers (Ok b) p said = λ n w x y.
+      let same : member_of m ≡ n = cc (member-there, x) in
+      let alike : invariant_of v ≡ w = cc (invariant-there, y) in
+      subst (λ u. p b n u) alike (subst (λ u. p b u (invariant_of v)) same said)
+  answers (Err x) p said = tt

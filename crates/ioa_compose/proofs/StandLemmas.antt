@@ -1,0 +1,220 @@
+-- The composition of rewritten components, and of those that do not crash, stands for the hosts.
+use Rattle.std.proofs.Common.{◌≡◌, ℕ, suc, ◌+◌, Bool, true, false, not, cond, ◌&&◌, ◌||◌, List, [], ◌∷◌, ◌++◌, map, All, Option, Some, None, Result, Ok, Err, slice_get, refl, sym, ap, subst, ◌∙◌, arith}
+use Rattle.std.specs.List.{list_all, list_any}
+use Rattle.std.specs.Option.{option_map}
+use Rattle.std.specs.Str.{bytes_eq}
+use Rattle.std.proofs.lemmas.List.Elements.{All-head, All-tail}
+use Rattle.ioa_value.specs.declared.arithmetic.Fault.{Fault}
+use Rattle.ioa_value.specs.Actions.{Name, Act}
+use Rattle.ioa_value.specs.Plain.{Val}
+use Rattle.ioa_syntax.specs.declared.tree.Kind.{Kind}
+use Rattle.ioa_syntax.specs.declared.tree.Kind.TheVariants.{Input}
+use Rattle.ioa_syntax.specs.Tree.{CrashTree, EntryTree, InvariantTree}
+use Rattle.ioa_syntax.specs.Names.{names_of_expr}
+use Rattle.ioa_syntax.specs.Meaning.{Env, or_else, over}
+use Rattle.ioa_syntax.specs.Instances.{Instance, formal_values, component_of, state_of}
+use Rattle.ioa_syntax.specs.Components.{Component, Compatible}
+use Rattle.ioa_syntax.specs.Compositions.{Member, Composed, components_of, starts_of}
+use Rattle.ioa_syntax.specs.Invariants.{is_true, holds, breaks, broken_by, broken_from, Broken, first_broken, broken_at}
+use Rattle.ioa_syntax.specs.Likes.{AreLike, IsLike, AllLike, AllRelated, RunsLike}
+use Rattle.ioa_syntax.specs.Steps.{owner, participants}
+use Rattle.ioa_syntax.specs.Runs.{run, trace, is_external}
+use Rattle.ioa_syntax.specs.Hosts.{HostState, host_state, when_ok, steady, hosted, reset_to, Host, host_of, host_start, Hosted, hosts_of, host_starts, broken_hosts, first_broken_host}
+use Rattle.ioa_syntax.proofs.Agreement.{val_same}
+use Rattle.ioa_syntax.proofs.Alike.{like_kinds, kinds_back, same_compatible, first_like}
+use Rattle.ioa_syntax.proofs.Simulation.{run_like, trace_like, owner_like, participants_like, external_like}
+use Rattle.ioa_compose.specs.Rewriting.{spelled, signals, crashing}
+use Rattle.ioa_compose.specs.Stands.{StandsBy, StandsFor, StandsAt, member_by, member_for, MayStand, has_kind, Stands, RewritingStands}
+use Rattle.ioa_compose.proofs.RewrittenNames.{formals_same}
+use Rattle.ioa_compose.proofs.CrashLemmas.{means_crash}
+
+-- ---- relations that say the same
+
+moved : {S T : Type 0} (R Q : S → T → Type 0) (x : Result S Fault) (y : Result T Fault) → ((s : S) (t : T) → R s t → Q s t) → AreLike R x y → AreLike Q x y
+moved R Q (Ok s) (Ok t) k h = k s t h
+moved R Q (Ok s) (Err f) k h = h
+moved R Q (Err f) (Ok t) k h = h
+moved R Q (Err f) (Err g) k h = h
+
+same_like : {S T : Type 0} (R Q : S → T → Type 0) (p : Component S) (q : Component T) → ((s : S) (t : T) → R s t → Q s t) → ((s : S) (t : T) → Q s t → R s t)
+    → IsLike R p q → IsLike Q p q
+same_like R Q p q to back h = record {
+  kinds = h.kinds;
+  guards = λ a s t o k. h.guards a s t o (back s t k);
+  effects = λ a s t o k. moved R Q (p.effect a s) (q.effect a t) to (h.effects a s t o (back s t k));
+}
+
+-- ---- one host
+
+abbrev IsUp : HostState Env → Env → Type 0
+IsUp h s = (h.up ≡ true) × (h.inner ≡ s)
+
+steady_gives : (x : Result Env Fault) → AreLike IsUp (when_ok (host_state true) x) x
+steady_gives (Ok s) = (refl, refl)
+steady_gives (Err f) = refl
+
+steady_is : (p : Component Env) → IsLike IsUp (steady p) p
+steady_is p = record {
+  kinds = λ a. refl;
+  guards = λ a h s o k. ap (p.guard a) k.1;
+  effects = λ a h s o k.
+      subst (λ (b : Bool). AreLike IsUp (when_ok (host_state b) (p.effect a h.inner)) (p.effect a s)) (sym k.0)
+      (subst (λ (u : Env). AreLike IsUp (when_ok (host_state true) (p.effect a h.inner)) (p.effect a u)) k.1 (steady_gives (p.effect a h.inner)));
+}
+
+one_like : (o : Option CrashTree) (p : Host) → MayStand o p
+    → IsLike (StandsBy o p.instance.automaton) (hosted o (reset_to p.instance.automaton.variables p.starts) (component_of p.instance)) (component_of (member_by o p).instance)
+one_like None p h = steady_is (component_of p.instance)
+one_like (Some n) p h = (means_crash n p.instance p.starts h).like
+
+one_start : (o : Option CrashTree) (p : Host) → MayStand o p
+    → StandsBy o p.instance.automaton (host_start p) (state_of (member_by o p).instance.automaton (member_by o p).starts)
+one_start None p h = (refl, refl)
+one_start (Some n) p h = (means_crash n p.instance p.starts h).start
+
+one_name : (o : Option CrashTree) (p : Host) → (member_by o p).instance.automaton.name ≡ p.instance.automaton.name
+one_name None p = refl
+one_name (Some n) p = refl
+
+-- a condition of spelled names is as true of what stands for the host
+one_holds : (o : Option CrashTree) (p : Host) → MayStand o p → (v : InvariantTree) → list_all spelled (names_of_expr v.condition) ≡ true
+    → (h : HostState Env) (s : Env) → StandsBy o p.instance.automaton h s → holds p.instance v.condition h.inner ≡ holds (member_by o p).instance v.condition s
+one_holds None p may v c h s r = ap (holds p.instance v.condition) r.1
+one_holds (Some n) p may v c h s r =
+    ap is_true (val_same p.instance.types spelled (over h.inner (formal_values p.instance)) (over s (formal_values (crashing n p.instance p.starts))) agree v.condition c)
+  where
+    agree : (x : Name) → spelled x ≡ true → or_else (h.inner x) (formal_values p.instance x) ≡ or_else (s x) (formal_values (crashing n p.instance p.starts) x)
+    agree x k =
+        ap (λ (u : Option Val). or_else u (formal_values p.instance x)) (r.agree x k)
+        ∙ ap (λ (u : Option Val). or_else (s x) u) (sym (formals_same n p.instance p.starts may x k))
+
+one_breaks : (o : Option CrashTree) (p : Host) → MayStand o p → (v : InvariantTree) → list_all spelled (names_of_expr v.condition) ≡ true
+    → (h : HostState Env) (s : Env) → StandsBy o p.instance.automaton h s → breaks p.instance v h.inner ≡ breaks (member_by o p).instance v s
+one_breaks o p may v c h s r =
+    ap (λ (x : Name). bytes_eq v.automaton x && not (holds p.instance v.condition h.inner)) (sym (one_name o p))
+    ∙ ap (λ b. bytes_eq v.automaton (member_by o p).instance.automaton.name && not b) (one_holds o p may v c h s r)
+
+abbrev pub AreSpelled : List InvariantTree → Type 0
+AreSpelled vs = All (λ v. list_all spelled (names_of_expr v.condition) ≡ true) vs
+
+broken_one : (o : Option CrashTree) (p : Host) → MayStand o p → (k : ℕ) (vs : List InvariantTree) → AreSpelled vs
+    → (h : HostState Env) (s : Env) → StandsBy o p.instance.automaton h s → broken_by k vs p.instance h.inner ≡ broken_by k vs (member_by o p).instance s
+broken_one o p may k [] c h s r = refl
+broken_one o p may k (v ∷ vs) c h s r =
+    ap (λ b. cond b (Some k) (broken_by (k + 1) vs p.instance h.inner))
+    (one_breaks o p may v (All-head (λ (u : InvariantTree). list_all spelled (names_of_expr u.condition) ≡ true) v vs c) h s r)
+    ∙ ap (λ b. cond (breaks (member_by o p).instance v s) (Some k) b)
+    (broken_one o p may (k + 1) vs (All-tail (λ (u : InvariantTree). list_all spelled (names_of_expr u.condition) ≡ true) v vs c) h s r)
+
+-- ---- by place
+
+-- the places of the rest of the hosts
+abbrev IsRest : List Host → ℕ → List Host → Type 0
+IsRest hosts i rest = (j : ℕ) → slice_get hosts (i + j) ≡ slice_get rest j
+
+here : (hosts : List Host) (i : ℕ) (p : Host) (ps : List Host) → IsRest hosts i (p ∷ ps) → slice_get hosts i ≡ Some p
+here hosts i p ps h = let none : i + 0 ≡ i = omega arith in sym (ap (slice_get hosts) none) ∙ h 0
+
+later : (hosts : List Host) (i : ℕ) (p : Host) (ps : List Host) → IsRest hosts i (p ∷ ps) → IsRest hosts (i + 1) ps
+later hosts i p ps h j = let e : i + 1 + j ≡ i + suc j = omega arith in ap (slice_get hosts) e ∙ h (suc j)
+
+at_place : (hosts : List Host) (i : ℕ) (p : Host) → slice_get hosts i ≡ Some p → (h : HostState Env) (s : Env) → StandsFor p h s → StandsAt hosts i h s
+at_place hosts i p e h s r q f = let same : p ≡ q = cc in subst (λ (u : Host). StandsFor u h s) same r
+
+abbrev AllMay : List Host → Type 0
+AllMay hosts = (i : ℕ) (p : Host) → slice_get hosts i ≡ Some p → MayStand p.crash p
+
+all_like : (hosts : List Host) → AllMay hosts → (i : ℕ) (rest : List Host) → IsRest hosts i rest
+    → AllLike (StandsAt hosts) i (map host_of rest) (map (λ (m : Member). component_of m.instance) (map member_for rest))
+    × AllRelated (StandsAt hosts) i (map host_start rest) (map (λ (m : Member). state_of m.instance.automaton m.starts) (map member_for rest))
+all_like hosts may i [] h = (tt, tt)
+all_like hosts may i (p ∷ ps) h =
+    let at = here hosts i p ps h in
+    let fits = may i p at in
+    let rest = all_like hosts may (i + 1) ps (later hosts i p ps h) in (
+      (same_like (StandsFor p) (StandsAt hosts i) (host_of p) (component_of (member_for p).instance) (at_place hosts i p at) (λ s t r. r p at) (one_like p.crash p fits), rest.0),
+      (at_place hosts i p at (host_start p) (state_of (member_for p).instance.automaton (member_for p).starts) (one_start p.crash p fits), rest.1),
+    )
+
+all_broken : (hosts : List Host) → AllMay hosts → (n : ℕ) (vs : List InvariantTree) → AreSpelled vs → (i : ℕ) (rest : List Host) → IsRest hosts i rest
+    → (hs : List (HostState Env)) (ss : List Env) → AllRelated (StandsAt hosts) i hs ss
+    → broken_from n i vs (map (λ (p : Host). p.instance) rest) (map (λ (h : HostState Env). h.inner) hs) ≡ broken_from n i vs (map (λ (m : Member). m.instance) (map member_for rest)) ss
+all_broken hosts may n vs c i [] g hs ss r = refl
+all_broken hosts may n vs c i (p ∷ ps) g [] [] r = refl
+all_broken hosts may n vs c i (p ∷ ps) g [] (s ∷ ss) r = absurd r
+all_broken hosts may n vs c i (p ∷ ps) g (h ∷ hs) [] r = absurd r
+all_broken hosts may n vs c i (p ∷ ps) g (h ∷ hs) (s ∷ ss) r =
+    let at = here hosts i p ps g in
+    let told : Option ℕ → Option Broken = λ o. option_map (λ (k : ℕ). record { state = n; component = i; invariant = k }) o in
+    ap (λ o. or_else (told o) (broken_from n (i + 1) vs (map (λ (p : Host). p.instance) ps) (map (λ (h : HostState Env). h.inner) hs)))
+    (broken_one p.crash p (may i p at) 0 vs c h s (r.0 p at))
+    ∙ ap (λ b. or_else (told (broken_by 0 vs (member_for p).instance s)) b) (all_broken hosts may n vs c (i + 1) ps (later hosts i p ps g) hs ss r.1)
+
+same_automata : (hosts : List Host) → map (λ (i : Instance). i.automaton.name) (map (λ (m : Member). m.instance) (map member_for hosts)) ≡ map (λ (i : Instance). i.automaton.name) (map (λ (p : Host). p.instance) hosts)
+same_automata [] = refl
+same_automata (p ∷ ps) =
+    ap (λ (x : Name). x ∷ map (λ (i : Instance). i.automaton.name) (map (λ (m : Member). m.instance) (map member_for ps))) (one_name p.crash p)
+    ∙ ap (λ (ns : List Name). p.instance.automaton.name ∷ ns) (same_automata ps)
+
+any_signal : (k : Kind → Bool) → k Input ≡ false → (n : CrashTree) (es : List EntryTree)
+    → list_any (λ (e : EntryTree). k e.kind) (es ++ signals n) ≡ list_any (λ (e : EntryTree). k e.kind) es
+any_signal k none n [] = ap (λ b. b || (b || false)) none
+any_signal k none n (e ∷ es) = ap (λ b. k e.kind || b) (any_signal k none n es)
+
+one_kind : (k : Kind → Bool) → k Input ≡ false → (o : Option CrashTree) (p : Host) → has_kind k (member_by o p).instance ≡ has_kind k p.instance
+one_kind k none None p = refl
+one_kind k none (Some n) p = any_signal k none n p.instance.automaton.entries
+
+same_kinds : (k : Kind → Bool) → k Input ≡ false → (hosts : List Host)
+    → map (has_kind k) (map (λ (m : Member). m.instance) (map member_for hosts)) ≡ map (has_kind k) (map (λ (p : Host). p.instance) hosts)
+same_kinds k none [] = refl
+same_kinds k none (p ∷ ps) =
+    ap (λ (b : Bool). b ∷ map (has_kind k) (map (λ (m : Member). m.instance) (map member_for ps))) (one_kind k none p.crash p)
+    ∙ ap (λ (bs : List Bool). has_kind k p.instance ∷ bs) (same_kinds k none ps)
+
+pub rewriting_stands : RewritingStands
+rewriting_stands h may c =
+    let whole : IsRest h.hosts 0 h.hosts = λ j. let e : 0 + j ≡ j = omega arith in ap (slice_get h.hosts) e in
+    let k = all_like h.hosts may 0 h.hosts whole in
+    record {
+      types = refl;
+      name = refl;
+      hidden = refl;
+      invariants = refl;
+      automata = same_automata h.hosts;
+      kinds = λ k none. same_kinds k none h.hosts;
+      like = k.0;
+      start = k.1;
+      broken = λ n hs ss r. all_broken h.hosts may n h.invariants c 0 h.hosts whole hs ss r;
+    }
+
+-- ---- what follows
+
+module _ (h : Hosted) (c : Composed) (s : Stands h c) where
+  -- the same actions performed, the same end, and states that stand for one another
+  pub stands_run : (acts : List Act) → RunsLike (StandsAt h.hosts) (run (hosts_of h) acts (host_starts h)) (run (components_of c) acts (starts_of c))
+  stands_run acts = run_like (StandsAt h.hosts) (hosts_of h) (components_of c) acts (host_starts h) (starts_of c) s.like s.start
+
+  pub stands_trace : (hidden : List Name) (acts : List Act) (n : ℕ) → trace hidden (hosts_of h) acts n ≡ trace hidden (components_of c) acts n
+  stands_trace hidden acts n = trace_like (StandsAt h.hosts) hidden (hosts_of h) (components_of c) acts n s.like
+
+  pub stands_owner : (a : Act) → owner (hosts_of h) a ≡ owner (components_of c) a
+  stands_owner a = owner_like (StandsAt h.hosts) 0 (hosts_of h) (components_of c) a s.like
+
+  pub stands_participants : (a : Act) → participants (hosts_of h) a ≡ participants (components_of c) a
+  stands_participants a = participants_like (StandsAt h.hosts) 0 (hosts_of h) (components_of c) a s.like
+
+  pub stands_external : (hidden : List Name) (a : Act) → is_external hidden (hosts_of h) a ≡ is_external hidden (components_of c) a
+  stands_external hidden a = external_like (StandsAt h.hosts) 0 hidden (hosts_of h) (components_of c) a s.like
+
+  pub stands_compatible : Compatible (hosts_of h) → Compatible (components_of c)
+  stands_compatible = same_compatible (hosts_of h) (components_of c) (like_kinds (StandsAt h.hosts) 0 (hosts_of h) (components_of c) s.like)
+
+  pub hosts_compatible : Compatible (components_of c) → Compatible (hosts_of h)
+  hosts_compatible =
+      same_compatible (components_of c) (hosts_of h) (kinds_back (hosts_of h) (components_of c) (like_kinds (StandsAt h.hosts) 0 (hosts_of h) (components_of c) s.like))
+
+  -- the first invariant that is broken along a run
+  pub stands_broken : (acts : List Act) → first_broken_host h acts ≡ first_broken c acts
+  stands_broken acts =
+      first_like (StandsAt h.hosts) (hosts_of h) (components_of c) (broken_hosts h) (broken_at c) s.like s.broken 0 acts (host_starts h) (starts_of c) s.start

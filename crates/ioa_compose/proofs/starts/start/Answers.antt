@@ -1,0 +1,15 @@
+use Rattle.std.proofs.Common.{map, sym, ap, ◌∙◌}
+use Rattle.ioa_value.specs.Plain.{plain}
+use Rattle.ioa_syntax.specs.View.{variable_of}
+use Rattle.ioa_syntax.specs.Instances.{start_value, formal_values}
+use Rattle.ioa_compose.specs.Bindings.{plain_in, values_in}
+use Rattle.ioa_compose.proofs.RewrittenNames.{values_length}
+use Rattle.ioa_compose.proofs.StartLemmas.{started-long}
+use Rattle.ioa_compose.proofs.starts.start.Goals as goal
+
+pub member-requires : goal.member-requires
+member-requires c =
+    let n = plain_in c.args.types.now c.args.binding.now in
+    let vs = c.args.binding.now.automaton.now.variables.items in
+    started-long vs c.in-Ok.starts.items
+    (values_length (start_value n.types (formal_values n)) (map variable_of vs) (map plain c.in-Ok.starts.items) (sym c.in_ok-fault.ensures ∙ ap values_in c.in-Ok.is))

@@ -1,0 +1,89 @@
+-- Compositions that stand for compositions of hosts: those that crash are rewritten.
+use Rattle.std.specs.Prelude.{◌≡◌, ℕ, Bool, true, false, List, map, length, Option, Some, None, slice_get, IsTrue, All}
+use Rattle.std.specs.List.{list_all, list_any}
+use Rattle.ioa_syntax.specs.declared.tree.Kind.{Kind}
+use Rattle.ioa_syntax.specs.declared.tree.Kind.TheVariants.{Input}
+use Rattle.ioa_syntax.specs.Tree.{CrashTree, AutomatonTree, CompositionTree, SourceTree}
+use Rattle.ioa_syntax.specs.Meaning.{Env}
+use Rattle.ioa_syntax.specs.Names.{names_of_expr, LegalNames}
+use Rattle.ioa_syntax.specs.Instances.{Instance, component_of}
+use Rattle.ioa_syntax.specs.Components.{Compatible}
+use Rattle.ioa_syntax.specs.Compositions.{Member, Composed, components_of, starts_of, instances_of}
+use Rattle.ioa_syntax.specs.Invariants.{broken_at}
+use Rattle.ioa_syntax.specs.Likes.{AllLike, AllRelated}
+use Rattle.ioa_syntax.specs.Hosts.{HostState, crash_fine, Host, Hosted, IsHosted, hosts_of, host_starts, host_instances, broken_hosts}
+use Rattle.ioa_syntax.specs.WellFormed.{WellFormed}
+use Rattle.ioa_compose.specs.Rewriting.{spelled, crashing, crashing_starts, with_signals}
+use Rattle.ioa_compose.specs.Crashes.{Corresponds, MayCrash}
+
+-- a state of a host and a state of the component that stands for it
+abbrev pub StandsBy : Option CrashTree → AutomatonTree → HostState Env → Env → Type 0
+StandsBy None a h s = (h.up ≡ true) × (h.inner ≡ s)
+StandsBy (Some n) a h s = Corresponds a h s
+
+abbrev pub StandsFor : Host → HostState Env → Env → Type 0
+StandsFor p h s = StandsBy p.crash p.instance.automaton h s
+
+-- by place
+abbrev pub StandsAt : List Host → ℕ → HostState Env → Env → Type 0
+StandsAt hosts i h s = (p : Host) → slice_get hosts i ≡ Some p → StandsFor p h s
+
+-- the component that stands for a host
+abbrev pub member_by : Option CrashTree → Host → Member
+member_by None p = record { name = p.name; instance = p.instance; starts = p.starts; declared = length p.instance.automaton.variables }
+member_by (Some n) p = record {
+  name = p.name;
+  instance = crashing n p.instance p.starts;
+  starts = crashing_starts p.starts;
+  declared = length p.instance.automaton.variables;
+}
+
+abbrev pub member_for : Host → Member
+member_for p = member_by p.crash p
+
+abbrev pub composed_for : Hosted → Composed
+composed_for h = record { types = h.types; name = h.name; members = map member_for h.hosts; hidden = h.hidden; invariants = h.invariants }
+
+-- a host that crashes can be rewritten
+abbrev pub MayStand : Option CrashTree → Host → Type 0
+MayStand None p = Unit {0}
+MayStand (Some n) p = MayCrash n p.instance p.starts
+
+abbrev pub AllMayStand : Hosted → Type 0
+AllMayStand h = (i : ℕ) (p : Host) → slice_get h.hosts i ≡ Some p → MayStand p.crash p
+
+-- whether an entry of the automaton's signature is of such a kind
+abbrev pub has_kind : (Kind → Bool) → Instance → Bool
+has_kind k i = list_any (λ e. k e.kind) i.automaton.entries
+
+-- the composition does what the hosts do, from their start on, and breaks the same invariants
+pub record Stands (h : Hosted) (c : Composed) : Type 0 where
+  pub types : c.types ≡ h.types
+  pub name : c.name ≡ h.name
+  pub hidden : c.hidden ≡ h.hidden
+  pub invariants : c.invariants ≡ h.invariants
+  pub automata : map (λ (i : Instance). i.automaton.name) (instances_of c) ≡ map (λ (i : Instance). i.automaton.name) (host_instances h)
+  pub kinds : (k : Kind → Bool) → k Input ≡ false → map (has_kind k) (instances_of c) ≡ map (has_kind k) (host_instances h)
+  pub like : AllLike (StandsAt h.hosts) 0 (hosts_of h) (components_of c)
+  pub start : AllRelated (StandsAt h.hosts) 0 (host_starts h) (starts_of c)
+  pub broken : (n : ℕ) (hs : List (HostState Env)) (ss : List Env) → AllRelated (StandsAt h.hosts) 0 hs ss → broken_hosts h n hs ≡ broken_at c n ss
+
+-- the composition of the rewritten components, and of those that do not crash, stands for the hosts
+abbrev pub RewritingStands : Type 0
+RewritingStands = (h : Hosted) → AllMayStand h → All (λ v. IsTrue (list_all spelled (names_of_expr v.condition))) h.invariants → Stands h (composed_for h)
+
+-- so of the hosts of a well formed source
+abbrev pub HostsStand : Type 0
+HostsStand = (s : SourceTree) (t : CompositionTree) (h : Hosted) → WellFormed s → LegalNames s → IsHosted s t h → Stands h (composed_for h)
+
+-- the instance with inputs for crash and recover
+abbrev pub signalled : Host → Instance
+signalled p = record p.instance { automaton = with_signals p.crash p.instance.automaton }
+
+abbrev pub AllNamed : List Host → Type 0
+AllNamed hosts = (i : ℕ) (p : Host) → slice_get hosts i ≡ Some p → IsTrue (crash_fine p.crash p.instance.automaton)
+
+-- by these inputs hosts are compatible or not
+abbrev pub SignalsDecide : Type 0
+SignalsDecide = (h : Hosted) → AllNamed h.hosts
+    → (Compatible (map (λ p. component_of (signalled p)) h.hosts) → Compatible (hosts_of h)) × (Compatible (hosts_of h) → Compatible (map (λ p. component_of (signalled p)) h.hosts))

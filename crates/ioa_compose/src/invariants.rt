@@ -1,0 +1,58 @@
+ghost use Rattle.std.specs.Prelude.{◌≡◌, IfOk, map};
+ghost use Rattle.ioa_value.specs.Operators.{answer_of};
+ghost use Rattle.ioa_value.specs.Plain.{plain};
+ghost use Rattle.ioa_syntax.specs.View.{tree_of, invariant_of, expr_of};
+ghost use Rattle.ioa_syntax.specs.Compositions as spec;
+ghost use Rattle.ioa_syntax.specs.Instances.{state_of};
+ghost use Rattle.ioa_syntax.specs.Invariants as meaning;
+ghost use Rattle.ioa_compose.specs.Held.{member_of};
+ghost use Rattle.ioa_compose.specs.Questions.{IsAnswerable, first_of};
+
+use crate::copies::copied_invariant;
+use crate::evaluate::evaluate;
+use crate::member::Member;
+use crate::scope::Scope;
+use ioa_syntax::{Declaration, Expression, Invariant};
+use ioa_value::{Fault, OutOfMemory, Value};
+use std::alloc::Global;
+
+/// The invariants that are declared, in order.
+pub(crate) fn declared_invariants(
+    alloc: Global,
+    declarations: &[Declaration],
+) -> Result<Vec<Invariant>, OutOfMemory>
+    ensures { IfOk result (λ vs. map invariant_of vs.items ≡ spec.invariants (tree_of declarations.now)) }
+{
+    let mut invariants = Vec::new(alloc);
+    for declaration in declarations {
+        if let Declaration::Invariant(invariant) = declaration {
+            invariants.push(copied_invariant(alloc, invariant)?)?;
+        }
+    }
+    Ok(invariants)
+}
+
+/// Whether the condition is true where the variables that the component's source declares have these values. A fault is not.
+pub(crate) fn is_kept(
+    alloc: Global,
+    member: &Member,
+    condition: &Expression,
+    values: &[Value],
+) -> Result<bool, OutOfMemory>
+    requires { IsAnswerable (member_of member.now) (expr_of condition.now) (map plain values.now) }
+    ensures { let n = (member_of member.now).instance in IfOk result (λ b. b ≡ meaning.holds n (expr_of condition.now) (state_of (first_of member.now.declared n.automaton) (map plain values.now))) }
+{
+    let scope = Scope::of_state(member, values);
+    Ok(is_true(evaluate(alloc, &scope, condition)?))
+}
+
+/// Whether it is the truth value true. A fault is not.
+fn is_true(answer: Result<Value, Fault>) -> bool
+    ensures { result ≡ meaning.is_true (answer_of answer) }
+{
+    match answer {
+        Ok(Value::Truth(b)) => b,
+        Ok(Value::Num(_) | Value::Name(_, _) | Value::Tuple(_, _) | Value::Items(_, _)) => false,
+        Err(_) => false,
+    }
+}

@@ -1,0 +1,29 @@
+//! What the rewriting for crashes promises. The functions do nothing: what they say is in their contracts.
+
+ghost use Rattle.ioa_compose.specs.Crashes.{RewritingMeansCrash, RewritingStaysFine};
+ghost use Rattle.ioa_compose.specs.Stands.{HostsStand, RewritingStands, SignalsDecide};
+
+/// The rewritten tree of an automaton means the component that crashes and recovers.
+pub fn rewriting_means_crash()
+    ensures { RewritingMeansCrash }
+{}
+
+/// The rewritten tree is well formed again.
+pub fn rewriting_stays_fine()
+    ensures { RewritingStaysFine }
+{}
+
+/// A composition of rewritten components, and of those that do not crash, does what the hosts do.
+pub fn rewriting_stands()
+    ensures { RewritingStands }
+{}
+
+/// So it is for the hosts of a well formed source.
+pub fn hosts_stand()
+    ensures { HostsStand }
+{}
+
+/// Hosts are compatible just where their automata with inputs for crash and recover are.
+pub fn signals_decide()
+    ensures { SignalsDecide }
+{}
