@@ -13,6 +13,7 @@ use Rattle.ioa_value.specs.Operators.{op_type}
 use Rattle.ioa_value.specs.Positions.{Domain, IsDomain}
 use Rattle.ioa_value.specs.Table.{Table, AreTypes, place_from, type_named}
 use Rattle.ioa_value.specs.Typing.{HaveTypes, own}
+use Rattle.ioa_value.specs.declared.limits.TheConstants.{LIMITS}
 use Rattle.ioa_value.proofs.ItemLemmas.{all_at, some_at}
 use Rattle.ioa_value.proofs.TypingLemmas.{HaveTypes-length, HaveTypes-owns}
 use Rattle.ioa_syntax.specs.declared.tree.Kind.{Kind}
@@ -192,7 +193,7 @@ pub record Setting (m : Member) (e : EntryTree) (vs ps : List ℕ) : Type 0 wher
   pub parts : FineParts m.instance.types m.instance.types globals m.instance.automaton
   pub entry : EntryParts m.instance.types m.instance.types globals m.instance.automaton e
   pub few_variables : length m.instance.automaton.variables ≤ component_limits.variables
-  pub few_positions : length e.positions ≤ component_limits.parameters
+  pub few_positions : length e.positions ≤ LIMITS.parameters
   pub variables : AreTypesOf m.instance.types (variable_fields m.instance.automaton) vs
   pub domains : List Domain
   pub parameters : AreDomainsOf m.instance e.positions domains
@@ -216,10 +217,10 @@ module _ (m : Member) (e : EntryTree) (h : IsFine component_limits m) (own : IsE
   pub found_of : Found m.instance.types h.automaton.0 m.instance.automaton e
   found_of = transition_found m.instance.types h.automaton.0 m.instance.automaton parts_of e own.place own.here
 
-  pub few_positions_of : length e.positions ≤ component_limits.parameters
+  pub few_positions_of : length e.positions ≤ LIMITS.parameters
   few_positions_of =
       let a = m.instance.automaton in
-      let test : nat_le (length e.positions) component_limits.parameters ≡ true = all_at (entry_within component_limits) a.entries own.place e (within_parts component_limits a h.within).each_entry own.here in
+      let test : nat_le (length e.positions) LIMITS.parameters ≡ true = all_at (entry_within LIMITS) a.entries own.place e h.narrow own.here in
       grind (arith, nat_tests)
 
   -- the transition that is found is a fine one

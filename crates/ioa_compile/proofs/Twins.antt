@@ -1,5 +1,5 @@
 -- An action has the same entry, and so the same kind, in the table as in the automaton.
-use Rattle.std.proofs.Common.{All, ◌≡◌, ℕ, zero, suc, ◌*◌, ◌<◌, ◌≤◌, ◌⊎◌, inl, inr, Bool, true, false, cond, ◌&&◌, List, [], ◌∷◌, length, map, get_or, Option, Some, None, IfSome, refl, sym, ap, ◌∙◌, subst, arith}
+use Rattle.std.proofs.Common.{All, ◌≡◌, ℕ, zero, suc, ◌*◌, ◌≤◌, ◌⊎◌, inl, inr, Bool, true, false, cond, ◌&&◌, List, [], ◌∷◌, length, map, Option, Some, None, IfSome, refl, sym, ap, ◌∙◌, subst, arith}
 use Rattle.std.specs.Prelude.{slice_get}
 use Rattle.std.specs.List.{AllZip, find, list_any, list_all}
 use Rattle.std.specs.Option.{option_map}
@@ -13,6 +13,7 @@ use Rattle.ioa_value.specs.Plain.{Val}
 use Rattle.ioa_value.specs.Table.{Table, AreTypes}
 use Rattle.ioa_value.specs.Positions.{IsDomain}
 use Rattle.ioa_value.specs.Typing.{HaveTypes}
+use Rattle.ioa_value.specs.declared.limits.TheConstants.{LIMITS}
 use Rattle.ioa_code.specs.declared.instr.PartKind.{PartKind}
 use Rattle.ioa_code.specs.declared.instr.PartKind.TheVariants.{Pre, Eff}
 use Rattle.ioa_code.specs.Machine.{Listing}
@@ -24,9 +25,7 @@ use Rattle.ioa_syntax.specs.Instances.{positions_have, entry_has, component_of}
 use Rattle.ioa_syntax.specs.Components.{Component, Compatible, is_output}
 use Rattle.ioa_syntax.specs.Compositions.{Member, Composed, has_output, instances_of, is_output_of}
 use Rattle.ioa_syntax.specs.WellFormed.{distinct, variable_fields}
-use Rattle.ioa_compose.specs.declared.member.Member as held
-use Rattle.ioa_compose.specs.Held.{member_of}
-use Rattle.ioa_compose.specs.Fine.{IsFine, AllFine, AreOver, IsSound, component_limits}
+use Rattle.ioa_compose.specs.Fine.{IsFine, AreOver, IsSound, component_limits}
 use Rattle.ioa_compile.specs.Programs.{EntryCode, MemberCode, Prog}
 use Rattle.ioa_compile.specs.Tables as programs
 use Rattle.ioa_compile.specs.Tables.{is_in, table_component, position_types, HasPre, IsPartOf, IsEntry, AreEntries, IsMember, AreMembers, IsProgram}
@@ -157,16 +156,6 @@ module _ (m : Member) (c : MemberCode) (fine : IsFine component_limits m) (same_
 
 -- ---- all components
 
-pub fine_at : (xs : List held.Member) (i : ℕ) (x : held.Member) → AllFine component_limits (map member_of xs) → i < length xs → x ≡ get_or xs i x → IsFine component_limits (member_of x)
-fine_at [] i x h lt e = absurd (omega arith)
-fine_at (y ∷ ys) zero x h lt e = subst (λ z. IsFine component_limits (member_of z)) (sym e) h.0
-fine_at (y ∷ ys) (suc i) x h lt e = fine_at ys i x h.1 (omega arith) e
-
-pub declared_at : (types : Table) (xs : List held.Member) (i : ℕ) (x : held.Member) → AreTypes types → AreOver types (map member_of xs) → i < length xs → x ≡ get_or xs i x → AreTypes x.types
-declared_at types [] i x d h lt e = absurd (omega arith)
-declared_at types (y ∷ ys) zero x d h lt e = subst (λ z. AreTypes z.types) (sym e) (subst AreTypes (sym h.0) d)
-declared_at types (y ∷ ys) (suc i) x d h lt e = declared_at types ys i x d h.1 (omega arith) e
-
 zip_back : {X Y : Type 0} (R : X → Y → Type 0) (xs : List X) (ys : List Y) (i : ℕ) (y : Y) → AllZip R xs ys → slice_get ys i ≡ Some y → (x : X) × (slice_get xs i ≡ Some x) × R x y
 zip_back R [] [] i y h e = absurd (cc)
 zip_back R [] (z ∷ zs) i y h e = absurd h
@@ -217,7 +206,7 @@ is_program c p h name typed_so hides all =
       names = ap distinct names ∙ h.names;
       members = subst (λ t. AreMembers t p.members) (sym typed_so) (are_members c.types c.members p.members h.over all);
       compatible = compatible_same c.members p.members all h.compatible;
-      few_hidden = subst (λ ns. length ns ≤ component_limits.hidden) (sym hides) h.few_hidden;
+      few_hidden = subst (λ ns. length ns ≤ LIMITS.hidden) (sym hides) h.few_hidden;
       hidden = ap distinct hides ∙ h.hidden;
       outputs = all_same (programs.is_output_of p) (is_output_of (instances_of c)) outputs p.hidden ∙ ap (list_all (is_output_of (instances_of c))) hides ∙ h.outputs;
     }

@@ -7,6 +7,7 @@ use Rattle.ioa_value.specs.Arithmetic.{fits}
 use Rattle.ioa_value.specs.Plain.{Val}
 use Rattle.ioa_value.specs.Table.{Table, place_from, type_named, field_place}
 use Rattle.ioa_value.specs.Typing.{OwnTypes}
+use Rattle.ioa_value.specs.declared.limits.TheConstants.{LIMITS}
 use Rattle.ioa_syntax.specs.Tree.{Expr, number, truth, named, parens, prefix, binary, empty, make, select, Exprs, no_expr, also, Stmt, assign, choose, Stmts, stop, seq, Arms, no_arm, arm, PositionTree, typed, only, EntryTree}
 use Rattle.ioa_syntax.specs.Types.{constant, empty_of}
 use Rattle.ioa_syntax.specs.Instances.{field_names, variable_names}
@@ -95,7 +96,7 @@ abbrev mutual
 -- what scopes of well-formed automata keep
 pub record IsScope (types : Table) (s : Scope) : Type 0 where
   pub variables : length s.variables ≤ component_limits.variables
-  pub parameters : length s.parameters ≤ component_limits.parameters
+  pub parameters : length s.parameters ≤ LIMITS.parameters
   pub given : length s.formals ≡ length s.arguments
   pub typed : OwnTypes types s.arguments
 

@@ -10,6 +10,7 @@ use Rattle.ioa_value.specs.Plain.{Val}
 use Rattle.ioa_value.specs.Table.{Table, AreTypes}
 use Rattle.ioa_value.specs.Positions.{Domain, IsDomain, all_take, domain_type}
 use Rattle.ioa_value.specs.Typing.{HaveTypes}
+use Rattle.ioa_value.specs.declared.limits.TheConstants.{LIMITS}
 use Rattle.ioa_code.specs.declared.instr.PartKind.{PartKind}
 use Rattle.ioa_code.specs.declared.instr.PartKind.TheVariants.{Pre, Eff}
 use Rattle.ioa_code.specs.Parts.{IsVerified}
@@ -83,7 +84,7 @@ HasPre m e Internal (Some part) = IsPartOf m e Pre (0 ∷ []) part
 -- constants
 pub record IsEntry (m : MemberCode) (e : EntryCode) : Type 0 where
   pub legal : IsName e.name
-  pub few_positions : length e.positions ≤ component_limits.parameters
+  pub few_positions : length e.positions ≤ LIMITS.parameters
   pub positions : All (IsDomain m.start.table) e.positions
   pub pre : HasPre m e e.kind e.pre
   pub effect : IsPartOf m e Eff [] e.effect
@@ -118,10 +119,10 @@ is_output_of p x = list_any (λ m. list_any (λ e. is_output (Some e.kind) && by
 pub record IsProgram (p : Prog) : Type 0 where
   pub types : AreTypes p.types
   pub legal : IsName p.name
-  pub few_members : length p.members ≤ component_limits.components
+  pub few_members : length p.members ≤ LIMITS.components
   pub names : IsTrue (distinct (map (λ m. m.name) p.members))
   pub members : AreMembers p.types p.members
   pub compatible : Compatible (tabled p)
-  pub few_hidden : length p.hidden ≤ component_limits.hidden
+  pub few_hidden : length p.hidden ≤ LIMITS.hidden
   pub hidden : IsTrue (distinct p.hidden)
   pub outputs : IsTrue (list_all (is_output_of p) p.hidden)

@@ -1,9 +1,9 @@
 use Rattle.std.proofs.Common.{arith}
 use Rattle.ioa_compose.specs.Held.{member_of}
+use Rattle.ioa_compose.proofs.MemberLemmas.{fine_at, declared_at}
 use Rattle.ioa_compile.specs.Shown.{member_code}
 use Rattle.ioa_compile.specs.Translated.{DoesSame}
 use Rattle.ioa_compile.proofs.Paired.{paired_next}
-use Rattle.ioa_compile.proofs.Twins.{fine_at, declared_at}
 use Rattle.ioa_compile.proofs.compiler.compile_members.Goals as goal
 
 pub compile_member-requires-clause-fine : goal.compile_member-requires-clause-fine

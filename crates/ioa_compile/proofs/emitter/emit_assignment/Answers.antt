@@ -16,7 +16,7 @@ overflow_cast-i c =
     let place = place_in _ s.variables x c.variable_place.result c.variable_place.ensures (ap (λ l. map (λ v. v.field.name) (map variable_of l)) c.deref.ensures.value) in
     let below : c.in-Some.i < length s.variables = place_below s.variables x c.in-Some.i (place ∙ c.in-Some.is) in
     let few : length s.variables ≤ component_limits.variables = c.requires.scope.variables in
-    let lt : c.in-Some.i < 64 = omega arith in
+    let lt : c.in-Some.i < component_limits.variables = omega arith in
     search rules
 
 pub returns : goal.returns

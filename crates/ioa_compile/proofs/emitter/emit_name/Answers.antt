@@ -1,6 +1,7 @@
 use Rattle.std.proofs.Common.{◌≡◌, ◌<◌, ◌≤◌, ap, ◌∙◌, map, length, rules, arith}
 use Rattle.std.proofs.lemmas.List.{length-map}
 use Rattle.std.proofs.lemmas.Result.{on_ok_weaker}
+use Rattle.ioa_value.specs.declared.limits.TheConstants.{LIMITS}
 use Rattle.ioa_value.specs.Plain.{plain}
 use Rattle.ioa_code.specs.Parts.{listing}
 use Rattle.ioa_syntax.specs.View.{name_of, field_of, position_of, variable_of, entry_of}
@@ -22,7 +23,7 @@ overflow_cast-i c =
     let place = place_in _ s.variables x c.variable_place.result c.variable_place.ensures (ap (λ l. map (λ v. v.field.name) (map variable_of l)) c.deref.ensures.value) in
     let below : c.in-Some.i < length s.variables = place_below s.variables x c.in-Some.i (place ∙ c.in-Some.is) in
     let few : length s.variables ≤ component_limits.variables = c.requires.scope.variables in
-    let lt : c.in-Some.i < 64 = omega arith in
+    let lt : c.in-Some.i < component_limits.variables = omega arith in
     search rules
 
 pub index-requires : goal.index-requires
@@ -58,8 +59,8 @@ overflow_cast-i-in-Some-parameter_place c =
     let i = c.in-Some-parameter_place.i in
     let place = parameter_in _ s.parameters x c.parameter_place.result c.parameter_place.ensures (ap (map position_of) c.deref-3.ensures.value) in
     let below : i < length s.parameters = parameter_below s.parameters x i (place ∙ c.in-Some-parameter_place.is) in
-    let few : length s.parameters ≤ component_limits.parameters = c.requires.scope.parameters in
-    let lt : i < 64 = omega arith in
+    let few : length s.parameters ≤ LIMITS.parameters = c.requires.scope.parameters in
+    let lt : i < LIMITS.parameters = omega arith in
     search rules
 
 pub returns-in-Some : goal.returns-in-Some
