@@ -21,17 +21,17 @@ value_of (num (pos k) ∷ vs) = k
 value_of (v ∷ vs) = 0
 
 -- ticks tell the count and raise it, until it is 2: then they fault; a reset from outside makes it 0
-abbrev counter : Component ℕ
+abbrev pub counter : Component ℕ
 counter = record {
   kind_of = λ a. if is_named (codes "tick") a then Some Output else if is_named (codes "reset") a then Some Input else None;
   guard = λ a s. Ok (value_of a.vals == s);
   effect = λ a s. if is_named (codes "reset") a then Ok 0 else if s == 2 then Err Overflow else Ok (s + 1);
 }
 
-abbrev tick : ℕ → Act
+abbrev pub tick : ℕ → Act
 tick k = record { name = codes "tick"; vals = num (pos k) ∷ [] }
 
-abbrev reset : Act
+abbrev pub reset : Act
 reset = record { name = codes "reset"; vals = [] }
 
 abbrev other : Act

@@ -12,5 +12,7 @@ pub mod Following
 pub mod Telling
 pub mod Monitored
 pub mod Accepting
+pub mod Breaking
 pub mod JudgingExamples
+pub mod BreakingExamples
 pub mod LogExamples

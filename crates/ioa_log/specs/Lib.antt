@@ -5,6 +5,7 @@ pub mod LogLines
 pub mod LogTexts
 pub mod Judging
 pub mod Agreeing
+pub mod Breaking
 pub mod Monitoring
 pub mod LinesRead
 pub mod Telling

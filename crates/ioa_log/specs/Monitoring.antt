@@ -1,5 +1,5 @@
 -- Whether a specification accepts actions: it runs on those of them that its components have.
-use Rattle.std.specs.Prelude.{◌≡◌, ℕ, ◌+◌, ◌||◌, Bool, true, false, not, if◌then◌else◌, List, [], ◌∷◌, Option, Some, None}
+use Rattle.std.specs.Prelude.{◌≡◌, ℕ, ◌+◌, ◌==◌, ◌||◌, Bool, true, false, not, if◌then◌else◌, List, [], ◌∷◌, length, Option, Some, None}
 use Rattle.std.specs.List.{list_any}
 use Rattle.ioa_value.specs.Actions.{Act}
 use Rattle.ioa_syntax.specs.Components.{Component, has}
@@ -34,16 +34,12 @@ is_internal Input = false
 is_internal Output = false
 is_internal Internal = true
 
-abbrev pub is_nil : {X : Type 0} → List X → Bool
-is_nil [] = true
-is_nil (x ∷ xs) = false
-
 abbrev pub hides : Prog → Bool
-hides p = list_any (λ m. list_any (λ e. is_internal e.kind) m.entries) p.members || not (is_nil p.hidden)
+hides p = list_any (λ m. list_any (λ e. is_internal e.kind) m.entries) p.members || not (length p.hidden == 0)
 
 -- the same of a composition's automata
 abbrev pub hides_in : Composed → Bool
-hides_in c = list_any (λ m. list_any (λ e. is_internal e.kind) m.instance.automaton.entries) c.members || not (is_nil c.hidden)
+hides_in c = list_any (λ m. list_any (λ e. is_internal e.kind) m.instance.automaton.entries) c.members || not (length c.hidden == 0)
 
 -- the answer to the action of this index is why it is not accepted
 abbrev pub IsRefusedAt : ℕ → Step → Option Ending → Type 0

@@ -1,6 +1,7 @@
 //! Replays of lists of actions and texts of logs, over readers and writers that count their failures.
 #![tactic(auto)]
 
+mod broken;
 mod counted;
 mod device;
 mod end_texts;
@@ -14,6 +15,7 @@ mod reading;
 mod replays;
 mod streams;
 
+pub use broken::{Broken, invariants};
 pub use counted::Counted;
 pub use device::{Device, Failed, InputDevice, OutputDevice};
 pub use failure::LogErr;
@@ -24,3 +26,5 @@ pub use monitors::{MonitorErr, monitor};
 pub use reading::push_line;
 pub use replays::replay_list;
 pub use streams::send_all;
+// What logs are is defined beside the runs that they tell.
+pub use ioa_system::{Log, LogEnd, LogEntry};
