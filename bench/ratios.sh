@@ -44,14 +44,14 @@ crowd() {
 }
 bytes() { wc -c < "$work/$1"; }
 log() { awk -v n="$1" 'BEGIN { for (i = 0; i < n; i++) print "{\"act\":\"tick(" 5 + i ")\",\"who\":0}"; print "{\"end\":\"done after " n "\"}" }'; }
-# replay SOURCE LIST [--log]: replays the list or the log, both in the temporary folder
+# replay SOURCE LIST [FLAGS]: replays the list or, with --log, the log, both in the temporary folder
 replay() { "$program" replay "$work/$1" ${3-} < "$work/$2" > "$work/trace"; }
-# seconds SOURCE LIST [--log]: of the best of three replays
+# seconds SOURCE LIST [FLAGS]: of the best of three replays
 seconds() {
   best=
   for turn in 1 2 3; do
     from=$(date +%s.%N)
-    replay "$1" "$2" ${3-}
+    replay "$1" "$2" "${3-}"
     till=$(date +%s.%N)
     best=$(awk -v a="$from" -v b="$till" -v best="$best" 'BEGIN { took = b - a; print (best == "" || took < best) ? took : best }')
   done
@@ -70,6 +70,7 @@ sys.stderr.write(str(resource.getrusage(resource.RUSAGE_CHILDREN).ru_maxrss))' \
 }
 
 cp "$top/examples/counter/counter.ioa" "$work/counter.ioa"
+(cat "$work/counter.ioa"; echo 'invariant of Counter: c >= start') > "$work/bounded.ioa"
 list 100000 > "$work/small.list"
 list 1000000 > "$work/large.list"
 log 100000 > "$work/small.log"
@@ -87,6 +88,9 @@ awk -v s="$small" -v l="$large" 'BEGIN { printf "list of 100000: %.3f s; of 1000
 small=$(seconds counter.ioa small.log --log)
 large=$(seconds counter.ioa large.log --log)
 awk -v s="$small" -v l="$large" 'BEGIN { printf "log of 100000: %.3f s; of 1000000: %.3f s; ratio %.1f; %d entries a second\n", s, l, l / s, 1000000 / l }'
+small=$(seconds bounded.ioa small.log "--log --invariants")
+large=$(seconds bounded.ioa large.log "--log --invariants")
+awk -v s="$small" -v l="$large" 'BEGIN { printf "log of 100000 with an invariant: %.3f s; of 1000000: %.3f s; ratio %.1f; %d states a second\n", s, l, l / s, 1000001 / l }'
 small=$(seconds small.ioa one.list)
 large=$(seconds large.ioa one.list)
 awk -v s="$small" -v l="$large" -v a="$(bytes small.ioa)" -v b="$(bytes large.ioa)" 'BEGIN { printf "source of %d bytes: %.3f s; of %d: %.3f s; ratio %.1f\n", a, s, b, l, l / s }'

@@ -43,8 +43,9 @@ AsksNothing o = (asked : Request) → IsAskedBy o asked → ⊥
 
 -- where the file is missing
 no_file : (word : Text) (rows : List Row) → (word ≡ codes "explain" → ⊥) → first_of (codes "FILE") rows ≡ None → AsksNothing (Some (word, rows))
-no_file word rows other none (Request.Replay file composition) h = let z : None ≡ Some file.now = sym none ∙ h.2.0 in cc
-no_file word rows other none (Request.ReplayLog file composition) h = let z : None ≡ Some file.now = sym none ∙ h.2.0 in cc
+no_file word rows other none (Request.Replay file composition) h = let z : None ≡ Some file.now = sym none ∙ h.1.0 in cc
+no_file word rows other none (Request.ReplayLog file composition) h = let z : None ≡ Some file.now = sym none ∙ h.1.0 in cc
+no_file word rows other none (Request.ReplayInvariants file composition) h = let z : None ≡ Some file.now = sym none ∙ h.1.0 in cc
 no_file word rows other none (Request.Monitor file composition) h = let z : None ≡ Some file.now = sym none ∙ h.1.0 in cc
 no_file word rows other none (Request.Check file) h = let z : None ≡ Some file.now = sym none ∙ h.1 in cc
 no_file word rows other none (Request.Explain code) h = other h.0
@@ -58,8 +59,9 @@ unfiled m found word r here other none is =
 
 -- where there is no such code
 no_explanation : (rows : List Row) → ((code : Code) → first_of (codes "CODE") rows ≡ Some (spelling code) → ⊥) → AsksNothing (Some (codes "explain", rows))
-no_explanation rows none (Request.Replay file composition) h = apart (codes "explain") (codes "replay") refl refl h.0
-no_explanation rows none (Request.ReplayLog file composition) h = apart (codes "explain") (codes "replay") refl refl h.0
+no_explanation rows none (Request.Replay file composition) h = apart (codes "explain") (codes "replay") refl refl h.0.0
+no_explanation rows none (Request.ReplayLog file composition) h = apart (codes "explain") (codes "replay") refl refl h.0.0
+no_explanation rows none (Request.ReplayInvariants file composition) h = apart (codes "explain") (codes "replay") refl refl h.0.0
 no_explanation rows none (Request.Monitor file composition) h = apart (codes "explain") (codes "monitor") refl refl h.0
 no_explanation rows none (Request.Check file) h = apart (codes "explain") (codes "check") refl refl h.0
 no_explanation rows none (Request.Explain code) h = none code h.1
@@ -70,6 +72,19 @@ uncoded m found r o here given none is =
     let first : first_of (codes "CODE") (rows_of (found_of found)) ≡ o = sym (first_value-rows (found_of found) (codes "CODE")) ∙ sym given in
     subst (λ o. IfNone o (AsksNothing (subcommand_rows_of m))) (sym is)
     (subst AsksNothing (sym here) (no_explanation (rows_of (found_of found)) (λ code h. none code (sym first ∙ h))))
+
+-- where the invariants of a list are asked for
+no_log : (word : Text) (rows : List Row) → word ≡ codes "replay" → is_set (codes "log") rows ≡ false → is_set (codes "invariants") rows ≡ true → AsksNothing (Some (word, rows))
+no_log word rows is log invariants (Request.Replay file composition) h = false≢true (sym h.0.2 ∙ invariants)
+no_log word rows is log invariants (Request.ReplayLog file composition) h = false≢true (sym log ∙ h.0.1)
+no_log word rows is log invariants (Request.ReplayInvariants file composition) h = false≢true (sym log ∙ h.0.1)
+no_log word rows is log invariants (Request.Monitor file composition) h = apart (codes "replay") (codes "monitor") refl refl (sym is ∙ h.0)
+no_log word rows is log invariants (Request.Check file) h = apart (codes "replay") (codes "check") refl refl (sym is ∙ h.0)
+no_log word rows is log invariants (Request.Explain code) h = apart (codes "replay") (codes "explain") refl refl (sym is ∙ h.0)
+
+pub unlogged : (m found : ArgMatches) → subcommand_rows_of m ≡ Some (codes "replay", rows_of (found_of found)) → is_set (codes "log") (rows_of (found_of found)) ≡ false
+    → is_set (codes "invariants") (rows_of (found_of found)) ≡ true → AsksNothing (subcommand_rows_of m)
+unlogged m found here log invariants = subst AsksNothing (sym here) (no_log (codes "replay") (rows_of (found_of found)) refl log invariants)
 
 -- the file and the composition that are named
 pub names : (found : ArgMatches) (file : Bor Text) (composition : Option (Bor Text)) → Some file.now ≡ first_value (found_of found) (codes "FILE")

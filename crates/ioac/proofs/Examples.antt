@@ -29,6 +29,19 @@ a_log : logged (codes "ioac" ∷ codes "replay" ∷ codes "f" ∷ codes "--log" 
 unfolding logged clap_on_literals
 a_log = refl
 
+-- the command, and whether it is a replay of a log that is asked for invariants
+with_invariants : List Text → Option (Text × Bool × Bool)
+with_invariants words = option_map (λ p. (p.0, is_set (codes "log") p.1, is_set (codes "invariants") p.1)) (subcommand_of ioac_app words)
+
+invariants_of_a_log : with_invariants (codes "ioac" ∷ codes "replay" ∷ codes "f" ∷ codes "--log" ∷ codes "--invariants" ∷ []) ≡ Some (codes "replay", true, true)
+unfolding with_invariants clap_on_literals
+invariants_of_a_log = refl
+
+-- which is no fault of the words, and asks for nothing
+invariants_of_a_list : with_invariants (codes "ioac" ∷ codes "replay" ∷ codes "f" ∷ codes "--invariants" ∷ []) ≡ Some (codes "replay", false, true)
+unfolding with_invariants clap_on_literals
+invariants_of_a_list = refl
+
 monitored : asked (codes "ioac" ∷ codes "monitor" ∷ codes "f" ∷ codes "--comp" ∷ codes "Spec" ∷ []) ≡ Some (codes "monitor", Some (codes "f"), Some (codes "Spec"))
 unfolding asked clap_on_literals
 monitored = refl

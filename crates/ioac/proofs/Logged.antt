@@ -1,6 +1,6 @@
 -- From the clauses of the layers to what a replay and a monitor of a log write.
 use Rattle.std.proofs.Common.{◌≡◌, ℕ, ◌-◌, ◌<◌, List, [], ◌∷◌, ◌++◌, map, length, take, Option, Some, None, IfSome, IfNone, IsSome, true, if◌then◌else◌, sym, ap, ap₂, ◌∙◌, subst, arith, append-nil, length-append}
-use Rattle.std.specs.Option.{option_map, option_to_list}
+use Rattle.std.specs.Option.{option_map, option_map_or, option_to_list}
 use Rattle.std.proofs.Math.Seq.{take-append_seam}
 use Rattle.std.proofs.lemmas.Bool.{false≢true}
 use Rattle.std.proofs.lemmas.List.{length-map, take-map}
@@ -10,6 +10,7 @@ use Rattle.ioa_value.specs.Actions.{Act, act_of}
 use Rattle.ioa_value.specs.Plain.{Val}
 use Rattle.ioa_value.specs.Table.{Table}
 use Rattle.ioa_syntax.specs.Compositions.{Composed, components_of, starts_of}
+use Rattle.ioa_syntax.specs.Hosts.{Hosted, hosts_of, host_starts, first_broken_host}
 use Rattle.ioa_syntax.specs.Runs.{Ending, Reached, after, not_an_action_at, run, trace}
 use Rattle.ioa_system.specs.declared.answer.End.{End}
 use Rattle.ioa_system.specs.declared.answer.Step.{Step}
@@ -18,11 +19,14 @@ use Rattle.ioa_system.specs.declared.log.LogEnd.{LogEnd}
 use Rattle.ioa_system.specs.declared.log.LogEntry.{LogEntry}
 use Rattle.ioa_system.specs.declared.runs.Run.{Run}
 use Rattle.ioa_system.specs.Answers.{ending_of, step_of}
-use Rattle.ioa_system.specs.Logs.{actions_of, is_fault, log_end, log_entry, logged}
+use Rattle.ioa_system.specs.Logs.{Logged, actions_of, is_fault, log_end, log_entry, logged}
 use Rattle.ioa_system.specs.Records.{IsSourceRun, trace_of}
+use Rattle.ioa_log.specs.declared.broken.Broken.{Broken}
+use Rattle.ioa_log.specs.Breaking.{broken_of}
 use Rattle.ioa_log.specs.Monitoring.{IsRefusedAt}
-use Rattle.ioa_log.specs.Replays.{lines_of, replay_text, run_text}
-use Rattle.ioac.specs.Logs.{performed_in}
+use Rattle.ioa_log.specs.Replays.{replay_text, run_text}
+use Rattle.ioac.specs.declared.finding.Finding.{Finding}
+use Rattle.ioac.specs.Logs.{broken, found_in, found_of, performed_in, unbroken}
 
 -- the text of a run is the text of the composition's run
 pub run_told : (c : Composed) (types : Table) (acts : List Act) (r : Run) → types ≡ c.types → IsSourceRun c acts r
@@ -38,6 +42,16 @@ popped (x ∷ xs) ys None e some = let one : 0 < length (x ∷ xs) = omega arith
 popped xs ys (Some x) e some =
     let n : length xs - 1 ≡ length ys = omega (arith, ap length e, length-append ys (x ∷ [])) in
     sym (ap₂ take n e ∙ take-append_seam ys (x ∷ []))
+
+-- an invariant that is broken is what is found
+pub found_broken : (h : Hosted) (log : Logged) (b : Broken) → Some (broken_of b) ≡ first_broken_host h (actions_of log) → found_of (Finding.Broken b) ≡ found_in h log
+found_broken h log b first = ap (λ o. option_map_or broken o (unbroken (run (hosts_of h) (actions_of log) (host_starts h)).ending)) first
+
+-- where none is, the end is
+pub found_unbroken : (h : Hosted) (log : Logged) (end : End) → None ≡ first_broken_host h (actions_of log)
+    → ending_of end ≡ (run (hosts_of h) (actions_of log) (host_starts h)).ending → found_of (Finding.Unbroken end) ≡ found_in h log
+found_unbroken h log end first ends =
+    ap unbroken ends ∙ ap (λ o. option_map_or broken o (unbroken (run (hosts_of h) (actions_of log) (host_starts h)).ending)) first
 
 -- the actions of a log's entries
 abbrev pub entered : List LogEntry → List Act

@@ -1,5 +1,5 @@
 -- From the clauses of the layers to why a replay or a monitor does not come to an end.
-use Rattle.std.proofs.Common.{◌≡◌, ◌⊎◌, ℕ, inl, inr, List, Option, Some, None, Result, Err, IfErr, IfSome, false, refl, sym, subst}
+use Rattle.std.proofs.Common.{◌≡◌, ◌⊎◌, ℕ, inl, inr, List, Option, Some, None, Result, Ok, Err, IfErr, IfSome, refl, sym, ap, ◌∙◌, subst}
 use Rattle.std.specs.Result.{IsErrOf}
 use Rattle.std.proofs.lemmas.Option.{IfSome_then}
 use Rattle.std.specs.Io.KnownBytes.{Keeps}
@@ -11,18 +11,36 @@ use Rattle.ioa_lex.specs.declared.refusal.Refusal.TheVariants as refusals
 use Rattle.ioa_syntax.specs.Tree.{SourceTree, CompositionTree}
 use Rattle.ioa_syntax.specs.WellFormed.{WellFormed}
 use Rattle.ioa_syntax.specs.Compositions.{Composed, picked, components_of, starts_of}
+use Rattle.ioa_syntax.specs.Hosts.{Hosted, IsHosted, hosts_of, host_starts}
 use Rattle.ioa_compose.specs.Refusals as compositions
+use Rattle.ioa_compile.specs.Means.{Means}
+use Rattle.ioa_compile.specs.Programs.{Prog}
 use Rattle.ioa_system.specs.Logs.{Logged}
 use Rattle.ioa_log.specs.declared.failure.LogErr.{LogErr}
 use Rattle.ioa_log.specs.Failing.{IsListErr, IsTextErr}
 use Rattle.ioa_log.specs.Judging.{IsJudged, judged, wrong_owner, diverges}
 use Rattle.ioa_log.specs.LogTexts.{GoesOnAt, HasNoEnd, NoEntryAt, NotJsonAt, ReadsLog}
-use Rattle.ioa_log.specs.Monitoring.{hides_in}
+use Rattle.ioa_log.specs.Replays.{BeginsReplay}
 use Rattle.ioac.specs.declared.failure.Failure.{Failure}
 use Rattle.ioac.specs.Headline.{Declares, Spells}
-use Rattle.ioac.specs.Failing.{IsFailure, IsLogFailure, IsMonitorFailure, IsRefusedSource, IsUnwritten}
+use Rattle.ioac.specs.Failing.{BeginsReplayOf, IsFailure, IsLogFailure, IsMonitorFailure, IsRefusedSource, IsUnwritten}
+use Rattle.ioac.specs.Logs.{IsSeen}
+use Rattle.ioac.specs.Running.{Runs}
+use Rattle.ioac.proofs.Standing.{hosts_begin}
 
-pub uncomposed : (text : List ℕ) (name : Option Name) (s u : SourceTree) (x : Refusal) → Spells text s → u ≡ s → WellFormed s
+-- what checking and composing answer, told of the text
+pub declared : (text : List ℕ) (name : Option Name) (s u : SourceTree) (t : CompositionTree) (h : Hosted) → Spells text s → u ≡ s → WellFormed s
+    → picked u name ≡ Some t → IsHosted u t h → Declares text name h
+declared text name s u t h found same well picks hosted = record {
+  source = s;
+  tree = t;
+  spells = found;
+  well_formed = well;
+  picks = subst (λ v. picked v name ≡ Some t) same picks;
+  is_hosted = subst (λ v. IsHosted v t h) same hosted;
+}
+
+uncomposed : (text : List ℕ) (name : Option Name) (s u : SourceTree) (x : Refusal) → Spells text s → u ≡ s → WellFormed s
     → (picked u name ≡ None → x ≡ refusals.NoComposition)
     → ((t : CompositionTree) → picked u name ≡ Some t → compositions.IsRefused u t x)
     → IsRefusedSource text name x
@@ -33,27 +51,44 @@ uncomposed text name s u x found same well missing refused = inr (inr (inr (s, f
     go None e = inl (e, missing (subst (λ v. picked v name ≡ None) (sym same) e))
     go (Some t) e = inr (t, e, subst (λ v. compositions.IsRefused v t x) same (refused t (subst (λ v. picked v name ≡ Some t) (sym same) e)))
 
-pub same_refusal : {T : Type 0} (x y : Refusal) → IsErrOf {T = T} (Err x) y → x ≡ y
+same_refusal : {T : Type 0} (x y : Refusal) → IsErrOf {T = T} (Err x) y → x ≡ y
 same_refusal x y h = cc
+
+-- the same of what composing answers
+pub all_uncomposed : {T : Type 0} (r : Result T Refusal) (text : List ℕ) (name : Option Name) (s u : SourceTree) → Spells text s → u ≡ s → WellFormed s
+    → (picked u name ≡ None → IsErrOf r refusals.NoComposition)
+    → ((t : CompositionTree) → picked u name ≡ Some t → IfErr r (compositions.IsRefused u t))
+    → IfErr r (IsRefusedSource text name)
+all_uncomposed (Ok c) text name s u found same well missing refused = tt
+all_uncomposed {T} (Err x) text name s u found same well missing refused =
+    uncomposed text name s u x found same well (λ n. same_refusal {T = T} x refusals.NoComposition (missing n)) refused
 
 -- an error that a `?` hands on, made another's
 pub err_so : {T E : Type 0} (r : Result T E) (y z : E) (P : E → Type 0) → r ≡ Err y → y ≡ z → P z → IfErr r P
 err_so r y z P is of h = subst (λ q. IfErr q P) (sym is) (subst P (sym of) h)
 
+-- the same, asked of the result
+pub err_as : {T U E : Type 0} (r : Result T E) (y x z : E) → r ≡ Err y → y ≡ x → IsErrOf r z → IsErrOf {T = U} (Err x) z
+err_as (Ok t) y x z is of h = cc
+err_as (Err w) y x z is of h =
+    let a : w ≡ y = cc in
+    let b : w ≡ z = cc in
+    ap Err (sym of ∙ sym a ∙ b)
+
 -- a list that is refused, or a device that failed
-pub list_failed : (text : List ℕ) (name : Option Name) (bytes : Option (List ℕ)) (failed : Type 0) (c : Composed) (types : Table) (x : LogErr) {T : Type 0}
-    → Declares text name c → types ≡ c.types → IsListErr x
+pub list_failed : (text : List ℕ) (name : Option Name) (bytes : Option (List ℕ)) (failed : Type 0) (h : Hosted) (types : Table) (x : LogErr) {T : Type 0}
+    → Declares text name h → types ≡ h.types → IsListErr x
     → ((n : ℕ) → IsErrOf {T = T} (Err x) (LogErr.BadLine n) → IfSome bytes (λ xs. lists.BadLine types xs n))
     → (IsErrOf {T = T} (Err x) LogErr.Io → failed)
     → IsFailure text name bytes failed (Failure.List x)
-list_failed text name bytes failed c types (LogErr.BadLine n) of same only bad io = (c, of, subst (λ ts. IfSome bytes (λ xs. lists.BadLine ts xs n)) same (bad n refl))
-list_failed text name bytes failed c types LogErr.Io of same only bad io = io refl
-list_failed text name bytes failed c types LogErr.OutOfMemory of same only bad io = tt
-list_failed text name bytes failed c types (LogErr.NotJson n) of same only bad io = absurd only
-list_failed text name bytes failed c types (LogErr.WrongOwner n) of same only bad io = absurd only
-list_failed text name bytes failed c types (LogErr.Diverges n) of same only bad io = absurd only
-list_failed text name bytes failed c types LogErr.NoEnd of same only bad io = absurd only
-list_failed text name bytes failed c types LogErr.AfterEnd of same only bad io = absurd only
+list_failed text name bytes failed h types (LogErr.BadLine n) of same only bad io = (h, of, subst (λ ts. IfSome bytes (λ xs. lists.BadLine ts xs n)) same (bad n refl))
+list_failed text name bytes failed h types LogErr.Io of same only bad io = (h, of, io refl)
+list_failed text name bytes failed h types LogErr.OutOfMemory of same only bad io = tt
+list_failed text name bytes failed h types (LogErr.NotJson n) of same only bad io = absurd only
+list_failed text name bytes failed h types (LogErr.WrongOwner n) of same only bad io = absurd only
+list_failed text name bytes failed h types (LogErr.Diverges n) of same only bad io = absurd only
+list_failed text name bytes failed h types LogErr.NoEnd of same only bad io = absurd only
+list_failed text name bytes failed h types LogErr.AfterEnd of same only bad io = absurd only
 
 -- why a log is not read
 abbrev pub IsUnread : Table → Option (List ℕ) → Type 0 → LogErr → Type 0
@@ -82,50 +117,67 @@ unread types bytes failed LogErr.OutOfMemory only not_json bad after no_end io =
 unread types bytes failed (LogErr.WrongOwner n) only not_json bad after no_end io = absurd only
 unread types bytes failed (LogErr.Diverges n) only not_json bad after no_end io = absurd only
 
-pub log_unread : (text : List ℕ) (name : Option Name) (bytes : Option (List ℕ)) (failed : Type 0) (c : Composed) (types : Table) (x : LogErr)
-    → Declares text name c → types ≡ c.types → IsUnread types bytes failed x → IsLogFailure text name bytes failed (Failure.List x)
-log_unread text name bytes failed c types x of same h = go x (subst (λ ts. IsUnread ts bytes failed x) same h)
+pub log_unread : (text : List ℕ) (name : Option Name) (bytes : Option (List ℕ)) (failed : Type 0) (h : Hosted) (types : Table) (x : LogErr)
+    → Declares text name h → types ≡ h.types → IsUnread types bytes failed x → IsLogFailure text name bytes failed (Failure.List x)
+log_unread text name bytes failed h types x of same u = go x (subst (λ ts. IsUnread ts bytes failed x) same u)
   where
-    go : (x : LogErr) → IsUnread c.types bytes failed x → IsLogFailure text name bytes failed (Failure.List x)
-    go (LogErr.NotJson n) h = (c, of, h)
-    go (LogErr.BadLine n) h = (c, of, h)
-    go LogErr.NoEnd h = (c, of, h)
-    go LogErr.AfterEnd h = (c, of, h)
-    go LogErr.Io h = h
-    go LogErr.OutOfMemory h = tt
-    go (LogErr.WrongOwner n) h = absurd h
-    go (LogErr.Diverges n) h = absurd h
+    go : (x : LogErr) → IsUnread h.types bytes failed x → IsLogFailure text name bytes failed (Failure.List x)
+    go (LogErr.NotJson n) u = (h, of, u)
+    go (LogErr.BadLine n) u = (h, of, u)
+    go LogErr.NoEnd u = (h, of, u)
+    go LogErr.AfterEnd u = (h, of, u)
+    go LogErr.Io u = (h, of, u)
+    go LogErr.OutOfMemory u = tt
+    go (LogErr.WrongOwner n) u = absurd u
+    go (LogErr.Diverges n) u = absurd u
 
-pub monitor_unread : (text : List ℕ) (name : Option Name) (bytes : Option (List ℕ)) (failed : Type 0) (c : Composed) (types : Table) (x : LogErr)
-    → Declares text name c → types ≡ c.types → hides_in c ≡ false → IsUnread types bytes failed x → IsMonitorFailure text name bytes failed (Failure.List x)
-monitor_unread text name bytes failed c types x of same seen h = go x (subst (λ ts. IsUnread ts bytes failed x) same h)
+pub monitor_unread : (text : List ℕ) (name : Option Name) (bytes : Option (List ℕ)) (failed : Type 0) (h : Hosted) (types : Table) (x : LogErr)
+    → Declares text name h → types ≡ h.types → IsSeen h → IsUnread types bytes failed x → IsMonitorFailure text name bytes failed (Failure.List x)
+monitor_unread text name bytes failed h types x of same seen u = go x (subst (λ ts. IsUnread ts bytes failed x) same u)
   where
-    go : (x : LogErr) → IsUnread c.types bytes failed x → IsMonitorFailure text name bytes failed (Failure.List x)
-    go (LogErr.NotJson n) h = (c, of, seen, h)
-    go (LogErr.BadLine n) h = (c, of, seen, h)
-    go LogErr.NoEnd h = (c, of, seen, h)
-    go LogErr.AfterEnd h = (c, of, seen, h)
-    go LogErr.Io h = h
-    go LogErr.OutOfMemory h = tt
-    go (LogErr.WrongOwner n) h = absurd h
-    go (LogErr.Diverges n) h = absurd h
+    go : (x : LogErr) → IsUnread h.types bytes failed x → IsMonitorFailure text name bytes failed (Failure.List x)
+    go (LogErr.NotJson n) u = (h, of, seen, u)
+    go (LogErr.BadLine n) u = (h, of, seen, u)
+    go LogErr.NoEnd u = (h, of, seen, u)
+    go LogErr.AfterEnd u = (h, of, seen, u)
+    go LogErr.Io u = (h, of, seen, u)
+    go LogErr.OutOfMemory u = tt
+    go (LogErr.WrongOwner n) u = absurd u
+    go (LogErr.Diverges n) u = absurd u
 
 -- a log that is not the run's
-pub log_judged : (text : List ℕ) (name : Option Name) (bytes : Option (List ℕ)) (failed : Type 0) (c : Composed) (log : Logged) (x : LogErr) {T : Type 0}
-    → Declares text name c → IfSome bytes (λ xs. ReadsLog c.types xs log) → IsJudged x
-    → ((n : ℕ) → IsErrOf {T = T} (Err x) (LogErr.WrongOwner n) → judged (components_of c) (starts_of c) log ≡ wrong_owner n)
-    → ((n : ℕ) → IsErrOf {T = T} (Err x) (LogErr.Diverges n) → judged (components_of c) (starts_of c) log ≡ diverges n)
+pub log_judged : (text : List ℕ) (name : Option Name) (bytes : Option (List ℕ)) (failed : Type 0) (h : Hosted) (log : Logged) (x : LogErr) {T : Type 0}
+    → Declares text name h → IfSome bytes (λ xs. ReadsLog h.types xs log) → IsJudged x
+    → ((n : ℕ) → IsErrOf {T = T} (Err x) (LogErr.WrongOwner n) → judged (hosts_of h) (host_starts h) log ≡ wrong_owner n)
+    → ((n : ℕ) → IsErrOf {T = T} (Err x) (LogErr.Diverges n) → judged (hosts_of h) (host_starts h) log ≡ diverges n)
     → IsLogFailure text name bytes failed (Failure.List x)
-log_judged text name bytes failed c log (LogErr.WrongOwner n) of reads only owner diverging =
-    (c, of, IfSome_then bytes reads (λ xs r. (log, r, owner n refl)))
-log_judged text name bytes failed c log (LogErr.Diverges n) of reads only owner diverging =
-    (c, of, IfSome_then bytes reads (λ xs r. (log, r, diverging n refl)))
-log_judged text name bytes failed c log LogErr.OutOfMemory of reads only owner diverging = tt
-log_judged text name bytes failed c log (LogErr.NotJson n) of reads only owner diverging = absurd only
-log_judged text name bytes failed c log (LogErr.BadLine n) of reads only owner diverging = absurd only
-log_judged text name bytes failed c log LogErr.NoEnd of reads only owner diverging = absurd only
-log_judged text name bytes failed c log LogErr.AfterEnd of reads only owner diverging = absurd only
-log_judged text name bytes failed c log LogErr.Io of reads only owner diverging = absurd only
+log_judged text name bytes failed h log (LogErr.WrongOwner n) of reads only owner diverging =
+    (h, of, IfSome_then bytes reads (λ xs r. (log, r, owner n refl)))
+log_judged text name bytes failed h log (LogErr.Diverges n) of reads only owner diverging =
+    (h, of, IfSome_then bytes reads (λ xs r. (log, r, diverging n refl)))
+log_judged text name bytes failed h log LogErr.OutOfMemory of reads only owner diverging = tt
+log_judged text name bytes failed h log (LogErr.NotJson n) of reads only owner diverging = absurd only
+log_judged text name bytes failed h log (LogErr.BadLine n) of reads only owner diverging = absurd only
+log_judged text name bytes failed h log LogErr.NoEnd of reads only owner diverging = absurd only
+log_judged text name bytes failed h log LogErr.AfterEnd of reads only owner diverging = absurd only
+log_judged text name bytes failed h log LogErr.Io of reads only owner diverging = absurd only
+
+-- what was written of a list where a device failed
+pub list_unwritten : (text : List ℕ) (name : Option Name) (bytes before after : Option (List ℕ)) (p : Prog) (h : Hosted) (x : LogErr) {T : Type 0}
+    → Declares text name h → Runs p h → IsListErr x
+    → ((n : ℕ) → IsErrOf {T = T} (Err x) (LogErr.BadLine n) → Keeps before after)
+    → (IsErrOf {T = T} (Err x) LogErr.OutOfMemory → Keeps before after)
+    → (IsErrOf {T = T} (Err x) LogErr.Io → (c : Composed) → Means p c → Keeps before after ⊎ IfSome bytes (λ xs. BeginsReplay c.types c.hidden (components_of c) (starts_of c) xs before after))
+    → IsUnwritten (BeginsReplayOf text name bytes) before after (Failure.List x)
+list_unwritten text name bytes before after p h (LogErr.BadLine n) of runs only bad memory io = bad n refl
+list_unwritten text name bytes before after p h LogErr.OutOfMemory of runs only bad memory io = memory refl
+list_unwritten text name bytes before after p h LogErr.Io of runs only bad memory io =
+    elim (hosts_begin h runs.0 runs.1 bytes before after (io refl runs.0 runs.2)) [ inl k ↦ inl k | inr k ↦ inr (h, of, k) ]
+list_unwritten text name bytes before after p h (LogErr.NotJson n) of runs only bad memory io = absurd only
+list_unwritten text name bytes before after p h (LogErr.WrongOwner n) of runs only bad memory io = absurd only
+list_unwritten text name bytes before after p h (LogErr.Diverges n) of runs only bad memory io = absurd only
+list_unwritten text name bytes before after p h LogErr.NoEnd of runs only bad memory io = absurd only
+list_unwritten text name bytes before after p h LogErr.AfterEnd of runs only bad memory io = absurd only
 
 -- nothing was written
 pub kept : (begins : Option (List ℕ) → Option (List ℕ) → Type 0) (before after : Option (List ℕ)) (e : Failure) → Keeps before after → IsUnwritten begins before after e

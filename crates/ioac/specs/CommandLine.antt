@@ -25,6 +25,10 @@ comp_rule = record (new_rule (codes "comp")) { long = Some (codes "comp"); value
 abbrev pub log_rule : Rule
 log_rule = record (new_rule (codes "log")) { long = Some (codes "log"); action = Some ArgAction.SetTrue }
 
+-- `--invariants`
+abbrev pub invariants_rule : Rule
+invariants_rule = record (new_rule (codes "invariants")) { long = Some (codes "invariants"); action = Some ArgAction.SetTrue }
+
 abbrev pub check_app : App
 check_app = with_rule (new_app (codes "check")) file_rule
 
@@ -32,7 +36,7 @@ abbrev pub explain_app : App
 explain_app = with_rule (new_app (codes "explain")) code_rule
 
 abbrev pub replay_app : App
-replay_app = with_rule (with_rule (with_rule (new_app (codes "replay")) file_rule) comp_rule) log_rule
+replay_app = with_rule (with_rule (with_rule (with_rule (new_app (codes "replay")) file_rule) comp_rule) log_rule) invariants_rule
 
 abbrev pub monitor_app : App
 monitor_app = with_rule (with_rule (new_app (codes "monitor")) file_rule) comp_rule
@@ -52,17 +56,24 @@ IsLocal command = (out-Command command).has_globals ≡ false
 abbrev pub is_set : Text → List Row → Bool
 is_set flag rows = option_map_or (λ value. bytes_eq value (codes "true")) (first_of flag rows) false
 
+-- it is a replay, of a log or not, and asked for invariants or not
+abbrev pub IsReplayWith : Bool → Bool → Text × List Row → Type 0
+IsReplayWith log invariants found =
+    (found.0 ≡ codes "replay") × (is_set (codes "log") found.1 ≡ log) × (is_set (codes "invariants") found.1 ≡ invariants)
+
 -- the file and the composition that a subcommand's values name
 abbrev pub Names : List Row → Text → Option Text → Type 0
 Names rows file composition = (first_of (codes "FILE") rows ≡ Some file) × (first_of (codes "comp") rows ≡ composition)
 
--- a subcommand with its values, if there is one, asks for this
+-- a subcommand with its values, if there is one, asks for this; a replay of a list cannot be asked for invariants
 abbrev pub IsAskedBy : Option (Text × List Row) → Request → Type 0
 IsAskedBy None request = ⊥
 IsAskedBy (Some found) (Request.Replay file composition) =
-    (found.0 ≡ codes "replay") × (is_set (codes "log") found.1 ≡ false) × Names found.1 file.now (option_copied composition)
+    IsReplayWith false false found × Names found.1 file.now (option_copied composition)
 IsAskedBy (Some found) (Request.ReplayLog file composition) =
-    (found.0 ≡ codes "replay") × (is_set (codes "log") found.1 ≡ true) × Names found.1 file.now (option_copied composition)
+    IsReplayWith true false found × Names found.1 file.now (option_copied composition)
+IsAskedBy (Some found) (Request.ReplayInvariants file composition) =
+    IsReplayWith true true found × Names found.1 file.now (option_copied composition)
 IsAskedBy (Some found) (Request.Monitor file composition) = (found.0 ≡ codes "monitor") × Names found.1 file.now (option_copied composition)
 IsAskedBy (Some found) (Request.Check file) = (found.0 ≡ codes "check") × (first_of (codes "FILE") found.1 ≡ Some file.now)
 IsAskedBy (Some found) (Request.Explain code) = (found.0 ≡ codes "explain") × (first_of (codes "CODE") found.1 ≡ Some (spelling code))

@@ -46,7 +46,7 @@ usage_status kinds.Io = Status.BadCommandLine
 usage_status kinds.Format = Status.BadCommandLine
 
 -- nothing is served: the words have a fault, or ask for help or the version, which is told; or they ask for nothing, as for a
--- code that is none; or memory was short, or nothing could be told
+-- code that is none, or for the invariants of a list; or memory was short, or nothing could be told
 abbrev pub IsUnasked : List Text → Status → Type 0
 IsUnasked words status =
     (status ≡ Status.Broken)

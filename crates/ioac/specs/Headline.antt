@@ -8,36 +8,42 @@ use Rattle.ioa_syntax.specs.Tree.{SourceTree, CompositionTree}
 use Rattle.ioa_syntax.specs.Source.{plain}
 use Rattle.ioa_syntax.specs.Grammar.{SpellsSource}
 use Rattle.ioa_syntax.specs.WellFormed.{WellFormed}
-use Rattle.ioa_syntax.specs.Compositions.{Composed, picked, IsComposed, components_of, starts_of}
+use Rattle.ioa_syntax.specs.Compositions.{picked}
+use Rattle.ioa_syntax.specs.Hosts.{Hosted, IsHosted, hosts_of, host_starts}
 use Rattle.ioa_syntax.specs.Runs.{Ending}
 use Rattle.ioa_log.specs.Replays.{Replays}
-use Rattle.ioac.specs.Logs.{ReplaysLog, Monitors}
+use Rattle.ioac.specs.Logs.{ReplaysLog, FindsInLog, Found, Monitors}
 
 -- the text's tokens spell the tree
 abbrev pub Spells : List ℕ → SourceTree → Type 0
 Spells text s = (ts : List (Tok × ℕ)) × Lexes text ts × SpellsSource s (plain ts)
 
--- The text spells a tree; the tree is well formed; the composition of this name, the last one where none is given, has these
--- components and starts.
-pub record Declares (text : List ℕ) (name : Option Name) (composed : Composed) : Type 0 where
+-- The text spells a tree; the tree is well formed; the composition of this name, the last one where none is given, is of these hosts:
+-- components that crash and recover, where the source says so.
+pub record Declares (text : List ℕ) (name : Option Name) (hosts : Hosted) : Type 0 where
   pub source : SourceTree
   pub tree : CompositionTree
   pub spells : Spells text source
   pub well_formed : WellFormed source
   pub picks : picked source name ≡ Some tree
-  pub is_composed : IsComposed source tree composed
+  pub is_hosted : IsHosted source tree hosts
 
--- The bytes are a list of actions, and what is written are the external ones among those that the components perform, up to
+-- The bytes are a list of actions, and what is written are the external ones among those that the hosts perform, up to
 -- the first that they cannot, and then the end: why it is the first, and its index.
 abbrev pub IsReplay : List ℕ → Option Name → List ℕ → Ending → Option (List ℕ) → Option (List ℕ) → Type 0
 IsReplay text name bytes ending before after =
-    (c : Composed) × Declares text name c × Replays c.types c.hidden (components_of c) (starts_of c) bytes ending before after
+    (h : Hosted) × Declares text name h × Replays h.types h.hidden (hosts_of h) (host_starts h) bytes ending before after
 
--- The bytes are a log of the run that the components do, and what is written is the same as for the list of its actions.
+-- The bytes are a log of the run that the hosts do, and what is written is the same as for the list of its actions.
 abbrev pub IsLogReplay : List ℕ → Option Name → List ℕ → Ending → Option (List ℕ) → Option (List ℕ) → Type 0
-IsLogReplay text name bytes ending before after = (c : Composed) × Declares text name c × ReplaysLog c bytes ending before after
+IsLogReplay text name bytes ending before after = (h : Hosted) × Declares text name h × ReplaysLog h bytes ending before after
 
--- The bytes are a log, of these or of other components, and what is written is whether the components accept what it tells to be
+-- The bytes are a log of the run that the hosts do, and what is written is the first of the source's invariants that a host
+-- breaks: of the least state of the run, then host, then invariant. Where none is broken, it is the same as where none is asked for.
+abbrev pub IsInvariantReplay : List ℕ → Option Name → List ℕ → Found → Option (List ℕ) → Option (List ℕ) → Type 0
+IsInvariantReplay text name bytes found before after = (h : Hosted) × Declares text name h × FindsInLog h bytes found before after
+
+-- The bytes are a log, of these or of other hosts, and what is written is whether the hosts accept what it tells to be
 -- performed: the first action that they have and do not perform, if there is one.
 abbrev pub IsMonitoring : List ℕ → Option Name → List ℕ → Option Ending → Option (List ℕ) → Option (List ℕ) → Type 0
-IsMonitoring text name bytes answer before after = (c : Composed) × Declares text name c × Monitors c bytes answer before after
+IsMonitoring text name bytes answer before after = (h : Hosted) × Declares text name h × Monitors h bytes answer before after

@@ -1,40 +1,84 @@
--- What a replay of a log writes, and what a monitor of one.
-use Rattle.std.specs.Prelude.{◌≡◌, ℕ, ◌-◌, ◌++◌, ◌∷◌, [], false, if◌then◌else◌, List, length, take, codes, Option, Some, None}
+-- What a replay of a log writes, also where it is asked for invariants, and what a monitor of one.
+use Rattle.std.specs.Prelude.{◌≡◌, ℕ, ◌-◌, ◌==◌, ◌++◌, ◌∷◌, [], true, not, ◌||◌, if◌then◌else◌, List, length, take, codes, Option, Some, None, slice_get}
+use Rattle.std.specs.Fmt.{decimal}
 use Rattle.std.specs.Io.KnownBytes.{Appends}
+use Rattle.std.specs.List.{list_any}
+use Rattle.std.specs.Option.{option_map_or}
 use Rattle.ioa_value.specs.Actions.{Act}
-use Rattle.ioa_syntax.specs.Compositions.{Composed, components_of, starts_of}
+use Rattle.ioa_syntax.specs.declared.tree.Kind.TheVariants.{Internal}
+use Rattle.ioa_syntax.specs.Components.{Component}
+use Rattle.ioa_syntax.specs.Hosts.{HostState, Hosted, hosts_of, host_starts, host_instances, first_broken_host}
+use Rattle.ioa_syntax.specs.Invariants.{Broken}
+use Rattle.ioa_syntax.specs.Meaning.{Env}
 use Rattle.ioa_syntax.specs.Runs.{Ending, run}
+use Rattle.ioa_compose.specs.Stands.{has_kind}
+use Rattle.ioa_system.specs.Answers.{ending_of}
 use Rattle.ioa_system.specs.Endings.{ending_text}
 use Rattle.ioa_system.specs.Logs.{Logged, actions_of, is_fault}
+use Rattle.ioa_log.specs.Breaking.{broken_of}
 use Rattle.ioa_log.specs.Judging.{agrees, judged}
 use Rattle.ioa_log.specs.LogTexts.{ReadsLog}
-use Rattle.ioa_log.specs.Monitoring.{hides_in, monitored}
+use Rattle.ioa_log.specs.Monitoring.{is_internal, monitored}
 use Rattle.ioa_log.specs.Replays.{run_text}
+use Rattle.ioac.specs.declared.finding.Finding.{Finding}
 
--- the bytes are a text of this log, and it is of the run that the composition does
-abbrev pub IsRunLog : Composed → List ℕ → Logged → Type 0
-IsRunLog c bytes log = ReadsLog c.types bytes log × (judged (components_of c) (starts_of c) log ≡ agrees)
+-- the bytes are a text of this log, and it is of the run that the hosts do
+abbrev pub IsRunLog : Hosted → List ℕ → Logged → Type 0
+IsRunLog h bytes log = ReadsLog h.types bytes log × (judged (hosts_of h) (host_starts h) log ≡ agrees)
 
--- the text of the composition's run over the log's actions
-abbrev pub log_run_text : Composed → Logged → List ℕ
-log_run_text c log = run_text c.types c.hidden (components_of c) (starts_of c) (actions_of log)
+-- the text of the hosts' run over the log's actions
+abbrev pub log_run_text : Hosted → Logged → List ℕ
+log_run_text h log = run_text h.types h.hidden (hosts_of h) (host_starts h) (actions_of log)
 
 -- the end is the run's, and the run's text is written
-abbrev pub ReplaysLog : Composed → List ℕ → Ending → Option (List ℕ) → Option (List ℕ) → Type 0
-ReplaysLog c bytes end before after =
-    (log : Logged) × IsRunLog c bytes log × (end ≡ (run (components_of c) (actions_of log) (starts_of c)).ending) × Appends before after (log_run_text c log)
+abbrev pub ReplaysLog : Hosted → List ℕ → Ending → Option (List ℕ) → Option (List ℕ) → Type 0
+ReplaysLog h bytes end before after =
+    (log : Logged) × IsRunLog h bytes log × (end ≡ (run (hosts_of h) (actions_of log) (host_starts h)).ending) × Appends before after (log_run_text h log)
 
 -- a beginning of the run's text is written
-abbrev pub BeginsLog : Composed → List ℕ → Option (List ℕ) → Option (List ℕ) → Type 0
-BeginsLog c bytes before after = (log : Logged) × IsRunLog c bytes log × ((k : ℕ) × Appends before after (take k (log_run_text c log)))
+abbrev pub BeginsLog : Hosted → List ℕ → Option (List ℕ) → Option (List ℕ) → Type 0
+BeginsLog h bytes before after = (log : Logged) × IsRunLog h bytes log × ((k : ℕ) × Appends before after (take k (log_run_text h log)))
+
+-- what is found where invariants are asked for: the first that is broken in a state of the run; or none, and how the run ends
+pub data Found : Type 0 where
+  broken : Broken → Found
+  unbroken : Ending → Found
+
+abbrev pub found_of : Finding → Found
+found_of (Finding.Broken b) = broken (broken_of b)
+found_of (Finding.Unbroken end) = unbroken (ending_of end)
+
+abbrev pub found_in : Hosted → Logged → Found
+found_in h log =
+    option_map_or broken (first_broken_host h (actions_of log)) (unbroken (run (hosts_of h) (actions_of log) (host_starts h)).ending)
+
+abbrev pub broken_line : Broken → List ℕ
+broken_line b =
+    codes "invariant " ++ (decimal b.invariant
+    ++ (codes " of component " ++ (decimal b.component ++ (codes " broken after " ++ (decimal b.state ++ 10 ∷ [])))))
+
+-- the broken invariant alone; where none is, the run's text
+abbrev pub found_text : Hosted → Logged → Found → List ℕ
+found_text h log (broken b) = broken_line b
+found_text h log (unbroken end) = log_run_text h log
+
+-- what is found in the run is the answer, and its text is written
+abbrev pub FindsInLog : Hosted → List ℕ → Found → Option (List ℕ) → Option (List ℕ) → Type 0
+FindsInLog h bytes found before after =
+    (log : Logged) × IsRunLog h bytes log × (found ≡ found_in h log) × Appends before after (found_text h log (found_in h log))
+
+-- a beginning of it is written
+abbrev pub BeginsFound : Hosted → List ℕ → Option (List ℕ) → Option (List ℕ) → Type 0
+BeginsFound h bytes before after =
+    (log : Logged) × IsRunLog h bytes log × ((k : ℕ) × Appends before after (take k (found_text h log (found_in h log))))
 
 -- the actions that a log tells to be performed: all, but the last one where it ends by a fault
 abbrev pub performed_in : Logged → List Act
 performed_in log = if is_fault log.ending then take (length log.entries - 1) (actions_of log) else actions_of log
 
--- why the composition does not accept what the log tells to be performed; none where it does
-abbrev pub answer_to : Composed → Logged → Option Ending
-answer_to c log = monitored (components_of c) (performed_in log) (starts_of c)
+-- why the hosts do not accept what the log tells to be performed; none where they do
+abbrev pub answer_to : Hosted → Logged → Option Ending
+answer_to h log = monitored (hosts_of h) (performed_in log) (host_starts h)
 
 abbrev pub answer_text : Option Ending → List ℕ
 answer_text None = codes "ok"
@@ -43,13 +87,22 @@ answer_text (Some end) = ending_text end
 abbrev pub answer_line : Option Ending → List ℕ
 answer_line answer = codes "monitor: " ++ (answer_text answer ++ 10 ∷ [])
 
--- all that the composition does is seen, the bytes are a text of a log, and the answer to it is written
-abbrev pub Monitors : Composed → List ℕ → Option Ending → Option (List ℕ) → Option (List ℕ) → Type 0
-Monitors c bytes answer before after =
-    (hides_in c ≡ false) × ((log : Logged) × ReadsLog c.types bytes log × (answer ≡ answer_to c log) × Appends before after (answer_line answer))
+-- all that the hosts do is seen: no action is internal to one of them, and no name is hidden
+pub record IsSeen (h : Hosted) : Type 0 where
+  pub external : (i : ℕ) (p : Component (HostState Env)) (a : Act) → slice_get (hosts_of h) i ≡ Some p → p.kind_of a ≡ Some Internal → ⊥
+  pub unhidden : h.hidden ≡ []
+
+-- an entry of a host's signature is internal, or a name is hidden
+abbrev pub IsHiding : Hosted → Type 0
+IsHiding h = (list_any (has_kind is_internal) (host_instances h) || not (length h.hidden == 0)) ≡ true
+
+-- all is seen, the bytes are a text of a log, and the answer to it is written
+abbrev pub Monitors : Hosted → List ℕ → Option Ending → Option (List ℕ) → Option (List ℕ) → Type 0
+Monitors h bytes answer before after =
+    IsSeen h × ((log : Logged) × ReadsLog h.types bytes log × (answer ≡ answer_to h log) × Appends before after (answer_line answer))
 
 -- a beginning of it is written
-abbrev pub BeginsMonitor : Composed → List ℕ → Option (List ℕ) → Option (List ℕ) → Type 0
-BeginsMonitor c bytes before after =
-    (hides_in c ≡ false)
-    × ((log : Logged) × ReadsLog c.types bytes log × ((k : ℕ) × Appends before after (take k (answer_line (answer_to c log)))))
+abbrev pub BeginsMonitor : Hosted → List ℕ → Option (List ℕ) → Option (List ℕ) → Type 0
+BeginsMonitor h bytes before after =
+    IsSeen h
+    × ((log : Logged) × ReadsLog h.types bytes log × ((k : ℕ) × Appends before after (take k (answer_line (answer_to h log)))))

@@ -10,9 +10,10 @@ use Rattle.ioac.specs.declared.store.StoreErr.{StoreErr}
 use Rattle.ioac.specs.declared.status.Status.{Status}
 use Rattle.ioac.specs.Checks.{IsCheck, IsCheckFailure, IsUnchecked}
 use Rattle.ioac.specs.Explained.{IsExplained, IsUnexplained}
-use Rattle.ioac.specs.Headline.{IsReplay, IsLogReplay, IsMonitoring}
-use Rattle.ioac.specs.Failing.{IsFailure, IsLogFailure, IsMonitorFailure, IsUnwritten, BeginsReplayOf, BeginsLogOf, BeginsMonitorOf}
-use Rattle.ioac.specs.Statuses.{answer_status, ending_status}
+use Rattle.ioac.specs.Headline.{IsReplay, IsLogReplay, IsInvariantReplay, IsMonitoring}
+use Rattle.ioac.specs.Logs.{Found}
+use Rattle.ioac.specs.Failing.{IsFailure, IsLogFailure, IsMonitorFailure, IsUnwritten, BeginsReplayOf, BeginsLogOf, BeginsFoundOf, BeginsMonitorOf}
+use Rattle.ioac.specs.Statuses.{answer_status, ending_status, found_status}
 
 -- why nothing is served of a file that was not read
 abbrev pub failure_of : StoreErr → Failure
@@ -28,6 +29,9 @@ IsServed holds (Request.Replay file composition) bytes before after status =
 IsServed holds (Request.ReplayLog file composition) bytes before after status =
     (text : List ℕ) × holds file.now text
     × ((end : Ending) × IfSome bytes (λ xs. IsLogReplay text (option_copied composition) xs end before after) × (status ≡ ending_status end))
+IsServed holds (Request.ReplayInvariants file composition) bytes before after status =
+    (text : List ℕ) × holds file.now text
+    × ((found : Found) × IfSome bytes (λ xs. IsInvariantReplay text (option_copied composition) xs found before after) × (status ≡ found_status found))
 IsServed holds (Request.Monitor file composition) bytes before after status =
     (text : List ℕ) × holds file.now text
     × ((answer : Option Ending) × IfSome bytes (λ xs. IsMonitoring text (option_copied composition) xs answer before after) × (status ≡ answer_status answer))
@@ -50,6 +54,10 @@ IsUnserved holds lacks (Request.ReplayLog file composition) bytes reader_failed 
     IsUnread (lacks file.now) before after e
     ⊎ ((text : List ℕ) × holds file.now text × IsLogFailure text (option_copied composition) bytes (reader_failed ⊎ writer_failed) e
     × IsUnwritten (BeginsLogOf text (option_copied composition) bytes) before after e)
+IsUnserved holds lacks (Request.ReplayInvariants file composition) bytes reader_failed writer_failed before after e =
+    IsUnread (lacks file.now) before after e
+    ⊎ ((text : List ℕ) × holds file.now text × IsLogFailure text (option_copied composition) bytes (reader_failed ⊎ writer_failed) e
+    × IsUnwritten (BeginsFoundOf text (option_copied composition) bytes) before after e)
 IsUnserved holds lacks (Request.Monitor file composition) bytes reader_failed writer_failed before after e =
     IsUnread (lacks file.now) before after e
     ⊎ ((text : List ℕ) × holds file.now text × IsMonitorFailure text (option_copied composition) bytes (reader_failed ⊎ writer_failed) e

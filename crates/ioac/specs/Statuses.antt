@@ -5,6 +5,7 @@ use Rattle.ioa_syntax.specs.Runs.{Ending, done, not_an_action_at, not_enabled_at
 use Rattle.ioa_log.specs.declared.failure.LogErr.{LogErr}
 use Rattle.ioac.specs.declared.failure.Failure.{Failure}
 use Rattle.ioac.specs.declared.status.Status.{Status}
+use Rattle.ioac.specs.Logs.{Found, broken, unbroken}
 
 abbrev pub number_of : Status → ℕ
 number_of Status.Done = 0
@@ -20,6 +21,11 @@ ending_status (done n) = Status.Done
 ending_status (not_an_action_at i) = Status.ListRefused
 ending_status (not_enabled_at i) = Status.ListRefused
 ending_status (fault_at c f i) = Status.Faulted
+
+-- of a log in which this is found
+abbrev pub found_status : Found → Status
+found_status (broken b) = Status.ListRefused
+found_status (unbroken end) = ending_status end
 
 -- of a monitor that gives this answer
 abbrev pub answer_status : Option Ending → Status

@@ -5,8 +5,9 @@ ghost use Rattle.ioa_system.specs.Answers.{ending_of};
 ghost use Rattle.ioa_log.specs.Failing.{HasFailed};
 ghost use Rattle.ioac.specs.CommandLine.{IsAsked};
 ghost use Rattle.ioac.specs.Commands.{IsAnswered, IsReported, IsUnasked, usage_status};
+ghost use Rattle.ioac.specs.Logs.{found_of};
 ghost use Rattle.ioac.specs.Serving.{IsServed, IsUnserved};
-ghost use Rattle.ioac.specs.Statuses.{answer_status, ending_status, number_of};
+ghost use Rattle.ioac.specs.Statuses.{answer_status, ending_status, found_status, number_of};
 ghost use Rattle.ioac.specs.declared.status.Status.{Status};
 ghost use Rattle.ioac.specs.declared.request.Request.{Request};
 ghost use Rattle.ioac.specs.declared.status.Status.TheVariants as statuses;
@@ -14,13 +15,14 @@ ghost use Rattle.ioac.specs.declared.status.Status.TheVariants as statuses;
 use crate::check::check_text;
 use crate::explain::explain;
 use crate::failure::Failure;
+use crate::finding::{Finding, replay_invariants_text};
 use crate::log_replay::replay_log_text;
 use crate::monitor::monitor_text;
 use crate::replay::replay_text;
 use crate::request::{Request, parse, read_request};
 use crate::status::Status;
 use crate::store::Store;
-use crate::usage::told_codes;
+use crate::usage::told_unasked;
 use clap::error::ErrorKind;
 use ioa_log::{InputDevice, OutputDevice};
 use ioa_system::End;
@@ -66,7 +68,7 @@ fn perform<S: AsStr, F: Store, R: InputDevice, W: OutputDevice, E: Write>(
     match parse(alloc, words) {
         Ok(matches) => match read_request(&matches) {
             Some(asked) => answer(alloc, &asked, store, input, output, errors),
-            None => told_codes(&matches, errors),
+            None => told_unasked(&matches, errors),
         },
         Err(error) => told(&error, output, errors),
     }
@@ -130,6 +132,17 @@ fn serve<F: Store, R: InputDevice, W: OutputDevice>(
             let end = replay_log_text(alloc, automata.as_slice(), *composition, input, output)?;
             Ok(status_of(end))
         }
+        Request::ReplayInvariants { file, composition } => {
+            let declared = store.load(alloc, file)?;
+            let finding = replay_invariants_text(
+                alloc,
+                declared.as_slice(),
+                *composition,
+                input,
+                output,
+            )?;
+            Ok(status_of_finding(finding))
+        }
         Request::Monitor { file, composition } => {
             let specification = store.load(alloc, file)?;
             let answer = monitor_text(
@@ -161,6 +174,16 @@ fn status_of(end: End) -> Status
         End::Done(_) => Status::Done,
         End::NotAnAction(_) | End::NotEnabled(_) => Status::ListRefused,
         End::Fault(_, _, _) => Status::Faulted,
+    }
+}
+
+/// The exit status of a log in which this is found.
+fn status_of_finding(finding: Finding) -> Status
+    ensures { result ≡ found_status (found_of finding) }
+{
+    match finding {
+        Finding::Broken(_) => Status::ListRefused,
+        Finding::Unbroken(end) => status_of(end),
     }
 }
 

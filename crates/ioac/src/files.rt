@@ -10,8 +10,12 @@ pub struct Files<'a, R> {
 }
 
 impl<'a, R> Files<'a, R> {
+    ghost use Rattle.std.specs.Prelude.{◌≡◌};
+
     /// The files of this runtime.
-    pub fn new(rt: &'a R) -> Files<'a, R> {
+    pub fn new(rt: &'a R) -> Files<'a, R>
+        ensures { result.rt ≡ rt.entry }
+    {
         Files { rt }
     }
 }

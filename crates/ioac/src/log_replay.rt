@@ -45,7 +45,7 @@ pub fn replay_log_text<R: InputDevice, W: OutputDevice>(
 }
 
 /// A run's trace, one action a line, and then a line with its end.
-fn run_text(alloc: Global, types: &Types, run: &Run) -> Result<String, OutOfMemory>
+pub fn run_text(alloc: Global, types: &Types, run: &Run) -> Result<String, OutOfMemory>
     ensures { IfOk result (λ text. string_bytes text ≡ replays.replay_text types.now (trace_of run.now) (ending_of run.now.end)) }
 {
     let mut text = String::new(alloc);

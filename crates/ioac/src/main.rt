@@ -10,6 +10,7 @@ mod explanation;
 mod explanations;
 mod failure;
 mod files;
+mod finding;
 mod log_replay;
 mod monitor;
 mod refusal;

@@ -1,17 +1,17 @@
-ghost use Rattle.std.specs.Prelude.{◌≡◌, ◌⊎◌, true, false, IfOk, IfErr, IfSome, map, option_map};
+ghost use Rattle.std.specs.Prelude.{◌≡◌, ◌⊎◌, IfOk, IfErr, IfSome, map, option_map};
 ghost use Rattle.std.specs.Option.{option_copied};
 ghost use Rattle.std.specs.String.{string_bytes};
 ghost use Rattle.ioa_value.specs.Actions.{act_of};
-ghost use Rattle.ioa_syntax.specs.Compositions.{Composed, components_of, starts_of};
-ghost use Rattle.ioa_compile.specs.Means.{Means};
+ghost use Rattle.ioa_syntax.specs.Hosts.{Hosted, hosts_of, host_starts};
 ghost use Rattle.ioa_system.specs.Answers.{ending_of};
 ghost use Rattle.ioa_system.specs.Logs.{logged};
 ghost use Rattle.ioa_log.specs.Failing.{HasFailed};
-ghost use Rattle.ioa_log.specs.Monitoring.{hides_in, monitored};
+ghost use Rattle.ioa_log.specs.Monitoring.{monitored};
 ghost use Rattle.ioac.specs.Failing.{BeginsMonitorOf, IsMonitorFailure, IsUnwritten};
 ghost use Rattle.ioac.specs.Headline.{IsMonitoring};
 ghost use Rattle.ioac.specs.Logs as logs;
-ghost use Rattle.ioac.specs.Logs.{answer_line};
+ghost use Rattle.ioac.specs.Logs.{IsHiding, IsSeen, answer_line};
+ghost use Rattle.ioac.specs.Running.{Runs};
 
 use crate::compile::compile_text;
 use crate::failure::Failure;
@@ -55,9 +55,9 @@ pub fn monitor_text<R: InputDevice, W: OutputDevice>(
 
 /// Why the program, as a monitor, does not accept the actions, if it does not.
 fn answer_to(alloc: Global, program: &Program, actions: &[Action]) -> Result<Option<End>, Failure>
-    ensures answers { IfOk result (λ answer. (c : Composed) → Means program.now c
-        → (hides_in c ≡ false) × (option_map ending_of answer ≡ monitored (components_of c) (map act_of actions.now) (starts_of c))) }
-    ensures refused { IfErr result (λ e. (e ≡ Failure.OutOfMemory) ⊎ ((e ≡ Failure.SpecHasInternal) × ((c : Composed) → Means program.now c → hides_in c ≡ true))) }
+    ensures answers { IfOk result (λ answer. (h : Hosted) → Runs program.now h
+        → IsSeen h × (option_map ending_of answer ≡ monitored (hosts_of h) (map act_of actions.now) (host_starts h))) }
+    ensures refused { IfErr result (λ e. (e ≡ Failure.OutOfMemory) ⊎ ((e ≡ Failure.SpecHasInternal) × ((h : Hosted) → Runs program.now h → IsHiding h))) }
 {
     match monitor(alloc, program, actions) {
         Ok(()) => Ok(None),

@@ -1,7 +1,7 @@
 ghost use Rattle.std.specs.Prelude.{◌≡◌, false, map, IfOk, IfErr, IfSome, IfNone};
 ghost use Rattle.clap.specs.Words.{HasKind, app_of, fault_of, found_of, rows_of, rule_of, subcommand_of, subcommand_rows_of};
 ghost use Rattle.ioac.specs.CommandLine as asked;
-ghost use Rattle.ioac.specs.CommandLine.{IsAskedBy, IsLocal, check_app, code_rule, comp_rule, explain_app, file_rule, ioac_app, log_rule, monitor_app, replay_app};
+ghost use Rattle.ioac.specs.CommandLine.{IsAskedBy, IsLocal, check_app, code_rule, comp_rule, explain_app, file_rule, invariants_rule, ioac_app, log_rule, monitor_app, replay_app};
 ghost use Rattle.ioac.specs.declared.request.Request.{Request};
 
 use crate::code::Code;
@@ -19,6 +19,11 @@ pub enum Request<'a> {
     },
     /// To replay the log on standard input in a composition of a source.
     ReplayLog {
+        file: &'a str,
+        composition: Option<&'a str>,
+    },
+    /// To replay the log on standard input in a composition of a source, and to ask for the source's invariants in each of its states.
+    ReplayInvariants {
         file: &'a str,
         composition: Option<&'a str>,
     },
@@ -68,6 +73,18 @@ fn log_flag<'a>(alloc: Global) -> Arg<'a>
         .help("Standard input is a log, which has to be of the composition's run")
 }
 
+fn invariants_flag<'a>(alloc: Global) -> Arg<'a>
+    ensures rule { rule_of result ≡ invariants_rule }
+    ensures local { result.global ≡ false }
+{
+    Arg::new(alloc, "invariants")
+        .long("invariants")
+        .action(ArgAction::SetTrue)
+        .help(
+            "With --log: the first invariant that the log's states break is printed in place of all else",
+        )
+}
+
 fn code_argument<'a>(alloc: Global) -> Arg<'a>
     ensures rule { rule_of result ≡ code_rule }
     ensures local { result.global ≡ false }
@@ -112,11 +129,12 @@ fn replay_command<'a>(alloc: Global) -> Result<Command<'a>, AllocError>
             "The list has one action a line, as `tick(5)`. Blank lines and lines that begin with % are skipped.\n\
              A log has one JSON object a line, as `{\"act\":\"tick(5)\",\"who\":0}`, and last `{\"end\":\"done after 1\"}`.\n\
              Exit status: 0 done, 1 source refused, 2 bad command line, 3 ended by a fault,\n\
-             4 list or log refused, or ended not enabled or not an action, 5 memory or a device.",
+             4 list or log refused, invariant broken, or ended not enabled or not an action, 5 memory or a device.",
         )
         .arg(file_argument(alloc))?
         .arg(composition_option(alloc))?
-        .arg(log_flag(alloc))
+        .arg(log_flag(alloc))?
+        .arg(invariants_flag(alloc))
 }
 
 fn monitor_command<'a>(alloc: Global) -> Result<Command<'a>, AllocError>
@@ -169,8 +187,8 @@ fn is_set(found: &ArgMatches<'_>, flag: &str) -> bool
     }
 }
 
-/// The request that a command line has. None where a word is missing, which a parse rules out, or where there is no such
-/// code.
+/// The request that a command line has. None where a word is missing, which a parse rules out, where there is no such code, or where
+/// the invariants of a list are asked for.
 pub fn read_request<'a>(matches: &ArgMatches<'a>) -> Option<Request<'a>>
     ensures some { IfSome result (λ asked. IsAskedBy (subcommand_rows_of matches.now) asked) }
     ensures none { IfNone result ((asked : Request) → IsAskedBy (subcommand_rows_of matches.now) asked → ⊥) }
@@ -180,10 +198,11 @@ pub fn read_request<'a>(matches: &ArgMatches<'a>) -> Option<Request<'a>>
         "replay" => {
             let file = found.get_str("FILE")?;
             let composition = found.get_str("comp");
-            if is_set(found, "log") {
-                Some(Request::ReplayLog { file, composition })
-            } else {
-                Some(Request::Replay { file, composition })
+            match (is_set(found, "log"), is_set(found, "invariants")) {
+                (true, true) => Some(Request::ReplayInvariants { file, composition }),
+                (true, false) => Some(Request::ReplayLog { file, composition }),
+                (false, true) => None,
+                (false, false) => Some(Request::Replay { file, composition }),
             }
         }
         "monitor" => {

@@ -19,11 +19,17 @@ pub const E12: Explanation = Explanation {
 
 pub const E13: Explanation = Explanation {
     code: Code::E13,
-    meaning: "The names by which a component crashes and recovers are one name, or one that its automaton has.",
-    example: Example::Told(
-        "No source of this version gives it, since components cannot crash yet.",
+    meaning: "A component crashes and recovers by one name, or one of the two is the name of an entry of its automaton.\n\
+        Components count from 0.",
+    example: Example::Source(
+        "automaton Counter\n\
+        signature output tick; input reset\n\
+        states c: Int\n\
+        transitions output tick eff c := c + 1 input reset eff c := 0\n\
+        composition One components A: Counter crash reset recover up",
     ),
-    mending: "There is nothing to mend.",
+    mending: "Take two names that the automaton does not have. Here: `A: Counter crash down recover up`. Another component may\n\
+        have them, so two hosts may crash together.",
 };
 
 pub const E14: Explanation = Explanation {

@@ -34,7 +34,8 @@ pub const E6: Explanation = Explanation {
 pub const E7: Explanation = Explanation {
     code: Code::E7,
     meaning: "An expression has another type than its place wants: a Bool where an Int belongs, or the other way round. A\n\
-        tuple wants a value for each of its fields, each of the field's type; only tuples have fields.",
+        precondition, the condition of a choice and an invariant are Bools. A tuple wants a value for each of its fields,\n\
+        each of the field's type; only tuples have fields.",
     example: Example::Source(
         "automaton Door\n\
         signature input open\n\
@@ -74,8 +75,8 @@ pub const E9: Explanation = Explanation {
 pub const E10: Explanation = Explanation {
     code: Code::E10,
     meaning: "A limit is passed: 1,024 types, 256 names of an enumeration, 16 fields of a tuple, a capacity from 1 to 256,\n\
-        256 automata and compositions, 32 components, 64 hidden names, 64 variables or entries of an automaton, 8 formals,\n\
-        8 positions of an entry, 4,096 nodes in a precondition, a transition's proposals, or an effect.",
+        256 automata and compositions, 256 invariants, 32 components, 64 hidden names, 64 variables or entries of an\n\
+        automaton, 8 formals, 8 positions of an entry, 4,096 nodes in a precondition, a transition's proposals, or an effect.",
     example: Example::Source(
         "automaton Door(a: Int, b: Int, c: Int, d: Int, e: Int, f: Int, g: Int, h: Int, i: Int)\n\
         signature input open\n\

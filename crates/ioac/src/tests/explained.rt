@@ -64,7 +64,7 @@ fn examples_give_their_codes(rt: HostRuntime) -> Result<(), Fail> {
             shown.push(code)?;
         }
     }
-    assert_eq!(rt; shown.len(), 23);
+    assert_eq!(rt; shown.len(), 24);
     Ok(())
 }
 

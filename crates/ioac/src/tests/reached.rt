@@ -5,9 +5,10 @@ use crate::tests::shelf::COUNTER;
 use ioa_check::check;
 use ioa_compile::{Program, compile};
 use ioa_compose::compose;
+use ioa_node::state_values;
 use ioa_syntax::{Refusal, parse};
 use ioa_system::{End, is_external, owner, participants, run_list};
-use ioa_value::{Action, Fault, read_action, read_list};
+use ioa_value::{Action, Fault, Value, read_action, read_list, same};
 use std::alloc::Global;
 use std::process::Abort;
 use std::test::Fail;
@@ -60,6 +61,27 @@ const RUNS: [(&str, &str, End, [Option<i64>; 2]); 4] = [
     ),
 ];
 
+const HOST: &str = "
+type Ints = seq 16 of Int
+automaton Host signature output put(m: Int) states q: Ints; stable t: Int
+transitions output put pre m = t propose m := t eff q := append(q, m); t := t + 1
+composition One components A: Host crash down recover up";
+
+/// A list of actions of the host, how the run ends, and then its queue, its stable number, and whether it is up.
+const HOSTS: [(&str, End, &[i64], i64, bool); 5] = [
+    ("put(0)\nput(1)", End::Done(2), &[0, 1], 2, true),
+    ("put(0)\ndown\nput(1)", End::NotEnabled(2), &[], 1, false),
+    (
+        "put(0)\ndown\ndown\nup\nup\nput(1)",
+        End::Done(6),
+        &[1],
+        2,
+        true,
+    ),
+    ("put(0)\nup", End::Done(2), &[0], 1, true),
+    ("down\nput(0)", End::NotEnabled(1), &[], 0, false),
+];
+
 fn program(alloc: Global, source: &str) -> Result<Program, Refusal> {
     let checked = check(alloc, parse(alloc, source.as_bytes())?)?;
     let composition = compose(alloc, &checked, None)?;
@@ -94,6 +116,42 @@ fn runs_reach_their_states(rt: HostRuntime) -> Result<(), Fail> {
         let program = program(alloc, source)?;
         match read_list(alloc, program.types(), list.as_bytes())? {
             Ok(actions) => expect_run(&rt, alloc, &program, &actions, end, &numbers)?,
+            Err(line) => assert_eq!(rt; line, 0, "{list}"),
+        }
+    }
+    Ok(())
+}
+
+/// The numbers of a sequence.
+fn numbers_of(alloc: Global, value: &Value) -> Result<Vec<i64>, Fail> {
+    let mut numbers = Vec::new(alloc);
+    if let Value::Items(_, items) = value {
+        for item in items {
+            if let Value::Num(number) = item {
+                numbers.push(*number)?;
+            }
+        }
+    }
+    Ok(numbers)
+}
+
+#[test]
+fn hosts_reach_their_states(rt: HostRuntime) -> Result<(), Fail> {
+    let alloc = rt.alloc();
+    let program = program(alloc, HOST)?;
+    for (list, end, queue, number, up) in HOSTS {
+        match read_list(alloc, program.types(), list.as_bytes())? {
+            Ok(actions) => {
+                let run = run_list(alloc, &program, &actions)?;
+                assert_eq!(rt; run.end, end);
+                assert_eq!(rt; run.states.len(), 1);
+                let values = state_values(alloc, &run.states[0])?;
+                assert_eq!(rt; values.len(), 3);
+                let items = numbers_of(alloc, &values[0])?;
+                assert!(rt; items.as_slice() == queue, "{list}");
+                assert!(rt; same(&values[1], &Value::Num(number)), "{list}");
+                assert!(rt; same(&values[2], &Value::Truth(up)), "{list}");
+            }
             Err(line) => assert_eq!(rt; line, 0, "{list}"),
         }
     }

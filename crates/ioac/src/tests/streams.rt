@@ -77,20 +77,33 @@ const LIST: &str = "tick(5)\ntick(6)\nreset\n";
 const LOG: &str = "{\"act\":\"tick(5)\",\"who\":0}\n{\"act\":\"tick(6)\",\"who\":0}\n\
     {\"act\":\"reset\",\"who\":1}\n{\"end\":\"done after 3\"}\n";
 
-/// The words, and what stands on standard input: a list, and its log.
-const GIVEN: [(&str, &str); 2] = [(REPLAY, LIST), ("replay f --log", LOG)];
+/// A counter whose invariant the log's run breaks.
+const BOUNDED: &str = "automaton Counter signature output tick(k: Int); input reset \
+    states c: Int := 5 transitions output tick pre k = c propose k := c eff c := c + 1 \
+    input reset eff c := 5 composition One components A: Counter invariant of Counter: c < 7";
 
-/// What is printed of each.
-const PRINTED: &[u8; 40] = b"tick(5)\ntick(6)\nreset\nend: done after 3\n";
+/// What is printed of the list, and of its log.
+const PRINTED: &str = "tick(5)\ntick(6)\nreset\nend: done after 3\n";
 
-/// The counter with this on standard input, for these words.
-fn given<'a>(words: &'a str, list: &'a str) -> Given<'a> {
-    Given {
-        words,
-        file: COUNTER,
-        list,
-    }
-}
+/// The words, a file, and what stands on standard input; what is printed, and the exit status.
+const GIVEN: [(&str, &str, &str, &str, Status); 4] = [
+    (REPLAY, COUNTER, LIST, PRINTED, Status::Done),
+    ("replay f --log", COUNTER, LOG, PRINTED, Status::Done),
+    (
+        "replay f --log --invariants",
+        COUNTER,
+        LOG,
+        PRINTED,
+        Status::Done,
+    ),
+    (
+        "replay f --log --invariants",
+        BOUNDED,
+        LOG,
+        "invariant 0 of component 0 broken after 2\n",
+        Status::ListRefused,
+    ),
+];
 
 /// Replays what is given on a device that fails after so many calls, and the answer is printed on one that takes so many;
 /// with how many calls failed.
@@ -116,30 +129,38 @@ fn replayed(alloc: Global, given: &Given<'_>, reads: u64, writes: u64) -> Result
 
 #[test]
 fn fails_with_its_devices(rt: HostRuntime) -> Result<(), Fail> {
-    for (words, list) in GIVEN {
-        expect_failures(&rt, rt.alloc(), &given(words, list))?;
+    for (words, file, list, printed, status) in GIVEN {
+        let given = Given { words, file, list };
+        expect_failures(&rt, rt.alloc(), &given, printed.as_bytes(), status)?;
     }
     Ok(())
 }
 
 /// Replays on devices that fail at each call in turn, and on one that does not. The end is one more read.
-fn expect_failures(rt: &impl Abort, alloc: Global, given: &Given<'_>) -> Result<(), Fail> {
+fn expect_failures(
+    rt: &impl Abort,
+    alloc: Global,
+    given: &Given<'_>,
+    printed: &[u8],
+    status: Status,
+) -> Result<(), Fail> {
     let all = (given.list.len() as u64).saturating_add(1);
+    let calls = printed.len() as u64;
     for reads in 0..all {
-        let (ran, failures) = replayed(alloc, given, reads, 40)?;
+        let (ran, failures) = replayed(alloc, given, reads, calls)?;
         assert_failed(rt, &ran, failures);
         assert!(rt; ran.output.is_empty());
     }
-    for writes in 0..40u64 {
+    for writes in 0..calls {
         let (ran, failures) = replayed(alloc, given, all, writes)?;
         assert_failed(rt, &ran, failures);
         assert_eq!(rt; ran.output.len() as u64, writes);
-        assert!(rt; PRINTED.starts_with(ran.output.as_slice()));
+        assert!(rt; printed.starts_with(ran.output.as_slice()));
     }
-    let (ran, failures) = replayed(alloc, given, all, 40)?;
-    assert_eq!(rt; ran.status, Status::Done.number());
+    let (ran, failures) = replayed(alloc, given, all, calls)?;
+    assert_eq!(rt; ran.status, status.number());
     assert_eq!(rt; failures, 0);
-    assert!(rt; ran.output.as_slice() == PRINTED.as_slice());
+    assert!(rt; ran.output.as_slice() == printed);
     assert!(rt; ran.errors.is_empty());
     Ok(())
 }
@@ -152,20 +173,26 @@ fn assert_failed(rt: &impl Abort, ran: &Ran, failures: u64) {
 
 /// Runs the program on the words where nothing can be printed.
 fn silenced(alloc: Global, words: &str) -> Result<u8, Fail> {
-    let mut input = Counted::new(LIST.as_bytes());
+    let given = Given {
+        words,
+        file: COUNTER,
+        list: LIST,
+    };
+    let mut input = Counted::new(given.list.as_bytes());
     let mut output = Counted::new(Full);
-    run_on(
-        alloc,
-        &given(words, LIST),
-        &mut input,
-        &mut output,
-        &mut Full,
-    )
+    run_on(alloc, &given, &mut input, &mut output, &mut Full)
 }
 
 #[test]
 fn fails_where_nothing_is_printed(rt: HostRuntime) -> Result<(), Fail> {
-    for words in ["replay f", "replay g", "replay f --comp Nine", "--help", ""] {
+    for words in [
+        "replay f",
+        "replay g",
+        "replay f --comp Nine",
+        "replay f --invariants",
+        "--help",
+        "",
+    ] {
         assert_eq!(rt; silenced(rt.alloc(), words)?, Status::Broken.number());
     }
     Ok(())

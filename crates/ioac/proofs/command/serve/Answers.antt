@@ -3,6 +3,33 @@ use Rattle.std.proofs.lemmas.Result.{err_from_is_err_and}
 use Rattle.ioac.proofs.Refused.{err_so}
 use Rattle.ioac.proofs.command.serve.Goals as goal
 
+pub returns-in_err-end-in-Replay-clause-refused : goal.returns-in_err-end-in-Replay-clause-refused
+returns-in_err-end-in-Replay-clause-refused g c =
+    let e = err_from_is_err_and c.from_residual-in_err-end-in-Replay.result c.from_residual-in_err-end-in-Replay.ensures.1 in
+    let text = c.as_slice.result.now in
+    let held = subst (g.F.Store.holds c.args.store.now c.in-Replay.file.now) (sym c.as_slice.ensures.value) c.in_ok-text-in-Replay.ensures.ok in
+    let said = c.in_err-end-in-Replay.ensures in
+    err_so c.from_residual-in_err-end-in-Replay.result e.0 c.in_err-end-in-Replay.field-0.0 _ e.1 e.2
+    (rw c.in-Replay.is (inr (text, held, said.refused, said.unwritten)))
+
+pub returns-in_err-end-in-ReplayLog-clause-refused : goal.returns-in_err-end-in-ReplayLog-clause-refused
+returns-in_err-end-in-ReplayLog-clause-refused g c =
+    let e = err_from_is_err_and c.from_residual-in_err-end-in-ReplayLog.result c.from_residual-in_err-end-in-ReplayLog.ensures.1 in
+    let text = c.as_slice-in-ReplayLog.result.now in
+    let held = subst (g.F.Store.holds c.args.store.now c.in-ReplayLog.file.now) (sym c.as_slice-in-ReplayLog.ensures.value) c.in_ok-automata-in-ReplayLog.ensures.ok in
+    let said = c.in_err-end-in-ReplayLog.ensures in
+    err_so c.from_residual-in_err-end-in-ReplayLog.result e.0 c.in_err-end-in-ReplayLog.field-0.0 _ e.1 e.2
+    (rw c.in-ReplayLog.is (inr (text, held, said.refused, said.unwritten)))
+
+pub returns-in_err-finding-in-ReplayInvariants-clause-refused : goal.returns-in_err-finding-in-ReplayInvariants-clause-refused
+returns-in_err-finding-in-ReplayInvariants-clause-refused g c =
+    let e = err_from_is_err_and c.from_residual-in_err-finding-in-ReplayInvariants.result c.from_residual-in_err-finding-in-ReplayInvariants.ensures.1 in
+    let text = c.as_slice-in-ReplayInvariants.result.now in
+    let held = subst (g.F.Store.holds c.args.store.now c.in-ReplayInvariants.file.now) (sym c.as_slice-in-ReplayInvariants.ensures.value) c.in_ok-declared-in-ReplayInvariants.ensures.ok in
+    let said = c.in_err-finding-in-ReplayInvariants.ensures in
+    err_so c.from_residual-in_err-finding-in-ReplayInvariants.result e.0 c.in_err-finding-in-ReplayInvariants.field-0.0 _ e.1 e.2
+    (rw c.in-ReplayInvariants.is (inr (text, held, said.refused, said.unwritten)))
+
 pub returns-in_err-answer-in-Monitor-clause-refused : goal.returns-in_err-answer-in-Monitor-clause-refused
 returns-in_err-answer-in-Monitor-clause-refused g c =
     let e = err_from_is_err_and c.from_residual-in_err-answer-in-Monitor.result c.from_residual-in_err-answer-in-Monitor.ensures.1 in

@@ -2,7 +2,7 @@ use Rattle.std.proofs.Common.{ap, sym, ◌∙◌, Some, codes, refl}
 use Rattle.clap.specs.Words.{found_of}
 use Rattle.clap.proofs.WalkLemmas.{first_value-rows}
 use Rattle.ioac.specs.declared.request.Request.{Request}
-use Rattle.ioac.proofs.Asked.{apart, asks, lent, names, uncoded, unfiled}
+use Rattle.ioac.proofs.Asked.{apart, asks, lent, names, uncoded, unfiled, unlogged}
 use Rattle.ioac.proofs.request.read_request.Goals as goal
 
 pub returns-in_err-file-in-replay-clause-none : goal.returns-in_err-file-in-replay-clause-none
@@ -55,16 +55,35 @@ returns-in_ok-code-in-explain-clause-some c =
     asks c.args.matches.now found (codes "explain") (Request.Explain c.in_ok-code-in-explain.code) here
     (refl, sym (first_value-rows (found_of found) (codes "CODE")) ∙ sym c.in_ok-word-in-explain.ensures ∙ ap Some c.in_ok-code-in-explain.ensures.some)
 
-pub returns-then-is_set-clause-some : goal.returns-then-is_set-clause-some
-returns-then-is_set-clause-some c =
+pub returns-in-true-true-clause-some : goal.returns-in-true-true-clause-some
+returns-in-true-true-clause-some c =
     let found = c.in_ok-name.found.now in
     let here = lent c.args.matches.now found c.in_ok-name.name.now (codes "replay") c.in_ok-name.ensures.name c.in_ok-name.ensures.rows c.in-replay.is in
-    asks c.args.matches.now found (codes "replay") (Request.ReplayLog c.in_ok-file-in-replay.file c.get_str-composition.result) here
-    (refl, sym c.if-is_set.ensures, names found c.in_ok-file-in-replay.file c.get_str-composition.result c.in_ok-file-in-replay.ensures c.get_str-composition.ensures)
+    asks c.args.matches.now found (codes "replay") (Request.ReplayInvariants c.in_ok-file-in-replay.file c.get_str-composition.result) here (
+      (refl, sym c.in-true-true.ensures, sym c.in-true-true.ensures'),
+      names found c.in_ok-file-in-replay.file c.get_str-composition.result c.in_ok-file-in-replay.ensures c.get_str-composition.ensures,
+    )
 
-pub returns-else-is_set-clause-some : goal.returns-else-is_set-clause-some
-returns-else-is_set-clause-some c =
+pub returns-in-true-false-clause-some : goal.returns-in-true-false-clause-some
+returns-in-true-false-clause-some c =
     let found = c.in_ok-name.found.now in
     let here = lent c.args.matches.now found c.in_ok-name.name.now (codes "replay") c.in_ok-name.ensures.name c.in_ok-name.ensures.rows c.in-replay.is in
-    asks c.args.matches.now found (codes "replay") (Request.Replay c.in_ok-file-in-replay.file c.get_str-composition.result) here
-    (refl, sym c.if-is_set.ensures, names found c.in_ok-file-in-replay.file c.get_str-composition.result c.in_ok-file-in-replay.ensures c.get_str-composition.ensures)
+    asks c.args.matches.now found (codes "replay") (Request.ReplayLog c.in_ok-file-in-replay.file c.get_str-composition.result) here (
+      (refl, sym c.in-true-false.ensures, sym c.in-true-false.ensures'),
+      names found c.in_ok-file-in-replay.file c.get_str-composition.result c.in_ok-file-in-replay.ensures c.get_str-composition.ensures,
+    )
+
+pub returns-in-false-false-clause-some : goal.returns-in-false-false-clause-some
+returns-in-false-false-clause-some c =
+    let found = c.in_ok-name.found.now in
+    let here = lent c.args.matches.now found c.in_ok-name.name.now (codes "replay") c.in_ok-name.ensures.name c.in_ok-name.ensures.rows c.in-replay.is in
+    asks c.args.matches.now found (codes "replay") (Request.Replay c.in_ok-file-in-replay.file c.get_str-composition.result) here (
+      (refl, sym c.in-false-false.ensures, sym c.in-false-false.ensures'),
+      names found c.in_ok-file-in-replay.file c.get_str-composition.result c.in_ok-file-in-replay.ensures c.get_str-composition.ensures,
+    )
+
+pub returns-in-false-true-clause-none : goal.returns-in-false-true-clause-none
+returns-in-false-true-clause-none c =
+    let found = c.in_ok-name.found.now in
+    let here = lent c.args.matches.now found c.in_ok-name.name.now (codes "replay") c.in_ok-name.ensures.name c.in_ok-name.ensures.rows c.in-replay.is in
+    unlogged c.args.matches.now found here (sym c.in-false-true.ensures) (sym c.in-false-true.ensures')
