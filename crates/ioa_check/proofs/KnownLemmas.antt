@@ -12,9 +12,7 @@ use Rattle.ioa_value.specs.Shapes.{place}
 use Rattle.ioa_value.specs.Table.{Table, names_in, shape_at, place_from, type_named, constant_from, constant_named}
 use Rattle.ioa_value.proofs.PlaceLemmas.{place_from_below}
 use Rattle.ioa_syntax.specs.Types.{constant_type}
-
-below : (k m : ℕ) → k < m → nat_lt k m ≡ true
-below k m h = grind (arith, nat_tests)
+use Rattle.ioa_syntax.proofs.Complete.{lt_holds}
 
 not_below : (k m : ℕ) → m ≤ k → nat_lt k m ≡ false
 not_below k m h = grind (arith, nat_tests)
@@ -36,7 +34,7 @@ place_first i (suc n) (y ∷ ys) x = go (bytes_eq y x) (place_first (i + 1) n ys
   where
     go : (b : Bool) → place_from (i + 1) (take n ys) x ≡ only (i + 1 + n) (place_from (i + 1) ys x)
         → cond b (Some i) (place_from (i + 1) (take n ys) x) ≡ only (i + suc n) (cond b (Some i) (place_from (i + 1) ys x))
-    go true r = sym (ap (λ c. cond c (Some i) None) (below i (i + suc n) (omega arith)))
+    go true r = sym (ap (λ c. cond c (Some i) None) (lt_holds i (i + suc n) (omega arith)))
     go false r = let same : i + 1 + n ≡ i + suc n = omega arith in r ∙ ap (λ m. only m (place_from (i + 1) ys x)) same
 
 pub type_first : (n : ℕ) (types : Table) (x : Name) → type_named (take n types) x ≡ only n (type_named types x)
@@ -50,7 +48,7 @@ pub named-early : (n : ℕ) (types : Table) (x y : Name) (o : Option Ty) (k : Ty
     → Some k.0 ≡ type_named (take n types) x
 named-early n types x y o k is found same low =
     let whole : Some k.0 ≡ type_named types x = sym (ap (option_map number) is) ∙ found ∙ ap (type_named types) same in
-    sym (type_first n types x ∙ ap (only n) (sym whole) ∙ ap (λ b. cond b (Some k.0) None) (below k.0 n low))
+    sym (type_first n types x ∙ ap (only n) (sym whole) ∙ ap (λ b. cond b (Some k.0) None) (lt_holds k.0 n low))
 
 pub named-late : (n : ℕ) (types : Table) (x y : Name) (o : Option Ty) (k : Ty) → o ≡ Some k → option_map number o ≡ type_named types y → y ≡ x → n ≤ k.0
     → None ≡ type_named (take n types) x
@@ -92,7 +90,7 @@ constant_first i (suc n) (d ∷ ds) x = go (place_from 0 (names_in d.shape) x) (
     go : (o : Option ℕ) → constant_from (i + 1) (take n ds) x ≡ only_place (i + 1 + n) (constant_from (i + 1) ds x)
         → option_or (option_map (λ k. (i, k)) o) (constant_from (i + 1) (take n ds) x) ≡ only_place (i + suc n)
         (option_or (option_map (λ k. (i, k)) o) (constant_from (i + 1) ds x))
-    go (Some k) r = sym (ap (λ c. cond c (Some (i, k)) None) (below i (i + suc n) (omega arith)))
+    go (Some k) r = sym (ap (λ c. cond c (Some (i, k)) None) (lt_holds i (i + suc n) (omega arith)))
     go None r = let same : i + 1 + n ≡ i + suc n = omega arith in r ∙ ap (λ m. only_place m (constant_from (i + 1) ds x)) same
 
 pub enumeration_first : (n : ℕ) (types : Table) (x : Name) → constant_type (take n types) x ≡ option_map (λ p. p.0) (only_place n (constant_named types x))
@@ -105,7 +103,7 @@ pub constant-early : (n : ℕ) (types : Table) (x y : Name) (o : Option (Ty × �
 constant-early n types x y o p is found same low =
     let whole : Some (place p) ≡ constant_named types x = sym (ap (option_map place) is) ∙ found ∙ ap (constant_named types) same in
     sym (enumeration_first n types x ∙ ap (λ c. option_map (λ q. q.0) (only_place n c)) (sym whole)
-    ∙ ap (λ b. option_map (λ q. q.0) (cond b (Some (place p)) None)) (below p.0.0 n low))
+    ∙ ap (λ b. option_map (λ q. q.0) (cond b (Some (place p)) None)) (lt_holds p.0.0 n low))
 
 pub constant-late : (n : ℕ) (types : Table) (x y : Name) (o : Option (Ty × ℕ)) (p : Ty × ℕ) → o ≡ Some p → option_map place o ≡ constant_named types y
     → y ≡ x → n ≤ p.0.0 → None ≡ constant_type (take n types) x

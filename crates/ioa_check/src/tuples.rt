@@ -37,7 +37,7 @@ fn has_fields(types: &Types, ty: Ty) -> bool
 }
 
 /// Whether tuples of a type have a field of this type at this place.
-#[tactic(auto, using(ioa_value::proofs::PartLemmas::field_there, ioa_value::proofs::PartLemmas::field_missing))]
+#[tactic(auto, using(ioa_value::proofs::PartLemmas::field_there, ioa_value::proofs::FieldLemmas::type_past))]
 pub(crate) fn is_field(types: &Types, tuple: Ty, place: usize, ty: Ty) -> bool
     ensures { result ≡ is_that (slice_get (field_types types.now tuple.0) place) ty.0 }
 {

@@ -10,8 +10,9 @@ use Rattle.ioa_code.specs.declared.reason.Reason.TheVariants.{NotForward, NotOne
 use Rattle.ioa_code.specs.Valid.{Part, Way, after, Leads, GoForward, Arrives, IsTable, Valid}
 use Rattle.ioa_code.specs.Scan.{Brought, none, some, clash, Verdict, good, bad, same_types, bring, targets, all_forward, onward, at_end, arrived, passed, scan_from, at_first, scan, ScanIsExact}
 use Rattle.ioa_code.specs.Refusal.{Comes, OneComes, TwoCome, NoneComes, IsBegun, Lacks, Refused, RefusalIsExact}
-use Rattle.ioa_code.proofs.Lists.{drop_at, get_before}
+use Rattle.ioa_code.proofs.Lists.{get_before}
 use Rattle.ioa_value.proofs.ItemLemmas.{item_there, get_last}
+use Rattle.ioa_value.proofs.RowLemmas.{drop_there}
 use Rattle.ioa_code.proofs.Ways.{same_types-is, same_types-refl, forward_is, is_forward, Describes, Known, Alike, comes_same, first_known, more_known}
 
 module _ (part : Part) where
@@ -28,7 +29,7 @@ module _ (part : Part) where
   rest i p brought ts = passed p (after part p i ts) (led p brought)
 
   pub scan_at : (p : ℕ) (i : Instr) (brought : ℕ → Brought) → slice_get part.code.instrs p ≡ Some i → scan_from part (drop p part.code.instrs) p brought ≡ arrived p (brought p) (rest i p brought)
-  scan_at p i brought e = ap (λ l. scan_from part l p brought) (drop_at part.code.instrs p i e)
+  scan_at p i brought e = ap (λ l. scan_from part l p brought) (drop_there part.code.instrs p i e)
 
   pub scan_end : (p : ℕ) (brought : ℕ → Brought) → length part.code.instrs ≤ p → scan_from part (drop p part.code.instrs) p brought ≡ at_end part p (brought p)
   scan_end p brought le = ap (λ l. scan_from part l p brought) (drop_all p part.code.instrs le)

@@ -13,6 +13,7 @@ use Rattle.ioa_value.specs.Table.{Table, AreTypes}
 use Rattle.ioa_value.specs.Typing.{HaveTypes}
 use Rattle.ioa_value.proofs.PositionLemmas.{all_take-typed}
 use Rattle.ioa_value.proofs.TypingLemmas.{HaveTypes-length}
+use Rattle.ioa_value.proofs.NameLemmas.{outside_both}
 use Rattle.ioa_code.specs.Machine.{State, End, done, fault}
 use Rattle.ioa_code.specs.Outcome.{outcome}
 use Rattle.ioa_code.specs.Valid.{Part}
@@ -31,6 +32,7 @@ use Rattle.ioa_syntax.specs.WellFormed.{Context, contains, local_names, paramete
 use Rattle.ioa_syntax.proofs.Domains.{domains_have}
 use Rattle.ioa_syntax.proofs.ValTyped.{val_typed}
 use Rattle.ioa_compose.specs.Fine.{IsFine, component_limits}
+use Rattle.ioa_compose.proofs.SpelledNames.{or_none}
 use Rattle.ioa_code.specs.declared.instr.PartKind.TheVariants.{Pre}
 use Rattle.ioa_compile.specs.Programs.{EntryCode, MemberCode}
 use Rattle.ioa_compile.specs.Tables.{allows, entry_of, table_component, position_types}
@@ -40,7 +42,7 @@ use Rattle.ioa_compile.specs.Placed.{HasStmts}
 use Rattle.ioa_compile.specs.CodeEnds.{required, GuardEnds, EffectEnds}
 use Rattle.ioa_compile.specs.Matching.{AreTypesOf, MatchesEntry}
 use Rattle.ioa_compile.specs.Translated.{IsGuard, IsGuardFor, codes_of, IsEntryOf, IsTranslated, IsFor}
-use Rattle.ioa_compile.proofs.Looks.{look, values_look, or_else-none, look_outside, look_inside, outside_both, distinct_apart, apart_outside}
+use Rattle.ioa_compile.proofs.Looks.{look, values_look, look_outside, look_inside, distinct_apart, apart_outside}
 use Rattle.ioa_compile.proofs.Parameters.{passed, passed_outside, values_passed}
 use Rattle.ioa_compile.proofs.Standing.{stands}
 use Rattle.ioa_compile.proofs.Fits.{fit_have, have_fit}
@@ -93,9 +95,9 @@ enabling-required types (Some e) env = refl
 
 swapped : (f p v : Option Val) → (v ≡ None) ⊎ ((f ≡ None) × (p ≡ None)) → or_else f (or_else p v) ≡ or_else v (or_else f p)
 swapped f p v (inl e) =
-    ap (λ o. or_else f (or_else p o)) e ∙ ap (or_else f) (or_else-none p) ∙ sym (ap (λ o. or_else o (or_else f p)) e)
+    ap (λ o. or_else f (or_else p o)) e ∙ ap (or_else f) (or_none p) ∙ sym (ap (λ o. or_else o (or_else f p)) e)
 swapped f p v (inr e) =
-    ap (λ o. or_else o (or_else p v)) e.0 ∙ ap (λ o. or_else o v) e.1 ∙ sym (ap (λ o. or_else v (or_else o p)) e.0 ∙ ap (or_else v) e.1 ∙ or_else-none v)
+    ap (λ o. or_else o (or_else p v)) e.0 ∙ ap (λ o. or_else o v) e.1 ∙ sym (ap (λ o. or_else v (or_else o p)) e.0 ∙ ap (or_else v) e.1 ∙ or_none v)
 
 module _ (m : Member) (e : EntryTree) (vs ps : List ℕ) (h : Setting m e vs ps) (args : List Val) (values : HaveTypes m.instance.types args ps) where
   separate : (x : Name) → (contains (variable_names m.instance.automaton) x ≡ false) ⊎ ((contains (field_names m.instance.automaton.formals) x ≡ false) × (contains (parameter_names e) x ≡ false))

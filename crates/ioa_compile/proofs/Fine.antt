@@ -16,6 +16,7 @@ use Rattle.ioa_value.specs.Typing.{HaveTypes, own}
 use Rattle.ioa_value.specs.declared.limits.TheConstants.{LIMITS}
 use Rattle.ioa_value.proofs.ItemLemmas.{all_at, some_at}
 use Rattle.ioa_value.proofs.TypingLemmas.{HaveTypes-length, HaveTypes-owns}
+use Rattle.ioa_value.proofs.NameLemmas.{same_name}
 use Rattle.ioa_syntax.specs.declared.tree.Kind.{Kind}
 use Rattle.ioa_syntax.specs.declared.tree.Kind.TheVariants.{Input, Output, Internal}
 use Rattle.ioa_syntax.specs.Tree.{Expr, number, truth, named, parens, prefix, binary, empty, make, select, Exprs, no_expr, also, Stmt, assign, choose, Stmts, stop, seq, Arms, no_arm, arm, AutomatonTree, EntryTree, TransitionTree}
@@ -34,7 +35,7 @@ use Rattle.ioa_compile.specs.Emitting.{guard_nodes}
 use Rattle.ioa_compile.specs.Matching.{AreTypesOf}
 use Rattle.ioa_compile.specs.Tables.{position_types}
 use Rattle.ioa_compile.specs.Translated.{IsEntryOf}
-use Rattle.ioa_compile.proofs.Looks.{look, looks, Looked, same_name, name_same}
+use Rattle.ioa_compile.proofs.Looks.{look, looks, Looked, name_same}
 use Rattle.ioa_compile.proofs.Parameters.{types_of_domains}
 use Rattle.ioa_compile.proofs.Standing.{at, stands, stands_at}
 use Rattle.ioa_compile.proofs.Fits.{fit_types, types_long, scope_look, fields_look, variables_names}

@@ -1,5 +1,5 @@
 -- Values and fields: their types by number.
-use Rattle.std.proofs.Common.{◌≡◌, ℕ, Bool, true, false, cond, List, [], ◌∷◌, ◌++◌, length, Option, Some, refl, sym, ap, ◌∙◌, subst, arith}
+use Rattle.std.proofs.Common.{◌≡◌, ℕ, cond, List, [], ◌∷◌, ◌++◌, length, Option, Some, refl, sym, ap, ◌∙◌, subst, arith}
 use Rattle.std.specs.Option.{option_map_or}
 use Rattle.std.specs.Str.{bytes_eq}
 use Rattle.ioa_value.specs.Actions.{Name}
@@ -15,6 +15,7 @@ use Rattle.ioa_syntax.specs.Meaning.{or_else}
 use Rattle.ioa_syntax.specs.Instances.{Fit, field_names, variable_names}
 use Rattle.ioa_syntax.specs.Compositions.{Member}
 use Rattle.ioa_syntax.specs.WellFormed.{Context, type_in, context_of, position_fields, variable_fields, scope}
+use Rattle.ioa_compose.proofs.RewrittenTypes.{in_both}
 use Rattle.ioa_compile.specs.Scopes.{scope_of}
 use Rattle.ioa_compile.specs.Matching.{AreTypesOf}
 use Rattle.ioa_compile.proofs.Looks.{look, or_else-assoc}
@@ -56,14 +57,6 @@ module _ (types : Table) where
   types_long (f ∷ fs) [] h = absurd h
   types_long (f ∷ fs) (t ∷ ts) h = let e = types_long fs ts h.1 in omega arith
 
-pub type_in-append : (c d : Context) (x : Name) → type_in (c ++ d) x ≡ or_else (type_in c x) (type_in d x)
-type_in-append [] d x = refl
-type_in-append (p ∷ ps) d x = go (bytes_eq p.0 x) (type_in-append ps d x)
-  where
-    go : (b : Bool) → type_in (ps ++ d) x ≡ or_else (type_in ps x) (type_in d x) → cond b (Some p.1) (type_in (ps ++ d) x) ≡ or_else (cond b (Some p.1) (type_in ps x)) (type_in d x)
-    go true e = refl
-    go false e = e
-
 -- a context is the fields' names with their types
 pub fields_look : (types : Table) (fs : List FieldTree) (tys : List ℕ) (x : Name) → AreTypesOf types fs tys → type_in (context_of types fs) x ≡ look (field_names fs) tys x
 fields_look types [] [] x h = refl
@@ -86,8 +79,8 @@ scope_look globals m e vs fs ds x hv hf hp =
     let p = context_of m.instance.types (position_fields e.positions) in
     let v-is : type_in v x ≡ look (variable_names a) vs x = fields_look m.instance.types (variable_fields a) vs x hv ∙ ap (λ ns. look ns vs x) (variables_names a) in
     let f-is : type_in f x ≡ look (field_names a.formals) fs x = fields_look m.instance.types a.formals fs x hf in
-    type_in-append (v ++ f) p x
-    ∙ ap (λ o. or_else o (type_in p x)) (type_in-append v f x)
+    in_both (v ++ f) p x
+    ∙ ap (λ o. or_else o (type_in p x)) (in_both v f x)
     ∙ or_else-assoc (type_in v x) (type_in f x) (type_in p x)
     ∙ ap (λ o. or_else o (or_else (type_in f x) (type_in p x))) v-is
     ∙ ap (λ o. or_else (look (variable_names a) vs x) (or_else o (type_in p x))) f-is

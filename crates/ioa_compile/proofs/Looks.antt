@@ -2,7 +2,6 @@
 use Rattle.std.proofs.Common.{◌≡◌, ℕ, zero, suc, ◌+◌, ◌⊎◌, inl, inr, Bool, true, false, cond, not, ◌||◌, IsTrue, List, [], ◌∷◌, ◌++◌, length, Option, Some, None, refl, sym, ap, ◌∙◌, subst, arith}
 use Rattle.std.specs.Prelude.{slice_get, slice_set}
 use Rattle.std.specs.Str.{bytes_eq}
-use Rattle.std.proofs.lemmas.List.Folds.{list_any-append}
 use Rattle.std.proofs.lemmas.Slice.Eq.{bytes_eq-Decides}
 use Rattle.ioa_value.specs.Actions.{Name}
 use Rattle.ioa_value.specs.Plain.{Val}
@@ -13,9 +12,7 @@ use Rattle.ioa_value.specs.Table.{Table, place_from}
 use Rattle.ioa_syntax.specs.WellFormed.{contains, distinct, apart}
 use Rattle.ioa_value.proofs.PlaceLemmas.{place_from_below}
 use Rattle.std.proofs.lemmas.Bool.{and_parts}
-
-pub same_name : (x y : Name) → bytes_eq x y ≡ true → x ≡ y
-same_name x y e = (bytes_eq-Decides x y).0 e
+use Rattle.ioa_value.proofs.NameLemmas.{same_name, outside_both}
 
 pub name_same : (x y : Name) → x ≡ y → bytes_eq x y ≡ true
 name_same x y e = (bytes_eq-Decides x y).1 e
@@ -33,10 +30,6 @@ pub values_look : (ns : List Name) (vs : List Val) (x : Name) → values_of ns v
 values_look [] vs x = refl
 values_look (n ∷ ns) [] x = refl
 values_look (n ∷ ns) (v ∷ vs) x = ap (cond (bytes_eq n x) (Some v)) (values_look ns vs x)
-
-pub or_else-none : {V : Type 0} (o : Option V) → or_else o None ≡ o
-or_else-none None = refl
-or_else-none (Some v) = refl
 
 pub or_else-assoc : {V : Type 0} (a b c : Option V) → or_else (or_else a b) c ≡ or_else a (or_else b c)
 or_else-assoc None b c = refl
@@ -116,24 +109,9 @@ look_inside {V} (n ∷ ns) (v ∷ vs) x e h = go (bytes_eq n x) h (look_inside n
     go true h r = (v, refl)
     go false h r = r h
 
-pub place_inside : (i : ℕ) (ns : List Name) (x : Name) (k : ℕ) → place_from i ns x ≡ Some k → contains ns x ≡ true
-place_inside i [] x k e = absurd (cc)
-place_inside i (n ∷ ns) x k e = go (bytes_eq n x) e (place_inside (i + 1) ns x k)
-  where
-    go : (b : Bool) → cond b (Some i) (place_from (i + 1) ns x) ≡ Some k → (place_from (i + 1) ns x ≡ Some k → contains ns x ≡ true) → (b || contains ns x) ≡ true
-    go true e r = refl
-    go false e r = r e
-
 pub not_true : (b : Bool) → IsTrue (not b) → b ≡ false
 not_true true h = absurd (cc)
 not_true false h = refl
-
-pub or_false : (a b : Bool) → (a || b) ≡ false → (a ≡ false) × (b ≡ false)
-or_false true b h = absurd (cc)
-or_false false b h = (refl, h)
-
-pub outside_both : (ms bs : List Name) (x : Name) → contains (ms ++ bs) x ≡ false → (contains ms x ≡ false) × (contains bs x ≡ false)
-outside_both ms bs x h = or_false (contains ms x) (contains bs x) (sym (list_any-append (λ n. bytes_eq n x) ms bs) ∙ h)
 
 -- names that are distinct are in one of two parts
 pub distinct_apart : (ms bs : List Name) (x : Name) → IsTrue (distinct (ms ++ bs)) → contains ms x ≡ true → contains bs x ≡ false

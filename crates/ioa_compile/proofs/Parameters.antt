@@ -6,6 +6,7 @@ use Rattle.std.specs.Str.{bytes_eq}
 use Rattle.std.proofs.lemmas.Iterator.Adapters.{position_from-zero}
 use Rattle.std.proofs.lemmas.List.{length-map}
 use Rattle.std.proofs.lemmas.Slice.Zip.{AllZip-long}
+use Rattle.std.proofs.lemmas.Bool.{or_parts}
 use Rattle.ioa_value.specs.Actions.{Name}
 use Rattle.ioa_value.specs.Plain.{Val}
 use Rattle.ioa_value.specs.Positions.{Domain, every, single, domain_type}
@@ -21,7 +22,7 @@ use Rattle.ioa_syntax.specs.View.{name_of, position_of}
 use Rattle.ioa_syntax.specs.WellFormed.{Context, type_in, context_of, contains}
 use Rattle.ioa_compile.specs.Scopes.{parameter_from}
 use Rattle.ioa_compile.specs.Tables.{position_types}
-use Rattle.ioa_compile.proofs.Looks.{Looked, looked_first, Paired, paired_first, or_false}
+use Rattle.ioa_compile.proofs.Looks.{Looked, looked_first, Paired, paired_first}
 
 -- what stands for the parameter of this name, among what stands in all positions
 abbrev pub passed : {V : Type 0} → List PositionTree → List V → Name → Option V
@@ -50,7 +51,7 @@ pub passed_outside : {V : Type 0} (ps : List PositionTree) (vs : List V) (x : Na
 passed_outside ps [] x h = refl
 passed_outside [] (v ∷ vs) x h = refl
 passed_outside (typed f ∷ ps) (v ∷ vs) x h =
-    let parts = or_false (bytes_eq f.name x) (contains (field_names (position_fields ps)) x) h in
+    let parts = or_parts (bytes_eq f.name x) (contains (field_names (position_fields ps)) x) h in
     ap (λ b. cond b (Some v) (passed ps vs x)) parts.0 ∙ passed_outside ps vs x parts.1
 passed_outside (only c ∷ ps) (v ∷ vs) x h = passed_outside ps vs x h
 

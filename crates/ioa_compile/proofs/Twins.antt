@@ -1,12 +1,11 @@
 -- An action has the same entry, and so the same kind, in the table as in the automaton.
-use Rattle.std.proofs.Common.{All, ◌≡◌, ℕ, zero, suc, ◌*◌, ◌≤◌, ◌⊎◌, inl, inr, Bool, true, false, cond, ◌&&◌, List, [], ◌∷◌, length, map, Option, Some, None, IfSome, refl, sym, ap, ◌∙◌, subst, arith}
+use Rattle.std.proofs.Common.{All, ◌≡◌, ℕ, suc, ◌*◌, ◌≤◌, ◌⊎◌, inl, inr, Bool, true, false, cond, ◌&&◌, List, [], ◌∷◌, length, map, Option, Some, None, IfSome, refl, sym, ap, ◌∙◌, subst, arith}
 use Rattle.std.specs.Prelude.{slice_get}
 use Rattle.std.specs.List.{AllZip, find, list_any, list_all}
 use Rattle.std.specs.Option.{option_map}
 use Rattle.std.specs.Str.{bytes_eq}
 use Rattle.std.proofs.lemmas.List.{length-map}
-use Rattle.std.proofs.lemmas.List.Elements.{All-get_or}
-use Rattle.std.proofs.lemmas.Option.{slice_get-map, slice_get_within, get_or_from_slice_get}
+use Rattle.std.proofs.lemmas.Option.{slice_get-map}
 use Rattle.ioa_value.specs.Actions.{Name, Act}
 use Rattle.ioa_value.specs.Names.{IsName}
 use Rattle.ioa_value.specs.Plain.{Val}
@@ -36,6 +35,8 @@ use Rattle.ioa_compile.specs.Translated.{IsGuard, IsGuardFor, IsFor, codes_of, I
 use Rattle.ioa_compile.proofs.Fine.{small_of, few_positions_of, domains_of}
 use Rattle.ioa_syntax.proofs.Domains.{domains_have}
 use Rattle.ioa_syntax.proofs.FineParts.{fine_parts, within_parts}
+use Rattle.ioa_compose.proofs.QuestionLemmas.{all_found}
+use Rattle.ioa_compose.proofs.SignatureLemmas.{zip-to}
 use Rattle.ioa_compile.proofs.Fits.{types_long, variables_names}
 use Rattle.ioa_compile.proofs.Paired.{paired_map, paired_any, any_seen, all_same}
 use Rattle.ioa_compile.proofs.Parameters.{domains_long}
@@ -81,10 +82,6 @@ module _ (m : Member) (slots : List ℕ) (a : Act) where
       ap (option_map (λ e. e.kind)) r.entry_is ∙ ap Some (sym r.same.kind) ∙ sym (ap (option_map (λ c. c.kind)) r.code_is)
   kinds_same es o p (inr r) = ap (option_map (λ e. e.kind)) r.no_entry ∙ sym (ap (option_map (λ c. c.kind)) r.no_code)
 
--- what holds of all items, at one
-all_item : {X : Type 0} (P : X → Type 0) (xs : List X) (i : ℕ) (x : X) → All P xs → slice_get xs i ≡ Some x → P x
-all_item P xs i x h e = subst P (get_or_from_slice_get xs i x x e) (All-get_or P xs i x (slice_get_within xs i x e) h)
-
 -- the table's parts are for the component's variables, and short, since the trees are small
 module _ (m : Member) (c : MemberCode) (fine : IsFine component_limits m) (same_types : c.start.table ≡ m.instance.types) where
   part_of : (e : EntryCode) (k : PartKind) (end : List ℕ) (p : Part) → IsFor p m.instance.types k end c.start.types (position_types e.positions) → length p.code.instrs ≤ 4 * component_limits.nodes → IsPartOf c e k end p
@@ -122,7 +119,7 @@ module _ (m : Member) (c : MemberCode) (fine : IsFine component_limits m) (same_
       let positions = few_positions_of m t fine own in
       let as_many = domains_long m.instance t.positions e.positions h.positions in
       record {
-        legal = subst IsName (sym h.name) (all_item (λ u. IsName u.name) m.instance.automaton.entries own.place t fine.legal_entries own.here);
+        legal = subst IsName (sym h.name) (all_found (λ u. IsName u.name) m.instance.automaton.entries own.place t fine.legal_entries own.here);
         few_positions = omega arith;
         positions = subst (λ l. All (IsDomain l) e.positions) (sym same_types) (domains_of m t fine own e.positions (subst AreTypes h.effect.types_are h.effect.verified.types) h.positions);
         pre = subst (λ k. HasPre c e k e.pre) (sym h.kind) (has_pre e t.kind e.pre (scope_of m t) r.pre few.guard made.pre h.pre);
@@ -156,13 +153,6 @@ module _ (m : Member) (c : MemberCode) (fine : IsFine component_limits m) (same_
 
 -- ---- all components
 
-zip_back : {X Y : Type 0} (R : X → Y → Type 0) (xs : List X) (ys : List Y) (i : ℕ) (y : Y) → AllZip R xs ys → slice_get ys i ≡ Some y → (x : X) × (slice_get xs i ≡ Some x) × R x y
-zip_back R [] [] i y h e = absurd (cc)
-zip_back R [] (z ∷ zs) i y h e = absurd h
-zip_back R (x ∷ xs) [] i y h e = absurd h
-zip_back R (x ∷ xs) (z ∷ zs) zero y h e = let same : z ≡ y = cc in (x, refl, subst (R x) same h.0)
-zip_back R (x ∷ xs) (z ∷ zs) (suc i) y h e = zip_back R xs zs i y h.1 e
-
 mapped : {X Y : Type 0} (f : X → Y) (o : Option X) (y : Y) → option_map f o ≡ Some y → (x : X) × (o ≡ Some x) × (f x ≡ y)
 mapped f None y e = absurd (cc)
 mapped f (Some x) y e = let same : f x ≡ y = cc in (x, refl, same)
@@ -172,7 +162,7 @@ module _ (ms : List Member) (cs : List MemberCode) (h : AllZip DoesSame ms cs) w
   twin : (i : ℕ) (p : Component (List Val)) → slice_get (map table_component cs) i ≡ Some p → (m : Member) × (slice_get (map (λ m. component_of m.instance) ms) i ≡ Some (component_of m.instance)) × ((a : Act) → (component_of m.instance).kind_of a ≡ p.kind_of a)
   twin i p e =
       let c = mapped table_component (slice_get cs i) p (sym (slice_get-map table_component cs i) ∙ e) in
-      let z = zip_back DoesSame ms cs i c.0 h c.1 in
+      let z = zip-to DoesSame ms cs i c.0 h c.1 in
       (z.0, slice_get-map (λ m. component_of m.instance) ms i ∙ ap (option_map (λ m. component_of m.instance)) z.1, λ a. z.2.like.kinds a ∙ ap (λ (q : Component (List Val)). q.kind_of a) c.2)
 
   pub compatible_same : Compatible (map (λ m. component_of m.instance) ms) → Compatible (map table_component cs)

@@ -1,15 +1,18 @@
 -- The rewritten tree means the component that crashes and recovers.
-use Rattle.std.proofs.Common.{◌≡◌, Bool, true, false, not, cond, ◌||◌, List, [], ◌∷◌, ◌++◌, length, Option, Some, None, Result, Ok, Err, refl, sym, ap, subst, ◌∙◌, true≢false, codes}
+use Rattle.std.proofs.Common.{◌≡◌, Bool, true, false, cond, List, [], ◌∷◌, ◌++◌, length, Option, Some, None, Result, Ok, Err, refl, sym, ap, subst, ◌∙◌, true≢false, codes}
 use Rattle.std.specs.List.{list_all}
 use Rattle.std.specs.Option.{option_map, option_map_or}
 use Rattle.std.specs.Str.{bytes_eq}
-use Rattle.std.proofs.lemmas.Bool.{and_parts, or_right}
+use Rattle.std.proofs.lemmas.Bool.{and_parts, or_right, not_from_false}
 use Rattle.std.proofs.lemmas.List.Folds.{list_any-append}
 use Rattle.ioa_value.specs.declared.arithmetic.Fault.{Fault}
 use Rattle.ioa_value.specs.Actions.{Name, Act}
 use Rattle.ioa_value.specs.Plain.{Val, truth as truth_value}
 use Rattle.ioa_value.specs.Operators.{gives}
-use Rattle.ioa_value.specs.Table.{Table, contains, distinct}
+use Rattle.ioa_value.specs.Table.{Table, contains}
+use Rattle.ioa_value.proofs.NameLemmas.{not_true}
+use Rattle.ioa_value.proofs.NamedLemmas.{not_given}
+use Rattle.ioa_value.proofs.ItemLemmas.{find_both}
 use Rattle.ioa_syntax.specs.declared.tree.Infix.TheVariants.{And}
 use Rattle.ioa_syntax.specs.Tree.{Expr, Stmts, CrashTree, EntryTree, VariableTree, TransitionTree}
 use Rattle.ioa_syntax.specs.Names.{names_of_option, names_of_entry, names_of_transition}
@@ -24,7 +27,7 @@ use Rattle.ioa_syntax.proofs.Agreement.{val_same, OutcomesLike, eff_like}
 use Rattle.ioa_syntax.proofs.FineParts.{entry_parts}
 use Rattle.ioa_compose.specs.Rewriting.{spelled, up_name, start_name, up_variable, volatile, volatile_values, only_up, if_up, guarded, signal_entry, resets, recover_transition, rewritten, crashing, crashing_starts}
 use Rattle.ioa_compose.specs.Crashes.{Corresponds, MayCrash, MeansCrash, RewritingMeansCrash}
-use Rattle.ioa_compose.proofs.SpelledNames.{not_both, not_true, is_not, or_none, same_name, absent, known, appended, all_of, apart_from, found_passes, unspelled, none_unspelled}
+use Rattle.ioa_compose.proofs.SpelledNames.{not_both, or_none, absent, known, appended, all_of, apart_from, unspelled, none_unspelled}
 use Rattle.ioa_compose.proofs.SpelledTrees.{parameters_spelled, parts_spelled}
 use Rattle.ioa_compose.proofs.RewrittenNames.{names_of, volatile_length, volatile_among, names_more, behind, Matches, matches_kept, kept_up, kept_more, kept_at, kept_not, names, starts_length, formals_same, formals_start, up_stands, entry_matches}
 use Rattle.ioa_compose.proofs.RewrittenEntries.{parts, local_kinds, crash_found, recover_found, others_found, found_kind, View, crashes, recovers, within, neither, view}
@@ -63,21 +66,6 @@ up_does types ss m u = rw u (then_becomes (eff types ss m))
 down_does : (types : Table) (ss : Stmts) (m : Env) → m up_name ≡ Some (truth_value false) → eff types (if_up ss) m ≡ becomes m
 down_does types ss m u = rw u refl
 
--- ---- names that are apart
-
-distinct_apart : (xs ys : List Name) (x : Name) → distinct (xs ++ ys) ≡ true → contains ys x ≡ true → contains xs x ≡ false
-distinct_apart [] ys x d h = refl
-distinct_apart (z ∷ zs) ys x d h =
-    let p = and_parts (not (contains (zs ++ ys) z)) (distinct (zs ++ ys)) d in
-    go (bytes_eq z x) refl (not_true (contains (zs ++ ys) z) p.0) (distinct_apart zs ys x p.1 h)
-  where
-    there : contains (zs ++ ys) x ≡ true
-    there = list_any-append (λ n. bytes_eq n x) zs ys ∙ or_right (contains zs x) (contains ys x) h
-
-    go : (b : Bool) → bytes_eq z x ≡ b → contains (zs ++ ys) z ≡ false → contains zs x ≡ false → (b || contains zs x) ≡ false
-    go true e free more = not_both (contains (zs ++ ys) x) there (ap (contains (zs ++ ys)) (sym (same_name z x e)) ∙ free)
-    go false e free more = more
-
 -- ---- start values
 
 all_same : (f g : VariableTree → Result Val Fault) (p : VariableTree → Bool) (vs : List VariableTree) → list_all p vs ≡ true
@@ -110,7 +98,7 @@ module _ (n : CrashTree) (i : Instance) (starts : List Val) (h : MayCrash n i st
   variable_spelled x k = all_of spelled (variable_names i.automaton) x (names n i starts h).variables k
 
   no_formal : (x : Name) → contains (variable_names i.automaton) x ≡ true → contains (field_names i.automaton.formals) x ≡ false
-  no_formal x k = distinct_apart (field_names i.automaton.formals) (variable_names i.automaton) x (parts n i starts h).distinct_names k
+  no_formal x k = not_given (field_names i.automaton.formals) (variable_names i.automaton) x (parts n i starts h).distinct_names k
 
   -- what an environment leaves of the variables, and of `#up`
   made : (b : Bool) (inner m : Env) → m up_name ≡ Some (truth_value b)
@@ -152,11 +140,11 @@ module _ (n : CrashTree) (i : Instance) (starts : List Val) (h : MayCrash n i st
   module _ (a : Act) (e : EntryTree) (q : entry_for i a ≡ Some e) (no_crash : bytes_eq n.crash e.name ≡ false) (no_recover : bytes_eq n.recover e.name ≡ false)
       (s : HostState Env) (t : Env) (k : Corresponds i.automaton s t) where
     fine : list_all spelled (field_names (position_fields e.positions)) ≡ true
-    fine = parameters_spelled e (found_passes (entry_has i a) (λ d. list_all spelled (names_of_entry d)) i.automaton.entries e q (names n i starts h).entries)
+    fine = parameters_spelled e (find_both (entry_has i a) (λ d. list_all spelled (names_of_entry d)) i.automaton.entries e q (names n i starts h).entries).1
 
     no_parameter : (x : Name) → contains (variable_names i.automaton) x ≡ true → values_of (field_names (position_fields e.positions)) (parameter_values e.positions a.vals) x ≡ None
     no_parameter x c =
-        let own = entry_parts i.types i.types h.automaton.0 i.automaton e (found_passes (entry_has i a) (entry_fine i.types i.types h.automaton.0 i.automaton) i.automaton.entries e q (parts n i starts h).entries) in
+        let own = entry_parts i.types i.types h.automaton.0 i.automaton e (find_both (entry_has i a) (entry_fine i.types i.types h.automaton.0 i.automaton) i.automaton.entries e q (parts n i starts h).entries).1 in
         let local = field_names i.automaton.formals ++ variable_names i.automaton in
         let inner : contains local x ≡ true = list_any-append (λ y. bytes_eq y x) (field_names i.automaton.formals) (variable_names i.automaton) ∙ or_right (contains (field_names i.automaton.formals) x) (contains (variable_names i.automaton) x) c in
         let there : contains (h.automaton.0 ++ local) x ≡ true = list_any-append (λ y. bytes_eq y x) h.automaton.0 local ∙ or_right (contains h.automaton.0 x) (contains local x) inner in
@@ -166,7 +154,7 @@ module _ (n : CrashTree) (i : Instance) (starts : List Val) (h : MayCrash n i st
     matches = entry_matches n i starts h e fine a.vals s t k
 
     spelled_parts : (u : TransitionTree) → transition_for i.automaton e ≡ Some u → list_all spelled (names_of_transition u) ≡ true
-    spelled_parts u f = found_passes (λ v. bytes_eq v.name e.name) (λ v. list_all spelled (names_of_transition v)) i.automaton.transitions u f (names n i starts h).transitions
+    spelled_parts u f = (find_both (λ v. bytes_eq v.name e.name) (λ v. list_all spelled (names_of_transition v)) i.automaton.transitions u f (names n i starts h).transitions).1
 
     asks_like : is_local (Some e.kind) ≡ true → asks (crashing n i starts) a.vals t e ≡ cond s.up (asks i a.vals s.inner e) (Ok false)
     asks_like local =
@@ -234,7 +222,7 @@ module _ (n : CrashTree) (i : Instance) (starts : List Val) (h : MayCrash n i st
             (sym (down_does i.types u.effect m (matches.up ∙ ap (λ (b : Bool). Some (truth_value b)) down)))
             (made s.up s.inner m matches.up
             (λ x c. k.agree x (variable_spelled x c) ∙ sym (variable_stands e a.vals t x c (no_parameter x c)))
-            k.present (λ x c. k.others x (is_not (contains (variable_names i.automaton) x) c)))
+            k.present (λ x c. k.others x (not_from_false (contains (variable_names i.automaton) x) c)))
 
     makes_like : AreLike (Corresponds i.automaton) (cond s.up (when_ok (host_state true) (makes i a.vals s.inner e)) (Ok s)) (makes (crashing n i starts) a.vals t e)
     makes_like = go s.up refl
@@ -305,7 +293,7 @@ module _ (n : CrashTree) (i : Instance) (starts : List Val) (h : MayCrash n i st
         none_at : (x : Name) → contains (variable_names i.automaton) x ≡ false → (b : Bool) → contains volatile_names x ≡ b
             → reset_to i.automaton.variables starts s.inner x ≡ None
         none_at x c true z = not_both (contains (variable_names i.automaton) x) (volatile_among i.automaton.variables x z) c
-        none_at x c false z = stays x z ∙ k.others x (is_not (contains (variable_names i.automaton) x) c)
+        none_at x c false z = stays x z ∙ k.others x (not_from_false (contains (variable_names i.automaton) x) c)
 
     abbrev called : Env
     called = environment (crashing n i starts) (signal_entry n.recover) vs t
@@ -325,7 +313,7 @@ module _ (n : CrashTree) (i : Instance) (starts : List Val) (h : MayCrash n i st
         (made true s.inner (with_name called up_name (truth_value true)) refl
         (λ x c. k.agree x (variable_spelled x c) ∙ sym (variable_stands (signal_entry n.recover) vs t x c refl)
         ∙ sym (ap (λ b. cond b (Some (truth_value true)) (called x)) (unspelled (codes "up") x (variable_spelled x c))))
-        k.present (λ x c. k.others x (is_not (contains (variable_names i.automaton) x) c))))
+        k.present (λ x c. k.others x (not_from_false (contains (variable_names i.automaton) x) c))))
 
   -- ---- the component
 

@@ -6,6 +6,7 @@ use Rattle.std.proofs.lemmas.Bool.{and_parts}
 use Rattle.ioa_value.specs.Actions.{Name}
 use Rattle.ioa_value.specs.Plain.{Val}
 use Rattle.ioa_value.specs.Table.{Table, contains}
+use Rattle.ioa_value.proofs.NameLemmas.{same_name, not_true}
 use Rattle.ioa_syntax.specs.Names.{names_of_expr}
 use Rattle.ioa_syntax.specs.Tree.{Expr, VariableTree}
 use Rattle.ioa_syntax.specs.Meaning.{or_else, values_of, over}
@@ -16,7 +17,7 @@ use Rattle.ioa_syntax.proofs.Agreement.{val_same}
 use Rattle.ioa_syntax.proofs.TypeAgreement.{type_same}
 use Rattle.ioa_compose.specs.Questions.{first_of}
 use Rattle.ioa_compose.specs.Rewriting.{spelled}
-use Rattle.ioa_compose.proofs.SpelledNames.{same_name, not_both, not_true, absent}
+use Rattle.ioa_compose.proofs.SpelledNames.{not_both, absent}
 use Rattle.ioa_compose.proofs.RewrittenTypes.{in_both, foreign, names_of_fields}
 
 -- no text spells the variable's name

@@ -4,11 +4,12 @@ use Rattle.std.specs.Str.{bytes_eq}
 use Rattle.ioa_value.specs.Actions.{Name}
 use Rattle.ioa_value.specs.Plain.{Val, truth as truth_value}
 use Rattle.ioa_value.specs.Table.{Table, contains}
+use Rattle.ioa_value.proofs.NameLemmas.{same_name, own_name}
 use Rattle.ioa_syntax.specs.Tree.{VariableTree}
 use Rattle.ioa_syntax.specs.Meaning.{Env, values_of, or_else, becomes, with_name, eff}
 use Rattle.ioa_syntax.specs.Hosts.{reset_to}
 use Rattle.ioa_compose.specs.Rewriting.{spelled, up_name, start_name, volatile, volatile_values, resets}
-use Rattle.ioa_compose.proofs.SpelledNames.{same_name, self_name, unspelled, unspelled_too}
+use Rattle.ioa_compose.proofs.SpelledNames.{unspelled, unspelled_too}
 use Rattle.ioa_compose.proofs.RewrittenNames.{names_of}
 
 -- the variables at their values, and the host down
@@ -37,7 +38,7 @@ module _ (types : Table) where
       (with_name m up_name (truth_value false), rw up.1 refl, record { down = refl; values = λ x k. rw (unspelled _ x k) refl })
   resets_do (u ∷ vs) w m fine stand old up =
       let y : Name = u.field.name in
-      let here : (bytes_eq y y || contains (names_of vs) y) ≡ true = rw (self_name y) refl in
+      let here : (bytes_eq y y || contains (names_of vs) y) ≡ true = rw (own_name y) refl in
       let v = stand y here in
       let o = old y here in
       let own : spelled y ≡ true = fine y here in

@@ -3,12 +3,14 @@ use Rattle.std.proofs.Common.{◌≡◌, Bool, true, false, not, cond, ◌&&◌,
 use Rattle.std.specs.List.{list_all, list_any, flat_map}
 use Rattle.std.specs.Option.{option_map, option_or, option_map_or}
 use Rattle.std.specs.Str.{bytes_eq}
-use Rattle.std.proofs.lemmas.Bool.{and_parts}
+use Rattle.std.proofs.lemmas.Bool.{and_parts, or_parts}
 use Rattle.std.proofs.lemmas.List.Folds.{find-append}
 use Rattle.ioa_value.specs.Actions.{Name, Act}
 use Rattle.ioa_value.specs.Plain.{Val}
 use Rattle.ioa_value.specs.Same.{same}
 use Rattle.ioa_value.specs.Table.{contains, distinct}
+use Rattle.ioa_value.proofs.NameLemmas.{same_name, own_name, not_true}
+use Rattle.ioa_value.proofs.ItemLemmas.{find_both, find_at}
 use Rattle.ioa_syntax.specs.declared.tree.Kind.{Kind}
 use Rattle.ioa_syntax.specs.declared.tree.Kind.TheVariants.{Input, Output, Internal}
 use Rattle.ioa_syntax.specs.Tree.{CrashTree, ConstantTree, positive, negative, truth_literal, reference, PositionTree, typed, only, EntryTree, TransitionTree, AutomatonTree}
@@ -23,7 +25,7 @@ use Rattle.ioa_syntax.proofs.Agreement.{all_both}
 use Rattle.ioa_syntax.proofs.FineParts.{FineParts, fine_parts}
 use Rattle.ioa_compose.specs.Rewriting.{spelled, guarded, signal_entry, signals, crash_transition, recover_transition, rewritten, crashing}
 use Rattle.ioa_compose.specs.Crashes.{MayCrash}
-use Rattle.ioa_compose.proofs.SpelledNames.{same_name, self_name, not_both, not_true, not_either, other_way, found_passes, found_is, found_among}
+use Rattle.ioa_compose.proofs.SpelledNames.{not_both, other_way, found_among}
 use Rattle.ioa_compose.proofs.RewrittenNames.{names, formals_same}
 
 all_flat_at : (p : PositionTree) (ps : List PositionTree) → list_all spelled (flat_map names_of_position (p ∷ ps)) ≡ true
@@ -75,7 +77,7 @@ kind_of_named q (y ∷ ys) e t d f h k =
         → contains (entry_names ys) y.name ≡ false
         → (find q ys ≡ Some e → list_any (λ d. pairs d t) ys ≡ true → same_kind e.kind t.kind ≡ true) → same_kind e.kind t.kind ≡ true
     go true true true u v g l free more = let same : y ≡ e = cc in subst (λ (z : EntryTree). same_kind z.kind t.kind ≡ true) same u
-    go true true false u v g l free more = let same : y ≡ e = cc in not_both (bytes_eq y.name t.name) (ap (λ (z : EntryTree). bytes_eq z.name t.name) same ∙ ap (λ z. bytes_eq z t.name) (sym (same_name t.name e.name k)) ∙ self_name t.name) v
+    go true true false u v g l free more = let same : y ≡ e = cc in not_both (bytes_eq y.name t.name) (ap (λ (z : EntryTree). bytes_eq z.name t.name) same ∙ ap (λ z. bytes_eq z t.name) (sym (same_name t.name e.name k)) ∙ own_name t.name) v
     go true false c u v g l free more =
         let same : y ≡ e = cc in
         not_both (contains (entry_names ys) y.name) (ap (λ (z : EntryTree). contains (entry_names ys) z.name) same ∙ ap (contains (entry_names ys)) (sym (same_name t.name e.name k)) ∙ paired_name ys t l) free
@@ -97,14 +99,14 @@ local_kinds Internal Internal h e = refl
 -- names that are not among those of a list
 pub all_others : {X : Type 0} (f : X → Name) (xs : List X) (x : Name) → contains (map f xs) x ≡ false → list_all (λ y. not (bytes_eq (f y) x)) xs ≡ true
 all_others f [] x h = refl
-all_others f (y ∷ ys) x h = let k = not_either (bytes_eq (f y) x) (contains (map f ys) x) h in rw k.0 (all_others f ys x k.1)
+all_others f (y ∷ ys) x h = let k = or_parts (bytes_eq (f y) x) (contains (map f ys) x) h in rw k.0 (all_others f ys x k.1)
 
 pub found_other : {X : Type 0} (f : X → Name) (q : X → Bool) (xs : List X) (y : X) (x : Name) → find q xs ≡ Some y → contains (map f xs) x ≡ false → bytes_eq (f y) x ≡ false
-found_other f q xs y x h k = not_true (bytes_eq (f y) x) (found_passes q (λ z. not (bytes_eq (f z) x)) xs y h (all_others f xs x k))
+found_other f q xs y x h k = not_true (bytes_eq (f y) x) (find_both q (λ z. not (bytes_eq (f z) x)) xs y h (all_others f xs x k)).1
 
 none_found : {X : Type 0} (f : X → Name) (xs : List X) (x : Name) → contains (map f xs) x ≡ false → find (λ y. bytes_eq (f y) x) xs ≡ None
 none_found f [] x h = refl
-none_found f (y ∷ ys) x h = let k = not_either (bytes_eq (f y) x) (contains (map f ys) x) h in rw k.0 (none_found f ys x k.1)
+none_found f (y ∷ ys) x h = let k = or_parts (bytes_eq (f y) x) (contains (map f ys) x) h in rw k.0 (none_found f ys x k.1)
 
 empty_same : (i : Instance) (vs : List Val) → positions_have i [] vs ≡ has_no_values vs
 empty_same i [] = refl
@@ -174,13 +176,13 @@ module _ (n : CrashTree) (i : Instance) (starts : List Val) (h : MayCrash n i st
   pub crash_found : transition_for (rewritten n i.automaton) (signal_entry n.crash) ≡ Some (crash_transition i.automaton.variables n.crash)
   crash_found =
       let none = none_of n.crash signals_apart.crash in
-      find_added n.crash ∙ (rw (none, self_name n.crash) refl)
+      find_added n.crash ∙ (rw (none, own_name n.crash) refl)
 
   pub recover_found : transition_for (rewritten n i.automaton) (signal_entry n.recover) ≡ Some (recover_transition n.recover)
   recover_found =
       let none = none_of n.recover signals_apart.recover in
       let two = signals_apart.two in
-      find_added n.recover ∙ (rw (none, two, self_name n.recover) refl)
+      find_added n.recover ∙ (rw (none, two, own_name n.recover) refl)
 
   pub others_found : (e : EntryTree) → bytes_eq n.crash e.name ≡ false → bytes_eq n.recover e.name ≡ false
       → transition_for (rewritten n i.automaton) e ≡ option_map guarded (transition_for i.automaton e)
@@ -189,9 +191,8 @@ module _ (n : CrashTree) (i : Instance) (starts : List Val) (h : MayCrash n i st
   -- the transition that is found has the entry's kind, and spelled names
   pub found_kind : (a : Act) (e : EntryTree) (t : TransitionTree) → entry_for i a ≡ Some e → transition_for i.automaton e ≡ Some t → same_kind e.kind t.kind ≡ true
   found_kind a e t q f =
-      kind_of_named (entry_has i a) i.automaton.entries e t parts.entry_names q
-      (found_passes (λ u. bytes_eq u.name e.name) (λ u. list_any (λ d. pairs d u) i.automaton.entries) i.automaton.transitions t f owned)
-      (found_is (λ u. bytes_eq u.name e.name) i.automaton.transitions t f)
+      let found = find_both (λ u. bytes_eq u.name e.name) (λ u. list_any (λ d. pairs d u) i.automaton.entries) i.automaton.transitions t f owned in
+      kind_of_named (entry_has i a) i.automaton.entries e t parts.entry_names q found.1 found.0
 
   -- ---- entries
 
@@ -259,7 +260,7 @@ module _ (n : CrashTree) (i : Instance) (starts : List Val) (h : MayCrash n i st
       go : (o : Option EntryTree) → entry_for i a ≡ o → View a
       go None q = bare (is_signal n.crash a) (is_signal n.recover a) refl refl q
       go (Some e) q =
-          let own : entry_has i a e ≡ true = found_is (entry_has i a) i.automaton.entries e q in
+          let own : entry_has i a e ≡ true = (find_at (entry_has i a) i.automaton.entries e q).2 in
           let no_crash : bytes_eq e.name n.crash ≡ false = found_other (λ (x : EntryTree). x.name) (entry_has i a) i.automaton.entries e n.crash q signals_apart.crash in
           let no_recover : bytes_eq e.name n.recover ≡ false = found_other (λ (x : EntryTree). x.name) (entry_has i a) i.automaton.entries e n.recover q signals_apart.recover in
           within e (not_signal i n.crash e a no_crash own) (not_signal i n.recover e a no_recover own) (other_way e.name n.crash no_crash) (other_way e.name n.recover no_recover)

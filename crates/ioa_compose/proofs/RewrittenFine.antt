@@ -3,7 +3,7 @@ use Rattle.std.proofs.Common.{◌≡◌, ℕ, ◌+◌, Bool, true, false, not, c
 use Rattle.std.specs.List.{list_all, list_any, flat_map}
 use Rattle.std.specs.Option.{option_map_or}
 use Rattle.std.specs.Str.{bytes_eq}
-use Rattle.std.proofs.lemmas.Bool.{and_parts, and_from, or_left, or_right, eq-eqb}
+use Rattle.std.proofs.lemmas.Bool.{and_parts, and_from, or_left, or_right, eq-eqb, or_parts, not_from_false}
 use Rattle.std.proofs.lemmas.List.{map-append}
 use Rattle.std.proofs.lemmas.List.Folds.{list_all-append, list_any-append, list_all-map}
 use Rattle.std.proofs.lemmas.List.Elements.{filter-append}
@@ -23,7 +23,7 @@ use Rattle.ioa_syntax.proofs.EffectTyped.{some_type}
 use Rattle.ioa_syntax.proofs.Early.{all_imply, each_implies}
 use Rattle.ioa_syntax.proofs.FineParts.{FineParts, entry_parts}
 use Rattle.ioa_compose.specs.Rewriting.{spelled, up_name, start_name, up_variable, volatile, start_formal, only_up, guarded, signal_entry, signals, resets, crash_transition, recover_transition, rewritten}
-use Rattle.ioa_compose.proofs.SpelledNames.{not_both, not_either, is_not, none_unspelled, or_false, other_way, all_of, unspelled, starts_unspelled, starts_not_up}
+use Rattle.ioa_compose.proofs.SpelledNames.{not_both, none_unspelled, or_false, other_way, all_of, unspelled, starts_unspelled, starts_not_up}
 use Rattle.ioa_compose.proofs.SpelledTrees.{IsSpelled, parameters_spelled, Parts, parts_spelled}
 use Rattle.ioa_compose.proofs.RewrittenNames.{names_of, volatile_among, formal_names, names_more}
 use Rattle.ioa_compose.proofs.RewrittenEntries.{entry_names, transition_names, pairs, none_named, all_others, Apart}
@@ -34,7 +34,7 @@ use Rattle.ioa_compose.proofs.RewrittenTypes.{fields_of, bool_named, volatile_ty
 apart_all : (ns ms : List Name) → ((x : Name) → contains ns x ≡ true → contains ms x ≡ false) → apart ns ms ≡ true
 apart_all [] ms h = refl
 apart_all (n ∷ ns) ms h =
-    and_from (not (contains ms n)) (apart ns ms) (is_not (contains ms n) (h n (or_left (bytes_eq n n) (contains ns n) (own_name n))))
+    and_from (not (contains ms n)) (apart ns ms) (not_from_false (contains ms n) (h n (or_left (bytes_eq n n) (contains ns n) (own_name n))))
     (apart_all ns ms (λ x c. h x (or_right (bytes_eq n x) (contains ns x) c)))
 
 joined : (ns ms : List Name) → distinct ns ≡ true → distinct ms ≡ true → ((x : Name) → contains ms x ≡ true → contains ns x ≡ false) → distinct (ns ++ ms) ≡ true
@@ -83,7 +83,7 @@ starts_distinct [] d = refl
 starts_distinct (n ∷ ns) d =
     let p = and_parts (not (contains ns n)) (distinct ns) d in
     and_from (not (contains (map start_name ns) (start_name n))) (distinct (map start_name ns))
-    (is_not (contains (map start_name ns) (start_name n)) (start_apart ns n (not_true (contains ns n) p.0))) (starts_distinct ns p.1)
+    (not_from_false (contains (map start_name ns) (start_name n)) (start_apart ns n (not_true (contains ns n) p.0))) (starts_distinct ns p.1)
 
 volatile_distinct : (vs : List VariableTree) → distinct (names_of vs) ≡ true → distinct (names_of (volatile vs)) ≡ true
 volatile_distinct [] d = refl
@@ -437,7 +437,7 @@ module _ (types : Table) (declared : AreTypes types) (g : List Name) (n : CrashT
     tested t = not (pairs e t) || transition_fine types types [] more e t
 
     unpaired : (t : TransitionTree) → bytes_eq e.name t.name ≡ false → tested t ≡ true
-    unpaired t h = or_left (not (pairs e t)) (transition_fine types types [] more e t) (is_not (pairs e t) (not_paired e t h))
+    unpaired t h = or_left (not (pairs e t)) (transition_fine types types [] more e t) (not_from_false (pairs e t) (not_paired e t h))
 
     paired_still : (t : TransitionTree) → list_all spelled (names_of_transition t) ≡ true → (not (pairs e t) || transition_fine types types g a e t) ≡ true → tested (guarded t) ≡ true
     paired_still t s h = go (not (pairs e t)) refl h
@@ -450,7 +450,7 @@ module _ (types : Table) (declared : AreTypes types) (g : List Name) (n : CrashT
     others_tested : (us : List TransitionTree) → contains (transition_names us) e.name ≡ false → list_all tested (map guarded us) ≡ true
     others_tested [] h = refl
     others_tested (u ∷ us) h =
-        let p = not_either (bytes_eq u.name e.name) (contains (transition_names us) e.name) h in
+        let p = or_parts (bytes_eq u.name e.name) (contains (transition_names us) e.name) h in
         and_from (tested (guarded u)) (list_all tested (map guarded us)) (unpaired (guarded u) (other_way u.name e.name p.0)) (others_tested us p.1)
 
   old_tested : (e : EntryTree) → (not (bytes_eq e.name n.crash) && not (bytes_eq e.name n.recover)) ≡ true

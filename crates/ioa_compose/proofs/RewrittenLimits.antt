@@ -3,7 +3,6 @@ use Rattle.std.proofs.Common.{◌≡◌, ℕ, ◌+◌, ◌*◌, ◌≤◌, Bool,
 use Rattle.std.specs.List.{list_all}
 use Rattle.std.specs.Option.{option_map_or}
 use Rattle.std.proofs.lemmas.Bool.{and_parts, and_from}
-use Rattle.std.proofs.lemmas.Bool.Decides.{nat_tests}
 use Rattle.std.proofs.lemmas.List.{map-append, length-map}
 use Rattle.std.proofs.lemmas.List.Folds.{list_all-append, list_all-map}
 use Rattle.ioa_value.specs.Plain.{Val, truth as truth_value}
@@ -14,16 +13,14 @@ use Rattle.ioa_syntax.specs.Instances.{Fit}
 use Rattle.ioa_syntax.specs.WellFormed.{is_input, nodes, stmts_nodes, pre_within, proposals_within, effect_within, transition_within, entry_within, automaton_within}
 use Rattle.ioa_syntax.proofs.FineParts.{at_most, within_parts}
 use Rattle.ioa_syntax.proofs.Early.{each_implies}
+use Rattle.ioa_syntax.proofs.Climb.{le_holds}
 use Rattle.ioa_compose.specs.Fine.{component_limits}
 use Rattle.ioa_compose.specs.Rewriting.{up_variable, volatile, volatile_values, start_formal, only_up, if_up, guarded, signals, resets, crash_transition, recover_transition, rewritten}
 use Rattle.ioa_compose.proofs.RewrittenTypes.{fields_of, bool_named}
 
-is_within : (n m : ℕ) → n ≤ m → nat_le n m ≡ true
-is_within n m h = grind (arith, nat_tests)
-
 -- what is within n is within more
 wider : (n m k : ℕ) → m ≤ k → nat_le n m ≡ true → nat_le n k ≡ true
-wider n m k h e = is_within n k (let l : n ≤ m = at_most n m e in omega arith)
+wider n m k h e = le_holds n k (let l : n ≤ m = at_most n m e in omega arith)
 
 -- ---- what does not change
 
@@ -66,8 +63,8 @@ automaton_from a f v e es ts =
     and_from (formals && variables && entries && each) (list_all (transition_within component_limits) a.transitions)
     (and_from (formals && variables && entries) each
     (and_from (formals && variables) entries
-    (and_from formals variables (is_within (length a.formals) component_limits.parameters f) (is_within (length a.variables) component_limits.variables v))
-    (is_within (length a.entries) component_limits.entries e)) es) ts
+    (and_from formals variables (le_holds (length a.formals) component_limits.parameters f) (le_holds (length a.variables) component_limits.variables v))
+    (le_holds (length a.entries) component_limits.entries e)) es) ts
 
 -- an automaton within the limits of a source is within those of components
 pub within_wider : (a : AutomatonTree) → automaton_within LIMITS a ≡ true → automaton_within component_limits a ≡ true
@@ -83,8 +80,8 @@ within_wider a h =
 -- ---- what is added
 
 only_up_within : (o : Option Expr) → option_map_or (λ p. nat_le (nodes p) LIMITS.nodes) o true ≡ true → nat_le (nodes (only_up o)) component_limits.nodes ≡ true
-only_up_within None h = is_within 1 component_limits.nodes (omega arith)
-only_up_within (Some p) h = let l : nodes p ≤ LIMITS.nodes = at_most (nodes p) LIMITS.nodes h in is_within (1 + nodes p + 1) component_limits.nodes (omega arith)
+only_up_within None h = le_holds 1 component_limits.nodes (omega arith)
+only_up_within (Some p) h = let l : nodes p ≤ LIMITS.nodes = at_most (nodes p) LIMITS.nodes h in le_holds (1 + nodes p + 1) component_limits.nodes (omega arith)
 
 guarded_within : (t : TransitionTree) → transition_within LIMITS t ≡ true → transition_within component_limits (guarded t) ≡ true
 guarded_within t h =
@@ -94,7 +91,7 @@ guarded_within t h =
     let size : stmts_nodes (if_up t.effect) ≤ component_limits.nodes = omega arith in
     transition_from (guarded t) (pre (is_input t.kind) q.0)
     (wider (sum (map (λ u. nodes u.value) t.proposals)) LIMITS.nodes component_limits.nodes more_nodes q.1)
-    (is_within (stmts_nodes (if_up t.effect)) component_limits.nodes size)
+    (le_holds (stmts_nodes (if_up t.effect)) component_limits.nodes size)
   where
     pre : (b : Bool) → pre_within LIMITS t ≡ true → option_map_or (λ p. nat_le (nodes p) component_limits.nodes) (cond b t.pre (Some (only_up t.pre))) true ≡ true
     pre true h = pre_wider t.pre component_limits.nodes h more_nodes
@@ -134,7 +131,7 @@ rewritten_within n a h =
     (list_all-map (transition_within component_limits) guarded a.transitions
     ∙ each_implies (transition_within LIMITS) (λ t. transition_within component_limits (guarded t)) a.transitions guarded_within p.each_transition)
     (and_from (transition_within component_limits (crash_transition a.variables n.crash)) (transition_within component_limits (recover_transition n.recover) && true)
-    (transition_from (crash_transition a.variables n.crash) refl refl (is_within (stmts_nodes (resets (volatile a.variables))) component_limits.nodes size)) refl))
+    (transition_from (crash_transition a.variables n.crash) refl refl (le_holds (stmts_nodes (resets (volatile a.variables))) component_limits.nodes size)) refl))
 
 -- ---- values
 

@@ -9,13 +9,14 @@ use Rattle.ioa_value.specs.declared.arithmetic.Fault.{Fault}
 use Rattle.ioa_value.specs.Actions.{Name}
 use Rattle.ioa_value.specs.Plain.{Val, truth as truth_value}
 use Rattle.ioa_value.specs.Table.{Table, contains}
+use Rattle.ioa_value.proofs.NameLemmas.{same_name, own_name}
 use Rattle.ioa_syntax.specs.Tree.{CrashTree, FieldTree, EntryTree, VariableTree}
 use Rattle.ioa_syntax.specs.Meaning.{Env, values_of, or_else, kept, with_name}
 use Rattle.ioa_syntax.specs.Instances.{Instance, field_names, variable_names, formal_values, position_fields, parameter_values, environment, start_value, with_value, all_values, Fit}
 use Rattle.ioa_syntax.specs.Hosts.{HostState}
 use Rattle.ioa_compose.specs.Rewriting.{spelled, up_name, start_name, up_variable, volatile, volatile_values, start_formal, crashing}
 use Rattle.ioa_compose.specs.Crashes.{Corresponds, MayCrash}
-use Rattle.ioa_compose.proofs.SpelledNames.{same_name, self_name, not_both, or_none, or_false, absent, appended, unspelled, none_unspelled, starts_unspelled, starts_not_up, start_of}
+use Rattle.ioa_compose.proofs.SpelledNames.{not_both, or_none, or_false, absent, appended, unspelled, none_unspelled, starts_unspelled, starts_not_up, start_of}
 use Rattle.ioa_compose.proofs.SpelledTrees.{IsSpelled, automaton_spelled}
 
 abbrev pub names_of : List VariableTree → List Name
@@ -46,7 +47,7 @@ volatile_among (v ∷ vs) x h = go v.stable h (volatile_among vs x)
     go true k more = or_right (bytes_eq v.field.name x) (contains (names_of vs) x) (more k)
     go false k more = or_more (bytes_eq v.field.name x) (contains (names_of (volatile vs)) x) (contains (names_of vs) x) more k
 
-added_names : (vs : List VariableTree) → field_names (map start_formal vs) ≡ map start_name (names_of vs)
+pub added_names : (vs : List VariableTree) → field_names (map start_formal vs) ≡ map start_name (names_of vs)
 added_names [] = refl
 added_names (v ∷ vs) = ap (λ (ns : List Name). start_name v.field.name ∷ ns) (added_names vs)
 
@@ -112,7 +113,7 @@ matches_kept ns b m n x v h r = record {
 pub kept_up : (ns : List Name) (m : Env) → kept (ns ++ up_name ∷ []) m up_name ≡ m up_name
 kept_up ns m =
     ap (λ b. cond b (m up_name) None)
-    (list_any-append (λ n. bytes_eq n up_name) ns (up_name ∷ []) ∙ or_right (contains ns up_name) (contains (up_name ∷ []) up_name) (ap (λ b. b || false) (self_name up_name)))
+    (list_any-append (λ n. bytes_eq n up_name) ns (up_name ∷ []) ∙ or_right (contains ns up_name) (contains (up_name ∷ []) up_name) (ap (λ b. b || false) (own_name up_name)))
 
 pub kept_more : (ns : List Name) (m : Env) (x : Name) → spelled x ≡ true → kept (ns ++ up_name ∷ []) m x ≡ kept ns m x
 kept_more ns m x h =

@@ -17,7 +17,7 @@ use Rattle.ioa_syntax.specs.WellFormed.{Context, type_in, context_of, typed_fiel
 use Rattle.ioa_compose.specs.Rewriting.{spelled, up_name, start_name, up_variable, volatile, start_formal, rewritten}
 use Rattle.ioa_compose.proofs.SpelledNames.{not_both, or_none, unspelled, none_unspelled, starts_unspelled}
 use Rattle.ioa_compose.proofs.SpelledTrees.{IsSpelled}
-use Rattle.ioa_compose.proofs.RewrittenNames.{names_of, volatile_among}
+use Rattle.ioa_compose.proofs.RewrittenNames.{names_of, volatile_among, added_names}
 
 abbrev pub fields_of : List VariableTree → List FieldTree
 fields_of vs = map (λ v. v.field) vs
@@ -62,13 +62,9 @@ pub names_of_fields : (vs : List VariableTree) → field_names (fields_of vs) �
 names_of_fields [] = refl
 names_of_fields (v ∷ vs) = ap (λ (ns : List Name). v.field.name ∷ ns) (names_of_fields vs)
 
-start_names : (vs : List VariableTree) → field_names (map start_formal vs) ≡ map start_name (names_of vs)
-start_names [] = refl
-start_names (v ∷ vs) = ap (λ (ns : List Name). start_name v.field.name ∷ ns) (start_names vs)
-
 start_foreign : (types : Table) (vs : List VariableTree) (x : Name) → spelled x ≡ true → type_in (context_of types (map start_formal vs)) x ≡ None
 start_foreign types vs x h =
-    foreign types (map start_formal vs) x (ap (λ (ns : List Name). contains ns x) (start_names vs) ∙ starts_unspelled (names_of vs) x h)
+    foreign types (map start_formal vs) x (ap (λ (ns : List Name). contains ns x) (added_names vs) ∙ starts_unspelled (names_of vs) x h)
 
 first : (b : Bool) (n : ℕ) (o : Option ℕ) → b ≡ true → cond b (Some n) o ≡ Some n
 first b n o h = ap (λ c. cond c (Some n) o) h

@@ -6,6 +6,7 @@ use Rattle.std.proofs.lemmas.List.Folds.{find-append}
 use Rattle.ioa_value.specs.Actions.{Act}
 use Rattle.ioa_value.specs.Plain.{Val}
 use Rattle.ioa_value.specs.Same.{same}
+use Rattle.ioa_value.proofs.ItemLemmas.{find_at}
 use Rattle.ioa_syntax.specs.declared.tree.Kind.{Kind}
 use Rattle.ioa_syntax.specs.declared.tree.Kind.TheVariants.{Input}
 use Rattle.ioa_syntax.specs.Tree.{CrashTree, ConstantTree, positive, negative, truth_literal, reference, PositionTree, typed, only, EntryTree}
@@ -14,7 +15,6 @@ use Rattle.ioa_syntax.specs.Hosts.{is_signal, hosted, crash_fine, reset_to, Host
 use Rattle.ioa_syntax.proofs.Alike.{SameKinds, kinds_back, same_compatible}
 use Rattle.ioa_compose.specs.Rewriting.{signal_entry, signals, with_signals}
 use Rattle.ioa_compose.specs.Stands.{signalled, AllNamed, SignalsDecide}
-use Rattle.ioa_compose.proofs.SpelledNames.{found_is}
 use Rattle.ioa_compose.proofs.RewrittenEntries.{Apart, apart_of, found_other, not_signal, signal_same}
 
 module _ (n : CrashTree) (i : Instance) (free : crash_fine (Some n) i.automaton ≡ true) where
@@ -70,7 +70,7 @@ module _ (n : CrashTree) (i : Instance) (free : crash_fine (Some n) i.automaton 
           → told o (is_signal n.crash a) (is_signal n.recover a) ≡ cond (is_signal n.crash a || is_signal n.recover a) (Some Input) (option_map (λ (e : EntryTree). e.kind) o)
       go None q = none (is_signal n.crash a) (is_signal n.recover a)
       go (Some e) q =
-          let own : entry_has i a e ≡ true = found_is (entry_has i a) i.automaton.entries e q in
+          let own : entry_has i a e ≡ true = (find_at (entry_has i a) i.automaton.entries e q).2 in
           let c = not_signal i n.crash e a (found_other (λ (x : EntryTree). x.name) (entry_has i a) i.automaton.entries e n.crash q apart.crash) own in
           let r = not_signal i n.recover e a (found_other (λ (x : EntryTree). x.name) (entry_has i a) i.automaton.entries e n.recover q apart.recover) own in
           sym (ap (λ b. cond (b || is_signal n.recover a) (Some Input) (Some e.kind)) c ∙ ap (λ b. cond b (Some Input) (Some e.kind)) r)

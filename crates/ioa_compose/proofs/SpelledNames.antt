@@ -4,19 +4,13 @@ use Rattle.std.specs.List.{list_all}
 use Rattle.std.specs.Str.{bytes_eq}
 use Rattle.std.proofs.lemmas.Bool.{and_parts, and_from, eqb-true}
 use Rattle.std.proofs.lemmas.List.Elements.{All-head, All-tail}
-use Rattle.std.proofs.lemmas.Slice.Eq.{bytes_eq-Decides}
 use Rattle.ioa_value.specs.Actions.{Name}
 use Rattle.ioa_value.specs.Names.{IsName, is_name, is_letter, begins_with_letter}
 use Rattle.ioa_value.specs.Plain.{Val}
 use Rattle.ioa_value.specs.Table.{contains, apart}
+use Rattle.ioa_value.proofs.NameLemmas.{same_name, own_name, not_true}
 use Rattle.ioa_syntax.specs.Meaning.{values_of, or_else}
 use Rattle.ioa_compose.specs.Rewriting.{spelled, up_name, start_name}
-
-pub same_name : (x y : Name) → bytes_eq x y ≡ true → x ≡ y
-same_name x y e = (bytes_eq-Decides x y).0 e
-
-pub self_name : (x : Name) → bytes_eq x x ≡ true
-self_name x = (bytes_eq-Decides x x).1 refl
 
 pub not_both : {X : Type 0} (b : Bool) → b ≡ true → b ≡ false → X
 not_both b h k = absurd (true≢false (sym h ∙ k))
@@ -25,7 +19,7 @@ pub other_way : (x y : Name) → bytes_eq x y ≡ false → bytes_eq y x ≡ fal
 other_way x y h = go (bytes_eq y x) refl
   where
     go : (b : Bool) → bytes_eq y x ≡ b → bytes_eq y x ≡ false
-    go true e = let same : y ≡ x = same_name y x e in not_both (bytes_eq x y) (ap (bytes_eq x) same ∙ self_name x) h
+    go true e = let same : y ≡ x = same_name y x e in not_both (bytes_eq x y) (ap (bytes_eq x) same ∙ own_name x) h
     go false e = e
 
 pub or_none : {X : Type 0} (o : Option X) → or_else o None ≡ o
@@ -35,18 +29,6 @@ or_none None = refl
 pub or_false : (b : Bool) → (b || false) ≡ b
 or_false true = refl
 or_false false = refl
-
-pub not_either : (b c : Bool) → (b || c) ≡ false → (b ≡ false) × (c ≡ false)
-not_either true c h = absurd (true≢false h)
-not_either false c h = (refl, h)
-
-pub not_true : (b : Bool) → not b ≡ true → b ≡ false
-not_true true h = absurd (true≢false (sym h))
-not_true false h = refl
-
-pub is_not : (b : Bool) → b ≡ false → not b ≡ true
-is_not true h = absurd (true≢false h)
-is_not false h = refl
 
 -- ---- values of names
 
@@ -98,22 +80,6 @@ apart_from ns ms x h k = go (contains ns x) refl
     go true e = not_both (contains ms x) k (not_true (contains ms x) (all_of (λ n. not (contains ms n)) ns x h e))
     go false e = e
 
-pub found_passes : {X : Type 0} (q p : X → Bool) (xs : List X) (x : X) → find q xs ≡ Some x → list_all p xs ≡ true → p x ≡ true
-found_passes q p [] x h k = absurd (cc)
-found_passes {X} q p (y ∷ ys) x h k = go (q y) h (λ e. found_passes q p ys x e (and_parts (p y) (list_all p ys) k).1)
-  where
-    go : (b : Bool) → cond b (Some y) (find q ys) ≡ Some x → (find q ys ≡ Some x → p x ≡ true) → p x ≡ true
-    go true e more = let same : y ≡ x = cc in subst (λ (z : X). p z ≡ true) same (and_parts (p y) (list_all p ys) k).0
-    go false e more = more e
-
-pub found_is : {X : Type 0} (q : X → Bool) (xs : List X) (x : X) → find q xs ≡ Some x → q x ≡ true
-found_is q [] x h = absurd (cc)
-found_is {X} q (y ∷ ys) x h = go (q y) refl h (found_is q ys x)
-  where
-    go : (b : Bool) → q y ≡ b → cond b (Some y) (find q ys) ≡ Some x → (find q ys ≡ Some x → q x ≡ true) → q x ≡ true
-    go true e k more = let same : y ≡ x = cc in subst (λ (z : X). q z ≡ true) same e
-    go false e k more = more k
-
 -- what is found has its name among those of all
 pub found_among : {X : Type 0} (f : X → Name) (q : X → Bool) (xs : List X) (x : X) → find q xs ≡ Some x → contains (map f xs) (f x) ≡ true
 found_among f q [] x h = absurd (cc)
@@ -125,7 +91,7 @@ found_among {X} f q (y ∷ ys) x h = go (q y) h (found_among f q ys x)
 
     go : (b : Bool) → cond b (Some y) (find q ys) ≡ Some x → (find q ys ≡ Some x → contains (map f ys) (f x) ≡ true)
         → (bytes_eq (f y) (f x) || contains (map f ys) (f x)) ≡ true
-    go true e more = let same : y ≡ x = cc in subst (λ (z : X). (bytes_eq (f z) (f x) || contains (map f ys) (f x)) ≡ true) (sym same) (ap (λ b. b || contains (map f ys) (f x)) (self_name (f x)))
+    go true e more = let same : y ≡ x = cc in subst (λ (z : X). (bytes_eq (f z) (f x) || contains (map f ys) (f x)) ≡ true) (sym same) (ap (λ b. b || contains (map f ys) (f x)) (own_name (f x)))
     go false e more = either (bytes_eq (f y) (f x)) (contains (map f ys) (f x)) (more e)
 
 -- ---- names of texts

@@ -6,6 +6,7 @@ use Rattle.std.proofs.lemmas.Bool.Decides.{nat_tests}
 use Rattle.std.proofs.lemmas.List.Folds.{list_all-append}
 use Rattle.std.proofs.lemmas.List.Sums.{take_while-cons}
 use Rattle.ioa_value.specs.Names.{is_letter, is_digit, is_word_byte}
+use Rattle.ioa_value.proofs.SpellLemmas.{word_byte_ascii}
 use Rattle.ioa_lex.specs.Lexing.{is_blank}
 use Rattle.ioa_lex.specs.Fronts.{is_sign_part}
 
@@ -50,12 +51,6 @@ sign_part b h = record {
   digit = grind (arith, nat_tests);
 }
 
-pub all_weaker : (p q : ℕ → Bool) → ((b : ℕ) → p b ≡ true → q b ≡ true) → (bs : List ℕ) → list_all p bs ≡ true → list_all q bs ≡ true
-all_weaker p q each [] h = refl
-all_weaker p q each (b ∷ bs) h =
-    let k = and_parts (p b) (list_all p bs) h in
-    and_from (q b) (list_all q bs) (each b k.0) (all_weaker p q each bs k.1)
-
 pub all_of_front : (p : ℕ → Bool) (a b : List ℕ) → list_all p (a ++ b) ≡ true → (list_all p a ≡ true) × (list_all p b ≡ true)
 all_of_front p a b h = and_parts (list_all p a) (list_all p b) (sym (list_all-append p a b) ∙ h)
 
@@ -79,10 +74,7 @@ none_counted p q each (b ∷ bs) h =
     let k = and_parts (q b) (list_all q bs) h in
     rw (each b k.0) (none_counted p q each bs k.1)
 
-small_part : (b : ℕ) → is_word_byte b ≡ true → b < 128
-small_part b h = grind (arith, nat_tests)
-
 pub ascii_of_parts : (bs : List ℕ) → list_all is_word_byte bs ≡ true → (i : ℕ) → get_or bs i 0 < 128
 ascii_of_parts [] h i = omega arith
-ascii_of_parts (b ∷ bs) h zero = small_part b (and_parts (is_word_byte b) (list_all is_word_byte bs) h).0
+ascii_of_parts (b ∷ bs) h zero = word_byte_ascii b (and_parts (is_word_byte b) (list_all is_word_byte bs) h).0
 ascii_of_parts (b ∷ bs) h (suc i) = ascii_of_parts bs (and_parts (is_word_byte b) (list_all is_word_byte bs) h).1 i

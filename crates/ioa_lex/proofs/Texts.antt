@@ -8,8 +8,9 @@ use Rattle.ioa_value.specs.Spelling.{spelling_of, IsReserved}
 use Rattle.ioa_lex.specs.Tokens.{Tok, number, name, terminal}
 use Rattle.ioa_lex.specs.Lexing.{is_word, is_digits, value_of, IsTokenText, by_word, by_digits, by_terminal, Writes}
 use Rattle.ioa_lex.specs.Fronts.{is_sign_part}
-use Rattle.ioa_lex.proofs.Bytes.{is_inner, is_first, part_of_letter, first_of_letter, first_of_digit, digit_of_letter, inner_of_part, inner_of_digit, IsSignPart, sign_part, all_weaker}
+use Rattle.ioa_lex.proofs.Bytes.{is_inner, is_first, part_of_letter, first_of_letter, first_of_digit, digit_of_letter, inner_of_part, inner_of_digit, IsSignPart, sign_part}
 use Rattle.ioa_value.proofs.Spellings.{same_terminal, is_short, no_name, reserved_word}
+use Rattle.ioa_value.proofs.ItemLemmas.{all_weaker}
 use Rattle.ioa_lex.proofs.Spellings.{is_sign, word_or_sign}
 
 abbrev pub head : List ℕ → ℕ

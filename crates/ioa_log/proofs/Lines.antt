@@ -2,12 +2,13 @@
 use Rattle.std.proofs.Common.{◌≡◌, ℕ, ◌+◌, ◌-◌, ◌<◌, ◌≤◌, Bool, true, false, ◌==◌, List, [], ◌∷◌, ◌++◌, length, get_or, take, drop, All, append_assoc, refl, sym, ◌∙◌, ap, subst, arith, length-append, length-drop, Option, None, Some, Err, IfSome, inl, inr}
 use Rattle.std.specs.Result.{IsErrOf}
 use Rattle.std.specs.String.{string_bytes}
-use Rattle.std.specs.Io.KnownBytes.{Consumes, IsAtEnd}
+use Rattle.std.specs.Io.KnownBytes.{Consumes}
 use Rattle.std.proofs.Math.Seq.{take-add}
 use Rattle.std.proofs.lemmas.List.{append-nil, drop_more, take-append-drop, take_more, get_or-drop, take_all}
 use Rattle.std.proofs.lemmas.List.Elements.{All-nil, All-head, All-tail, All-cons, All-append}
 use Rattle.std.proofs.lemmas.Bool.{cases_lt, false≢true}
 use Rattle.std.proofs.lemmas.Bool.Decides.{nat_tests}
+use Rattle.std.proofs.KnownBytes.{Consumes-trans}
 use Rattle.ioa_value.specs.Actions.{Act}
 use Rattle.ioa_value.specs.Table.{Table}
 use denote.Ref.{Bor}
@@ -233,11 +234,6 @@ read_more p ls l r now h m t c = record {
 
 -- ---- bytes that are known
 
-pub known_whole : (known left : Option (List ℕ)) (xs : List ℕ) (P : List ℕ → Type 0) → Consumes known left xs → IsAtEnd left → P xs → IfSome known P
-known_whole None left xs P c e h = tt
-known_whole (Some ys) None xs P c e h = absurd c
-known_whole (Some ys) (Some zs) xs P c e h = subst P (sym (c ∙ ap (λ z. xs ++ z) e ∙ append-nil xs)) h
-
 pub known_bad : (known left more : Option (List ℕ)) (xs ys : List ℕ) (P : List ℕ → Type 0) → Consumes known left xs → Consumes left more ys
     → ((zs : List ℕ) → P (xs ++ (ys ++ zs))) → IfSome known P
 known_bad None left more xs ys P c d h = tt
@@ -245,18 +241,12 @@ known_bad (Some bs) None more xs ys P c d h = absurd c
 known_bad (Some bs) (Some cs) None xs ys P c d h = absurd d
 known_bad (Some bs) (Some cs) (Some zs) xs ys P c d h = subst P (sym (c ∙ ap (λ z. xs ++ z) d)) (h zs)
 
-pub known_more : (known left more : Option (List ℕ)) (xs ys : List ℕ) → Consumes known left xs → Consumes left more ys → Consumes known more (xs ++ ys)
-known_more None left more xs ys c d = tt
-known_more (Some bs) None more xs ys c d = absurd c
-known_more (Some bs) (Some cs) None xs ys c d = absurd d
-known_more (Some bs) (Some cs) (Some zs) xs ys c d = c ∙ ap (λ z. xs ++ z) d ∙ sym (append_assoc xs ys zs)
-
 pub known_none : (known : Option (List ℕ)) (xs : List ℕ) → xs ≡ [] → Consumes known known xs
 known_none None xs e = tt
 known_none (Some bs) xs e = ap (λ zs. zs ++ bs) (sym e)
 
 pub known_pushed : (known left more : Option (List ℕ)) (xs ys zs : List ℕ) → zs ≡ xs ++ ys → Consumes known left xs → Consumes left more ys → Consumes known more zs
-known_pushed known left more xs ys zs e c d = subst (Consumes known more) (sym e) (known_more known left more xs ys c d)
+known_pushed known left more xs ys zs e c d = subst (Consumes known more) (sym e) (Consumes-trans known left more xs ys c d)
 
 -- ---- failures
 

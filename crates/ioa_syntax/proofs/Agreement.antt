@@ -16,7 +16,7 @@ use Rattle.ioa_syntax.specs.Meaning.{Env, or_else, then_value, value_of, combine
 pub all_both : (p : Name → Bool) (xs ys : List Name) → list_all p (xs ++ ys) ≡ true → (list_all p xs ≡ true) × (list_all p ys ≡ true)
 all_both p xs ys h = and_parts (list_all p xs) (list_all p ys) (sym (list_all-append p xs ys) ∙ h)
 
-two : {A B C : Type 0} (f : A → B → C) (a b : A) (c d : B) → a ≡ b → c ≡ d → f a c ≡ f b d
+pub two : {A B C : Type 0} (f : A → B → C) (a b : A) (c d : B) → a ≡ b → c ≡ d → f a c ≡ f b d
 two f a b c d h k = ap (λ x. f x c) h ∙ ap (f b) k
 
 then_same : (a : Answer) (f g : Val → Answer) → ((v : Val) → f v ≡ g v) → then_value a f ≡ then_value a g

@@ -1,11 +1,12 @@
 -- How two operators side by side group.
-use Rattle.std.proofs.Common.{◌≡◌, ℕ, ◌<◌, ◌≤◌, ◌==◌, not, ◌⊎◌, inl, inr, Bool, true, false, IsTrue, refl, sym, ap, ◌∙◌, subst, arith, cond, Some, None, find, List, [], ◌∷◌}
+use Rattle.std.proofs.Common.{◌≡◌, ℕ, ◌<◌, ◌≤◌, ◌==◌, not, ◌⊎◌, inl, inr, true, false, IsTrue, refl, sym, ap, ◌∙◌, arith, cond, Some, None}
 use Rattle.std.proofs.Math.Arith.{lt_of_le-ne}
 use denote.Enum.Bare.{same_true}
 use Rattle.ioa_value.specs.contracts.terminal.Terminal.{the_type}
 use Rattle.ioa_value.specs.declared.terminal.Terminal.{Terminal}
 use Rattle.ioa_value.specs.declared.operator.Op.{Op}
 use Rattle.ioa_value.specs.declared.operator.Op.TheVariants.{Not, Neg, Len, Head, Tail, Last, Init, Append, At, Member, Without, Make, Field}
+use Rattle.ioa_value.proofs.ItemLemmas.{find_both}
 use Rattle.ioa_syntax.specs.declared.tree.Infix.{Infix}
 use Rattle.ioa_syntax.specs.declared.tree.Infix.TheVariants.{Operator}
 use Rattle.ioa_syntax.specs.declared.operators.Level.{Level}
@@ -105,68 +106,24 @@ between_encloses (Operator (Make ty)) between = absurd (cc)
 between_encloses (Operator (Field j)) between = absurd (cc)
 between_encloses _ between = refl
 
-found_holds : {A : Type 0} (p : A → Bool) (xs : List A) (x : A) → find p xs ≡ Some x → p x ≡ true
-found_holds p [] x h = absurd (cc)
-found_holds {A} p (y ∷ xs) x h = go (p y) refl h (found_holds p xs x)
-  where
-    go : (b : Bool) → p y ≡ b → cond b (Some y) (find p xs) ≡ Some x → (find p xs ≡ Some x → p x ≡ true) → p x ≡ true
-    go true e k later = let same : y ≡ x = cc in subst (λ z. p z ≡ true) same e
-    go false e k later = later k
-
-found_between : (o : Infix) → operator_of (operator_word o) ≡ Some o → IsTrue (stands_between o)
-unfolding operator_of same_terminal
-found_between (Operator Not) h = absurd (cc)
-found_between (Operator Neg) h = absurd (cc)
-found_between (Operator Len) h = absurd (cc)
-found_between (Operator Head) h = absurd (cc)
-found_between (Operator Tail) h = absurd (cc)
-found_between (Operator Last) h = absurd (cc)
-found_between (Operator Init) h = absurd (cc)
-found_between (Operator Append) h = absurd (cc)
-found_between (Operator At) h = absurd (cc)
-found_between (Operator Member) h = absurd (cc)
-found_between (Operator Without) h = absurd (cc)
-found_between (Operator (Make ty)) h = absurd (cc)
-found_between (Operator (Field j)) h = absurd (cc)
-found_between _ h = refl
-
-found_before : (o : Op) → prefix_of (operator_word (Operator o)) ≡ Some o → IsTrue (stands_before o)
-unfolding prefix_of same_terminal
-found_before Not h = refl
-found_before Neg h = refl
-found_before _ h = absurd (cc)
-
-found_around : (o : Op) → around_of (operator_word (Operator o)) ≡ Some o → IsTrue (stands_around (Operator o))
-unfolding around_of same_terminal
-found_around Len h = refl
-found_around Head h = refl
-found_around Tail h = refl
-found_around Last h = refl
-found_around Init h = refl
-found_around Append h = refl
-found_around At h = refl
-found_around Member h = refl
-found_around Without h = refl
-found_around _ h = absurd (cc)
-
 -- and what is found has the word, and stands there
 pub found_only : (t : Terminal) (o : Infix) → operator_of t ≡ Some o → (t ≡ operator_word o) × IsTrue (stands_between o)
 unfolding operator_of same_terminal
 found_only t o h =
-    let is : t ≡ operator_word o = sym (same_true the_type tt (operator_word o) t (found_holds (λ p. same_terminal (operator_word p) t) infixes o h)) in
-    (is, found_between o (ap operator_of (sym is) ∙ h))
+    let found = find_both (λ p. same_terminal (operator_word p) t) stands_between infixes o h refl in
+    (sym (same_true the_type tt (operator_word o) t found.0), found.1)
 
 pub prefix_only : (t : Terminal) (o : Op) → prefix_of t ≡ Some o → (t ≡ operator_word (Operator o)) × IsTrue (stands_before o)
 unfolding prefix_of same_terminal
 prefix_only t o h =
-    let is : t ≡ operator_word (Operator o) = sym (same_true the_type tt (operator_word (Operator o)) t (found_holds (λ p. same_terminal (operator_word (Operator p)) t) prefixes o h)) in
-    (is, found_before o (ap prefix_of (sym is) ∙ h))
+    let found = find_both (λ p. same_terminal (operator_word (Operator p)) t) stands_before prefixes o h refl in
+    (sym (same_true the_type tt (operator_word (Operator o)) t found.0), found.1)
 
 pub around_only : (t : Terminal) (o : Op) → around_of t ≡ Some o → (t ≡ operator_word (Operator o)) × IsTrue (stands_around (Operator o))
 unfolding around_of same_terminal
 around_only t o h =
-    let is : t ≡ operator_word (Operator o) = sym (same_true the_type tt (operator_word (Operator o)) t (found_holds (λ p. same_terminal (operator_word (Operator p)) t) enclosing o h)) in
-    (is, found_around o (ap around_of (sym is) ∙ h))
+    let found = find_both (λ p. same_terminal (operator_word (Operator p)) t) (λ p. stands_around (Operator p)) enclosing o h refl in
+    (sym (same_true the_type tt (operator_word (Operator o)) t found.0), found.1)
 
 -- ---- levels
 

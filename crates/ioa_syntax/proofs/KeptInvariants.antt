@@ -1,5 +1,5 @@
 -- The invariants of a well formed source are fine over all its declarations.
-use Rattle.std.proofs.Common.{◌≡◌, Bool, true, false, cond, ◌&&◌, ◌++◌, List, [], ◌∷◌, Option, Some, None, refl, sym, ap, subst, ◌∙◌}
+use Rattle.std.proofs.Common.{◌≡◌, Bool, true, false, ◌&&◌, ◌++◌, List, [], ◌∷◌, Option, Some, None, refl, sym, ap, subst, ◌∙◌}
 use Rattle.std.specs.List.{list_all, find}
 use Rattle.std.specs.Str.{bytes_eq}
 use Rattle.std.specs.Option.{option_map_or, option_or}
@@ -7,6 +7,7 @@ use Rattle.std.proofs.lemmas.Bool.{and_parts, and_from}
 use Rattle.std.proofs.lemmas.List.Folds.{list_all-append, find-append}
 use Rattle.ioa_value.specs.Actions.{Name}
 use Rattle.ioa_value.specs.Table.{Table}
+use Rattle.ioa_value.proofs.ItemLemmas.{find_both}
 use Rattle.ioa_syntax.specs.Tree.{Expr, AutomatonTree, InvariantTree, DeclarationTree, declared_type, automaton, composition, invariant, SourceTree}
 use Rattle.ioa_syntax.specs.Types.{types_of}
 use Rattle.ioa_syntax.specs.Compositions.{automata, invariants, automaton_named}
@@ -14,17 +15,6 @@ use Rattle.ioa_syntax.specs.WellFormed.{is_type, context_of, variable_fields, he
 use Rattle.ioa_syntax.proofs.Early.{Begins, Implies, and_implies, each_implies, known_stays, context_stays, has_ty_there}
 use Rattle.ioa_syntax.proofs.FineParts.{fine_parts, source_parts}
 use Rattle.ioa_syntax.proofs.Declared.{types_begin, first_fine, one_more}
-
--- what a test finds passes another, if all do
-found_passes : {X : Type 0} (test pass : X → Bool) (xs : List X) (x : X) → find test xs ≡ Some x → list_all pass xs ≡ true → pass x ≡ true
-found_passes test pass [] x e h = absurd (cc)
-found_passes test pass (y ∷ ys) x e h =
-    let p = and_parts (pass y) (list_all pass ys) h in
-    go (test y) e p.0 (λ k. found_passes test pass ys x k p.1)
-  where
-    go : (b : Bool) → cond b (Some y) (find test ys) ≡ Some x → pass y ≡ true → (find test ys ≡ Some x → pass x ≡ true) → pass x ≡ true
-    go true e first later = let same : y ≡ x = cc in sym (ap pass same) ∙ first
-    go false e first later = later e
 
 automata-append : (ds es : SourceTree) → automata (ds ++ es) ≡ automata ds ++ automata es
 automata-append [] es = refl
@@ -106,7 +96,7 @@ module _ (s : SourceTree) (globals : List Name) where
       go (Some a) at h =
           let there : automaton_named s i.automaton ≡ Some a =
           ap (λ t. automaton_named t i.automaton) (sym e) ∙ named_stays before ds i.automaton a at in
-          let own = found_passes (λ a. bytes_eq a.name i.automaton) (known (types_of before)) (automata before) a at k in
+          let own = (find_both (λ a. bytes_eq a.name i.automaton) (known (types_of before)) (automata before) a at k).1 in
           ap (λ o. option_map_or (fine (types_of s)) o false) there ∙ condition_stays (types_of s) (types_of before) begins a i.condition own h
       go None at h = absurd (cc)
 

@@ -18,6 +18,7 @@ use Rattle.ioa_syntax.specs.Tree.{Expr, Stmt, Stmts, stop, seq, choose, Arms, no
 use Rattle.ioa_syntax.specs.Reading.{Outcome, Reader, Reads, Fails, ◌>>=◌, ◌▸◌, built, many, many_from, sees, after, assignment, statement, sees_statement, terminated, sequence, in_sequence, choices, an_arm, more_arms, introduced, sign, choice}
 use Rattle.ioa_syntax.specs.Layout.{space, line, text_word, text_expr, text_more, text_stmt, text_stmts, text_more_stmts, text_arms}
 use Rattle.ioa_syntax.specs.View.{expr_of, stmt_of, stmts_of, arm_of, arms_of, row_stmts, row_arms}
+use Rattle.ioa_syntax.proofs.Outcomes.{ok_pair}
 
 -- ---- rows inside a statement
 
@@ -135,9 +136,6 @@ arms_start depth count inner first found tokens one is =
 
 abbrev in_front : {A : Type 0} → A → List A × List Tok → Outcome (List A)
 in_front a p = Ok (a ∷ p.0, p.1)
-
-ok_pair : {A B : Type 0} (x x' : A) (y y' : B) → ◌≡◌ {A = Result (A × B) Fault} (Ok (x, y)) (Ok (x', y')) → (x ≡ x') × (y ≡ y')
-ok_pair {A} {B} x x' y y' h = let e : ◌≡◌ {A = A × B} (x, y) (x', y') = cc in (ap (λ p. p.0) e, ap (λ p. p.1) e)
 
 parted : {A : Type 0} (a : A) (o : Outcome (List A)) (all : List A) (left : List Tok) → (o >>= in_front a) ≡ Ok (all, left) →
     (more : List A) × (o ≡ Ok (more, left)) × (a ∷ more ≡ all)

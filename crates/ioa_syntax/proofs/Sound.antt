@@ -5,6 +5,7 @@ use Rattle.ioa_lex.specs.Tokens as tokens
 use Rattle.ioa_lex.specs.Tokens.{Tok, terminal}
 use Rattle.ioa_syntax.specs.declared.fault.Fault.TheVariants.{TooDeep}
 use Rattle.ioa_value.specs.declared.operator.Op.{Op}
+use Rattle.ioa_value.proofs.CompleteLemmas.{lt_of}
 use Rattle.ioa_syntax.specs.declared.tree.Infix.{Infix}
 use Rattle.ioa_syntax.specs.declared.tree.Infix.TheVariants.{Operator}
 use Rattle.ioa_syntax.specs.Tree.{Expr, prefix, binary}
@@ -21,9 +22,6 @@ use Rattle.ioa_syntax.proofs.Complete.{first_plain, first_marked, first_loose, c
 
 pub le_of : (a b : ℕ) → nat_le a b ≡ true → a ≤ b
 le_of a b h = grind (arith, nat_tests)
-
-lt_of : (a b : ℕ) → nat_lt a b ≡ true → a < b
-lt_of a b h = grind (arith, nat_tests)
 
 -- ---- the next token, seen as an operator of these levels
 

@@ -1,11 +1,10 @@
 -- The types of a well formed source are types.
-use Rattle.std.proofs.Common.{◌≡◌, ℕ, suc, ◌+◌, ◌<◌, ◌≤◌, Bool, true, false, cond, not, ◌&&◌, nat_le, List, [], ◌∷◌, ◌++◌, filter, length, Some, All, refl, sym, ap, subst, ◌∙◌, arith, append_assoc, append-nil}
+use Rattle.std.proofs.Common.{◌≡◌, ℕ, suc, ◌+◌, ◌<◌, ◌≤◌, Bool, true, false, cond, not, ◌&&◌, nat_le, List, [], ◌∷◌, ◌++◌, filter, length, Some, All, refl, sym, ap, subst, ◌∙◌, arith, append_assoc}
 use Rattle.std.specs.List.{list_all, flat_map}
 use Rattle.std.specs.Option.{option_map, option_map_or}
 use Rattle.std.proofs.lemmas.Bool.{and_parts, and_from}
 use Rattle.std.proofs.lemmas.Bool.Decides.{nat_tests}
 use Rattle.std.proofs.lemmas.List.{length-append}
-use Rattle.std.proofs.lemmas.Grind.{flat_map-append}
 use Rattle.std.proofs.lemmas.List.Elements.{All-head, All-tail, All-cons, All-nil}
 use Rattle.ioa_value.specs.Actions.{Name}
 use Rattle.ioa_value.specs.Names.{IsName}
@@ -16,7 +15,7 @@ use Rattle.ioa_value.specs.Widths.{shape_width, widths}
 use Rattle.ioa_value.specs.declared.limits.TheConstants.{LIMITS}
 use Rattle.ioa_value.proofs.NameLemmas.{distinct-append, append-apart}
 use Rattle.ioa_value.proofs.PlaceLemmas.{type_below}
-use Rattle.ioa_value.proofs.TableLemmas.{pushed, basic_types}
+use Rattle.ioa_value.proofs.TableLemmas.{pushed, basic_types, names_pushed}
 use Rattle.ioa_syntax.specs.Tree.{FieldTree, FormTree, enumeration, tuple, sequence, TypeTree, InvariantTree, DeclarationTree, declared_type, automaton, composition, invariant, SourceTree}
 use Rattle.ioa_syntax.specs.Names.{names_of_field, names_of_form, names_of_declaration, LegalNames}
 use Rattle.ioa_syntax.specs.Types.{with_field, numbered, shape_of, declared, with_type, declared_from, types_of}
@@ -120,9 +119,6 @@ narrow : ℕ → Bool
 narrow w = nat_le w LIMITS.words
 
 -- ---- names
-
-names_pushed : (types : Table) (d : Declaration) → all_names (types ++ d ∷ []) ≡ all_names types ++ given_names d
-names_pushed types d = flat_map-append given_names types (d ∷ []) ∙ ap (λ ns. all_names types ++ ns) (append-nil (given_names d))
 
 -- a name that is left out
 less : (xs : List Name) (n : Name) (ys : List Name) → distinct (xs ++ n ∷ ys) ≡ true → distinct (xs ++ ys) ≡ true

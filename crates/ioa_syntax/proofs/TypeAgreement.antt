@@ -1,5 +1,5 @@
 -- The type of a tree depends on the names in it alone.
-use Rattle.std.proofs.Common.{◌≡◌, ℕ, Bool, true, false, ◌&&◌, List, [], ◌∷◌, ◌++◌, Option, option_and_then, refl, ap, ◌∙◌}
+use Rattle.std.proofs.Common.{◌≡◌, ℕ, Bool, true, false, ◌&&◌, List, [], ◌∷◌, ◌++◌, Option, option_and_then, refl, ap}
 use Rattle.std.specs.List.{list_all}
 use Rattle.std.specs.Option.{option_map, option_map_or}
 use Rattle.std.proofs.lemmas.Bool.{and_parts}
@@ -11,10 +11,7 @@ use Rattle.ioa_syntax.specs.Names.{names_of_expr, names_of_exprs, names_of_stmt,
 use Rattle.ioa_syntax.specs.Types.{constant_type}
 use Rattle.ioa_syntax.specs.Meaning.{or_else}
 use Rattle.ioa_syntax.specs.WellFormed.{Context, type_in, type_of, types_of_all, one_type, both_types, infix_type, made_type, selected_type, is_some_of, context_of, variable_fields, scope, stmt_fine, stmts_fine, arms_fine}
-use Rattle.ioa_syntax.proofs.Agreement.{all_both}
-
-pub alike : {A B C : Type 0} (f : A → B → C) (a b : A) (c d : B) → a ≡ b → c ≡ d → f a c ≡ f b d
-alike f a b c d h k = ap (λ x. f x c) h ∙ ap (f b) k
+use Rattle.ioa_syntax.proofs.Agreement.{all_both, two}
 
 module _ (types early : Table) (p : Name → Bool) (c d : Context) (same : (x : Name) → p x ≡ true → type_in c x ≡ type_in d x) where
   mutual
@@ -26,7 +23,7 @@ module _ (types early : Table) (p : Name → Bool) (c d : Context) (same : (x : 
     type_same (prefix o e) h = ap (λ a. one_type a (op_type types o)) (type_same e h)
     type_same (binary l o r) h =
         let k = all_both p (names_of_expr l) (names_of_expr r) h in
-        alike (λ a b. both_types a b (infix_type types o)) (type_of types early c l) (type_of types early d l) (type_of types early c r) (type_of types early d r)
+        two (λ a b. both_types a b (infix_type types o)) (type_of types early c l) (type_of types early d l) (type_of types early c r) (type_of types early d r)
         (type_same l k.0) (type_same r k.1)
     type_same (empty x) h = refl
     type_same (make x es) h = ap (option_and_then (made_type types (type_named early x))) (types_same es (and_parts (p x) (list_all p (names_of_exprs es)) h).1)
@@ -36,7 +33,7 @@ module _ (types early : Table) (p : Name → Bool) (c d : Context) (same : (x : 
     types_same no_expr h = refl
     types_same (also e es) h =
         let k = all_both p (names_of_expr e) (names_of_exprs es) h in
-        alike (λ (s : Option ℕ) (r : Option (List ℕ)). option_and_then (λ ty. option_map (λ tys. ty ∷ tys) r) s) (type_of types early c e) (type_of types early d e)
+        two (λ (s : Option ℕ) (r : Option (List ℕ)). option_and_then (λ ty. option_map (λ tys. ty ∷ tys) r) s) (type_of types early c e) (type_of types early d e)
         (types_of_all types early c es) (types_of_all types early d es) (type_same e k.0) (types_same es k.1)
 
 -- so of statements, in an entry of two automata
@@ -50,19 +47,19 @@ module _ (types early : Table) (g k : List Name) (a b : AutomatonTree) (e : Entr
     stmt_same : (s : Stmt) → list_all p (names_of_stmt s) ≡ true → stmt_fine types early g a e s ≡ stmt_fine types early k b e s
     stmt_same (assign x v) h =
         let q = and_parts (p x) (list_all p (names_of_expr v)) h in
-        alike (λ (o s : Option ℕ). option_map_or (λ ty. is_some_of s ty) o false)
+        two (λ (o s : Option ℕ). option_map_or (λ ty. is_some_of s ty) o false)
         (type_in (context_of early (variable_fields a)) x) (type_in (context_of early (variable_fields b)) x)
         (type_of types early (scope types early g a e) v) (type_of types early (scope types early k b e) v) (variables x q.0) (expr_same v q.1)
     stmt_same (choose arms others) h =
         let q = all_both p (names_of_arms arms) (names_of_stmts others) h in
-        alike (λ x y. x && y) (arms_fine types early g a e arms) (arms_fine types early k b e arms)
+        two (λ x y. x && y) (arms_fine types early g a e arms) (arms_fine types early k b e arms)
         (stmts_fine types early g a e others) (stmts_fine types early k b e others) (arms_same arms q.0) (stmts_same others q.1)
 
     pub stmts_same : (ss : Stmts) → list_all p (names_of_stmts ss) ≡ true → stmts_fine types early g a e ss ≡ stmts_fine types early k b e ss
     stmts_same stop h = refl
     stmts_same (seq s ss) h =
         let q = all_both p (names_of_stmt s) (names_of_stmts ss) h in
-        alike (λ x y. x && y) (stmt_fine types early g a e s) (stmt_fine types early k b e s)
+        two (λ x y. x && y) (stmt_fine types early g a e s) (stmt_fine types early k b e s)
         (stmts_fine types early g a e ss) (stmts_fine types early k b e ss) (stmt_same s q.0) (stmts_same ss q.1)
 
     arms_same : (arms : Arms) → list_all p (names_of_arms arms) ≡ true → arms_fine types early g a e arms ≡ arms_fine types early k b e arms
@@ -70,9 +67,9 @@ module _ (types early : Table) (g k : List Name) (a b : AutomatonTree) (e : Entr
     arms_same (arm v ss more) h =
         let q = all_both p (names_of_expr v) (names_of_stmts ss ++ names_of_arms more) h in
         let r = all_both p (names_of_stmts ss) (names_of_arms more) q.1 in
-        alike (λ (o : Option ℕ) (y : Bool). is_some_of o 0 && y)
+        two (λ (o : Option ℕ) (y : Bool). is_some_of o 0 && y)
         (type_of types early (scope types early g a e) v) (type_of types early (scope types early k b e) v)
         (stmts_fine types early g a e ss && arms_fine types early g a e more) (stmts_fine types early k b e ss && arms_fine types early k b e more)
         (expr_same v q.0)
-        (alike (λ x y. x && y) (stmts_fine types early g a e ss) (stmts_fine types early k b e ss)
+        (two (λ x y. x && y) (stmts_fine types early g a e ss) (stmts_fine types early k b e ss)
         (arms_fine types early g a e more) (arms_fine types early k b e more) (stmts_same ss r.0) (arms_same more r.1))

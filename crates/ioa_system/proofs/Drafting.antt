@@ -7,7 +7,7 @@ use Rattle.std.proofs.lemmas.List.{drop-set-lt, get_or-set_other, drop_all, get_
 use Rattle.std.proofs.lemmas.List.Elements.{All-head, All-tail, All-drop}
 use Rattle.std.proofs.lemmas.Map.Keys.{IsDistinct-head, IsDistinct-tail}
 use Rattle.std.proofs.lemmas.Option.{slice_get-get_or}
-use Rattle.ioa_value.proofs.ItemLemmas.{drop_item}
+use Rattle.ioa_value.proofs.ItemLemmas.{drop_item, image_at}
 use Rattle.ioa_value.specs.Plain.{Val}
 use Rattle.ioa_node.specs.Drafts.{with_draft}
 use Rattle.ioa_node.specs.Nodes.{Node}
@@ -16,7 +16,6 @@ use Rattle.ioa_system.specs.Drafted.{AreDrafts, ArePlaces, IsTyped, drafted}
 use Rattle.ioa_system.specs.Found.{IsLent, lent_types, member_of, numbers_of, state_of}
 use Rattle.ioa_system.specs.Participants.{taken, put_back}
 use Rattle.ioa_system.specs.Systems.{Slots, types_of, slots_of}
-use Rattle.ioa_system.proofs.Finding.{got_map}
 use Rattle.ioa_system.proofs.Readying.{taken_map}
 
 abbrev pub Draft : Type 0
@@ -82,7 +81,7 @@ pub drafted_taken : (ns : List Node) (qs : List Participant) (ds : List Draft) �
 drafted_taken ns qs ds p l =
     drafted_types ns qs ds l
     ∙ sym (taken_map (λ (q : Participant). slots_of (state_of ns q)) (types_of ns) qs
-    (λ k d m. let q : Participant = get_or qs k d in got_map slots_of ns q.component (state_of ns q) (state_got qs ns p k d m)))
+    (λ k d m. let q : Participant = get_or qs k d in image_at slots_of ns q.component (state_of ns q) (state_got qs ns p k d m)))
 
 -- ---- drafts that are put in place one by one
 

@@ -32,11 +32,6 @@ owns_found m a e h = rw h refl
 
 -- ---- items by their places
 
-pub got_map : {X Y : Type 0} (f : X → Y) (xs : List X) (i : ℕ) (x : X) → slice_get xs i ≡ Some x → slice_get (map f xs) i ≡ Some (f x)
-got_map f [] i x e = absurd (cc)
-got_map f (y ∷ ys) zero x e = cc
-got_map f (y ∷ ys) (suc i) x e = got_map f ys i x e
-
 got_item : {X : Type 0} (xs : List X) (i : ℕ) (x : X) → i < length xs → x ≡ get_or xs i x → slice_get xs i ≡ Some x
 got_item xs i x l e = slice_get-get_or xs i x l ∙ ap (λ (y : _). Some y) (sym e)
 

@@ -6,9 +6,9 @@ use Rattle.std.proofs.lemmas.Bool.Decides.{nat_tests}
 use Rattle.std.proofs.Math.Seq.{set-append_seam}
 use Rattle.std.proofs.lemmas.List.{append-nil, drop_all, map-set, take_all}
 use Rattle.std.proofs.lemmas.List.Elements.{All-head, All-tail}
-use Rattle.std.proofs.lemmas.Option.{slice_get-get_or}
 use Rattle.ioa_value.specs.declared.arithmetic.Fault.{Fault}
 use Rattle.ioa_value.specs.Actions.{Act}
+use Rattle.ioa_value.proofs.ItemLemmas.{item_there}
 use Rattle.ioa_syntax.specs.declared.tree.Kind.{Kind}
 use Rattle.ioa_syntax.specs.Components.{Component, has, owns, is_kind, is_local}
 use Rattle.ioa_syntax.specs.Steps.{Moved, next, not_an_action, not_enabled, fault, Asked, free, owned, asked, with_state, then_rest, effect_on, effects, allowed, step, participants_from, participants}
@@ -24,15 +24,11 @@ set_got [] n x e = refl
 set_got (y ∷ ys) zero x e = cc
 set_got (y ∷ ys) (suc n) x e = ap (λ zs. y ∷ zs) (set_got ys n x e)
 
-got : {X : Type 0} (xs : List X) (n : ℕ) → n < length xs → (x : X) × (slice_get xs n ≡ Some x)
-got [] n l = absurd (omega arith)
-got (x ∷ xs) n l = (get_or (x ∷ xs) n x, slice_get-get_or (x ∷ xs) n x l)
-
 -- what was taken, put back
 pub put_back-taken : {X : Type 0} (ns : List ℕ) (xs : List X) → All (λ n. n < length xs) ns → put_back ns (taken ns xs) xs ≡ xs
 put_back-taken [] xs h = refl
 put_back-taken (n ∷ ns) xs h =
-    let g = got xs n (All-head (λ k. k < length xs) n ns h) in
+    let g = item_there xs n (All-head (λ k. k < length xs) n ns h) in
     rw (taken_some n ns xs g.0 g.1, set_got xs n g.0 g.1) (put_back-taken ns xs (All-tail (λ k. k < length xs) n ns h))
 
 pub map_put_back : {X Y : Type 0} (f : X → Y) (ns : List ℕ) (ys xs : List X) → map f (put_back ns ys xs) ≡ put_back ns (map f ys) (map f xs)

@@ -14,10 +14,11 @@ use Rattle.ioa_compile.specs.Tables.{AreEntries, AreMembers, entry_of, tabled}
 use Rattle.ioa_system.specs.declared.participation.Participant.{Participant}
 use Rattle.ioa_system.specs.Found.{member_of, components_of, numbers_of, placed, AreParticipants, state_of, lent, lent_types, IsLent, AreReady}
 use Rattle.ioa_value.specs.Table.{Table}
+use Rattle.ioa_value.proofs.ItemLemmas.{image_at}
 use Rattle.ioa_system.specs.Participants.{taken, renumbered, step_from}
 use Rattle.ioa_system.specs.Systems.{types_of, values_of, slot_types, slots_of}
 use Rattle.ioa_system.proofs.Participating.{ItemAt, item_at, taken_some}
-use Rattle.ioa_system.proofs.Finding.{tables, got_map}
+use Rattle.ioa_system.proofs.Finding.{tables}
 
 pub same_length : (ms : List MemberCode) (ns : List Node) → types_of ns ≡ slot_types ms → length ns ≡ length ms
 same_length ms ns h = sym (length-map ns slots_of) ∙ ap length h ∙ length-map ms (λ (m : MemberCode). slots_of m.start)
@@ -42,7 +43,7 @@ pub types_taken : (a : Act) (ms : List MemberCode) (qs : List Participant) → A
 types_taken a ms qs p =
     ap (λ ns. taken ns (slot_types ms)) (sym p.numbers)
     ∙ taken_map (λ q. slots_of (member_of q).start) (slot_types ms) qs
-    (λ k d l. let q : Participant = get_or qs k d in got_map (λ (m : MemberCode). slots_of m.start) ms q.component (member_of q) (p.members k d l))
+    (λ k d l. let q : Participant = get_or qs k d in image_at (λ (m : MemberCode). slots_of m.start) ms q.component (member_of q) (p.members k d l))
 
 -- ---- all components' states at hand
 
@@ -82,7 +83,7 @@ lent_all a ms ns qs p places t =
     (λ k d l.
     let q : Participant = get_or qs k d in
     let s : Stands ns q.component (member_of q) = stands ms ns q.component (member_of q) t (p.members k d l) in
-    got_map (λ (n : Node). n.values) ns q.component (state_of ns q)
+    image_at (λ (n : Node). n.values) ns q.component (state_of ns q)
     (slice_get-get_or ns q.component (member_of q).start s.within ∙ ap (λ (j : ℕ). Some (get_or ns j (member_of q).start)) (sym (places k d l)))))
 
 -- the participants' numbers are the states' places

@@ -8,6 +8,7 @@ use Rattle.std.proofs.lemmas.Bool.Decides.{nat_tests}
 use Rattle.std.proofs.lemmas.List.Elements.{All-head, All-tail, All-cons, All-nil}
 use Rattle.std.proofs.lemmas.List.{length-map}
 use Rattle.std.proofs.lemmas.Slice.Eq.{bytes_eq-Decides}
+use Rattle.std.proofs.lemmas.Option.{get_or_from_slice_get}
 use Rattle.ioa_value.specs.declared.terminal.Terminal.TheVariants as terminals
 use Rattle.ioa_value.specs.Arithmetic.{fits}
 use Rattle.ioa_value.specs.Actions.{Name}
@@ -24,8 +25,9 @@ use Rattle.ioa_value.proofs.TokenLemmas.{IsWord, IsEnd, finds_word, finds_rest, 
 use Rattle.ioa_value.proofs.SpellLemmas.{name_is_word, number_is_word, begins_name}
 use Rattle.ioa_value.proofs.NumeralLemmas.{number_so, number_first}
 use Rattle.ioa_value.proofs.NamedLemmas.{constant_there, no_constant, type_there, type_name_legal, constant_legal, unnamed}
-use Rattle.ioa_value.proofs.ScanLemmas.{row_are, parts_row, items_row, mark_there, no_comma, at_closing, at_opening, after_ends, found_or}
+use Rattle.ioa_value.proofs.ScanLemmas.{row_are, parts_row, items_row, mark_there, no_comma, at_closing, at_opening, after_ends}
 use Rattle.ioa_value.proofs.Spellings.{no_name}
+use Rattle.ioa_value.proofs.ItemLemmas.{item_there}
 
 -- ---- what begins a value
 
@@ -88,11 +90,11 @@ record OfNames (o : Option Shape) (n : ℕ) : Type 0 where
   is : o ≡ Some (names ns)
   within : n < length ns
 
-below : (n m : ℕ) → nat_lt n m ≡ true → n < m
-below n m e = grind (arith, nat_tests)
+pub lt_of : (n m : ℕ) → nat_lt n m ≡ true → n < m
+lt_of n m e = grind (arith, nat_tests)
 
 names_of : (o : Option Shape) (n : ℕ) → is_name_of o n ≡ true → OfNames o n
-names_of (Some (names ns)) n h = record { ns = ns; is = refl; within = below n (length ns) h }
+names_of (Some (names ns)) n h = record { ns = ns; is = refl; within = lt_of n (length ns) h }
 names_of (Some truths) n h = absurd (false≢true h)
 names_of (Some numbers) n h = absurd (false≢true h)
 names_of (Some (fields fs)) n h = absurd (false≢true h)
@@ -111,11 +113,6 @@ declares types ty s e = go (slice_get types ty) refl e
     go : (o : Option Declaration) → slice_get types ty ≡ o → option_map (λ d. d.shape) o ≡ Some s → Declares types ty s
     go (Some d) at e = let same : d.shape ≡ s = cc in record { d = d; there = at; shape = same }
     go None at e = absurd (cc)
-
-item_there : {X : Type 0} (xs : List X) (n : ℕ) → n < length xs → (x : X) × (slice_get xs n ≡ Some x)
-item_there [] n lt = absurd (omega arith)
-item_there (x ∷ xs) zero lt = (x, refl)
-item_there (y ∷ xs) (suc n) lt = item_there xs n (omega arith)
 
 pub each_below : (most of ty : ℕ) → of < ty → All (λ k. k < ty) (repeated most of)
 each_below zero of ty lt = All-nil (λ k. k < ty)
@@ -149,7 +146,7 @@ module _ (types : Table) (declared : AreTypes types) where
       let o = names_of (shape_at types own) n h in
       let d = declares types own (names o.ns) o.is in
       let x = item_there o.ns n o.within in
-      let text : constant_name types own n ≡ x.0 = ap (λ s. get_or (option_map_or names_in s []) n []) o.is ∙ found_or o.ns n x.0 [] x.1 in
+      let text : constant_name types own n ≡ x.0 = ap (λ s. get_or (option_map_or names_in s []) n []) o.is ∙ get_or_from_slice_get o.ns n x.0 [] x.1 in
       let item : slice_get (names_in d.d.shape) n ≡ Some x.0 = ap (λ s. slice_get (names_in s) n) d.shape ∙ x.1 in
       let number : 0 + own ≡ own = omega arith in
       let found : constant_named types x.0 ≡ Some (own, n) = constant_there types 0 own d.d n x.0 declared.different d.there item ∙ ap (λ k. Some (k, n)) number in

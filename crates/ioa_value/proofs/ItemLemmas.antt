@@ -2,7 +2,7 @@
 use Rattle.std.proofs.Common.{◌≡◌, ℕ, zero, suc, ◌+◌, ◌<◌, ◌≤◌, Bool, true, false, cond, ◌&&◌, ◌||◌, List, [], ◌∷◌, ◌++◌, length, map, take, drop, find, get_or, Some, refl, sym, ap, ◌∙◌, subst, arith}
 use Rattle.std.specs.Prelude.{slice_get}
 use Rattle.std.specs.List.{list_all, list_any}
-use Rattle.std.proofs.lemmas.Bool.{and_parts}
+use Rattle.std.proofs.lemmas.Bool.{and_parts, and_from}
 use Rattle.std.proofs.lemmas.List.{take_more, drop_more, drop_all, map-append}
 
 -- ---- the item at a loop's turn, before what follows it and behind what came before
@@ -65,6 +65,13 @@ all_at p (y ∷ ys) (suc i) x h e = all_at p ys i x (and_parts (p y) (list_all p
 -- so does the item at a loop's turn, through a view
 pub passes_at : {X Y : Type 0} (p : Y → Bool) (f : X → Y) (xs : List X) (i : ℕ) (x : X) → list_all p (map f xs) ≡ true → i < length xs → x ≡ get_or xs i x → p (f x) ≡ true
 passes_at p f xs i x h l e = all_at p (map f xs) i (f x) h (at_map f xs i x l e)
+
+-- what all items pass, they pass where it is weaker
+pub all_weaker : {X : Type 0} (p q : X → Bool) → ((x : X) → p x ≡ true → q x ≡ true) → (xs : List X) → list_all p xs ≡ true → list_all q xs ≡ true
+all_weaker p q each [] h = refl
+all_weaker p q each (x ∷ xs) h =
+    let k = and_parts (p x) (list_all p xs) h in
+    and_from (q x) (list_all q xs) (each x k.0) (all_weaker p q each xs k.1)
 
 -- a test that not all items pass fails at some
 pub fails_at : {X : Type 0} (p : X → Bool) (xs : List X) → list_all p xs ≡ false → (x : X) × (i : ℕ) × (slice_get xs i ≡ Some x) × (p x ≡ false)

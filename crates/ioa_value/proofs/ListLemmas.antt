@@ -4,6 +4,7 @@ use Rattle.std.specs.List.{onto_first}
 use Rattle.std.proofs.lemmas.List.Elements.{All-nil, All-cons}
 use Rattle.std.proofs.lemmas.Bool.{false≢true}
 use Rattle.std.proofs.lemmas.Bool.Decides.{nat_tests}
+use Rattle.std.proofs.lemmas.List.{nil_from_length}
 use Rattle.ioa_value.specs.Table.{Table}
 use Rattle.ioa_value.specs.Actions.{Act}
 use Rattle.ioa_value.specs.Reads.{Reads}
@@ -78,10 +79,6 @@ good types [] acts r = All-nil (IsLine types)
 good types (l ∷ ls) acts (inl h) = All-cons (IsLine types) l ls (inl h.0) (good types ls acts h.1)
 good types (l ∷ ls) acts (inr (a, more, h, m, e)) = All-cons (IsLine types) l ls (inr (a, h)) (good types ls more m)
 
-no_bytes : (xs : List ℕ) → length xs ≡ 0 → xs ≡ []
-no_bytes [] e = refl
-no_bytes (x ∷ xs) e = absurd (omega arith)
-
 module _ (types : Table) (text : List ℕ) (count : ℕ) (acts : List Act) (rest : List ℕ) where
   next : ReadTo types text count acts rest → 0 < length rest → (more : List Act) → ReadsLines types (first_line rest ∷ []) more → ((ys : List Act) → ReadsLines types (first_line rest ∷ []) ys → ys ≡ more) → ReadTo types text (count + 1) (acts ++ more) (after_line rest)
   next h long more r only =
@@ -112,12 +109,12 @@ module _ (types : Table) (text : List ℕ) (count : ℕ) (acts : List Act) (rest
 
   pub finished : ReadTo types text count acts rest → length rest ≡ 0 → ReadsList types text acts
   finished h e =
-      let whole : lines text ≡ h.before = h.whole ∙ ap (λ l. h.before ++ lines l) (no_bytes rest e) ∙ append-nil h.before in
+      let whole : lines text ≡ h.before = h.whole ∙ ap (λ l. h.before ++ lines l) (nil_from_length rest e) ∙ append-nil h.before in
       subst (λ ls. ReadsLines types ls acts) (sym whole) h.read
 
   pub finished_once : ReadTo types text count acts rest → length rest ≡ 0 → (ys : List Act) → ReadsList types text ys → acts ≡ ys
   finished_once h e ys r =
-      let whole : lines text ≡ h.before = h.whole ∙ ap (λ l. h.before ++ lines l) (no_bytes rest e) ∙ append-nil h.before in
+      let whole : lines text ≡ h.before = h.whole ∙ ap (λ l. h.before ++ lines l) (nil_from_length rest e) ∙ append-nil h.before in
       sym (h.once ys (subst (λ ls. ReadsLines types ls ys) whole r))
 
   pub broken : ReadTo types text count acts rest → 0 < length rest → is_skipped (first_line rest) ≡ false → ((a : Act) → Reads types (first_line rest) a → ⊥) → BadLine types text (count + 1)

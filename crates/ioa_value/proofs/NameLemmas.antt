@@ -3,7 +3,7 @@ use Rattle.std.proofs.Common.{◌≡◌, arith, ℕ, zero, suc, ◌+◌, Bool, t
 use Rattle.std.specs.Prelude.{slice_get}
 use Rattle.std.specs.Option.{option_or}
 use Rattle.std.specs.Str.{bytes_eq}
-use Rattle.std.proofs.lemmas.Bool.{or_left, or_right, and_left, and_right, and_parts, not_from_true, false≢true}
+use Rattle.std.proofs.lemmas.Bool.{or_left, or_right, and_left, and_right, and_parts, not_from_true, false≢true, or_parts}
 use Rattle.std.proofs.lemmas.Bool.Decides.{same_from_decides, Decides-like}
 use Rattle.std.proofs.lemmas.List.Folds.{list_any-append, list_all-append}
 use Rattle.std.proofs.lemmas.List.Elements.{All-head, All-tail}
@@ -95,12 +95,8 @@ pub not_true : (b : Bool) → not b ≡ true → b ≡ false
 not_true true h = absurd (cc)
 not_true false h = refl
 
-or_false : (a b : Bool) → (a || b) ≡ false → (a ≡ false) × (b ≡ false)
-or_false true b h = absurd (cc)
-or_false false b h = (refl, h)
-
 pub outside_both : (ms bs : List Name) (x : Name) → contains (ms ++ bs) x ≡ false → (contains ms x ≡ false) × (contains bs x ≡ false)
-outside_both ms bs x h = or_false (contains ms x) (contains bs x) (sym (contains-append ms bs x) ∙ h)
+outside_both ms bs x h = or_parts (contains ms x) (contains bs x) (sym (contains-append ms bs x) ∙ h)
 
 pub inside_left : (ms bs : List Name) (x : Name) → contains ms x ≡ true → contains (ms ++ bs) x ≡ true
 inside_left ms bs x h = contains-append ms bs x ∙ or_left (contains ms x) (contains bs x) h
@@ -142,7 +138,7 @@ inside_all P (n ∷ ns) x h e = go (bytes_eq n x) refl e (inside_all P ns x (All
 pub place_outside : (i : ℕ) (ns : List Name) (x : Name) → contains ns x ≡ false → place_from i ns x ≡ None
 place_outside i [] x h = refl
 place_outside i (n ∷ ns) x h =
-    let p = or_false (bytes_eq n x) (contains ns x) h in
+    let p = or_parts (bytes_eq n x) (contains ns x) h in
     rw p.0 (place_outside (i + 1) ns x p.1)
 
 -- the place that is found is a place of the name

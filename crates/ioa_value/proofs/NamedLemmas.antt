@@ -40,7 +40,7 @@ constant_inside : (d : Declaration) (x : Name) → contains (names_in d.shape) x
 constant_inside d x h = inside_right (d.name ∷ []) (names_in d.shape) x h
 
 -- the names of the first type are not those of later ones
-not_given : (ms bs : List Name) (x : Name) → distinct (ms ++ bs) ≡ true → contains bs x ≡ true → contains ms x ≡ false
+pub not_given : (ms bs : List Name) (x : Name) → distinct (ms ++ bs) ≡ true → contains bs x ≡ true → contains ms x ≡ false
 not_given ms bs x d h = go (contains ms x) refl
   where
     go : (b : Bool) → contains ms x ≡ b → b ≡ false

@@ -1,8 +1,8 @@
 -- The types of a tuple's fields, as the code has them.
-use Rattle.std.proofs.Common.{◌≡◌, ℕ, suc, ◌<◌, ◌≤◌, false, List, [], ◌∷◌, length, map, get_or, Some, None, refl, ap, ◌∙◌}
+use Rattle.std.proofs.Common.{◌≡◌, ℕ, suc, ◌<◌, false, List, [], ◌∷◌, length, map, get_or, Some, refl, ap, ◌∙◌}
 use Rattle.std.specs.Prelude.{slice_get}
 use Rattle.std.specs.Option.{option_map}
-use Rattle.std.proofs.lemmas.Option.{slice_get-map, slice_get_read, slice_get_past}
+use Rattle.std.proofs.lemmas.Option.{slice_get-map, slice_get_read}
 use Rattle.ioa_value.specs.declared.types.Field.{Field}
 use Rattle.ioa_value.specs.declared.value.Ty.{Ty}
 use Rattle.ioa_value.specs.Plain.{number}
@@ -23,8 +23,3 @@ pub field_there : (fs : List Field) (j : ℕ) (f : Field) → j < length fs → 
 field_there fs j f lt e =
     slice_get-map (λ d. d.ty) (map tuple_field fs) j
     ∙ ap (option_map (λ d. d.ty)) (slice_get-map tuple_field fs j ∙ ap (option_map tuple_field) (slice_get_read fs (length fs) j f refl lt e))
-
-pub field_missing : (fs : List Field) (j : ℕ) → length fs ≤ j → slice_get (types_of (map tuple_field fs)) j ≡ None
-field_missing fs j le =
-    slice_get-map (λ d. d.ty) (map tuple_field fs) j
-    ∙ ap (option_map (λ d. d.ty)) (slice_get-map tuple_field fs j ∙ ap (option_map tuple_field) (slice_get_past fs j le))

@@ -11,9 +11,9 @@ use Rattle.ioa_value.specs.Scanning.{after_mark, opening, closing, may_be_shorte
 use Rattle.ioa_value.proofs.TableLemmas.{stands}
 use Rattle.ioa_value.proofs.PlainLemmas.{put_last}
 use Rattle.std.proofs.lemmas.List.{drop_all}
-use Rattle.std.proofs.lemmas.Option.{slice_get_within}
+use Rattle.std.proofs.lemmas.Option.{slice_get_within, get_or_from_slice_get}
 use Rattle.ioa_value.proofs.ItemLemmas.{drop_item}
-use Rattle.ioa_value.proofs.ScanLemmas.{found_or, mark_is, mark_there}
+use Rattle.ioa_value.proofs.ScanLemmas.{mark_is, mark_there}
 use Rattle.ioa_value.proofs.CompleteLemmas.{each_below}
 
 -- ---- values before those that are still to be read
@@ -41,8 +41,8 @@ joined_end : (vs : Vals) → joined_vals vs none ≡ vs
 joined_end none = refl
 joined_end (more v vs) = ap (more v) (joined_end vs)
 
-drop_there : {X : Type 0} (xs : List X) (n : ℕ) (x : X) → slice_get xs n ≡ Some x → drop n xs ≡ x ∷ drop (n + 1) xs
-drop_there xs n x e = drop_item xs n x (slice_get_within xs n x e) (sym (found_or xs n x x e))
+pub drop_there : {X : Type 0} (xs : List X) (n : ℕ) (x : X) → slice_get xs n ≡ Some x → drop n xs ≡ x ∷ drop (n + 1) xs
+drop_there xs n x e = drop_item xs n x (slice_get_within xs n x e) (sym (get_or_from_slice_get xs n x x e))
 
 drop_past : {X : Type 0} (xs : List X) (n : ℕ) → slice_get xs n ≡ None → drop n xs ≡ []
 drop_past xs n e = drop_all n xs (past xs n e)

@@ -1,11 +1,11 @@
 -- What is read at the front of a text is a spelling of the value, and each spelling of a value is read.
 use Rattle.std.proofs.Common.{◌≡◌, ℕ, zero, suc, Bool, true, false, cond, ◌&&◌, ◌==◌, nat_lt, nat_le, ℤ, List, [], ◌∷◌, ◌++◌, length, get_or, codes, Option, Some, None, refl, sym, ap, ap₂, subst, ◌∙◌, append_assoc, arith}
 use Rattle.std.specs.Prelude.{slice_get}
-use Rattle.std.specs.Option.{option_map, option_map_or, option_or, unwrap_or}
+use Rattle.std.specs.Option.{option_map, option_map_or, option_or}
 use Rattle.std.specs.Str.{bytes_eq}
 use Rattle.std.proofs.lemmas.Bool.Decides.{nat_tests}
 use Rattle.std.proofs.lemmas.Slice.Eq.{bytes_eq-Decides}
-use Rattle.std.proofs.lemmas.Option.{slice_get_within, unwrap_or-slice_get}
+use Rattle.std.proofs.lemmas.Option.{slice_get_within, get_or_from_slice_get}
 use Rattle.ioa_value.specs.Actions.{Name}
 use Rattle.ioa_value.specs.Plain.{Val, Vals, truth, num, name, tuple, items, none, more, count}
 use Rattle.ioa_value.specs.Table.{Table, Shape, truths, numbers, names, fields, sequence, shape_at, types_of, type_name, constant_named, constant_name, names_in, AreTypes}
@@ -288,10 +288,6 @@ module _ (types : Table) (scan : ℕ → List ℕ → Option (Val × List ℕ)) 
 
 -- ---- in tables of types
 
--- what stands in a list where it is found
-pub found_or : {X : Type 0} (xs : List X) (n : ℕ) (x d : X) → slice_get xs n ≡ Some x → get_or xs n d ≡ x
-found_or xs n x d e = sym (unwrap_or-slice_get xs n d) ∙ ap (λ o. unwrap_or o d) e
-
 -- the first word is read, and with it what follows
 record Word (text : List ℕ) (o : Option Val) (v : Val) (rest : List ℕ) : Type 0 where
   value : o ≡ Some v
@@ -344,7 +340,7 @@ module _ (types : Table) (declared : AreTypes types) where
           let shape : Some c.d.shape ≡ Some (names ns) = sym (ap (option_map (λ d. d.shape)) (sym (ap (slice_get types) k) ∙ c.there)) ∙ at in
           let shape' : c.d.shape ≡ names ns = cc in
           let item : slice_get ns p.1 ≡ Some w = ap (λ s. slice_get (names_in s) p.1) (sym shape') ∙ c.item in
-          let text : constant_name types ty p.1 ≡ w = ap (λ o. get_or (option_map_or names_in o []) p.1 []) at ∙ found_or ns p.1 w [] item in
+          let text : constant_name types ty p.1 ≡ w = ap (λ o. get_or (option_map_or names_in o []) p.1 []) at ∙ get_or_from_slice_get ns p.1 w [] item in
           let few : nat_lt p.1 (length ns) ≡ true = (let lt = slice_get_within ns p.1 w item in grind (arith, nat_tests)) in
           let typed : is_of types (name ty p.1) ty ≡ true = rw (equal ty ty refl) (ap (λ o. is_name_of o p.1) at ∙ few) in
           (λ first q. subst (Spells types first) same (subst (λ x. Padded x first) (sym text) q), subst (λ x. is_of types x ty ≡ true) same typed)

@@ -25,7 +25,7 @@ init-put [] z = refl
 init-put (y ∷ []) z = refl
 init-put (y ∷ x ∷ xs) z = ap (option_map (λ l. y ∷ l)) (init-put (x ∷ xs) z)
 
-put : (old ys : List Value) (z : Value) → old ≡ ys ++ z ∷ [] → map plain old ≡ map plain ys ++ plain z ∷ []
+pub put : (old ys : List Value) (z : Value) → old ≡ ys ++ z ∷ [] → map plain old ≡ map plain ys ++ plain z ∷ []
 put old ys z e = ap (map plain) e ∙ map-append plain ys (z ∷ [])
 
 pub last_given : (old ys : List Value) (z : Value) → old ≡ ys ++ z ∷ [] → gives (plain z) ≡ of_item Empty (last_item (map plain old))

@@ -2,7 +2,7 @@
 use Rattle.std.proofs.Common.{◌≡◌, ℕ, zero, suc, ◌<◌, ◌≤◌, ℤ, pos, negsuc, Bool, true, false, IsTrue, cond, ◌&&◌, ◌==◌, List, [], ◌∷◌, ◌++◌, length, Option, Some, None, refl, sym, ap, subst, ◌∙◌, arith}
 use Rattle.std.specs.Prelude.{nat_le, slice_get}
 use Rattle.std.specs.Option.{option_map}
-use Rattle.std.proofs.lemmas.Bool.{and_parts}
+use Rattle.std.proofs.lemmas.Bool.{and_parts, and_from}
 use Rattle.std.proofs.lemmas.Bool.Decides.{nat_tests}
 use Rattle.ioa_value.specs.Plain.{Val, Vals, items, tuple, none, more, vals, listed, count}
 use Rattle.ioa_value.specs.Table.{Table, TupleField, Shape, fields, sequence, shape_at, types_of, AreTypes}
@@ -12,10 +12,6 @@ use Rattle.ioa_value.specs.Sequences.{last_item, all_but_first, all_but_last, it
 use Rattle.ioa_value.proofs.PlainLemmas.{vals-listed, length-listed}
 use Rattle.ioa_value.proofs.SameLemmas.{equal}
 use Rattle.ioa_value.proofs.TypingLemmas.{is_sequence, is_tuple}
-
-pub and_both : (a b : Bool) → a ≡ true → b ≡ true → (a && b) ≡ true
-and_both true b e f = f
-and_both false b e f = e
 
 count-vals : (xs : List Val) → count (vals xs) ≡ length xs
 count-vals [] = refl
@@ -31,7 +27,7 @@ module _ (types : Table) where
   head_typed x xs of h = and_parts (is_of types x of) (items_are types (vals xs) of) h
 
   one_more : (x : Val) (xs : List Val) (of : ℕ) → HasType types x of → AreItems xs of → AreItems (x ∷ xs) of
-  one_more x xs of h k = and_both (is_of types x of) (items_are types (vals xs) of) h k
+  one_more x xs of h k = and_from (is_of types x of) (items_are types (vals xs) of) h k
 
   pub item_typed : (xs : List Val) (of i : ℕ) (x : Val) → AreItems xs of → slice_get xs i ≡ Some x → HasType types x of
   item_typed [] of i x h e = absurd (cc)
@@ -106,7 +102,7 @@ module _ (types : Table) where
   HaveTypes-parts [] (ty ∷ tys) h = absurd h
   HaveTypes-parts (v ∷ vs) [] h = absurd h
   HaveTypes-parts (v ∷ vs) (ty ∷ tys) h =
-      and_both (is_of types v ty) (parts_are types (vals vs) tys) h.0 (HaveTypes-parts vs tys h.1)
+      and_from (is_of types v ty) (parts_are types (vals vs) tys) h.0 (HaveTypes-parts vs tys h.1)
 
   -- ---- what is made of them
 
@@ -114,7 +110,7 @@ module _ (types : Table) where
   sequence_typed xs s most of e h =
       let test : Option Shape → Bool = λ o. of_sequence o (λ m t. nat_le (count (vals xs)) m && items_are types (vals xs) t) in
       let few : nat_le (count (vals xs)) most ≡ true = ap (λ n. nat_le n most) (count-vals xs) ∙ room in
-      and_both (s == s) (test (shape_at types s)) (equal s s refl) (ap test e ∙ and_both (nat_le (count (vals xs)) most) (items_are types (vals xs) of) few h.1)
+      and_from (s == s) (test (shape_at types s)) (equal s s refl) (ap test e ∙ and_from (nat_le (count (vals xs)) most) (items_are types (vals xs) of) few h.1)
     where
       room : nat_le (length xs) most ≡ true
       room = grind (arith, nat_tests, h.0)
@@ -122,7 +118,7 @@ module _ (types : Table) where
   pub made_typed : (xs : List Val) (s : ℕ) (fs : List TupleField) → shape_at types s ≡ Some (fields fs) → HaveTypes types xs (types_of fs) → HasType types (tuple s (vals xs)) s
   made_typed xs s fs e h =
       let test : Option Shape → Bool = λ o. of_fields o (λ tys. parts_are types (vals xs) tys) in
-      and_both (s == s) (test (shape_at types s)) (equal s s refl) (ap test e ∙ HaveTypes-parts xs (types_of fs) h)
+      and_from (s == s) (test (shape_at types s)) (equal s s refl) (ap test e ∙ HaveTypes-parts xs (types_of fs) h)
 
 -- ---- what a value of a sequence type or of a tuple type is
 

@@ -66,7 +66,7 @@ number_once w y z (ds, m, inr p) (es, n, inr q) =
 number_once w y z (ds, m, inl p) (es, n, inr q) = absurd (unsigned ds es m.1 (sym p.0 ∙ q.0))
 number_once w y z (ds, m, inr p) (es, n, inl q) = absurd (unsigned es ds n.1 (sym q.0 ∙ p.0))
 
-word_byte_ascii : (c : ℕ) → is_word_byte c ≡ true → c < 128
+pub word_byte_ascii : (c : ℕ) → is_word_byte c ≡ true → c < 128
 word_byte_ascii c h = grind (arith, nat_tests)
 
 word_bytes_ascii : (w : List ℕ) → list_all is_word_byte w ≡ true → IsAscii w

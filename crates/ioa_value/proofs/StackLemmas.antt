@@ -1,6 +1,6 @@
 -- Operands on top of a stack, and what is below them.
 use Rattle.std.proofs.Common.{◌≡◌, ℕ, zero, suc, ◌<◌, ◌-◌, ◌+◌, List, [], ◌∷◌, ◌++◌, length, map, take, drop, get_or, None, cond, IfOk, Result, Ok, Err, refl, sym, ap, ap₂, ◌∙◌, arith}
-use Rattle.std.proofs.lemmas.List.{length-map, length-drop, length-append, map-append, take-append-drop}
+use Rattle.std.proofs.lemmas.List.{length-map, length-drop, length-append, take-append-drop}
 use Rattle.std.proofs.Math.Seq.{take-length}
 use Rattle.std.specs.List.{take-map, drop-map}
 use Rattle.std.specs.Prelude.{slice_get}
@@ -37,10 +37,6 @@ drop_front (x ∷ xs) ys = drop_front xs ys
 take_front : (xs ys : List Val) → take (length xs) (xs ++ ys) ≡ xs
 take_front [] ys = refl
 take_front (x ∷ xs) ys = ap (λ l. x ∷ l) (take_front xs ys)
-
--- a list of values that ends with these operands
-pub put : (old new : List Value) (v : Value) → old ≡ new ++ v ∷ [] → map plain old ≡ map plain new ++ plain v ∷ []
-put old new v e = ap (map plain) e ∙ map-append plain new (v ∷ [])
 
 module _ (types : Table) (op : Op) (stack : List Value) where
   whole : map plain stack ≡ take (length stack - arity types op) (map plain stack) ++ drop (length stack - arity types op) (map plain stack)

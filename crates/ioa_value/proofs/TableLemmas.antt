@@ -48,7 +48,7 @@ widths_long ws (d ∷ ds) = widths_long (ws ++ shape_width ws d.shape ∷ []) ds
 pub widths_count : (types : Table) → length (widths types) ≡ length types
 widths_count types = omega (arith, widths_long [] types)
 
-names_pushed : (types : Table) (d : Declaration) → all_names (types ++ d ∷ []) ≡ all_names types ++ given_names d
+pub names_pushed : (types : Table) (d : Declaration) → all_names (types ++ d ∷ []) ≡ all_names types ++ given_names d
 names_pushed types d = flat_map-append given_names types (d ∷ []) ∙ ap (λ l. all_names types ++ l) (append-nil (given_names d))
 
 pub pushed : (types : Table) (d : Declaration) → AreTypes types → MayFollow types d → AreTypes (types ++ d ∷ [])

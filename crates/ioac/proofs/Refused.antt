@@ -183,7 +183,3 @@ list_unwritten text name bytes before after p h LogErr.AfterEnd of runs only bad
 pub kept : (begins : Option (List ℕ) → Option (List ℕ) → Type 0) (before after : Option (List ℕ)) (e : Failure) → Keeps before after → IsUnwritten begins before after e
 kept begins before after (Failure.List LogErr.Io) k = inl k
 kept begins before after _ k = k
-
-pub keeps : (o : Option (List ℕ)) → Keeps o o
-keeps None = tt
-keeps (Some xs) = refl

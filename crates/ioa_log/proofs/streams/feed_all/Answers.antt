@@ -1,9 +1,10 @@
 use Rattle.std.proofs.Common.{◌≡◌, ◌<◌, ◌++◌, [], ℕ, List, length, take, refl, sym, ap, subst, Err, le_trans, arith}
 use Rattle.std.proofs.lemmas.List.{append-nil}
+use Rattle.std.proofs.KnownBytes.{Consumes-trans, Consumes-whole}
 use Rattle.ioa_value.specs.Lists.{BadLine}
 use Rattle.ioa_compile.specs.Programs.{Prog}
 use Rattle.ioa_log.specs.Readings.{HasSeen}
-use Rattle.ioa_log.proofs.Lines.{failed_since, kept_error, known_bad, known_more, known_whole}
+use Rattle.ioa_log.proofs.Lines.{failed_since, kept_error, known_bad}
 use Rattle.ioa_log.proofs.streams.feed_all.Goals as goal
 
 pub returns-in-Ok-eq0-clause-ok : goal.returns-in-Ok-eq0-clause-ok
@@ -14,8 +15,8 @@ returns-in-Ok-eq0-clause-ok g c =
     let l : 0 < length buf = omega (arith, c.in_ok-room.ensures.len, c.as_mut_slice-piece.ensures.len) in
     let z : take c.in-Ok-eq0.field-0 buf ≡ [] = ap (λ n. take n buf) c.in-Ok-eq0.field-0-test in
     let P : List ℕ → Type 0 = λ bytes. (p : Prog) → HasSeen p [] c.args.reading.now → HasSeen p bytes c.loop.reading in
-    known_whole (g.R.Read.remaining c.args.input.now) (g.R.Read.remaining c.pull.new.self) (s.0 ++ take c.in-Ok-eq0.field-0 buf) P
-    (known_more (g.R.Read.remaining c.args.input.now) (g.R.Read.remaining c.loop.input) (g.R.Read.remaining c.pull.new.self) s.0 (take c.in-Ok-eq0.field-0 buf) s.1 b.0)
+    Consumes-whole (g.R.Read.remaining c.args.input.now) (g.R.Read.remaining c.pull.new.self) (s.0 ++ take c.in-Ok-eq0.field-0 buf) P
+    (Consumes-trans (g.R.Read.remaining c.args.input.now) (g.R.Read.remaining c.loop.input) (g.R.Read.remaining c.pull.new.self) s.0 (take c.in-Ok-eq0.field-0 buf) s.1 b.0)
     (b.1 c.in-Ok-eq0.field-0-test l) (subst (λ ys. P (s.0 ++ ys)) (sym z) (subst P (sym (append-nil s.0)) s.2))
 
 pub returns-in-Err-feed-clause-bad : goal.returns-in-Err-feed-clause-bad
@@ -44,7 +45,7 @@ loop-preserved g c =
       counts = le_trans c.loop.invariant.counts c.pull.ensures.counts;
       seen = (
         s.0 ++ take c.in-Ok.count buf,
-        known_more (g.R.Read.remaining c.args.input.now) (g.R.Read.remaining c.loop.input) (g.R.Read.remaining c.pull.new.self) s.0 (take c.in-Ok.count buf) s.1 c.in-Ok.ensures.bytes.0,
+        Consumes-trans (g.R.Read.remaining c.args.input.now) (g.R.Read.remaining c.loop.input) (g.R.Read.remaining c.pull.new.self) s.0 (take c.in-Ok.count buf) s.1 c.in-Ok.ensures.bytes.0,
         λ p h. c.in-Ok-feed.ensures.ok p s.0 (s.2 p h),
       );
     }

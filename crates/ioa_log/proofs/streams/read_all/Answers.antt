@@ -1,5 +1,6 @@
 use Rattle.std.proofs.Common.{◌≡◌, ◌<◌, ◌++◌, ℕ, List, length, take, refl, sym, ap, ◌∙◌, append-nil, le_trans, arith}
-use Rattle.ioa_log.proofs.Lines.{failed_since, known_more, known_none, known_pushed, known_whole}
+use Rattle.std.proofs.KnownBytes.{Consumes-trans, Consumes-whole}
+use Rattle.ioa_log.proofs.Lines.{failed_since, known_none, known_pushed}
 use Rattle.ioa_log.proofs.streams.read_all.Goals as goal
 
 pub loop-init : goal.loop-init
@@ -13,8 +14,8 @@ returns-in-Ok-eq0-clause-ok g c =
     let text : List ℕ = c.loop.text.items in
     let l : 0 < length buf = omega (arith, c.in_ok-room.ensures.len, c.as_mut_slice-piece.ensures.len) in
     let none : text ++ got ≡ text = ap (λ n. text ++ take n buf) c.in-Ok-eq0.field-0-test ∙ append-nil text in
-    known_whole (g.R.Read.remaining c.args.input.now) (g.R.Read.remaining c.pull.new.self) (text ++ got) (λ bytes. text ≡ bytes)
-    (known_more (g.R.Read.remaining c.args.input.now) (g.R.Read.remaining c.loop.input) (g.R.Read.remaining c.pull.new.self) text got c.loop.invariant.read b.0)
+    Consumes-whole (g.R.Read.remaining c.args.input.now) (g.R.Read.remaining c.pull.new.self) (text ++ got) (λ bytes. text ≡ bytes)
+    (Consumes-trans (g.R.Read.remaining c.args.input.now) (g.R.Read.remaining c.loop.input) (g.R.Read.remaining c.pull.new.self) text got c.loop.invariant.read b.0)
     (b.1 c.in-Ok-eq0.field-0-test l) (sym none)
 
 pub returns-in-Err-clause-io : goal.returns-in-Err-clause-io

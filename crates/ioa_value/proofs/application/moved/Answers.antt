@@ -9,8 +9,9 @@ use Rattle.ioa_value.specs.Table.{capacity}
 use Rattle.ioa_value.specs.Sequences.{last_item, all_but_first, all_but_last, item_at, without_first}
 use Rattle.ioa_value.specs.Operators.{gives, faults, of_item, of_items, of_field, operate, arity, Takes}
 use Rattle.ioa_value.proofs.PlainLemmas.{listed-plain, plain-Tuple}
-use Rattle.ioa_value.proofs.StackLemmas.{put, over, ok_map, topped, under, top_is, moved_as, both_moved, below_of, made_given, field_found}
+use Rattle.ioa_value.proofs.StackLemmas.{over, ok_map, topped, under, top_is, moved_as, both_moved, below_of, made_given, field_found}
 use Rattle.ioa_value.proofs.application.moved.Goals as goal
+use Rattle.ioa_value.proofs.SequenceLemmas.{put}
 
 -- ---- operands are there
 

@@ -1,8 +1,8 @@
 use Rattle.std.proofs.Common.{◌∷◌, [], ◌++◌, map, ap, ◌∙◌}
 use Rattle.ioa_value.specs.Plain.{plain}
 use Rattle.ioa_value.proofs.PlainLemmas.{plain-Items}
-use Rattle.ioa_value.proofs.StackLemmas.{put}
 use Rattle.ioa_value.proofs.stack.pop_sequence.Goals as goal
+use Rattle.ioa_value.proofs.SequenceLemmas.{put}
 
 pub returns : goal.returns
 returns c =
