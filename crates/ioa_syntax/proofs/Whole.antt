@@ -13,7 +13,7 @@ use Rattle.ioa_syntax.specs.Grammar.{SpellsSource, SpellsDeclaration, IsDeadEnd}
 use Rattle.ioa_syntax.specs.Reading.{Outcome, Reader, ◌>>=◌, many, many_from, declaration, source, source_from, declared_by, refusal_of}
 use Rattle.ioa_syntax.proofs.Outcomes.{bind_ok, ok_pair, Past, AtMost}
 use Rattle.ioa_syntax.proofs.Sound.{le_of}
-use Rattle.ioa_syntax.proofs.Productions.{AfterDeclaration, some_left, declaration_exact, declaration_some, declaration_leads, at_type, at_automaton, at_composition, at_invariant, at_end, all_exact}
+use Rattle.ioa_syntax.proofs.DeclarationProductions.{AfterDeclaration, some_left, declaration_exact, declaration_some, declaration_leads, at_type, at_automaton, at_composition, at_invariant, at_end, all_exact}
 
 -- all of the tokens, as an outcome
 abbrev pub all : ℕ → Reader SourceTree
