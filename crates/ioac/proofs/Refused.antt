@@ -18,7 +18,7 @@ use Rattle.ioa_compile.specs.Programs.{Prog}
 use Rattle.ioa_system.specs.Logs.{Logged}
 use Rattle.ioa_log.specs.declared.failure.LogErr.{LogErr}
 use Rattle.ioa_log.specs.Failing.{IsListErr, IsTextErr}
-use Rattle.ioa_log.specs.Judging.{IsJudged, judged, wrong_owner, diverges}
+use Rattle.ioa_log.specs.Judging.{IsReplayErr, judged, wrong_owner, diverges}
 use Rattle.ioa_log.specs.LogTexts.{GoesOnAt, HasNoEnd, NoEntryAt, NotJsonAt, ReadsLog}
 use Rattle.ioa_log.specs.Replays.{BeginsReplay}
 use Rattle.ioac.specs.declared.failure.Failure.{Failure}
@@ -147,7 +147,7 @@ monitor_unread text name bytes failed h types x of same seen u = go x (subst (λ
 
 -- a log that is not the run's
 pub log_judged : (text : List ℕ) (name : Option Name) (bytes : Option (List ℕ)) (failed : Type 0) (h : Hosted) (log : Logged) (x : LogErr) {T : Type 0}
-    → Declares text name h → IfSome bytes (λ xs. ReadsLog h.types xs log) → IsJudged x
+    → Declares text name h → IfSome bytes (λ xs. ReadsLog h.types xs log) → IsReplayErr x
     → ((n : ℕ) → IsErrOf {T = T} (Err x) (LogErr.WrongOwner n) → judged (hosts_of h) (host_starts h) log ≡ wrong_owner n)
     → ((n : ℕ) → IsErrOf {T = T} (Err x) (LogErr.Diverges n) → judged (hosts_of h) (host_starts h) log ≡ diverges n)
     → IsLogFailure text name bytes failed (Failure.List x)

@@ -5,10 +5,9 @@ use Rattle.ioa_lex.specs.declared.refusal.Refusal.TheVariants as refusals
 use Rattle.ioa_syntax.specs.Tree.{SourceTree}
 use Rattle.ioa_syntax.specs.Source as texts
 use Rattle.ioa_syntax.specs.WellFormed.{WellFormed}
-use Rattle.ioa_log.specs.declared.failure.LogErr.{LogErr}
 use Rattle.ioac.specs.declared.failure.Failure.{Failure}
 use Rattle.ioac.specs.Headline.{Spells}
-use Rattle.ioac.specs.Failing.{IsDeviceErr, IsIllFormed}
+use Rattle.ioac.specs.Failing.{IsDeviceErr, IsIllFormed, IsLeft}
 
 abbrev pub ok_line : List ℕ
 ok_line = codes "ok" ++ 10 ∷ []
@@ -31,5 +30,4 @@ IsCheckFailure text failed Failure.OutOfMemory = Unit {0}
 
 -- nothing was written, or, where the device failed, no more than a beginning of the line
 abbrev pub IsUnchecked : Option (List ℕ) → Option (List ℕ) → Failure → Type 0
-IsUnchecked before after (Failure.List LogErr.Io) = (k : ℕ) × Appends before after (take k ok_line)
-IsUnchecked before after _ = Keeps before after
+IsUnchecked before after e = IsLeft ((k : ℕ) × Appends before after (take k ok_line)) (Keeps before after) e

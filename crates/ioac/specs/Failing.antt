@@ -120,7 +120,21 @@ BeginsFoundOf text name bytes before after = Given text name bytes (λ h xs. Beg
 abbrev pub BeginsMonitorOf : List ℕ → Option Name → Option (List ℕ) → Option (List ℕ) → Option (List ℕ) → Type 0
 BeginsMonitorOf text name bytes before after = Given text name bytes (λ h xs. BeginsMonitor h xs before after)
 
+-- what is left where a device failed, and what after every other failure
+abbrev pub IsLeft : Type 0 → Type 0 → Failure → Type 0
+IsLeft broken other (Failure.Refused r) = other
+IsLeft broken other (Failure.List (LogErr.NotJson n)) = other
+IsLeft broken other (Failure.List (LogErr.BadLine n)) = other
+IsLeft broken other (Failure.List (LogErr.WrongOwner n)) = other
+IsLeft broken other (Failure.List (LogErr.Diverges n)) = other
+IsLeft broken other (Failure.List LogErr.NoEnd) = other
+IsLeft broken other (Failure.List LogErr.AfterEnd) = other
+IsLeft broken other (Failure.List LogErr.Io) = broken
+IsLeft broken other (Failure.List LogErr.OutOfMemory) = other
+IsLeft broken other Failure.SpecHasInternal = other
+IsLeft broken other Failure.Io = other
+IsLeft broken other Failure.OutOfMemory = other
+
 -- nothing was written, or, where a device failed, no more than such a beginning
 abbrev pub IsUnwritten : (Option (List ℕ) → Option (List ℕ) → Type 0) → Option (List ℕ) → Option (List ℕ) → Failure → Type 0
-IsUnwritten begins before after (Failure.List LogErr.Io) = Keeps before after ⊎ begins before after
-IsUnwritten begins before after _ = Keeps before after
+IsUnwritten begins before after e = IsLeft (Keeps before after ⊎ begins before after) (Keeps before after) e

@@ -8,7 +8,7 @@ ghost use Rattle.ioa_system.specs.Logs.{logged};
 ghost use Rattle.ioa_log.specs.declared.failure.LogErr.{LogErr};
 ghost use Rattle.ioa_log.specs.Breaking.{broken_of};
 ghost use Rattle.ioa_log.specs.Failing.{HasFailed};
-ghost use Rattle.ioa_log.specs.Judging.{IsJudged, agrees, diverges, judged, wrong_owner};
+ghost use Rattle.ioa_log.specs.Judging.{IsReplayErr, agrees, diverges, judged, wrong_owner};
 ghost use Rattle.ioac.specs.Failing.{BeginsFoundOf, IsLogFailure, IsUnwritten};
 ghost use Rattle.ioac.specs.Headline.{IsInvariantReplay};
 ghost use Rattle.ioac.specs.Logs.{broken_line, found_in, found_of, found_text};
@@ -70,7 +70,7 @@ fn inspect(alloc: Global, composition: &Composition, log: &Log) -> Result<(Strin
         → judged (hosts_of h) (host_starts h) (logged log.now) ≡ wrong_owner n }
     ensures diverges { (n : ℕ) → IsErrOf result (LogErr.Diverges n) → (h : Hosted) → Stands h (composed_of composition.now)
         → judged (hosts_of h) (host_starts h) (logged log.now) ≡ diverges n }
-    ensures only { IfErr result IsJudged }
+    ensures only { IfErr result IsReplayErr }
 {
     let first = invariants(alloc, composition, log)?;
     match first {
