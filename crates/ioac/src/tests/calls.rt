@@ -5,18 +5,14 @@ ghost use Rattle.ioa_compile.specs.Tables.{tabled};
 ghost use Rattle.ioa_system.specs.Participants.{taken};
 ghost use Rattle.ioa_system.specs.Systems.{slot_types, types_of};
 
+use crate::tests::reached::{action, program};
 use crate::tests::shelf::{COUNTER, basic};
-use ioa_check::check;
-use ioa_compile::{Program, compile};
-use ioa_compose::compose;
 use ioa_node::{NodeState, state_values};
 use ioa_syntax::{Refusal, parse, print};
-use ioa_system::{
-    End, Moved, Run, Step, System, is_external, owner, participants, run_list, step_from,
-};
+use ioa_system::{Moved, Step, System, participants, step_from};
 use ioa_value::{
-    Action, Fault, Op, OutOfMemory, Ty, Value, apply, first, has_type, print_action, read_action,
-    same,
+    Action, Fault, Op, OutOfMemory, Ty, Types, Value, apply, first, has_type, print_action,
+    read_action, same,
 };
 use std::alloc::Global;
 use std::test::Fail;
@@ -45,19 +41,29 @@ const ACTIONS: [(&str, Option<&str>); 17] = [
     ("fi", None),
 ];
 
+// Whether the text spells the action that is printed so, or no action.
+fn is_printed_so(
+    alloc: Global,
+    types: &Types,
+    text: &str,
+    wanted: Option<&str>,
+) -> Result<bool, OutOfMemory> {
+    match read_action(alloc, types, text.as_bytes())? {
+        Some(action) => {
+            let copy = action.try_copy(alloc)?;
+            let printed = print_action(alloc, types, &copy)?;
+            Ok(wanted == Some(printed.as_str()))
+        }
+        None => Ok(wanted.is_none()),
+    }
+}
+
 #[test]
 fn reads_and_prints_actions(rt: HostRuntime) -> Result<(), Fail> {
-    let alloc = rt.alloc();
-    let types = basic(alloc)?;
+    let types = basic(rt.alloc())?;
     for (text, wanted) in ACTIONS {
-        match read_action(alloc, &types, text.as_bytes())? {
-            Some(action) => {
-                let copy = action.try_copy(alloc)?;
-                let printed = print_action(alloc, &types, &copy)?;
-                assert!(rt; wanted == Some(printed.as_str()), "{text}");
-            }
-            None => assert!(rt; wanted.is_none(), "{text}"),
-        }
+        let is_so = is_printed_so(rt.alloc(), &types, text, wanted)?;
+        assert!(rt; is_so, "{text}");
     }
     Ok(())
 }
@@ -70,88 +76,28 @@ signature output send(const i, m: Int); internal drop(const 0, const -5, const t
 transitions output send propose m := i internal drop
 composition Links components A: Link(0); B: Link(1); hidden send";
 
+/// Another source than these.
+const ONE: &str = "automaton A signature internal a transitions internal a";
+
+fn are_same(alloc: Global, one: &[u8], other: &[u8]) -> Result<bool, Refusal> {
+    let source = parse(alloc, one)?;
+    Ok(source.same(&parse(alloc, other)?))
+}
+
+fn printed(alloc: Global, text: &str) -> Result<Vec<u8>, Refusal> {
+    let source = parse(alloc, text.as_bytes())?;
+    Ok(print(alloc, &source)?)
+}
+
 #[test]
 fn prints_what_is_parsed(rt: HostRuntime) -> Result<(), Fail> {
-    let alloc = rt.alloc();
     for spelled in [COUNTER, LINKS] {
-        let source = parse(alloc, spelled.as_bytes())?;
-        let text = print(alloc, &source)?;
-        let again = parse(alloc, text.as_slice())?;
-        assert!(rt; source.same(&again));
+        let text = printed(rt.alloc(), spelled)?;
+        let is_same = are_same(rt.alloc(), spelled.as_bytes(), text.as_slice())?;
+        assert!(rt; is_same, "{spelled}");
+        let is_other = are_same(rt.alloc(), spelled.as_bytes(), ONE.as_bytes())?;
+        assert!(rt; !is_other, "{spelled}");
     }
-    let source = parse(alloc, COUNTER.as_bytes())?;
-    let other = parse(
-        alloc,
-        b"automaton A signature internal a transitions internal a",
-    )?;
-    assert!(rt; !source.same(&other));
-    Ok(())
-}
-
-fn counter(alloc: Global) -> Result<Program, Refusal> {
-    let checked = check(alloc, parse(alloc, COUNTER.as_bytes())?)?;
-    let composition = compose(alloc, &checked, Some("One"))?;
-    Ok(compile(alloc, &composition)?)
-}
-
-fn action(alloc: Global, name: &str, value: Option<i64>) -> Result<Action, OutOfMemory> {
-    let mut vals = Vec::new(alloc);
-    if let Some(number) = value {
-        vals.push(Value::Num(number))?;
-    }
-    Ok(Action {
-        name: String::from_str(alloc, name)?,
-        vals,
-    })
-}
-
-/// An action of the counter, its owner, and how many components have it.
-const OWNERS: [(&str, Option<i64>, Option<usize>, usize); 3] = [
-    ("tick", Some(5), Some(0), 1),
-    ("reset", None, None, 1),
-    ("tock", None, None, 0),
-];
-
-#[test]
-fn knows_owners_and_participants(rt: HostRuntime) -> Result<(), Fail> {
-    let alloc = rt.alloc();
-    let program = counter(alloc)?;
-    for (name, value, wanted, count) in OWNERS {
-        let action = action(alloc, name, value)?;
-        assert_eq!(rt; owner(&program, &action), wanted);
-        assert_eq!(rt; participants(alloc, &program, &action)?.len(), count);
-    }
-    assert!(rt; is_external(&program, &action(alloc, "reset", None)?));
-    Ok(())
-}
-
-/// The number that is the first variable of a state.
-pub fn number_in(alloc: Global, state: &NodeState) -> Result<Option<i64>, OutOfMemory> {
-    match state_values(alloc, state)?.first() {
-        Some(Value::Num(number)) => Ok(Some(*number)),
-        _ => Ok(None),
-    }
-}
-
-/// Runs the counter on ticks and, for no number, resets.
-fn run_of(alloc: Global, numbers: &[Option<i64>]) -> Result<Run, Refusal> {
-    let program = counter(alloc)?;
-    let mut actions = Vec::new(alloc);
-    for number in numbers {
-        let name = if number.is_some() { "tick" } else { "reset" };
-        actions.push(action(alloc, name, *number)?)?;
-    }
-    Ok(run_list(alloc, &program, &actions)?)
-}
-
-#[test]
-fn runs_a_program(rt: HostRuntime) -> Result<(), Fail> {
-    let run = run_of(rt.alloc(), &[Some(5), None, Some(6)])?;
-    assert_eq!(rt; run.performed, 2);
-    assert_eq!(rt; run.end, End::NotEnabled(2));
-    assert_eq!(rt; run.trace.len(), 2);
-    assert_eq!(rt; run.states.len(), 1);
-    assert_eq!(rt; number_in(rt.alloc(), &run.states[0])?, Some(5));
     Ok(())
 }
 
@@ -229,22 +175,43 @@ fn on_numbers(
     })
 }
 
+fn is_answered_so(
+    alloc: Global,
+    op: Op,
+    a: i64,
+    b: i64,
+    wanted: &Result<Value, Fault>,
+) -> Result<bool, OutOfMemory> {
+    Ok(match (on_numbers(alloc, op, a, b)?, wanted) {
+        (Some(Ok(value)), Ok(wanted)) => same(&value, wanted),
+        (Some(Err(fault)), Err(wanted)) => fault == *wanted,
+        _ => false,
+    })
+}
+
 #[test]
-fn operators_and_types_have_values(rt: HostRuntime) -> Result<(), Fail> {
-    let alloc = rt.alloc();
+fn operators_have_values(rt: HostRuntime) -> Result<(), Fail> {
     for (op, a, b, wanted) in &OPERATIONS {
-        match (on_numbers(alloc, *op, *a, *b)?, wanted) {
-            (Some(Ok(value)), Ok(wanted)) => assert!(rt; same(&value, wanted), "{a} {b}"),
-            (Some(Err(fault)), Err(wanted)) => assert_eq!(rt; fault, *wanted),
-            _ => assert!(rt; false, "{a} {b}"),
-        }
+        let is_so = is_answered_so(rt.alloc(), *op, *a, *b, wanted)?;
+        assert!(rt; is_so, "{a} {b}");
     }
+    Ok(())
+}
+
+/// Whether Int and Bool have their first values, and these no other type.
+fn are_firsts(alloc: Global) -> Result<bool, OutOfMemory> {
     let types = basic(alloc)?;
     let zero = first(alloc, &types, Ty::INT)?;
-    assert!(rt; same(&zero, &Value::Num(0)));
-    assert!(rt; has_type(&types, &zero, Ty::INT));
-    assert!(rt; !has_type(&types, &zero, Ty::BOOL));
-    assert!(rt; same(&first(alloc, &types, Ty::BOOL)?, &Value::Truth(false)));
+    let no = first(alloc, &types, Ty::BOOL)?;
+    let is_zero = same(&zero, &Value::Num(0)) && has_type(&types, &zero, Ty::INT);
+    let is_false = same(&no, &Value::Truth(false)) && has_type(&types, &no, Ty::BOOL);
+    let is_other = has_type(&types, &zero, Ty::BOOL) || has_type(&types, &no, Ty::INT);
+    Ok(is_zero && is_false && !is_other)
+}
+
+#[test]
+fn types_have_first_values(rt: HostRuntime) -> Result<(), Fail> {
+    assert!(rt; are_firsts(rt.alloc())?);
     Ok(())
 }
 
@@ -276,36 +243,48 @@ fn step_on_copies(
     })
 }
 
-/// Actions of the counter, one after another, and what each step answers.
-const STEPS: [(&str, Option<i64>, Step); 6] = [
-    ("tick", Some(6), Step::NotEnabled),
-    ("tock", None, Step::NotAnAction),
-    ("tick", Some(5), Step::Next),
-    ("tick", Some(6), Step::Next),
-    ("reset", None, Step::Next),
-    ("tick", Some(7), Step::NotEnabled),
+/// The number that is the first variable of the first component.
+fn number_in(alloc: Global, system: &System<'_>) -> Result<Option<i64>, OutOfMemory> {
+    let Some(state) = system.states().first() else {
+        return Ok(None);
+    };
+    match state_values(alloc, state)?.first() {
+        Some(Value::Num(number)) => Ok(Some(*number)),
+        _ => Ok(None),
+    }
+}
+
+/// Actions of the counter, one after another, what each step answers, and the count then.
+const STEPS: [(&str, Step, i64); 6] = [
+    ("tick(6)", Step::NotEnabled, 5),
+    ("tock", Step::NotAnAction, 5),
+    ("tick(5)", Step::Next, 6),
+    ("tick(6)", Step::Next, 7),
+    ("reset", Step::Next, 5),
+    ("tick(7)", Step::NotEnabled, 5),
 ];
 
-#[test]
-fn steps_a_program(rt: HostRuntime) -> Result<(), Fail> {
-    let alloc = rt.alloc();
-    let program = counter(alloc)?;
-    let mut system = System::start(alloc, &program)?;
-    for (name, value, wanted) in &STEPS {
-        let action = action(alloc, name, *value)?;
-        assert_eq!(rt; step_on_copies(alloc, &system, &action)?, *wanted);
-        assert_eq!(rt; system.step(&action)?, *wanted);
-    }
-    Ok(())
+fn is_step_so(
+    alloc: Global,
+    system: &mut System<'_>,
+    action: &Action,
+    wanted: &Step,
+    count: i64,
+) -> Result<bool, OutOfMemory> {
+    let on_copies = step_on_copies(alloc, system, action)?;
+    let answer = system.step(action)?;
+    let found = number_in(alloc, system)?;
+    Ok(on_copies == *wanted && answer == *wanted && found == Some(count))
 }
 
 #[test]
-fn steps_change_states(rt: HostRuntime) -> Result<(), Fail> {
-    let alloc = rt.alloc();
-    let program = counter(alloc)?;
-    let mut system = System::start(alloc, &program)?;
-    assert_eq!(rt; system.step(&action(alloc, "tick", Some(5))?)?, Step::Next);
-    assert_eq!(rt; system.states().len(), 1);
-    assert_eq!(rt; number_in(alloc, &system.states()[0])?, Some(6));
+fn steps_a_program(rt: HostRuntime) -> Result<(), Fail> {
+    let program = program(rt.alloc(), COUNTER)?;
+    let mut system = System::start(rt.alloc(), &program)?;
+    for (text, wanted, count) in &STEPS {
+        let action = action(rt.alloc(), program.types(), *text)?;
+        let is_so = is_step_so(rt.alloc(), &mut system, &action, wanted, *count)?;
+        assert!(rt; is_so, "{text}");
+    }
     Ok(())
 }

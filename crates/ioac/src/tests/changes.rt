@@ -1,6 +1,7 @@
 use crate::tests::shelf::{Given, REPLAY, Wanted, expect};
 use crate::tests::tables::{column, columns, is_row};
 use std::alloc::{AllocError, Global};
+use std::process::Abort;
 use std::test::Fail;
 
 /// A counter with a part on each line.
@@ -115,33 +116,36 @@ fn changed(alloc: Global, part: &str, by: &str) -> Result<Option<String>, AllocE
     Ok(Some(format!(in alloc; "{before}{by}{after}")?))
 }
 
+/// What the program has to print of a source that is refused so or, without a refusal, is accepted.
+fn wanted_of(errors: &str) -> Wanted<'_> {
+    let (output, status) = if errors.is_empty() {
+        ("end: done after 0\n", 0)
+    } else {
+        ("", 1)
+    };
+    Wanted {
+        output,
+        errors,
+        status,
+    }
+}
+
+fn expect_change(rt: &impl Abort, alloc: Global, row: &str) -> Result<(), Fail> {
+    let columns = columns(alloc, row)?;
+    let changed = changed(alloc, column(&columns, 0), column(&columns, 1))?;
+    let file = changed.ok_or("nowhere")?;
+    let given = Given {
+        words: REPLAY,
+        file: file.as_str(),
+        list: "",
+    };
+    expect(rt, alloc, row, &given, &wanted_of(column(&columns, 2)))
+}
+
 #[test]
 fn changes_are_refused(rt: HostRuntime) -> Result<(), Fail> {
     for row in ROWS.lines().filter(|line| is_row(line)) {
-        let columns = columns(rt.alloc(), row)?;
-        let changed = changed(rt.alloc(), column(&columns, 0), column(&columns, 1))?;
-        assert!(rt; changed.is_some(), "{row}");
-        let file = changed.ok_or("nowhere")?;
-        let given = Given {
-            words: REPLAY,
-            file: file.as_str(),
-            list: "",
-        };
-        let errors = column(&columns, 2);
-        let wanted = if errors.is_empty() {
-            Wanted {
-                output: "end: done after 0\n",
-                errors,
-                status: 0,
-            }
-        } else {
-            Wanted {
-                output: "",
-                errors,
-                status: 1,
-            }
-        };
-        expect(&rt, rt.alloc(), row, &given, &wanted)?;
+        expect_change(&rt, rt.alloc(), row)?;
     }
     Ok(())
 }

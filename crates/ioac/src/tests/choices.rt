@@ -1,6 +1,7 @@
 use crate::tests::shelf::{Given, REPLAY, expect, wanted_in};
 use crate::tests::tables::{column, columns, is_row};
 use std::alloc::{AllocError, Global};
+use std::process::Abort;
 use std::test::Fail;
 
 /// What stands in the counter after `pre` and after `eff`, a list, what is printed, what is told of errors, and the exit
@@ -101,18 +102,22 @@ fn counter(alloc: Global, pre: &str, effect: &str) -> Result<String, AllocError>
     )
 }
 
+fn expect_choice(rt: &impl Abort, alloc: Global, row: &str) -> Result<(), Fail> {
+    let columns = columns(alloc, row)?;
+    let file = counter(alloc, column(&columns, 0), column(&columns, 1))?;
+    let given = Given {
+        words: REPLAY,
+        file: file.as_str(),
+        list: column(&columns, 2),
+    };
+    let wanted = wanted_in(&columns, 3)?;
+    expect(rt, alloc, row, &given, &wanted)
+}
+
 #[test]
 fn chooses(rt: HostRuntime) -> Result<(), Fail> {
     for row in ROWS.lines().filter(|line| is_row(line)) {
-        let columns = columns(rt.alloc(), row)?;
-        let file = counter(rt.alloc(), column(&columns, 0), column(&columns, 1))?;
-        let given = Given {
-            words: REPLAY,
-            file: file.as_str(),
-            list: column(&columns, 2),
-        };
-        let wanted = wanted_in(&columns, 3)?;
-        expect(&rt, rt.alloc(), row, &given, &wanted)?;
+        expect_choice(&rt, rt.alloc(), row)?;
     }
     Ok(())
 }

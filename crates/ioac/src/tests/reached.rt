@@ -1,16 +1,14 @@
-//! The states that lists of actions reach.
+//! Programs in memory: the states that lists of actions reach, and who performs an action.
 
-use crate::tests::calls::number_in;
 use crate::tests::shelf::COUNTER;
 use ioa_check::check;
 use ioa_compile::{Program, compile};
 use ioa_compose::compose;
-use ioa_node::state_values;
+use ioa_node::{NodeState, state_values};
 use ioa_syntax::{Refusal, parse};
-use ioa_system::{End, is_external, owner, participants, run_list};
-use ioa_value::{Action, Fault, Value, read_action, read_list, same};
+use ioa_system::{End, Run, is_external, owner, participants, run_list};
+use ioa_value::{Action, Fault, OutOfMemory, Types, print_action, read_action, read_list};
 use std::alloc::Global;
-use std::process::Abort;
 use std::test::Fail;
 
 const TWO: &str = "
@@ -32,153 +30,173 @@ automaton Cell signature input put(i: Int) states x: Int transitions input put e
 composition Puts components P: Put(0); Q: Put(1); C: Cell
 hidden put";
 
-/// A source, a list of actions, how the run ends, and what its first two components then have as their first variable, where this is a
-/// number.
-const RUNS: [(&str, &str, End, [Option<i64>; 2]); 4] = [
-    (
-        COUNTER,
-        "tick(5)\ntick(6)\nreset\n",
-        End::Done(3),
-        [Some(5), None],
-    ),
-    (
-        TWO,
-        "go",
-        End::Fault(1, Fault::OutOfRange, 0),
-        [Some(0), None],
-    ),
-    (
-        FULL,
-        "go\ngo",
-        End::Fault(1, Fault::Full, 1),
-        [Some(1), None],
-    ),
-    (
-        PUTS,
-        "put(0)\nput(1)\nput(1)\nput(2)",
-        End::Done(4),
-        [Some(1), Some(2)],
-    ),
-];
-
 const HOST: &str = "
 type Ints = seq 16 of Int
 automaton Host signature output put(m: Int) states q: Ints; stable t: Int
 transitions output put pre m = t propose m := t eff q := append(q, m); t := t + 1
 composition One components A: Host crash down recover up";
 
-/// A list of actions of the host, how the run ends, and then its queue, its stable number, and whether it is up.
-const HOSTS: [(&str, End, &[i64], i64, bool); 5] = [
-    ("put(0)\nput(1)", End::Done(2), &[0, 1], 2, true),
-    ("put(0)\ndown\nput(1)", End::NotEnabled(2), &[], 1, false),
+/// A source, a list of actions, and what is told of its run: how it ends, how many actions are performed, how many of them the trace
+/// shows, and each component's values, as those of an action; of a host the last one is whether it is up.
+const RUNS: [(&str, &str, &str); 10] = [
     (
-        "put(0)\ndown\ndown\nup\nup\nput(1)",
-        End::Done(6),
-        &[1],
-        2,
-        true,
+        COUNTER,
+        "tick(5)\ntick(6)\nreset\n",
+        "done after 3, 3 performed, 3 shown, state(5)",
     ),
-    ("put(0)\nup", End::Done(2), &[0], 1, true),
-    ("down\nput(0)", End::NotEnabled(1), &[], 0, false),
+    (
+        COUNTER,
+        "tick(5)\nreset\ntick(6)",
+        "not enabled at 2, 2 performed, 2 shown, state(5)",
+    ),
+    (
+        TWO,
+        "go",
+        "fault 4 in component 1 at 0, 0 performed, 0 shown, state(0), state(S[], 0), state(9223372036854775807)",
+    ),
+    (
+        FULL,
+        "go\ngo",
+        "fault 5 in component 1 at 1, 1 performed, 1 shown, state(1), state(S[1])",
+    ),
+    (
+        PUTS,
+        "put(0)\nput(1)\nput(1)\nput(2)",
+        "done after 4, 4 performed, 1 shown, state(1), state(2), state(0)",
+    ),
+    (
+        HOST,
+        "put(0)\nput(1)",
+        "done after 2, 2 performed, 2 shown, state(Ints[0, 1], 2, true)",
+    ),
+    (
+        HOST,
+        "put(0)\ndown\nput(1)",
+        "not enabled at 2, 2 performed, 2 shown, state(Ints[], 1, false)",
+    ),
+    (
+        HOST,
+        "put(0)\ndown\ndown\nup\nup\nput(1)",
+        "done after 6, 6 performed, 6 shown, state(Ints[1], 2, true)",
+    ),
+    (
+        HOST,
+        "put(0)\nup",
+        "done after 2, 2 performed, 2 shown, state(Ints[0], 1, true)",
+    ),
+    (
+        HOST,
+        "down\nput(0)",
+        "not enabled at 1, 1 performed, 1 shown, state(Ints[], 0, false)",
+    ),
 ];
 
-fn program(alloc: Global, source: &str) -> Result<Program, Refusal> {
+/// The program of a source's last composition.
+pub fn program(alloc: Global, source: &str) -> Result<Program, Refusal> {
     let checked = check(alloc, parse(alloc, source.as_bytes())?)?;
     let composition = compose(alloc, &checked, None)?;
     Ok(compile(alloc, &composition)?)
 }
 
-fn expect_run(
-    rt: &impl Abort,
+fn run_of(alloc: Global, program: &Program, list: &str) -> Result<Run, Fail> {
+    let read = read_list(alloc, program.types(), list.as_bytes())?;
+    let actions = read.ok().ok_or("no list")?;
+    Ok(run_list(alloc, program, &actions)?)
+}
+
+fn push_state(
     alloc: Global,
-    program: &Program,
-    actions: &[Action],
-    end: End,
-    numbers: &[Option<i64>],
-) -> Result<(), Fail> {
-    let run = run_list(alloc, program, actions)?;
-    assert_eq!(rt; run.end, end);
-    assert_eq!(rt; run.performed, end.performed());
-    for (component, wanted) in numbers.iter().enumerate() {
-        let found = match run.states.get(component) {
-            Some(state) => number_in(alloc, state)?,
-            None => None,
-        };
-        assert_eq!(rt; found, *wanted);
-    }
+    text: &mut String,
+    types: &Types,
+    state: &NodeState,
+) -> Result<(), OutOfMemory> {
+    let values = Action {
+        name: String::from_str(alloc, ", state")?,
+        vals: state_values(alloc, state)?,
+    };
+    let told = print_action(alloc, types, &values)?;
+    text.push_str(told.as_str())?;
     Ok(())
+}
+
+fn told_of(alloc: Global, types: &Types, run: &Run) -> Result<String, OutOfMemory> {
+    let end = run.end;
+    let performed = run.performed;
+    let shown = run.trace.len();
+    let mut text = format!(in alloc; "{end}, {performed} performed, {shown} shown")?;
+    for state in run.states.as_slice() {
+        push_state(alloc, &mut text, types, state)?;
+    }
+    Ok(text)
+}
+
+fn reached(alloc: Global, source: &str, list: &str) -> Result<String, Fail> {
+    let program = program(alloc, source)?;
+    let run = run_of(alloc, &program, list)?;
+    Ok(told_of(alloc, program.types(), &run)?)
 }
 
 #[test]
 fn runs_reach_their_states(rt: HostRuntime) -> Result<(), Fail> {
-    let alloc = rt.alloc();
-    for (source, list, end, numbers) in RUNS {
-        let program = program(alloc, source)?;
-        match read_list(alloc, program.types(), list.as_bytes())? {
-            Ok(actions) => expect_run(&rt, alloc, &program, &actions, end, &numbers)?,
-            Err(line) => assert_eq!(rt; line, 0, "{list}"),
-        }
+    for (source, list, wanted) in RUNS {
+        let told = reached(rt.alloc(), source, list)?;
+        assert!(rt; told.as_str() == wanted, "{told}");
     }
     Ok(())
 }
 
-/// The numbers of a sequence.
-fn numbers_of(alloc: Global, value: &Value) -> Result<Vec<i64>, Fail> {
-    let mut numbers = Vec::new(alloc);
-    if let Value::Items(_, items) = value {
-        for item in items {
-            if let Value::Num(number) = item {
-                numbers.push(*number)?;
-            }
-        }
-    }
-    Ok(numbers)
-}
-
-#[test]
-fn hosts_reach_their_states(rt: HostRuntime) -> Result<(), Fail> {
-    let alloc = rt.alloc();
-    let program = program(alloc, HOST)?;
-    for (list, end, queue, number, up) in HOSTS {
-        match read_list(alloc, program.types(), list.as_bytes())? {
-            Ok(actions) => {
-                let run = run_list(alloc, &program, &actions)?;
-                assert_eq!(rt; run.end, end);
-                assert_eq!(rt; run.states.len(), 1);
-                let values = state_values(alloc, &run.states[0])?;
-                assert_eq!(rt; values.len(), 3);
-                let items = numbers_of(alloc, &values[0])?;
-                assert!(rt; items.as_slice() == queue, "{list}");
-                assert!(rt; same(&values[1], &Value::Num(number)), "{list}");
-                assert!(rt; same(&values[2], &Value::Truth(up)), "{list}");
-            }
-            Err(line) => assert_eq!(rt; line, 0, "{list}"),
-        }
-    }
-    Ok(())
-}
-
-/// An action of the cell and its writers, its owner, and how many components have it.
-const OWNERS: [(&str, Option<usize>, usize); 4] = [
-    ("put(0)", Some(0), 2),
-    ("put(1)", Some(1), 2),
-    ("put(2)", None, 1),
-    ("put(true)", None, 0),
+/// An end, and how many actions are performed before it.
+const ENDS: [(End, usize); 4] = [
+    (End::Done(3), 3),
+    (End::NotAnAction(2), 2),
+    (End::NotEnabled(1), 1),
+    (End::Fault(0, Fault::Overflow, 4), 4),
 ];
 
 #[test]
-fn constants_tell_owners(rt: HostRuntime) -> Result<(), Fail> {
-    let alloc = rt.alloc();
-    let program = program(alloc, PUTS)?;
-    for (text, wanted, count) in OWNERS {
-        match read_action(alloc, program.types(), text.as_bytes())? {
-            Some(action) => {
-                assert_eq!(rt; owner(&program, &action), wanted);
-                assert_eq!(rt; participants(alloc, &program, &action)?.len(), count);
-                assert!(rt; is_external(&program, &action) == wanted.is_none());
-            }
-            None => assert_eq!(rt; count, 0, "{text}"),
-        }
+fn ends_count_actions(rt: HostRuntime) -> Result<(), Fail> {
+    for (end, count) in ENDS {
+        assert!(rt; end.performed() == count, "{end}");
+    }
+    Ok(())
+}
+
+/// Who performs an action: its owner, how many components have it, and whether it is external.
+type Performers = (Option<usize>, usize, bool);
+
+/// A source, an action, and who performs it.
+const OWNERS: [(&str, &str, Performers); 7] = [
+    (COUNTER, "tick(5)", (Some(0), 1, true)),
+    (COUNTER, "reset", (None, 1, true)),
+    (COUNTER, "tock", (None, 0, true)),
+    (PUTS, "put(0)", (Some(0), 2, false)),
+    (PUTS, "put(1)", (Some(1), 2, false)),
+    (PUTS, "put(2)", (None, 1, true)),
+    (PUTS, "put(true)", (None, 0, true)),
+];
+
+/// The action that is spelled so.
+pub fn action(alloc: Global, types: &Types, text: &str) -> Result<Action, Fail> {
+    let read = read_action(alloc, types, text.as_bytes())?;
+    Ok(read.ok_or("no action")?)
+}
+
+fn performers(alloc: Global, source: &str, text: &str) -> Result<Performers, Fail> {
+    let program = program(alloc, source)?;
+    let action = action(alloc, program.types(), text)?;
+    let count = participants(alloc, &program, &action)?.len();
+    Ok((
+        owner(&program, &action),
+        count,
+        is_external(&program, &action),
+    ))
+}
+
+#[test]
+fn actions_have_owners(rt: HostRuntime) -> Result<(), Fail> {
+    for (source, text, wanted) in OWNERS {
+        let found = performers(rt.alloc(), source, text)?;
+        assert!(rt; found == wanted, "{text}");
     }
     Ok(())
 }

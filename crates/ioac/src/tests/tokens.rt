@@ -1,4 +1,5 @@
-use ioa_lex::{Kind, Refusal, Terminal, lex};
+use ioa_lex::{Kind, Refusal, Terminal, Token, lex};
+use std::alloc::{AllocError, Global};
 use std::test::Fail;
 
 const WORDS: [(&str, Terminal); 47] = [
@@ -91,37 +92,58 @@ const REFUSED: [(&str, u32); 8] = [
     ("\"", 1),
 ];
 
+fn is_terminal(alloc: Global, text: &str, terminal: Terminal) -> Result<bool, Refusal> {
+    let tokens = lex(alloc, text.as_bytes())?;
+    Ok(match tokens.as_slice() {
+        [token] => matches!(&token.kind, Kind::Terminal(found) if *found == terminal),
+        _ => false,
+    })
+}
+
+fn is_refused_at(alloc: Global, text: &str, line: u32) -> bool {
+    matches!(lex(alloc, text.as_bytes()), Err(Refusal::BadByte(found)) if found == line)
+}
+
 #[test]
 fn words_and_signs_are_tokens(rt: HostRuntime) -> Result<(), Fail> {
     for (text, terminal) in WORDS.iter().chain(SIGNS.iter()) {
-        let tokens = lex(rt.alloc(), text.as_bytes())?;
-        assert_eq!(rt; tokens.len(), 1, "{text}");
-        assert!(rt;
-            matches!(&tokens[0].kind, Kind::Terminal(found) if *found == *terminal),
-            "{text}"
-        );
+        let is_so = is_terminal(rt.alloc(), *text, *terminal)?;
+        assert!(rt; is_so, "{text}");
     }
     for (text, line) in REFUSED {
-        let refused = lex(rt.alloc(), text.as_bytes());
-        assert!(rt;
-            matches!(refused, Err(Refusal::BadByte(found)) if found == line),
-            "{text}"
-        );
+        assert!(rt; is_refused_at(rt.alloc(), text, line), "{text}");
     }
     Ok(())
 }
 
+fn push_token(text: &mut String, token: &Token) -> Result<(), AllocError> {
+    let line = token.line;
+    match &token.kind {
+        Kind::Name(name) => {
+            let name = name.as_str();
+            write!(text, "{line} name {name}\n")
+        }
+        Kind::Number(number) => write!(text, "{line} number {number}\n"),
+        Kind::Terminal(terminal) => {
+            let sign = terminal.text();
+            write!(text, "{line} {sign}\n")
+        }
+    }
+}
+
+/// The tokens of a text, each on a line, with its own line.
+fn told(alloc: Global, text: &str) -> Result<String, Fail> {
+    let mut told = String::new(alloc);
+    for token in lex(alloc, text.as_bytes())?.as_slice() {
+        push_token(&mut told, token)?;
+    }
+    Ok(told)
+}
+
 #[test]
 fn the_longest_token_is_taken(rt: HostRuntime) -> Result<(), Fail> {
-    let tokens = lex(rt.alloc(), b"inputs 007x:==% = +\n\tinput")?;
-    assert_eq!(rt; tokens.len(), 6);
-    assert!(rt; matches!(&tokens[0].kind, Kind::Name(name) if name.as_str() == "inputs"));
-    assert!(rt; matches!(tokens[1].kind, Kind::Number(7)));
-    assert!(rt; matches!(&tokens[2].kind, Kind::Name(name) if name.as_str() == "x"));
-    assert!(rt; matches!(tokens[3].kind, Kind::Terminal(Terminal::Becomes)));
-    assert!(rt; matches!(tokens[4].kind, Kind::Terminal(Terminal::Equal)));
-    assert!(rt; matches!(tokens[5].kind, Kind::Terminal(Terminal::Input)));
-    assert_eq!(rt; tokens[4].line, 1);
-    assert_eq!(rt; tokens[5].line, 2);
+    let told = told(rt.alloc(), "inputs 007x:==% = +\n\tinput")?;
+    let wanted = "1 name inputs\n1 number 7\n1 name x\n1 :=\n1 =\n2 input\n";
+    assert!(rt; told.as_str() == wanted, "{told}");
     Ok(())
 }
