@@ -13,6 +13,7 @@ pub mod Telling
 pub mod Monitored
 pub mod Accepting
 pub mod Breaking
+pub mod FirstBroken
 pub mod JudgingExamples
 pub mod BreakingExamples
 pub mod LogExamples

@@ -10,3 +10,4 @@ pub mod Monitoring
 pub mod LinesRead
 pub mod Telling
 pub mod Readings
+pub mod FirstBroken

@@ -20,7 +20,10 @@ pub use counted::Counted;
 pub use device::{Device, Failed, InputDevice, OutputDevice};
 pub use failure::LogErr;
 pub use judge::replay;
-pub use laws::{judged_is_the_run, monitored_is_the_run, no_refusal, one_log, written_log_is_read};
+pub use laws::{
+    first_broken_is_least, judged_is_the_run, monitored_is_the_run, no_refusal, one_log,
+    written_log_is_read,
+};
 pub use logs::{read_log, write_log};
 pub use monitors::{MonitorErr, monitor};
 pub use reading::push_line;
