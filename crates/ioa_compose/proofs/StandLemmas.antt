@@ -1,18 +1,22 @@
 -- The composition of rewritten components, and of those that do not crash, stands for the hosts.
-use Rattle.std.proofs.Common.{◌≡◌, ℕ, suc, ◌+◌, Bool, true, false, not, cond, ◌&&◌, ◌||◌, List, [], ◌∷◌, ◌++◌, map, All, Option, Some, None, Result, Ok, Err, slice_get, refl, sym, ap, subst, ◌∙◌, arith}
+use Rattle.std.proofs.Common.{◌≡◌, ℕ, suc, ◌+◌, Bool, true, false, not, cond, ◌&&◌, ◌||◌, List, [], ◌∷◌, ◌++◌, map, All, Option, Some, None, Result, Ok, Err, slice_get, length, codes, if◌then◌else◌, refl, sym, ap, subst, ◌∙◌, arith}
 use Rattle.std.specs.List.{list_all, list_any}
 use Rattle.std.specs.Option.{option_map}
 use Rattle.std.specs.Str.{bytes_eq}
+use Rattle.std.proofs.lemmas.List.{map-append, length-map, length_push}
 use Rattle.std.proofs.lemmas.List.Elements.{All-head, All-tail}
+use Rattle.std.proofs.lemmas.Option.{slice_get-map}
 use Rattle.ioa_value.specs.declared.arithmetic.Fault.{Fault}
 use Rattle.ioa_value.specs.Actions.{Name, Act}
-use Rattle.ioa_value.specs.Plain.{Val}
+use Rattle.ioa_value.specs.Plain.{Val, truth as truth_value}
+use Rattle.ioa_value.specs.Table.{contains}
+use Rattle.ioa_value.proofs.NameLemmas.{own_name}
 use Rattle.ioa_syntax.specs.declared.tree.Kind.{Kind}
 use Rattle.ioa_syntax.specs.declared.tree.Kind.TheVariants.{Input}
-use Rattle.ioa_syntax.specs.Tree.{CrashTree, EntryTree, InvariantTree}
+use Rattle.ioa_syntax.specs.Tree.{CrashTree, EntryTree, VariableTree, InvariantTree}
 use Rattle.ioa_syntax.specs.Names.{names_of_expr}
-use Rattle.ioa_syntax.specs.Meaning.{Env, or_else, over}
-use Rattle.ioa_syntax.specs.Instances.{Instance, formal_values, component_of, state_of}
+use Rattle.ioa_syntax.specs.Meaning.{Env, or_else, over, values_of}
+use Rattle.ioa_syntax.specs.Instances.{Instance, variable_names, formal_values, component_of, state_of}
 use Rattle.ioa_syntax.specs.Components.{Component, Compatible}
 use Rattle.ioa_syntax.specs.Compositions.{Member, Composed, components_of, starts_of}
 use Rattle.ioa_syntax.specs.Invariants.{is_true, holds, breaks, broken_by, broken_from, Broken, first_broken, broken_at}
@@ -23,8 +27,10 @@ use Rattle.ioa_syntax.specs.Hosts.{HostState, host_state, when_ok, steady, hoste
 use Rattle.ioa_syntax.proofs.Agreement.{val_same}
 use Rattle.ioa_syntax.proofs.Alike.{like_kinds, kinds_back, same_compatible, first_like}
 use Rattle.ioa_syntax.proofs.Simulation.{run_like, trace_like, owner_like, participants_like, external_like}
-use Rattle.ioa_compose.specs.Rewriting.{spelled, signals, crashing}
-use Rattle.ioa_compose.specs.Stands.{StandsBy, StandsFor, StandsAt, member_by, member_for, MayStand, has_kind, Stands, RewritingStands}
+use Rattle.ioa_compose.specs.Rewriting.{spelled, up_name, up_variable, signals, rewritten, crashing}
+use Rattle.ioa_compose.specs.Stands.{StandsBy, StandsFor, StandsAt, member_by, member_for, MayStand, TellsUp, HoldsWith, has_kind, Stands, RewritingStands}
+use Rattle.ioa_compose.proofs.SpelledNames.{absent, all_of, none_unspelled}
+use Rattle.ioa_compose.proofs.SpelledTrees.{automaton_spelled}
 use Rattle.ioa_compose.proofs.RewrittenNames.{formals_same}
 use Rattle.ioa_compose.proofs.CrashLemmas.{means_crash}
 
@@ -75,6 +81,64 @@ one_start (Some n) p h = (means_crash n p.instance p.starts h).start
 one_name : (o : Option CrashTree) (p : Host) → (member_by o p).instance.automaton.name ≡ p.instance.automaton.name
 one_name None p = refl
 one_name (Some n) p = refl
+
+-- the slots of the variables, and of one more
+values_more : (ns : List Name) (m : Name) (vs : List Val) (x : Name) → contains ns x ≡ true → values_of (ns ++ m ∷ []) vs x ≡ values_of ns vs x
+values_more [] m vs x h = absurd (let k : false ≡ true = h in cc)
+values_more (n ∷ ns) m [] x h = refl
+values_more (n ∷ ns) m (v ∷ vs) x h = go (bytes_eq n x) h (λ k. values_more ns m vs x k)
+  where
+    go : (b : Bool) → (b || contains ns x) ≡ true → (contains ns x ≡ true → values_of (ns ++ m ∷ []) vs x ≡ values_of ns vs x)
+        → (if b then Some v else values_of (ns ++ m ∷ []) vs x) ≡ (if b then Some v else values_of ns vs x)
+    go true k r = refl
+    go false k r = r k
+
+value_after : (ns : List Name) (vs : List Val) (x : Name) → contains ns x ≡ false → values_of (ns ++ x ∷ []) vs x ≡ slice_get vs (length ns)
+value_after [] [] x h = refl
+value_after [] (v ∷ vs) x h = rw (own_name x) refl
+value_after (n ∷ ns) [] x h = refl
+value_after (n ∷ ns) (v ∷ vs) x h = go (bytes_eq n x) h (λ k. value_after ns vs x k)
+  where
+    go : (b : Bool) → (b || contains ns x) ≡ false → (contains ns x ≡ false → values_of (ns ++ x ∷ []) vs x ≡ slice_get vs (length ns))
+        → (if b then Some v else values_of (ns ++ x ∷ []) vs x) ≡ slice_get vs (length ns)
+    go true k r = absurd (let z : true ≡ false = k in cc)
+    go false k r = r k
+
+one_holding : (o : Option CrashTree) (p : Host) → MayStand o p → (h : HostState Env) (s : Env) (slots : List Val) → StandsBy o p.instance.automaton h s
+    → length slots ≡ length (variable_names (member_by o p).instance.automaton) → ((x : Name) → s x ≡ values_of (variable_names (member_by o p).instance.automaton) slots x)
+    → ((x : Name) → h.inner x ≡ values_of (variable_names p.instance.automaton) slots x) × TellsUp o (length p.instance.automaton.variables) h.up slots
+one_holding None p may h s slots r l v =
+    (λ x. ap (λ (e : Env). e x) r.1 ∙ v x, (l ∙ length-map p.instance.automaton.variables (λ (u : VariableTree). u.field.name), r.0))
+one_holding (Some n) p may h s slots r l v = (λ x. by_name x (contains ns x) refl, (count, told))
+  where
+    vs : List VariableTree
+    vs = p.instance.automaton.variables
+
+    ns : List Name
+    ns = variable_names p.instance.automaton
+
+    all : list_all spelled ns ≡ true
+    all = (automaton_spelled p.instance.automaton may.legal).variables
+
+    names : variable_names (rewritten n p.instance.automaton) ≡ ns ++ up_name ∷ []
+    names = map-append (λ (u : VariableTree). u.field.name) vs (up_variable ∷ [])
+
+    held : (x : Name) → s x ≡ values_of (ns ++ up_name ∷ []) slots x
+    held x = v x ∙ ap (λ (l : List Name). values_of l slots x) names
+
+    by_name : (x : Name) (b : Bool) → contains ns x ≡ b → h.inner x ≡ values_of ns slots x
+    by_name x true e = r.agree x (all_of spelled ns x all e) ∙ held x ∙ values_more ns up_name slots x e
+    by_name x false e = r.others x (ap not e) ∙ sym (absent ns slots x e)
+
+    each : length ns ≡ length vs
+    each = length-map vs (λ (u : VariableTree). u.field.name)
+
+    count : length slots ≡ length vs + 1
+    count = l ∙ ap length names ∙ length_push ns up_name ∙ ap (λ k. k + 1) each
+
+    told : slice_get slots (length vs) ≡ Some (truth_value h.up)
+    told =
+        ap (slice_get slots) (sym each) ∙ sym (value_after ns slots up_name (none_unspelled ns (codes "up") all)) ∙ sym (held up_name) ∙ r.up
 
 -- a condition of spelled names is as true of what stands for the host
 one_holds : (o : Option CrashTree) (p : Host) → MayStand o p → (v : InvariantTree) → list_all spelled (names_of_expr v.condition) ≡ true
@@ -172,6 +236,13 @@ same_kinds k none (p ∷ ps) =
     ap (λ (b : Bool). b ∷ map (has_kind k) (map (λ (m : Member). m.instance) (map member_for ps))) (one_kind k none p.crash p)
     ∙ ap (λ (bs : List Bool). has_kind k p.instance ∷ bs) (same_kinds k none ps)
 
+all_hold : (hosts : List Host) → AllMay hosts → (i : ℕ) (p : Host) (m : Member) → slice_get hosts i ≡ Some p → slice_get (map member_for hosts) i ≡ Some m → HoldsWith p m
+all_hold hosts may i p m at there h s slots r l v =
+    let same : Some m ≡ Some (member_for p) = sym there ∙ slice_get-map member_for hosts i ∙ ap (option_map member_for) at in
+    let is : m ≡ member_for p = cc in
+    let k = one_holding p.crash p (may i p at) h s slots r (l ∙ ap (λ (u : Member). length (variable_names u.instance.automaton)) is) (λ x. v x ∙ ap (λ (u : Member). values_of (variable_names u.instance.automaton) slots x) is) in
+    record { values = k.0; up = k.1 }
+
 pub rewriting_stands : RewritingStands
 rewriting_stands h may c =
     let whole : IsRest h.hosts 0 h.hosts = λ j. let e : 0 + j ≡ j = omega arith in ap (slice_get h.hosts) e in
@@ -185,6 +256,7 @@ rewriting_stands h may c =
       kinds = λ k none. same_kinds k none h.hosts;
       like = k.0;
       start = k.1;
+      slots = all_hold h.hosts may;
       broken = λ n hs ss r. all_broken h.hosts may n h.invariants c 0 h.hosts whole hs ss r;
     }
 

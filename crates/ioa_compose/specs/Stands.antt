@@ -1,12 +1,14 @@
 -- Compositions that stand for compositions of hosts: those that crash are rewritten.
-use Rattle.std.specs.Prelude.{◌≡◌, ℕ, Bool, true, false, List, map, length, Option, Some, None, slice_get, IsTrue, All}
+use Rattle.std.specs.Prelude.{◌≡◌, ℕ, ◌+◌, Bool, true, false, List, map, length, Option, Some, None, slice_get, IsTrue, All}
 use Rattle.std.specs.List.{list_all, list_any}
+use Rattle.ioa_value.specs.Actions.{Name}
+use Rattle.ioa_value.specs.Plain.{Val, truth as truth_value}
 use Rattle.ioa_syntax.specs.declared.tree.Kind.{Kind}
 use Rattle.ioa_syntax.specs.declared.tree.Kind.TheVariants.{Input}
 use Rattle.ioa_syntax.specs.Tree.{CrashTree, AutomatonTree, CompositionTree, SourceTree}
-use Rattle.ioa_syntax.specs.Meaning.{Env}
+use Rattle.ioa_syntax.specs.Meaning.{Env, values_of}
 use Rattle.ioa_syntax.specs.Names.{names_of_expr, LegalNames}
-use Rattle.ioa_syntax.specs.Instances.{Instance, component_of}
+use Rattle.ioa_syntax.specs.Instances.{Instance, variable_names, component_of}
 use Rattle.ioa_syntax.specs.Components.{Compatible}
 use Rattle.ioa_syntax.specs.Compositions.{Member, Composed, components_of, starts_of, instances_of}
 use Rattle.ioa_syntax.specs.Invariants.{broken_at}
@@ -52,11 +54,30 @@ MayStand (Some n) p = MayCrash n p.instance p.starts
 abbrev pub AllMayStand : Hosted → Type 0
 AllMayStand h = (i : ℕ) (p : Host) → slice_get h.hosts i ≡ Some p → MayStand p.crash p
 
+-- after the slots of n variables there is none, and the host is up; or, of one that crashes, one that tells whether it is
+abbrev pub TellsUp : Option CrashTree → ℕ → Bool → List Val → Type 0
+TellsUp None n up slots = (length slots ≡ n) × (up ≡ true)
+TellsUp (Some c) n up slots = (length slots ≡ n + 1) × (slice_get slots n ≡ Some (truth_value up))
+
+-- slot i holds the value of the i-th declared variable, and the last slot of a host that crashes whether it is up
+pub record Holds (p : Host) (h : HostState Env) (slots : List Val) : Type 0 where
+  pub values : (x : Name) → h.inner x ≡ values_of (variable_names p.instance.automaton) slots x
+  pub up : TellsUp p.crash (length p.instance.automaton.variables) h.up slots
+
+-- by place
+abbrev pub HoldsAt : List Host → ℕ → HostState Env → List Val → Type 0
+HoldsAt hosts i h slots = (p : Host) → slice_get hosts i ≡ Some p → Holds p h slots
+
+-- what holds the values of the member's variables holds the host's state that its own stands for
+abbrev pub HoldsWith : Host → Member → Type 0
+HoldsWith p m = (h : HostState Env) (s : Env) (slots : List Val) → StandsFor p h s → length slots ≡ length (variable_names m.instance.automaton)
+    → ((x : Name) → s x ≡ values_of (variable_names m.instance.automaton) slots x) → Holds p h slots
+
 -- whether an entry of the automaton's signature is of such a kind
 abbrev pub has_kind : (Kind → Bool) → Instance → Bool
 has_kind k i = list_any (λ e. k e.kind) i.automaton.entries
 
--- the composition does what the hosts do, from their start on, and breaks the same invariants
+-- the composition does what the hosts do, from their start on, breaks the same invariants, and is held in the slots that hold the hosts
 pub record Stands (h : Hosted) (c : Composed) : Type 0 where
   pub types : c.types ≡ h.types
   pub name : c.name ≡ h.name
@@ -66,6 +87,7 @@ pub record Stands (h : Hosted) (c : Composed) : Type 0 where
   pub kinds : (k : Kind → Bool) → k Input ≡ false → map (has_kind k) (instances_of c) ≡ map (has_kind k) (host_instances h)
   pub like : AllLike (StandsAt h.hosts) 0 (hosts_of h) (components_of c)
   pub start : AllRelated (StandsAt h.hosts) 0 (host_starts h) (starts_of c)
+  pub slots : (i : ℕ) (p : Host) (m : Member) → slice_get h.hosts i ≡ Some p → slice_get c.members i ≡ Some m → HoldsWith p m
   pub broken : (n : ℕ) (hs : List (HostState Env)) (ss : List Env) → AllRelated (StandsAt h.hosts) 0 hs ss → broken_hosts h n hs ≡ broken_at c n ss
 
 -- the composition of the rewritten components, and of those that do not crash, stands for the hosts

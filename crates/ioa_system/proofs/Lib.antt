@@ -6,3 +6,4 @@ pub mod Drafting
 pub mod Stepping
 pub mod Running
 pub mod Tracing
+pub mod Hosting

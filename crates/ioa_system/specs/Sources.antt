@@ -1,14 +1,16 @@
--- What a program's table does is what the composition does that it means.
-use Rattle.std.specs.Prelude.{◌≡◌, List}
+-- What a program's table does is what the composition does that it means, and what the hosts do for which this one stands.
+use Rattle.std.specs.Prelude.{◌≡◌, ℕ, List}
 use Rattle.ioa_value.specs.Actions.{Act}
 use Rattle.ioa_value.specs.Plain.{Val}
 use Rattle.ioa_syntax.specs.Meaning.{Env}
 use Rattle.ioa_syntax.specs.Steps.{step, owner, participants}
-use Rattle.ioa_syntax.specs.Runs.{is_external}
-use Rattle.ioa_syntax.specs.Likes.{AllRelated, MovesLike}
+use Rattle.ioa_syntax.specs.Runs.{is_external, run, trace}
+use Rattle.ioa_syntax.specs.Likes.{AllRelated, MovesLike, RunsLike}
 use Rattle.ioa_syntax.specs.Compositions.{Composed, components_of}
+use Rattle.ioa_syntax.specs.Hosts.{Hosted, hosts_of, host_starts}
+use Rattle.ioa_compose.specs.Stands.{HoldsAt, Stands}
 use Rattle.ioa_compile.specs.Programs.{Prog}
-use Rattle.ioa_compile.specs.Tables.{tabled}
+use Rattle.ioa_compile.specs.Tables.{tabled, start_states}
 use Rattle.ioa_compile.specs.Correspondence.{CorrespondsAt}
 use Rattle.ioa_compile.specs.Means.{Means}
 
@@ -25,3 +27,13 @@ SameExternal = (p : Prog) (c : Composed) (a : Act) → Means p c → is_external
 abbrev pub SameStep : Type 0
 SameStep =
     (p : Prog) (c : Composed) (a : Act) (es : List Env) (ss : List (List Val)) → Means p c → AllRelated (CorrespondsAt c.members) 0 es ss → MovesLike (CorrespondsAt c.members) 0 (step (components_of c) a es) (step (tabled p) a ss)
+
+-- the hosts' run performs as many actions, ends in the same way, and reaches states that the program's slots hold
+abbrev pub SameRun : Type 0
+SameRun =
+    (p : Prog) (h : Hosted) (c : Composed) (acts : List Act) → Stands h c → Means p c
+    → RunsLike (HoldsAt h.hosts) (run (hosts_of h) acts (host_starts h)) (run (tabled p) acts (start_states p))
+
+-- of as many actions the trace is the same
+abbrev pub SameTrace : Type 0
+SameTrace = (p : Prog) (h : Hosted) (c : Composed) (acts : List Act) (n : ℕ) → Stands h c → Means p c → trace p.hidden (tabled p) acts n ≡ trace h.hidden (hosts_of h) acts n

@@ -1,6 +1,6 @@
-//! Laws of steps. The function does nothing: what it says is in its contract.
+//! Laws of steps and runs. The functions do nothing: what they say is in their contracts.
 
-ghost use Rattle.ioa_system.specs.Sources.{SameOwner, SameParticipants, SameExternal, SameStep};
+ghost use Rattle.ioa_system.specs.Sources.{SameOwner, SameParticipants, SameExternal, SameStep, SameRun, SameTrace};
 
 /// A program does what the composition does that it means: an action has the same owner and participants and is external in
 /// both, and from corresponding states a step answers the same, with corresponding states.
@@ -9,4 +9,12 @@ pub fn steps_are_the_sources()
     ensures participants { SameParticipants }
     ensures external { SameExternal }
     ensures step { SameStep }
+{}
+
+/// A program's run is that of the hosts for which the composition stands that it means: over every list of actions it performs as many,
+/// ends for the same reason, has the same trace, and reaches slots that hold the hosts' states. Slot i holds the value of the i-th
+/// declared variable, and the last slot of a host that crashes whether it is up.
+pub fn runs_are_the_hosts()
+    ensures run { SameRun }
+    ensures trace { SameTrace }
 {}

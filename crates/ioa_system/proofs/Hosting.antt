@@ -1,0 +1,50 @@
+-- A program's run is that of the hosts which its composition stands for.
+use Rattle.std.proofs.Common.{◌≡◌, ℕ, ◌+◌, List, [], ◌∷◌, Option, Some, None, slice_get, length, refl, sym, ap, ◌∙◌, arith}
+use Rattle.std.proofs.lemmas.List.{length-map}
+use Rattle.ioa_value.specs.Actions.{Name}
+use Rattle.ioa_value.specs.Plain.{Val}
+use Rattle.ioa_syntax.specs.Meaning.{Env}
+use Rattle.ioa_syntax.specs.Instances.{Instance, Fit, variable_names}
+use Rattle.ioa_syntax.specs.WellFormed.{variable_fields}
+use Rattle.ioa_syntax.specs.Runs.{trace}
+use Rattle.ioa_syntax.specs.Likes.{AllRelated}
+use Rattle.ioa_syntax.specs.Compositions.{Composed, Member, components_of, starts_of}
+use Rattle.ioa_syntax.specs.Hosts.{HostState, Host, Hosted, hosts_of, host_starts}
+use Rattle.ioa_syntax.proofs.Simulation.{run_like, trace_like}
+use Rattle.ioa_compose.specs.Stands.{StandsAt, Holds, HoldsAt, Stands}
+use Rattle.ioa_compose.proofs.RewrittenNames.{fit_length}
+use Rattle.ioa_compile.specs.Correspondence.{CorrespondsIn, CorrespondsAt}
+use Rattle.ioa_compile.specs.Tables.{tabled, start_states}
+use Rattle.ioa_system.specs.Sources.{SameRun, SameTrace}
+
+-- there are as many slots as variables
+as_many : (i : Instance) (vs : List Val) → Fit i.types (variable_fields i.automaton) vs → length vs ≡ length (variable_names i.automaton)
+as_many i vs h =
+    let l = fit_length i.types (variable_fields i.automaton) vs h in
+    omega (arith, l, length-map (variable_fields i.automaton) (λ f. f.name), length-map i.automaton.variables (λ v. v.field), length-map i.automaton.variables (λ v. v.field.name))
+
+-- slots that correspond to states that stand for the hosts' states hold these
+held : (h : Hosted) (c : Composed) → Stands h c → (i : ℕ) (hs : List (HostState Env)) (es : List Env) (vss : List (List Val))
+    → AllRelated (StandsAt h.hosts) i hs es → AllRelated (CorrespondsAt c.members) i es vss → AllRelated (HoldsAt h.hosts) i hs vss
+held h c s i [] [] [] r q = tt
+held h c s i [] [] (vs ∷ vss) r q = absurd q
+held h c s i [] (e ∷ es) vss r q = absurd r
+held h c s i (x ∷ hs) [] vss r q = absurd r
+held h c s i (x ∷ hs) (e ∷ es) [] r q = absurd q
+held h c s i (x ∷ hs) (e ∷ es) (vs ∷ vss) r q = (here (slice_get c.members i) refl q.0, held h c s (i + 1) hs es vss r.1 q.1)
+  where
+    here : (o : Option Member) → slice_get c.members i ≡ o → CorrespondsIn o e vs → (p : Host) → slice_get h.hosts i ≡ Some p → Holds p x vs
+    here None at k p there = absurd k
+    here (Some m) at k p there = s.slots i p m there at x e vs (r.0 p there) (as_many m.instance vs k.typed) k.values
+
+pub same_run : SameRun
+same_run p h c acts s m =
+    let r = run_like (StandsAt h.hosts) (hosts_of h) (components_of c) acts (host_starts h) (starts_of c) s.like s.start in
+    let q = run_like (CorrespondsAt c.members) (components_of c) (tabled p) acts (starts_of c) (start_states p) m.components m.starts in
+    record { performed = r.performed ∙ q.performed; ending = r.ending ∙ q.ending; states = held h c s 0 _ _ _ r.states q.states }
+
+pub same_trace : SameTrace
+same_trace p h c acts n s m =
+    ap (λ (hidden : List Name). trace hidden (tabled p) acts n) (m.hidden ∙ s.hidden)
+    ∙ sym (trace_like (CorrespondsAt c.members) h.hidden (components_of c) (tabled p) acts n m.components)
+    ∙ sym (trace_like (StandsAt h.hosts) h.hidden (hosts_of h) (components_of c) acts n s.like)
