@@ -54,12 +54,13 @@ MayStand (Some n) p = MayCrash n p.instance p.starts
 abbrev pub AllMayStand : Hosted → Type 0
 AllMayStand h = (i : ℕ) (p : Host) → slice_get h.hosts i ≡ Some p → MayStand p.crash p
 
--- after the slots of n variables there is none, and the host is up; or, of one that crashes, one that tells whether it is
+-- A host that does not crash has n slots, and is up. One that crashes has one slot more, the last one, which tells whether it is up.
 abbrev pub TellsUp : Option CrashTree → ℕ → Bool → List Val → Type 0
 TellsUp None n up slots = (length slots ≡ n) × (up ≡ true)
 TellsUp (Some c) n up slots = (length slots ≡ n + 1) × (slice_get slots n ≡ Some (truth_value up))
 
--- slot i holds the value of the i-th declared variable, and the last slot of a host that crashes whether it is up
+-- slot i holds the value of the i-th declared variable (by its name: those of a well formed source differ), and the last slot of a host
+-- that crashes whether it is up
 pub record Holds (p : Host) (h : HostState Env) (slots : List Val) : Type 0 where
   pub values : (x : Name) → h.inner x ≡ values_of (variable_names p.instance.automaton) slots x
   pub up : TellsUp p.crash (length p.instance.automaton.variables) h.up slots
@@ -68,7 +69,7 @@ pub record Holds (p : Host) (h : HostState Env) (slots : List Val) : Type 0 wher
 abbrev pub HoldsAt : List Host → ℕ → HostState Env → List Val → Type 0
 HoldsAt hosts i h slots = (p : Host) → slice_get hosts i ≡ Some p → Holds p h slots
 
--- what holds the values of the member's variables holds the host's state that its own stands for
+-- slots that hold the values of the member's variables hold the state of the host for which its own state stands
 abbrev pub HoldsWith : Host → Member → Type 0
 HoldsWith p m = (h : HostState Env) (s : Env) (slots : List Val) → StandsFor p h s → length slots ≡ length (variable_names m.instance.automaton)
     → ((x : Name) → s x ≡ values_of (variable_names m.instance.automaton) slots x) → Holds p h slots
@@ -77,7 +78,7 @@ HoldsWith p m = (h : HostState Env) (s : Env) (slots : List Val) → StandsFor p
 abbrev pub has_kind : (Kind → Bool) → Instance → Bool
 has_kind k i = list_any (λ e. k e.kind) i.automaton.entries
 
--- the composition does what the hosts do, from their start on, breaks the same invariants, and is held in the slots that hold the hosts
+-- the composition does what the hosts do, from their start on, and breaks the same invariants; slots that hold its states hold the hosts'
 pub record Stands (h : Hosted) (c : Composed) : Type 0 where
   pub types : c.types ≡ h.types
   pub name : c.name ≡ h.name

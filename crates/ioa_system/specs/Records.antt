@@ -5,6 +5,8 @@ use Rattle.ioa_value.specs.Plain.{Val}
 use Rattle.ioa_syntax.specs.Runs.{Reached, run, trace}
 use Rattle.ioa_syntax.specs.Likes.{RunsLike}
 use Rattle.ioa_syntax.specs.Compositions.{Composed, components_of, starts_of}
+use Rattle.ioa_syntax.specs.Hosts.{Hosted, hosts_of, host_starts}
+use Rattle.ioa_compose.specs.Stands.{HoldsAt}
 use Rattle.ioa_compile.specs.Programs.{Prog}
 use Rattle.ioa_compile.specs.Tables.{tabled, start_states}
 use Rattle.ioa_compile.specs.Correspondence.{CorrespondsAt}
@@ -27,3 +29,8 @@ pub record IsTableRun (p : Prog) (acts : List Act) (r : Run) : Type 0 where
 pub record IsSourceRun (c : Composed) (acts : List Act) (r : Run) : Type 0 where
   pub reached : RunsLike (CorrespondsAt c.members) (run (components_of c) acts (starts_of c)) (reached_of r)
   pub trace : trace_of r ≡ trace c.hidden (components_of c) acts r.performed
+
+-- the same actions performed as by the hosts, the same end, slots that hold the hosts' states, and the hosts' trace
+pub record IsHostRun (h : Hosted) (acts : List Act) (r : Run) : Type 0 where
+  pub reached : RunsLike (HoldsAt h.hosts) (run (hosts_of h) acts (host_starts h)) (reached_of r)
+  pub trace : trace_of r ≡ trace h.hidden (hosts_of h) acts r.performed

@@ -28,12 +28,22 @@ abbrev pub SameStep : Type 0
 SameStep =
     (p : Prog) (c : Composed) (a : Act) (es : List Env) (ss : List (List Val)) → Means p c → AllRelated (CorrespondsAt c.members) 0 es ss → MovesLike (CorrespondsAt c.members) 0 (step (components_of c) a es) (step (tabled p) a ss)
 
+-- the same of the hosts
+abbrev pub HostOwner : Type 0
+HostOwner = (p : Prog) (h : Hosted) (c : Composed) (a : Act) → Stands h c → Means p c → owner (tabled p) a ≡ owner (hosts_of h) a
+
+abbrev pub HostParticipants : Type 0
+HostParticipants = (p : Prog) (h : Hosted) (c : Composed) (a : Act) → Stands h c → Means p c → participants (tabled p) a ≡ participants (hosts_of h) a
+
+abbrev pub HostExternal : Type 0
+HostExternal = (p : Prog) (h : Hosted) (c : Composed) (a : Act) → Stands h c → Means p c → is_external p.hidden (tabled p) a ≡ is_external h.hidden (hosts_of h) a
+
 -- the hosts' run performs as many actions, ends in the same way, and reaches states that the program's slots hold
-abbrev pub SameRun : Type 0
-SameRun =
+abbrev pub HostRun : Type 0
+HostRun =
     (p : Prog) (h : Hosted) (c : Composed) (acts : List Act) → Stands h c → Means p c
     → RunsLike (HoldsAt h.hosts) (run (hosts_of h) acts (host_starts h)) (run (tabled p) acts (start_states p))
 
 -- of as many actions the trace is the same
-abbrev pub SameTrace : Type 0
-SameTrace = (p : Prog) (h : Hosted) (c : Composed) (acts : List Act) (n : ℕ) → Stands h c → Means p c → trace p.hidden (tabled p) acts n ≡ trace h.hidden (hosts_of h) acts n
+abbrev pub HostTrace : Type 0
+HostTrace = (p : Prog) (h : Hosted) (c : Composed) (acts : List Act) (n : ℕ) → Stands h c → Means p c → trace p.hidden (tabled p) acts n ≡ trace h.hidden (hosts_of h) acts n

@@ -1,6 +1,6 @@
 //! Laws of steps and runs. The functions do nothing: what they say is in their contracts.
 
-ghost use Rattle.ioa_system.specs.Sources.{SameOwner, SameParticipants, SameExternal, SameStep, SameRun, SameTrace};
+ghost use Rattle.ioa_system.specs.Sources.{SameOwner, SameParticipants, SameExternal, SameStep, HostOwner, HostParticipants, HostExternal, HostRun, HostTrace};
 
 /// A program does what the composition does that it means: an action has the same owner and participants and is external in
 /// both, and from corresponding states a step answers the same, with corresponding states.
@@ -13,8 +13,12 @@ pub fn steps_are_the_sources()
 
 /// A program's run is that of the hosts for which the composition stands that it means: over every list of actions it performs as many,
 /// ends for the same reason, has the same trace, and reaches slots that hold the hosts' states. Slot i holds the value of the i-th
-/// declared variable, and the last slot of a host that crashes whether it is up.
+/// declared variable, and the last slot of a host that crashes whether it is up. An action has the same owner and participants, and is
+/// external in both.
 pub fn runs_are_the_hosts()
-    ensures run { SameRun }
-    ensures trace { SameTrace }
+    ensures run { HostRun }
+    ensures trace { HostTrace }
+    ensures owner { HostOwner }
+    ensures participants { HostParticipants }
+    ensures external { HostExternal }
 {}
