@@ -279,7 +279,7 @@ fn is_step_so(
 
 #[test]
 fn steps_a_program(rt: HostRuntime) -> Result<(), Fail> {
-    let program = program(rt.alloc(), COUNTER)?;
+    let program = program(rt.alloc(), COUNTER, Some("One"))?;
     let mut system = System::start(rt.alloc(), &program)?;
     for (text, wanted, count) in &STEPS {
         let action = action(rt.alloc(), program.types(), *text)?;

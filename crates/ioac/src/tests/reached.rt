@@ -91,10 +91,10 @@ const RUNS: [(&str, &str, &str); 10] = [
     ),
 ];
 
-/// The program of a source's last composition.
-pub fn program(alloc: Global, source: &str) -> Result<Program, Refusal> {
+/// The program of a source's composition of this name, or of its last one.
+pub fn program(alloc: Global, source: &str, composition: Option<&str>) -> Result<Program, Refusal> {
     let checked = check(alloc, parse(alloc, source.as_bytes())?)?;
-    let composition = compose(alloc, &checked, None)?;
+    let composition = compose(alloc, &checked, composition)?;
     Ok(compile(alloc, &composition)?)
 }
 
@@ -131,7 +131,7 @@ fn told_of(alloc: Global, types: &Types, run: &Run) -> Result<String, OutOfMemor
 }
 
 fn reached(alloc: Global, source: &str, list: &str) -> Result<String, Fail> {
-    let program = program(alloc, source)?;
+    let program = program(alloc, source, None)?;
     let run = run_of(alloc, &program, list)?;
     Ok(told_of(alloc, program.types(), &run)?)
 }
@@ -182,7 +182,7 @@ pub fn action(alloc: Global, types: &Types, text: &str) -> Result<Action, Fail> 
 }
 
 fn performers(alloc: Global, source: &str, text: &str) -> Result<Performers, Fail> {
-    let program = program(alloc, source)?;
+    let program = program(alloc, source, None)?;
     let action = action(alloc, program.types(), text)?;
     let count = participants(alloc, &program, &action)?.len();
     Ok((
