@@ -20,11 +20,8 @@ use crate::transitions::{one_to_one, transitions_fine};
 use indexmap::IndexSet;
 use ioa_syntax::{Automaton, Declaration, Entry, Name, Refusal, Variable};
 
-/// The automaton of this name.
-pub(crate) fn automaton_named<'a>(
-    declarations: &'a [Declaration],
-    name: &Name,
-) -> Option<&'a Automaton>
+/// The automaton of this name among the declarations.
+pub fn automaton_named<'a>(declarations: &'a [Declaration], name: &Name) -> Option<&'a Automaton>
     ensures { option_map (λ a. automaton_of a.now) result ≡ compositions.automaton_named (tree_of declarations.now) (name_of name.now) }
 {
     for declaration in declarations {

@@ -18,6 +18,7 @@ mod transitions;
 mod tuples;
 mod types;
 
+pub use automata::automaton_named;
 pub use checked::{Checked, check};
 pub use expressions::expression_type;
 pub use fields::type_named;

@@ -14,8 +14,8 @@ ghost use Rattle.ioa_compose.specs.Bindings.{IsReady, AllReady, Binds, fit, clos
 ghost use Rattle.ioa_compose.specs.Refusals.{IsUnbound, IsRefusedAt, reason_of};
 
 use crate::evaluate::evaluate_all;
-use crate::picks::automaton_named;
 use crate::scope::Scope;
+use ioa_check::automaton_named;
 use ioa_syntax::{Automaton, Crash, Declaration, Expression, Field, Instance, Name, Refusal};
 use ioa_value::{Fault, OutOfMemory, Types, Value, has_type};
 use std::alloc::Global;

@@ -1,9 +1,9 @@
 ghost use Rattle.std.specs.Prelude.{◌≡◌, find, reverse, option_map, option_copied};
 ghost use Rattle.std.specs.Str.{bytes_eq};
-ghost use Rattle.ioa_syntax.specs.View.{tree_of, assembly_of, automaton_of, name_of};
+ghost use Rattle.ioa_syntax.specs.View.{tree_of, assembly_of};
 ghost use Rattle.ioa_syntax.specs.Compositions as spec;
 
-use ioa_syntax::{Assembly, Automaton, Declaration, Name};
+use ioa_syntax::{Assembly, Declaration};
 
 /// The composition of this name, or the last one where no name is given.
 pub(crate) fn picked<'a>(
@@ -41,21 +41,4 @@ fn last_composition(declarations: &[Declaration]) -> Option<&Assembly>
         }
     }
     last
-}
-
-/// The automaton of this name.
-pub(crate) fn automaton_named<'a>(
-    declarations: &'a [Declaration],
-    name: &Name,
-) -> Option<&'a Automaton>
-    ensures { option_map (λ a. automaton_of a.now) result ≡ spec.automaton_named (tree_of declarations.now) (name_of name.now) }
-{
-    for declaration in declarations {
-        if let Declaration::Automaton(automaton) = declaration
-            && automaton.name.text.as_str() == name.text.as_str()
-        {
-            return Some(automaton);
-        }
-    }
-    None
 }
