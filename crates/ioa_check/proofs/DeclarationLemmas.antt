@@ -9,17 +9,17 @@ use Rattle.ioa_value.specs.Actions.{Name}
 use Rattle.ioa_value.specs.Table.{Table, basic}
 use Rattle.ioa_value.proofs.ItemLemmas.{drop_item, take_item}
 use Rattle.ioa_lex.specs.declared.refusal.Refusal.{Refusal}
-use Rattle.ioa_syntax.specs.declared.tree.Automaton.{Automaton}
-use Rattle.ioa_syntax.specs.declared.tree.Assembly.{Assembly}
-use Rattle.ioa_syntax.specs.declared.tree.Invariant.{Invariant}
-use Rattle.ioa_syntax.specs.declared.tree.Declaration.{Declaration}
-use Rattle.ioa_syntax.specs.declared.tree.Declaration.TheVariants as declarations
-use Rattle.ioa_syntax.specs.Tree.{TypeTree, AutomatonTree, DeclarationTree, declared_type, automaton, composition, invariant, SourceTree}
-use Rattle.ioa_syntax.specs.Types.{with_type, types_of}
-use Rattle.ioa_syntax.specs.Compositions.{automaton_named}
-use Rattle.ioa_syntax.specs.View.{automaton_of, assembly_of, invariant_of, declaration_of, tree_of}
-use Rattle.ioa_syntax.specs.WellFormed.{type_fine, automaton_fine, composition_fine, invariant_fine, declaration_fine, declarations_fine, is_type_declaration, is_automaton_of}
-use Rattle.ioa_syntax.proofs.Declared.{declared-append, types_begin}
+use Rattle.ioa_tree.specs.declared.tree.Automaton.{Automaton}
+use Rattle.ioa_tree.specs.declared.tree.Assembly.{Assembly}
+use Rattle.ioa_tree.specs.declared.tree.Invariant.{Invariant}
+use Rattle.ioa_tree.specs.declared.tree.Declaration.{Declaration}
+use Rattle.ioa_tree.specs.declared.tree.Declaration.TheVariants as declarations
+use Rattle.ioa_tree.specs.Tree.{TypeTree, AutomatonTree, DeclarationTree, declared_type, automaton, composition, invariant, SourceTree}
+use Rattle.ioa_tree.specs.Types.{with_type, types_of}
+use Rattle.ioa_tree.specs.Compositions.{automaton_named}
+use Rattle.ioa_tree.specs.View.{automaton_of, assembly_of, invariant_of, declaration_of, tree_of}
+use Rattle.ioa_tree.specs.WellFormed.{type_fine, automaton_fine, composition_fine, invariant_fine, declaration_fine, declarations_fine, is_type_declaration, is_automaton_of}
+use Rattle.ioa_tree.proofs.Declared.{declared-append, types_begin}
 use Rattle.ioa_check.specs.declared.known.Known.{Known}
 use Rattle.ioa_check.specs.Known.{whole, early}
 use Rattle.ioa_check.specs.Reasons.{Reasons, in_form, in_types, in_automaton, in_composition, in_invariant, in_declaration, in_declarations}

@@ -4,17 +4,17 @@ use Rattle.std.specs.List.{list_all}
 use Rattle.std.proofs.lemmas.Bool.{and_from, or_right}
 use Rattle.ioa_value.specs.Actions as actions
 use Rattle.ioa_lex.specs.declared.refusal.Refusal.{Refusal}
-use Rattle.ioa_syntax.specs.declared.tree.Name.{Name}
-use Rattle.ioa_syntax.specs.declared.tree.Position.{Position}
-use Rattle.ioa_syntax.specs.declared.tree.Entry.{Entry}
-use Rattle.ioa_syntax.specs.declared.tree.Proposal.{Proposal}
-use Rattle.ioa_syntax.specs.declared.tree.Instance.{Instance}
-use Rattle.ioa_syntax.specs.Instances.{field_names}
-use Rattle.ioa_syntax.specs.Tree.{AutomatonTree, EntryTree, ProposalTree, SourceTree}
-use Rattle.ioa_syntax.specs.View.{name_of, position_of, entry_of, proposal_of, instance_of}
+use Rattle.ioa_tree.specs.declared.tree.Name.{Name}
+use Rattle.ioa_tree.specs.declared.tree.Position.{Position}
+use Rattle.ioa_tree.specs.declared.tree.Entry.{Entry}
+use Rattle.ioa_tree.specs.declared.tree.Proposal.{Proposal}
+use Rattle.ioa_tree.specs.declared.tree.Instance.{Instance}
+use Rattle.ioa_tree.specs.Instances.{field_names}
+use Rattle.ioa_tree.specs.Tree.{AutomatonTree, EntryTree, ProposalTree, SourceTree}
+use Rattle.ioa_tree.specs.View.{name_of, position_of, entry_of, proposal_of, instance_of}
 use Rattle.ioa_value.specs.Table.{Table}
-use Rattle.ioa_syntax.specs.WellFormed as well_formed
-use Rattle.ioa_syntax.specs.WellFormed.{Context, distinct, apart, parameter_names}
+use Rattle.ioa_tree.specs.WellFormed as well_formed
+use Rattle.ioa_tree.specs.WellFormed.{Context, distinct, apart, parameter_names}
 use Rattle.ioa_check.specs.Fields.{parameters}
 use Rattle.ioa_check.specs.Codes.{duplicate_name, tells}
 use Rattle.ioa_check.specs.Reasons as reasons

@@ -12,9 +12,9 @@ use Rattle.ioa_value.specs.Table.{contains, distinct}
 use Rattle.ioa_value.proofs.ItemLemmas.{take_item}
 use Rattle.ioa_value.proofs.NameLemmas.{distinct-again, distinct-append}
 use Rattle.ioa_lex.specs.declared.refusal.Refusal.{Refusal}
-use Rattle.ioa_syntax.specs.declared.tree.Declaration.{Declaration}
-use Rattle.ioa_syntax.specs.View.{declaration_of, tree_of}
-use Rattle.ioa_syntax.specs.WellFormed.{declared_names}
+use Rattle.ioa_tree.specs.declared.tree.Declaration.{Declaration}
+use Rattle.ioa_tree.specs.View.{declaration_of, tree_of}
+use Rattle.ioa_tree.specs.WellFormed.{declared_names}
 use Rattle.ioa_check.specs.Codes.{duplicate_name, tells}
 use Rattle.ioa_check.specs.Globals.{Adds}
 use Rattle.ioa_check.specs.Verdicts.{SaysOrMemory}

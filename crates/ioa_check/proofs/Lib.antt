@@ -10,4 +10,3 @@ pub mod DeclarationLemmas
 pub mod SourceLemmas
 pub mod StatementLemmas
 pub mod TupleLemmas
-mod Examples

@@ -3,14 +3,14 @@ use Rattle.std.proofs.Common.{◌≡◌, ℕ, Bool, true, false, cond, List, [],
 use Rattle.std.specs.Option.{option_map_or, option_or}
 use Rattle.std.specs.Str.{bytes_eq}
 use Rattle.ioa_value.specs.Actions.{Name}
-use Rattle.ioa_syntax.specs.Tree.{FieldTree}
-use Rattle.ioa_syntax.specs.View.{field_of}
+use Rattle.ioa_tree.specs.Tree.{FieldTree}
+use Rattle.ioa_tree.specs.View.{field_of}
 use Rattle.ioa_value.specs.Table.{Table, type_named}
-use Rattle.ioa_syntax.specs.WellFormed.{Context, type_in, context_of}
+use Rattle.ioa_tree.specs.WellFormed.{Context, type_in, context_of}
 use Rattle.ioa_check.specs.declared.scope.Scope.{Scope}
 use Rattle.ioa_check.specs.Scopes.{context}
 use Rattle.ioa_check.specs.Fields.{parameters, type_under}
-use Rattle.ioa_syntax.specs.View.{variable_of}
+use Rattle.ioa_tree.specs.View.{variable_of}
 use Rattle.ioa_check.specs.Known.{early}
 use Rattle.ioa_check.proofs.ViewLemmas.{fields-of_variables}
 use Rattle.ioa_value.proofs.ItemLemmas.{drop_item}

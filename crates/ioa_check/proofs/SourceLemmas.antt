@@ -4,9 +4,9 @@ use Rattle.std.proofs.lemmas.Bool.{and_from, and_left, and_right, or_left, or_ri
 use Rattle.ioa_value.specs.declared.limits.TheConstants.{LIMITS}
 use Rattle.ioa_value.specs.Table.{basic, distinct}
 use Rattle.ioa_lex.specs.declared.refusal.Refusal.{Refusal}
-use Rattle.ioa_syntax.specs.Tree.{SourceTree}
-use Rattle.ioa_syntax.specs.Types.{types_of}
-use Rattle.ioa_syntax.specs.WellFormed.{global_names, declarations_fine, source_within, types_narrow, well_formed}
+use Rattle.ioa_tree.specs.Tree.{SourceTree}
+use Rattle.ioa_tree.specs.Types.{types_of}
+use Rattle.ioa_tree.specs.WellFormed.{global_names, declarations_fine, source_within, types_narrow, well_formed}
 use Rattle.ioa_check.specs.Codes.{duplicate_name, too_many, too_wide, tells}
 use Rattle.ioa_check.specs.Reasons.{broken, ◌or◌, in_types, in_declarations, in_source}
 use Rattle.ioa_check.specs.Types.{types_fine}

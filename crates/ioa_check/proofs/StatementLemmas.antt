@@ -5,16 +5,16 @@ use Rattle.std.specs.Result.{IsErrAnd}
 use Rattle.std.proofs.lemmas.Bool.{and_left, or_left, or_right}
 use Rattle.ioa_value.specs.Table.{Table}
 use Rattle.ioa_lex.specs.declared.refusal.Refusal.{Refusal}
-use Rattle.ioa_syntax.specs.declared.tree.Statement.{Statement}
-use Rattle.ioa_syntax.specs.declared.tree.Statement.TheVariants.{If}
-use Rattle.ioa_syntax.specs.declared.tree.Arm.{Arm}
-use Rattle.ioa_syntax.specs.Tree.{Expr, Stmt, Stmts, AutomatonTree, EntryTree, choose}
-use Rattle.ioa_syntax.specs.View.{expr_of, stmt_of, stmts_of, arm_of, arms_of}
-use Rattle.ioa_syntax.specs.WellFormed.{has_ty, scope, stmt_fine, stmts_fine, arms_fine, stmt_nodes, stmts_nodes, arms_nodes}
+use Rattle.ioa_tree.specs.declared.tree.Statement.{Statement}
+use Rattle.ioa_tree.specs.declared.tree.Statement.TheVariants.{If}
+use Rattle.ioa_tree.specs.declared.tree.Arm.{Arm}
+use Rattle.ioa_tree.specs.Tree.{Expr, Stmt, Stmts, AutomatonTree, EntryTree, choose}
+use Rattle.ioa_tree.specs.View.{expr_of, stmt_of, stmts_of, arm_of, arms_of}
+use Rattle.ioa_tree.specs.WellFormed.{has_ty, scope, stmt_fine, stmts_fine, arms_fine, stmt_nodes, stmts_nodes, arms_nodes}
 use Rattle.ioa_check.specs.Reasons.{Reasons, in_any, in_condition, in_stmt, in_stmts, in_arms, ◌or◌}
 use Rattle.ioa_check.specs.Sizes.{Counts}
 use Rattle.ioa_check.specs.Verdicts.{Says}
-use Rattle.ioa_syntax.proofs.Sequences.{stmt_chosen}
+use Rattle.ioa_tree.proofs.StatementRows.{stmt_chosen}
 use Rattle.ioa_check.proofs.SayLemmas.{says-at, says-more, says-last, says-passed}
 
 and-assoc : (a b c : Bool) → (a && (b && c)) ≡ ((a && b) && c)

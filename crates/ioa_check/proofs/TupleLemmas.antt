@@ -14,13 +14,13 @@ use Rattle.ioa_value.specs.Typing.{of_fields}
 use Rattle.ioa_value.proofs.ItemLemmas.{drop_item}
 use Rattle.ioa_value.proofs.PlaceLemmas.{place_below}
 use Rattle.ioa_lex.specs.declared.refusal.Refusal.{Refusal}
-use Rattle.ioa_syntax.specs.declared.tree.Expression.{Expression}
-use Rattle.ioa_syntax.specs.declared.tree.Expression.TheVariants.{Make}
-use Rattle.ioa_syntax.specs.declared.tree.Name.{Name as Node}
-use Rattle.ioa_syntax.specs.Tree.{Expr, make, Exprs}
-use Rattle.ioa_syntax.specs.View.{name_of, expr_of, exprs_of}
-use Rattle.ioa_syntax.specs.WellFormed.{Context, type_of, types_of_all, made_type, selected_type, nodes, exprs_nodes}
-use Rattle.ioa_syntax.proofs.Tuples.{expr_made}
+use Rattle.ioa_tree.specs.declared.tree.Expression.{Expression}
+use Rattle.ioa_tree.specs.declared.tree.Expression.TheVariants.{Make}
+use Rattle.ioa_tree.specs.declared.tree.Name.{Name as Node}
+use Rattle.ioa_tree.specs.Tree.{Expr, make, Exprs}
+use Rattle.ioa_tree.specs.View.{name_of, expr_of, exprs_of}
+use Rattle.ioa_tree.specs.WellFormed.{Context, type_of, types_of_all, made_type, selected_type, nodes, exprs_nodes}
+use Rattle.ioa_tree.proofs.ExpressionRows.{expr_made}
 use Rattle.ioa_check.specs.Codes.{unknown_name, type_mismatch, tells}
 use Rattle.ioa_check.specs.Reasons.{Reasons, has_fields, all_taken, in_expression, in_expressions}
 use Rattle.ioa_check.specs.Sizes.{counted, all_counted}

@@ -17,23 +17,23 @@ use Rattle.ioa_value.proofs.ItemLemmas.{drop_item}
 use Rattle.ioa_value.proofs.NameLemmas.{distinct-append}
 use Rattle.ioa_value.proofs.TableLemmas.{widths_pushed}
 use Rattle.ioa_lex.specs.declared.refusal.Refusal.{Refusal}
-use Rattle.ioa_syntax.specs.declared.tree.Declaration.{Declaration as Node}
-use Rattle.ioa_syntax.specs.declared.tree.Declaration.TheVariants as nodes
-use Rattle.ioa_syntax.specs.declared.tree.TypeDeclaration.{TypeDeclaration}
-use Rattle.ioa_syntax.specs.declared.tree.Field.{Field}
-use Rattle.ioa_syntax.specs.declared.tree.TypeForm.{TypeForm}
-use Rattle.ioa_syntax.specs.declared.tree.TypeForm.TheVariants.{Tuple}
-use Rattle.ioa_syntax.specs.Instances.{field_names}
-use Rattle.ioa_syntax.specs.View.{name_of, field_of, type_form_of, type_declaration_of, declaration_of, tree_of}
-use Rattle.ioa_syntax.specs.Names.{names_of_type, names_of_form, names_of_declaration, LegalNames}
-use Rattle.ioa_syntax.specs.Tree.{FieldTree, FormTree, enumeration, tuple, sequence, TypeTree, DeclarationTree, declared_type, automaton, composition, invariant, SourceTree}
-use Rattle.ioa_syntax.specs.Types.{with_field, numbered, shape_of, declared, with_type, declared_from, types_of}
-use Rattle.ioa_syntax.specs.WellFormed.{is_type, declared_names, global_names, is_type_declaration, declaration_within, source_within, form_fine, type_fine, types_narrow}
-use Rattle.ioa_syntax.proofs.Declared.{declared_begins}
-use Rattle.ioa_syntax.proofs.LegalNames.{all_left}
-use Rattle.ioa_syntax.proofs.SourceTypes.{Ready, ready, adds, ready_type, ready_other, ready_invariant, may_follow}
-use Rattle.ioa_syntax.proofs.Starts.{some_there}
-use Rattle.ioa_syntax.proofs.WidthLemmas.{narrow_there}
+use Rattle.ioa_tree.specs.declared.tree.Declaration.{Declaration as Node}
+use Rattle.ioa_tree.specs.declared.tree.Declaration.TheVariants as nodes
+use Rattle.ioa_tree.specs.declared.tree.TypeDeclaration.{TypeDeclaration}
+use Rattle.ioa_tree.specs.declared.tree.Field.{Field}
+use Rattle.ioa_tree.specs.declared.tree.TypeForm.{TypeForm}
+use Rattle.ioa_tree.specs.declared.tree.TypeForm.TheVariants.{Tuple}
+use Rattle.ioa_tree.specs.Instances.{field_names}
+use Rattle.ioa_tree.specs.View.{name_of, field_of, type_form_of, type_declaration_of, declaration_of, tree_of}
+use Rattle.ioa_tree.specs.Names.{names_of_type, names_of_form, names_of_declaration, LegalNames}
+use Rattle.ioa_tree.specs.Tree.{FieldTree, FormTree, enumeration, tuple, sequence, TypeTree, DeclarationTree, declared_type, automaton, composition, invariant, SourceTree}
+use Rattle.ioa_tree.specs.Types.{with_field, numbered, shape_of, declared, with_type, declared_from, types_of}
+use Rattle.ioa_tree.specs.WellFormed.{is_type, declared_names, global_names, is_type_declaration, declaration_within, source_within, form_fine, type_fine, types_narrow}
+use Rattle.ioa_tree.proofs.Declared.{declared_begins}
+use Rattle.ioa_tree.proofs.PartNames.{all_left}
+use Rattle.ioa_tree.proofs.SourceTypes.{Ready, ready, adds, ready_type, ready_other, ready_invariant, may_follow}
+use Rattle.ioa_tree.proofs.Starts.{some_there}
+use Rattle.ioa_tree.proofs.WidthLemmas.{narrow_there}
 use Rattle.ioa_check.specs.Codes.{duplicate_name, too_wide, tells}
 use Rattle.ioa_check.specs.Reasons.{broken, ◌or◌, in_form, in_types}
 use Rattle.ioa_check.specs.Types.{types_fine, is_narrow, ComesNext}

@@ -1,12 +1,12 @@
 -- The names and the fields of what a source lists, read off the values of the program.
 use Rattle.std.proofs.Common.{◌≡◌, List, map}
 use Rattle.std.proofs.lemmas.Simd.{map-map}
-use Rattle.ioa_syntax.specs.declared.tree.Field.{Field}
-use Rattle.ioa_syntax.specs.declared.tree.Variable.{Variable}
-use Rattle.ioa_syntax.specs.declared.tree.Entry.{Entry}
-use Rattle.ioa_syntax.specs.declared.tree.Proposal.{Proposal}
-use Rattle.ioa_syntax.specs.declared.tree.Instance.{Instance}
-use Rattle.ioa_syntax.specs.View.{name_of, field_of, variable_of, entry_of, proposal_of, instance_of}
+use Rattle.ioa_tree.specs.declared.tree.Field.{Field}
+use Rattle.ioa_tree.specs.declared.tree.Variable.{Variable}
+use Rattle.ioa_tree.specs.declared.tree.Entry.{Entry}
+use Rattle.ioa_tree.specs.declared.tree.Proposal.{Proposal}
+use Rattle.ioa_tree.specs.declared.tree.Instance.{Instance}
+use Rattle.ioa_tree.specs.View.{name_of, field_of, variable_of, entry_of, proposal_of, instance_of}
 
 pub names-of_fields : (fs : List Field) → map (λ f. f.name) (map field_of fs) ≡ map (λ f. name_of f.name) fs
 names-of_fields fs = map-map (λ f. f.name) field_of fs

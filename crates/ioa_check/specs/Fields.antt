@@ -3,10 +3,10 @@ use Rattle.std.specs.Prelude.{ℕ, List, map, Option, None, if◌then◌else◌}
 use Rattle.std.specs.Str.{bytes_eq}
 use Rattle.ioa_value.specs.Actions.{Name}
 use Rattle.ioa_value.specs.Table.{Table, type_named}
-use Rattle.ioa_syntax.specs.declared.tree.Position.{Position}
-use Rattle.ioa_syntax.specs.Tree.{FieldTree}
-use Rattle.ioa_syntax.specs.View.{position_of}
-use Rattle.ioa_syntax.specs.WellFormed.{position_fields}
+use Rattle.ioa_tree.specs.declared.tree.Position.{Position}
+use Rattle.ioa_tree.specs.Tree.{FieldTree}
+use Rattle.ioa_tree.specs.View.{position_of}
+use Rattle.ioa_tree.specs.WellFormed.{position_fields}
 
 -- a constant is none
 abbrev pub parameters : List Position → List FieldTree

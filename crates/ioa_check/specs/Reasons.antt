@@ -3,18 +3,18 @@ use Rattle.std.specs.Prelude.{ℕ, ◌==◌, Bool, true, false, not, ◌&&◌, �
 use Rattle.std.specs.List.{list_any, list_all}
 use Rattle.std.specs.Option.{option_map_or}
 use Rattle.ioa_value.specs.Actions.{Name}
-use Rattle.ioa_value.specs.Arithmetic.{fits}
+use Rattle.ioa_arithmetic.specs.Arithmetic.{fits}
 use Rattle.ioa_value.specs.Operators.{op_type}
 use Rattle.ioa_value.specs.Table.{Table, type_named, item_type, field_types, field_place}
 use Rattle.ioa_lex.specs.declared.refusal.Refusal.{Refusal}
-use Rattle.ioa_syntax.specs.Tree.{Expr, number, truth, named, parens, prefix, binary, empty, make, select, Exprs, no_expr, also, ConstantTree, positive, negative, truth_literal, reference, PositionTree, typed, only, EntryTree, VariableTree, ProposalTree, Stmt, assign, choose, Stmts, stop, seq, Arms, no_arm, arm, TransitionTree, AutomatonTree, InstanceTree, CompositionTree, InvariantTree, FormTree, enumeration, tuple, sequence, DeclarationTree, declared_type, automaton, composition, invariant, SourceTree}
-use Rattle.ioa_syntax.specs.Instances.{field_names}
-use Rattle.ioa_syntax.specs.Meaning.{or_else}
+use Rattle.ioa_tree.specs.Tree.{Expr, number, truth, named, parens, prefix, binary, empty, make, select, Exprs, no_expr, also, ConstantTree, positive, negative, truth_literal, reference, PositionTree, typed, only, EntryTree, VariableTree, ProposalTree, Stmt, assign, choose, Stmts, stop, seq, Arms, no_arm, arm, TransitionTree, AutomatonTree, InstanceTree, CompositionTree, InvariantTree, FormTree, enumeration, tuple, sequence, DeclarationTree, declared_type, automaton, composition, invariant, SourceTree}
+use Rattle.ioa_tree.specs.Instances.{field_names}
+use Rattle.ioa_tree.specs.Meaning.{or_else}
 use Rattle.ioa_value.specs.declared.limits.TheConstants.{LIMITS}
-use Rattle.ioa_syntax.specs.Types.{with_type, types_of, constant_type}
-use Rattle.ioa_syntax.specs.Compositions.{automaton_named}
-use Rattle.ioa_syntax.specs.WellFormed as well_formed
-use Rattle.ioa_syntax.specs.WellFormed.{Context, type_in, type_of, types_of_all, made_type, infix_type, distinct, apart, is_type, context_of, position_fields, parameter_names, variable_fields, is_input, is_automaton_of, global_names, source_within, types_narrow}
+use Rattle.ioa_tree.specs.Types.{with_type, types_of, constant_type}
+use Rattle.ioa_tree.specs.Compositions.{automaton_named}
+use Rattle.ioa_tree.specs.WellFormed as well_formed
+use Rattle.ioa_tree.specs.WellFormed.{Context, type_in, type_of, types_of_all, made_type, infix_type, distinct, apart, is_type, context_of, position_fields, parameter_names, variable_fields, is_input, is_automaton_of, global_names, source_within, types_narrow}
 use Rattle.ioa_check.specs.Codes.{Code, duplicate_name, unknown_name, type_mismatch, bad_signature, no_proposal, too_many, too_wide, tells}
 
 -- the refusals that have their reason in a part of a source

@@ -1,7 +1,7 @@
 -- The names that an expression may use, with their types.
 use Rattle.std.specs.Prelude.{map, ◌++◌}
-use Rattle.ioa_syntax.specs.View.{field_of, variable_of, position_of}
-use Rattle.ioa_syntax.specs.WellFormed.{Context, context_of, position_fields}
+use Rattle.ioa_tree.specs.View.{field_of, variable_of, position_of}
+use Rattle.ioa_tree.specs.WellFormed.{Context, context_of, position_fields}
 use Rattle.ioa_check.specs.declared.scope.Scope.{Scope}
 use Rattle.ioa_check.specs.Known.{early}
 

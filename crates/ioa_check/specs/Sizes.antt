@@ -2,8 +2,8 @@
 use Rattle.std.specs.Prelude.{◌≡◌, ℕ, ◌+◌, ◌<◌, ◌≤◌, Bool, true, min, Result, Ok, Err}
 use Rattle.ioa_value.specs.declared.limits.TheConstants.{LIMITS}
 use Rattle.ioa_lex.specs.declared.refusal.Refusal.{Refusal}
-use Rattle.ioa_syntax.specs.Tree.{Expr, Exprs, DeclarationTree}
-use Rattle.ioa_syntax.specs.WellFormed.{nodes, exprs_nodes, is_type_declaration, is_counted, is_invariant}
+use Rattle.ioa_tree.specs.Tree.{Expr, Exprs, DeclarationTree}
+use Rattle.ioa_tree.specs.WellFormed.{nodes, exprs_nodes, is_type_declaration, is_counted, is_invariant}
 use Rattle.ioa_check.specs.declared.limits.Group.{Group}
 use Rattle.ioa_check.specs.declared.limits.Group.TheVariants.{Types, Machines, Invariants}
 use Rattle.ioa_check.specs.Codes.{too_many, tells}

@@ -5,8 +5,8 @@ use Rattle.ioa_value.specs.Actions.{Name}
 use Rattle.ioa_value.specs.Operators.{are_these}
 use Rattle.ioa_value.specs.Table.{Table, shape_at, type_named, field_types}
 use Rattle.ioa_value.specs.Typing.{of_fields}
-use Rattle.ioa_syntax.specs.Tree.{Exprs}
-use Rattle.ioa_syntax.specs.WellFormed.{Context, types_of_all}
+use Rattle.ioa_tree.specs.Tree.{Exprs}
+use Rattle.ioa_tree.specs.WellFormed.{Context, types_of_all}
 use Rattle.ioa_check.specs.Codes.{unknown_name, type_mismatch}
 use Rattle.ioa_check.specs.Reasons.{Reasons, ◌or◌, broken, has_fields, in_expressions}
 

@@ -5,10 +5,10 @@ use Rattle.ioa_value.specs.declared.limits.TheConstants.{LIMITS}
 use Rattle.ioa_value.specs.Names.{IsName}
 use Rattle.ioa_value.specs.Table.{Table, all_names, distinct}
 use Rattle.ioa_value.specs.Widths.{shape_width, widths}
-use Rattle.ioa_syntax.specs.Names.{names_of_type}
-use Rattle.ioa_syntax.specs.Tree.{TypeTree, declared_type, automaton, composition, invariant, SourceTree}
-use Rattle.ioa_syntax.specs.Types.{with_type, shape_of}
-use Rattle.ioa_syntax.specs.WellFormed.{form_within, type_fine, declared_names}
+use Rattle.ioa_tree.specs.Names.{names_of_type}
+use Rattle.ioa_tree.specs.Tree.{TypeTree, declared_type, automaton, composition, invariant, SourceTree}
+use Rattle.ioa_tree.specs.Types.{with_type, shape_of}
+use Rattle.ioa_tree.specs.WellFormed.{form_within, type_fine, declared_names}
 
 -- each declaration of a type is fine over the types before it
 abbrev pub types_fine : Table → SourceTree → Bool

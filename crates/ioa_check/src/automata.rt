@@ -1,8 +1,8 @@
 ghost use Rattle.std.specs.Prelude.{◌≡◌, ◌&&◌, [], map, option_map};
 ghost use Rattle.std.specs.List.{list_all};
-ghost use Rattle.ioa_syntax.specs.Compositions as compositions;
-ghost use Rattle.ioa_syntax.specs.View.{automaton_of, entry_of, variable_of, name_of, tree_of};
-ghost use Rattle.ioa_syntax.specs.WellFormed as well_formed;
+ghost use Rattle.ioa_tree.specs.Compositions as compositions;
+ghost use Rattle.ioa_tree.specs.View.{automaton_of, entry_of, variable_of, name_of, tree_of};
+ghost use Rattle.ioa_tree.specs.WellFormed as well_formed;
 ghost use Rattle.ioa_check.specs.Globals.{texts};
 ghost use Rattle.ioa_check.specs.Known.{whole, early};
 ghost use Rattle.ioa_check.specs.Codes.{duplicate_name, tells};
@@ -18,7 +18,8 @@ use crate::positions::{parameters_apart, parameters_distinct, positions_fine};
 use crate::scope::Scope;
 use crate::transitions::{one_to_one, transitions_fine};
 use indexmap::IndexSet;
-use ioa_syntax::{Automaton, Declaration, Entry, Name, Refusal, Variable};
+use ioa_syntax::Refusal;
+use ioa_tree::{Automaton, Declaration, Entry, Name, Variable};
 
 /// The automaton of this name among the declarations.
 pub fn automaton_named<'a>(declarations: &'a [Declaration], name: &Name) -> Option<&'a Automaton>

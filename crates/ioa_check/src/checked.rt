@@ -1,13 +1,14 @@
 ghost use Rattle.std.specs.Prelude.{◌≡◌, ◌≢◌, IsTrue, IfOk, IfErr, OnOk};
-ghost use Rattle.ioa_syntax.specs.Names.{LegalNames};
-ghost use Rattle.ioa_syntax.specs.Types.{types_of};
-ghost use Rattle.ioa_syntax.specs.View.{tree_of};
-ghost use Rattle.ioa_syntax.specs.WellFormed.{WellFormed};
+ghost use Rattle.ioa_tree.specs.Names.{LegalNames};
+ghost use Rattle.ioa_tree.specs.Types.{types_of};
+ghost use Rattle.ioa_tree.specs.View.{tree_of};
+ghost use Rattle.ioa_tree.specs.WellFormed.{WellFormed};
 ghost use Rattle.ioa_check.specs.Reasons.{in_source};
 ghost use Rattle.ioa_lex.specs.declared.refusal.Refusal.TheVariants.{OutOfMemory};
 
 use crate::declarations::source_fine;
-use ioa_syntax::{Declaration, Refusal, Source};
+use ioa_syntax::{Refusal, Source};
+use ioa_tree::Declaration;
 use ioa_value::Types;
 use std::alloc::Global;
 use std::marker::Model;
@@ -22,11 +23,11 @@ pub struct Checked {
 impl Model for Checked {
     ghost use Rattle.std.specs.Prelude.{◌≡◌, List};
     ghost use Rattle.std.specs.Coded.{coded_list};
-    ghost use Rattle.ioa_syntax.specs.declared.tree.Declaration.{Declaration};
-    ghost use Rattle.ioa_syntax.specs.contracts.tree.Declaration as declaration;
-    ghost use Rattle.ioa_syntax.specs.Types.{types_of};
-    ghost use Rattle.ioa_syntax.specs.View.{tree_of};
-    ghost use Rattle.ioa_syntax.specs.WellFormed.{WellFormed};
+    ghost use Rattle.ioa_tree.specs.declared.tree.Declaration.{Declaration};
+    ghost use Rattle.ioa_tree.specs.contracts.tree.Declaration as declaration;
+    ghost use Rattle.ioa_tree.specs.Types.{types_of};
+    ghost use Rattle.ioa_tree.specs.View.{tree_of};
+    ghost use Rattle.ioa_tree.specs.WellFormed.{WellFormed};
 
     ghost Value = { List Declaration };
 

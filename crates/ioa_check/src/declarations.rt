@@ -2,10 +2,10 @@ ghost use Rattle.std.specs.Prelude.{◌≡◌, [], map, true, false, IfOk, IsTru
 ghost use Rattle.std.specs.List.{list_all, list_any};
 ghost use Rattle.std.specs.Option.{option_map_or};
 ghost use Rattle.ioa_value.specs.Table.{basic};
-ghost use Rattle.ioa_syntax.specs.Names.{LegalNames};
-ghost use Rattle.ioa_syntax.specs.View.{assembly_of, instance_of, tree_of, name_of, expr_of};
-ghost use Rattle.ioa_syntax.specs.Types.{types_of};
-ghost use Rattle.ioa_syntax.specs.WellFormed as well_formed;
+ghost use Rattle.ioa_tree.specs.Names.{LegalNames};
+ghost use Rattle.ioa_tree.specs.View.{assembly_of, instance_of, tree_of, name_of, expr_of};
+ghost use Rattle.ioa_tree.specs.Types.{types_of};
+ghost use Rattle.ioa_tree.specs.WellFormed as well_formed;
 ghost use Rattle.ioa_check.specs.Globals.{texts};
 ghost use Rattle.ioa_check.specs.Known.{whole, early};
 ghost use Rattle.ioa_check.specs.Reasons as reasons;
@@ -22,7 +22,8 @@ use crate::names::distinct;
 use crate::scope::Scope;
 use crate::types::source_types;
 use indexmap::IndexSet;
-use ioa_syntax::{Assembly, Declaration, Expression, Instance, Name, Refusal};
+use ioa_syntax::Refusal;
+use ioa_tree::{Assembly, Declaration, Expression, Instance, Name};
 use ioa_value::Types;
 use std::alloc::Global;
 

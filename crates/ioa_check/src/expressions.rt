@@ -2,10 +2,10 @@ ghost use Rattle.std.specs.Prelude.{◌≡◌, [], ◌∷◌, Some};
 ghost use Rattle.std.specs.Option.{option_map};
 ghost use Rattle.ioa_value.specs.Operators as operators;
 ghost use Rattle.ioa_value.specs.Plain.{number as number_of_type};
-ghost use Rattle.ioa_syntax.specs.Types.{sequence_named};
-ghost use Rattle.ioa_syntax.specs.View.{expr_of, exprs_of, name_of, automaton_of, entry_of};
-ghost use Rattle.ioa_syntax.specs.Tree.{number, make};
-ghost use Rattle.ioa_syntax.specs.WellFormed as well_formed;
+ghost use Rattle.ioa_tree.specs.Types.{sequence_named};
+ghost use Rattle.ioa_tree.specs.View.{expr_of, exprs_of, name_of, automaton_of, entry_of};
+ghost use Rattle.ioa_tree.specs.Tree.{number, make};
+ghost use Rattle.ioa_tree.specs.WellFormed as well_formed;
 ghost use Rattle.ioa_check.specs.Known.{whole, early};
 ghost use Rattle.ioa_check.specs.Scopes.{context};
 ghost use Rattle.ioa_check.specs.Codes.{type_mismatch, tells};
@@ -16,7 +16,8 @@ ghost use Rattle.ioa_check.specs.Verdicts.{Says, Finds};
 use crate::known::Known;
 use crate::scope::Scope;
 use crate::tuples::{is_field, selected_type, tuple_named};
-use ioa_syntax::{Automaton, Entry, Expression, Infix, Name, Refusal};
+use ioa_syntax::Refusal;
+use ioa_tree::{Automaton, Entry, Expression, Infix, Name};
 use ioa_value::{Form, Op, Ty, Types, op_type};
 
 /// The type of an expression in a precondition or an effect of an automaton's entry, where it has one.

@@ -1,13 +1,13 @@
 ghost use Rattle.std.specs.Prelude.{◌≡◌, ◌<◌, map, length, IfSome};
 ghost use Rattle.std.specs.List.{list_all};
 ghost use Rattle.std.specs.Option.{option_map};
-ghost use Rattle.ioa_syntax.specs.Tree.{FieldTree};
-ghost use Rattle.ioa_syntax.specs.View.{name_of};
-ghost use Rattle.ioa_syntax.specs.View as view;
+ghost use Rattle.ioa_tree.specs.Tree.{FieldTree};
+ghost use Rattle.ioa_tree.specs.View.{name_of};
+ghost use Rattle.ioa_tree.specs.View as view;
 ghost use Rattle.ioa_value.specs.Plain.{number};
 ghost use Rattle.ioa_value.specs.Table as table;
 ghost use Rattle.ioa_value.specs.Table.{AreTypes};
-ghost use Rattle.ioa_syntax.specs.WellFormed.{type_in, context_of, is_type};
+ghost use Rattle.ioa_tree.specs.WellFormed.{type_in, context_of, is_type};
 ghost use Rattle.ioa_check.specs.Fields.{type_under};
 ghost use Rattle.ioa_check.specs.Codes.{unknown_name, tells};
 ghost use Rattle.ioa_check.specs.Known.{early};
@@ -15,7 +15,8 @@ ghost use Rattle.ioa_check.specs.Verdicts.{Says};
 
 use crate::known::Known;
 use crate::names::same_name;
-use ioa_syntax::{Field, Name, Refusal, Variable};
+use ioa_syntax::Refusal;
+use ioa_tree::{Field, Name, Variable};
 use ioa_value::{Ty, Types};
 
 /// What has a name and the name of a type in a source.
@@ -27,7 +28,7 @@ pub(crate) trait Typed {
 }
 
 impl Typed for Field {
-    ghost use Rattle.ioa_syntax.specs.View.{field_of};
+    ghost use Rattle.ioa_tree.specs.View.{field_of};
 
     ghost tree = { field_of };
 
@@ -37,7 +38,7 @@ impl Typed for Field {
 }
 
 impl Typed for Variable {
-    ghost use Rattle.ioa_syntax.specs.View.{field_of};
+    ghost use Rattle.ioa_tree.specs.View.{field_of};
 
     ghost tree = { λ v. field_of v.field };
 

@@ -1,14 +1,15 @@
 ghost use Rattle.std.specs.Prelude.{◌≡◌, [], ◌∷◌, IfOk, map};
-ghost use Rattle.ioa_syntax.specs.Tree.{declared_type};
-ghost use Rattle.ioa_syntax.specs.View.{name_of, declaration_of, type_declaration_of, type_form_of, tree_of};
-ghost use Rattle.ioa_syntax.specs.WellFormed as well_formed;
+ghost use Rattle.ioa_tree.specs.Tree.{declared_type};
+ghost use Rattle.ioa_tree.specs.View.{name_of, declaration_of, type_declaration_of, type_form_of, tree_of};
+ghost use Rattle.ioa_tree.specs.WellFormed as well_formed;
 ghost use Rattle.ioa_check.specs.Codes.{duplicate_name, tells};
 ghost use Rattle.ioa_check.specs.Verdicts.{Says, SaysOrMemory};
 ghost use Rattle.ioa_check.specs.Globals.{texts, Adds};
 
 use crate::names::Named;
 use indexmap::IndexSet;
-use ioa_syntax::{Declaration, Name, Refusal, TypeDeclaration, TypeForm};
+use ioa_syntax::Refusal;
+use ioa_tree::{Declaration, Name, TypeDeclaration, TypeForm};
 use std::alloc::Global;
 
 /// The names of the global space: the types that are there without a declaration, and what the source declares, with the

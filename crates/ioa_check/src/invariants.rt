@@ -1,5 +1,5 @@
-ghost use Rattle.ioa_syntax.specs.View.{invariant_of, tree_of};
-ghost use Rattle.ioa_syntax.specs.WellFormed as well_formed;
+ghost use Rattle.ioa_tree.specs.View.{invariant_of, tree_of};
+ghost use Rattle.ioa_tree.specs.WellFormed as well_formed;
 ghost use Rattle.ioa_check.specs.Known.{whole, early};
 ghost use Rattle.ioa_check.specs.Reasons as reasons;
 ghost use Rattle.ioa_check.specs.Verdicts.{Says};
@@ -8,7 +8,8 @@ use crate::automata::automaton_named;
 use crate::expressions::expect_type;
 use crate::known::Known;
 use crate::scope::Scope;
-use ioa_syntax::{Declaration, Invariant, Refusal};
+use ioa_syntax::Refusal;
+use ioa_tree::{Declaration, Invariant};
 use ioa_value::Ty;
 
 /// Whether an invariant is of an automaton declared before, and a truth value over its variables and formals. A line is

@@ -3,11 +3,11 @@ ghost use Rattle.std.specs.Option.{option_map};
 ghost use Rattle.ioa_value.specs.Plain.{number};
 ghost use Rattle.ioa_value.specs.Shapes.{shape};
 ghost use Rattle.ioa_value.specs.Table as table;
-ghost use Rattle.ioa_syntax.specs.Types.{constant_type};
-ghost use Rattle.ioa_syntax.specs.View.{name_of};
+ghost use Rattle.ioa_tree.specs.Types.{constant_type};
+ghost use Rattle.ioa_tree.specs.View.{name_of};
 ghost use Rattle.ioa_check.specs.Known.{whole, early};
 
-use ioa_syntax::Name;
+use ioa_tree::Name;
 use ioa_value::{Form, Ty, Types};
 
 /// The types of a source, of which a part of it may name the first so many: those declared before it.

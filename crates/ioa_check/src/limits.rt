@@ -1,7 +1,7 @@
 ghost use Rattle.std.specs.Prelude.{◌≡◌, ◌+◌, ◌≤◌, ◌&&◌, map, length, filter, sum, nat_le};
 ghost use Rattle.std.specs.List.{list_all};
-ghost use Rattle.ioa_syntax.specs.View.{automaton_of, assembly_of, entry_of, transition_of, declaration_of, type_declaration_of, tree_of, proposal_of, stmt_of, stmts_of, arms_of, expr_of, exprs_of};
-ghost use Rattle.ioa_syntax.specs.WellFormed as well_formed;
+ghost use Rattle.ioa_tree.specs.View.{automaton_of, assembly_of, entry_of, transition_of, declaration_of, type_declaration_of, tree_of, proposal_of, stmt_of, stmts_of, arms_of, expr_of, exprs_of};
+ghost use Rattle.ioa_tree.specs.WellFormed as well_formed;
 ghost use Rattle.ioa_check.specs.Codes.{too_many, tells};
 ghost use Rattle.ioa_check.specs.Sizes as sizes;
 ghost use Rattle.ioa_check.specs.Sizes.{counted, all_counted, Counts};
@@ -9,9 +9,10 @@ ghost use Rattle.ioa_check.specs.Verdicts.{Says};
 
 use crate::names::{Named, at_most};
 use crate::positions::positions_within;
-use ioa_syntax::{
-    Arm, Assembly, Automaton, Declaration, Entry, Expression, Proposal, Refusal, Statement,
-    Transition, TypeDeclaration, TypeForm,
+use ioa_syntax::Refusal;
+use ioa_tree::{
+    Arm, Assembly, Automaton, Declaration, Entry, Expression, Proposal, Statement, Transition,
+    TypeDeclaration, TypeForm,
 };
 use ioa_value::LIMITS;
 

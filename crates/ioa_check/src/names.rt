@@ -1,11 +1,12 @@
 ghost use Rattle.std.specs.Prelude.{◌≡◌, ℕ, List, map, length, nat_le, is_some};
-ghost use Rattle.ioa_syntax.specs.View.{name_of};
-ghost use Rattle.ioa_syntax.specs.WellFormed as well_formed;
+ghost use Rattle.ioa_tree.specs.View.{name_of};
+ghost use Rattle.ioa_tree.specs.WellFormed as well_formed;
 ghost use Rattle.std.specs.Str.{bytes_eq};
 ghost use Rattle.ioa_check.specs.Codes.{duplicate_name, too_many, tells};
 ghost use Rattle.ioa_check.specs.Verdicts.{Says};
 
-use ioa_syntax::{Declaration, Entry, Field, Instance, Name, Proposal, Refusal, Variable};
+use ioa_syntax::Refusal;
+use ioa_tree::{Declaration, Entry, Field, Instance, Name, Proposal, Variable};
 
 /// What has a name in a source.
 pub(crate) trait Named {
@@ -16,7 +17,7 @@ pub(crate) trait Named {
 }
 
 impl Named for Name {
-    ghost use Rattle.ioa_syntax.specs.View.{name_of};
+    ghost use Rattle.ioa_tree.specs.View.{name_of};
 
     ghost called = { name_of };
 
@@ -26,7 +27,7 @@ impl Named for Name {
 }
 
 impl Named for Field {
-    ghost use Rattle.ioa_syntax.specs.View.{name_of};
+    ghost use Rattle.ioa_tree.specs.View.{name_of};
 
     ghost called = { λ f. name_of f.name };
 
@@ -36,7 +37,7 @@ impl Named for Field {
 }
 
 impl Named for Variable {
-    ghost use Rattle.ioa_syntax.specs.View.{name_of};
+    ghost use Rattle.ioa_tree.specs.View.{name_of};
 
     ghost called = { λ v. name_of v.field.name };
 
@@ -46,7 +47,7 @@ impl Named for Variable {
 }
 
 impl Named for Entry {
-    ghost use Rattle.ioa_syntax.specs.View.{name_of};
+    ghost use Rattle.ioa_tree.specs.View.{name_of};
 
     ghost called = { λ x. name_of x.name };
 
@@ -56,7 +57,7 @@ impl Named for Entry {
 }
 
 impl Named for Proposal {
-    ghost use Rattle.ioa_syntax.specs.View.{name_of};
+    ghost use Rattle.ioa_tree.specs.View.{name_of};
 
     ghost called = { λ x. name_of x.name };
 
@@ -66,7 +67,7 @@ impl Named for Proposal {
 }
 
 impl Named for Instance {
-    ghost use Rattle.ioa_syntax.specs.View.{name_of};
+    ghost use Rattle.ioa_tree.specs.View.{name_of};
 
     ghost called = { λ x. name_of x.name };
 
@@ -76,8 +77,8 @@ impl Named for Instance {
 }
 
 impl Named for Declaration {
-    ghost use Rattle.ioa_syntax.specs.View.{declaration_of};
-    ghost use Rattle.ioa_syntax.specs.WellFormed.{first_name};
+    ghost use Rattle.ioa_tree.specs.View.{declaration_of};
+    ghost use Rattle.ioa_tree.specs.WellFormed.{first_name};
 
     ghost called = { λ d. first_name (declaration_of d) };
 

@@ -3,12 +3,12 @@
 ghost use Rattle.std.specs.Prelude.{◌≡◌, ◌++◌, [], map, length, nat_le, is_some, pos, neg_ℤ};
 ghost use Rattle.std.specs.List.{list_all};
 ghost use Rattle.std.specs.Option.{option_map};
-ghost use Rattle.ioa_value.specs.Arithmetic.{fits};
+ghost use Rattle.ioa_arithmetic.specs.Arithmetic.{fits};
 ghost use Rattle.ioa_value.specs.Plain.{number};
-ghost use Rattle.ioa_syntax.specs.Instances.{field_names};
-ghost use Rattle.ioa_syntax.specs.View.{name_of, automaton_of, constant_of, position_of};
-ghost use Rattle.ioa_syntax.specs.WellFormed as well_formed;
-ghost use Rattle.ioa_syntax.specs.WellFormed.{type_in, context_of};
+ghost use Rattle.ioa_tree.specs.Instances.{field_names};
+ghost use Rattle.ioa_tree.specs.View.{name_of, automaton_of, constant_of, position_of};
+ghost use Rattle.ioa_tree.specs.WellFormed as well_formed;
+ghost use Rattle.ioa_tree.specs.WellFormed.{type_in, context_of};
 ghost use Rattle.ioa_check.specs.Codes.{duplicate_name, type_mismatch, too_many, tells};
 ghost use Rattle.ioa_check.specs.Fields.{parameters};
 ghost use Rattle.ioa_check.specs.Globals.{texts};
@@ -24,7 +24,8 @@ use crate::known::Known;
 use crate::names::{find_name, same_name};
 use crate::scope::Scope;
 use indexmap::IndexSet;
-use ioa_syntax::{Automaton, Constant, Name, Position, Refusal};
+use ioa_syntax::Refusal;
+use ioa_tree::{Automaton, Constant, Name, Position};
 use ioa_value::{LIMITS, Ty};
 
 /// The type of the first of the parameters that has this name and a type.

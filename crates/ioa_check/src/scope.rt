@@ -1,18 +1,18 @@
 ghost use Rattle.std.specs.Prelude.{◌≡◌, [], map};
 ghost use Rattle.std.specs.Option.{option_map};
-ghost use Rattle.ioa_syntax.specs.View.{name_of, automaton_of, entry_of};
+ghost use Rattle.ioa_tree.specs.View.{name_of, automaton_of, entry_of};
 ghost use Rattle.ioa_value.specs.Plain.{number};
-ghost use Rattle.ioa_syntax.specs.WellFormed as well_formed;
-ghost use Rattle.ioa_syntax.specs.WellFormed.{type_in};
-ghost use Rattle.ioa_syntax.specs.Meaning.{or_else};
-ghost use Rattle.ioa_syntax.specs.Types.{constant_type};
+ghost use Rattle.ioa_tree.specs.WellFormed as well_formed;
+ghost use Rattle.ioa_tree.specs.WellFormed.{type_in};
+ghost use Rattle.ioa_tree.specs.Meaning.{or_else};
+ghost use Rattle.ioa_tree.specs.Types.{constant_type};
 ghost use Rattle.ioa_check.specs.Known.{whole, early};
 ghost use Rattle.ioa_check.specs.Scopes.{context};
 
 use crate::fields::find_type;
 use crate::known::Known;
 use crate::positions::find_parameter;
-use ioa_syntax::{Automaton, Entry, Field, Name, Position, Variable};
+use ioa_tree::{Automaton, Entry, Field, Name, Position, Variable};
 use ioa_value::Ty;
 
 /// The types, and the names that an expression may use: variables, formals and an entry's parameters, beside those of

@@ -1,7 +1,7 @@
 ghost use Rattle.std.specs.Prelude.{◌≡◌, ◌&&◌, []};
-ghost use Rattle.ioa_syntax.specs.Tree.{assign};
-ghost use Rattle.ioa_syntax.specs.View.{automaton_of, entry_of, name_of, expr_of, stmt_of, stmts_of, arms_of};
-ghost use Rattle.ioa_syntax.specs.WellFormed as well_formed;
+ghost use Rattle.ioa_tree.specs.Tree.{assign};
+ghost use Rattle.ioa_tree.specs.View.{automaton_of, entry_of, name_of, expr_of, stmt_of, stmts_of, arms_of};
+ghost use Rattle.ioa_tree.specs.WellFormed as well_formed;
 ghost use Rattle.ioa_check.specs.Known.{whole, early};
 ghost use Rattle.ioa_check.specs.Reasons as reasons;
 ghost use Rattle.ioa_check.specs.Reasons.{◌or◌};
@@ -11,7 +11,8 @@ use crate::expressions::expect_type;
 use crate::fields::find_type;
 use crate::known::Known;
 use crate::scope::Scope;
-use ioa_syntax::{Arm, Automaton, Entry, Expression, Name, Refusal, Statement};
+use ioa_syntax::Refusal;
+use ioa_tree::{Arm, Automaton, Entry, Expression, Name, Statement};
 use ioa_value::Ty;
 
 /// Whether each statement is well formed, also those within arms.

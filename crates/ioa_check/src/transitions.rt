@@ -1,9 +1,9 @@
 ghost use Rattle.std.specs.Prelude.{◌≡◌, ◌==◌, [], ◌||◌, ◌&&◌, not, map, filter, length, if◌then◌else◌};
 ghost use Rattle.std.specs.List.{list_all, list_any};
 ghost use Rattle.std.specs.Str.{bytes_eq};
-ghost use Rattle.ioa_syntax.specs.View.{automaton_of, entry_of, transition_of, proposal_of, name_of};
-ghost use Rattle.ioa_syntax.specs.View as view;
-ghost use Rattle.ioa_syntax.specs.WellFormed as well_formed;
+ghost use Rattle.ioa_tree.specs.View.{automaton_of, entry_of, transition_of, proposal_of, name_of};
+ghost use Rattle.ioa_tree.specs.View as view;
+ghost use Rattle.ioa_tree.specs.WellFormed as well_formed;
 ghost use Rattle.ioa_check.specs.Codes.{bad_signature, no_proposal, tells};
 ghost use Rattle.ioa_check.specs.Known.{whole, early};
 ghost use Rattle.ioa_check.specs.Reasons as reasons;
@@ -15,7 +15,8 @@ use crate::names::{distinct, find_name, same_name};
 use crate::positions::find_parameter;
 use crate::scope::Scope;
 use crate::statements::{condition_fine, statements_fine};
-use ioa_syntax::{Automaton, Entry, Field, Kind, Name, Position, Proposal, Refusal, Transition};
+use ioa_syntax::Refusal;
+use ioa_tree::{Automaton, Entry, Field, Kind, Name, Position, Proposal, Transition};
 use ioa_value::Form;
 
 /// Whether each entry has one transition of its kind and name, and each transition an entry. A line is that of a

@@ -5,15 +5,16 @@ ghost use Rattle.std.specs.Option.{option_map};
 ghost use Rattle.ioa_value.specs.Operators.{is_that};
 ghost use Rattle.ioa_value.specs.Plain.{number};
 ghost use Rattle.ioa_value.specs.Table.{field_types};
-ghost use Rattle.ioa_syntax.specs.View.{name_of};
-ghost use Rattle.ioa_syntax.specs.WellFormed as well_formed;
+ghost use Rattle.ioa_tree.specs.View.{name_of};
+ghost use Rattle.ioa_tree.specs.WellFormed as well_formed;
 ghost use Rattle.ioa_check.specs.Known.{whole, early};
 ghost use Rattle.ioa_check.specs.Reasons as reasons;
 ghost use Rattle.ioa_check.specs.Tuples.{tuple_named, in_tuple_name};
 ghost use Rattle.ioa_check.specs.Verdicts.{Finds};
 
 use crate::known::Known;
-use ioa_syntax::{Name, Refusal};
+use ioa_syntax::Refusal;
+use ioa_tree::Name;
 use ioa_value::{Form, Op, Ty, Types, op_type};
 
 /// The tuple type of this name.

@@ -5,10 +5,10 @@ ghost use Rattle.std.specs.List.{list_all};
 ghost use Rattle.std.specs.String.{string_bytes};
 ghost use Rattle.ioa_value.specs.Shapes.{shape, tuple_field};
 ghost use Rattle.ioa_value.specs.Table.{basic, distinct as are_distinct, type_named};
-ghost use Rattle.ioa_syntax.specs.Names.{LegalNames};
-ghost use Rattle.ioa_syntax.specs.Types.{with_type, types_of, shape_of, numbered};
-ghost use Rattle.ioa_syntax.specs.View.{name_of, field_of, type_form_of, type_declaration_of, tree_of};
-ghost use Rattle.ioa_syntax.specs.WellFormed as well_formed;
+ghost use Rattle.ioa_tree.specs.Names.{LegalNames};
+ghost use Rattle.ioa_tree.specs.Types.{with_type, types_of, shape_of, numbered};
+ghost use Rattle.ioa_tree.specs.View.{name_of, field_of, type_form_of, type_declaration_of, tree_of};
+ghost use Rattle.ioa_tree.specs.WellFormed as well_formed;
 ghost use Rattle.ioa_check.specs.Codes.{unknown_name, too_wide, tells};
 ghost use Rattle.ioa_check.specs.Reasons as reasons;
 ghost use Rattle.ioa_check.specs.Reasons.{◌or◌, broken};
@@ -16,7 +16,8 @@ ghost use Rattle.ioa_check.specs.Types.{types_fine, is_narrow, ComesNext};
 ghost use Rattle.ioa_check.specs.Verdicts.{SaysOrMemory, Finds};
 
 use crate::names::distinct;
-use ioa_syntax::{Declaration, Field, Name, Refusal, TypeDeclaration, TypeForm};
+use ioa_syntax::Refusal;
+use ioa_tree::{Declaration, Field, Name, TypeDeclaration, TypeForm};
 use ioa_value::{Declarations, Declared, Form, LIMITS, OutOfMemory, Ty, Types};
 use std::alloc::Global;
 

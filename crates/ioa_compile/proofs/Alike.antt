@@ -4,7 +4,7 @@ use Rattle.std.specs.List.{AllZip}
 use Rattle.std.specs.Option.{option_map, option_map_or}
 use Rattle.std.specs.Str.{bytes_eq}
 use Rattle.std.proofs.lemmas.Bool.{and_parts}
-use Rattle.ioa_value.specs.declared.arithmetic.Fault.{Fault}
+use Rattle.ioa_arithmetic.specs.declared.arithmetic.Fault.{Fault}
 use Rattle.ioa_value.specs.Actions.{Name, Act}
 use Rattle.ioa_value.specs.Operators.{Answer, gives, faults, nothing, IsTypedAnswer}
 use Rattle.ioa_value.specs.Plain as plain
@@ -20,17 +20,17 @@ use Rattle.ioa_code.specs.Valid.{Part}
 use Rattle.ioa_code.proofs.Ends.{outcome_is_end}
 use Rattle.ioa_node.specs.Runs as runs
 use Rattle.ioa_node.specs.Runs.{start, guard_answer, guard_of, effect_answer, effect_of}
-use Rattle.ioa_syntax.specs.declared.tree.Kind.{Kind}
-use Rattle.ioa_syntax.specs.declared.tree.Kind.TheVariants.{Input, Output, Internal}
-use Rattle.ioa_syntax.specs.Tree.{Expr, Stmts, EntryTree}
-use Rattle.ioa_syntax.specs.Meaning.{Env, values_of, or_else, kept, val, Outcome, becomes, breaks, nowhere, eff}
-use Rattle.ioa_syntax.specs.Instances.{Instance, field_names, variable_names, parameter_values, positions_have, entry_has, entry_for, transition_for, environment, truth_of, enabling, next_state, component_of}
-use Rattle.ioa_syntax.specs.Components.{is_local}
-use Rattle.ioa_syntax.specs.Compositions.{Member}
-use Rattle.ioa_syntax.specs.Likes.{AreLike}
-use Rattle.ioa_syntax.specs.WellFormed.{Context, contains, local_names, parameter_names, variable_fields, context_of, scope}
-use Rattle.ioa_syntax.proofs.Domains.{domains_have}
-use Rattle.ioa_syntax.proofs.ValTyped.{val_typed}
+use Rattle.ioa_tree.specs.declared.tree.Kind.{Kind}
+use Rattle.ioa_tree.specs.declared.tree.Kind.TheVariants.{Input, Output, Internal}
+use Rattle.ioa_tree.specs.Tree.{Expr, Stmts, EntryTree}
+use Rattle.ioa_tree.specs.Meaning.{Env, values_of, or_else, kept, val, Outcome, becomes, breaks, nowhere, eff}
+use Rattle.ioa_tree.specs.Instances.{Instance, field_names, variable_names, parameter_values, positions_have, entry_has, entry_for, transition_for, environment, truth_of, enabling, next_state, component_of}
+use Rattle.ioa_tree.specs.Components.{is_local}
+use Rattle.ioa_tree.specs.Compositions.{Member}
+use Rattle.ioa_tree.specs.Likes.{AreLike}
+use Rattle.ioa_tree.specs.WellFormed.{Context, contains, local_names, parameter_names, variable_fields, context_of, scope}
+use Rattle.ioa_tree.proofs.Domains.{domains_have}
+use Rattle.ioa_tree.proofs.ValTyped.{val_typed}
 use Rattle.ioa_compose.specs.Fine.{IsFine, component_limits}
 use Rattle.ioa_compose.proofs.SpelledNames.{or_none}
 use Rattle.ioa_code.specs.declared.instr.PartKind.TheVariants.{Pre}

@@ -8,12 +8,12 @@ use Rattle.ioa_value.specs.Plain.{number}
 use Rattle.ioa_value.specs.Table.{Table}
 use Rattle.ioa_code.specs.Parts.{IsVerified, listing, part}
 use Rattle.ioa_code.specs.Valid.{Part}
-use Rattle.ioa_syntax.specs.declared.tree.Kind.{Kind}
-use Rattle.ioa_syntax.specs.declared.tree.Kind.TheVariants.{Input, Output, Internal}
-use Rattle.ioa_syntax.specs.Tree.{Expr, EntryTree, TransitionTree}
-use Rattle.ioa_syntax.specs.Domains.{AreDomainsOf}
-use Rattle.ioa_syntax.specs.Instances.{transition_for}
-use Rattle.ioa_syntax.specs.Compositions.{Member}
+use Rattle.ioa_tree.specs.declared.tree.Kind.{Kind}
+use Rattle.ioa_tree.specs.declared.tree.Kind.TheVariants.{Input, Output, Internal}
+use Rattle.ioa_tree.specs.Tree.{Expr, EntryTree, TransitionTree}
+use Rattle.ioa_tree.specs.Domains.{AreDomainsOf}
+use Rattle.ioa_tree.specs.Instances.{transition_for}
+use Rattle.ioa_tree.specs.Compositions.{Member}
 use Rattle.ioa_compile.specs.Programs.{EntryCode}
 use Rattle.ioa_compile.specs.Tables.{position_types}
 use Rattle.ioa_compile.specs.Scopes.{Scope}

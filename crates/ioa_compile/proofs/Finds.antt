@@ -4,7 +4,7 @@ use Rattle.std.specs.Prelude.{slice_get}
 use Rattle.std.specs.List.{find, filter}
 use Rattle.std.specs.Str.{bytes_eq}
 use Rattle.ioa_value.specs.Actions.{Name}
-use Rattle.ioa_syntax.specs.WellFormed.{contains, distinct}
+use Rattle.ioa_tree.specs.WellFormed.{contains, distinct}
 use Rattle.ioa_compile.proofs.Looks.{name_same, not_true}
 use Rattle.std.proofs.lemmas.Bool.{and_parts}
 

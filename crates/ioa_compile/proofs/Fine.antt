@@ -8,7 +8,7 @@ use Rattle.std.proofs.lemmas.Bool.{and_parts}
 use Rattle.std.proofs.lemmas.Bool.Decides.{nat_tests}
 use Rattle.std.proofs.lemmas.List.{length-map}
 use Rattle.ioa_value.specs.Actions.{Name}
-use Rattle.ioa_value.specs.Arithmetic.{fits}
+use Rattle.ioa_arithmetic.specs.Arithmetic.{fits}
 use Rattle.ioa_value.specs.Operators.{op_type}
 use Rattle.ioa_value.specs.Positions.{Domain, IsDomain}
 use Rattle.ioa_value.specs.Table.{Table, AreTypes, place_from, type_named}
@@ -17,18 +17,18 @@ use Rattle.ioa_value.specs.declared.limits.TheConstants.{LIMITS}
 use Rattle.ioa_value.proofs.ItemLemmas.{all_at, some_at}
 use Rattle.ioa_value.proofs.TypingLemmas.{HaveTypes-length, HaveTypes-owns}
 use Rattle.ioa_value.proofs.NameLemmas.{same_name}
-use Rattle.ioa_syntax.specs.declared.tree.Kind.{Kind}
-use Rattle.ioa_syntax.specs.declared.tree.Kind.TheVariants.{Input, Output, Internal}
-use Rattle.ioa_syntax.specs.Tree.{Expr, number, truth, named, parens, prefix, binary, empty, make, select, Exprs, no_expr, also, Stmt, assign, choose, Stmts, stop, seq, Arms, no_arm, arm, AutomatonTree, EntryTree, TransitionTree}
-use Rattle.ioa_syntax.specs.Meaning.{or_else}
-use Rattle.ioa_syntax.specs.Types.{constant_type}
-use Rattle.ioa_syntax.specs.Instances.{variable_names, transition_for}
-use Rattle.ioa_syntax.specs.Domains.{AreDomainsOf}
-use Rattle.ioa_syntax.specs.Compositions.{Member}
-use Rattle.ioa_syntax.specs.WellFormed.{Context, type_in, type_of, types_of_all, infix_type, is_some_of, has_ty, nodes, stmts_nodes, is_type, context_of, variable_fields, same_kind, is_input, scope, entry_fine, matches, pre_fine, stmt_fine, stmts_fine, arms_fine, effect_fine, input_fine, proposals_fine, all_proposed, transition_fine, pre_within, proposals_within, effect_within, transition_within, entry_within}
-use Rattle.ioa_syntax.proofs.FineParts.{FineParts, fine_parts, EntryParts, entry_parts, within_parts}
-use Rattle.ioa_syntax.proofs.Domains.{domains_are}
-use Rattle.ioa_syntax.proofs.ValTyped.{type_of_one, types_of_both, types_of_row}
+use Rattle.ioa_tree.specs.declared.tree.Kind.{Kind}
+use Rattle.ioa_tree.specs.declared.tree.Kind.TheVariants.{Input, Output, Internal}
+use Rattle.ioa_tree.specs.Tree.{Expr, number, truth, named, parens, prefix, binary, empty, make, select, Exprs, no_expr, also, Stmt, assign, choose, Stmts, stop, seq, Arms, no_arm, arm, AutomatonTree, EntryTree, TransitionTree}
+use Rattle.ioa_tree.specs.Meaning.{or_else}
+use Rattle.ioa_tree.specs.Types.{constant_type}
+use Rattle.ioa_tree.specs.Instances.{variable_names, transition_for}
+use Rattle.ioa_tree.specs.Domains.{AreDomainsOf}
+use Rattle.ioa_tree.specs.Compositions.{Member}
+use Rattle.ioa_tree.specs.WellFormed.{Context, type_in, type_of, types_of_all, infix_type, is_some_of, has_ty, nodes, stmts_nodes, is_type, context_of, variable_fields, same_kind, is_input, scope, entry_fine, matches, pre_fine, stmt_fine, stmts_fine, arms_fine, effect_fine, input_fine, proposals_fine, all_proposed, transition_fine, pre_within, proposals_within, effect_within, transition_within, entry_within}
+use Rattle.ioa_tree.proofs.FineParts.{FineParts, fine_parts, EntryParts, entry_parts, within_parts}
+use Rattle.ioa_tree.proofs.Domains.{domains_are}
+use Rattle.ioa_tree.proofs.ValTyped.{type_of_one, types_of_both, types_of_row}
 use Rattle.ioa_compose.specs.Fine.{IsFine, component_limits}
 use Rattle.ioa_compile.specs.Scopes.{scope_of, Origin, slot, formal, parameter, fixed, unknown, origin, IsOrigin, IsKnown, AreAllKnown, IsKnownStmt, AreKnown, AreKnownArms, IsKnownGuard, IsScope, place_of}
 use Rattle.ioa_compile.specs.Emitting.{guard_nodes}

@@ -9,12 +9,12 @@ use Rattle.ioa_value.specs.Table.{Table, type_named}
 use Rattle.ioa_value.specs.Typing.{HasType, HaveTypes}
 use Rattle.std.proofs.lemmas.Simd.{map-map}
 use Rattle.ioa_compile.specs.Tables.{position_types}
-use Rattle.ioa_syntax.specs.Tree.{FieldTree, AutomatonTree, EntryTree}
-use Rattle.ioa_syntax.specs.Domains.{AreDomainsOf}
-use Rattle.ioa_syntax.specs.Meaning.{or_else}
-use Rattle.ioa_syntax.specs.Instances.{Fit, field_names, variable_names}
-use Rattle.ioa_syntax.specs.Compositions.{Member}
-use Rattle.ioa_syntax.specs.WellFormed.{Context, type_in, context_of, position_fields, variable_fields, scope}
+use Rattle.ioa_tree.specs.Tree.{FieldTree, AutomatonTree, EntryTree}
+use Rattle.ioa_tree.specs.Domains.{AreDomainsOf}
+use Rattle.ioa_tree.specs.Meaning.{or_else}
+use Rattle.ioa_tree.specs.Instances.{Fit, field_names, variable_names}
+use Rattle.ioa_tree.specs.Compositions.{Member}
+use Rattle.ioa_tree.specs.WellFormed.{Context, type_in, context_of, position_fields, variable_fields, scope}
 use Rattle.ioa_compose.proofs.RewrittenTypes.{in_both}
 use Rattle.ioa_compile.specs.Scopes.{scope_of}
 use Rattle.ioa_compile.specs.Matching.{AreTypesOf}

@@ -6,9 +6,9 @@ use Rattle.ioa_value.specs.Operators.{IsTypedAnswer}
 use Rattle.ioa_value.specs.Plain.{Val, name, items, none}
 use Rattle.ioa_value.specs.Table.{Table, constant_named}
 use Rattle.ioa_value.specs.Typing.{HasType, own}
-use Rattle.ioa_syntax.specs.Meaning.{value_of}
-use Rattle.ioa_syntax.specs.Types.{constant, constant_type, sequence_named, empty_of}
-use Rattle.ioa_syntax.proofs.Constants.{constant_typed, empty_typed}
+use Rattle.ioa_tree.specs.Meaning.{value_of}
+use Rattle.ioa_tree.specs.Types.{constant, constant_type, sequence_named, empty_of}
+use Rattle.ioa_tree.proofs.Constants.{constant_typed, empty_typed}
 
 module _ (types : Table) (x : Name) where
   -- the type of an enumeration's name is its value's

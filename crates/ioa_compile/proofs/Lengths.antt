@@ -1,10 +1,10 @@
 -- Code has as many instructions as its tree's extent says, and this is at most four for each node.
 use Rattle.std.proofs.Common.{◌≡◌, ℕ, ◌+◌, ◌*◌, ◌≤◌, true, false, Option, Some, None, arith}
 use Rattle.ioa_code.specs.Machine.{Listing}
-use Rattle.ioa_syntax.specs.declared.tree.Infix.{Infix}
-use Rattle.ioa_syntax.specs.declared.tree.Infix.TheVariants.{Operator, And, Or, Implies}
-use Rattle.ioa_syntax.specs.Tree.{Expr, number, truth, named, parens, prefix, binary, empty, make, select, Exprs, no_expr, also, Stmt, assign, choose, Stmts, stop, seq, Arms, no_arm, arm}
-use Rattle.ioa_syntax.specs.WellFormed.{nodes, exprs_nodes, stmt_nodes, stmts_nodes, arms_nodes}
+use Rattle.ioa_tree.specs.declared.tree.Infix.{Infix}
+use Rattle.ioa_tree.specs.declared.tree.Infix.TheVariants.{Operator, And, Or, Implies}
+use Rattle.ioa_tree.specs.Tree.{Expr, number, truth, named, parens, prefix, binary, empty, make, select, Exprs, no_expr, also, Stmt, assign, choose, Stmts, stop, seq, Arms, no_arm, arm}
+use Rattle.ioa_tree.specs.WellFormed.{nodes, exprs_nodes, stmt_nodes, stmts_nodes, arms_nodes}
 use Rattle.ioa_compile.specs.Scopes.{Scope}
 use Rattle.ioa_compile.specs.Placed.{Stretch, PushesTruth, Chooses, Combines, HasExpr, HasExprs, HasGuard, HasStmt, HasStmts, HasArms}
 use Rattle.ioa_compile.specs.Emitting.{guard_nodes}

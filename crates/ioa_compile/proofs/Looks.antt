@@ -6,10 +6,10 @@ use Rattle.std.proofs.lemmas.Slice.Eq.{bytes_eq-Decides}
 use Rattle.ioa_value.specs.Actions.{Name}
 use Rattle.ioa_value.specs.Plain.{Val}
 use Rattle.ioa_value.specs.Typing.{HasType, HaveTypes}
-use Rattle.ioa_syntax.specs.Answers.{Stands}
-use Rattle.ioa_syntax.specs.Meaning.{values_of, or_else}
+use Rattle.ioa_tree.specs.Answers.{Stands}
+use Rattle.ioa_tree.specs.Meaning.{values_of, or_else}
 use Rattle.ioa_value.specs.Table.{Table, place_from}
-use Rattle.ioa_syntax.specs.WellFormed.{contains, distinct, apart}
+use Rattle.ioa_tree.specs.WellFormed.{contains, distinct, apart}
 use Rattle.ioa_value.proofs.PlaceLemmas.{place_from_below}
 use Rattle.std.proofs.lemmas.Bool.{and_parts}
 use Rattle.ioa_value.proofs.NameLemmas.{same_name, outside_both}

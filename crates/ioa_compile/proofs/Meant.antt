@@ -4,11 +4,11 @@ use Rattle.std.specs.Prelude.{slice_get}
 use Rattle.std.specs.List.{AllZip}
 use Rattle.ioa_value.specs.Typing.{HaveTypes}
 use Rattle.ioa_node.specs.Nodes.{Node}
-use Rattle.ioa_syntax.specs.Tree.{EntryTree}
-use Rattle.ioa_syntax.specs.Instances.{component_of, state_of}
-use Rattle.ioa_syntax.specs.Compositions.{Member}
-use Rattle.ioa_syntax.specs.Likes.{IsLike, AllLike, AllRelated}
-use Rattle.ioa_syntax.specs.WellFormed.{variable_fields}
+use Rattle.ioa_tree.specs.Tree.{EntryTree}
+use Rattle.ioa_tree.specs.Instances.{component_of, state_of}
+use Rattle.ioa_tree.specs.Compositions.{Member}
+use Rattle.ioa_tree.specs.Likes.{IsLike, AllLike, AllRelated}
+use Rattle.ioa_tree.specs.WellFormed.{variable_fields}
 use Rattle.ioa_compose.specs.Fine.{IsFine, component_limits}
 use Rattle.ioa_compile.specs.Programs.{EntryCode, MemberCode}
 use Rattle.ioa_compile.specs.Tables.{table_component}

@@ -12,14 +12,14 @@ use Rattle.ioa_value.specs.Plain.{Val}
 use Rattle.ioa_value.specs.Positions.{Domain, every, single, domain_type}
 use Rattle.ioa_value.specs.Table.{Table}
 use Rattle.ioa_value.specs.Typing.{HaveTypes}
-use Rattle.ioa_syntax.specs.declared.tree.Position.{Position}
-use Rattle.ioa_syntax.specs.declared.tree.Position.TheVariants.{Typed, Constant}
-use Rattle.ioa_syntax.specs.Domains.{IsDomainOf, AreDomainsOf}
-use Rattle.ioa_syntax.specs.Instances.{Instance, field_names, parameter_values, position_fields}
-use Rattle.ioa_syntax.specs.Meaning.{values_of}
-use Rattle.ioa_syntax.specs.Tree.{PositionTree, typed, only}
-use Rattle.ioa_syntax.specs.View.{name_of, position_of}
-use Rattle.ioa_syntax.specs.WellFormed.{Context, type_in, context_of, contains}
+use Rattle.ioa_tree.specs.declared.tree.Position.{Position}
+use Rattle.ioa_tree.specs.declared.tree.Position.TheVariants.{Typed, Constant}
+use Rattle.ioa_tree.specs.Domains.{IsDomainOf, AreDomainsOf}
+use Rattle.ioa_tree.specs.Instances.{Instance, field_names, parameter_values, position_fields}
+use Rattle.ioa_tree.specs.Meaning.{values_of}
+use Rattle.ioa_tree.specs.Tree.{PositionTree, typed, only}
+use Rattle.ioa_tree.specs.View.{name_of, position_of}
+use Rattle.ioa_tree.specs.WellFormed.{Context, type_in, context_of, contains}
 use Rattle.ioa_compile.specs.Scopes.{parameter_from}
 use Rattle.ioa_compile.specs.Tables.{position_types}
 use Rattle.ioa_compile.proofs.Looks.{Looked, looked_first, Paired, paired_first}

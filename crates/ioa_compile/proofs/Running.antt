@@ -4,7 +4,7 @@ use Rattle.std.specs.Prelude.{slice_get, slice_set}
 use Rattle.std.specs.Option.{option_map}
 use Rattle.std.specs.Str.{bytes_eq}
 use Rattle.std.proofs.lemmas.Option.{slice_get_within}
-use Rattle.ioa_value.specs.declared.arithmetic.Fault.{Fault}
+use Rattle.ioa_arithmetic.specs.declared.arithmetic.Fault.{Fault}
 use Rattle.ioa_value.specs.declared.operator.Op.{Op}
 use Rattle.ioa_value.specs.declared.operator.Op.TheVariants.{Make, Field}
 use Rattle.ioa_value.specs.Actions.{Name}
@@ -20,15 +20,15 @@ use Rattle.ioa_code.specs.declared.instr.Instr.TheVariants.{Const, Slot, Arg, St
 use Rattle.ioa_code.specs.Machine.{Listing, State, state, End, fault, Move, goes, over, stuck, act, next, pushed, replaced, stored, decided, branched, answered, fetched, move, After, Ends}
 use Rattle.ioa_code.proofs.Lists.{on_top-append}
 use Rattle.ioa_node.specs.Runs.{no_words}
-use Rattle.ioa_syntax.specs.declared.tree.Infix.{Infix}
-use Rattle.ioa_syntax.specs.declared.tree.Infix.TheVariants.{Operator, And, Or, Implies}
-use Rattle.ioa_syntax.specs.Tree.{Expr, number, truth, named, parens, prefix, binary, empty, make, select, Exprs, no_expr, also, Stmt, assign, choose, Stmts, stop, seq, Arms, no_arm, arm}
-use Rattle.ioa_syntax.specs.Meaning as Meaning
-use Rattle.ioa_syntax.specs.Meaning.{Env, val, then_value, then_all, made, selected, combined, value_of, Outcome, becomes, breaks, nowhere, assigned, then_do, chosen, does, picks, eff, with_name, or_else}
-use Rattle.ioa_syntax.specs.Types.{constant, empty_of}
-use Rattle.ioa_syntax.specs.WellFormed.{Context, type_in, type_of, types_of_all, infix_type}
-use Rattle.ioa_syntax.specs.Answers.{Suits}
-use Rattle.ioa_syntax.proofs.ValTyped.{val_typed, type_of_one, types_of_both, types_of_row}
+use Rattle.ioa_tree.specs.declared.tree.Infix.{Infix}
+use Rattle.ioa_tree.specs.declared.tree.Infix.TheVariants.{Operator, And, Or, Implies}
+use Rattle.ioa_tree.specs.Tree.{Expr, number, truth, named, parens, prefix, binary, empty, make, select, Exprs, no_expr, also, Stmt, assign, choose, Stmts, stop, seq, Arms, no_arm, arm}
+use Rattle.ioa_tree.specs.Meaning as Meaning
+use Rattle.ioa_tree.specs.Meaning.{Env, val, then_value, then_all, made, selected, combined, value_of, Outcome, becomes, breaks, nowhere, assigned, then_do, chosen, does, picks, eff, with_name, or_else}
+use Rattle.ioa_tree.specs.Types.{constant, empty_of}
+use Rattle.ioa_tree.specs.WellFormed.{Context, type_in, type_of, types_of_all, infix_type}
+use Rattle.ioa_tree.specs.Answers.{Suits}
+use Rattle.ioa_tree.proofs.ValTyped.{val_typed, type_of_one, types_of_both, types_of_row}
 use Rattle.ioa_compile.specs.Scopes.{Scope, Origin, slot, formal, parameter, fixed, unknown, origin}
 use Rattle.ioa_compile.specs.Placed.{Stretch, At, Pushes, PushesTruth, Brings, Chooses, Combines, HasExpr, HasExprs, HasStmt, HasStmts, HasArms}
 use Rattle.ioa_compile.proofs.Lengths.{expr_long, stmts_long, arms_long}

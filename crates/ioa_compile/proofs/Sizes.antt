@@ -1,8 +1,8 @@
 -- Code is no longer than a number for each node of the trees that it is made from.
 use Rattle.std.proofs.Common.{ℕ, ◌+◌, ◌*◌, ◌≤◌, Option, arith}
 use Rattle.ioa_code.specs.Machine.{Listing}
-use Rattle.ioa_syntax.specs.Tree.{Expr, Stmts}
-use Rattle.ioa_syntax.specs.WellFormed.{stmts_nodes}
+use Rattle.ioa_tree.specs.Tree.{Expr, Stmts}
+use Rattle.ioa_tree.specs.WellFormed.{stmts_nodes}
 use Rattle.ioa_compile.specs.Scopes.{Scope}
 use Rattle.ioa_compile.specs.Placed.{HasGuard, HasStmts}
 use Rattle.ioa_compile.specs.Emitting.{guard_nodes}

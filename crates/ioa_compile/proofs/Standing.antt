@@ -6,8 +6,8 @@ use Rattle.ioa_value.specs.Actions.{Name}
 use Rattle.ioa_value.specs.Plain.{Val}
 use Rattle.ioa_value.specs.Table.{Table, place_from}
 use Rattle.ioa_value.specs.Typing.{HaveTypes}
-use Rattle.ioa_syntax.specs.Meaning.{or_else}
-use Rattle.ioa_syntax.specs.Types.{constant}
+use Rattle.ioa_tree.specs.Meaning.{or_else}
+use Rattle.ioa_tree.specs.Types.{constant}
 use Rattle.ioa_compile.specs.Scopes.{Scope, Origin, slot, formal, parameter, fixed, unknown, origin, parameter_from}
 use Rattle.ioa_compile.proofs.Looks.{look, looks, Looked, look-paired, or_else-assoc, Paired}
 use Rattle.ioa_compile.proofs.Parameters.{passed, passes_at, passed-paired}

@@ -7,10 +7,10 @@ use Rattle.ioa_value.specs.Operators.{nothing, op_type, operate}
 use Rattle.ioa_value.specs.Plain.{Val}
 use Rattle.ioa_value.specs.Table.{Table, type_named, field_place}
 use Rattle.ioa_value.specs.Typing.{own}
-use Rattle.ioa_syntax.specs.Meaning.{made, selected}
-use Rattle.ioa_syntax.specs.Tree.{Expr, make, select, Exprs}
-use Rattle.ioa_syntax.specs.WellFormed.{Context, type_of, types_of_all, made_type, selected_type}
-use Rattle.ioa_syntax.proofs.ValTyped.{type_there}
+use Rattle.ioa_tree.specs.Meaning.{made, selected}
+use Rattle.ioa_tree.specs.Tree.{Expr, make, select, Exprs}
+use Rattle.ioa_tree.specs.WellFormed.{Context, type_of, types_of_all, made_type, selected_type}
+use Rattle.ioa_tree.proofs.ValTyped.{type_there}
 use Rattle.ioa_compile.specs.Scopes.{Scope, place_of}
 
 module _ (types : Table) (c : Context) where

@@ -17,13 +17,13 @@ use Rattle.ioa_code.specs.declared.instr.PartKind.{PartKind}
 use Rattle.ioa_code.specs.declared.instr.PartKind.TheVariants.{Pre, Eff}
 use Rattle.ioa_code.specs.Machine.{Listing}
 use Rattle.ioa_code.specs.Valid.{Part}
-use Rattle.ioa_syntax.specs.declared.tree.Kind.{Kind}
-use Rattle.ioa_syntax.specs.declared.tree.Kind.TheVariants.{Input, Output, Internal}
-use Rattle.ioa_syntax.specs.Tree.{Expr, EntryTree}
-use Rattle.ioa_syntax.specs.Instances.{positions_have, entry_has, component_of}
-use Rattle.ioa_syntax.specs.Components.{Component, Compatible, is_output}
-use Rattle.ioa_syntax.specs.Compositions.{Member, Composed, has_output, instances_of, is_output_of}
-use Rattle.ioa_syntax.specs.WellFormed.{distinct, variable_fields}
+use Rattle.ioa_tree.specs.declared.tree.Kind.{Kind}
+use Rattle.ioa_tree.specs.declared.tree.Kind.TheVariants.{Input, Output, Internal}
+use Rattle.ioa_tree.specs.Tree.{Expr, EntryTree}
+use Rattle.ioa_tree.specs.Instances.{positions_have, entry_has, component_of}
+use Rattle.ioa_tree.specs.Components.{Component, Compatible, is_output}
+use Rattle.ioa_tree.specs.Compositions.{Member, Composed, has_output, instances_of, is_output_of}
+use Rattle.ioa_tree.specs.WellFormed.{distinct, variable_fields}
 use Rattle.ioa_compose.specs.Fine.{IsFine, AreOver, IsSound, component_limits}
 use Rattle.ioa_compile.specs.Programs.{EntryCode, MemberCode, Prog}
 use Rattle.ioa_compile.specs.Tables as programs
@@ -33,8 +33,8 @@ use Rattle.ioa_compile.specs.Matching.{AreTypesOf, MatchesEntry}
 use Rattle.ioa_compile.specs.Emitting.{guard_nodes}
 use Rattle.ioa_compile.specs.Translated.{IsGuard, IsGuardFor, IsFor, codes_of, IsTranslated, IsEntryOf, DoesSame}
 use Rattle.ioa_compile.proofs.Fine.{small_of, few_positions_of, domains_of}
-use Rattle.ioa_syntax.proofs.Domains.{domains_have}
-use Rattle.ioa_syntax.proofs.FineParts.{fine_parts, within_parts}
+use Rattle.ioa_tree.proofs.Domains.{domains_have}
+use Rattle.ioa_tree.proofs.FineParts.{fine_parts, within_parts}
 use Rattle.ioa_compose.proofs.QuestionLemmas.{all_found}
 use Rattle.ioa_compose.proofs.SignatureLemmas.{zip-to}
 use Rattle.ioa_compile.proofs.Fits.{types_long, variables_names}

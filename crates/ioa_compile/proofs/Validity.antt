@@ -7,7 +7,7 @@ use Rattle.std.proofs.lemmas.Option.{slice_get-map}
 use Rattle.ioa_value.specs.declared.operator.Op.{Op}
 use Rattle.ioa_value.specs.declared.operator.Op.TheVariants.{Make, Field}
 use Rattle.ioa_value.specs.Actions.{Name}
-use Rattle.ioa_value.specs.Arithmetic.{fits}
+use Rattle.ioa_arithmetic.specs.Arithmetic.{fits}
 use Rattle.ioa_value.specs.Operators.{op_type, arity}
 use Rattle.ioa_value.specs.Plain as plain
 use Rattle.ioa_value.specs.Plain.{Val}
@@ -21,14 +21,14 @@ use Rattle.ioa_code.specs.declared.instr.PartKind.TheVariants.{Pre, Eff}
 use Rattle.ioa_code.specs.Machine.{Listing}
 use Rattle.ioa_code.specs.Valid.{Part, Valid, after, way, reads_arguments, writes_slots}
 use Rattle.ioa_code.proofs.Lists.{on_top-append}
-use Rattle.ioa_syntax.specs.declared.tree.Infix.{Infix}
-use Rattle.ioa_syntax.specs.declared.tree.Infix.TheVariants.{Operator, And, Or, Implies}
-use Rattle.ioa_syntax.specs.Tree.{Expr, number, truth, named, parens, prefix, binary, empty, make, select, Exprs, no_expr, also, Stmt, assign, choose, Stmts, stop, seq, Arms, no_arm, arm, EntryTree}
-use Rattle.ioa_syntax.specs.Meaning.{or_else}
-use Rattle.ioa_syntax.specs.Types.{constant_type, empty_of}
-use Rattle.ioa_syntax.specs.Compositions.{Member}
-use Rattle.ioa_syntax.specs.WellFormed.{Context, type_in, type_of, types_of_all, of_truths, infix_type, scope, context_of, variable_fields}
-use Rattle.ioa_syntax.proofs.ValTyped.{type_of_one, types_of_both, types_of_row, are_truths}
+use Rattle.ioa_tree.specs.declared.tree.Infix.{Infix}
+use Rattle.ioa_tree.specs.declared.tree.Infix.TheVariants.{Operator, And, Or, Implies}
+use Rattle.ioa_tree.specs.Tree.{Expr, number, truth, named, parens, prefix, binary, empty, make, select, Exprs, no_expr, also, Stmt, assign, choose, Stmts, stop, seq, Arms, no_arm, arm, EntryTree}
+use Rattle.ioa_tree.specs.Meaning.{or_else}
+use Rattle.ioa_tree.specs.Types.{constant_type, empty_of}
+use Rattle.ioa_tree.specs.Compositions.{Member}
+use Rattle.ioa_tree.specs.WellFormed.{Context, type_in, type_of, types_of_all, of_truths, infix_type, scope, context_of, variable_fields}
+use Rattle.ioa_tree.proofs.ValTyped.{type_of_one, types_of_both, types_of_row, are_truths}
 use Rattle.ioa_compile.specs.Scopes.{Scope, scope_of, Origin, slot, formal, parameter, fixed, unknown, origin}
 use Rattle.ioa_compile.specs.Placed.{Stretch, At, Pushes, PushesTruth, Brings, Applies, Chooses, Combines, HasExpr, HasExprs, HasGuard, HasStmt, HasStmts, HasArms}
 use Rattle.ioa_compile.specs.Translated.{IsGuard, IsEffect}

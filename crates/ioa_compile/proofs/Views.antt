@@ -1,15 +1,15 @@
 -- Statements of the program that choose, and expressions that make tuples, by slices of their parts.
 use Rattle.std.proofs.Common.{◌≡◌, ℕ, ◌+◌, ◌<◌, ◌^◌, arith, List, refl, sym, ap, ◌∙◌, Vec, Global}
-use Rattle.ioa_syntax.specs.declared.tree.Statement.{Statement}
-use Rattle.ioa_syntax.specs.declared.tree.Statement.TheVariants.{If}
-use Rattle.ioa_syntax.specs.declared.tree.Arm.{Arm}
-use Rattle.ioa_syntax.specs.declared.tree.Name.{Name}
-use Rattle.ioa_syntax.specs.declared.tree.Expression.{Expression}
-use Rattle.ioa_syntax.specs.declared.tree.Expression.TheVariants.{Make}
-use Rattle.ioa_syntax.specs.Tree.{make, choose}
-use Rattle.ioa_syntax.specs.View.{name_of, expr_of, exprs_of, stmt_of, stmts_of, arms_of}
-use Rattle.ioa_syntax.proofs.Sequences.{stmt_choose}
-use Rattle.ioa_syntax.proofs.Tuples.{expr_made}
+use Rattle.ioa_tree.specs.declared.tree.Statement.{Statement}
+use Rattle.ioa_tree.specs.declared.tree.Statement.TheVariants.{If}
+use Rattle.ioa_tree.specs.declared.tree.Arm.{Arm}
+use Rattle.ioa_tree.specs.declared.tree.Name.{Name}
+use Rattle.ioa_tree.specs.declared.tree.Expression.{Expression}
+use Rattle.ioa_tree.specs.declared.tree.Expression.TheVariants.{Make}
+use Rattle.ioa_tree.specs.Tree.{make, choose}
+use Rattle.ioa_tree.specs.View.{name_of, expr_of, exprs_of, stmt_of, stmts_of, arms_of}
+use Rattle.ioa_tree.proofs.StatementRows.{stmt_choose}
+use Rattle.ioa_tree.proofs.ExpressionRows.{expr_made}
 use Rattle.ioa_compile.specs.Extents.{stmt_extent, stmts_extent, arms_extent}
 
 -- the tree of an expression that makes a tuple, by a slice of its fields

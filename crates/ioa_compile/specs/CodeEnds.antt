@@ -6,9 +6,9 @@ use Rattle.ioa_code.specs.Machine.{done, fault}
 use Rattle.ioa_code.specs.Valid.{Part}
 use Rattle.ioa_node.specs.Runs.{Comes, start}
 use Rattle.ioa_value.specs.Table.{Table}
-use Rattle.ioa_syntax.specs.Tree.{Expr}
-use Rattle.ioa_syntax.specs.Meaning.{Env, val, Outcome, becomes, breaks, nowhere, kept}
-use Rattle.ioa_syntax.specs.Instances.{Instance, variable_names}
+use Rattle.ioa_tree.specs.Tree.{Expr}
+use Rattle.ioa_tree.specs.Meaning.{Env, val, Outcome, becomes, breaks, nowhere, kept}
+use Rattle.ioa_tree.specs.Instances.{Instance, variable_names}
 use Rattle.ioa_compile.specs.Correspondence.{Corresponds}
 
 -- an omitted precondition is true

@@ -9,8 +9,8 @@ use Rattle.ioa_code.specs.Coded.{coded_part}
 use Rattle.ioa_code.specs.Valid.{Part}
 use Rattle.ioa_node.specs.Coded.{coded_node}
 use Rattle.ioa_node.specs.Nodes.{Node}
-use Rattle.ioa_syntax.specs.declared.tree.Kind.{Kind}
-use Rattle.ioa_syntax.specs.contracts.tree.Kind as kinds
+use Rattle.ioa_tree.specs.declared.tree.Kind.{Kind}
+use Rattle.ioa_tree.specs.contracts.tree.Kind as kinds
 use Rattle.ioa_compile.specs.Programs.{EntryCode, MemberCode, Prog}
 
 abbrev pub coded_name : Coded Name

@@ -2,10 +2,10 @@
 use Rattle.std.specs.Prelude.{◌≡◌, ℕ, List, Option, Some, None, slice_get}
 use Rattle.ioa_value.specs.Actions.{Name}
 use Rattle.ioa_value.specs.Plain.{Val}
-use Rattle.ioa_syntax.specs.Meaning.{Env, values_of}
-use Rattle.ioa_syntax.specs.Instances.{Instance, Fit, variable_names}
-use Rattle.ioa_syntax.specs.WellFormed.{variable_fields}
-use Rattle.ioa_syntax.specs.Compositions.{Member}
+use Rattle.ioa_tree.specs.Meaning.{Env, values_of}
+use Rattle.ioa_tree.specs.Instances.{Instance, Fit, variable_names}
+use Rattle.ioa_tree.specs.WellFormed.{variable_fields}
+use Rattle.ioa_tree.specs.Compositions.{Member}
 
 -- slot i holds the value of the i-th declared variable, which is of the variable's type
 pub record Corresponds (i : Instance) (env : Env) (slots : List Val) : Type 0 where

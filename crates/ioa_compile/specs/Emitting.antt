@@ -4,9 +4,9 @@ use Rattle.ioa_value.specs.Plain.{Val}
 use Rattle.ioa_value.specs.Typing.{OwnTypes}
 use Rattle.ioa_code.specs.declared.instr.Instr.{Instr}
 use Rattle.ioa_code.specs.Machine.{Listing}
-use Rattle.ioa_syntax.specs.declared.tree.Infix.{Infix}
-use Rattle.ioa_syntax.specs.Tree.{Expr, Exprs, Stmt, Stmts}
-use Rattle.ioa_syntax.specs.WellFormed.{nodes, exprs_nodes, stmt_nodes, stmts_nodes}
+use Rattle.ioa_tree.specs.declared.tree.Infix.{Infix}
+use Rattle.ioa_tree.specs.Tree.{Expr, Exprs, Stmt, Stmts}
+use Rattle.ioa_tree.specs.WellFormed.{nodes, exprs_nodes, stmt_nodes, stmts_nodes}
 use Rattle.ioa_compile.specs.Scopes.{Scope}
 use Rattle.ioa_compile.specs.Placed.{At, Pushes, PushesTruth, Chooses, Combines, HasExpr, HasExprs, HasGuard, HasStmt, HasStmts}
 

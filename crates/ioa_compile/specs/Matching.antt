@@ -4,12 +4,12 @@ use Rattle.std.specs.List.{AllZip}
 use Rattle.ioa_value.specs.Plain.{Val}
 use Rattle.ioa_value.specs.Table.{Table, type_named}
 use Rattle.ioa_value.specs.Typing.{HaveTypes}
-use Rattle.ioa_syntax.specs.Tree.{FieldTree, EntryTree, TransitionTree}
-use Rattle.ioa_syntax.specs.Meaning.{Env, eff}
-use Rattle.ioa_syntax.specs.Instances.{transition_for, environment}
-use Rattle.ioa_syntax.specs.Domains.{AreDomainsOf}
-use Rattle.ioa_syntax.specs.WellFormed.{variable_fields}
-use Rattle.ioa_syntax.specs.Compositions.{Member}
+use Rattle.ioa_tree.specs.Tree.{FieldTree, EntryTree, TransitionTree}
+use Rattle.ioa_tree.specs.Meaning.{Env, eff}
+use Rattle.ioa_tree.specs.Instances.{transition_for, environment}
+use Rattle.ioa_tree.specs.Domains.{AreDomainsOf}
+use Rattle.ioa_tree.specs.WellFormed.{variable_fields}
+use Rattle.ioa_tree.specs.Compositions.{Member}
 use Rattle.ioa_compile.specs.CodeEnds.{required, GuardEnds, EffectEnds}
 use Rattle.ioa_compile.specs.Correspondence.{Corresponds}
 use Rattle.ioa_compile.specs.Programs.{EntryCode, MemberCode}

@@ -1,8 +1,8 @@
 -- When a program means a composition: its components do the same, and start alike.
 use Rattle.std.specs.Prelude.{◌≡◌}
 use Rattle.std.specs.List.{AllZip}
-use Rattle.ioa_syntax.specs.Compositions.{Composed, components_of, starts_of}
-use Rattle.ioa_syntax.specs.Likes.{AllLike, AllRelated}
+use Rattle.ioa_tree.specs.Compositions.{Composed, components_of, starts_of}
+use Rattle.ioa_tree.specs.Likes.{AllLike, AllRelated}
 use Rattle.ioa_compile.specs.Correspondence.{CorrespondsAt}
 use Rattle.ioa_compile.specs.Matching.{MatchesMember}
 use Rattle.ioa_compile.specs.Programs.{Prog}

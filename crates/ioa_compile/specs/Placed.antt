@@ -7,10 +7,10 @@ use Rattle.ioa_value.specs.Plain.{Val}
 use Rattle.ioa_code.specs.declared.instr.Instr.{Instr}
 use Rattle.ioa_code.specs.declared.instr.Instr.TheVariants.{Const, Slot, Arg, Store, Jump, JumpIfFalse, Apply}
 use Rattle.ioa_code.specs.Machine.{Listing}
-use Rattle.ioa_syntax.specs.declared.tree.Infix.{Infix}
-use Rattle.ioa_syntax.specs.declared.tree.Infix.TheVariants.{Operator, And, Or, Implies}
-use Rattle.ioa_syntax.specs.Tree.{Expr, number, truth, named, parens, prefix, binary, empty, make, select, Exprs, no_expr, also, Stmt, assign, choose, Stmts, stop, seq, Arms, no_arm, arm}
-use Rattle.ioa_syntax.specs.Types.{empty_of}
+use Rattle.ioa_tree.specs.declared.tree.Infix.{Infix}
+use Rattle.ioa_tree.specs.declared.tree.Infix.TheVariants.{Operator, And, Or, Implies}
+use Rattle.ioa_tree.specs.Tree.{Expr, number, truth, named, parens, prefix, binary, empty, make, select, Exprs, no_expr, also, Stmt, assign, choose, Stmts, stop, seq, Arms, no_arm, arm}
+use Rattle.ioa_tree.specs.Types.{empty_of}
 use Rattle.ioa_value.specs.Table.{place_from, type_named}
 use Rattle.ioa_compile.specs.Scopes.{Scope, Origin, slot, formal, parameter, fixed, unknown, origin, place_of}
 

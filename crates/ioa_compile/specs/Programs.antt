@@ -5,7 +5,7 @@ use Rattle.ioa_value.specs.Positions.{Domain}
 use Rattle.ioa_value.specs.Table.{Table}
 use Rattle.ioa_code.specs.Valid.{Part}
 use Rattle.ioa_node.specs.Nodes.{Node}
-use Rattle.ioa_syntax.specs.declared.tree.Kind.{Kind}
+use Rattle.ioa_tree.specs.declared.tree.Kind.{Kind}
 
 -- an entry: the values that stand in its positions, and the code of its precondition, where it is locally controlled, and of its
 -- effect

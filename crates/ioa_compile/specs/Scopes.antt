@@ -3,18 +3,18 @@ use Rattle.std.specs.Prelude.{◌≡◌, ℕ, ◌≤◌, ◌+◌, if◌then◌el
 use Rattle.std.specs.Str.{bytes_eq}
 use Rattle.std.specs.Option.{option_map_or}
 use Rattle.ioa_value.specs.Actions.{Name}
-use Rattle.ioa_value.specs.Arithmetic.{fits}
+use Rattle.ioa_arithmetic.specs.Arithmetic.{fits}
 use Rattle.ioa_value.specs.Plain.{Val}
 use Rattle.ioa_value.specs.Table.{Table, place_from, type_named, field_place}
 use Rattle.ioa_value.specs.Typing.{OwnTypes}
 use Rattle.ioa_value.specs.declared.limits.TheConstants.{LIMITS}
-use Rattle.ioa_syntax.specs.Tree.{Expr, number, truth, named, parens, prefix, binary, empty, make, select, Exprs, no_expr, also, Stmt, assign, choose, Stmts, stop, seq, Arms, no_arm, arm, PositionTree, typed, only, EntryTree}
-use Rattle.ioa_syntax.specs.Types.{constant, empty_of}
-use Rattle.ioa_syntax.specs.Instances.{field_names, variable_names}
-use Rattle.ioa_syntax.specs.WellFormed.{Context, type_of, scope}
-use Rattle.ioa_syntax.specs.Compositions.{Member}
-use Rattle.ioa_syntax.specs.declared.tree.Entry as tree
-use Rattle.ioa_syntax.specs.View.{entry_of}
+use Rattle.ioa_tree.specs.Tree.{Expr, number, truth, named, parens, prefix, binary, empty, make, select, Exprs, no_expr, also, Stmt, assign, choose, Stmts, stop, seq, Arms, no_arm, arm, PositionTree, typed, only, EntryTree}
+use Rattle.ioa_tree.specs.Types.{constant, empty_of}
+use Rattle.ioa_tree.specs.Instances.{field_names, variable_names}
+use Rattle.ioa_tree.specs.WellFormed.{Context, type_of, scope}
+use Rattle.ioa_tree.specs.Compositions.{Member}
+use Rattle.ioa_tree.specs.declared.tree.Entry as tree
+use Rattle.ioa_tree.specs.View.{entry_of}
 use Rattle.ioa_compose.specs.declared.member.Member as held
 use Rattle.ioa_compose.specs.Held.{member_of}
 use Rattle.ioa_compose.specs.Fine.{component_limits}

@@ -7,16 +7,16 @@ use Rattle.ioa_code.specs.declared.instr.PartKind.TheVariants.{Pre, Eff}
 use Rattle.ioa_code.specs.Machine.{Listing}
 use Rattle.ioa_code.specs.Parts.{IsVerified}
 use Rattle.ioa_code.specs.Valid.{Part}
-use Rattle.ioa_syntax.specs.declared.tree.Kind.{Kind}
-use Rattle.ioa_syntax.specs.declared.tree.Kind.TheVariants.{Input, Output, Internal}
-use Rattle.ioa_syntax.specs.Tree.{Expr, Stmts, EntryTree, TransitionTree}
-use Rattle.ioa_syntax.specs.Instances.{transition_for, component_of, state_of}
-use Rattle.ioa_syntax.specs.Domains.{AreDomainsOf}
-use Rattle.ioa_syntax.specs.WellFormed.{stmts_nodes}
-use Rattle.ioa_syntax.specs.Compositions.{Member}
+use Rattle.ioa_tree.specs.declared.tree.Kind.{Kind}
+use Rattle.ioa_tree.specs.declared.tree.Kind.TheVariants.{Input, Output, Internal}
+use Rattle.ioa_tree.specs.Tree.{Expr, Stmts, EntryTree, TransitionTree}
+use Rattle.ioa_tree.specs.Instances.{transition_for, component_of, state_of}
+use Rattle.ioa_tree.specs.Domains.{AreDomainsOf}
+use Rattle.ioa_tree.specs.WellFormed.{stmts_nodes}
+use Rattle.ioa_tree.specs.Compositions.{Member}
 use Rattle.ioa_compile.specs.Matching.{MatchesMember}
 use Rattle.ioa_compile.specs.Correspondence.{Corresponds}
-use Rattle.ioa_syntax.specs.Likes.{IsLike}
+use Rattle.ioa_tree.specs.Likes.{IsLike}
 use Rattle.ioa_compile.specs.Programs.{EntryCode, MemberCode}
 use Rattle.ioa_compile.specs.Tables.{IsMember, table_component, position_types}
 use Rattle.ioa_compile.specs.Emitting.{guard_nodes}

@@ -1,8 +1,8 @@
 ghost use Rattle.std.specs.Prelude.{◌≡◌, ◌<◌, ◌^◌};
-ghost use Rattle.ioa_syntax.specs.View.{expr_of, exprs_of, stmt_of, stmts_of, arms_of};
+ghost use Rattle.ioa_tree.specs.View.{expr_of, exprs_of, stmt_of, stmts_of, arms_of};
 ghost use Rattle.ioa_compile.specs.Extents.{extent, exprs_extent, infix_extent, stmt_extent, stmts_extent, arms_extent as extent_of_arms};
 
-use ioa_syntax::{Arm, Expression, Infix, Statement};
+use ioa_tree::{Arm, Expression, Infix, Statement};
 
 /// How many instructions the code of an expression has.
 #[cycle(expression)]

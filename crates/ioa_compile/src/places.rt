@@ -1,12 +1,12 @@
 ghost use Rattle.std.specs.Prelude.{◌≡◌, map, Some, IsSome};
-ghost use Rattle.ioa_syntax.specs.View.{name_of, expr_of, field_of, position_of, variable_of};
+ghost use Rattle.ioa_tree.specs.View.{name_of, expr_of, field_of, position_of, variable_of};
 ghost use Rattle.ioa_value.specs.Table.{place_from};
-ghost use Rattle.ioa_syntax.specs.Instances.{field_names};
+ghost use Rattle.ioa_tree.specs.Instances.{field_names};
 ghost use Rattle.ioa_compile.specs.Scopes.{scope_in, place_of, parameter_from};
 
 use ioa_check::expression_type;
 use ioa_compose::Member;
-use ioa_syntax::{Entry, Expression, Field, Name, Position, Variable};
+use ioa_tree::{Entry, Expression, Field, Name, Position, Variable};
 
 /// The place of the first field of this name.
 pub(crate) fn field_place(fields: &[Field], name: &Name) -> Option<usize>

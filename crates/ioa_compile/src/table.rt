@@ -1,6 +1,6 @@
 use ioa_code::Verified;
 use ioa_node::NodeState;
-use ioa_syntax::Kind;
+use ioa_tree::Kind;
 use ioa_value::Position;
 
 /// An entry of a component's signature, with the code of its transition.

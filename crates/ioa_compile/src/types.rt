@@ -3,12 +3,12 @@ ghost use Rattle.std.specs.List.{list_all};
 ghost use Rattle.ioa_value.specs.Plain.{number};
 ghost use Rattle.ioa_value.specs.Table.{type_named};
 ghost use Rattle.ioa_value.specs.Positions.{domain_of};
-ghost use Rattle.ioa_syntax.specs.View.{name_of, field_of, variable_of};
-ghost use Rattle.ioa_syntax.specs.WellFormed.{is_type};
+ghost use Rattle.ioa_tree.specs.View.{name_of, field_of, variable_of};
+ghost use Rattle.ioa_tree.specs.WellFormed.{is_type};
 ghost use Rattle.ioa_compile.specs.Tables.{position_types as types_of_positions};
 ghost use Rattle.ioa_compile.specs.Matching.{IsTypeOf, AreTypesOf};
 
-use ioa_syntax::{Field, Name, Variable};
+use ioa_tree::{Field, Name, Variable};
 use ioa_value::{OutOfMemory, Position, Ty, Types};
 use std::alloc::Global;
 

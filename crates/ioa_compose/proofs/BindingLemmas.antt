@@ -9,17 +9,17 @@ use Rattle.ioa_value.specs.Plain.{Val, plain}
 use Rattle.ioa_value.specs.Table.{Table, type_named}
 use Rattle.ioa_value.specs.Typing.{is_of}
 use Rattle.ioa_lex.specs.declared.refusal.Refusal.{Refusal}
-use Rattle.ioa_syntax.specs.declared.tree.Crash.{Crash}
-use Rattle.ioa_syntax.specs.declared.tree.Field.{Field}
-use Rattle.ioa_syntax.specs.declared.tree.Instance.{Instance as TreeInstance}
-use Rattle.ioa_syntax.specs.Tree.{FieldTree, AutomatonTree, InstanceTree, SourceTree}
-use Rattle.ioa_syntax.specs.View.{field_of, crash_of, instance_of}
-use Rattle.ioa_syntax.specs.Types.{types_of, is_named}
-use Rattle.ioa_syntax.specs.Instances.{Instance, Fit, argument_values}
-use Rattle.ioa_syntax.specs.Compositions.{automaton_named}
+use Rattle.ioa_tree.specs.declared.tree.Crash.{Crash}
+use Rattle.ioa_tree.specs.declared.tree.Field.{Field}
+use Rattle.ioa_tree.specs.declared.tree.Instance.{Instance as TreeInstance}
+use Rattle.ioa_tree.specs.Tree.{FieldTree, AutomatonTree, InstanceTree, SourceTree}
+use Rattle.ioa_tree.specs.View.{field_of, crash_of, instance_of}
+use Rattle.ioa_tree.specs.Types.{types_of, is_named}
+use Rattle.ioa_tree.specs.Instances.{Instance, Fit, argument_values}
+use Rattle.ioa_tree.specs.Compositions.{automaton_named}
 use Rattle.ioa_compose.specs.Bindings.{fit, plain_in, IsReady, AllReady, IsStartable, AllStartable, AllSound}
 use Rattle.ioa_compose.specs.declared.binding.Binding.{Binding}
-use Rattle.ioa_syntax.specs.WellFormed.{automaton_fine}
+use Rattle.ioa_tree.specs.WellFormed.{automaton_fine}
 use Rattle.ioa_compose.specs.Refusals.{Reason, misfit, faulty, misnamed, clashing, hiding, no_memory, other, reason_of, IsUnbound, IsRefusedAt, FaultsAt, FaultsIn, Misfits}
 use Rattle.ioa_value.proofs.SameLemmas.{both_false}
 

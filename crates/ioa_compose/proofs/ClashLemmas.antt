@@ -13,16 +13,16 @@ use Rattle.ioa_value.specs.Positions.{all_take, all_meet, IsDomain}
 use Rattle.ioa_value.specs.Table.{Table, AreTypes}
 use Rattle.ioa_value.proofs.ItemLemmas.{find_at, all_at, fails_at}
 use Rattle.ioa_value.proofs.PositionLemmas.{all_take-meet, all_meet-some}
-use Rattle.ioa_syntax.specs.declared.tree.Kind.{Kind}
-use Rattle.ioa_syntax.specs.declared.tree.Kind.TheVariants.{Input, Output, Internal}
-use Rattle.ioa_syntax.specs.Tree.{EntryTree}
-use Rattle.ioa_syntax.specs.Instances.{Instance, Fit, positions_have, entry_has, entry_for, component_of}
-use Rattle.ioa_syntax.specs.View.{automaton_of}
-use Rattle.ioa_syntax.specs.Hosts.{crash_fine}
-use Rattle.ioa_syntax.specs.WellFormed.{position_fine, formals, entry_fine, contains, distinct, automaton_fine}
-use Rattle.ioa_syntax.proofs.Domains.{domains_have, domains_are}
-use Rattle.ioa_syntax.proofs.FineParts.{fine_parts, entry_parts}
-use Rattle.ioa_syntax.proofs.Early.{each_implies}
+use Rattle.ioa_tree.specs.declared.tree.Kind.{Kind}
+use Rattle.ioa_tree.specs.declared.tree.Kind.TheVariants.{Input, Output, Internal}
+use Rattle.ioa_tree.specs.Tree.{EntryTree}
+use Rattle.ioa_tree.specs.Instances.{Instance, Fit, positions_have, entry_has, entry_for, component_of}
+use Rattle.ioa_tree.specs.View.{automaton_of}
+use Rattle.ioa_tree.specs.Hosts.{crash_fine}
+use Rattle.ioa_tree.specs.WellFormed.{position_fine, formals, entry_fine, contains, distinct, automaton_fine}
+use Rattle.ioa_tree.proofs.Domains.{domains_have, domains_are}
+use Rattle.ioa_tree.proofs.FineParts.{fine_parts, entry_parts}
+use Rattle.ioa_tree.proofs.Early.{each_implies}
 use Rattle.ioa_compose.specs.declared.binding.Binding.{Binding}
 use Rattle.ioa_compose.specs.Bindings.{crash_in, plain_in, instance_in, IsStartable, AllSound, AllStartable, AllApart}
 use Rattle.ioa_compose.specs.Clashes.{SignedEntry, IsSigned, IsSignatureOf, kinds_clash, clash, clear_of, clear, IsHit, IsClearTill}

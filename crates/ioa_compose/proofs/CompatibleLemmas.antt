@@ -2,11 +2,11 @@
 use Rattle.std.proofs.Common.{◌≡◌, ◌≢◌, ℕ, ◌<◌, List, map, Option, Some, None, refl, subst, arith, slice_get, ◌⊎◌, inl, inr}
 use Rattle.std.proofs.lemmas.Bool.{cases_order}
 use Rattle.ioa_value.specs.Actions.{Name, Act}
-use Rattle.ioa_syntax.specs.declared.tree.Kind.{Kind}
-use Rattle.ioa_syntax.specs.declared.tree.Kind.TheVariants.{Output, Internal}
-use Rattle.ioa_syntax.specs.Components.{Component, Compatible}
-use Rattle.ioa_syntax.specs.Meaning.{Env}
-use Rattle.ioa_syntax.specs.Instances.{Instance, component_of}
+use Rattle.ioa_tree.specs.declared.tree.Kind.{Kind}
+use Rattle.ioa_tree.specs.declared.tree.Kind.TheVariants.{Output, Internal}
+use Rattle.ioa_tree.specs.Components.{Component, Compatible}
+use Rattle.ioa_tree.specs.Meaning.{Env}
+use Rattle.ioa_tree.specs.Instances.{Instance, component_of}
 use Rattle.ioa_compose.specs.Refusals.{Clashing, NoneClash}
 use Rattle.ioa_value.proofs.ItemLemmas.{image_at, get_map}
 

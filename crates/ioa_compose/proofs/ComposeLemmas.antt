@@ -10,18 +10,18 @@ use Rattle.ioa_value.specs.Table.{Table, AreTypes}
 use Rattle.ioa_value.specs.declared.limits.TheConstants.{LIMITS}
 use Rattle.ioa_value.proofs.ItemLemmas.{get_map}
 use Rattle.ioa_lex.specs.declared.refusal.Refusal.{Refusal}
-use Rattle.ioa_syntax.specs.declared.tree.Name.{Name as TreeName}
-use Rattle.ioa_syntax.specs.declared.tree.Instance.{Instance as TreeInstance}
-use Rattle.ioa_syntax.specs.declared.tree.Assembly.{Assembly}
-use Rattle.ioa_syntax.specs.Tree.{InstanceTree, InvariantTree, CompositionTree, SourceTree}
-use Rattle.ioa_syntax.specs.View.{name_of, automaton_of, instance_of, assembly_of}
-use Rattle.ioa_syntax.specs.Names.{LegalNames, names_of_expr}
-use Rattle.ioa_syntax.specs.Types.{types_of}
-use Rattle.ioa_syntax.specs.Components.{Compatible}
-use Rattle.ioa_syntax.specs.Instances.{Instance, component_of}
-use Rattle.ioa_syntax.specs.Compositions.{Member, Composed, has_output, is_output_of, invariants}
-use Rattle.ioa_syntax.specs.Hosts.{Host, Hosted, AreHosts, IsHosted, host_instances}
-use Rattle.ioa_syntax.specs.WellFormed.{distinct, well_formed}
+use Rattle.ioa_tree.specs.declared.tree.Name.{Name as TreeName}
+use Rattle.ioa_tree.specs.declared.tree.Instance.{Instance as TreeInstance}
+use Rattle.ioa_tree.specs.declared.tree.Assembly.{Assembly}
+use Rattle.ioa_tree.specs.Tree.{InstanceTree, InvariantTree, CompositionTree, SourceTree}
+use Rattle.ioa_tree.specs.View.{name_of, automaton_of, instance_of, assembly_of}
+use Rattle.ioa_tree.specs.Names.{LegalNames, names_of_expr}
+use Rattle.ioa_tree.specs.Types.{types_of}
+use Rattle.ioa_tree.specs.Components.{Compatible}
+use Rattle.ioa_tree.specs.Instances.{Instance, component_of}
+use Rattle.ioa_tree.specs.Compositions.{Member, Composed, has_output, is_output_of, invariants}
+use Rattle.ioa_tree.specs.Hosts.{Host, Hosted, AreHosts, IsHosted, host_instances}
+use Rattle.ioa_tree.specs.WellFormed.{distinct, well_formed}
 use Rattle.ioa_compose.specs.declared.binding.Binding.{Binding}
 use Rattle.ioa_compose.specs.declared.member.Member as held
 use Rattle.ioa_compose.specs.Bindings.{crash_in, plain_in, instance_in, host_in, IsStarted, IsComposable, AreBound}

@@ -5,7 +5,7 @@ use Rattle.std.specs.Option.{option_map, option_map_or}
 use Rattle.std.specs.Str.{bytes_eq}
 use Rattle.std.proofs.lemmas.Bool.{and_parts, or_right, not_from_false}
 use Rattle.std.proofs.lemmas.List.Folds.{list_any-append}
-use Rattle.ioa_value.specs.declared.arithmetic.Fault.{Fault}
+use Rattle.ioa_arithmetic.specs.declared.arithmetic.Fault.{Fault}
 use Rattle.ioa_value.specs.Actions.{Name, Act}
 use Rattle.ioa_value.specs.Plain.{Val, truth as truth_value}
 use Rattle.ioa_value.specs.Operators.{gives}
@@ -13,18 +13,18 @@ use Rattle.ioa_value.specs.Table.{Table, contains}
 use Rattle.ioa_value.proofs.NameLemmas.{not_true}
 use Rattle.ioa_value.proofs.NamedLemmas.{not_given}
 use Rattle.ioa_value.proofs.ItemLemmas.{find_both}
-use Rattle.ioa_syntax.specs.declared.tree.Infix.TheVariants.{And}
-use Rattle.ioa_syntax.specs.Tree.{Expr, Stmts, CrashTree, EntryTree, VariableTree, TransitionTree}
-use Rattle.ioa_syntax.specs.Names.{names_of_option, names_of_entry, names_of_transition}
-use Rattle.ioa_syntax.specs.Types.{constant, first_named}
-use Rattle.ioa_syntax.specs.Meaning.{Env, values_of, or_else, kept, with_name, then_value, value_of, combined, val, Outcome, becomes, breaks, nowhere, assigned, then_do, eff}
-use Rattle.ioa_syntax.specs.Components.{has, owns, is_local, is_kind}
-use Rattle.ioa_syntax.specs.Instances.{Instance, field_names, variable_names, formal_values, entry_has, entry_for, transition_for, position_fields, parameter_values, environment, truth_of, enabling, next_state, component_of, settled, start_value, start_values, with_value, all_values, state_of}
-use Rattle.ioa_syntax.specs.WellFormed.{entry_fine, is_input, parameter_names}
-use Rattle.ioa_syntax.specs.Likes.{AreLike}
-use Rattle.ioa_syntax.specs.Hosts.{HostState, host_state, when_ok, wrapped, reset_to}
-use Rattle.ioa_syntax.proofs.Agreement.{val_same, OutcomesLike, eff_like}
-use Rattle.ioa_syntax.proofs.FineParts.{entry_parts}
+use Rattle.ioa_tree.specs.declared.tree.Infix.TheVariants.{And}
+use Rattle.ioa_tree.specs.Tree.{Expr, Stmts, CrashTree, EntryTree, VariableTree, TransitionTree}
+use Rattle.ioa_tree.specs.Names.{names_of_option, names_of_entry, names_of_transition}
+use Rattle.ioa_tree.specs.Types.{constant, first_named}
+use Rattle.ioa_tree.specs.Meaning.{Env, values_of, or_else, kept, with_name, then_value, value_of, combined, val, Outcome, becomes, breaks, nowhere, assigned, then_do, eff}
+use Rattle.ioa_tree.specs.Components.{has, owns, is_local, is_kind}
+use Rattle.ioa_tree.specs.Instances.{Instance, field_names, variable_names, formal_values, entry_has, entry_for, transition_for, position_fields, parameter_values, environment, truth_of, enabling, next_state, component_of, settled, start_value, start_values, with_value, all_values, state_of}
+use Rattle.ioa_tree.specs.WellFormed.{entry_fine, is_input, parameter_names}
+use Rattle.ioa_tree.specs.Likes.{AreLike}
+use Rattle.ioa_tree.specs.Hosts.{HostState, host_state, when_ok, wrapped, reset_to}
+use Rattle.ioa_tree.proofs.Agreement.{val_same, OutcomesLike, eff_like}
+use Rattle.ioa_tree.proofs.FineParts.{entry_parts}
 use Rattle.ioa_compose.specs.Rewriting.{spelled, up_name, start_name, up_variable, volatile, volatile_values, only_up, if_up, guarded, signal_entry, resets, recover_transition, rewritten, crashing, crashing_starts}
 use Rattle.ioa_compose.specs.Crashes.{Corresponds, MayCrash, MeansCrash, RewritingMeansCrash}
 use Rattle.ioa_compose.proofs.SpelledNames.{not_both, or_none, absent, known, appended, all_of, apart_from, unspelled, none_unspelled}

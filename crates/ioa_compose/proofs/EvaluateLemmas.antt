@@ -3,7 +3,7 @@ use Rattle.std.proofs.Common.{◌≡◌, ◌≢◌, ℕ, zero, suc, ◌<◌, ◌
 use Rattle.std.specs.List.{list_all}
 use Rattle.std.specs.Option.{option_map, option_map_or}
 use Rattle.std.proofs.lemmas.Bool.{and_parts, and_from}
-use Rattle.ioa_value.specs.declared.arithmetic.Fault.{Fault}
+use Rattle.ioa_arithmetic.specs.declared.arithmetic.Fault.{Fault}
 use Rattle.ioa_value.specs.Actions.{Name}
 use Rattle.ioa_value.specs.Plain.{Val, truth, name, items, none}
 use Rattle.ioa_value.specs.declared.operator.Op.{Op}
@@ -11,23 +11,23 @@ use Rattle.ioa_value.specs.declared.operator.Op.TheVariants.{Make, Field}
 use Rattle.ioa_value.specs.Table.{Table, AreTypes, type_named, item_type, constant_named, field_place}
 use Rattle.ioa_value.specs.Typing.{HasType, HaveTypes}
 use Rattle.ioa_value.specs.Operators.{Answer, gives, faults, nothing, op_type, Takes, IsTypedAnswer}
-use Rattle.ioa_syntax.specs.declared.tree.Infix.{Infix}
-use Rattle.ioa_syntax.specs.declared.tree.Infix.TheVariants.{Operator, And, Or, Implies}
-use Rattle.ioa_syntax.specs.Tree.{Expr, named, prefix, binary, empty, make, select}
-use Rattle.ioa_syntax.specs.declared.tree.Expression.{Expression}
-use Rattle.ioa_syntax.specs.declared.tree.Expression.TheVariants as expressions
-use Rattle.ioa_syntax.specs.declared.tree.Name as tree
-use Rattle.ioa_syntax.specs.View.{name_of, expr_of, exprs_of}
-use Rattle.ioa_syntax.proofs.Tuples.{expr_made}
-use Rattle.ioa_syntax.specs.Meaning.{Env, or_else, val, then_all, made, then_value, decided, combined}
-use Rattle.ioa_syntax.specs.Instances.{settled, with_value, all_values}
-use Rattle.ioa_syntax.specs.Types.{sequence_named, empty_of, constant, constant_type}
-use Rattle.ioa_syntax.specs.WellFormed.{Context, nodes, exprs_nodes, type_in, type_of, types_of_all, of_truths, infix_type, made_type, selected_type}
-use Rattle.ioa_syntax.specs.Answers.{Stands, Suits}
-use Rattle.ioa_syntax.proofs.ValTyped.{type_of_one, types_of_both, types_of_row, type_there, are_truths, val_typed}
+use Rattle.ioa_tree.specs.declared.tree.Infix.{Infix}
+use Rattle.ioa_tree.specs.declared.tree.Infix.TheVariants.{Operator, And, Or, Implies}
+use Rattle.ioa_tree.specs.Tree.{Expr, named, prefix, binary, empty, make, select}
+use Rattle.ioa_tree.specs.declared.tree.Expression.{Expression}
+use Rattle.ioa_tree.specs.declared.tree.Expression.TheVariants as expressions
+use Rattle.ioa_tree.specs.declared.tree.Name as tree
+use Rattle.ioa_tree.specs.View.{name_of, expr_of, exprs_of}
+use Rattle.ioa_tree.proofs.ExpressionRows.{expr_made}
+use Rattle.ioa_tree.specs.Meaning.{Env, or_else, val, then_all, made, then_value, decided, combined}
+use Rattle.ioa_tree.specs.Instances.{settled, with_value, all_values}
+use Rattle.ioa_tree.specs.Types.{sequence_named, empty_of, constant, constant_type}
+use Rattle.ioa_tree.specs.WellFormed.{Context, nodes, exprs_nodes, type_in, type_of, types_of_all, of_truths, infix_type, made_type, selected_type}
+use Rattle.ioa_tree.specs.Answers.{Stands, Suits}
+use Rattle.ioa_tree.proofs.ValTyped.{type_of_one, types_of_both, types_of_row, type_there, are_truths, val_typed}
 use Rattle.ioa_value.proofs.OperatorTyping.{op_takes}
 use Rattle.ioa_value.proofs.TypingLemmas.{is_truth, own_type}
-use Rattle.ioa_syntax.proofs.Starts.{some_there}
+use Rattle.ioa_tree.proofs.Starts.{some_there}
 use Rattle.ioa_compose.specs.Bindings.{typed, start_of}
 use Rattle.ioa_compose.specs.Operands.{Asks, AreOperands, AreFields, HasField}
 

@@ -4,14 +4,14 @@ use Rattle.std.specs.List.{AllZip}
 use Rattle.std.proofs.lemmas.List.Elements.{All-nil, All-cons}
 use Rattle.ioa_value.specs.Actions.{Name}
 use Rattle.ioa_value.specs.Table.{Table}
-use Rattle.ioa_syntax.specs.declared.tree.Instance.{Instance as TreeInstance}
-use Rattle.ioa_syntax.specs.Tree.{AutomatonTree, SourceTree}
-use Rattle.ioa_syntax.specs.View.{instance_of, automaton_of}
-use Rattle.ioa_syntax.specs.Types.{types_of}
-use Rattle.ioa_syntax.specs.Hosts.{crash_fine}
-use Rattle.ioa_syntax.specs.Instances.{Fit}
-use Rattle.ioa_syntax.specs.WellFormed.{automaton_fine, global_names, well_formed}
-use Rattle.ioa_syntax.proofs.FineParts.{fine_parts}
+use Rattle.ioa_tree.specs.declared.tree.Instance.{Instance as TreeInstance}
+use Rattle.ioa_tree.specs.Tree.{AutomatonTree, SourceTree}
+use Rattle.ioa_tree.specs.View.{instance_of, automaton_of}
+use Rattle.ioa_tree.specs.Types.{types_of}
+use Rattle.ioa_tree.specs.Hosts.{crash_fine}
+use Rattle.ioa_tree.specs.Instances.{Fit}
+use Rattle.ioa_tree.specs.WellFormed.{automaton_fine, global_names, well_formed}
+use Rattle.ioa_tree.proofs.FineParts.{fine_parts}
 use Rattle.ioa_compose.specs.declared.binding.Binding.{Binding}
 use Rattle.ioa_compose.specs.Bindings.{crash_in, plain_in, Binds, StartsWell, AllStartable, AllSound, AllApart}
 use Rattle.ioa_compose.proofs.SourceLemmas.{named_fine}

@@ -7,14 +7,14 @@ use Rattle.ioa_value.specs.Actions.{Name}
 use Rattle.ioa_value.specs.Plain.{Val}
 use Rattle.ioa_value.specs.Table.{Table, contains}
 use Rattle.ioa_value.proofs.NameLemmas.{same_name, not_true}
-use Rattle.ioa_syntax.specs.Names.{names_of_expr}
-use Rattle.ioa_syntax.specs.Tree.{Expr, VariableTree}
-use Rattle.ioa_syntax.specs.Meaning.{or_else, values_of, over}
-use Rattle.ioa_syntax.specs.Instances.{Instance, formal_values, state_of}
-use Rattle.ioa_syntax.specs.Invariants.{is_true, holds}
-use Rattle.ioa_syntax.specs.WellFormed.{type_in, typed_field, context_of, held, is_some_of, has_ty}
-use Rattle.ioa_syntax.proofs.Agreement.{val_same}
-use Rattle.ioa_syntax.proofs.TypeAgreement.{type_same}
+use Rattle.ioa_tree.specs.Names.{names_of_expr}
+use Rattle.ioa_tree.specs.Tree.{Expr, VariableTree}
+use Rattle.ioa_tree.specs.Meaning.{or_else, values_of, over}
+use Rattle.ioa_tree.specs.Instances.{Instance, formal_values, state_of}
+use Rattle.ioa_tree.specs.Invariants.{is_true, holds}
+use Rattle.ioa_tree.specs.WellFormed.{type_in, typed_field, context_of, held, is_some_of, has_ty}
+use Rattle.ioa_tree.proofs.Agreement.{val_same}
+use Rattle.ioa_tree.proofs.TypeAgreement.{type_same}
 use Rattle.ioa_compose.specs.Questions.{first_of}
 use Rattle.ioa_compose.specs.Rewriting.{spelled}
 use Rattle.ioa_compose.proofs.SpelledNames.{not_both, absent}

@@ -10,18 +10,18 @@ use Rattle.ioa_value.specs.Actions.{Name}
 use Rattle.ioa_value.specs.Names.{IsName}
 use Rattle.ioa_value.specs.Table.{AreTypes}
 use Rattle.ioa_value.specs.declared.limits.TheConstants.{LIMITS}
-use Rattle.ioa_syntax.specs.Tree.{CrashTree, EntryTree, VariableTree, InstanceTree, InvariantTree, SourceTree}
-use Rattle.ioa_syntax.specs.Names.{names_of_expr, names_of_crash, names_of_automaton, names_of_invariant, LegalNames}
-use Rattle.ioa_syntax.specs.Types.{types_of}
-use Rattle.ioa_syntax.specs.Components.{is_output}
-use Rattle.ioa_syntax.specs.Instances.{Instance, Fit}
-use Rattle.ioa_syntax.specs.Compositions.{Member, has_output, is_output_of, invariants}
-use Rattle.ioa_syntax.specs.Hosts.{crash_fine, Host, IsHost, AreHosts}
-use Rattle.ioa_syntax.specs.WellFormed.{is_some_of, held, has_ty, automaton_fine, entry_within, automaton_within, global_names, well_formed}
-use Rattle.ioa_syntax.proofs.LegalNames.{legal_automaton, legal_entries, legal_invariants}
-use Rattle.ioa_syntax.proofs.Starts.{starts_fit}
-use Rattle.ioa_syntax.proofs.FineParts.{fine_parts, within_parts}
-use Rattle.ioa_syntax.proofs.TypeAgreement.{type_same}
+use Rattle.ioa_tree.specs.Tree.{CrashTree, EntryTree, VariableTree, InstanceTree, InvariantTree, SourceTree}
+use Rattle.ioa_tree.specs.Names.{names_of_expr, names_of_crash, names_of_automaton, names_of_invariant, LegalNames}
+use Rattle.ioa_tree.specs.Types.{types_of}
+use Rattle.ioa_tree.specs.Components.{is_output}
+use Rattle.ioa_tree.specs.Instances.{Instance, Fit}
+use Rattle.ioa_tree.specs.Compositions.{Member, has_output, is_output_of, invariants}
+use Rattle.ioa_tree.specs.Hosts.{crash_fine, Host, IsHost, AreHosts}
+use Rattle.ioa_tree.specs.WellFormed.{is_some_of, held, has_ty, automaton_fine, entry_within, automaton_within, global_names, well_formed}
+use Rattle.ioa_tree.proofs.PartNames.{legal_automaton, legal_entries, legal_invariants}
+use Rattle.ioa_tree.proofs.Starts.{starts_fit}
+use Rattle.ioa_tree.proofs.FineParts.{fine_parts, within_parts}
+use Rattle.ioa_tree.proofs.TypeAgreement.{type_same}
 use Rattle.ioa_compose.specs.Rewriting.{spelled, up_variable, signals, rewritten}
 use Rattle.ioa_compose.specs.Crashes.{MayCrash}
 use Rattle.ioa_compose.specs.Fine.{IsFine, AllFine, AreOver, IsTyped, component_limits}

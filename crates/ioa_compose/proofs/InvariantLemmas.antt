@@ -8,13 +8,13 @@ use Rattle.std.proofs.lemmas.Slice.Eq.{bytes_eq-Decides}
 use Rattle.ioa_value.specs.Actions.{Name}
 use Rattle.ioa_value.specs.declared.limits.TheConstants.{LIMITS}
 use Rattle.ioa_value.proofs.ItemLemmas.{all_at, find_both}
-use Rattle.ioa_syntax.specs.Tree.{AutomatonTree, InstanceTree, InvariantTree, declared_type, automaton, composition, invariant, SourceTree}
-use Rattle.ioa_syntax.specs.Types.{types_of}
-use Rattle.ioa_syntax.specs.Compositions.{automata, invariants, automaton_named}
-use Rattle.ioa_syntax.specs.Hosts.{Host, IsHost, AreHosts}
-use Rattle.ioa_syntax.specs.WellFormed.{held, has_ty, is_invariant, invariant_fine, well_formed}
-use Rattle.ioa_syntax.proofs.FineParts.{source_parts}
-use Rattle.ioa_syntax.proofs.KeptInvariants.{invariants_fine}
+use Rattle.ioa_tree.specs.Tree.{AutomatonTree, InstanceTree, InvariantTree, declared_type, automaton, composition, invariant, SourceTree}
+use Rattle.ioa_tree.specs.Types.{types_of}
+use Rattle.ioa_tree.specs.Compositions.{automata, invariants, automaton_named}
+use Rattle.ioa_tree.specs.Hosts.{Host, IsHost, AreHosts}
+use Rattle.ioa_tree.specs.WellFormed.{held, has_ty, is_invariant, invariant_fine, well_formed}
+use Rattle.ioa_tree.proofs.FineParts.{source_parts}
+use Rattle.ioa_tree.proofs.KeptInvariants.{invariants_fine}
 use Rattle.ioa_compose.specs.Fine.{IsTyped}
 
 -- they are as many as their declarations

@@ -2,7 +2,7 @@
 use Rattle.std.proofs.Common.{◌≡◌, List, [], ◌∷◌, ◌++◌, Option, Some, None, refl, sym, ap, ◌∙◌}
 use Rattle.std.specs.Prelude.{reverse}
 use Rattle.std.proofs.lemmas.List.{reverse-append}
-use Rattle.ioa_syntax.specs.Compositions.{first_item}
+use Rattle.ioa_tree.specs.Compositions.{first_item}
 
 -- the last item of a list, and this where there is none
 abbrev pub last_or : {X : Type 0} → Option X → List X → Option X

@@ -9,14 +9,14 @@ use Rattle.std.proofs.lemmas.List.Elements.{All-head, All-tail}
 use Rattle.ioa_value.specs.declared.memory.OutOfMemory.{OutOfMemory}
 use Rattle.ioa_value.specs.Plain.{Val}
 use Rattle.ioa_value.proofs.ItemLemmas.{at_map}
-use Rattle.ioa_syntax.specs.declared.tree.Invariant.{Invariant}
-use Rattle.ioa_syntax.specs.Tree.{InvariantTree}
-use Rattle.ioa_syntax.specs.View.{invariant_of, automaton_of}
-use Rattle.ioa_syntax.specs.Names.{names_of_expr}
-use Rattle.ioa_syntax.specs.Instances.{Fit, state_of}
-use Rattle.ioa_syntax.specs.Invariants.{holds}
-use Rattle.ioa_syntax.specs.WellFormed.{variable_fields, held as held_names, has_ty}
-use Rattle.ioa_syntax.specs.Compositions as compositions
+use Rattle.ioa_tree.specs.declared.tree.Invariant.{Invariant}
+use Rattle.ioa_tree.specs.Tree.{InvariantTree}
+use Rattle.ioa_tree.specs.View.{invariant_of, automaton_of}
+use Rattle.ioa_tree.specs.Names.{names_of_expr}
+use Rattle.ioa_tree.specs.Instances.{Fit, state_of}
+use Rattle.ioa_tree.specs.Invariants.{holds}
+use Rattle.ioa_tree.specs.WellFormed.{variable_fields, held as held_names, has_ty}
+use Rattle.ioa_tree.specs.Compositions as compositions
 use Rattle.ioa_compose.specs.declared.member.Member.{Member}
 use Rattle.ioa_compose.specs.Held.{Held, member_of, composed_of}
 use Rattle.ioa_compose.specs.Fine.{IsFine, IsSound, component_limits}

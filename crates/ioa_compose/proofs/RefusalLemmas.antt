@@ -3,19 +3,19 @@ use Rattle.std.proofs.Common.{◌≡◌, ◌≢◌, ℕ, true, ◌||◌, zero, s
 use Rattle.std.specs.List.{list_all}
 use Rattle.std.proofs.lemmas.Bool.{both_ways}
 use Rattle.std.proofs.lemmas.Simd.{map-map}
-use Rattle.ioa_value.specs.declared.arithmetic.Fault.{Fault}
+use Rattle.ioa_arithmetic.specs.declared.arithmetic.Fault.{Fault}
 use Rattle.ioa_value.specs.Actions.{Name}
 use Rattle.ioa_value.specs.Plain.{Val}
 use Rattle.ioa_lex.specs.declared.refusal.Refusal.{Refusal}
 use Rattle.ioa_lex.specs.declared.refusal.Refusal.TheVariants.{TextTooLong, BadByte, Syntax, TooDeep, DuplicateName, UnknownName, TypeMismatch, BadSignature, NoProposal, TooMany, TooWide, ArgMismatch, CrashName, Clash, HiddenUnknown, StartFault, NoComposition, OutOfMemory}
-use Rattle.ioa_syntax.specs.declared.tree.Declaration.{Declaration}
-use Rattle.ioa_syntax.specs.Tree.{InstanceTree, CompositionTree, SourceTree}
-use Rattle.ioa_syntax.specs.View.{tree_of}
-use Rattle.ioa_syntax.specs.Components.{Compatible}
-use Rattle.ioa_syntax.specs.Types.{types_of}
-use Rattle.ioa_syntax.specs.Instances.{Instance, Fit, start_values, component_of}
-use Rattle.ioa_syntax.specs.Compositions.{has_output, is_output_of, picked}
-use Rattle.ioa_syntax.specs.Hosts.{crash_fine, Host, Hosted, IsHost, AreHosts, IsHosted, host_instances}
+use Rattle.ioa_tree.specs.declared.tree.Declaration.{Declaration}
+use Rattle.ioa_tree.specs.Tree.{InstanceTree, CompositionTree, SourceTree}
+use Rattle.ioa_tree.specs.View.{tree_of}
+use Rattle.ioa_tree.specs.Components.{Compatible}
+use Rattle.ioa_tree.specs.Types.{types_of}
+use Rattle.ioa_tree.specs.Instances.{Instance, Fit, start_values, component_of}
+use Rattle.ioa_tree.specs.Compositions.{has_output, is_output_of, picked}
+use Rattle.ioa_tree.specs.Hosts.{crash_fine, Host, Hosted, IsHost, AreHosts, IsHosted, host_instances}
 use Rattle.ioa_compose.specs.Bindings.{instance_with, IsBound, AreBound}
 use Rattle.ioa_compose.specs.Rewriting.{with_signals}
 use Rattle.ioa_compose.specs.Stands.{signalled}

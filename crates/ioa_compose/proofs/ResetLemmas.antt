@@ -5,9 +5,9 @@ use Rattle.ioa_value.specs.Actions.{Name}
 use Rattle.ioa_value.specs.Plain.{Val, truth as truth_value}
 use Rattle.ioa_value.specs.Table.{Table, contains}
 use Rattle.ioa_value.proofs.NameLemmas.{same_name, own_name}
-use Rattle.ioa_syntax.specs.Tree.{VariableTree}
-use Rattle.ioa_syntax.specs.Meaning.{Env, values_of, or_else, becomes, with_name, eff}
-use Rattle.ioa_syntax.specs.Hosts.{reset_to}
+use Rattle.ioa_tree.specs.Tree.{VariableTree}
+use Rattle.ioa_tree.specs.Meaning.{Env, values_of, or_else, becomes, with_name, eff}
+use Rattle.ioa_tree.specs.Hosts.{reset_to}
 use Rattle.ioa_compose.specs.Rewriting.{spelled, up_name, start_name, volatile, volatile_values, resets}
 use Rattle.ioa_compose.proofs.SpelledNames.{unspelled, unspelled_too}
 use Rattle.ioa_compose.proofs.RewrittenNames.{names_of}

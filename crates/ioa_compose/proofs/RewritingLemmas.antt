@@ -4,13 +4,13 @@ use Rattle.std.proofs.lemmas.List.{map-append}
 use Rattle.ioa_value.specs.Plain.{Val, plain}
 use Rattle.ioa_value.specs.declared.value.Value.{Value}
 use Rattle.ioa_value.proofs.ItemLemmas.{drop_item}
-use Rattle.ioa_syntax.specs.declared.tree.Arm.{Arm}
-use Rattle.ioa_syntax.specs.declared.tree.Statement.{Statement}
-use Rattle.ioa_syntax.specs.declared.tree.Statement.TheVariants.{If}
-use Rattle.ioa_syntax.specs.declared.tree.Variable.{Variable}
-use Rattle.ioa_syntax.specs.Tree.{named, Stmt, choose, Stmts, stop, seq, no_arm, arm}
-use Rattle.ioa_syntax.specs.View.{expr_of, variable_of, stmt_of, stmts_of, arms_of}
-use Rattle.ioa_syntax.proofs.Sequences.{stmt_choose}
+use Rattle.ioa_tree.specs.declared.tree.Arm.{Arm}
+use Rattle.ioa_tree.specs.declared.tree.Statement.{Statement}
+use Rattle.ioa_tree.specs.declared.tree.Statement.TheVariants.{If}
+use Rattle.ioa_tree.specs.declared.tree.Variable.{Variable}
+use Rattle.ioa_tree.specs.Tree.{named, Stmt, choose, Stmts, stop, seq, no_arm, arm}
+use Rattle.ioa_tree.specs.View.{expr_of, variable_of, stmt_of, stmts_of, arms_of}
+use Rattle.ioa_tree.proofs.StatementRows.{stmt_choose}
 use Rattle.ioa_compose.specs.Rewriting.{up_name, volatile, volatile_values, if_up, reset, resets}
 
 -- statements in front of others

@@ -11,18 +11,18 @@ use Rattle.ioa_value.specs.Same.{same}
 use Rattle.ioa_value.specs.Table.{contains, distinct}
 use Rattle.ioa_value.proofs.NameLemmas.{same_name, own_name, not_true}
 use Rattle.ioa_value.proofs.ItemLemmas.{find_both, find_at}
-use Rattle.ioa_syntax.specs.declared.tree.Kind.{Kind}
-use Rattle.ioa_syntax.specs.declared.tree.Kind.TheVariants.{Input, Output, Internal}
-use Rattle.ioa_syntax.specs.Tree.{CrashTree, ConstantTree, positive, negative, truth_literal, reference, PositionTree, typed, only, EntryTree, TransitionTree, AutomatonTree}
-use Rattle.ioa_syntax.specs.Names.{names_of_position, names_of_constant, names_of_entry}
-use Rattle.ioa_syntax.specs.Types.{constant}
-use Rattle.ioa_syntax.specs.Meaning.{or_else}
-use Rattle.ioa_syntax.specs.Components.{is_local}
-use Rattle.ioa_syntax.specs.Instances.{Instance, constant_value, position_has, positions_have, entry_has, entry_for, transition_for}
-use Rattle.ioa_syntax.specs.Hosts.{is_signal, has_no_values, crash_fine}
-use Rattle.ioa_syntax.specs.WellFormed.{same_kind, is_input}
-use Rattle.ioa_syntax.proofs.Agreement.{all_both}
-use Rattle.ioa_syntax.proofs.FineParts.{FineParts, fine_parts}
+use Rattle.ioa_tree.specs.declared.tree.Kind.{Kind}
+use Rattle.ioa_tree.specs.declared.tree.Kind.TheVariants.{Input, Output, Internal}
+use Rattle.ioa_tree.specs.Tree.{CrashTree, ConstantTree, positive, negative, truth_literal, reference, PositionTree, typed, only, EntryTree, TransitionTree, AutomatonTree}
+use Rattle.ioa_tree.specs.Names.{names_of_position, names_of_constant, names_of_entry}
+use Rattle.ioa_tree.specs.Types.{constant}
+use Rattle.ioa_tree.specs.Meaning.{or_else}
+use Rattle.ioa_tree.specs.Components.{is_local}
+use Rattle.ioa_tree.specs.Instances.{Instance, constant_value, position_has, positions_have, entry_has, entry_for, transition_for}
+use Rattle.ioa_tree.specs.Hosts.{is_signal, has_no_values, crash_fine}
+use Rattle.ioa_tree.specs.WellFormed.{same_kind, is_input}
+use Rattle.ioa_tree.proofs.Agreement.{all_both}
+use Rattle.ioa_tree.proofs.FineParts.{FineParts, fine_parts}
 use Rattle.ioa_compose.specs.Rewriting.{spelled, guarded, signal_entry, signals, crash_transition, recover_transition, rewritten, crashing}
 use Rattle.ioa_compose.specs.Crashes.{MayCrash}
 use Rattle.ioa_compose.proofs.SpelledNames.{not_both, other_way, found_among}

@@ -10,18 +10,18 @@ use Rattle.std.proofs.lemmas.List.Elements.{filter-append}
 use Rattle.ioa_value.specs.Actions.{Name}
 use Rattle.ioa_value.specs.Table.{Table, AreTypes, type_named, contains, distinct, apart}
 use Rattle.ioa_value.proofs.NameLemmas.{same_name, own_name, not_true, distinct-append, distinct_apart, outside_both, apart_outside}
-use Rattle.ioa_syntax.specs.declared.tree.Infix.TheVariants.{And}
-use Rattle.ioa_syntax.specs.Tree.{Expr, named, CrashTree, ConstantTree, positive, negative, truth_literal, reference, PositionTree, typed, only, EntryTree, VariableTree, ProposalTree, TransitionTree, AutomatonTree}
-use Rattle.ioa_syntax.specs.Names.{names_of_expr, names_of_option, names_of_constant, names_of_position, names_of_entry, names_of_proposal, names_of_stmts, names_of_transition}
-use Rattle.ioa_syntax.specs.Types.{constant_type}
-use Rattle.ioa_syntax.specs.Meaning.{or_else}
-use Rattle.ioa_syntax.specs.Instances.{field_names, variable_names, position_fields}
-use Rattle.ioa_syntax.specs.WellFormed.{Context, type_in, type_of, both_types, infix_type, has_ty, is_some_of, same_type, context_of, is_type, variable_fields, same_kind, is_input, constant_fine, position_fine, parameter_names, formals, held, scope, local_names, fields_fine, start_fine, entry_fine, one_to_one, pre_fine, proposal_fine, proposals_fine, all_proposed, stmts_fine, effect_fine, input_fine, transition_fine, automaton_fine}
-use Rattle.ioa_syntax.proofs.Agreement.{all_both}
-use Rattle.ioa_syntax.proofs.TypeAgreement.{type_same, stmts_same}
-use Rattle.ioa_syntax.proofs.EffectTyped.{some_type}
-use Rattle.ioa_syntax.proofs.Early.{all_imply, each_implies}
-use Rattle.ioa_syntax.proofs.FineParts.{FineParts, entry_parts}
+use Rattle.ioa_tree.specs.declared.tree.Infix.TheVariants.{And}
+use Rattle.ioa_tree.specs.Tree.{Expr, named, CrashTree, ConstantTree, positive, negative, truth_literal, reference, PositionTree, typed, only, EntryTree, VariableTree, ProposalTree, TransitionTree, AutomatonTree}
+use Rattle.ioa_tree.specs.Names.{names_of_expr, names_of_option, names_of_constant, names_of_position, names_of_entry, names_of_proposal, names_of_stmts, names_of_transition}
+use Rattle.ioa_tree.specs.Types.{constant_type}
+use Rattle.ioa_tree.specs.Meaning.{or_else}
+use Rattle.ioa_tree.specs.Instances.{field_names, variable_names, position_fields}
+use Rattle.ioa_tree.specs.WellFormed.{Context, type_in, type_of, both_types, infix_type, has_ty, is_some_of, same_type, context_of, is_type, variable_fields, same_kind, is_input, constant_fine, position_fine, parameter_names, formals, held, scope, local_names, fields_fine, start_fine, entry_fine, one_to_one, pre_fine, proposal_fine, proposals_fine, all_proposed, stmts_fine, effect_fine, input_fine, transition_fine, automaton_fine}
+use Rattle.ioa_tree.proofs.Agreement.{all_both}
+use Rattle.ioa_tree.proofs.TypeAgreement.{type_same, stmts_same}
+use Rattle.ioa_tree.proofs.EffectTyped.{some_type}
+use Rattle.ioa_tree.proofs.Early.{all_imply, each_implies}
+use Rattle.ioa_tree.proofs.FineParts.{FineParts, entry_parts}
 use Rattle.ioa_compose.specs.Rewriting.{spelled, up_name, start_name, up_variable, volatile, start_formal, only_up, guarded, signal_entry, signals, resets, crash_transition, recover_transition, rewritten}
 use Rattle.ioa_compose.proofs.SpelledNames.{not_both, none_unspelled, or_false, other_way, all_of, unspelled, starts_unspelled, starts_not_up}
 use Rattle.ioa_compose.proofs.SpelledTrees.{IsSpelled, parameters_spelled, Parts, parts_spelled}

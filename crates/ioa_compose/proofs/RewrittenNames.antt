@@ -5,15 +5,15 @@ use Rattle.std.specs.Str.{bytes_eq}
 use Rattle.std.proofs.lemmas.Bool.{or_right}
 use Rattle.std.proofs.lemmas.List.{map-append}
 use Rattle.std.proofs.lemmas.List.Folds.{list_any-append}
-use Rattle.ioa_value.specs.declared.arithmetic.Fault.{Fault}
+use Rattle.ioa_arithmetic.specs.declared.arithmetic.Fault.{Fault}
 use Rattle.ioa_value.specs.Actions.{Name}
 use Rattle.ioa_value.specs.Plain.{Val, truth as truth_value}
 use Rattle.ioa_value.specs.Table.{Table, contains}
 use Rattle.ioa_value.proofs.NameLemmas.{same_name, own_name}
-use Rattle.ioa_syntax.specs.Tree.{CrashTree, FieldTree, EntryTree, VariableTree}
-use Rattle.ioa_syntax.specs.Meaning.{Env, values_of, or_else, kept, with_name}
-use Rattle.ioa_syntax.specs.Instances.{Instance, field_names, variable_names, formal_values, position_fields, parameter_values, environment, start_value, with_value, all_values, Fit}
-use Rattle.ioa_syntax.specs.Hosts.{HostState}
+use Rattle.ioa_tree.specs.Tree.{CrashTree, FieldTree, EntryTree, VariableTree}
+use Rattle.ioa_tree.specs.Meaning.{Env, values_of, or_else, kept, with_name}
+use Rattle.ioa_tree.specs.Instances.{Instance, field_names, variable_names, formal_values, position_fields, parameter_values, environment, start_value, with_value, all_values, Fit}
+use Rattle.ioa_tree.specs.Hosts.{HostState}
 use Rattle.ioa_compose.specs.Rewriting.{spelled, up_name, start_name, up_variable, volatile, volatile_values, start_formal, crashing}
 use Rattle.ioa_compose.specs.Crashes.{Corresponds, MayCrash}
 use Rattle.ioa_compose.proofs.SpelledNames.{not_both, or_none, or_false, absent, appended, unspelled, none_unspelled, starts_unspelled, starts_not_up, start_of}

@@ -10,10 +10,10 @@ use Rattle.ioa_value.specs.Actions.{Name}
 use Rattle.ioa_value.specs.Table.{Table, AreTypes, bool, type_named, contains, distinct}
 use Rattle.ioa_value.proofs.NameLemmas.{same_name, not_true}
 use Rattle.ioa_value.proofs.NamedLemmas.{type_there}
-use Rattle.ioa_syntax.specs.Tree.{CrashTree, FieldTree, EntryTree, VariableTree, AutomatonTree}
-use Rattle.ioa_syntax.specs.Meaning.{or_else}
-use Rattle.ioa_syntax.specs.Instances.{field_names, variable_names, position_fields}
-use Rattle.ioa_syntax.specs.WellFormed.{Context, type_in, context_of, typed_field, is_type, variable_fields, formals, held, scope}
+use Rattle.ioa_tree.specs.Tree.{CrashTree, FieldTree, EntryTree, VariableTree, AutomatonTree}
+use Rattle.ioa_tree.specs.Meaning.{or_else}
+use Rattle.ioa_tree.specs.Instances.{field_names, variable_names, position_fields}
+use Rattle.ioa_tree.specs.WellFormed.{Context, type_in, context_of, typed_field, is_type, variable_fields, formals, held, scope}
 use Rattle.ioa_compose.specs.Rewriting.{spelled, up_name, start_name, up_variable, volatile, start_formal, rewritten}
 use Rattle.ioa_compose.proofs.SpelledNames.{not_both, or_none, unspelled, none_unspelled, starts_unspelled}
 use Rattle.ioa_compose.proofs.SpelledTrees.{IsSpelled}

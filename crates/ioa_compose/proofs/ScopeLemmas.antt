@@ -6,14 +6,14 @@ use Rattle.ioa_value.specs.Actions.{Name}
 use Rattle.ioa_value.specs.declared.value.Value.{Value}
 use Rattle.ioa_value.specs.Plain.{Val, plain}
 use Rattle.ioa_value.specs.Table.{Table}
-use Rattle.ioa_syntax.specs.declared.tree.Field.{Field}
-use Rattle.ioa_syntax.specs.declared.tree.Variable.{Variable}
-use Rattle.ioa_syntax.specs.View.{field_of, variable_of}
-use Rattle.ioa_syntax.specs.Meaning.{Env, or_else, values_of, over}
-use Rattle.ioa_syntax.specs.Instances.{Fit, field_names}
-use Rattle.ioa_syntax.specs.WellFormed.{Context, type_in, context_of}
-use Rattle.ioa_syntax.specs.Answers.{Stands, Suits}
-use Rattle.ioa_syntax.proofs.Starts.{suits_of_fit}
+use Rattle.ioa_tree.specs.declared.tree.Field.{Field}
+use Rattle.ioa_tree.specs.declared.tree.Variable.{Variable}
+use Rattle.ioa_tree.specs.View.{field_of, variable_of}
+use Rattle.ioa_tree.specs.Meaning.{Env, or_else, values_of, over}
+use Rattle.ioa_tree.specs.Instances.{Fit, field_names}
+use Rattle.ioa_tree.specs.WellFormed.{Context, type_in, context_of}
+use Rattle.ioa_tree.specs.Answers.{Stands, Suits}
+use Rattle.ioa_tree.proofs.Starts.{suits_of_fit}
 use Rattle.ioa_check.proofs.ScopeLemmas.{type_in-append}
 use Rattle.ioa_compose.specs.declared.scope.Scope.{Scope}
 use Rattle.ioa_compose.specs.Scopes.{environment}

@@ -7,12 +7,12 @@ use Rattle.ioa_value.specs.Actions.{Act}
 use Rattle.ioa_value.specs.Plain.{Val}
 use Rattle.ioa_value.specs.Same.{same}
 use Rattle.ioa_value.proofs.ItemLemmas.{find_at}
-use Rattle.ioa_syntax.specs.declared.tree.Kind.{Kind}
-use Rattle.ioa_syntax.specs.declared.tree.Kind.TheVariants.{Input}
-use Rattle.ioa_syntax.specs.Tree.{CrashTree, ConstantTree, positive, negative, truth_literal, reference, PositionTree, typed, only, EntryTree}
-use Rattle.ioa_syntax.specs.Instances.{Instance, constant_value, position_has, positions_have, entry_has, entry_for, component_of}
-use Rattle.ioa_syntax.specs.Hosts.{is_signal, hosted, crash_fine, reset_to, Host, host_of, hosts_of}
-use Rattle.ioa_syntax.proofs.Alike.{SameKinds, kinds_back, same_compatible}
+use Rattle.ioa_tree.specs.declared.tree.Kind.{Kind}
+use Rattle.ioa_tree.specs.declared.tree.Kind.TheVariants.{Input}
+use Rattle.ioa_tree.specs.Tree.{CrashTree, ConstantTree, positive, negative, truth_literal, reference, PositionTree, typed, only, EntryTree}
+use Rattle.ioa_tree.specs.Instances.{Instance, constant_value, position_has, positions_have, entry_has, entry_for, component_of}
+use Rattle.ioa_tree.specs.Hosts.{is_signal, hosted, crash_fine, reset_to, Host, host_of, hosts_of}
+use Rattle.ioa_tree.proofs.Alike.{SameKinds, kinds_back, same_compatible}
 use Rattle.ioa_compose.specs.Rewriting.{signal_entry, signals, with_signals}
 use Rattle.ioa_compose.specs.Stands.{signalled, AllNamed, SignalsDecide}
 use Rattle.ioa_compose.proofs.RewrittenEntries.{Apart, apart_of, found_other, not_signal, signal_same}

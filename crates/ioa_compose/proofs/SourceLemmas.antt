@@ -4,20 +4,20 @@ use Rattle.std.specs.List.{list_any, list_all, flat_map}
 use Rattle.std.specs.Str.{bytes_eq}
 use Rattle.std.proofs.lemmas.List.Elements.{All-head}
 use Rattle.ioa_value.specs.Names.{IsName}
-use Rattle.ioa_syntax.specs.Names.{LegalNames, names_of_instance}
-use Rattle.ioa_syntax.proofs.FineParts.{source_parts, at_most}
-use Rattle.ioa_syntax.proofs.Declared.{automata_fine, compositions_fine}
-use Rattle.ioa_syntax.proofs.LegalNames.{legal_composition, legal_instances, legal_crashes}
+use Rattle.ioa_tree.specs.Names.{LegalNames, names_of_instance}
+use Rattle.ioa_tree.proofs.FineParts.{source_parts, at_most}
+use Rattle.ioa_tree.proofs.Declared.{automata_fine, compositions_fine}
+use Rattle.ioa_tree.proofs.PartNames.{legal_composition, legal_instances, legal_crashes}
 use Rattle.std.proofs.lemmas.Bool.{and_from, and_parts}
 use Rattle.ioa_value.specs.Actions.{Name}
-use Rattle.ioa_syntax.specs.Tree.{AutomatonTree, InstanceTree, CompositionTree, declared_type, automaton, composition, invariant, SourceTree}
-use Rattle.ioa_syntax.specs.Types.{types_of}
+use Rattle.ioa_tree.specs.Tree.{AutomatonTree, InstanceTree, CompositionTree, declared_type, automaton, composition, invariant, SourceTree}
+use Rattle.ioa_tree.specs.Types.{types_of}
 use Rattle.ioa_value.specs.declared.limits.TheConstants.{LIMITS}
-use Rattle.ioa_syntax.specs.Compositions.{automata, compositions, picked, automaton_named}
+use Rattle.ioa_tree.specs.Compositions.{automata, compositions, picked, automaton_named}
 use Rattle.ioa_compose.specs.Bindings.{closed, AllReady, IsComposable}
 use Rattle.ioa_compose.proofs.PickLemmas.{last_or, last-first}
 use Rattle.ioa_value.proofs.ItemLemmas.{find_both}
-use Rattle.ioa_syntax.specs.WellFormed.{distinct, form_within, automaton_within, composition_within, declaration_within, automaton_fine, is_automaton_of, instance_fine, composition_fine, global_names, well_formed}
+use Rattle.ioa_tree.specs.WellFormed.{distinct, form_within, automaton_within, composition_within, declaration_within, automaton_fine, is_automaton_of, instance_fine, composition_fine, global_names, well_formed}
 
 -- each declaration keeps within the limits
 declared_within : (s : SourceTree) → well_formed s ≡ true → list_all (declaration_within LIMITS) s ≡ true

@@ -9,7 +9,7 @@ use Rattle.ioa_value.specs.Names.{IsName, is_name, is_letter, begins_with_letter
 use Rattle.ioa_value.specs.Plain.{Val}
 use Rattle.ioa_value.specs.Table.{contains, apart}
 use Rattle.ioa_value.proofs.NameLemmas.{same_name, own_name, not_true}
-use Rattle.ioa_syntax.specs.Meaning.{values_of, or_else}
+use Rattle.ioa_tree.specs.Meaning.{values_of, or_else}
 use Rattle.ioa_compose.specs.Rewriting.{spelled, up_name, start_name}
 
 pub not_both : {X : Type 0} (b : Bool) → b ≡ true → b ≡ false → X

@@ -4,10 +4,10 @@ use Rattle.std.specs.List.{list_all, flat_map}
 use Rattle.std.proofs.lemmas.Bool.{and_parts, and_from}
 use Rattle.ioa_value.specs.Actions.{Name}
 use Rattle.ioa_value.specs.Names.{IsName}
-use Rattle.ioa_syntax.specs.Tree.{FieldTree, PositionTree, typed, only, EntryTree, VariableTree, TransitionTree, AutomatonTree}
-use Rattle.ioa_syntax.specs.Names.{names_of_field, names_of_constant, names_of_position, names_of_entry, names_of_option, names_of_variable, names_of_proposal, names_of_stmts, names_of_transition, names_of_automaton}
-use Rattle.ioa_syntax.specs.Instances.{field_names, variable_names, position_fields}
-use Rattle.ioa_syntax.proofs.Agreement.{all_both}
+use Rattle.ioa_tree.specs.Tree.{FieldTree, PositionTree, typed, only, EntryTree, VariableTree, TransitionTree, AutomatonTree}
+use Rattle.ioa_tree.specs.Names.{names_of_field, names_of_constant, names_of_position, names_of_entry, names_of_option, names_of_variable, names_of_proposal, names_of_stmts, names_of_transition, names_of_automaton}
+use Rattle.ioa_tree.specs.Instances.{field_names, variable_names, position_fields}
+use Rattle.ioa_tree.proofs.Agreement.{all_both}
 use Rattle.ioa_compose.specs.Rewriting.{spelled}
 use Rattle.ioa_compose.proofs.SpelledNames.{all_spelled}
 

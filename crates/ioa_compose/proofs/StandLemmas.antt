@@ -6,27 +6,27 @@ use Rattle.std.specs.Str.{bytes_eq}
 use Rattle.std.proofs.lemmas.List.{map-append, length-map, length_push}
 use Rattle.std.proofs.lemmas.List.Elements.{All-head, All-tail}
 use Rattle.std.proofs.lemmas.Option.{slice_get-map}
-use Rattle.ioa_value.specs.declared.arithmetic.Fault.{Fault}
+use Rattle.ioa_arithmetic.specs.declared.arithmetic.Fault.{Fault}
 use Rattle.ioa_value.specs.Actions.{Name, Act}
 use Rattle.ioa_value.specs.Plain.{Val, truth as truth_value}
 use Rattle.ioa_value.specs.Table.{contains}
 use Rattle.ioa_value.proofs.NameLemmas.{own_name}
-use Rattle.ioa_syntax.specs.declared.tree.Kind.{Kind}
-use Rattle.ioa_syntax.specs.declared.tree.Kind.TheVariants.{Input}
-use Rattle.ioa_syntax.specs.Tree.{CrashTree, EntryTree, VariableTree, InvariantTree}
-use Rattle.ioa_syntax.specs.Names.{names_of_expr}
-use Rattle.ioa_syntax.specs.Meaning.{Env, or_else, over, values_of}
-use Rattle.ioa_syntax.specs.Instances.{Instance, variable_names, formal_values, component_of, state_of}
-use Rattle.ioa_syntax.specs.Components.{Component, Compatible}
-use Rattle.ioa_syntax.specs.Compositions.{Member, Composed, components_of, starts_of}
-use Rattle.ioa_syntax.specs.Invariants.{is_true, holds, breaks, broken_by, broken_from, Broken, first_broken, broken_at}
-use Rattle.ioa_syntax.specs.Likes.{AreLike, IsLike, AllLike, AllRelated, RunsLike}
-use Rattle.ioa_syntax.specs.Steps.{owner, participants}
-use Rattle.ioa_syntax.specs.Runs.{run, trace, is_external}
-use Rattle.ioa_syntax.specs.Hosts.{HostState, host_state, when_ok, steady, hosted, reset_to, Host, host_of, host_start, Hosted, hosts_of, host_starts, broken_hosts, first_broken_host}
-use Rattle.ioa_syntax.proofs.Agreement.{val_same}
-use Rattle.ioa_syntax.proofs.Alike.{like_kinds, kinds_back, same_compatible, first_like}
-use Rattle.ioa_syntax.proofs.Simulation.{run_like, trace_like, owner_like, participants_like, external_like}
+use Rattle.ioa_tree.specs.declared.tree.Kind.{Kind}
+use Rattle.ioa_tree.specs.declared.tree.Kind.TheVariants.{Input}
+use Rattle.ioa_tree.specs.Tree.{CrashTree, EntryTree, VariableTree, InvariantTree}
+use Rattle.ioa_tree.specs.Names.{names_of_expr}
+use Rattle.ioa_tree.specs.Meaning.{Env, or_else, over, values_of}
+use Rattle.ioa_tree.specs.Instances.{Instance, variable_names, formal_values, component_of, state_of}
+use Rattle.ioa_tree.specs.Components.{Component, Compatible}
+use Rattle.ioa_tree.specs.Compositions.{Member, Composed, components_of, starts_of}
+use Rattle.ioa_tree.specs.Invariants.{is_true, holds, breaks, broken_by, broken_from, Broken, first_broken, broken_at}
+use Rattle.ioa_tree.specs.Likes.{AreLike, IsLike, AllLike, AllRelated, RunsLike}
+use Rattle.ioa_tree.specs.Steps.{owner, participants}
+use Rattle.ioa_tree.specs.Runs.{run, trace, is_external}
+use Rattle.ioa_tree.specs.Hosts.{HostState, host_state, when_ok, steady, hosted, reset_to, Host, host_of, host_start, Hosted, hosts_of, host_starts, broken_hosts, first_broken_host}
+use Rattle.ioa_tree.proofs.Agreement.{val_same}
+use Rattle.ioa_tree.proofs.Alike.{like_kinds, kinds_back, same_compatible, first_like}
+use Rattle.ioa_tree.proofs.Simulation.{run_like, trace_like, owner_like, participants_like, external_like}
 use Rattle.ioa_compose.specs.Rewriting.{spelled, up_name, up_variable, signals, rewritten, crashing}
 use Rattle.ioa_compose.specs.Stands.{StandsBy, StandsFor, StandsAt, member_by, member_for, MayStand, TellsUp, HoldsWith, has_kind, Stands, RewritingStands}
 use Rattle.ioa_compose.proofs.SpelledNames.{absent, all_of, none_unspelled}

@@ -4,20 +4,20 @@ use Rattle.std.specs.List.{list_all}
 use Rattle.std.specs.Option.{option_map_or}
 use Rattle.std.proofs.lemmas.Simd.{map-map}
 use Rattle.std.proofs.lemmas.List.{length-map}
-use Rattle.ioa_value.specs.declared.arithmetic.Fault.{Fault}
+use Rattle.ioa_arithmetic.specs.declared.arithmetic.Fault.{Fault}
 use Rattle.ioa_value.specs.declared.memory.OutOfMemory.{OutOfMemory}
 use Rattle.ioa_value.specs.declared.value.Value.{Value}
 use Rattle.ioa_value.specs.Plain.{plain}
 use Rattle.ioa_value.specs.Operators.{gives, answer_of}
-use Rattle.ioa_syntax.specs.Types.{first_named}
-use Rattle.ioa_syntax.specs.declared.tree.Field.{Field}
-use Rattle.ioa_syntax.specs.declared.tree.Variable.{Variable}
-use Rattle.ioa_syntax.specs.Tree.{Expr, VariableTree, AutomatonTree}
-use Rattle.ioa_syntax.specs.View.{field_of, variable_of}
-use Rattle.ioa_syntax.specs.Meaning.{val, values_of}
+use Rattle.ioa_tree.specs.Types.{first_named}
+use Rattle.ioa_tree.specs.declared.tree.Field.{Field}
+use Rattle.ioa_tree.specs.declared.tree.Variable.{Variable}
+use Rattle.ioa_tree.specs.Tree.{Expr, VariableTree, AutomatonTree}
+use Rattle.ioa_tree.specs.View.{field_of, variable_of}
+use Rattle.ioa_tree.specs.Meaning.{val, values_of}
 use Rattle.ioa_value.specs.Table.{Table}
-use Rattle.ioa_syntax.specs.Instances.{field_names, settled, start_value}
-use Rattle.ioa_syntax.specs.WellFormed.{start_fine, is_type}
+use Rattle.ioa_tree.specs.Instances.{field_names, settled, start_value}
+use Rattle.ioa_tree.specs.WellFormed.{start_fine, is_type}
 use Rattle.ioa_compose.specs.Bindings.{value_in}
 use Rattle.ioa_value.proofs.ItemLemmas.{passes_at}
 use Rattle.ioa_compose.proofs.RewrittenNames.{names_of}

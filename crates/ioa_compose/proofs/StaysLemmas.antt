@@ -2,11 +2,11 @@
 use Rattle.std.proofs.Common.{[], ◌∷◌, map}
 use Rattle.std.proofs.lemmas.List.Elements.{All-nil, All-cons, All-append}
 use Rattle.ioa_value.specs.Names.{IsName}
-use Rattle.ioa_syntax.specs.Tree.{EntryTree}
-use Rattle.ioa_syntax.specs.Instances.{Fit}
-use Rattle.ioa_syntax.specs.WellFormed.{variable_fields}
-use Rattle.ioa_syntax.proofs.LegalNames.{legal_entries}
-use Rattle.ioa_syntax.proofs.Starts.{starts_fit}
+use Rattle.ioa_tree.specs.Tree.{EntryTree}
+use Rattle.ioa_tree.specs.Instances.{Fit}
+use Rattle.ioa_tree.specs.WellFormed.{variable_fields}
+use Rattle.ioa_tree.proofs.PartNames.{legal_entries}
+use Rattle.ioa_tree.proofs.Starts.{starts_fit}
 use Rattle.ioa_compose.specs.Rewriting.{volatile, volatile_values, start_formal, signal_entry, signals}
 use Rattle.ioa_compose.specs.Crashes.{RewritingStaysFine}
 use Rattle.ioa_compose.proofs.RewrittenNames.{names}

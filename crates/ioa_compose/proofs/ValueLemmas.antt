@@ -1,8 +1,8 @@
 -- Values before others.
 use Rattle.std.proofs.Common.{◌≡◌, ℕ, ◌+◌, ◌<◌, List, [], ◌∷◌, ◌++◌, map, drop, length, get_or, Result, Ok, Err, refl, sym, ap, ◌∙◌, append_assoc}
-use Rattle.ioa_value.specs.declared.arithmetic.Fault.{Fault}
+use Rattle.ioa_arithmetic.specs.declared.arithmetic.Fault.{Fault}
 use Rattle.ioa_value.specs.Plain.{Val}
-use Rattle.ioa_syntax.specs.Instances.{all_values, with_value}
+use Rattle.ioa_tree.specs.Instances.{all_values, with_value}
 use Rattle.ioa_value.proofs.ItemLemmas.{drop_item}
 
 -- values before others, where those do not fault

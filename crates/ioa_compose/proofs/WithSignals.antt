@@ -8,14 +8,14 @@ use Rattle.ioa_value.specs.Actions.{Name}
 use Rattle.ioa_value.specs.Plain.{Val}
 use Rattle.ioa_value.specs.Positions.{Domain, every, single}
 use Rattle.ioa_value.specs.Table.{Table, distinct}
-use Rattle.ioa_syntax.specs.declared.tree.Kind.TheVariants.{Input}
-use Rattle.ioa_syntax.specs.Tree.{CrashTree, ConstantTree, positive, negative, truth_literal, reference, PositionTree, typed, only, EntryTree, AutomatonTree}
-use Rattle.ioa_syntax.specs.Components.{is_output}
-use Rattle.ioa_syntax.specs.Compositions.{has_output}
-use Rattle.ioa_syntax.specs.Domains.{IsDomainOf, AreDomainsOf}
-use Rattle.ioa_syntax.specs.Hosts.{crash_fine}
-use Rattle.ioa_syntax.specs.Instances.{Instance, constant_value, start_values}
-use Rattle.ioa_syntax.specs.WellFormed.{position_fine, formals}
+use Rattle.ioa_tree.specs.declared.tree.Kind.TheVariants.{Input}
+use Rattle.ioa_tree.specs.Tree.{CrashTree, ConstantTree, positive, negative, truth_literal, reference, PositionTree, typed, only, EntryTree, AutomatonTree}
+use Rattle.ioa_tree.specs.Components.{is_output}
+use Rattle.ioa_tree.specs.Compositions.{has_output}
+use Rattle.ioa_tree.specs.Domains.{IsDomainOf, AreDomainsOf}
+use Rattle.ioa_tree.specs.Hosts.{crash_fine}
+use Rattle.ioa_tree.specs.Instances.{Instance, constant_value, start_values}
+use Rattle.ioa_tree.specs.WellFormed.{position_fine, formals}
 use Rattle.ioa_compose.specs.Bindings.{instance_with}
 use Rattle.ioa_compose.specs.Clashes.{SignedEntry, IsSigned, IsSignatureOf}
 use Rattle.ioa_compose.specs.Rewriting.{signal_entry, signals, with_signals}

@@ -3,22 +3,22 @@ use Rattle.std.specs.Prelude.{◌≡◌, ◌≤◌, Bool, true, false, ◌&&◌,
 use Rattle.std.specs.List.{list_all}
 use Rattle.std.specs.Option.{option_map, option_map_or}
 use Rattle.std.specs.Global.{Global}
-use Rattle.ioa_value.specs.declared.arithmetic.Fault.{Fault}
+use Rattle.ioa_arithmetic.specs.declared.arithmetic.Fault.{Fault}
 use Rattle.ioa_value.specs.declared.value.Value.{Value}
 use Rattle.ioa_value.specs.Actions.{Name}
 use Rattle.ioa_value.specs.Names.{IsName}
 use Rattle.ioa_value.specs.Plain.{Val, plain}
 use Rattle.ioa_value.specs.Table.{Table}
-use Rattle.ioa_syntax.specs.Tree.{Expr, FieldTree, AutomatonTree, CrashTree, InstanceTree, CompositionTree, SourceTree}
-use Rattle.ioa_syntax.specs.Names.{names_of_crash}
-use Rattle.ioa_syntax.specs.View.{name_of, automaton_of, crash_of}
-use Rattle.ioa_syntax.specs.Hosts.{crash_fine, Host}
-use Rattle.ioa_syntax.specs.Types.{types_of, is_named}
+use Rattle.ioa_tree.specs.Tree.{Expr, FieldTree, AutomatonTree, CrashTree, InstanceTree, CompositionTree, SourceTree}
+use Rattle.ioa_tree.specs.Names.{names_of_crash}
+use Rattle.ioa_tree.specs.View.{name_of, automaton_of, crash_of}
+use Rattle.ioa_tree.specs.Hosts.{crash_fine, Host}
+use Rattle.ioa_tree.specs.Types.{types_of, is_named}
 use Rattle.ioa_value.specs.declared.limits.TheConstants.{LIMITS}
-use Rattle.ioa_syntax.specs.Meaning.{Env, val}
-use Rattle.ioa_syntax.specs.Instances.{Instance, Fit, settled, argument_values, start_values}
-use Rattle.ioa_syntax.specs.Compositions.{Member, automaton_named}
-use Rattle.ioa_syntax.specs.WellFormed.{Context, distinct, type_of, start_fine, is_type, variable_fields, automaton_fine}
+use Rattle.ioa_tree.specs.Meaning.{Env, val}
+use Rattle.ioa_tree.specs.Instances.{Instance, Fit, settled, argument_values, start_values}
+use Rattle.ioa_tree.specs.Compositions.{Member, automaton_named}
+use Rattle.ioa_tree.specs.WellFormed.{Context, distinct, type_of, start_fine, is_type, variable_fields, automaton_fine}
 use Rattle.ioa_compose.specs.Rewriting.{with_signals}
 use Rattle.ioa_compose.specs.Stands.{member_for}
 use Rattle.ioa_compose.specs.declared.binding.Binding.{Binding}

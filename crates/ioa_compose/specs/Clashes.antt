@@ -6,12 +6,12 @@ use Rattle.std.specs.Str.{bytes_eq}
 use Rattle.ioa_value.specs.Actions.{Name}
 use Rattle.ioa_value.specs.Positions.{Domain, domain_of, all_meet}
 use Rattle.ioa_value.specs.Table.{Table}
-use Rattle.ioa_syntax.specs.declared.tree.Kind.{Kind}
-use Rattle.ioa_syntax.specs.declared.tree.Kind.TheVariants.{Input, Output, Internal}
-use Rattle.ioa_syntax.specs.Tree.{EntryTree}
-use Rattle.ioa_syntax.specs.View.{name_of}
-use Rattle.ioa_syntax.specs.Instances.{Instance}
-use Rattle.ioa_syntax.specs.Domains.{AreDomainsOf}
+use Rattle.ioa_tree.specs.declared.tree.Kind.{Kind}
+use Rattle.ioa_tree.specs.declared.tree.Kind.TheVariants.{Input, Output, Internal}
+use Rattle.ioa_tree.specs.Tree.{EntryTree}
+use Rattle.ioa_tree.specs.View.{name_of}
+use Rattle.ioa_tree.specs.Instances.{Instance}
+use Rattle.ioa_tree.specs.Domains.{AreDomainsOf}
 use Rattle.ioa_compose.specs.declared.signatures.SignedEntry as held
 
 -- an entry as its actions are told: its kind, its name, and the values that stand in its positions

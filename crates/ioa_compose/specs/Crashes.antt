@@ -5,13 +5,13 @@ use Rattle.ioa_value.specs.Names.{IsName}
 use Rattle.ioa_value.specs.Plain.{Val, truth as truth_value}
 use Rattle.ioa_value.specs.Table.{AreTypes, contains}
 use Rattle.ioa_value.specs.declared.limits.TheConstants.{LIMITS}
-use Rattle.ioa_syntax.specs.Tree.{CrashTree, AutomatonTree}
-use Rattle.ioa_syntax.specs.Names.{names_of_automaton}
-use Rattle.ioa_syntax.specs.Meaning.{Env}
-use Rattle.ioa_syntax.specs.Instances.{Instance, variable_names, component_of, start_values, Fit, state_of}
-use Rattle.ioa_syntax.specs.Likes.{IsLike}
-use Rattle.ioa_syntax.specs.Hosts.{HostState, host_state, wrapped, crash_fine, reset_to}
-use Rattle.ioa_syntax.specs.WellFormed.{variable_fields, automaton_fine, automaton_within}
+use Rattle.ioa_tree.specs.Tree.{CrashTree, AutomatonTree}
+use Rattle.ioa_tree.specs.Names.{names_of_automaton}
+use Rattle.ioa_tree.specs.Meaning.{Env}
+use Rattle.ioa_tree.specs.Instances.{Instance, variable_names, component_of, start_values, Fit, state_of}
+use Rattle.ioa_tree.specs.Likes.{IsLike}
+use Rattle.ioa_tree.specs.Hosts.{HostState, host_state, wrapped, crash_fine, reset_to}
+use Rattle.ioa_tree.specs.WellFormed.{variable_fields, automaton_fine, automaton_within}
 use Rattle.ioa_compose.specs.Fine.{component_limits}
 use Rattle.ioa_compose.specs.Rewriting.{spelled, up_name, rewritten, crashing, crashing_starts}
 

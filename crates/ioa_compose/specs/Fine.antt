@@ -7,12 +7,12 @@ use Rattle.ioa_value.specs.Names.{IsName}
 use Rattle.ioa_value.specs.Table.{Table, AreTypes}
 use Rattle.ioa_value.specs.declared.limits.Limits.{Limits}
 use Rattle.ioa_value.specs.declared.limits.TheConstants.{LIMITS}
-use Rattle.ioa_syntax.specs.Tree.{InvariantTree}
-use Rattle.ioa_syntax.specs.Names.{names_of_expr}
-use Rattle.ioa_syntax.specs.Instances.{Instance, Fit, start_values}
-use Rattle.ioa_syntax.specs.Components.{Compatible}
-use Rattle.ioa_syntax.specs.Compositions.{Member, Composed, components_of, instances_of, is_output_of}
-use Rattle.ioa_syntax.specs.WellFormed.{distinct, variable_fields, held, has_ty, automaton_fine, entry_within, automaton_within}
+use Rattle.ioa_tree.specs.Tree.{InvariantTree}
+use Rattle.ioa_tree.specs.Names.{names_of_expr}
+use Rattle.ioa_tree.specs.Instances.{Instance, Fit, start_values}
+use Rattle.ioa_tree.specs.Components.{Compatible}
+use Rattle.ioa_tree.specs.Compositions.{Member, Composed, components_of, instances_of, is_output_of}
+use Rattle.ioa_tree.specs.WellFormed.{distinct, variable_fields, held, has_ty, automaton_fine, entry_within, automaton_within}
 use Rattle.ioa_compose.specs.Questions.{OfThese}
 use Rattle.ioa_compose.specs.Rewriting.{spelled}
 

@@ -3,12 +3,12 @@ use Rattle.std.specs.Prelude.{ℕ, List, map, refl}
 use Rattle.std.specs.String.{string_bytes}
 use Rattle.std.specs.Coded.{Coded, code_by, coded×, coded_list, coded_ℕ}
 use Rattle.ioa_value.specs.Plain.{plain}
-use Rattle.ioa_syntax.specs.View.{automaton_of, invariant_of}
-use Rattle.ioa_syntax.specs.declared.tree.Invariant.{Invariant}
-use Rattle.ioa_syntax.specs.contracts.tree.Invariant as tree_invariant
+use Rattle.ioa_tree.specs.View.{automaton_of, invariant_of}
+use Rattle.ioa_tree.specs.declared.tree.Invariant.{Invariant}
+use Rattle.ioa_tree.specs.contracts.tree.Invariant as tree_invariant
 use Rattle.ioa_value.specs.Table.{Table}
 use Rattle.ioa_value.specs.Coded.{coded_table}
-use Rattle.ioa_syntax.specs.Compositions as compositions
+use Rattle.ioa_tree.specs.Compositions as compositions
 use Rattle.ioa_compose.specs.declared.member.Member.{Member}
 use Rattle.ioa_compose.specs.contracts.member.Member as member
 

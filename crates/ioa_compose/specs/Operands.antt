@@ -6,9 +6,9 @@ use Rattle.ioa_value.specs.declared.operator.Op.TheVariants.{Make, Field}
 use Rattle.ioa_value.specs.Operators.{Takes}
 use Rattle.ioa_value.specs.Table.{Table, type_named, field_place}
 use Rattle.ioa_value.specs.Typing.{HasType, own}
-use Rattle.ioa_syntax.specs.declared.tree.Infix.{Infix}
-use Rattle.ioa_syntax.specs.declared.tree.Infix.TheVariants.{Operator, And, Or, Implies}
-use Rattle.ioa_syntax.specs.WellFormed.{infix_type}
+use Rattle.ioa_tree.specs.declared.tree.Infix.{Infix}
+use Rattle.ioa_tree.specs.declared.tree.Infix.TheVariants.{Operator, And, Or, Implies}
+use Rattle.ioa_tree.specs.WellFormed.{infix_type}
 
 -- after this first operand the second is asked for
 abbrev pub Asks : Infix → Val → Type 0

@@ -3,10 +3,10 @@ use Rattle.std.specs.Prelude.{◌≡◌, ◌≤◌, ℕ, length, IsTrue, List, [
 use Rattle.std.specs.Str.{bytes_eq}
 use Rattle.ioa_value.specs.Plain.{Val}
 use Rattle.ioa_value.specs.Table.{AreTypes}
-use Rattle.ioa_syntax.specs.Tree.{Expr, AutomatonTree, InvariantTree}
-use Rattle.ioa_syntax.specs.Instances.{Fit}
-use Rattle.ioa_syntax.specs.Compositions.{Member, Composed}
-use Rattle.ioa_syntax.specs.WellFormed.{held, has_ty, variable_fields}
+use Rattle.ioa_tree.specs.Tree.{Expr, AutomatonTree, InvariantTree}
+use Rattle.ioa_tree.specs.Instances.{Fit}
+use Rattle.ioa_tree.specs.Compositions.{Member, Composed}
+use Rattle.ioa_tree.specs.WellFormed.{held, has_ty, variable_fields}
 
 -- of the component and the invariant of these numbers
 abbrev pub OfThese : Composed → ℕ → ℕ → (Member → InvariantTree → Type 0) → Type 0

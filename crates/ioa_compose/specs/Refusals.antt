@@ -2,17 +2,17 @@
 use Rattle.std.specs.Prelude.{◌≡◌, ℕ, ◌<◌, ◌⊎◌, true, false, List, take, Some, None, Ok, Err, slice_get}
 use Rattle.std.specs.List.{list_all}
 use Rattle.std.specs.String.{string_bytes}
-use Rattle.ioa_value.specs.declared.arithmetic.Fault.{Fault}
+use Rattle.ioa_arithmetic.specs.declared.arithmetic.Fault.{Fault}
 use Rattle.ioa_value.specs.Actions.{Name, Act}
 use Rattle.ioa_value.specs.Plain.{Val}
 use Rattle.ioa_lex.specs.declared.refusal.Refusal.{Refusal}
 use Rattle.ioa_lex.specs.declared.refusal.Refusal.TheVariants.{TextTooLong, BadByte, Syntax, TooDeep, DuplicateName, UnknownName, TypeMismatch, BadSignature, NoProposal, TooMany, TooWide, ArgMismatch, CrashName, Clash, HiddenUnknown, StartFault, NoComposition, OutOfMemory}
-use Rattle.ioa_syntax.specs.declared.tree.Kind.TheVariants.{Internal, Output}
-use Rattle.ioa_syntax.specs.Tree.{EntryTree, AutomatonTree, InstanceTree, CompositionTree, SourceTree}
-use Rattle.ioa_syntax.specs.Types.{types_of}
-use Rattle.ioa_syntax.specs.Instances.{Instance, Fit, argument_values, start_values, component_of}
-use Rattle.ioa_syntax.specs.Compositions.{automaton_named, is_output_of}
-use Rattle.ioa_syntax.specs.Hosts.{crash_fine}
+use Rattle.ioa_tree.specs.declared.tree.Kind.TheVariants.{Internal, Output}
+use Rattle.ioa_tree.specs.Tree.{EntryTree, AutomatonTree, InstanceTree, CompositionTree, SourceTree}
+use Rattle.ioa_tree.specs.Types.{types_of}
+use Rattle.ioa_tree.specs.Instances.{Instance, Fit, argument_values, start_values, component_of}
+use Rattle.ioa_tree.specs.Compositions.{automaton_named, is_output_of}
+use Rattle.ioa_tree.specs.Hosts.{crash_fine}
 use Rattle.ioa_compose.specs.Bindings.{IsBound, AreBound}
 
 -- the arguments have values, and these are not of the formals' types, one for each

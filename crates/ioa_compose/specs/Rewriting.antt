@@ -2,11 +2,11 @@
 use Rattle.std.specs.Prelude.{◌==◌, Bool, true, false, not, if◌then◌else◌, List, [], ◌∷◌, ◌++◌, map, filter, Option, Some, None, codes}
 use Rattle.ioa_value.specs.Actions.{Name}
 use Rattle.ioa_value.specs.Plain.{Val, truth as truth_value}
-use Rattle.ioa_syntax.specs.declared.tree.Kind.TheVariants.{Input}
-use Rattle.ioa_syntax.specs.declared.tree.Infix.TheVariants.{And}
-use Rattle.ioa_syntax.specs.Tree.{Expr, truth, named, binary, FieldTree, CrashTree, EntryTree, VariableTree, Stmt, assign, choose, Stmts, stop, seq, no_arm, arm, TransitionTree, AutomatonTree}
-use Rattle.ioa_syntax.specs.Instances.{Instance}
-use Rattle.ioa_syntax.specs.WellFormed.{is_input}
+use Rattle.ioa_tree.specs.declared.tree.Kind.TheVariants.{Input}
+use Rattle.ioa_tree.specs.declared.tree.Infix.TheVariants.{And}
+use Rattle.ioa_tree.specs.Tree.{Expr, truth, named, binary, FieldTree, CrashTree, EntryTree, VariableTree, Stmt, assign, choose, Stmts, stop, seq, no_arm, arm, TransitionTree, AutomatonTree}
+use Rattle.ioa_tree.specs.Instances.{Instance}
+use Rattle.ioa_tree.specs.WellFormed.{is_input}
 
 -- no name of a text begins with `#`
 abbrev pub spelled : Name → Bool

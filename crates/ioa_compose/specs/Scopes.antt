@@ -1,10 +1,10 @@
 -- The names that an expression may use, with their types and their values.
 use Rattle.std.specs.Prelude.{map, ◌++◌}
 use Rattle.ioa_value.specs.Plain.{plain}
-use Rattle.ioa_syntax.specs.View.{field_of, variable_of}
-use Rattle.ioa_syntax.specs.Meaning.{Env, values_of, over}
-use Rattle.ioa_syntax.specs.Instances.{field_names}
-use Rattle.ioa_syntax.specs.WellFormed.{Context, context_of}
+use Rattle.ioa_tree.specs.View.{field_of, variable_of}
+use Rattle.ioa_tree.specs.Meaning.{Env, values_of, over}
+use Rattle.ioa_tree.specs.Instances.{field_names}
+use Rattle.ioa_tree.specs.WellFormed.{Context, context_of}
 use Rattle.ioa_compose.specs.declared.scope.Scope.{Scope}
 
 -- variables and formals

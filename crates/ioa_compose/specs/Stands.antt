@@ -3,18 +3,18 @@ use Rattle.std.specs.Prelude.{◌≡◌, ℕ, ◌+◌, Bool, true, false, List, 
 use Rattle.std.specs.List.{list_all, list_any}
 use Rattle.ioa_value.specs.Actions.{Name}
 use Rattle.ioa_value.specs.Plain.{Val, truth as truth_value}
-use Rattle.ioa_syntax.specs.declared.tree.Kind.{Kind}
-use Rattle.ioa_syntax.specs.declared.tree.Kind.TheVariants.{Input}
-use Rattle.ioa_syntax.specs.Tree.{CrashTree, AutomatonTree, CompositionTree, SourceTree}
-use Rattle.ioa_syntax.specs.Meaning.{Env, values_of}
-use Rattle.ioa_syntax.specs.Names.{names_of_expr, LegalNames}
-use Rattle.ioa_syntax.specs.Instances.{Instance, variable_names, component_of}
-use Rattle.ioa_syntax.specs.Components.{Compatible}
-use Rattle.ioa_syntax.specs.Compositions.{Member, Composed, components_of, starts_of, instances_of}
-use Rattle.ioa_syntax.specs.Invariants.{broken_at}
-use Rattle.ioa_syntax.specs.Likes.{AllLike, AllRelated}
-use Rattle.ioa_syntax.specs.Hosts.{HostState, crash_fine, Host, Hosted, IsHosted, hosts_of, host_starts, host_instances, broken_hosts}
-use Rattle.ioa_syntax.specs.WellFormed.{WellFormed}
+use Rattle.ioa_tree.specs.declared.tree.Kind.{Kind}
+use Rattle.ioa_tree.specs.declared.tree.Kind.TheVariants.{Input}
+use Rattle.ioa_tree.specs.Tree.{CrashTree, AutomatonTree, CompositionTree, SourceTree}
+use Rattle.ioa_tree.specs.Meaning.{Env, values_of}
+use Rattle.ioa_tree.specs.Names.{names_of_expr, LegalNames}
+use Rattle.ioa_tree.specs.Instances.{Instance, variable_names, component_of}
+use Rattle.ioa_tree.specs.Components.{Compatible}
+use Rattle.ioa_tree.specs.Compositions.{Member, Composed, components_of, starts_of, instances_of}
+use Rattle.ioa_tree.specs.Invariants.{broken_at}
+use Rattle.ioa_tree.specs.Likes.{AllLike, AllRelated}
+use Rattle.ioa_tree.specs.Hosts.{HostState, crash_fine, Host, Hosted, IsHosted, hosts_of, host_starts, host_instances, broken_hosts}
+use Rattle.ioa_tree.specs.WellFormed.{WellFormed}
 use Rattle.ioa_compose.specs.Rewriting.{spelled, crashing, crashing_starts, with_signals}
 use Rattle.ioa_compose.specs.Crashes.{Corresponds, MayCrash}
 

@@ -9,7 +9,8 @@ ghost use Rattle.ioa_compose.specs.Index.{IsAt, IsIndexOf};
 use crate::binding::Binding;
 use crate::index::{Index, Place};
 use crate::signatures::{SignedEntry, signatures};
-use ioa_syntax::{Kind, Refusal};
+use ioa_syntax::Refusal;
+use ioa_tree::Kind;
 use ioa_value::{Types, all_meet};
 use std::alloc::Global;
 

@@ -1,9 +1,9 @@
 ghost use Rattle.std.specs.Prelude.{◌≡◌, Some, IsSome};
 ghost use Rattle.ioa_value.specs.Plain.{plain};
-ghost use Rattle.ioa_syntax.specs.Types as spec;
-ghost use Rattle.ioa_syntax.specs.View.{name_of};
+ghost use Rattle.ioa_tree.specs.Types as spec;
+ghost use Rattle.ioa_tree.specs.View.{name_of};
 
-use ioa_syntax::Name;
+use ioa_tree::Name;
 use ioa_value::{Types, Value};
 use std::alloc::Global;
 

@@ -1,8 +1,8 @@
 ghost use Rattle.std.specs.Prelude.{◌≡◌, IfOk, map};
 ghost use Rattle.std.specs.Option.{option_map};
-ghost use Rattle.ioa_syntax.specs.View as view;
+ghost use Rattle.ioa_tree.specs.View as view;
 
-use ioa_syntax::{
+use ioa_tree::{
     Arm, Automaton, Constant, Entry, Expression, Field, Invariant, Name, Position, Proposal,
     Statement, Transition, Variable,
 };

@@ -5,17 +5,18 @@ ghost use Rattle.std.specs.List.{list_all};
 ghost use Rattle.ioa_value.specs.Plain.{plain};
 ghost use Rattle.ioa_value.specs.Positions.{domain_of};
 ghost use Rattle.ioa_value.specs.Table.{AreTypes, type_named};
-ghost use Rattle.ioa_syntax.specs.View.{automaton_of, entry_of, position_of, constant_of, name_of};
-ghost use Rattle.ioa_syntax.specs.Domains.{IsDomainOf, AreDomainsOf};
-ghost use Rattle.ioa_syntax.specs.Instances as instances;
-ghost use Rattle.ioa_syntax.specs.Instances.{Fit};
-ghost use Rattle.ioa_syntax.specs.WellFormed.{constant_fine, position_fine, formals};
+ghost use Rattle.ioa_tree.specs.View.{automaton_of, entry_of, position_of, constant_of, name_of};
+ghost use Rattle.ioa_tree.specs.Domains.{IsDomainOf, AreDomainsOf};
+ghost use Rattle.ioa_tree.specs.Instances as instances;
+ghost use Rattle.ioa_tree.specs.Instances.{Fit};
+ghost use Rattle.ioa_tree.specs.WellFormed.{constant_fine, position_fine, formals};
 ghost use Rattle.ioa_compose.specs.Bindings.{instance_with};
 
 use crate::constants::constant;
 use crate::evaluate::number;
 use crate::scope::found;
-use ioa_syntax::{Automaton, Constant, Entry, Name, Position as Declared};
+use ioa_syntax::Position as Declared;
+use ioa_tree::{Automaton, Constant, Entry, Name};
 use ioa_value::{OutOfMemory, Position, Ty, Types, Value};
 use std::alloc::Global;
 

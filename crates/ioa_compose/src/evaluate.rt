@@ -4,19 +4,19 @@ ghost use Rattle.ioa_value.specs.Plain.{plain, truth};
 ghost use Rattle.ioa_value.specs.Operators.{Answer, answer_of, gives, operate, Takes};
 ghost use Rattle.ioa_value.specs.Table.{Table, AreTypes, field_place};
 ghost use Rattle.ioa_value.specs.Typing.{own};
-ghost use Rattle.ioa_syntax.specs.View.{expr_of, name_of};
-ghost use Rattle.ioa_syntax.specs.Meaning as meaning;
-ghost use Rattle.ioa_syntax.specs.Meaning.{combined, val};
-ghost use Rattle.ioa_syntax.specs.Instances.{all_values};
-ghost use Rattle.ioa_syntax.specs.Answers.{Suits};
-ghost use Rattle.ioa_syntax.specs.WellFormed.{type_of};
+ghost use Rattle.ioa_tree.specs.View.{expr_of, name_of};
+ghost use Rattle.ioa_tree.specs.Meaning as meaning;
+ghost use Rattle.ioa_tree.specs.Meaning.{combined, val};
+ghost use Rattle.ioa_tree.specs.Instances.{all_values};
+ghost use Rattle.ioa_tree.specs.Answers.{Suits};
+ghost use Rattle.ioa_tree.specs.WellFormed.{type_of};
 ghost use Rattle.ioa_compose.specs.Bindings.{typed, start_of, values_in};
 ghost use Rattle.ioa_compose.specs.Scopes.{context, environment};
 ghost use Rattle.ioa_compose.specs.Operands.{Asks, AreOperands, AreFields, HasField};
 
 use crate::constants::{constant, empty};
 use crate::scope::Scope;
-use ioa_syntax::{Expression, Infix, Name};
+use ioa_tree::{Expression, Infix, Name};
 use ioa_value::{Fault, Op, OutOfMemory, Types, Value, apply_last};
 use std::alloc::Global;
 

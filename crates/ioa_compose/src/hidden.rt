@@ -3,14 +3,15 @@ ghost use Rattle.std.specs.List.{list_all};
 ghost use Rattle.std.specs.Str.{bytes_eq};
 ghost use Rattle.std.specs.String.{string_bytes};
 ghost use Rattle.ioa_value.specs.Table.{Table};
-ghost use Rattle.ioa_syntax.specs.View.{name_of, entry_of, automaton_of};
-ghost use Rattle.ioa_syntax.specs.Components.{is_output};
-ghost use Rattle.ioa_syntax.specs.Compositions as spec;
+ghost use Rattle.ioa_tree.specs.View.{name_of, entry_of, automaton_of};
+ghost use Rattle.ioa_tree.specs.Components.{is_output};
+ghost use Rattle.ioa_tree.specs.Compositions as spec;
 ghost use Rattle.ioa_compose.specs.Bindings.{plain_in};
 ghost use Rattle.ioa_compose.specs.Refusals.{HidesIn, reason_of};
 
 use crate::binding::Binding;
-use ioa_syntax::{Automaton, Entry, Kind, Name, Refusal};
+use ioa_syntax::Refusal;
+use ioa_tree::{Automaton, Entry, Kind, Name};
 use std::alloc::Global;
 
 /// The hidden names in order, where each is the name of an output of one of the components; the first other one is refused.

@@ -1,10 +1,10 @@
 ghost use Rattle.std.specs.Prelude.{◌≡◌, IfOk, map};
 ghost use Rattle.ioa_value.specs.Operators.{answer_of};
 ghost use Rattle.ioa_value.specs.Plain.{plain};
-ghost use Rattle.ioa_syntax.specs.View.{tree_of, invariant_of, expr_of};
-ghost use Rattle.ioa_syntax.specs.Compositions as spec;
-ghost use Rattle.ioa_syntax.specs.Instances.{state_of};
-ghost use Rattle.ioa_syntax.specs.Invariants as meaning;
+ghost use Rattle.ioa_tree.specs.View.{tree_of, invariant_of, expr_of};
+ghost use Rattle.ioa_tree.specs.Compositions as spec;
+ghost use Rattle.ioa_tree.specs.Instances.{state_of};
+ghost use Rattle.ioa_tree.specs.Invariants as meaning;
 ghost use Rattle.ioa_compose.specs.Held.{member_of};
 ghost use Rattle.ioa_compose.specs.Questions.{IsAnswerable, first_of};
 
@@ -12,7 +12,7 @@ use crate::copies::copied_invariant;
 use crate::evaluate::evaluate;
 use crate::member::Member;
 use crate::scope::Scope;
-use ioa_syntax::{Declaration, Expression, Invariant};
+use ioa_tree::{Declaration, Expression, Invariant};
 use ioa_value::{Fault, OutOfMemory, Value};
 use std::alloc::Global;
 

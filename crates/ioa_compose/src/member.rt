@@ -1,4 +1,4 @@
-use ioa_syntax::Automaton;
+use ioa_tree::Automaton;
 use ioa_value::{Types, Value};
 
 /// A component of a composition: the composition's types, an automaton with the values of its formals, and the start values

@@ -1,9 +1,9 @@
 ghost use Rattle.std.specs.Prelude.{◌≡◌, find, reverse, option_map, option_copied};
 ghost use Rattle.std.specs.Str.{bytes_eq};
-ghost use Rattle.ioa_syntax.specs.View.{tree_of, assembly_of};
-ghost use Rattle.ioa_syntax.specs.Compositions as spec;
+ghost use Rattle.ioa_tree.specs.View.{tree_of, assembly_of};
+ghost use Rattle.ioa_tree.specs.Compositions as spec;
 
-use ioa_syntax::{Assembly, Declaration};
+use ioa_tree::{Assembly, Declaration};
 
 /// The composition of this name, or the last one where no name is given.
 pub(crate) fn picked<'a>(

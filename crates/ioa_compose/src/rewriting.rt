@@ -3,16 +3,16 @@
 
 ghost use Rattle.std.specs.Prelude.{◌≡◌, ◌++◌, ◌∷◌, [], true, Some, IfOk, map, if◌then◌else◌};
 ghost use Rattle.std.specs.Option.{option_map};
-ghost use Rattle.ioa_syntax.specs.Tree.{assign, truth, seq, stop};
-ghost use Rattle.ioa_syntax.specs.View.{name_of, expr_of, field_of, entry_of, variable_of, stmt_of, stmts_of, transition_of, automaton_of, crash_of};
-ghost use Rattle.ioa_syntax.specs.WellFormed.{is_input};
+ghost use Rattle.ioa_tree.specs.Tree.{assign, truth, seq, stop};
+ghost use Rattle.ioa_tree.specs.View.{name_of, expr_of, field_of, entry_of, variable_of, stmt_of, stmts_of, transition_of, automaton_of, crash_of};
+ghost use Rattle.ioa_tree.specs.WellFormed.{is_input};
 ghost use Rattle.ioa_compose.specs.Rewriting as spec;
 
 use crate::copies::{
     copied_entries, copied_expression, copied_fields, copied_name, copied_option, copied_proposals,
     copied_statements, copied_variables,
 };
-use ioa_syntax::{
+use ioa_tree::{
     Arm, Automaton, Crash, Entry, Expression, Field, Infix, Kind, Name, Statement, Transition,
     Variable,
 };

@@ -1,17 +1,17 @@
 ghost use Rattle.std.specs.Prelude.{◌≡◌, ◌≤◌, [], Some, None, map, length, take, IfSome, IfNone};
 ghost use Rattle.ioa_value.specs.Plain.{plain};
-ghost use Rattle.ioa_syntax.specs.Tree.{FieldTree};
-ghost use Rattle.ioa_syntax.specs.View.{field_of, automaton_of};
-ghost use Rattle.ioa_syntax.specs.Answers.{Suits};
-ghost use Rattle.ioa_syntax.specs.Meaning.{values_of, nothing_known, over};
-ghost use Rattle.ioa_syntax.specs.Instances.{Fit, field_names, formal_values, state_of};
-ghost use Rattle.ioa_syntax.specs.WellFormed.{context_of, held, variable_fields};
+ghost use Rattle.ioa_tree.specs.Tree.{FieldTree};
+ghost use Rattle.ioa_tree.specs.View.{field_of, automaton_of};
+ghost use Rattle.ioa_tree.specs.Answers.{Suits};
+ghost use Rattle.ioa_tree.specs.Meaning.{values_of, nothing_known, over};
+ghost use Rattle.ioa_tree.specs.Instances.{Fit, field_names, formal_values, state_of};
+ghost use Rattle.ioa_tree.specs.WellFormed.{context_of, held, variable_fields};
 ghost use Rattle.ioa_compose.specs.Held.{member_of};
 ghost use Rattle.ioa_compose.specs.Questions.{first_of};
 ghost use Rattle.ioa_compose.specs.Scopes.{context, environment};
 
 use crate::member::Member;
-use ioa_syntax::{Field, Variable};
+use ioa_tree::{Field, Variable};
 use ioa_value::{Types, Value};
 
 /// What has a name in a source and a value where an expression is evaluated.
@@ -23,7 +23,7 @@ pub(crate) trait Named {
 }
 
 impl Named for Field {
-    ghost use Rattle.ioa_syntax.specs.View.{field_of};
+    ghost use Rattle.ioa_tree.specs.View.{field_of};
 
     ghost tree = { field_of };
 
@@ -33,7 +33,7 @@ impl Named for Field {
 }
 
 impl Named for Variable {
-    ghost use Rattle.ioa_syntax.specs.View.{field_of};
+    ghost use Rattle.ioa_tree.specs.View.{field_of};
 
     ghost tree = { λ v. field_of v.field };
 

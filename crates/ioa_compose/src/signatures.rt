@@ -2,16 +2,16 @@ ghost use Rattle.std.specs.Prelude.{◌≡◌, List, [], true, map, IfOk};
 ghost use Rattle.std.specs.List.{AllZip};
 ghost use Rattle.ioa_value.specs.Actions as actions;
 ghost use Rattle.ioa_value.specs.Table.{AreTypes};
-ghost use Rattle.ioa_syntax.specs.declared.tree.Kind.TheVariants.{Input};
-ghost use Rattle.ioa_syntax.specs.View.{name_of};
-ghost use Rattle.ioa_syntax.specs.Instances.{Fit};
-ghost use Rattle.ioa_syntax.specs.WellFormed.{automaton_fine};
+ghost use Rattle.ioa_tree.specs.declared.tree.Kind.TheVariants.{Input};
+ghost use Rattle.ioa_tree.specs.View.{name_of};
+ghost use Rattle.ioa_tree.specs.Instances.{Fit};
+ghost use Rattle.ioa_tree.specs.WellFormed.{automaton_fine};
 ghost use Rattle.ioa_compose.specs.Bindings.{plain_in, instance_in, AllSound, AllStartable};
 ghost use Rattle.ioa_compose.specs.Clashes.{IsSignatureOf, signed_of, signature_of};
 
 use crate::binding::Binding;
 use crate::domains::positions;
-use ioa_syntax::{Kind, Name};
+use ioa_tree::{Kind, Name};
 use ioa_value::{OutOfMemory, Position, Types};
 use std::alloc::Global;
 

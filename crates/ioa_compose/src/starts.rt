@@ -2,12 +2,12 @@ ghost use Rattle.std.specs.Prelude.{◌≡◌, ◌++◌, [], true, map, length, 
 ghost use Rattle.std.specs.List.{AllZip};
 ghost use Rattle.ioa_value.specs.Plain.{plain};
 ghost use Rattle.ioa_value.specs.Table.{AreTypes};
-ghost use Rattle.ioa_syntax.specs.Types as named;
-ghost use Rattle.ioa_syntax.specs.View.{name_of, field_of, variable_of, crash_of, automaton_of};
-ghost use Rattle.ioa_syntax.specs.Meaning.{values_of};
-ghost use Rattle.ioa_syntax.specs.Instances.{Fit, field_names};
-ghost use Rattle.ioa_syntax.specs.Instances as instances;
-ghost use Rattle.ioa_syntax.specs.WellFormed.{start_fine, is_type};
+ghost use Rattle.ioa_tree.specs.Types as named;
+ghost use Rattle.ioa_tree.specs.View.{name_of, field_of, variable_of, crash_of, automaton_of};
+ghost use Rattle.ioa_tree.specs.Meaning.{values_of};
+ghost use Rattle.ioa_tree.specs.Instances.{Fit, field_names};
+ghost use Rattle.ioa_tree.specs.Instances as instances;
+ghost use Rattle.ioa_tree.specs.WellFormed.{start_fine, is_type};
 ghost use Rattle.ioa_compose.specs.Bindings.{value_in, values_in, plain_in, instance_in, host_in, IsStarted, IsStartable, AllStartable};
 ghost use Rattle.ioa_compose.specs.Refusals.{FaultsAt, FaultsIn, reason_of};
 ghost use Rattle.ioa_compose.specs.Held.{member_of};
@@ -20,7 +20,8 @@ use crate::evaluate::evaluate;
 use crate::member::Member;
 use crate::rewriting::rewritten;
 use crate::scope::Scope;
-use ioa_syntax::{Crash, Name, Refusal, Variable};
+use ioa_syntax::Refusal;
+use ioa_tree::{Crash, Name, Variable};
 use ioa_value::{Fault, OutOfMemory, Types, Value, copies, first};
 use std::alloc::Global;
 

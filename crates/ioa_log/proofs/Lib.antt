@@ -14,6 +14,3 @@ pub mod Monitored
 pub mod Accepting
 pub mod Breaking
 pub mod FirstBroken
-pub mod JudgingExamples
-pub mod BreakingExamples
-pub mod LogExamples

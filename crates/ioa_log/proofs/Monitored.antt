@@ -4,13 +4,13 @@ use Rattle.std.specs.List.{list_any}
 use Rattle.ioa_value.specs.Actions.{Act}
 use Rattle.ioa_value.specs.Plain.{Val}
 use Rattle.ioa_value.proofs.ItemLemmas.{drop_item}
-use Rattle.ioa_syntax.specs.Components.{Component, has}
-use Rattle.ioa_syntax.specs.Steps.{Moved, next, not_an_action, not_enabled, fault, step}
-use Rattle.ioa_syntax.specs.Runs.{Ending, not_enabled_at, fault_at}
-use Rattle.ioa_syntax.specs.Tree.{EntryTree}
-use Rattle.ioa_syntax.specs.Compositions.{Composed, Member, components_of, starts_of}
-use Rattle.ioa_syntax.specs.Likes.{AllLike, AllRelated, MovesLike}
-use Rattle.ioa_syntax.proofs.Simulation.{step_like}
+use Rattle.ioa_tree.specs.Components.{Component, has}
+use Rattle.ioa_tree.specs.Steps.{Moved, next, not_an_action, not_enabled, fault, step}
+use Rattle.ioa_tree.specs.Runs.{Ending, not_enabled_at, fault_at}
+use Rattle.ioa_tree.specs.Tree.{EntryTree}
+use Rattle.ioa_tree.specs.Compositions.{Composed, Member, components_of, starts_of}
+use Rattle.ioa_tree.specs.Likes.{AllLike, AllRelated, MovesLike}
+use Rattle.ioa_tree.proofs.Simulation.{step_like}
 use Rattle.ioa_compile.specs.Programs.{Prog, EntryCode, MemberCode}
 use Rattle.ioa_compile.specs.Tables.{tabled, start_states}
 use Rattle.ioa_compile.specs.Correspondence.{CorrespondsAt}

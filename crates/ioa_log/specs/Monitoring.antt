@@ -2,12 +2,12 @@
 use Rattle.std.specs.Prelude.{◌≡◌, ℕ, ◌+◌, ◌==◌, ◌||◌, Bool, true, false, not, if◌then◌else◌, List, [], ◌∷◌, length, Option, Some, None}
 use Rattle.std.specs.List.{list_any}
 use Rattle.ioa_value.specs.Actions.{Act}
-use Rattle.ioa_syntax.specs.Components.{Component, has}
-use Rattle.ioa_syntax.specs.Steps.{Moved, next, not_an_action, not_enabled, fault, step}
-use Rattle.ioa_syntax.specs.Runs.{Ending, not_an_action_at, not_enabled_at, fault_at}
-use Rattle.ioa_syntax.specs.Compositions.{Composed}
-use Rattle.ioa_syntax.specs.declared.tree.Kind.{Kind}
-use Rattle.ioa_syntax.specs.declared.tree.Kind.TheVariants.{Input, Output, Internal}
+use Rattle.ioa_tree.specs.Components.{Component, has}
+use Rattle.ioa_tree.specs.Steps.{Moved, next, not_an_action, not_enabled, fault, step}
+use Rattle.ioa_tree.specs.Runs.{Ending, not_an_action_at, not_enabled_at, fault_at}
+use Rattle.ioa_tree.specs.Compositions.{Composed}
+use Rattle.ioa_tree.specs.declared.tree.Kind.{Kind}
+use Rattle.ioa_tree.specs.declared.tree.Kind.TheVariants.{Input, Output, Internal}
 use Rattle.ioa_compile.specs.Programs.{Prog}
 use Rattle.ioa_system.specs.declared.answer.Step.{Step}
 use Rattle.ioa_log.specs.declared.monitors.MonitorErr.{MonitorErr}

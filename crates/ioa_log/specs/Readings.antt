@@ -3,7 +3,7 @@ use Rattle.std.specs.Prelude.{◌≡◌, ℕ, List, [], ◌∷◌, ◌++◌, All
 use Rattle.std.specs.String.{string_bytes}
 use Rattle.ioa_value.specs.Actions.{Act}
 use Rattle.ioa_value.specs.Lists.{ReadsLines, ReadsList, first_line}
-use Rattle.ioa_syntax.specs.Runs.{run}
+use Rattle.ioa_tree.specs.Runs.{run}
 use Rattle.ioa_compile.specs.Programs.{Prog}
 use Rattle.ioa_compile.specs.Tables.{start_states, tabled}
 use Rattle.ioa_system.specs.Answers.{ending_of}

@@ -3,7 +3,7 @@
 ghost use Rattle.std.specs.Prelude.{◌≡◌, ◌||◌, false, IfErr, OnOk, map, None};
 ghost use Rattle.std.specs.List.{list_any};
 ghost use Rattle.ioa_value.specs.Actions.{act_of};
-ghost use Rattle.ioa_syntax.specs.Compositions.{Composed, components_of, starts_of};
+ghost use Rattle.ioa_tree.specs.Compositions.{Composed, components_of, starts_of};
 ghost use Rattle.ioa_compile.specs.Means.{Means};
 ghost use Rattle.ioa_compile.specs.Shown.{entry_code, member_code};
 ghost use Rattle.ioa_compile.specs.Tables.{start_states, tabled};
@@ -11,8 +11,8 @@ ghost use Rattle.ioa_log.specs.Monitoring as spec;
 ghost use Rattle.ioa_log.specs.Monitoring.{IsRefusal, hides_in, monitored};
 
 use ioa_compile::{Entry, Member, Program};
-use ioa_syntax::Kind;
 use ioa_system::{Step, System};
+use ioa_tree::Kind;
 use ioa_value::{Action, OutOfMemory};
 use std::alloc::Global;
 use thiserror::Error;

@@ -5,11 +5,12 @@ use Rattle.ioa_value.specs.declared.terminal.Terminal.TheVariants as terminals
 use Rattle.ioa_lex.specs.Tokens as tokens
 use Rattle.ioa_lex.specs.Tokens.{Tok, terminal}
 use Rattle.ioa_value.specs.Actions.{Name}
-use Rattle.ioa_syntax.specs.Tree.{Expr, Stmt, assign, choose, Stmts, stop, seq, Arms, no_arm, arm}
-use Rattle.ioa_syntax.specs.Depth.{depth_of, deepest, deep_stmt, deep_stmts, deep_arms, stmt_depth, stmts_depth, arms_depth}
+use Rattle.ioa_tree.specs.Tree.{Expr, Stmt, assign, choose, Stmts, stop, seq, Arms, no_arm, arm}
+use Rattle.ioa_tree.specs.Depth.{depth_of, deepest, deep_stmt, deep_stmts, deep_arms, stmt_depth, stmts_depth, arms_depth}
 use Rattle.ioa_syntax.specs.Grammar as grammar
 use Rattle.ioa_syntax.specs.Grammar.{Language, SameHead, ◌▹◌, word, called, nothing, empty, each_after, perhaps, SpellsExpr, SpellsStmt, SpellsStmts, SpellsMore, SpellsAfter, SpellsArms}
-use Rattle.ioa_syntax.specs.Reading.{Reader, built, sees, sees_name, is_name, is_terminal, sees_statement, same_terminal, sign, ◌▸◌, terminal_at, operator_of, expression, sequence, choices, assignment, in_sequence, introduced, an_arm, more_arms, choice}
+use Rattle.ioa_syntax.specs.Reading.{Reader, built, sees, sees_name, is_name, is_terminal, sees_statement, same_terminal, sign, ◌▸◌, terminal_at, operator_of, expression, assignment, in_sequence, introduced, an_arm, more_arms, choice}
+use Rattle.ioa_tree.specs.Rows.{sequence, choices}
 use Rattle.ioa_syntax.proofs.Outcomes.{LooksAhead, head_alike}
 use Rattle.ioa_syntax.proofs.Exact.{ExactFor, any, deep_as, before, then, built_as, said_as}
 use Rattle.ioa_syntax.proofs.Singles.{sign_for, name_for, introduced_exact}

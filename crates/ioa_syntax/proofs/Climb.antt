@@ -2,11 +2,11 @@
 use Rattle.std.proofs.Common.{◌≡◌, ℕ, suc, ◌+◌, ◌-◌, ◌<◌, ◌≤◌, List, refl, ap, sym, ◌∙◌, arith, Some, Ok, Err, true, nat_le}
 use Rattle.std.proofs.lemmas.Bool.Decides.{nat_tests}
 use Rattle.ioa_lex.specs.Tokens.{Tok}
-use Rattle.ioa_syntax.specs.declared.tree.Infix.{Infix}
+use Rattle.ioa_tree.specs.declared.tree.Infix.{Infix}
 use Rattle.ioa_value.specs.declared.terminal.Terminal.TheVariants as terminals
 use Rattle.ioa_value.specs.Actions.{Name}
-use Rattle.ioa_syntax.specs.Tree.{Expr, binary, select}
-use Rattle.ioa_syntax.specs.Depth.{depth_of}
+use Rattle.ioa_tree.specs.Tree.{Expr, binary, select}
+use Rattle.ioa_tree.specs.Depth.{depth_of}
 use Rattle.ioa_syntax.specs.Operators.{right_of, after_of}
 use Rattle.ioa_syntax.specs.declared.fault.Fault.{Fault}
 use Rattle.ioa_syntax.specs.declared.fault.ReadError.{ReadError}

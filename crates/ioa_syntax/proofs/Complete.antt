@@ -3,11 +3,11 @@ use Rattle.std.proofs.Common.{◌≡◌, ℕ, zero, suc, ◌+◌, ◌<◌, ◌�
 use Rattle.std.proofs.lemmas.Bool.Decides.{nat_tests}
 use Rattle.ioa_lex.specs.Tokens.{Tok}
 use Rattle.ioa_value.specs.declared.operator.Op.{Op}
-use Rattle.ioa_syntax.specs.declared.tree.Infix.{Infix}
-use Rattle.ioa_syntax.specs.declared.tree.Infix.TheVariants.{Operator}
+use Rattle.ioa_tree.specs.declared.tree.Infix.{Infix}
+use Rattle.ioa_tree.specs.declared.tree.Infix.TheVariants.{Operator}
 use Rattle.ioa_syntax.specs.declared.fault.Fault.TheVariants.{Syntax}
-use Rattle.ioa_syntax.specs.Tree.{Expr, number, truth, named, parens, prefix, binary, empty, make, select}
-use Rattle.ioa_syntax.specs.Depth.{depth_of}
+use Rattle.ioa_tree.specs.Tree.{Expr, number, truth, named, parens, prefix, binary, empty, make, select}
+use Rattle.ioa_tree.specs.Depth.{depth_of}
 use Rattle.ioa_syntax.specs.Operators.{stands_before, stands_between, level_of, left_of, right_of, after_of, tightest}
 use Rattle.ioa_syntax.specs.Grammar.{SpellsExpr}
 use Rattle.ioa_syntax.specs.Reading.{climb, expr, rest, first, operand, operator_at, operator_in, prefix_at, terminal_at, allowed, Outcome, Reader, ◌>>=◌, built}

@@ -2,8 +2,8 @@
 use Rattle.std.proofs.Common.{◌≡◌, ◌<◌, ◌⊎◌, inl, inr, Bool, true, false, List, [], ◌∷◌, ◌++◌, length, refl, arith}
 use Rattle.ioa_value.specs.declared.terminal.Terminal.TheVariants as terminals
 use Rattle.ioa_lex.specs.Tokens.{Tok, terminal}
-use Rattle.ioa_syntax.specs.Tree.{AutomatonTree, CompositionTree, InvariantTree, TypeTree, DeclarationTree, declared_type, automaton, composition, invariant}
-use Rattle.ioa_syntax.specs.Depth.{deepest, deep}
+use Rattle.ioa_tree.specs.Tree.{AutomatonTree, CompositionTree, InvariantTree, TypeTree, DeclarationTree, declared_type, automaton, composition, invariant}
+use Rattle.ioa_tree.specs.Depth.{deepest, deep}
 use Rattle.ioa_syntax.specs.Grammar as grammar
 use Rattle.ioa_syntax.specs.Grammar.{Language, ◌▹◌, word, empty, SpellsAutomaton, SpellsComposition, SpellsType, SpellsInvariant, SpellsDeclaration}
 use Rattle.ioa_syntax.specs.Reading.{built, sees, sees_name, sees_statement, sees_kind, kind_at, kind_of, terminal_at, same_terminal, operator_of, an_automaton, many, a_type, composed, an_invariant, machine, about_machines, declaration}

@@ -2,8 +2,8 @@
 use Rattle.std.proofs.Common.{◌≡◌, ℕ, zero, suc, ◌<◌, ◌≤◌, inl, List, [], ◌∷◌, ◌++◌, length, sym, subst, arith, Ok, Err}
 use Rattle.ioa_lex.specs.Tokens.{Tok}
 use Rattle.ioa_syntax.specs.declared.fault.Fault.TheVariants.{Syntax, TooDeep}
-use Rattle.ioa_syntax.specs.Tree.{Expr}
-use Rattle.ioa_syntax.specs.Depth.{depth_of}
+use Rattle.ioa_tree.specs.Tree.{Expr}
+use Rattle.ioa_tree.specs.Depth.{depth_of}
 use Rattle.ioa_syntax.specs.Operators.{tightest}
 use Rattle.ioa_syntax.specs.Grammar.{SameHead, SpellsExpr}
 use Rattle.ioa_syntax.specs.Reading.{expr, operand, expression}

@@ -2,7 +2,7 @@
 use Rattle.std.proofs.Common.{◌≡◌, ℕ, ◌<◌, List, ◌∷◌, ◌++◌, length, refl, sym, subst, arith, false}
 use Rattle.ioa_value.specs.declared.terminal.Terminal.TheVariants as terminals
 use Rattle.ioa_lex.specs.Tokens.{Tok, terminal}
-use Rattle.ioa_syntax.specs.Depth.{deepest}
+use Rattle.ioa_tree.specs.Depth.{deepest}
 use Rattle.ioa_syntax.specs.Grammar as grammar
 use Rattle.ioa_syntax.specs.Grammar.{Language, ◌▹◌, word}
 use Rattle.ioa_syntax.specs.Reading.{Reader, sees, same_terminal, closing, enclosed, braced}

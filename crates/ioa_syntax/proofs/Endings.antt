@@ -3,7 +3,7 @@ use Rattle.std.proofs.Common.{◌≡◌, ℕ, ◌<◌, ◌≤◌, List, ◌∷�
 use Rattle.ioa_value.specs.declared.terminal.Terminal.{Terminal}
 use Rattle.ioa_value.specs.declared.terminal.Terminal.TheVariants as terminals
 use Rattle.ioa_lex.specs.Tokens.{Tok, terminal}
-use Rattle.ioa_syntax.specs.declared.tree.Infix.{Infix}
+use Rattle.ioa_tree.specs.declared.tree.Infix.{Infix}
 use Rattle.ioa_syntax.specs.Operators.{stands_between, level_of, operator_word, tightest}
 use Rattle.ioa_syntax.specs.Reading.{operator_in, operator_of, sees, same_terminal, terminal_at}
 use Rattle.ioa_syntax.proofs.Binding.{level_bounds, word_found}

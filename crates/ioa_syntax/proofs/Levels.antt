@@ -4,8 +4,8 @@ use Rattle.ioa_value.specs.declared.terminal.Terminal.{Terminal}
 use Rattle.ioa_value.specs.declared.terminal.Terminal.TheVariants as terminals
 use Rattle.ioa_lex.specs.Tokens.{Tok}
 use Rattle.ioa_syntax.specs.declared.fault.Fault.TheVariants.{Syntax, TooDeep}
-use Rattle.ioa_syntax.specs.Tree.{Stmt, Stmts}
-use Rattle.ioa_syntax.specs.Depth.{deep_stmts, stmts_depth}
+use Rattle.ioa_tree.specs.Tree.{Stmt, Stmts}
+use Rattle.ioa_tree.specs.Depth.{deep_stmts, stmts_depth}
 use Rattle.ioa_syntax.specs.Grammar.{Language, SameHead, SpellsStmt, SpellsStmts, SpellsAfter}
 use Rattle.ioa_syntax.specs.Reading.{Reader, rest, sees, after, a_name, assignment, in_sequence, introduced, choice, no_statement, statement, statements}
 use Rattle.ioa_syntax.proofs.Outcomes.{AtMost, Shrinks, Alike, refused_at}

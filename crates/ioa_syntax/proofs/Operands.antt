@@ -6,9 +6,9 @@ use Rattle.ioa_lex.specs.Tokens as tokens
 use Rattle.ioa_lex.specs.Tokens.{Tok, terminal}
 use Rattle.ioa_value.specs.Actions.{Name}
 use Rattle.ioa_syntax.specs.declared.fault.Fault.TheVariants.{TooDeep}
-use Rattle.ioa_syntax.specs.declared.tree.Infix.TheVariants.{Operator}
-use Rattle.ioa_syntax.specs.Tree.{Expr, number, truth, named, parens, prefix, binary, empty, make, select}
-use Rattle.ioa_syntax.specs.Depth.{depth_of}
+use Rattle.ioa_tree.specs.declared.tree.Infix.TheVariants.{Operator}
+use Rattle.ioa_tree.specs.Tree.{Expr, number, truth, named, parens, prefix, binary, empty, make, select}
+use Rattle.ioa_tree.specs.Depth.{depth_of}
 use Rattle.ioa_syntax.specs.Operators.{tightest}
 use Rattle.ioa_syntax.specs.Grammar.{SameHead, SpellsExpr}
 use Rattle.ioa_syntax.specs.Reading.{Outcome, Reader, ◌>>=◌, rest, sees, same_terminal, a_name, after, primary, fields_from, operand, prefix_at}

@@ -11,10 +11,10 @@ use Rattle.ioa_lex.specs.Tokens as tokens
 use Rattle.ioa_lex.specs.Tokens.{Tok, terminal, tokens_shown, kind_shown}
 use Rattle.ioa_lex.specs.Spaced.{IsToken}
 use Rattle.ioa_lex.specs.Lexing.{Lexes, Covers, Piece, blank, comment, token, Writes, placed, tokens_after, line_after}
-use Rattle.ioa_syntax.specs.declared.tree.Declaration.{Declaration}
-use Rattle.ioa_syntax.specs.Tree.{SourceTree}
-use Rattle.ioa_syntax.specs.Depth.{source_deep}
-use Rattle.ioa_syntax.specs.View.{tree_of}
+use Rattle.ioa_tree.specs.declared.tree.Declaration.{Declaration}
+use Rattle.ioa_tree.specs.Tree.{SourceTree}
+use Rattle.ioa_tree.specs.Depth.{source_deep}
+use Rattle.ioa_tree.specs.View.{tree_of}
 use Rattle.ioa_syntax.specs.Grammar.{SpellsSource, IsDeadEnd}
 use Rattle.ioa_syntax.specs.Source.{AreTokens, IsSource, plain, line_of, BeginsTooDeep, IsRefused}
 use Rattle.ioa_syntax.specs.Reading as reading

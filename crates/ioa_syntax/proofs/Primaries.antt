@@ -7,14 +7,15 @@ use Rattle.ioa_lex.specs.Tokens.{Tok, terminal}
 use Rattle.ioa_value.specs.Actions.{Name}
 use Rattle.ioa_value.specs.declared.operator.Op.{Op}
 use Rattle.ioa_value.specs.declared.operator.Op.TheVariants.{Len, Head, Tail, Last, Init, Append, At, Member, Without}
-use Rattle.ioa_syntax.specs.declared.tree.Infix.{Infix}
-use Rattle.ioa_syntax.specs.declared.tree.Infix.TheVariants.{Operator, And, Or, Implies}
-use Rattle.ioa_syntax.specs.Tree.{Expr, number, truth, named, parens, prefix, binary, empty, make, select, Exprs, no_expr, also}
-use Rattle.ioa_syntax.specs.Depth.{depth_of, exprs_depth, deepest}
+use Rattle.ioa_tree.specs.declared.tree.Infix.{Infix}
+use Rattle.ioa_tree.specs.declared.tree.Infix.TheVariants.{Operator, And, Or, Implies}
+use Rattle.ioa_tree.specs.Tree.{Expr, number, truth, named, parens, prefix, binary, empty, make, select, Exprs, no_expr, also}
+use Rattle.ioa_tree.specs.Depth.{depth_of, exprs_depth, deepest}
 use Rattle.ioa_syntax.specs.Operators.{encloses, stands_around, operator_word}
 use Rattle.ioa_syntax.specs.Grammar as grammar
 use Rattle.ioa_syntax.specs.Grammar.{Language, SpellsExpr, SpellsExprs, SpellsOthers, ◌▹◌, word, called, nothing, enclosed}
-use Rattle.ioa_syntax.specs.Reading.{Reader, built, closing, separated, rest, Start, with_number, with_truth, with_name, with_open, with_empty, with_operator, start_at, start_in, start_of, around_start, around_of, around_one, around_two, around, an_empty, in_order, after_name, operand_after, primary, sees, prefix_at, prefix_of, terminal_at, same_terminal}
+use Rattle.ioa_syntax.specs.Reading.{Reader, built, closing, separated, rest, Start, with_number, with_truth, with_name, with_open, with_empty, with_operator, start_at, start_in, start_of, around_start, around_of, around_one, around_two, around, an_empty, after_name, operand_after, primary, sees, prefix_at, prefix_of, terminal_at, same_terminal}
+use Rattle.ioa_tree.specs.Rows.{in_order}
 use Rattle.ioa_syntax.proofs.Outcomes.{LooksAhead, head_alike}
 use Rattle.ioa_syntax.proofs.Exact.{ExactFor, any, before, then, said_as, read_as}
 use Rattle.ioa_syntax.proofs.Singles.{sign_for, name_for, absent_exact, Absent, introduced_exact, begun_exact}
@@ -135,10 +136,6 @@ deep_inside (make n es) = omega arith
 deep_inside (select e n) = omega arith
 
 -- ---- the fields of a tuple, as a list
-
-abbrev pub listed : Exprs → List Expr
-listed no_expr = []
-listed (also e es) = e ∷ listed es
 
 ordered : (es : Exprs) → in_order (listed es) ≡ es
 ordered no_expr = refl

@@ -7,10 +7,10 @@ use Rattle.ioa_lex.specs.Tokens.{Tok, terminal}
 use Rattle.ioa_lex.specs.Lexing.{Lexes, is_blank}
 use Rattle.ioa_lex.specs.Spaced.{Spaced, IsToken, text_of}
 use Rattle.ioa_lex.proofs.SpacedLemmas.{spaced_lexes, spaced_append, spaced_one}
-use Rattle.ioa_syntax.specs.Tree.{Expr, number, truth, named, parens, prefix, binary, empty, make, select, Exprs, no_expr, also, FieldTree, ConstantTree, positive, negative, truth_literal, reference, PositionTree, typed, only, EntryTree, VariableTree, ProposalTree, Stmt, assign, choose, Stmts, stop, seq, Arms, no_arm, arm, TransitionTree, AutomatonTree, CrashTree, InstanceTree, CompositionTree, InvariantTree, FormTree, enumeration, tuple, sequence, TypeTree, DeclarationTree, declared_type, automaton, composition, invariant, SourceTree}
+use Rattle.ioa_tree.specs.Tree.{Expr, number, truth, named, parens, prefix, binary, empty, make, select, Exprs, no_expr, also, FieldTree, ConstantTree, positive, negative, truth_literal, reference, PositionTree, typed, only, EntryTree, VariableTree, ProposalTree, Stmt, assign, choose, Stmts, stop, seq, Arms, no_arm, arm, TransitionTree, AutomatonTree, CrashTree, InstanceTree, CompositionTree, InvariantTree, FormTree, enumeration, tuple, sequence, TypeTree, DeclarationTree, declared_type, automaton, composition, invariant, SourceTree}
 use Rattle.ioa_value.specs.declared.operator.Op.{Op}
-use Rattle.ioa_syntax.specs.declared.tree.Infix.{Infix}
-use Rattle.ioa_syntax.specs.declared.tree.Infix.TheVariants.{Operator}
+use Rattle.ioa_tree.specs.declared.tree.Infix.{Infix}
+use Rattle.ioa_tree.specs.declared.tree.Infix.TheVariants.{Operator}
 use Rattle.ioa_syntax.specs.Operators.{operator_word, left_of, right_of, tightest}
 use Rattle.ioa_syntax.specs.Grammar.{Language, ◌▹◌, single, word, called, nothing, optional, optional_list, flagged, each_after, perhaps, separated, terminated, many, enclosed, braced, kind_word, SpellsExpr, SpellsExprs, SpellsOthers, SpellsField, SpellsFields, SpellsConstant, SpellsPosition, SpellsPositions, SpellsEntry, SpellsVariable, SpellsProposal, SpellsStmt, SpellsStmts, SpellsMore, SpellsAfter, SpellsArms, SpellsTransition, SpellsAutomaton, SpellsArguments, SpellsCrash, SpellsInstance, SpellsInstances, SpellsHidden, SpellsComposition, SpellsForm, SpellsType, SpellsInvariant, SpellsDeclaration, SpellsSource}
 use Rattle.ioa_syntax.specs.Source.{AreTokens, IsSource, plain}

@@ -6,10 +6,10 @@ use Rattle.ioa_lex.specs.Tokens.{Tok, terminal}
 use Rattle.ioa_syntax.specs.declared.fault.Fault.TheVariants.{TooDeep}
 use Rattle.ioa_value.specs.declared.operator.Op.{Op}
 use Rattle.ioa_value.proofs.CompleteLemmas.{lt_of}
-use Rattle.ioa_syntax.specs.declared.tree.Infix.{Infix}
-use Rattle.ioa_syntax.specs.declared.tree.Infix.TheVariants.{Operator}
-use Rattle.ioa_syntax.specs.Tree.{Expr, prefix, binary}
-use Rattle.ioa_syntax.specs.Depth.{depth_of}
+use Rattle.ioa_tree.specs.declared.tree.Infix.{Infix}
+use Rattle.ioa_tree.specs.declared.tree.Infix.TheVariants.{Operator}
+use Rattle.ioa_tree.specs.Tree.{Expr, prefix, binary}
+use Rattle.ioa_tree.specs.Depth.{depth_of}
 use Rattle.ioa_syntax.specs.Operators.{stands_before, stands_between, level_of, left_of, right_of, after_of, tightest}
 use Rattle.ioa_syntax.specs.Grammar.{SpellsExpr}
 use Rattle.ioa_syntax.specs.Reading.{climb, climb_by, stop_by, expr, first, prefix_at, operand, operator_at, operator_in, terminal_at, allowed, rest, Outcome, Reader, ◌>>=◌, built}

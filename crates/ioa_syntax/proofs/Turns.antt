@@ -10,9 +10,9 @@ use Rattle.ioa_syntax.specs.declared.fault.ReadError.{ReadError}
 use Rattle.ioa_syntax.specs.declared.fault.ReadError.TheVariants as errors
 use Rattle.ioa_lex.specs.declared.refusal.Refusal.{Refusal}
 use Rattle.ioa_syntax.specs.declared.fault.Fault.TheVariants.{TooDeep}
-use Rattle.ioa_syntax.specs.declared.tree.Declaration.{Declaration}
-use Rattle.ioa_syntax.specs.Tree.{SourceTree}
-use Rattle.ioa_syntax.specs.View.{declaration_of, tree_of}
+use Rattle.ioa_tree.specs.declared.tree.Declaration.{Declaration}
+use Rattle.ioa_tree.specs.Tree.{SourceTree}
+use Rattle.ioa_tree.specs.View.{declaration_of, tree_of}
 use Rattle.ioa_syntax.specs.Reading.{Reader, Fails, items_from, many_from, sees, after, source_from, declared_by, declaration, refusal_of, RefusedBy, Refuses}
 
 map-push : {X Y : Type 0} (view : X → Y) (xs : List X) (x : X) → map view (xs ++ x ∷ []) ≡ map view xs ++ view x ∷ []

@@ -7,8 +7,8 @@ use Rattle.ioa_lex.specs.declared.refusal.Refusal.TheVariants as refusals
 use Rattle.ioa_lex.specs.Tokens.{Tok}
 use Rattle.ioa_syntax.specs.declared.fault.Fault.{Fault}
 use Rattle.ioa_syntax.specs.declared.fault.Fault.TheVariants.{Syntax, TooDeep}
-use Rattle.ioa_syntax.specs.Tree.{DeclarationTree, SourceTree}
-use Rattle.ioa_syntax.specs.Depth.{deep, source_deep}
+use Rattle.ioa_tree.specs.Tree.{DeclarationTree, SourceTree}
+use Rattle.ioa_tree.specs.Depth.{deep, source_deep}
 use Rattle.ioa_syntax.specs.Grammar.{SpellsSource, SpellsDeclaration, IsDeadEnd}
 use Rattle.ioa_syntax.specs.Reading.{Outcome, Reader, ◌>>=◌, many, many_from, declaration, source, source_from, declared_by, refusal_of}
 use Rattle.ioa_syntax.proofs.Outcomes.{bind_ok, ok_pair, Past, AtMost}

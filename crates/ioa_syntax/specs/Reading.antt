@@ -14,13 +14,14 @@ use Rattle.ioa_syntax.specs.declared.fault.Fault.{Fault}
 use Rattle.ioa_syntax.specs.declared.fault.Fault.TheVariants.{Syntax, TooDeep}
 use Rattle.ioa_syntax.specs.declared.fault.ReadError.{ReadError}
 use Rattle.ioa_syntax.specs.declared.fault.ReadError.TheVariants as errors
-use Rattle.ioa_syntax.specs.declared.tree.Kind.{Kind}
-use Rattle.ioa_syntax.specs.declared.tree.Kind.TheVariants as kinds
-use Rattle.ioa_syntax.specs.Tree as tree
-use Rattle.ioa_syntax.specs.Tree.{Expr, truth, named, parens, prefix, binary, make, select, Exprs, no_expr, also, FieldTree, ConstantTree, positive, negative, truth_literal, reference, PositionTree, typed, only, EntryTree, VariableTree, ProposalTree, Stmt, assign, choose, Stmts, stop, seq, Arms, no_arm, arm, TransitionTree, AutomatonTree, CrashTree, InstanceTree, CompositionTree, InvariantTree, FormTree, enumeration, tuple, TypeTree, DeclarationTree, declared_type, automaton, composition, invariant, SourceTree}
-use Rattle.ioa_syntax.specs.Depth.{depth_of}
-use Rattle.ioa_syntax.specs.declared.tree.Infix.{Infix}
-use Rattle.ioa_syntax.specs.declared.tree.Infix.TheVariants.{Operator}
+use Rattle.ioa_tree.specs.declared.tree.Kind.{Kind}
+use Rattle.ioa_tree.specs.declared.tree.Kind.TheVariants as kinds
+use Rattle.ioa_tree.specs.Tree as tree
+use Rattle.ioa_tree.specs.Tree.{Expr, truth, named, parens, prefix, binary, make, select, Exprs, no_expr, also, FieldTree, ConstantTree, positive, negative, truth_literal, reference, PositionTree, typed, only, EntryTree, VariableTree, ProposalTree, Stmt, assign, choose, Stmts, stop, seq, Arms, no_arm, arm, TransitionTree, AutomatonTree, CrashTree, InstanceTree, CompositionTree, InvariantTree, FormTree, enumeration, tuple, TypeTree, DeclarationTree, declared_type, automaton, composition, invariant, SourceTree}
+use Rattle.ioa_tree.specs.Rows.{in_order, sequence, choices}
+use Rattle.ioa_tree.specs.Depth.{depth_of}
+use Rattle.ioa_tree.specs.declared.tree.Infix.{Infix}
+use Rattle.ioa_tree.specs.declared.tree.Infix.TheVariants.{Operator}
 use Rattle.ioa_syntax.specs.Operators.{infixes, prefixes, enclosing, encloses, operator_word, level_of, right_of, after_of, tightest}
 
 abbrev pub Outcome : Type 0 → Type 0
@@ -260,11 +261,6 @@ around inner o ts = if encloses (Operator o) == 1 then around_one inner o ts els
 unfoldable pub an_empty : Reader Expr
 an_empty = built tree.empty (enclosed a_name)
 
--- expressions of a list in order
-abbrev pub in_order : List Expr → Exprs
-in_order [] = no_expr
-in_order (e ∷ es) = also e (in_order es)
-
 -- after a name: fields in parentheses make a tuple of the type of this name
 unfoldable pub after_name : Reader Expr → actions.Name → Reader Expr
 after_name inner n ts =
@@ -399,15 +395,6 @@ proposal depth = built (λ p. record { name = p.0; value = p.1.1 }) (a_name ▸ 
 
 unfoldable pub proposals : ℕ → Reader (List ProposalTree)
 proposals depth = separated terminals.Comma (proposal depth)
-
--- statements in sequence, and arms
-abbrev pub sequence : List Stmt → Stmts
-sequence [] = stop
-sequence (s ∷ ss) = seq s (sequence ss)
-
-abbrev pub choices : List (Expr × Stmts) → Arms
-choices [] = no_arm
-choices (c ∷ cs) = arm c.0 c.1 (choices cs)
 
 unfoldable pub assignment : ℕ → Reader Stmt
 assignment depth = built (λ p. assign p.0 p.1.1) (a_name ▸ (sign terminals.Becomes ▸ expression depth))

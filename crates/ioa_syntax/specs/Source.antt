@@ -7,8 +7,8 @@ use Rattle.ioa_lex.specs.Tokens.{Tok}
 use Rattle.ioa_lex.specs.Spaced.{IsToken}
 use Rattle.ioa_lex.specs.Lexing as lexing
 use Rattle.ioa_lex.specs.Lexing.{Lexes, line_after}
-use Rattle.ioa_syntax.specs.Tree.{DeclarationTree, SourceTree}
-use Rattle.ioa_syntax.specs.Depth.{deep, source_deep}
+use Rattle.ioa_tree.specs.Tree.{DeclarationTree, SourceTree}
+use Rattle.ioa_tree.specs.Depth.{deep, source_deep}
 use Rattle.ioa_syntax.specs.Grammar.{SpellsSource, IsDeadEnd}
 
 -- texts can hold each of the tokens: names are legal, and numbers not too large

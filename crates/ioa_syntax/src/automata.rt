@@ -5,15 +5,15 @@ ghost use Rattle.std.specs.Prelude.{◌≡◌};
 ghost use Rattle.ioa_lex.specs.Tokens.{tokens_shown};
 ghost use Rattle.ioa_syntax.specs.Reading as spec;
 ghost use Rattle.ioa_syntax.specs.Reading.{Reads};
-ghost use Rattle.ioa_syntax.specs.View.{automaton_of};
+ghost use Rattle.ioa_tree.specs.View.{automaton_of};
 
 use crate::cursor::Cursor;
 use crate::fault::ReadError;
 use crate::signatures::{entries, formals};
 use crate::states::states;
 use crate::transitions::transitions;
-use crate::tree::Automaton;
 use ioa_lex::Terminal;
+use ioa_tree::Automaton;
 
 /// What stands after the word `automaton`.
 #[tactic(auto, unfolding(crate::specs::Reading::an_automaton))]

@@ -4,16 +4,16 @@ ghost use Rattle.std.specs.Prelude.{◌≡◌, ◌≤◌, ◌<◌, ◌+◌, IfOk
 ghost use Rattle.ioa_lex.specs.Tokens.{tokens_shown};
 ghost use Rattle.ioa_syntax.specs.Reading as spec;
 ghost use Rattle.ioa_syntax.specs.Reading.{Reads};
-ghost use Rattle.ioa_syntax.specs.Depth.{exprs_depth};
-ghost use Rattle.ioa_syntax.specs.View.{expr_of, exprs_of, name_of};
+ghost use Rattle.ioa_tree.specs.Depth.{exprs_depth};
+ghost use Rattle.ioa_tree.specs.View.{expr_of, exprs_of, name_of};
 
 use crate::cursor::Cursor;
 use crate::expressions::expression;
 use crate::fault::{Fault, ReadError};
 use crate::measured::Measured;
 use crate::operators::encloses;
-use crate::tree::{Expression, Infix, Name};
 use ioa_lex::Terminal;
+use ioa_tree::{Expression, Infix, Name};
 use ioa_value::Op;
 
 /// The empty sequence of a type, after the word `empty`, which stands on this line.

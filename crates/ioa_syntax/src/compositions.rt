@@ -6,14 +6,14 @@ ghost use Rattle.std.specs.Option.{option_map};
 ghost use Rattle.ioa_lex.specs.Tokens.{tokens_shown};
 ghost use Rattle.ioa_syntax.specs.Reading as spec;
 ghost use Rattle.ioa_syntax.specs.Reading.{Reads};
-ghost use Rattle.ioa_syntax.specs.View.{name_of, expr_of, crash_of, instance_of, assembly_of};
+ghost use Rattle.ioa_tree.specs.View.{name_of, expr_of, crash_of, instance_of, assembly_of};
 
 use crate::cursor::Cursor;
 use crate::expressions::whole_expression;
 use crate::fault::ReadError;
-use crate::tree::{Assembly, Crash, Expression, Instance, Name};
 use crate::types::name_list;
 use ioa_lex::Terminal;
+use ioa_tree::{Assembly, Crash, Expression, Instance, Name};
 
 #[tactic(auto, unfolding(crate::specs::Reading::separated), using(crate::proofs::Turns::items_turn, crate::proofs::Turns::items_close, crate::proofs::Turns::items_fail, crate::proofs::Turns::items_spent))]
 fn argument_list(cursor: &mut Cursor<'_>) -> Result<Vec<Expression>, ReadError>

@@ -4,12 +4,11 @@ ghost use Rattle.std.specs.Prelude.{◌≡◌, length, MatchOption, List, [], �
 ghost use Rattle.ioa_lex.specs.Tokens.{tokens_shown, kind_shown};
 ghost use Rattle.ioa_syntax.specs.Reading as spec;
 ghost use Rattle.ioa_syntax.specs.Reading.{Reads};
-ghost use Rattle.ioa_syntax.specs.View.{name_of};
+ghost use Rattle.ioa_tree.specs.View.{name_of};
 
 use crate::fault::{Fault, ReadError};
-use crate::tree;
-use crate::tree::Name;
 use ioa_lex::{Kind, Terminal, Token};
+use ioa_tree::Name;
 use std::alloc::Global;
 use std::marker::Model;
 
@@ -41,13 +40,13 @@ fn same_terminal(a: Terminal, b: Terminal) -> bool
 }
 
 #[tactic(auto, unfolding(crate::specs::Reading::kind_of))]
-fn kind_of(terminal: Terminal) -> Option<tree::Kind>
+fn kind_of(terminal: Terminal) -> Option<ioa_tree::Kind>
     ensures { result ≡ spec.kind_of terminal }
 {
     match terminal {
-        Terminal::Input => Some(tree::Kind::Input),
-        Terminal::Output => Some(tree::Kind::Output),
-        Terminal::Internal => Some(tree::Kind::Internal),
+        Terminal::Input => Some(ioa_tree::Kind::Input),
+        Terminal::Output => Some(ioa_tree::Kind::Output),
+        Terminal::Internal => Some(ioa_tree::Kind::Internal),
         _ => None,
     }
 }
@@ -219,7 +218,7 @@ impl<'a> Cursor<'a> {
 
     /// Takes the word for a kind.
     #[tactic(auto, unfolding(crate::specs::Reading::a_kind, crate::specs::Reading::kind_at))]
-    pub fn kind(&mut self) -> Result<tree::Kind, ReadError>
+    pub fn kind(&mut self) -> Result<ioa_tree::Kind, ReadError>
         ensures { Reads (λ k. k) (spec.a_kind (tokens_shown self.old)) result (tokens_shown self.new) }
     {
         let Some(kind) = self.next_kind() else {
@@ -230,7 +229,7 @@ impl<'a> Cursor<'a> {
     }
 
     #[tactic(auto, unfolding(crate::specs::Reading::kind_at))]
-    fn next_kind(&self) -> Option<tree::Kind>
+    fn next_kind(&self) -> Option<ioa_tree::Kind>
         ensures { result ≡ spec.kind_at (tokens_shown self.now) }
     {
         kind_of(self.terminal()?)

@@ -4,15 +4,15 @@ ghost use Rattle.std.specs.Prelude.{◌≡◌, ◌≤◌, ◌<◌, ◌+◌, IfOk
 ghost use Rattle.ioa_lex.specs.Tokens.{tokens_shown};
 ghost use Rattle.ioa_syntax.specs.Reading as spec;
 ghost use Rattle.ioa_syntax.specs.Reading.{Reads};
-ghost use Rattle.ioa_syntax.specs.View.{expr_of};
+ghost use Rattle.ioa_tree.specs.View.{expr_of};
 
 use crate::calls::{after_name, around, empty, selected};
 use crate::cursor::Cursor;
 use crate::fault::{Fault, ReadError};
 use crate::measured::Measured;
 use crate::operators::{TIGHTEST, after_of, around_of, level_of, operator_of, prefix_of, right_of};
-use crate::tree::{Expression, Infix};
 use ioa_lex::{Kind, Terminal, Token};
+use ioa_tree::{Expression, Infix};
 use ioa_value::{LIMITS, Op};
 
 /// How deep expressions and statements may be.

@@ -5,13 +5,13 @@ ghost use Rattle.std.specs.Prelude.{◌≡◌};
 ghost use Rattle.ioa_lex.specs.Tokens.{tokens_shown};
 ghost use Rattle.ioa_syntax.specs.Reading as spec;
 ghost use Rattle.ioa_syntax.specs.Reading.{Reads};
-ghost use Rattle.ioa_syntax.specs.View.{invariant_of};
+ghost use Rattle.ioa_tree.specs.View.{invariant_of};
 
 use crate::cursor::Cursor;
 use crate::expressions::whole_expression;
 use crate::fault::ReadError;
-use crate::tree::Invariant;
 use ioa_lex::Terminal;
+use ioa_tree::Invariant;
 
 /// What stands after the word `invariant`, with or without a semicolon at its end.
 #[tactic(auto, unfolding(crate::specs::Reading::an_invariant, crate::specs::Reading::perhaps))]

@@ -1,26 +1,11 @@
-//! Laws of the grammar and of the meaning of trees. The functions do nothing: what they say is in their contracts.
+//! A law of the grammar. The function does nothing: what it says is in its contract.
 
 ghost use Rattle.std.specs.Prelude.{◌≡◌, List};
 ghost use Rattle.ioa_lex.specs.Tokens.{Tok};
-ghost use Rattle.ioa_syntax.specs.Tree.{SourceTree};
+ghost use Rattle.ioa_tree.specs.Tree.{SourceTree};
 ghost use Rattle.ioa_syntax.specs.Grammar.{SpellsSource};
-ghost use Rattle.ioa_syntax.specs.Answers.{ExpressionsAnswer, EffectsAnswer, StartsAnswer, ArgumentsAnswer};
 
 /// Tokens spell one source at most, of any depth.
 pub fn one_tree()
     ensures { (ts : List Tok) (t u : SourceTree) → SpellsSource t ts → SpellsSource u ts → t ≡ u }
-{}
-
-/// A well typed expression has a value of its type or a fault, and well typed statements leave a state of the same types
-/// or a fault.
-pub fn well_typed_answers()
-    ensures expressions { ExpressionsAnswer }
-    ensures effects { EffectsAnswer }
-{}
-
-/// Variables of a well formed automaton start with a value of their type or a fault, and arguments of a well formed
-/// component are one: never nothing.
-pub fn well_formed_starts()
-    ensures variables { StartsAnswer }
-    ensures arguments { ArgumentsAnswer }
 {}

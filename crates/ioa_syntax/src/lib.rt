@@ -1,4 +1,4 @@
-//! Trees of the language, its parser and its printer.
+//! The grammar: texts are read as trees, and trees are printed.
 #![tactic(auto)]
 
 mod automata;
@@ -13,23 +13,21 @@ mod measured;
 mod operators;
 mod parsing;
 mod printing;
-mod sameness;
 mod signatures;
 mod source;
 mod sources;
 mod statements;
 mod states;
 mod transitions;
-mod tree;
 mod types;
 
 pub use ioa_lex::Refusal;
-pub use laws::{one_tree, well_formed_starts, well_typed_answers};
+pub use ioa_tree::{
+    Arm, Assembly, Automaton, Constant, Crash, Declaration, Entry, Expression, Field, Infix,
+    Instance, Invariant, Kind, Name, Position, Proposal, Statement, Transition, TypeDeclaration,
+    TypeForm, Variable, well_formed_starts, well_typed_answers,
+};
+pub use laws::one_tree;
 pub use parsing::parse;
 pub use printing::print;
 pub use source::Source;
-pub use tree::{
-    Arm, Assembly, Automaton, Constant, Crash, Declaration, Entry, Expression, Field, Infix,
-    Instance, Invariant, Kind, Name, Position, Proposal, Statement, Transition, TypeDeclaration,
-    TypeForm, Variable,
-};

@@ -1,12 +1,12 @@
 //! Expressions with their depth.
 
 ghost use Rattle.std.specs.Prelude.{◌≡◌, ◌<◌, IfOk};
-ghost use Rattle.ioa_syntax.specs.Tree as spec;
-ghost use Rattle.ioa_syntax.specs.Tree.{truth, named, parens, prefix, binary, empty, make, select};
-ghost use Rattle.ioa_syntax.specs.Depth.{depth_of, exprs_depth};
-ghost use Rattle.ioa_syntax.specs.View.{expr_of, exprs_of, name_of};
+ghost use Rattle.ioa_tree.specs.Tree as spec;
+ghost use Rattle.ioa_tree.specs.Tree.{truth, named, parens, prefix, binary, empty, make, select};
+ghost use Rattle.ioa_tree.specs.Depth.{depth_of, exprs_depth};
+ghost use Rattle.ioa_tree.specs.View.{expr_of, exprs_of, name_of};
 
-use crate::tree::{Expression, Infix, Name};
+use ioa_tree::{Expression, Infix, Name};
 use ioa_value::Op;
 use std::alloc::{AllocError, Global};
 

@@ -4,8 +4,8 @@ ghost use Rattle.std.specs.Prelude.{◌≡◌, ◌<◌, find};
 ghost use Rattle.ioa_syntax.specs.Operators as spec;
 ghost use Rattle.ioa_syntax.specs.Reading as reading;
 
-use crate::tree::Infix;
 use ioa_lex::Terminal;
+use ioa_tree::Infix;
 use ioa_value::Op;
 
 /// How tightly operators bind, from the loosest on.

@@ -16,7 +16,7 @@ ghost use Rattle.ioa_lex.specs.Lexing.{Lexes};
 ghost use Rattle.ioa_syntax.specs.Grammar.{SpellsSource};
 ghost use Rattle.ioa_syntax.specs.Layout as spec;
 ghost use Rattle.ioa_syntax.specs.Source.{plain};
-ghost use Rattle.ioa_syntax.specs.View.{declaration_of, tree_of};
+ghost use Rattle.ioa_tree.specs.View.{declaration_of, tree_of};
 
 use crate::printing::automata::automaton;
 use crate::printing::compositions::composition;
@@ -24,8 +24,8 @@ use crate::printing::invariants::invariant;
 use crate::printing::types::type_declaration;
 use crate::printing::words::{SPACE, word};
 use crate::source::Source;
-use crate::tree::Declaration;
 use ioa_lex::Terminal;
+use ioa_tree::Declaration;
 use ioa_value::OutOfMemory;
 use std::alloc::Global;
 

@@ -4,12 +4,12 @@ ghost use Rattle.std.specs.Prelude.{◌≡◌, map};
 ghost use Rattle.ioa_lex.specs.Tokens.{tokens_shown};
 ghost use Rattle.ioa_syntax.specs.Reading as spec;
 ghost use Rattle.ioa_syntax.specs.Reading.{Reads};
-ghost use Rattle.ioa_syntax.specs.View.{field_of, constant_of, position_of, entry_of};
+ghost use Rattle.ioa_tree.specs.View.{field_of, constant_of, position_of, entry_of};
 
 use crate::cursor::Cursor;
 use crate::fault::ReadError;
-use crate::tree::{Constant, Entry, Field, Position};
 use ioa_lex::{Kind, Terminal, Token};
+use ioa_tree::{Constant, Entry, Field, Position};
 
 /// A name and its type.
 #[tactic(auto, unfolding(crate::specs::Reading::field))]

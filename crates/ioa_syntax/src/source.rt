@@ -1,12 +1,11 @@
 //! A source that was read.
 
 ghost use Rattle.std.specs.Prelude.{◌≡◌, ◌↔◌, IsTrue};
-ghost use Rattle.ioa_syntax.specs.Names.{LegalNames};
+ghost use Rattle.ioa_tree.specs.Names.{LegalNames};
 ghost use Rattle.ioa_syntax.specs.Source.{IsSource};
-ghost use Rattle.ioa_syntax.specs.View.{tree_of};
+ghost use Rattle.ioa_tree.specs.View.{tree_of};
 
-use crate::sameness::same_list;
-use crate::tree::Declaration;
+use ioa_tree::{Declaration, same_list};
 use std::marker::Model;
 
 /// A source: types, automata, compositions and invariants in order. Some text spells it, and no expression is more than 64 deep.
@@ -18,10 +17,10 @@ pub struct Source {
 impl Model for Source {
     ghost use Rattle.std.specs.Prelude.{List};
     ghost use Rattle.std.specs.Coded.{coded_list};
-    ghost use Rattle.ioa_syntax.specs.declared.tree.Declaration.{Declaration};
-    ghost use Rattle.ioa_syntax.specs.contracts.tree.Declaration as d;
+    ghost use Rattle.ioa_tree.specs.declared.tree.Declaration.{Declaration};
+    ghost use Rattle.ioa_tree.specs.contracts.tree.Declaration as d;
     ghost use Rattle.ioa_syntax.specs.Source.{IsSource};
-    ghost use Rattle.ioa_syntax.specs.View.{tree_of};
+    ghost use Rattle.ioa_tree.specs.View.{tree_of};
 
     ghost Value = { List Declaration };
 

@@ -5,16 +5,16 @@ ghost use Rattle.std.specs.Prelude.{◌≡◌};
 ghost use Rattle.ioa_lex.specs.Tokens.{tokens_shown};
 ghost use Rattle.ioa_syntax.specs.Reading as spec;
 ghost use Rattle.ioa_syntax.specs.Reading.{Reads, Gives, line_at, refusal_of};
-ghost use Rattle.ioa_syntax.specs.View.{declaration_of, tree_of};
+ghost use Rattle.ioa_tree.specs.View.{declaration_of, tree_of};
 
 use crate::automata::automaton;
 use crate::compositions::composition;
 use crate::cursor::Cursor;
 use crate::fault::{Fault, ReadError};
 use crate::invariants::invariant;
-use crate::tree::Declaration;
 use crate::types::type_declaration;
 use ioa_lex::{Refusal, Terminal, Token};
+use ioa_tree::Declaration;
 use std::alloc::Global;
 
 #[tactic(auto, unfolding(crate::specs::Reading::composed))]

@@ -5,13 +5,13 @@ ghost use Rattle.std.specs.Prelude.{◌≡◌, ◌∷◌, map};
 ghost use Rattle.ioa_lex.specs.Tokens.{tokens_shown};
 ghost use Rattle.ioa_syntax.specs.Reading as spec;
 ghost use Rattle.ioa_syntax.specs.Reading.{Reads, built, ◌▸◌};
-ghost use Rattle.ioa_syntax.specs.View.{stmt_of, stmts_of, arm_of};
+ghost use Rattle.ioa_tree.specs.View.{stmt_of, stmts_of, arm_of};
 
 use crate::cursor::Cursor;
 use crate::expressions::whole_expression;
 use crate::fault::ReadError;
-use crate::tree::{Arm, Statement};
 use ioa_lex::Terminal;
+use ioa_tree::{Arm, Statement};
 
 #[tactic(auto, unfolding(crate::specs::Reading::assignment))]
 fn assignment(cursor: &mut Cursor<'_>) -> Result<Statement, ReadError>

@@ -6,14 +6,14 @@ ghost use Rattle.std.specs.Option.{option_map};
 ghost use Rattle.ioa_lex.specs.Tokens.{tokens_shown};
 ghost use Rattle.ioa_syntax.specs.Reading as spec;
 ghost use Rattle.ioa_syntax.specs.Reading.{Reads};
-ghost use Rattle.ioa_syntax.specs.View.{expr_of, proposal_of, stmts_of, transition_of};
+ghost use Rattle.ioa_tree.specs.View.{expr_of, proposal_of, stmts_of, transition_of};
 
 use crate::cursor::Cursor;
 use crate::expressions::{MAX_DEPTH, whole_expression};
 use crate::fault::ReadError;
 use crate::statements::introduced;
-use crate::tree::{Expression, Proposal, Statement, Transition};
 use ioa_lex::Terminal;
+use ioa_tree::{Expression, Proposal, Statement, Transition};
 
 #[tactic(auto, unfolding(crate::specs::Reading::optional))]
 fn precondition(cursor: &mut Cursor<'_>) -> Result<Option<Expression>, ReadError>

@@ -4,13 +4,13 @@ ghost use Rattle.std.specs.Prelude.{◌≡◌, map};
 ghost use Rattle.ioa_lex.specs.Tokens.{tokens_shown};
 ghost use Rattle.ioa_syntax.specs.Reading as spec;
 ghost use Rattle.ioa_syntax.specs.Reading.{Reads};
-ghost use Rattle.ioa_syntax.specs.View.{name_of, field_of, type_form_of, type_declaration_of};
+ghost use Rattle.ioa_tree.specs.View.{name_of, field_of, type_form_of, type_declaration_of};
 
 use crate::cursor::Cursor;
 use crate::fault::ReadError;
 use crate::signatures::field_list;
-use crate::tree::{Field, Name, TypeDeclaration, TypeForm};
 use ioa_lex::Terminal;
+use ioa_tree::{Field, Name, TypeDeclaration, TypeForm};
 
 /// Names, with commas between them.
 #[tactic(auto, unfolding(crate::specs::Reading::separated), using(crate::proofs::Turns::items_turn, crate::proofs::Turns::items_close, crate::proofs::Turns::items_fail, crate::proofs::Turns::items_spent))]

@@ -8,9 +8,9 @@ use Rattle.std.proofs.lemmas.Option.{slice_get-get_or}
 use Rattle.ioa_value.proofs.ItemLemmas.{drop_item}
 use Rattle.ioa_value.specs.Actions.{Name, Act}
 use Rattle.ioa_value.specs.Plain.{Val}
-use Rattle.ioa_syntax.specs.Components.{Component, has, owns, is_local}
-use Rattle.ioa_syntax.specs.Runs.{is_external}
-use Rattle.ioa_syntax.specs.Steps.{participants_from, participants}
+use Rattle.ioa_tree.specs.Components.{Component, has, owns, is_local}
+use Rattle.ioa_tree.specs.Runs.{is_external}
+use Rattle.ioa_tree.specs.Steps.{participants_from, participants}
 use Rattle.ioa_compile.specs.Programs.{EntryCode, MemberCode}
 use Rattle.ioa_compile.specs.Shown.{entry_code}
 use Rattle.ioa_compile.specs.Tables.{entry_of, table_component}

@@ -3,14 +3,14 @@ use Rattle.std.proofs.Common.{◌≡◌, ℕ, ◌+◌, List, [], ◌∷◌, Opti
 use Rattle.std.proofs.lemmas.List.{length-map}
 use Rattle.ioa_value.specs.Actions.{Name, Act}
 use Rattle.ioa_value.specs.Plain.{Val}
-use Rattle.ioa_syntax.specs.Meaning.{Env}
-use Rattle.ioa_syntax.specs.Instances.{Instance, Fit, variable_names}
-use Rattle.ioa_syntax.specs.WellFormed.{variable_fields}
-use Rattle.ioa_syntax.specs.Runs.{Reached, run, trace, is_external}
-use Rattle.ioa_syntax.specs.Likes.{AllRelated, RunsLike}
-use Rattle.ioa_syntax.specs.Compositions.{Composed, Member, components_of, starts_of}
-use Rattle.ioa_syntax.specs.Hosts.{HostState, Host, Hosted, hosts_of, host_starts}
-use Rattle.ioa_syntax.proofs.Simulation.{run_like, trace_like, owner_like, participants_like, external_like}
+use Rattle.ioa_tree.specs.Meaning.{Env}
+use Rattle.ioa_tree.specs.Instances.{Instance, Fit, variable_names}
+use Rattle.ioa_tree.specs.WellFormed.{variable_fields}
+use Rattle.ioa_tree.specs.Runs.{Reached, run, trace, is_external}
+use Rattle.ioa_tree.specs.Likes.{AllRelated, RunsLike}
+use Rattle.ioa_tree.specs.Compositions.{Composed, Member, components_of, starts_of}
+use Rattle.ioa_tree.specs.Hosts.{HostState, Host, Hosted, hosts_of, host_starts}
+use Rattle.ioa_tree.proofs.Simulation.{run_like, trace_like, owner_like, participants_like, external_like}
 use Rattle.ioa_compose.specs.Stands.{StandsAt, Holds, HoldsAt, Stands}
 use Rattle.ioa_compose.proofs.RewrittenNames.{fit_length}
 use Rattle.ioa_compile.specs.Correspondence.{CorrespondsIn, CorrespondsAt}

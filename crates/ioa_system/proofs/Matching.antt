@@ -10,8 +10,8 @@ use Rattle.ioa_system.specs.Systems.{Slots, slots_of}
 use Rattle.std.specs.Str.{bytes_eq}
 use Rattle.ioa_code.specs.declared.instr.PartKind.TheVariants.{Pre, Eff}
 use Rattle.ioa_code.specs.Valid.{Part}
-use Rattle.ioa_syntax.specs.declared.tree.Kind.{Kind}
-use Rattle.ioa_syntax.specs.declared.tree.Kind.TheVariants.{Input, Output, Internal}
+use Rattle.ioa_tree.specs.declared.tree.Kind.{Kind}
+use Rattle.ioa_tree.specs.declared.tree.Kind.TheVariants.{Input, Output, Internal}
 use Rattle.ioa_compile.specs.Programs.{EntryCode, MemberCode}
 use Rattle.ioa_compile.specs.Tables.{position_types, is_in, entry_of, IsEntry, AreEntries, IsPartOf, HasPre}
 use Rattle.std.proofs.lemmas.Bool.{and_parts}

@@ -6,12 +6,12 @@ use Rattle.std.proofs.lemmas.Bool.Decides.{nat_tests}
 use Rattle.std.proofs.Math.Seq.{set-append_seam}
 use Rattle.std.proofs.lemmas.List.{append-nil, drop_all, map-set, take_all}
 use Rattle.std.proofs.lemmas.List.Elements.{All-head, All-tail}
-use Rattle.ioa_value.specs.declared.arithmetic.Fault.{Fault}
+use Rattle.ioa_arithmetic.specs.declared.arithmetic.Fault.{Fault}
 use Rattle.ioa_value.specs.Actions.{Act}
 use Rattle.ioa_value.proofs.ItemLemmas.{item_there}
-use Rattle.ioa_syntax.specs.declared.tree.Kind.{Kind}
-use Rattle.ioa_syntax.specs.Components.{Component, has, owns, is_kind, is_local}
-use Rattle.ioa_syntax.specs.Steps.{Moved, next, not_an_action, not_enabled, fault, Asked, free, owned, asked, with_state, then_rest, effect_on, effects, allowed, step, participants_from, participants}
+use Rattle.ioa_tree.specs.declared.tree.Kind.{Kind}
+use Rattle.ioa_tree.specs.Components.{Component, has, owns, is_kind, is_local}
+use Rattle.ioa_tree.specs.Steps.{Moved, next, not_an_action, not_enabled, fault, Asked, free, owned, asked, with_state, then_rest, effect_on, effects, allowed, step, participants_from, participants}
 use Rattle.ioa_system.specs.Participants.{taken, put_back, renumbered, all_back, step_from}
 
 -- ---- items and their places

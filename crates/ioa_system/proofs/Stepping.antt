@@ -5,13 +5,13 @@ use Rattle.std.specs.List.{list_any}
 use Rattle.std.proofs.lemmas.List.{append-nil, drop_all, get_or_default, get_or-set_same, length-map, length-set, map-append}
 use Rattle.std.proofs.lemmas.List.Elements.{All-append}
 use Rattle.ioa_value.proofs.ItemLemmas.{drop_item}
-use Rattle.ioa_value.specs.declared.arithmetic.Fault.{Fault}
+use Rattle.ioa_arithmetic.specs.declared.arithmetic.Fault.{Fault}
 use Rattle.ioa_value.specs.Actions.{Act}
 use Rattle.ioa_value.specs.Plain.{Val}
 use Rattle.ioa_node.specs.Drafts.{with_draft}
 use Rattle.ioa_node.specs.Nodes.{Node}
-use Rattle.ioa_syntax.specs.Components.{has, owns, is_local}
-use Rattle.ioa_syntax.specs.Steps.{Moved, next, fault, Asked, free, owned, asked, with_state, then_rest, effects, allowed, step}
+use Rattle.ioa_tree.specs.Components.{has, owns, is_local}
+use Rattle.ioa_tree.specs.Steps.{Moved, next, fault, Asked, free, owned, asked, with_state, then_rest, effects, allowed, step}
 use Rattle.ioa_compile.specs.Shown.{entry_code}
 use Rattle.ioa_compile.specs.Tables.{AreEntries, entry_of}
 use Rattle.ioa_system.specs.declared.answer.Step.{Step}

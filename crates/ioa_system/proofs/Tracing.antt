@@ -4,12 +4,12 @@ use Rattle.std.proofs.lemmas.List.{append-nil, take_all, take-append-le}
 use Rattle.std.proofs.lemmas.List.Elements.{filter-append}
 use Rattle.ioa_value.specs.Actions.{Name, Act}
 use Rattle.ioa_value.specs.Plain.{Val}
-use Rattle.ioa_syntax.specs.Components.{Component}
-use Rattle.ioa_syntax.specs.Steps.{Moved, next, not_an_action, not_enabled, fault, step}
-use Rattle.ioa_syntax.specs.Runs.{Ending, Reached, done, not_an_action_at, not_enabled_at, fault_at, after, run_from, run, is_external, trace}
-use Rattle.ioa_syntax.specs.Compositions.{Composed, components_of, starts_of}
-use Rattle.ioa_syntax.proofs.Simulation.{run_like, trace_like}
-use Rattle.ioa_syntax.specs.Likes.{RunsLike}
+use Rattle.ioa_tree.specs.Components.{Component}
+use Rattle.ioa_tree.specs.Steps.{Moved, next, not_an_action, not_enabled, fault, step}
+use Rattle.ioa_tree.specs.Runs.{Ending, Reached, done, not_an_action_at, not_enabled_at, fault_at, after, run_from, run, is_external, trace}
+use Rattle.ioa_tree.specs.Compositions.{Composed, components_of, starts_of}
+use Rattle.ioa_tree.proofs.Simulation.{run_like, trace_like}
+use Rattle.ioa_tree.specs.Likes.{RunsLike}
 use Rattle.ioa_compile.specs.Programs.{Prog}
 use Rattle.ioa_compile.specs.Tables.{tabled, start_states}
 use Rattle.ioa_compile.specs.Correspondence.{CorrespondsAt}

@@ -1,9 +1,9 @@
 -- Answers of steps and runs without the memory that holds them.
 use Rattle.std.specs.Prelude.{◌≡◌, ℕ, List}
 use Rattle.ioa_value.specs.Plain.{Val}
-use Rattle.ioa_syntax.specs.Steps as steps
-use Rattle.ioa_syntax.specs.Steps.{next, not_an_action, not_enabled, fault}
-use Rattle.ioa_syntax.specs.Runs.{Ending, done, not_an_action_at, not_enabled_at, fault_at}
+use Rattle.ioa_tree.specs.Steps as steps
+use Rattle.ioa_tree.specs.Steps.{next, not_an_action, not_enabled, fault}
+use Rattle.ioa_tree.specs.Runs.{Ending, done, not_an_action_at, not_enabled_at, fault_at}
 use Rattle.ioa_system.specs.declared.answer.Moved.{Moved}
 use Rattle.ioa_system.specs.declared.answer.Step.{Step}
 use Rattle.ioa_system.specs.declared.answer.End.{End}

@@ -3,9 +3,9 @@ use Rattle.std.specs.Prelude.{◌≡◌, ◌<◌, ◌+◌, ℕ, List, [], ◌∷
 use Rattle.ioa_value.specs.Actions.{Act}
 use Rattle.ioa_value.specs.Plain.{Val}
 use Rattle.ioa_node.specs.Nodes.{Node}
-use Rattle.ioa_syntax.specs.Components.{Component, has}
-use Rattle.ioa_syntax.specs.Steps as steps
-use Rattle.ioa_syntax.specs.Steps.{participants}
+use Rattle.ioa_tree.specs.Components.{Component, has}
+use Rattle.ioa_tree.specs.Steps as steps
+use Rattle.ioa_tree.specs.Steps.{participants}
 use Rattle.ioa_compile.specs.Programs.{MemberCode}
 use Rattle.ioa_compile.specs.Shown.{entry_code, member_code}
 use Rattle.ioa_compile.specs.Tables.{AreEntries, entry_of, table_component}

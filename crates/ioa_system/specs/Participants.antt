@@ -1,8 +1,8 @@
 -- Steps from the participants' states alone.
 use Rattle.std.specs.Prelude.{ℕ, ◌≡◌, List, [], ◌∷◌, filter, filter_map, length, slice_get, slice_index, slice_set}
 use Rattle.ioa_value.specs.Actions.{Act}
-use Rattle.ioa_syntax.specs.Components.{Component, has}
-use Rattle.ioa_syntax.specs.Steps.{Moved, next, not_an_action, not_enabled, fault, participants, step}
+use Rattle.ioa_tree.specs.Components.{Component, has}
+use Rattle.ioa_tree.specs.Steps.{Moved, next, not_an_action, not_enabled, fault, participants, step}
 
 -- the items of these numbers
 abbrev pub taken : {X : Type 0} → List ℕ → List X → List X

@@ -4,7 +4,7 @@ use Rattle.std.specs.Coded.{Coded, code_by, coded×, coded_list}
 use Rattle.ioa_value.specs.Actions.{Act}
 use Rattle.ioa_value.specs.Plain.{Val}
 use Rattle.ioa_value.specs.Coded.{coded_vals}
-use Rattle.ioa_syntax.specs.Runs.{Reached, run, trace}
+use Rattle.ioa_tree.specs.Runs.{Reached, run, trace}
 use Rattle.ioa_compile.specs.Programs.{Prog}
 use Rattle.ioa_compile.specs.Coded.{coded_prog}
 use Rattle.ioa_compile.specs.Tables.{tabled, start_states}

@@ -2,10 +2,10 @@
 use Rattle.std.specs.Prelude.{◌≡◌, List, map}
 use Rattle.ioa_value.specs.Actions.{Act, act_of}
 use Rattle.ioa_value.specs.Plain.{Val}
-use Rattle.ioa_syntax.specs.Runs.{Reached, run, trace}
-use Rattle.ioa_syntax.specs.Likes.{RunsLike}
-use Rattle.ioa_syntax.specs.Compositions.{Composed, components_of, starts_of}
-use Rattle.ioa_syntax.specs.Hosts.{Hosted, hosts_of, host_starts}
+use Rattle.ioa_tree.specs.Runs.{Reached, run, trace}
+use Rattle.ioa_tree.specs.Likes.{RunsLike}
+use Rattle.ioa_tree.specs.Compositions.{Composed, components_of, starts_of}
+use Rattle.ioa_tree.specs.Hosts.{Hosted, hosts_of, host_starts}
 use Rattle.ioa_compose.specs.Stands.{HoldsAt}
 use Rattle.ioa_compile.specs.Programs.{Prog}
 use Rattle.ioa_compile.specs.Tables.{tabled, start_states}

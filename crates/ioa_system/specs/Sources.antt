@@ -2,12 +2,12 @@
 use Rattle.std.specs.Prelude.{◌≡◌, ℕ, List}
 use Rattle.ioa_value.specs.Actions.{Act}
 use Rattle.ioa_value.specs.Plain.{Val}
-use Rattle.ioa_syntax.specs.Meaning.{Env}
-use Rattle.ioa_syntax.specs.Steps.{step, owner, participants}
-use Rattle.ioa_syntax.specs.Runs.{is_external, run, trace}
-use Rattle.ioa_syntax.specs.Likes.{AllRelated, MovesLike, RunsLike}
-use Rattle.ioa_syntax.specs.Compositions.{Composed, components_of}
-use Rattle.ioa_syntax.specs.Hosts.{Hosted, hosts_of, host_starts}
+use Rattle.ioa_tree.specs.Meaning.{Env}
+use Rattle.ioa_tree.specs.Steps.{step, owner, participants}
+use Rattle.ioa_tree.specs.Runs.{is_external, run, trace}
+use Rattle.ioa_tree.specs.Likes.{AllRelated, MovesLike, RunsLike}
+use Rattle.ioa_tree.specs.Compositions.{Composed, components_of}
+use Rattle.ioa_tree.specs.Hosts.{Hosted, hosts_of, host_starts}
 use Rattle.ioa_compose.specs.Stands.{HoldsAt, Stands}
 use Rattle.ioa_compile.specs.Programs.{Prog}
 use Rattle.ioa_compile.specs.Tables.{tabled, start_states}

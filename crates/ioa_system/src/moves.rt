@@ -3,7 +3,7 @@ ghost use Rattle.ioa_value.specs.Plain.{Val};
 ghost use Rattle.ioa_value.specs.Actions.{act_of};
 ghost use Rattle.ioa_node.specs.Drafts.{standing, with_draft};
 ghost use Rattle.ioa_node.specs.Runs.{left_by};
-ghost use Rattle.ioa_syntax.specs.Steps as steps;
+ghost use Rattle.ioa_tree.specs.Steps as steps;
 ghost use Rattle.ioa_compile.specs.Shown.{entry_code, member_code};
 ghost use Rattle.ioa_compile.specs.Tables as tables;
 ghost use Rattle.ioa_compile.specs.Tables.{AreEntries, table_component, tabled};

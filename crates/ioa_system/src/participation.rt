@@ -3,9 +3,9 @@ ghost use Rattle.std.specs.List.{list_any};
 ghost use Rattle.std.specs.Str.{bytes_eq};
 ghost use Rattle.std.specs.String.{string_bytes};
 ghost use Rattle.ioa_value.specs.Actions.{act_of};
-ghost use Rattle.ioa_syntax.specs.Components as components;
-ghost use Rattle.ioa_syntax.specs.Runs as runs;
-ghost use Rattle.ioa_syntax.specs.Steps as steps;
+ghost use Rattle.ioa_tree.specs.Components as components;
+ghost use Rattle.ioa_tree.specs.Runs as runs;
+ghost use Rattle.ioa_tree.specs.Steps as steps;
 ghost use Rattle.ioa_compile.specs.Shown.{member_code};
 ghost use Rattle.ioa_compile.specs.Tables.{tabled};
 ghost use Rattle.ioa_system.specs.Found as found;
@@ -13,7 +13,7 @@ ghost use Rattle.ioa_system.specs.Found.{AreParticipants};
 
 use crate::entries::entry_of;
 use ioa_compile::{Entry, Member, Program};
-use ioa_syntax::Kind;
+use ioa_tree::Kind;
 use ioa_value::{Action, OutOfMemory};
 use std::alloc::Global;
 

@@ -1,7 +1,7 @@
 ghost use Rattle.std.specs.Prelude.{◌≡◌, IfOk, map};
 ghost use Rattle.ioa_value.specs.Actions.{act_of};
-ghost use Rattle.ioa_syntax.specs.Compositions.{Composed};
-ghost use Rattle.ioa_syntax.specs.Hosts.{Hosted};
+ghost use Rattle.ioa_tree.specs.Compositions.{Composed};
+ghost use Rattle.ioa_tree.specs.Hosts.{Hosted};
 ghost use Rattle.ioa_compose.specs.Stands.{Stands};
 ghost use Rattle.ioa_compile.specs.Means.{Means};
 ghost use Rattle.ioa_system.specs.Records.{IsTableRun, IsSourceRun, IsHostRun};

@@ -1,7 +1,7 @@
 ghost use Rattle.std.specs.Prelude.{◌≡◌, IfOk, OnErr, map};
 ghost use Rattle.ioa_value.specs.Actions.{act_of};
-ghost use Rattle.ioa_syntax.specs.Runs as runs;
-ghost use Rattle.ioa_syntax.specs.Steps as steps;
+ghost use Rattle.ioa_tree.specs.Runs as runs;
+ghost use Rattle.ioa_tree.specs.Steps as steps;
 ghost use Rattle.ioa_compile.specs.Shown.{member_code};
 ghost use Rattle.ioa_compile.specs.Tables.{start_states, tabled};
 ghost use Rattle.ioa_system.specs.Answers.{IfNext, KeepsUnlessNext, step_of};

@@ -31,7 +31,3 @@ pub mod NumberLemmas
 pub mod PlaceLemmas
 pub mod TypingLemmas
 pub mod OperandLemmas
-pub mod DivisionLemmas
-pub mod Examples
-pub mod SequenceExamples
-pub mod PositionExamples

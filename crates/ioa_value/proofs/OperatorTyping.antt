@@ -7,14 +7,14 @@ use Rattle.std.specs.Option.{option_map}
 use Rattle.std.proofs.lemmas.Bool.{false≢true, and_parts}
 use Rattle.std.proofs.lemmas.Bool.Decides.{nat_tests}
 use Rattle.std.proofs.lemmas.Option.{slice_get_within}
-use Rattle.ioa_value.specs.declared.arithmetic.Fault.{Fault}
-use Rattle.ioa_value.specs.declared.arithmetic.Fault.TheVariants.{Overflow, Empty, OutOfRange, Full}
+use Rattle.ioa_arithmetic.specs.declared.arithmetic.Fault.{Fault}
+use Rattle.ioa_arithmetic.specs.declared.arithmetic.Fault.TheVariants.{Overflow, Empty, OutOfRange, Full}
 use Rattle.ioa_value.specs.declared.operator.Op.{Op}
 use Rattle.ioa_value.specs.declared.operator.Op.TheVariants.{Neg, Add, Sub, Mul, Div, Mod, Lt, Le, Gt, Ge, Not, Eq, Ne, Len, Head, Tail, Last, Init, Append, At, Member, Without, Make, Field}
 use Rattle.ioa_value.specs.declared.operator.Class.{Class}
 use Rattle.ioa_value.specs.declared.operator.Class.TheVariants.{Negation, Arithmetic, Comparison, Denial, Equality, Size, Item, Shortening, Change, Index, Membership, Construction, Projection}
 use Rattle.ioa_value.specs.declared.value.Ty.{Ty}
-use Rattle.ioa_value.specs.Arithmetic.{fits, tested, quotient, remainder}
+use Rattle.ioa_arithmetic.specs.Arithmetic.{fits, tested, quotient, remainder}
 use Rattle.ioa_value.specs.Plain.{Val, Vals, truth, num, tuple, items, vals, listed}
 use Rattle.ioa_value.specs.Table.{Table, TupleField, Shape, truths, numbers, names, fields, sequence, shape_at, types_of, item_of, most_of, fields_of, item_type, capacity, field_types, AreTypes}
 use Rattle.ioa_value.specs.Typing.{of_fields, HasType, HaveTypes, own}

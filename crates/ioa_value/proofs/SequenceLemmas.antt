@@ -5,7 +5,7 @@ use Rattle.std.specs.List.{list_any, position_from, take-map, drop-map}
 use Rattle.std.specs.Option.{option_map}
 use Rattle.std.proofs.lemmas.Bool.Decides.{nat_tests}
 use Rattle.std.proofs.lemmas.List.{length-map, map-append}
-use Rattle.ioa_value.specs.declared.arithmetic.Fault.TheVariants.{Empty, Full}
+use Rattle.ioa_arithmetic.specs.declared.arithmetic.Fault.TheVariants.{Empty, Full}
 use Rattle.ioa_value.specs.declared.value.Value.{Value}
 use Rattle.ioa_value.specs.Plain.{Val, items, vals, plain, plain_all}
 use Rattle.ioa_value.specs.Same.{same}

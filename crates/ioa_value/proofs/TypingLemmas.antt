@@ -4,7 +4,7 @@ use Rattle.std.specs.Prelude.{nat_le, slice_get, slice_set}
 use Rattle.std.specs.Option.{option_map}
 use Rattle.std.proofs.lemmas.Bool.{false≢true, and_parts}
 use Rattle.ioa_value.specs.declared.value.Value.{Value}
-use Rattle.ioa_value.specs.Arithmetic.{fits}
+use Rattle.ioa_arithmetic.specs.Arithmetic.{fits}
 use Rattle.ioa_value.specs.Plain.{Val, Vals, truth, num, name, tuple, items, plain_all, count}
 use Rattle.ioa_value.specs.Table.{Table, TupleField, Shape, truths, numbers, fields, sequence, shape_at, types_of, AreTypes}
 use Rattle.ioa_value.specs.Typing.{is_name_of, of_fields, of_sequence, is_of, parts_are, items_are, HasType, HaveTypes, OwnTypes, own}

@@ -6,7 +6,7 @@ use Rattle.std.proofs.lemmas.Bool.{and_parts, false≢true}
 use Rattle.std.proofs.lemmas.Bool.Decides.{nat_tests}
 use Rattle.std.proofs.lemmas.List.Elements.{All-head, All-tail}
 use Rattle.ioa_value.specs.declared.value.Value.{Value}
-use Rattle.ioa_value.specs.Arithmetic.{fits}
+use Rattle.ioa_arithmetic.specs.Arithmetic.{fits}
 use Rattle.ioa_value.specs.Plain.{Val, Vals, truth, num, name, tuple, items, none, more, vals, count, plain, plain_all}
 use Rattle.ioa_value.specs.Table.{Table, shape_at, type_name, constant_name}
 use Rattle.ioa_value.specs.Typing.{is_of, parts_are, items_are}

@@ -1,4 +1,3 @@
-pub mod Arithmetic
 pub mod Plain
 pub mod Forms
 pub mod Widths

@@ -3,13 +3,13 @@ ghost use Rattle.ioa_value.specs.Plain.{plain, Val, num, truth};
 ghost use Rattle.ioa_value.specs.Operators as spec;
 ghost use Rattle.ioa_value.specs.Operators.{operate, arity, Takes, Stands, answer_of, of_number};
 
-use crate::arithmetic::{Fault, add, divide, modulo, multiply, negate, subtract};
 use crate::memory::OutOfMemory;
 use crate::operator::{Op, grows};
 use crate::sequences::{append, at, head, init, items_of, last, place_of, tail, taken, without};
 use crate::stack::{pop, pop_fields, pop_number, pop_sequence};
 use crate::types::Types;
 use crate::value::{Ty, Value, copies, same};
+use ioa_arithmetic::{Fault, add, divide, modulo, multiply, negate, subtract};
 use std::alloc::Global;
 
 /// The operator's value, or its fault. It asks that the operands are the operator's.

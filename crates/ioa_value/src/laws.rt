@@ -1,7 +1,6 @@
 //! What follows from the definitions alone.
 
-ghost use Rattle.std.specs.Prelude.{◌≡◌, ◌≢◌, ◌↔◌, ◌⊎◌, ℕ, ◌<◌, ℤ, pos, ◌+ℤ◌, ◌*ℤ◌, unsigned_abs, true, List, All, length, Some, IsTrue};
-ghost use Rattle.std.specs.Int.{int_div_euclid, int_rem_euclid};
+ghost use Rattle.std.specs.Prelude.{◌≡◌, ◌↔◌, ◌⊎◌, ℕ, ◌<◌, true, List, All, length, Some, IsTrue};
 ghost use Rattle.ioa_value.specs.Positions.{Domain, IsDomain, all_meet, all_take};
 ghost use Rattle.ioa_value.specs.Plain.{Val};
 ghost use Rattle.ioa_value.specs.Table.{Table, AreTypes};
@@ -59,13 +58,6 @@ pub fn operators_are_typed()
 /// Two values are equal as computed exactly where they are equal.
 pub fn same_is_equal()
     ensures { (v w : Val) → IsTrue (same v w) ↔ (v ≡ w) }
-{}
-
-/// A number is the divisor times the Euclidean quotient, and the remainder, which is not negative and less than the divisor's
-/// absolute value.
-pub fn quotient_and_remainder()
-    ensures sum { (a b : ℤ) → b ≢ pos 0 → a ≡ (int_div_euclid a b *ℤ b) +ℤ int_rem_euclid a b }
-    ensures rest { (a b : ℤ) → b ≢ pos 0 → (r : ℕ) × (int_rem_euclid a b ≡ pos r) × (r < unsigned_abs b) }
 {}
 
 /// Of positions with declared types and well typed constants: two lists meet exactly where some values may stand in both.

@@ -3,7 +3,6 @@
 
 mod action;
 mod application;
-mod arithmetic;
 mod declarations;
 mod initial;
 mod laws;
@@ -28,12 +27,12 @@ mod writing;
 
 pub use action::Action;
 pub use application::{apply, apply_last};
-pub use arithmetic::Fault;
 pub use declarations::Declarations;
 pub use initial::first;
+pub use ioa_arithmetic::{Fault, quotient_and_remainder};
 pub use laws::{
     first_is_typed, list_or_bad_line, no_bad_line, one_action, one_bad_line, one_list,
-    operators_are_typed, positions_meet, quotient_and_remainder, same_is_equal, written_is_read,
+    operators_are_typed, positions_meet, same_is_equal, written_is_read,
 };
 pub use limits::{LIMITS, Limits};
 pub use listing::{is_skipped, read_list};

@@ -2,7 +2,7 @@ ghost use Rattle.std.specs.Prelude.{◌≡◌, ℤ, ◌<◌, ℕ, All, Some, Non
 ghost use Rattle.std.specs.Option.{option_map};
 ghost use Rattle.std.specs.Str.{bytes_eq};
 ghost use Rattle.ioa_value.specs.Plain.{number as number_of_type, plain, plain_all, num as plain_num, none};
-ghost use Rattle.ioa_value.specs.Arithmetic.{fits};
+ghost use Rattle.ioa_arithmetic.specs.Arithmetic.{fits};
 ghost use Rattle.ioa_value.specs.Table.{AreTypes, Shape, type_name};
 ghost use Rattle.ioa_value.specs.Shapes.{shape};
 ghost use Rattle.ioa_value.specs.Reads.{SpellsNumber};

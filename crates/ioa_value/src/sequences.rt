@@ -8,13 +8,13 @@ ghost use Rattle.ioa_value.specs.Table.{capacity as most_items};
 ghost use Rattle.ioa_value.specs.Same.{same as are_same};
 ghost use Rattle.ioa_value.specs.Sequences.{last_item, all_but_first, all_but_last, item_at, without_first};
 ghost use Rattle.ioa_value.specs.Operators.{answer_of, of_item, of_items, gives, faults};
-ghost use Rattle.ioa_value.specs.declared.arithmetic.Fault.TheVariants.{Empty, OutOfRange, Full};
+ghost use Rattle.ioa_arithmetic.specs.declared.arithmetic.Fault.TheVariants.{Empty, OutOfRange, Full};
 
-use crate::arithmetic::Fault;
 use crate::memory::OutOfMemory;
 use crate::parts::capacity;
 use crate::types::Types;
 use crate::value::{Ty, Value, same};
+use ioa_arithmetic::Fault;
 
 /// The items of a sequence, which the value is.
 pub(crate) fn items_of(sequence: &Value) -> &[Value]

@@ -3,7 +3,7 @@ ghost use Rattle.ioa_value.specs.Plain.{plain, plain_all, count};
 ghost use Rattle.ioa_value.specs.Table.{shape_at, types_of};
 ghost use Rattle.ioa_value.specs.Shapes.{tuple_field};
 ghost use Rattle.ioa_value.specs.Typing.{is_of, parts_are, items_are, is_name_of as has_name, of_fields, of_sequence};
-ghost use Rattle.ioa_value.specs.Arithmetic.{fits};
+ghost use Rattle.ioa_arithmetic.specs.Arithmetic.{fits};
 
 use crate::types::{Field, Form, Types};
 use crate::value::{Ty, Value};

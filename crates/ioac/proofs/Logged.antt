@@ -9,9 +9,9 @@ use Rattle.ioa_value.specs.declared.action.Action.{Action}
 use Rattle.ioa_value.specs.Actions.{Act, act_of}
 use Rattle.ioa_value.specs.Plain.{Val}
 use Rattle.ioa_value.specs.Table.{Table}
-use Rattle.ioa_syntax.specs.Compositions.{Composed, components_of, starts_of}
-use Rattle.ioa_syntax.specs.Hosts.{Hosted, hosts_of, host_starts, first_broken_host}
-use Rattle.ioa_syntax.specs.Runs.{Ending, Reached, after, not_an_action_at, run, trace}
+use Rattle.ioa_tree.specs.Compositions.{Composed, components_of, starts_of}
+use Rattle.ioa_tree.specs.Hosts.{Hosted, hosts_of, host_starts, first_broken_host}
+use Rattle.ioa_tree.specs.Runs.{Ending, Reached, after, not_an_action_at, run, trace}
 use Rattle.ioa_system.specs.declared.answer.End.{End}
 use Rattle.ioa_system.specs.declared.answer.Step.{Step}
 use Rattle.ioa_system.specs.declared.log.Log.{Log}

@@ -8,10 +8,10 @@ use Rattle.ioa_value.specs.Lists as lists
 use Rattle.ioa_value.specs.Table.{Table}
 use Rattle.ioa_lex.specs.declared.refusal.Refusal.{Refusal}
 use Rattle.ioa_lex.specs.declared.refusal.Refusal.TheVariants as refusals
-use Rattle.ioa_syntax.specs.Tree.{SourceTree, CompositionTree}
-use Rattle.ioa_syntax.specs.WellFormed.{WellFormed}
-use Rattle.ioa_syntax.specs.Compositions.{Composed, picked, components_of, starts_of}
-use Rattle.ioa_syntax.specs.Hosts.{Hosted, IsHosted, hosts_of, host_starts}
+use Rattle.ioa_tree.specs.Tree.{SourceTree, CompositionTree}
+use Rattle.ioa_tree.specs.WellFormed.{WellFormed}
+use Rattle.ioa_tree.specs.Compositions.{Composed, picked, components_of, starts_of}
+use Rattle.ioa_tree.specs.Hosts.{Hosted, IsHosted, hosts_of, host_starts}
 use Rattle.ioa_compose.specs.Refusals as compositions
 use Rattle.ioa_compile.specs.Means.{Means}
 use Rattle.ioa_compile.specs.Programs.{Prog}

@@ -2,9 +2,9 @@
 use Rattle.std.specs.Prelude.{◌≡◌, ℕ, ◌⊎◌, ◌++◌, ◌∷◌, [], List, Option, take, codes}
 use Rattle.std.specs.Io.KnownBytes.{Appends, Keeps}
 use Rattle.ioa_lex.specs.declared.refusal.Refusal.TheVariants as refusals
-use Rattle.ioa_syntax.specs.Tree.{SourceTree}
+use Rattle.ioa_tree.specs.Tree.{SourceTree}
 use Rattle.ioa_syntax.specs.Source as texts
-use Rattle.ioa_syntax.specs.WellFormed.{WellFormed}
+use Rattle.ioa_tree.specs.WellFormed.{WellFormed}
 use Rattle.ioac.specs.declared.failure.Failure.{Failure}
 use Rattle.ioac.specs.Headline.{Spells}
 use Rattle.ioac.specs.Failing.{IsDeviceErr, IsIllFormed, IsLeft}

@@ -5,11 +5,11 @@ use Rattle.ioa_value.specs.Actions.{Name}
 use Rattle.ioa_value.specs.Lists as lists
 use Rattle.ioa_lex.specs.declared.refusal.Refusal.{Refusal}
 use Rattle.ioa_lex.specs.declared.refusal.Refusal.TheVariants as refusals
-use Rattle.ioa_syntax.specs.Tree.{SourceTree, CompositionTree}
+use Rattle.ioa_tree.specs.Tree.{SourceTree, CompositionTree}
 use Rattle.ioa_syntax.specs.Source as texts
-use Rattle.ioa_syntax.specs.WellFormed.{WellFormed}
-use Rattle.ioa_syntax.specs.Compositions.{picked}
-use Rattle.ioa_syntax.specs.Hosts.{Hosted, hosts_of, host_starts}
+use Rattle.ioa_tree.specs.WellFormed.{WellFormed}
+use Rattle.ioa_tree.specs.Compositions.{picked}
+use Rattle.ioa_tree.specs.Hosts.{Hosted, hosts_of, host_starts}
 use Rattle.ioa_check.specs.Reasons.{in_source}
 use Rattle.ioa_compose.specs.Refusals as compositions
 use Rattle.ioa_system.specs.Logs.{Logged}

@@ -4,13 +4,13 @@ use Rattle.std.specs.Prelude.{◌≡◌, ℕ, List, Option, Some}
 use Rattle.ioa_value.specs.Actions.{Name}
 use Rattle.ioa_lex.specs.Tokens.{Tok}
 use Rattle.ioa_lex.specs.Lexing.{Lexes}
-use Rattle.ioa_syntax.specs.Tree.{SourceTree, CompositionTree}
+use Rattle.ioa_tree.specs.Tree.{SourceTree, CompositionTree}
 use Rattle.ioa_syntax.specs.Source.{plain}
 use Rattle.ioa_syntax.specs.Grammar.{SpellsSource}
-use Rattle.ioa_syntax.specs.WellFormed.{WellFormed}
-use Rattle.ioa_syntax.specs.Compositions.{picked}
-use Rattle.ioa_syntax.specs.Hosts.{Hosted, IsHosted, hosts_of, host_starts}
-use Rattle.ioa_syntax.specs.Runs.{Ending}
+use Rattle.ioa_tree.specs.WellFormed.{WellFormed}
+use Rattle.ioa_tree.specs.Compositions.{picked}
+use Rattle.ioa_tree.specs.Hosts.{Hosted, IsHosted, hosts_of, host_starts}
+use Rattle.ioa_tree.specs.Runs.{Ending}
 use Rattle.ioa_log.specs.Replays.{Replays}
 use Rattle.ioac.specs.Logs.{ReplaysLog, FindsInLog, Found, Monitors}
 

@@ -5,12 +5,12 @@ use Rattle.std.specs.Io.KnownBytes.{Appends}
 use Rattle.std.specs.List.{list_any}
 use Rattle.std.specs.Option.{option_map_or}
 use Rattle.ioa_value.specs.Actions.{Act}
-use Rattle.ioa_syntax.specs.declared.tree.Kind.TheVariants.{Internal}
-use Rattle.ioa_syntax.specs.Components.{Component}
-use Rattle.ioa_syntax.specs.Hosts.{HostState, Hosted, hosts_of, host_starts, host_instances, first_broken_host}
-use Rattle.ioa_syntax.specs.Invariants.{Broken}
-use Rattle.ioa_syntax.specs.Meaning.{Env}
-use Rattle.ioa_syntax.specs.Runs.{Ending, run}
+use Rattle.ioa_tree.specs.declared.tree.Kind.TheVariants.{Internal}
+use Rattle.ioa_tree.specs.Components.{Component}
+use Rattle.ioa_tree.specs.Hosts.{HostState, Hosted, hosts_of, host_starts, host_instances, first_broken_host}
+use Rattle.ioa_tree.specs.Invariants.{Broken}
+use Rattle.ioa_tree.specs.Meaning.{Env}
+use Rattle.ioa_tree.specs.Runs.{Ending, run}
 use Rattle.ioa_compose.specs.Stands.{has_kind}
 use Rattle.ioa_system.specs.Answers.{ending_of}
 use Rattle.ioa_system.specs.Endings.{ending_text}

@@ -1,6 +1,6 @@
 -- Programs that do what hosts do.
-use Rattle.ioa_syntax.specs.Compositions.{Composed}
-use Rattle.ioa_syntax.specs.Hosts.{Hosted}
+use Rattle.ioa_tree.specs.Compositions.{Composed}
+use Rattle.ioa_tree.specs.Hosts.{Hosted}
 use Rattle.ioa_compose.specs.Stands.{Stands}
 use Rattle.ioa_compile.specs.Means.{Means}
 use Rattle.ioa_compile.specs.Programs.{Prog}

@@ -1,7 +1,7 @@
 -- The exit statuses: their numbers, and which one a run has.
 use Rattle.std.specs.Prelude.{ℕ, Option, Some, None}
 use Rattle.ioa_lex.specs.declared.refusal.Refusal.{Refusal}
-use Rattle.ioa_syntax.specs.Runs.{Ending, done, not_an_action_at, not_enabled_at, fault_at}
+use Rattle.ioa_tree.specs.Runs.{Ending, done, not_an_action_at, not_enabled_at, fault_at}
 use Rattle.ioa_log.specs.declared.failure.LogErr.{LogErr}
 use Rattle.ioac.specs.declared.failure.Failure.{Failure}
 use Rattle.ioac.specs.declared.status.Status.{Status}

@@ -1,6 +1,6 @@
 ghost use Rattle.std.specs.Prelude.{IfOk, IfErr};
 ghost use Rattle.std.specs.Option.{option_copied};
-ghost use Rattle.ioa_syntax.specs.Hosts.{Hosted};
+ghost use Rattle.ioa_tree.specs.Hosts.{Hosted};
 ghost use Rattle.ioa_compose.specs.Held.{composed_of};
 ghost use Rattle.ioa_compose.specs.Stands.{Stands};
 ghost use Rattle.ioac.specs.Failing.{IsRefusedSource};

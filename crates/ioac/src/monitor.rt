@@ -2,7 +2,7 @@ ghost use Rattle.std.specs.Prelude.{◌≡◌, ◌⊎◌, IfOk, IfErr, IfSome, m
 ghost use Rattle.std.specs.Option.{option_copied};
 ghost use Rattle.std.specs.String.{string_bytes};
 ghost use Rattle.ioa_value.specs.Actions.{act_of};
-ghost use Rattle.ioa_syntax.specs.Hosts.{Hosted, hosts_of, host_starts};
+ghost use Rattle.ioa_tree.specs.Hosts.{Hosted, hosts_of, host_starts};
 ghost use Rattle.ioa_system.specs.Answers.{ending_of};
 ghost use Rattle.ioa_system.specs.Logs.{logged};
 ghost use Rattle.ioa_log.specs.Failing.{HasFailed};

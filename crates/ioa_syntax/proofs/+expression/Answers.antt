@@ -2,10 +2,11 @@ use Rattle.std.proofs.Common.{rules, arith, ◌≡◌, ◌≤◌, ◌+◌, ◌-�
 use Rattle.ioa_value.specs.declared.terminal.Terminal.TheVariants as terminals
 use Rattle.ioa_lex.specs.Tokens.{tokens_shown}
 use Rattle.ioa_syntax.specs.Reading as spec
-use Rattle.ioa_syntax.specs.Tree.{Expr, make}
-use Rattle.ioa_syntax.specs.View.{expr_of, exprs_of, name_of}
-use Rattle.ioa_syntax.specs.Depth.{depth_of, exprs_depth}
-use Rattle.ioa_syntax.proofs.Tuples.{tuple_read, in_order_shown, depth_pushed}
+use Rattle.ioa_tree.specs.Tree.{Expr, make}
+use Rattle.ioa_tree.specs.View.{expr_of, exprs_of, name_of}
+use Rattle.ioa_tree.specs.Depth.{depth_of, exprs_depth}
+use Rattle.ioa_syntax.proofs.Tuples.{tuple_read, depth_pushed}
+use Rattle.ioa_tree.proofs.ExpressionRows.{in_order_shown}
 use Rattle.ioa_syntax.proofs.Turns.{items_turn, items_close}
 use Rattle.ioa_syntax.proofs.Climb.{climb_turn, climb_fails, expr_starts}
 use Rattle.ioa_syntax.proofs.+expression.Goals as goal

@@ -2,8 +2,8 @@ use Rattle.std.proofs.Common.{◌≡◌, ◌≤◌, ◌+◌, ◌-◌, ◌*◌, m
 use Rattle.ioa_lex.specs.Tokens.{tokens_shown}
 use Rattle.ioa_value.specs.declared.terminal.Terminal.TheVariants as terminals
 use Rattle.ioa_syntax.specs.Reading.{climb, expr, items_from, always, separated}
-use Rattle.ioa_syntax.specs.Depth.{exprs_depth}
-use Rattle.ioa_syntax.specs.View.{expr_of, exprs_of}
+use Rattle.ioa_tree.specs.Depth.{exprs_depth}
+use Rattle.ioa_tree.specs.View.{expr_of, exprs_of}
 use Rattle.ioa_syntax.proofs.+expression.Given as goal
 
 abbrev pub decreases-expressions::climb : goal.decreases-expressions::climb

@@ -5,14 +5,14 @@ ghost use Rattle.std.specs.Option.{option_map};
 ghost use Rattle.std.specs.String.{string_bytes};
 ghost use Rattle.ioa_syntax.specs.Grammar.{kind_word};
 ghost use Rattle.ioa_syntax.specs.Layout as spec;
-ghost use Rattle.ioa_syntax.specs.View.{expr_of, variable_of, proposal_of, transition_of, automaton_of};
+ghost use Rattle.ioa_tree.specs.View.{expr_of, variable_of, proposal_of, transition_of, automaton_of};
 
 use crate::printing::expressions::expression;
 use crate::printing::signatures::{before, entries, field, formals, word_of};
 use crate::printing::statements::{binding, effect};
 use crate::printing::words::{LINE, SPACE, name, word};
-use crate::tree::{Automaton, Expression, Proposal, Transition, Variable};
 use ioa_lex::Terminal;
+use ioa_tree::{Automaton, Expression, Proposal, Transition, Variable};
 use ioa_value::OutOfMemory;
 
 /// Writes a word and an expression, or nothing.

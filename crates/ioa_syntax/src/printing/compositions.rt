@@ -4,14 +4,14 @@ ghost use Rattle.std.specs.Prelude.{◌≡◌, ◌++◌, ◌<◌, map, OnOk};
 ghost use Rattle.std.specs.Option.{option_map};
 ghost use Rattle.std.specs.String.{string_bytes};
 ghost use Rattle.ioa_syntax.specs.Layout as spec;
-ghost use Rattle.ioa_syntax.specs.View.{name_of, expr_of, crash_of, instance_of, assembly_of};
+ghost use Rattle.ioa_tree.specs.View.{name_of, expr_of, crash_of, instance_of, assembly_of};
 
 use crate::printing::expressions::{expression, more_expressions};
 use crate::printing::signatures::before;
 use crate::printing::types::name_list;
 use crate::printing::words::{LINE, SPACE, name, word};
-use crate::tree::{Assembly, Crash, Expression, Instance, Name};
 use ioa_lex::Terminal;
+use ioa_tree::{Assembly, Crash, Expression, Instance, Name};
 use ioa_value::OutOfMemory;
 
 fn arguments(text: &mut String, arguments: &[Expression]) -> Result<(), OutOfMemory>

@@ -3,17 +3,17 @@
 ghost use Rattle.std.specs.Prelude.{◌≡◌, ◌++◌, ◌<◌, map, OnOk};
 ghost use Rattle.std.specs.String.{string_bytes};
 ghost use Rattle.ioa_syntax.specs.Layout.{space, text_expr, text_more};
-ghost use Rattle.ioa_syntax.specs.View.{expr_of};
+ghost use Rattle.ioa_tree.specs.View.{expr_of};
 
 use crate::operators::{stands_around, word_of};
 use crate::printing::words::{SPACE, call, name, number, word};
-use crate::tree::{Expression, Infix};
 use ioa_lex::Terminal;
+use ioa_tree::{Expression, Infix};
 use ioa_value::OutOfMemory;
 
 /// Writes an expression.
 #[cycle(expression)]
-#[tactic(auto, using(crate::proofs::Tuples::expr_made))]
+#[tactic(auto, using(ioa_tree::proofs::ExpressionRows::expr_made))]
 pub(crate) fn expression(
     text: &mut String,
     expression: &Expression,

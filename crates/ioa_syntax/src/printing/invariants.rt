@@ -3,12 +3,12 @@
 ghost use Rattle.std.specs.Prelude.{◌≡◌, ◌++◌, OnOk};
 ghost use Rattle.std.specs.String.{string_bytes};
 ghost use Rattle.ioa_syntax.specs.Layout as spec;
-ghost use Rattle.ioa_syntax.specs.View.{invariant_of};
+ghost use Rattle.ioa_tree.specs.View.{invariant_of};
 
 use crate::printing::expressions::expression;
 use crate::printing::words::{LINE, SPACE, name, word};
-use crate::tree::Invariant;
 use ioa_lex::Terminal;
+use ioa_tree::Invariant;
 use ioa_value::OutOfMemory;
 
 /// Writes what stands after the word `invariant`.

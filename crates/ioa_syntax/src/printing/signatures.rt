@@ -4,11 +4,11 @@ ghost use Rattle.std.specs.Prelude.{◌≡◌, ◌++◌, ◌<◌, map, OnOk};
 ghost use Rattle.std.specs.String.{string_bytes};
 ghost use Rattle.ioa_syntax.specs.Grammar.{kind_word};
 ghost use Rattle.ioa_syntax.specs.Layout as spec;
-ghost use Rattle.ioa_syntax.specs.View.{field_of, constant_of, position_of, entry_of};
+ghost use Rattle.ioa_tree.specs.View.{field_of, constant_of, position_of, entry_of};
 
 use crate::printing::words::{LINE, SPACE, name, number, word};
-use crate::tree::{Constant, Entry, Field, Kind, Position};
 use ioa_lex::Terminal;
+use ioa_tree::{Constant, Entry, Field, Kind, Position};
 use ioa_value::OutOfMemory;
 
 pub(crate) fn word_of(kind: Kind) -> Terminal

@@ -3,12 +3,12 @@
 ghost use Rattle.std.specs.Prelude.{◌≡◌, ◌++◌, ◌<◌, OnOk};
 ghost use Rattle.std.specs.String.{string_bytes};
 ghost use Rattle.ioa_syntax.specs.Layout as spec;
-ghost use Rattle.ioa_syntax.specs.View.{expr_of, name_of, stmt_of, stmts_of, arms_of};
+ghost use Rattle.ioa_tree.specs.View.{expr_of, name_of, stmt_of, stmts_of, arms_of};
 
 use crate::printing::expressions::expression;
 use crate::printing::words::{LINE, SPACE, name, word};
-use crate::tree::{Arm, Expression, Name, Statement};
 use ioa_lex::Terminal;
+use ioa_tree::{Arm, Expression, Name, Statement};
 use ioa_value::OutOfMemory;
 
 /// Writes a name that an expression is bound to.
@@ -25,7 +25,7 @@ pub(crate) fn binding(
 }
 
 #[cycle(statement)]
-#[tactic(auto, using(crate::proofs::Sequences::stmt_chosen))]
+#[tactic(auto, using(ioa_tree::proofs::StatementRows::stmt_chosen))]
 fn statement(text: &mut String, statement: &Statement) -> Result<(), OutOfMemory>
     ensures { OnOk result (string_bytes text.new ≡ string_bytes text.old ++ spec.text_stmt (stmt_of statement.now)) }
 {

@@ -3,12 +3,12 @@
 ghost use Rattle.std.specs.Prelude.{◌≡◌, ◌++◌, ◌<◌, map, OnOk};
 ghost use Rattle.std.specs.String.{string_bytes};
 ghost use Rattle.ioa_syntax.specs.Layout as spec;
-ghost use Rattle.ioa_syntax.specs.View.{name_of, field_of, type_form_of, type_declaration_of};
+ghost use Rattle.ioa_tree.specs.View.{name_of, field_of, type_form_of, type_declaration_of};
 
 use crate::printing::signatures::field_list;
 use crate::printing::words::{LINE, SPACE, name, number, word};
-use crate::tree::{Field, Name, TypeDeclaration, TypeForm};
 use ioa_lex::Terminal;
+use ioa_tree::{Field, Name, TypeDeclaration, TypeForm};
 use ioa_value::OutOfMemory;
 
 fn more_names(text: &mut String, names: &[Name], end: char) -> Result<(), OutOfMemory>

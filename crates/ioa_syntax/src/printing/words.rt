@@ -3,10 +3,10 @@
 ghost use Rattle.std.specs.Prelude.{◌≡◌, ◌++◌, ◌<◌, OnOk};
 ghost use Rattle.std.specs.String.{string_bytes};
 ghost use Rattle.ioa_syntax.specs.Layout.{space, text_word, text_name, text_number};
-ghost use Rattle.ioa_syntax.specs.View.{name_of};
+ghost use Rattle.ioa_tree.specs.View.{name_of};
 
-use crate::tree::Name;
 use ioa_lex::Terminal;
+use ioa_tree::Name;
 use ioa_value::OutOfMemory;
 
 /// What stands after a token.

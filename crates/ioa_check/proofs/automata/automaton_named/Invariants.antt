@@ -1,6 +1,6 @@
 use Rattle.std.proofs.Common.{◌≡◌, drop}
-use Rattle.ioa_syntax.specs.Compositions as compositions
-use Rattle.ioa_syntax.specs.View.{name_of, tree_of}
+use Rattle.ioa_tree.specs.Compositions as compositions
+use Rattle.ioa_tree.specs.View.{name_of, tree_of}
 use Rattle.ioa_check.proofs.automata.automaton_named.Given as goal
 
 abbrev pub invariant-loop-declaration : goal.invariant-loop-declaration

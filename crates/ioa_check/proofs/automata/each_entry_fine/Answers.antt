@@ -1,4 +1,4 @@
-use Rattle.ioa_syntax.specs.View.{entry_of}
+use Rattle.ioa_tree.specs.View.{entry_of}
 use Rattle.ioa_check.proofs.SayLemmas.{says-in-list}
 use Rattle.ioa_check.proofs.automata.each_entry_fine.Goals as goal
 

@@ -1,5 +1,5 @@
 use Rattle.std.proofs.Common.{ap}
-use Rattle.ioa_syntax.specs.View.{automaton_of}
+use Rattle.ioa_tree.specs.View.{automaton_of}
 use Rattle.ioa_check.specs.Globals.{texts}
 use Rattle.ioa_check.specs.Known.{whole, early}
 use Rattle.ioa_check.proofs.FineLemmas.{entry-says}

@@ -1,5 +1,5 @@
 use Rattle.std.proofs.Common.{refl}
-use Rattle.ioa_syntax.specs.View.{expr_of}
+use Rattle.ioa_tree.specs.View.{expr_of}
 use Rattle.ioa_check.proofs.SayLemmas.{says-in-list}
 use Rattle.ioa_check.proofs.declarations.arguments_fine.Goals as goal
 

@@ -1,4 +1,4 @@
-use Rattle.ioa_syntax.specs.View.{tree_of}
+use Rattle.ioa_tree.specs.View.{tree_of}
 use Rattle.ioa_check.specs.Known.{whole, early}
 use Rattle.ioa_check.proofs.FineLemmas.{composition-says}
 use Rattle.ioa_check.proofs.declarations.composition_fine.Goals as goal

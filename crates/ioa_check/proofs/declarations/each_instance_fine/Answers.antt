@@ -1,4 +1,4 @@
-use Rattle.ioa_syntax.specs.View.{instance_of}
+use Rattle.ioa_tree.specs.View.{instance_of}
 use Rattle.ioa_check.proofs.SayLemmas.{says-in-list}
 use Rattle.ioa_check.proofs.declarations.each_instance_fine.Goals as goal
 

@@ -1,5 +1,5 @@
 use Rattle.std.proofs.Common.{◌∙◌}
-use Rattle.ioa_syntax.specs.View.{name_of, automaton_of, tree_of}
+use Rattle.ioa_tree.specs.View.{name_of, automaton_of, tree_of}
 use Rattle.ioa_check.proofs.DeclarationLemmas.{automaton_found}
 use Rattle.ioa_check.proofs.declarations.has_automaton.Goals as goal
 

@@ -1,4 +1,4 @@
-use Rattle.ioa_syntax.specs.View.{tree_of}
+use Rattle.ioa_tree.specs.View.{tree_of}
 use Rattle.ioa_check.proofs.SayLemmas.{memory-passed}
 use Rattle.ioa_check.proofs.SourceLemmas.{types_told}
 use Rattle.ioa_check.proofs.declarations.source_fine.Goals as goal

@@ -1,6 +1,6 @@
 use Rattle.std.proofs.Common.{map, ◌∷◌, [], refl, sym, append-nil}
 use Rattle.std.proofs.lemmas.List.{map-append}
-use Rattle.ioa_syntax.specs.View.{name_of}
+use Rattle.ioa_tree.specs.View.{name_of}
 use Rattle.ioa_check.specs.Globals.{texts}
 use Rattle.ioa_check.proofs.GlobalLemmas.{adds-next, adds-fails, adds-all}
 use Rattle.ioa_check.proofs.globals.add_all.Goals as goal

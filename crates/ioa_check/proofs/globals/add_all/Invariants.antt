@@ -1,5 +1,5 @@
 use Rattle.std.proofs.Common.{Ok, map, take}
-use Rattle.ioa_syntax.specs.View.{name_of}
+use Rattle.ioa_tree.specs.View.{name_of}
 use Rattle.ioa_check.specs.Globals.{texts, Adds}
 use Rattle.ioa_check.proofs.globals.add_all.Given as goal
 

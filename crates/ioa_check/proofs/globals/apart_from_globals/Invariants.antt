@@ -1,5 +1,5 @@
 use Rattle.std.proofs.Common.{◌≡◌, map, drop}
-use Rattle.ioa_syntax.specs.WellFormed as well_formed
+use Rattle.ioa_tree.specs.WellFormed as well_formed
 use Rattle.ioa_check.specs.Globals.{texts}
 use Rattle.ioa_check.proofs.globals.apart_from_globals.Given as goal
 

@@ -1,7 +1,7 @@
 use Rattle.std.proofs.Common.{map}
 use Rattle.ioa_value.specs.Table.{basic}
-use Rattle.ioa_syntax.specs.View.{declaration_of}
-use Rattle.ioa_syntax.specs.WellFormed.{declared_names}
+use Rattle.ioa_tree.specs.View.{declaration_of}
+use Rattle.ioa_tree.specs.WellFormed.{declared_names}
 use Rattle.ioa_check.specs.Globals.{texts}
 use Rattle.ioa_check.proofs.GlobalLemmas.{adds-fails, adds-say, all_declared, declared-append, declared-one}
 use Rattle.ioa_check.proofs.globals.global_names.Goals as goal

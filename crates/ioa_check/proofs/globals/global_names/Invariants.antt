@@ -1,8 +1,8 @@
 use Rattle.std.proofs.Common.{Ok, map, take}
 use Rattle.std.specs.List.{flat_map}
 use Rattle.ioa_value.specs.Table.{basic}
-use Rattle.ioa_syntax.specs.View.{tree_of}
-use Rattle.ioa_syntax.specs.WellFormed.{declared_names}
+use Rattle.ioa_tree.specs.View.{tree_of}
+use Rattle.ioa_tree.specs.WellFormed.{declared_names}
 use Rattle.ioa_check.specs.Globals.{texts, Adds}
 use Rattle.ioa_check.proofs.globals.global_names.Given as goal
 

@@ -1,7 +1,7 @@
 use Rattle.std.proofs.Common.{◌≡◌, ◌+◌, ◌≤◌, drop, min}
 use Rattle.ioa_value.specs.declared.limits.TheConstants.{LIMITS}
-use Rattle.ioa_syntax.specs.View.{exprs_of}
-use Rattle.ioa_syntax.specs.WellFormed as well_formed
+use Rattle.ioa_tree.specs.View.{exprs_of}
+use Rattle.ioa_tree.specs.WellFormed as well_formed
 use Rattle.ioa_check.specs.Sizes.{all_counted}
 use Rattle.ioa_check.proofs.limits.+nodes.Given as goal
 

@@ -1,5 +1,5 @@
 use Rattle.std.proofs.Common.{◌≡◌, ◌+◌, ◌≤◌, filter, drop, length}
-use Rattle.ioa_syntax.specs.View.{tree_of}
+use Rattle.ioa_tree.specs.View.{tree_of}
 use Rattle.ioa_check.specs.Sizes.{is_among}
 use Rattle.ioa_check.proofs.limits.group_within.Given as goal
 

@@ -1,7 +1,7 @@
 use Rattle.std.proofs.Common.{◌≡◌, ◌+◌, ◌≤◌, map, drop, sum}
-use Rattle.ioa_syntax.specs.View.{proposal_of}
+use Rattle.ioa_tree.specs.View.{proposal_of}
 use Rattle.ioa_value.specs.declared.limits.TheConstants.{LIMITS}
-use Rattle.ioa_syntax.specs.WellFormed as well_formed
+use Rattle.ioa_tree.specs.WellFormed as well_formed
 use Rattle.ioa_check.proofs.limits.proposals_within.Given as goal
 
 abbrev pub invariant-loop-proposal : goal.invariant-loop-proposal

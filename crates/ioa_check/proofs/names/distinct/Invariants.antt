@@ -1,5 +1,5 @@
 use Rattle.std.proofs.Common.{◌≡◌, map, length}
-use Rattle.ioa_syntax.specs.WellFormed as well_formed
+use Rattle.ioa_tree.specs.WellFormed as well_formed
 use Rattle.ioa_check.proofs.names.distinct.Given as goal
 
 abbrev pub invariant-loop-rest : goal.invariant-loop-rest

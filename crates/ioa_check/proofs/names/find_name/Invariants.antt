@@ -1,6 +1,6 @@
 use Rattle.std.proofs.Common.{◌≡◌, map, drop}
-use Rattle.ioa_syntax.specs.View.{name_of}
-use Rattle.ioa_syntax.specs.WellFormed as well_formed
+use Rattle.ioa_tree.specs.View.{name_of}
+use Rattle.ioa_tree.specs.WellFormed as well_formed
 use Rattle.ioa_check.proofs.names.find_name.Given as goal
 
 abbrev pub invariant-loop-item : goal.invariant-loop-item

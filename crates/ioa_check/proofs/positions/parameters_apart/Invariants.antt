@@ -1,7 +1,7 @@
 use Rattle.std.proofs.Common.{◌≡◌, ◌++◌, [], drop}
-use Rattle.ioa_syntax.specs.Instances.{field_names}
-use Rattle.ioa_syntax.specs.View.{automaton_of}
-use Rattle.ioa_syntax.specs.WellFormed as well_formed
+use Rattle.ioa_tree.specs.Instances.{field_names}
+use Rattle.ioa_tree.specs.View.{automaton_of}
+use Rattle.ioa_tree.specs.WellFormed as well_formed
 use Rattle.ioa_check.specs.Fields.{parameters}
 use Rattle.ioa_check.specs.Globals.{texts}
 use Rattle.ioa_check.proofs.positions.parameters_apart.Given as goal

@@ -1,6 +1,6 @@
 use Rattle.std.proofs.Common.{◌≡◌, length}
-use Rattle.ioa_syntax.specs.Instances.{field_names}
-use Rattle.ioa_syntax.specs.WellFormed as well_formed
+use Rattle.ioa_tree.specs.Instances.{field_names}
+use Rattle.ioa_tree.specs.WellFormed as well_formed
 use Rattle.ioa_check.specs.Fields.{parameters}
 use Rattle.ioa_check.proofs.positions.parameters_distinct.Given as goal
 

@@ -1,6 +1,6 @@
 use Rattle.std.proofs.Common.{refl, [], ◌∙◌}
-use Rattle.ioa_syntax.specs.View.{arm_of, stmt_of, automaton_of, entry_of}
-use Rattle.ioa_syntax.specs.WellFormed.{stmt_fine}
+use Rattle.ioa_tree.specs.View.{arm_of, stmt_of, automaton_of, entry_of}
+use Rattle.ioa_tree.specs.WellFormed.{stmt_fine}
 use Rattle.ioa_value.proofs.ItemLemmas.{all_done}
 use Rattle.ioa_check.specs.Reasons.{in_stmt}
 use Rattle.ioa_check.specs.Known.{whole, early}

@@ -1,8 +1,8 @@
 use Rattle.std.proofs.Common.{◌≡◌, ◌||◌, map, drop}
 use Rattle.std.specs.List.{list_all}
-use Rattle.ioa_syntax.specs.Tree.{FieldTree}
-use Rattle.ioa_syntax.specs.View.{transition_of}
-use Rattle.ioa_syntax.specs.WellFormed as well_formed
+use Rattle.ioa_tree.specs.Tree.{FieldTree}
+use Rattle.ioa_tree.specs.View.{transition_of}
+use Rattle.ioa_tree.specs.WellFormed as well_formed
 use Rattle.ioa_check.specs.Fields.{parameters}
 use Rattle.ioa_check.specs.Known.{early}
 use Rattle.ioa_check.proofs.transitions.all_proposed.Given as goal

@@ -1,7 +1,7 @@
 use Rattle.std.proofs.Common.{◌≡◌, [], map, drop}
 use Rattle.std.specs.List.{list_all, list_any}
-use Rattle.ioa_syntax.specs.View.{automaton_of, transition_of}
-use Rattle.ioa_syntax.specs.WellFormed as well_formed
+use Rattle.ioa_tree.specs.View.{automaton_of, transition_of}
+use Rattle.ioa_tree.specs.WellFormed as well_formed
 use Rattle.ioa_check.proofs.transitions.each_has_entry.Given as goal
 
 abbrev pub invariant-loop-transition : goal.invariant-loop-transition

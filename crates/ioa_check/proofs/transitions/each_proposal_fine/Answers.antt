@@ -1,4 +1,4 @@
-use Rattle.ioa_syntax.specs.View.{proposal_of}
+use Rattle.ioa_tree.specs.View.{proposal_of}
 use Rattle.ioa_check.proofs.SayLemmas.{says-in-list}
 use Rattle.ioa_check.proofs.transitions.each_proposal_fine.Goals as goal
 

@@ -1,7 +1,7 @@
 use Rattle.std.proofs.Common.{◌≡◌, [], map, drop}
 use Rattle.std.specs.List.{list_any}
-use Rattle.ioa_syntax.specs.View.{automaton_of, entry_of, transition_of}
-use Rattle.ioa_syntax.specs.WellFormed as well_formed
+use Rattle.ioa_tree.specs.View.{automaton_of, entry_of, transition_of}
+use Rattle.ioa_tree.specs.WellFormed as well_formed
 use Rattle.ioa_check.proofs.transitions.has_entry.Given as goal
 
 abbrev pub invariant-loop-entry : goal.invariant-loop-entry

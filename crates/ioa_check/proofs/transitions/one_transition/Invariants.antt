@@ -1,6 +1,6 @@
 use Rattle.std.proofs.Common.{◌≡◌, ◌+◌, [], map, filter, drop, length, cond}
-use Rattle.ioa_syntax.specs.View.{automaton_of, entry_of, transition_of}
-use Rattle.ioa_syntax.specs.WellFormed as well_formed
+use Rattle.ioa_tree.specs.View.{automaton_of, entry_of, transition_of}
+use Rattle.ioa_tree.specs.WellFormed as well_formed
 use Rattle.ioa_check.proofs.transitions.one_transition.Given as goal
 
 abbrev pub invariant-loop-transition : goal.invariant-loop-transition

@@ -1,4 +1,4 @@
-use Rattle.ioa_syntax.specs.View.{transition_of}
+use Rattle.ioa_tree.specs.View.{transition_of}
 use Rattle.ioa_check.proofs.SayLemmas.{says-in-list}
 use Rattle.ioa_check.proofs.transitions.transitions_of_entry_fine.Goals as goal
 

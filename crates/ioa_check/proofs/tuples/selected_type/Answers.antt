@@ -1,5 +1,5 @@
 use Rattle.std.proofs.Common.{sym, ◌∙◌}
-use Rattle.ioa_syntax.specs.View.{name_of}
+use Rattle.ioa_tree.specs.View.{name_of}
 use Rattle.std.proofs.lemmas.Bool.{and_from, not_from_false}
 use Rattle.ioa_check.proofs.TupleLemmas.{not_selected}
 use Rattle.ioa_check.proofs.tuples.selected_type.Goals as goal

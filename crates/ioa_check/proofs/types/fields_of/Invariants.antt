@@ -1,9 +1,9 @@
 use Rattle.std.proofs.Common.{◌≡◌, map, drop}
 use Rattle.std.specs.List.{list_all}
 use Rattle.ioa_value.specs.Shapes.{tuple_field}
-use Rattle.ioa_syntax.specs.Types.{numbered}
-use Rattle.ioa_syntax.specs.View.{field_of}
-use Rattle.ioa_syntax.specs.WellFormed.{is_type}
+use Rattle.ioa_tree.specs.Types.{numbered}
+use Rattle.ioa_tree.specs.View.{field_of}
+use Rattle.ioa_tree.specs.WellFormed.{is_type}
 use Rattle.ioa_check.proofs.TypeLemmas.{made_fields}
 use Rattle.ioa_check.proofs.types.fields_of.Given as goal
 

@@ -1,5 +1,5 @@
 use Rattle.std.proofs.Common.{◌+◌, drop, sym, subst, ◌∙◌}
-use Rattle.ioa_syntax.specs.View.{tree_of}
+use Rattle.ioa_tree.specs.View.{tree_of}
 use Rattle.ioa_check.proofs.SayLemmas.{memory-passed}
 use Rattle.ioa_check.proofs.TypeLemmas.{Making, at_next, at_type, at_none, at_other, no_type}
 use Rattle.ioa_check.proofs.types.source_types.Goals as goal

@@ -1,5 +1,5 @@
 use Rattle.std.proofs.Common.{drop}
-use Rattle.ioa_syntax.specs.View.{tree_of}
+use Rattle.ioa_tree.specs.View.{tree_of}
 use Rattle.ioa_check.proofs.TypeLemmas.{Making}
 use Rattle.ioa_check.proofs.types.source_types.Given as goal
 

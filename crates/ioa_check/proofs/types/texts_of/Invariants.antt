@@ -1,5 +1,5 @@
 use Rattle.std.proofs.Common.{◌≡◌, map, take, string_bytes}
-use Rattle.ioa_syntax.specs.View.{name_of}
+use Rattle.ioa_tree.specs.View.{name_of}
 use Rattle.ioa_check.proofs.types.texts_of.Given as goal
 
 abbrev pub invariant-loop-name : goal.invariant-loop-name

@@ -1,5 +1,5 @@
 use Rattle.ioa_value.specs.Shapes.{shape}
-use Rattle.ioa_syntax.specs.View.{type_declaration_of}
+use Rattle.ioa_tree.specs.View.{type_declaration_of}
 use Rattle.ioa_check.proofs.TypeLemmas.{next, next_named}
 use Rattle.ioa_check.proofs.types.with_declared.Goals as goal
 

@@ -2,7 +2,7 @@ use Rattle.std.proofs.Common.{◌≡◌, map, sym, subst, ap, ◌∙◌, rules}
 use Rattle.std.specs.List.{AllZip}
 use Rattle.ioa_value.specs.Plain.{plain, number}
 use Rattle.ioa_value.specs.Typing.{HaveTypes}
-use Rattle.ioa_syntax.specs.View.{variable_of}
+use Rattle.ioa_tree.specs.View.{variable_of}
 use Rattle.ioa_compose.specs.Held.{member_of}
 use Rattle.ioa_compile.specs.Shown.{member_code}
 use Rattle.ioa_compile.specs.Matching.{AreTypesOf}

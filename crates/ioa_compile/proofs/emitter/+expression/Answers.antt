@@ -3,16 +3,16 @@ use Rattle.std.proofs.lemmas.Bool.Decides.{nat_tests}
 use Rattle.std.proofs.lemmas.Int.{to_z_pos}
 use Rattle.std.proofs.lemmas.List.{length-map, drop_all}
 use Rattle.std.proofs.lemmas.Result.{on_ok_weaker}
-use Rattle.ioa_value.specs.Arithmetic.{fits}
+use Rattle.ioa_arithmetic.specs.Arithmetic.{fits}
 use Rattle.ioa_value.specs.Plain.{num, plain}
 use Rattle.ioa_value.specs.Table.{type_named}
 use Rattle.ioa_value.proofs.ItemLemmas.{drop_item}
 use Rattle.ioa_code.specs.Parts.{listing}
-use Rattle.ioa_syntax.specs.View.{expr_of, exprs_of, name_of}
-use Rattle.ioa_syntax.specs.Tree.{make, binary}
-use Rattle.ioa_syntax.specs.WellFormed.{nodes, exprs_nodes}
-use Rattle.ioa_syntax.specs.declared.tree.Expression.{Expression}
-use Rattle.ioa_syntax.specs.declared.tree.Expression.TheViews.{the_lemmas}
+use Rattle.ioa_tree.specs.View.{expr_of, exprs_of, name_of}
+use Rattle.ioa_tree.specs.Tree.{make, binary}
+use Rattle.ioa_tree.specs.WellFormed.{nodes, exprs_nodes}
+use Rattle.ioa_tree.specs.declared.tree.Expression.{Expression}
+use Rattle.ioa_tree.specs.declared.tree.Expression.TheViews.{the_lemmas}
 use Rattle.ioa_compile.specs.Extents.{extent, exprs_extent, infix_extent}
 use Rattle.ioa_compile.specs.Scopes.{scope_in, place_of, IsKnown, AreAllKnown}
 use Rattle.ioa_compile.specs.Emitting.{AddsConst, AddsExpr, AddsExprs, AddsCombined}

@@ -1,8 +1,8 @@
 use Rattle.std.proofs.Common.{◌+◌, ◌<◌, ◌^◌, length, drop}
 use Rattle.ioa_code.specs.Machine.{Listing}
 use Rattle.ioa_code.specs.Parts.{listing}
-use Rattle.ioa_syntax.specs.View.{exprs_of}
-use Rattle.ioa_syntax.specs.WellFormed.{exprs_nodes}
+use Rattle.ioa_tree.specs.View.{exprs_of}
+use Rattle.ioa_tree.specs.WellFormed.{exprs_nodes}
 use Rattle.ioa_compile.specs.Extents.{exprs_extent}
 use Rattle.ioa_compile.specs.Scopes.{scope_in, AreAllKnown}
 use Rattle.ioa_compile.specs.Emitting.{AddsExprs}

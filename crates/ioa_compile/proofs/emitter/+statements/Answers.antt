@@ -4,11 +4,11 @@ use Rattle.std.proofs.lemmas.Result.{on_ok_weaker}
 use Rattle.ioa_value.specs.Plain.{plain}
 use Rattle.ioa_value.proofs.ItemLemmas.{drop_item}
 use Rattle.ioa_code.specs.Parts.{listing}
-use Rattle.ioa_syntax.specs.View.{expr_of, stmt_of, stmts_of, arms_of}
-use Rattle.ioa_syntax.specs.WellFormed.{nodes, stmt_nodes, stmts_nodes, arms_nodes}
-use Rattle.ioa_syntax.specs.declared.tree.Statement.{Statement}
-use Rattle.ioa_syntax.specs.declared.tree.Statement.TheViews.{the_lemmas}
-use Rattle.ioa_syntax.specs.declared.tree.Arm.{Arm}
+use Rattle.ioa_tree.specs.View.{expr_of, stmt_of, stmts_of, arms_of}
+use Rattle.ioa_tree.specs.WellFormed.{nodes, stmt_nodes, stmts_nodes, arms_nodes}
+use Rattle.ioa_tree.specs.declared.tree.Statement.{Statement}
+use Rattle.ioa_tree.specs.declared.tree.Statement.TheViews.{the_lemmas}
+use Rattle.ioa_tree.specs.declared.tree.Arm.{Arm}
 use Rattle.ioa_compile.specs.Extents.{extent, stmt_extent, stmts_extent, arms_extent}
 use Rattle.ioa_compile.specs.Scopes.{scope_in, IsKnown, IsKnownStmt, AreKnown, AreKnownArms}
 use Rattle.ioa_compile.specs.Emitting.{AddsStmt, AddsStmts}

@@ -2,10 +2,10 @@ use denote.Param.Weighed.{most}
 use Rattle.std.proofs.Common.{max, ◌*◌, ◌≡◌, ◌+◌, ◌<◌, ◌^◌, length, drop}
 use Rattle.ioa_code.specs.Machine.{Listing}
 use Rattle.ioa_code.specs.Parts.{listing}
-use Rattle.ioa_syntax.proofs.tree.Statement.TheLaws.{the_size}
-use Rattle.ioa_syntax.proofs.tree.Arm.TheLaws.{the_size as the_size_of_arm}
-use Rattle.ioa_syntax.specs.View.{stmts_of, arms_of}
-use Rattle.ioa_syntax.specs.WellFormed.{stmts_nodes, arms_nodes}
+use Rattle.ioa_tree.proofs.tree.Statement.TheLaws.{the_size}
+use Rattle.ioa_tree.proofs.tree.Arm.TheLaws.{the_size as the_size_of_arm}
+use Rattle.ioa_tree.specs.View.{stmts_of, arms_of}
+use Rattle.ioa_tree.specs.WellFormed.{stmts_nodes, arms_nodes}
 use Rattle.ioa_compile.specs.Extents.{stmts_extent, arms_extent}
 use Rattle.ioa_compile.specs.Scopes.{scope_in, AreKnown, AreKnownArms}
 use Rattle.ioa_compile.specs.Emitting.{AddsStmts}

@@ -4,8 +4,8 @@ use Rattle.std.proofs.lemmas.Result.{on_ok_weaker}
 use Rattle.ioa_value.specs.declared.limits.TheConstants.{LIMITS}
 use Rattle.ioa_value.specs.Plain.{plain}
 use Rattle.ioa_code.specs.Parts.{listing}
-use Rattle.ioa_syntax.specs.View.{name_of, field_of, position_of, variable_of, entry_of}
-use Rattle.ioa_syntax.specs.Instances.{field_names}
+use Rattle.ioa_tree.specs.View.{name_of, field_of, position_of, variable_of, entry_of}
+use Rattle.ioa_tree.specs.Instances.{field_names}
 use Rattle.ioa_compose.specs.Held.{member_of}
 use Rattle.ioa_compose.specs.Fine.{component_limits}
 use Rattle.ioa_compile.specs.Scopes.{scope_of}

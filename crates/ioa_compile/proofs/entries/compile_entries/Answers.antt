@@ -1,6 +1,6 @@
 use Rattle.std.proofs.Common.{◌≡◌, ◌<◌, get_or, length, map, subst}
 use Rattle.ioa_value.specs.Plain.{number}
-use Rattle.ioa_syntax.specs.View.{entry_of}
+use Rattle.ioa_tree.specs.View.{entry_of}
 use Rattle.ioa_compose.specs.Held.{member_of}
 use Rattle.ioa_compile.specs.Shown.{entry_code}
 use Rattle.ioa_compile.specs.Translated.{IsTranslated}

@@ -8,10 +8,10 @@ use Rattle.ioa_value.specs.Plain.{plain, number}
 use Rattle.ioa_value.specs.Positions.{domain_of}
 use Rattle.ioa_code.specs.Parts.{part, listing}
 use Rattle.ioa_code.specs.Valid.{Valid}
-use Rattle.ioa_syntax.specs.declared.tree.Entry as tree
-use Rattle.ioa_syntax.specs.Domains.{AreDomainsOf}
-use Rattle.ioa_syntax.specs.View.{entry_of, transition_of, automaton_of}
-use Rattle.ioa_syntax.specs.WellFormed.{variable_fields}
+use Rattle.ioa_tree.specs.declared.tree.Entry as tree
+use Rattle.ioa_tree.specs.Domains.{AreDomainsOf}
+use Rattle.ioa_tree.specs.View.{entry_of, transition_of, automaton_of}
+use Rattle.ioa_tree.specs.WellFormed.{variable_fields}
 use Rattle.ioa_compose.specs.declared.member.Member as held
 use Rattle.ioa_compose.specs.Bindings.{instance_with}
 use Rattle.ioa_compose.specs.Fine.{IsFine, component_limits}

@@ -1,8 +1,8 @@
 use Rattle.std.proofs.Common.{◌≡◌, map, drop}
 use Rattle.std.specs.List.{find}
 use Rattle.std.specs.Str.{bytes_eq}
-use Rattle.ioa_syntax.specs.View.{entry_of, transition_of, automaton_of, name_of}
-use Rattle.ioa_syntax.specs.Instances.{transition_for}
+use Rattle.ioa_tree.specs.View.{entry_of, transition_of, automaton_of, name_of}
+use Rattle.ioa_tree.specs.Instances.{transition_for}
 use Rattle.ioa_compile.proofs.entries.transition_of.Given as goal
 
 abbrev pub invariant-loop-transition : goal.invariant-loop-transition

@@ -1,6 +1,6 @@
 use Rattle.std.proofs.Common.{◌≡◌, ◌+◌, ap, rules, arith}
-use Rattle.ioa_syntax.specs.View.{expr_of, exprs_of}
-use Rattle.ioa_syntax.specs.declared.tree.Expression.TheViews.{the_lemmas}
+use Rattle.ioa_tree.specs.View.{expr_of, exprs_of}
+use Rattle.ioa_tree.specs.declared.tree.Expression.TheViews.{the_lemmas}
 use Rattle.ioa_compile.specs.Extents.{extent, exprs_extent}
 use Rattle.ioa_compile.proofs.Views.{made_of_slice}
 use Rattle.ioa_compile.proofs.extents.+expression.Goals as goal

@@ -1,5 +1,5 @@
 use Rattle.std.proofs.Common.{◌≡◌, ◌+◌, drop}
-use Rattle.ioa_syntax.specs.View.{exprs_of}
+use Rattle.ioa_tree.specs.View.{exprs_of}
 use Rattle.ioa_compile.specs.Extents.{exprs_extent}
 use Rattle.ioa_compile.proofs.extents.+expression.Given as goal
 

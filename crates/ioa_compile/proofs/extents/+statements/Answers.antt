@@ -1,8 +1,8 @@
 use Rattle.std.proofs.Common.{◌≡◌, ◌+◌, ap, rules, arith}
-use Rattle.ioa_syntax.specs.View.{stmt_of, stmts_of, arms_of}
+use Rattle.ioa_tree.specs.View.{stmt_of, stmts_of, arms_of}
 use Rattle.ioa_compile.specs.Extents.{stmt_extent, stmts_extent, arms_extent}
 use Rattle.ioa_compile.proofs.Views.{stmt_chosen, arms_within, others_within}
-use Rattle.ioa_syntax.specs.declared.tree.Statement.TheViews.{the_lemmas}
+use Rattle.ioa_tree.specs.declared.tree.Statement.TheViews.{the_lemmas}
 use Rattle.ioa_compile.proofs.extents.+statements.Goals as goal
 
 pub statement_extent-overflow_add-result-in-If : goal.statement_extent-overflow_add-result-in-If

@@ -1,5 +1,5 @@
 use Rattle.std.proofs.Common.{◌≡◌, ◌+◌, drop}
-use Rattle.ioa_syntax.specs.View.{stmts_of, arms_of}
+use Rattle.ioa_tree.specs.View.{stmts_of, arms_of}
 use Rattle.ioa_compile.specs.Extents.{stmts_extent, arms_extent}
 use Rattle.ioa_compile.proofs.extents.+statements.Given as goal
 

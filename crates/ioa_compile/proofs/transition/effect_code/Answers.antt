@@ -1,5 +1,5 @@
 use Rattle.std.proofs.Common.{arith}
-use Rattle.ioa_syntax.specs.View.{stmts_of}
+use Rattle.ioa_tree.specs.View.{stmts_of}
 use Rattle.ioa_compile.proofs.Lengths.{stmts_small}
 use Rattle.ioa_compile.proofs.transition.effect_code.Goals as goal
 

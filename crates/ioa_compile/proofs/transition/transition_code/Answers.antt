@@ -1,11 +1,11 @@
 use Rattle.std.proofs.Common.{◌≡◌, ap, ◌∙◌, map, subst, sym, arith}
 use Rattle.std.proofs.lemmas.List.{length-map}
-use Rattle.ioa_syntax.specs.WellFormed.{stmts_nodes}
+use Rattle.ioa_tree.specs.WellFormed.{stmts_nodes}
 use Rattle.std.specs.Option.{option_map}
 use Rattle.ioa_value.specs.Plain.{plain}
 use Rattle.ioa_value.specs.Typing.{OwnTypes}
 use Rattle.ioa_code.specs.Parts.{listing}
-use Rattle.ioa_syntax.specs.View.{expr_of, stmts_of, entry_of}
+use Rattle.ioa_tree.specs.View.{expr_of, stmts_of, entry_of}
 use Rattle.ioa_compose.specs.Held.{member_of}
 use Rattle.ioa_compile.specs.Scopes.{scope_of}
 use Rattle.ioa_compile.specs.Emitting.{IsGrown}

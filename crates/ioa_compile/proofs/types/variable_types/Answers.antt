@@ -3,8 +3,8 @@ use Rattle.std.specs.List.{list_all}
 use Rattle.std.specs.Option.{option_map}
 use Rattle.std.proofs.lemmas.Option.{slice_get-map, slice_get_read}
 use Rattle.ioa_value.specs.Plain.{number}
-use Rattle.ioa_syntax.specs.View.{field_of, variable_of}
-use Rattle.ioa_syntax.specs.WellFormed.{is_type}
+use Rattle.ioa_tree.specs.View.{field_of, variable_of}
+use Rattle.ioa_tree.specs.WellFormed.{is_type}
 use Rattle.ioa_compile.specs.Matching.{IsTypeOf, AreTypesOf}
 use Rattle.std.proofs.lemmas.Simd.{map-map}
 use Rattle.ioa_value.proofs.ItemLemmas.{all_at}

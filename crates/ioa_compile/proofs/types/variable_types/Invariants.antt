@@ -1,6 +1,6 @@
 use Rattle.std.proofs.Common.{map, take}
 use Rattle.ioa_value.specs.Plain.{number}
-use Rattle.ioa_syntax.specs.View.{field_of}
+use Rattle.ioa_tree.specs.View.{field_of}
 use Rattle.ioa_compile.specs.Matching.{AreTypesOf}
 use Rattle.ioa_compile.proofs.types.variable_types.Given as goal
 

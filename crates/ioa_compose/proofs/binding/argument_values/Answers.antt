@@ -1,6 +1,6 @@
 use Rattle.std.proofs.Common.{IfOk, map, subst, ◌≡◌}
-use Rattle.ioa_syntax.specs.View.{expr_of}
-use Rattle.ioa_syntax.specs.Instances.{all_values}
+use Rattle.ioa_tree.specs.View.{expr_of}
+use Rattle.ioa_tree.specs.Instances.{all_values}
 use Rattle.ioa_compose.specs.Bindings.{start_of, values_in}
 use Rattle.ioa_compose.specs.Scopes.{environment}
 use Rattle.ioa_compose.proofs.binding.argument_values.Goals as goal

@@ -1,8 +1,8 @@
 use Rattle.std.proofs.Common.{map, refl, sym, ap, ◌∙◌}
 use Rattle.ioa_value.specs.Plain.{plain}
-use Rattle.ioa_syntax.specs.View.{expr_of, field_of, instance_of, automaton_of, tree_of}
-use Rattle.ioa_syntax.specs.Types.{types_of}
-use Rattle.ioa_syntax.specs.Instances.{argument_values}
+use Rattle.ioa_tree.specs.View.{expr_of, field_of, instance_of, automaton_of, tree_of}
+use Rattle.ioa_tree.specs.Types.{types_of}
+use Rattle.ioa_tree.specs.Instances.{argument_values}
 use Rattle.ioa_compose.specs.Bindings.{fit, values_in}
 use Rattle.ioa_compose.proofs.BindingLemmas.{misfit-at, fit-Fit, crash-lent}
 use Rattle.ioa_compose.proofs.binding.bind.Goals as goal

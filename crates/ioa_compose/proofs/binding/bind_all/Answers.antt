@@ -1,5 +1,5 @@
 use Rattle.std.proofs.Common.{rules}
-use Rattle.ioa_syntax.specs.View.{instance_of, tree_of}
+use Rattle.ioa_tree.specs.View.{instance_of, tree_of}
 use Rattle.ioa_value.proofs.ItemLemmas.{at_map}
 use Rattle.ioa_compose.specs.Bindings.{Binds}
 use Rattle.ioa_compose.proofs.BindingLemmas.{ready-at, unbound-in}

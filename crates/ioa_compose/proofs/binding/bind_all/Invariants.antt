@@ -1,6 +1,6 @@
 use Rattle.std.proofs.Common.{take}
 use Rattle.std.specs.List.{AllZip}
-use Rattle.ioa_syntax.specs.View.{tree_of, instance_of}
+use Rattle.ioa_tree.specs.View.{tree_of, instance_of}
 use Rattle.ioa_compose.specs.Bindings.{Binds}
 use Rattle.ioa_compose.proofs.binding.bind_all.Given as goal
 

@@ -1,6 +1,6 @@
 use Rattle.std.proofs.Common.{◌≡◌, map, drop, length}
 use Rattle.ioa_value.specs.Plain.{plain}
-use Rattle.ioa_syntax.specs.View.{field_of}
+use Rattle.ioa_tree.specs.View.{field_of}
 use Rattle.ioa_compose.specs.Bindings.{fit}
 use Rattle.ioa_compose.proofs.binding.fits.Given as goal
 

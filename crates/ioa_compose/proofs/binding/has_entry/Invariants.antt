@@ -1,6 +1,6 @@
 use Rattle.std.proofs.Common.{◌≡◌, map, drop}
 use Rattle.ioa_value.specs.Table.{contains}
-use Rattle.ioa_syntax.specs.View.{name_of, entry_of, automaton_of}
+use Rattle.ioa_tree.specs.View.{name_of, entry_of, automaton_of}
 use Rattle.ioa_compose.proofs.binding.has_entry.Given as goal
 
 abbrev pub invariant-loop-entry : goal.invariant-loop-entry

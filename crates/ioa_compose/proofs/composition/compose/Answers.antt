@@ -1,8 +1,8 @@
 use Rattle.std.proofs.Common.{◌≡◌, true, sym, subst}
 use Rattle.std.specs.Prelude.{option_copied}
-use Rattle.ioa_syntax.specs.View.{tree_of, assembly_of}
-use Rattle.ioa_syntax.specs.Names.{LegalNames}
-use Rattle.ioa_syntax.specs.WellFormed.{well_formed}
+use Rattle.ioa_tree.specs.View.{tree_of, assembly_of}
+use Rattle.ioa_tree.specs.Names.{LegalNames}
+use Rattle.ioa_tree.specs.WellFormed.{well_formed}
 use Rattle.ioa_compose.proofs.SourceLemmas.{picked_composable}
 use Rattle.ioa_compose.proofs.RefusalLemmas.{clash-from, exact-from, refused-from}
 use Rattle.ioa_compose.proofs.composition.compose.Goals as goal

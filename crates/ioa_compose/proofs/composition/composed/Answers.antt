@@ -1,5 +1,5 @@
 use Rattle.std.proofs.Common.{map, sym, subst, ◌∙◌, rules}
-use Rattle.ioa_syntax.specs.View.{tree_of}
+use Rattle.ioa_tree.specs.View.{tree_of}
 use Rattle.ioa_value.specs.Table.{AreTypes}
 use Rattle.ioa_compose.specs.Bindings.{plain_in, AllStartable, AllSound, AllApart}
 use Rattle.ioa_compose.proofs.FineLemmas.{all-startable, all-sound, all-apart}

@@ -3,7 +3,7 @@ use Rattle.std.specs.Option.{option_map}
 use Rattle.ioa_value.specs.Plain.{number, items, plain_all}
 use Rattle.ioa_value.proofs.PlainLemmas.{plain-Items}
 use Rattle.ioa_value.specs.Table.{type_named}
-use Rattle.ioa_syntax.specs.View.{name_of}
+use Rattle.ioa_tree.specs.View.{name_of}
 use Rattle.ioa_compose.proofs.EvaluateLemmas.{empty_there}
 use Rattle.ioa_compose.proofs.constants.empty.Goals as goal
 

@@ -1,8 +1,8 @@
 use Rattle.std.proofs.Common.{map, sym, ap, ◌∙◌}
 use Rattle.std.proofs.lemmas.List.{take_all}
-use Rattle.ioa_syntax.specs.Tree.{make}
-use Rattle.ioa_syntax.specs.View.{name_of, expr_of, exprs_of}
-use Rattle.ioa_syntax.proofs.Tuples.{expr_make, expr_made, alike_exprs}
+use Rattle.ioa_tree.specs.Tree.{make}
+use Rattle.ioa_tree.specs.View.{name_of, expr_of, exprs_of}
+use Rattle.ioa_tree.proofs.ExpressionRows.{expr_make, expr_made, alike_exprs}
 use Rattle.ioa_compose.proofs.copies.+expression.Goals as goal
 
 pub copied_expression-returns-in_ok-copied_expressions-in-Make : goal.copied_expression-returns-in_ok-copied_expressions-in-Make

@@ -1,5 +1,5 @@
 use Rattle.std.proofs.Common.{◌≡◌, map, take}
-use Rattle.ioa_syntax.specs.View.{expr_of}
+use Rattle.ioa_tree.specs.View.{expr_of}
 use Rattle.ioa_compose.proofs.copies.+expression.Given as goal
 
 abbrev pub invariant-copied_expressions-loop-expression : goal.invariant-copied_expressions-loop-expression

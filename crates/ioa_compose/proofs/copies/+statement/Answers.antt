@@ -1,9 +1,9 @@
 use Rattle.std.proofs.Common.{map, sym, ap, ◌∙◌}
 use Rattle.std.proofs.lemmas.List.{take_all}
-use Rattle.ioa_syntax.specs.Tree.{choose}
-use Rattle.ioa_syntax.specs.View.{stmt_of, stmts_of, arms_of}
-use Rattle.ioa_syntax.specs.View.{arm_of}
-use Rattle.ioa_syntax.proofs.Sequences.{stmt_choose, alike_stmts, alike_arms}
+use Rattle.ioa_tree.specs.Tree.{choose}
+use Rattle.ioa_tree.specs.View.{stmt_of, stmts_of, arms_of}
+use Rattle.ioa_tree.specs.View.{arm_of}
+use Rattle.ioa_tree.proofs.StatementRows.{stmt_choose, alike_stmts, alike_arms}
 use Rattle.ioa_compose.proofs.copies.+statement.Goals as goal
 
 pub copied_statement-returns-in_ok-others-in-If : goal.copied_statement-returns-in_ok-others-in-If

@@ -1,6 +1,6 @@
 use Rattle.std.proofs.Common.{◌≡◌, map, take}
-use Rattle.ioa_syntax.specs.View.{stmt_of}
-use Rattle.ioa_syntax.specs.View.{arm_of}
+use Rattle.ioa_tree.specs.View.{stmt_of}
+use Rattle.ioa_tree.specs.View.{arm_of}
 use Rattle.ioa_compose.proofs.copies.+statement.Given as goal
 
 abbrev pub invariant-copied_statements-loop-statement : goal.invariant-copied_statements-loop-statement

@@ -1,5 +1,5 @@
 use Rattle.std.proofs.Common.{◌≡◌, map, take}
-use Rattle.ioa_syntax.specs.View.{entry_of}
+use Rattle.ioa_tree.specs.View.{entry_of}
 use Rattle.ioa_compose.proofs.copies.copied_entries.Given as goal
 
 abbrev pub invariant-loop-entry : goal.invariant-loop-entry

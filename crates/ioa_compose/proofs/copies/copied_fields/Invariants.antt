@@ -1,5 +1,5 @@
 use Rattle.std.proofs.Common.{◌≡◌, map, take}
-use Rattle.ioa_syntax.specs.View.{field_of}
+use Rattle.ioa_tree.specs.View.{field_of}
 use Rattle.ioa_compose.proofs.copies.copied_fields.Given as goal
 
 abbrev pub invariant-loop-field : goal.invariant-loop-field

@@ -1,5 +1,5 @@
 use Rattle.std.proofs.Common.{◌≡◌, map, take}
-use Rattle.ioa_syntax.specs.View.{position_of}
+use Rattle.ioa_tree.specs.View.{position_of}
 use Rattle.ioa_compose.proofs.copies.copied_positions.Given as goal
 
 abbrev pub invariant-loop-position : goal.invariant-loop-position

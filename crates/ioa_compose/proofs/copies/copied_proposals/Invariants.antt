@@ -1,5 +1,5 @@
 use Rattle.std.proofs.Common.{◌≡◌, map, take}
-use Rattle.ioa_syntax.specs.View.{proposal_of}
+use Rattle.ioa_tree.specs.View.{proposal_of}
 use Rattle.ioa_compose.proofs.copies.copied_proposals.Given as goal
 
 abbrev pub invariant-loop-proposal : goal.invariant-loop-proposal

@@ -1,5 +1,5 @@
 use Rattle.std.proofs.Common.{◌≡◌, map, take}
-use Rattle.ioa_syntax.specs.View.{transition_of}
+use Rattle.ioa_tree.specs.View.{transition_of}
 use Rattle.ioa_compose.proofs.copies.copied_transitions.Given as goal
 
 abbrev pub invariant-loop-transition : goal.invariant-loop-transition

@@ -1,5 +1,5 @@
 use Rattle.std.proofs.Common.{◌≡◌, map, take}
-use Rattle.ioa_syntax.specs.View.{variable_of}
+use Rattle.ioa_tree.specs.View.{variable_of}
 use Rattle.ioa_compose.proofs.copies.copied_variables.Given as goal
 
 abbrev pub invariant-loop-variable : goal.invariant-loop-variable

@@ -1,11 +1,11 @@
 use Rattle.std.proofs.Common.{◌≡◌, true, map, sym, ap, subst, ◌∙◌}
 use Rattle.ioa_value.specs.Plain.{plain}
-use Rattle.ioa_syntax.specs.Tree.{reference}
-use Rattle.ioa_syntax.specs.View.{field_of, constant_of, name_of}
-use Rattle.ioa_syntax.specs.Meaning.{values_of}
-use Rattle.ioa_syntax.specs.Instances.{field_names}
-use Rattle.ioa_syntax.specs.WellFormed.{constant_fine, context_of}
-use Rattle.ioa_syntax.proofs.Starts.{suits_of_fit}
+use Rattle.ioa_tree.specs.Tree.{reference}
+use Rattle.ioa_tree.specs.View.{field_of, constant_of, name_of}
+use Rattle.ioa_tree.specs.Meaning.{values_of}
+use Rattle.ioa_tree.specs.Instances.{field_names}
+use Rattle.ioa_tree.specs.WellFormed.{constant_fine, context_of}
+use Rattle.ioa_tree.proofs.Starts.{suits_of_fit}
 use Rattle.ioa_compose.proofs.EvaluateLemmas.{name_known}
 use Rattle.ioa_compose.proofs.SignatureLemmas.{there}
 use Rattle.ioa_compose.proofs.domains.constant_value.Goals as goal

@@ -3,10 +3,10 @@ use Rattle.std.specs.List.{list_all}
 use Rattle.ioa_value.specs.Plain.{plain}
 use Rattle.ioa_value.specs.Positions.{domain_of}
 use Rattle.ioa_value.proofs.ItemLemmas.{passes_at}
-use Rattle.ioa_syntax.specs.declared.tree.Position.{Position}
-use Rattle.ioa_syntax.specs.View.{automaton_of, position_of}
-use Rattle.ioa_syntax.specs.Domains.{IsDomainOf}
-use Rattle.ioa_syntax.specs.WellFormed.{position_fine, formals}
+use Rattle.ioa_tree.specs.declared.tree.Position.{Position}
+use Rattle.ioa_tree.specs.View.{automaton_of, position_of}
+use Rattle.ioa_tree.specs.Domains.{IsDomainOf}
+use Rattle.ioa_tree.specs.WellFormed.{position_fine, formals}
 use Rattle.ioa_compose.specs.Bindings.{instance_with}
 use Rattle.ioa_compose.proofs.SignatureLemmas.{zip-push}
 use Rattle.ioa_compose.proofs.domains.positions.Goals as goal

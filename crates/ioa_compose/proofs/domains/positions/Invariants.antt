@@ -1,8 +1,8 @@
 use Rattle.std.proofs.Common.{map, take}
 use Rattle.ioa_value.specs.Plain.{plain}
 use Rattle.ioa_value.specs.Positions.{domain_of}
-use Rattle.ioa_syntax.specs.View.{automaton_of, position_of}
-use Rattle.ioa_syntax.specs.Domains.{AreDomainsOf}
+use Rattle.ioa_tree.specs.View.{automaton_of, position_of}
+use Rattle.ioa_tree.specs.Domains.{AreDomainsOf}
 use Rattle.ioa_compose.specs.Bindings.{instance_with}
 use Rattle.ioa_compose.proofs.domains.positions.Given as goal
 

@@ -3,12 +3,12 @@ use Rattle.ioa_value.specs.Plain.{plain}
 use Rattle.ioa_value.specs.Operators.{answer_of, Takes}
 use Rattle.std.proofs.lemmas.List.{map-append}
 use Rattle.ioa_value.proofs.ItemLemmas.{passes_at}
-use Rattle.ioa_syntax.specs.Tree.{named, prefix, binary, empty, select}
-use Rattle.ioa_syntax.specs.View.{expr_of, name_of}
-use Rattle.ioa_syntax.specs.Meaning.{val}
-use Rattle.ioa_syntax.specs.Instances.{all_values, settled}
-use Rattle.ioa_syntax.specs.WellFormed.{nodes}
-use Rattle.ioa_syntax.proofs.Starts.{some_there}
+use Rattle.ioa_tree.specs.Tree.{named, prefix, binary, empty, select}
+use Rattle.ioa_tree.specs.View.{expr_of, name_of}
+use Rattle.ioa_tree.specs.Meaning.{val}
+use Rattle.ioa_tree.specs.Instances.{all_values, settled}
+use Rattle.ioa_tree.specs.WellFormed.{nodes}
+use Rattle.ioa_tree.proofs.Starts.{some_there}
 use Rattle.ioa_compose.specs.Bindings.{typed, start_of, value_in, values_in}
 use Rattle.ioa_compose.specs.Scopes.{context, environment}
 use Rattle.ioa_compose.proofs.StartLemmas.{settled-answer}

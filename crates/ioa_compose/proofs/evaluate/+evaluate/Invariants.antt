@@ -1,8 +1,8 @@
 use Rattle.std.proofs.Common.{◌≡◌, ◌*◌, ◌+◌, map, drop}
 use Rattle.ioa_value.specs.Plain.{plain}
-use Rattle.ioa_syntax.specs.View.{expr_of, exprs_of}
-use Rattle.ioa_syntax.specs.Instances.{all_values}
-use Rattle.ioa_syntax.specs.WellFormed.{nodes, exprs_nodes}
+use Rattle.ioa_tree.specs.View.{expr_of, exprs_of}
+use Rattle.ioa_tree.specs.Instances.{all_values}
+use Rattle.ioa_tree.specs.WellFormed.{nodes, exprs_nodes}
 use Rattle.ioa_compose.specs.Bindings.{start_of}
 use Rattle.ioa_compose.specs.Scopes.{environment}
 use Rattle.ioa_compose.proofs.ValueLemmas.{prepended}

@@ -1,9 +1,9 @@
 use Rattle.std.proofs.Common.{◌≡◌, ◌&&◌, map, drop, Some}
 use Rattle.std.specs.List.{list_any}
 use Rattle.std.specs.Str.{bytes_eq}
-use Rattle.ioa_syntax.specs.View.{name_of, entry_of, automaton_of}
-use Rattle.ioa_syntax.specs.Components.{is_output}
-use Rattle.ioa_syntax.specs.Compositions as spec
+use Rattle.ioa_tree.specs.View.{name_of, entry_of, automaton_of}
+use Rattle.ioa_tree.specs.Components.{is_output}
+use Rattle.ioa_tree.specs.Compositions as spec
 use Rattle.ioa_compose.proofs.hidden.has_output.Given as goal
 
 abbrev pub invariant-loop-entry : goal.invariant-loop-entry

@@ -3,8 +3,8 @@ use Rattle.std.proofs.lemmas.List.{length-map, take_all}
 use Rattle.std.specs.List.{list_all}
 use Rattle.std.specs.String.{string_bytes}
 use Rattle.ioa_value.specs.Actions.{Name}
-use Rattle.ioa_syntax.specs.View.{name_of}
-use Rattle.ioa_syntax.specs.Compositions.{is_output_of}
+use Rattle.ioa_tree.specs.View.{name_of}
+use Rattle.ioa_tree.specs.Compositions.{is_output_of}
 use Rattle.ioa_compose.specs.Bindings.{plain_in}
 use Rattle.ioa_compose.specs.Refusals.{IsFirstUnknown}
 use Rattle.ioa_compose.proofs.SearchLemmas.{one-more}

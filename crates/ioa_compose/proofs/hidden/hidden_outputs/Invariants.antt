@@ -2,8 +2,8 @@ use Rattle.std.proofs.Common.{◌≡◌, true, map, take}
 use Rattle.std.specs.List.{list_all}
 use Rattle.std.specs.String.{string_bytes}
 use Rattle.ioa_value.specs.Table.{Table}
-use Rattle.ioa_syntax.specs.View.{name_of}
-use Rattle.ioa_syntax.specs.Compositions as spec
+use Rattle.ioa_tree.specs.View.{name_of}
+use Rattle.ioa_tree.specs.Compositions as spec
 use Rattle.ioa_compose.specs.Bindings.{plain_in}
 use Rattle.ioa_compose.proofs.hidden.hidden_outputs.Given as goal
 

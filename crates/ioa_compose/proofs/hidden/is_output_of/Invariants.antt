@@ -1,7 +1,7 @@
 use Rattle.std.proofs.Common.{◌≡◌, map, drop}
 use Rattle.ioa_value.specs.Table.{Table}
-use Rattle.ioa_syntax.specs.View.{name_of}
-use Rattle.ioa_syntax.specs.Compositions as spec
+use Rattle.ioa_tree.specs.View.{name_of}
+use Rattle.ioa_tree.specs.Compositions as spec
 use Rattle.ioa_compose.specs.Bindings.{plain_in}
 use Rattle.ioa_compose.proofs.hidden.is_output_of.Given as goal
 

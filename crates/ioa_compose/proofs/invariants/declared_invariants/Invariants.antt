@@ -1,6 +1,6 @@
 use Rattle.std.proofs.Common.{◌≡◌, ◌++◌, map, drop}
-use Rattle.ioa_syntax.specs.View.{tree_of, invariant_of}
-use Rattle.ioa_syntax.specs.Compositions as spec
+use Rattle.ioa_tree.specs.View.{tree_of, invariant_of}
+use Rattle.ioa_tree.specs.Compositions as spec
 use Rattle.ioa_compose.proofs.invariants.declared_invariants.Given as goal
 
 abbrev pub invariant-loop-declaration : goal.invariant-loop-declaration

@@ -1,7 +1,7 @@
 use Rattle.std.proofs.Common.{◌≡◌, drop, find}
 use Rattle.std.specs.Str.{bytes_eq}
-use Rattle.ioa_syntax.specs.View.{tree_of}
-use Rattle.ioa_syntax.specs.Compositions as spec
+use Rattle.ioa_tree.specs.View.{tree_of}
+use Rattle.ioa_tree.specs.Compositions as spec
 use Rattle.ioa_compose.proofs.picks.composition_named.Given as goal
 
 abbrev pub invariant-loop-declaration : goal.invariant-loop-declaration

@@ -1,8 +1,8 @@
 use Rattle.std.proofs.Common.{sym, ap, ◌∙◌}
 use Rattle.std.proofs.lemmas.List.{drop_all}
 use Rattle.std.specs.Prelude.{option_map}
-use Rattle.ioa_syntax.specs.View.{tree_of, assembly_of}
-use Rattle.ioa_syntax.specs.Compositions.{compositions}
+use Rattle.ioa_tree.specs.View.{tree_of, assembly_of}
+use Rattle.ioa_tree.specs.Compositions.{compositions}
 use Rattle.ioa_compose.proofs.PickLemmas.{last_or, last-first}
 use Rattle.ioa_compose.proofs.picks.last_composition.Goals as goal
 

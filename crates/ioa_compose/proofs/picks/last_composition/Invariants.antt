@@ -1,7 +1,7 @@
 use Rattle.std.proofs.Common.{◌≡◌, drop, None}
 use Rattle.std.specs.Prelude.{option_map}
-use Rattle.ioa_syntax.specs.View.{tree_of, assembly_of}
-use Rattle.ioa_syntax.specs.Compositions as spec
+use Rattle.ioa_tree.specs.View.{tree_of, assembly_of}
+use Rattle.ioa_tree.specs.Compositions as spec
 use Rattle.ioa_compose.proofs.PickLemmas.{last_or}
 use Rattle.ioa_compose.proofs.picks.last_composition.Given as goal
 

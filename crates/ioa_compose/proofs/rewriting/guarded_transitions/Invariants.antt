@@ -1,5 +1,5 @@
 use Rattle.std.proofs.Common.{◌≡◌, map, take}
-use Rattle.ioa_syntax.specs.View.{transition_of}
+use Rattle.ioa_tree.specs.View.{transition_of}
 use Rattle.ioa_compose.specs.Rewriting as spec
 use Rattle.ioa_compose.proofs.rewriting.guarded_transitions.Given as goal
 

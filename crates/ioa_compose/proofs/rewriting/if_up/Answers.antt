@@ -1,5 +1,5 @@
 use Rattle.std.proofs.Common.{ap}
-use Rattle.ioa_syntax.specs.Tree.{named}
+use Rattle.ioa_tree.specs.Tree.{named}
 use Rattle.ioa_compose.proofs.RewritingLemmas.{up_only}
 use Rattle.ioa_compose.proofs.rewriting.if_up.Goals as goal
 

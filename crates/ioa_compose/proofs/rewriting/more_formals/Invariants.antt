@@ -1,5 +1,5 @@
 use Rattle.std.proofs.Common.{◌≡◌, ◌++◌, map, drop}
-use Rattle.ioa_syntax.specs.View.{field_of, variable_of}
+use Rattle.ioa_tree.specs.View.{field_of, variable_of}
 use Rattle.ioa_compose.specs.Rewriting as spec
 use Rattle.ioa_compose.proofs.rewriting.more_formals.Given as goal
 

@@ -1,8 +1,8 @@
 use Rattle.std.proofs.Common.{Vec, Global, map, ap, sym, ◌∙◌}
 use Rattle.std.proofs.lemmas.List.{drop_all}
-use Rattle.ioa_syntax.specs.declared.tree.Statement.{Statement}
-use Rattle.ioa_syntax.specs.Tree.{seq, stop}
-use Rattle.ioa_syntax.specs.View.{variable_of}
+use Rattle.ioa_tree.specs.declared.tree.Statement.{Statement}
+use Rattle.ioa_tree.specs.Tree.{seq, stop}
+use Rattle.ioa_tree.specs.View.{variable_of}
 use Rattle.ioa_compose.specs.Rewriting.{volatile, resets}
 use Rattle.ioa_compose.proofs.RewritingLemmas.{reset_more, reset_same, resets_done}
 use Rattle.ioa_compose.proofs.rewriting.resets.Goals as goal

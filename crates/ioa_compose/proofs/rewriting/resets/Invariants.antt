@@ -1,5 +1,5 @@
 use Rattle.std.proofs.Common.{◌≡◌, map, drop}
-use Rattle.ioa_syntax.specs.View.{variable_of, stmt_of}
+use Rattle.ioa_tree.specs.View.{variable_of, stmt_of}
 use Rattle.ioa_compose.specs.Rewriting as spec
 use Rattle.ioa_compose.proofs.RewritingLemmas.{in_front}
 use Rattle.ioa_compose.proofs.rewriting.resets.Given as goal

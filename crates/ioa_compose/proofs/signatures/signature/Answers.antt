@@ -5,12 +5,12 @@ use Rattle.std.proofs.lemmas.List.{take_all}
 use Rattle.ioa_value.specs.Plain.{plain}
 use Rattle.ioa_value.proofs.ItemLemmas.{passes_at}
 use Rattle.ioa_value.specs.Positions.{domain_of}
-use Rattle.ioa_syntax.specs.declared.tree.Crash.{Crash}
-use Rattle.ioa_syntax.specs.declared.tree.Entry.{Entry}
-use Rattle.ioa_syntax.specs.View.{automaton_of, crash_of, entry_of}
-use Rattle.ioa_syntax.specs.Domains.{AreDomainsOf}
-use Rattle.ioa_syntax.specs.WellFormed.{entry_fine}
-use Rattle.ioa_syntax.proofs.FineParts.{fine_parts, entry_parts}
+use Rattle.ioa_tree.specs.declared.tree.Crash.{Crash}
+use Rattle.ioa_tree.specs.declared.tree.Entry.{Entry}
+use Rattle.ioa_tree.specs.View.{automaton_of, crash_of, entry_of}
+use Rattle.ioa_tree.specs.Domains.{AreDomainsOf}
+use Rattle.ioa_tree.specs.WellFormed.{entry_fine}
+use Rattle.ioa_tree.proofs.FineParts.{fine_parts, entry_parts}
 use Rattle.ioa_compose.specs.Bindings.{instance_with, crash_in, plain_in}
 use Rattle.ioa_compose.specs.declared.signatures.SignedEntry as held
 use Rattle.ioa_compose.specs.Clashes.{IsSigned, signed_of}

@@ -1,6 +1,6 @@
 use Rattle.std.proofs.Common.{map, take}
 use Rattle.std.specs.List.{AllZip}
-use Rattle.ioa_syntax.specs.View.{entry_of}
+use Rattle.ioa_tree.specs.View.{entry_of}
 use Rattle.ioa_compose.specs.Bindings.{plain_in}
 use Rattle.ioa_compose.specs.Clashes.{IsSigned, signed_of}
 use Rattle.ioa_compose.proofs.signatures.signature.Given as goal

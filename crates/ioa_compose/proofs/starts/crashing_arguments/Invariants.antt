@@ -1,6 +1,6 @@
 use Rattle.std.proofs.Common.{◌≡◌, ◌++◌, map, drop, length}
 use Rattle.ioa_value.specs.Plain.{plain}
-use Rattle.ioa_syntax.specs.View.{variable_of}
+use Rattle.ioa_tree.specs.View.{variable_of}
 use Rattle.ioa_compose.specs.Rewriting.{volatile_values}
 use Rattle.ioa_compose.proofs.starts.crashing_arguments.Given as goal
 

@@ -1,7 +1,7 @@
 use Rattle.std.proofs.Common.{map, sym, ap, ◌∙◌}
 use Rattle.ioa_value.specs.Plain.{plain}
-use Rattle.ioa_syntax.specs.View.{variable_of}
-use Rattle.ioa_syntax.specs.Instances.{start_value, formal_values}
+use Rattle.ioa_tree.specs.View.{variable_of}
+use Rattle.ioa_tree.specs.Instances.{start_value, formal_values}
 use Rattle.ioa_compose.specs.Bindings.{plain_in, values_in}
 use Rattle.ioa_compose.proofs.RewrittenNames.{values_length}
 use Rattle.ioa_compose.proofs.StartLemmas.{started-long}

@@ -1,10 +1,10 @@
 use Rattle.std.proofs.Common.{[], IfOk, ap, subst, ◌≡◌, ◌∙◌, map}
 use Rattle.std.specs.Option.{option_map}
 use Rattle.ioa_value.specs.Operators.{answer_of}
-use Rattle.ioa_syntax.specs.View.{expr_of, field_of, variable_of, automaton_of}
-use Rattle.ioa_syntax.specs.Meaning.{val}
-use Rattle.ioa_syntax.specs.WellFormed.{type_of, context_of}
-use Rattle.ioa_syntax.proofs.Starts.{start_typed}
+use Rattle.ioa_tree.specs.View.{expr_of, field_of, variable_of, automaton_of}
+use Rattle.ioa_tree.specs.Meaning.{val}
+use Rattle.ioa_tree.specs.WellFormed.{type_of, context_of}
+use Rattle.ioa_tree.proofs.Starts.{start_typed}
 use Rattle.ioa_compose.specs.Scopes.{context, environment}
 use Rattle.ioa_compose.proofs.StartLemmas.{started-at}
 use Rattle.ioa_compose.proofs.starts.start_value.Goals as goal

@@ -1,9 +1,9 @@
 use Rattle.std.proofs.Common.{◌∷◌, [], sym, ap, ◌∙◌, ◌+◌, map, drop}
 use Rattle.std.proofs.lemmas.List.{map-append}
 use Rattle.ioa_value.specs.Plain.{plain}
-use Rattle.ioa_syntax.specs.View.{variable_of}
-use Rattle.ioa_syntax.specs.Meaning.{values_of}
-use Rattle.ioa_syntax.specs.Instances.{all_values, start_value, field_names}
+use Rattle.ioa_tree.specs.View.{variable_of}
+use Rattle.ioa_tree.specs.Meaning.{values_of}
+use Rattle.ioa_tree.specs.Instances.{all_values, start_value, field_names}
 use Rattle.ioa_compose.specs.Bindings.{plain_in, value_in}
 use Rattle.ioa_compose.proofs.ValueLemmas.{prepended, values-go-on}
 use Rattle.ioa_compose.proofs.StartLemmas.{fine-at, known-at}

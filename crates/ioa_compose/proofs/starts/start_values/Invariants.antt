@@ -1,8 +1,8 @@
 use Rattle.std.proofs.Common.{◌≡◌, map, drop}
 use Rattle.ioa_value.specs.Plain.{plain}
-use Rattle.ioa_syntax.specs.View.{variable_of}
-use Rattle.ioa_syntax.specs.Meaning.{values_of}
-use Rattle.ioa_syntax.specs.Instances.{all_values, start_value, field_names}
+use Rattle.ioa_tree.specs.View.{variable_of}
+use Rattle.ioa_tree.specs.Meaning.{values_of}
+use Rattle.ioa_tree.specs.Instances.{all_values, start_value, field_names}
 use Rattle.ioa_compose.specs.Bindings.{plain_in}
 use Rattle.ioa_compose.proofs.ValueLemmas.{prepended}
 use Rattle.ioa_compose.proofs.starts.start_values.Given as goal

@@ -1,9 +1,9 @@
 use Rattle.std.proofs.Common.{◌≡◌, ◌⊎◌, ◌+◌, ◌<◌, ℕ, List, Option, map, drop, length, refl, sym, ◌∙◌, arith}
 use Rattle.std.proofs.lemmas.List.{length-map}
 use mathlib.Core.Logic.{inl, inr}
-use Rattle.ioa_value.specs.declared.arithmetic.Fault.{Fault}
+use Rattle.ioa_arithmetic.specs.declared.arithmetic.Fault.{Fault}
 use Rattle.ioa_value.specs.Actions.{Act, act_of}
-use Rattle.ioa_syntax.specs.Runs.{Ending}
+use Rattle.ioa_tree.specs.Runs.{Ending}
 use Rattle.ioa_compile.specs.Programs.{Prog}
 use Rattle.ioa_compile.specs.Tables.{tabled, start_states}
 use Rattle.ioa_system.specs.declared.answer.Step.{Step}

@@ -1,5 +1,5 @@
 use Rattle.std.proofs.Common.{◌-◌, ◌<◌, arith, map, take, drop, length, Ok, Err, subst, sym, Result}
-use Rattle.ioa_value.specs.declared.arithmetic.Fault.{Fault}
+use Rattle.ioa_arithmetic.specs.declared.arithmetic.Fault.{Fault}
 use Rattle.ioa_value.specs.Plain.{plain}
 use Rattle.ioa_value.specs.Operators.{arity, operate, Takes, Stands}
 use Rattle.std.proofs.lemmas.List.{length-map}

@@ -1,6 +1,6 @@
 use Rattle.std.proofs.Common.{arith, ◌≤◌, ◌∙◌, ap, sym}
-use Rattle.ioa_syntax.specs.Depth.{depth_of}
-use Rattle.ioa_syntax.specs.View.{expr_of}
+use Rattle.ioa_tree.specs.Depth.{depth_of}
+use Rattle.ioa_tree.specs.View.{expr_of}
 use Rattle.ioa_syntax.proofs.Climb.{fields_turn}
 use Rattle.ioa_syntax.proofs.calls.selected.Goals as goal
 

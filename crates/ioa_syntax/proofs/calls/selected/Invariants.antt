@@ -1,7 +1,7 @@
 use Rattle.std.proofs.Common.{◌≡◌, ◌≤◌, ◌+◌, ◌-◌}
 use Rattle.ioa_lex.specs.Tokens.{tokens_shown}
 use Rattle.ioa_syntax.specs.Reading.{fields_from}
-use Rattle.ioa_syntax.specs.View.{expr_of}
+use Rattle.ioa_tree.specs.View.{expr_of}
 use Rattle.ioa_syntax.proofs.calls.selected.Given as goal
 
 abbrev pub invariant-loop-turn : goal.invariant-loop-turn

@@ -2,7 +2,7 @@ use Rattle.std.proofs.Common.{sym, ◌∙◌}
 use Rattle.ioa_value.specs.declared.limits.TheConstants.{LIMITS}
 use Rattle.ioa_value.specs.declared.terminal.Terminal.TheVariants as terminals
 use Rattle.ioa_syntax.specs.Reading.{always, expression}
-use Rattle.ioa_syntax.specs.View.{expr_of}
+use Rattle.ioa_tree.specs.View.{expr_of}
 use Rattle.ioa_syntax.proofs.Turns.{items_close}
 use Rattle.ioa_syntax.proofs.compositions.argument_list.Goals as goal
 

@@ -2,7 +2,7 @@ use Rattle.std.proofs.Common.{sym, ◌∙◌}
 use Rattle.ioa_value.specs.declared.limits.TheConstants.{LIMITS}
 use Rattle.ioa_value.specs.declared.terminal.Terminal.TheVariants as terminals
 use Rattle.ioa_syntax.specs.Reading.{sees_name, instance}
-use Rattle.ioa_syntax.specs.View.{instance_of}
+use Rattle.ioa_tree.specs.View.{instance_of}
 use Rattle.ioa_syntax.proofs.Turns.{items_close, items_last}
 use Rattle.ioa_syntax.proofs.compositions.instances.Goals as goal
 use Rattle.ioa_syntax.proofs.compositions.instances.Goals.{then-not-take-via-then-not-take, then-not-take-via-else-not-take+then-not-sees_name}

@@ -1,6 +1,6 @@
 use Rattle.std.proofs.Common.{◌≡◌, drop, find}
 use Rattle.ioa_syntax.specs.Operators.{operator_word}
-use Rattle.ioa_syntax.specs.declared.tree.Infix.TheVariants.{Operator}
+use Rattle.ioa_tree.specs.declared.tree.Infix.TheVariants.{Operator}
 use Rattle.ioa_syntax.specs.Reading as reading
 use Rattle.ioa_syntax.proofs.operators.named.Given as goal
 

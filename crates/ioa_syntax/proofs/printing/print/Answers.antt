@@ -4,7 +4,7 @@ use Rattle.ioa_lex.specs.Lexing.{Lexes}
 use Rattle.ioa_syntax.specs.Grammar.{SpellsSource}
 use Rattle.ioa_syntax.specs.Layout.{text_source}
 use Rattle.ioa_syntax.specs.Source.{plain}
-use Rattle.ioa_syntax.specs.View.{tree_of}
+use Rattle.ioa_tree.specs.View.{tree_of}
 use Rattle.ioa_syntax.proofs.Printed.{source_printed}
 use Rattle.ioa_syntax.proofs.printing.print.Goals as goal
 

@@ -1,7 +1,7 @@
 use Rattle.std.proofs.Common.{sym, ◌∙◌}
 use Rattle.ioa_value.specs.declared.terminal.Terminal.TheVariants as terminals
 use Rattle.ioa_syntax.specs.Reading.{sees_kind, entry}
-use Rattle.ioa_syntax.specs.View.{entry_of}
+use Rattle.ioa_tree.specs.View.{entry_of}
 use Rattle.ioa_syntax.proofs.Turns.{items_close, items_last}
 use Rattle.ioa_syntax.proofs.signatures.entries.Goals as goal
 use Rattle.ioa_syntax.proofs.signatures.entries.Goals.{then-not-take-via-then-not-take, then-not-take-via-else-not-take+then-not-sees_kind}

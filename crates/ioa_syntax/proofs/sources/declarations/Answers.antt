@@ -2,9 +2,9 @@ use Rattle.std.proofs.Common.{sym, ◌∙◌, subst, Result}
 use Rattle.ioa_value.specs.declared.limits.TheConstants.{LIMITS}
 use Rattle.ioa_lex.specs.declared.refusal.Refusal.{Refusal}
 use Rattle.ioa_lex.specs.Tokens.{tokens_shown}
-use Rattle.ioa_syntax.specs.Tree.{SourceTree}
+use Rattle.ioa_tree.specs.Tree.{SourceTree}
 use Rattle.ioa_syntax.specs.Reading.{Refuses, line_at}
-use Rattle.ioa_syntax.specs.View.{tree_of}
+use Rattle.ioa_tree.specs.View.{tree_of}
 use Rattle.ioa_syntax.proofs.Turns.{source_end, source_spent, source_turn, source_fail}
 use Rattle.ioa_syntax.proofs.sources.declarations.Goals as goal
 

@@ -1,11 +1,12 @@
 use Rattle.std.proofs.Common.{sym, subst, ap, arith, ◌-◌, ◌∙◌, Ok, rules}
 use Rattle.ioa_lex.specs.Tokens.{tokens_shown}
-use Rattle.ioa_syntax.specs.Tree.{Stmt}
+use Rattle.ioa_tree.specs.Tree.{Stmt}
 use Rattle.ioa_value.specs.declared.limits.TheConstants.{LIMITS}
 use Rattle.ioa_value.specs.declared.terminal.Terminal.TheVariants as terminals
 use Rattle.ioa_syntax.specs.Reading.{Outcome, Reads, assignment, choice, sees_statement, sees, statement, in_sequence, an_arm, sign, built, ◌▸◌}
-use Rattle.ioa_syntax.specs.View.{stmt_of, stmts_of, arm_of}
-use Rattle.ioa_syntax.proofs.Sequences.{statement_plain, statement_choice, arms_start, choice_read, stmt_choose}
+use Rattle.ioa_tree.specs.View.{stmt_of, stmts_of, arm_of}
+use Rattle.ioa_syntax.proofs.Sequences.{statement_plain, statement_choice, arms_start, choice_read}
+use Rattle.ioa_tree.proofs.StatementRows.{stmt_choose}
 use Rattle.ioa_syntax.proofs.Turns.{items_close, items_last, many_end, many_spent}
 use Rattle.ioa_syntax.proofs.statements.+statement.Goals as goal
 use Rattle.ioa_syntax.proofs.statements.+statement.Goals.{each_statement-then-not-take-via-then-not-take, each_statement-then-not-take-via-else-not-take+then-not-sees_statement}

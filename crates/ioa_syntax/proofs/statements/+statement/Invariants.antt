@@ -3,7 +3,7 @@ use Rattle.ioa_value.specs.declared.limits.TheConstants.{LIMITS}
 use Rattle.ioa_lex.specs.Tokens.{tokens_shown}
 use Rattle.ioa_value.specs.declared.terminal.Terminal.TheVariants as terminals
 use Rattle.ioa_syntax.specs.Reading.{items_from, many_from, sees, sees_statement, sign, built, ◌▸◌, statement, terminated, in_sequence, an_arm, more_arms}
-use Rattle.ioa_syntax.specs.View.{stmt_of, arm_of}
+use Rattle.ioa_tree.specs.View.{stmt_of, arm_of}
 use Rattle.ioa_syntax.proofs.statements.+statement.Given as goal
 
 abbrev pub decreases-statement : goal.decreases-statement

@@ -3,7 +3,7 @@ use Rattle.ioa_value.specs.declared.limits.TheConstants.{LIMITS}
 use Rattle.ioa_lex.specs.Tokens.{tokens_shown}
 use Rattle.ioa_value.specs.declared.terminal.Terminal.TheVariants as terminals
 use Rattle.ioa_syntax.specs.Reading.{items_from, sees_variable, variable, variables}
-use Rattle.ioa_syntax.specs.View.{variable_of}
+use Rattle.ioa_tree.specs.View.{variable_of}
 use Rattle.ioa_syntax.proofs.states.variables.Given as goal
 
 abbrev pub invariant-loop-turn : goal.invariant-loop-turn

@@ -2,7 +2,7 @@ use Rattle.std.proofs.Common.{sym, ◌∙◌}
 use Rattle.ioa_value.specs.declared.limits.TheConstants.{LIMITS}
 use Rattle.ioa_value.specs.declared.terminal.Terminal.TheVariants as terminals
 use Rattle.ioa_syntax.specs.Reading.{always, proposal}
-use Rattle.ioa_syntax.specs.View.{proposal_of}
+use Rattle.ioa_tree.specs.View.{proposal_of}
 use Rattle.ioa_syntax.proofs.Turns.{items_close}
 use Rattle.ioa_syntax.proofs.transitions.proposal_list.Goals as goal
 

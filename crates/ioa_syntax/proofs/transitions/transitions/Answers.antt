@@ -1,7 +1,7 @@
 use Rattle.std.proofs.Common.{sym, ◌∙◌}
 use Rattle.ioa_value.specs.declared.limits.TheConstants.{LIMITS}
 use Rattle.ioa_syntax.specs.Reading.{sees_kind, transition}
-use Rattle.ioa_syntax.specs.View.{transition_of}
+use Rattle.ioa_tree.specs.View.{transition_of}
 use Rattle.ioa_syntax.proofs.Turns.{many_end, many_spent}
 use Rattle.ioa_syntax.proofs.transitions.transitions.Goals as goal
 

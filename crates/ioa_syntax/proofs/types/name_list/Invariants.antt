@@ -2,7 +2,7 @@ use Rattle.std.proofs.Common.{◌≡◌, ◌-◌, map}
 use Rattle.ioa_lex.specs.Tokens.{tokens_shown}
 use Rattle.ioa_value.specs.declared.terminal.Terminal.TheVariants as terminals
 use Rattle.ioa_syntax.specs.Reading.{always, a_name, items_from, separated}
-use Rattle.ioa_syntax.specs.View.{name_of}
+use Rattle.ioa_tree.specs.View.{name_of}
 use Rattle.ioa_syntax.proofs.types.name_list.Given as goal
 
 abbrev pub invariant-loop-turn : goal.invariant-loop-turn

@@ -1,7 +1,7 @@
 use Rattle.std.proofs.Common.{sym, ap, ◌∙◌}
-use Rattle.ioa_syntax.specs.Runs.{is_external}
-use Rattle.ioa_syntax.specs.Compositions.{components_of}
-use Rattle.ioa_syntax.proofs.Simulation.{step_like, owner_like, participants_like, external_like}
+use Rattle.ioa_tree.specs.Runs.{is_external}
+use Rattle.ioa_tree.specs.Compositions.{components_of}
+use Rattle.ioa_tree.proofs.Simulation.{step_like, owner_like, participants_like, external_like}
 use Rattle.ioa_compile.specs.Tables.{tabled}
 use Rattle.ioa_compile.specs.Correspondence.{CorrespondsAt}
 use Rattle.ioa_system.proofs.laws.steps_are_the_sources.Goals as goal

@@ -1,6 +1,6 @@
 use Rattle.std.proofs.Common.{◌≡◌, drop, map}
 use Rattle.ioa_value.specs.Actions.{act_of}
-use Rattle.ioa_syntax.specs.Runs.{is_external}
+use Rattle.ioa_tree.specs.Runs.{is_external}
 use Rattle.ioa_compile.specs.Shown.{member_code}
 use Rattle.ioa_compile.specs.Tables.{table_component}
 use Rattle.ioa_system.proofs.participation.is_external.Given as goal

@@ -1,6 +1,6 @@
 use Rattle.std.proofs.Common.{◌≡◌, ◌++◌, drop, map}
 use Rattle.ioa_value.specs.Actions.{act_of}
-use Rattle.ioa_syntax.specs.Steps.{participants_from}
+use Rattle.ioa_tree.specs.Steps.{participants_from}
 use Rattle.ioa_compile.specs.Shown.{member_code}
 use Rattle.ioa_compile.specs.Tables.{table_component}
 use Rattle.ioa_system.proofs.participation.participants.Given as goal

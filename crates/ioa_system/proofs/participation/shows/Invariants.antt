@@ -1,7 +1,7 @@
 use Rattle.std.proofs.Common.{◌≡◌, drop, map}
 use Rattle.std.specs.String.{string_bytes}
 use Rattle.ioa_value.specs.Actions.{act_of}
-use Rattle.ioa_syntax.specs.Runs.{is_external}
+use Rattle.ioa_tree.specs.Runs.{is_external}
 use Rattle.ioa_system.specs.Found.{components_of}
 use Rattle.ioa_system.proofs.participation.shows.Given as goal
 

@@ -2,7 +2,7 @@ use Rattle.std.proofs.Common.{◌≡◌, ◌-◌, ◌∷◌, [], ◌++◌, map, 
 use Rattle.std.proofs.lemmas.Int.{to_z-of_z}
 use Rattle.std.specs.Prelude.{slice_get, nat_lt, if◌then◌else◌}
 use Rattle.std.specs.List.{drop-map}
-use Rattle.ioa_value.specs.declared.arithmetic.Fault.TheVariants.{Empty, OutOfRange, Full}
+use Rattle.ioa_arithmetic.specs.declared.arithmetic.Fault.TheVariants.{Empty, OutOfRange, Full}
 use Rattle.ioa_value.specs.declared.operator.Op.TheVariants.{Head, Last, Tail, Init, Append, At, Without, Field}
 use Rattle.ioa_value.specs.Plain.{plain, plain_all, num, items, tuple, vals}
 use Rattle.ioa_value.specs.Table.{capacity}

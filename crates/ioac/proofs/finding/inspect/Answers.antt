@@ -1,7 +1,7 @@
 use Rattle.std.proofs.Common.{◌≡◌, Some, None, ap, sym, ◌∙◌}
 use Rattle.std.specs.Option.{option_map}
 use Rattle.std.proofs.lemmas.Result.{err_from_is_err_and}
-use Rattle.ioa_syntax.specs.Hosts.{first_broken_host}
+use Rattle.ioa_tree.specs.Hosts.{first_broken_host}
 use Rattle.ioa_compose.specs.Held.{composed_of}
 use Rattle.ioa_compose.proofs.StandLemmas.{stands_broken}
 use Rattle.ioa_system.specs.Logs.{actions_of, logged}

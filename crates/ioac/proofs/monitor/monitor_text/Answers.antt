@@ -4,7 +4,7 @@ use Rattle.std.specs.Option.{option_copied}
 use Rattle.std.proofs.lemmas.Option.{IfSome_then}
 use Rattle.std.proofs.lemmas.Result.{err_from_is_err_and}
 use Rattle.ioa_value.specs.Actions.{act_of}
-use Rattle.ioa_syntax.specs.Hosts.{hosts_of, host_starts}
+use Rattle.ioa_tree.specs.Hosts.{hosts_of, host_starts}
 use Rattle.ioa_system.specs.Logs.{logged}
 use Rattle.ioa_log.specs.declared.failure.LogErr.{LogErr}
 use Rattle.ioa_log.specs.LogTexts.{ReadsLog}

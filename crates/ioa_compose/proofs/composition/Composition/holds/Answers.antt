@@ -1,7 +1,7 @@
 use Rattle.std.proofs.Common.{◌≡◌, ◌++◌, List, map, get_or, subst}
 use Rattle.ioa_value.specs.Plain.{Val, plain}
-use Rattle.ioa_syntax.specs.Instances.{state_of}
-use Rattle.ioa_syntax.specs.Invariants as meaning
+use Rattle.ioa_tree.specs.Instances.{state_of}
+use Rattle.ioa_tree.specs.Invariants as meaning
 use Rattle.ioa_compose.specs.Held.{Held, composed_of}
 use Rattle.ioa_compose.specs.Fine.{IsSound}
 use Rattle.ioa_compose.proofs.QuestionLemmas.{answerable, answers, whatever}

@@ -1,7 +1,7 @@
 use Rattle.std.proofs.Common.{map, length, Some, sym, ap, ◌∙◌, refl, arith}
 use Rattle.std.proofs.lemmas.List.{length-map}
 use Rattle.ioa_value.proofs.ItemLemmas.{at_map}
-use Rattle.ioa_syntax.specs.View.{name_of}
+use Rattle.ioa_tree.specs.View.{name_of}
 use Rattle.ioa_compose.specs.Clashes.{signed_of, signature_of}
 use Rattle.ioa_compose.proofs.IndexLemmas.{one-more, next}
 use Rattle.ioa_compose.proofs.index.Index.add_all.Goals as goal

@@ -1,7 +1,7 @@
 use Rattle.std.proofs.Common.{map}
 use Rattle.ioa_value.specs.Plain.{plain}
-use Rattle.ioa_syntax.specs.View.{field_of}
-use Rattle.ioa_syntax.proofs.Starts.{suits_of_fit}
+use Rattle.ioa_tree.specs.View.{field_of}
+use Rattle.ioa_tree.proofs.Starts.{suits_of_fit}
 use Rattle.ioa_compose.proofs.scope.Scope.of_starts.Goals as goal
 
 pub returns-clause-suits : goal.returns-clause-suits

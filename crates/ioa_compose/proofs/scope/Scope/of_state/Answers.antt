@@ -2,12 +2,12 @@ use Rattle.std.proofs.Common.{◌++◌, List, map, take, sym, ap, subst, ◌∙�
 use Rattle.std.proofs.lemmas.List.{take-map}
 use Rattle.ioa_value.specs.Plain.{plain}
 use Rattle.ioa_value.specs.declared.value.Value.{Value}
-use Rattle.ioa_syntax.specs.declared.tree.Field.{Field}
-use Rattle.ioa_syntax.specs.Tree.{VariableTree}
-use Rattle.ioa_syntax.specs.View.{field_of, variable_of}
-use Rattle.ioa_syntax.specs.Instances.{Fit, field_names}
-use Rattle.ioa_syntax.specs.Meaning.{values_of, over}
-use Rattle.ioa_syntax.specs.WellFormed.{context_of}
+use Rattle.ioa_tree.specs.declared.tree.Field.{Field}
+use Rattle.ioa_tree.specs.Tree.{VariableTree}
+use Rattle.ioa_tree.specs.View.{field_of, variable_of}
+use Rattle.ioa_tree.specs.Instances.{Fit, field_names}
+use Rattle.ioa_tree.specs.Meaning.{values_of, over}
+use Rattle.ioa_tree.specs.WellFormed.{context_of}
 use Rattle.ioa_compose.proofs.ScopeLemmas.{state-suits}
 use Rattle.ioa_compose.proofs.scope.Scope.of_state.Goals as goal
 

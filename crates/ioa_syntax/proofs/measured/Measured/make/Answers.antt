@@ -1,6 +1,6 @@
 use Rattle.std.proofs.Common.{arith, ap}
-use Rattle.ioa_syntax.specs.Depth.{depth_of}
-use Rattle.ioa_syntax.proofs.Tuples.{expr_make}
+use Rattle.ioa_tree.specs.Depth.{depth_of}
+use Rattle.ioa_tree.proofs.ExpressionRows.{expr_make}
 use Rattle.ioa_syntax.proofs.measured.Measured.make.Goals as goal
 
 pub invariant_of-result : goal.invariant_of-result

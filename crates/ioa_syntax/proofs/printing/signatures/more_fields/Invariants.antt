@@ -2,7 +2,7 @@ use Rattle.std.proofs.Common.{◌≡◌, ◌++◌, map, take}
 use Rattle.std.specs.String.{string_bytes}
 use Rattle.ioa_value.specs.declared.terminal.Terminal.TheVariants as terminals
 use Rattle.ioa_syntax.specs.Layout.{space, text_field, text_more}
-use Rattle.ioa_syntax.specs.View.{field_of}
+use Rattle.ioa_tree.specs.View.{field_of}
 use Rattle.ioa_syntax.proofs.printing.signatures.more_fields.Given as goal
 
 abbrev pub invariant-loop-field : goal.invariant-loop-field

@@ -2,7 +2,7 @@ use Rattle.std.proofs.Common.{◌≡◌, ◌++◌, map, take}
 use Rattle.std.specs.String.{string_bytes}
 use Rattle.ioa_value.specs.declared.terminal.Terminal.TheVariants as terminals
 use Rattle.ioa_syntax.specs.Layout.{text_more, text_position}
-use Rattle.ioa_syntax.specs.View.{position_of}
+use Rattle.ioa_tree.specs.View.{position_of}
 use Rattle.ioa_syntax.proofs.printing.signatures.more_positions.Given as goal
 
 abbrev pub invariant-loop-position : goal.invariant-loop-position

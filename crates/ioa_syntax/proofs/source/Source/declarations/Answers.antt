@@ -1,6 +1,6 @@
 use Rattle.std.proofs.Common.{rules}
 use Rattle.ioa_syntax.specs.Source.{IsSource}
-use Rattle.ioa_syntax.specs.View.{tree_of}
+use Rattle.ioa_tree.specs.View.{tree_of}
 use Rattle.ioa_syntax.proofs.LegalNames.{source_legal}
 use Rattle.ioa_syntax.proofs.source.Source.declarations.Goals as goal
 

@@ -2,8 +2,8 @@ use Rattle.std.proofs.Common.{◌≡◌, ◌++◌, List, length, drop, take, map
 use Rattle.std.specs.String.{string_bytes}
 use Rattle.ioa_value.specs.Actions.{Act, act_of}
 use Rattle.ioa_node.specs.Nodes.{Node}
-use Rattle.ioa_syntax.specs.Runs.{is_external}
-use Rattle.ioa_syntax.specs.Steps as steps
+use Rattle.ioa_tree.specs.Runs.{is_external}
+use Rattle.ioa_tree.specs.Steps as steps
 use Rattle.ioa_compile.specs.Programs.{Prog}
 use Rattle.ioa_compile.specs.Tables.{tabled}
 use Rattle.ioa_system.specs.declared.participation.Participant.{Participant}

@@ -7,7 +7,7 @@ use Rattle.std.proofs.lemmas.Option.{slice_get-map, slice_get-get_or, slice_get_
 use Rattle.ioa_node.specs.declared.state.NodeState.{NodeState}
 use Rattle.ioa_compile.specs.Programs.{MemberCode}
 use Rattle.ioa_value.specs.Actions.{act_of}
-use Rattle.ioa_syntax.specs.Steps.{participants}
+use Rattle.ioa_tree.specs.Steps.{participants}
 use Rattle.ioa_compile.specs.Tables.{tabled}
 use Rattle.ioa_system.specs.Participants.{taken}
 use Rattle.ioa_system.specs.Systems.{slot_types, slots_of, types_of}

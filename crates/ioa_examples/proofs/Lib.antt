@@ -1,0 +1,15 @@
+pub mod ValueTexts
+pub mod SequenceOperators
+pub mod Positions
+pub mod SmallSources
+pub mod DeclaredTypes
+pub mod ConstantPositions
+pub mod Sequences
+pub mod Tuples
+pub mod Invariants
+pub mod Hiding
+pub mod Spellings
+pub mod Reasons
+pub mod LogTexts
+pub mod BrokenInvariants
+pub mod Judging

@@ -1,0 +1,232 @@
+ghost use Rattle.std.specs.Prelude.{◌≡◌};
+ghost use Rattle.ioa_tree.specs.View.{first_line, constant_line};
+
+use ioa_value::Op;
+
+/// A name as it stands in a source, with its line (from 1).
+#[derive(Drop)]
+pub struct Name {
+    pub text: String,
+    pub line: u32,
+}
+
+/// An operator on two operands. All but those that are written around their operands stand between them.
+#[derive(Clone, Copy, PartialEq, Eq, Debug)]
+pub enum Infix {
+    /// An operator on the values of both.
+    Operator(Op),
+    /// `/\`, which asks for its second operand where the first is true.
+    And,
+    /// `\/`, which asks for its second operand where the first is false.
+    Or,
+    /// `=>`, which asks for its second operand where the first is true.
+    Implies,
+}
+
+/// An expression, with the line of its first token.
+#[derive(Drop)]
+pub enum Expression {
+    Number(u64, u32),
+    Truth(bool, u32),
+    Name(Name),
+    Parentheses(Box<Expression>, u32),
+    /// An operator on one operand: before it, as `-x`, or around it, as `len(s)`.
+    Prefix(Op, Box<Expression>, u32),
+    /// An operator on two operands: between them, as `x + y`, or around them, as `append(s, x)`.
+    Binary(Box<Expression>, Infix, Box<Expression>, u32),
+    /// The empty sequence of a type.
+    Empty(Name, u32),
+    /// A tuple of a type, of these fields.
+    Make(Name, Vec<Expression>),
+    /// A field of a tuple.
+    Select(Box<Expression>, Name, u32),
+}
+
+impl Expression {
+    /// The line of its first token.
+    pub fn line(&self) -> u32
+        ensures { result ≡ first_line self.now }
+    {
+        match self {
+            Expression::Name(name) | Expression::Make(name, _) => name.line,
+            Expression::Number(_, line)
+            | Expression::Truth(_, line)
+            | Expression::Parentheses(_, line)
+            | Expression::Prefix(_, _, line)
+            | Expression::Binary(_, _, _, line)
+            | Expression::Empty(_, line)
+            | Expression::Select(_, _, line) => *line,
+        }
+    }
+}
+
+/// A name and the name of its type: a formal parameter, a variable or a parameter of an entry.
+#[derive(Drop)]
+pub struct Field {
+    pub name: Name,
+    pub ty: Name,
+}
+
+/// Whether an automaton takes an action from its environment, offers it, or keeps it to itself.
+#[derive(Clone, Copy, PartialEq, Eq, Debug)]
+pub enum Kind {
+    Input,
+    Output,
+    Internal,
+}
+
+/// The constant of a position, with the line of its first token.
+#[derive(Drop)]
+pub enum Constant {
+    Number(u64, u32),
+    /// A number after `-`.
+    Negative(u64, u32),
+    Truth(bool, u32),
+    /// A formal, or a name of an enumeration.
+    Name(Name),
+}
+
+impl Constant {
+    /// The line of its first token.
+    pub fn line(&self) -> u32
+        ensures { result ≡ constant_line self.now }
+    {
+        match self {
+            Constant::Name(name) => name.line,
+            Constant::Number(_, line) | Constant::Negative(_, line) | Constant::Truth(_, line) => {
+                *line
+            }
+        }
+    }
+}
+
+/// A position of a signature's entry.
+#[derive(Drop)]
+pub enum Position {
+    /// A parameter, which stands for any value of its type.
+    Typed(Field),
+    /// One value only: a constant has no name.
+    Constant(Constant),
+}
+
+/// An entry of a signature.
+#[derive(Drop)]
+pub struct Entry {
+    pub kind: Kind,
+    pub name: Name,
+    pub positions: Vec<Position>,
+}
+
+/// A state variable. Without a start expression it starts at the first value of its type.
+#[derive(Drop)]
+pub struct Variable {
+    /// Whether a crash keeps its value.
+    pub stable: bool,
+    pub field: Field,
+    pub start: Option<Expression>,
+}
+
+/// Which value of a parameter to try.
+#[derive(Drop)]
+pub struct Proposal {
+    pub name: Name,
+    pub value: Expression,
+}
+
+/// A statement of an effect.
+#[derive(Drop)]
+#[cycle(statement)]
+pub enum Statement {
+    Assign(Name, Expression),
+    /// The first arm whose condition is true, and otherwise the statements after `else`. It keeps the line of `if`.
+    If(Vec<Arm>, Vec<Statement>, u32),
+}
+
+/// A condition, and what is done where it is true.
+#[derive(Drop)]
+#[cycle(statement)]
+pub struct Arm {
+    pub condition: Expression,
+    pub statements: Vec<Statement>,
+}
+
+/// The transition of an entry.
+#[derive(Drop)]
+pub struct Transition {
+    pub kind: Kind,
+    pub name: Name,
+    pub pre: Option<Expression>,
+    pub proposals: Vec<Proposal>,
+    pub effect: Vec<Statement>,
+}
+
+/// An automaton: signature, state and transitions.
+#[derive(Drop)]
+pub struct Automaton {
+    pub name: Name,
+    pub formals: Vec<Field>,
+    pub entries: Vec<Entry>,
+    pub variables: Vec<Variable>,
+    pub transitions: Vec<Transition>,
+}
+
+/// The names of the actions by which a component crashes and recovers.
+#[derive(Drop)]
+pub struct Crash {
+    pub crash: Name,
+    pub recover: Name,
+}
+
+/// A component of a composition: an automaton with its arguments.
+#[derive(Drop)]
+pub struct Instance {
+    pub name: Name,
+    pub automaton: Name,
+    pub arguments: Vec<Expression>,
+    /// Where it is there, the component crashes and recovers.
+    pub crash: Option<Crash>,
+}
+
+/// A composition as it is declared.
+#[derive(Drop)]
+pub struct Assembly {
+    pub name: Name,
+    pub instances: Vec<Instance>,
+    /// The names of the outputs that are hidden.
+    pub hidden: Vec<Name>,
+}
+
+/// What a type is declared to be.
+#[derive(Drop)]
+pub enum TypeForm {
+    /// The names of an enumeration.
+    Enumeration(Vec<Name>),
+    /// The fields of a tuple.
+    Tuple(Vec<Field>),
+    /// At most so many items of a type; with the line of the number.
+    Sequence(u64, Name, u32),
+}
+
+/// A type as it is declared.
+#[derive(Drop)]
+pub struct TypeDeclaration {
+    pub name: Name,
+    pub form: TypeForm,
+}
+
+/// An invariant as it is declared: what is to be true of each component of an automaton in each state.
+#[derive(Drop)]
+pub struct Invariant {
+    pub automaton: Name,
+    /// A condition on the automaton's variables and formals.
+    pub condition: Expression,
+}
+
+/// A declaration of a source.
+#[derive(Drop)]
+pub enum Declaration {
+    Type(TypeDeclaration),
+    Automaton(Automaton),
+    Composition(Assembly),
+    Invariant(Invariant),
+}
