@@ -4,7 +4,7 @@ PREFIX ?= /usr/local
 PROGRAM := crates/ioac/out/ioac
 EXAMPLE := examples/counter
 
-.PHONY: all demo test examples bench install clean
+.PHONY: all demo test planted examples bench install clean
 
 # Proves and builds the program.
 all: $(PROGRAM)
@@ -23,7 +23,11 @@ demo:
 
 # The whole gate. It leaves no new file in the checkout.
 test:
-	@FILES=$$(sh examples/files.sh) && export FILES && rt ci && sh examples/run.sh $(PROGRAM)
+	@FILES=$$(sh examples/files.sh) && export FILES && tools/planted --texts && rt ci && sh examples/run.sh $(PROGRAM)
+
+# Tries the planted bugs, over what checks kept: those of all crates, or of CRATES.
+planted:
+	@tools/planted $(CRATES)
 
 # The examples on the program that stands.
 examples: all
