@@ -25,6 +25,7 @@ use Rattle.ioa_syntax.proofs.Binding.{around_found, around_only, around_stands, 
 use Rattle.ioa_syntax.proofs.Endings.{mark, Ends, ends_close, ends_comma, comma_close}
 use Rattle.ioa_syntax.proofs.Lists.{separated_exact}
 use Rattle.ioa_syntax.proofs.Spelled.{expression_some}
+use Rattle.ioa_tree.proofs.ExpressionRows.{listed}
 
 -- ---- how an operand begins
 

@@ -20,6 +20,7 @@ use Rattle.ioa_tree.specs.Rows.{sequence, choices}
 use Rattle.ioa_syntax.specs.Layout.{space, line, text_word, text_expr, text_more, text_stmt, text_stmts, text_more_stmts, text_arms}
 use Rattle.ioa_tree.specs.View.{expr_of, stmt_of, stmts_of, arm_of, arms_of, row_stmts, row_arms}
 use Rattle.ioa_syntax.proofs.Outcomes.{ok_pair}
+use Rattle.ioa_tree.proofs.StatementRows.{sequence_shown, choices_shown}
 
 -- ---- what was read
 

@@ -122,7 +122,7 @@ fn arms(cursor: &mut Cursor<'_>, first: Arm, levels: u32) -> Result<Vec<Arm>, Re
 
 /// A choice that stands on this line, after `if`.
 #[cycle(statement)]
-#[tactic(auto, unfolding(crate::specs::Reading::choice), using(crate::proofs::Sequences::choice_read, crate::proofs::Sequences::choice_fails, crate::proofs::Sequences::stmt_choose))]
+#[tactic(auto, unfolding(crate::specs::Reading::choice), using(crate::proofs::Sequences::choice_read, crate::proofs::Sequences::choice_fails, ioa_tree::proofs::StatementRows::stmt_choose))]
 fn choice(cursor: &mut Cursor<'_>, levels: u32, line: u32) -> Result<Statement, ReadError>
     ensures { Reads stmt_of (spec.choice LIMITS.depth (spec.in_sequence (spec.statement LIMITS.depth levels)) (tokens_shown cursor.old)) result (tokens_shown cursor.new) }
 {
