@@ -14,12 +14,7 @@ $(PROGRAM): crates.txt $(wildcard crates/*/src/*.rt crates/*/src/*/*.rt)
 
 # Shows the main job on an example. Until `make` has run, the program is tried without its proofs.
 demo:
-	@if [ -x $(PROGRAM) ]; then \
-	  $(PROGRAM) replay $(EXAMPLE)/counter.ioa < $(EXAMPLE)/counts.list; \
-	else \
-	  echo "(the program is not proved here yet: this runs it unproved; 'make' proves it)" >&2; \
-	  cd crates/ioac && rt try -- replay $(CURDIR)/$(EXAMPLE)/counter.ioa < ../../$(EXAMPLE)/counts.list; \
-	fi
+	@sh examples/demo.sh $(PROGRAM)
 
 # The whole gate. It leaves no new file in the checkout.
 test:

@@ -12,7 +12,7 @@ use Rattle.ioa_value.specs.Shapes.{place}
 use Rattle.ioa_value.specs.Table.{Table, names_in, shape_at, place_from, type_named, constant_from, constant_named}
 use Rattle.ioa_value.proofs.PlaceLemmas.{place_from_below}
 use Rattle.ioa_tree.specs.Types.{constant_type}
-use Rattle.ioa_syntax.proofs.Complete.{lt_holds}
+use Rattle.ioa_grammar.proofs.Complete.{lt_holds}
 
 not_below : (k m : ℕ) → m ≤ k → nat_lt k m ≡ false
 not_below k m h = grind (arith, nat_tests)

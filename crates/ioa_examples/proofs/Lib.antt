@@ -1,3 +1,4 @@
+pub mod LimitNumbers
 pub mod ValueTexts
 pub mod SequenceOperators
 pub mod Positions

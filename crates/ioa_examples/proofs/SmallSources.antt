@@ -6,7 +6,7 @@ use Rattle.ioa_value.specs.Plain.{Val, num}
 use Rattle.ioa_value.specs.Plain.{truth as truth_value}
 use Rattle.ioa_value.specs.declared.operator.Op.TheVariants.{Neg, Add, Sub, Mul, Div, Mod, Lt, Gt, Not, Eq}
 use Rattle.ioa_tree.specs.declared.tree.Infix.TheVariants.{Operator, And, Or, Implies}
-use Rattle.ioa_syntax.specs.declared.fault.Fault.TheVariants.{Syntax, TooDeep}
+use Rattle.ioa_grammar.specs.declared.fault.Fault.TheVariants.{Syntax, TooDeep}
 use Rattle.ioa_tree.specs.declared.tree.Kind.TheVariants.{Input, Output}
 use Rattle.ioa_tree.specs.Tree.{Expr, number, truth, named, prefix, binary, FieldTree, typed, EntryTree, VariableTree, ProposalTree, TransitionTree, assign, choose, Stmts, stop, seq, no_arm, arm, AutomatonTree, InstanceTree, CompositionTree, automaton, composition, SourceTree}
 use Rattle.ioa_tree.specs.Meaning.{Env}
@@ -22,7 +22,7 @@ use Rattle.ioa_value.specs.declared.terminal.Terminal.TheVariants as terminals
 use Rattle.ioa_value.specs.declared.operator.Op.{Op}
 use Rattle.ioa_lex.specs.Tokens as tokens
 use Rattle.ioa_lex.specs.Tokens.{Tok, terminal}
-use Rattle.ioa_syntax.specs.Reading.{Outcome, expression, expr, first, operand, fields_from, after_name, primary, start_at, start_of, climb, operator_at, operator_of, prefix_at, prefix_of, terminal_at, same_terminal, sees, sign, statements, statement, in_sequence, terminated, items_from, sees_statement, sees_name, after, choice, an_arm, more_arms, many, many_from, introduced, assignment, a_name}
+use Rattle.ioa_grammar.specs.Reading.{Outcome, expression, expr, first, operand, fields_from, after_name, primary, start_at, start_of, climb, operator_at, operator_of, prefix_at, prefix_of, terminal_at, same_terminal, sees, sign, statements, statement, in_sequence, terminated, items_from, sees_statement, sees_name, after, choice, an_arm, more_arms, many, many_from, introduced, assignment, a_name}
 
 abbrev pub field : Name → Name → FieldTree
 field x t = record { name = x; ty = t }

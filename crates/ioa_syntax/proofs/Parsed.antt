@@ -15,12 +15,12 @@ use Rattle.ioa_tree.specs.declared.tree.Declaration.{Declaration}
 use Rattle.ioa_tree.specs.Tree.{SourceTree}
 use Rattle.ioa_tree.specs.Depth.{source_deep}
 use Rattle.ioa_tree.specs.View.{tree_of}
-use Rattle.ioa_syntax.specs.Grammar.{SpellsSource, IsDeadEnd}
+use Rattle.ioa_grammar.specs.Grammar.{SpellsSource, IsDeadEnd}
 use Rattle.ioa_syntax.specs.Source.{AreTokens, IsSource, plain, line_of, BeginsTooDeep, IsRefused}
-use Rattle.ioa_syntax.specs.Reading as reading
-use Rattle.ioa_syntax.specs.Reading.{source, line_at, Gives, Refuses}
-use Rattle.ioa_syntax.proofs.Whole as whole
-use Rattle.ioa_syntax.proofs.Whole.{source_found, source_only, source_stuck, source_deeper, source_refuses}
+use Rattle.ioa_grammar.specs.Reading as reading
+use Rattle.ioa_grammar.specs.Reading.{source, line_at, Gives, Refuses}
+use Rattle.ioa_grammar.proofs.Whole as whole
+use Rattle.ioa_grammar.proofs.Whole.{source_found, source_only, source_stuck, source_deeper, source_refuses}
 
 -- ---- tokens with and without their lines
 

@@ -11,12 +11,12 @@ use Rattle.ioa_tree.specs.Tree.{Expr, number, truth, named, parens, prefix, bina
 use Rattle.ioa_value.specs.declared.operator.Op.{Op}
 use Rattle.ioa_tree.specs.declared.tree.Infix.{Infix}
 use Rattle.ioa_tree.specs.declared.tree.Infix.TheVariants.{Operator}
-use Rattle.ioa_syntax.specs.Operators.{operator_word, left_of, right_of, tightest}
-use Rattle.ioa_syntax.specs.Grammar.{Language, ◌▹◌, single, word, called, nothing, optional, optional_list, flagged, each_after, perhaps, separated, terminated, many, enclosed, braced, kind_word, SpellsExpr, SpellsExprs, SpellsOthers, SpellsField, SpellsFields, SpellsConstant, SpellsPosition, SpellsPositions, SpellsEntry, SpellsVariable, SpellsProposal, SpellsStmt, SpellsStmts, SpellsMore, SpellsAfter, SpellsArms, SpellsTransition, SpellsAutomaton, SpellsArguments, SpellsCrash, SpellsInstance, SpellsInstances, SpellsHidden, SpellsComposition, SpellsForm, SpellsType, SpellsInvariant, SpellsDeclaration, SpellsSource}
+use Rattle.ioa_grammar.specs.Operators.{operator_word, left_of, right_of, tightest}
+use Rattle.ioa_grammar.specs.Grammar.{Language, ◌▹◌, single, word, called, nothing, optional, optional_list, flagged, each_after, perhaps, separated, terminated, many, enclosed, braced, kind_word, SpellsExpr, SpellsExprs, SpellsOthers, SpellsField, SpellsFields, SpellsConstant, SpellsPosition, SpellsPositions, SpellsEntry, SpellsVariable, SpellsProposal, SpellsStmt, SpellsStmts, SpellsMore, SpellsAfter, SpellsArms, SpellsTransition, SpellsAutomaton, SpellsArguments, SpellsCrash, SpellsInstance, SpellsInstances, SpellsHidden, SpellsComposition, SpellsForm, SpellsType, SpellsInvariant, SpellsDeclaration, SpellsSource}
 use Rattle.ioa_syntax.specs.Source.{AreTokens, IsSource, plain}
 use Rattle.ioa_syntax.specs.Layout.{space, line, text_word, text_name, text_more, text_list, text_all, text_optional_list, text_parens, before_list, before_option, text_flag, text_number, text_enclosed, text_expr, text_exprs, text_others, text_option, text_field, text_constant, text_position, text_entry, text_variable, text_binding, text_proposal, text_stmt, text_stmts, text_more_stmts, text_after, text_arms, text_transition, text_behaviour, text_automaton, text_crash, text_instance, text_hidden, text_composition, text_braces, text_form, text_type, text_invariant, text_declaration, text_source}
 use Rattle.ioa_syntax.proofs.LegalNames.{tokens_apart}
-use Rattle.ioa_syntax.proofs.Binding.{before_encloses, between_encloses, around_stands}
+use Rattle.ioa_grammar.proofs.Binding.{before_encloses, between_encloses, around_stands}
 
 -- the text has tokens of the language
 abbrev Prints : Language → List ℕ → Type 0

@@ -9,8 +9,8 @@ use Rattle.ioa_value.specs.Actions.{Name}
 use Rattle.ioa_tree.specs.Tree as tree
 use Rattle.ioa_tree.specs.Tree.{Expr, truth, named, parens, prefix, binary, make, select, Exprs, no_expr, also, FieldTree, ConstantTree, positive, negative, truth_literal, reference, PositionTree, typed, only, EntryTree, VariableTree, ProposalTree, Stmt, assign, choose, Stmts, stop, seq, Arms, no_arm, arm, TransitionTree, AutomatonTree, CrashTree, InstanceTree, CompositionTree, InvariantTree, FormTree, enumeration, tuple, sequence, TypeTree, DeclarationTree, declared_type, automaton, composition, invariant, SourceTree}
 use Rattle.ioa_tree.specs.declared.tree.Infix.TheVariants.{Operator}
-use Rattle.ioa_syntax.specs.Operators.{operator_word, stands_around}
-use Rattle.ioa_syntax.specs.Grammar.{kind_word}
+use Rattle.ioa_grammar.specs.Operators.{operator_word, stands_around}
+use Rattle.ioa_grammar.specs.Grammar.{kind_word}
 
 abbrev pub space : ℕ
 space = 32

@@ -9,7 +9,7 @@ use Rattle.ioa_lex.specs.Lexing as lexing
 use Rattle.ioa_lex.specs.Lexing.{Lexes, line_after}
 use Rattle.ioa_tree.specs.Tree.{DeclarationTree, SourceTree}
 use Rattle.ioa_tree.specs.Depth.{deep, source_deep}
-use Rattle.ioa_syntax.specs.Grammar.{SpellsSource, IsDeadEnd}
+use Rattle.ioa_grammar.specs.Grammar.{SpellsSource, IsDeadEnd}
 
 -- texts can hold each of the tokens: names are legal, and numbers not too large
 abbrev pub AreTokens : List Tok → Type 0

@@ -3,7 +3,7 @@
 ghost use Rattle.std.specs.Prelude.{◌≡◌, List};
 ghost use Rattle.ioa_lex.specs.Tokens.{Tok};
 ghost use Rattle.ioa_tree.specs.Tree.{SourceTree};
-ghost use Rattle.ioa_syntax.specs.Grammar.{SpellsSource};
+ghost use Rattle.ioa_grammar.specs.Grammar.{SpellsSource};
 
 /// Tokens spell one source at most, of any depth.
 pub fn one_tree()

@@ -1,25 +1,10 @@
-//! The grammar: texts are read as trees, and trees are printed.
+//! Sources: texts are read as trees, and trees are printed.
 #![tactic(auto)]
 
-mod automata;
-mod calls;
-mod compositions;
-mod cursor;
-mod expressions;
-mod fault;
-mod invariants;
 mod laws;
-mod measured;
-mod operators;
 mod parsing;
 mod printing;
-mod signatures;
 mod source;
-mod sources;
-mod statements;
-mod states;
-mod transitions;
-mod types;
 
 pub use ioa_lex::Refusal;
 pub use ioa_tree::{

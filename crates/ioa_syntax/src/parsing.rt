@@ -6,14 +6,14 @@ ghost use Rattle.ioa_lex.specs.Tokens.{Tok, tokens_shown};
 ghost use Rattle.ioa_lex.specs.Lexing.{Lexes, StopsOn, line_after};
 ghost use Rattle.ioa_tree.specs.Tree.{SourceTree};
 ghost use Rattle.ioa_tree.specs.Depth.{source_deep};
-ghost use Rattle.ioa_syntax.specs.Grammar.{SpellsSource};
+ghost use Rattle.ioa_grammar.specs.Grammar.{SpellsSource};
 ghost use Rattle.ioa_syntax.specs.Source.{AreTokens, plain, IsRefused};
-ghost use Rattle.ioa_syntax.specs.Reading as spec;
-ghost use Rattle.ioa_syntax.specs.Reading.{Gives, line_at};
+ghost use Rattle.ioa_grammar.specs.Reading as spec;
+ghost use Rattle.ioa_grammar.specs.Reading.{Gives, line_at};
 ghost use Rattle.ioa_tree.specs.View.{tree_of};
 
 use crate::source::Source;
-use crate::sources::declarations;
+use ioa_grammar::declarations;
 use ioa_lex::{Refusal, Token, lex};
 use std::alloc::Global;
 

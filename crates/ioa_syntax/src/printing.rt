@@ -13,7 +13,7 @@ ghost use Rattle.std.specs.Prelude.{◌≡◌, ◌++◌, ℕ, List, map, OnOk, I
 ghost use Rattle.std.specs.String.{string_bytes};
 ghost use Rattle.ioa_lex.specs.Tokens.{Tok};
 ghost use Rattle.ioa_lex.specs.Lexing.{Lexes};
-ghost use Rattle.ioa_syntax.specs.Grammar.{SpellsSource};
+ghost use Rattle.ioa_grammar.specs.Grammar.{SpellsSource};
 ghost use Rattle.ioa_syntax.specs.Layout as spec;
 ghost use Rattle.ioa_syntax.specs.Source.{plain};
 ghost use Rattle.ioa_tree.specs.View.{declaration_of, tree_of};

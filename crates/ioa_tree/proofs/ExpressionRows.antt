@@ -1,12 +1,11 @@
 -- Expressions in order, as lists and as trees of their own.
-use Rattle.std.proofs.Common.{◌≡◌, List, [], ◌∷◌, ◌++◌, map, max, true, Ok, refl, sym, ap, ◌∙◌, rules, arith, Vec, Global, append_assoc}
+use Rattle.std.proofs.Common.{◌≡◌, List, [], ◌∷◌, map, refl, sym, ap, ◌∙◌, rules, Vec, Global}
 use Rattle.ioa_tree.specs.declared.tree.Name.{Name}
 use Rattle.ioa_tree.specs.declared.tree.Expression.{Expression, Row_of-Expression, end_of-Expression, more_of-Expression, items-the_row-Expression}
 use Rattle.ioa_tree.specs.declared.tree.Expression.TheVariants.{Make}
 use Rattle.ioa_tree.specs.declared.tree.Expression.TheViews.{the_lemmas}
 use Rattle.ioa_tree.specs.Tree.{Expr, make, also}
 use Rattle.ioa_tree.specs.View.{name_of, expr_of, exprs_of, row_exprs}
-use Rattle.ioa_value.specs.Actions.{Name as Text}
 use Rattle.ioa_tree.specs.Tree.{Exprs, no_expr}
 use Rattle.ioa_tree.specs.Rows.{in_order}
 

@@ -1,16 +1,15 @@
 -- The names of a source's parts, where all of the source's are legal.
-use Rattle.std.proofs.Common.{◌≡◌, ℕ, inl, inr, refl, Bool, true, false, cond, List, [], ◌∷◌, ◌++◌, Option, Some, None, All, sym, ap, ◌∙◌, subst, append_assoc}
+use Rattle.std.proofs.Common.{◌≡◌, Bool, true, false, cond, List, [], ◌∷◌, ◌++◌, Option, Some, None, All, subst}
 use Rattle.std.specs.List.{flat_map, find}
 use Rattle.std.specs.Prelude.{reverse}
 use Rattle.std.proofs.lemmas.List.{reverse-append}
 use Rattle.std.specs.Str.{bytes_eq}
-use Rattle.std.proofs.lemmas.List.Elements.{All-nil, All-cons, All-append, All-head, All-tail, All-same, All-push, All-weaker}
+use Rattle.std.proofs.lemmas.List.Elements.{All-nil, All-cons, All-head, All-tail, All-same, All-push, All-weaker}
 use Rattle.ioa_value.specs.Actions.{Name}
 use Rattle.ioa_value.specs.Names.{IsName}
-use Rattle.ioa_tree.specs.Tree.{Expr, number, truth, named, parens, prefix, binary, empty, make, select, Exprs, no_expr, also, FieldTree, ConstantTree, positive, negative, truth_literal, reference, PositionTree, typed, only, EntryTree, VariableTree, Stmt, assign, choose, Stmts, stop, seq, Arms, no_arm, arm, TransitionTree, AutomatonTree, CrashTree, InstanceTree, CompositionTree, InvariantTree, FormTree, enumeration, tuple, sequence, TypeTree, DeclarationTree, declared_type, automaton, composition, invariant, SourceTree}
-use Rattle.ioa_tree.specs.declared.tree.Infix.TheVariants.{Operator}
+use Rattle.ioa_tree.specs.Tree.{EntryTree, AutomatonTree, InstanceTree, CompositionTree, DeclarationTree, declared_type, automaton, composition, invariant, SourceTree}
 use Rattle.ioa_tree.specs.Compositions.{automata, compositions, invariants, first_item, picked, automaton_named}
-use Rattle.ioa_tree.specs.Names.{names_of_expr, names_of_exprs, names_of_option, names_of_field, names_of_constant, names_of_position, names_of_entry, names_of_variable, names_of_proposal, names_of_stmt, names_of_stmts, names_of_arms, names_of_transition, names_of_automaton, names_of_crash, names_of_instance, names_of_composition, names_of_form, names_of_type, names_of_invariant, names_of_declaration, LegalNames}
+use Rattle.ioa_tree.specs.Names.{names_of_expr, names_of_field, names_of_position, names_of_entry, names_of_variable, names_of_transition, names_of_automaton, names_of_crash, names_of_instance, names_of_composition, names_of_invariant, names_of_declaration, LegalNames}
 
 abbrev AreNames : List Name → Type 0
 AreNames ns = All IsName ns

@@ -6,7 +6,7 @@ use Rattle.ioa_lex.specs.Tokens.{Tok}
 use Rattle.ioa_lex.specs.Lexing.{Lexes}
 use Rattle.ioa_tree.specs.Tree.{SourceTree, CompositionTree}
 use Rattle.ioa_syntax.specs.Source.{plain}
-use Rattle.ioa_syntax.specs.Grammar.{SpellsSource}
+use Rattle.ioa_grammar.specs.Grammar.{SpellsSource}
 use Rattle.ioa_tree.specs.WellFormed.{WellFormed}
 use Rattle.ioa_tree.specs.Compositions.{picked}
 use Rattle.ioa_tree.specs.Hosts.{Hosted, IsHosted, hosts_of, host_starts}

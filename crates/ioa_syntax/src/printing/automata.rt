@@ -3,7 +3,7 @@
 ghost use Rattle.std.specs.Prelude.{◌≡◌, ◌++◌, ◌<◌, map, OnOk};
 ghost use Rattle.std.specs.Option.{option_map};
 ghost use Rattle.std.specs.String.{string_bytes};
-ghost use Rattle.ioa_syntax.specs.Grammar.{kind_word};
+ghost use Rattle.ioa_grammar.specs.Grammar.{kind_word};
 ghost use Rattle.ioa_syntax.specs.Layout as spec;
 ghost use Rattle.ioa_tree.specs.View.{expr_of, variable_of, proposal_of, transition_of, automaton_of};
 

@@ -5,8 +5,8 @@ ghost use Rattle.std.specs.String.{string_bytes};
 ghost use Rattle.ioa_syntax.specs.Layout.{space, text_expr, text_more};
 ghost use Rattle.ioa_tree.specs.View.{expr_of};
 
-use crate::operators::{stands_around, word_of};
 use crate::printing::words::{SPACE, call, name, number, word};
+use ioa_grammar::{stands_around, word_of};
 use ioa_lex::Terminal;
 use ioa_tree::{Expression, Infix};
 use ioa_value::OutOfMemory;

@@ -2,7 +2,7 @@
 
 ghost use Rattle.std.specs.Prelude.{◌≡◌, ◌++◌, ◌<◌, map, OnOk};
 ghost use Rattle.std.specs.String.{string_bytes};
-ghost use Rattle.ioa_syntax.specs.Grammar.{kind_word};
+ghost use Rattle.ioa_grammar.specs.Grammar.{kind_word};
 ghost use Rattle.ioa_syntax.specs.Layout as spec;
 ghost use Rattle.ioa_tree.specs.View.{field_of, constant_of, position_of, entry_of};
 

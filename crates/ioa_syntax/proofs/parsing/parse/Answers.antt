@@ -4,7 +4,7 @@ use Rattle.ioa_lex.specs.declared.refusal.Refusal.TheVariants as refusals
 use Rattle.ioa_lex.specs.declared.token.Token.{Token}
 use Rattle.ioa_lex.specs.Tokens.{Tok, tokens_shown}
 use Rattle.ioa_lex.specs.Lexing.{Lexes, placed}
-use Rattle.ioa_syntax.specs.Grammar.{SpellsSource}
+use Rattle.ioa_grammar.specs.Grammar.{SpellsSource}
 use Rattle.ioa_syntax.specs.Source.{AreTokens, plain}
 use Rattle.ioa_syntax.proofs.Parsed.{short_of, lexed_tokens, parsed_found, parsed_refused, parsed_only, parsed_short}
 use Rattle.ioa_syntax.proofs.parsing.parse.Goals as goal

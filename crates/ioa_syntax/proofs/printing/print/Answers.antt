@@ -1,7 +1,7 @@
 use Rattle.std.proofs.Common.{◌≡◌, ℕ, List, rules, sym, subst}
 use Rattle.ioa_lex.specs.Tokens.{Tok}
 use Rattle.ioa_lex.specs.Lexing.{Lexes}
-use Rattle.ioa_syntax.specs.Grammar.{SpellsSource}
+use Rattle.ioa_grammar.specs.Grammar.{SpellsSource}
 use Rattle.ioa_syntax.specs.Layout.{text_source}
 use Rattle.ioa_syntax.specs.Source.{plain}
 use Rattle.ioa_tree.specs.View.{tree_of}

@@ -3,8 +3,8 @@ use Rattle.std.specs.String.{string_bytes}
 use Rattle.ioa_value.specs.declared.terminal.Terminal.TheVariants as terminals
 use Rattle.ioa_syntax.specs.Layout.{space, text_word, text_name, text_expr, text_exprs, text_more}
 use Rattle.ioa_tree.specs.View.{name_of, expr_of, exprs_of}
-use Rattle.ioa_syntax.proofs.Sequences.{none_of}
-use Rattle.ioa_syntax.proofs.Tuples.{text_expressions}
+use Rattle.ioa_syntax.proofs.PrintedRows.{none_of}
+use Rattle.ioa_syntax.proofs.PrintedRows.{text_expressions}
 use Rattle.ioa_tree.proofs.ExpressionRows.{expr_made}
 use Rattle.ioa_syntax.proofs.printing.expressions.+expression.Goals as goal
 use Rattle.ioa_syntax.proofs.printing.expressions.+expression.Goals.{expression-in-Some+in_ok-expression-in-Make+in_ok-more_expressions-in-Make, expression-in_default}

@@ -6,7 +6,7 @@ use Rattle.ioa_value.specs.declared.terminal.Terminal.TheVariants as terminals
 use Rattle.ioa_tree.specs.Tree.{choose, no_arm}
 use Rattle.ioa_syntax.specs.Layout.{space, line, text_word, text_expr, text_more, text_stmt, text_stmts, text_more_stmts, text_after, text_arms}
 use Rattle.ioa_tree.specs.View.{expr_of, stmt_of, stmts_of, arms_of}
-use Rattle.ioa_syntax.proofs.Sequences.{text_statements, text_arm, text_all_arms, joined, none_of}
+use Rattle.ioa_syntax.proofs.PrintedRows.{text_statements, text_arm, text_all_arms, joined, none_of}
 use Rattle.ioa_tree.proofs.StatementRows.{stmt_chosen}
 use Rattle.ioa_syntax.proofs.printing.statements.+statement.Goals as goal
 use Rattle.ioa_syntax.proofs.printing.statements.+statement.Goals.{statement-in-Some-split_first+in_ok-word+in_ok-statement+in_ok-more_statements, statement-in_default-split_first}

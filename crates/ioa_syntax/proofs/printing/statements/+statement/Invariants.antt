@@ -4,7 +4,7 @@ use Rattle.std.specs.String.{string_bytes}
 use Rattle.ioa_value.specs.declared.terminal.Terminal.TheVariants as terminals
 use Rattle.ioa_syntax.specs.Layout.{text_more, text_stmt}
 use Rattle.ioa_tree.specs.View.{stmt_of}
-use Rattle.ioa_syntax.proofs.Sequences.{text_arm}
+use Rattle.ioa_syntax.proofs.PrintedRows.{text_arm}
 use Rattle.ioa_syntax.proofs.printing.statements.+statement.Given as goal
 
 abbrev pub invariant-more_statements-loop-each : goal.invariant-more_statements-loop-each

@@ -1,0 +1,39 @@
+use std::alloc::{AllocError, AllocFailed};
+
+/// Why the tokens do not go on as the grammar wants.
+#[derive(Clone, Copy, PartialEq, Eq, Debug)]
+pub(crate) enum Fault {
+    /// Nothing goes on with the token before whose end so many are left, itself among them.
+    Syntax(usize),
+    /// An expression is deeper than it may be.
+    TooDeep,
+}
+
+/// Why nothing was read.
+#[derive(Clone, Copy, Debug)]
+pub(crate) enum ReadError {
+    OutOfMemory,
+    Fault(Fault),
+}
+
+impl From<AllocError> for ReadError {
+    ghost use Rattle.std.specs.Prelude.{◌≡◌};
+    ghost use Rattle.ioa_grammar.specs.declared.fault.ReadError.TheVariants as errors;
+
+    ghost from_gives = { λ _ e. e ≡ errors.OutOfMemory };
+
+    fn from(_error: AllocError) -> ReadError {
+        ReadError::OutOfMemory
+    }
+}
+
+impl<T: Drop> From<AllocFailed<T>> for ReadError {
+    ghost use Rattle.std.specs.Prelude.{◌≡◌};
+    ghost use Rattle.ioa_grammar.specs.declared.fault.ReadError.TheVariants as errors;
+
+    ghost from_gives = { λ _ e. e ≡ errors.OutOfMemory };
+
+    fn from(_error: AllocFailed<T>) -> ReadError {
+        ReadError::OutOfMemory
+    }
+}

@@ -1,0 +1,101 @@
+//! Transitions.
+
+ghost use Rattle.ioa_value.specs.declared.limits.TheConstants.{LIMITS};
+ghost use Rattle.std.specs.Prelude.{◌≡◌, map};
+ghost use Rattle.std.specs.Option.{option_map};
+ghost use Rattle.ioa_lex.specs.Tokens.{tokens_shown};
+ghost use Rattle.ioa_grammar.specs.Reading as spec;
+ghost use Rattle.ioa_grammar.specs.Reading.{Reads};
+ghost use Rattle.ioa_tree.specs.View.{expr_of, proposal_of, stmts_of, transition_of};
+
+use crate::cursor::Cursor;
+use crate::expressions::{MAX_DEPTH, whole_expression};
+use crate::fault::ReadError;
+use crate::statements::introduced;
+use ioa_lex::Terminal;
+use ioa_tree::{Expression, Proposal, Statement, Transition};
+
+#[tactic(auto, unfolding(crate::specs::Reading::optional))]
+fn precondition(cursor: &mut Cursor<'_>) -> Result<Option<Expression>, ReadError>
+    ensures { Reads (option_map expr_of) (spec.optional Terminal.Pre (spec.expression LIMITS.depth) (tokens_shown cursor.old)) result (tokens_shown cursor.new) }
+{
+    if !cursor.take(Terminal::Pre) {
+        return Ok(None);
+    }
+    Ok(Some(whole_expression(cursor)?))
+}
+
+#[tactic(auto, unfolding(crate::specs::Reading::proposal))]
+fn proposal(cursor: &mut Cursor<'_>) -> Result<Proposal, ReadError>
+    ensures { Reads proposal_of (spec.proposal LIMITS.depth (tokens_shown cursor.old)) result (tokens_shown cursor.new) }
+{
+    let name = cursor.name()?;
+    cursor.expect(Terminal::Becomes)?;
+    let value = whole_expression(cursor)?;
+    Ok(Proposal { name, value })
+}
+
+#[tactic(auto, unfolding(crate::specs::Reading::proposals, crate::specs::Reading::separated), using(crate::proofs::Turns::items_turn, crate::proofs::Turns::items_close, crate::proofs::Turns::items_fail, crate::proofs::Turns::items_spent))]
+fn proposal_list(cursor: &mut Cursor<'_>) -> Result<Vec<Proposal>, ReadError>
+    ensures { Reads (λ v. map proposal_of v.items) (spec.proposals LIMITS.depth (tokens_shown cursor.old)) result (tokens_shown cursor.new) }
+{
+    let mut found = Vec::new(cursor.alloc());
+    for _turn in 0..cursor.left() {
+        found.push(proposal(cursor)?)?;
+        if !cursor.take(Terminal::Comma) {
+            return Ok(found);
+        }
+    }
+    Err(cursor.fault())
+}
+
+#[tactic(auto, unfolding(crate::specs::Reading::optional_list))]
+fn proposals(cursor: &mut Cursor<'_>) -> Result<Vec<Proposal>, ReadError>
+    ensures { Reads (λ v. map proposal_of v.items) (spec.optional_list Terminal.Propose (spec.proposals LIMITS.depth) (tokens_shown cursor.old)) result (tokens_shown cursor.new) }
+{
+    if !cursor.take(Terminal::Propose) {
+        return Ok(Vec::new(cursor.alloc()));
+    }
+    proposal_list(cursor)
+}
+
+#[tactic(auto, unfolding(crate::specs::Reading::statements))]
+fn effect(cursor: &mut Cursor<'_>) -> Result<Vec<Statement>, ReadError>
+    ensures { Reads (λ v. stmts_of v.items) (spec.introduced Terminal.Eff (spec.statements LIMITS.depth) (tokens_shown cursor.old)) result (tokens_shown cursor.new) }
+{
+    introduced(cursor, Terminal::Eff, MAX_DEPTH)
+}
+
+/// A transition: a kind, a name, and the parts that it has.
+#[tactic(auto, unfolding(crate::specs::Reading::transition))]
+fn transition(cursor: &mut Cursor<'_>) -> Result<Transition, ReadError>
+    ensures { Reads transition_of (spec.transition LIMITS.depth (tokens_shown cursor.old)) result (tokens_shown cursor.new) }
+{
+    let kind = cursor.kind()?;
+    let name = cursor.name()?;
+    let pre = precondition(cursor)?;
+    let proposals = proposals(cursor)?;
+    let effect = effect(cursor)?;
+    Ok(Transition {
+        kind,
+        name,
+        pre,
+        proposals,
+        effect,
+    })
+}
+
+/// Transitions, as long as the word for a kind comes next.
+#[tactic(auto, unfolding(crate::specs::Reading::transitions, crate::specs::Reading::many), using(crate::proofs::Turns::many_turn, crate::proofs::Turns::many_end, crate::proofs::Turns::many_fail, crate::proofs::Turns::many_spent))]
+pub(crate) fn transitions(cursor: &mut Cursor<'_>) -> Result<Vec<Transition>, ReadError>
+    ensures { Reads (λ v. map transition_of v.items) (spec.transitions LIMITS.depth (tokens_shown cursor.old)) result (tokens_shown cursor.new) }
+{
+    let mut found = Vec::new(cursor.alloc());
+    for _turn in 0..cursor.left() {
+        if !cursor.sees_kind() {
+            return Ok(found);
+        }
+        found.push(transition(cursor)?)?;
+    }
+    Ok(found)
+}

@@ -1,7 +1,0 @@
-use Rattle.std.proofs.Common.{◌≡◌, drop, find}
-use Rattle.ioa_syntax.specs.Operators.{operator_word}
-use Rattle.ioa_syntax.specs.Reading as reading
-use Rattle.ioa_syntax.proofs.operators.among.Given as goal
-
-abbrev pub invariant-loop-operator : goal.invariant-loop-operator
-invariant-loop-operator l = find (λ o. reading.same_terminal (operator_word o) l.terminal) (drop l.operator-index l.operators) ≡ find (λ o. reading.same_terminal (operator_word o) l.terminal) l.operators
