@@ -21,8 +21,7 @@ use crate::transition::transition_code;
 use crate::types::position_types;
 use ioa_code::{Code, CodeErr, Env, PartKind, Verified, verify};
 use ioa_compose::{Member, positions};
-use ioa_tree::Entry as EntryTree;
-use ioa_tree::{Automaton, Transition};
+use ioa_tree::{Automaton, Entry as EntryTree, Transition};
 use ioa_value::{OutOfMemory, Ty, Types};
 use std::alloc::Global;
 

@@ -44,5 +44,5 @@ pub use reading::read_action;
 pub use terminal::Terminal;
 pub use types::{Declared, Field, Form, Types};
 pub use typing::has_type;
-pub use value::{Ty, Value, copies, same};
+pub use value::{Ty, Value, copies, same, same_all};
 pub use writing::{print_action, push_action};
