@@ -1,5 +1,5 @@
 -- Components on the way.
-use Rattle.std.proofs.Common.{◌≡◌, ℕ, zero, suc, ◌<◌, true, false, List, [], ◌∷◌, map, length, get_or, IfErr, Bor, Option, Some, None, Result, Ok, Err, refl, sym, ap, subst, ◌∙◌, arith, slice_get}
+use Rattle.std.proofs.Common.{◌≡◌, ℕ, zero, suc, ◌<◌, true, false, List, [], ◌∷◌, map, take, length, get_or, IfErr, Bor, Option, Some, None, Result, Ok, Err, refl, sym, ap, subst, ◌∙◌, arith, slice_get}
 use Rattle.std.specs.Prelude.{option_copied}
 use Rattle.std.specs.Option.{option_map, option_map_or}
 use Rattle.ioa_value.specs.declared.value.Value.{Value}
@@ -20,7 +20,7 @@ use Rattle.ioa_tree.specs.Compositions.{automaton_named}
 use Rattle.ioa_compose.specs.Bindings.{fit, plain_in, IsReady, AllReady, IsStartable, AllStartable, AllSound}
 use Rattle.ioa_compose.specs.declared.binding.Binding.{Binding}
 use Rattle.ioa_tree.specs.WellFormed.{automaton_fine}
-use Rattle.ioa_compose.specs.Refusals.{Reason, misfit, faulty, misnamed, clashing, hiding, no_memory, other, reason_of, IsUnbound, IsRefusedAt, FaultsAt, FaultsIn, Misfits}
+use Rattle.ioa_compose.specs.Refusals.{Reason, misfit, faulty, misnamed, clashing, hiding, no_memory, other, reason_of, AllBound, IsUnbound, IsRefusedAt, FaultsAt, NoneFaults, FaultsIn, Misfits}
 use Rattle.ioa_value.proofs.SameLemmas.{both_false}
 
 pub uneven-fit : (types : Table) (fs : List Field) (vs : List Value) → (length fs ≡ length vs → ⊥) → false ≡ fit types (map field_of fs) (map plain vs)
@@ -68,32 +68,34 @@ startable-at types [] k b h l e = absurd (omega arith)
 startable-at types (c ∷ cs) zero b h l e = subst (λ x. IsStartable (plain_in types x)) (sym e) h.0
 startable-at types (c ∷ cs) (suc k) b h l e = startable-at types cs k b h.1 (omega arith) e
 
--- refused in its place: so one has no instance
-unbound-one : (s : SourceTree) (is : List InstanceTree) (k : ℕ) (n : InstanceTree) (r : Reason) → slice_get is k ≡ Some n → IsRefusedAt s k n r → IsUnbound s is r
-unbound-one s is k n (misfit i) e h = (n, ap (slice_get is) h.0 ∙ e, h.1)
-unbound-one s is k n (faulty i f) e h = (n, ap (slice_get is) h.0 ∙ e, h.1)
-unbound-one s is k n (misnamed i) e h = (n, ap (slice_get is) h.0 ∙ e, h.1)
-unbound-one s is k n (clashing i j m) e h = absurd h
-unbound-one s is k n (hiding x) e h = absurd h
-unbound-one s is k n no_memory e h = tt
-unbound-one s is k n other e h = absurd h
+-- refused in its place, where each before it has its instance: so it is the first without one
+unbound-one : (s : SourceTree) (is : List InstanceTree) (k : ℕ) (n : InstanceTree) (r : Reason) → slice_get is k ≡ Some n → AllBound s (take k is) → IsRefusedAt s k n r → IsUnbound s is r
+unbound-one s is k n (misfit i) e b h = (n, ap (slice_get is) h.0 ∙ e, h.1, subst (λ j. AllBound s (take j is)) (sym h.0) b)
+unbound-one s is k n (faulty i f) e b h = (n, ap (slice_get is) h.0 ∙ e, h.1, subst (λ j. AllBound s (take j is)) (sym h.0) b)
+unbound-one s is k n (misnamed i) e b h = (n, ap (slice_get is) h.0 ∙ e, h.1, subst (λ j. AllBound s (take j is)) (sym h.0) b)
+unbound-one s is k n (clashing i j m) e b h = absurd h
+unbound-one s is k n (hiding x) e b h = absurd h
+unbound-one s is k n no_memory e b h = tt
+unbound-one s is k n other e b h = absurd h
 
-pub unbound-in : {X : Type 0} (r : Result X Refusal) (s : SourceTree) (is : List InstanceTree) (k : ℕ) (n : InstanceTree) → slice_get is k ≡ Some n → IfErr r (λ e. IsRefusedAt s k n (reason_of e)) → IfErr r (λ e. IsUnbound s is (reason_of e))
-unbound-in (Ok x) s is k n e h = tt
-unbound-in (Err x) s is k n e h = unbound-one s is k n (reason_of x) e h
+pub unbound-in : {X : Type 0} (r : Result X Refusal) (s : SourceTree) (is : List InstanceTree) (k : ℕ) (n : InstanceTree) → slice_get is k ≡ Some n → AllBound s (take k is)
+    → IfErr r (λ e. IsRefusedAt s k n (reason_of e)) → IfErr r (λ e. IsUnbound s is (reason_of e))
+unbound-in (Ok x) s is k n e b h = tt
+unbound-in (Err x) s is k n e b h = unbound-one s is k n (reason_of x) e b h
 
-faults-one : (ns : List Instance) (k : ℕ) (n : Instance) (r : Reason) → slice_get ns k ≡ Some n → FaultsAt k n r → FaultsIn ns r
-faults-one ns k n (misfit i) e h = absurd h
-faults-one ns k n (faulty i f) e h = (n, ap (slice_get ns) h.0 ∙ e, h.1)
-faults-one ns k n (misnamed i) e h = absurd h
-faults-one ns k n (clashing i j m) e h = absurd h
-faults-one ns k n (hiding x) e h = absurd h
-faults-one ns k n no_memory e h = tt
-faults-one ns k n other e h = absurd h
+faults-one : (ns : List Instance) (k : ℕ) (n : Instance) (r : Reason) → slice_get ns k ≡ Some n → NoneFaults ns k → FaultsAt k n r → FaultsIn ns r
+faults-one ns k n (misfit i) e b h = absurd h
+faults-one ns k n (faulty i f) e b h = (n, ap (slice_get ns) h.0 ∙ e, h.1, subst (NoneFaults ns) (sym h.0) b)
+faults-one ns k n (misnamed i) e b h = absurd h
+faults-one ns k n (clashing i j m) e b h = absurd h
+faults-one ns k n (hiding x) e b h = absurd h
+faults-one ns k n no_memory e b h = tt
+faults-one ns k n other e b h = absurd h
 
-pub faults-in : {X : Type 0} (r : Result X Refusal) (ns : List Instance) (k : ℕ) (n : Instance) → slice_get ns k ≡ Some n → IfErr r (λ e. FaultsAt k n (reason_of e)) → IfErr r (λ e. FaultsIn ns (reason_of e))
-faults-in (Ok x) ns k n e h = tt
-faults-in (Err x) ns k n e h = faults-one ns k n (reason_of x) e h
+pub faults-in : {X : Type 0} (r : Result X Refusal) (ns : List Instance) (k : ℕ) (n : Instance) → slice_get ns k ≡ Some n → NoneFaults ns k
+    → IfErr r (λ e. FaultsAt k n (reason_of e)) → IfErr r (λ e. FaultsIn ns (reason_of e))
+faults-in (Ok x) ns k n e b h = tt
+faults-in (Err x) ns k n e b h = faults-one ns k n (reason_of x) e b h
 
 pub sound-at : (types : Table) (bs : List Binding) (k : ℕ) (b : Binding) → AllSound (map (plain_in types) bs) → k < length bs → b ≡ get_or bs k b → (g : List Name) × (automaton_fine types types g (plain_in types b).automaton ≡ true)
 sound-at types [] k b h l e = absurd (omega arith)

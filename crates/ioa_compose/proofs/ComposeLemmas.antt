@@ -31,7 +31,7 @@ use Rattle.ioa_compose.specs.Refusals.{Reason, misfit, faulty, misnamed, clashin
 use Rattle.ioa_compose.specs.Rewriting.{spelled, with_signals}
 use Rattle.ioa_compose.specs.Stands.{member_for, composed_for, signalled, Stands}
 use Rattle.ioa_compose.proofs.CompatibleLemmas.{compatible-from}
-use Rattle.ioa_compose.proofs.FineLemmas.{AllBind}
+use Rattle.ioa_compose.proofs.FineLemmas.{AllBind, all-bound}
 use Rattle.ioa_compose.proofs.HostLemmas.{same_names, same_outputs, typed_for, hosts_may, conditions_spelled, hosts_fine, hosts_over, hosts_types, hosts_called, hosts_named, hosts_stand}
 use Rattle.ioa_compose.proofs.InvariantLemmas.{invariants-few, hosts-typed}
 use Rattle.ioa_compose.proofs.RefusalLemmas.{unbound-refused, clash-refused, hiding-refused, start-refused}
@@ -171,23 +171,6 @@ module _ (s : SourceTree) (types : Table) (a : Assembly) (bs : List Binding) (ms
   parts-stand w l = subst (Stands parts-hosts) made-is (hosts_stand s (assembly_of a) parts-hosts w l parts-hosted)
 
 -- ---- the parts and the refusals, of what the calls give
-
-all-bound : (s : SourceTree) (types : Table) (is : List TreeInstance) (bs : List Binding) → types ≡ types_of s → AllBind s is bs → AreBound s (map instance_of is) (map (instance_in types) bs)
-all-bound s types [] [] e z = tt
-all-bound s types [] (b ∷ bs) e z = absurd z
-all-bound s types (i ∷ is) [] e z = absurd z
-all-bound s types (i ∷ is) (b ∷ bs) e z = (
-  record {
-    declared = automaton_of b.automaton.now;
-    types = e;
-    named = z.0.automaton;
-    automaton = ap (λ o. with_signals o (automaton_of b.automaton.now)) z.0.crash;
-    arguments = z.0.arguments;
-    fit = z.0.fit;
-    fine = z.0.fine;
-  },
-  all-bound s types is bs e z.1,
-)
 
 -- crash and recover are no outputs
 outputs-plain : (types : Table) (bs : List Binding) (x : Name) → is_output_of (map (instance_in types) bs) x ≡ is_output_of (map (plain_in types) bs) x

@@ -1,6 +1,7 @@
 -- What the bindings of a well formed source keep.
-use Rattle.std.proofs.Common.{◌≡◌, true, List, [], ◌∷◌, map, sym, ap, subst, ◌∙◌}
+use Rattle.std.proofs.Common.{◌≡◌, ℕ, true, List, [], ◌∷◌, map, take, sym, ap, subst, ◌∙◌}
 use Rattle.std.specs.List.{AllZip}
+use Rattle.std.proofs.lemmas.List.{take-map}
 use Rattle.std.proofs.lemmas.List.Elements.{All-nil, All-cons}
 use Rattle.ioa_value.specs.Actions.{Name}
 use Rattle.ioa_value.specs.Table.{Table}
@@ -13,7 +14,9 @@ use Rattle.ioa_tree.specs.Instances.{Fit}
 use Rattle.ioa_tree.specs.WellFormed.{automaton_fine, global_names, well_formed}
 use Rattle.ioa_tree.proofs.FineParts.{fine_parts}
 use Rattle.ioa_compose.specs.declared.binding.Binding.{Binding}
-use Rattle.ioa_compose.specs.Bindings.{crash_in, plain_in, Binds, StartsWell, AllStartable, AllSound, AllApart}
+use Rattle.ioa_compose.specs.Bindings.{crash_in, plain_in, instance_in, Binds, AreBound, StartsWell, AllStartable, AllSound, AllApart}
+use Rattle.ioa_compose.specs.Refusals.{AllBound}
+use Rattle.ioa_compose.specs.Rewriting.{with_signals}
 use Rattle.ioa_compose.proofs.SourceLemmas.{named_fine}
 
 -- bindings to instances in order
@@ -56,3 +59,25 @@ all-apart s (i ∷ is) [] k = absurd k
 all-apart s (i ∷ is) (b ∷ bs) k =
     All-cons (λ (c : Binding). crash_fine (crash_in c) (automaton_of c.automaton.now) ≡ true) b bs
     (ap (λ o. crash_fine o (automaton_of b.automaton.now)) k.0.crash ∙ k.0.fine) (all-apart s is bs k.1)
+
+-- they are bound to the instances with inputs for crash and recover
+pub all-bound : (s : SourceTree) (types : Table) (is : List TreeInstance) (bs : List Binding) → types ≡ types_of s → AllBind s is bs → AreBound s (map instance_of is) (map (instance_in types) bs)
+all-bound s types [] [] e z = tt
+all-bound s types [] (b ∷ bs) e z = absurd z
+all-bound s types (i ∷ is) [] e z = absurd z
+all-bound s types (i ∷ is) (b ∷ bs) e z = (
+  record {
+    declared = automaton_of b.automaton.now;
+    types = e;
+    named = z.0.automaton;
+    automaton = ap (λ o. with_signals o (automaton_of b.automaton.now)) z.0.crash;
+    arguments = z.0.arguments;
+    fit = z.0.fit;
+    fine = z.0.fine;
+  },
+  all-bound s types is bs e z.1,
+)
+
+-- so each of those that came before the one at hand has its instance
+pub bound-before : (s : SourceTree) (types : Table) (is : List TreeInstance) (k : ℕ) (bs : List Binding) → types ≡ types_of s → AllBind s (take k is) bs → AllBound s (take k (map instance_of is))
+bound-before s types is k bs e z = subst (AllBound s) (sym (take-map instance_of k is)) (map (instance_in types) bs, all-bound s types (take k is) bs e z)

@@ -19,7 +19,7 @@ use Rattle.ioa_tree.specs.Hosts.{crash_fine, Host, Hosted, IsHost, AreHosts, IsH
 use Rattle.ioa_compose.specs.Bindings.{instance_with, IsBound, AreBound}
 use Rattle.ioa_compose.specs.Rewriting.{with_signals}
 use Rattle.ioa_compose.specs.Stands.{signalled}
-use Rattle.ioa_compose.specs.Refusals.{Clashing, ClashOn, Reason, misfit, faulty, misnamed, clashing, hiding, no_memory, other, reason_of, IsUnbound, IsRefusedFor, IsRefused, IsFirstClash, NoClash, NoneClashes, NoneClash, FaultsIn, ClashesIn, HidesIn, TellsClash}
+use Rattle.ioa_compose.specs.Refusals.{Clashing, ClashOn, Reason, misfit, faulty, misnamed, clashing, hiding, no_memory, other, reason_of, IsUnbound, IsRefusedFor, IsRefused, IsFirstClash, NoClash, IsFirstFault, NoneClashes, NoneClash, NoneFaults, FaultsIn, ClashesIn, HidesIn, TellsClash}
 use Rattle.ioa_value.proofs.ItemLemmas.{all_at}
 use Rattle.ioa_compose.proofs.CompatibleLemmas.{compatible-from, none-from}
 use Rattle.ioa_compose.proofs.HostLemmas.{hosts_named}
@@ -94,6 +94,12 @@ clash-free s is ns b none = λ i j m n x less e f d.
     let q = bound-at s is ns j n b f in
     none i j p.0 q.0 x less p.1 q.1 (clash-bound s m n p.0 q.0 x p.2 q.2 d)
 
+-- where no instance before this one faults as it starts, no component does
+first-fault : (s : SourceTree) (is : List InstanceTree) (ns : List Instance) (i : ℕ) → AreBound s is ns → NoneFaults ns i → IsFirstFault s is i
+first-fault s is ns i b none = λ k m f less e d.
+    let p = bound-at s is ns k m b e in
+    none k p.0 f less p.1 (ap start_values (one-bound s m p.0 d.instance p.2 d.bound) ∙ d.faulting)
+
 -- ---- why there is none: arguments, a clash, a hidden name that is no output's, and a start that faults
 
 pub unbound-refused : (s : SourceTree) (t : CompositionTree) (r : Reason) → IsUnbound s t.instances r → IsRefusedFor s t r
@@ -133,7 +139,7 @@ start-refused s t ns (misfit i) b none outputs h = absurd h
 start-refused s t ns (faulty k f) b none outputs h =
     let p = bound-place s t.instances ns k h.0 b h.1 in
     inr (
-      (p.0, p.1, record { instance = h.0; bound = p.2; faulting = h.2 }),
+      (p.0, p.1, record { instance = h.0; bound = p.2; faulting = h.2 }, first-fault s t.instances ns k b h.3),
       clash-free s t.instances ns b none,
       (ns, b, outputs),
     )

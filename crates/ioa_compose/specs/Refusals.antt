@@ -23,10 +23,14 @@ pub record Misfits (s : SourceTree) (i : InstanceTree) : Type 0 where
   pub valued : argument_values (types_of s) i.arguments ≡ Ok arguments
   pub unfit : Fit (types_of s) automaton.formals arguments → ⊥
 
--- crash and recover are one name, or one of them is that of an entry
+-- the arguments have values, and these are of the formals' types, one for each; but crash and recover are one name, or one of them is that
+-- of an entry
 pub record Misnames (s : SourceTree) (i : InstanceTree) : Type 0 where
   pub automaton : AutomatonTree
   pub declared : automaton_named s i.automaton ≡ Some automaton
+  pub arguments : List Val
+  pub valued : argument_values (types_of s) i.arguments ≡ Ok arguments
+  pub fit : Fit (types_of s) automaton.formals arguments
   pub unfine : crash_fine i.crash automaton ≡ false
 
 -- a start expression faults
@@ -111,20 +115,24 @@ reason_of (CrashName i) = misnamed i
 reason_of (HiddenUnknown name) = hiding (string_bytes name)
 reason_of NoComposition = other
 
--- one of the components has no instance: its arguments are not those of its formals, or one of them faults, or crash and recover have no
--- names of their own
+-- one of the components has no instance: one of its arguments faults, or they are not those of its formals, or crash and recover have no
+-- names of their own. It is the first such one: each before it has its instance.
 abbrev pub IsUnbound : SourceTree → List InstanceTree → Reason → Type 0
-IsUnbound s is (misfit i) = (n : InstanceTree) × (slice_get is i ≡ Some n) × Misfits s n
-IsUnbound s is (faulty i f) = (n : InstanceTree) × (slice_get is i ≡ Some n) × (argument_values (types_of s) n.arguments ≡ Err f)
-IsUnbound s is (misnamed i) = (n : InstanceTree) × (slice_get is i ≡ Some n) × Misnames s n
+IsUnbound s is (misfit i) = (n : InstanceTree) × (slice_get is i ≡ Some n) × Misfits s n × AllBound s (take i is)
+IsUnbound s is (faulty i f) = (n : InstanceTree) × (slice_get is i ≡ Some n) × (argument_values (types_of s) n.arguments ≡ Err f) × AllBound s (take i is)
+IsUnbound s is (misnamed i) = (n : InstanceTree) × (slice_get is i ≡ Some n) × Misnames s n × AllBound s (take i is)
 IsUnbound s is (clashing i j name) = ⊥
 IsUnbound s is (hiding name) = ⊥
 IsUnbound s is no_memory = Unit {0}
 IsUnbound s is other = ⊥
 
--- a start expression of one of the components faults
+-- no start expression of a component before this one faults
+abbrev pub IsFirstFault : SourceTree → List InstanceTree → ℕ → Type 0
+IsFirstFault s is i = (k : ℕ) (m : InstanceTree) (f : Fault) → k < i → slice_get is k ≡ Some m → StartsWith s m f → ⊥
+
+-- a start expression of one of the components faults: of the first such one
 abbrev pub StartFaults : SourceTree → List InstanceTree → ℕ → Fault → Type 0
-StartFaults s is i f = (n : InstanceTree) × (slice_get is i ≡ Some n) × StartsWith s n f
+StartFaults s is i f = (n : InstanceTree) × (slice_get is i ≡ Some n) × StartsWith s n f × IsFirstFault s is i
 
 -- two of the components clash: the first two, on the first entry
 abbrev pub TwoClash : SourceTree → List InstanceTree → ℕ → ℕ → Name → Type 0
@@ -164,10 +172,14 @@ FaultsAt k n (hiding name) = ⊥
 FaultsAt k n no_memory = Unit {0}
 FaultsAt k n other = ⊥
 
--- the start of one of the instances faults
+-- no start of an instance before this one faults
+abbrev pub NoneFaults : List Instance → ℕ → Type 0
+NoneFaults ns i = (k : ℕ) (m : Instance) (f : Fault) → k < i → slice_get ns k ≡ Some m → start_values m ≡ Err f → ⊥
+
+-- the start of one of the instances faults: of the first such one
 abbrev pub FaultsIn : List Instance → Reason → Type 0
 FaultsIn ns (misfit i) = ⊥
-FaultsIn ns (faulty i f) = (n : Instance) × (slice_get ns i ≡ Some n) × (start_values n ≡ Err f)
+FaultsIn ns (faulty i f) = (n : Instance) × (slice_get ns i ≡ Some n) × (start_values n ≡ Err f) × NoneFaults ns i
 FaultsIn ns (misnamed i) = ⊥
 FaultsIn ns (clashing i j name) = ⊥
 FaultsIn ns (hiding name) = ⊥

@@ -134,13 +134,16 @@ impl Composition {
 /// # Errors
 /// - `NoComposition`: there is no such composition.
 /// - `ArgMismatch`: a component's arguments are not of its formals' types, one for each.
-/// - `CrashName`: a component's crash and recover are one name, or one of them names an entry of its automaton.
+/// - `CrashName`: a component's arguments fit, but its crash and recover are one name, or one of them names an entry of its automaton.
 /// - `StartFault`: an argument of a component faults, or a start expression.
 /// - `Clash`: two components are not compatible. They are the first two, by the first one's place and then the other's, and the
 ///   name is that of the first one's first entry that clashes.
 /// - `HiddenUnknown`: no component has an output of this hidden name, the first such one. It comes after `Clash`, and before a
 ///   start expression's `StartFault`.
 /// - `OutOfMemory`.
+///
+/// Of several components with faulting arguments, `ArgMismatch` or `CrashName` the first is told, and so of several with faulting
+/// start expressions.
 pub fn compose(alloc: Global, checked: &Checked, name: Option<&str>) -> Result<Composition, Refusal>
     ensures composed { IfOk result (λ c. (t : CompositionTree) × (picked (tree_of checked.now) (option_copied name.entry) ≡ Some t) × (h : Hosted) × IsHosted (tree_of checked.now) t h × Stands h (composed_of c)) }
     ensures missing { (picked (tree_of checked.now) (option_copied name.entry) ≡ None) ↔ IsErrOf result refusals.NoComposition }

@@ -18,14 +18,21 @@ returns-then-not-fits-clause-refused c =
     )
 
 pub returns-then-not-crashes_apart-clause-refused : goal.returns-then-not-crashes_apart-clause-refused
-returns-then-not-crashes_apart-clause-refused c = (
-  refl,
-  record {
-    automaton = automaton_of c.declared-automaton.result.now;
-    declared = c.declared-automaton.ensures;
-    unfine = sym c.crashes_apart.ensures ∙ c.if-not-crashes_apart.true;
-  },
-)
+returns-then-not-crashes_apart-clause-refused c =
+    let types = types_of (tree_of c.args.declarations.now) in
+    let a = automaton_of c.declared-automaton.result.now in (
+      refl,
+      record {
+        automaton = a;
+        declared = c.declared-automaton.ensures;
+        arguments = map plain c.in-Ok.arguments.items;
+        valued = ap (λ es. argument_values types (map expr_of es)) (sym c.deref.ensures.value) ∙ ap (λ t. argument_values t (map expr_of c.deref.result.now)) (sym c.requires.types) ∙ sym c.in_ok-fault.ensures ∙ ap values_in c.in-Ok.is;
+        fit = fit-Fit types a.formals (map plain c.in-Ok.arguments.items)
+            (ap (λ fs. fit types (map field_of fs) (map plain c.in-Ok.arguments.items)) (sym c.deref-in-Ok.ensures.value) ∙ ap (λ vs. fit types (map field_of c.deref-in-Ok.result.now) (map plain vs)) (sym c.deref-in-Ok-2.ensures.value)
+            ∙ ap (λ t. fit t (map field_of c.deref-in-Ok.result.now) (map plain c.deref-in-Ok-2.result.now)) (sym c.requires.types) ∙ sym c.fits.ensures ∙ c.if-not-fits.false);
+        unfine = sym c.crashes_apart.ensures ∙ c.if-not-crashes_apart.true;
+      },
+    )
 
 pub returns-else-not-crashes_apart-clause-bound : goal.returns-else-not-crashes_apart-clause-bound
 returns-else-not-crashes_apart-clause-bound c =
