@@ -51,6 +51,15 @@ values_front (v ∷ vs) (suc d) [] more x l h s = absurd (omega (arith, l))
 values_front (v ∷ vs) (suc d) (w ∷ ws) more x l h s =
     ap (λ o. cond (bytes_eq v.field.name x) (Some w) o) (values_front vs d ws more x (omega (arith, l)) h s)
 
+-- variables that are added behind stand in front of none of the others
+pub values_before : (vs more : List VariableTree) (ws us : List Val) (x : Name) → length ws ≡ length vs → list_all is_added more ≡ true → spelled x ≡ true
+    → values_of (names_of (vs ++ more)) (ws ++ us) x ≡ values_of (names_of vs) ws x
+values_before [] more [] us x l h s = absent (names_of more) us x (none_added more x h s)
+values_before [] more (w ∷ ws) us x l h s = absurd (omega (arith, l))
+values_before (v ∷ vs) more [] us x l h s = absurd (omega (arith, l))
+values_before (v ∷ vs) more (w ∷ ws) us x l h s =
+    ap (λ o. cond (bytes_eq v.field.name x) (Some w) o) (values_before vs more ws us x (omega (arith, l)) h s)
+
 types_front : (types : Table) (vs : List VariableTree) (d : ℕ) (x : Name) → list_all is_added (drop d vs) ≡ true → spelled x ≡ true
     → type_in (context_of types (map (λ v. v.field) vs)) x ≡ type_in (context_of types (map (λ v. v.field) (take d vs))) x
 types_front types [] zero x h s = refl

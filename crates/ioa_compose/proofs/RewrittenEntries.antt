@@ -215,7 +215,7 @@ module _ (n : CrashTree) (i : Instance) (starts : List Val) (h : MayCrash n i st
       let k = all_flat_at p ps s in
       ap (λ b. b && positions_have (crashing n i starts) ps vs) (position_same p v k.0) ∙ ap (λ b. position_has i p v && b) (positions_same ps vs k.1)
 
-  entry_same : (a : Act) (e : EntryTree) → list_all spelled (names_of_entry e) ≡ true → entry_has (crashing n i starts) a e ≡ entry_has i a e
+  pub entry_same : (a : Act) (e : EntryTree) → list_all spelled (names_of_entry e) ≡ true → entry_has (crashing n i starts) a e ≡ entry_has i a e
   entry_same a e s =
       ap (λ b. bytes_eq e.name a.name && b)
       (positions_same e.positions a.vals (and_parts (spelled e.name) (list_all spelled (flat_map names_of_position e.positions)) s).1)

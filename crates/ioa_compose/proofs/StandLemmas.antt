@@ -1,20 +1,21 @@
 -- The composition of rewritten components, and of those that do not crash, stands for the hosts.
-use Rattle.std.proofs.Common.{◌≡◌, ℕ, suc, ◌+◌, Bool, true, false, not, cond, ◌&&◌, ◌||◌, List, [], ◌∷◌, ◌++◌, map, All, Option, Some, None, Result, Ok, Err, slice_get, length, codes, if◌then◌else◌, refl, sym, ap, subst, ◌∙◌, arith}
-use Rattle.std.specs.List.{list_all, list_any}
+use Rattle.std.proofs.Common.{◌≡◌, ℕ, suc, ◌+◌, Bool, true, false, not, cond, ◌&&◌, ◌||◌, List, [], ◌∷◌, ◌++◌, map, All, Option, Some, None, Result, Ok, Err, slice_get, length, take, codes, if◌then◌else◌, refl, sym, ap, subst, ◌∙◌, arith}
+use Rattle.std.specs.List.{AllZip, list_all, list_any}
 use Rattle.std.specs.Option.{option_map}
 use Rattle.std.specs.Str.{bytes_eq}
-use Rattle.std.proofs.lemmas.List.{map-append, length-map, length_push}
+use Rattle.std.proofs.lemmas.List.{append-nil, map-append, length-map, length_push, length-take-le}
 use Rattle.std.proofs.lemmas.List.Elements.{All-head, All-tail}
 use Rattle.std.proofs.lemmas.Option.{slice_get-map}
 use Rattle.ioa_arithmetic.specs.declared.arithmetic.Fault.{Fault}
 use Rattle.ioa_value.specs.Actions.{Name, Act}
 use Rattle.ioa_value.specs.Plain.{Val, truth as truth_value}
 use Rattle.ioa_value.specs.Table.{contains}
+use Rattle.ioa_value.proofs.ItemLemmas.{all_at}
 use Rattle.ioa_value.proofs.NameLemmas.{own_name}
 use Rattle.ioa_tree.specs.declared.tree.Kind.{Kind}
 use Rattle.ioa_tree.specs.declared.tree.Kind.TheVariants.{Input}
-use Rattle.ioa_tree.specs.Tree.{CrashTree, EntryTree, VariableTree, InvariantTree}
-use Rattle.ioa_tree.specs.Names.{names_of_expr}
+use Rattle.ioa_tree.specs.Tree.{Expr, CrashTree, EntryTree, VariableTree, TransitionTree, InvariantTree}
+use Rattle.ioa_tree.specs.Names.{names_of_expr, names_of_entry}
 use Rattle.ioa_tree.specs.Meaning.{Env, or_else, over, values_of}
 use Rattle.ioa_tree.specs.Instances.{Instance, variable_names, formal_values, component_of, state_of}
 use Rattle.ioa_tree.specs.Components.{Component, Compatible}
@@ -27,11 +28,14 @@ use Rattle.ioa_tree.specs.Hosts.{HostState, host_state, when_ok, steady, hosted,
 use Rattle.ioa_tree.proofs.Agreement.{val_same}
 use Rattle.ioa_tree.proofs.Alike.{like_kinds, kinds_back, same_compatible, first_like}
 use Rattle.ioa_tree.proofs.Simulation.{run_like, trace_like, owner_like, participants_like, external_like}
-use Rattle.ioa_compose.specs.Rewriting.{spelled, up_name, up_variable, signals, rewritten, crashing}
-use Rattle.ioa_compose.specs.Stands.{StandsBy, StandsFor, StandsAt, member_by, member_for, MayStand, TellsUp, HoldsWith, has_kind, Stands, RewritingStands}
+use Rattle.ioa_compose.specs.Rewriting.{spelled, up_name, up_variable, signals, guarded, proposing, added_proposals, added_variables, crash_transition, recover_transition, rewritten, crashing}
+use Rattle.ioa_compose.specs.Stands.{StandsBy, StandsFor, StandsAt, member_by, member_for, MayStand, TellsUp, Holds, HoldsWith, IsMadeBy, IsMadeOf, HoldsAlike, has_kind, Stands, RewritingStands}
 use Rattle.ioa_compose.proofs.SpelledNames.{absent, all_of, none_unspelled}
 use Rattle.ioa_compose.proofs.SpelledTrees.{automaton_spelled}
-use Rattle.ioa_compose.proofs.RewrittenNames.{formals_same}
+use Rattle.ioa_compose.proofs.FirstVariables.{is_added, values_before}
+use Rattle.ioa_compose.proofs.QuestionLemmas.{all_found}
+use Rattle.ioa_compose.proofs.RewrittenEntries.{entry_same}
+use Rattle.ioa_compose.proofs.RewrittenNames.{names, formals_same}
 use Rattle.ioa_compose.proofs.CrashLemmas.{means_crash}
 
 -- ---- relations that say the same
@@ -158,6 +162,101 @@ one_breaks o p may v c h s r =
     ap (λ (x : Name). bytes_eq v.automaton x && not (holds p.instance v.condition h.inner)) (sym (one_name o p))
     ∙ ap (λ b. bytes_eq v.automaton (member_by o p).instance.automaton.name && not b) (one_holds o p may v c h s r)
 
+-- ---- what it is made of
+
+proposals_same : (ts : List TransitionTree) → map proposing (map guarded ts) ≡ map proposing ts
+proposals_same [] = refl
+proposals_same (t ∷ ts) = ap (λ (us : List TransitionTree). proposing t ∷ us) (proposals_same ts)
+
+one_made : (o : Option CrashTree) (p : Host) → MayStand o p → IsMadeBy o p (member_by o p)
+one_made None p may = record {
+  name = refl;
+  entries = refl;
+  actions = λ k e a at. refl;
+  proposals = sym (append-nil (map proposing p.instance.automaton.transitions));
+  arguments = sym (append-nil p.instance.arguments);
+  formals = λ x s. refl;
+  variables = sym (append-nil p.instance.automaton.variables);
+  declared = refl;
+}
+one_made (Some n) p may =
+    let a = p.instance.automaton in
+    record {
+      name = refl;
+      entries = refl;
+      actions = λ k e act at. entry_same n p.instance p.starts may act e
+          (all_at (λ (d : EntryTree). list_all spelled (names_of_entry d)) a.entries k e (names n p.instance p.starts may).entries at);
+      proposals = map-append proposing (map guarded a.transitions) (crash_transition a.variables n.crash ∷ recover_transition n.recover ∷ [])
+          ∙ ap (λ (ts : List TransitionTree). ts ++ added_proposals (Some n)) (proposals_same a.transitions);
+      arguments = refl;
+      formals = λ x s. formals_same n p.instance p.starts may x s;
+      variables = refl;
+      declared = refl;
+    }
+
+all_made : (hosts : List Host) → ((i : ℕ) (p : Host) → slice_get hosts i ≡ Some p → MayStand p.crash p) → AllZip IsMadeOf hosts (map member_for hosts)
+all_made [] may = tt
+all_made (p ∷ ps) may = (one_made p.crash p (may 0 p refl), all_made ps (λ i q at. may (suc i) q at))
+
+-- ---- conditions
+
+-- of spelled names, in states that agree on these
+same_holds : (i : Instance) (e : Expr) → list_all spelled (names_of_expr e) ≡ true → (s t : Env) → ((x : Name) → spelled x ≡ true → s x ≡ t x) → holds i e s ≡ holds i e t
+same_holds i e c s t same =
+    ap is_true (val_same i.types spelled (over s (formal_values i)) (over t (formal_values i)) (λ x k. ap (λ (u : Option Val). or_else u (formal_values i x)) (same x k)) e c)
+
+-- the formals of the component stand for what the host's do
+same_formals : (o : Option CrashTree) (p : Host) → MayStand o p → (e : Expr) → list_all spelled (names_of_expr e) ≡ true → (s : Env)
+    → holds (member_by o p).instance e s ≡ holds p.instance e s
+same_formals None p may e c s = refl
+same_formals (Some n) p may e c s =
+    ap is_true (val_same p.instance.types spelled (over s (formal_values (crashing n p.instance p.starts))) (over s (formal_values p.instance))
+    (λ x k. ap (λ (u : Option Val). or_else (s x) u) (formals_same n p.instance p.starts may x k)) e c)
+
+none_spelled : (o : Option CrashTree) → list_all is_added (added_variables o) ≡ true
+none_spelled None = refl
+none_spelled (Some n) = refl
+
+one_valued : (o : Option CrashTree) (p : Host) → MayStand o p → (e : Expr) → list_all spelled (names_of_expr e) ≡ true
+    → (values more : List Val) → length values ≡ length p.instance.automaton.variables
+    → holds (member_by o p).instance e (state_of (member_by o p).instance.automaton (values ++ more)) ≡ holds p.instance e (state_of p.instance.automaton values)
+one_valued o p may e c values more l =
+    same_formals o p may e c (state_of (member_by o p).instance.automaton (values ++ more))
+    ∙ same_holds p.instance e c (state_of (member_by o p).instance.automaton (values ++ more)) (state_of p.instance.automaton values)
+    (λ x k. ap (λ (vs : List VariableTree). values_of (map (λ (v : VariableTree). v.field.name) vs) (values ++ more) x) (one_made o p may).variables
+    ∙ values_before p.instance.automaton.variables (added_variables o) values more x l (none_spelled o) k)
+
+-- values of more names than there are
+first_values : (ns : List Name) (vs : List Val) (x : Name) → values_of ns (take (length ns) vs) x ≡ values_of ns vs x
+first_values [] vs x = refl
+first_values (n ∷ ns) [] x = refl
+first_values (n ∷ ns) (v ∷ vs) x = ap (λ (o : Option Val). if bytes_eq n x then Some v else o) (first_values ns vs x)
+
+long_enough : (o : Option CrashTree) (n : ℕ) (up : Bool) (slots : List Val) → TellsUp o n up slots → length (take n slots) ≡ n
+long_enough None n up slots t = let l : length slots ≡ n = t.0 in length-take-le n slots (omega arith)
+long_enough (Some c) n up slots t = let l : length slots ≡ n + 1 = t.0 in length-take-le n slots (omega arith)
+
+one_slotted : (o : Option CrashTree) (p : Host) → MayStand o p → (e : Expr) → list_all spelled (names_of_expr e) ≡ true
+    → (h : HostState Env) (slots more : List Val) → Holds p h slots
+    → holds (member_by o p).instance e (state_of (member_by o p).instance.automaton (take (length p.instance.automaton.variables) slots ++ more)) ≡ holds p.instance e h.inner
+one_slotted o p may e c h slots more k =
+    let vs = p.instance.automaton.variables in
+    one_valued o p may e c (take (length vs) slots) more (long_enough p.crash (length vs) h.up slots k.up)
+    ∙ same_holds p.instance e c (state_of p.instance.automaton (take (length vs) slots)) h.inner
+    (λ x s. ap (λ (n : ℕ). values_of (variable_names p.instance.automaton) (take n slots) x) (sym (length-map vs (λ (v : VariableTree). v.field.name)))
+    ∙ first_values (variable_names p.instance.automaton) slots x ∙ sym (k.values x))
+
+one_alike : (p : Host) → MayStand p.crash p → (v : InvariantTree) → list_all spelled (names_of_expr v.condition) ≡ true → HoldsAlike p (member_for p) v.condition
+one_alike p may v c =
+    let declared : (member_for p).declared ≡ length p.instance.automaton.variables = (one_made p.crash p may).declared in
+    record {
+      states = λ h s r. sym (one_holds p.crash p may v c h s r);
+      values = λ values more l. one_valued p.crash p may v.condition c values more (l ∙ declared);
+      slots = λ h slots more k.
+          ap (λ (n : ℕ). holds (member_for p).instance v.condition (state_of (member_for p).instance.automaton (take n slots ++ more))) declared
+          ∙ one_slotted p.crash p may v.condition c h slots more k;
+    }
+
 abbrev pub AreSpelled : List InvariantTree → Type 0
 AreSpelled vs = All (λ v. list_all spelled (names_of_expr v.condition) ≡ true) vs
 
@@ -243,6 +342,14 @@ all_hold hosts may i p m at there h s slots r l v =
     let k = one_holding p.crash p (may i p at) h s slots r (l ∙ ap (λ (u : Member). length (variable_names u.instance.automaton)) is) (λ x. v x ∙ ap (λ (u : Member). values_of (variable_names u.instance.automaton) slots x) is) in
     record { values = k.0; up = k.1 }
 
+all_alike : (hosts : List Host) → AllMay hosts → (vs : List InvariantTree) → AreSpelled vs → (i k : ℕ) (p : Host) (m : Member) (v : InvariantTree)
+    → slice_get hosts i ≡ Some p → slice_get (map member_for hosts) i ≡ Some m → slice_get vs k ≡ Some v → HoldsAlike p m v.condition
+all_alike hosts may vs c i k p m v at there stated =
+    let same : Some (member_for p) ≡ Some m = sym (slice_get-map member_for hosts i ∙ ap (option_map member_for) at) ∙ there in
+    let is : member_for p ≡ m = cc in
+    subst (λ (u : Member). HoldsAlike p u v.condition) is
+    (one_alike p (may i p at) v (all_found (λ (u : InvariantTree). list_all spelled (names_of_expr u.condition) ≡ true) vs k v c stated))
+
 pub rewriting_stands : RewritingStands
 rewriting_stands h may c =
     let whole : IsRest h.hosts 0 h.hosts = λ j. let e : 0 + j ≡ j = omega arith in ap (slice_get h.hosts) e in
@@ -252,11 +359,13 @@ rewriting_stands h may c =
       name = refl;
       hidden = refl;
       invariants = refl;
+      members = all_made h.hosts may;
       automata = same_automata h.hosts;
       kinds = λ k none. same_kinds k none h.hosts;
       like = k.0;
       start = k.1;
       slots = all_hold h.hosts may;
+      conditions = all_alike h.hosts may h.invariants c;
       broken = λ n hs ss r. all_broken h.hosts may n h.invariants c 0 h.hosts whole hs ss r;
     }
 

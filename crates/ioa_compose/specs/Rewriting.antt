@@ -89,6 +89,23 @@ rewritten n a = record {
   transitions = map guarded a.transitions ++ crash_transition a.variables n.crash ∷ recover_transition n.recover ∷ [];
 }
 
+-- a transition but for its precondition and its effect
+abbrev pub proposing : TransitionTree → TransitionTree
+proposing t = record t { pre = None; effect = stop }
+
+-- what an automaton gets by which it crashes and recovers: transitions that propose nothing, arguments, and a variable
+abbrev pub added_proposals : Option CrashTree → List TransitionTree
+added_proposals None = []
+added_proposals (Some n) = signal_transition n.crash stop ∷ signal_transition n.recover stop ∷ []
+
+abbrev pub added_arguments : Option CrashTree → List VariableTree → List Val → List Val
+added_arguments None vs starts = []
+added_arguments (Some n) vs starts = volatile_values vs starts
+
+abbrev pub added_variables : Option CrashTree → List VariableTree
+added_variables None = []
+added_variables (Some n) = up_variable ∷ []
+
 -- with the start values as the arguments for the added formals
 abbrev pub crashing : CrashTree → Instance → List Val → Instance
 crashing n i starts = record {
