@@ -1,12 +1,12 @@
 -- A list text, line by line.
-use Rattle.std.proofs.Common.{◌≡◌, ℕ, ◌+◌, ◌-◌, ◌<◌, ◌≤◌, Bool, true, false, ◌==◌, List, [], ◌∷◌, ◌++◌, length, get_or, take, drop, All, append_assoc, refl, sym, ◌∙◌, ap, subst, arith, length-append, length-drop, Option, None, Some, Err, IfSome, inl, inr}
+use Rattle.std.proofs.Common.{◌≡◌, ℕ, ◌+◌, ◌-◌, ◌<◌, ◌≤◌, Bool, true, false, ◌==◌, List, [], ◌∷◌, ◌++◌, length, get_or, take, drop, All, min, append_assoc, refl, sym, ◌∙◌, ap, subst, arith, length-append, length-drop, length-take, Option, None, Some, Err, IfSome, inl, inr}
 use Rattle.std.specs.Result.{IsErrOf}
 use Rattle.std.specs.String.{string_bytes}
 use Rattle.std.specs.Io.KnownBytes.{Consumes}
 use Rattle.std.proofs.Math.Seq.{take-add}
 use Rattle.std.proofs.lemmas.List.{append-nil, drop_more, take-append-drop, take_more, get_or-drop, take_all}
 use Rattle.std.proofs.lemmas.List.Elements.{All-nil, All-head, All-tail, All-cons, All-append}
-use Rattle.std.proofs.lemmas.Bool.{cases_lt, false≢true}
+use Rattle.std.proofs.lemmas.Bool.{false≢true}
 use Rattle.std.proofs.lemmas.Bool.Decides.{nat_tests}
 use Rattle.std.proofs.KnownBytes.{Consumes-trans}
 use Rattle.ioa_value.specs.Actions.{Act}
@@ -248,14 +248,24 @@ known_none (Some bs) xs e = ap (λ zs. zs ++ bs) (sym e)
 pub known_pushed : (known left more : Option (List ℕ)) (xs ys zs : List ℕ) → zs ≡ xs ++ ys → Consumes known left xs → Consumes left more ys → Consumes known more zs
 known_pushed known left more xs ys zs e c d = subst (Consumes known more) (sym e) (Consumes-trans known left more xs ys c d)
 
+-- ---- no more lines are counted than bytes were given, up to the greatest count
+
+pub counted_none : (most read given : ℕ) → read ≡ 0 → min read most ≤ given
+counted_none most read given e = omega arith
+
+pub counted_more : (most read more given n bytes : ℕ) → min read most ≤ given → more ≤ read + bytes → bytes ≤ n → min more most ≤ min (given + n) most
+counted_more most read more given n bytes h l k = omega arith
+
+pub past_counting : (most read given n bytes : ℕ) → min read most ≤ given → most ≤ read + bytes → bytes ≤ n → most ≤ min (given + n) most
+past_counting most read given n bytes h l k = omega arith
+
+pub taken_within : (n : ℕ) (xs : List ℕ) → length (take n xs) ≤ n
+taken_within n xs = omega (arith, length-take n xs)
+
 -- ---- failures
 
-pub failed_since : (a b c : ℕ) → a ≤ b → b ≤ c → HasFailed b c → HasFailed a c
-failed_since a b c l m (inl h) = inl (omega arith)
-failed_since a b c l m (inr h) = elim (cases_lt a c) [
-  | inl k ↦ inl k
-  | inr k ↦ inr (omega arith)
-]
+pub failed_since : (a b c : ℕ) → b ≡ a → HasFailed b c → HasFailed a c
+failed_since a b c e h = subst (λ k. HasFailed k c) e h
 
 -- the error that is handed on
 pub kept_error : {T E : Type 0} (x y z : E) → x ≡ y → IsErrOf {T = T} (Err x) z → y ≡ z

@@ -13,6 +13,11 @@ has_failed least answer = not (is_some (moved least answer))
 abbrev pub least_taken : List ℕ → ℕ
 least_taken piece = min 1 (length piece)
 
+-- how many bytes were given, after an answer that gives some or fails; the count stops at its greatest
+abbrev pub given_after : {E : Type 0} → Result ℕ E → ℕ → ℕ
+given_after (Ok n) count = min (count + n) (2 ^ 64 - 1)
+given_after (Err e) count = count
+
 -- how many calls failed, after one more that failed or passed; the count stops at its greatest
 abbrev pub count_after : Bool → ℕ → ℕ
 count_after true count = min (count + 1) (2 ^ 64 - 1)

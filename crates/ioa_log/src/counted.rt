@@ -1,26 +1,31 @@
-ghost use Rattle.std.specs.Prelude.{◌≡◌, ◌≤◌, ℕ, true, OnErr, OnOk};
+ghost use Rattle.std.specs.Prelude.{◌≡◌, ◌≤◌, ◌+◌, ◌-◌, ◌^◌, ℕ, min, true, OnErr, OnOk};
 ghost use Rattle.std.specs.Result.{is_err, result_ok};
 ghost use Rattle.std.specs.Io.KnownBytes.{Keeps, ReadConsumes, WriteAppends};
 ghost use Rattle.std.specs.Io.{ReadsAtMost, WritesAtMost};
-ghost use Rattle.ioa_log.specs.Counts.{moved, has_failed, least_taken, count_after};
+ghost use Rattle.ioa_log.specs.Counts.{moved, has_failed, least_taken, count_after, given_after};
 ghost use Rattle.ioa_log.specs.Failing.{HasFailed, TakesSome};
 
 use crate::device::{Device, Failed, InputDevice, OutputDevice};
 use std::io;
 use std::io::{Read, Write};
 
-/// A reader or a writer, and how many of its calls failed. The count stops at its greatest.
+/// A reader or a writer, how many of its calls failed, and how many bytes its reads gave. Both counts stop at their greatest.
 #[derive(Drop)]
 pub struct Counted<T> {
     inner: T,
     failures: u64,
+    given: u64,
 }
 
 impl<T> Counted<T> {
     pub fn new(inner: T) -> Counted<T>
-        ensures { result ≡ record { inner = inner; failures = 0 } }
+        ensures { result ≡ record { inner = inner; failures = 0; given = 0 } }
     {
-        Counted { inner, failures: 0 }
+        Counted {
+            inner,
+            failures: 0,
+            given: 0,
+        }
     }
 
     pub fn into_inner(self) -> T
@@ -35,9 +40,21 @@ impl<T> Counted<T> {
         ensures count { self.new.failures ≡ count_after failed self.old.failures }
         ensures failed { failed ≡ true → HasFailed self.old.failures self.new.failures }
         ensures counts { self.old.failures ≤ self.new.failures }
+        ensures given { self.new.given ≡ self.old.given }
     {
         if failed {
             self.failures = self.failures.saturating_add(1);
+        }
+    }
+
+    /// Counts the bytes that a read gave.
+    fn gave<E>(&mut self, answer: &Result<usize, E>)
+        ensures inner { self.new.inner ≡ self.old.inner }
+        ensures count { self.new.failures ≡ self.old.failures }
+        ensures given { self.new.given ≡ given_after answer.now self.old.given }
+    {
+        if let Ok(count) = answer {
+            self.given = self.given.saturating_add(*count as u64);
         }
     }
 }
@@ -65,15 +82,6 @@ impl<T> Device for Counted<T> {
     fn failures(&self) -> u64 {
         self.failures
     }
-
-    fn refuse(&mut self)
-        ensures failed { HasFailed self.old.failures self.new.failures }
-        ensures counts { self.old.failures ≤ self.new.failures }
-        ensures inner { self.new.inner ≡ self.old.inner }
-        ensures count { self.new.failures ≡ count_after true self.old.failures }
-    {
-        self.count(true);
-    }
 }
 
 impl<T: Read> Read for Counted<T> {
@@ -82,26 +90,43 @@ impl<T: Read> Read for Counted<T> {
     fn read(&mut self, buf: &mut [u8]) -> io::Result<usize>
         ensures bound { ReadsAtMost result buf.new }
         ensures bytes { ReadConsumes (T.remaining self.old.inner) (T.remaining self.new.inner) result buf.new }
+        ensures given { self.new.given ≡ given_after result self.old.given }
         ensures count { self.new.failures ≡ count_after (is_err result) self.old.failures }
     {
         let answer = self.inner.read(buf);
+        self.gave(&answer);
         self.count(answer.is_err());
         answer
     }
 }
 
 impl<T: Read> InputDevice for Counted<T> {
+    ghost given_count = { λ c. c.given };
+
     fn pull(&mut self, piece: &mut [u8]) -> Result<usize, Failed>
         ensures bound { ReadsAtMost result piece.new }
         ensures bytes { ReadConsumes (T.remaining self.old.inner) (T.remaining self.new.inner) result piece.new }
+        ensures given { self.new.given ≡ given_after result self.old.given }
         ensures failed { OnErr result (HasFailed self.old.failures self.new.failures) }
         ensures passed { OnOk result (self.new.failures ≡ self.old.failures) }
         ensures counts { self.old.failures ≤ self.new.failures }
         ensures count { self.new.failures ≡ count_after (is_err result) self.old.failures }
     {
         let answer = told(&self.inner.read(piece), 0);
+        self.gave(&answer);
         self.count(answer.is_err());
         answer
+    }
+
+    fn refuse(&mut self)
+        requires { 2 ^ 64 - 1 ≤ self.old.given }
+        ensures failed { HasFailed self.old.failures self.new.failures }
+        ensures counts { self.old.failures ≤ self.new.failures }
+        ensures inner { self.new.inner ≡ self.old.inner }
+        ensures given { self.new.given ≡ self.old.given }
+        ensures count { self.new.failures ≡ count_after true self.old.failures }
+    {
+        self.count(true);
     }
 }
 

@@ -1,6 +1,7 @@
-ghost use Rattle.std.specs.Prelude.{◌≡◌, ◌≤◌, ℕ, OnErr, OnOk};
+ghost use Rattle.std.specs.Prelude.{◌≡◌, ◌≤◌, ◌-◌, ◌^◌, ℕ, OnErr, OnOk};
 ghost use Rattle.std.specs.Io.KnownBytes.{ReadConsumes, WriteAppends};
 ghost use Rattle.std.specs.Io.{ReadsAtMost, WritesAtMost};
+ghost use Rattle.ioa_log.specs.Counts.{given_after};
 ghost use Rattle.ioa_log.specs.Failing.{HasFailed, TakesSome};
 
 use std::io::{Read, Write};
@@ -16,21 +17,26 @@ pub trait Device {
     /// How many calls failed so far.
     fn failures(&self) -> u64
         ensures { result ≡ failure_count self.now };
-
-    /// Counts a call as failed that is not made, or whose answer is of no use.
-    fn refuse(&mut self)
-        ensures failed { HasFailed (failure_count self.old) (failure_count self.new) }
-        ensures counts { failure_count self.old ≤ failure_count self.new };
 }
 
-/// A reader whose failures are counted.
+/// A reader whose failures are counted, and the bytes that it gave. That count stops at its greatest.
 pub trait InputDevice: Read + Device {
+    ghost given_count: { Self → ℕ };
+
     /// One read.
     fn pull(&mut self, piece: &mut [u8]) -> Result<usize, Failed>
         ensures bound { ReadsAtMost result piece.new }
         ensures bytes { ReadConsumes (Self.remaining self.old) (Self.remaining self.new) result piece.new }
+        ensures given { given_count self.new ≡ given_after result (given_count self.old) }
         ensures failed { OnErr result (HasFailed (Self.failure_count self.old) (Self.failure_count self.new)) }
         ensures passed { OnOk result (Self.failure_count self.new ≡ Self.failure_count self.old) }
+        ensures counts { Self.failure_count self.old ≤ Self.failure_count self.new };
+
+    /// Counts as failed a reader that goes on past what can be counted: it gave the greatest count of bytes, so that its reads, or the
+    /// lines that it gave, may have no number any more.
+    fn refuse(&mut self)
+        requires { 2 ^ 64 - 1 ≤ given_count self.old }
+        ensures failed { HasFailed (Self.failure_count self.old) (Self.failure_count self.new) }
         ensures counts { Self.failure_count self.old ≤ Self.failure_count self.new };
 }
 

@@ -1,4 +1,4 @@
-ghost use Rattle.std.specs.Prelude.{◌≡◌, ◌≤◌, ◌⊎◌, ℕ, [], OnOk, OnErr, IfOk, IfErr, IfSome, IsErrOf, take};
+ghost use Rattle.std.specs.Prelude.{◌≡◌, ◌≤◌, ◌-◌, ◌^◌, ◌⊎◌, ℕ, [], OnOk, OnErr, IfOk, IfErr, IfSome, IsErrOf, min, take};
 ghost use Rattle.std.specs.Io.KnownBytes.{Appends};
 ghost use Rattle.ioa_value.specs.Lists.{BadLine};
 ghost use Rattle.ioa_compile.specs.Programs.{Prog};
@@ -20,15 +20,17 @@ pub(crate) fn feed_all<R: InputDevice>(
     input: &mut R,
     reading: &mut Reading<'_>,
 ) -> Result<(), LogErr>
+    requires { reading.old.count ≡ 0 }
     ensures ok { OnOk result (IfSome (R.remaining input.old) (λ bytes. (p : Prog) → HasSeen p [] reading.old → HasSeen p bytes reading.new)) }
     ensures bad { (n : ℕ) → IsErrOf result (LogErr.BadLine n) → IfSome (R.remaining input.old) (λ bytes. (p : Prog) → HasSeen p [] reading.old → BadLine p.types bytes n) }
+    ensures counted { OnOk result (min reading.new.count (2 ^ 64 - 1) ≤ R.given_count input.new) }
     ensures io { IsErrOf result LogErr.Io → HasFailed (R.failure_count input.old) (R.failure_count input.new) }
-    ensures counts { R.failure_count input.old ≤ R.failure_count input.new }
+    ensures passed { (IsErrOf result LogErr.Io → ⊥) → R.failure_count input.new ≡ R.failure_count input.old }
     ensures only { IfErr result IsListErr }
 {
     let mut room = vec![in alloc; 0u8; PIECE]?;
     let piece = room.as_mut_slice();
-    for _ in 0..u64::MAX {
+    for turn in 0..u64::MAX {
         match input.pull(piece) {
             Ok(0) => return Ok(()),
             Ok(count) => match reading.feed(&piece[..count]) {
@@ -45,26 +47,27 @@ pub(crate) fn feed_all<R: InputDevice>(
 pub(crate) fn read_all<R: InputDevice>(alloc: Global, input: &mut R) -> Result<Vec<u8>, LogErr>
     ensures ok { IfOk result (λ text. IfSome (R.remaining input.old) (λ bytes. text.items ≡ bytes)) }
     ensures io { IsErrOf result LogErr.Io → HasFailed (R.failure_count input.old) (R.failure_count input.new) }
+    ensures passed { (IsErrOf result LogErr.Io → ⊥) → R.failure_count input.new ≡ R.failure_count input.old }
     ensures only { IfErr result (λ e. (e ≡ LogErr.Io) ⊎ (e ≡ LogErr.OutOfMemory)) }
 {
     let mut text = Vec::new(alloc);
     let mut room = vec![in alloc; 0u8; PIECE]?;
     let piece = room.as_mut_slice();
-    for _ in 0..u64::MAX {
+    loop {
         match input.pull(piece) {
             Ok(0) => return Ok(text),
             Ok(count) => text.extend_from_slice(&piece[..count])?,
             Err(Failed) => return Err(LogErr::Io),
         }
     }
-    Err(blamed(input, LogErr::Io))
 }
 
 /// The error, which the reader is to blame for where it is a device's: its count says so then.
 pub(crate) fn blamed<R: InputDevice>(input: &mut R, error: LogErr) -> LogErr
+    requires { error ≡ LogErr.Io → 2 ^ 64 - 1 ≤ R.given_count input.old }
     ensures same { result ≡ error }
     ensures failed { error ≡ LogErr.Io → HasFailed (R.failure_count input.old) (R.failure_count input.new) }
-    ensures counts { R.failure_count input.old ≤ R.failure_count input.new }
+    ensures passed { (error ≡ LogErr.Io → ⊥) → R.failure_count input.new ≡ R.failure_count input.old }
 {
     if error == LogErr::Io {
         input.refuse();
@@ -75,10 +78,11 @@ pub(crate) fn blamed<R: InputDevice>(input: &mut R, error: LogErr) -> LogErr
 /// Hands all of a text to a writer.
 ///
 /// # Errors
-/// `Io` where the writer failed in this call. It has taken a beginning of the text then.
+/// `Io` where the writer failed in this call, which is not tried again. It has taken a beginning of the text then.
 pub fn send_all<W: OutputDevice>(output: &mut W, text: &[u8]) -> Result<(), LogErr>
     ensures ok { OnOk result (Appends (W.contents output.old) (W.contents output.new) text.now) }
     ensures io { IfErr result (λ e. (e ≡ LogErr.Io) × HasFailed (W.failure_count output.old) (W.failure_count output.new)) }
+    ensures passed { OnOk result (W.failure_count output.new ≡ W.failure_count output.old) }
     ensures begun { OnErr result ((k : ℕ) × Appends (W.contents output.old) (W.contents output.new) (take k text.now)) }
 {
     let mut at = 0;

@@ -1,4 +1,5 @@
-ghost use Rattle.std.specs.Prelude.{OnOk, IfErr};
+ghost use Rattle.std.specs.Prelude.{◌≡◌, OnOk, IfErr, IsErrOf};
+ghost use Rattle.ioa_log.specs.declared.failure.LogErr.{LogErr};
 ghost use Rattle.ioa_log.specs.Failing.{HasFailed};
 ghost use Rattle.ioac.specs.Checks.{IsCheck, IsCheckFailure, IsUnchecked};
 
@@ -21,6 +22,7 @@ pub fn check_text<W: OutputDevice>(
     ensures checks { OnOk result (IsCheck text.now (W.contents output.old) (W.contents output.new)) }
     ensures refused { IfErr result (λ e. IsCheckFailure text.now (HasFailed (W.failure_count output.old) (W.failure_count output.new)) e) }
     ensures unwritten { IfErr result (λ e. IsUnchecked (W.contents output.old) (W.contents output.new) e) }
+    ensures passed { (IsErrOf result (Failure.List LogErr.Io) → ⊥) → W.failure_count output.new ≡ W.failure_count output.old }
 {
     let source = parse(alloc, text)?;
     let _checked = check(alloc, source)?;

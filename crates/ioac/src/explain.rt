@@ -1,4 +1,5 @@
-ghost use Rattle.std.specs.Prelude.{OnOk, IfErr};
+ghost use Rattle.std.specs.Prelude.{◌≡◌, OnOk, IfErr, IsErrOf};
+ghost use Rattle.ioa_log.specs.declared.failure.LogErr.{LogErr};
 ghost use Rattle.ioa_log.specs.Failing.{HasFailed};
 ghost use Rattle.ioac.specs.Explained.{IsExplained, IsUnexplained};
 
@@ -17,6 +18,7 @@ pub fn explain<W: OutputDevice>(alloc: Global, code: Code, output: &mut W) -> Re
     ensures explains { OnOk result (IsExplained code (W.contents output.old) (W.contents output.new)) }
     ensures refused { IfErr result (λ e. IsUnexplained code (HasFailed (W.failure_count output.old) (W.failure_count output.new))
         (W.contents output.old) (W.contents output.new) e) }
+    ensures passed { (IsErrOf result (Failure.List LogErr.Io) → ⊥) → W.failure_count output.new ≡ W.failure_count output.old }
 {
     let explanation = explanation(code);
     let text = format!(in alloc; "{explanation}")?;

@@ -1,10 +1,11 @@
-ghost use Rattle.std.specs.Prelude.{◌≡◌, ◌⊎◌, IfOk, IfErr, IfSome, map, option_map};
+ghost use Rattle.std.specs.Prelude.{◌≡◌, ◌⊎◌, IfOk, IfErr, IfSome, IsErrOf, map, option_map};
 ghost use Rattle.std.specs.Option.{option_copied};
 ghost use Rattle.std.specs.String.{string_bytes};
 ghost use Rattle.ioa_value.specs.Actions.{act_of};
 ghost use Rattle.ioa_tree.specs.Hosts.{Hosted, hosts_of, host_starts};
 ghost use Rattle.ioa_system.specs.Answers.{ending_of};
 ghost use Rattle.ioa_system.specs.Logs.{logged};
+ghost use Rattle.ioa_log.specs.declared.failure.LogErr.{LogErr};
 ghost use Rattle.ioa_log.specs.Failing.{HasFailed};
 ghost use Rattle.ioa_log.specs.Monitoring.{monitored};
 ghost use Rattle.ioac.specs.Failing.{BeginsMonitorOf, IsMonitorFailure, IsUnwritten};
@@ -41,6 +42,8 @@ pub fn monitor_text<R: InputDevice, W: OutputDevice>(
         (HasFailed (R.failure_count input.old) (R.failure_count input.new) ⊎ HasFailed (W.failure_count output.old) (W.failure_count output.new)) e) }
     ensures unwritten { IfErr result (λ e. IsUnwritten (BeginsMonitorOf text.now (option_copied composition.entry) (R.remaining input.old))
         (W.contents output.old) (W.contents output.new) e) }
+    ensures passed { (IsErrOf result (Failure.List LogErr.Io) → ⊥)
+        → (R.failure_count input.new ≡ R.failure_count input.old) × (W.failure_count output.new ≡ W.failure_count output.old) }
 {
     let program = compile_text(alloc, text, composition)?;
     // It has an answer to no action at all where it may be a monitor.

@@ -1,4 +1,4 @@
-use Rattle.std.proofs.Common.{◌++◌, take, sym, ap, ◌∙◌, subst, le_trans, length-take, length-drop, arith}
+use Rattle.std.proofs.Common.{◌++◌, take, sym, ap, ◌∙◌, subst, length-take, length-drop, arith}
 use Rattle.std.proofs.Math.Seq.{take-add}
 use Rattle.std.proofs.lemmas.List.{take_rest}
 use Rattle.std.specs.Io.KnownBytes.{Appends}
@@ -12,6 +12,6 @@ loop-at-preserved g c =
     let at = c.loop-at.at in
     let joined = ap (λ l. take at text ++ take c.in-Ok.taken l) (take_rest text at) ∙ sym (take-add at c.in-Ok.taken text) in (
       grind (arith, length-take, length-drop),
-      le_trans counted c.in-Ok.ensures.counts,
+      c.in-Ok.ensures.passed ∙ counted,
       subst (Appends _ _) joined (Appends-trans _ _ _ _ _ appended c.in-Ok.ensures.bytes),
     )
