@@ -14,3 +14,4 @@ pub mod Monitored
 pub mod Accepting
 pub mod Breaking
 pub mod FirstBroken
+pub mod FirstDifference

@@ -11,3 +11,4 @@ pub mod LinesRead
 pub mod Telling
 pub mod Readings
 pub mod FirstBroken
+pub mod FirstDifference

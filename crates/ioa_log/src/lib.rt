@@ -22,7 +22,7 @@ pub use failure::LogErr;
 pub use judge::replay;
 pub use laws::{
     first_broken_is_least, judged_is_the_run, monitored_is_the_run, no_refusal, one_log,
-    written_log_is_read,
+    verdict_is_the_first_difference, written_log_is_read,
 };
 pub use logs::{read_log, write_log};
 pub use monitors::{MonitorErr, monitor};
