@@ -15,3 +15,4 @@ pub mod Accepting
 pub mod Breaking
 pub mod FirstBroken
 pub mod FirstDifference
+pub mod Hosting

@@ -1,13 +1,16 @@
 -- Whether a specification accepts actions: it runs on those of them that its components have.
-use Rattle.std.specs.Prelude.{◌≡◌, ℕ, ◌+◌, ◌==◌, ◌||◌, Bool, true, false, not, if◌then◌else◌, List, [], ◌∷◌, length, Option, Some, None}
+use Rattle.std.specs.Prelude.{◌≡◌, ℕ, ◌+◌, ◌==◌, ◌||◌, Bool, true, false, not, if◌then◌else◌, List, [], ◌∷◌, length, Option, Some, None, slice_get}
 use Rattle.std.specs.List.{list_any}
 use Rattle.ioa_value.specs.Actions.{Act}
 use Rattle.ioa_tree.specs.Components.{Component, has}
 use Rattle.ioa_tree.specs.Steps.{Moved, next, not_an_action, not_enabled, fault, step}
 use Rattle.ioa_tree.specs.Runs.{Ending, not_an_action_at, not_enabled_at, fault_at}
 use Rattle.ioa_tree.specs.Compositions.{Composed}
+use Rattle.ioa_tree.specs.Hosts.{HostState, Hosted, hosts_of, host_instances}
+use Rattle.ioa_tree.specs.Meaning.{Env}
 use Rattle.ioa_tree.specs.declared.tree.Kind.{Kind}
 use Rattle.ioa_tree.specs.declared.tree.Kind.TheVariants.{Input, Output, Internal}
+use Rattle.ioa_compose.specs.Stands.{has_kind}
 use Rattle.ioa_compile.specs.Programs.{Prog}
 use Rattle.ioa_system.specs.declared.answer.Step.{Step}
 use Rattle.ioa_log.specs.declared.monitors.MonitorErr.{MonitorErr}
@@ -41,6 +44,15 @@ hides p = list_any (λ m. list_any (λ e. is_internal e.kind) m.entries) p.membe
 abbrev pub hides_in : Composed → Bool
 hides_in c = list_any (λ m. list_any (λ e. is_internal e.kind) m.instance.automaton.entries) c.members || not (length c.hidden == 0)
 
+-- all that hosts do is seen: no action is internal to one of them, and no name is hidden
+pub record IsSeen (h : Hosted) : Type 0 where
+  pub external : (i : ℕ) (p : Component (HostState Env)) (a : Act) → slice_get (hosts_of h) i ≡ Some p → p.kind_of a ≡ Some Internal → ⊥
+  pub unhidden : h.hidden ≡ []
+
+-- an entry of a host's signature is internal, or a name is hidden
+abbrev pub IsHiding : Hosted → Type 0
+IsHiding h = (list_any (has_kind is_internal) (host_instances h) || not (length h.hidden == 0)) ≡ true
+
 -- the answer to the action of this index is why it is not accepted
 abbrev pub IsRefusedAt : ℕ → Step → Option Ending → Type 0
 IsRefusedAt i Step.Next o = ⊥
@@ -53,3 +65,9 @@ abbrev pub IsRefusal : MonitorErr → Bool → Option Ending → Type 0
 IsRefusal MonitorErr.SpecHasInternal hides o = hides ≡ true
 IsRefusal (MonitorErr.At i s) hides o = (hides ≡ false) × IsRefusedAt i s o
 IsRefusal MonitorErr.OutOfMemory hides o = Unit {0}
+
+-- the error is told of hosts that refuse so
+abbrev pub IsHostRefusal : MonitorErr → Hosted → Option Ending → Type 0
+IsHostRefusal MonitorErr.SpecHasInternal h o = IsHiding h
+IsHostRefusal (MonitorErr.At i s) h o = IsSeen h × IsRefusedAt i s o
+IsHostRefusal MonitorErr.OutOfMemory h o = Unit {0}

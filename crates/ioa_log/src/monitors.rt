@@ -4,11 +4,13 @@ ghost use Rattle.std.specs.Prelude.{◌≡◌, ◌||◌, false, IfErr, OnOk, map
 ghost use Rattle.std.specs.List.{list_any};
 ghost use Rattle.ioa_value.specs.Actions.{act_of};
 ghost use Rattle.ioa_tree.specs.Compositions.{Composed, components_of, starts_of};
+ghost use Rattle.ioa_tree.specs.Hosts.{Hosted, hosts_of, host_starts};
+ghost use Rattle.ioa_compose.specs.Stands.{Stands};
 ghost use Rattle.ioa_compile.specs.Means.{Means};
 ghost use Rattle.ioa_compile.specs.Shown.{entry_code, member_code};
 ghost use Rattle.ioa_compile.specs.Tables.{start_states, tabled};
 ghost use Rattle.ioa_log.specs.Monitoring as spec;
-ghost use Rattle.ioa_log.specs.Monitoring.{IsRefusal, hides_in, monitored};
+ghost use Rattle.ioa_log.specs.Monitoring.{IsHostRefusal, IsRefusal, IsSeen, hides_in, monitored};
 
 use ioa_compile::{Entry, Member, Program};
 use ioa_system::{Step, System};
@@ -40,6 +42,8 @@ pub fn monitor(alloc: Global, program: &Program, actions: &[Action]) -> Result<(
     ensures source { OnOk result ((c : Composed) → Means program.now c → (hides_in c ≡ false) × (monitored (components_of c) (map act_of actions.now) (starts_of c) ≡ None)) }
     ensures refused { IfErr result (λ e. IsRefusal e (spec.hides program.now) (monitored (tabled program.now) (map act_of actions.now) (start_states program.now))) }
     ensures source_refused { IfErr result (λ e. (c : Composed) → Means program.now c → IsRefusal e (hides_in c) (monitored (components_of c) (map act_of actions.now) (starts_of c))) }
+    ensures hosts { OnOk result ((h : Hosted) (c : Composed) → Stands h c → Means program.now c → IsSeen h × (monitored (hosts_of h) (map act_of actions.now) (host_starts h) ≡ None)) }
+    ensures hosts_refused { IfErr result (λ e. (h : Hosted) (c : Composed) → Stands h c → Means program.now c → IsHostRefusal e h (monitored (hosts_of h) (map act_of actions.now) (host_starts h))) }
 {
     monitor_table(alloc, program, actions)
 }

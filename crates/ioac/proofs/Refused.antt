@@ -10,9 +10,10 @@ use Rattle.ioa_lex.specs.declared.refusal.Refusal.{Refusal}
 use Rattle.ioa_lex.specs.declared.refusal.Refusal.TheVariants as refusals
 use Rattle.ioa_tree.specs.Tree.{SourceTree, CompositionTree}
 use Rattle.ioa_tree.specs.WellFormed.{WellFormed}
-use Rattle.ioa_tree.specs.Compositions.{Composed, picked, components_of, starts_of}
+use Rattle.ioa_tree.specs.Compositions.{Composed, picked}
 use Rattle.ioa_tree.specs.Hosts.{Hosted, IsHosted, hosts_of, host_starts}
 use Rattle.ioa_compose.specs.Refusals as compositions
+use Rattle.ioa_compose.specs.Stands.{Stands}
 use Rattle.ioa_compile.specs.Means.{Means}
 use Rattle.ioa_compile.specs.Programs.{Prog}
 use Rattle.ioa_system.specs.Logs.{Logged}
@@ -20,13 +21,12 @@ use Rattle.ioa_log.specs.declared.failure.LogErr.{LogErr}
 use Rattle.ioa_log.specs.Failing.{IsListErr, IsTextErr}
 use Rattle.ioa_log.specs.Judging.{IsReplayErr, judged, wrong_owner, diverges}
 use Rattle.ioa_log.specs.LogTexts.{GoesOnAt, HasNoEnd, NoEntryAt, NotJsonAt, ReadsLog}
+use Rattle.ioa_log.specs.Monitoring.{IsSeen}
 use Rattle.ioa_log.specs.Replays.{BeginsReplay}
 use Rattle.ioac.specs.declared.failure.Failure.{Failure}
 use Rattle.ioac.specs.Headline.{Declares, Spells}
 use Rattle.ioac.specs.Failing.{BeginsReplayOf, IsFailure, IsLogFailure, IsMonitorFailure, IsRefusedSource, IsUnwritten}
-use Rattle.ioac.specs.Logs.{IsSeen}
 use Rattle.ioac.specs.Running.{Runs}
-use Rattle.ioac.proofs.Standing.{hosts_begin}
 
 -- what checking and composing answer, told of the text
 pub declared : (text : List ℕ) (name : Option Name) (s u : SourceTree) (t : CompositionTree) (h : Hosted) → Spells text s → u ≡ s → WellFormed s
@@ -167,12 +167,13 @@ pub list_unwritten : (text : List ℕ) (name : Option Name) (bytes before after 
     → Declares text name h → Runs p h → IsListErr x
     → ((n : ℕ) → IsErrOf {T = T} (Err x) (LogErr.BadLine n) → Keeps before after)
     → (IsErrOf {T = T} (Err x) LogErr.OutOfMemory → Keeps before after)
-    → (IsErrOf {T = T} (Err x) LogErr.Io → (c : Composed) → Means p c → Keeps before after ⊎ IfSome bytes (λ xs. BeginsReplay c.types c.hidden (components_of c) (starts_of c) xs before after))
+    → (IsErrOf {T = T} (Err x) LogErr.Io → (h : Hosted) (c : Composed) → Stands h c → Means p c
+    → Keeps before after ⊎ IfSome bytes (λ xs. BeginsReplay h.types h.hidden (hosts_of h) (host_starts h) xs before after))
     → IsUnwritten (BeginsReplayOf text name bytes) before after (Failure.List x)
 list_unwritten text name bytes before after p h (LogErr.BadLine n) of runs only bad memory io = bad n refl
 list_unwritten text name bytes before after p h LogErr.OutOfMemory of runs only bad memory io = memory refl
 list_unwritten text name bytes before after p h LogErr.Io of runs only bad memory io =
-    elim (hosts_begin h runs.0 runs.1 bytes before after (io refl runs.0 runs.2)) [ inl k ↦ inl k | inr k ↦ inr (h, of, k) ]
+    elim (io refl h runs.0 runs.1 runs.2) [ inl k ↦ inl k | inr k ↦ inr (h, of, k) ]
 list_unwritten text name bytes before after p h (LogErr.NotJson n) of runs only bad memory io = absurd only
 list_unwritten text name bytes before after p h (LogErr.WrongOwner n) of runs only bad memory io = absurd only
 list_unwritten text name bytes before after p h (LogErr.Diverges n) of runs only bad memory io = absurd only

@@ -16,10 +16,11 @@ use Rattle.ioa_system.specs.Logs.{Logged}
 use Rattle.ioa_log.specs.declared.failure.LogErr.{LogErr}
 use Rattle.ioa_log.specs.Judging.{Verdict, wrong_owner, diverges, judged}
 use Rattle.ioa_log.specs.LogTexts.{ReadsLog, NotJsonAt, NoEntryAt, GoesOnAt, HasNoEnd}
+use Rattle.ioa_log.specs.Monitoring.{IsSeen, IsHiding}
 use Rattle.ioa_log.specs.Replays.{BeginsReplay}
 use Rattle.ioac.specs.declared.failure.Failure.{Failure}
 use Rattle.ioac.specs.Headline.{Spells, Declares}
-use Rattle.ioac.specs.Logs.{IsSeen, IsHiding, BeginsLog, BeginsFound, BeginsMonitor}
+use Rattle.ioac.specs.Logs.{BeginsLog, BeginsFound, BeginsMonitor}
 
 -- a device failed; no list and no log is read
 abbrev pub IsDeviceErr : Type 0 → LogErr → Type 0

@@ -1,24 +1,19 @@
 -- What a replay of a log writes, also where it is asked for invariants, and what a monitor of one.
-use Rattle.std.specs.Prelude.{◌≡◌, ℕ, ◌-◌, ◌==◌, ◌++◌, ◌∷◌, [], true, not, ◌||◌, if◌then◌else◌, List, length, take, codes, Option, Some, None, slice_get}
+use Rattle.std.specs.Prelude.{◌≡◌, ℕ, ◌-◌, ◌++◌, ◌∷◌, [], if◌then◌else◌, List, length, take, codes, Option, Some, None}
 use Rattle.std.specs.Fmt.{decimal}
 use Rattle.std.specs.Io.KnownBytes.{Appends}
-use Rattle.std.specs.List.{list_any}
 use Rattle.std.specs.Option.{option_map_or}
 use Rattle.ioa_value.specs.Actions.{Act}
-use Rattle.ioa_tree.specs.declared.tree.Kind.TheVariants.{Internal}
-use Rattle.ioa_tree.specs.Components.{Component}
-use Rattle.ioa_tree.specs.Hosts.{HostState, Hosted, hosts_of, host_starts, host_instances, first_broken_host}
+use Rattle.ioa_tree.specs.Hosts.{Hosted, hosts_of, host_starts, first_broken_host}
 use Rattle.ioa_tree.specs.Invariants.{Broken}
-use Rattle.ioa_tree.specs.Meaning.{Env}
 use Rattle.ioa_tree.specs.Runs.{Ending, run}
-use Rattle.ioa_compose.specs.Stands.{has_kind}
 use Rattle.ioa_system.specs.Answers.{ending_of}
 use Rattle.ioa_system.specs.Endings.{ending_text}
 use Rattle.ioa_system.specs.Logs.{Logged, actions_of, is_fault}
 use Rattle.ioa_log.specs.Breaking.{broken_of}
 use Rattle.ioa_log.specs.Judging.{agrees, judged}
 use Rattle.ioa_log.specs.LogTexts.{ReadsLog}
-use Rattle.ioa_log.specs.Monitoring.{is_internal, monitored}
+use Rattle.ioa_log.specs.Monitoring.{IsSeen, monitored}
 use Rattle.ioa_log.specs.Replays.{run_text}
 use Rattle.ioac.specs.declared.finding.Finding.{Finding}
 
@@ -86,15 +81,6 @@ answer_text (Some end) = ending_text end
 
 abbrev pub answer_line : Option Ending → List ℕ
 answer_line answer = codes "monitor: " ++ (answer_text answer ++ 10 ∷ [])
-
--- all that the hosts do is seen: no action is internal to one of them, and no name is hidden
-pub record IsSeen (h : Hosted) : Type 0 where
-  pub external : (i : ℕ) (p : Component (HostState Env)) (a : Act) → slice_get (hosts_of h) i ≡ Some p → p.kind_of a ≡ Some Internal → ⊥
-  pub unhidden : h.hidden ≡ []
-
--- an entry of a host's signature is internal, or a name is hidden
-abbrev pub IsHiding : Hosted → Type 0
-IsHiding h = (list_any (has_kind is_internal) (host_instances h) || not (length h.hidden == 0)) ≡ true
 
 -- all is seen, the bytes are a text of a log, and the answer to it is written
 abbrev pub Monitors : Hosted → List ℕ → Option Ending → Option (List ℕ) → Option (List ℕ) → Type 0

@@ -7,11 +7,11 @@ ghost use Rattle.ioa_system.specs.Answers.{ending_of};
 ghost use Rattle.ioa_system.specs.Logs.{logged};
 ghost use Rattle.ioa_log.specs.declared.failure.LogErr.{LogErr};
 ghost use Rattle.ioa_log.specs.Failing.{HasFailed};
-ghost use Rattle.ioa_log.specs.Monitoring.{monitored};
+ghost use Rattle.ioa_log.specs.Monitoring.{IsHiding, IsSeen, monitored};
 ghost use Rattle.ioac.specs.Failing.{BeginsMonitorOf, IsMonitorFailure, IsUnwritten};
 ghost use Rattle.ioac.specs.Headline.{IsMonitoring};
 ghost use Rattle.ioac.specs.Logs as logs;
-ghost use Rattle.ioac.specs.Logs.{IsHiding, IsSeen, answer_line};
+ghost use Rattle.ioac.specs.Logs.{answer_line};
 ghost use Rattle.ioac.specs.Running.{Runs};
 
 use crate::compile::compile_text;

@@ -3,81 +3,65 @@ use Rattle.std.specs.Option.{option_map}
 use Rattle.std.proofs.lemmas.Result.{err_from_is_err_and}
 use Rattle.ioa_tree.specs.Hosts.{first_broken_host}
 use Rattle.ioa_compose.specs.Held.{composed_of}
-use Rattle.ioa_compose.proofs.StandLemmas.{stands_broken}
 use Rattle.ioa_system.specs.Logs.{actions_of, logged}
 use Rattle.ioa_log.specs.Breaking.{broken_of}
-use Rattle.ioa_log.specs.Judging.{agrees, diverges, wrong_owner}
 use Rattle.ioac.specs.Logs.{found_text}
 use Rattle.ioac.proofs.Logged.{found_broken, found_unbroken, run_told}
 use Rattle.ioac.proofs.Refused.{err_as}
-use Rattle.ioac.proofs.Standing.{hosts_judged, same_end, same_text}
 use Rattle.ioac.proofs.finding.inspect.Goals as goal
 
 pub returns-in_err-first-clause-owner : goal.returns-in_err-first-clause-owner
 returns-in_err-first-clause-owner c = λ n r h s.
     let e = err_from_is_err_and c.from_residual.result c.from_residual.ensures.1 in
-    hosts_judged h (composed_of c.args.composition.now) s (logged c.args.log.now) (wrong_owner n)
-    (c.in_err-first.ensures.owner n (err_as c.from_residual.result e.0 c.in_err-first.field-0.0 _ e.1 e.2 r))
+    c.in_err-first.ensures.hosts_owner n (err_as c.from_residual.result e.0 c.in_err-first.field-0.0 _ e.1 e.2 r) h s
 
 pub returns-in_err-first-clause-diverges : goal.returns-in_err-first-clause-diverges
 returns-in_err-first-clause-diverges c = λ n r h s.
     let e = err_from_is_err_and c.from_residual.result c.from_residual.ensures.1 in
-    hosts_judged h (composed_of c.args.composition.now) s (logged c.args.log.now) (diverges n)
-    (c.in_err-first.ensures.diverges n (err_as c.from_residual.result e.0 c.in_err-first.field-0.0 _ e.1 e.2 r))
+    c.in_err-first.ensures.hosts_diverges n (err_as c.from_residual.result e.0 c.in_err-first.field-0.0 _ e.1 e.2 r) h s
 
 pub returns-in_err-run-in-None-clause-owner : goal.returns-in_err-run-in-None-clause-owner
 returns-in_err-run-in-None-clause-owner c = λ n r h s.
     let e = err_from_is_err_and c.from_residual-in_err-run-in-None.result c.from_residual-in_err-run-in-None.ensures.1 in
-    hosts_judged h (composed_of c.args.composition.now) s (logged c.args.log.now) (wrong_owner n)
-    (c.in_err-run-in-None.ensures.source_owner n (err_as c.from_residual-in_err-run-in-None.result e.0 c.in_err-run-in-None.field-0.0 _ e.1 e.2 r)
-    (composed_of c.args.composition.now) c.in_ok-program-in-None.ensures)
+    c.in_err-run-in-None.ensures.hosts_owner n (err_as c.from_residual-in_err-run-in-None.result e.0 c.in_err-run-in-None.field-0.0 _ e.1 e.2 r)
+    h (composed_of c.args.composition.now) s c.in_ok-program-in-None.ensures
 
 pub returns-in_err-run-in-None-clause-diverges : goal.returns-in_err-run-in-None-clause-diverges
 returns-in_err-run-in-None-clause-diverges c = λ n r h s.
     let e = err_from_is_err_and c.from_residual-in_err-run-in-None.result c.from_residual-in_err-run-in-None.ensures.1 in
-    hosts_judged h (composed_of c.args.composition.now) s (logged c.args.log.now) (diverges n)
-    (c.in_err-run-in-None.ensures.source_diverges n (err_as c.from_residual-in_err-run-in-None.result e.0 c.in_err-run-in-None.field-0.0 _ e.1 e.2 r)
-    (composed_of c.args.composition.now) c.in_ok-program-in-None.ensures)
+    c.in_err-run-in-None.ensures.hosts_diverges n (err_as c.from_residual-in_err-run-in-None.result e.0 c.in_err-run-in-None.field-0.0 _ e.1 e.2 r)
+    h (composed_of c.args.composition.now) s c.in_ok-program-in-None.ensures
 
 pub returns-in_ok-line-in-Some-clause-judged : goal.returns-in_ok-line-in-Some-clause-judged
-returns-in_ok-line-in-Some-clause-judged c = λ h s.
-    hosts_judged h (composed_of c.args.composition.now) s (logged c.args.log.now) agrees c.in_ok-first.ensures.first.0
+returns-in_ok-line-in-Some-clause-judged c = λ h s. (c.in_ok-first.ensures.hosts h s).0
 
 pub returns-in_ok-line-in-Some-clause-finding : goal.returns-in_ok-line-in-Some-clause-finding
 returns-in_ok-line-in-Some-clause-finding c = λ h s.
     let first : Some (broken_of c.in-Some.broken) ≡ first_broken_host h (actions_of (logged c.args.log.now)) =
-    ap (option_map broken_of) (sym c.in-Some.is) ∙ c.in_ok-first.ensures.first.1
-    ∙ sym (stands_broken h (composed_of c.args.composition.now) s (actions_of (logged c.args.log.now))) in
+    ap (option_map broken_of) (sym c.in-Some.is) ∙ (c.in_ok-first.ensures.hosts h s).1 in
     found_broken h (logged c.args.log.now) c.in-Some.broken first
 
 pub returns-in_ok-line-in-Some-clause-text : goal.returns-in_ok-line-in-Some-clause-text
 returns-in_ok-line-in-Some-clause-text c = λ h s.
     let first : Some (broken_of c.in-Some.broken) ≡ first_broken_host h (actions_of (logged c.args.log.now)) =
-    ap (option_map broken_of) (sym c.in-Some.is) ∙ c.in_ok-first.ensures.first.1
-    ∙ sym (stands_broken h (composed_of c.args.composition.now) s (actions_of (logged c.args.log.now))) in
+    ap (option_map broken_of) (sym c.in-Some.is) ∙ (c.in_ok-first.ensures.hosts h s).1 in
     c.in_ok-line-in-Some.ensures ∙ ap (found_text h (logged c.args.log.now)) (found_broken h (logged c.args.log.now) c.in-Some.broken first)
 
 pub returns-in_ok-trace-in-None-clause-judged : goal.returns-in_ok-trace-in-None-clause-judged
-returns-in_ok-trace-in-None-clause-judged c = λ h s.
-    hosts_judged h (composed_of c.args.composition.now) s (logged c.args.log.now) agrees c.in_ok-first.ensures.first.0
+returns-in_ok-trace-in-None-clause-judged c = λ h s. (c.in_ok-first.ensures.hosts h s).0
 
 pub returns-in_ok-trace-in-None-clause-finding : goal.returns-in_ok-trace-in-None-clause-finding
 returns-in_ok-trace-in-None-clause-finding c = λ h s.
-    let of = composed_of c.args.composition.now in
-    let acts = actions_of (logged c.args.log.now) in
-    let none : None ≡ first_broken_host h acts = ap (option_map broken_of) (sym c.in-None.is) ∙ c.in_ok-first.ensures.first.1 ∙ sym (stands_broken h of s acts) in
-    let sound = c.in_ok-run-in-None.ensures.source of c.in_ok-program-in-None.ensures in
-    found_unbroken h (logged c.args.log.now) c.in_ok-run-in-None.run'.end none (sym sound.1.reached.ending ∙ same_end h of s acts)
+    let none : None ≡ first_broken_host h (actions_of (logged c.args.log.now)) = ap (option_map broken_of) (sym c.in-None.is) ∙ (c.in_ok-first.ensures.hosts h s).1 in
+    let sound = c.in_ok-run-in-None.ensures.hosts h (composed_of c.args.composition.now) s c.in_ok-program-in-None.ensures in
+    found_unbroken h (logged c.args.log.now) c.in_ok-run-in-None.run'.end none (sym sound.1.reached.ending)
 
 pub returns-in_ok-trace-in-None-clause-text : goal.returns-in_ok-trace-in-None-clause-text
 returns-in_ok-trace-in-None-clause-text c = λ h s.
-    let of = composed_of c.args.composition.now in
     let log = logged c.args.log.now in
-    let none : None ≡ first_broken_host h (actions_of log) =
-    ap (option_map broken_of) (sym c.in-None.is) ∙ c.in_ok-first.ensures.first.1 ∙ sym (stands_broken h of s (actions_of log)) in
+    let none : None ≡ first_broken_host h (actions_of log) = ap (option_map broken_of) (sym c.in-None.is) ∙ (c.in_ok-first.ensures.hosts h s).1 in
     let means = c.in_ok-program-in-None.ensures in
-    let sound = c.in_ok-run-in-None.ensures.source of means in
+    let sound = c.in_ok-run-in-None.ensures.hosts h (composed_of c.args.composition.now) s means in
     c.in_ok-trace-in-None.ensures
-    ∙ run_told of c.types.result.now (actions_of log) c.in_ok-run-in-None.run' (c.types.ensures.value ∙ means.types) sound.1
-    ∙ same_text h of s (actions_of log)
-    ∙ ap (found_text h log) (found_unbroken h log c.in_ok-run-in-None.run'.end none (sym sound.1.reached.ending ∙ same_end h of s (actions_of log)))
+    ∙ run_told h c.types.result.now (actions_of log) c.in_ok-run-in-None.run' (c.types.ensures.value ∙ means.types ∙ s.types) sound.1
+    ∙ ap (found_text h log) (found_unbroken h log c.in_ok-run-in-None.run'.end none (sym sound.1.reached.ending))

@@ -5,13 +5,11 @@ use Rattle.std.proofs.lemmas.Option.{IfSome_then}
 use Rattle.std.proofs.lemmas.Result.{err_from_is_err_and}
 use Rattle.ioa_system.specs.Logs.{actions_of, logged}
 use Rattle.ioa_log.specs.declared.failure.LogErr.{LogErr}
-use Rattle.ioa_log.specs.Judging.{agrees, diverges, wrong_owner}
 use Rattle.ioa_log.specs.LogTexts.{ReadsLog}
 use Rattle.ioac.specs.declared.failure.Failure.{Failure}
 use Rattle.ioac.specs.Logs.{log_run_text}
 use Rattle.ioac.proofs.Logged.{run_told}
 use Rattle.ioac.proofs.Refused.{err_so, log_judged, log_unread, unread}
-use Rattle.ioac.proofs.Standing.{hosts_judged, same_end, same_text}
 use Rattle.ioac.proofs.log_replay.replay_log_text.Goals as goal
 
 pub returns-in_err-log-clause-refused : goal.returns-in_err-log-clause-refused
@@ -34,8 +32,7 @@ returns-in_err-run-clause-refused g c =
     let reads = subst (λ ts. IfSome (g.R.Read.remaining c.args.input.now) (λ xs. ReadsLog ts xs log)) (c.types.ensures.value ∙ of.2.2.types ∙ of.2.1.types) c.in_ok-log.ensures.ok in
     err_so c.from_residual-in_err-run.result e.0 _ _ e.1 e.2
     (log_judged c.args.text.now (option_copied c.args.composition) _ _ of.0 log x of.1 reads said.only
-    (λ n h. hosts_judged of.0 of.2.0 of.2.1 log (wrong_owner n) (said.source_owner n h of.2.0 of.2.2))
-    (λ n h. hosts_judged of.0 of.2.0 of.2.1 log (diverges n) (said.source_diverges n h of.2.0 of.2.2)))
+    (λ n h. said.hosts_owner n h of.0 of.2.0 of.2.1 of.2.2) (λ n h. said.hosts_diverges n h of.0 of.2.0 of.2.1 of.2.2))
 
 pub returns-in_err-send_all-clause-refused : goal.returns-in_err-send_all-clause-refused
 returns-in_err-send_all-clause-refused g c =
@@ -50,23 +47,21 @@ returns-in_err-send_all-clause-unwritten g c =
     let of = c.in_ok-program.ensures.compiles in
     let log = logged c.in_ok-log.log in
     let reads = subst (λ ts. IfSome (g.R.Read.remaining c.args.input.now) (λ xs. ReadsLog ts xs log)) (c.types.ensures.value ∙ of.2.2.types ∙ of.2.1.types) c.in_ok-log.ensures.ok in
-    let sound = c.in_ok-run.ensures.source of.2.0 of.2.2 in
+    let sound = c.in_ok-run.ensures.hosts of.0 of.2.0 of.2.1 of.2.2 in
     let told : c.as_bytes.result.now ≡ log_run_text of.0 log =
-    c.as_bytes.ensures.value ∙ c.in_ok-told.ensures ∙ run_told of.2.0 c.types-2.result.now (actions_of log) c.in_ok-run.run' (c.types-2.ensures.value ∙ of.2.2.types) sound.1
-    ∙ same_text of.0 of.2.0 of.2.1 (actions_of log) in
+    c.as_bytes.ensures.value ∙ c.in_ok-told.ensures ∙ run_told of.0 c.types-2.result.now (actions_of log) c.in_ok-run.run' (c.types-2.ensures.value ∙ of.2.2.types ∙ of.2.1.types) sound.1 in
     let begun = subst (λ t. (k : ℕ) × Appends (g.W.Write.contents c.args.output.now) (g.W.Write.contents c.send_all.new.output) (take k t)) told c.in_err-send_all.ensures.begun in
     err_so c.from_residual-in_err-send_all.result e.0 (Failure.List LogErr.Io) _ e.1 (e.2 ∙ ap Failure.List c.in_err-send_all.ensures.io.0)
-    (inr (of.0, of.1, IfSome_then (g.R.Read.remaining c.args.input.now) reads (λ xs r. (log, (r, hosts_judged of.0 of.2.0 of.2.1 log agrees sound.0), begun))))
+    (inr (of.0, of.1, IfSome_then (g.R.Read.remaining c.args.input.now) reads (λ xs r. (log, (r, sound.0), begun))))
 
 pub returns-clause-replays : goal.returns-clause-replays
 returns-clause-replays g c =
     let of = c.in_ok-program.ensures.compiles in
     let log = logged c.in_ok-log.log in
     let reads = subst (λ ts. IfSome (g.R.Read.remaining c.args.input.now) (λ xs. ReadsLog ts xs log)) (c.types.ensures.value ∙ of.2.2.types ∙ of.2.1.types) c.in_ok-log.ensures.ok in
-    let sound = c.in_ok-run.ensures.source of.2.0 of.2.2 in
+    let sound = c.in_ok-run.ensures.hosts of.0 of.2.0 of.2.1 of.2.2 in
     let told : c.as_bytes.result.now ≡ log_run_text of.0 log =
-    c.as_bytes.ensures.value ∙ c.in_ok-told.ensures ∙ run_told of.2.0 c.types-2.result.now (actions_of log) c.in_ok-run.run' (c.types-2.ensures.value ∙ of.2.2.types) sound.1
-    ∙ same_text of.0 of.2.0 of.2.1 (actions_of log) in
+    c.as_bytes.ensures.value ∙ c.in_ok-told.ensures ∙ run_told of.0 c.types-2.result.now (actions_of log) c.in_ok-run.run' (c.types-2.ensures.value ∙ of.2.2.types ∙ of.2.1.types) sound.1 in
     let all = subst (λ t. Appends (g.W.Write.contents c.args.output.now) (g.W.Write.contents c.send_all.new.output) t) told c.in_ok-send_all.ensures.ok in
     IfSome_then (g.R.Read.remaining c.args.input.now) reads
-    (λ xs r. (of.0, of.1, (log, (r, hosts_judged of.0 of.2.0 of.2.1 log agrees sound.0), sym sound.1.reached.ending ∙ same_end of.0 of.2.0 of.2.1 (actions_of log), all)))
+    (λ xs r. (of.0, of.1, (log, (r, sound.0), sym sound.1.reached.ending, all)))

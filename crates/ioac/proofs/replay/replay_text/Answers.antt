@@ -3,14 +3,12 @@ use Rattle.std.proofs.lemmas.Option.{IfSome_then}
 use Rattle.std.proofs.lemmas.Result.{err_from_is_err_and}
 use Rattle.std.proofs.Common.{◌∙◌}
 use Rattle.ioac.proofs.Refused.{err_so, list_failed, list_unwritten}
-use Rattle.ioac.proofs.Standing.{hosts_replay}
 use Rattle.ioac.proofs.replay.replay_text.Goals as goal
 
 pub returns-clause-replays : goal.returns-clause-replays
 returns-clause-replays g c =
     let of = c.in_ok-program.ensures.compiles in
-    IfSome_then (g.R.Read.remaining c.args.input.now) (c.in_ok-end.ensures.source of.2.0 of.2.2)
-    (λ xs r. (of.0, of.1, hosts_replay of.0 of.2.0 of.2.1 xs _ _ _ r))
+    IfSome_then (g.R.Read.remaining c.args.input.now) (c.in_ok-end.ensures.hosts of.0 of.2.0 of.2.1 of.2.2) (λ xs r. (of.0, of.1, r))
 
 pub returns-in_err-end-clause-refused : goal.returns-in_err-end-clause-refused
 returns-in_err-end-clause-refused g c =
@@ -29,4 +27,4 @@ returns-in_err-end-clause-unwritten g c =
     err_so c.from_residual-in_err-end.result e.0 _ _ e.1 e.2
     (list_unwritten c.args.text.now (option_copied c.args.composition) (g.R.Read.remaining c.args.input.now) (g.W.Write.contents c.args.output.now)
     (g.W.Write.contents c.replay_list.new.output) c.in_ok-program.program of.0 x of.1 of.2 c.in_err-end.ensures.only c.in_err-end.ensures.unwritten
-    c.in_err-end.ensures.memory c.in_err-end.ensures.begun_source)
+    c.in_err-end.ensures.memory c.in_err-end.ensures.begun_hosts)
