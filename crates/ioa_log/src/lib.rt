@@ -1,7 +1,7 @@
 //! Replays of lists of actions and texts of logs, over readers and writers that count their failures.
 #![tactic(auto)]
 
-mod broken;
+mod broken_invariants;
 mod counted;
 mod device;
 mod end_texts;
@@ -15,7 +15,7 @@ mod reading;
 mod replays;
 mod streams;
 
-pub use broken::{Broken, invariants};
+pub use broken_invariants::{Broken, invariants};
 pub use counted::Counted;
 pub use device::{Device, Failed, InputDevice, OutputDevice};
 pub use failure::LogErr;

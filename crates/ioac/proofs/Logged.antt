@@ -20,7 +20,7 @@ use Rattle.ioa_system.specs.declared.runs.Run.{Run}
 use Rattle.ioa_system.specs.Answers.{ending_of, step_of}
 use Rattle.ioa_system.specs.Logs.{Logged, actions_of, is_fault, log_end, log_entry, logged}
 use Rattle.ioa_system.specs.Records.{IsHostRun, trace_of}
-use Rattle.ioa_log.specs.declared.broken.Broken.{Broken}
+use Rattle.ioa_log.specs.declared.broken_invariants.Broken.{Broken}
 use Rattle.ioa_log.specs.Breaking.{broken_of}
 use Rattle.ioa_log.specs.Monitoring.{IsRefusedAt}
 use Rattle.ioa_log.specs.Replays.{replay_text, run_text}
