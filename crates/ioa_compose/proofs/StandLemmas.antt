@@ -1,5 +1,5 @@
 -- The composition of rewritten components, and of those that do not crash, stands for the hosts.
-use Rattle.std.proofs.Common.{◌≡◌, ℕ, suc, ◌+◌, Bool, true, false, not, cond, ◌&&◌, ◌||◌, List, [], ◌∷◌, ◌++◌, map, All, Option, Some, None, Result, Ok, Err, slice_get, length, take, codes, if◌then◌else◌, refl, sym, ap, subst, ◌∙◌, arith}
+use Rattle.std.proofs.Common.{◌≡◌, ℕ, suc, ◌+◌, Bool, true, false, not, cond, ◌&&◌, ◌||◌, List, [], ◌∷◌, ◌++◌, map, All, Option, Some, None, Result, Ok, Err, slice_get, length, take, codes, if◌then◌else◌, refl, sym, ap, subst, ◌∙◌, arith, ◌≤◌}
 use Rattle.std.specs.List.{AllZip, list_all, list_any}
 use Rattle.std.specs.Option.{option_map}
 use Rattle.std.specs.Str.{bytes_eq}
@@ -29,8 +29,8 @@ use Rattle.ioa_tree.proofs.Agreement.{val_same}
 use Rattle.ioa_tree.proofs.Alike.{like_kinds, kinds_back, same_compatible, first_like}
 use Rattle.ioa_tree.proofs.Simulation.{run_like, trace_like, owner_like, participants_like, external_like}
 use Rattle.ioa_compose.specs.Rewriting.{spelled, up_name, up_variable, signals, guarded, proposing, added_proposals, added_variables, crash_transition, recover_transition, rewritten, crashing}
-use Rattle.ioa_compose.specs.Stands.{StandsBy, StandsFor, StandsAt, member_by, member_for, MayStand, TellsUp, Holds, HoldsWith, IsMadeBy, IsMadeOf, HoldsAlike, has_kind, Stands, RewritingStands}
-use Rattle.ioa_compose.proofs.SpelledNames.{absent, all_of, none_unspelled}
+use Rattle.ioa_compose.specs.Stands.{StandsBy, StandsFor, StandsAt, member_by, member_for, MayStand, TellsUp, Holds, HoldsWith, IsMadeBy, IsMadeOf, HoldsAlike, has_kind, Stands, RewritingStands, HeldWith}
+use Rattle.ioa_compose.proofs.SpelledNames.{absent, all_of, none_unspelled, unspelled}
 use Rattle.ioa_compose.proofs.SpelledTrees.{automaton_spelled}
 use Rattle.ioa_compose.proofs.FirstVariables.{is_added, values_before}
 use Rattle.ioa_compose.proofs.QuestionLemmas.{all_found}
@@ -143,6 +143,68 @@ one_holding (Some n) p may h s slots r l v = (λ x. by_name x (contains ns x) re
     told : slice_get slots (length vs) ≡ Some (truth_value h.up)
     told =
         ap (slice_get slots) (sym each) ∙ sym (value_after ns slots up_name (none_unspelled ns (codes "up") all)) ∙ sym (held up_name) ∙ r.up
+
+-- a name that a text can spell is not that of the slot which is added
+not_added : (ns : List Name) (x : Name) → spelled x ≡ true → contains ns x ≡ false → contains (ns ++ up_name ∷ []) x ≡ false
+not_added [] x k h = rw (unspelled (codes "up") x k) refl
+not_added (n ∷ ns) x k h = go (bytes_eq n x) h (not_added ns x k)
+  where
+    go : (b : Bool) → (b || contains ns x) ≡ false → (contains ns x ≡ false → contains (ns ++ up_name ∷ []) x ≡ false) → (b || contains (ns ++ up_name ∷ []) x) ≡ false
+    go true r more = absurd (let z : true ≡ false = r in cc)
+    go false r more = more r
+
+-- a variable has a value where there are enough slots
+known_within : (ns : List Name) (vs : List Val) (x : Name) → length ns ≤ length vs → contains ns x ≡ true → (v : Val) × (values_of ns vs x ≡ Some v)
+known_within [] vs x l h = absurd (let z : false ≡ true = h in cc)
+known_within (n ∷ ns) [] x l h = absurd (omega arith)
+known_within (n ∷ ns) (v ∷ vs) x l h = go (bytes_eq n x) h (known_within ns vs x (omega arith))
+  where
+    go : (b : Bool) → (b || contains ns x) ≡ true → (contains ns x ≡ true → (w : Val) × (values_of ns vs x ≡ Some w))
+        → (w : Val) × ((if b then Some v else values_of ns vs x) ≡ Some w)
+    go true r more = (v, refl)
+    go false r more = more r
+
+-- slots that hold the host's state are those of a state that stands for it
+one_held : (o : Option CrashTree) (p : Host) → MayStand o p → (h : HostState Env) (slots : List Val)
+    → ((x : Name) → h.inner x ≡ values_of (variable_names p.instance.automaton) slots x) → TellsUp o (length p.instance.automaton.variables) h.up slots
+    → (s : Env) × StandsBy o p.instance.automaton h s × ((x : Name) → s x ≡ values_of (variable_names (member_by o p).instance.automaton) slots x)
+one_held None p may h slots v t = (h.inner, (t.1, refl), v)
+one_held (Some n) p may h slots v t = (
+  state,
+  record {
+    up = ap (λ (l : List Name). values_of l slots up_name) names ∙ value_after ns slots up_name (none_unspelled ns (codes "up") all) ∙ ap (slice_get slots) each ∙ t.1;
+    agree = λ x k. v x ∙ same x k (contains ns x) refl;
+    present = λ x k. let w = known_within ns slots x (omega (arith, t.0, each)) k in (w.0, v x ∙ w.1);
+    others = λ x k. v x ∙ absent ns slots x (not_from x (contains ns x) refl k);
+  },
+  λ x. refl,
+)
+  where
+    vs : List VariableTree
+    vs = p.instance.automaton.variables
+
+    ns : List Name
+    ns = variable_names p.instance.automaton
+
+    state : Env
+    state x = values_of (variable_names (rewritten n p.instance.automaton)) slots x
+
+    all : list_all spelled ns ≡ true
+    all = (automaton_spelled p.instance.automaton may.legal).variables
+
+    names : variable_names (rewritten n p.instance.automaton) ≡ ns ++ up_name ∷ []
+    names = map-append (λ (u : VariableTree). u.field.name) vs (up_variable ∷ [])
+
+    each : length ns ≡ length vs
+    each = length-map vs (λ (u : VariableTree). u.field.name)
+
+    not_from : (x : Name) (b : Bool) → contains ns x ≡ b → not (contains ns x) ≡ true → contains ns x ≡ false
+    not_from x true e k = absurd (let z : false ≡ true = sym (ap not e) ∙ k in cc)
+    not_from x false e k = e
+
+    same : (x : Name) → spelled x ≡ true → (b : Bool) → contains ns x ≡ b → values_of ns slots x ≡ state x
+    same x k true e = sym (ap (λ (l : List Name). values_of l slots x) names ∙ values_more ns up_name slots x e)
+    same x k false e = absent ns slots x e ∙ sym (ap (λ (l : List Name). values_of l slots x) names ∙ absent (ns ++ up_name ∷ []) slots x (not_added ns x k e))
 
 -- a condition of spelled names is as true of what stands for the host
 one_holds : (o : Option CrashTree) (p : Host) → MayStand o p → (v : InvariantTree) → list_all spelled (names_of_expr v.condition) ≡ true
@@ -350,6 +412,13 @@ all_alike hosts may vs c i k p m v at there stated =
     subst (λ (u : Member). HoldsAlike p u v.condition) is
     (one_alike p (may i p at) v (all_found (λ (u : InvariantTree). list_all spelled (names_of_expr u.condition) ≡ true) vs k v c stated))
 
+all_held : (hosts : List Host) → AllMay hosts → (i : ℕ) (p : Host) (m : Member) → slice_get hosts i ≡ Some p → slice_get (map member_for hosts) i ≡ Some m → HeldWith p m
+all_held hosts may i p m at there h slots k =
+    let same : Some m ≡ Some (member_for p) = sym there ∙ slice_get-map member_for hosts i ∙ ap (option_map member_for) at in
+    let is : m ≡ member_for p = cc in
+    let w = one_held p.crash p (may i p at) h slots k.values k.up in
+    (w.0, w.1, λ x. w.2 x ∙ sym (ap (λ (u : Member). values_of (variable_names u.instance.automaton) slots x) is))
+
 pub rewriting_stands : RewritingStands
 rewriting_stands h may c =
     let whole : IsRest h.hosts 0 h.hosts = λ j. let e : 0 + j ≡ j = omega arith in ap (slice_get h.hosts) e in
@@ -366,6 +435,7 @@ rewriting_stands h may c =
       start = k.1;
       slots = all_hold h.hosts may;
       conditions = all_alike h.hosts may h.invariants c;
+      held = all_held h.hosts may;
       broken = λ n hs ss r. all_broken h.hosts may n h.invariants c 0 h.hosts whole hs ss r;
     }
 

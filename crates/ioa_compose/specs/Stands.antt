@@ -99,12 +99,17 @@ pub record HoldsAlike (p : Host) (m : Member) (condition : Expr) : Type 0 where
   pub slots : (h : HostState Env) (slots more : List Val) → Holds p h slots
       → holds m.instance condition (state_of m.instance.automaton (take m.declared slots ++ more)) ≡ holds p.instance condition h.inner
 
+-- slots that hold the host's state hold the values of the member's variables, in a state that stands for the host's
+abbrev pub HeldWith : Host → Member → Type 0
+HeldWith p m = (h : HostState Env) (slots : List Val) → Holds p h slots
+    → (s : Env) × StandsFor p h s × ((x : Name) → s x ≡ values_of (variable_names m.instance.automaton) slots x)
+
 -- whether an entry of the automaton's signature is of such a kind
 abbrev pub has_kind : (Kind → Bool) → Instance → Bool
 has_kind k i = list_any (λ e. k e.kind) i.automaton.entries
 
 -- the composition is made of the hosts, one by one; it does what they do, from their start on, its invariants are as true as theirs, and
--- it breaks the same ones first; slots that hold its states hold the hosts'
+-- it breaks the same ones first; slots hold the hosts' states just where they hold its own
 pub record Stands (h : Hosted) (c : Composed) : Type 0 where
   pub types : c.types ≡ h.types
   pub name : c.name ≡ h.name
@@ -118,6 +123,7 @@ pub record Stands (h : Hosted) (c : Composed) : Type 0 where
   pub slots : (i : ℕ) (p : Host) (m : Member) → slice_get h.hosts i ≡ Some p → slice_get c.members i ≡ Some m → HoldsWith p m
   pub conditions : (i k : ℕ) (p : Host) (m : Member) (v : InvariantTree) → slice_get h.hosts i ≡ Some p → slice_get c.members i ≡ Some m
       → slice_get c.invariants k ≡ Some v → HoldsAlike p m v.condition
+  pub held : (i : ℕ) (p : Host) (m : Member) → slice_get h.hosts i ≡ Some p → slice_get c.members i ≡ Some m → HeldWith p m
   pub broken : (n : ℕ) (hs : List (HostState Env)) (ss : List Env) → AllRelated (StandsAt h.hosts) 0 hs ss → broken_hosts h n hs ≡ broken_at c n ss
 
 -- the composition of the rewritten components, and of those that do not crash, stands for the hosts

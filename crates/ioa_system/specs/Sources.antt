@@ -1,18 +1,20 @@
 -- What a program's table does is what the composition does that it means, and what the hosts do for which this one stands.
-use Rattle.std.specs.Prelude.{◌≡◌, ℕ, List}
+use Rattle.std.specs.Prelude.{◌≡◌, ℕ, List, Option, Some, None, slice_get, slice_index}
 use Rattle.ioa_value.specs.Actions.{Act}
 use Rattle.ioa_value.specs.Plain.{Val}
+use Rattle.ioa_value.specs.Typing.{HaveTypes}
 use Rattle.ioa_tree.specs.Meaning.{Env}
 use Rattle.ioa_tree.specs.Steps.{step, owner, participants}
 use Rattle.ioa_tree.specs.Runs.{is_external, run, trace}
 use Rattle.ioa_tree.specs.Likes.{AllRelated, MovesLike, RunsLike}
 use Rattle.ioa_tree.specs.Compositions.{Composed, components_of}
-use Rattle.ioa_tree.specs.Hosts.{Hosted, hosts_of, host_starts}
-use Rattle.ioa_compose.specs.Stands.{HoldsAt, Stands}
-use Rattle.ioa_compile.specs.Programs.{Prog}
+use Rattle.ioa_tree.specs.Hosts.{Host, HostState, Hosted, hosts_of, host_starts}
+use Rattle.ioa_compose.specs.Stands.{Holds, HoldsAt, Stands}
+use Rattle.ioa_compile.specs.Programs.{MemberCode, Prog}
 use Rattle.ioa_compile.specs.Tables.{tabled, start_states}
 use Rattle.ioa_compile.specs.Correspondence.{CorrespondsAt}
 use Rattle.ioa_compile.specs.Means.{Means}
+use Rattle.ioa_system.specs.Participants.{step_from}
 
 abbrev pub SameOwner : Type 0
 SameOwner = (p : Prog) (c : Composed) (a : Act) → Means p c → owner (tabled p) a ≡ owner (components_of c) a
@@ -47,3 +49,35 @@ HostRun =
 -- of as many actions the trace is the same
 abbrev pub HostTrace : Type 0
 HostTrace = (p : Prog) (h : Hosted) (c : Composed) (acts : List Act) (n : ℕ) → Stands h c → Means p c → trace p.hidden (tabled p) acts n ≡ trace h.hidden (hosts_of h) acts n
+
+-- the slots hold the host's state, and have the types of the component's slots
+abbrev pub HoldsIn : Option Host → Option MemberCode → HostState Env → List Val → Type 0
+HoldsIn (Some p) (Some m) h slots = Holds p h slots × HaveTypes m.start.table slots m.start.types
+HoldsIn (Some p) None h slots = ⊥
+HoldsIn None (Some m) h slots = ⊥
+HoldsIn None None h slots = ⊥
+
+-- by the place of the component
+abbrev pub HoldsTyped : List Host → List MemberCode → ℕ → HostState Env → List Val → Type 0
+HoldsTyped hosts ms i h slots = HoldsIn (slice_get hosts i) (slice_get ms i) h slots
+
+-- the program starts in slots that hold the states in which the hosts start
+abbrev pub HostStart : Type 0
+HostStart = (p : Prog) (h : Hosted) (c : Composed) → Stands h c → Means p c → AllRelated (HoldsTyped h.hosts p.members) 0 (host_starts h) (start_states p)
+
+-- from slots that hold the hosts' states, the hosts' answer, with slots that hold the hosts' new states
+abbrev pub HostStep : Type 0
+HostStep =
+    (p : Prog) (h : Hosted) (c : Composed) (a : Act) (hs : List (HostState Env)) (ss : List (List Val)) → Stands h c → Means p c
+    → AllRelated (HoldsTyped h.hosts p.members) 0 hs ss → MovesLike (HoldsTyped h.hosts p.members) 0 (step (hosts_of h) a hs) (step (tabled p) a ss)
+
+-- by the place of the participant among the action's
+abbrev pub HoldsOf : List ℕ → List Host → List MemberCode → ℕ → HostState Env → List Val → Type 0
+HoldsOf numbers hosts ms i h slots = HoldsTyped hosts ms (slice_index numbers i) h slots
+
+-- the same of the participants alone, from one state for each in order
+abbrev pub HostStepFrom : Type 0
+HostStepFrom =
+    (p : Prog) (h : Hosted) (c : Composed) (a : Act) (hs : List (HostState Env)) (ss : List (List Val)) → Stands h c → Means p c
+    → AllRelated (HoldsOf (participants (hosts_of h) a) h.hosts p.members) 0 hs ss
+    → MovesLike (HoldsOf (participants (hosts_of h) a) h.hosts p.members) 0 (step_from (hosts_of h) a hs) (step_from (tabled p) a ss)

@@ -12,7 +12,7 @@ mod runs;
 mod system;
 
 pub use answer::{End, Moved, Step};
-pub use laws::{runs_are_the_hosts, steps_are_the_sources};
+pub use laws::{runs_are_the_hosts, steps_are_the_hosts, steps_are_the_sources};
 pub use log::{Log, LogEnd, LogEntry, worker};
 pub use moves::step_from;
 pub use participation::{is_external, owner, participants};
