@@ -12,7 +12,7 @@ use Rattle.ioa_compile.specs.Tables.{tabled, start_states}
 use Rattle.ioa_compile.specs.Correspondence.{CorrespondsAt}
 use Rattle.ioa_system.specs.declared.runs.Run.{Run}
 use Rattle.ioa_system.specs.Answers.{ending_of}
-use Rattle.ioa_system.specs.Systems.{values_of}
+use Rattle.ioa_system.specs.Systems.{slot_types, types_of, values_of}
 
 abbrev pub reached_of : Run → Reached (List Val)
 reached_of r = record { performed = r.performed; states = values_of r.states.items; ending = ending_of r.end }
@@ -20,10 +20,11 @@ reached_of r = record { performed = r.performed; states = values_of r.states.ite
 abbrev pub trace_of : Run → List Act
 trace_of r = map act_of r.trace.items
 
--- the run of the program's own table, and its trace
+-- the run of the program's own table, its trace, and states of the types of its slots
 pub record IsTableRun (p : Prog) (acts : List Act) (r : Run) : Type 0 where
   pub reached : reached_of r ≡ run (tabled p) acts (start_states p)
   pub trace : trace_of r ≡ trace p.hidden (tabled p) acts r.performed
+  pub types : types_of r.states.items ≡ slot_types p.members
 
 -- the same actions performed as in the composition, the same end, states that correspond, and the composition's trace
 pub record IsSourceRun (c : Composed) (acts : List Act) (r : Run) : Type 0 where

@@ -3,7 +3,7 @@ ghost use Rattle.ioa_value.specs.Actions.{Act, act_of};
 ghost use Rattle.ioa_compile.specs.Programs.{Prog};
 ghost use Rattle.ioa_system.specs.Progress.{IsRunOver};
 ghost use Rattle.ioa_system.specs.Records.{IsTableRun};
-ghost use Rattle.ioa_system.specs.Systems.{values_of};
+ghost use Rattle.ioa_system.specs.Systems.{slot_types, types_of, values_of};
 
 use crate::answer::End;
 use crate::runs::Run;
@@ -69,19 +69,25 @@ impl<'a> Runner<'a> {
         }
     }
 
-    /// Hands the run its next action, and puts an equal of it at the trace's end where the trace goes on with it.
+    /// Hands the run its next action, and puts an equal of it at the trace's end where the trace goes on with it. A refusal
+    /// of memory changes neither the run nor the trace.
     pub fn record(
         &mut self,
         alloc: Global,
         action: &Action,
         trace: &mut Vec<Action>,
     ) -> Result<(), OutOfMemory>
-        ensures { OnOk result ((p : Prog) (acts : List Act) → IsRunOver p acts (map act_of trace.old.items) self.old
+        ensures run { OnOk result ((p : Prog) (acts : List Act) → IsRunOver p acts (map act_of trace.old.items) self.old
             → IsRunOver p (acts ++ act_of action.now ∷ []) (map act_of trace.new.items) self.new) }
+        ensures memory { OnErr result (self.new ≡ self.old) }
+        ensures trace { OnErr result (trace.new.items ≡ trace.old.items) }
     {
+        // (all memory is found before the run goes on)
+        let copy = action.try_copy(alloc)?;
+        trace.reserve(1)?;
         let goes_on = self.take(action)?;
         if goes_on {
-            trace.push(action.try_copy(alloc)?)?;
+            trace.push_reserved(copy);
         }
         Ok(())
     }
@@ -95,10 +101,12 @@ impl<'a> Runner<'a> {
 
     /// The components' states that are reached, in order, without the run.
     pub fn into_states(self) -> Vec<NodeState>
-        ensures { values_of result.items ≡ self.entry.states }
+        ensures values { values_of result.items ≡ self.entry.states }
+        ensures types { types_of result.items ≡ slot_types self.entry.program.members }
     {
         self.system.into_states()
     }
+
     /// The run over the actions so far, with the trace that was recorded.
     pub fn into_run(self, trace: Vec<Action>) -> Run
         ensures { (p : Prog) (acts : List Act) → IsRunOver p acts (map act_of trace.items) self.entry → IsTableRun p acts result }

@@ -12,4 +12,4 @@ loop-action-preserved c =
     let n : map act_of (take (i + 1) c.args.actions.now) ≡ before ++ act_of c.action-item.result ∷ [] =
     ap (map act_of) (take_item c.args.actions.now i c.action-item.result c.loop-action-test.true c.action-item.is) ∙ map-append act_of (take i c.args.actions.now) (c.action-item.result ∷ []) in
     subst (λ acts. IsRunOver c.args.program.now acts (map act_of c.record.new.trace.items) c.record.new.self) (sym n)
-    (c.in_ok-record.ensures c.args.program.now before c.loop-action.invariant)
+    (c.in_ok-record.ensures.run c.args.program.now before c.loop-action.invariant)
