@@ -59,14 +59,23 @@ impl<'a> System<'a> {
         ensures { IfOk result (λ s. s ≡ record { program = program.now; states = start_states program.now }) }
     {
         let states = start_of(alloc, program.members())?;
-        Ok(System {
+        Ok(System::of(alloc, program, states))
+    }
+
+    /// The program in these states, one for each component in order, as it goes on from there. It asks that each is of its
+    /// component's types.
+    pub fn of(alloc: Global, program: &'a Program, states: Vec<NodeState>) -> System<'a>
+        requires { types_of states.items ≡ slot_types program.now.members }
+        ensures { result ≡ record { program = program.now; states = values_of states.items } }
+    {
+        System {
             alloc,
             program,
             states,
             participants: Vec::new(alloc),
             stack: Vec::new(alloc),
             drafts: Vec::new(alloc),
-        })
+        }
     }
 
     /// Performs the action, or says why it cannot be performed. All answers but `Next` change nothing, and so

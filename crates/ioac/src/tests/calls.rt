@@ -9,7 +9,7 @@ use crate::tests::reached::{action, program};
 use crate::tests::shelf::{COUNTER, basic};
 use ioa_node::{NodeState, state_values};
 use ioa_syntax::{Refusal, parse, print};
-use ioa_system::{Moved, Step, System, participants, step_from};
+use ioa_system::{Moved, Step, System, participants, run_list, step_from};
 use ioa_value::{
     Action, Fault, Op, OutOfMemory, Ty, Types, Value, apply, first, has_type, print_action,
     read_action, same,
@@ -286,5 +286,24 @@ fn steps_a_program(rt: HostRuntime) -> Result<(), Fail> {
         let is_so = is_step_so(rt.alloc(), &mut system, &action, wanted, *count)?;
         assert!(rt; is_so, "{text}");
     }
+    Ok(())
+}
+
+/// The count after two ticks, the second one in a system of the states that a run over the first reaches.
+fn resumed(alloc: Global) -> Result<Option<i64>, Fail> {
+    let program = program(alloc, COUNTER, Some("One"))?;
+    let first = action(alloc, program.types(), "tick(5)")?;
+    let second = action(alloc, program.types(), "tick(6)")?;
+    let run = run_list(alloc, &program, &[first])?;
+    let mut system = System::of(alloc, &program, run.states);
+    match system.step(&second)? {
+        Step::Next => Ok(number_in(alloc, &system)?),
+        Step::NotAnAction | Step::NotEnabled | Step::Fault(_, _) => Ok(None),
+    }
+}
+
+#[test]
+fn a_system_goes_on_from_states(rt: HostRuntime) -> Result<(), Fail> {
+    assert!(rt; resumed(rt.alloc())? == Some(7));
     Ok(())
 }
