@@ -16,8 +16,8 @@ ghost use Rattle.ioa_system.specs.Systems.{slot_types, slots_of, types_of, value
 use crate::answer::{Moved, Step};
 use crate::participation::{Participant, find, is_local};
 use ioa_compile::{Entry, Member, Program};
-use ioa_node::{Draft, NodeState, draft_effect, enabled_with};
-use ioa_value::{Action, Fault, OutOfMemory, Value};
+use ioa_node::{Draft, NodeState, Workspace, draft_effect, enabled_with};
+use ioa_value::{Action, Fault, OutOfMemory};
 use std::alloc::Global;
 
 /// Whether the owner lets its action be performed.
@@ -51,7 +51,7 @@ pub fn step_from(
     let mut drafts = Vec::new(alloc);
     let step = moved(
         alloc,
-        &mut Vec::new(alloc),
+        &mut Workspace::new(alloc),
         &mut drafts,
         participants,
         action,
@@ -112,11 +112,11 @@ fn changed(
 }
 
 /// What the participants' step answers from the states at hand. Where it answers `Next`, the drafts hold the new values of
-/// the participants' variables, in order; the states stay as they are. The stack is room for the machine, used again as
-/// the drafts are.
+/// the participants' variables, in order; the states stay as they are. The memory of the workspace and the drafts is
+/// used again.
 pub(crate) fn moved(
     alloc: Global,
-    stack: &mut Vec<Value>,
+    workspace: &mut Workspace,
     drafts: &mut Vec<Draft>,
     participants: &[Participant<'_>],
     action: &Action,
@@ -130,8 +130,8 @@ pub(crate) fn moved(
         return Ok(Step::NotAnAction);
     }
     make_room(alloc, drafts, participants.len())?;
-    match asked(alloc, stack, participants, action, states)? {
-        Consent::Given => effects(alloc, stack, drafts, participants, action, states),
+    match asked(alloc, workspace, participants, action, states)? {
+        Consent::Given => effects(alloc, workspace, drafts, participants, action, states),
         Consent::Denied => Ok(Step::NotEnabled),
         Consent::Faulted(component, fault) => Ok(Step::Fault(component, fault)),
     }
@@ -150,7 +150,7 @@ fn make_room(alloc: Global, drafts: &mut Vec<Draft>, count: usize) -> Result<(),
 /// Whether the owner lets the action be performed.
 fn asked(
     alloc: Global,
-    stack: &mut Vec<Value>,
+    workspace: &mut Workspace,
     participants: &[Participant<'_>],
     action: &Action,
     states: &[NodeState],
@@ -164,7 +164,7 @@ fn asked(
             let state = &states[participant.place];
             let answer = guard(
                 alloc,
-                stack,
+                workspace,
                 participant.member,
                 participant.entry,
                 action,
@@ -190,7 +190,7 @@ fn consent_by(owner: usize, answer: Result<bool, Fault>) -> Consent
 /// The participants' effects in order, each on a draft of its own over its own state, up to the first fault.
 fn effects(
     alloc: Global,
-    stack: &mut Vec<Value>,
+    workspace: &mut Workspace,
     drafts: &mut [Draft],
     participants: &[Participant<'_>],
     action: &Action,
@@ -206,7 +206,7 @@ fn effects(
         let state = &states[participant.place];
         match effect_on(
             alloc,
-            stack,
+            workspace,
             &mut drafts[i],
             participant.member,
             participant.entry,
@@ -223,7 +223,7 @@ fn effects(
 /// What the component's precondition answers in this state. An entry without one allows its action.
 fn guard(
     alloc: Global,
-    stack: &mut Vec<Value>,
+    workspace: &mut Workspace,
     member: &Member,
     entry: &Entry,
     action: &Action,
@@ -235,7 +235,7 @@ fn guard(
     ensures { IfOk result (λ r. r ≡ (table_component (member_code member.now)).guard (act_of action.now) state.now.values) }
 {
     match &entry.pre {
-        Some(code) => enabled_with(alloc, stack, code, state, &action.vals),
+        Some(code) => enabled_with(alloc, workspace, code, state, &action.vals),
         None => Ok(Ok(true)),
     }
 }
@@ -243,7 +243,7 @@ fn guard(
 /// The new values that the component's effect gives to this state's variables, in the draft, or the effect's fault.
 fn effect_on(
     alloc: Global,
-    stack: &mut Vec<Value>,
+    workspace: &mut Workspace,
     draft: &mut Draft,
     member: &Member,
     entry: &Entry,
@@ -256,5 +256,5 @@ fn effect_on(
     ensures value { IfOk result (λ r. left_by r (standing draft.new state.now.values) ≡ (table_component (member_code member.now)).effect (act_of action.now) state.now.values) }
     ensures types { IfOk result (λ r. IfOk r (λ _. IsTyped (with_draft draft.new state.now))) }
 {
-    draft_effect(alloc, stack, draft, &entry.effect, state, &action.vals)
+    draft_effect(alloc, workspace, draft, &entry.effect, state, &action.vals)
 }

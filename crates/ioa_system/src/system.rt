@@ -14,8 +14,8 @@ use crate::answer::Step;
 use crate::moves::moved;
 use crate::participation::{Participant, find, shows};
 use ioa_compile::{Member, Program};
-use ioa_node::{Draft, NodeState};
-use ioa_value::{Action, OutOfMemory, Value};
+use ioa_node::{Draft, NodeState, Workspace};
+use ioa_value::{Action, OutOfMemory};
 use std::alloc::Global;
 use std::marker::Model;
 
@@ -34,8 +34,8 @@ pub struct System<'a> {
     states: Vec<NodeState>,
     /// Room for the participants of one action, kept from step to step.
     participants: Vec<Participant<'a>>,
-    /// Room for the machine's stack, kept from step to step.
-    stack: Vec<Value>,
+    /// Memory in which the participants' code runs, kept from step to step.
+    workspace: Workspace,
     /// Room for the participants' new values, kept from step to step.
     drafts: Vec<Draft>,
 }
@@ -73,7 +73,7 @@ impl<'a> System<'a> {
             program,
             states,
             participants: Vec::new(alloc),
-            stack: Vec::new(alloc),
+            workspace: Workspace::new(alloc),
             drafts: Vec::new(alloc),
         }
     }
@@ -102,7 +102,7 @@ impl<'a> System<'a> {
         let external = shows(program.hidden(), &self.participants, action);
         let step = moved(
             self.alloc,
-            &mut self.stack,
+            &mut self.workspace,
             &mut self.drafts,
             &self.participants,
             action,
