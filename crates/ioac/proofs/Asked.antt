@@ -13,6 +13,7 @@ use Rattle.ioac.specs.declared.request.Request.{Request}
 use Rattle.ioac.specs.declared.code.Code.{Code}
 use Rattle.ioac.specs.Codes.{spelling}
 use Rattle.ioac.specs.CommandLine.{IsAskedBy, Names, is_set}
+use Rattle.ioac.specs.Telling.{given_code}
 
 name_in : (m : ArgMatches) → subcommand_name_of m ≡ option_map (λ p. p.0) (subcommand_rows_of m)
 name_in m =
@@ -100,3 +101,21 @@ pub set_as : (found : ArgMatches) (flag : Text) (o : Option Text) → o ≡ firs
     → is_set flag (rows_of (found_of found)) ≡ option_map_or (λ value. bytes_eq value (codes "true")) o false
 set_as found flag o e =
     ap (λ (p : Option Text). option_map_or (λ value. bytes_eq value (codes "true")) p false) (sym (first_value-rows (found_of found) flag) ∙ sym e)
+
+-- the word for a code, as it is lent
+pub coded : (m found : ArgMatches) (o : Option Text) → Some (rows_of (found_of found)) ≡ option_map (λ p. p.1) (subcommand_rows_of m)
+    → o ≡ first_value (found_of found) (codes "CODE") → o ≡ given_code (subcommand_rows_of m)
+coded m found o rows word = go (subcommand_rows_of m) rows
+  where
+    go : (s : Option (Text × List Row)) → Some (rows_of (found_of found)) ≡ option_map (λ p. p.1) s → o ≡ given_code s
+    go None e = cc
+    go (Some p) e =
+        let same : rows_of (found_of found) ≡ p.1 = cc in
+        word ∙ first_value-rows (found_of found) (codes "CODE") ∙ ap (first_of (codes "CODE")) same
+
+pub uncoded_none : (m : ArgMatches) → None ≡ option_map (λ p. p.1) (subcommand_rows_of m) → None ≡ given_code (subcommand_rows_of m)
+uncoded_none m rows = go (subcommand_rows_of m) rows
+  where
+    go : (s : Option (Text × List Row)) → None ≡ option_map (λ p. p.1) s → None ≡ given_code s
+    go None e = refl
+    go (Some p) e = cc

@@ -1,9 +1,11 @@
 -- What some command lines ask for, computed from the definition of the command line.
-use Rattle.std.proofs.Common.{◌≡◌, Bool, true, false, List, [], ◌∷◌, Option, Some, None, refl, codes, option_map}
+use Rattle.std.proofs.Common.{◌≡◌, Bool, true, false, List, [], ◌∷◌, Option, Some, None, refl, sym, ◌∙◌, codes, option_map}
 use Rattle.clap.specs.Words.{Text, fault_of, first_of, subcommand_of}
+use Rattle.clap.specs.declared.error.kind.ErrorKind.{ErrorKind}
 use Rattle.clap.specs.declared.error.kind.ErrorKind.TheVariants as kinds
 use Rattle.clap.proofs.OnLiterals.{clap_on_literals}
-use Rattle.ioac.specs.CommandLine.{ioac_app, is_set}
+use Rattle.ioac.specs.declared.request.Request.{Request}
+use Rattle.ioac.specs.CommandLine.{IsAsked, ioac_app, is_set}
 
 -- the command, its file and its composition
 asked : List Text → Option (Text × Option Text × Option Text)
@@ -87,3 +89,31 @@ no_version = refl
 no_code : fault_of ioac_app (codes "ioac" ∷ codes "explain" ∷ []) ≡ kinds.MissingRequiredArgument ∷ []
 unfolding clap_on_literals
 no_code = refl
+
+-- words with a fault ask for nothing
+faulty : (words : List Text) (kind : ErrorKind) → fault_of ioac_app words ≡ kind ∷ [] → (request : Request) → IsAsked words request → ⊥
+faulty words kind fault request asks = let z : kind ∷ [] ≡ [] = sym fault ∙ asks.0 in cc
+
+monitored_with_log : (request : Request) → IsAsked (codes "ioac" ∷ codes "monitor" ∷ codes "f" ∷ codes "--log" ∷ []) request → ⊥
+monitored_with_log = faulty (codes "ioac" ∷ codes "monitor" ∷ codes "f" ∷ codes "--log" ∷ []) kinds.UnknownArgument no_log
+
+two_files : fault_of ioac_app (codes "ioac" ∷ codes "check" ∷ codes "f" ∷ codes "g" ∷ []) ≡ kinds.UnknownArgument ∷ []
+unfolding clap_on_literals
+two_files = refl
+
+checked_with_two_files : (request : Request) → IsAsked (codes "ioac" ∷ codes "check" ∷ codes "f" ∷ codes "g" ∷ []) request → ⊥
+checked_with_two_files = faulty (codes "ioac" ∷ codes "check" ∷ codes "f" ∷ codes "g" ∷ []) kinds.UnknownArgument two_files
+
+two_compositions : fault_of ioac_app (codes "ioac" ∷ codes "replay" ∷ codes "f" ∷ codes "--comp" ∷ codes "A" ∷ codes "--comp" ∷ codes "B" ∷ []) ≡ kinds.ArgumentConflict ∷ []
+unfolding clap_on_literals
+two_compositions = refl
+
+replayed_in_two : (request : Request) → IsAsked (codes "ioac" ∷ codes "replay" ∷ codes "f" ∷ codes "--comp" ∷ codes "A" ∷ codes "--comp" ∷ codes "B" ∷ []) request → ⊥
+replayed_in_two = faulty (codes "ioac" ∷ codes "replay" ∷ codes "f" ∷ codes "--comp" ∷ codes "A" ∷ codes "--comp" ∷ codes "B" ∷ []) kinds.ArgumentConflict two_compositions
+
+help_beside_file : fault_of ioac_app (codes "ioac" ∷ codes "replay" ∷ codes "f" ∷ codes "--help" ∷ []) ≡ kinds.DisplayHelp ∷ []
+unfolding clap_on_literals
+help_beside_file = refl
+
+replayed_with_help : (request : Request) → IsAsked (codes "ioac" ∷ codes "replay" ∷ codes "f" ∷ codes "--help" ∷ []) request → ⊥
+replayed_with_help = faulty (codes "ioac" ∷ codes "replay" ∷ codes "f" ∷ codes "--help" ∷ []) kinds.DisplayHelp help_beside_file

@@ -1,9 +1,16 @@
 -- The codes by which the program tells why something was not done: how each is spelled, and what it stands for.
-use Rattle.std.specs.Prelude.{ℕ, List, codes}
+use Rattle.std.specs.Prelude.{ℕ, List, [], ◌∷◌, codes}
 use Rattle.ioa_lex.specs.declared.refusal.Refusal.{Refusal}
 use Rattle.ioa_log.specs.declared.failure.LogErr.{LogErr}
 use Rattle.ioac.specs.declared.code.Code.{Code}
 use Rattle.ioac.specs.declared.failure.Failure.{Failure}
+
+-- each code, once, in the order in which they are listed
+abbrev pub all_codes : List Code
+all_codes =
+    Code.E1 ∷ Code.E2 ∷ Code.E3 ∷ Code.E4 ∷ Code.E5 ∷ Code.E6 ∷ Code.E7 ∷ Code.E8 ∷ Code.E9 ∷ Code.E10 ∷
+    Code.E11 ∷ Code.E12 ∷ Code.E13 ∷ Code.E14 ∷ Code.E15 ∷ Code.E16 ∷ Code.E17 ∷ Code.L1 ∷ Code.L2 ∷ Code.L3 ∷
+    Code.L4 ∷ Code.L5 ∷ Code.L6 ∷ Code.L7 ∷ Code.L8 ∷ Code.Memory ∷ Code.Io ∷ []
 
 abbrev pub spelling : Code → List ℕ
 spelling Code.E1 = codes "E1"

@@ -1,8 +1,8 @@
 -- The command line that the program reads, in the words of the crate that parses it, and what it asks for.
-use Rattle.std.specs.Prelude.{◌≡◌, Bool, true, false, List, Option, Some, None, codes}
+use Rattle.std.specs.Prelude.{◌≡◌, Bool, true, false, List, [], Option, Some, None, codes}
 use Rattle.std.specs.Option.{option_copied, option_map_or}
 use Rattle.std.specs.Str.{bytes_eq}
-use Rattle.clap.specs.Words.{App, Row, Rule, Text, first_of, new_app, new_rule, subcommand_of, with_rule, with_subcommand}
+use Rattle.clap.specs.Words.{App, Row, Rule, Text, fault_of, first_of, new_app, new_rule, subcommand_of, with_rule, with_subcommand}
 use Rattle.clap.specs.Simple.{on_top}
 use Rattle.clap.specs.declared.builder.action.ArgAction.{ArgAction}
 use Rattle.clap.specs.declared.builder.command.Command.{Command}
@@ -78,6 +78,10 @@ IsAskedBy (Some found) (Request.Monitor file composition) = (found.0 ≡ codes "
 IsAskedBy (Some found) (Request.Check file) = (found.0 ≡ codes "check") × (first_of (codes "FILE") found.1 ≡ Some file.now)
 IsAskedBy (Some found) (Request.Explain code) = (found.0 ≡ codes "explain") × (first_of (codes "CODE") found.1 ≡ Some (spelling code))
 
--- the words of a command line, the program's own first, ask for this
+-- the words of a command line, the program's own first, have no fault: the program reads each of them, and they ask for no help or version
+abbrev pub HasNoFault : List Text → Type 0
+HasNoFault words = fault_of ioac_app words ≡ []
+
+-- they ask for this
 abbrev pub IsAsked : List Text → Request → Type 0
-IsAsked words request = IsAskedBy (subcommand_of ioac_app words) request
+IsAsked words request = HasNoFault words × IsAskedBy (subcommand_of ioac_app words) request

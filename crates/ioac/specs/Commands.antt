@@ -1,29 +1,25 @@
--- What a run of the program comes to: what is asked, what is written, what is told of failures, and the exit status.
-use Rattle.std.specs.Prelude.{◌≡◌, ℕ, ◌⊎◌, ◌++◌, ◌∷◌, [], List, Option}
+-- What a run of the program comes to: what is asked, what is written, what is told, and the exit status. Of each device it is said what it
+-- holds before and after, and whether it failed.
+use Rattle.std.specs.Prelude.{◌≡◌, ℕ, ◌⊎◌, ◌<◌, List, length, Option}
 use Rattle.std.specs.Io.KnownBytes.{Appends, Keeps}
-use Rattle.clap.specs.Words.{IsAmong, Text, fault_of}
+use Rattle.clap.specs.Words.{IsAmong, Text, fault_of, subcommand_of}
 use Rattle.clap.specs.declared.error.kind.ErrorKind.{ErrorKind}
 use Rattle.clap.specs.declared.error.kind.ErrorKind.TheVariants as kinds
+use Rattle.ioa_log.specs.declared.failure.LogErr.{LogErr}
 use Rattle.ioa_value.specs.Actions.{Name}
 use Rattle.ioac.specs.declared.failure.Failure.{Failure}
 use Rattle.ioac.specs.declared.request.Request.{Request}
 use Rattle.ioac.specs.declared.status.Status.{Status}
-use Rattle.ioac.specs.CommandLine.{ioac_app, IsAsked}
-use Rattle.ioac.specs.Printed.{failure_text}
+use Rattle.ioac.specs.CommandLine.{ioac_app, HasNoFault, IsAsked}
 use Rattle.ioac.specs.Serving.{IsServed, IsUnserved}
-use Rattle.ioac.specs.Statuses.{failure_status}
-
--- the failure's text is printed on a line, and the status is its own, unless it cannot be printed
-abbrev pub IsReported : Failure → Option (List ℕ) → Option (List ℕ) → Status → Type 0
-IsReported e before after status =
-    ((status ≡ failure_status e) × Appends before after (failure_text e ++ 10 ∷ [])) ⊎ (status ≡ Status.Broken)
+use Rattle.ioac.specs.Telling.{IsCut, IsReported, IsShort, IsTold, given_code, unasked_text}
 
 -- the request was served, and nothing is told; or why it was not is told
-abbrev pub IsAnswered : (Name → List ℕ → Type 0) → (Name → Type 0) → Request → Option (List ℕ) → Type 0 → Type 0
-    → Option (List ℕ) → Option (List ℕ) → Option (List ℕ) → Option (List ℕ) → Status → Type 0
-IsAnswered holds lacks request bytes reader_failed writer_failed before after told telling status =
+abbrev pub IsAnswered : (Name → List ℕ → Type 0) → (Name → Type 0) → Request → Option (List ℕ) → Type 0
+    → Option (List ℕ) → Option (List ℕ) → Type 0 → Option (List ℕ) → Option (List ℕ) → Type 0 → Status → Type 0
+IsAnswered holds lacks request bytes reader_failed before after writer_failed told telling teller_failed status =
     (IsServed holds request bytes before after status × Keeps told telling)
-    ⊎ ((e : Failure) × IsUnserved holds lacks request bytes reader_failed writer_failed before after e × IsReported e told telling status)
+    ⊎ ((e : Failure) × IsUnserved holds lacks request bytes reader_failed writer_failed before after e × IsReported e told telling teller_failed status)
 
 -- of a parse that gives no request, by what it tells
 abbrev pub usage_status : ErrorKind → Status
@@ -45,10 +41,30 @@ usage_status kinds.DisplayHelpOnMissingArgumentOrSubcommand = Status.BadCommandL
 usage_status kinds.Io = Status.BadCommandLine
 usage_status kinds.Format = Status.BadCommandLine
 
--- nothing is served: the words have a fault, or ask for help or the version, which is told; or they ask for nothing, as for a
--- code that is none, or for the invariants of a list; or memory was short, or nothing could be told
-abbrev pub IsUnasked : List Text → Status → Type 0
-IsUnasked words status =
-    (status ≡ Status.Broken)
-    ⊎ (((kind : ErrorKind) × IsAmong kind (fault_of ioac_app words) × (status ≡ usage_status kind))
-    ⊎ ((status ≡ Status.BadCommandLine) × ((request : Request) → IsAsked words request → ⊥)))
+-- help or the version is written, and nothing is told; or the device failed, which is told
+abbrev pub IsShown : List ℕ → Option (List ℕ) → Option (List ℕ) → Type 0 → Option (List ℕ) → Option (List ℕ) → Type 0 → Status → Type 0
+IsShown text before after writer_failed told telling teller_failed status =
+    ((status ≡ Status.Done) × Appends before after text × Keeps told telling)
+    ⊎ (IsCut text before after writer_failed × IsReported (Failure.List LogErr.Io) told telling teller_failed status)
+
+-- what comes of words that are not served, by the status of their fault: help or the version is written; or what is wrong is told, and
+-- nothing is written. Of the words of both it is said only that there are some. Or memory was short, which is told.
+abbrev pub IsUsage : Status → Option (List ℕ) → Option (List ℕ) → Type 0 → Option (List ℕ) → Option (List ℕ) → Type 0 → Status → Type 0
+IsUsage Status.Done before after writer_failed told telling teller_failed status =
+    ((text : List ℕ) × (0 < length text) × IsShown text before after writer_failed told telling teller_failed status)
+    ⊎ (Keeps before after × IsShort told telling teller_failed status)
+IsUsage Status.BadCommandLine before after writer_failed told telling teller_failed status =
+    Keeps before after × ((text : List ℕ) × (0 < length text) × IsTold text Status.BadCommandLine told telling teller_failed status)
+IsUsage Status.Broken before after writer_failed told telling teller_failed status = Keeps before after × IsShort told telling teller_failed status
+IsUsage Status.Refused before after writer_failed told telling teller_failed status = ⊥
+IsUsage Status.Faulted before after writer_failed told telling teller_failed status = ⊥
+IsUsage Status.ListRefused before after writer_failed told telling teller_failed status = ⊥
+
+-- Nothing is served. The words have a fault, or ask for help or the version, or memory was short while they were read; or they have
+-- no fault and ask for nothing, as for a code that is none, or for the invariants of a list.
+abbrev pub IsUnasked : List Text → Option (List ℕ) → Option (List ℕ) → Type 0 → Option (List ℕ) → Option (List ℕ) → Type 0 → Status → Type 0
+IsUnasked words before after writer_failed told telling teller_failed status =
+    ((kind : ErrorKind) × ((kind ≡ kinds.OutOfMemory) ⊎ IsAmong kind (fault_of ioac_app words))
+    × IsUsage (usage_status kind) before after writer_failed told telling teller_failed status)
+    ⊎ (HasNoFault words × ((request : Request) → IsAsked words request → ⊥) × Keeps before after
+    × IsTold (unasked_text (given_code (subcommand_of ioac_app words))) Status.BadCommandLine told telling teller_failed status)

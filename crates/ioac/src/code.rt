@@ -2,6 +2,7 @@ ghost use Rattle.std.specs.Prelude.{◌≡◌, IfSome, IfNone, find, option_map}
 ghost use Rattle.std.specs.Str.{bytes_eq};
 ghost use Rattle.ioac.specs.Codes.{spelling};
 
+use std::convert::AsStr;
 use std::fmt;
 
 /// The codes by which the program prints why something was not done, and by which it explains that.
@@ -119,6 +120,16 @@ fn first_spelled<'a>(codes: &'a [Code], word: &str) -> Option<&'a Code>
     ensures { option_map (λ c. c.now) result ≡ find (λ c. bytes_eq (spelling c) word.now) codes.now }
 {
     codes.iter().find(|code| code.spelling() == word)
+}
+
+impl AsStr for Code {
+    ghost use Rattle.ioac.specs.Codes.{spelling};
+
+    ghost text = { λ code. spelling code };
+
+    fn as_str(&self) -> &str {
+        self.spelling()
+    }
 }
 
 impl fmt::Display for Code {

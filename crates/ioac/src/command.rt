@@ -1,16 +1,13 @@
 ghost use Rattle.std.specs.Prelude.{◌≡◌, ◌⊎◌, map, option_map, IfOk, IfErr, IsSome};
-ghost use Rattle.std.specs.Io.KnownBytes.{Keeps};
-ghost use Rattle.clap.specs.Words.{kind_of};
 ghost use Rattle.ioa_system.specs.Answers.{ending_of};
 ghost use Rattle.ioa_log.specs.Failing.{HasFailed};
 ghost use Rattle.ioac.specs.CommandLine.{IsAsked};
-ghost use Rattle.ioac.specs.Commands.{IsAnswered, IsReported, IsUnasked, usage_status};
+ghost use Rattle.ioac.specs.Commands.{IsAnswered, IsUnasked};
 ghost use Rattle.ioac.specs.Logs.{found_of};
 ghost use Rattle.ioac.specs.Serving.{IsServed, IsUnserved};
 ghost use Rattle.ioac.specs.Statuses.{answer_status, ending_status, found_status, number_of};
 ghost use Rattle.ioac.specs.declared.status.Status.{Status};
 ghost use Rattle.ioac.specs.declared.request.Request.{Request};
-ghost use Rattle.ioac.specs.declared.status.Status.TheVariants as statuses;
 
 use crate::check::check_text;
 use crate::explain::explain;
@@ -22,18 +19,18 @@ use crate::replay::replay_text;
 use crate::request::{Request, parse, read_request};
 use crate::status::Status;
 use crate::store::Store;
-use crate::usage::told_unasked;
-use clap::error::ErrorKind;
+use crate::telling::reported;
+use crate::usage::{told, told_unasked};
 use ioa_log::{InputDevice, OutputDevice};
 use ioa_system::End;
 use std::alloc::Global;
 use std::convert::AsStr;
-use std::io::Write;
 
 /// The program: reads the words of its command line, does what they ask, and answers its exit status, as `Status` numbers it.
 ///
-/// What is wrong goes to `errors`. The status is that of `Broken` where that cannot be told.
-pub fn command<S: AsStr, F: Store, R: InputDevice, W: OutputDevice, E: Write>(
+/// What is wrong goes to `errors`, and nothing is written then, or, where a device failed, no more than a beginning. The status is that of
+/// `Broken` where `errors` failed, too.
+pub fn command<S: AsStr, F: Store, R: InputDevice, W: OutputDevice, E: OutputDevice>(
     alloc: Global,
     words: &[S],
     store: &mut F,
@@ -41,17 +38,19 @@ pub fn command<S: AsStr, F: Store, R: InputDevice, W: OutputDevice, E: Write>(
     output: &mut W,
     errors: &mut E,
 ) -> u8
-    ensures { (status : Status) × (result ≡ number_of status) × (IsUnasked (map S.text words.now) status
+    ensures { (status : Status) × (result ≡ number_of status) × (IsUnasked (map S.text words.now)
+        (W.contents output.old) (W.contents output.new) (HasFailed (W.failure_count output.old) (W.failure_count output.new))
+        (E.contents errors.old) (E.contents errors.new) (HasFailed (E.failure_count errors.old) (E.failure_count errors.new)) status
         ⊎ ((request : Request) × IsAsked (map S.text words.now) request
-        × IsAnswered (F.holds store.old) (F.lacks store.old) request (R.remaining input.old)
-        (HasFailed (R.failure_count input.old) (R.failure_count input.new)) (HasFailed (W.failure_count output.old) (W.failure_count output.new))
-        (W.contents output.old) (W.contents output.new) (E.contents errors.old) (E.contents errors.new) status)) }
+        × IsAnswered (F.holds store.old) (F.lacks store.old) request (R.remaining input.old) (HasFailed (R.failure_count input.old) (R.failure_count input.new))
+        (W.contents output.old) (W.contents output.new) (HasFailed (W.failure_count output.old) (W.failure_count output.new))
+        (E.contents errors.old) (E.contents errors.new) (HasFailed (E.failure_count errors.old) (E.failure_count errors.new)) status)) }
 {
     perform(alloc, words, store, input, output, errors).number()
 }
 
 /// Does what the words of a command line ask.
-fn perform<S: AsStr, F: Store, R: InputDevice, W: OutputDevice, E: Write>(
+fn perform<S: AsStr, F: Store, R: InputDevice, W: OutputDevice, E: OutputDevice>(
     alloc: Global,
     words: &[S],
     store: &mut F,
@@ -59,23 +58,25 @@ fn perform<S: AsStr, F: Store, R: InputDevice, W: OutputDevice, E: Write>(
     output: &mut W,
     errors: &mut E,
 ) -> Status
-    ensures { IsUnasked (map S.text words.now) result
+    ensures { IsUnasked (map S.text words.now)
+        (W.contents output.old) (W.contents output.new) (HasFailed (W.failure_count output.old) (W.failure_count output.new))
+        (E.contents errors.old) (E.contents errors.new) (HasFailed (E.failure_count errors.old) (E.failure_count errors.new)) result
         ⊎ ((request : Request) × IsAsked (map S.text words.now) request
-        × IsAnswered (F.holds store.old) (F.lacks store.old) request (R.remaining input.old)
-        (HasFailed (R.failure_count input.old) (R.failure_count input.new)) (HasFailed (W.failure_count output.old) (W.failure_count output.new))
-        (W.contents output.old) (W.contents output.new) (E.contents errors.old) (E.contents errors.new) result) }
+        × IsAnswered (F.holds store.old) (F.lacks store.old) request (R.remaining input.old) (HasFailed (R.failure_count input.old) (R.failure_count input.new))
+        (W.contents output.old) (W.contents output.new) (HasFailed (W.failure_count output.old) (W.failure_count output.new))
+        (E.contents errors.old) (E.contents errors.new) (HasFailed (E.failure_count errors.old) (E.failure_count errors.new)) result) }
 {
     match parse(alloc, words) {
         Ok(matches) => match read_request(&matches) {
             Some(asked) => answer(alloc, &asked, store, input, output, errors),
-            None => told_unasked(&matches, errors),
+            None => told_unasked(alloc, &matches, errors),
         },
-        Err(error) => told(&error, output, errors),
+        Err(error) => told(alloc, &error, output, errors),
     }
 }
 
 /// Does what is asked, and tells why not.
-fn answer<F: Store, R: InputDevice, W: OutputDevice, E: Write>(
+fn answer<F: Store, R: InputDevice, W: OutputDevice, E: OutputDevice>(
     alloc: Global,
     asked: &Request<'_>,
     store: &mut F,
@@ -83,24 +84,13 @@ fn answer<F: Store, R: InputDevice, W: OutputDevice, E: Write>(
     output: &mut W,
     errors: &mut E,
 ) -> Status
-    ensures { IsAnswered (F.holds store.old) (F.lacks store.old) asked.now (R.remaining input.old)
-        (HasFailed (R.failure_count input.old) (R.failure_count input.new)) (HasFailed (W.failure_count output.old) (W.failure_count output.new))
-        (W.contents output.old) (W.contents output.new) (E.contents errors.old) (E.contents errors.new) result }
+    ensures { IsAnswered (F.holds store.old) (F.lacks store.old) asked.now (R.remaining input.old) (HasFailed (R.failure_count input.old) (R.failure_count input.new))
+        (W.contents output.old) (W.contents output.new) (HasFailed (W.failure_count output.old) (W.failure_count output.new))
+        (E.contents errors.old) (E.contents errors.new) (HasFailed (E.failure_count errors.old) (E.failure_count errors.new)) result }
 {
     match serve(alloc, asked, store, input, output) {
         Ok(status) => status,
-        Err(failure) => reported(failure, errors),
-    }
-}
-
-/// Prints why nothing was served, and answers the exit status.
-fn reported<E: Write>(failure: Failure, errors: &mut E) -> Status
-    ensures { IsReported failure (E.contents errors.old) (E.contents errors.new) result }
-{
-    let status = failure.status();
-    match writeln!(errors, "{failure}") {
-        Ok(()) => status,
-        Err(_) => Status::Broken,
+        Err(failure) => reported(alloc, &failure, errors),
     }
 }
 
@@ -194,27 +184,5 @@ fn status_of_answer(answer: Option<End>) -> Status
     match answer {
         None => Status::Done,
         Some(_) => Status::ListRefused,
-    }
-}
-
-/// Writes what is wrong with a command line, or the help that it asks for, and answers the exit status.
-fn told<W: OutputDevice, E: Write>(error: &clap::Error, output: &mut W, errors: &mut E) -> Status
-    ensures status { (result ≡ usage_status (kind_of error.now)) ⊎ (result ≡ statuses.Broken) }
-    ensures unwritten { result ≡ statuses.BadCommandLine → Keeps (W.contents output.old) (W.contents output.new) }
-{
-    if error.kind() == ErrorKind::OutOfMemory {
-        let _ = errors.write_all(b"memory\n");
-        return Status::Broken;
-    }
-    if error.use_stderr() {
-        match write!(errors, "{error}") {
-            Ok(()) => Status::BadCommandLine,
-            Err(_) => Status::Broken,
-        }
-    } else {
-        match write!(output, "{error}") {
-            Ok(()) => Status::Done,
-            Err(_) => Status::Broken,
-        }
     }
 }

@@ -1,7 +1,10 @@
+ghost use Rattle.std.specs.Prelude.{◌≡◌, IfOk, IfSome, take};
+
 use crate::store::{Store, StoreErr};
+use ioa_value::LIMITS;
 use std::alloc::Global;
-use std::io::ErrorKind;
-use std::{fs, rt};
+use std::io::{ErrorKind, Read};
+use std::{fs, io, rt};
 
 /// The files that a runtime reaches.
 #[derive(Drop)]
@@ -20,17 +23,39 @@ impl<'a, R> Files<'a, R> {
     }
 }
 
-impl<'a, R: rt::Files + AllocGlobal> Store for Files<'a, R> {
+impl<'a, R: rt::Files> Store for Files<'a, R> {
     // Nothing is claimed of what a file holds.
     ghost holds = { λ _ _ _. Unit {0} };
 
     ghost lacks = { λ _ _. Unit {0} };
 
-    fn load(&mut self, _alloc: Global, name: &str) -> Result<Vec<u8>, StoreErr> {
-        match fs::read(self.rt, name) {
-            Ok(bytes) => Ok(bytes),
-            Err(error) if error.kind() == ErrorKind::OutOfMemory => Err(StoreErr::OutOfMemory),
-            Err(_) => Err(StoreErr::Io),
+    fn load(&mut self, alloc: Global, name: &str) -> Result<Vec<u8>, StoreErr> {
+        match fs::open(self.rt, name) {
+            // One byte past the limit tells that a source is too long.
+            Ok(file) => read_first(alloc, file, LIMITS.text as u64 + 1),
+            Err(error) => Err(store_err(&error)),
         }
+    }
+}
+
+/// The bytes that a reader gives, so many at most.
+///
+/// # Errors
+/// `Io` where a read fails, if it was not just interrupted; or want of memory.
+#[tactic(auto, using(crate::proofs::Sources::first_of))]
+fn read_first<R: Read + Drop>(alloc: Global, reader: R, most: u64) -> Result<Vec<u8>, StoreErr>
+    ensures { IfOk result (λ bytes. IfSome (R.remaining reader) (λ all. bytes.items ≡ take most all)) }
+{
+    let mut bytes = Vec::new(alloc);
+    match reader.take(most).read_to_end(&mut bytes) {
+        Ok(_) => Ok(bytes),
+        Err(error) => Err(store_err(&error)),
+    }
+}
+
+fn store_err(error: &io::Error) -> StoreErr {
+    match error.kind() {
+        ErrorKind::OutOfMemory => StoreErr::OutOfMemory,
+        _ => StoreErr::Io,
     }
 }

@@ -18,32 +18,39 @@ mod replay;
 mod request;
 mod status;
 mod store;
+mod telling;
 #[cfg(test)]
 mod tests;
 mod usage;
 
-use crate::status::Status;
+use crate::files::Files;
+use crate::telling::told_unread;
 use ioa_log::Counted;
 use std::process::ExitCode;
 use std::{env, io};
 
-fn main(rt: HostRuntime) -> io::Result<ExitCode> {
-    let alloc = rt.alloc();
-    let mut errors = rt.stderr();
-    let words: Vec<String> = match env::args(&rt) {
-        Ok(words) => words.collect(alloc)?,
-        Err(_) => return Ok(ExitCode::from(Status::BadCommandLine.number())),
+fn main(rt: HostRuntime) -> ExitCode {
+    let mut errors = Counted::new(rt.stderr());
+    let words = match words_of(&rt) {
+        Ok(words) => words,
+        Err(error) => return ExitCode::from(told_unread(&error, &mut errors).number()),
     };
-    let mut store = files::Files::new(&rt);
+    let mut store = Files::new(&rt);
     let mut input = Counted::new(rt.stdin());
     let mut output = Counted::new(rt.stdout());
     let status = command::command(
-        alloc,
+        rt.alloc(),
         words.as_slice(),
         &mut store,
         &mut input,
         &mut output,
         &mut errors,
     );
-    Ok(ExitCode::from(status))
+    ExitCode::from(status)
+}
+
+/// The words of the command line, the program's own first.
+fn words_of(rt: &HostRuntime) -> io::Result<Vec<String>> {
+    let words = env::args(rt)?;
+    Ok(words.collect(rt.alloc())?)
 }

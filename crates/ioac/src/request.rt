@@ -1,5 +1,5 @@
-ghost use Rattle.std.specs.Prelude.{◌≡◌, false, map, IfOk, IfErr, IfSome, IfNone};
-ghost use Rattle.clap.specs.Words.{HasKind, app_of, fault_of, found_of, rows_of, rule_of, subcommand_of, subcommand_rows_of};
+ghost use Rattle.std.specs.Prelude.{◌≡◌, false, map, codes, IfOk, IfSome, IfNone};
+ghost use Rattle.clap.specs.Words.{FailsBy, app_of, fault_of, found_of, new_app, rows_of, rule_of, subcommand_of, subcommand_rows_of};
 ghost use Rattle.ioac.specs.CommandLine as asked;
 ghost use Rattle.ioac.specs.CommandLine.{IsAskedBy, IsLocal, check_app, code_rule, comp_rule, explain_app, file_rule, invariants_rule, ioac_app, log_rule, monitor_app, replay_app};
 ghost use Rattle.ioac.specs.declared.request.Request.{Request};
@@ -101,7 +101,7 @@ fn check_command<'a>(alloc: Global) -> Result<Command<'a>, AllocError>
     Command::new(alloc, "check")
         .about("Parses and checks a source, and prints ok where it is well formed")
         .after_help(
-            "Compositions are composed by `replay` alone.\n\
+            "Compositions are composed by `replay` and `monitor` alone.\n\
              Exit status: 0 done, 1 source refused, 2 bad command line, 5 memory or a device.",
         )
         .arg(file_argument(alloc))
@@ -123,6 +123,18 @@ fn replay_command<'a>(alloc: Global) -> Result<Command<'a>, AllocError>
     ensures app { IfOk result (λ command. app_of command ≡ replay_app) }
     ensures local { IfOk result IsLocal }
 {
+    described_replay(alloc)
+        .arg(file_argument(alloc))?
+        .arg(composition_option(alloc))?
+        .arg(log_flag(alloc))?
+        .arg(invariants_flag(alloc))
+}
+
+/// The subcommand without its arguments. Its usage is written out, since invariants are asked of a log alone.
+fn described_replay<'a>(alloc: Global) -> Command<'a>
+    ensures app { app_of result ≡ new_app (codes "replay") }
+    ensures local { IsLocal result }
+{
     Command::new(alloc, "replay")
         .about("Performs a list of actions, read on standard input, and prints its external trace")
         .after_help(
@@ -131,10 +143,7 @@ fn replay_command<'a>(alloc: Global) -> Result<Command<'a>, AllocError>
              Exit status: 0 done, 1 source refused, 2 bad command line, 3 ended by a fault,\n\
              4 list or log refused, invariant broken, or ended not enabled or not an action, 5 memory or a device.",
         )
-        .arg(file_argument(alloc))?
-        .arg(composition_option(alloc))?
-        .arg(log_flag(alloc))?
-        .arg(invariants_flag(alloc))
+        .override_usage("ioac replay [--comp <NAME>] [--log [--invariants]] <FILE>")
 }
 
 fn monitor_command<'a>(alloc: Global) -> Result<Command<'a>, AllocError>
@@ -170,9 +179,12 @@ fn program<'a>(alloc: Global) -> Result<Command<'a>, AllocError>
 }
 
 /// Reads a command line, whose first word is the program's.
+///
+/// # Errors
+/// The words have a fault, or ask for help or the version; or want of memory.
 pub fn parse<'a, S: AsStr>(alloc: Global, words: &'a [S]) -> Result<ArgMatches<'a>, Error>
     ensures found { IfOk result (λ matches. subcommand_rows_of matches ≡ subcommand_of ioac_app (map S.text words.entry.now)) }
-    ensures faulty { IfErr result (HasKind (fault_of ioac_app (map S.text words.entry.now))) }
+    ensures faults { FailsBy (fault_of ioac_app (map S.text words.entry.now)) result }
 {
     program(alloc)?.try_get_matches_from(words)
 }
@@ -187,8 +199,8 @@ fn is_set(found: &ArgMatches<'_>, flag: &str) -> bool
     }
 }
 
-/// The request that a command line has. None where a word is missing, which a parse rules out, where there is no such code, or where
-/// the invariants of a list are asked for.
+/// The request of a command line without a fault. None where a word is missing, which a parse rules out, where there is no such code,
+/// or where the invariants of a list are asked for.
 pub fn read_request<'a>(matches: &ArgMatches<'a>) -> Option<Request<'a>>
     ensures some { IfSome result (λ asked. IsAskedBy (subcommand_rows_of matches.now) asked) }
     ensures none { IfNone result ((asked : Request) → IsAskedBy (subcommand_rows_of matches.now) asked → ⊥) }

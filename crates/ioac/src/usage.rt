@@ -1,48 +1,139 @@
-ghost use Rattle.std.specs.Prelude.{◌≡◌, ◌⊎◌};
+ghost use Rattle.std.specs.Prelude.{◌≡◌, ◌<◌, length, IfOk};
+ghost use Rattle.std.specs.Option.{option_copied};
+ghost use Rattle.std.specs.String.{string_bytes};
+ghost use Rattle.clap.specs.Words.{kind_of, subcommand_rows_of};
+ghost use Rattle.ioa_log.specs.Failing.{HasFailed};
+ghost use Rattle.ioac.specs.Commands.{IsShown, IsUsage, usage_status};
+ghost use Rattle.ioac.specs.Telling as telling;
+ghost use Rattle.ioac.specs.Telling.{IsTold};
 ghost use Rattle.ioac.specs.declared.status.Status.TheVariants as statuses;
 
 use crate::code::Code;
+use crate::failure::Failure;
 use crate::status::Status;
+use crate::telling::{put, put_short, reported};
 use clap::ArgMatches;
-use std::io::{self, Write};
+use clap::error::ErrorKind;
+use ioa_log::{OutputDevice, send_all};
+use std::alloc::{AllocError, Global};
 
-/// Tells of a command line that asks for nothing, and answers the exit status. It does so where it asks for a code that is none, or for
-/// the invariants of a list.
-pub fn told_unasked<E: Write>(matches: &ArgMatches<'_>, errors: &mut E) -> Status
-    ensures { (result ≡ statuses.BadCommandLine) ⊎ (result ≡ statuses.Broken) }
+/// Tells what is wrong with a command line, or writes the help or the version that it asks for, and answers the exit status.
+pub fn told<W: OutputDevice, E: OutputDevice>(
+    alloc: Global,
+    error: &clap::Error,
+    output: &mut W,
+    errors: &mut E,
+) -> Status
+    ensures { IsUsage (usage_status (kind_of error.now))
+        (W.contents output.old) (W.contents output.new) (HasFailed (W.failure_count output.old) (W.failure_count output.new))
+        (E.contents errors.old) (E.contents errors.new) (HasFailed (E.failure_count errors.old) (E.failure_count errors.new)) result }
 {
-    let code = match matches.subcommand() {
+    if error.kind() == ErrorKind::OutOfMemory {
+        return put_short(errors);
+    }
+    match usage_text(alloc, error) {
+        Ok(text) if error.use_stderr() => put(text.as_str(), Status::BadCommandLine, errors),
+        Ok(text) => shown(alloc, text.as_str(), output, errors),
+        Err(AllocError) => put_short(errors),
+    }
+}
+
+/// The words of the crate that reads command lines. It does not promise that there are some, where this does.
+fn usage_text(alloc: Global, error: &clap::Error) -> Result<String, AllocError>
+    ensures { IfOk result (λ text. 0 < length (string_bytes text)) }
+{
+    let text = format!(in alloc; "{error}")?;
+    if text.is_empty() {
+        return String::from_str(alloc, "error: bad command line\n");
+    }
+    Ok(text)
+}
+
+/// Writes help or the version, and answers the exit status.
+fn shown<W: OutputDevice, E: OutputDevice>(
+    alloc: Global,
+    text: &str,
+    output: &mut W,
+    errors: &mut E,
+) -> Status
+    ensures { IsShown text.now
+        (W.contents output.old) (W.contents output.new) (HasFailed (W.failure_count output.old) (W.failure_count output.new))
+        (E.contents errors.old) (E.contents errors.new) (HasFailed (E.failure_count errors.old) (E.failure_count errors.new)) result }
+{
+    match send_all(output, text.as_bytes()) {
+        Ok(()) => Status::Done,
+        Err(error) => reported(alloc, &Failure::List(error), errors),
+    }
+}
+
+/// Tells of a command line that has no fault and asks for nothing, and answers the exit status. It asks for a code that is none, or for
+/// the invariants of a list.
+pub fn told_unasked<E: OutputDevice>(
+    alloc: Global,
+    matches: &ArgMatches<'_>,
+    errors: &mut E,
+) -> Status
+    ensures { IsTold (telling.unasked_text (telling.given_code (subcommand_rows_of matches.now))) statuses.BadCommandLine
+        (E.contents errors.old) (E.contents errors.new) (HasFailed (E.failure_count errors.old) (E.failure_count errors.new)) result }
+{
+    match unasked_text(alloc, given_code(matches)) {
+        Ok(text) => put(text.as_str(), Status::BadCommandLine, errors),
+        Err(AllocError) => put_short(errors),
+    }
+}
+
+/// The word that a command line has for a code, if it has one.
+#[tactic(auto, using(crate::proofs::Asked::coded, crate::proofs::Asked::uncoded_none))]
+fn given_code<'a>(matches: &ArgMatches<'a>) -> Option<&'a str>
+    ensures { option_copied result ≡ telling.given_code (subcommand_rows_of matches.now) }
+{
+    match matches.subcommand() {
         Some((_, found)) => found.get_str("CODE"),
         None => None,
-    };
-    let written = match code {
-        Some(word) => tell_codes(word, errors),
-        None => tell_log(errors),
-    };
-    match written {
-        Ok(()) => Status::BadCommandLine,
-        Err(_) => Status::Broken,
     }
 }
 
-/// Writes that the word is no code, and which there are, in the manner of `clap`.
-fn tell_codes<E: Write>(word: &str, errors: &mut E) -> io::Result<()> {
-    write!(
-        errors,
-        "error: invalid value '{word}' for '<CODE>'\n  [possible values: "
-    )?;
-    let mut comma = "";
-    for code in Code::ALL {
-        write!(errors, "{comma}{code}")?;
-        comma = ", ";
+/// What is wrong with the word for a code; or without a word, that invariants are those of a log.
+fn unasked_text(alloc: Global, code: Option<&str>) -> Result<String, AllocError>
+    ensures { IfOk result (λ text. string_bytes text ≡ telling.unasked_text (option_copied code.entry)) }
+{
+    match code {
+        Some(word) => unknown_code_text(alloc, word),
+        None => missing_log_text(alloc),
     }
-    writeln!(errors, "]\n\nFor more information, try '--help'.")
 }
 
-/// Writes that invariants are those of a log, in the same manner.
-fn tell_log<E: Write>(errors: &mut E) -> io::Result<()> {
-    errors.write_all(
-        b"error: the following required arguments were not provided:\n  --log\n\n\
+/// That the word is no code, and which there are, in the manner of `clap`.
+fn unknown_code_text(alloc: Global, word: &str) -> Result<String, AllocError>
+    ensures { IfOk result (λ text. string_bytes text ≡ telling.unknown_code_text word.now telling.known_codes) }
+{
+    let known = known_codes(alloc)?;
+    refused_word(alloc, word, known.as_str())
+}
+
+/// That the word is none of those that are listed.
+fn refused_word(alloc: Global, word: &str, listed: &str) -> Result<String, AllocError>
+    ensures { IfOk result (λ text. string_bytes text ≡ telling.unknown_code_text word.now listed.now) }
+{
+    format!(in alloc;
+        "error: invalid value '{word}' for '<CODE>'\n  [possible values: {listed}]\n\nFor more information, try '--help'.\n"
+    )
+}
+
+/// All codes, parted by commas.
+fn known_codes(alloc: Global) -> Result<String, AllocError>
+    ensures { IfOk result (λ text. string_bytes text ≡ telling.known_codes) }
+{
+    Code::ALL.as_slice().join(alloc, ", ")
+}
+
+/// That invariants are those of a log, in the same manner.
+fn missing_log_text(alloc: Global) -> Result<String, AllocError>
+    ensures { IfOk result (λ text. string_bytes text ≡ telling.missing_log_text) }
+{
+    String::from_str(
+        alloc,
+        "error: the following required arguments were not provided:\n  --log\n\n\
         Usage: ioac replay --log --invariants <FILE>\n\nFor more information, try '--help'.\n",
     )
 }

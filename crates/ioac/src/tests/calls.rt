@@ -7,6 +7,7 @@ ghost use Rattle.ioa_system.specs.Systems.{slot_types, types_of};
 
 use crate::tests::reached::{action, program};
 use crate::tests::shelf::{COUNTER, basic};
+use crate::tests::tables::{column, columns, is_row};
 use ioa_node::{NodeState, state_values};
 use ioa_syntax::{Refusal, parse, print};
 use ioa_system::{Moved, Step, System, participants, run_list, step_from};
@@ -68,35 +69,46 @@ fn reads_and_prints_actions(rt: HostRuntime) -> Result<(), Fail> {
     Ok(())
 }
 
-/// Each form of a constant, and hidden names.
-const LINKS: &str = "
-type Kind = enum { data, ack }
-automaton Link(i: Int)
-signature output send(const i, m: Int); internal drop(const 0, const -5, const true, const false, const data)
-transitions output send propose m := i internal drop
-composition Links components A: Link(0); B: Link(1); hidden send";
-
-/// Another source than these.
-const ONE: &str = "automaton A signature internal a transitions internal a";
+/// A source, and its text as it is printed: after each token a space, or the end of the line.
+const PRINTED: &str = "\
+-- types
+type K = enum { a, b } type P = tuple { k: K, n: Int } type S = seq 4 of P | type K = enum { a , b }^type P = tuple { k : K , n : Int }^type S = seq 4 of P^
+-- formals, entries, variables and transitions
+automaton A signature internal r transitions internal r | automaton A^signature^internal r^transitions^internal r^
+automaton A(i: Int, b: Bool) signature input go; output put(const i, const -5, const 7, const true, const false, n: Int) transitions input go output put pre true propose n := i | automaton A ( i : Int , b : Bool )^signature^input go^; output put ( const i , const - 5 , const 7 , const true , const false , n : Int )^transitions^input go^output put^pre true^propose n := i^
+automaton A signature output a(j: Int, k: Int) states stable x: Int := 7; y: Bool; transitions output a propose j := x, k := 0 eff x := 1; y := false; | automaton A^signature^output a ( j : Int , k : Int )^states^stable x : Int := 7^; y : Bool^transitions^output a^propose j := x^, k := 0^eff x := 1^; y := false^
+-- expressions
+automaton A signature internal r transitions internal r pre ~true /\\ false \\/ a => b | automaton A^signature^internal r^transitions^internal r^pre ~ true /\\ false \\/ a => b^
+automaton A signature internal r transitions internal r eff x := 1 + 2 - 3 * 4 div 5 mod 6; x := -(7) | automaton A^signature^internal r^transitions^internal r^eff x := 1 + 2 - 3 * 4 div 5 mod 6^; x := - ( 7 )^
+automaton A signature internal r transitions internal r eff b := 1 = 2; b := 1 ~= 2; b := 1 < 2; b := 1 <= 2; b := 1 > 2; b := 1 >= 2 | automaton A^signature^internal r^transitions^internal r^eff b := 1 = 2^; b := 1 ~= 2^; b := 1 < 2^; b := 1 <= 2^; b := 1 > 2^; b := 1 >= 2^
+automaton A signature internal r transitions internal r eff s := append(tail(s), head(s)); s := without(init(s), last(s)); n := at(s, len(s)); b := member(0, empty(S)) | automaton A^signature^internal r^transitions^internal r^eff s := append ( tail ( s ) , head ( s ) )^; s := without ( init ( s ) , last ( s ) )^; n := at ( s , len ( s ) )^; b := member ( 0 , empty ( S ) )^
+automaton A signature internal r transitions internal r eff t := T(1, true); n := -t.a.b | automaton A^signature^internal r^transitions^internal r^eff t := T ( 1 , true )^; n := - t . a . b^
+-- statements
+automaton A signature internal r transitions internal r eff if a then x := 1; x := 2 elseif b then if c then x := 3 fi else x := 4 fi; x := 5 | automaton A^signature^internal r^transitions^internal r^eff if a then^x := 1^; x := 2^elseif b then^if c then^x := 3^fi^else^x := 4^fi^; x := 5^
+-- compositions and invariants
+composition C components X: A; Y: B(1, true) crash down recover up; Z: A crash d recover u hidden a, b | composition C components^X : A^; Y : B ( 1 , true )^crash down recover up^; Z : A^crash d recover u^hidden a^, b^
+invariant of A: x < 1 | invariant of A : x < 1^
+";
 
 fn are_same(alloc: Global, one: &[u8], other: &[u8]) -> Result<bool, Refusal> {
     let source = parse(alloc, one)?;
     Ok(source.same(&parse(alloc, other)?))
 }
 
-fn printed(alloc: Global, text: &str) -> Result<Vec<u8>, Refusal> {
-    let source = parse(alloc, text.as_bytes())?;
-    Ok(print(alloc, &source)?)
+// Whether the source is printed so, and the text is of an equal source, which is no source of nothing.
+fn is_printed(alloc: Global, source: &str, text: &str) -> Result<bool, Refusal> {
+    let printed = print(alloc, &parse(alloc, source.as_bytes())?)?;
+    let is_same = are_same(alloc, source.as_bytes(), printed.as_slice())?;
+    let is_empty = are_same(alloc, source.as_bytes(), b"")?;
+    Ok(printed.as_slice() == text.as_bytes() && is_same && !is_empty)
 }
 
 #[test]
 fn prints_what_is_parsed(rt: HostRuntime) -> Result<(), Fail> {
-    for spelled in [COUNTER, LINKS] {
-        let text = printed(rt.alloc(), spelled)?;
-        let is_same = are_same(rt.alloc(), spelled.as_bytes(), text.as_slice())?;
-        assert!(rt; is_same, "{spelled}");
-        let is_other = are_same(rt.alloc(), spelled.as_bytes(), ONE.as_bytes())?;
-        assert!(rt; !is_other, "{spelled}");
+    for row in PRINTED.lines().filter(|line| is_row(line)) {
+        let columns = columns(rt.alloc(), row)?;
+        let is_so = is_printed(rt.alloc(), column(&columns, 0), column(&columns, 1))?;
+        assert!(rt; is_so, "{row}");
     }
     Ok(())
 }

@@ -112,11 +112,12 @@ fn is_cramped(alloc: Global, words: &str, written: &[u8]) -> Result<bool, Fail> 
     let mut room = [0u8; 2];
     let mut input = Counted::new(given.list.as_bytes());
     let mut output = Counted::new(room.as_mut_slice());
-    let mut errors = Vec::new(alloc);
+    let mut errors = Counted::new(Vec::new(alloc));
     let status = run_on(alloc, &given, &mut input, &mut output, &mut errors)?;
+    let told = errors.into_inner();
     Ok(
         status == Status::Broken.number()
-            && errors.as_slice() == b"L8\n".as_slice()
+            && told.as_slice() == b"L8\n".as_slice()
             && room.as_slice() == written,
     )
 }
@@ -125,5 +126,6 @@ fn is_cramped(alloc: Global, words: &str, written: &[u8]) -> Result<bool, Fail> 
 fn full_devices_are_told(rt: HostRuntime) -> Result<(), Fail> {
     assert!(rt; is_cramped(rt.alloc(), "check f", b"ok")?);
     assert!(rt; is_cramped(rt.alloc(), "explain E1", b"E1")?);
+    assert!(rt; is_cramped(rt.alloc(), "--version", b"io")?);
     Ok(())
 }

@@ -1,6 +1,9 @@
 //! Logs that are replayed, and logs that are monitored.
 
-use crate::tests::shelf::{COUNTER, First, expect_rows};
+use crate::tests::shelf::{COUNTER, First, basic, expect_rows};
+use ioa_log::{Counted, LogErr, read_log, write_log};
+use ioa_value::Types;
+use std::alloc::Global;
 use std::test::Fail;
 
 /// The words after the program's name, a log of the counter, what is printed, what is told of errors, and the exit status.
@@ -87,9 +90,9 @@ replay f | {"act":"tick(5)","who":0}^{"end":"done after 1"}^ |  | L2 line 1^ | 4
 replay g --log | x |  | io^ | 5
 replay f --log --comp Nine | x |  | E17^ | 1
 -- words
-replay f --log g |  |  | error: unexpected argument 'g' found^^Usage: ioac replay [OPTIONS] <FILE>^^For more information, try '--help'.^ | 2
-replay f --log --log |  |  | error: the argument '--log' cannot be used multiple times^^Usage: ioac replay [OPTIONS] <FILE>^^For more information, try '--help'.^ | 2
-replay --log |  |  | error: the following required arguments were not provided:^  <FILE>^^Usage: ioac replay --log <FILE>^^For more information, try '--help'.^ | 2
+replay f --log g |  |  | error: unexpected argument 'g' found^^Usage: ioac replay [--comp <NAME>] [--log [--invariants]] <FILE>^^For more information, try '--help'.^ | 2
+replay f --log --log |  |  | error: the argument '--log' cannot be used multiple times^^Usage: ioac replay [--comp <NAME>] [--log [--invariants]] <FILE>^^For more information, try '--help'.^ | 2
+replay --log |  |  | error: the following required arguments were not provided:^  <FILE>^^Usage: ioac replay [--comp <NAME>] [--log [--invariants]] <FILE>^^For more information, try '--help'.^ | 2
 "#;
 
 /// Logs with CR and tabs, which are blanks of JSON, and of actions.
@@ -165,4 +168,39 @@ fn replays_logs(rt: HostRuntime) -> Result<(), Fail> {
 #[test]
 fn monitors_logs(rt: HostRuntime) -> Result<(), Fail> {
     expect_rows(&rt, rt.alloc(), MONITORS, First::All)
+}
+
+/// A text of a log, and the text as it is written.
+const WRITTEN: [(&str, &str); 4] = [
+    ("{\"end\":\"done after 0\"}", "{\"end\":\"done after 0\"}\n"),
+    (
+        "{\"act\":\"tick(5)\",\"who\":0}\n{\"act\":\"reset\",\"who\":1}\n{\"end\":\"done after 2\"}\n",
+        "{\"act\":\"tick(5)\",\"who\":0}\n{\"act\":\"reset\",\"who\":1}\n{\"end\":\"done after 2\"}\n",
+    ),
+    (
+        " { \"who\" : 12, \"act\" : \"put( -007,true )\" }\n{\"end\":\"done after 1\"}",
+        "{\"act\":\"put(-7, true)\",\"who\":12}\n{\"end\":\"done after 1\"}\n",
+    ),
+    (
+        "{\"act\":\"up\",\"who\":0}\n{\"end\":\"fault 1 in component 2 at 0\"}\n",
+        "{\"act\":\"up\",\"who\":0}\n{\"end\":\"fault 1 in component 2 at 0\"}\n",
+    ),
+];
+
+// What is written of the log that is read from a text.
+fn rewritten(alloc: Global, types: &Types, text: &str) -> Result<Vec<u8>, LogErr> {
+    let log = read_log(alloc, types, &mut Counted::new(text.as_bytes()))?;
+    let mut output = Counted::new(Vec::new(alloc));
+    write_log(alloc, types, &log, &mut output)?;
+    Ok(output.into_inner())
+}
+
+#[test]
+fn writes_logs(rt: HostRuntime) -> Result<(), Fail> {
+    let types = basic(rt.alloc())?;
+    for (text, wanted) in WRITTEN {
+        let written = rewritten(rt.alloc(), &types, text)?;
+        assert!(rt; written.as_slice() == wanted.as_bytes(), "{text}");
+    }
+    Ok(())
 }

@@ -7,7 +7,6 @@ use crate::tests::tables::{column, columns, is_row};
 use ioa_log::{Counted, InputDevice, OutputDevice};
 use ioa_value::{Declarations, OutOfMemory, Types};
 use std::alloc::Global;
-use std::io::Write;
 use std::process::Abort;
 use std::test::Fail;
 
@@ -75,7 +74,7 @@ pub struct Ran {
 }
 
 /// Runs the program on devices, and answers its exit status.
-pub fn run_on<R: InputDevice, W: OutputDevice, E: Write>(
+pub fn run_on<R: InputDevice, W: OutputDevice, E: OutputDevice>(
     alloc: Global,
     given: &Given<'_>,
     input: &mut R,
@@ -97,11 +96,11 @@ pub fn run_on<R: InputDevice, W: OutputDevice, E: Write>(
 pub fn run(alloc: Global, given: &Given<'_>) -> Result<Ran, Fail> {
     let mut input = Counted::new(given.list.as_bytes());
     let mut output = Counted::new(Vec::new(alloc));
-    let mut errors = Vec::new(alloc);
+    let mut errors = Counted::new(Vec::new(alloc));
     let status = run_on(alloc, given, &mut input, &mut output, &mut errors)?;
     Ok(Ran {
         output: output.into_inner(),
-        errors,
+        errors: errors.into_inner(),
         status,
     })
 }
@@ -138,6 +137,8 @@ pub enum First<'a> {
     Words(&'a str),
     /// The words after the program's name, and a file.
     Request,
+    /// A file to check.
+    Check,
     /// The words after the program's name, a file, and standard input.
     All,
 }
@@ -151,6 +152,7 @@ fn given_in<'a>(first: First<'a>, columns: &'a [String]) -> (Given<'a>, usize) {
         First::File => (REPLAY, one, two, 2),
         First::Words(file) => (one, file, two, 2),
         First::Request => (one, two, "", 2),
+        First::Check => ("check f", one, "", 1),
         First::All => (one, two, column(columns, 2), 3),
     };
     (Given { words, file, list }, count)

@@ -116,12 +116,12 @@ fn replayed(alloc: Global, given: &Given<'_>, reads: u64, writes: u64) -> Result
         held: Vec::new(alloc),
         left: writes,
     });
-    let mut errors = Vec::new(alloc);
+    let mut errors = Counted::new(Vec::new(alloc));
     let status = run_on(alloc, given, &mut input, &mut output, &mut errors)?;
     let failures = input.failures().saturating_add(output.failures());
     let ran = Ran {
         output: output.into_inner().held,
-        errors,
+        errors: errors.into_inner(),
         status,
     };
     Ok((ran, failures))
@@ -180,7 +180,13 @@ fn silenced(alloc: Global, words: &str) -> Result<u8, Fail> {
     };
     let mut input = Counted::new(given.list.as_bytes());
     let mut output = Counted::new(Full);
-    run_on(alloc, &given, &mut input, &mut output, &mut Full)
+    run_on(
+        alloc,
+        &given,
+        &mut input,
+        &mut output,
+        &mut Counted::new(Full),
+    )
 }
 
 #[test]

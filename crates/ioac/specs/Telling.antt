@@ -1,0 +1,63 @@
+-- What is told on standard error. Of a device it is said what it holds before and after, and whether it failed.
+use Rattle.std.specs.Prelude.{◌≡◌, ℕ, ◌⊎◌, ◌++◌, ◌∷◌, [], List, Option, Some, None, take, codes}
+use Rattle.std.specs.Io.KnownBytes.{Appends}
+use Rattle.std.specs.List.{join_by}
+use Rattle.clap.specs.Words.{Row, Text, first_of}
+use Rattle.ioac.specs.declared.failure.Failure.{Failure}
+use Rattle.ioac.specs.declared.status.Status.{Status}
+use Rattle.ioac.specs.Codes.{all_codes, spelling}
+use Rattle.ioac.specs.Printed.{failure_text}
+use Rattle.ioac.specs.Statuses.{failure_status}
+
+-- the device failed, and has taken no more than a beginning of the text
+abbrev pub IsCut : List ℕ → Option (List ℕ) → Option (List ℕ) → Type 0 → Type 0
+IsCut text before after failed = failed × ((k : ℕ) × Appends before after (take k text))
+
+-- the text is told, and the status is the one that is wanted; or the device failed
+abbrev pub IsPut : List ℕ → Status → Option (List ℕ) → Option (List ℕ) → Type 0 → Status → Type 0
+IsPut text wanted before after failed status =
+    ((status ≡ wanted) × Appends before after text) ⊎ ((status ≡ Status.Broken) × IsCut text before after failed)
+
+-- a growth of memory was refused, which is told
+abbrev pub IsShort : Option (List ℕ) → Option (List ℕ) → Type 0 → Status → Type 0
+IsShort before after failed status = IsPut (codes "memory\n") Status.Broken before after failed status
+
+-- the text is told, or that memory was short to write it
+abbrev pub IsTold : List ℕ → Status → Option (List ℕ) → Option (List ℕ) → Type 0 → Status → Type 0
+IsTold text wanted before after failed status = IsPut text wanted before after failed status ⊎ IsShort before after failed status
+
+-- the failure's text is told, on a line
+abbrev pub IsReported : Failure → Option (List ℕ) → Option (List ℕ) → Type 0 → Status → Type 0
+IsReported e before after failed status = IsTold (failure_text e ++ 10 ∷ []) (failure_status e) before after failed status
+
+-- the end of what is told of a command line
+abbrev pub try_help : List ℕ
+try_help = codes "\n\nFor more information, try '--help'.\n"
+
+-- of words that are no text
+abbrev pub unreadable_text : List ℕ
+unreadable_text = codes "error: the command line is not UTF-8" ++ try_help
+
+-- all codes, parted by commas
+abbrev pub known_codes : List ℕ
+known_codes = join_by spelling (codes ", ") all_codes
+
+-- of a word that is none of those that are listed
+abbrev pub unknown_code_text : Text → List ℕ → List ℕ
+unknown_code_text word listed =
+    codes "error: invalid value '" ++ (word ++ (codes "' for '<CODE>'\n  [possible values: " ++ (listed ++ (codes "]" ++ try_help))))
+
+-- of invariants that are asked for without a log
+abbrev pub missing_log_text : List ℕ
+missing_log_text =
+    codes "error: the following required arguments were not provided:\n  --log\n\nUsage: ioac replay --log --invariants <FILE>" ++ try_help
+
+-- the word that a subcommand has for a code, if it has one
+abbrev pub given_code : Option (Text × List Row) → Option Text
+given_code None = None
+given_code (Some found) = first_of (codes "CODE") found.1
+
+-- of a command line without a fault that asks for nothing, by the word that it has for a code
+abbrev pub unasked_text : Option Text → List ℕ
+unasked_text None = missing_log_text
+unasked_text (Some word) = unknown_code_text word known_codes

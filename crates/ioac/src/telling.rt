@@ -1,0 +1,65 @@
+ghost use Rattle.std.specs.Prelude.{◌≡◌, ◌≢◌, ◌++◌, ◌∷◌, [], IfOk};
+ghost use Rattle.std.specs.IoError.{error_kind};
+ghost use Rattle.std.specs.String.{string_bytes};
+ghost use Rattle.ioa_log.specs.Failing.{HasFailed};
+ghost use Rattle.ioac.specs.Printed.{failure_text};
+ghost use Rattle.ioac.specs.Telling.{IsPut, IsReported, IsShort, unreadable_text};
+ghost use Rattle.ioac.specs.declared.status.Status.TheVariants as statuses;
+
+use crate::failure::Failure;
+use crate::status::Status;
+use ioa_log::{OutputDevice, send_all};
+use std::alloc::{AllocError, Global};
+use std::io;
+use std::io::ErrorKind;
+
+/// Writes a text on standard error, and answers this exit status, or that of `Broken` where the device failed.
+pub fn put<E: OutputDevice>(text: &str, wanted: Status, errors: &mut E) -> Status
+    ensures { IsPut text.now wanted (E.contents errors.old) (E.contents errors.new) (HasFailed (E.failure_count errors.old) (E.failure_count errors.new)) result }
+{
+    match send_all(errors, text.as_bytes()) {
+        Ok(()) => wanted,
+        Err(_) => Status::Broken,
+    }
+}
+
+/// Tells that a growth of memory was refused, which wants none, and answers the exit status.
+pub fn put_short<E: OutputDevice>(errors: &mut E) -> Status
+    ensures { IsShort (E.contents errors.old) (E.contents errors.new) (HasFailed (E.failure_count errors.old) (E.failure_count errors.new)) result }
+{
+    put("memory\n", Status::Broken, errors)
+}
+
+/// Tells why nothing was served, and answers the exit status.
+pub fn reported<E: OutputDevice>(alloc: Global, failure: &Failure, errors: &mut E) -> Status
+    ensures { IsReported failure.now (E.contents errors.old) (E.contents errors.new) (HasFailed (E.failure_count errors.old) (E.failure_count errors.new)) result }
+{
+    match failure_line(alloc, failure) {
+        Ok(line) => put(line.as_str(), failure.status(), errors),
+        Err(AllocError) => put_short(errors),
+    }
+}
+
+/// A line with a failure.
+fn failure_line(alloc: Global, failure: &Failure) -> Result<String, AllocError>
+    ensures { IfOk result (λ line. string_bytes line ≡ failure_text failure.now ++ 10 ∷ []) }
+{
+    format!(in alloc; "{failure}\n")
+}
+
+/// Tells that the words of the command line could not be had, and answers the exit status: one of them is no UTF-8, or memory was short.
+pub fn told_unread<E: OutputDevice>(error: &io::Error, errors: &mut E) -> Status
+    ensures short { error_kind error.now ≡ ErrorKind.OutOfMemory
+        → IsShort (E.contents errors.old) (E.contents errors.new) (HasFailed (E.failure_count errors.old) (E.failure_count errors.new)) result }
+    ensures unreadable { error_kind error.now ≢ ErrorKind.OutOfMemory → IsPut unreadable_text statuses.BadCommandLine
+        (E.contents errors.old) (E.contents errors.new) (HasFailed (E.failure_count errors.old) (E.failure_count errors.new)) result }
+{
+    if error.kind() == ErrorKind::OutOfMemory {
+        return put_short(errors);
+    }
+    put(
+        "error: the command line is not UTF-8\n\nFor more information, try '--help'.\n",
+        Status::BadCommandLine,
+        errors,
+    )
+}
