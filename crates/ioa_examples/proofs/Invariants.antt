@@ -10,7 +10,8 @@ use Rattle.ioa_value.specs.declared.terminal.Terminal.TheVariants as terminals
 use Rattle.ioa_lex.specs.Tokens as tokens
 use Rattle.ioa_lex.specs.Tokens.{Tok, terminal}
 use Rattle.ioa_tree.specs.declared.tree.Infix.TheVariants.{Operator}
-use Rattle.ioa_grammar.specs.declared.fault.Fault.TheVariants.{Syntax, TooDeep}
+use Rattle.ioa_lex.specs.declared.refusal.Refusal.TheVariants as refusals
+use Rattle.ioa_examples.proofs.Shown.{shown}
 use Rattle.ioa_tree.specs.Tree.{Expr, number, truth, named, parens, binary, InvariantTree, automaton, composition, invariant, DeclarationTree, SourceTree}
 use Rattle.ioa_tree.specs.Depth.{deep}
 use Rattle.ioa_grammar.specs.Grammar.{SpellsInvariant}
@@ -63,20 +64,20 @@ unfolding declaration about_machines an_invariant perhaps sign a_name sees after
 leaves_the_second = refl
 
 -- `invariant Counter` is refused at the name, `invariant of :` at `:`, and without a condition at the end
-wants_of : read (called (codes "Counter") ∷ []) ≡ Err (Syntax 1)
+wants_of : shown (read (called (codes "Counter") ∷ [])) ≡ Err (refusals.Syntax 1)
 unfolding declaration about_machines an_invariant perhaps sign a_name sees after same_terminal
 wants_of = refl
 
-wants_a_name : read (word terminals.Of ∷ word terminals.Colon ∷ []) ≡ Err (Syntax 1)
+wants_a_name : shown (read (word terminals.Of ∷ word terminals.Colon ∷ [])) ≡ Err (refusals.Syntax 1)
 unfolding declaration about_machines an_invariant perhaps sign a_name sees after same_terminal
 wants_a_name = refl
 
-wants_a_condition : read (word terminals.Of ∷ called (codes "Counter") ∷ word terminals.Colon ∷ []) ≡ Err (Syntax 0)
+wants_a_condition : shown (read (word terminals.Of ∷ called (codes "Counter") ∷ word terminals.Colon ∷ [])) ≡ Err (refusals.Syntax 0)
 unfolding declaration about_machines an_invariant perhaps sign a_name sees after same_terminal expression expr first operand primary start_at start_of prefix_at prefix_of terminal_at
 wants_a_condition = refl
 
 -- what begins no declaration is refused at its first token
-wants_a_declaration : declaration 6 (spelled []) ≡ Err (Syntax 6)
+wants_a_declaration : shown (declaration 6 (spelled [])) ≡ Err (refusals.Syntax 6)
 unfolding declaration about_machines machine composed sign sees after same_terminal
 wants_a_declaration = refl
 
@@ -156,7 +157,7 @@ goes_as_deep : read_nested 63 ≡ Ok (of_counter (nested 63), [])
 unfolding an_invariant perhaps sign a_name sees after same_terminal expression expr first operand fields_from after_name primary start_at start_of around_of enclosed closing climb operator_at operator_of prefix_at prefix_of terminal_at
 goes_as_deep = refl
 
-goes_too_deep : read_nested 64 ≡ Err TooDeep
+goes_too_deep : shown (read_nested 64) ≡ Err (refusals.TooDeep 0)
 unfolding an_invariant perhaps sign a_name sees after same_terminal expression expr first operand fields_from after_name primary start_at start_of around_of enclosed closing climb operator_at operator_of prefix_at prefix_of terminal_at
 goes_too_deep = refl
 

@@ -1,4 +1,5 @@
 pub mod LimitNumbers
+pub mod Shown
 pub mod ValueTexts
 pub mod SequenceOperators
 pub mod Positions

@@ -6,7 +6,8 @@ use Rattle.ioa_value.specs.Plain.{Val, num}
 use Rattle.ioa_value.specs.Plain.{truth as truth_value}
 use Rattle.ioa_value.specs.declared.operator.Op.TheVariants.{Neg, Add, Sub, Mul, Div, Mod, Lt, Gt, Not, Eq}
 use Rattle.ioa_tree.specs.declared.tree.Infix.TheVariants.{Operator, And, Or, Implies}
-use Rattle.ioa_grammar.specs.declared.fault.Fault.TheVariants.{Syntax, TooDeep}
+use Rattle.ioa_lex.specs.declared.refusal.Refusal.TheVariants as refusals
+use Rattle.ioa_examples.proofs.Shown.{shown}
 use Rattle.ioa_tree.specs.declared.tree.Kind.TheVariants.{Input, Output}
 use Rattle.ioa_tree.specs.Tree.{Expr, number, truth, named, prefix, binary, FieldTree, typed, EntryTree, VariableTree, ProposalTree, TransitionTree, assign, choose, Stmts, stop, seq, no_arm, arm, AutomatonTree, InstanceTree, CompositionTree, automaton, composition, SourceTree}
 use Rattle.ioa_tree.specs.Meaning.{Env}
@@ -349,7 +350,7 @@ unfolding expression expr first prefix_at prefix_of operand primary after_name f
 denies_first = refl
 
 -- 1 = ~ true is no expression: the sign ~ has no place there
-denies_no_operand : read (n 1 ∷ word terminals.Equal ∷ word terminals.Not ∷ word terminals.True ∷ []) ≡ Err (Syntax 2)
+denies_no_operand : shown (read (n 1 ∷ word terminals.Equal ∷ word terminals.Not ∷ word terminals.True ∷ [])) ≡ Err (refusals.Syntax 2)
 unfolding expression expr first prefix_at prefix_of operand primary after_name fields_from sees after start_at start_of climb operator_at operator_of terminal_at same_terminal
 denies_no_operand = refl
 
@@ -382,17 +383,17 @@ unfolding statements statement in_sequence terminated items_from sees_statement 
 chooses = refl
 
 -- an arm has statements
-chooses_nothing : statements 3 (word terminals.If ∷ tested (word terminals.Fi ∷ [])) ≡ Err (Syntax 1)
+chooses_nothing : shown (statements 3 (word terminals.If ∷ tested (word terminals.Fi ∷ []))) ≡ Err (refusals.Syntax 1)
 unfolding statements statement in_sequence terminated items_from sees_statement sees_name sees after choice an_arm more_arms many many_from introduced assignment sign a_name expression expr first prefix_at prefix_of operand primary after_name fields_from start_at start_of climb operator_at operator_of terminal_at same_terminal
 chooses_nothing = refl
 
 -- a choice ends with `fi`
-never_ends : statements 3 (word terminals.If ∷ tested (setting 1 [])) ≡ Err (Syntax 0)
+never_ends : shown (statements 3 (word terminals.If ∷ tested (setting 1 []))) ≡ Err (refusals.Syntax 0)
 unfolding statements statement in_sequence terminated items_from sees_statement sees_name sees after choice an_arm more_arms many many_from introduced assignment sign a_name expression expr first prefix_at prefix_of operand primary after_name fields_from start_at start_of climb operator_at operator_of terminal_at same_terminal
 never_ends = refl
 
 -- an assignment in a choice is two levels deep
-chooses_too_deep : statements 1 (word terminals.If ∷ tested (setting 1 (word terminals.Fi ∷ []))) ≡ Err TooDeep
+chooses_too_deep : shown (statements 1 (word terminals.If ∷ tested (setting 1 (word terminals.Fi ∷ [])))) ≡ Err (refusals.TooDeep 0)
 unfolding statements statement in_sequence terminated items_from sees_statement sees_name sees after choice an_arm more_arms many many_from introduced assignment sign a_name expression expr first prefix_at prefix_of operand primary after_name fields_from start_at start_of climb operator_at operator_of terminal_at same_terminal
 chooses_too_deep = refl
 

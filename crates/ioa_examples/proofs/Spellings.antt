@@ -9,7 +9,8 @@ use Rattle.ioa_lex.specs.Tokens as tokens
 use Rattle.ioa_lex.specs.Tokens.{Tok, terminal}
 use Rattle.ioa_tree.specs.declared.tree.Infix.TheVariants.{Operator, And}
 use Rattle.ioa_tree.specs.declared.tree.Kind.TheVariants.{Input}
-use Rattle.ioa_grammar.specs.declared.fault.Fault.TheVariants.{Syntax, TooDeep}
+use Rattle.ioa_lex.specs.declared.refusal.Refusal.TheVariants as refusals
+use Rattle.ioa_examples.proofs.Shown.{shown}
 use Rattle.ioa_tree.specs.Tree.{Expr, number, truth, named, parens, prefix, binary, empty, make, select, no_expr, also, positive, negative, truth_literal, reference, PositionTree, typed, only, EntryTree, VariableTree, CrashTree, InstanceTree, CompositionTree, FormTree, enumeration, tuple, sequence, TypeTree, declared_type, composition}
 use Rattle.ioa_tree.specs.Depth.{depth_of}
 use Rattle.ioa_grammar.specs.Grammar.{SpellsExpr, SpellsPosition, SpellsVariable, SpellsHidden, SpellsInstance}
@@ -82,27 +83,27 @@ unfolding expression expr first prefix_at prefix_of operand primary after_name f
 denies_a_member = refl
 
 -- append(s) is refused at `)`
-wants_two : read (word terminals.Append ∷ within (called (codes "s") ∷ [])) ≡ Err (Syntax 1)
+wants_two : shown (read (word terminals.Append ∷ within (called (codes "s") ∷ []))) ≡ Err (refusals.Syntax 1)
 unfolding expression expr first prefix_at prefix_of operand primary after_name fields_from after start_at start_of around_of around around_two enclosed closing climb operator_at operator_of terminal_at same_terminal sign sees
 wants_two = refl
 
 -- len(x, s) is refused at `,`
-wants_one : read (word terminals.Len ∷ within (called (codes "x") ∷ word terminals.Comma ∷ called (codes "s") ∷ [])) ≡ Err (Syntax 3)
+wants_one : shown (read (word terminals.Len ∷ within (called (codes "x") ∷ word terminals.Comma ∷ called (codes "s") ∷ []))) ≡ Err (refusals.Syntax 3)
 unfolding expression expr first prefix_at prefix_of operand primary after_name fields_from after start_at start_of around_of around around_one enclosed closing climb operator_at operator_of terminal_at same_terminal sign sees
 wants_one = refl
 
 -- len() is refused at `)`
-wants_any : read (word terminals.Len ∷ within []) ≡ Err (Syntax 1)
+wants_any : shown (read (word terminals.Len ∷ within [])) ≡ Err (refusals.Syntax 1)
 unfolding expression expr first prefix_at prefix_of operand primary after_name fields_from after start_at start_of around_of around around_one enclosed closing terminal_at same_terminal sign sees
 wants_any = refl
 
 -- len s is refused at s
-wants_parentheses : read (word terminals.Len ∷ called (codes "s") ∷ []) ≡ Err (Syntax 1)
+wants_parentheses : shown (read (word terminals.Len ∷ called (codes "s") ∷ [])) ≡ Err (refusals.Syntax 1)
 unfolding expression expr first prefix_at prefix_of operand primary after_name fields_from after start_at start_of around_of around around_one enclosed terminal_at same_terminal sign sees
 wants_parentheses = refl
 
 -- empty(1) is refused at 1
-wants_a_name : read (word terminals.Empty ∷ within (n 1 ∷ [])) ≡ Err (Syntax 2)
+wants_a_name : shown (read (word terminals.Empty ∷ within (n 1 ∷ []))) ≡ Err (refusals.Syntax 2)
 unfolding expression expr first prefix_at prefix_of operand primary after_name fields_from after start_at start_of an_empty enclosed closing a_name terminal_at same_terminal sign sees
 wants_a_name = refl
 
@@ -152,20 +153,20 @@ unfolding expression expr first prefix_at prefix_of operand primary start_at sta
 makes_of_tuples = refl
 
 -- P() is refused at `)`, and so is P(1,)
-wants_a_field : read (called (codes "P") ∷ within []) ≡ Err (Syntax 1)
+wants_a_field : shown (read (called (codes "P") ∷ within [])) ≡ Err (refusals.Syntax 1)
 unfolding expression expr first prefix_at prefix_of operand primary start_at start_of around_of after_name fields_from sees after a_name separated items_from sign closing climb operator_at operator_of terminal_at same_terminal
 wants_a_field = refl
 
-wants_another_field : read (called (codes "P") ∷ within (n 1 ∷ word terminals.Comma ∷ [])) ≡ Err (Syntax 1)
+wants_another_field : shown (read (called (codes "P") ∷ within (n 1 ∷ word terminals.Comma ∷ []))) ≡ Err (refusals.Syntax 1)
 unfolding expression expr first prefix_at prefix_of operand primary start_at start_of around_of after_name fields_from sees after a_name separated items_from sign closing climb operator_at operator_of terminal_at same_terminal
 wants_another_field = refl
 
 -- x. is refused at the end, and x.(a) at `(`
-wants_a_field_name : read (called (codes "x") ∷ word terminals.Dot ∷ []) ≡ Err (Syntax 0)
+wants_a_field_name : shown (read (called (codes "x") ∷ word terminals.Dot ∷ [])) ≡ Err (refusals.Syntax 0)
 unfolding expression expr first prefix_at prefix_of operand primary start_at start_of after_name fields_from sees after a_name separated items_from sign closing climb operator_at operator_of terminal_at same_terminal
 wants_a_field_name = refl
 
-takes_no_parentheses : read (called (codes "x") ∷ word terminals.Dot ∷ within (called (codes "a") ∷ [])) ≡ Err (Syntax 3)
+takes_no_parentheses : shown (read (called (codes "x") ∷ word terminals.Dot ∷ within (called (codes "a") ∷ []))) ≡ Err (refusals.Syntax 3)
 unfolding expression expr first prefix_at prefix_of operand primary start_at start_of after_name fields_from sees after a_name separated items_from sign closing climb operator_at operator_of terminal_at same_terminal
 takes_no_parentheses = refl
 
@@ -186,7 +187,7 @@ calls_no_field = refl
 deepens_by_fields : depth_of (select (select x (codes "a")) (codes "b")) ≡ 3
 deepens_by_fields = refl
 
-fields_go_too_deep : expression 2 (called (codes "x") ∷ (dot (codes "a") ++ dot (codes "b"))) ≡ Err TooDeep
+fields_go_too_deep : shown (expression 2 (called (codes "x") ∷ (dot (codes "a") ++ dot (codes "b")))) ≡ Err (refusals.TooDeep 0)
 unfolding expression expr first prefix_at prefix_of operand primary start_at start_of after_name fields_from sees after a_name separated items_from sign closing climb operator_at operator_of terminal_at same_terminal
 fields_go_too_deep = refl
 
@@ -200,7 +201,7 @@ fields_go_as_deep = refl
 goes_deeper : depth_of (prefix Len (prefix Len s)) ≡ 3
 goes_deeper = refl
 
-goes_too_deep : expression 2 (word terminals.Len ∷ within (word terminals.Len ∷ within (called (codes "s") ∷ []))) ≡ Err TooDeep
+goes_too_deep : shown (expression 2 (word terminals.Len ∷ within (word terminals.Len ∷ within (called (codes "s") ∷ [])))) ≡ Err (refusals.TooDeep 0)
 unfolding expression expr first prefix_at prefix_of operand primary after_name fields_from after start_at start_of around_of around around_one enclosed closing terminal_at same_terminal sign sees
 goes_too_deep = refl
 
@@ -290,29 +291,29 @@ unfolding a_type type_form compound_form sequence_form a_sequence a_number sees 
 declares_items = refl
 
 -- enum { } and tuple { } are refused at `}`, and so is a comma before it
-wants_names : declares (word terminals.Enum ∷ braces []) ≡ Err (Syntax 1)
+wants_names : shown (declares (word terminals.Enum ∷ braces [])) ≡ Err (refusals.Syntax 1)
 unfolding a_type type_form an_enumeration braced separated items_from sees after sign a_name same_terminal
 wants_names = refl
 
-wants_fields : declares (word terminals.Tuple ∷ braces []) ≡ Err (Syntax 1)
+wants_fields : shown (declares (word terminals.Tuple ∷ braces [])) ≡ Err (refusals.Syntax 1)
 unfolding a_type type_form compound_form a_tuple field braced separated items_from sees after sign a_name same_terminal
 wants_fields = refl
 
-ends_with_a_name : declares (word terminals.Enum ∷ braces (called (codes "data") ∷ word terminals.Comma ∷ [])) ≡ Err (Syntax 1)
+ends_with_a_name : shown (declares (word terminals.Enum ∷ braces (called (codes "data") ∷ word terminals.Comma ∷ []))) ≡ Err (refusals.Syntax 1)
 unfolding a_type type_form an_enumeration braced separated items_from sees after sign a_name same_terminal
 ends_with_a_name = refl
 
 -- seq 16 Int is refused at Int, and seq of Int at `of`
-wants_of : declares (word terminals.Seq ∷ n 16 ∷ called (codes "Int") ∷ []) ≡ Err (Syntax 1)
+wants_of : shown (declares (word terminals.Seq ∷ n 16 ∷ called (codes "Int") ∷ [])) ≡ Err (refusals.Syntax 1)
 unfolding a_type type_form compound_form sequence_form a_sequence a_number sees after sign a_name same_terminal
 wants_of = refl
 
-wants_a_number : declares (word terminals.Seq ∷ word terminals.Of ∷ called (codes "Int") ∷ []) ≡ Err (Syntax 2)
+wants_a_number : shown (declares (word terminals.Seq ∷ word terminals.Of ∷ called (codes "Int") ∷ [])) ≡ Err (refusals.Syntax 2)
 unfolding a_type type_form compound_form sequence_form a_sequence a_number sees after sign a_name same_terminal
 wants_a_number = refl
 
 -- type T = Int is refused at Int
-wants_a_form : declares (called (codes "Int") ∷ []) ≡ Err (Syntax 1)
+wants_a_form : shown (declares (called (codes "Int") ∷ [])) ≡ Err (refusals.Syntax 1)
 unfolding a_type type_form compound_form sequence_form sees after sign a_name same_terminal
 wants_a_form = refl
 
@@ -346,15 +347,15 @@ unfolding entry a_kind kind_at kind_of terminal_at optional_list positions posit
 takes_constants = refl
 
 -- put(const) is refused at `)`, put(const -a) at a, and put(const a: Int) at `:`
-wants_a_constant : enters (const ∷ []) ≡ Err (Syntax 1)
+wants_a_constant : shown (enters (const ∷ [])) ≡ Err (refusals.Syntax 1)
 unfolding entry a_kind kind_at kind_of terminal_at optional_list positions position field a_constant literal literal_at literal_of closing separated items_from sees after sign a_name a_number same_terminal
 wants_a_constant = refl
 
-wants_digits : enters (const ∷ word terminals.Minus ∷ called (codes "a") ∷ []) ≡ Err (Syntax 2)
+wants_digits : shown (enters (const ∷ word terminals.Minus ∷ called (codes "a") ∷ [])) ≡ Err (refusals.Syntax 2)
 unfolding entry a_kind kind_at kind_of terminal_at optional_list positions position field a_constant literal literal_at literal_of closing separated items_from sees after sign a_name a_number same_terminal
 wants_digits = refl
 
-wants_no_type : enters (const ∷ field_a) ≡ Err (Syntax 3)
+wants_no_type : shown (enters (const ∷ field_a)) ≡ Err (refusals.Syntax 3)
 unfolding entry a_kind kind_at kind_of terminal_at optional_list positions position field a_constant literal literal_at literal_of closing separated items_from sees after sign a_name a_number same_terminal
 wants_no_type = refl
 
@@ -385,11 +386,11 @@ unfolding a_composition instances instance terminated optional_list optional hid
 ends_with_a_semicolon = refl
 
 -- `hidden` alone is refused at the end, and so is a comma there
-wants_a_hidden_name : composes [] ≡ Err (Syntax 0)
+wants_a_hidden_name : shown (composes []) ≡ Err (refusals.Syntax 0)
 unfolding a_composition instances instance terminated optional_list optional hidden_names perhaps separated items_from sees_name sees after sign a_name same_terminal
 wants_a_hidden_name = refl
 
-wants_another_name : composes (a_and_b ++ comma ∷ []) ≡ Err (Syntax 0)
+wants_another_name : shown (composes (a_and_b ++ comma ∷ [])) ≡ Err (refusals.Syntax 0)
 unfolding a_composition instances instance terminated optional_list optional hidden_names perhaps separated items_from sees_name sees after sign a_name same_terminal
 wants_another_name = refl
 
@@ -432,11 +433,11 @@ unfolding variables variable flag sees_variable field optional terminated items_
 ends_the_variables = refl
 
 -- `stable` alone is refused at the end, and twice at the second
-wants_a_variable : variables 6 (stable ∷ []) ≡ Err (Syntax 0)
+wants_a_variable : shown (variables 6 (stable ∷ [])) ≡ Err (refusals.Syntax 0)
 unfolding variables variable flag field terminated items_from sees after sign a_name same_terminal
 wants_a_variable = refl
 
-keeps_once : variables 6 (stable ∷ stable ∷ field_a) ≡ Err (Syntax 4)
+keeps_once : shown (variables 6 (stable ∷ stable ∷ field_a)) ≡ Err (refusals.Syntax 4)
 unfolding variables variable flag field terminated items_from sees after sign a_name same_terminal
 keeps_once = refl
 
@@ -485,15 +486,15 @@ unfolding instances instance terminated items_from optional_list optional a_cras
 crashes_among_components = refl
 
 -- `crash` is refused at the end, and so is `crash down`; `crash down up` is at the second name
-wants_a_crash : stands (word terminals.Crash ∷ []) ≡ Err (Syntax 0)
+wants_a_crash : shown (stands (word terminals.Crash ∷ [])) ≡ Err (refusals.Syntax 0)
 unfolding instance optional_list optional a_crash sees after sign a_name same_terminal
 wants_a_crash = refl
 
-wants_recover : stands (word terminals.Crash ∷ called (codes "down") ∷ []) ≡ Err (Syntax 0)
+wants_recover : shown (stands (word terminals.Crash ∷ called (codes "down") ∷ [])) ≡ Err (refusals.Syntax 0)
 unfolding instance optional_list optional a_crash sees after sign a_name same_terminal
 wants_recover = refl
 
-wants_the_word_recover : stands (word terminals.Crash ∷ called (codes "down") ∷ called (codes "up") ∷ []) ≡ Err (Syntax 1)
+wants_the_word_recover : shown (stands (word terminals.Crash ∷ called (codes "down") ∷ called (codes "up") ∷ [])) ≡ Err (refusals.Syntax 1)
 unfolding instance optional_list optional a_crash sees after sign a_name same_terminal
 wants_the_word_recover = refl
 
