@@ -130,8 +130,8 @@ fn is_answered_so(
     }
 }
 
-// Whether a pair is made of its fields, and these are had from it again.
-fn are_pairs(alloc: Global, types: &Types) -> Result<bool, OutOfMemory> {
+// Whether a pair is made of its fields.
+fn is_pair(alloc: Global, types: &Types) -> Result<bool, OutOfMemory> {
     if Op::Make(PAIR).arity(types) != 2 {
         return Ok(false);
     }
@@ -141,9 +141,7 @@ fn are_pairs(alloc: Global, types: &Types) -> Result<bool, OutOfMemory> {
         Op::Make(PAIR),
         &[Value::Num(5), Value::Num(6)],
     )?;
-    let pair = Value::Tuple(PAIR, numbers(alloc, &[5, 6])?);
-    let second = apply(alloc, types, Op::Field(1), &[pair])?;
-    Ok(is_given(alloc, &made, Given::Pair(&[5, 6]))? && is_given(alloc, &second, Given::Number(6))?)
+    is_given(alloc, &made, Given::Pair(&[5, 6]))
 }
 
 #[test]
@@ -154,6 +152,6 @@ fn operators_take_sequences_and_tuples(rt: HostRuntime) -> Result<(), Fail> {
         let is_so = is_answered_so(rt.alloc(), types, *op, *items, *other, *wanted)?;
         assert!(rt; is_so, "{items:?} {other}");
     }
-    assert!(rt; are_pairs(rt.alloc(), types)?);
+    assert!(rt; is_pair(rt.alloc(), types)?);
     Ok(())
 }
