@@ -14,10 +14,11 @@ use Rattle.ioa_value.specs.Plain.{Val}
 use Rattle.ioa_value.specs.Table.{Table, AreTypes, place_from, type_named, field_place}
 use Rattle.ioa_value.specs.Typing.{HasType, HaveTypes, own}
 use Rattle.ioa_value.proofs.OperatorTyping.{takes_all}
-use Rattle.ioa_value.proofs.TypingLemmas.{own_type, alike_own, is_truth, HaveTypes-length, HaveTypes-get, HaveTypes-set}
+use Rattle.ioa_value.proofs.TypingLemmas.{own_type, alike_own, is_truth, HaveTypes-length, HaveTypes-owns, HaveTypes-get, HaveTypes-set}
 use Rattle.ioa_code.specs.declared.instr.Instr.{Instr}
 use Rattle.ioa_code.specs.declared.instr.Instr.TheVariants.{Const, Slot, Arg, Store, Jump, JumpIfFalse, Apply}
-use Rattle.ioa_code.specs.Machine.{Listing, State, state, End, fault, Move, goes, over, stuck, act, next, pushed, replaced, stored, decided, branched, answered, fetched, move, After, Ends}
+use Rattle.ioa_code.specs.Machine.{Listing, State, state, End, fault, Move, goes, over, stuck, act, next, pushed, replaced, stored, decided, branched, answered, applied, fetched, move, After, Ends}
+use Rattle.ioa_code.proofs.Applied.{applied_is}
 use Rattle.ioa_code.proofs.Lists.{on_top-append}
 use Rattle.ioa_node.specs.Runs.{no_words}
 use Rattle.ioa_tree.specs.declared.tree.Infix.{Infix}
@@ -84,10 +85,12 @@ module _ (code : Listing) (s : Scope) (args : List Val) where
   after_comes x y q stack slots (faults f) c r = breaks_after x y f c r
   after_comes x y q stack slots nothing c r = tt
 
-  then_reaches : (x : State) (m q : ℕ) (below stack slots : List Val) (a : Answer) (go : Val → Answer) → Reaches x m below slots a → ((v : Val) → Reaches (on m (below ++ v ∷ []) slots) q stack slots (go v)) → Reaches x q stack slots (then_value a go)
-  then_reaches x m q below stack slots (gives v) go r k = after_comes x (on m (below ++ v ∷ []) slots) q stack slots (go v) r (k v)
-  then_reaches x m q below stack slots (faults f) go r k = r
-  then_reaches x m q below stack slots nothing go r k = tt
+  -- a value of this type, and what is done with it
+  then_reaches : (types : Table) (x : State) (m q ty : ℕ) (below stack slots : List Val) (a : Answer) (go : Val → Answer) → IsTypedAnswer types ty a → Reaches x m below slots a → ((v : Val) → HasType types v ty → Reaches (on m (below ++ v ∷ []) slots) q stack slots (go v)) → Reaches x q stack slots (then_value a go)
+  then_reaches types x m q ty below stack slots (gives v) go t r k =
+      after_comes x (on m (below ++ v ∷ []) slots) q stack slots (go v) r (k v t)
+  then_reaches types x m q ty below stack slots (faults f) go t r k = r
+  then_reaches types x m q ty below stack slots nothing go t r k = tt
 
   ends_fault : (p : ℕ) (stack slots : List Val) (f : Fault) → move code (on p stack slots) ≡ over (fault f 0) → Ends code 1 (on p stack slots) (fault f 0)
   ends_fault p stack slots f e =
@@ -167,22 +170,25 @@ module _ (code : Listing) (s : Scope) (args : List Val) where
   Agrees types env slots = (x : Name) → or_else (env x) (constant types x) ≡ at (λ v. v) (origin s x) slots s.arguments args
 
   module _ (types : Table) (same_types : code.types ≡ types) (own_types : s.types ≡ types) where
-    -- an operator that takes operands of as many types
-    apply_reaches : (p : ℕ) (stack operands slots : List Val) (op : Op) (tys : List ℕ) (ty : ℕ) → op_type types op tys ≡ Some ty → length operands ≡ length tys → At code p (Apply op) → Reaches (on p (stack ++ operands) slots) (p + 1) stack slots (operate types op operands)
+    -- an operator that takes operands of these types
+    apply_reaches : (p : ℕ) (stack operands slots : List Val) (op : Op) (tys : List ℕ) (ty : ℕ) → op_type types op tys ≡ Some ty → HaveTypes types operands tys → At code p (Apply op) → Reaches (on p (stack ++ operands) slots) (p + 1) stack slots (operate types op operands)
     apply_reaches p stack operands slots op tys ty t e h =
-        let takes : length operands ≡ arity code.types op = e ∙ sym (takes_all types op tys ty t) ∙ ap (λ l. arity l op) (sym same_types) in
-        let here : Reaches (on p (stack ++ operands) slots) (p + 1) stack slots (operate code.types op operands) =
-        answer_reaches p (stack ++ operands) stack slots (operate code.types op operands) (slice_get_within code.instrs p (Apply op) h)
-        (moves p (stack ++ operands) slots (Apply op) _ h (on_top-append (arity code.types op) stack operands stuck (λ below top. answered (operate code.types op top) (on p (stack ++ operands) slots) below) takes)) in
-        subst (λ t. Reaches (on p (stack ++ operands) slots) (p + 1) stack slots (operate t op operands)) same_types here
+        let takes : length operands ≡ arity code.types op = HaveTypes-length types operands tys e ∙ sym (takes_all types op tys ty t) ∙ ap (λ l. arity l op) (sym same_types) in
+        let owns = HaveTypes-owns types operands tys e in
+        let is : applied code.types op operands ≡ operate types op operands =
+        ap (λ l. applied l op operands) same_types ∙ applied_is types op operands ty (ap (op_type types op) owns.0 ∙ t) in
+        let here : Reaches (on p (stack ++ operands) slots) (p + 1) stack slots (applied code.types op operands) =
+        answer_reaches p (stack ++ operands) stack slots (applied code.types op operands) (slice_get_within code.instrs p (Apply op) h)
+        (moves p (stack ++ operands) slots (Apply op) _ h (on_top-append (arity code.types op) stack operands stuck (λ below top. answered (applied code.types op top) (on p (stack ++ operands) slots) below) takes)) in
+        subst (Reaches (on p (stack ++ operands) slots) (p + 1) stack slots) is here
 
-    module _ (Second : Stretch) (p q : ℕ) (stack slots : List Val) (x : Val) (answer : Answer) (a b ty : ℕ) (second : (m n : ℕ) (under : List Val) → Second m n → Reaches (on m under slots) n under slots answer) (second_on : (m n : ℕ) → Second m n → m ≤ n) where
+    module _ (Second : Stretch) (p q : ℕ) (stack slots : List Val) (x : Val) (answer : Answer) (a b ty : ℕ) (typed : HasType types x a) (answers : IsTypedAnswer types b answer) (second : (m n : ℕ) (under : List Val) → Second m n → Reaches (on m under slots) n under slots answer) (second_on : (m n : ℕ) → Second m n → m ≤ n) where
       combines_reaches : (o : Infix) → infix_type types o (a ∷ b ∷ []) ≡ Some ty → Combines code o Second p q → Reaches (on p (stack ++ x ∷ []) slots) q stack slots (combined types o x answer)
       combines_reaches (Operator o) t h =
           let go : Val → Answer = λ y. operate types o (x ∷ y ∷ []) in
           subst (λ k. Reaches (on p (stack ++ x ∷ []) slots) k stack slots (then_value answer go)) (sym h.3)
-          (then_reaches (on p (stack ++ x ∷ []) slots) h.0 (h.0 + 1) (stack ++ x ∷ []) stack slots answer go (second p h.0 (stack ++ x ∷ []) h.1)
-          (λ y. subst (λ l. Reaches (on h.0 l slots) (h.0 + 1) stack slots (go y)) (sym (append_assoc stack (x ∷ []) (y ∷ []))) (apply_reaches h.0 stack (x ∷ y ∷ []) slots o (a ∷ b ∷ []) ty t refl h.2)))
+          (then_reaches types (on p (stack ++ x ∷ []) slots) h.0 (h.0 + 1) b (stack ++ x ∷ []) stack slots answer go answers (second p h.0 (stack ++ x ∷ []) h.1)
+          (λ y k. subst (λ l. Reaches (on h.0 l slots) (h.0 + 1) stack slots (go y)) (sym (append_assoc stack (x ∷ []) (y ∷ []))) (apply_reaches h.0 stack (x ∷ y ∷ []) slots o (a ∷ b ∷ []) ty t (typed, (k, tt)) h.2)))
       combines_reaches And t h =
           chooses_reaches Second (PushesTruth code false) p q stack slots answer (gives (plain.truth false)) (λ m n k. second m n stack k) (truth_reaches false stack slots) second_on (truth_on false) h x
       combines_reaches Or t h =
@@ -195,11 +201,8 @@ module _ (code : Listing) (s : Scope) (args : List Val) where
 
     -- where each name of a context stands for a value of its type
     module _ (declared : AreTypes types) (c : Context) (own_context : s.context ≡ c) (env : Env) (suits : Suits types c env) (slots : List Val) (agrees : Agrees types env slots) where
-      -- a value of this type, and what is done with it
-      typed_reaches : (x : State) (m q ty : ℕ) (stack : List Val) (a : Answer) (go : Val → Answer) → IsTypedAnswer types ty a → Reaches x m stack slots a → ((v : Val) → HasType types v ty → Reaches (on m (stack ++ v ∷ []) slots) q stack slots (go v)) → Reaches x q stack slots (then_value a go)
-      typed_reaches x m q ty stack (gives v) go t r k = after_comes x (on m (stack ++ v ∷ []) slots) q stack slots (go v) r (k v t)
-      typed_reaches x m q ty stack (faults f) go t r k = r
-      typed_reaches x m q ty stack nothing go t r k = tt
+      answers_typed : (e : Expr) (ty : ℕ) → type_of types types c e ≡ Some ty → IsTypedAnswer types ty (val types e env)
+      answers_typed e ty t = val_typed types declared c env e ty suits t
 
       mutual
         pub expr_runs : (e : Expr) (ty p q : ℕ) (stack : List Val) → type_of types types c e ≡ Some ty → HasExpr code s e p q → Reaches (on p stack slots) q stack slots (val types e env)
@@ -213,13 +216,13 @@ module _ (code : Listing) (s : Scope) (args : List Val) where
             let operand = type_of_one (type_of types types c e) (op_type types o) ty t in
             let go : Val → Answer = λ x. operate types o (x ∷ []) in
             subst (λ k. Reaches (on p stack slots) k stack slots (then_value (val types e env) go)) (sym h.3)
-            (then_reaches (on p stack slots) h.0 (h.0 + 1) stack stack slots (val types e env) go (expr_runs e operand.0 p h.0 stack operand.1 h.1)
-            (λ x. apply_reaches h.0 stack (x ∷ []) slots o (operand.0 ∷ []) ty operand.2 refl h.2))
+            (then_reaches types (on p stack slots) h.0 (h.0 + 1) operand.0 stack stack slots (val types e env) go (answers_typed e operand.0 operand.1) (expr_runs e operand.0 p h.0 stack operand.1 h.1)
+            (λ x k. apply_reaches h.0 stack (x ∷ []) slots o (operand.0 ∷ []) ty operand.2 (k, tt) h.2))
         expr_runs (binary l o r) ty p q stack t h =
             let both = types_of_both (type_of types types c l) (type_of types types c r) (infix_type types o) ty t in
             let go : Val → Answer = λ x. combined types o x (val types r env) in
-            then_reaches (on p stack slots) h.0 q stack stack slots (val types l env) go (expr_runs l both.0 p h.0 stack both.2 h.1)
-            (λ x. combines_reaches (HasExpr code s r) h.0 q stack slots x (val types r env) both.0 both.1 ty (λ m n under k. expr_runs r both.1 m n under both.3 k) (expr_on r) o both.4 h.2)
+            then_reaches types (on p stack slots) h.0 q both.0 stack stack slots (val types l env) go (answers_typed l both.0 both.2) (expr_runs l both.0 p h.0 stack both.2 h.1)
+            (λ x typed. combines_reaches (HasExpr code s r) h.0 q stack slots x (val types r env) both.0 both.1 ty typed (answers_typed r both.1 both.3) (λ m n under k. expr_runs r both.1 m n under both.3 k) (expr_on r) o both.4 h.2)
         expr_runs (empty x) ty p q stack t h =
             let there : empty_of types x ≡ Some h.0 = ap (λ l. empty_of l x) (sym own_types) ∙ h.1 in
             subst (λ o. Reaches (on p stack slots) q stack slots (value_of o)) (sym there)
@@ -233,7 +236,7 @@ module _ (code : Listing) (s : Scope) (args : List Val) where
             let takes = subst (λ n. op_type types (Make (record { 0 = n })) parts.1 ≡ Some ty) same parts.4 in
             subst (λ k. Reaches (on p stack slots) k stack slots (then_all types es env (made types x))) (sym h.2.3)
             (exprs_run es parts.1 p end (end + 1) stack stack (made types x) parts.3 h.2.1
-            (λ vs long. subst (Reaches (on end (stack ++ vs) slots) (end + 1) stack slots) (sym (made_is types x h.0 vs named)) (apply_reaches end stack vs slots (Make (record { 0 = h.0 })) parts.1 ty takes long h.2.2)))
+            (λ vs typed. subst (Reaches (on end (stack ++ vs) slots) (end + 1) stack slots) (sym (made_is types x h.0 vs named)) (apply_reaches end stack vs slots (Make (record { 0 = h.0 })) parts.1 ty takes typed h.2.2)))
         expr_runs (select e x) ty p q stack t h =
             let parts = of_select types c e x ty t in
             let end = h.2.0 in
@@ -242,21 +245,21 @@ module _ (code : Listing) (s : Scope) (args : List Val) where
             let same : parts.1 ≡ h.0 = cc in
             let takes = subst (λ j. op_type types (Field j) (parts.0 ∷ []) ≡ Some ty) same parts.4 in
             subst (λ k. Reaches (on p stack slots) k stack slots (then_value (val types e env) (selected types x))) (sym h.2.3)
-            (typed_reaches (on p stack slots) end (end + 1) parts.0 stack (val types e env) (selected types x) (val_typed types declared c env e parts.0 suits parts.2) (expr_runs e parts.0 p end stack parts.2 h.2.1)
-            (λ v typed. subst (Reaches (on end (stack ++ v ∷ []) slots) (end + 1) stack slots) (sym (selected_is types x v parts.0 h.0 (own_type types v parts.0 typed) place)) (apply_reaches end stack (v ∷ []) slots (Field h.0) (parts.0 ∷ []) ty takes refl h.2.2)))
+            (then_reaches types (on p stack slots) end (end + 1) parts.0 stack stack slots (val types e env) (selected types x) (answers_typed e parts.0 parts.2) (expr_runs e parts.0 p end stack parts.2 h.2.1)
+            (λ v typed. subst (Reaches (on end (stack ++ v ∷ []) slots) (end + 1) stack slots) (sym (selected_is types x v parts.0 h.0 (own_type types v parts.0 typed) place)) (apply_reaches end stack (v ∷ []) slots (Field h.0) (parts.0 ∷ []) ty takes (typed, tt) h.2.2)))
 
         -- the machine pushes the values of expressions one after another, above what is under them
-        exprs_run : (es : Exprs) (tys : List ℕ) (p m q : ℕ) (under stack : List Val) (go : List Val → Answer) → types_of_all types types c es ≡ Some tys → HasExprs code s es p m → ((vs : List Val) → length vs ≡ length tys → Reaches (on m (under ++ vs) slots) q stack slots (go vs)) → Reaches (on p under slots) q stack slots (then_all types es env go)
+        exprs_run : (es : Exprs) (tys : List ℕ) (p m q : ℕ) (under stack : List Val) (go : List Val → Answer) → types_of_all types types c es ≡ Some tys → HasExprs code s es p m → ((vs : List Val) → HaveTypes types vs tys → Reaches (on m (under ++ vs) slots) q stack slots (go vs)) → Reaches (on p under slots) q stack slots (then_all types es env go)
         exprs_run no_expr tys p m q under stack go t h k =
             let is : [] ≡ tys = cc in
             subst (λ l. Reaches (on p l slots) q stack slots (go [])) (append-nil under)
-            (subst (λ n. Reaches (on n (under ++ []) slots) q stack slots (go [])) h (k [] (ap length is)))
+            (subst (λ n. Reaches (on n (under ++ []) slots) q stack slots (go [])) h (k [] (subst (HaveTypes types []) is tt)))
         exprs_run (also e es) tys p m q under stack go t h k =
             let parts = types_of_row (type_of types types c e) (types_of_all types types c es) tys t in
             let more : Val → Answer = λ v. then_all types es env (λ vs. go (v ∷ vs)) in
-            then_reaches (on p under slots) h.0 q under stack slots (val types e env) more (expr_runs e parts.0 p h.0 under parts.2 h.1)
-            (λ v. exprs_run es parts.1 h.0 m q (under ++ v ∷ []) stack (λ vs. go (v ∷ vs)) parts.3 h.2
-            (λ vs long. subst (λ l. Reaches (on m l slots) q stack slots (go (v ∷ vs))) (sym (append_assoc under (v ∷ []) vs)) (k (v ∷ vs) (ap suc long ∙ ap length parts.4))))
+            then_reaches types (on p under slots) h.0 q parts.0 under stack slots (val types e env) more (answers_typed e parts.0 parts.2) (expr_runs e parts.0 p h.0 under parts.2 h.1)
+            (λ v first. exprs_run es parts.1 h.0 m q (under ++ v ∷ []) stack (λ vs. go (v ∷ vs)) parts.3 h.2
+            (λ vs rest. subst (λ l. Reaches (on m l slots) q stack slots (go (v ∷ vs))) (sym (append_assoc under (v ∷ []) vs)) (k (v ∷ vs) (subst (HaveTypes types (v ∷ vs)) parts.4 (first, rest)))))
 
   -- ---- statements, where the code is typed
 
