@@ -2,6 +2,7 @@ pub mod LimitNumbers
 pub mod Shown
 pub mod ValueTexts
 pub mod SequenceOperators
+pub mod Operands
 pub mod Positions
 pub mod SmallSources
 pub mod DeclaredTypes

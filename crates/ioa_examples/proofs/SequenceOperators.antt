@@ -10,7 +10,7 @@ use Rattle.ioa_value.specs.Table.{Table, fields, sequence, basic, field_place}
 use Rattle.ioa_value.specs.Operators.{Answer, gives, faults, nothing, operate, op_type, arity}
 
 -- sequences of at most three numbers, type 2 and again type 3, and pairs of such a sequence and a truth value, type 4
-abbrev table : Table
+abbrev pub table : Table
 table =
     basic
     ++ record { name = codes "S"; shape = sequence 3 1 }
@@ -22,13 +22,13 @@ abbrev numbers_of : List ℕ → List Val
 numbers_of ns = map (λ n. num (pos n)) ns
 
 -- `S[n, ..]`
-abbrev S : List ℕ → Val
+abbrev pub S : List ℕ → Val
 S ns = items 2 (vals (numbers_of ns))
 
-abbrev n : ℕ → Val
+abbrev pub n : ℕ → Val
 n k = num (pos k)
 
-abbrev ty : ℕ → Ty
+abbrev pub ty : ℕ → Ty
 ty k = record { 0 = k }
 
 abbrev of : Op → List Val → Answer
