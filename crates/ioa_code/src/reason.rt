@@ -12,7 +12,7 @@ pub(crate) enum Reason {
     NotAllowed,
     /// The stack is too short.
     TooShort,
-    /// An operand has another type.
+    /// An operand has another type, or the values of a type are not counted.
     Mistyped,
     /// A way leads back, or past the end.
     NotForward,
