@@ -1,5 +1,5 @@
 -- What is fine over the types that are declared before is fine over all types.
-use Rattle.std.proofs.Common.{◌≡◌, inl, inr, ℕ, ◌+◌, Bool, true, false, cond, not, ◌&&◌, ◌||◌, ◌++◌, List, [], ◌∷◌, map, Option, Some, None, is_some, option_and_then, refl, sym, ap, ◌∙◌}
+use Rattle.std.proofs.Common.{◌≡◌, inl, inr, ℕ, ◌+◌, ◌==◌, Bool, true, false, cond, not, ◌&&◌, ◌||◌, ◌++◌, List, [], ◌∷◌, map, Option, Some, None, is_some, option_and_then, refl, sym, ap, ◌∙◌}
 use Rattle.std.specs.Prelude.{slice_get}
 use Rattle.std.specs.List.{list_any, list_all}
 use Rattle.std.specs.Option.{option_map, option_map_or, option_or}
@@ -12,10 +12,10 @@ use Rattle.ioa_value.specs.declared.operator.Op.TheVariants.{Make}
 use Rattle.ioa_value.specs.Operators.{op_type}
 use Rattle.ioa_value.specs.Table.{Table, Declaration, Shape, names_in, shape_at, item_of, item_type, place_from, type_named, constant_from, constant_named}
 use Rattle.ioa_value.proofs.ItemLemmas.{get_append}
-use Rattle.ioa_tree.specs.Tree.{Expr, number, truth, named, parens, prefix, binary, empty, make, select, Exprs, no_expr, also, FieldTree, ConstantTree, positive, negative, truth_literal, reference, PositionTree, typed, only, EntryTree, VariableTree, ProposalTree, Stmt, assign, choose, Stmts, stop, seq, Arms, no_arm, arm, TransitionTree, AutomatonTree, InstanceTree, CompositionTree, SourceTree}
+use Rattle.ioa_tree.specs.Tree.{Expr, number, truth, named, parens, prefix, binary, empty, make, select, Exprs, no_expr, also, FieldTree, ConstantTree, positive, negative, truth_literal, reference, PositionTree, typed, only, EntryTree, VariableTree, ChoiceTree, exactly, any_below, ProposalTree, Stmt, assign, choose, Stmts, stop, seq, Arms, no_arm, arm, TransitionTree, AutomatonTree, InstanceTree, CompositionTree, SourceTree}
 use Rattle.ioa_tree.specs.Meaning.{or_else}
 use Rattle.ioa_tree.specs.Types.{sequence_named, constant_type}
-use Rattle.ioa_tree.specs.WellFormed.{Context, type_in, type_of, types_of_all, one_type, both_types, infix_type, made_type, selected_type, is_some_of, same_type, has_ty, contains, distinct, apart, is_type, typed_field, context_of, position_fields, constant_fine, position_fine, parameter_names, variable_fields, is_input, is_numbered, is_tried, formals, held, scope, local_names, fields_fine, start_fine, entry_fine, matches, one_to_one, pre_fine, proposal_fine, proposals_fine, all_proposed, stmt_fine, stmts_fine, arms_fine, input_fine, transition_fine, automaton_fine, is_automaton_of, instance_fine, composition_fine}
+use Rattle.ioa_tree.specs.WellFormed.{Context, type_in, type_of, types_of_all, one_type, both_types, infix_type, made_type, selected_type, is_some_of, same_type, has_ty, contains, distinct, apart, is_type, typed_field, context_of, position_fields, constant_fine, position_fine, parameter_names, variable_fields, is_input, is_numbered, is_tried, formals, held, scope, local_names, fields_fine, start_fine, entry_fine, matches, one_to_one, pre_fine, choice_fine, proposal_fine, proposals_fine, all_proposed, stmt_fine, stmts_fine, arms_fine, input_fine, transition_fine, automaton_fine, is_automaton_of, instance_fine, composition_fine}
 use Rattle.ioa_tree.proofs.ValTyped.{types_of_both, types_of_row, type_of_one}
 use Rattle.ioa_tree.proofs.EffectTyped.{some_type}
 use Rattle.ioa_tree.proofs.FineParts.{FineParts, fine_parts, EntryParts, entry_parts}
@@ -292,9 +292,17 @@ module _ (types early : Table) (begins : Begins early types) where
             and_from (has_ty types types (scope types types globals a e) c 0) inner (condition_stays c p.0)
             (and_from (stmts_fine types types globals a e ss) (arms_fine types types globals a e more) (stmts_stay ss q.0) (arms_stay more q.1))
 
+      choice_stays : (c : ChoiceTree) (ty : ℕ) → Implies (choice_fine types early globals a c ty) (choice_fine types types globals a c ty)
+      choice_stays (exactly v) ty = has_ty_there (held types early globals a) (held types types globals a) held_stays v ty
+      choice_stays (any_below v) ty =
+          and_implies (ty == 1) (has_ty types early (held types early globals a) v 1) (ty == 1) (has_ty types types (held types types globals a) v 1)
+          (λ h. h) (has_ty_there (held types early globals a) (held types types globals a) held_stays v 1)
+
       proposal_stays : (p : ProposalTree) → Implies (proposal_fine types early globals a e p) (proposal_fine types types globals a e p)
-      proposal_stays p =
-          placed_stays (held types early globals a) (held types types globals a) held_stays (position_fields e.positions) positions_stay p.name p.value
+      proposal_stays p h =
+          ap (λ k. option_map_or (choice_fine types types globals a p.choice) (type_in k p.name) false) positions_stay
+          ∙ some_implies (choice_fine types early globals a p.choice) (choice_fine types types globals a p.choice) false
+          (type_in (context_of early (position_fields e.positions)) p.name) (choice_stays p.choice) h
 
       proposals_stay : (r : TransitionTree) → Implies (proposals_fine types early globals a e r) (proposals_fine types types globals a e r)
       proposals_stay r =

@@ -1,7 +1,7 @@
 -- How deep trees are: parentheses, operators, tuples and fields are one deeper than the deepest part, and so is a choice than the deepest
 -- statement in it.
 use Rattle.std.specs.Prelude.{ℕ, ◌+◌, max, List, [], ◌∷◌, Option, Some, None}
-use Rattle.ioa_tree.specs.Tree.{Expr, number, truth, named, parens, prefix, binary, empty, make, select, Exprs, no_expr, also, VariableTree, ProposalTree, Stmt, assign, choose, Stmts, stop, seq, Arms, no_arm, arm, TransitionTree, AutomatonTree, InstanceTree, CompositionTree, DeclarationTree, declared_type, automaton, composition, invariant, SourceTree}
+use Rattle.ioa_tree.specs.Tree.{Expr, number, truth, named, parens, prefix, binary, empty, make, select, Exprs, no_expr, also, VariableTree, expr_in, ProposalTree, Stmt, assign, choose, Stmts, stop, seq, Arms, no_arm, arm, TransitionTree, AutomatonTree, InstanceTree, CompositionTree, DeclarationTree, declared_type, automaton, composition, invariant, SourceTree}
 
 abbrev mutual
   pub depth_of : Expr → ℕ
@@ -33,7 +33,7 @@ abbrev pub deep_variable : VariableTree → ℕ
 deep_variable v = deep_option v.start
 
 abbrev pub deep_proposal : ProposalTree → ℕ
-deep_proposal p = depth_of p.value
+deep_proposal p = depth_of (expr_in p.choice)
 
 -- the deepest expression of statements
 abbrev mutual

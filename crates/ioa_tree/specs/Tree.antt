@@ -51,10 +51,20 @@ pub record VariableTree : Type 0 where
   pub field : FieldTree
   pub start : Option Expr
 
+-- what a proposal gives its parameter: the value of an expression, or any whole number from 0 that is below it
+pub data ChoiceTree : Type 0 where
+  exactly : Expr → ChoiceTree
+  any_below : Expr → ChoiceTree
+
+-- the expression that it asks for
+abbrev pub expr_in : ChoiceTree → Expr
+expr_in (exactly e) = e
+expr_in (any_below e) = e
+
 -- the value of a parameter to try
 pub record ProposalTree : Type 0 where
   pub name : Name
-  pub value : Expr
+  pub choice : ChoiceTree
 
 -- statements in sequence: each assigns a whole variable, or chooses by conditions, with statements for where none is true
 mutual

@@ -13,6 +13,8 @@ use Rattle.ioa_tree.specs.declared.tree.Position.{Position}
 use Rattle.ioa_tree.specs.declared.tree.Position.TheVariants as positions
 use Rattle.ioa_tree.specs.declared.tree.Entry.{Entry}
 use Rattle.ioa_tree.specs.declared.tree.Variable.{Variable}
+use Rattle.ioa_tree.specs.declared.tree.Choice.{Choice}
+use Rattle.ioa_tree.specs.declared.tree.Choice.TheVariants as choices
 use Rattle.ioa_tree.specs.declared.tree.Proposal.{Proposal}
 use Rattle.ioa_tree.specs.declared.tree.Statement.{Statement, Row_of-Statement, end_of-Statement, more_of-Statement}
 use Rattle.ioa_tree.specs.declared.tree.Statement.TheVariants.{Assign, If'}
@@ -29,7 +31,7 @@ use Rattle.ioa_tree.specs.declared.tree.TypeForm.TheVariants as forms
 use Rattle.ioa_tree.specs.declared.tree.TypeDeclaration.{TypeDeclaration}
 use Rattle.ioa_tree.specs.declared.tree.Declaration.{Declaration}
 use Rattle.ioa_tree.specs.declared.tree.Declaration.TheVariants as declarations
-use Rattle.ioa_tree.specs.Tree.{Expr, number, truth, named, parens, prefix, binary, empty, make, select, Exprs, no_expr, also, FieldTree, ConstantTree, positive, negative, truth_literal, reference, PositionTree, typed, only, EntryTree, VariableTree, ProposalTree, Stmt, assign, choose, Stmts, stop, seq, Arms, no_arm, arm, TransitionTree, AutomatonTree, CrashTree, InstanceTree, CompositionTree, InvariantTree, FormTree, enumeration, tuple, sequence, TypeTree, DeclarationTree, declared_type, automaton, composition, invariant, SourceTree}
+use Rattle.ioa_tree.specs.Tree.{Expr, number, truth, named, parens, prefix, binary, empty, make, select, Exprs, no_expr, also, FieldTree, ConstantTree, positive, negative, truth_literal, reference, PositionTree, typed, only, EntryTree, VariableTree, ChoiceTree, exactly, any_below, ProposalTree, Stmt, assign, choose, Stmts, stop, seq, Arms, no_arm, arm, TransitionTree, AutomatonTree, CrashTree, InstanceTree, CompositionTree, InvariantTree, FormTree, enumeration, tuple, sequence, TypeTree, DeclarationTree, declared_type, automaton, composition, invariant, SourceTree}
 
 abbrev pub name_of : Name → actions.Name
 name_of n = string_bytes n.text
@@ -93,8 +95,12 @@ entry_of e = record { kind = e.kind; name = name_of e.name; positions = map posi
 abbrev pub variable_of : Variable → VariableTree
 variable_of v = record { stable = v.stable; field = field_of v.field; start = option_map expr_of v.start }
 
+abbrev pub choice_of : Choice → ChoiceTree
+choice_of (choices.Value e) = exactly (expr_of e)
+choice_of (choices.Any e line) = any_below (expr_of e)
+
 abbrev pub proposal_of : Proposal → ProposalTree
-proposal_of p = record { name = name_of p.name; value = expr_of p.value }
+proposal_of p = record { name = name_of p.name; choice = choice_of p.choice }
 
 abbrev mutual
   pub stmt_of : Statement → Stmt

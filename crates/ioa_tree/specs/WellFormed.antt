@@ -15,7 +15,7 @@ use Rattle.ioa_tree.specs.declared.tree.Infix.{Infix}
 use Rattle.ioa_tree.specs.declared.tree.Infix.TheVariants.{Operator, And, Or, Implies}
 use Rattle.ioa_tree.specs.declared.tree.Kind.{Kind}
 use Rattle.ioa_tree.specs.declared.tree.Kind.TheVariants.{Input, Output, Internal}
-use Rattle.ioa_tree.specs.Tree.{Expr, number, truth, named, parens, prefix, binary, empty, make, select, Exprs, no_expr, also, FieldTree, ConstantTree, positive, negative, truth_literal, reference, PositionTree, typed, only, EntryTree, VariableTree, ProposalTree, Stmt, assign, choose, Stmts, stop, seq, Arms, no_arm, arm, TransitionTree, AutomatonTree, InstanceTree, CompositionTree, InvariantTree, FormTree, enumeration, tuple, sequence, TypeTree, DeclarationTree, declared_type, automaton, composition, invariant, SourceTree}
+use Rattle.ioa_tree.specs.Tree.{Expr, number, truth, named, parens, prefix, binary, empty, make, select, Exprs, no_expr, also, FieldTree, ConstantTree, positive, negative, truth_literal, reference, PositionTree, typed, only, EntryTree, VariableTree, ChoiceTree, exactly, any_below, expr_in, ProposalTree, Stmt, assign, choose, Stmts, stop, seq, Arms, no_arm, arm, TransitionTree, AutomatonTree, InstanceTree, CompositionTree, InvariantTree, FormTree, enumeration, tuple, sequence, TypeTree, DeclarationTree, declared_type, automaton, composition, invariant, SourceTree}
 use Rattle.ioa_tree.specs.Meaning.{or_else}
 use Rattle.ioa_tree.specs.Types.{types_of, sequence_named, constant_type}
 use Rattle.ioa_value.specs.declared.limits.Limits.{Limits}
@@ -214,9 +214,14 @@ module _ (t early : Table) (globals : List Name) (a : AutomatonTree) where
   abbrev pub pre_fine : EntryTree → TransitionTree → Bool
   pre_fine e r = option_map_or (λ p. has_ty t early (scope e) p 0) r.pre true
 
-  -- a proposal is for a parameter of the entry, of its type, over variables and formals
+  -- an expression over variables and formals has the type; any number below one stands for an Int alone, and so does the expression
+  abbrev pub choice_fine : ChoiceTree → ℕ → Bool
+  choice_fine (exactly e) ty = has_ty t early held e ty
+  choice_fine (any_below e) ty = ty == 1 && has_ty t early held e 1
+
+  -- a proposal is for a parameter of the entry, and of its type
   abbrev pub proposal_fine : EntryTree → ProposalTree → Bool
-  proposal_fine e p = option_map_or (λ ty. has_ty t early held p.value ty) (type_in (context_of early (position_fields e.positions)) p.name) false
+  proposal_fine e p = option_map_or (choice_fine p.choice) (type_in (context_of early (position_fields e.positions)) p.name) false
 
   abbrev pub proposals_fine : EntryTree → TransitionTree → Bool
   proposals_fine e r = list_all (proposal_fine e) r.proposals && distinct (map (λ p. p.name) r.proposals)
@@ -322,7 +327,7 @@ module _ (most : Limits) where
   pre_within r = option_map_or (λ p. nat_le (nodes p) most.nodes) r.pre true
 
   abbrev pub proposals_within : TransitionTree → Bool
-  proposals_within r = nat_le (sum (map (λ p. nodes p.value) r.proposals)) most.nodes
+  proposals_within r = nat_le (sum (map (λ p. nodes (expr_in p.choice)) r.proposals)) most.nodes
 
   abbrev pub effect_within : TransitionTree → Bool
   effect_within r = nat_le (stmts_nodes r.effect) most.nodes

@@ -5,7 +5,7 @@ ghost use Rattle.std.specs.Option.{option_map};
 ghost use Rattle.ioa_tree.specs.View.{expr_of, exprs_of, stmt_of, stmts_of, arm_of, arms_of};
 
 use crate::tree::{
-    Arm, Assembly, Automaton, Constant, Crash, Declaration, Entry, Expression, Field, Instance,
+    Arm, Assembly, Automaton, Choice, Constant, Crash, Declaration, Entry, Expression, Field, Instance,
     Invariant, Name, Position, Proposal, Statement, Transition, TypeDeclaration, TypeForm,
     Variable,
 };
@@ -190,6 +190,23 @@ impl Same for Variable {
     }
 }
 
+impl Same for Choice {
+    ghost use Rattle.ioa_tree.specs.Tree.{ChoiceTree};
+    ghost use Rattle.ioa_tree.specs.View.{choice_of};
+
+    ghost Tree = { ChoiceTree };
+
+    ghost tree = { choice_of };
+
+    fn same(&self, other: &Choice) -> bool {
+        match (self, other) {
+            (Choice::Value(a), Choice::Value(b)) => a.same(b),
+            (Choice::Any(a, _), Choice::Any(b, _)) => a.same(b),
+            _ => false,
+        }
+    }
+}
+
 impl Same for Proposal {
     ghost use Rattle.ioa_tree.specs.Tree.{ProposalTree};
     ghost use Rattle.ioa_tree.specs.View.{proposal_of};
@@ -199,7 +216,7 @@ impl Same for Proposal {
     ghost tree = { proposal_of };
 
     fn same(&self, other: &Proposal) -> bool {
-        self.name.same(&other.name) && self.value.same(&other.value)
+        self.name.same(&other.name) && self.choice.same(&other.choice)
     }
 }
 

@@ -1,5 +1,6 @@
 ghost use Rattle.std.specs.Prelude.{◌≡◌};
-ghost use Rattle.ioa_tree.specs.View.{first_line, constant_line};
+ghost use Rattle.ioa_tree.specs.Tree.{expr_in};
+ghost use Rattle.ioa_tree.specs.View.{first_line, constant_line, expr_of, choice_of};
 
 use ioa_value::Op;
 
@@ -126,11 +127,31 @@ pub struct Variable {
     pub start: Option<Expression>,
 }
 
+/// What a proposal gives its parameter.
+#[derive(Drop)]
+pub enum Choice {
+    /// The expression's value.
+    Value(Expression),
+    /// Any number from 0 that is below the expression's value. It keeps the line of `any`.
+    Any(Expression, u32),
+}
+
+impl Choice {
+    /// The expression that it asks for.
+    pub fn expression(&self) -> &Expression
+        ensures { expr_of result.now ≡ expr_in (choice_of self.now) }
+    {
+        match self {
+            Choice::Value(expression) | Choice::Any(expression, _) => expression,
+        }
+    }
+}
+
 /// Which value of a parameter to try.
 #[derive(Drop)]
 pub struct Proposal {
     pub name: Name,
-    pub value: Expression,
+    pub choice: Choice,
 }
 
 /// A statement of an effect.
