@@ -1,5 +1,5 @@
 -- Statements and arms, as lists and as trees of their own.
-use Rattle.std.proofs.Common.{◌≡◌, ℕ, ◌-◌, List, [], ◌∷◌, map, refl, sym, ap, ◌∙◌, rules, Vec, Global}
+use Rattle.std.proofs.Common.{◌≡◌, ℕ, List, [], ◌∷◌, map, refl, sym, ap, ◌∙◌, rules, Vec, Global}
 use Rattle.ioa_tree.specs.declared.tree.Statement.{Statement, Row_of-Statement, end_of-Statement, more_of-Statement, items-the_row-Statement}
 use Rattle.ioa_tree.specs.declared.tree.Statement.TheVariants.{If}
 use Rattle.ioa_tree.specs.declared.tree.Statement.TheViews.{the_lemmas}

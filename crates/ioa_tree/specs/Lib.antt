@@ -11,6 +11,7 @@ pub mod Steps
 pub mod Runs
 pub mod Likes
 pub mod Instances
+pub mod Proposing
 pub mod Domains
 pub mod WellFormed
 pub mod Answers

@@ -8,7 +8,7 @@ mod tree;
 pub use laws::{well_formed_starts, well_typed_answers};
 pub use sameness::{Same, same_list};
 pub use tree::{
-    Arm, Assembly, Automaton, Choice, Constant, Crash, Declaration, Entry, Expression, Field, Infix,
-    Instance, Invariant, Kind, Name, Position, Proposal, Statement, Transition, TypeDeclaration,
-    TypeForm, Variable,
+    Arm, Assembly, Automaton, Choice, Constant, Crash, Declaration, Entry, Expression, Field,
+    Infix, Instance, Invariant, Kind, Name, Position, Proposal, Statement, Transition,
+    TypeDeclaration, TypeForm, Variable,
 };

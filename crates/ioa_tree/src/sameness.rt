@@ -5,9 +5,9 @@ ghost use Rattle.std.specs.Option.{option_map};
 ghost use Rattle.ioa_tree.specs.View.{expr_of, exprs_of, stmt_of, stmts_of, arm_of, arms_of};
 
 use crate::tree::{
-    Arm, Assembly, Automaton, Choice, Constant, Crash, Declaration, Entry, Expression, Field, Instance,
-    Invariant, Name, Position, Proposal, Statement, Transition, TypeDeclaration, TypeForm,
-    Variable,
+    Arm, Assembly, Automaton, Choice, Constant, Crash, Declaration, Entry, Expression, Field,
+    Instance, Invariant, Name, Position, Proposal, Statement, Transition, TypeDeclaration,
+    TypeForm, Variable,
 };
 
 /// Values that stand for trees.
