@@ -1,5 +1,5 @@
 -- Each reader of a production against its language.
-use Rattle.std.proofs.Common.{◌≡◌, ℕ, ◌<◌, max, ◌||◌, ◌⊎◌, inl, inr, true, false, List, [], ◌∷◌, ◌++◌, length, refl, sym, ap, ◌∙◌, subst, arith, Option, Some, None, length-append, append_assoc, is_some}
+use Rattle.std.proofs.Common.{◌≡◌, ℕ, suc, ◌<◌, Bool, Ok, Err, max, ◌||◌, ◌⊎◌, inl, inr, true, false, List, [], ◌∷◌, ◌++◌, length, refl, sym, ap, ◌∙◌, subst, arith, Option, Some, None, length-append, append_assoc, is_some}
 use Rattle.ioa_value.specs.declared.terminal.Terminal.{Terminal}
 use Rattle.ioa_value.specs.declared.terminal.Terminal.TheVariants as terminals
 use Rattle.ioa_lex.specs.Tokens as tokens
@@ -7,21 +7,22 @@ use Rattle.ioa_lex.specs.Tokens.{Tok, terminal}
 use Rattle.ioa_value.specs.Actions.{Name}
 use Rattle.ioa_tree.specs.declared.tree.Kind.{Kind}
 use Rattle.ioa_tree.specs.declared.tree.Kind.TheVariants.{Input, Output, Internal}
-use Rattle.ioa_tree.specs.Tree.{Expr, FieldTree, ConstantTree, positive, negative, truth_literal, reference, PositionTree, typed, only, EntryTree, VariableTree, ProposalTree, Stmts, TransitionTree, CrashTree, InstanceTree, FormTree, enumeration, tuple, sequence}
+use Rattle.ioa_tree.specs.Tree.{Expr, FieldTree, ConstantTree, positive, negative, truth_literal, reference, PositionTree, typed, only, EntryTree, VariableTree, ChoiceTree, exactly, any_below, expr_in, ProposalTree, Stmts, TransitionTree, CrashTree, InstanceTree, FormTree, enumeration, tuple, sequence}
 use Rattle.ioa_tree.specs.Depth.{depth_of, deepest, deep_option, deep_variable, deep_proposal, deep_stmts, stmts_depth, deep_transition, deep_automaton, deep_instance, deep_composition}
+use Rattle.ioa_grammar.specs.declared.fault.Fault.TheVariants.{Syntax}
 use Rattle.ioa_grammar.specs.Grammar as grammar
-use Rattle.ioa_grammar.specs.Grammar.{Language, ◌▹◌, single, word, called, empty, kind_word, SpellsExpr, SpellsField, SpellsFields, SpellsConstant, SpellsPosition, SpellsPositions, SpellsEntry, SpellsVariable, SpellsProposal, SpellsAfter, SpellsTransition, SpellsAutomaton, SpellsArguments, SpellsCrash, SpellsInstance, SpellsInstances, SpellsHidden, SpellsComposition, SpellsForm, SpellsType, SpellsInvariant}
+use Rattle.ioa_grammar.specs.Grammar.{Language, ◌▹◌, single, word, called, empty, kind_word, SpellsExpr, SpellsField, SpellsFields, SpellsConstant, SpellsPosition, SpellsPositions, SpellsEntry, SpellsVariable, SpellsChoice, SpellsProposal, SpellsAfter, SpellsTransition, SpellsAutomaton, SpellsArguments, SpellsCrash, SpellsInstance, SpellsInstances, SpellsHidden, SpellsComposition, SpellsForm, SpellsType, SpellsInvariant}
 use Rattle.ioa_grammar.specs.Reading as reading
-use Rattle.ioa_grammar.specs.Reading.{taken, sees, sees_name, is_terminal, sees_statement, sees_kind, kind_at, kind_of, terminal_at, same_terminal, is_name, operator_of, field, fields, literal_of, literal_in, literal_at, literal, a_constant, position, positions, entry, entries, variable, sees_variable, variables, proposal, proposals, optional_list, introduced, statements, transition, transitions, an_automaton, arguments, a_crash, instance, instances, hidden_names, a_composition, rest, an_enumeration, a_tuple, a_sequence, sequence_form, compound_form, type_form, a_type, an_invariant}
+use Rattle.ioa_grammar.specs.Reading.{taken, sees, sees_name, is_terminal, sees_statement, sees_kind, kind_at, kind_of, terminal_at, same_terminal, is_name, operator_of, field, fields, literal_of, literal_in, literal_at, literal, a_constant, position, positions, entry, entries, variable, sees_variable, variables, a_choice, proposal, proposals, expression, expr, first, prefix_at, prefix_of, operand, primary, start_at, start_of, around_of, optional_list, introduced, statements, transition, transitions, an_automaton, arguments, a_crash, instance, instances, hidden_names, a_composition, rest, an_enumeration, a_tuple, a_sequence, sequence_form, compound_form, type_form, a_type, an_invariant}
 use Rattle.ioa_grammar.proofs.Outcomes.{LooksAhead, head_alike}
 use Rattle.ioa_grammar.proofs.Exact.{Exact, any, flat, deep_as, before, then, built_as, said_as}
-use Rattle.ioa_grammar.proofs.Singles.{sign_exact, name_exact, number_exact, kind_exact, kind_is, kind_alike, either_exact, token_of, perhaps_exact, flag_exact}
+use Rattle.ioa_grammar.proofs.Singles.{seen, sign_exact, name_exact, number_exact, kind_exact, kind_is, kind_alike, either_exact, token_of, perhaps_exact, flag_exact}
 use Rattle.ioa_grammar.proofs.Absent.{into_exact, Image, image_exact, deep_some, deep_some_flat, optional_exact, optional_list_exact}
 use Rattle.ioa_grammar.proofs.Lists.{terminated_exact, separated_exact, many_exact}
 use Rattle.ioa_grammar.proofs.FirstTokens.{first_some, leads, by_list, by_option, by_flag, by_two}
 use Rattle.ioa_grammar.proofs.ChoiceLemmas.{by_after, ends_semicolon}
 use Rattle.ioa_grammar.proofs.Levels.{after_word_exact}
-use Rattle.ioa_grammar.proofs.Enclosed.{closing_exact, braced_exact}
+use Rattle.ioa_grammar.proofs.Enclosed.{enclosed_exact, closing_exact, braced_exact}
 use Rattle.ioa_grammar.proofs.Endings.{Ends, ends_close, ends_comma, comma_close}
 use Rattle.ioa_grammar.proofs.Spelled.{expression_some}
 use Rattle.ioa_grammar.proofs.Deepening.{expression_exact}
@@ -274,15 +275,52 @@ variables_exact = terminated_exact sees_variable sees_variable_alike terminals.S
 
 -- ---- transitions
 
+-- no expression begins with `any`
+begins_none : (depth : ℕ) (z : List Tok) → expression (suc depth) (terminal terminals.Any ∷ z) ≡ Err (Syntax (length (terminal terminals.Any ∷ z)))
+unfolding expression expr first prefix_at prefix_of terminal_at operand primary start_at start_of around_of same_terminal
+begins_none depth z = refl
+
+without_any : (e : Expr) (ts left : List Tok) → SpellsExpr 0 e ts → Ends 0 left → sees terminals.Any (ts ++ left) ≡ false
+without_any e ts left s f = by (sees terminals.Any (ts ++ left)) refl
+  where
+    by : (v : Bool) → sees terminals.Any (ts ++ left) ≡ v → sees terminals.Any (ts ++ left) ≡ false
+    by true h =
+        let depth = depth_of e in
+        let read : expression (suc depth) (ts ++ left) ≡ Ok (e, left) = expression_exact.complete (suc depth) e ts left s (omega arith) f in
+        let none : expression (suc depth) (ts ++ left) ≡ Err (Syntax (length (terminal terminals.Any ∷ rest (ts ++ left)))) =
+        ap (expression (suc depth)) (seen terminals.Any (ts ++ left) h) ∙ begins_none depth (rest (ts ++ left)) in
+        absurd (cc)
+    by false h = h
+
+abbrev deep_choice : ChoiceTree → ℕ
+deep_choice c = depth_of (expr_in c)
+
+choice_exact : Exact SpellsChoice deep_choice (Ends 0) a_choice
+unfolding a_choice
+choice_exact =
+    said_as SpellsChoice of to
+    (either_exact terminals.Any (image_exact any_below deep_choice (λ e. refl) (enclosed_exact expression_exact (ends_close 0)))
+    (image_exact exactly deep_choice (λ e. refl) expression_exact) (Ends 0) (λ left f. tt) (λ left f. f) (λ c ts left s f. without_any s.0 ts left s.2 f))
+  where
+    of : (c : ChoiceTree) (ts : List Tok) → SpellsChoice c ts
+        → ((word terminals.Any ▹ Image any_below (λ e. grammar.enclosed (SpellsExpr 0 e)) c) ts) ⊎ Image exactly (SpellsExpr 0) c ts
+    of (exactly e) ts s = inr (e, refl, s)
+    of (any_below e) ts s = inl (s.0, s.1, s.2, (e, refl, s.3), s.4)
+
+    to : (c : ChoiceTree) (ts : List Tok)
+        → ((word terminals.Any ▹ Image any_below (λ e. grammar.enclosed (SpellsExpr 0 e)) c) ts) ⊎ Image exactly (SpellsExpr 0) c ts → SpellsChoice c ts
+    to c ts (inl s) = subst (λ c. SpellsChoice c ts) s.3.1 (s.0, s.1, s.2, s.3.2, s.4)
+    to c ts (inr s) = subst (λ c. SpellsChoice c ts) s.1 s.2
+
 pub proposal_exact : Exact SpellsProposal deep_proposal (Ends 0) proposal
 unfolding proposal
 proposal_exact =
     deep_as deep_proposal (λ p. omega arith)
-    (built_as (λ p. record { name = p.0; value = p.1.1 }) (λ q. (q.name, (tt, q.value))) (λ q. refl) (λ p. refl)
-    (then name_exact (then (sign_exact terminals.Becomes) expression_exact (λ y ts left s g. tt)) (λ y ts left s g. tt)))
+    (built_as (λ p. record { name = p.0; choice = p.1.1 }) (λ q. (q.name, (tt, q.choice))) (λ q. refl) (λ p. refl)
+    (then name_exact (then (sign_exact terminals.Becomes) choice_exact (λ y ts left s g. tt)) (λ y ts left s g. tt)))
 
 proposal_some : (q : ProposalTree) (ts : List Tok) → SpellsProposal q ts → 0 < length ts
-proposal_some q ts s = first_some (tokens.name q.name) (word terminals.Becomes ▹ SpellsExpr 0 q.value) ts s
+proposal_some q ts s = first_some (tokens.name q.name) (word terminals.Becomes ▹ SpellsChoice q.choice) ts s
 
 abbrev AfterProposals : Language
 AfterProposals left = Ends 0 left × (sees terminals.Comma left ≡ false)

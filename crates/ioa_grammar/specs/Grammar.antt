@@ -10,7 +10,7 @@ use Rattle.ioa_tree.specs.declared.tree.Kind.TheVariants.{Input, Output, Interna
 use Rattle.ioa_tree.specs.declared.tree.Infix.TheVariants.{Operator}
 use Rattle.ioa_grammar.specs.Operators.{stands_before, stands_between, encloses, level_of, left_of, right_of, operator_word, tightest}
 use Rattle.ioa_tree.specs.Tree as tree
-use Rattle.ioa_tree.specs.Tree.{Expr, number, truth, named, parens, prefix, binary, make, select, Exprs, no_expr, also, FieldTree, ConstantTree, positive, negative, truth_literal, reference, PositionTree, typed, only, EntryTree, VariableTree, ProposalTree, Stmt, assign, choose, Stmts, stop, seq, Arms, no_arm, arm, TransitionTree, AutomatonTree, CrashTree, InstanceTree, CompositionTree, InvariantTree, FormTree, enumeration, tuple, sequence, TypeTree, DeclarationTree, declared_type, automaton, composition, invariant, SourceTree}
+use Rattle.ioa_tree.specs.Tree.{Expr, number, truth, named, parens, prefix, binary, make, select, Exprs, no_expr, also, FieldTree, ConstantTree, positive, negative, truth_literal, reference, PositionTree, typed, only, EntryTree, VariableTree, ChoiceTree, exactly, any_below, ProposalTree, Stmt, assign, choose, Stmts, stop, seq, Arms, no_arm, arm, TransitionTree, AutomatonTree, CrashTree, InstanceTree, CompositionTree, InvariantTree, FormTree, enumeration, tuple, sequence, TypeTree, DeclarationTree, declared_type, automaton, composition, invariant, SourceTree}
 
 abbrev pub Language : Type 1
 Language = List Tok → Type 0
@@ -148,8 +148,12 @@ SpellsEntry e = word (kind_word e.kind) ▹ (called e.name ▹ optional_list ter
 abbrev pub SpellsVariable : VariableTree → Language
 SpellsVariable v = flagged terminals.Stable v.stable ▹ (SpellsField v.field ▹ optional terminals.Becomes (SpellsExpr 0) v.start)
 
+abbrev pub SpellsChoice : ChoiceTree → Language
+SpellsChoice (exactly e) = SpellsExpr 0 e
+SpellsChoice (any_below e) = word terminals.Any ▹ enclosed (SpellsExpr 0 e)
+
 abbrev pub SpellsProposal : ProposalTree → Language
-SpellsProposal p = called p.name ▹ (word terminals.Becomes ▹ SpellsExpr 0 p.value)
+SpellsProposal p = called p.name ▹ (word terminals.Becomes ▹ SpellsChoice p.choice)
 
 -- statements, with `;` between them and perhaps at the end
 abbrev mutual

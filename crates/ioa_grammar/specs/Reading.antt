@@ -17,7 +17,7 @@ use Rattle.ioa_grammar.specs.declared.fault.ReadError.TheVariants as errors
 use Rattle.ioa_tree.specs.declared.tree.Kind.{Kind}
 use Rattle.ioa_tree.specs.declared.tree.Kind.TheVariants as kinds
 use Rattle.ioa_tree.specs.Tree as tree
-use Rattle.ioa_tree.specs.Tree.{Expr, truth, named, parens, prefix, binary, make, select, Exprs, no_expr, also, FieldTree, ConstantTree, positive, negative, truth_literal, reference, PositionTree, typed, only, EntryTree, VariableTree, ProposalTree, Stmt, assign, choose, Stmts, stop, seq, Arms, no_arm, arm, TransitionTree, AutomatonTree, CrashTree, InstanceTree, CompositionTree, InvariantTree, FormTree, enumeration, tuple, TypeTree, DeclarationTree, declared_type, automaton, composition, invariant, SourceTree}
+use Rattle.ioa_tree.specs.Tree.{Expr, truth, named, parens, prefix, binary, make, select, Exprs, no_expr, also, FieldTree, ConstantTree, positive, negative, truth_literal, reference, PositionTree, typed, only, EntryTree, VariableTree, ChoiceTree, exactly, any_below, ProposalTree, Stmt, assign, choose, Stmts, stop, seq, Arms, no_arm, arm, TransitionTree, AutomatonTree, CrashTree, InstanceTree, CompositionTree, InvariantTree, FormTree, enumeration, tuple, TypeTree, DeclarationTree, declared_type, automaton, composition, invariant, SourceTree}
 use Rattle.ioa_tree.specs.Rows.{in_order, sequence, choices}
 use Rattle.ioa_tree.specs.Depth.{depth_of}
 use Rattle.ioa_tree.specs.declared.tree.Infix.{Infix}
@@ -390,8 +390,12 @@ sees_variable ts = sees_name ts || sees terminals.Stable ts
 unfoldable pub variables : ℕ → Reader (List VariableTree)
 variables depth = terminated sees_variable terminals.Semicolon (variable depth)
 
+unfoldable pub a_choice : ℕ → Reader ChoiceTree
+a_choice depth ts =
+    if sees terminals.Any ts then built any_below (enclosed (expression depth)) (after terminals.Any ts) else built exactly (expression depth) (after terminals.Any ts)
+
 unfoldable pub proposal : ℕ → Reader ProposalTree
-proposal depth = built (λ p. record { name = p.0; value = p.1.1 }) (a_name ▸ (sign terminals.Becomes ▸ expression depth))
+proposal depth = built (λ p. record { name = p.0; choice = p.1.1 }) (a_name ▸ (sign terminals.Becomes ▸ a_choice depth))
 
 unfoldable pub proposals : ℕ → Reader (List ProposalTree)
 proposals depth = separated terminals.Comma (proposal depth)

@@ -6,14 +6,14 @@ ghost use Rattle.std.specs.Option.{option_map};
 ghost use Rattle.ioa_lex.specs.Tokens.{tokens_shown};
 ghost use Rattle.ioa_grammar.specs.Reading as spec;
 ghost use Rattle.ioa_grammar.specs.Reading.{Reads};
-ghost use Rattle.ioa_tree.specs.View.{expr_of, proposal_of, stmts_of, transition_of};
+ghost use Rattle.ioa_tree.specs.View.{expr_of, choice_of, proposal_of, stmts_of, transition_of};
 
 use crate::cursor::Cursor;
 use crate::expressions::{MAX_DEPTH, whole_expression};
 use crate::fault::ReadError;
 use crate::statements::introduced;
 use ioa_lex::Terminal;
-use ioa_tree::{Expression, Proposal, Statement, Transition};
+use ioa_tree::{Choice, Expression, Proposal, Statement, Transition};
 
 #[tactic(auto, unfolding(crate::specs::Reading::optional))]
 fn precondition(cursor: &mut Cursor<'_>) -> Result<Option<Expression>, ReadError>
@@ -25,14 +25,29 @@ fn precondition(cursor: &mut Cursor<'_>) -> Result<Option<Expression>, ReadError
     Ok(Some(whole_expression(cursor)?))
 }
 
+/// An expression, or one between parentheses after the word `any`.
+#[tactic(auto, unfolding(crate::specs::Reading::a_choice, crate::specs::Reading::enclosed, crate::specs::Reading::closing))]
+fn choice(cursor: &mut Cursor<'_>) -> Result<Choice, ReadError>
+    ensures { Reads choice_of (spec.a_choice LIMITS.depth (tokens_shown cursor.old)) result (tokens_shown cursor.new) }
+{
+    let line = cursor.line();
+    if !cursor.take(Terminal::Any) {
+        return Ok(Choice::Value(whole_expression(cursor)?));
+    }
+    cursor.expect(Terminal::Open)?;
+    let expression = whole_expression(cursor)?;
+    cursor.expect(Terminal::Close)?;
+    Ok(Choice::Any(expression, line))
+}
+
 #[tactic(auto, unfolding(crate::specs::Reading::proposal))]
 fn proposal(cursor: &mut Cursor<'_>) -> Result<Proposal, ReadError>
     ensures { Reads proposal_of (spec.proposal LIMITS.depth (tokens_shown cursor.old)) result (tokens_shown cursor.new) }
 {
     let name = cursor.name()?;
     cursor.expect(Terminal::Becomes)?;
-    let value = whole_expression(cursor)?;
-    Ok(Proposal { name, value })
+    let choice = choice(cursor)?;
+    Ok(Proposal { name, choice })
 }
 
 #[tactic(auto, unfolding(crate::specs::Reading::proposals, crate::specs::Reading::separated), using(crate::proofs::Turns::items_turn, crate::proofs::Turns::items_close, crate::proofs::Turns::items_fail, crate::proofs::Turns::items_spent))]
