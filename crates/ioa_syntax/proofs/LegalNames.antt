@@ -8,10 +8,10 @@ use Rattle.ioa_lex.specs.Tokens as tokens
 use Rattle.ioa_lex.specs.Tokens.{Tok}
 use Rattle.ioa_value.specs.Actions.{Name}
 use Rattle.ioa_value.specs.Names.{IsName}
-use Rattle.ioa_tree.specs.Tree.{Expr, number, truth, named, parens, prefix, binary, empty, make, select, Exprs, no_expr, also, FieldTree, ConstantTree, positive, negative, truth_literal, reference, PositionTree, typed, only, EntryTree, VariableTree, Stmt, assign, choose, Stmts, stop, seq, Arms, no_arm, arm, TransitionTree, AutomatonTree, CrashTree, InstanceTree, CompositionTree, InvariantTree, FormTree, enumeration, tuple, sequence, TypeTree, DeclarationTree, declared_type, automaton, composition, invariant, SourceTree}
+use Rattle.ioa_tree.specs.Tree.{Expr, number, truth, named, parens, prefix, binary, empty, make, select, Exprs, no_expr, also, FieldTree, ConstantTree, positive, negative, truth_literal, reference, PositionTree, typed, only, EntryTree, VariableTree, ChoiceTree, exactly, any_below, expr_in, ProposalTree, Stmt, assign, choose, Stmts, stop, seq, Arms, no_arm, arm, TransitionTree, AutomatonTree, CrashTree, InstanceTree, CompositionTree, InvariantTree, FormTree, enumeration, tuple, sequence, TypeTree, DeclarationTree, declared_type, automaton, composition, invariant, SourceTree}
 use Rattle.ioa_tree.specs.declared.tree.Infix.TheVariants.{Operator}
 use Rattle.ioa_grammar.specs.Operators.{left_of, right_of, operator_word, tightest}
-use Rattle.ioa_grammar.specs.Grammar.{Language, ◌▹◌, word, called, perhaps, optional, optional_list, flagged, each_after, separated, terminated, many, single, enclosed, braced, kind_word, SpellsExpr, SpellsExprs, SpellsOthers, SpellsField, SpellsFields, SpellsConstant, SpellsPosition, SpellsPositions, SpellsEntry, SpellsVariable, SpellsProposal, SpellsStmt, SpellsStmts, SpellsMore, SpellsAfter, SpellsArms, SpellsTransition, SpellsAutomaton, SpellsArguments, SpellsCrash, SpellsInstance, SpellsInstances, SpellsHidden, SpellsComposition, SpellsForm, SpellsType, SpellsInvariant, SpellsDeclaration}
+use Rattle.ioa_grammar.specs.Grammar.{Language, ◌▹◌, word, called, perhaps, optional, optional_list, flagged, each_after, separated, terminated, many, single, enclosed, braced, kind_word, SpellsExpr, SpellsExprs, SpellsOthers, SpellsField, SpellsFields, SpellsConstant, SpellsPosition, SpellsPositions, SpellsEntry, SpellsVariable, SpellsChoice, SpellsProposal, SpellsStmt, SpellsStmts, SpellsMore, SpellsAfter, SpellsArms, SpellsTransition, SpellsAutomaton, SpellsArguments, SpellsCrash, SpellsInstance, SpellsInstances, SpellsHidden, SpellsComposition, SpellsForm, SpellsType, SpellsInvariant, SpellsDeclaration}
 use Rattle.ioa_syntax.specs.Source.{AreTokens, IsSource}
 use Rattle.ioa_tree.specs.Names.{names_of_expr, names_of_exprs, names_of_option, names_of_field, names_of_constant, names_of_position, names_of_entry, names_of_variable, names_of_proposal, names_of_stmt, names_of_stmts, names_of_arms, names_of_transition, names_of_automaton, names_of_crash, names_of_instance, names_of_composition, names_of_form, names_of_type, names_of_invariant, names_of_declaration, LegalNames}
 
@@ -146,8 +146,8 @@ variable_lawful v =
     (then_lawful (SpellsField v.field) start (names_of_field v.field) (names_of_option v.start)
     (field_lawful v.field) (optional_lawful terminals.Becomes (SpellsExpr 0) v.start (expr_lawful 0)))
 
-bound_lawful : (x : Name) (e : Expr) → Lawful (called x ▹ (word terminals.Becomes ▹ SpellsExpr 0 e)) (x ∷ names_of_expr e)
-bound_lawful x e =
+assignment_lawful : (x : Name) (e : Expr) → Lawful (called x ▹ (word terminals.Becomes ▹ SpellsExpr 0 e)) (x ∷ names_of_expr e)
+assignment_lawful x e =
     name_then x (word terminals.Becomes ▹ SpellsExpr 0 e) (names_of_expr e) (after_word terminals.Becomes (SpellsExpr 0 e) (names_of_expr e) (expr_lawful 0 e))
 
 -- a condition, its statements, and what comes after them
@@ -158,7 +158,7 @@ arm_lawful c L M ns ms first second =
 
 mutual
   stmt_lawful : (s : Stmt) → Lawful (SpellsStmt s) (names_of_stmt s)
-  stmt_lawful (assign x e) = bound_lawful x e
+  stmt_lawful (assign x e) = assignment_lawful x e
   stmt_lawful (choose no_arm others) = λ ts h s. absurd s
   stmt_lawful (choose (arm c ss more) others) = λ ts h s.
       let rest = SpellsArms more ▹ (SpellsAfter terminals.Else others ▹ word terminals.Fi) in
@@ -194,6 +194,16 @@ mutual
       after_word terminals.Elseif (SpellsExpr 0 c ▹ (word terminals.Then ▹ (SpellsStmts ss ▹ SpellsArms more))) (names_of_arms (arm c ss more))
       (arm_lawful c (SpellsStmts ss) (SpellsArms more) (names_of_stmts ss) (names_of_arms more) (stmts_lawful ss) (arms_lawful more))
 
+choice_lawful : (c : ChoiceTree) → Lawful (SpellsChoice c) (names_of_expr (expr_in c))
+choice_lawful (exactly e) = expr_lawful 0 e
+choice_lawful (any_below e) =
+    after_word terminals.Any (enclosed (SpellsExpr 0 e)) (names_of_expr e) (enclosed_lawful (SpellsExpr 0 e) (names_of_expr e) (expr_lawful 0 e))
+
+proposal_lawful : (p : ProposalTree) → Lawful (SpellsProposal p) (names_of_proposal p)
+proposal_lawful p =
+    let names = names_of_expr (expr_in p.choice) in
+    name_then p.name (word terminals.Becomes ▹ SpellsChoice p.choice) names (after_word terminals.Becomes (SpellsChoice p.choice) names (choice_lawful p.choice))
+
 transition_lawful : (t : TransitionTree) → Lawful (SpellsTransition t) (names_of_transition t)
 transition_lawful t =
     let pre = optional terminals.Pre (SpellsExpr 0) t.pre in
@@ -205,7 +215,7 @@ transition_lawful t =
     (name_then t.name (pre ▹ (proposals ▹ effect)) (names_of_option t.pre ++ (proposed ++ done))
     (then_lawful pre (proposals ▹ effect) (names_of_option t.pre) (proposed ++ done) (optional_lawful terminals.Pre (SpellsExpr 0) t.pre (expr_lawful 0))
     (then_lawful proposals effect proposed done
-    (optional_list_lawful names_of_proposal terminals.Propose (separated terminals.Comma SpellsProposal) t.proposals (separated_lawful names_of_proposal SpellsProposal (λ p. bound_lawful p.name p.value) terminals.Comma))
+    (optional_list_lawful names_of_proposal terminals.Propose (separated terminals.Comma SpellsProposal) t.proposals (separated_lawful names_of_proposal SpellsProposal proposal_lawful terminals.Comma))
     (after_lawful terminals.Eff t.effect))))
 
 automaton_lawful : (a : AutomatonTree) → Lawful (SpellsAutomaton a) (names_of_automaton a)

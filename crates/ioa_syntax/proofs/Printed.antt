@@ -7,14 +7,14 @@ use Rattle.ioa_lex.specs.Tokens.{Tok, terminal}
 use Rattle.ioa_lex.specs.Lexing.{Lexes, is_blank}
 use Rattle.ioa_lex.specs.Spaced.{Spaced, IsToken, text_of}
 use Rattle.ioa_lex.proofs.SpacedLemmas.{spaced_lexes, spaced_append, spaced_one}
-use Rattle.ioa_tree.specs.Tree.{Expr, number, truth, named, parens, prefix, binary, empty, make, select, Exprs, no_expr, also, FieldTree, ConstantTree, positive, negative, truth_literal, reference, PositionTree, typed, only, EntryTree, VariableTree, ProposalTree, Stmt, assign, choose, Stmts, stop, seq, Arms, no_arm, arm, TransitionTree, AutomatonTree, CrashTree, InstanceTree, CompositionTree, InvariantTree, FormTree, enumeration, tuple, sequence, TypeTree, DeclarationTree, declared_type, automaton, composition, invariant, SourceTree}
+use Rattle.ioa_tree.specs.Tree.{Expr, number, truth, named, parens, prefix, binary, empty, make, select, Exprs, no_expr, also, FieldTree, ConstantTree, positive, negative, truth_literal, reference, PositionTree, typed, only, EntryTree, VariableTree, ChoiceTree, exactly, any_below, ProposalTree, Stmt, assign, choose, Stmts, stop, seq, Arms, no_arm, arm, TransitionTree, AutomatonTree, CrashTree, InstanceTree, CompositionTree, InvariantTree, FormTree, enumeration, tuple, sequence, TypeTree, DeclarationTree, declared_type, automaton, composition, invariant, SourceTree}
 use Rattle.ioa_value.specs.declared.operator.Op.{Op}
 use Rattle.ioa_tree.specs.declared.tree.Infix.{Infix}
 use Rattle.ioa_tree.specs.declared.tree.Infix.TheVariants.{Operator}
 use Rattle.ioa_grammar.specs.Operators.{operator_word, left_of, right_of, tightest}
-use Rattle.ioa_grammar.specs.Grammar.{Language, ◌▹◌, single, word, called, nothing, optional, optional_list, flagged, each_after, perhaps, separated, terminated, many, enclosed, braced, kind_word, SpellsExpr, SpellsExprs, SpellsOthers, SpellsField, SpellsFields, SpellsConstant, SpellsPosition, SpellsPositions, SpellsEntry, SpellsVariable, SpellsProposal, SpellsStmt, SpellsStmts, SpellsMore, SpellsAfter, SpellsArms, SpellsTransition, SpellsAutomaton, SpellsArguments, SpellsCrash, SpellsInstance, SpellsInstances, SpellsHidden, SpellsComposition, SpellsForm, SpellsType, SpellsInvariant, SpellsDeclaration, SpellsSource}
+use Rattle.ioa_grammar.specs.Grammar.{Language, ◌▹◌, single, word, called, nothing, optional, optional_list, flagged, each_after, perhaps, separated, terminated, many, enclosed, braced, kind_word, SpellsExpr, SpellsExprs, SpellsOthers, SpellsField, SpellsFields, SpellsConstant, SpellsPosition, SpellsPositions, SpellsEntry, SpellsVariable, SpellsChoice, SpellsProposal, SpellsStmt, SpellsStmts, SpellsMore, SpellsAfter, SpellsArms, SpellsTransition, SpellsAutomaton, SpellsArguments, SpellsCrash, SpellsInstance, SpellsInstances, SpellsHidden, SpellsComposition, SpellsForm, SpellsType, SpellsInvariant, SpellsDeclaration, SpellsSource}
 use Rattle.ioa_syntax.specs.Source.{AreTokens, IsSource, plain}
-use Rattle.ioa_syntax.specs.Layout.{space, line, text_word, text_name, text_more, text_list, text_all, text_optional_list, text_parens, before_list, before_option, text_flag, text_number, text_enclosed, text_expr, text_exprs, text_others, text_option, text_field, text_constant, text_position, text_entry, text_variable, text_binding, text_proposal, text_stmt, text_stmts, text_more_stmts, text_after, text_arms, text_transition, text_behaviour, text_automaton, text_crash, text_instance, text_hidden, text_composition, text_braces, text_form, text_type, text_invariant, text_declaration, text_source}
+use Rattle.ioa_syntax.specs.Layout.{space, line, text_word, text_name, text_more, text_list, text_all, text_optional_list, text_parens, before_list, before_option, text_flag, text_number, text_enclosed, text_expr, text_exprs, text_others, text_option, text_field, text_constant, text_position, text_entry, text_variable, text_assignment, text_choice, text_proposal, text_stmt, text_stmts, text_more_stmts, text_after, text_arms, text_transition, text_behaviour, text_automaton, text_crash, text_instance, text_hidden, text_composition, text_braces, text_form, text_type, text_invariant, text_declaration, text_source}
 use Rattle.ioa_syntax.proofs.LegalNames.{tokens_apart}
 use Rattle.ioa_grammar.proofs.Binding.{before_encloses, between_encloses, around_stands}
 
@@ -221,8 +221,8 @@ variable_reprints v =
     (flag_reprints terminals.Stable v.stable)
     (then_reprints (SpellsField v.field) start field_text start_text field_printed (option_reprints terminals.Becomes v.start))
 
-binding_reprints : (n : List ℕ) (e : Expr) → Reprints (called n ▹ (word terminals.Becomes ▹ SpellsExpr 0 e)) (text_binding n e)
-binding_reprints n e =
+assignment_reprints : (n : List ℕ) (e : Expr) → Reprints (called n ▹ (word terminals.Becomes ▹ SpellsExpr 0 e)) (text_assignment n e)
+assignment_reprints n e =
     then_reprints (called n) (word terminals.Becomes ▹ SpellsExpr 0 e) (text_name space n) (text_word space terminals.Becomes ++ text_expr line e) (name_reprints n space space_blank)
     (then_reprints (word terminals.Becomes) (SpellsExpr 0 e) (text_word space terminals.Becomes) (text_expr line e) (word_reprints terminals.Becomes space space_blank) (expr_reprints e 0 line line_blank))
 
@@ -236,7 +236,7 @@ arm_reprints c ss L a statements more =
 
 mutual
   stmt_reprints : (s : Stmt) → Reprints (SpellsStmt s) (text_stmt s)
-  stmt_reprints (assign n e) = binding_reprints n e
+  stmt_reprints (assign n e) = assignment_reprints n e
   stmt_reprints (choose no_arm others) = λ ts s are. absurd s
   stmt_reprints (choose (arm c ss more) others) =
       let ending = then_reprints (SpellsAfter terminals.Else others) (word terminals.Fi) (text_after (text_word line terminals.Else) others) (text_word line terminals.Fi) (after_reprints terminals.Else line line_blank others) (word_reprints terminals.Fi line line_blank) in
@@ -268,6 +268,15 @@ mutual
       then_reprints (word terminals.Elseif) (SpellsExpr 0 c ▹ (word terminals.Then ▹ (SpellsStmts ss ▹ SpellsArms more))) (text_word space terminals.Elseif) (text_expr space c ++ (text_word line terminals.Then ++ (text_stmts ss ++ text_arms more)))
       (word_reprints terminals.Elseif space space_blank) (arm_reprints c ss (SpellsArms more) (text_arms more) (stmts_reprint ss) (arms_reprint more))
 
+choice_reprints : (c : ChoiceTree) → Reprints (SpellsChoice c) (text_choice c)
+choice_reprints (exactly e) = expr_reprints e 0 line line_blank
+choice_reprints (any_below e) = call_reprints terminals.Any (SpellsExpr 0 e) (text_expr space e) line line_blank (expr_reprints e 0 space space_blank)
+
+proposal_reprints : (p : ProposalTree) → Reprints (SpellsProposal p) (text_proposal p)
+proposal_reprints p =
+    then_reprints (called p.name) (word terminals.Becomes ▹ SpellsChoice p.choice) (text_name space p.name) (text_word space terminals.Becomes ++ text_choice p.choice) (name_reprints p.name space space_blank)
+    (then_reprints (word terminals.Becomes) (SpellsChoice p.choice) (text_word space terminals.Becomes) (text_choice p.choice) (word_reprints terminals.Becomes space space_blank) (choice_reprints p.choice))
+
 abbrev Trials : List ProposalTree → Language
 Trials ps = optional_list terminals.Propose (separated terminals.Comma SpellsProposal) ps
 
@@ -283,7 +292,7 @@ text_effect ss = text_after (text_word space terminals.Eff) ss
 trials_reprint : (ps : List ProposalTree) → Reprints (Trials ps) (text_trials ps)
 trials_reprint ps =
     optional_reprints terminals.Propose space (separated terminals.Comma SpellsProposal) (text_list terminals.Comma text_proposal) space_blank
-    (list_reprints terminals.Comma SpellsProposal text_proposal (λ p. binding_reprints p.name p.value)) ps
+    (list_reprints terminals.Comma SpellsProposal text_proposal proposal_reprints) ps
 
 effect_reprints : (ss : Stmts) → Reprints (Effect ss) (text_effect ss)
 effect_reprints ss = after_reprints terminals.Eff space space_blank ss

@@ -7,7 +7,7 @@ use Rattle.ioa_value.specs.declared.terminal.Terminal.TheVariants as terminals
 use Rattle.ioa_value.specs.Spelling.{spelling_of}
 use Rattle.ioa_value.specs.Actions.{Name}
 use Rattle.ioa_tree.specs.Tree as tree
-use Rattle.ioa_tree.specs.Tree.{Expr, truth, named, parens, prefix, binary, make, select, Exprs, no_expr, also, FieldTree, ConstantTree, positive, negative, truth_literal, reference, PositionTree, typed, only, EntryTree, VariableTree, ProposalTree, Stmt, assign, choose, Stmts, stop, seq, Arms, no_arm, arm, TransitionTree, AutomatonTree, CrashTree, InstanceTree, CompositionTree, InvariantTree, FormTree, enumeration, tuple, sequence, TypeTree, DeclarationTree, declared_type, automaton, composition, invariant, SourceTree}
+use Rattle.ioa_tree.specs.Tree.{Expr, truth, named, parens, prefix, binary, make, select, Exprs, no_expr, also, FieldTree, ConstantTree, positive, negative, truth_literal, reference, PositionTree, typed, only, EntryTree, VariableTree, ChoiceTree, exactly, any_below, ProposalTree, Stmt, assign, choose, Stmts, stop, seq, Arms, no_arm, arm, TransitionTree, AutomatonTree, CrashTree, InstanceTree, CompositionTree, InvariantTree, FormTree, enumeration, tuple, sequence, TypeTree, DeclarationTree, declared_type, automaton, composition, invariant, SourceTree}
 use Rattle.ioa_tree.specs.declared.tree.Infix.TheVariants.{Operator}
 use Rattle.ioa_grammar.specs.Operators.{operator_word, stands_around}
 use Rattle.ioa_grammar.specs.Grammar.{kind_word}
@@ -124,16 +124,19 @@ text_entry e = text_word space (kind_word e.kind) ++ (text_name (before_list e.p
 abbrev pub text_variable : VariableTree → List ℕ
 text_variable v = text_flag terminals.Stable v.stable ++ (text_field (before_option v.start) v.field ++ text_option (text_word space terminals.Becomes) v.start)
 
--- an assignment or a proposal
-abbrev pub text_binding : Name → Expr → List ℕ
-text_binding n e = text_name space n ++ (text_word space terminals.Becomes ++ text_expr line e)
+abbrev pub text_choice : ChoiceTree → List ℕ
+text_choice (exactly e) = text_expr line e
+text_choice (any_below e) = text_word space terminals.Any ++ text_enclosed line (text_expr space e)
 
 abbrev pub text_proposal : ProposalTree → List ℕ
-text_proposal p = text_binding p.name p.value
+text_proposal p = text_name space p.name ++ (text_word space terminals.Becomes ++ text_choice p.choice)
+
+abbrev pub text_assignment : Name → Expr → List ℕ
+text_assignment n e = text_name space n ++ (text_word space terminals.Becomes ++ text_expr line e)
 
 abbrev mutual
   pub text_stmt : Stmt → List ℕ
-  text_stmt (assign n e) = text_binding n e
+  text_stmt (assign n e) = text_assignment n e
   text_stmt (choose no_arm others) = []
   text_stmt (choose (arm c ss more) others) =
       text_word space terminals.If ++ (text_expr space c ++ (text_word line terminals.Then

@@ -8,9 +8,9 @@ mod source;
 
 pub use ioa_lex::Refusal;
 pub use ioa_tree::{
-    Arm, Assembly, Automaton, Constant, Crash, Declaration, Entry, Expression, Field, Infix,
-    Instance, Invariant, Kind, Name, Position, Proposal, Statement, Transition, TypeDeclaration,
-    TypeForm, Variable, well_formed_starts, well_typed_answers,
+    Arm, Assembly, Automaton, Choice, Constant, Crash, Declaration, Entry, Expression, Field,
+    Infix, Instance, Invariant, Kind, Name, Position, Proposal, Statement, Transition,
+    TypeDeclaration, TypeForm, Variable, well_formed_starts, well_typed_answers,
 };
 pub use laws::one_tree;
 pub use parsing::parse;

@@ -5,14 +5,14 @@ ghost use Rattle.std.specs.Option.{option_map};
 ghost use Rattle.std.specs.String.{string_bytes};
 ghost use Rattle.ioa_grammar.specs.Grammar.{kind_word};
 ghost use Rattle.ioa_syntax.specs.Layout as spec;
-ghost use Rattle.ioa_tree.specs.View.{expr_of, variable_of, proposal_of, transition_of, automaton_of};
+ghost use Rattle.ioa_tree.specs.View.{expr_of, variable_of, choice_of, proposal_of, transition_of, automaton_of};
 
 use crate::printing::expressions::expression;
 use crate::printing::signatures::{before, entries, field, formals, word_of};
-use crate::printing::statements::{binding, effect};
-use crate::printing::words::{LINE, SPACE, name, word};
+use crate::printing::statements::effect;
+use crate::printing::words::{LINE, SPACE, call, name, word};
 use ioa_lex::Terminal;
-use ioa_tree::{Automaton, Expression, Proposal, Transition, Variable};
+use ioa_tree::{Automaton, Choice, Expression, Proposal, Transition, Variable};
 use ioa_value::OutOfMemory;
 
 /// Writes a word and an expression, or nothing.
@@ -76,12 +76,33 @@ fn states(text: &mut String, variables: &[Variable]) -> Result<(), OutOfMemory>
     more_variables(text, more)
 }
 
+fn choice(text: &mut String, choice: &Choice) -> Result<(), OutOfMemory>
+    ensures { OnOk result (string_bytes text.new ≡ string_bytes text.old ++ spec.text_choice (choice_of choice.now)) }
+{
+    match choice {
+        Choice::Value(inner) => expression(text, inner, LINE),
+        Choice::Any(inner, _) => {
+            call(text, Terminal::Any)?;
+            expression(text, inner, SPACE)?;
+            word(text, Terminal::Close, LINE)
+        }
+    }
+}
+
+fn proposal(text: &mut String, proposal: &Proposal) -> Result<(), OutOfMemory>
+    ensures { OnOk result (string_bytes text.new ≡ string_bytes text.old ++ spec.text_proposal (proposal_of proposal.now)) }
+{
+    name(text, &proposal.name, SPACE)?;
+    word(text, Terminal::Becomes, SPACE)?;
+    choice(text, &proposal.choice)
+}
+
 fn more_proposals(text: &mut String, proposals: &[Proposal]) -> Result<(), OutOfMemory>
     ensures { OnOk result (string_bytes text.new ≡ string_bytes text.old ++ spec.text_more Terminal.Comma spec.text_proposal (map proposal_of proposals.now)) }
 {
     for proposal in proposals {
         word(text, Terminal::Comma, SPACE)?;
-        binding(text, &proposal.name, &proposal.value)?;
+        self::proposal(text, proposal)?;
     }
     Ok(())
 }
@@ -93,7 +114,7 @@ fn proposals(text: &mut String, proposals: &[Proposal]) -> Result<(), OutOfMemor
         return Ok(());
     };
     word(text, Terminal::Propose, SPACE)?;
-    binding(text, &first.name, &first.value)?;
+    proposal(text, first)?;
     more_proposals(text, more)
 }
 

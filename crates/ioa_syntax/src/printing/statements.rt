@@ -11,13 +11,8 @@ use ioa_lex::Terminal;
 use ioa_tree::{Arm, Expression, Name, Statement};
 use ioa_value::OutOfMemory;
 
-/// Writes a name that an expression is bound to.
-pub(crate) fn binding(
-    text: &mut String,
-    called: &Name,
-    value: &Expression,
-) -> Result<(), OutOfMemory>
-    ensures { OnOk result (string_bytes text.new ≡ string_bytes text.old ++ spec.text_binding (name_of called.now) (expr_of value.now)) }
+fn assignment(text: &mut String, called: &Name, value: &Expression) -> Result<(), OutOfMemory>
+    ensures { OnOk result (string_bytes text.new ≡ string_bytes text.old ++ spec.text_assignment (name_of called.now) (expr_of value.now)) }
 {
     name(text, called, SPACE)?;
     word(text, Terminal::Becomes, SPACE)?;
@@ -30,7 +25,7 @@ fn statement(text: &mut String, statement: &Statement) -> Result<(), OutOfMemory
     ensures { OnOk result (string_bytes text.new ≡ string_bytes text.old ++ spec.text_stmt (stmt_of statement.now)) }
 {
     let (arms, others) = match statement {
-        Statement::Assign(called, value) => return binding(text, called, value),
+        Statement::Assign(called, value) => return assignment(text, called, value),
         Statement::If(arms, others, _) => (arms, others),
     };
     let Some((first, more)) = arms.split_first() else {
