@@ -7,7 +7,7 @@ use Rattle.ioa_arithmetic.specs.Arithmetic.{fits}
 use Rattle.ioa_value.specs.Operators.{op_type}
 use Rattle.ioa_value.specs.Table.{Table, type_named, item_type, field_types, field_place}
 use Rattle.ioa_lex.specs.declared.refusal.Refusal.{Refusal}
-use Rattle.ioa_tree.specs.Tree.{Expr, number, truth, named, parens, prefix, binary, empty, make, select, Exprs, no_expr, also, ConstantTree, positive, negative, truth_literal, reference, PositionTree, typed, only, EntryTree, VariableTree, ProposalTree, Stmt, assign, choose, Stmts, stop, seq, Arms, no_arm, arm, TransitionTree, AutomatonTree, InstanceTree, CompositionTree, InvariantTree, FormTree, enumeration, tuple, sequence, DeclarationTree, declared_type, automaton, composition, invariant, SourceTree}
+use Rattle.ioa_tree.specs.Tree.{Expr, number, truth, named, parens, prefix, binary, empty, make, select, Exprs, no_expr, also, ConstantTree, positive, negative, truth_literal, reference, PositionTree, typed, only, EntryTree, VariableTree, ChoiceTree, exactly, any_below, ProposalTree, Stmt, assign, choose, Stmts, stop, seq, Arms, no_arm, arm, TransitionTree, AutomatonTree, InstanceTree, CompositionTree, InvariantTree, FormTree, enumeration, tuple, sequence, DeclarationTree, declared_type, automaton, composition, invariant, SourceTree}
 use Rattle.ioa_tree.specs.Instances.{field_names}
 use Rattle.ioa_tree.specs.Meaning.{or_else}
 use Rattle.ioa_value.specs.declared.limits.TheConstants.{LIMITS}
@@ -136,8 +136,14 @@ module _ (t early : Table) (globals : List Name) (a : AutomatonTree) where
   abbrev pub in_condition : EntryTree → Expr → Reasons
   in_condition e c = in_place t early (Some 0) (well_formed.scope t early globals a e) c
 
+  -- what a proposal gives a parameter of the type: any number below one is of an Int alone, and so is the expression
+  abbrev pub in_choice : ChoiceTree → Option ℕ → Reasons
+  in_choice (exactly v) place = in_place t early place (well_formed.held t early globals a) v
+  in_choice (any_below v) (Some ty) = broken type_mismatch (ty == 1) or in_place t early (Some 1) (well_formed.held t early globals a) v
+  in_choice (any_below v) None = broken unknown_name false
+
   abbrev pub in_proposal : EntryTree → ProposalTree → Reasons
-  in_proposal e p = in_place t early (type_in (context_of early (position_fields e.positions)) p.name) (well_formed.held t early globals a) p.value
+  in_proposal e p = in_choice p.choice (type_in (context_of early (position_fields e.positions)) p.name)
 
   abbrev pub in_proposals : EntryTree → TransitionTree → Reasons
   in_proposals e r = in_any (in_proposal e) r.proposals or broken duplicate_name (distinct (map (λ p. p.name) r.proposals))

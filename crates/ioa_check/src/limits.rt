@@ -1,6 +1,7 @@
 ghost use Rattle.std.specs.Prelude.{◌≡◌, ◌+◌, ◌≤◌, ◌&&◌, map, length, filter, sum, nat_le};
 ghost use Rattle.std.specs.List.{list_all};
 ghost use Rattle.ioa_tree.specs.View.{automaton_of, assembly_of, entry_of, transition_of, declaration_of, type_declaration_of, tree_of, proposal_of, stmt_of, stmts_of, arms_of, expr_of, exprs_of};
+ghost use Rattle.ioa_tree.specs.Tree.{expr_in};
 ghost use Rattle.ioa_tree.specs.WellFormed as well_formed;
 ghost use Rattle.ioa_check.specs.Codes.{too_many, tells};
 ghost use Rattle.ioa_check.specs.Sizes as sizes;
@@ -179,11 +180,11 @@ fn pre_within(transition: &Transition) -> Result<(), Refusal>
 
 /// Whether proposals together have no more nodes than the limit.
 fn proposals_within(proposals: &[Proposal]) -> Result<(), Refusal>
-    ensures { Says result (nat_le (sum (map (λ p. well_formed.nodes p.value) (map proposal_of proposals.now))) LIMITS.nodes) (tells too_many) }
+    ensures { Says result (nat_le (sum (map (λ p. well_formed.nodes (expr_in p.choice)) (map proposal_of proposals.now))) LIMITS.nodes) (tells too_many) }
 {
     let mut total = 0;
     for proposal in proposals {
-        total += nodes(&proposal.value);
+        total += nodes(proposal.choice.expression());
         if total > LIMITS.nodes {
             return Err(Refusal::TooMany(proposal.name.line));
         }

@@ -1,7 +1,7 @@
-ghost use Rattle.std.specs.Prelude.{◌≡◌, ◌==◌, [], ◌||◌, ◌&&◌, not, map, filter, length, if◌then◌else◌};
+ghost use Rattle.std.specs.Prelude.{◌≡◌, ◌==◌, [], ◌||◌, ◌&&◌, not, map, filter, length, Some, if◌then◌else◌};
 ghost use Rattle.std.specs.List.{list_all, list_any};
 ghost use Rattle.std.specs.Str.{bytes_eq};
-ghost use Rattle.ioa_tree.specs.View.{automaton_of, entry_of, transition_of, proposal_of, name_of};
+ghost use Rattle.ioa_tree.specs.View.{automaton_of, entry_of, transition_of, choice_of, proposal_of, name_of};
 ghost use Rattle.ioa_tree.specs.View as view;
 ghost use Rattle.ioa_tree.specs.WellFormed as well_formed;
 ghost use Rattle.ioa_check.specs.Codes.{bad_signature, no_proposal, tells};
@@ -16,8 +16,8 @@ use crate::positions::find_parameter;
 use crate::scope::Scope;
 use crate::statements::{condition_fine, statements_fine};
 use ioa_syntax::Refusal;
-use ioa_tree::{Automaton, Entry, Field, Kind, Name, Position, Proposal, Transition};
-use ioa_value::Form;
+use ioa_tree::{Automaton, Choice, Entry, Field, Kind, Name, Position, Proposal, Transition};
+use ioa_value::{Form, Ty};
 
 /// Whether each entry has one transition of its kind and name, and each transition an entry. A line is that of a
 /// transition without entry, of an entry without transition, or of an entry's second transition.
@@ -252,8 +252,20 @@ fn proposal_fine(
     ensures { let a = automaton_of automaton.now in let e = entry_of entry.now in let p = proposal_of proposal.now in Says result (well_formed.proposal_fine (whole known.now) (early known.now) [] a e p) (reasons.in_proposal (whole known.now) (early known.now) [] a e p) }
 {
     match find_parameter(known, &entry.positions, &proposal.name) {
-        Some(ty) => expect_type(&Scope::of_proposals(known, automaton), &proposal.value, ty),
+        Some(ty) => choice_fine(known, automaton, &proposal.choice, ty),
         None => Err(Refusal::UnknownName(proposal.name.line)),
+    }
+}
+
+/// Whether a proposal gives a value of this type. `any` gives an Int, and asks for one.
+fn choice_fine(known: &Known, automaton: &Automaton, choice: &Choice, ty: Ty) -> Result<(), Refusal>
+    ensures { let a = automaton_of automaton.now in let c = choice_of choice.now in Says result (well_formed.choice_fine (whole known.now) (early known.now) [] a c ty.0) (reasons.in_choice (whole known.now) (early known.now) [] a c (Some ty.0)) }
+{
+    let scope = Scope::of_proposals(known, automaton);
+    match choice {
+        Choice::Value(value) => expect_type(&scope, value, ty),
+        Choice::Any(_, line) if ty != Ty::INT => Err(Refusal::TypeMismatch(*line)),
+        Choice::Any(bound, _) => expect_type(&scope, bound, Ty::INT),
     }
 }
 
