@@ -11,12 +11,12 @@ use Rattle.ioa_value.specs.Actions.{Name}
 use Rattle.ioa_value.specs.Table.{Table, AreTypes, type_named, contains, distinct, apart}
 use Rattle.ioa_value.proofs.NameLemmas.{same_name, own_name, not_true, distinct-append, distinct_apart, outside_both, apart_outside}
 use Rattle.ioa_tree.specs.declared.tree.Infix.TheVariants.{And}
-use Rattle.ioa_tree.specs.Tree.{Expr, named, CrashTree, ConstantTree, positive, negative, truth_literal, reference, PositionTree, typed, only, EntryTree, VariableTree, ProposalTree, TransitionTree, AutomatonTree}
+use Rattle.ioa_tree.specs.Tree.{Expr, named, CrashTree, ConstantTree, positive, negative, truth_literal, reference, PositionTree, typed, only, EntryTree, VariableTree, ChoiceTree, exactly, any_below, expr_in, ProposalTree, TransitionTree, AutomatonTree}
 use Rattle.ioa_tree.specs.Names.{names_of_expr, names_of_option, names_of_constant, names_of_position, names_of_entry, names_of_proposal, names_of_stmts, names_of_transition}
 use Rattle.ioa_tree.specs.Types.{constant_type}
 use Rattle.ioa_tree.specs.Meaning.{or_else}
 use Rattle.ioa_tree.specs.Instances.{field_names, variable_names, position_fields}
-use Rattle.ioa_tree.specs.WellFormed.{Context, type_in, type_of, both_types, infix_type, has_ty, is_some_of, same_type, context_of, is_type, variable_fields, same_kind, is_input, constant_fine, position_fine, parameter_names, formals, held, scope, local_names, fields_fine, start_fine, entry_fine, one_to_one, pre_fine, proposal_fine, proposals_fine, all_proposed, stmts_fine, effect_fine, input_fine, transition_fine, automaton_fine}
+use Rattle.ioa_tree.specs.WellFormed.{Context, type_in, type_of, both_types, infix_type, has_ty, is_some_of, same_type, context_of, is_type, variable_fields, same_kind, is_input, constant_fine, position_fine, parameter_names, formals, held, scope, local_names, fields_fine, start_fine, entry_fine, one_to_one, pre_fine, choice_fine, proposal_fine, proposals_fine, all_proposed, stmts_fine, effect_fine, input_fine, transition_fine, automaton_fine}
 use Rattle.ioa_tree.proofs.Agreement.{all_both}
 use Rattle.ioa_tree.proofs.TypeAgreement.{type_same, stmts_same}
 use Rattle.ioa_tree.proofs.EffectTyped.{some_type}
@@ -399,15 +399,23 @@ module _ (types : Table) (declared : AreTypes types) (g : List Name) (n : CrashT
         sym (stmts_same types types g [] a more e spelled (scope_same types declared g n a names e) (variables_same types declared g n a names) t.effect s) ∙ h in
         ap (λ b. ((b && (stmts_fine types types [] more e t.effect && true)) && true) && true) up_bool ∙ ap (λ b. ((b && true) && true) && true) inner
 
+    type_held : (v : Expr) → list_all spelled (names_of_expr v) ≡ true → type_of types types (held types types g a) v ≡ type_of types types (held types types [] more) v
+    type_held v s = type_same types types spelled (held types types g a) (held types types [] more) (held_same types declared g n a names) v s
+
+    choice_same : (c : ChoiceTree) → list_all spelled (names_of_expr (expr_in c)) ≡ true → (place : Option ℕ)
+        → option_map_or (choice_fine types types g a c) place false ≡ option_map_or (choice_fine types types [] more c) place false
+    choice_same (exactly v) s place = ap (λ (o : Option ℕ). option_map_or (λ ty. is_some_of o ty) place false) (type_held v s)
+    choice_same (any_below v) s place = ap (λ (o : Option ℕ). option_map_or (λ ty. ty == 1 && is_some_of o 1) place false) (type_held v s)
+
     proposals_still : (ps : List ProposalTree) → list_all spelled (flat_map names_of_proposal ps) ≡ true → list_all (proposal_fine types types g a e) ps ≡ true
         → list_all (proposal_fine types types [] more e) ps ≡ true
     proposals_still [] s h = refl
     proposals_still (p ∷ ps) s h =
         let k = all_both spelled (names_of_proposal p) (flat_map names_of_proposal ps) s in
         let q = and_parts (proposal_fine types types g a e p) (list_all (proposal_fine types types g a e) ps) h in
+        let named = (and_parts (spelled p.name) (list_all spelled (names_of_expr (expr_in p.choice))) k.0).1 in
         let same : proposal_fine types types g a e p ≡ proposal_fine types types [] more e p =
-        ap (λ (o : Option ℕ). option_map_or (λ ty. is_some_of o ty) (type_in (context_of types (position_fields e.positions)) p.name) false)
-        (type_same types types spelled (held types types g a) (held types types [] more) (held_same types declared g n a names) p.value (and_parts (spelled p.name) (list_all spelled (names_of_expr p.value)) k.0).1) in
+        choice_same p.choice named (type_in (context_of types (position_fields e.positions)) p.name) in
         and_from (proposal_fine types types [] more e p) (list_all (proposal_fine types types [] more e) ps) (sym same ∙ q.0) (proposals_still ps k.1 q.1)
 
     -- what stands before the effect

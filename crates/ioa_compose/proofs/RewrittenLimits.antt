@@ -8,7 +8,7 @@ use Rattle.std.proofs.lemmas.List.Folds.{list_all-append, list_all-map}
 use Rattle.ioa_value.specs.Plain.{Val, truth as truth_value}
 use Rattle.ioa_value.specs.Table.{Table, AreTypes}
 use Rattle.ioa_value.specs.declared.limits.TheConstants.{LIMITS}
-use Rattle.ioa_tree.specs.Tree.{Expr, CrashTree, FieldTree, EntryTree, VariableTree, TransitionTree, AutomatonTree}
+use Rattle.ioa_tree.specs.Tree.{Expr, CrashTree, FieldTree, EntryTree, VariableTree, expr_in, TransitionTree, AutomatonTree}
 use Rattle.ioa_tree.specs.Instances.{Fit}
 use Rattle.ioa_tree.specs.WellFormed.{is_input, nodes, stmts_nodes, pre_within, proposals_within, effect_within, transition_within, entry_within, automaton_within}
 use Rattle.ioa_tree.proofs.FineParts.{at_most, within_parts}
@@ -49,7 +49,7 @@ transition_wider t h =
     let p = and_parts (pre_within LIMITS t && proposals_within LIMITS t) (effect_within LIMITS t) h in
     let q = and_parts (pre_within LIMITS t) (proposals_within LIMITS t) p.0 in
     transition_from t (pre_wider t.pre component_limits.nodes q.0 more_nodes)
-    (wider (sum (map (λ u. nodes u.value) t.proposals)) LIMITS.nodes component_limits.nodes more_nodes q.1)
+    (wider (sum (map (λ u. nodes (expr_in u.choice)) t.proposals)) LIMITS.nodes component_limits.nodes more_nodes q.1)
     (wider (stmts_nodes t.effect) LIMITS.nodes component_limits.nodes more_nodes p.1)
 
 -- the parts of an automaton
@@ -90,7 +90,7 @@ guarded_within t h =
     let l : stmts_nodes t.effect ≤ LIMITS.nodes = at_most (stmts_nodes t.effect) LIMITS.nodes p.1 in
     let size : stmts_nodes (if_up t.effect) ≤ component_limits.nodes = omega arith in
     transition_from (guarded t) (pre (is_input t.kind) q.0)
-    (wider (sum (map (λ u. nodes u.value) t.proposals)) LIMITS.nodes component_limits.nodes more_nodes q.1)
+    (wider (sum (map (λ u. nodes (expr_in u.choice)) t.proposals)) LIMITS.nodes component_limits.nodes more_nodes q.1)
     (le_holds (stmts_nodes (if_up t.effect)) component_limits.nodes size)
   where
     pre : (b : Bool) → pre_within LIMITS t ≡ true → option_map_or (λ p. nat_le (nodes p) component_limits.nodes) (cond b t.pre (Some (only_up t.pre))) true ≡ true

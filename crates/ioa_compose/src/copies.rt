@@ -3,8 +3,8 @@ ghost use Rattle.std.specs.Option.{option_map};
 ghost use Rattle.ioa_tree.specs.View as view;
 
 use ioa_tree::{
-    Arm, Automaton, Constant, Entry, Expression, Field, Invariant, Name, Position, Proposal,
-    Statement, Transition, Variable,
+    Arm, Automaton, Choice, Constant, Entry, Expression, Field, Invariant, Name, Position,
+    Proposal, Statement, Transition, Variable,
 };
 use ioa_value::OutOfMemory;
 use std::alloc::Global;
@@ -174,6 +174,15 @@ pub(crate) fn copied_variables(
     Ok(out)
 }
 
+fn copied_choice(alloc: Global, choice: &Choice) -> Result<Choice, OutOfMemory>
+    ensures { IfOk result (λ copy. view.choice_of copy ≡ view.choice_of choice.now) }
+{
+    match choice {
+        Choice::Value(value) => Ok(Choice::Value(copied_expression(alloc, value)?)),
+        Choice::Any(bound, line) => Ok(Choice::Any(copied_expression(alloc, bound)?, *line)),
+    }
+}
+
 pub(crate) fn copied_proposals(
     alloc: Global,
     proposals: &[Proposal],
@@ -184,7 +193,7 @@ pub(crate) fn copied_proposals(
     for proposal in proposals {
         out.push(Proposal {
             name: copied_name(alloc, &proposal.name)?,
-            value: copied_expression(alloc, &proposal.value)?,
+            choice: copied_choice(alloc, &proposal.choice)?,
         })?;
     }
     Ok(out)
