@@ -15,7 +15,7 @@ use Rattle.ioa_value.specs.Operators.{gives, nothing}
 use Rattle.ioa_value.specs.Widths.{widths}
 use Rattle.ioa_tree.specs.declared.tree.Infix.TheVariants.{Operator}
 use Rattle.ioa_tree.specs.declared.tree.Kind.TheVariants.{Output}
-use Rattle.ioa_tree.specs.Tree.{Expr, named, binary, empty, FieldTree, typed, EntryTree, VariableTree, ProposalTree, stop, FormTree, enumeration, tuple, sequence, DeclarationTree, declared_type, automaton, composition, SourceTree}
+use Rattle.ioa_tree.specs.Tree.{Expr, named, binary, empty, FieldTree, typed, EntryTree, VariableTree, exactly, ProposalTree, stop, FormTree, enumeration, tuple, sequence, DeclarationTree, declared_type, automaton, composition, SourceTree}
 use Rattle.ioa_tree.specs.Meaning.{nothing_known, values_of, val}
 use Rattle.ioa_tree.specs.Types.{declared_from, types_of}
 use Rattle.ioa_tree.specs.Instances.{Instance, entry_has, start_values}
@@ -352,11 +352,11 @@ proposes_no_tuple = refl
 proposes_no_sequence : well_formed (sender (codes "Pkts") []) ≡ false
 proposes_no_sequence = refl
 
-proposes_a_tuple : well_formed (sender (codes "Pkt") (record { name = codes "p"; value = named (codes "x") } ∷ [])) ≡ true
+proposes_a_tuple : well_formed (sender (codes "Pkt") (record { name = codes "p"; choice = exactly (named (codes "x")) } ∷ [])) ≡ true
 proposes_a_tuple = refl
 
-proposes_a_constant : well_formed (sender (codes "Kind") (record { name = codes "p"; value = named (codes "ack") } ∷ [])) ≡ true
+proposes_a_constant : well_formed (sender (codes "Kind") (record { name = codes "p"; choice = exactly (named (codes "ack")) } ∷ [])) ≡ true
 proposes_a_constant = refl
 
-proposes_another : well_formed (sender (codes "Pkt") (record { name = codes "p"; value = named (codes "ack") } ∷ [])) ≡ false
+proposes_another : well_formed (sender (codes "Pkt") (record { name = codes "p"; choice = exactly (named (codes "ack")) } ∷ [])) ≡ false
 proposes_another = refl

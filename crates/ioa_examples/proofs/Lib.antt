@@ -12,6 +12,7 @@ pub mod Tuples
 pub mod Invariants
 pub mod Hiding
 pub mod Spellings
+pub mod Proposals
 pub mod Reasons
 pub mod LogTexts
 pub mod BrokenInvariants

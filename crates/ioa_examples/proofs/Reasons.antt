@@ -7,7 +7,7 @@ use Rattle.ioa_value.specs.declared.operator.Op.TheVariants.{Eq, Add, Le, Not}
 use Rattle.ioa_lex.specs.declared.refusal.Refusal.{Refusal}
 use Rattle.ioa_lex.specs.declared.refusal.Refusal.TheVariants.{DuplicateName, UnknownName, TypeMismatch, BadSignature, NoProposal, TooMany, TooWide}
 use Rattle.ioa_tree.specs.declared.tree.Infix.TheVariants.{Operator, And}
-use Rattle.ioa_tree.specs.Tree.{Expr, number, truth, named, prefix, binary, empty, make, select, no_expr, also, ConstantTree, positive, negative, truth_literal, reference, PositionTree, only, assign, choose, stop, seq, no_arm, arm, enumeration, tuple, sequence, automaton, composition, invariant, SourceTree}
+use Rattle.ioa_tree.specs.Tree.{Expr, number, truth, named, prefix, binary, empty, make, select, no_expr, also, ConstantTree, positive, negative, truth_literal, reference, PositionTree, only, exactly, any_below, assign, choose, stop, seq, no_arm, arm, enumeration, tuple, sequence, automaton, composition, invariant, SourceTree}
 use Rattle.ioa_tree.specs.WellFormed.{well_formed}
 use Rattle.ioa_examples.proofs.SmallSources.{field, tick_entry, reset_entry, count_variable, tick_proposal, tick_transition, reset_transition, counter, one, source, with_formals, with_entries, with_variables, with_transitions, with_pre, with_proposals, with_effect, plain_variable, variables_from}
 use Rattle.ioa_examples.proofs.DeclaredTypes.{of_type, type, kind, packet, three, cell, comparing, starting, one_type, nested, fields_from, sender}
@@ -61,7 +61,7 @@ assigns_to_a_formal_in_an_arm = refl
 chooses_by_nothing : told (with_effect (seq (choose (arm (truth true) stop (arm (named (codes "d")) stop no_arm)) stop) stop)) ≡ 6 ∷ []
 chooses_by_nothing = refl
 
-proposes_itself : told (with_proposals (record tick_proposal { value = named (codes "k") } ∷ [])) ≡ 6 ∷ []
+proposes_itself : told (with_proposals (record tick_proposal { choice = exactly (named (codes "k")) } ∷ [])) ≡ 6 ∷ []
 proposes_itself = refl
 
 argument_has_a_name : told (automaton counter ∷ composition (one (named (codes "c") ∷ [])) ∷ []) ≡ 6 ∷ []
@@ -77,6 +77,25 @@ asks_for_a_number = refl
 
 compares_a_truth : told (with_pre (Some (binary (named (codes "k")) (Operator Eq) (truth true)))) ≡ 7 ∷ []
 compares_a_truth = refl
+
+-- any number below one is of an Int, and so is the expression
+proposes_any_below_a_number : told (with_proposals (record tick_proposal { choice = any_below (named (codes "c")) } ∷ [])) ≡ []
+proposes_any_below_a_number = refl
+
+proposes_any_below_a_truth : told (with_proposals (record tick_proposal { choice = any_below (truth true) } ∷ [])) ≡ 7 ∷ []
+proposes_any_below_a_truth = refl
+
+proposes_any_below_itself : told (with_proposals (record tick_proposal { choice = any_below (named (codes "k")) } ∷ [])) ≡ 6 ∷ []
+proposes_any_below_itself = refl
+
+proposes_any_constant : told (sender (codes "Kind") (record { name = codes "p"; choice = any_below (number 2) } ∷ [])) ≡ 7 ∷ []
+proposes_any_constant = refl
+
+proposes_any_truth : told (sender (codes "Bool") (record { name = codes "p"; choice = any_below (number 2) } ∷ [])) ≡ 7 ∷ []
+proposes_any_truth = refl
+
+proposes_any_for_a_variable : told (with_proposals (tick_proposal ∷ record { name = codes "c"; choice = any_below (number 2) } ∷ [])) ≡ 6 ∷ []
+proposes_any_for_a_variable = refl
 
 assigns_a_truth : told (with_effect (seq (assign (codes "c") (truth true)) stop)) ≡ 7 ∷ []
 assigns_a_truth = refl

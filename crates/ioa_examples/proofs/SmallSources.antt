@@ -9,7 +9,7 @@ use Rattle.ioa_tree.specs.declared.tree.Infix.TheVariants.{Operator, And, Or, Im
 use Rattle.ioa_lex.specs.declared.refusal.Refusal.TheVariants as refusals
 use Rattle.ioa_examples.proofs.Shown.{shown}
 use Rattle.ioa_tree.specs.declared.tree.Kind.TheVariants.{Input, Output}
-use Rattle.ioa_tree.specs.Tree.{Expr, number, truth, named, prefix, binary, FieldTree, typed, EntryTree, VariableTree, ProposalTree, TransitionTree, assign, choose, Stmts, stop, seq, no_arm, arm, AutomatonTree, InstanceTree, CompositionTree, automaton, composition, SourceTree}
+use Rattle.ioa_tree.specs.Tree.{Expr, number, truth, named, prefix, binary, FieldTree, typed, EntryTree, VariableTree, exactly, ProposalTree, TransitionTree, assign, choose, Stmts, stop, seq, no_arm, arm, AutomatonTree, InstanceTree, CompositionTree, automaton, composition, SourceTree}
 use Rattle.ioa_tree.specs.Meaning.{Env}
 use Rattle.ioa_tree.specs.Depth.{stmts_depth}
 use Rattle.ioa_value.specs.Table.{basic}
@@ -38,7 +38,7 @@ abbrev pub count_variable : VariableTree
 count_variable = record { stable = false; field = field (codes "c") (codes "Int"); start = Some (named (codes "start")) }
 
 abbrev pub tick_proposal : ProposalTree
-tick_proposal = record { name = codes "k"; value = named (codes "c") }
+tick_proposal = record { name = codes "k"; choice = exactly (named (codes "c")) }
 
 abbrev pub tick_transition : TransitionTree
 tick_transition = record {
@@ -216,7 +216,7 @@ proposes_for_a_variable : well_formed (with_proposals (tick_proposal ∷ record 
 proposes_for_a_variable = refl
 
 -- a proposal of another type
-proposes_a_truth : well_formed (with_proposals (record tick_proposal { value = truth true } ∷ [])) ≡ false
+proposes_a_truth : well_formed (with_proposals (record tick_proposal { choice = exactly (truth true) } ∷ [])) ≡ false
 proposes_a_truth = refl
 
 -- two proposals for one parameter
@@ -224,7 +224,7 @@ proposes_twice : well_formed (with_proposals (tick_proposal ∷ tick_proposal �
 proposes_twice = refl
 
 -- a proposal that names a parameter
-proposes_itself : well_formed (with_proposals (record tick_proposal { value = named (codes "k") } ∷ [])) ≡ false
+proposes_itself : well_formed (with_proposals (record tick_proposal { choice = exactly (named (codes "k")) } ∷ [])) ≡ false
 proposes_itself = refl
 
 -- two entries of one name

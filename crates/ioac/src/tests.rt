@@ -13,6 +13,7 @@ mod invariants;
 mod lines;
 mod lists;
 mod logs;
+mod proposals;
 mod reached;
 mod requests;
 mod sequences;
