@@ -1,22 +1,25 @@
 -- The participants that are found for an action, and their states.
-use Rattle.std.proofs.Common.{◌≡◌, ℕ, zero, suc, ◌+◌, ◌<◌, ◌≤◌, List, [], ◌∷◌, ◌++◌, length, get_or, drop, map, filter, All, append_assoc, Bool, true, false, None, Some, refl, sym, ◌∙◌, ap, subst, arith}
+use Rattle.std.proofs.Common.{◌≡◌, ℕ, zero, suc, ◌+◌, ◌<◌, ◌≤◌, List, [], ◌∷◌, ◌++◌, length, get_or, drop, map, filter, All, append_assoc, Bool, true, false, cond, not, ◌&&◌, Option, None, Some, refl, sym, ◌∙◌, ap, ap₂, subst, arith}
 use Rattle.std.specs.Prelude.{nat_eq, slice_get}
-use Rattle.std.specs.List.{IsDistinct}
+use Rattle.std.specs.List.{IsDistinct, list_any}
+use Rattle.std.specs.Option.{option_map, option_map_or}
+use Rattle.std.specs.Str.{bytes_eq}
 use Rattle.std.proofs.lemmas.List.{append-nil, drop_all, map-append}
-use Rattle.std.proofs.lemmas.List.Elements.{All-cons, All-append}
+use Rattle.std.proofs.lemmas.List.Elements.{All-cons, All-append, All-head, All-tail}
 use Rattle.std.proofs.lemmas.Option.{slice_get-get_or}
 use Rattle.ioa_value.proofs.ItemLemmas.{drop_item}
 use Rattle.ioa_value.specs.Actions.{Name, Act}
 use Rattle.ioa_value.specs.Plain.{Val}
-use Rattle.ioa_tree.specs.Components.{Component, has, owns, is_local}
+use Rattle.ioa_tree.specs.declared.tree.Kind.{Kind}
+use Rattle.ioa_tree.specs.Components.{Component, has, owns, is_local, is_output}
 use Rattle.ioa_tree.specs.Runs.{is_external}
-use Rattle.ioa_tree.specs.Steps.{participants_from, participants}
-use Rattle.ioa_compile.specs.Programs.{EntryCode, MemberCode}
+use Rattle.ioa_tree.specs.Steps.{participants_from, participants, owner_from, owner}
+use Rattle.ioa_compile.specs.Programs.{EntryCode, MemberCode, Prog}
 use Rattle.ioa_compile.specs.Shown.{entry_code}
-use Rattle.ioa_compile.specs.Tables.{entry_of, table_component}
+use Rattle.ioa_compile.specs.Tables.{entry_of, table_component, tabled}
 use Rattle.ioa_system.specs.declared.participation.Participant.{Participant}
-use Rattle.ioa_system.specs.Found.{member_of, component_of, components_of, numbers_of, HaveEntries, AreParticipants}
-use Rattle.ioa_system.proofs.Participating.{owns_none, participants_differ}
+use Rattle.ioa_system.specs.Found.{member_of, component_of, components_of, numbers_of, HaveEntries, AreParticipants, owner_of}
+use Rattle.ioa_system.proofs.Participating.{participates, stays, takes, owns_none, participants_differ}
 
 abbrev pub tables : List MemberCode → List (Component (List Val))
 tables ms = map table_component ms
@@ -107,6 +110,7 @@ finds_end a ms qs i f l =
       numbers = sym (append-nil (numbers_of qs)) ∙ ap (λ v. numbers_of qs ++ v) (sym n) ∙ f.numbers;
       members = f.members;
       entries = f.entries;
+      places = f.places;
     }
 
 pub numbers_distinct : (a : Act) (ms : List MemberCode) (qs : List Participant) → AreParticipants a ms qs → IsDistinct nat_eq (numbers_of qs)
@@ -119,7 +123,65 @@ external_by : {S : Type 0} (hidden : List Name) (p : Component S) (ps qs : List 
 external_by hidden p ps qs a true h e = rw (h, e) refl
 external_by hidden p ps qs a false h e = let o : owns a p ≡ false = owns_none p a h in rw (h, o) e
 
-pub external_filtered : {S : Type 0} (hidden : List Name) (ps : List (Component S)) (a : Act)
+external_filtered : {S : Type 0} (hidden : List Name) (ps : List (Component S)) (a : Act)
     → is_external hidden (filter (has a) ps) a ≡ is_external hidden ps a
 external_filtered hidden [] a = refl
 external_filtered hidden (p ∷ ps) a = external_by hidden p ps ps a (has a p) refl (external_filtered hidden ps a)
+
+-- the owner's entry is of a kind that is seen, and its name is not hidden
+abbrev pub is_seen : List Name → Act → Kind → Bool
+is_seen hidden a k = is_output (Some k) && not (list_any (λ h. bytes_eq h a.name) hidden)
+
+seen_first : (b c x : Bool) (q : Participant) (o : Option Participant) (r : Bool) (f : Participant → Bool) → f q ≡ (c && x) → r ≡ option_map_or f o true
+    → cond b (cond c x false) r ≡ option_map_or f (cond b (Some q) o) true
+seen_first true true x q o r f e h = sym e
+seen_first true false x q o r f e h = sym e
+seen_first false c x q o r f e h = h
+
+seen_of : (hidden : List Name) (a : Act) (qs : List Participant) → HaveEntries a qs
+    → is_external hidden (components_of qs) a ≡ option_map_or (λ q. is_seen hidden a (entry_code q.entry.now).kind) (owner_of qs) true
+seen_of hidden a [] h = refl
+seen_of hidden a (q ∷ qs) h =
+    let e : entry_of (member_of q) a ≡ Some (entry_code q.entry.now) = All-head (λ (p : Participant). entry_of (member_of p) a ≡ Some (entry_code p.entry.now)) q qs h in
+    let k : Kind = (entry_code q.entry.now).kind in
+    rw e (seen_first (is_local (Some k)) (is_output (Some k)) (not (list_any (λ n. bytes_eq n a.name) hidden)) q (owner_of qs) (is_external hidden (components_of qs) a)
+    (λ (p : Participant). is_seen hidden a (entry_code p.entry.now).kind) refl
+    (seen_of hidden a qs (All-tail (λ (p : Participant). entry_of (member_of p) a ≡ Some (entry_code p.entry.now)) q qs h)))
+
+pub external_found : (p : Prog) (a : Act) (qs : List Participant) → AreParticipants a p.members qs
+    → option_map_or (λ q. is_seen p.hidden a (entry_code q.entry.now).kind) (owner_of qs) true ≡ is_external p.hidden (tabled p) a
+external_found p a qs f =
+    sym (seen_of p.hidden a qs f.entries) ∙ ap (λ ps. is_external p.hidden ps a) f.components ∙ external_filtered p.hidden (tabled p) a
+
+-- ---- the owner
+
+-- the number of the first of these components that owns the action
+abbrev first_owner : {S : Type 0} → Act → List ℕ → List (Component S) → Option ℕ
+first_owner a [] ps = None
+first_owner a (n ∷ ns) [] = None
+first_owner a (n ∷ ns) (p ∷ ps) = cond (owns a p) (Some n) (first_owner a ns ps)
+
+owner_filtered : {S : Type 0} (a : Act) (i : ℕ) (ps : List (Component S)) → first_owner a (participants_from i ps a) (filter (has a) ps) ≡ owner_from i ps a
+owner_filtered a i [] = refl
+owner_filtered a i (p ∷ ps) = elim (takes a p i ps) [
+  | participates h n f ↦ rw (n, f) (ap (λ o. cond (owns a p) (Some i) o) (owner_filtered a (i + 1) ps))
+  | stays h n f ↦ let o : owns a p ≡ false = owns_none p a h in rw (n, f, o) (owner_filtered a (i + 1) ps)
+]
+
+abbrev number_of : Option Participant → Option ℕ
+number_of o = option_map (λ (q : Participant). q.component) o
+
+owner_first : (b : Bool) (q : Participant) (o : Option Participant) (n : Option ℕ) → n ≡ number_of o → cond b (Some q.component) n ≡ number_of (cond b (Some q) o)
+owner_first true q o n e = refl
+owner_first false q o n e = e
+
+owner_among : (a : Act) (qs : List Participant) → HaveEntries a qs → first_owner a (numbers_of qs) (components_of qs) ≡ number_of (owner_of qs)
+owner_among a [] h = refl
+owner_among a (q ∷ qs) h =
+    let o : owns a (component_of q) ≡ is_local (Some (entry_code q.entry.now).kind) =
+    owns_found (member_of q) a (entry_code q.entry.now) (All-head (λ (p : Participant). entry_of (member_of p) a ≡ Some (entry_code p.entry.now)) q qs h) in
+    rw o (owner_first (is_local (Some (entry_code q.entry.now).kind)) q (owner_of qs) (first_owner a (numbers_of qs) (components_of qs))
+    (owner_among a qs (All-tail (λ (p : Participant). entry_of (member_of p) a ≡ Some (entry_code p.entry.now)) q qs h)))
+
+pub owner_found : (p : Prog) (a : Act) (qs : List Participant) → AreParticipants a p.members qs → option_map (λ (q : Participant). q.component) (owner_of qs) ≡ owner (tabled p) a
+owner_found p a qs f = sym (owner_among a qs f.entries) ∙ ap₂ (first_owner a) f.numbers f.components ∙ owner_filtered a 0 (tabled p)

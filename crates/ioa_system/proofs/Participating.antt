@@ -68,11 +68,11 @@ pub owns_none : {S : Type 0} (p : Component S) (a : Act) → has a p ≡ false �
 owns_none p a h = none_is_local (p.kind_of a) h
 
 -- a component has the action or not, and its number and place among the participants are told so
-data Takes {S : Type 0} (a : Act) (p : Component S) (i : ℕ) (ps : List (Component S)) : Type 0 where
+pub data Takes {S : Type 0} (a : Act) (p : Component S) (i : ℕ) (ps : List (Component S)) : Type 0 where
   participates : has a p ≡ true → participants_from i (p ∷ ps) a ≡ i ∷ participants_from (i + 1) ps a → filter (has a) (p ∷ ps) ≡ p ∷ filter (has a) ps → Takes a p i ps
   stays : has a p ≡ false → participants_from i (p ∷ ps) a ≡ participants_from (i + 1) ps a → filter (has a) (p ∷ ps) ≡ filter (has a) ps → Takes a p i ps
 
-takes : {S : Type 0} (a : Act) (p : Component S) (i : ℕ) (ps : List (Component S)) → Takes a p i ps
+pub takes : {S : Type 0} (a : Act) (p : Component S) (i : ℕ) (ps : List (Component S)) → Takes a p i ps
 takes a p i ps = by (has a p) refl
   where
     by : (b : Bool) → has a p ≡ b → Takes a p i ps

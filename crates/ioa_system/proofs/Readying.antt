@@ -64,27 +64,27 @@ stands (x ∷ ms) (n ∷ ns) (suc i) m h e =
     let w : i < length ns = r.within in
     record { within = omega arith; types = r.types }
 
-pub ready_all : (types : Table) (a : Act) (ms : List MemberCode) (ns : List Node) (qs : List Participant) → AreParticipants a ms qs → All (λ q. q.place ≡ q.component) qs
+pub ready_all : (types : Table) (a : Act) (ms : List MemberCode) (ns : List Node) (qs : List Participant) → AreParticipants a ms qs
     → AreMembers types ms → types_of ns ≡ slot_types ms → AreReady a ns qs
-ready_all types a ms ns qs p places h t = record {
+ready_all types a ms ns qs p h t = record {
   entries = p.entries;
   sound = all_sound types a ms qs p h;
   states = λ k d l.
       let q : Participant = get_or qs k d in
       let s : Stands ns q.component (member_of q) = stands ms ns q.component (member_of q) t (p.members k d l) in
-      subst (λ j. (j < length ns) × (slots_of (get_or ns j (member_of q).start) ≡ slots_of (member_of q).start)) (sym (places k d l)) (s.within, s.types);
+      subst (λ j. (j < length ns) × (slots_of (get_or ns j (member_of q).start) ≡ slots_of (member_of q).start)) (sym (p.places k d l)) (s.within, s.types);
 }
 
-pub lent_all : (a : Act) (ms : List MemberCode) (ns : List Node) (qs : List Participant) → AreParticipants a ms qs → All (λ q. q.place ≡ q.component) qs
+pub lent_all : (a : Act) (ms : List MemberCode) (ns : List Node) (qs : List Participant) → AreParticipants a ms qs
     → types_of ns ≡ slot_types ms → lent ns qs ≡ taken (participants (tables ms) a) (values_of ns)
-lent_all a ms ns qs p places t =
+lent_all a ms ns qs p t =
     sym (ap (λ xs. taken xs (values_of ns)) (sym p.numbers)
     ∙ taken_map (λ q. (state_of ns q).values) (values_of ns) qs
     (λ k d l.
     let q : Participant = get_or qs k d in
     let s : Stands ns q.component (member_of q) = stands ms ns q.component (member_of q) t (p.members k d l) in
     image_at (λ (n : Node). n.values) ns q.component (state_of ns q)
-    (slice_get-get_or ns q.component (member_of q).start s.within ∙ ap (λ (j : ℕ). Some (get_or ns j (member_of q).start)) (sym (places k d l)))))
+    (slice_get-get_or ns q.component (member_of q).start s.within ∙ ap (λ (j : ℕ). Some (get_or ns j (member_of q).start)) (sym (p.places k d l)))))
 
 -- the participants' numbers are the states' places
 pub within_all : (a : Act) (ms : List MemberCode) (ns : List Node) (qs : List Participant) → AreParticipants a ms qs → types_of ns ≡ slot_types ms

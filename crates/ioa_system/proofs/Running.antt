@@ -2,10 +2,9 @@
 use Rattle.std.proofs.Common.{◌≡◌, ℕ, ◌<◌, List, [], ◌∷◌, length, map, All, refl, sym, ◌∙◌, ap, subst}
 use Rattle.std.proofs.lemmas.List.{length-map}
 use Rattle.std.proofs.lemmas.List.Elements.{All-head, All-tail, All-cons}
-use Rattle.ioa_value.specs.Actions.{Name, Act}
+use Rattle.ioa_value.specs.Actions.{Act}
 use Rattle.ioa_value.specs.Plain.{Val}
 use Rattle.ioa_node.specs.Nodes.{Node}
-use Rattle.ioa_tree.specs.Runs.{is_external}
 use Rattle.ioa_tree.specs.Steps.{Moved, next, step}
 use Rattle.ioa_compile.specs.Programs.{MemberCode, Prog}
 use Rattle.ioa_compile.specs.Tables.{tabled}
@@ -17,7 +16,7 @@ use Rattle.ioa_system.specs.Found.{components_of, numbers_of, AreParticipants, l
 use Rattle.ioa_system.specs.Participants.{put_back, renumbered, all_back}
 use Rattle.ioa_system.specs.Systems.{Running, types_of, values_of, slot_types, slots_of}
 use Rattle.ioa_system.proofs.Participating.{put_back-taken, map_put_back, step_taken}
-use Rattle.ioa_system.proofs.Finding.{external_filtered, no_item, numbers_distinct}
+use Rattle.ioa_system.proofs.Finding.{no_item, numbers_distinct}
 use Rattle.ioa_system.proofs.Readying.{lent_all, same_length, within_all}
 use Rattle.ioa_system.proofs.Drafting.{Draft, drafted_taken}
 
@@ -37,12 +36,7 @@ running p ss = record { program = p; states = ss }
 -- the participants that are found for an action of this program, and the states of its components
 pub record Runs (p : Prog) (a : Act) (ns : List Node) (qs : List Participant) : Type 0 where
   pub found : AreParticipants a p.members qs
-  pub places : All (λ q. q.place ≡ q.component) qs
   pub types : types_of ns ≡ slot_types p.members
-
-pub external_found : (p : Prog) (a : Act) (qs : List Participant) (hidden : List Name) → AreParticipants a p.members qs → hidden ≡ p.hidden
-    → is_external hidden (components_of qs) a ≡ is_external p.hidden (tabled p) a
-external_found p a qs hidden f h = rw (h, f.components) (external_filtered p.hidden (tabled p) a)
 
 -- the step's answer, where the participants' new states are put back
 pub step_put : (p : Prog) (a : Act) (ns : List Node) (qs : List Participant) (m : Moved (List Val)) → Runs p a ns qs
@@ -52,7 +46,7 @@ step_put p a ns qs m r e =
     let l : length (values_of ns) ≡ length (tabled p) =
     length-map ns (λ (n : Node). n.values) ∙ same_length p.members ns r.types ∙ sym (length-map p.members _) in
     let s = step_taken (tabled p) a (values_of ns) l in
-    rw (e, f.numbers, f.components, lent_all a p.members ns qs f r.places r.types) (sym s)
+    rw (e, f.numbers, f.components, lent_all a p.members ns qs f r.types) (sym s)
 
 pub values_put : (ns : List ℕ) (changed before after : List Node) → after ≡ put_back ns changed before → next (values_of after) ≡ all_back ns (values_of before) (next (values_of changed))
 values_put ns changed before after e = ap (λ (xs : List (List Val)). next xs) (ap values_of e ∙ map_put_back (λ (n : Node). n.values) ns changed before)
@@ -66,7 +60,7 @@ numbers_within (q ∷ qs) n h =
 pub places_found : (p : Prog) (a : Act) (ns : List Node) (qs : List Participant) → Runs p a ns qs → ArePlaces qs ns
 places_found p a ns qs r = record {
   within = within_all a p.members ns qs r.found r.types;
-  places = r.places;
+  places = r.found.places;
   distinct = numbers_distinct a p.members qs r.found;
 }
 

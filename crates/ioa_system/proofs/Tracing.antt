@@ -1,5 +1,5 @@
 -- A run, action by action.
-use Rattle.std.proofs.Common.{◌≡◌, ℕ, ◌+◌, ◌≤◌, List, [], ◌∷◌, ◌++◌, length, take, filter, Bool, true, false, Result, Ok, Err, IfOk, refl, sym, ◌∙◌, ap, subst, arith, length-append, if◌then◌else◌}
+use Rattle.std.proofs.Common.{◌≡◌, ℕ, ◌+◌, ◌≤◌, List, [], ◌∷◌, ◌++◌, length, take, filter, Bool, true, false, None, Result, Ok, Err, IfOk, refl, sym, ◌∙◌, ap, subst, arith, length-append, if◌then◌else◌}
 use Rattle.std.proofs.lemmas.List.{append-nil, take_all, take-append-le}
 use Rattle.std.proofs.lemmas.List.Elements.{filter-append}
 use Rattle.ioa_value.specs.Actions.{Name, Act}
@@ -17,7 +17,7 @@ use Rattle.ioa_compile.specs.Means.{Means}
 use Rattle.ioa_system.specs.declared.answer.End.{End}
 use Rattle.ioa_system.specs.declared.runs.Run.{Run}
 use Rattle.ioa_system.specs.Answers.{ending_of, performed_by}
-use Rattle.ioa_system.specs.Progress.{Progress, reached_by, IsRunOver}
+use Rattle.ioa_system.specs.Progress.{Progress, reached_by, worker_after, IsRunOver}
 use Rattle.ioa_system.specs.Records.{IsTableRun, IsSourceRun}
 
 -- ---- one action more
@@ -81,11 +81,18 @@ trace_more hidden ps acts a n b l x =
 
 -- ---- a run whose actions come one by one
 
-done_at : (e : End) (n : ℕ) → ending_of e ≡ done n → e ≡ End.Done n
+pub done_at : (e : End) (n : ℕ) → ending_of e ≡ done n → e ≡ End.Done n
 done_at (End.Done k) n e = cc
 done_at (End.NotAnAction i) n e = absurd (cc)
 done_at (End.NotEnabled i) n e = absurd (cc)
 done_at (End.Fault c f i) n e = absurd (cc)
+
+-- no worker is looked for where a run has ended
+pub none_after : (e : End) (w : ℕ) → ((k : ℕ) → e ≡ End.Done k → ⊥) → None ≡ worker_after e w
+none_after (End.Done k) w h = absurd (h k refl)
+none_after (End.NotAnAction i) w h = refl
+none_after (End.NotEnabled i) w h = refl
+none_after (End.Fault c f i) w h = refl
 
 pub over_begin : (p : Prog) (r : Progress) → r ≡ record { program = p; states = start_states p; end = End.Done 0 } → IsRunOver p [] [] r
 over_begin p r e = record {

@@ -1,9 +1,9 @@
 -- The participants that are found for an action, and the states that are lent to them.
-use Rattle.std.specs.Prelude.{◌≡◌, ◌<◌, ◌+◌, ℕ, List, [], ◌∷◌, All, Some, filter, length, map, slice_get, slice_index_or}
+use Rattle.std.specs.Prelude.{◌≡◌, ◌<◌, ◌+◌, ℕ, List, [], ◌∷◌, All, Option, Some, filter, find, length, map, slice_get, slice_index_or}
 use Rattle.ioa_value.specs.Actions.{Act}
 use Rattle.ioa_value.specs.Plain.{Val}
 use Rattle.ioa_node.specs.Nodes.{Node}
-use Rattle.ioa_tree.specs.Components.{Component, has}
+use Rattle.ioa_tree.specs.Components.{Component, has, is_local}
 use Rattle.ioa_tree.specs.Steps as steps
 use Rattle.ioa_tree.specs.Steps.{participants}
 use Rattle.ioa_compile.specs.Programs.{MemberCode}
@@ -34,12 +34,18 @@ placed i (q ∷ qs) = record q { place = i } ∷ placed (i + 1) qs
 abbrev pub HaveEntries : Act → List Participant → Type 0
 HaveEntries a qs = All (λ q. entry_of (member_of q) a ≡ Some (entry_code q.entry.now)) qs
 
--- of these members, the components that have the action, with their numbers and entries
+-- of these members, the components that have the action, with their numbers and entries, each with its state in its place among those of
+-- all
 pub record AreParticipants (a : Act) (ms : List MemberCode) (qs : List Participant) : Type 0 where
   pub components : components_of qs ≡ filter (has a) (map table_component ms)
   pub numbers : numbers_of qs ≡ participants (map table_component ms) a
   pub members : All (λ q. slice_get ms q.component ≡ Some (member_of q)) qs
   pub entries : HaveEntries a qs
+  pub places : All (λ q. q.place ≡ q.component) qs
+
+-- the first participant whose entry is an output or internal
+abbrev pub owner_of : List Participant → Option Participant
+owner_of qs = find (λ q. is_local (Some (entry_code q.entry.now).kind)) qs
 
 -- the participant's state among those at hand
 abbrev pub state_of : List Node → Participant → Node

@@ -1,4 +1,5 @@
 pub mod Systems
+pub mod ProgramActions
 pub mod Participants
 pub mod Answers
 pub mod Endings

@@ -1,5 +1,5 @@
 -- A run whose actions come one by one.
-use Rattle.std.specs.Prelude.{◌≡◌, List, refl}
+use Rattle.std.specs.Prelude.{◌≡◌, ℕ, List, Option, Some, None, refl}
 use Rattle.std.specs.Coded.{Coded, code_by, coded×, coded_list}
 use Rattle.ioa_value.specs.Actions.{Act}
 use Rattle.ioa_value.specs.Plain.{Val}
@@ -11,6 +11,7 @@ use Rattle.ioa_compile.specs.Tables.{tabled, start_states}
 use Rattle.ioa_system.specs.declared.answer.End.{End}
 use Rattle.ioa_system.specs.contracts.answer.End as ends
 use Rattle.ioa_system.specs.Answers.{ending_of, performed_by}
+use Rattle.ioa_system.specs.Logs.{worker}
 
 -- the program, the states that stand, and the end as it would be with no further action
 pub record Progress : Type 0 where
@@ -30,3 +31,13 @@ pub record IsRunOver (p : Prog) (acts traced : List Act) (r : Progress) : Type 0
   pub program : r.program ≡ p
   pub reached : reached_by r ≡ run (tabled p) acts (start_states p)
   pub trace : traced ≡ trace p.hidden (tabled p) acts (performed_by r.end)
+
+-- the worker of the next action, where the run goes on
+abbrev pub worker_after : End → ℕ → Option ℕ
+worker_after (End.Done n) w = Some w
+worker_after (End.NotAnAction i) w = None
+worker_after (End.NotEnabled i) w = None
+worker_after (End.Fault c f i) w = None
+
+abbrev pub next_worker : Progress → Act → Option ℕ
+next_worker r a = worker_after r.end (worker (tabled r.program) a)

@@ -13,9 +13,9 @@ mod system;
 
 pub use answer::{End, Moved, Step};
 pub use laws::{runs_are_the_hosts, steps_are_the_hosts, steps_are_the_sources};
-pub use log::{Log, LogEnd, LogEntry, worker};
+pub use log::{Log, LogEnd, LogEntry};
 pub use moves::step_from;
-pub use participation::{is_external, owner, participants};
-pub use runner::Runner;
+pub use participation::{Participant, Participation};
+pub use runner::{Runner, Taken};
 pub use runs::{Run, run_list};
 pub use system::System;

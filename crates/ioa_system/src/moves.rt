@@ -14,8 +14,8 @@ ghost use Rattle.ioa_system.specs.Participants as spec;
 ghost use Rattle.ioa_system.specs.Systems.{slot_types, slots_of, types_of, values_of};
 
 use crate::answer::{Moved, Step};
-use crate::participation::{Participant, find, is_local};
-use ioa_compile::{Entry, Member, Program};
+use crate::participation::{Participant, Participation, is_local};
+use ioa_compile::{Entry, Member};
 use ioa_node::{Draft, NodeState, Workspace, draft_effect, enabled_with};
 use ioa_value::{Action, Fault, OutOfMemory};
 use std::alloc::Global;
@@ -35,38 +35,42 @@ enum Consent {
 /// variables' types. A step of all components depends on these states alone.
 pub fn step_from(
     alloc: Global,
-    program: &Program,
-    action: &Action,
+    participation: &Participation<'_, '_>,
     states: &[NodeState],
 ) -> Result<Moved, OutOfMemory>
-    requires { types_of states.now ≡ spec.taken (steps.participants (tabled program.now) (act_of action.now)) (slot_types program.now.members) }
-    ensures value { IfOk result (λ m. moved_of m ≡ spec.step_from (tabled program.now) (act_of action.now) (values_of states.now)) }
+    requires { types_of states.now ≡ spec.taken (steps.participants (tabled participation.now.program) participation.now.action) (slot_types participation.now.program.members) }
+    ensures value { IfOk result (λ m. moved_of m ≡ spec.step_from (tabled participation.now.program) participation.now.action (values_of states.now)) }
     ensures types { IfOk result (AreOfTypes (types_of states.now)) }
-    ensures alone { (ss : List (List Val)) → spec.DependsOnParticipants (tabled program.now) (act_of action.now) ss }
+    ensures alone { (ss : List (List Val)) → spec.DependsOnParticipants (tabled participation.now.program) participation.now.action ss }
 {
-    let mut participants = Vec::new(alloc);
-    find(program.members(), action, &mut participants)?;
-    place_in_order(&mut participants);
-    let participants = participants.as_slice();
+    let in_order = placed_in_order(alloc, participation.participants())?;
+    let participants = in_order.as_slice();
     let mut drafts = Vec::new(alloc);
     let step = moved(
         alloc,
         &mut Workspace::new(alloc),
         &mut drafts,
         participants,
-        action,
+        participation.action(),
         states,
     )?;
     answer(alloc, participants, states, &mut drafts, step)
 }
 
-/// Says of the participants' states that they alone are at hand, in order.
-fn place_in_order(participants: &mut [Participant<'_>])
-    ensures { participants.new ≡ placed 0 participants.old }
+/// The participants where their states alone are at hand, in order.
+fn placed_in_order<'a>(
+    alloc: Global,
+    participants: &[Participant<'a>],
+) -> Result<Vec<Participant<'a>>, OutOfMemory>
+    ensures { IfOk result (λ in_order. in_order.items ≡ placed 0 participants.now) }
 {
+    let mut in_order = Vec::new(alloc);
     for i in 0..participants.len() {
-        participants[i].place = i;
+        let mut participant = participants[i];
+        participant.place = i;
+        in_order.push(participant)?;
     }
+    Ok(in_order)
 }
 
 /// The step's answer with the states that it makes of the participants'.

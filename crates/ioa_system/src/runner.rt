@@ -1,7 +1,7 @@
 ghost use Rattle.std.specs.Prelude.{◌≡◌, ◌++◌, ◌∷◌, [], List, IfOk, OnErr, OnOk, if◌then◌else◌, map};
 ghost use Rattle.ioa_value.specs.Actions.{Act, act_of};
 ghost use Rattle.ioa_compile.specs.Programs.{Prog};
-ghost use Rattle.ioa_system.specs.Progress.{IsRunOver};
+ghost use Rattle.ioa_system.specs.Progress.{IsRunOver, next_worker};
 ghost use Rattle.ioa_system.specs.Records.{IsTableRun};
 ghost use Rattle.ioa_system.specs.Systems.{slot_types, types_of, values_of};
 
@@ -13,6 +13,15 @@ use ioa_node::NodeState;
 use ioa_value::{Action, OutOfMemory};
 use std::alloc::Global;
 use std::marker::Model;
+
+/// What a run makes of an action that it is handed.
+#[derive(Clone, Copy)]
+pub struct Taken {
+    /// The number of the action's worker. Where the run had ended before, none is looked for.
+    pub worker: Option<usize>,
+    /// Whether the trace goes on with the action: whether it is performed and external.
+    pub traced: bool,
+}
 
 /// A run from the start states whose actions come one by one: up to the first that cannot be performed.
 #[derive(Drop)]
@@ -42,54 +51,64 @@ impl<'a> Runner<'a> {
         })
     }
 
-    /// Hands the run its next action, and says whether the trace goes on with it: whether it is performed and external.
-    /// Where the run has ended, nothing changes. A refusal of memory changes nothing; an action past the greatest
-    /// count is refused so.
-    pub fn take(&mut self, action: &Action) -> Result<bool, OutOfMemory>
-        ensures run { IfOk result (λ goes_on. (p : Prog) (acts traced : List Act) → IsRunOver p acts traced self.old
-            → IsRunOver p (acts ++ act_of action.now ∷ []) (traced ++ (if goes_on then act_of action.now ∷ [] else [])) self.new) }
+    /// Hands the run its next action, and says whose work it is and whether the trace goes on with it. Where the run has ended,
+    /// nothing changes. A refusal of memory changes nothing; an action past the greatest count is refused so.
+    pub fn take(&mut self, action: &Action) -> Result<Taken, OutOfMemory>
+        ensures run { IfOk result (λ t. (p : Prog) (acts traced : List Act) → IsRunOver p acts traced self.old
+            → IsRunOver p (acts ++ act_of action.now ∷ []) (traced ++ (if t.traced then act_of action.now ∷ [] else [])) self.new) }
+        ensures worker { IfOk result (λ t. t.worker ≡ next_worker self.old (act_of action.now)) }
         ensures memory { OnErr result (self.new ≡ self.old) }
     {
         let End::Done(count) = self.end else {
-            return Ok(false);
+            return Ok(Taken {
+                worker: None,
+                traced: false,
+            });
         };
         let Some(next) = count.checked_add(1) else {
             return Err(OutOfMemory);
         };
         let performed = self.system.perform(action)?;
-        match performed.step.end_at(count) {
-            Some(end) => {
-                self.end = end;
-                Ok(false)
-            }
-            None => {
-                self.end = End::Done(next);
-                Ok(performed.external)
-            }
-        }
+        let (end, traced) = match performed.step.end_at(count) {
+            Some(end) => (end, false),
+            None => (End::Done(next), performed.external),
+        };
+        self.end = end;
+        Ok(Taken {
+            worker: Some(performed.worker),
+            traced,
+        })
     }
 
-    /// Hands the run its next action, and puts an equal of it at the trace's end where the trace goes on with it. A refusal
-    /// of memory changes neither the run nor the trace.
+    /// Hands the run its next action, and puts an equal of it at the trace's end where the trace goes on with it. The answer is the
+    /// action's worker, where one is looked for. A refusal of memory changes neither the run nor the trace.
     pub fn record(
         &mut self,
         alloc: Global,
         action: &Action,
         trace: &mut Vec<Action>,
-    ) -> Result<(), OutOfMemory>
+    ) -> Result<Option<usize>, OutOfMemory>
         ensures run { OnOk result ((p : Prog) (acts : List Act) → IsRunOver p acts (map act_of trace.old.items) self.old
             → IsRunOver p (acts ++ act_of action.now ∷ []) (map act_of trace.new.items) self.new) }
+        ensures worker { IfOk result (λ worker. worker ≡ next_worker self.old (act_of action.now)) }
         ensures memory { OnErr result (self.new ≡ self.old) }
         ensures trace { OnErr result (trace.new.items ≡ trace.old.items) }
     {
         // (all memory is found before the run goes on)
         let copy = action.try_copy(alloc)?;
         trace.reserve(1)?;
-        let goes_on = self.take(action)?;
-        if goes_on {
+        let taken = self.take(action)?;
+        if taken.traced {
             trace.push_reserved(copy);
         }
-        Ok(())
+        Ok(taken.worker)
+    }
+
+    /// The components' states that are reached, in order.
+    pub fn states(&self) -> &[NodeState]
+        ensures { values_of result.now ≡ self.now.states }
+    {
+        self.system.states()
     }
 
     /// How the run over the actions so far ends.

@@ -7,22 +7,25 @@ ghost use Rattle.ioa_compile.specs.Tables.{start_states, tabled};
 ghost use Rattle.ioa_system.specs.Answers.{IfNext, KeepsUnlessNext, step_of};
 ghost use Rattle.ioa_system.specs.Drafted.{AreDrafts, ArePlaces, drafted};
 ghost use Rattle.ioa_system.specs.Found.{numbers_of};
+ghost use Rattle.ioa_system.specs.Logs as logs;
 ghost use Rattle.ioa_system.specs.Participants.{all_back, put_back};
 ghost use Rattle.ioa_system.specs.Systems.{slot_types, types_of, values_of};
 
 use crate::answer::Step;
 use crate::moves::moved;
-use crate::participation::{Participant, find, shows};
+use crate::participation::{Participant, Participation};
 use ioa_compile::{Member, Program};
 use ioa_node::{Draft, NodeState, Workspace};
 use ioa_value::{Action, OutOfMemory};
 use std::alloc::Global;
 use std::marker::Model;
+use std::mem;
 
-/// What a step answers to an action, and whether the action is external.
+/// What a step answers to an action, the action's worker, and whether it is external.
 #[derive(Clone, Copy)]
 pub(crate) struct Performed {
     pub step: Step,
+    pub worker: usize,
     pub external: bool,
 }
 
@@ -33,7 +36,7 @@ pub struct System<'a> {
     program: &'a Program,
     states: Vec<NodeState>,
     /// Room for the participants of one action, kept from step to step.
-    participants: Vec<Participant<'a>>,
+    room: Vec<Participant<'a>>,
     /// Memory in which the participants' code runs, kept from step to step.
     workspace: Workspace,
     /// Room for the participants' new values, kept from step to step.
@@ -72,7 +75,7 @@ impl<'a> System<'a> {
             alloc,
             program,
             states,
-            participants: Vec::new(alloc),
+            room: Vec::new(alloc),
             workspace: Workspace::new(alloc),
             drafts: Vec::new(alloc),
         }
@@ -89,27 +92,48 @@ impl<'a> System<'a> {
         Ok(self.perform(action)?.step)
     }
 
-    /// Performs the action as `step` does, and says whether it is external.
+    /// Performs the action as `step` does, and says whose work it is and whether it is external. The room for its participants
+    /// is used again.
     pub(crate) fn perform(&mut self, action: &Action) -> Result<Performed, OutOfMemory>
         ensures step { IfOk result (λ r. step_of r.step self.new.states ≡ steps.step (tabled self.old.program) (act_of action.now) self.old.states) }
         ensures kept { IfOk result (λ r. KeepsUnlessNext r.step self.old.states self.new.states) }
+        ensures worker { IfOk result (λ r. r.worker ≡ logs.worker (tabled self.old.program) (act_of action.now)) }
         ensures external { IfOk result (λ r. r.external ≡ runs.is_external self.old.program.hidden (tabled self.old.program) (act_of action.now)) }
         ensures program { self.new.program ≡ self.old.program }
         ensures memory { OnErr result (self.new ≡ self.old) }
     {
-        let program = self.program;
-        find(program.members(), action, &mut self.participants)?;
-        let external = shows(program.hidden(), &self.participants, action);
+        let room = mem::replace(&mut self.room, Vec::new(self.alloc));
+        let participation = Participation::within(room, self.program, action)?;
+        let step = self.step_by(&participation)?;
+        let worker = participation.worker();
+        let external = participation.is_external();
+        self.room = participation.into_room();
+        Ok(Performed {
+            step,
+            worker,
+            external,
+        })
+    }
+
+    /// Performs the participation's action as `step` does. It asks that the participation is of the program that runs.
+    pub fn step_by(&mut self, participation: &Participation<'_, '_>) -> Result<Step, OutOfMemory>
+        requires { participation.now.program ≡ self.old.program }
+        ensures step { IfOk result (λ s. step_of s self.new.states ≡ steps.step (tabled self.old.program) participation.now.action self.old.states) }
+        ensures kept { IfOk result (λ s. KeepsUnlessNext s self.old.states self.new.states) }
+        ensures program { self.new.program ≡ self.old.program }
+        ensures memory { OnErr result (self.new ≡ self.old) }
+    {
+        let participants = participation.participants();
         let step = moved(
             self.alloc,
             &mut self.workspace,
             &mut self.drafts,
-            &self.participants,
-            action,
+            participants,
+            participation.action(),
             &self.states,
         )?;
-        settle(&self.participants, &mut self.states, &mut self.drafts, step);
-        Ok(Performed { step, external })
+        settle(participants, &mut self.states, &mut self.drafts, step);
+        Ok(step)
     }
 
     /// The program that runs.
