@@ -1,8 +1,5 @@
-use crate::tests::shelf::{First, expect_rows};
-use std::test::Fail;
-
 /// A source, a list, what is printed, what is told of errors, and the exit status.
-const ROWS: &str = "\
+pub const ROWS: &str = "\
 -- the text
  |  |  | E17^ | 1
 % nothing but a comment |  |  | E17^ | 1
@@ -45,8 +42,3 @@ automaton Counter(start: Int) signature output tick(k: Int) states c: Int := sta
 automaton Counter(start: Int) signature output tick(k: Int) states c: Int := start + 9223372036854775806 transitions output tick pre k = c propose k := c eff c := c + 1 composition One components A: Counter(0) | tick(9223372036854775806)^tick(9223372036854775807) | tick(9223372036854775806)^end: fault 1 in component 0 at 1^ |  | 3
 automaton A signature output a(k: Int); input b states c: Int transitions output a pre k + c = c propose k := 0 eff c := c + 1 input b eff c := 0 - 5 composition One components A: A | a(0)^a(9223372036854775807)^b^ | a(0)^end: fault 1 in component 0 at 1^ |  | 3
 ";
-
-#[test]
-fn keeps_bounds(rt: HostRuntime) -> Result<(), Fail> {
-    expect_rows(&rt, rt.alloc(), ROWS, First::File)
-}

@@ -12,8 +12,7 @@ use ioa_node::{NodeState, state_values};
 use ioa_syntax::{Refusal, parse, print};
 use ioa_system::{Moved, Step, System, participants, run_list, step_from};
 use ioa_value::{
-    Action, Fault, Op, OutOfMemory, Ty, Types, Value, apply, first, has_type, print_action,
-    read_action, same,
+    Action, OutOfMemory, Ty, Types, Value, first, has_type, print_action, read_action, same,
 };
 use std::alloc::Global;
 use std::test::Fail;
@@ -90,17 +89,13 @@ composition C components X: A; Y: B(1, true) crash down recover up; Z: A crash d
 invariant of A: x < 1 | invariant of A : x < 1^
 ";
 
-fn are_same(alloc: Global, one: &[u8], other: &[u8]) -> Result<bool, Refusal> {
-    let source = parse(alloc, one)?;
-    Ok(source.same(&parse(alloc, other)?))
-}
-
 // Whether the source is printed so, and the text is of an equal source, which is no source of nothing.
 fn is_printed(alloc: Global, source: &str, text: &str) -> Result<bool, Refusal> {
-    let printed = print(alloc, &parse(alloc, source.as_bytes())?)?;
-    let is_same = are_same(alloc, source.as_bytes(), printed.as_slice())?;
-    let is_empty = are_same(alloc, source.as_bytes(), b"")?;
-    Ok(printed.as_slice() == text.as_bytes() && is_same && !is_empty)
+    let parsed = parse(alloc, source.as_bytes())?;
+    let printed = print(alloc, &parsed)?;
+    let again = parse(alloc, printed.as_slice())?;
+    let nothing = parse(alloc, b"")?;
+    Ok(printed.as_slice() == text.as_bytes() && parsed.same(&again) && !parsed.same(&nothing))
 }
 
 #[test]
@@ -113,117 +108,15 @@ fn prints_what_is_parsed(rt: HostRuntime) -> Result<(), Fail> {
     Ok(())
 }
 
-/// An operator, two numbers, and its value or fault. An operator on one operand takes the first, as a truth value where it is
-/// one on truth values.
-const OPERATIONS: [(Op, i64, i64, Result<Value, Fault>); 33] = [
-    (Op::Add, 2, 3, Ok(Value::Num(5))),
-    (Op::Add, i64::MAX, 0, Ok(Value::Num(i64::MAX))),
-    (Op::Add, i64::MAX, i64::MIN, Ok(Value::Num(-1))),
-    (Op::Add, i64::MAX, 1, Err(Fault::Overflow)),
-    (Op::Add, i64::MIN, -1, Err(Fault::Overflow)),
-    (Op::Sub, 2, 3, Ok(Value::Num(-1))),
-    (Op::Sub, -1, i64::MAX, Ok(Value::Num(i64::MIN))),
-    (Op::Sub, -1, i64::MIN, Ok(Value::Num(i64::MAX))),
-    (Op::Sub, i64::MIN, 1, Err(Fault::Overflow)),
-    (Op::Sub, 0, i64::MIN, Err(Fault::Overflow)),
-    (Op::Mul, -7, 6, Ok(Value::Num(-42))),
-    (Op::Mul, i64::MIN, -1, Err(Fault::Overflow)),
-    (Op::Div, -7, 2, Ok(Value::Num(-4))),
-    (Op::Div, -7, -2, Ok(Value::Num(4))),
-    (Op::Div, 7, -2, Ok(Value::Num(-3))),
-    (Op::Div, i64::MIN, -1, Err(Fault::Overflow)),
-    (Op::Div, 3, 0, Err(Fault::ZeroDivisor)),
-    (Op::Mod, -7, 2, Ok(Value::Num(1))),
-    (Op::Mod, -7, -2, Ok(Value::Num(1))),
-    (Op::Mod, i64::MIN, -1, Ok(Value::Num(0))),
-    (Op::Mod, 3, 0, Err(Fault::ZeroDivisor)),
-    (Op::Lt, 2, 2, Ok(Value::Truth(false))),
-    (Op::Le, 2, 2, Ok(Value::Truth(true))),
-    (Op::Gt, 3, 2, Ok(Value::Truth(true))),
-    (Op::Ge, i64::MIN, i64::MAX, Ok(Value::Truth(false))),
-    (Op::Eq, 2, 2, Ok(Value::Truth(true))),
-    (Op::Eq, 2, 3, Ok(Value::Truth(false))),
-    (Op::Eq, i64::MIN, i64::MIN, Ok(Value::Truth(true))),
-    (Op::Eq, i64::MIN, i64::MAX, Ok(Value::Truth(false))),
-    (Op::Ne, 2, 3, Ok(Value::Truth(true))),
-    (Op::Neg, 7, 0, Ok(Value::Num(-7))),
-    (Op::Neg, i64::MIN, 0, Err(Fault::Overflow)),
-    (Op::Not, 0, 0, Ok(Value::Truth(true))),
-];
-
-// The operator's answer on two numbers, or on the first of them, or its truth. None where it takes other values.
-fn on_numbers(
-    alloc: Global,
-    op: Op,
-    a: i64,
-    b: i64,
-) -> Result<Option<Result<Value, Fault>>, OutOfMemory> {
-    let types = basic(alloc)?;
-    Ok(match op {
-        Op::Neg => Some(apply(alloc, &types, Op::Neg, &[Value::Num(a)])?),
-        Op::Not => Some(apply(alloc, &types, Op::Not, &[Value::Truth(a != 0)])?),
-        Op::Add
-        | Op::Sub
-        | Op::Mul
-        | Op::Div
-        | Op::Mod
-        | Op::Lt
-        | Op::Le
-        | Op::Gt
-        | Op::Ge
-        | Op::Eq
-        | Op::Ne => Some(apply(alloc, &types, op, &[Value::Num(a), Value::Num(b)])?),
-        Op::Len
-        | Op::Head
-        | Op::Tail
-        | Op::Last
-        | Op::Init
-        | Op::Append
-        | Op::At
-        | Op::Member
-        | Op::Without
-        | Op::Make(_)
-        | Op::Field(_) => None,
-    })
-}
-
-fn is_answered_so(
-    alloc: Global,
-    op: Op,
-    a: i64,
-    b: i64,
-    wanted: &Result<Value, Fault>,
-) -> Result<bool, OutOfMemory> {
-    Ok(match (on_numbers(alloc, op, a, b)?, wanted) {
-        (Some(Ok(value)), Ok(wanted)) => same(&value, wanted),
-        (Some(Err(fault)), Err(wanted)) => fault == *wanted,
-        _ => false,
-    })
-}
-
-#[test]
-fn operators_have_values(rt: HostRuntime) -> Result<(), Fail> {
-    for (op, a, b, wanted) in &OPERATIONS {
-        let is_so = is_answered_so(rt.alloc(), *op, *a, *b, wanted)?;
-        assert!(rt; is_so, "{a} {b}");
-    }
-    Ok(())
-}
-
-/// Whether Int and Bool have their first values, and these no other type.
-fn are_firsts(alloc: Global) -> Result<bool, OutOfMemory> {
-    let types = basic(alloc)?;
-    let zero = first(alloc, &types, Ty::INT)?;
-    let no = first(alloc, &types, Ty::BOOL)?;
-    let is_zero = same(&zero, &Value::Num(0)) && has_type(&types, &zero, Ty::INT);
-    let is_false = same(&no, &Value::Truth(false)) && has_type(&types, &no, Ty::BOOL);
-    let is_other = has_type(&types, &zero, Ty::BOOL) || has_type(&types, &no, Ty::INT);
-    Ok(is_zero && is_false && !is_other)
-}
-
 #[test]
 fn types_have_first_values(rt: HostRuntime) -> Result<(), Fail> {
-    assert!(rt; are_firsts(rt.alloc())?);
+    let types = basic(rt.alloc())?;
+    let zero = first(rt.alloc(), &types, Ty::INT)?;
+    assert!(rt; same(&zero, &Value::Num(0)));
+    assert!(rt; has_type(&types, &zero, Ty::INT) && !has_type(&types, &zero, Ty::BOOL));
+    let no = first(rt.alloc(), &types, Ty::BOOL)?;
+    assert!(rt; same(&no, &Value::Truth(false)));
+    assert!(rt; has_type(&types, &no, Ty::BOOL) && !has_type(&types, &no, Ty::INT));
     Ok(())
 }
 
@@ -301,21 +194,14 @@ fn steps_a_program(rt: HostRuntime) -> Result<(), Fail> {
     Ok(())
 }
 
-/// The count after two ticks, the second one in a system of the states that a run over the first reaches.
-fn resumed(alloc: Global) -> Result<Option<i64>, Fail> {
-    let program = program(alloc, COUNTER, Some("One"))?;
-    let first = action(alloc, program.types(), "tick(5)")?;
-    let second = action(alloc, program.types(), "tick(6)")?;
-    let run = run_list(alloc, &program, &[first])?;
-    let mut system = System::of(alloc, &program, run.states);
-    match system.step(&second)? {
-        Step::Next => Ok(number_in(alloc, &system)?),
-        Step::NotAnAction | Step::NotEnabled | Step::Fault(_, _) => Ok(None),
-    }
-}
-
 #[test]
 fn a_system_goes_on_from_states(rt: HostRuntime) -> Result<(), Fail> {
-    assert!(rt; resumed(rt.alloc())? == Some(7));
+    let program = program(rt.alloc(), COUNTER, Some("One"))?;
+    let first = action(rt.alloc(), program.types(), "tick(5)")?;
+    let run = run_list(rt.alloc(), &program, &[first])?;
+    let mut system = System::of(rt.alloc(), &program, run.states);
+    let second = action(rt.alloc(), program.types(), "tick(6)")?;
+    assert!(rt; system.step(&second)? == Step::Next);
+    assert!(rt; number_in(rt.alloc(), &system)? == Some(7));
     Ok(())
 }

@@ -1,14 +1,11 @@
-use crate::tests::shelf::{First, expect_rows};
-use std::test::Fail;
-
 /// Two compositions of one counter.
-const TWO: &str =
+pub const TWO: &str =
     "automaton Counter(start: Int) signature output tick(k: Int) states c: Int := start \
     transitions output tick pre k = c propose k := c eff c := c + 1 \
     composition One components A: Counter(1) composition Two components A: Counter(2)";
 
 /// The words after the program's name, a list, what is printed, what is told of errors, and the exit status.
-const ROWS: &str = "\
+pub const ROWS: &str = "\
 replay f | tick(2) | tick(2)^end: done after 1^ |  | 0
 replay f | tick(1) | end: not enabled at 0^ |  | 4
 replay f --comp One | tick(1) | tick(1)^end: done after 1^ |  | 0
@@ -29,8 +26,3 @@ replay f g |  |  | error: unexpected argument 'g' found^^Usage: ioac replay [--c
 replay f --invariant |  |  | error: unexpected argument '--invariant' found^^  tip: a similar argument exists: '--invariants'^^Usage: ioac replay [--comp <NAME>] [--log [--invariants]] <FILE>^^For more information, try '--help'.^ | 2
 replay f --comp |  |  | error: a value is required for '--comp <NAME>' but none was supplied^^For more information, try '--help'.^ | 2
 ";
-
-#[test]
-fn answers_command_lines(rt: HostRuntime) -> Result<(), Fail> {
-    expect_rows(&rt, rt.alloc(), ROWS, First::Words(TWO))
-}

@@ -1,10 +1,7 @@
 //! Compositions of several components: texts, compatibility, and steps that span components.
 
-use crate::tests::shelf::{First, expect_rows};
-use std::test::Fail;
-
 /// The words after the program's name, a source, what is printed, what is told of errors, and the exit status.
-const CHECKS: &str = "\
+pub const CHECKS: &str = "\
 check f | automaton D signature input open transitions input open composition C components A: D; B: D | ok^ |  | 0
 check f | automaton D signature input open transitions input open composition C components A: D; B: D; | ok^ |  | 0
 check f | automaton D signature input open transitions input open composition C components A: D; B: D; composition E components A: D | ok^ |  | 0
@@ -36,7 +33,7 @@ replay f | automaton D signature input open transitions input open automaton E s
 ";
 
 /// A source, a list, what is printed, what is told of errors, and the exit status.
-const REPLAYS: &str = "\
+pub const REPLAYS: &str = "\
 -- the first fault in the order of components, and nothing changes
 type S = seq 1 of Int automaton Go signature output go states n: Int transitions output go eff n := n + 1 automaton Pick signature input go states s: S; x: Int transitions input go eff x := at(s, 0) automaton Top signature input go states x: Int := 9223372036854775807 transitions input go eff x := x + 1 composition Two components G: Go; P: Pick; T: Top | go | end: fault 4 in component 1 at 0^ |  | 3
 type S = seq 1 of Int automaton Go signature output go states n: Int transitions output go eff n := n + 1 automaton Full signature input go states s: S transitions input go eff s := append(s, 1) composition Both components G: Go; F: Full | go^go | go^end: fault 5 in component 1 at 1^ |  | 3
@@ -47,13 +44,3 @@ automaton A signature output put(x: Int); input take(x: Int) states n: Int := 1 
 automaton A signature input tell(x: Int); internal rest states n: Int transitions input tell eff n := x internal rest pre n > 0 eff n := 0 automaton B signature input tell(x: Bool); output sing states b: Bool transitions input tell eff b := x output sing pre b composition C components P: A; Q: B | tell(2)^tell(true)^sing^tell(1, 1) | tell(2)^tell(true)^sing^end: not an action at 3^ |  | 4
 automaton A signature internal rest states n: Int transitions internal rest pre n < 2 eff n := n + 1 automaton B signature output sing transitions output sing composition C components P: A; Q: B | rest^sing^rest^sing^rest | sing^sing^end: not enabled at 4^ |  | 4
 ";
-
-#[test]
-fn checks_compositions(rt: HostRuntime) -> Result<(), Fail> {
-    expect_rows(&rt, rt.alloc(), CHECKS, First::Request)
-}
-
-#[test]
-fn replays_compositions(rt: HostRuntime) -> Result<(), Fail> {
-    expect_rows(&rt, rt.alloc(), REPLAYS, First::File)
-}

@@ -1,10 +1,7 @@
 //! Constants in signatures, and hidden names.
 
-use crate::tests::shelf::{First, expect_rows};
-use std::test::Fail;
-
 /// The words after the program's name, a source, what is printed, what is told of errors, and the exit status.
-const CHECKS: &str = "\
+pub const CHECKS: &str = "\
 -- what may stand after `const`
 check f | type Kind = enum { data, ack } automaton A(i: Int) signature output send(const 0, m: Int, const -5, const true, const false, const data, const i) transitions output send propose m := 0 | ok^ |  | 0
 check f | automaton A signature output send(const 0); input recv(m: Int, const 9223372036854775807) transitions output send input recv | ok^ |  | 0
@@ -47,7 +44,7 @@ check f | automaton D signature input open transitions input open composition C 
 ";
 
 /// A source, a list, what is printed, what is told of errors, and the exit status.
-const REPLAYS: &str = "\
+pub const REPLAYS: &str = "\
 -- compatible: two constants that differ part entries, and so does a constant of another type than the position's
 automaton D signature output send(const 0, m: Int) transitions output send propose m := 0 automaton E signature output send(k: Int, m: Int) transitions output send propose k := 0, m := 0 composition C components A: D; B: E |  |  | E14 components 0 and 1 on send^ | 1
 automaton D signature output send(const 0, m: Int) transitions output send propose m := 0 automaton E signature output send(const 1, m: Int) transitions output send propose m := 0 composition C components A: D; B: E |  | end: done after 0^ |  | 0
@@ -92,13 +89,3 @@ automaton D(n: Int) signature output open states x: Int := 1 div n transitions o
 automaton D(n: Int) signature output open states x: Int := 1 div n transitions output open automaton E signature input open; output shut transitions input open output shut composition C components A: D(1); B: E hidden shut, open | open^shut | end: done after 2^ |  | 0
 automaton D signature internal open transitions internal open composition C components A: D hidden open |  |  | E15 open^ | 1
 ";
-
-#[test]
-fn checks_constants(rt: HostRuntime) -> Result<(), Fail> {
-    expect_rows(&rt, rt.alloc(), CHECKS, First::Request)
-}
-
-#[test]
-fn replays_constants(rt: HostRuntime) -> Result<(), Fail> {
-    expect_rows(&rt, rt.alloc(), REPLAYS, First::File)
-}

@@ -1,10 +1,7 @@
 //! Components that crash and recover, and their stable variables.
 
-use crate::tests::shelf::{First, expect_rows};
-use std::test::Fail;
-
 /// The words after the program's name, a source, what is printed, what is told of errors, and the exit status.
-const CHECKS: &str = "\
+pub const CHECKS: &str = "\
 -- the grammar
 check f | automaton A signature input a states stable n: Int; m: Int transitions input a | ok^ |  | 0
 check f | automaton A signature input a states n: Int; stable m: Int := 1; stable k: Bool transitions input a | ok^ |  | 0
@@ -52,7 +49,7 @@ replay f | automaton A(&f#: Int@1&&, g#: Int@7&) signature &input a#; @63&output
 ";
 
 /// A source, a list, what is printed, what is told of errors, and the exit status.
-const REPLAYS: &str = "\
+pub const REPLAYS: &str = "\
 -- what is stable survives, and nothing else; while it is down the host does nothing
 type Ints = seq 16 of Int automaton Host signature output put(m: Int) states q: Ints; stable t: Int transitions output put pre m = t propose m := t eff q := append(q, m); t := t + 1 composition C components A: Host crash down recover up | put(0)^down^put(1) | put(0)^down^end: not enabled at 2^ |  | 4
 type Ints = seq 16 of Int automaton Host signature output put(m: Int) states q: Ints; stable t: Int transitions output put pre m = t propose m := t eff q := append(q, m); t := t + 1 composition C components A: Host crash down recover up | put(0)^down^down^up^up^put(1) | put(0)^down^down^up^up^put(1)^end: done after 6^ |  | 0
@@ -86,7 +83,7 @@ automaton Crasher signature output fall states stable left: Int := 1; done: Int 
 ";
 
 /// The words after the program's name, a source, a log, what is printed, what is told of errors, and the exit status.
-const LOGS: &str = r#"
+pub const LOGS: &str = r#"
 -- crashes that no component outputs are the environment's
 replay f --log | type Ints = seq 16 of Int automaton Host signature output put(m: Int) states q: Ints; stable t: Int transitions output put pre m = t propose m := t eff q := append(q, m); t := t + 1 composition C components A: Host crash down recover up | {"act":"put(0)","who":0}^{"act":"down","who":1}^{"act":"up","who":1}^{"act":"put(1)","who":0}^{"end":"done after 4"}^ | put(0)^down^up^put(1)^end: done after 4^ |  | 0
 replay f --log | type Ints = seq 16 of Int automaton Host signature output put(m: Int) states q: Ints; stable t: Int transitions output put pre m = t propose m := t eff q := append(q, m); t := t + 1 composition C components A: Host crash down recover up | {"act":"put(0)","who":0}^{"act":"down","who":0}^{"end":"done after 2"}^ |  | L3 line 2^ | 4
@@ -104,18 +101,3 @@ replay f --log --invariants | automaton Host signature input take(m: Int) states
 replay f --log --invariants | automaton Host signature input take(m: Int) states n: Int := 1; stable k: Int transitions input take eff n := m; k := m composition C components A: Host crash down recover up invariant of Host: k < 5 | {"act":"down","who":1}^{"act":"take(5)","who":1}^{"act":"up","who":1}^{"end":"done after 3"}^ | down^take(5)^up^end: done after 3^ |  | 0
 replay f --log --invariants | automaton Host signature input take(m: Int) states n: Int := 1; stable k: Int transitions input take eff n := m; k := m composition C components B: Host; A: Host crash down recover up invariant of Host: k = n \/ n = 1 /\ k = 0 | {"act":"take(5)","who":2}^{"act":"down","who":2}^{"end":"done after 2"}^ | invariant 0 of component 1 broken after 2^ |  | 4
 "#;
-
-#[test]
-fn checks_crashes(rt: HostRuntime) -> Result<(), Fail> {
-    expect_rows(&rt, rt.alloc(), CHECKS, First::Request)
-}
-
-#[test]
-fn replays_crashes(rt: HostRuntime) -> Result<(), Fail> {
-    expect_rows(&rt, rt.alloc(), REPLAYS, First::File)
-}
-
-#[test]
-fn replays_logs_with_crashes(rt: HostRuntime) -> Result<(), Fail> {
-    expect_rows(&rt, rt.alloc(), LOGS, First::All)
-}

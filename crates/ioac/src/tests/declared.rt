@@ -1,10 +1,7 @@
 //! Declared types: texts and meaning, both sides of each limit, and values in lists.
 
-use crate::tests::shelf::{First, expect_rows};
-use std::test::Fail;
-
 /// The words after the program's name, a source, what is printed, what is told of errors, and the exit status.
-const CHECKS: &str = "\
+pub const CHECKS: &str = "\
 check f | type Mode = enum { idle, busy } type Packet = tuple { mode: Mode, tag: Int } type Packets = seq 16 of Packet | ok^ |  | 0
 -- the grammar
 check f | type T = enum { a b } |  | E3 line 1^ | 1
@@ -103,7 +100,7 @@ check f | type Row = seq 63 of Int type Board = seq 63 of Row type Book = seq 25
 ";
 
 /// A source, a list, what is printed, what is told of errors, and the exit status.
-const REPLAYS: &str = "\
+pub const REPLAYS: &str = "\
 -- sequences that are empty, too short and full
 type Ints = seq 4 of Int automaton A signature output give(p: Int) states b: Ints transitions output give pre p = head(b) propose p := 0 composition One components A: A | give(1) | end: fault 3 in component 0 at 0^ |  | 3
 type Ints = seq 4 of Int automaton A signature output give(p: Int) states b: Ints transitions output give pre len(b) > 0 /\\ p = head(b) propose p := 0 composition One components A: A | give(1) | end: not enabled at 0^ |  | 4
@@ -140,13 +137,3 @@ type T = tuple { a: Int, b: Bool } automaton A signature input p(t: T) transitio
 type T = enum { a, b } automaton A signature input p(t: T) transitions input p composition One components A: A | p(a)^p(c) |  | L2 line 2^ | 4
 type T = enum { a, b } automaton A signature input p(t: T) transitions input p composition One components A: A | p(b)^p(0) | p(b)^end: not an action at 1^ |  | 4
 ";
-
-#[test]
-fn checks_declared_types(rt: HostRuntime) -> Result<(), Fail> {
-    expect_rows(&rt, rt.alloc(), CHECKS, First::Request)
-}
-
-#[test]
-fn replays_declared_types(rt: HostRuntime) -> Result<(), Fail> {
-    expect_rows(&rt, rt.alloc(), REPLAYS, First::File)
-}

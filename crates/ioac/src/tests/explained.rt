@@ -2,36 +2,22 @@ use crate::code::Code;
 use crate::explanation::Example;
 use crate::explanations::explanation;
 use crate::status::Status;
-use crate::tests::shelf::{Given, REPLAY, run, run_on};
-use ioa_log::Counted;
+use crate::tests::shelf::{Given, REPLAY, Wanted, expect, run};
+use crate::tests::tables::text;
 use std::alloc::Global;
 use std::test::Fail;
 
-/// The words, the source and the standard input that give a code, if any do.
-fn example(
-    alloc: Global,
-    code: Code,
-) -> Result<Option<(&'static str, String, &'static str)>, Fail> {
-    Ok(match explanation(code).example {
-        Example::Source(source) => Some((REPLAY, String::from_str(alloc, source)?, "")),
-        Example::Replay { source, list } => Some((REPLAY, String::from_str(alloc, source)?, list)),
-        Example::ReplayLog { source, log } => {
-            Some(("replay f --log", String::from_str(alloc, source)?, log))
-        }
-        Example::Monitor { source, log } => {
-            Some(("monitor f", String::from_str(alloc, source)?, log))
-        }
-        Example::Told(_) if code == Code::E1 => Some((REPLAY, spaces(alloc, 1_048_577)?, "")),
-        Example::Told(_) => None,
-    })
-}
-
-fn spaces(alloc: Global, count: usize) -> Result<String, Fail> {
-    let mut text = String::new(alloc);
-    for _ in 0..count {
-        text.push(' ')?;
-    }
-    Ok(text)
+/// What gives a code, if texts do: for `E1` this long one.
+fn example<'a>(code: Code, long: &'a str) -> Option<Given<'a>> {
+    let (words, file, list) = match explanation(code).example {
+        Example::Source(source) => (REPLAY, source, ""),
+        Example::Replay { source, list } => (REPLAY, source, list),
+        Example::ReplayLog { source, log } => ("replay f --log", source, log),
+        Example::Monitor { source, log } => ("monitor f", source, log),
+        Example::Told(_) if code == Code::E1 => (REPLAY, long, ""),
+        Example::Told(_) => return None,
+    };
+    Some(Given { words, file, list })
 }
 
 /// Whether it is told first, alone or with details.
@@ -42,7 +28,7 @@ fn tells(errors: &[u8], code: Code) -> bool {
     }
 }
 
-/// Whether the program tells this code of the words, the source and the standard input, and nothing else.
+/// Whether the program tells this code of what it is given, and nothing else.
 fn is_given(alloc: Global, code: Code, given: &Given<'_>) -> Result<bool, Fail> {
     let ran = run(alloc, given)?;
     let status = if code.spelling().starts_with("L") {
@@ -53,21 +39,13 @@ fn is_given(alloc: Global, code: Code, given: &Given<'_>) -> Result<bool, Fail> 
     Ok(tells(ran.errors.as_slice(), code) && ran.output.is_empty() && ran.status == status.number())
 }
 
-/// Whether the code's example gives it, if it has one.
-fn example_gives(alloc: Global, code: Code) -> Result<Option<bool>, Fail> {
-    let Some((words, source, list)) = example(alloc, code)? else {
-        return Ok(None);
-    };
-    let file = source.as_str();
-    Ok(Some(is_given(alloc, code, &Given { words, file, list })?))
-}
-
 #[test]
 fn examples_give_their_codes(rt: HostRuntime) -> Result<(), Fail> {
+    let long = text(rt.alloc(), " @1048577")?;
     let mut count = 0usize;
     for code in Code::ALL {
-        if let Some(gives) = example_gives(rt.alloc(), code)? {
-            assert!(rt; gives, "{code}");
+        if let Some(given) = example(code, long.as_str()) {
+            assert!(rt; is_given(rt.alloc(), code, &given)?, "{code}");
             count = count.saturating_add(1);
         }
     }
@@ -75,57 +53,23 @@ fn examples_give_their_codes(rt: HostRuntime) -> Result<(), Fail> {
     Ok(())
 }
 
-/// Whether the program explains the code, and tells nothing else.
-fn is_explained(alloc: Global, code: Code) -> Result<bool, Fail> {
-    let words = format!(in alloc; "explain {code}")?;
-    let given = Given {
-        words: words.as_str(),
-        file: "",
-        list: "",
-    };
-    let ran = run(alloc, &given)?;
-    let wanted = explanation(code);
-    let text = format!(in alloc; "{wanted}")?;
-    Ok(
-        ran.output.as_slice() == text.as_bytes()
-            && ran.errors.is_empty()
-            && ran.status == Status::Done.number(),
-    )
-}
-
 #[test]
 fn each_code_is_explained(rt: HostRuntime) -> Result<(), Fail> {
     for code in Code::ALL {
-        let is_explained = is_explained(rt.alloc(), code)?;
-        assert!(rt; is_explained, "{code}");
+        let words = format!(in rt.alloc(); "explain {code}")?;
+        let explanation = explanation(code);
+        let output = format!(in rt.alloc(); "{explanation}")?;
+        let given = Given {
+            words: words.as_str(),
+            file: "",
+            list: "",
+        };
+        let wanted = Wanted {
+            output: output.as_str(),
+            errors: "",
+            status: Status::Done.number(),
+        };
+        expect(&rt, rt.alloc(), words.as_str(), &given, &wanted)?;
     }
-    Ok(())
-}
-
-/// Whether the program fails where only two bytes can be written, and writes these.
-fn is_cramped(alloc: Global, words: &str, written: &[u8]) -> Result<bool, Fail> {
-    let given = Given {
-        words,
-        file: "automaton A signature input a transitions input a",
-        list: "",
-    };
-    let mut room = [0u8; 2];
-    let mut input = Counted::new(given.list.as_bytes());
-    let mut output = Counted::new(room.as_mut_slice());
-    let mut errors = Counted::new(Vec::new(alloc));
-    let status = run_on(alloc, &given, &mut input, &mut output, &mut errors)?;
-    let told = errors.into_inner();
-    Ok(
-        status == Status::Broken.number()
-            && told.as_slice() == b"L8\n".as_slice()
-            && room.as_slice() == written,
-    )
-}
-
-#[test]
-fn full_devices_are_told(rt: HostRuntime) -> Result<(), Fail> {
-    assert!(rt; is_cramped(rt.alloc(), "check f", b"ok")?);
-    assert!(rt; is_cramped(rt.alloc(), "explain E1", b"E1")?);
-    assert!(rt; is_cramped(rt.alloc(), "--version", b"io")?);
     Ok(())
 }

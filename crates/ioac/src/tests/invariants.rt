@@ -1,10 +1,7 @@
 //! Invariants: which sources have them, and the first that the states of a log break.
 
-use crate::tests::shelf::{First, expect_rows};
-use std::test::Fail;
-
 /// The words after the program's name, a source, what is printed, what is told of errors, and the exit status.
-const CHECKS: &str = r#"
+pub const CHECKS: &str = r#"
 -- the grammar
 check f | automaton A(i: Int) signature input a(k: Int) states n: Int transitions input a invariant of A: n = i | ok^ |  | 0
 check f | automaton A(i: Int) signature input a(k: Int) states n: Int transitions input a invariant of A: n = i; invariant of A: true; | ok^ |  | 0
@@ -50,7 +47,7 @@ check f | automaton A(i: Int) signature input a(k: Int) states n: Int transition
 "#;
 
 /// The words after the program's name, a source, a log, what is printed, what is told of errors, and the exit status.
-const REPLAYS: &str = r#"
+pub const REPLAYS: &str = r#"
 replay f --log --invariants | automaton Counter(start: Int) signature output tick(k: Int); input reset states c: Int := start transitions output tick pre k = c propose k := c eff c := c + 1 input reset eff c := start composition One components A: Counter(5) invariant of Counter: c < 7 | {"act":"tick(5)","who":0}^{"act":"tick(6)","who":0}^{"act":"reset","who":1}^{"end":"done after 3"}^ | invariant 0 of component 0 broken after 2^ |  | 4
 replay --invariants --comp One f --log | automaton Counter(start: Int) signature output tick(k: Int); input reset states c: Int := start transitions output tick pre k = c propose k := c eff c := c + 1 input reset eff c := start composition One components A: Counter(5) invariant of Counter: c < 7; | {"act":"tick(5)","who":0}^{"act":"tick(6)","who":0}^{"act":"reset","who":1}^{"end":"done after 3"}^ | invariant 0 of component 0 broken after 2^ |  | 4
 replay f --log --invariants | automaton Counter(start: Int) signature output tick(k: Int); input reset states c: Int := start transitions output tick pre k = c propose k := c eff c := c + 1 input reset eff c := start composition One components A: Counter(5) invariant of Counter: c < 8 | {"act":"tick(5)","who":0}^{"act":"tick(6)","who":0}^{"act":"reset","who":1}^{"end":"done after 3"}^ | tick(5)^tick(6)^reset^end: done after 3^ |  | 0
@@ -114,13 +111,3 @@ replay f --invariants | automaton Counter(start: Int) signature output tick(k: I
 replay --comp Nine --invariants g |  |  |  | error: the following required arguments were not provided:^  --log^^Usage: ioac replay --log --invariants <FILE>^^For more information, try '--help'.^ | 2
 monitor f --invariants |  |  |  | error: unexpected argument '--invariants' found^^  tip: to pass '--invariants' as a value, use '-- --invariants'^^Usage: ioac monitor <FILE>^^For more information, try '--help'.^ | 2
 "#;
-
-#[test]
-fn checks_invariants(rt: HostRuntime) -> Result<(), Fail> {
-    expect_rows(&rt, rt.alloc(), CHECKS, First::Request)
-}
-
-#[test]
-fn replays_invariants(rt: HostRuntime) -> Result<(), Fail> {
-    expect_rows(&rt, rt.alloc(), REPLAYS, First::All)
-}

@@ -1,10 +1,7 @@
 //! The lines of refusals: what is at fault stands on a line of its own, so that another line is told where it is not its own.
 
-use crate::tests::shelf::{First, expect_rows};
-use std::test::Fail;
-
 /// A source to check, what is printed, what is told of errors, and the exit status.
-const ROWS: &str = "\
+pub const ROWS: &str = "\
 -- the first declaration that is too many
 type T# = enum { t# } @1024&type^Over^= enum { over } |  | E10 line 2^ | 1
 automaton A# signature internal a transitions internal a @256&automaton^Over^signature internal a transitions internal a |  | E10 line 2^ | 1
@@ -120,8 +117,3 @@ automaton A signature input a(p: Int) transitions input^a^propose p := 0 |  | E8
 automaton A signature output a(p: Int) transitions output^a^pre true |  | E9 line 2^ | 1
 type B = seq 256 of Int type^C^= seq 16 of B |  | E11 line 2^ | 1
 ";
-
-#[test]
-fn refusals_name_their_lines(rt: HostRuntime) -> Result<(), Fail> {
-    expect_rows(&rt, rt.alloc(), ROWS, First::Check)
-}

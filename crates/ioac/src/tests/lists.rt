@@ -1,8 +1,5 @@
-use crate::tests::shelf::{COUNTER, First, expect_rows};
-use std::test::Fail;
-
 /// A list for the counter, what is printed, what is told of errors, and the exit status.
-const ROWS: &str = "\
+pub const ROWS: &str = "\
 tick(5)^tick(6)^reset^ | tick(5)^tick(6)^reset^end: done after 3^ |  | 0
  | end: done after 0^ |  | 0
 ^ \t\r^%^% a comment | end: done after 0^ |  | 0
@@ -43,8 +40,3 @@ if^ |  | L2 line 1^ | 4
 tick(6)^tick(5 |  | L2 line 2^ | 4
 tick(5)^(^) |  | L2 line 2^ | 4
 ";
-
-#[test]
-fn replays_lists(rt: HostRuntime) -> Result<(), Fail> {
-    expect_rows(&rt, rt.alloc(), ROWS, First::List(COUNTER))
-}

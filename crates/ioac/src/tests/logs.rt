@@ -1,13 +1,11 @@
 //! Logs that are replayed, and logs that are monitored.
 
-use crate::tests::shelf::{COUNTER, First, basic, expect_rows};
-use ioa_log::{Counted, LogErr, read_log, write_log};
-use ioa_value::Types;
-use std::alloc::Global;
+use crate::tests::shelf::basic;
+use ioa_log::{Counted, read_log, write_log};
 use std::test::Fail;
 
 /// The words after the program's name, a log of the counter, what is printed, what is told of errors, and the exit status.
-const REPLAYS: &str = r#"
+pub const REPLAYS: &str = r#"
 replay f --log | {"act":"tick(5)","who":0}^{"act":"tick(6)","who":0}^{"act":"reset","who":1}^{"end":"done after 3"}^ | tick(5)^tick(6)^reset^end: done after 3^ |  | 0
 replay f --log | {"act":"tick(5)","who":0}^{"act":"tick(6)","who":0}^{"act":"reset","who":1}^{"end":"done after 3"} | tick(5)^tick(6)^reset^end: done after 3^ |  | 0
 replay --log --comp One f | {"act":"reset","who":1}^{"act":"tick(5)","who":0}^{"end":"done after 2"}^ | reset^tick(5)^end: done after 2^ |  | 0
@@ -96,7 +94,7 @@ replay --log |  |  | error: the following required arguments were not provided:^
 "#;
 
 /// Logs with CR and tabs, which are blanks of JSON, and of actions.
-const BLANKS: &str = "\
+pub const BLANKS: &str = "\
 replay f --log | {\"act\":\"tick(5)\",\"who\":0}\r^{\"end\":\"done after 1\"}\r^ | tick(5)^end: done after 1^ |  | 0
 replay f --log | \t{\"act\":\"tick(\\t5)\\r\",\t\"who\":0}^{\"end\":\"done after 1\"}^ | tick(5)^end: done after 1^ |  | 0
 replay f --log | {\"end\":\"done after 0\\r\"}^ |  | L2 line 1^ | 4
@@ -104,7 +102,7 @@ replay f --log | {\"end\":\"done after 0\"}^\r^ |  | L6^ | 4
 ";
 
 /// The words after the program's name, a source, a log, what is printed, what is told of errors, and the exit status.
-const FAULTS: &str = r#"
+pub const FAULTS: &str = r#"
 -- the last action of a log that ends by a fault is the one that faults
 replay f --log | automaton Top signature output up; output see(x: Int) states n: Int := 9223372036854775806 transitions output up eff n := n + 1 output see pre x = n propose x := n composition One components A: Top | {"act":"up","who":0}^{"act":"up","who":0}^{"end":"fault 1 in component 0 at 1"}^ | up^end: fault 1 in component 0 at 1^ |  | 3
 replay f --log | automaton Top signature output up; output see(x: Int) states n: Int := 9223372036854775806 transitions output up eff n := n + 1 output see pre x = n propose x := n composition One components A: Top | {"act":"up","who":0}^{"act":"up","who":0}^{"end":"fault 2 in component 0 at 1"}^ |  | L4 line 3^ | 4
@@ -121,7 +119,7 @@ replay f --log | automaton A signature output put(x: Int) states n: Int transiti
 "#;
 
 /// The same of monitors.
-const MONITORS: &str = r#"
+pub const MONITORS: &str = r#"
 monitor f | automaton Once(n: Int) signature output tick(k: Int); input reset states left: Int := n transitions output tick pre left > 0 propose k := 0 eff left := left - 1 input reset eff left := n composition Spec components M: Once(1) | {"act":"tick(5)","who":0}^{"act":"tick(6)","who":0}^{"act":"reset","who":1}^{"end":"done after 3"}^ | monitor: not enabled at 1^ |  | 4
 monitor f | automaton Once(n: Int) signature output tick(k: Int); input reset states left: Int := n transitions output tick pre left > 0 propose k := 0 eff left := left - 1 input reset eff left := n composition Spec components M: Once(2) | {"act":"tick(5)","who":0}^{"act":"tick(6)","who":0}^{"act":"reset","who":1}^{"end":"done after 3"}^ | monitor: ok^ |  | 0
 monitor f | automaton Once(n: Int) signature output tick(k: Int); input reset states left: Int := n transitions output tick pre left > 0 propose k := 0 eff left := left - 1 input reset eff left := n composition Spec components M: Once(1) composition Other components M: Once(2) | {"act":"tick(5)","who":0}^{"act":"tick(6)","who":0}^{"end":"done after 2"}^ | monitor: ok^ |  | 0
@@ -158,18 +156,6 @@ check f --log |  |  |  | error: unexpected argument '--log' found^^  tip: to pas
 monitor --help |  |  | Reads a log on standard input, and prints whether a composition accepts its actions^^Usage: ioac monitor [OPTIONS] <FILE>^^Arguments:^  <FILE>  A source of I/O automata^^Options:^      --comp <NAME>  The composition to take; without it, the source's last one^  -h, --help         Print help^^The composition has no internal action, and hides none. It is run on those of the log's actions that its components have.^Exit status: 0 accepted, 1 source refused, 2 bad command line,^4 not accepted, log refused, or no monitor, 5 memory or a device.^ |  | 0
 "#;
 
-#[test]
-fn replays_logs(rt: HostRuntime) -> Result<(), Fail> {
-    expect_rows(&rt, rt.alloc(), REPLAYS, First::Words(COUNTER))?;
-    expect_rows(&rt, rt.alloc(), BLANKS, First::Words(COUNTER))?;
-    expect_rows(&rt, rt.alloc(), FAULTS, First::All)
-}
-
-#[test]
-fn monitors_logs(rt: HostRuntime) -> Result<(), Fail> {
-    expect_rows(&rt, rt.alloc(), MONITORS, First::All)
-}
-
 /// A text of a log, and the text as it is written.
 const WRITTEN: [(&str, &str); 4] = [
     ("{\"end\":\"done after 0\"}", "{\"end\":\"done after 0\"}\n"),
@@ -187,19 +173,14 @@ const WRITTEN: [(&str, &str); 4] = [
     ),
 ];
 
-// What is written of the log that is read from a text.
-fn rewritten(alloc: Global, types: &Types, text: &str) -> Result<Vec<u8>, LogErr> {
-    let log = read_log(alloc, types, &mut Counted::new(text.as_bytes()))?;
-    let mut output = Counted::new(Vec::new(alloc));
-    write_log(alloc, types, &log, &mut output)?;
-    Ok(output.into_inner())
-}
-
 #[test]
 fn writes_logs(rt: HostRuntime) -> Result<(), Fail> {
     let types = basic(rt.alloc())?;
     for (text, wanted) in WRITTEN {
-        let written = rewritten(rt.alloc(), &types, text)?;
+        let log = read_log(rt.alloc(), &types, &mut Counted::new(text.as_bytes()))?;
+        let mut output = Counted::new(Vec::new(rt.alloc()));
+        write_log(rt.alloc(), &types, &log, &mut output)?;
+        let written = output.into_inner();
         assert!(rt; written.as_slice() == wanted.as_bytes(), "{text}");
     }
     Ok(())

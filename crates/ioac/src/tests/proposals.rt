@@ -1,13 +1,12 @@
 //! Proposals of any number below one: which sources have them, and how they are printed.
 
-use crate::tests::shelf::{First, expect_rows};
 use crate::tests::tables::{column, columns, is_row};
 use ioa_syntax::{Refusal, parse, print};
 use std::alloc::Global;
 use std::test::Fail;
 
 /// A source to check, what is printed, what is told of errors, and the exit status.
-const CHECKS: &str = "\
+pub const CHECKS: &str = "\
 automaton A(n: Int) signature output roll(d: Int) states k: Int transitions output roll pre k < 2 propose d := any(n) eff k := k + 1 | ok^ |  | 0
 automaton A(n: Int) signature output roll(d: Int) states k: Int transitions output roll propose d := any((n + k) * 2) | ok^ |  | 0
 automaton A signature internal roll(d: Int, const 1, e: Int) transitions internal roll propose e := 1, d := any(0) | ok^ |  | 0
@@ -70,7 +69,7 @@ automaton A signature input roll(d: Int) transitions input^roll propose d := any
 ";
 
 /// A list and a file, what is printed, what is told of errors, and the exit status: what is proposed decides nothing of what can be done.
-const REPLAYS: &str = "\
+pub const REPLAYS: &str = "\
 roll(5)^clear^roll(0)^tell(0)^tell(0) | roll(5)^roll(0)^tell(0)^tell(0)^end: done after 5^ |  | 0
 roll(6)^roll(-1)^tell(5) | roll(6)^roll(-1)^tell(5)^end: done after 3^ |  | 0
 roll(1)^down^up^roll(1)^tell(2) | roll(1)^down^up^roll(1)^tell(2)^end: done after 5^ |  | 0
@@ -78,7 +77,7 @@ roll(1)^roll(1)^roll(1) | roll(1)^roll(1)^end: not enabled at 2^ |  | 4
 ";
 
 /// A die that is rolled twice between crashes, and one who sums up.
-const GAME: &str = "\
+pub const GAME: &str = "\
 automaton Dice(n: Int) signature output roll(d: Int) states stable k: Int \
 transitions output roll pre k < 2 propose d := any(n) eff k := k + 1 \
 automaton Keep signature input roll(d: Int); output tell(s: Int); internal clear states sum: Int \
@@ -113,14 +112,4 @@ fn prints_any(rt: HostRuntime) -> Result<(), Fail> {
         assert!(rt; is_so, "{source}");
     }
     Ok(())
-}
-
-#[test]
-fn checks_any(rt: HostRuntime) -> Result<(), Fail> {
-    expect_rows(&rt, rt.alloc(), CHECKS, First::Check)
-}
-
-#[test]
-fn replays_any(rt: HostRuntime) -> Result<(), Fail> {
-    expect_rows(&rt, rt.alloc(), REPLAYS, First::List(GAME))
 }

@@ -6,7 +6,7 @@ use ioa_compile::{Program, compile};
 use ioa_compose::compose;
 use ioa_node::{NodeState, state_values};
 use ioa_syntax::{Refusal, parse};
-use ioa_system::{End, Run, is_external, owner, participants, run_list};
+use ioa_system::{End, is_external, owner, participants, run_list};
 use ioa_value::{Action, Fault, OutOfMemory, Types, print_action, read_action, read_list};
 use std::alloc::Global;
 use std::test::Fail;
@@ -98,42 +98,29 @@ pub fn program(alloc: Global, source: &str, composition: Option<&str>) -> Result
     Ok(compile(alloc, &composition)?)
 }
 
-fn run_of(alloc: Global, program: &Program, list: &str) -> Result<Run, Fail> {
-    let read = read_list(alloc, program.types(), list.as_bytes())?;
-    let actions = read.ok().ok_or("no list")?;
-    Ok(run_list(alloc, program, &actions)?)
-}
-
-fn push_state(
-    alloc: Global,
-    text: &mut String,
-    types: &Types,
-    state: &NodeState,
-) -> Result<(), OutOfMemory> {
+// The values of a state, told as those of an action.
+fn told_state(alloc: Global, types: &Types, state: &NodeState) -> Result<String, OutOfMemory> {
     let values = Action {
         name: String::from_str(alloc, ", state")?,
         vals: state_values(alloc, state)?,
     };
-    let told = print_action(alloc, types, &values)?;
-    text.push_str(told.as_str())?;
-    Ok(())
+    print_action(alloc, types, &values)
 }
 
-fn told_of(alloc: Global, types: &Types, run: &Run) -> Result<String, OutOfMemory> {
+fn reached(alloc: Global, source: &str, list: &str) -> Result<String, Fail> {
+    let program = program(alloc, source, None)?;
+    let actions = read_list(alloc, program.types(), list.as_bytes())?
+        .ok()
+        .ok_or("no list")?;
+    let run = run_list(alloc, &program, &actions)?;
     let end = run.end;
     let performed = run.performed;
     let shown = run.trace.len();
     let mut text = format!(in alloc; "{end}, {performed} performed, {shown} shown")?;
     for state in run.states.as_slice() {
-        push_state(alloc, &mut text, types, state)?;
+        text.push_str(told_state(alloc, program.types(), state)?.as_str())?;
     }
     Ok(text)
-}
-
-fn reached(alloc: Global, source: &str, list: &str) -> Result<String, Fail> {
-    let program = program(alloc, source, None)?;
-    let run = run_of(alloc, &program, list)?;
-    Ok(told_of(alloc, program.types(), &run)?)
 }
 
 #[test]

@@ -1,8 +1,5 @@
-use crate::tests::shelf::{First, expect_rows};
-use std::test::Fail;
-
 /// The words after the program's name, a source, what is printed, what is told of errors, and the exit status.
-const ROWS: &str = "\
+pub const ROWS: &str = "\
 check f |  | ok^ |  | 0
 check f | automaton A signature input a transitions input a | ok^ |  | 0
 check f | automaton A signature input a^states n: Int^transitions input a^eff n := true |  | E7 line 4^ | 1
@@ -26,8 +23,3 @@ explain --help |  | Says what a code means that the program printed, what gives 
 -V |  | ioac 0.2.0^ |  | 0
 replay --version |  |  | error: unexpected argument '--version' found^^  tip: to pass '--version' as a value, use '-- --version'^^Usage: ioac replay [--comp <NAME>] [--log [--invariants]] <FILE>^^For more information, try '--help'.^ | 2
 ";
-
-#[test]
-fn answers_requests(rt: HostRuntime) -> Result<(), Fail> {
-    expect_rows(&rt, rt.alloc(), ROWS, First::Request)
-}

@@ -6,7 +6,7 @@ use crate::store::{Store, StoreErr};
 use crate::tests::tables::{column, columns, is_row};
 use ioa_log::{Counted, InputDevice, OutputDevice};
 use ioa_value::{Declarations, OutOfMemory, Types};
-use std::alloc::Global;
+use std::alloc::{AllocError, Global};
 use std::process::Abort;
 use std::test::Fail;
 
@@ -141,10 +141,24 @@ pub enum First<'a> {
     Check,
     /// The words after the program's name, a file, and standard input.
     All,
+    /// A part of this file, what stands in its place, and a list: to be replayed on the file that is changed so.
+    Changed(&'a str),
 }
 
-// What the first columns give, and how many they are.
-fn given_in<'a>(first: First<'a>, columns: &'a [String]) -> (Given<'a>, usize) {
+// The file of a row that tells what is changed in one, and nothing for another row, or where the part is not in it.
+fn changed(alloc: Global, first: First<'_>, columns: &[String]) -> Result<String, AllocError> {
+    let mut changed = String::new(alloc);
+    if let First::Changed(file) = first {
+        if let Some((before, after)) = file.split_once(column(columns, 0)) {
+            let by = column(columns, 1);
+            write!(changed, "{before}{by}{after}")?;
+        }
+    }
+    Ok(changed)
+}
+
+// What the first columns give, with this file where they change one, and how many they are.
+fn given_in<'a>(first: First<'a>, columns: &'a [String], changed: &'a str) -> (Given<'a>, usize) {
     let one = column(columns, 0);
     let two = column(columns, 1);
     let (words, file, list, count) = match first {
@@ -154,12 +168,13 @@ fn given_in<'a>(first: First<'a>, columns: &'a [String]) -> (Given<'a>, usize) {
         First::Request => (one, two, "", 2),
         First::Check => ("check f", one, "", 1),
         First::All => (one, two, column(columns, 2), 3),
+        First::Changed(_) => (REPLAY, changed, column(columns, 2), 3),
     };
     (Given { words, file, list }, count)
 }
 
-/// What has to be printed, told of errors, and answered as exit status: the columns from this number on.
-pub fn wanted_in(columns: &[String], number: usize) -> Result<Wanted<'_>, Fail> {
+// What has to be printed, told of errors, and answered as exit status: the columns from this number on.
+fn wanted_in(columns: &[String], number: usize) -> Result<Wanted<'_>, Fail> {
     Ok(Wanted {
         output: column(columns, number),
         errors: column(columns, number.saturating_add(1)),
@@ -177,7 +192,8 @@ pub fn expect_rows(
 ) -> Result<(), Fail> {
     for row in rows.lines().filter(|line| is_row(line)) {
         let columns = columns(alloc, row)?;
-        let (given, count) = given_in(first, &columns);
+        let changed = changed(alloc, first, &columns)?;
+        let (given, count) = given_in(first, &columns, changed.as_str());
         let wanted = wanted_in(&columns, count)?;
         expect(rt, alloc, row, &given, &wanted)?;
     }

@@ -34,20 +34,6 @@ impl Write for Slow {
     }
 }
 
-/// Takes nothing.
-#[derive(Drop)]
-struct Full;
-
-impl Write for Full {
-    fn write(&mut self, _buf: &[u8]) -> io::Result<usize> {
-        Ok(0)
-    }
-
-    fn flush(&mut self) -> io::Result<()> {
-        Ok(())
-    }
-}
-
 /// Gives one byte a call, and fails after so many calls.
 #[derive(Drop)]
 struct Dripping<'a> {
@@ -171,35 +157,43 @@ fn assert_failed(rt: &impl Abort, ran: &Ran, failures: u64) {
     assert!(rt; ran.errors.as_slice() == b"L8\n".as_slice());
 }
 
-/// Runs the program on the words where nothing can be printed.
-fn silenced(alloc: Global, words: &str) -> Result<u8, Fail> {
-    let given = Given {
-        words,
-        file: COUNTER,
-        list: LIST,
-    };
-    let mut input = Counted::new(given.list.as_bytes());
-    let mut output = Counted::new(Full);
-    run_on(
+/// A source that is well formed.
+const SMALL: &str = "automaton A signature input a transitions input a";
+
+/// The words, a file, standard input, and what stands in the end in rooms of these lengths for what is printed and for what is told of
+/// errors. They were zeros.
+const ROOMS: [(&str, &str, &str, &[u8], &[u8]); 9] = [
+    ("check f", SMALL, "", b"ok", b"L8\n\0"),
+    ("explain E1", SMALL, "", b"E1", b"L8\n\0"),
+    ("--version", SMALL, "", b"io", b"L8\n\0"),
+    ("replay f", COUNTER, LIST, b"", b""),
+    ("replay g", COUNTER, LIST, b"", b""),
+    ("replay f --comp Nine", COUNTER, LIST, b"", b""),
+    ("replay f --invariants", COUNTER, LIST, b"", b""),
+    ("--help", COUNTER, LIST, b"", b""),
+    ("", COUNTER, LIST, b"", b""),
+];
+
+/// Whether the program fails where no more than this can be written.
+fn fills(alloc: Global, given: &Given<'_>, printed: &[u8], told: &[u8]) -> Result<bool, Fail> {
+    let mut output = vec![in alloc; 0u8; printed.len()]?;
+    let mut errors = vec![in alloc; 0u8; told.len()]?;
+    let status = run_on(
         alloc,
-        &given,
-        &mut input,
-        &mut output,
-        &mut Counted::new(Full),
-    )
+        given,
+        &mut Counted::new(given.list.as_bytes()),
+        &mut Counted::new(output.as_mut_slice()),
+        &mut Counted::new(errors.as_mut_slice()),
+    )?;
+    let is_full = output.as_slice() == printed && errors.as_slice() == told;
+    Ok(is_full && status == Status::Broken.number())
 }
 
 #[test]
-fn fails_where_nothing_is_printed(rt: HostRuntime) -> Result<(), Fail> {
-    for words in [
-        "replay f",
-        "replay g",
-        "replay f --comp Nine",
-        "replay f --invariants",
-        "--help",
-        "",
-    ] {
-        assert_eq!(rt; silenced(rt.alloc(), words)?, Status::Broken.number());
+fn full_devices_fail(rt: HostRuntime) -> Result<(), Fail> {
+    for (words, file, list, printed, told) in ROOMS {
+        let given = Given { words, file, list };
+        assert!(rt; fills(rt.alloc(), &given, printed, told)?, "{words}");
     }
     Ok(())
 }

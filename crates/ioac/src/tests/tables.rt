@@ -29,8 +29,8 @@ pub fn column(columns: &[String], number: usize) -> &str {
     }
 }
 
-// The text in these pieces.
-fn text(alloc: Global, pieces: &str) -> Result<String, Fail> {
+/// The text in these pieces.
+pub fn text(alloc: Global, pieces: &str) -> Result<String, Fail> {
     let mut text = String::new(alloc);
     for piece in pieces.split("&") {
         match piece.split_once("@") {

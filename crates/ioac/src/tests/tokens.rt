@@ -1,5 +1,5 @@
-use ioa_lex::{Kind, Refusal, Terminal, Token, lex};
-use std::alloc::{AllocError, Global};
+use ioa_lex::{Kind, Refusal, Terminal, lex};
+use std::alloc::Global;
 use std::test::Fail;
 
 const WORDS: [(&str, Terminal); 47] = [
@@ -100,10 +100,6 @@ fn is_terminal(alloc: Global, text: &str, terminal: Terminal) -> Result<bool, Re
     })
 }
 
-fn is_refused_at(alloc: Global, text: &str, line: u32) -> bool {
-    matches!(lex(alloc, text.as_bytes()), Err(Refusal::BadByte(found)) if found == line)
-}
-
 #[test]
 fn words_and_signs_are_tokens(rt: HostRuntime) -> Result<(), Fail> {
     for (text, terminal) in WORDS.iter().chain(SIGNS.iter()) {
@@ -111,31 +107,28 @@ fn words_and_signs_are_tokens(rt: HostRuntime) -> Result<(), Fail> {
         assert!(rt; is_so, "{text}");
     }
     for (text, line) in REFUSED {
-        assert!(rt; is_refused_at(rt.alloc(), text, line), "{text}");
+        let found = lex(rt.alloc(), text.as_bytes());
+        assert!(rt;
+            matches!(found, Err(Refusal::BadByte(at)) if at == line),
+            "{text}"
+        );
     }
     Ok(())
-}
-
-fn push_token(text: &mut String, token: &Token) -> Result<(), AllocError> {
-    let line = token.line;
-    match &token.kind {
-        Kind::Name(name) => {
-            let name = name.as_str();
-            write!(text, "{line} name {name}\n")
-        }
-        Kind::Number(number) => write!(text, "{line} number {number}\n"),
-        Kind::Terminal(terminal) => {
-            let sign = terminal.text();
-            write!(text, "{line} {sign}\n")
-        }
-    }
 }
 
 /// The tokens of a text, each on a line, with its own line.
 fn told(alloc: Global, text: &str) -> Result<String, Fail> {
     let mut told = String::new(alloc);
     for token in lex(alloc, text.as_bytes())?.as_slice() {
-        push_token(&mut told, token)?;
+        let line = token.line;
+        match &token.kind {
+            Kind::Name(name) => write!(told, "{line} name {name}\n")?,
+            Kind::Number(number) => write!(told, "{line} number {number}\n")?,
+            Kind::Terminal(terminal) => {
+                let sign = terminal.text();
+                write!(told, "{line} {sign}\n")?;
+            }
+        }
     }
     Ok(told)
 }

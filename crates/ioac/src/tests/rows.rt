@@ -1,0 +1,55 @@
+//! The tables whose rows are runs of the program.
+
+use crate::tests::shelf::{COUNTER, First, expect_rows};
+use crate::tests::{
+    bounds, changes, choices, commands, composed, constants, crashes, declared, invariants, lines,
+    lists, logs, proposals, requests,
+};
+use std::test::Fail;
+
+/// Those with sources and lists as long as they may be, and longer.
+const LONG: [(&str, First<'static>); 2] = [
+    (bounds::ROWS, First::File),
+    (lines::ROWS, First::Check),
+];
+
+const SHORT: [(&str, First<'static>); 22] = [
+    (lists::ROWS, First::List(COUNTER)),
+    (changes::ROWS, First::Changed(changes::LINES)),
+    (choices::ROWS, First::Changed(choices::COUNTER)),
+    (declared::CHECKS, First::Request),
+    (declared::REPLAYS, First::File),
+    (composed::CHECKS, First::Request),
+    (composed::REPLAYS, First::File),
+    (constants::CHECKS, First::Request),
+    (constants::REPLAYS, First::File),
+    (crashes::CHECKS, First::Request),
+    (crashes::REPLAYS, First::File),
+    (crashes::LOGS, First::All),
+    (invariants::CHECKS, First::Request),
+    (invariants::REPLAYS, First::All),
+    (logs::REPLAYS, First::Words(COUNTER)),
+    (logs::BLANKS, First::Words(COUNTER)),
+    (logs::FAULTS, First::All),
+    (logs::MONITORS, First::All),
+    (proposals::CHECKS, First::Check),
+    (proposals::REPLAYS, First::List(proposals::GAME)),
+    (requests::ROWS, First::Request),
+    (commands::ROWS, First::Words(commands::TWO)),
+];
+
+#[test]
+fn short_texts_give_what_is_wanted(rt: HostRuntime) -> Result<(), Fail> {
+    for (rows, first) in SHORT {
+        expect_rows(&rt, rt.alloc(), rows, first)?;
+    }
+    Ok(())
+}
+
+#[test]
+fn long_texts_give_what_is_wanted(rt: HostRuntime) -> Result<(), Fail> {
+    for (rows, first) in LONG {
+        expect_rows(&rt, rt.alloc(), rows, first)?;
+    }
+    Ok(())
+}
