@@ -15,7 +15,7 @@ pub use answer::{End, Moved, Step};
 pub use laws::{runs_are_the_hosts, steps_are_the_hosts, steps_are_the_sources};
 pub use log::{Log, LogEnd, LogEntry};
 pub use moves::step_from;
-pub use participation::{Participant, Participation};
+pub use participation::{Participant, Participation, owner, participants};
 pub use runner::{Runner, Taken};
 pub use runs::{Run, run_list};
 pub use system::System;

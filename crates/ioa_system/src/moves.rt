@@ -15,7 +15,7 @@ ghost use Rattle.ioa_system.specs.Systems.{slot_types, slots_of, types_of, value
 
 use crate::answer::{Moved, Step};
 use crate::participation::{Participant, Participation, is_local};
-use ioa_compile::{Entry, Member};
+use ioa_compile::{Entry, Member, Program};
 use ioa_node::{Draft, NodeState, Workspace, draft_effect, enabled_with};
 use ioa_value::{Action, Fault, OutOfMemory};
 use std::alloc::Global;
@@ -31,30 +31,44 @@ enum Consent {
     Faulted(usize, Fault),
 }
 
-/// What a step answers from these states of the action's participants, one for each in order and of its
-/// variables' types. A step of all components depends on these states alone.
+impl Participation<'_, '_> {
+    /// What a step answers from these states of the action's participants, one for each in order and of its
+    /// variables' types. A step of all components depends on these states alone.
+    pub fn step_from(&self, alloc: Global, states: &[NodeState]) -> Result<Moved, OutOfMemory>
+        requires { types_of states.now ≡ spec.taken (steps.participants (tabled self.now.program) self.now.action) (slot_types self.now.program.members) }
+        ensures value { IfOk result (λ m. moved_of m ≡ spec.step_from (tabled self.now.program) self.now.action (values_of states.now)) }
+        ensures types { IfOk result (AreOfTypes (types_of states.now)) }
+        ensures alone { (ss : List (List Val)) → spec.DependsOnParticipants (tabled self.now.program) self.now.action ss }
+    {
+        let in_order = placed_in_order(alloc, self.participants())?;
+        let participants = in_order.as_slice();
+        let mut drafts = Vec::new(alloc);
+        let step = moved(
+            alloc,
+            &mut Workspace::new(alloc),
+            &mut drafts,
+            participants,
+            self.action(),
+            states,
+        )?;
+        answer(alloc, participants, states, &mut drafts, step)
+    }
+}
+
+/// What a step answers from these states of the action's participants, as `Participation::step_from` says.
 pub fn step_from(
     alloc: Global,
-    participation: &Participation<'_, '_>,
+    program: &Program,
+    action: &Action,
     states: &[NodeState],
 ) -> Result<Moved, OutOfMemory>
-    requires { types_of states.now ≡ spec.taken (steps.participants (tabled participation.now.program) participation.now.action) (slot_types participation.now.program.members) }
-    ensures value { IfOk result (λ m. moved_of m ≡ spec.step_from (tabled participation.now.program) participation.now.action (values_of states.now)) }
+    requires { types_of states.now ≡ spec.taken (steps.participants (tabled program.now) (act_of action.now)) (slot_types program.now.members) }
+    ensures value { IfOk result (λ m. moved_of m ≡ spec.step_from (tabled program.now) (act_of action.now) (values_of states.now)) }
     ensures types { IfOk result (AreOfTypes (types_of states.now)) }
-    ensures alone { (ss : List (List Val)) → spec.DependsOnParticipants (tabled participation.now.program) participation.now.action ss }
+    ensures alone { (ss : List (List Val)) → spec.DependsOnParticipants (tabled program.now) (act_of action.now) ss }
 {
-    let in_order = placed_in_order(alloc, participation.participants())?;
-    let participants = in_order.as_slice();
-    let mut drafts = Vec::new(alloc);
-    let step = moved(
-        alloc,
-        &mut Workspace::new(alloc),
-        &mut drafts,
-        participants,
-        participation.action(),
-        states,
-    )?;
-    answer(alloc, participants, states, &mut drafts, step)
+    let participation = Participation::of(alloc, program, action)?;
+    participation.step_from(alloc, states)
 }
 
 /// The participants where their states alone are at hand, in order.

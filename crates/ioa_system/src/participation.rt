@@ -110,6 +110,17 @@ impl<'a, 'b> Participation<'a, 'b> {
         self.participants.as_slice()
     }
 
+    /// The numbers of these components.
+    pub fn numbers(&self, alloc: Global) -> Result<Vec<usize>, OutOfMemory>
+        ensures { IfOk result (λ numbers. numbers.items ≡ steps.participants (tabled self.now.program) self.now.action) }
+    {
+        let mut numbers = Vec::new(alloc);
+        for participant in self.participants() {
+            numbers.push(participant.component)?;
+        }
+        Ok(numbers)
+    }
+
     /// The number of the component that has the action as output or internal.
     pub fn owner(&self) -> Option<usize>
         ensures { result ≡ steps.owner (tabled self.now.program) self.now.action }
@@ -139,6 +150,31 @@ impl<'a, 'b> Participation<'a, 'b> {
             None => self.program.members().len(),
         }
     }
+}
+
+/// The number of the component that has the action as output or internal. It takes no memory.
+pub fn owner(program: &Program, action: &Action) -> Option<usize>
+    ensures { result ≡ steps.owner (tabled program.now) (act_of action.now) }
+{
+    let members = program.members();
+    for i in 0..members.len() {
+        match entry_of(&members[i], action) {
+            Some(entry) if is_local(entry.kind) => return Some(i),
+            _ => {}
+        }
+    }
+    None
+}
+
+/// The numbers of the components that have the action, in ascending order.
+pub fn participants(
+    alloc: Global,
+    program: &Program,
+    action: &Action,
+) -> Result<Vec<usize>, OutOfMemory>
+    ensures { IfOk result (λ found. found.items ≡ steps.participants (tabled program.now) (act_of action.now)) }
+{
+    Participation::of(alloc, program, action)?.numbers(alloc)
 }
 
 /// The action's participants in ascending order, in place of what the list held.

@@ -14,25 +14,25 @@ use Rattle.ioa_system.specs.Systems.{values_of}
 use Rattle.ioa_system.proofs.Drafting.{Draft}
 use Rattle.ioa_system.proofs.Participating.{step_taken}
 use Rattle.ioa_system.proofs.Readying.{ready_alone, step_alone, types_alone}
-use Rattle.ioa_system.proofs.moves.step_from.Goals as goal
-use Rattle.ioa_system.proofs.moves.step_from.Goals.{After-as_slice-participants}
+use Rattle.ioa_system.proofs.participation.Participation.step_from.Goals as goal
+use Rattle.ioa_system.proofs.participation.Participation.step_from.Goals.{After-as_slice-participants}
 
 pub returns-in_err-in_order-clause-alone : goal.returns-in_err-in_order-clause-alone
-returns-in_err-in_order-clause-alone c = λ ss h. step_taken (tabled c.args.participation.now.program) c.args.participation.now.action ss h
+returns-in_err-in_order-clause-alone c = λ ss h. step_taken (tabled c.args.self.now.program) c.args.self.now.action ss h
 
 pub returns-in_err-step-clause-alone : goal.returns-in_err-step-clause-alone
-returns-in_err-step-clause-alone c = λ ss h. step_taken (tabled c.args.participation.now.program) c.args.participation.now.action ss h
+returns-in_err-step-clause-alone c = λ ss h. step_taken (tabled c.args.self.now.program) c.args.self.now.action ss h
 
 pub returns-clause-alone : goal.returns-clause-alone
-returns-clause-alone c = λ ss h. step_taken (tabled c.args.participation.now.program) c.args.participation.now.action ss h
+returns-clause-alone c = λ ss h. step_taken (tabled c.args.self.now.program) c.args.self.now.action ss h
 
 in_order : (c : After-as_slice-participants) → c.as_slice-participants.result.now ≡ placed 0 c.participants.result.now
 in_order c = c.as_slice-participants.ensures.value ∙ c.in_ok-in_order.ensures
 
-ready : (c : After-as_slice-participants) → AreReady c.args.participation.now.action c.args.states.now c.as_slice-participants.result.now
+ready : (c : After-as_slice-participants) → AreReady c.args.self.now.action c.args.states.now c.as_slice-participants.result.now
 ready c =
-    subst (AreReady c.args.participation.now.action c.args.states.now) (sym (in_order c))
-    (ready_alone c.args.participation.now.program.types c.args.participation.now.action c.args.participation.now.program.members c.args.states.now c.participants.result.now
+    subst (AreReady c.args.self.now.action c.args.states.now) (sym (in_order c))
+    (ready_alone c.args.self.now.program.types c.args.self.now.action c.args.self.now.program.members c.args.states.now c.participants.result.now
     c.participants.ensures.found c.participants.ensures.sound.members c.requires)
 
 pub moved-requires : goal.moved-requires
@@ -45,8 +45,8 @@ answer-requires-clause-states c = (ready ((goal.at.answer-requires-clause-states
 pub returns-clause-value : goal.returns-clause-value
 returns-clause-value c =
     let at = (goal.at.returns-clause-value c).After-as_slice-participants in
-    let p : Prog = c.args.participation.now.program in
-    let a : Act = c.args.participation.now.action in
+    let p : Prog = c.args.self.now.program in
+    let a : Act = c.args.self.now.action in
     let ns : List Node = c.args.states.now in
     let qs : List Participant = c.participants.result.now in
     let rs : List Participant = c.as_slice-participants.result.now in
@@ -62,6 +62,6 @@ pub returns-clause-types : goal.returns-clause-types
 returns-clause-types c =
     let at = (goal.at.returns-clause-types c).After-as_slice-participants in
     subst (λ ts. IfOk c.answer.result (AreOfTypes ts))
-    (types_alone c.args.participation.now.program c.args.participation.now.action c.args.states.now c.participants.result.now c.as_slice-participants.result.now
+    (types_alone c.args.self.now.program c.args.self.now.action c.args.states.now c.participants.result.now c.as_slice-participants.result.now
     c.participants.ensures.found (in_order at) c.requires)
     c.answer.ensures.types
