@@ -1,6 +1,6 @@
-ghost use Rattle.std.specs.Prelude.{◌≡◌, ◌≢◌, Bool, ◌∷◌, [], ◌++◌, ◌+◌, ◌<◌, ◌≤◌, ◌^◌, map, take, length, IfOk, OnOk};
-ghost use Rattle.ioa_value.specs.Plain.{plain, truth};
-ghost use Rattle.ioa_code.specs.Machine.{act, stuck};
+ghost use Rattle.std.specs.Prelude.{◌≡◌, ◌≢◌, Bool, ℤ, ◌∷◌, [], ◌++◌, ◌+◌, ◌<◌, ◌≤◌, ◌^◌, map, take, length, IfOk, OnOk};
+ghost use Rattle.ioa_value.specs.Plain.{plain, truth, num};
+ghost use Rattle.ioa_code.specs.Machine.{act, stuck, Wordless};
 ghost use Rattle.ioa_node.specs.Drafts.{standing};
 ghost use Rattle.ioa_node.specs.Steps.{at, moved, Reads};
 
@@ -9,7 +9,7 @@ use ioa_code::{Instr, Verified};
 use ioa_value::{Fault, OutOfMemory, Value, apply_last};
 use std::alloc::Global;
 
-/// One instruction, which finds what it needs: the next place, or a fault. The variables are the slots, with the draft's
+/// One instruction, which finds what it needs and takes no word: the next place, or a fault. The variables are the slots, with the draft's
 /// new values in their places.
 pub(crate) fn write(
     alloc: Global,
@@ -22,6 +22,7 @@ pub(crate) fn write(
     values: &[Value],
 ) -> Result<Result<usize, Fault>, OutOfMemory>
     requires fine { act code.now.code instr (at place stack.old.items (standing draft.old (map plain slots.now)) values.now) ≢ stuck }
+    requires wordless { Wordless instr }
     requires small { place + 1 < 2 ^ 64 }
     ensures { IfOk result (λ r. moved r stack.new.items (standing draft.new (map plain slots.now)) values.now ≡ act code.now.code instr (at place stack.old.items (standing draft.old (map plain slots.now)) values.now)) }
 {
@@ -37,10 +38,11 @@ pub(crate) fn write(
         | Instr::Jump(_)
         | Instr::JumpIfFalse(_)
         | Instr::Apply(_) => read(alloc, code, instr, place, stack, slots, draft, values),
+        Instr::Any | Instr::Pick(_) => unreachable!(),
     }
 }
 
-/// One instruction, which finds what it needs and changes no variable: the next place, or a fault.
+/// One instruction, which finds what it needs, changes no variable and takes no word: the next place, or a fault.
 #[inline(always)]
 pub(crate) fn read(
     alloc: Global,
@@ -70,7 +72,7 @@ pub(crate) fn read(
             push(alloc, stack, &values[i as usize])?;
             Ok(Ok(place + 1))
         }
-        Instr::Store(_) => unreachable!(),
+        Instr::Store(_) | Instr::Any | Instr::Pick(_) => unreachable!(),
         Instr::Jump(t) => Ok(Ok(t as usize)),
         Instr::JumpIfFalse(t) => {
             if truth_of(&pop(stack)) {
@@ -103,7 +105,7 @@ fn push(alloc: Global, stack: &mut Vec<Value>, value: &Value) -> Result<(), OutO
 
 // The value on the stack. Room that is there is taken at once: the call that asks for more is not small.
 #[inline(always)]
-fn put(stack: &mut Vec<Value>, value: Value) -> Result<(), OutOfMemory>
+pub(crate) fn put(stack: &mut Vec<Value>, value: Value) -> Result<(), OutOfMemory>
     ensures { OnOk result (stack.new.items ≡ stack.old.items ++ value ∷ []) }
 {
     if stack.len() < stack.capacity() {
@@ -126,7 +128,7 @@ pub(crate) fn cut(stack: &mut Vec<Value>, count: usize)
 }
 
 // The top of the stack, which is there.
-fn pop(stack: &mut Vec<Value>) -> Value
+pub(crate) fn pop(stack: &mut Vec<Value>) -> Value
     requires { 0 < length stack.old.items }
     ensures { stack.old.items ≡ stack.new.items ++ result ∷ [] }
 {
@@ -141,5 +143,16 @@ pub(crate) fn truth_of(value: &Value) -> bool
     match value {
         Value::Truth(b) => *b,
         Value::Num(_) | Value::Name(..) | Value::Tuple(..) | Value::Items(..) => unreachable!(),
+    }
+}
+
+/// The number, which it is.
+pub(crate) fn number_of(value: &Value) -> i64
+    requires { (z : ℤ) × (plain value.now ≡ num z) }
+    ensures { plain value.now ≡ num result }
+{
+    match value {
+        Value::Num(n) => *n,
+        Value::Truth(_) | Value::Name(..) | Value::Tuple(..) | Value::Items(..) => unreachable!(),
     }
 }
