@@ -1,13 +1,13 @@
-ghost use Rattle.std.specs.Prelude.{◌≡◌, [], ◌∷◌, Some};
+ghost use Rattle.std.specs.Prelude.{◌≡◌, [], ◌∷◌, Some, map};
 ghost use Rattle.std.specs.Option.{option_map};
 ghost use Rattle.ioa_value.specs.Operators as operators;
 ghost use Rattle.ioa_value.specs.Plain.{number as number_of_type};
 ghost use Rattle.ioa_tree.specs.Types.{sequence_named};
-ghost use Rattle.ioa_tree.specs.View.{expr_of, exprs_of, name_of, automaton_of, entry_of};
+ghost use Rattle.ioa_tree.specs.View.{expr_of, exprs_of, name_of, field_of, position_of, variable_of};
 ghost use Rattle.ioa_tree.specs.Tree.{number, make};
 ghost use Rattle.ioa_tree.specs.WellFormed as well_formed;
 ghost use Rattle.ioa_check.specs.Known.{whole, early};
-ghost use Rattle.ioa_check.specs.Scopes.{context};
+ghost use Rattle.ioa_check.specs.Scopes.{context, context_in};
 ghost use Rattle.ioa_check.specs.Codes.{type_mismatch, tells};
 ghost use Rattle.ioa_check.specs.Reasons as reasons;
 ghost use Rattle.ioa_check.specs.Tuples.{are_fields, in_fields_made};
@@ -17,20 +17,26 @@ use crate::known::Known;
 use crate::scope::Scope;
 use crate::tuples::{is_field, selected_type, tuple_named};
 use ioa_syntax::Refusal;
-use ioa_tree::{Automaton, Entry, Expression, Infix, Name};
+use ioa_tree::{Expression, Field, Infix, Name, Position, Variable};
 use ioa_value::{Form, Op, Ty, Types, op_type};
 
-/// The type of an expression in a precondition or an effect of an automaton's entry, where it has one.
+/// The type of an expression that may use these variables, formals and parameters, where it has one.
 pub fn expression_type(
     types: &Types,
-    automaton: &Automaton,
-    entry: &Entry,
+    variables: &[Variable],
+    formals: &[Field],
+    positions: &[Position],
     expression: &Expression,
 ) -> Option<Ty>
-    ensures { option_map number_of_type result ≡ well_formed.type_of types.now types.now (well_formed.scope types.now types.now [] (automaton_of automaton.now) (entry_of entry.now)) (expr_of expression.now) }
+    ensures { option_map number_of_type result ≡ well_formed.type_of types.now types.now (context_in types.now (map (λ v. v.field) (map variable_of variables.now)) (map field_of formals.now) (map position_of positions.now)) (expr_of expression.now) }
 {
-    let known = Known::of_all(types);
-    match type_of(&Scope::of_entry(&known, automaton, entry), expression) {
+    let scope = Scope {
+        known: Known::of_all(types),
+        variables,
+        formals,
+        positions,
+    };
+    match type_of(&scope, expression) {
         Ok(ty) => Some(ty),
         Err(_) => None,
     }
