@@ -2,13 +2,10 @@
 use Rattle.ioa_tree.specs.declared.tree.Kind.{Kind}
 use Rattle.ioa_tree.specs.declared.tree.Kind.TheVariants.{Output, Internal}
 use Rattle.ioa_compile.specs.Translated.{IsGuard, IsGuardFor}
-use Rattle.std.proofs.Common.{◌≡◌, ◌⊎◌, ⊎_elim, ℕ, ◌+◌, ◌<◌, Bool, true, false, List, [], ◌∷◌, ◌++◌, length, map, Option, Some, None, IsSome, refl, sym, ap, ◌∙◌, subst, arith, length-append}
+use Rattle.std.proofs.Common.{◌≡◌, ◌⊎◌, ⊎_elim, ℕ, ◌+◌, Bool, true, false, List, [], ◌∷◌, ◌++◌, length, Option, Some, None, IsSome, IfNone, refl, sym, ap, ◌∙◌, subst, arith, length-append}
 use Rattle.std.specs.Prelude.{slice_get}
 use Rattle.ioa_tree.specs.WellFormed.{nodes, exprs_nodes, stmts_nodes, arms_nodes}
-use Rattle.std.proofs.lemmas.Option.{slice_get-map, slice_get_read}
-use Rattle.std.specs.Option.{option_map, option_map_or}
-use Rattle.std.specs.Prelude.{get_or}
-use Rattle.ioa_value.specs.declared.value.Value.{Value}
+use Rattle.std.specs.Option.{option_map_or}
 use Rattle.ioa_value.specs.Plain as plain
 use Rattle.ioa_value.specs.Plain.{Val, plain}
 use Rattle.ioa_value.specs.Actions.{Name}
@@ -33,6 +30,11 @@ use Rattle.ioa_compile.proofs.Lengths.{expr_long, stmts_long, arms_long}
 pub none_from : {X : Type 0} (o : Option X) → ((x : X) → o ≡ Some x → ⊥) → o ≡ None
 none_from None h = refl
 none_from (Some x) h = absurd (h x refl)
+
+-- so what is said where there is none holds
+pub missing_from : {X : Type 0} (o : Option X) (P : Type 0) → ((x : X) → o ≡ Some x → ⊥) → IfNone o P → P
+missing_from None P has h = h
+missing_from (Some x) P has h = absurd (has x refl)
 
 pub Keeps-self : (a : Listing) → Keeps a a
 Keeps-self a = record { instr = λ p i e. e; const = λ k v e. e; types = refl; typed = λ h. h }
@@ -113,11 +115,6 @@ adds_fixed c d s x v e h =
 
 pub adds_empty : (c d : Listing) (s : Scope) (x : Name) (v : Val) → empty_of s.types x ≡ Some v → AddsConst c d v → AddsExpr c d s (empty x)
 adds_empty c d s x v e h = record { keeps = h.keeps; has = (v, e, h.has.0, h.has.1); few = h.few }
-
--- the formal's value, by its place
-pub argument_at : (items : List Value) (i : ℕ) (v copy : Value) → i < length items → v ≡ get_or items i v → plain copy ≡ plain v → slice_get (map plain items) i ≡ Some (plain copy)
-argument_at items i v copy lt e f =
-    slice_get-map plain items i ∙ ap (option_map plain) (slice_get_read items (length items) i v refl lt e) ∙ ap Some (sym f)
 
 -- one stretch's code goes on standing where another listing has more
 abbrev pub IsKept : (Listing → Stretch) → Type 0

@@ -267,7 +267,7 @@ module _ (m : Member) (e : EntryTree) (h : IsFine component_limits m) (own : IsE
       }
 
 module _ (m : Member) (e : EntryTree) (vs ps : List ℕ) (h : Setting m e vs ps) where
-  pub is_scope : IsScope m.instance.types (scope_of m e)
+  pub is_scope : IsScope (scope_of m e)
   is_scope = record {
     variables = omega (arith, length-map m.instance.automaton.variables (λ v. v.field.name), h.few_variables);
     parameters = h.few_positions;

@@ -113,7 +113,3 @@ parameter_from_below i (only c ∷ ps) x k e = let r = parameter_from_below (i +
 
 pub parameter_below : (ps : List PositionTree) (x : Name) (k : ℕ) → parameter_from 0 ps x ≡ Some k → k < length ps
 parameter_below ps x k e = let r = parameter_from_below 0 ps x k e in omega arith
-
--- a place, among positions that are the same
-pub parameter_in : (ps qs : List PositionTree) (x : Name) (o : Option ℕ) → o ≡ parameter_from 0 ps x → ps ≡ qs → parameter_from 0 qs x ≡ o
-parameter_in ps qs x o e g = ap (λ l. parameter_from 0 l x) (sym g) ∙ sym e

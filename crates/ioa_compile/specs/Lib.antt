@@ -7,6 +7,7 @@ pub mod CodeEnds
 pub mod Matching
 pub mod Means
 pub mod Scopes
+pub mod CodedScopes
 pub mod Placed
 pub mod Extents
 pub mod Emitting

@@ -1,4 +1,4 @@
--- Where the value of a name comes from in the code of an entry.
+-- Where the value of a name comes from in code.
 use Rattle.std.specs.Prelude.{◌≡◌, ℕ, ◌≤◌, ◌+◌, if◌then◌else◌, List, [], ◌∷◌, length, Option, Some, None, option_and_then, IsSome, pos, IsTrue}
 use Rattle.std.specs.Str.{bytes_eq}
 use Rattle.std.specs.Option.{option_map_or}
@@ -19,8 +19,8 @@ use Rattle.ioa_compose.specs.declared.member.Member as held
 use Rattle.ioa_compose.specs.Held.{member_of}
 use Rattle.ioa_compose.specs.Fine.{component_limits}
 
--- the names that an entry's code may use: variables, formals with their values, the entry's parameters, and those of the types; and
--- the types of what they stand for
+-- the names that code may use: variables, formals with their values, the parameters among positions, and those of the types; and the
+-- types of what they stand for
 pub record Scope : Type 0 where
   pub types : Table
   pub variables : List Name
@@ -29,6 +29,7 @@ pub record Scope : Type 0 where
   pub parameters : List PositionTree
   pub context : Context
 
+-- those of a transition
 abbrev pub scope_of : Member → EntryTree → Scope
 scope_of m e = record {
   types = m.instance.types;
@@ -94,11 +95,11 @@ abbrev mutual
   AreAllKnown s (also e es) = IsKnown s e × AreAllKnown s es
 
 -- what scopes of well-formed automata keep
-pub record IsScope (types : Table) (s : Scope) : Type 0 where
+pub record IsScope (s : Scope) : Type 0 where
   pub variables : length s.variables ≤ component_limits.variables
   pub parameters : length s.parameters ≤ LIMITS.parameters
   pub given : length s.formals ≡ length s.arguments
-  pub typed : OwnTypes types s.arguments
+  pub typed : OwnTypes s.types s.arguments
 
 -- an assignment is to a variable
 abbrev mutual

@@ -43,9 +43,9 @@ IsGuardFor Internal None s g = ⊥
 IsGuardFor Internal (Some code) s g = IsGuard code s g
 
 -- the code of a transition: both parts carry one table of constants, which has at most one for each node of the trees
-pub record IsTransition (m : Member) (e : EntryTree) (t : TransitionTree) (guard : Option Listing) (code : Listing) : Type 0 where
-  pub pre : IsGuardFor e.kind guard (scope_of m e) t.pre
-  pub effect : IsEffect code (scope_of m e) t.effect
+pub record IsTransition (k : Kind) (s : Scope) (t : TransitionTree) (guard : Option Listing) (code : Listing) : Type 0 where
+  pub pre : IsGuardFor k guard s t.pre
+  pub effect : IsEffect code s t.effect
   pub consts : IfSome guard (λ g. g.consts ≡ code.consts)
   pub few : length code.consts ≤ guard_nodes t.pre + stmts_nodes t.effect
 
@@ -67,7 +67,7 @@ pub record IsTranslated (m : Member) (slots : List ℕ) (e : EntryTree) (c : Ent
   pub kind : c.kind ≡ e.kind
   pub name : c.name ≡ e.name
   pub positions : AreDomainsOf m.instance e.positions c.positions
-  pub transition : (t : TransitionTree) × (transition_for m.instance.automaton e ≡ Some t) × IsTransition m e t (codes_of c.pre) c.effect.code
+  pub transition : (t : TransitionTree) × (transition_for m.instance.automaton e ≡ Some t) × IsTransition e.kind (scope_of m e) t (codes_of c.pre) c.effect.code
   pub pre : IfSome c.pre (λ p. IsFor p m.instance.types Pre (0 ∷ []) slots (position_types c.positions))
   pub effect : IsFor c.effect m.instance.types Eff [] slots (position_types c.positions)
 

@@ -7,16 +7,16 @@ ghost use Rattle.ioa_code.specs.Parts.{listing};
 ghost use Rattle.ioa_tree.specs.View.{name_of, expr_of, exprs_of, stmt_of, stmts_of, arms_of};
 ghost use Rattle.ioa_tree.specs.Tree.{named, assign, choose};
 ghost use Rattle.ioa_tree.specs.WellFormed.{nodes, exprs_nodes, stmt_nodes, stmts_nodes};
-ghost use Rattle.ioa_compile.specs.Scopes.{scope_in, IsScope, IsKnown, AreAllKnown, IsKnownStmt, AreKnown, IsKnownGuard, IsOrigin, origin};
+ghost use Rattle.ioa_compile.specs.Scopes.{IsScope, IsKnown, AreAllKnown, IsKnownStmt, AreKnown, IsKnownGuard, IsOrigin, origin};
 ghost use Rattle.ioa_compile.specs.Extents.{extent, exprs_extent, infix_extent, guard_extent, stmt_extent, stmts_extent};
 ghost use Rattle.ioa_compile.specs.Emitting.{AddsInstr, AddsConst, AddsExpr, AddsExprs, AddsCombined, AddsTrueSide, AddsFalseSide, AddsGuard, AddsStmt, AddsStmts, guard_nodes};
 
 use crate::extents::{arms_extent, expression_extent, statements_extent};
-use crate::places::{field_place, parameter_place, tuple_place, variable_place};
+use crate::scope::Scope;
 use crate::types::named_type;
 use ioa_code::{Code, Instr};
-use ioa_compose::{Member, constant, empty};
-use ioa_tree::{Arm, Entry, Expression, Infix, Name, Statement};
+use ioa_compose::{constant, empty};
+use ioa_tree::{Arm, Expression, Infix, Name, Statement};
 use ioa_value::{Op, OutOfMemory, Value};
 use std::alloc::Global;
 
@@ -24,18 +24,17 @@ use std::alloc::Global;
 pub(crate) fn emit_guard(
     alloc: Global,
     out: &mut Code,
-    member: &Member,
-    entry: &Entry,
+    scope: &Scope<'_>,
     guard: &Option<Expression>,
 ) -> Result<(), OutOfMemory>
-    requires scope { IsScope member.now.types (scope_in member.now entry.now) }
-    requires known { IsKnownGuard (scope_in member.now entry.now) (option_map expr_of guard.now) }
+    requires scope { IsScope scope.now }
+    requires known { IsKnownGuard scope.now (option_map expr_of guard.now) }
     requires room { length out.old.consts.items + guard_nodes (option_map expr_of guard.now) < 2 ^ 16 }
     requires short { length out.old.instrs.items + guard_extent (option_map expr_of guard.now) < 2 ^ 16 }
-    ensures { OnOk result (AddsGuard (listing member.now.types out.old) (listing member.now.types out.new) (scope_in member.now entry.now) (option_map expr_of guard.now)) }
+    ensures { OnOk result (AddsGuard (listing scope.now.types out.old) (listing scope.now.types out.new) scope.now (option_map expr_of guard.now)) }
 {
     match guard {
-        Some(e) => emit_expression(alloc, out, member, entry, e),
+        Some(e) => emit_expression(alloc, out, scope, e),
         None => put_constant(out, Value::Truth(true)),
     }
 }
@@ -45,18 +44,17 @@ pub(crate) fn emit_guard(
 pub(crate) fn emit_statements(
     alloc: Global,
     out: &mut Code,
-    member: &Member,
-    entry: &Entry,
+    scope: &Scope<'_>,
     statements: &[Statement],
 ) -> Result<(), OutOfMemory>
-    requires scope { IsScope member.now.types (scope_in member.now entry.now) }
-    requires known { AreKnown (scope_in member.now entry.now) (stmts_of statements.now) }
+    requires scope { IsScope scope.now }
+    requires known { AreKnown scope.now (stmts_of statements.now) }
     requires room { length out.old.consts.items + stmts_nodes (stmts_of statements.now) < 2 ^ 16 }
     requires short { length out.old.instrs.items + stmts_extent (stmts_of statements.now) < 2 ^ 16 }
-    ensures { OnOk result (AddsStmts (listing member.now.types out.old) (listing member.now.types out.new) (scope_in member.now entry.now) (stmts_of statements.now)) }
+    ensures { OnOk result (AddsStmts (listing scope.now.types out.old) (listing scope.now.types out.new) scope.now (stmts_of statements.now)) }
 {
     for statement in statements {
-        emit_statement(alloc, out, member, entry, statement)?;
+        emit_statement(alloc, out, scope, statement)?;
     }
     Ok(())
 }
@@ -66,19 +64,18 @@ pub(crate) fn emit_statements(
 fn emit_statement(
     alloc: Global,
     out: &mut Code,
-    member: &Member,
-    entry: &Entry,
+    scope: &Scope<'_>,
     statement: &Statement,
 ) -> Result<(), OutOfMemory>
-    requires scope { IsScope member.now.types (scope_in member.now entry.now) }
-    requires known { IsKnownStmt (scope_in member.now entry.now) (stmt_of statement.now) }
+    requires scope { IsScope scope.now }
+    requires known { IsKnownStmt scope.now (stmt_of statement.now) }
     requires room { length out.old.consts.items + stmt_nodes (stmt_of statement.now) < 2 ^ 16 }
     requires short { length out.old.instrs.items + stmt_extent (stmt_of statement.now) < 2 ^ 16 }
-    ensures { OnOk result (AddsStmt (listing member.now.types out.old) (listing member.now.types out.new) (scope_in member.now entry.now) (stmt_of statement.now)) }
+    ensures { OnOk result (AddsStmt (listing scope.now.types out.old) (listing scope.now.types out.new) scope.now (stmt_of statement.now)) }
 {
     match statement {
-        Statement::Assign(name, e) => emit_assignment(alloc, out, member, entry, name, e),
-        Statement::If(arms, others, _) => emit_choice(alloc, out, member, entry, arms, others),
+        Statement::Assign(name, e) => emit_assignment(alloc, out, scope, name, e),
+        Statement::If(arms, others, _) => emit_choice(alloc, out, scope, arms, others),
     }
 }
 
@@ -87,45 +84,43 @@ fn emit_statement(
 fn emit_choice(
     alloc: Global,
     out: &mut Code,
-    member: &Member,
-    entry: &Entry,
+    scope: &Scope<'_>,
     arms: &[Arm],
     others: &[Statement],
 ) -> Result<(), OutOfMemory>
-    requires scope { IsScope member.now.types (scope_in member.now entry.now) }
-    requires known { IsKnownStmt (scope_in member.now entry.now) (choose (arms_of arms.now) (stmts_of others.now)) }
+    requires scope { IsScope scope.now }
+    requires known { IsKnownStmt scope.now (choose (arms_of arms.now) (stmts_of others.now)) }
     requires room { length out.old.consts.items + stmt_nodes (choose (arms_of arms.now) (stmts_of others.now)) < 2 ^ 16 }
     requires short { length out.old.instrs.items + stmt_extent (choose (arms_of arms.now) (stmts_of others.now)) < 2 ^ 16 }
-    ensures { OnOk result (AddsStmt (listing member.now.types out.old) (listing member.now.types out.new) (scope_in member.now entry.now) (choose (arms_of arms.now) (stmts_of others.now))) }
+    ensures { OnOk result (AddsStmt (listing scope.now.types out.old) (listing scope.now.types out.new) scope.now (choose (arms_of arms.now) (stmts_of others.now))) }
 {
     let end = out.instrs.len() + arms_extent(arms) + statements_extent(others);
     for arm in arms {
-        emit_expression(alloc, out, member, entry, &arm.condition)?;
+        emit_expression(alloc, out, scope, &arm.condition)?;
         let next = out.instrs.len() + statements_extent(&arm.statements) + 2;
         put(out, Instr::JumpIfFalse(next as u16))?;
-        emit_statements(alloc, out, member, entry, &arm.statements)?;
+        emit_statements(alloc, out, scope, &arm.statements)?;
         put(out, Instr::Jump(end as u16))?;
     }
-    emit_statements(alloc, out, member, entry, others)
+    emit_statements(alloc, out, scope, others)
 }
 
 /// The code of an assignment: the expression's value, and its store.
 fn emit_assignment(
     alloc: Global,
     out: &mut Code,
-    member: &Member,
-    entry: &Entry,
+    scope: &Scope<'_>,
     name: &Name,
     e: &Expression,
 ) -> Result<(), OutOfMemory>
-    requires scope { IsScope member.now.types (scope_in member.now entry.now) }
-    requires known { IsKnownStmt (scope_in member.now entry.now) (assign (name_of name.now) (expr_of e.now)) }
+    requires scope { IsScope scope.now }
+    requires known { IsKnownStmt scope.now (assign (name_of name.now) (expr_of e.now)) }
     requires room { length out.old.consts.items + nodes (expr_of e.now) + 1 < 2 ^ 16 }
     requires short { length out.old.instrs.items + extent (expr_of e.now) + 1 < 2 ^ 16 }
-    ensures { OnOk result (AddsStmt (listing member.now.types out.old) (listing member.now.types out.new) (scope_in member.now entry.now) (assign (name_of name.now) (expr_of e.now))) }
+    ensures { OnOk result (AddsStmt (listing scope.now.types out.old) (listing scope.now.types out.new) scope.now (assign (name_of name.now) (expr_of e.now))) }
 {
-    emit_expression(alloc, out, member, entry, e)?;
-    match variable_place(&member.automaton.variables, name) {
+    emit_expression(alloc, out, scope, e)?;
+    match scope.variable(name) {
         Some(i) => put(out, Instr::Store(i as u16)),
         None => unreachable!(),
     }
@@ -136,37 +131,36 @@ fn emit_assignment(
 fn emit_expression(
     alloc: Global,
     out: &mut Code,
-    member: &Member,
-    entry: &Entry,
+    scope: &Scope<'_>,
     e: &Expression,
 ) -> Result<(), OutOfMemory>
-    requires scope { IsScope member.now.types (scope_in member.now entry.now) }
-    requires known { IsKnown (scope_in member.now entry.now) (expr_of e.now) }
+    requires scope { IsScope scope.now }
+    requires known { IsKnown scope.now (expr_of e.now) }
     requires room { length out.old.consts.items + nodes (expr_of e.now) < 2 ^ 16 }
     requires short { length out.old.instrs.items + extent (expr_of e.now) < 2 ^ 16 }
-    ensures { OnOk result (AddsExpr (listing member.now.types out.old) (listing member.now.types out.new) (scope_in member.now entry.now) (expr_of e.now)) }
+    ensures { OnOk result (AddsExpr (listing scope.now.types out.old) (listing scope.now.types out.new) scope.now (expr_of e.now)) }
 {
     match e {
         Expression::Number(n, _) => put_constant(out, Value::Num(*n as i64)),
         Expression::Truth(b, _) => put_constant(out, Value::Truth(*b)),
-        Expression::Name(name) => emit_name(alloc, out, member, entry, name),
-        Expression::Empty(name, _) => put_constant(out, empty(alloc, &member.types, name)),
-        Expression::Parentheses(inner, _) => emit_expression(alloc, out, member, entry, inner),
+        Expression::Name(name) => emit_name(alloc, out, scope, name),
+        Expression::Empty(name, _) => put_constant(out, empty(alloc, scope.types(), name)),
+        Expression::Parentheses(inner, _) => emit_expression(alloc, out, scope, inner),
         Expression::Prefix(op, inner, _) => {
-            emit_expression(alloc, out, member, entry, inner)?;
+            emit_expression(alloc, out, scope, inner)?;
             put(out, Instr::Apply(*op))
         }
         Expression::Binary(left, operator, right, _) => {
-            emit_expression(alloc, out, member, entry, left)?;
-            emit_combined(alloc, out, member, entry, *operator, right)
+            emit_expression(alloc, out, scope, left)?;
+            emit_combined(alloc, out, scope, *operator, right)
         }
         Expression::Make(name, fields) => {
-            emit_expressions(alloc, out, member, entry, fields)?;
-            put(out, Instr::Apply(Op::Make(named_type(&member.types, name))))
+            emit_expressions(alloc, out, scope, fields)?;
+            put(out, Instr::Apply(Op::Make(named_type(scope.types(), name))))
         }
         Expression::Select(inner, name, _) => {
-            emit_expression(alloc, out, member, entry, inner)?;
-            let place = tuple_place(member, entry, inner, name);
+            emit_expression(alloc, out, scope, inner)?;
+            let place = scope.field(inner, name);
             put(out, Instr::Apply(Op::Field(place)))
         }
     }
@@ -177,18 +171,17 @@ fn emit_expression(
 fn emit_expressions(
     alloc: Global,
     out: &mut Code,
-    member: &Member,
-    entry: &Entry,
+    scope: &Scope<'_>,
     expressions: &[Expression],
 ) -> Result<(), OutOfMemory>
-    requires scope { IsScope member.now.types (scope_in member.now entry.now) }
-    requires known { AreAllKnown (scope_in member.now entry.now) (exprs_of expressions.now) }
+    requires scope { IsScope scope.now }
+    requires known { AreAllKnown scope.now (exprs_of expressions.now) }
     requires room { length out.old.consts.items + exprs_nodes (exprs_of expressions.now) < 2 ^ 16 }
     requires short { length out.old.instrs.items + exprs_extent (exprs_of expressions.now) < 2 ^ 16 }
-    ensures { OnOk result (AddsExprs (listing member.now.types out.old) (listing member.now.types out.new) (scope_in member.now entry.now) (exprs_of expressions.now)) }
+    ensures { OnOk result (AddsExprs (listing scope.now.types out.old) (listing scope.now.types out.new) scope.now (exprs_of expressions.now)) }
 {
     for expression in expressions {
-        emit_expression(alloc, out, member, entry, expression)?;
+        emit_expression(alloc, out, scope, expression)?;
     }
     Ok(())
 }
@@ -198,25 +191,24 @@ fn emit_expressions(
 fn emit_combined(
     alloc: Global,
     out: &mut Code,
-    member: &Member,
-    entry: &Entry,
+    scope: &Scope<'_>,
     operator: Infix,
     right: &Expression,
 ) -> Result<(), OutOfMemory>
-    requires scope { IsScope member.now.types (scope_in member.now entry.now) }
-    requires known { IsKnown (scope_in member.now entry.now) (expr_of right.now) }
+    requires scope { IsScope scope.now }
+    requires known { IsKnown scope.now (expr_of right.now) }
     requires room { length out.old.consts.items + (nodes (expr_of right.now) + 1) < 2 ^ 16 }
     requires short { length out.old.instrs.items + (extent (expr_of right.now) + infix_extent operator) < 2 ^ 16 }
-    ensures { OnOk result (AddsCombined (listing member.now.types out.old) (listing member.now.types out.new) (scope_in member.now entry.now) operator (expr_of right.now)) }
+    ensures { OnOk result (AddsCombined (listing scope.now.types out.old) (listing scope.now.types out.new) scope.now operator (expr_of right.now)) }
 {
     match operator {
         Infix::Operator(op) => {
-            emit_expression(alloc, out, member, entry, right)?;
+            emit_expression(alloc, out, scope, right)?;
             put(out, Instr::Apply(op))
         }
-        Infix::And => emit_where_true(alloc, out, member, entry, right, false),
-        Infix::Or => emit_where_false(alloc, out, member, entry, right),
-        Infix::Implies => emit_where_true(alloc, out, member, entry, right, true),
+        Infix::And => emit_where_true(alloc, out, scope, right, false),
+        Infix::Or => emit_where_false(alloc, out, scope, right),
+        Infix::Implies => emit_where_true(alloc, out, scope, right, true),
     }
 }
 
@@ -225,20 +217,19 @@ fn emit_combined(
 fn emit_where_true(
     alloc: Global,
     out: &mut Code,
-    member: &Member,
-    entry: &Entry,
+    scope: &Scope<'_>,
     e: &Expression,
     other: bool,
 ) -> Result<(), OutOfMemory>
-    requires scope { IsScope member.now.types (scope_in member.now entry.now) }
-    requires known { IsKnown (scope_in member.now entry.now) (expr_of e.now) }
+    requires scope { IsScope scope.now }
+    requires known { IsKnown scope.now (expr_of e.now) }
     requires room { length out.old.consts.items + (nodes (expr_of e.now) + 1) < 2 ^ 16 }
     requires short { length out.old.instrs.items + (extent (expr_of e.now) + 3) < 2 ^ 16 }
-    ensures { OnOk result (AddsTrueSide (listing member.now.types out.old) (listing member.now.types out.new) (scope_in member.now entry.now) (expr_of e.now) other) }
+    ensures { OnOk result (AddsTrueSide (listing scope.now.types out.old) (listing scope.now.types out.new) scope.now (expr_of e.now) other) }
 {
     let next = out.instrs.len() + expression_extent(e) + 2;
     put(out, Instr::JumpIfFalse(next as u16))?;
-    emit_expression(alloc, out, member, entry, e)?;
+    emit_expression(alloc, out, scope, e)?;
     put(out, Instr::Jump((next + 1) as u16))?;
     put_constant(out, Value::Truth(other))
 }
@@ -248,45 +239,43 @@ fn emit_where_true(
 fn emit_where_false(
     alloc: Global,
     out: &mut Code,
-    member: &Member,
-    entry: &Entry,
+    scope: &Scope<'_>,
     e: &Expression,
 ) -> Result<(), OutOfMemory>
-    requires scope { IsScope member.now.types (scope_in member.now entry.now) }
-    requires known { IsKnown (scope_in member.now entry.now) (expr_of e.now) }
+    requires scope { IsScope scope.now }
+    requires known { IsKnown scope.now (expr_of e.now) }
     requires room { length out.old.consts.items + (nodes (expr_of e.now) + 1) < 2 ^ 16 }
     requires short { length out.old.instrs.items + (extent (expr_of e.now) + 3) < 2 ^ 16 }
-    ensures { OnOk result (AddsFalseSide (listing member.now.types out.old) (listing member.now.types out.new) (scope_in member.now entry.now) (expr_of e.now)) }
+    ensures { OnOk result (AddsFalseSide (listing scope.now.types out.old) (listing scope.now.types out.new) scope.now (expr_of e.now)) }
 {
     let next = out.instrs.len() + 3;
     put(out, Instr::JumpIfFalse(next as u16))?;
     put_constant(out, Value::Truth(true))?;
     put(out, Instr::Jump((next + expression_extent(e)) as u16))?;
-    emit_expression(alloc, out, member, entry, e)
+    emit_expression(alloc, out, scope, e)
 }
 
 /// The code that brings the value of a variable, a formal or a parameter, or what an enumeration's name stands for.
 fn emit_name(
     alloc: Global,
     out: &mut Code,
-    member: &Member,
-    entry: &Entry,
+    scope: &Scope<'_>,
     name: &Name,
 ) -> Result<(), OutOfMemory>
-    requires scope { IsScope member.now.types (scope_in member.now entry.now) }
-    requires known { IsOrigin (origin (scope_in member.now entry.now) (name_of name.now)) }
+    requires scope { IsScope scope.now }
+    requires known { IsOrigin (origin scope.now (name_of name.now)) }
     requires room { length out.old.consts.items + 1 < 2 ^ 16 }
-    ensures { OnOk result (AddsExpr (listing member.now.types out.old) (listing member.now.types out.new) (scope_in member.now entry.now) (named (name_of name.now))) }
+    ensures { OnOk result (AddsExpr (listing scope.now.types out.old) (listing scope.now.types out.new) scope.now (named (name_of name.now))) }
 {
-    if let Some(i) = variable_place(&member.automaton.variables, name) {
+    if let Some(i) = scope.variable(name) {
         return put(out, Instr::Slot(i as u16));
     }
-    if let Some(i) = field_place(&member.automaton.formals, name) {
-        return put_constant(out, member.arguments[i].try_copy(alloc)?);
+    if let Some(value) = scope.formal(name) {
+        return put_constant(out, value.try_copy(alloc)?);
     }
-    match parameter_place(&entry.positions, name) {
+    match scope.parameter(name) {
         Some(i) => put(out, Instr::Arg(i as u16)),
-        None => put_constant(out, constant(&member.types, name)),
+        None => put_constant(out, constant(scope.types(), name)),
     }
 }
 

@@ -16,6 +16,7 @@ ghost use Rattle.ioa_compile.specs.Shown.{entry_code};
 ghost use Rattle.ioa_compile.specs.Matching.{AreTypesOf};
 ghost use Rattle.ioa_compile.specs.Translated.{IsEntryOf, IsTranslated};
 
+use crate::scope::Scope;
 use crate::table::Entry;
 use crate::transition::transition_code;
 use crate::types::position_types;
@@ -60,7 +61,8 @@ fn compile_entry(
     let types = &member.types;
     let positions = positions(alloc, types, &member.automaton, &member.arguments, entry)?;
     let arguments = position_types(alloc, &positions)?;
-    let (guard, effect) = transition_code(alloc, member, entry, transition)?;
+    let scope = Scope::of(member, entry);
+    let (guard, effect) = transition_code(alloc, &scope, entry.kind, transition)?;
     Ok(Entry {
         kind: entry.kind,
         name: entry.name.text.clone()?,

@@ -1,12 +1,10 @@
-ghost use Rattle.std.specs.Prelude.{◌≡◌, map, Some, IsSome};
-ghost use Rattle.ioa_tree.specs.View.{name_of, expr_of, field_of, position_of, variable_of};
+ghost use Rattle.std.specs.Prelude.{◌≡◌, map};
+ghost use Rattle.ioa_tree.specs.View.{name_of, field_of, position_of, variable_of};
 ghost use Rattle.ioa_value.specs.Table.{place_from};
 ghost use Rattle.ioa_tree.specs.Instances.{field_names};
-ghost use Rattle.ioa_compile.specs.Scopes.{scope_in, place_of, parameter_from};
+ghost use Rattle.ioa_compile.specs.Scopes.{parameter_from};
 
-use ioa_check::expression_type;
-use ioa_compose::Member;
-use ioa_tree::{Entry, Expression, Field, Name, Position, Variable};
+use ioa_tree::{Field, Name, Position, Variable};
 
 /// The place of the first field of this name.
 pub(crate) fn field_place(fields: &[Field], name: &Name) -> Option<usize>
@@ -32,18 +30,4 @@ pub(crate) fn parameter_place(positions: &[Position], name: &Name) -> Option<usi
         Position::Typed(field) => field.name.text.as_str() == name.text.as_str(),
         Position::Constant(_) => false,
     })
-}
-
-/// The place of the field of this name in the tuples that an expression gives.
-pub(crate) fn tuple_place(member: &Member, entry: &Entry, e: &Expression, name: &Name) -> u16
-    requires { IsSome (place_of (scope_in member.now entry.now) (expr_of e.now) (name_of name.now)) }
-    ensures { place_of (scope_in member.now entry.now) (expr_of e.now) (name_of name.now) ≡ Some result }
-{
-    match expression_type(&member.types, &member.automaton, entry, e) {
-        Some(ty) => match member.types.field(ty, name.text.as_str()) {
-            Some(place) => place,
-            None => unreachable!(),
-        },
-        None => unreachable!(),
-    }
 }

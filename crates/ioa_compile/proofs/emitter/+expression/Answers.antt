@@ -9,12 +9,13 @@ use Rattle.ioa_value.specs.Table.{type_named}
 use Rattle.ioa_value.proofs.ItemLemmas.{drop_item}
 use Rattle.ioa_code.specs.Parts.{listing}
 use Rattle.ioa_tree.specs.View.{expr_of, exprs_of, name_of}
+use Rattle.ioa_tree.specs.Types.{empty_of}
 use Rattle.ioa_tree.specs.Tree.{make, binary}
 use Rattle.ioa_tree.specs.WellFormed.{nodes, exprs_nodes}
 use Rattle.ioa_tree.specs.declared.tree.Expression.{Expression}
 use Rattle.ioa_tree.specs.declared.tree.Expression.TheViews.{the_lemmas}
 use Rattle.ioa_compile.specs.Extents.{extent, exprs_extent, infix_extent}
-use Rattle.ioa_compile.specs.Scopes.{scope_in, place_of, IsKnown, AreAllKnown}
+use Rattle.ioa_compile.specs.Scopes.{place_of, IsKnown, AreAllKnown}
 use Rattle.ioa_compile.specs.Emitting.{AddsConst, AddsExpr, AddsExprs, AddsCombined}
 use Rattle.ioa_compile.proofs.Emitted.{adds_binary, adds_prefix, adds_operator, adds_true_side, adds_false_side, adds_empty, adds_make, adds_select, adds_no_expr, adds_also}
 use Rattle.ioa_compile.proofs.Fixed.{empty_own}
@@ -24,8 +25,8 @@ use Rattle.ioa_compile.proofs.emitter.+expression.Goals as goal
 
 pub emit_expression-returns-in-Number : goal.emit_expression-returns-in-Number
 emit_expression-returns-in-Number t c =
-    let s = scope_in c.args.member.now c.args.entry.now in
-    let types = c.args.member.now.types in
+    let s = c.args.scope.now in
+    let types = c.args.scope.now.types in
     let c0 = listing types c.args.out.now in
     let c1 = listing types c.put_constant.new.out in
     let n = c.in-Number.n in
@@ -38,8 +39,8 @@ emit_expression-returns-in-Number t c =
 
 pub emit_expression-returns-in-Truth : goal.emit_expression-returns-in-Truth
 emit_expression-returns-in-Truth t c =
-    let s = scope_in c.args.member.now c.args.entry.now in
-    let types = c.args.member.now.types in
+    let s = c.args.scope.now in
+    let types = c.args.scope.now.types in
     let c0 = listing types c.args.out.now in
     let c1 = listing types c.put_constant-in-Truth.new.out in
     on_ok_weaker c.put_constant-in-Truth.result
@@ -48,24 +49,27 @@ emit_expression-returns-in-Truth t c =
 
 pub emit_expression-empty-requires : goal.emit_expression-empty-requires
 emit_expression-empty-requires t c =
-    subst (IsKnown (scope_in c.args.member.now c.args.entry.now)) (ap expr_of c.in-Empty.is) c.requires.known
+    let s = c.args.scope.now in
+    let known : IsSome (empty_of s.types (name_of c.in-Empty.name)) = subst (IsKnown s) (ap expr_of c.in-Empty.is) c.requires.known in
+    subst (λ l. IsSome (empty_of l (name_of c.in-Empty.name))) (sym c.types.ensures) known
 
 pub emit_expression-returns-in-Empty : goal.emit_expression-returns-in-Empty
 emit_expression-returns-in-Empty t c =
-    let s = scope_in c.args.member.now c.args.entry.now in
-    let types = c.args.member.now.types in
+    let s = c.args.scope.now in
+    let types = c.args.scope.now.types in
     let c0 = listing types c.args.out.now in
     let c1 = listing types c.put_constant-in-Empty.new.out in
     let x = name_of c.in-Empty.name in
     let v = plain c.empty.result in
+    let is : empty_of types x ≡ Some v = ap (λ l. empty_of l x) (sym c.types.ensures) ∙ c.empty.ensures in
     on_ok_weaker c.put_constant-in-Empty.result
-    (λ more. subst (λ e. AddsExpr c0 c1 s (expr_of e)) (sym c.in-Empty.is) (adds_empty c0 c1 s x v c.empty.ensures (more types (empty_own types x v c.empty.ensures))))
+    (λ more. subst (λ e. AddsExpr c0 c1 s (expr_of e)) (sym c.in-Empty.is) (adds_empty c0 c1 s x v is (more types (empty_own types x v is))))
     c.put_constant-in-Empty.ensures
 
 pub emit_expression-returns-in_ok-emit_expression-in-Prefix : goal.emit_expression-returns-in_ok-emit_expression-in-Prefix
 emit_expression-returns-in_ok-emit_expression-in-Prefix t c =
-    let s = scope_in c.args.member.now c.args.entry.now in
-    let types = c.args.member.now.types in
+    let s = c.args.scope.now in
+    let types = c.args.scope.now.types in
     let c0 = listing types c.args.out.now in
     let c1 = listing types c.emit_expression-in-Prefix.new.out in
     let c2 = listing types c.put.new.out in
@@ -76,8 +80,8 @@ emit_expression-returns-in_ok-emit_expression-in-Prefix t c =
 
 pub emit_expression-emit_combined-requires : goal.emit_expression-emit_combined-requires
 emit_expression-emit_combined-requires t c =
-    let s = scope_in c.args.member.now c.args.entry.now in
-    let types = c.args.member.now.types in
+    let s = c.args.scope.now in
+    let types = c.args.scope.now.types in
     let l = expr_of c.in-Binary.left.value in
     let r = expr_of c.deref-in-Binary-2.result.now in
     let c0 = listing types c.args.out.now in
@@ -92,8 +96,8 @@ emit_expression-emit_combined-requires t c =
 
 pub emit_expression-returns-in_ok-emit_expression-in-Binary : goal.emit_expression-returns-in_ok-emit_expression-in-Binary
 emit_expression-returns-in_ok-emit_expression-in-Binary t c =
-    let s = scope_in c.args.member.now c.args.entry.now in
-    let types = c.args.member.now.types in
+    let s = c.args.scope.now in
+    let types = c.args.scope.now.types in
     let c0 = listing types c.args.out.now in
     let c1 = listing types c.emit_expression-in-Binary.new.out in
     let c2 = listing types c.emit_combined.new.out in
@@ -105,7 +109,7 @@ emit_expression-returns-in_ok-emit_expression-in-Binary t c =
 
 pub emit_expression-emit_expressions-requires : goal.emit_expression-emit_expressions-requires
 emit_expression-emit_expressions-requires t c =
-    let s = scope_in c.args.member.now c.args.entry.now in
+    let s = c.args.scope.now in
     let x = name_of c.in-Make.name in
     let fields = exprs_of c.deref-in-Make.result.now in
     let is : expr_of c.args.e.now ≡ make x fields = made_of_slice c.args.e.now c.in-Make.name c.in-Make.fields c.deref-in-Make.result.now c.in-Make.is c.deref-in-Make.ensures.value in
@@ -116,37 +120,38 @@ emit_expression-emit_expressions-requires t c =
 
 pub emit_expression-returns-in_ok-emit_expressions-in-Make : goal.emit_expression-returns-in_ok-emit_expressions-in-Make
 emit_expression-returns-in_ok-emit_expressions-in-Make t c =
-    let s = scope_in c.args.member.now c.args.entry.now in
-    let types = c.args.member.now.types in
+    let s = c.args.scope.now in
+    let types = c.args.scope.now.types in
     let c0 = listing types c.args.out.now in
     let c1 = listing types c.emit_expressions.new.out in
     let c2 = listing types c.put-in-Make.new.out in
     let x = name_of c.in-Make.name in
     let fields = exprs_of c.deref-in-Make.result.now in
     let is : expr_of c.args.e.now ≡ make x fields = made_of_slice c.args.e.now c.in-Make.name c.in-Make.fields c.deref-in-Make.result.now c.in-Make.is c.deref-in-Make.ensures.value in
+    let named : type_named types x ≡ Some c.named_type.result.0 = ap (λ l. type_named l x) (sym c.types-in-Make.ensures) ∙ c.named_type.ensures in
     on_ok_weaker c.put-in-Make.result
-    (λ z. subst (AddsExpr c0 c2 s) (sym is) (adds_make c0 c1 c2 s x fields c.named_type.result.0 c.named_type.ensures c.in_ok-emit_expressions-in-Make.ensures (z types)))
+    (λ z. subst (AddsExpr c0 c2 s) (sym is) (adds_make c0 c1 c2 s x fields c.named_type.result.0 named c.in_ok-emit_expressions-in-Make.ensures (z types)))
     c.put-in-Make.ensures
 
 pub emit_expression-returns-in_ok-emit_expression-in-Select : goal.emit_expression-returns-in_ok-emit_expression-in-Select
 emit_expression-returns-in_ok-emit_expression-in-Select t c =
-    let s = scope_in c.args.member.now c.args.entry.now in
-    let types = c.args.member.now.types in
+    let s = c.args.scope.now in
+    let types = c.args.scope.now.types in
     let c0 = listing types c.args.out.now in
     let c1 = listing types c.emit_expression-in-Select.new.out in
     let c2 = listing types c.put-in-Select.new.out in
     let x = name_of c.in-Select.name in
-    let j = c.tuple_place-place.result in
+    let j = c.field-place.result in
     let operand = subst (λ e. AddsExpr c0 c1 s (expr_of e)) c.deref-in-Select.ensures c.in_ok-emit_expression-in-Select.ensures in
-    let place = subst (λ e. place_of s (expr_of e) x ≡ Some j) c.deref-in-Select-2.ensures c.tuple_place-place.ensures in
+    let place = subst (λ e. place_of s (expr_of e) x ≡ Some j) c.deref-in-Select-2.ensures c.field-place.ensures in
     on_ok_weaker c.put-in-Select.result
     (λ z. subst (λ e. AddsExpr c0 c2 s (expr_of e)) (sym c.in-Select.is) (adds_select c0 c1 c2 s (expr_of c.in-Select.inner.value) x j place operand (z types)))
     c.put-in-Select.ensures
 
 pub emit_expressions-loop-expression-preserved : goal.emit_expressions-loop-expression-preserved
 emit_expressions-loop-expression-preserved t c =
-    let s = scope_in c.args.member.now c.args.entry.now in
-    let types = c.args.member.now.types in
+    let s = c.args.scope.now in
+    let types = c.args.scope.now.types in
     let xs = c.args.expressions.now in
     let i = c.loop-expression.expression-index in
     let x = c.expression-item.result in
@@ -170,16 +175,16 @@ emit_expressions-loop-expression-preserved t c =
 
 pub emit_expressions-returns : goal.emit_expressions-returns
 emit_expressions-returns t c =
-    let s = scope_in c.args.member.now c.args.entry.now in
-    let types = c.args.member.now.types in
+    let s = c.args.scope.now in
+    let types = c.args.scope.now.types in
     let out = listing types c.loop-expression.out in
     let none = drop_all c.loop-expression.expression-index c.args.expressions.now (omega arith) in
     c.loop-expression.invariant.rest out (subst (λ (l : List Expression). AddsExprs out out s (exprs_of l)) (sym none) (adds_no_expr out s))
 
 pub emit_combined-returns-in_ok-emit_expression-in-Operator : goal.emit_combined-returns-in_ok-emit_expression-in-Operator
 emit_combined-returns-in_ok-emit_expression-in-Operator t c =
-    let s = scope_in c.args.member.now c.args.entry.now in
-    let types = c.args.member.now.types in
+    let s = c.args.scope.now in
+    let types = c.args.scope.now.types in
     let c0 = listing types c.args.out.now in
     let c1 = listing types c.emit_expression.new.out in
     let c2 = listing types c.put.new.out in
@@ -190,14 +195,14 @@ emit_combined-returns-in_ok-emit_expression-in-Operator t c =
 
 pub emit_where_true-emit_expression-requires : goal.emit_where_true-emit_expression-requires
 emit_where_true-emit_expression-requires t c =
-    let types = c.args.member.now.types in
+    let types = c.args.scope.now.types in
     let x = c.in_ok-put.ensures types in
     let long : length c.put.new.out.instrs.items ≡ length c.args.out.now.instrs.items + 1 = x.has.1 in
     (search (rules, the_lemmas), (c.requires.scope, (c.requires.known, (omega (arith, c.requires.room, x.few, length-map c.args.out.now.consts.items plain, length-map c.put.new.out.consts.items plain), omega (arith, c.requires.short, long)))))
 
 pub emit_where_true-put_constant-requires : goal.emit_where_true-put_constant-requires
 emit_where_true-put_constant-requires t c =
-    let types = c.args.member.now.types in
+    let types = c.args.scope.now.types in
     let x = c.in_ok-put.ensures types in
     let y = c.in_ok-emit_expression.ensures in
     let z = c.in_ok-put-2.ensures types in
@@ -205,8 +210,8 @@ emit_where_true-put_constant-requires t c =
 
 pub emit_where_true-returns : goal.emit_where_true-returns
 emit_where_true-returns t c =
-    let s = scope_in c.args.member.now c.args.entry.now in
-    let types = c.args.member.now.types in
+    let s = c.args.scope.now in
+    let types = c.args.scope.now.types in
     let e = expr_of c.args.e.now in
     let t : ℕ = c.len.result + c.expression_extent.result + 2 in
     let t-is : t ≡ length c.args.out.now.instrs.items + extent e + 2 = omega (arith, c.len.ensures, c.expression_extent.ensures, c.args.out.now.instrs.ok.0) in
@@ -216,13 +221,13 @@ emit_where_true-returns t c =
 
 pub emit_where_false-put_constant-requires : goal.emit_where_false-put_constant-requires
 emit_where_false-put_constant-requires t c =
-    let types = c.args.member.now.types in
+    let types = c.args.scope.now.types in
     let x = c.in_ok-put.ensures types in
     omega (arith, c.requires.room, x.few, length-map c.args.out.now.consts.items plain, length-map c.put.new.out.consts.items plain)
 
 pub emit_where_false-emit_expression-requires : goal.emit_where_false-emit_expression-requires
 emit_where_false-emit_expression-requires t c =
-    let types = c.args.member.now.types in
+    let types = c.args.scope.now.types in
     let x = c.in_ok-put.ensures types in
     let y = c.in_ok-put_constant.ensures types refl in
     let z = c.in_ok-put-2.ensures types in
@@ -233,8 +238,8 @@ emit_where_false-emit_expression-requires t c =
 
 pub emit_where_false-returns : goal.emit_where_false-returns
 emit_where_false-returns t c =
-    let s = scope_in c.args.member.now c.args.entry.now in
-    let types = c.args.member.now.types in
+    let s = c.args.scope.now in
+    let types = c.args.scope.now.types in
     let e = expr_of c.args.e.now in
     let t : ℕ = c.len-next.result + 3 in
     let t-is : t ≡ length c.args.out.now.instrs.items + 3 = omega (arith, c.len-next.ensures, c.args.out.now.instrs.ok.0) in

@@ -4,14 +4,14 @@ use Rattle.ioa_code.specs.Parts.{listing}
 use Rattle.ioa_tree.specs.View.{exprs_of}
 use Rattle.ioa_tree.specs.WellFormed.{exprs_nodes}
 use Rattle.ioa_compile.specs.Extents.{exprs_extent}
-use Rattle.ioa_compile.specs.Scopes.{scope_in, AreAllKnown}
+use Rattle.ioa_compile.specs.Scopes.{AreAllKnown}
 use Rattle.ioa_compile.specs.Emitting.{AddsExprs}
 use Rattle.ioa_compile.proofs.emitter.+expression.Given as goal
 
 abbrev pub invariant-emit_expressions-loop-expression : goal.invariant-emit_expressions-loop-expression
 invariant-emit_expressions-loop-expression l = record {
-  known : AreAllKnown (scope_in l.member l.entry) (exprs_of (drop l.expression-index l.expressions));
+  known : AreAllKnown l.scope (exprs_of (drop l.expression-index l.expressions));
   room : length l.out.consts.items + exprs_nodes (exprs_of (drop l.expression-index l.expressions)) < 2 ^ 16;
   short : length l.out.instrs.items + exprs_extent (exprs_of (drop l.expression-index l.expressions)) < 2 ^ 16;
-  rest : (new : Listing) → AddsExprs (listing l.member.types l.out) new (scope_in l.member l.entry) (exprs_of (drop l.expression-index l.expressions)) → AddsExprs (listing l.member.types l.fn.out) new (scope_in l.member l.entry) (exprs_of l.expressions);
+  rest : (new : Listing) → AddsExprs (listing l.scope.types l.out) new l.scope (exprs_of (drop l.expression-index l.expressions)) → AddsExprs (listing l.scope.types l.fn.out) new l.scope (exprs_of l.expressions);
 }

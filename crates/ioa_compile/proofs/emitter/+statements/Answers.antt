@@ -10,7 +10,7 @@ use Rattle.ioa_tree.specs.declared.tree.Statement.{Statement}
 use Rattle.ioa_tree.specs.declared.tree.Statement.TheViews.{the_lemmas}
 use Rattle.ioa_tree.specs.declared.tree.Arm.{Arm}
 use Rattle.ioa_compile.specs.Extents.{extent, stmt_extent, stmts_extent, arms_extent}
-use Rattle.ioa_compile.specs.Scopes.{scope_in, IsKnown, IsKnownStmt, AreKnown, AreKnownArms}
+use Rattle.ioa_compile.specs.Scopes.{IsKnown, IsKnownStmt, AreKnown, AreKnownArms}
 use Rattle.ioa_compile.specs.Emitting.{AddsStmt, AddsStmts}
 use Rattle.ioa_compile.proofs.Lengths.{expr_long, stmt_long, stmts_long}
 use Rattle.ioa_compile.proofs.Emitted.{AddsArms, adds_first, adds_none, adds_arm, adds_others, adds_choose}
@@ -19,8 +19,8 @@ use Rattle.ioa_compile.proofs.emitter.+statements.Goals as goal
 
 pub emit_choice-overflow_cast-next : goal.emit_choice-overflow_cast-next
 emit_choice-overflow_cast-next t c =
-    let s = scope_in c.args.member.now c.args.entry.now in
-    let types = c.args.member.now.types in
+    let s = c.args.scope.now in
+    let types = c.args.scope.now.types in
     let i = c.loop-arm.arm-index in
     let a = c.arm-item.result in
     let more = arms_of (drop (i + 1) c.args.arms.now) in
@@ -43,8 +43,8 @@ emit_choice-overflow_cast-next t c =
 
 pub emit_choice-emit_statements-requires : goal.emit_choice-emit_statements-requires
 emit_choice-emit_statements-requires t c =
-    let s = scope_in c.args.member.now c.args.entry.now in
-    let types = c.args.member.now.types in
+    let s = c.args.scope.now in
+    let types = c.args.scope.now.types in
     let i = c.loop-arm.arm-index in
     let a = c.arm-item.result in
     let more = arms_of (drop (i + 1) c.args.arms.now) in
@@ -73,8 +73,8 @@ emit_choice-emit_statements-requires t c =
 
 pub emit_choice-loop-arm-preserved : goal.emit_choice-loop-arm-preserved
 emit_choice-loop-arm-preserved t c =
-    let s = scope_in c.args.member.now c.args.entry.now in
-    let types = c.args.member.now.types in
+    let s = c.args.scope.now in
+    let types = c.args.scope.now.types in
     let i = c.loop-arm.arm-index in
     let a = c.arm-item.result in
     let more = arms_of (drop (i + 1) c.args.arms.now) in
@@ -129,8 +129,8 @@ emit_choice-emit_statements-requires-2 t c =
 
 pub emit_choice-returns : goal.emit_choice-returns
 emit_choice-returns t c =
-    let s = scope_in c.args.member.now c.args.entry.now in
-    let types = c.args.member.now.types in
+    let s = c.args.scope.now in
+    let types = c.args.scope.now.types in
     let others = stmts_of c.args.others.now in
     let out = listing types c.loop-arm.out in
     let new = listing types c.emit_statements-2.new.out in
@@ -141,14 +141,14 @@ emit_choice-returns t c =
 
 pub emit_statement-emit_choice-requires : goal.emit_statement-emit_choice-requires
 emit_statement-emit_choice-requires t c =
-    let s = scope_in c.args.member.now c.args.entry.now in
+    let s = c.args.scope.now in
     let shown = stmt_chosen c.args.statement.now c.in-If.arms c.in-If.others c.in-If.field-2 c.deref.result.now c.deref-in-If.result.now c.in-If.is c.deref.ensures.value c.deref-in-If.ensures.value in
     (search (rules, the_lemmas), (c.requires.scope, (subst (IsKnownStmt s) shown c.requires.known, (subst (λ t. length c.args.out.now.consts.items + stmt_nodes t < 65536) shown c.requires.room, subst (λ t. length c.args.out.now.instrs.items + stmt_extent t < 65536) shown c.requires.short))))
 
 pub emit_statement-returns-in-If : goal.emit_statement-returns-in-If
 emit_statement-returns-in-If t c =
-    let s = scope_in c.args.member.now c.args.entry.now in
-    let types = c.args.member.now.types in
+    let s = c.args.scope.now in
+    let types = c.args.scope.now.types in
     let shown = stmt_chosen c.args.statement.now c.in-If.arms c.in-If.others c.in-If.field-2 c.deref.result.now c.deref-in-If.result.now c.in-If.is c.deref.ensures.value c.deref-in-If.ensures.value in
     on_ok_weaker c.emit_choice.result
     (λ w. subst (λ t. AddsStmt (listing types c.args.out.now) (listing types c.emit_choice.new.out) s t) (sym shown) w)
@@ -156,8 +156,8 @@ emit_statement-returns-in-If t c =
 
 pub emit_statements-loop-statement-preserved : goal.emit_statements-loop-statement-preserved
 emit_statements-loop-statement-preserved t c =
-    let s = scope_in c.args.member.now c.args.entry.now in
-    let types = c.args.member.now.types in
+    let s = c.args.scope.now in
+    let types = c.args.scope.now.types in
     let xs = c.args.statements.now in
     let i = c.loop-statement.statement-index in
     let x = c.statement-item.result in
@@ -181,8 +181,8 @@ emit_statements-loop-statement-preserved t c =
 
 pub emit_statements-returns : goal.emit_statements-returns
 emit_statements-returns t c =
-    let s = scope_in c.args.member.now c.args.entry.now in
-    let types = c.args.member.now.types in
+    let s = c.args.scope.now in
+    let types = c.args.scope.now.types in
     let out = listing types c.loop-statement.out in
     let none = drop_all c.loop-statement.statement-index c.args.statements.now (omega arith) in
     c.loop-statement.invariant.rest out (subst (λ (l : List Statement). AddsStmts out out s (stmts_of l)) (sym none) (adds_none out s))

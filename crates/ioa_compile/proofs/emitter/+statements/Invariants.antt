@@ -7,7 +7,7 @@ use Rattle.ioa_tree.proofs.tree.Arm.TheLaws.{the_size as the_size_of_arm}
 use Rattle.ioa_tree.specs.View.{stmts_of, arms_of}
 use Rattle.ioa_tree.specs.WellFormed.{stmts_nodes, arms_nodes}
 use Rattle.ioa_compile.specs.Extents.{stmts_extent, arms_extent}
-use Rattle.ioa_compile.specs.Scopes.{scope_in, AreKnown, AreKnownArms}
+use Rattle.ioa_compile.specs.Scopes.{AreKnown, AreKnownArms}
 use Rattle.ioa_compile.specs.Emitting.{AddsStmts}
 use Rattle.ioa_compile.proofs.Emitted.{AddsArms}
 use Rattle.ioa_compile.proofs.emitter.+statements.Given as goal
@@ -24,16 +24,16 @@ decreases-emit_choice l = 3 * max (most the_size_of_arm l.arms.now) (most the_si
 
 abbrev pub invariant-emit_statements-loop-statement : goal.invariant-emit_statements-loop-statement
 invariant-emit_statements-loop-statement l = record {
-  known : AreKnown (scope_in l.member l.entry) (stmts_of (drop l.statement-index l.statements));
+  known : AreKnown l.scope (stmts_of (drop l.statement-index l.statements));
   room : length l.out.consts.items + stmts_nodes (stmts_of (drop l.statement-index l.statements)) < 2 ^ 16;
   short : length l.out.instrs.items + stmts_extent (stmts_of (drop l.statement-index l.statements)) < 2 ^ 16;
-  rest : (new : Listing) → AddsStmts (listing l.member.types l.out) new (scope_in l.member l.entry) (stmts_of (drop l.statement-index l.statements)) → AddsStmts (listing l.member.types l.fn.out) new (scope_in l.member l.entry) (stmts_of l.statements);
+  rest : (new : Listing) → AddsStmts (listing l.scope.types l.out) new l.scope (stmts_of (drop l.statement-index l.statements)) → AddsStmts (listing l.scope.types l.fn.out) new l.scope (stmts_of l.statements);
 }
 
 abbrev pub invariant-emit_choice-loop-arm : goal.invariant-emit_choice-loop-arm
 invariant-emit_choice-loop-arm l = record {
-  known : AreKnownArms (scope_in l.member l.entry) (arms_of (drop l.arm-index l.arms));
+  known : AreKnownArms l.scope (arms_of (drop l.arm-index l.arms));
   room : length l.out.consts.items + (arms_nodes (arms_of (drop l.arm-index l.arms)) + stmts_nodes (stmts_of l.others)) < 2 ^ 16;
   ends : l.end ≡ length l.out.instrs.items + (arms_extent (arms_of (drop l.arm-index l.arms)) + stmts_extent (stmts_of l.others));
-  rest : (new : Listing) → AddsArms (listing l.member.types l.out) new (scope_in l.member l.entry) (arms_of (drop l.arm-index l.arms)) (stmts_of l.others) → AddsArms (listing l.member.types l.fn.out) new (scope_in l.member l.entry) (arms_of l.arms) (stmts_of l.others);
+  rest : (new : Listing) → AddsArms (listing l.scope.types l.out) new l.scope (arms_of (drop l.arm-index l.arms)) (stmts_of l.others) → AddsArms (listing l.scope.types l.fn.out) new l.scope (arms_of l.arms) (stmts_of l.others);
 }

@@ -1,19 +1,17 @@
-use Rattle.std.proofs.Common.{◌<◌, ◌≤◌, ap, ◌∙◌, map, length, rules, arith}
+use Rattle.std.proofs.Common.{◌<◌, ◌≤◌, sym, ◌∙◌, length, rules, arith}
 use Rattle.std.proofs.lemmas.Result.{on_ok_weaker}
 use Rattle.ioa_code.specs.Parts.{listing}
-use Rattle.ioa_tree.specs.View.{name_of, expr_of, variable_of, entry_of}
-use Rattle.ioa_compose.specs.Held.{member_of}
+use Rattle.ioa_tree.specs.View.{name_of, expr_of}
 use Rattle.ioa_compose.specs.Fine.{component_limits}
-use Rattle.ioa_compile.specs.Scopes.{scope_of}
-use Rattle.ioa_value.proofs.PlaceLemmas.{place_in, place_below}
+use Rattle.ioa_value.proofs.PlaceLemmas.{place_below}
 use Rattle.ioa_compile.proofs.Emitted.{adds_assign}
 use Rattle.ioa_compile.proofs.emitter.emit_assignment.Goals as goal
 
 pub overflow_cast-i : goal.overflow_cast-i
 overflow_cast-i c =
-    let s = scope_of (member_of c.args.member.now) (entry_of c.args.entry.now) in
+    let s = c.args.scope.now in
     let x = name_of c.args.name.now in
-    let place = place_in _ s.variables x c.variable_place.result c.variable_place.ensures (ap (λ l. map (λ v. v.field.name) (map variable_of l)) c.deref.ensures.value) in
+    let place = sym c.variable.ensures in
     let below : c.in-Some.i < length s.variables = place_below s.variables x c.in-Some.i (place ∙ c.in-Some.is) in
     let few : length s.variables ≤ component_limits.variables = c.requires.scope.variables in
     let lt : c.in-Some.i < component_limits.variables = omega arith in
@@ -21,9 +19,9 @@ overflow_cast-i c =
 
 pub returns : goal.returns
 returns c =
-    let s = scope_of (member_of c.args.member.now) (entry_of c.args.entry.now) in
+    let s = c.args.scope.now in
     let x = name_of c.args.name.now in
-    let place = place_in _ s.variables x c.variable_place.result c.variable_place.ensures (ap (λ l. map (λ v. v.field.name) (map variable_of l)) c.deref.ensures.value) in
+    let place = sym c.variable.ensures in
     on_ok_weaker c.put.result
-    (λ z. adds_assign (listing c.args.member.now.types c.args.out.now) (listing c.args.member.now.types c.emit_expression.new.out) (listing c.args.member.now.types c.put.new.out) s x (expr_of c.args.e.now) c.in-Some.i (place ∙ c.in-Some.is) c.in_ok-emit_expression.ensures (z c.args.member.now.types))
+    (λ z. adds_assign (listing c.args.scope.now.types c.args.out.now) (listing c.args.scope.now.types c.emit_expression.new.out) (listing c.args.scope.now.types c.put.new.out) s x (expr_of c.args.e.now) c.in-Some.i (place ∙ c.in-Some.is) c.in_ok-emit_expression.ensures (z c.args.scope.now.types))
     c.put.ensures

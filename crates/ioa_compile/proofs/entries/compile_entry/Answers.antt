@@ -1,15 +1,18 @@
-use Rattle.std.proofs.Common.{◌≡◌, List, [], ◌∷◌, map, IfSome, refl, sym, ap, ◌∙◌, subst, rules}
+use Rattle.std.proofs.Common.{◌≡◌, List, [], ◌∷◌, map, Option, IfSome, refl, sym, ap, ◌∙◌, subst, rules}
 use Rattle.std.specs.Option.{option_map}
 use Rattle.ioa_value.specs.declared.positions.Position.{Position}
 use Rattle.ioa_value.specs.declared.value.Ty.{Ty}
 use Rattle.ioa_value.specs.declared.value.Value.{Value}
+use Rattle.ioa_code.specs.declared.instr.Code.{Code}
 use Rattle.ioa_code.specs.declared.instr.PartKind.TheVariants.{Pre, Eff}
 use Rattle.ioa_value.specs.Plain.{plain, number}
 use Rattle.ioa_value.specs.Positions.{domain_of}
 use Rattle.ioa_code.specs.Parts.{part, listing}
 use Rattle.ioa_code.specs.Valid.{Valid}
 use Rattle.ioa_tree.specs.declared.tree.Entry as tree
+use Rattle.ioa_tree.specs.Compositions.{Member}
 use Rattle.ioa_tree.specs.Domains.{AreDomainsOf}
+use Rattle.ioa_tree.specs.Tree.{EntryTree, TransitionTree}
 use Rattle.ioa_tree.specs.View.{entry_of, transition_of, automaton_of}
 use Rattle.ioa_tree.specs.WellFormed.{variable_fields}
 use Rattle.ioa_compose.specs.declared.member.Member as held
@@ -17,10 +20,10 @@ use Rattle.ioa_compose.specs.Bindings.{instance_with}
 use Rattle.ioa_compose.specs.Fine.{IsFine, component_limits}
 use Rattle.ioa_compose.specs.Held.{member_of}
 use Rattle.ioa_compile.specs.Shown.{entry_code}
-use Rattle.ioa_compile.specs.Scopes.{scope_of}
+use Rattle.ioa_compile.specs.Scopes.{Scope, scope_of, IsScope, IsKnownGuard, AreKnown}
 use Rattle.ioa_compile.specs.Matching.{AreTypesOf}
 use Rattle.ioa_compile.specs.Tables.{position_types}
-use Rattle.ioa_compile.specs.Translated.{IsEntryOf}
+use Rattle.ioa_compile.specs.Translated.{IsEntryOf, IsTransition}
 use Rattle.ioa_compile.proofs.Fine as fine
 use Rattle.ioa_compile.proofs.Fine.{Setting, setting, fine_of, small_of, guard_typed, effect_typed, is_scope, known_guard, known_stmts, is_some_of_found}
 use Rattle.ioa_compile.proofs.Validity.{guard_valid, effect_valid}
@@ -43,6 +46,12 @@ settled m entry slots is_fine own variables values values_are ps h seen seen_are
     setting (member_of m) (entry_of entry) is_fine own (map number slots) (map number args) (map domain_of ps) variables (found m entry values values_are ps h)
     (types_are ∙ ap (λ l. position_types (map domain_of l)) seen_are)
 
+-- the code that is made over the transition's scope
+made : (s : Scope) (m : Member) (e : EntryTree) (t : TransitionTree) (guard : Option Code) (effect : Code) → s ≡ scope_of m e → IsTransition e.kind s t (option_map (listing s.types) guard) (listing s.types effect)
+    → IsTransition e.kind (scope_of m e) t (option_map (listing m.instance.types) guard) (listing m.instance.types effect)
+made s m e t guard effect is h =
+    subst (λ x. IsTransition e.kind x t (option_map (listing x.types) guard) (listing x.types effect)) is h
+
 pub transition_of-transition-requires : goal.transition_of-transition-requires
 transition_of-transition-requires c =
     is_some_of_found (member_of c.args.member.now) (entry_of c.args.entry.now) c.requires.fine c.requires.own
@@ -55,7 +64,7 @@ pub transition_code-requires-clause-scope : goal.transition_code-requires-clause
 transition_code-requires-clause-scope c =
     let all = settled c.args.member.now c.args.entry.now c.args.slots.now c.requires.fine c.requires.own c.requires.slots c.deref.result.now c.deref.ensures.value
     c.in_ok-positions.positions.items c.in_ok-positions.ensures c.deref-2.result.now c.deref-2.ensures.value c.in_ok-arguments.arguments.items c.in_ok-arguments.ensures in
-    is_scope (member_of c.args.member.now) (entry_of c.args.entry.now) _ _ all
+    subst IsScope (sym c.of-scope.ensures) (is_scope (member_of c.args.member.now) (entry_of c.args.entry.now) _ _ all)
 
 pub transition_code-requires-clause-guard : goal.transition_code-requires-clause-guard
 transition_code-requires-clause-guard c =
@@ -65,7 +74,8 @@ transition_code-requires-clause-guard c =
     c.in_ok-positions.positions.items c.in_ok-positions.ensures c.deref-2.result.now c.deref-2.ensures.value c.in_ok-arguments.arguments.items c.in_ok-arguments.ensures in
     let t = transition_of c.transition_of-transition.result.now in
     let is_fine = fine_of m e c.requires.fine c.requires.own t c.transition_of-transition.ensures in
-    known_guard m e _ _ all t.pre (guard_typed m.instance.types all.globals m.instance.automaton e t is_fine)
+    let known = known_guard m e _ _ all t.pre (guard_typed m.instance.types all.globals m.instance.automaton e t is_fine) in
+    subst (λ s. IsKnownGuard s t.pre) (sym c.of-scope.ensures) known
 
 pub transition_code-requires-clause-effect : goal.transition_code-requires-clause-effect
 transition_code-requires-clause-effect c =
@@ -75,7 +85,8 @@ transition_code-requires-clause-effect c =
     c.in_ok-positions.positions.items c.in_ok-positions.ensures c.deref-2.result.now c.deref-2.ensures.value c.in_ok-arguments.arguments.items c.in_ok-arguments.ensures in
     let t = transition_of c.transition_of-transition.result.now in
     let is_fine = fine_of m e c.requires.fine c.requires.own t c.transition_of-transition.ensures in
-    known_stmts m e _ _ all t.effect (effect_typed m.instance.types all.globals m.instance.automaton e t is_fine)
+    let known = known_stmts m e _ _ all t.effect (effect_typed m.instance.types all.globals m.instance.automaton e t is_fine) in
+    subst (λ s. AreKnown s t.effect) (sym c.of-scope.ensures) known
 
 pub transition_code-requires-clause-guard_size : goal.transition_code-requires-clause-guard_size
 transition_code-requires-clause-guard_size c =
@@ -97,7 +108,8 @@ guard_part-requires-clause-valid c =
     let is_fine = fine_of m e c.requires.fine c.requires.own t c.transition_of-transition.ensures in
     let typed = guard_typed declared all.globals m.instance.automaton e t is_fine in
     let bools : List Ty = record { 0 = 0 } ∷ [] in
-    let result = on_guard declared (λ code. Valid (part declared code Pre c.args.slots.now args bools)) e.kind c.in_ok-guard.guard (scope_of m e) t.pre c.in_ok-guard.ensures.pre (λ code h. guard_valid m e _ _ all (listing declared code) refl t.pre typed h) in
+    let code = made c.of-scope.result m e t c.in_ok-guard.guard c.in_ok-guard.effect c.of-scope.ensures c.in_ok-guard.ensures in
+    let result = on_guard declared (λ code. Valid (part declared code Pre c.args.slots.now args bools)) e.kind c.in_ok-guard.guard (scope_of m e) t.pre code.pre (λ code h. guard_valid m e _ _ all (listing declared code) refl t.pre typed h) in
     subst (λ l. IfSome c.in_ok-guard.guard (λ code. Valid (part declared code Pre c.args.slots.now l bools))) (sym c.deref-3.ensures.value) result
 
 pub verified-requires-clause-valid : goal.verified-requires-clause-valid
@@ -112,7 +124,8 @@ verified-requires-clause-valid c =
     let is_fine = fine_of m e c.requires.fine c.requires.own t c.transition_of-transition.ensures in
     let typed = effect_typed declared all.globals m.instance.automaton e t is_fine in
     let none : List Ty = [] in
-    let result = effect_valid m e _ _ all (listing declared c.in_ok-guard.effect) refl t.effect typed c.in_ok-guard.ensures.effect in
+    let code = made c.of-scope.result m e t c.in_ok-guard.guard c.in_ok-guard.effect c.of-scope.ensures c.in_ok-guard.ensures in
+    let result = effect_valid m e _ _ all (listing declared c.in_ok-guard.effect) refl t.effect typed code.effect in
     subst (λ l. Valid (part declared c.in_ok-guard.effect Eff c.args.slots.now l none)) (sym c.deref-4.ensures.value) result
 
 pub returns : goal.returns
@@ -130,8 +143,9 @@ returns c =
     let t = transition_of c.transition_of-transition.result.now in
     let new = entry_code record { kind = c.args.entry.now.kind; name = c.in_ok-clone.field-0; positions = c.in_ok-positions.positions; pre = c.in_ok-guard_part.field-0; effect = c.in_ok-verified.field-0 } in
     let name : new.name ≡ e.name = search rules in
+    let code = made c.of-scope.result m e t c.in_ok-guard.guard c.in_ok-guard.effect c.of-scope.ensures c.in_ok-guard.ensures in
     translated declared slots args bools refl m refl e new t c.in_ok-guard.guard c.in_ok-guard.effect refl name domains (sym types_are)
-    c.transition_of-transition.ensures c.in_ok-guard.ensures
+    c.transition_of-transition.ensures code
     (c.in_ok-guard_part.ensures.value ∙ ap (λ l. option_map (λ code. part declared code Pre slots l bools) c.in_ok-guard.guard) c.deref-3.ensures.value)
     (c.in_ok-verified.ensures.value ∙ ap (λ l. part declared c.in_ok-guard.effect Eff slots l none) c.deref-4.ensures.value)
     c.in_ok-guard_part.ensures.sound c.in_ok-verified.ensures.sound
