@@ -11,6 +11,7 @@ pub use ioa_tree::{
     Arm, Assembly, Automaton, Choice, Constant, Crash, Declaration, Entry, Expression, Field,
     Infix, Instance, Invariant, Kind, Name, Position, Proposal, Statement, Transition,
     TypeDeclaration, TypeForm, Variable, well_formed_starts, well_typed_answers,
+    well_typed_proposals,
 };
 pub use laws::one_tree;
 pub use parsing::parse;

@@ -11,6 +11,7 @@ pub mod ValTyped
 pub mod EffectTyped
 pub mod FineParts
 pub mod Starts
+pub mod TryTyped
 pub mod Early
 pub mod Declared
 pub mod KeptInvariants

@@ -5,10 +5,11 @@ use Rattle.ioa_value.specs.Operators.{IsTypedAnswer}
 use Rattle.ioa_value.specs.Plain.{Val}
 use Rattle.ioa_value.specs.Table.{Table, AreTypes, type_named}
 use Rattle.ioa_value.specs.Typing.{HasType}
-use Rattle.ioa_tree.specs.Tree.{Expr, Stmts, EntryTree, VariableTree, AutomatonTree, InstanceTree, SourceTree}
+use Rattle.ioa_tree.specs.Tree.{Expr, FieldTree, Stmts, EntryTree, VariableTree, TransitionTree, AutomatonTree, InstanceTree, SourceTree}
 use Rattle.ioa_tree.specs.Meaning.{Env, nothing_known, values_of, val, Outcome, becomes, breaks, nowhere, eff}
-use Rattle.ioa_tree.specs.Instances.{field_names, Fit, start_answer}
-use Rattle.ioa_tree.specs.WellFormed.{Context, type_in, type_of, scope, stmts_fine, automaton_fine, instance_fine}
+use Rattle.ioa_tree.specs.Instances.{field_names, position_fields, Fit, start_answer}
+use Rattle.ioa_tree.specs.Proposing.{Words, Tried, tries, idle, parameters}
+use Rattle.ioa_tree.specs.WellFormed.{Context, type_in, type_of, held, scope, entry_fine, proposals_fine, stmts_fine, automaton_fine, instance_fine}
 
 -- the name stands for a value of the type
 abbrev pub Stands : Table → ℕ → Option Val → Type 0
@@ -59,3 +60,15 @@ abbrev pub ArgumentsAnswer : Type 0
 ArgumentsAnswer =
     (types : Table) (before : SourceTree) (i : InstanceTree) → AreTypes types → IsTrue (instance_fine types types before i)
     → All (ArgumentIsTyped types) i.arguments
+
+-- a value for each field, of its type, or nothing to try
+abbrev pub TryFits : Table → List FieldTree → Tried (List Val) → Type 0
+TryFits types fs (tries vs taken) = Fit types fs vs
+TryFits types fs (idle taken) = Unit {0}
+
+-- what well typed proposals give fits the entry's parameters
+abbrev pub ProposalsAnswer : Type 0
+ProposalsAnswer =
+    (types : Table) (globals : List Name) (a : AutomatonTree) (e : EntryTree) (r : TransitionTree) (env : Env) (words : Words) (taken : ℕ) → AreTypes types
+    → IsTrue (entry_fine types types globals a e) → IsTrue (proposals_fine types types globals a e r) → Suits types (held types types globals a) env
+    → TryFits types (position_fields e.positions) (parameters words types env r.proposals e.positions taken)

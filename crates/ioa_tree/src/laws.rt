@@ -1,6 +1,6 @@
 //! Laws of the meaning of trees. The functions do nothing: what they say is in their contracts.
 
-ghost use Rattle.ioa_tree.specs.Answers.{ExpressionsAnswer, EffectsAnswer, StartsAnswer, ArgumentsAnswer};
+ghost use Rattle.ioa_tree.specs.Answers.{ExpressionsAnswer, EffectsAnswer, StartsAnswer, ArgumentsAnswer, ProposalsAnswer};
 
 /// A well typed expression has a value of its type or a fault, and well typed statements leave a state of the same types
 /// or a fault.
@@ -14,4 +14,9 @@ pub fn well_typed_answers()
 pub fn well_formed_starts()
     ensures variables { StartsAnswer }
     ensures arguments { ArgumentsAnswer }
+{}
+
+/// What well typed proposals give is a value of each parameter's type, or there is nothing to try.
+pub fn well_typed_proposals()
+    ensures { ProposalsAnswer }
 {}

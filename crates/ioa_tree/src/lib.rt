@@ -5,7 +5,7 @@ mod laws;
 mod sameness;
 mod tree;
 
-pub use laws::{well_formed_starts, well_typed_answers};
+pub use laws::{well_formed_starts, well_typed_answers, well_typed_proposals};
 pub use sameness::{Same, same_list};
 pub use tree::{
     Arm, Assembly, Automaton, Choice, Constant, Crash, Declaration, Entry, Expression, Field,
