@@ -1,8 +1,8 @@
 #!/bin/sh
 # Shows the main job on an example: examples/demo.sh PROGRAM
 #
-# Where the program stands, it replays a list of actions on the counter. Until `make` has proved and built it, it is compiled without
-# its proofs for this one replay, which takes a minute or two; what is being done is told on standard error meanwhile.
+# Where the program stands, it replays a list of actions on the counter. Until `make` has proved and built it, it is read and compiled
+# without its proofs for this one replay, which takes about a minute; what is being done is told on standard error meanwhile.
 set -u
 program=$1
 top=$(cd "$(dirname "$0")/.." && pwd)
@@ -12,16 +12,32 @@ echo "replaying examples/counter/counts.list on examples/counter/counter.ioa" >&
 if [ -x "$program" ]; then
   exec "$program" replay "$example/counter.ioa" < "$example/counts.list"
 fi
-echo "the program is not proved here yet ('make' proves it): it is read and compiled without its proofs now, in a minute or two" >&2
+echo "the program is not proved here yet ('make' proves it): it is read and compiled without its proofs now, in about a minute" >&2
 work=$(mktemp -d) || exit 1
 trap 'rm -rf "$work"' EXIT
-(cd "$top/crates/ioac" && rt try -- replay "$example/counter.ioa" < "$example/counts.list" > "$work/printed" 2> "$work/told"; echo $? > "$work/status") &
+(cd "$top/crates/ioac" && TMPDIR=$work rt try -- replay "$example/counter.ioa" < "$example/counts.list" > "$work/printed" 2> "$work/told"; echo $? > "$work/status") &
+
+# Code for the machine stands in the folder that is lent to the compiler once all sources are read.
+doing() {
+  if [ -n "$(find "$work" -name '*.bc' 2> /dev/null)" ]; then
+    echo "compiling them"
+  else
+    echo "reading the sources, of this program and of the libraries that it stands on"
+  fi
+}
+
 seconds=0
+told=
 while [ ! -s "$work/status" ]; do
+  now=$(doing)
+  if [ "$now" != "$told" ] || [ $((seconds % 10)) -eq 0 ]; then
+    echo "  $seconds s: $now" >&2
+    told=$now
+  fi
   sleep 1
   seconds=$((seconds + 1))
-  [ $((seconds % 10)) -ne 0 ] || echo "  .. $seconds s" >&2
 done
+echo "  $seconds s: done" >&2
 cat "$work/printed"
 status=$(cat "$work/status")
 [ "$status" -eq 0 ] || cat "$work/told" >&2
