@@ -11,12 +11,12 @@ returns-in_ok-push_line-clause-performed c =
     λ p acts t h.
     let a : Act = act_of c.args.self.now.action in
     performs_shown p acts a c.args.self.now.runner c.take.new.self (string_bytes c.args.self.now.text) (string_bytes c.push_line.new.text) h
-    (λ traced o. subst (λ b. IsRunOver p (acts ++ a ∷ []) (traced ++ (if b then a ∷ [] else [])) c.take.new.self) c.if-goes_on.true (c.in_ok-goes_on.ensures.run p acts traced o))
+    (λ traced o. subst (λ b. IsRunOver p (acts ++ a ∷ []) (traced ++ (if b then a ∷ [] else [])) c.take.new.self) c.if-taken.true (c.in_ok-taken.ensures.run p acts traced o))
     (subst (λ ts. string_bytes c.push_line.new.text ≡ string_bytes c.args.self.now.text ++ (written_action ts a ++ 10 ∷ [])) t c.in_ok-push_line.ensures)
 
-pub returns-else-goes_on-clause-performed : goal.returns-else-goes_on-clause-performed
-returns-else-goes_on-clause-performed c =
+pub returns-else-taken-clause-performed : goal.returns-else-taken-clause-performed
+returns-else-taken-clause-performed c =
     λ p acts t h.
     let a : Act = act_of c.args.self.now.action in
     performs_silent p acts a c.args.self.now.runner c.take.new.self (string_bytes c.args.self.now.text) h
-    (λ traced o. subst (λ b. IsRunOver p (acts ++ a ∷ []) (traced ++ (if b then a ∷ [] else [])) c.take.new.self) c.if-goes_on.false (c.in_ok-goes_on.ensures.run p acts traced o))
+    (λ traced o. subst (λ b. IsRunOver p (acts ++ a ∷ []) (traced ++ (if b then a ∷ [] else [])) c.take.new.self) c.if-taken.false (c.in_ok-taken.ensures.run p acts traced o))
