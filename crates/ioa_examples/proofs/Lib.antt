@@ -3,6 +3,7 @@ pub mod Shown
 pub mod ValueTexts
 pub mod SequenceOperators
 pub mod Operands
+pub mod WordsTaken
 pub mod Positions
 pub mod SmallSources
 pub mod DeclaredTypes
