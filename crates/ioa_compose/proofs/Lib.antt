@@ -20,6 +20,7 @@ pub mod SpelledNames
 pub mod SpelledTrees
 pub mod RewrittenNames
 pub mod RewrittenEntries
+pub mod ProposedAlike
 pub mod ResetLemmas
 pub mod CrashLemmas
 pub mod RewrittenTypes

@@ -18,6 +18,7 @@ use Rattle.ioa_tree.specs.Tree.{Expr, CrashTree, EntryTree, VariableTree, Transi
 use Rattle.ioa_tree.specs.Names.{names_of_expr, names_of_entry}
 use Rattle.ioa_tree.specs.Meaning.{Env, or_else, over, values_of}
 use Rattle.ioa_tree.specs.Instances.{Instance, variable_names, formal_values, component_of, state_of}
+use Rattle.ioa_tree.specs.Proposing.{proposed}
 use Rattle.ioa_tree.specs.Components.{Component, Compatible}
 use Rattle.ioa_tree.specs.Compositions.{Member, Composed, components_of, starts_of}
 use Rattle.ioa_tree.specs.Invariants.{is_true, holds, breaks, broken_by, broken_from, Broken, first_broken, broken_at}
@@ -36,6 +37,7 @@ use Rattle.ioa_compose.proofs.FirstVariables.{is_added, values_before}
 use Rattle.ioa_compose.proofs.QuestionLemmas.{all_found}
 use Rattle.ioa_compose.proofs.RewrittenEntries.{entry_same}
 use Rattle.ioa_compose.proofs.RewrittenNames.{names, formals_same}
+use Rattle.ioa_compose.proofs.ProposedAlike.{proposed_alike}
 use Rattle.ioa_compose.proofs.CrashLemmas.{means_crash}
 
 -- ---- relations that say the same
@@ -236,6 +238,7 @@ one_made None p may = record {
   entries = refl;
   actions = λ k e a at. refl;
   proposals = sym (append-nil (map proposing p.instance.automaton.transitions));
+  proposes = λ k e h s words taken at r. ap (λ (t : Env). proposed p.instance e t words taken) (sym r.1);
   arguments = sym (append-nil p.instance.arguments);
   formals = λ x s. refl;
   variables = sym (append-nil p.instance.automaton.variables);
@@ -250,6 +253,7 @@ one_made (Some n) p may =
           (all_at (λ (d : EntryTree). list_all spelled (names_of_entry d)) a.entries k e (names n p.instance p.starts may).entries at);
       proposals = map-append proposing (map guarded a.transitions) (crash_transition a.variables n.crash ∷ recover_transition n.recover ∷ [])
           ∙ ap (λ (ts : List TransitionTree). ts ++ added_proposals (Some n)) (proposals_same a.transitions);
+      proposes = λ k e h s words taken at r. proposed_alike n p.instance p.starts may h s r words taken e k at;
       arguments = refl;
       formals = λ x s. formals_same n p.instance p.starts may x s;
       variables = refl;

@@ -9,6 +9,7 @@ use Rattle.ioa_tree.specs.Tree.{Expr, CrashTree, EntryTree, AutomatonTree, Invar
 use Rattle.ioa_tree.specs.Meaning.{Env, values_of}
 use Rattle.ioa_tree.specs.Names.{names_of_expr, LegalNames}
 use Rattle.ioa_tree.specs.Instances.{Instance, variable_names, formal_values, entry_has, component_of, state_of}
+use Rattle.ioa_tree.specs.Proposing.{Words, proposed}
 use Rattle.ioa_tree.specs.Components.{Compatible}
 use Rattle.ioa_tree.specs.Compositions.{Member, Composed, components_of, starts_of, instances_of}
 use Rattle.ioa_tree.specs.Invariants.{holds, broken_at}
@@ -76,12 +77,15 @@ HoldsWith p m = (h : HostState Env) (s : Env) (slots : List Val) → StandsFor p
 
 -- The component is made of the host: it has the host's name, its entries, each with the same actions, its transitions' proposals, its
 -- arguments and its variables, which are the declared ones, each in their order; what is added by which it crashes and recovers, if it
--- does, stands behind them. What a name of a text stands for among its formals is what it stands for among the host's.
+-- does, stands behind them. In states of which one stands for the other an entry's proposals give the same. What a name of a text stands
+-- for among its formals is what it stands for among the host's.
 pub record IsMadeBy (crash : Option CrashTree) (p : Host) (m : Member) : Type 0 where
   pub name : m.name ≡ p.name
   pub entries : m.instance.automaton.entries ≡ (with_signals crash p.instance.automaton).entries
   pub actions : (k : ℕ) (e : EntryTree) (a : Act) → slice_get p.instance.automaton.entries k ≡ Some e → entry_has m.instance a e ≡ entry_has p.instance a e
   pub proposals : map proposing m.instance.automaton.transitions ≡ map proposing p.instance.automaton.transitions ++ added_proposals crash
+  pub proposes : (k : ℕ) (e : EntryTree) (h : HostState Env) (s : Env) (words : Words) (taken : ℕ) → slice_get p.instance.automaton.entries k ≡ Some e
+      → StandsBy crash p.instance.automaton h s → proposed m.instance e s words taken ≡ proposed p.instance e h.inner words taken
   pub arguments : m.instance.arguments ≡ p.instance.arguments ++ added_arguments crash p.instance.automaton.variables p.starts
   pub formals : (x : Name) → IsTrue (spelled x) → formal_values m.instance x ≡ formal_values p.instance x
   pub variables : m.instance.automaton.variables ≡ p.instance.automaton.variables ++ added_variables crash

@@ -1,5 +1,5 @@
 -- What transitions propose, and how many words of chance they take: each answer is computed.
-use Rattle.std.proofs.Common.{◌≡◌, ℕ, List, [], ◌∷◌, ◌++◌, pos, neg_ℤ, None, true, false, refl, codes}
+use Rattle.std.proofs.Common.{◌≡◌, ℕ, List, [], ◌∷◌, ◌++◌, pos, None, true, false, refl, codes}
 use Rattle.std.specs.Prelude.{get_or}
 use Rattle.ioa_value.specs.Actions.{Name}
 use Rattle.ioa_value.specs.Plain.{Val, num}

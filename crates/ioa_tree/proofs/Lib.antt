@@ -12,6 +12,7 @@ pub mod EffectTyped
 pub mod FineParts
 pub mod Starts
 pub mod TryTyped
+pub mod TryAgreement
 pub mod Early
 pub mod Declared
 pub mod KeptInvariants
