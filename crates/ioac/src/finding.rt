@@ -16,9 +16,8 @@ ghost use Rattle.ioac.specs.Logs.{broken_line, found_in, found_of, found_text};
 use crate::compile::compose_text;
 use crate::failure::Failure;
 use crate::log_replay::run_text;
-use ioa_compile::compile;
 use ioa_compose::Composition;
-use ioa_log::{Broken, InputDevice, LogErr, OutputDevice, invariants, read_log, replay, send_all};
+use ioa_log::{Broken, InputDevice, LogErr, OutputDevice, invariants, read_log, send_all};
 use ioa_system::{End, Log};
 use ioa_value::OutOfMemory;
 use std::alloc::Global;
@@ -74,17 +73,15 @@ fn inspect(alloc: Global, composition: &Composition, log: &Log) -> Result<(Strin
         → judged (hosts_of h) (host_starts h) (logged log.now) ≡ diverges n }
     ensures only { IfErr result IsReplayErr }
 {
-    let first = invariants(alloc, composition, log)?;
-    match first {
+    let inspection = invariants(alloc, composition, log)?;
+    match inspection.broken {
         Some(broken) => {
             let line = broken_text(alloc, broken)?;
             Ok((line, Finding::Broken(broken)))
         }
         None => {
-            let program = compile(alloc, composition)?;
-            let run = replay(alloc, &program, log)?;
-            let trace = run_text(alloc, program.types(), &run)?;
-            Ok((trace, Finding::Unbroken(run.end)))
+            let trace = run_text(alloc, composition.types(), &inspection.run)?;
+            Ok((trace, Finding::Unbroken(inspection.run.end)))
         }
     }
 }

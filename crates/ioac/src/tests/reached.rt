@@ -6,7 +6,7 @@ use ioa_compile::{Program, compile};
 use ioa_compose::compose;
 use ioa_node::{NodeState, state_values};
 use ioa_syntax::{Refusal, parse};
-use ioa_system::{End, is_external, owner, participants, run_list};
+use ioa_system::{End, Participation, owner, participants, run_list};
 use ioa_value::{Action, Fault, OutOfMemory, Types, print_action, read_action, read_list};
 use std::alloc::Global;
 use std::test::Fail;
@@ -172,11 +172,8 @@ fn performers(alloc: Global, source: &str, text: &str) -> Result<Performers, Fai
     let program = program(alloc, source, None)?;
     let action = action(alloc, program.types(), text)?;
     let count = participants(alloc, &program, &action)?.len();
-    Ok((
-        owner(&program, &action),
-        count,
-        is_external(&program, &action),
-    ))
+    let is_external = Participation::of(alloc, &program, &action)?.is_external();
+    Ok((owner(&program, &action), count, is_external))
 }
 
 #[test]

@@ -2,7 +2,6 @@ use Rattle.std.proofs.Common.{◌≡◌, Some, None, ap, sym, ◌∙◌}
 use Rattle.std.specs.Option.{option_map}
 use Rattle.std.proofs.lemmas.Result.{err_from_is_err_and}
 use Rattle.ioa_tree.specs.Hosts.{first_broken_host}
-use Rattle.ioa_compose.specs.Held.{composed_of}
 use Rattle.ioa_system.specs.Logs.{actions_of, logged}
 use Rattle.ioa_log.specs.Breaking.{broken_of}
 use Rattle.ioac.specs.Logs.{found_text}
@@ -10,58 +9,44 @@ use Rattle.ioac.proofs.Logged.{found_broken, found_unbroken, run_told}
 use Rattle.ioac.proofs.Refused.{err_as}
 use Rattle.ioac.proofs.finding.inspect.Goals as goal
 
-pub returns-in_err-first-clause-owner : goal.returns-in_err-first-clause-owner
-returns-in_err-first-clause-owner c = λ n r h s.
+pub returns-in_err-inspection-clause-owner : goal.returns-in_err-inspection-clause-owner
+returns-in_err-inspection-clause-owner c = λ n r h s.
     let e = err_from_is_err_and c.from_residual.result c.from_residual.ensures.1 in
-    c.in_err-first.ensures.hosts_owner n (err_as c.from_residual.result e.0 c.in_err-first.field-0.0 _ e.1 e.2 r) h s
+    c.in_err-inspection.ensures.hosts_owner n (err_as c.from_residual.result e.0 c.in_err-inspection.field-0.0 _ e.1 e.2 r) h s
 
-pub returns-in_err-first-clause-diverges : goal.returns-in_err-first-clause-diverges
-returns-in_err-first-clause-diverges c = λ n r h s.
+pub returns-in_err-inspection-clause-diverges : goal.returns-in_err-inspection-clause-diverges
+returns-in_err-inspection-clause-diverges c = λ n r h s.
     let e = err_from_is_err_and c.from_residual.result c.from_residual.ensures.1 in
-    c.in_err-first.ensures.hosts_diverges n (err_as c.from_residual.result e.0 c.in_err-first.field-0.0 _ e.1 e.2 r) h s
+    c.in_err-inspection.ensures.hosts_diverges n (err_as c.from_residual.result e.0 c.in_err-inspection.field-0.0 _ e.1 e.2 r) h s
 
-pub returns-in_err-run-in-None-clause-owner : goal.returns-in_err-run-in-None-clause-owner
-returns-in_err-run-in-None-clause-owner c = λ n r h s.
-    let e = err_from_is_err_and c.from_residual-in_err-run-in-None.result c.from_residual-in_err-run-in-None.ensures.1 in
-    c.in_err-run-in-None.ensures.hosts_owner n (err_as c.from_residual-in_err-run-in-None.result e.0 c.in_err-run-in-None.field-0.0 _ e.1 e.2 r)
-    h (composed_of c.args.composition.now) s c.in_ok-program-in-None.ensures
+pub returns-in-Some-clause-judged : goal.returns-in-Some-clause-judged
+returns-in-Some-clause-judged c = λ h s. (c.in_ok-inspection.ensures.hosts h s).0
 
-pub returns-in_err-run-in-None-clause-diverges : goal.returns-in_err-run-in-None-clause-diverges
-returns-in_err-run-in-None-clause-diverges c = λ n r h s.
-    let e = err_from_is_err_and c.from_residual-in_err-run-in-None.result c.from_residual-in_err-run-in-None.ensures.1 in
-    c.in_err-run-in-None.ensures.hosts_diverges n (err_as c.from_residual-in_err-run-in-None.result e.0 c.in_err-run-in-None.field-0.0 _ e.1 e.2 r)
-    h (composed_of c.args.composition.now) s c.in_ok-program-in-None.ensures
-
-pub returns-in_ok-line-in-Some-clause-judged : goal.returns-in_ok-line-in-Some-clause-judged
-returns-in_ok-line-in-Some-clause-judged c = λ h s. (c.in_ok-first.ensures.hosts h s).0
-
-pub returns-in_ok-line-in-Some-clause-finding : goal.returns-in_ok-line-in-Some-clause-finding
-returns-in_ok-line-in-Some-clause-finding c = λ h s.
+pub returns-in-Some-clause-finding : goal.returns-in-Some-clause-finding
+returns-in-Some-clause-finding c = λ h s.
     let first : Some (broken_of c.in-Some.broken) ≡ first_broken_host h (actions_of (logged c.args.log.now)) =
-    ap (option_map broken_of) (sym c.in-Some.is) ∙ (c.in_ok-first.ensures.hosts h s).1 in
+    ap (option_map broken_of) (sym c.in-Some.is) ∙ c.in_ok-inspection.ensures.hosts_first h s in
     found_broken h (logged c.args.log.now) c.in-Some.broken first
 
-pub returns-in_ok-line-in-Some-clause-text : goal.returns-in_ok-line-in-Some-clause-text
-returns-in_ok-line-in-Some-clause-text c = λ h s.
+pub returns-in-Some-clause-text : goal.returns-in-Some-clause-text
+returns-in-Some-clause-text c = λ h s.
     let first : Some (broken_of c.in-Some.broken) ≡ first_broken_host h (actions_of (logged c.args.log.now)) =
-    ap (option_map broken_of) (sym c.in-Some.is) ∙ (c.in_ok-first.ensures.hosts h s).1 in
+    ap (option_map broken_of) (sym c.in-Some.is) ∙ c.in_ok-inspection.ensures.hosts_first h s in
     c.in_ok-line-in-Some.ensures ∙ ap (found_text h (logged c.args.log.now)) (found_broken h (logged c.args.log.now) c.in-Some.broken first)
 
-pub returns-in_ok-trace-in-None-clause-judged : goal.returns-in_ok-trace-in-None-clause-judged
-returns-in_ok-trace-in-None-clause-judged c = λ h s. (c.in_ok-first.ensures.hosts h s).0
+pub returns-clause-judged : goal.returns-clause-judged
+returns-clause-judged c = λ h s. (c.in_ok-inspection.ensures.hosts h s).0
 
-pub returns-in_ok-trace-in-None-clause-finding : goal.returns-in_ok-trace-in-None-clause-finding
-returns-in_ok-trace-in-None-clause-finding c = λ h s.
-    let none : None ≡ first_broken_host h (actions_of (logged c.args.log.now)) = ap (option_map broken_of) (sym c.in-None.is) ∙ (c.in_ok-first.ensures.hosts h s).1 in
-    let sound = c.in_ok-run-in-None.ensures.hosts h (composed_of c.args.composition.now) s c.in_ok-program-in-None.ensures in
-    found_unbroken h (logged c.args.log.now) c.in_ok-run-in-None.run'.end none (sym sound.1.reached.ending)
+pub returns-clause-finding : goal.returns-clause-finding
+returns-clause-finding c = λ h s.
+    let none : None ≡ first_broken_host h (actions_of (logged c.args.log.now)) = ap (option_map broken_of) (sym c.in-None.is) ∙ c.in_ok-inspection.ensures.hosts_first h s in
+    found_unbroken h (logged c.args.log.now) c.in_ok-inspection.inspection.run.end none (sym (c.in_ok-inspection.ensures.hosts h s).1.reached.ending)
 
-pub returns-in_ok-trace-in-None-clause-text : goal.returns-in_ok-trace-in-None-clause-text
-returns-in_ok-trace-in-None-clause-text c = λ h s.
+pub returns-clause-text : goal.returns-clause-text
+returns-clause-text c = λ h s.
     let log = logged c.args.log.now in
-    let none : None ≡ first_broken_host h (actions_of log) = ap (option_map broken_of) (sym c.in-None.is) ∙ (c.in_ok-first.ensures.hosts h s).1 in
-    let means = c.in_ok-program-in-None.ensures in
-    let sound = c.in_ok-run-in-None.ensures.hosts h (composed_of c.args.composition.now) s means in
+    let none : None ≡ first_broken_host h (actions_of log) = ap (option_map broken_of) (sym c.in-None.is) ∙ c.in_ok-inspection.ensures.hosts_first h s in
+    let sound = c.in_ok-inspection.ensures.hosts h s in
     c.in_ok-trace-in-None.ensures
-    ∙ run_told h c.types.result.now (actions_of log) c.in_ok-run-in-None.run' (c.types.ensures.value ∙ means.types ∙ s.types) sound.1
-    ∙ ap (found_text h log) (found_unbroken h log c.in_ok-run-in-None.run'.end none (sym sound.1.reached.ending))
+    ∙ run_told h c.types.result.now (actions_of log) c.in_ok-inspection.inspection.run (c.types.ensures.value ∙ s.types) sound.1
+    ∙ ap (found_text h log) (found_unbroken h log c.in_ok-inspection.inspection.run.end none (sym sound.1.reached.ending))
