@@ -15,7 +15,7 @@ mod reading;
 mod replays;
 mod streams;
 
-pub use broken_invariants::{Broken, Inspection, invariants};
+pub use broken_invariants::{Broken, Inspection, inspect, invariants};
 pub use counted::Counted;
 pub use device::{Device, Failed, InputDevice, OutputDevice};
 pub use failure::LogErr;

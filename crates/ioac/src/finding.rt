@@ -17,7 +17,7 @@ use crate::compile::compose_text;
 use crate::failure::Failure;
 use crate::log_replay::run_text;
 use ioa_compose::Composition;
-use ioa_log::{Broken, InputDevice, LogErr, OutputDevice, invariants, read_log, send_all};
+use ioa_log::{Broken, InputDevice, LogErr, OutputDevice, read_log, send_all};
 use ioa_system::{End, Log};
 use ioa_value::OutOfMemory;
 use std::alloc::Global;
@@ -73,7 +73,7 @@ fn inspect(alloc: Global, composition: &Composition, log: &Log) -> Result<(Strin
         → judged (hosts_of h) (host_starts h) (logged log.now) ≡ diverges n }
     ensures only { IfErr result IsReplayErr }
 {
-    let inspection = invariants(alloc, composition, log)?;
+    let inspection = ioa_log::inspect(alloc, composition, log)?;
     match inspection.broken {
         Some(broken) => {
             let line = broken_text(alloc, broken)?;
