@@ -10,6 +10,7 @@ pub mod Entries
 pub mod Judged
 pub mod Following
 pub mod Telling
+pub mod Histories
 pub mod Monitored
 pub mod Accepting
 pub mod Breaking

@@ -9,3 +9,4 @@ pub mod Progress
 pub mod Records
 pub mod Sources
 pub mod Logs
+pub mod Histories
