@@ -14,54 +14,58 @@ use Rattle.ioa_value.specs.Typing.{HaveTypes}
 use Rattle.ioa_value.proofs.PositionLemmas.{all_take-typed}
 use Rattle.ioa_value.proofs.TypingLemmas.{HaveTypes-length}
 use Rattle.ioa_value.proofs.NameLemmas.{outside_both}
-use Rattle.ioa_code.specs.Machine.{State, End, done, fault}
+use Rattle.ioa_code.specs.Machine.{Listing, State, End, done, fault}
 use Rattle.ioa_code.specs.Outcome.{outcome}
 use Rattle.ioa_code.specs.Valid.{Part}
 use Rattle.ioa_code.proofs.Ends.{outcome_is_end}
 use Rattle.ioa_node.specs.Runs as runs
-use Rattle.ioa_node.specs.Runs.{start, guard_answer, guard_of, effect_answer, effect_of}
+use Rattle.ioa_node.specs.Runs.{no_words, start, guard_answer, guard_of, effect_answer, effect_of}
 use Rattle.ioa_tree.specs.declared.tree.Kind.{Kind}
 use Rattle.ioa_tree.specs.declared.tree.Kind.TheVariants.{Input, Output, Internal}
-use Rattle.ioa_tree.specs.Tree.{Expr, Stmts, EntryTree}
-use Rattle.ioa_tree.specs.Meaning.{Env, values_of, or_else, kept, val, Outcome, becomes, breaks, nowhere, eff}
-use Rattle.ioa_tree.specs.Instances.{Instance, field_names, variable_names, parameter_values, positions_have, entry_has, entry_for, transition_for, environment, truth_of, enabling, next_state, component_of}
+use Rattle.ioa_tree.specs.Tree.{Expr, Stmts, EntryTree, TransitionTree}
+use Rattle.ioa_tree.specs.Meaning.{Env, values_of, or_else, over, kept, val, Outcome, becomes, breaks, nowhere, eff}
+use Rattle.ioa_tree.specs.Instances.{Instance, formal_values, field_names, variable_names, parameter_values, positions_have, entry_has, entry_for, transition_for, environment, truth_of, enabling, next_state, component_of}
+use Rattle.ioa_tree.specs.Proposing as meaning
+use Rattle.ioa_tree.specs.Proposing.{Words, parameters, proposed}
 use Rattle.ioa_tree.specs.Components.{is_local}
 use Rattle.ioa_tree.specs.Compositions.{Member}
 use Rattle.ioa_tree.specs.Likes.{AreLike}
-use Rattle.ioa_tree.specs.WellFormed.{Context, contains, local_names, parameter_names, variable_fields, context_of, scope}
+use Rattle.ioa_tree.specs.WellFormed.{Context, contains, local_names, parameter_names, variable_fields, context_of, held, scope, is_input}
 use Rattle.ioa_tree.proofs.Domains.{domains_have}
 use Rattle.ioa_tree.proofs.ValTyped.{val_typed}
 use Rattle.ioa_compose.specs.Fine.{IsFine, component_limits}
 use Rattle.ioa_compose.proofs.SpelledNames.{or_none}
-use Rattle.ioa_code.specs.declared.instr.PartKind.TheVariants.{Pre}
+use Rattle.ioa_code.specs.declared.instr.PartKind.TheVariants.{Pre, Propose}
 use Rattle.ioa_compile.specs.Programs.{EntryCode, MemberCode}
-use Rattle.ioa_compile.specs.Tables.{allows, entry_of, table_component, position_types}
+use Rattle.ioa_compile.specs.Tables.{HasLocal, allows, entry_of, table_component, position_types, parameter_types}
 use Rattle.ioa_compile.specs.Correspondence.{Corresponds}
-use Rattle.ioa_compile.specs.Scopes.{Scope, scope_of}
-use Rattle.ioa_compile.specs.Placed.{HasStmts}
-use Rattle.ioa_compile.specs.CodeEnds.{required, GuardEnds, EffectEnds}
+use Rattle.ioa_compile.specs.Scopes.{Scope, scope_of, scope_of_proposals, bare}
+use Rattle.ioa_compile.specs.Placed.{HasStmts, HasProposals}
+use Rattle.ioa_compile.specs.CodeEnds.{required, GuardEnds, EffectEnds, ProposalEnds}
 use Rattle.ioa_compile.specs.Matching.{AreTypesOf, MatchesEntry}
-use Rattle.ioa_compile.specs.Translated.{IsGuard, IsGuardFor, codes_of, IsEntryOf, IsTranslated, IsFor}
+use Rattle.ioa_compile.specs.Translated.{IsGuard, IsGuardFor, IsProposing, codes_of, IsEntryOf, IsTranslated, IsFor}
 use Rattle.ioa_compile.proofs.Looks.{look, values_look, look_outside, look_inside, distinct_apart, apart_outside}
 use Rattle.ioa_compile.proofs.Parameters.{passed, passed_outside, values_passed}
 use Rattle.ioa_compile.proofs.Standing.{stands}
 use Rattle.ioa_compile.proofs.Fits.{fit_have, have_fit}
-use Rattle.ioa_compile.proofs.Fine.{Setting, setting, is_scope, variables_long, parameters_long, type_look, fine_of, domains_of, guard_typed, effect_typed, GuardTyped, StmtsTyped}
+use Rattle.ioa_compile.proofs.Fine.{Setting, setting, bare_setting, kind_of, is_scope, variables_long, parameters_long, type_look, fine_of, domains_of, guard_typed, effect_typed, GuardTyped, StmtsTyped}
 use Rattle.ioa_compile.proofs.Validity.{found_slot}
 use Rattle.ioa_compile.proofs.Running as running
 use Rattle.ioa_compile.proofs.Running.{Comes, Breaks, Reaches, Knows, on, push_comes, expr_runs}
+use Rattle.ioa_compile.proofs.Proposed.{ProposalsTyped, bare_typed, proposals_typed}
+use Rattle.ioa_compile.proofs.Trying.{proposals_try, tried_ends}
 use Rattle.ioa_compile.proofs.Twins.{Both, Neither, finds_same}
 
 -- ---- the end of a run
 
 module _ (part : Part) (s : Scope) (slots args : List Val) where
-  came : (stack after : List Val) → Comes part.code s args (on part.code s args 0 [] slots) (on part.code s args (length part.code.instrs) stack after) → runs.Comes part (start slots args) (done stack after 0)
+  came : (stack after : List Val) → Comes part.code s args (on part.code s args no_words 0 0 [] slots) (on part.code s args no_words 0 (length part.code.instrs) stack after) → runs.Comes part (start slots args) (done stack after 0)
   came stack after c = let r = c.by (done stack after 0) 0 (refl, refl) in (r.0, omega (arith, r.1), r.2)
 
-  broke : (f : Fault) → Breaks part.code s args (on part.code s args 0 [] slots) f → runs.Comes part (start slots args) (fault f 0)
+  broke : (f : Fault) → Breaks part.code s args no_words 0 (on part.code s args no_words 0 0 [] slots) f → runs.Comes part (start slots args) (fault f 0)
   broke f b = (b.count, omega (arith, b.within), b.ends)
 
-  answer_comes : (v : Answer) → (v ≡ nothing → ⊥) → Reaches part.code s args (on part.code s args 0 [] slots) (length part.code.instrs) [] slots v → GuardEnds part slots args v
+  answer_comes : (v : Answer) → (v ≡ nothing → ⊥) → Reaches part.code s args no_words 0 (on part.code s args no_words 0 0 [] slots) (length part.code.instrs) [] slots v → GuardEnds part slots args v
   answer_comes (gives v) t r = came (v ∷ []) slots r
   answer_comes (faults f) t r = broke f r
   answer_comes nothing t r = absurd (t refl)
@@ -132,7 +136,7 @@ module _ (m : Member) (e : EntryTree) (vs ps : List ℕ) (h : Setting m e vs ps)
     abbrev variables_in : Context
     variables_in = context_of m.instance.types (variable_fields m.instance.automaton)
 
-    knows : Knows part.code (scope_of m e) args m.instance.types names_in variables_in vs h.types ps
+    knows : Knows part.code (scope_of m e) args no_words 0 m.instance.types names_in variables_in vs h.types ps
     knows = record {
       same_types = over;
       own_types = refl;
@@ -149,7 +153,7 @@ module _ (m : Member) (e : EntryTree) (vs ps : List ℕ) (h : Setting m e vs ps)
 
     -- what statements keep, in this entry
     abbrev Holds : Env → List Val → Type 0
-    Holds env slots = running.Holds part.code (scope_of m e) args m.instance.types names_in variables_in vs h.types ps knows env slots
+    Holds env slots = running.Holds part.code (scope_of m e) args no_words 0 m.instance.types names_in variables_in vs h.types ps knows env slots
 
     holds : (env : Env) (slots : List Val) → Corresponds m.instance env slots → Holds (environment m.instance e args env) slots
     holds env slots c = record {
@@ -170,16 +174,16 @@ module _ (m : Member) (e : EntryTree) (vs ps : List ℕ) (h : Setting m e vs ps)
     guard_comes None env slots c t k =
         let s = scope_of m e in
         let code = part.code in
-        let run = subst (λ n. Comes code s args (on code s args 0 [] slots) (on code s args n (plain.truth true ∷ []) slots)) (sym k.has.1) (push_comes code s args 0 [] slots (plain.truth true) k.has.0) in
+        let run = subst (λ n. Comes code s args (on code s args no_words 0 0 [] slots) (on code s args no_words 0 n (plain.truth true ∷ []) slots)) (sym k.has.1) (push_comes code s args no_words 0 0 [] slots (plain.truth true) k.has.0) in
         came part s slots args (plain.truth true ∷ []) slots run
     guard_comes (Some x) env slots c t k =
         let s = scope_of m e in
         let types = m.instance.types in
         let inner = environment m.instance e args env in
         let own = holds env slots c in
-        let suits = running.suits part.code s args types names_in variables_in vs h.types ps knows inner slots own in
-        let agree = running.agree part.code s args types names_in variables_in vs h.types ps knows inner slots own in
-        answer_comes part s slots args (val types x inner) (some_answer 0 (val types x inner) (val_typed types declared names_in inner x 0 suits t)) (expr_runs part.code s args types over refl declared names_in refl inner suits slots agree x 0 0 (length part.code.instrs) [] t k.has)
+        let suits = running.suits part.code s args no_words 0 types names_in variables_in vs h.types ps knows inner slots own in
+        let agree = running.agree part.code s args no_words 0 types names_in variables_in vs h.types ps knows inner slots own in
+        answer_comes part s slots args (val types x inner) (some_answer 0 (val types x inner) (val_typed types declared names_in inner x 0 suits t)) (expr_runs part.code s args no_words 0 types over refl declared names_in refl inner suits slots agree x 0 0 (length part.code.instrs) [] t k.has)
 
     kept_corresponds : (env : Env) (slots : List Val) → Holds env slots → Corresponds m.instance (kept (variable_names m.instance.automaton) env) slots
     kept_corresponds env slots k = record {
@@ -196,7 +200,7 @@ module _ (m : Member) (e : EntryTree) (vs ps : List ℕ) (h : Setting m e vs ps)
             k.agrees x ∙ ap (λ o. or_else o (or_else (look (field_names m.instance.automaton.formals) m.instance.arguments x) (passed e.positions args x))) there.1 ∙ sym there.1
         go x false t = sym (look_outside (variable_names m.instance.automaton) slots x t)
 
-    outcome_comes : (slots : List Val) (o : Outcome) → running.RunsTo part.code (scope_of m e) args m.instance.types names_in variables_in vs h.types ps knows (on part.code (scope_of m e) args 0 [] slots) (length part.code.instrs) o → EffectEnds m.instance part slots args o
+    outcome_comes : (slots : List Val) (o : Outcome) → running.RunsTo part.code (scope_of m e) args no_words 0 m.instance.types names_in variables_in vs h.types ps knows (on part.code (scope_of m e) args no_words 0 0 [] slots) (length part.code.instrs) o → EffectEnds m.instance part slots args o
     outcome_comes slots (becomes after) r = (r.0, kept_corresponds after r.0 r.1, came part (scope_of m e) slots args [] r.0 r.2)
     outcome_comes slots (breaks f) r = broke part (scope_of m e) slots args f r
     outcome_comes slots nowhere r = absurd r
@@ -204,17 +208,38 @@ module _ (m : Member) (e : EntryTree) (vs ps : List ℕ) (h : Setting m e vs ps)
     effect_comes : (ts : Stmts) (env : Env) (slots : List Val) → Corresponds m.instance env slots → StmtsTyped m.instance.types names_in variables_in ts → HasStmts part.code (scope_of m e) ts 0 (length part.code.instrs) → EffectEnds m.instance part slots args (eff m.instance.types ts (environment m.instance e args env))
     effect_comes ts env slots c t k =
         outcome_comes slots (eff m.instance.types ts (environment m.instance e args env))
-        (running.stmts_run part.code (scope_of m e) args m.instance.types names_in variables_in vs h.types ps knows ts 0 (length part.code.instrs) (environment m.instance e args env) slots (holds env slots c) t k)
+        (running.stmts_run part.code (scope_of m e) args no_words 0 m.instance.types names_in variables_in vs h.types ps knows ts 0 (length part.code.instrs) (environment m.instance e args env) slots (holds env slots c) t k)
+
+-- ---- proposals
+
+module _ (m : Member) (e : EntryTree) (vs ps : List ℕ) (h : Setting m e vs ps) (part : Part) (same_types : part.code.types ≡ m.instance.types) (declared : AreTypes m.instance.types) where
+  pub proposals_come : (t : TransitionTree) → transition_for m.instance.automaton e ≡ Some t → ProposalsTyped m.instance.types (held m.instance.types m.instance.types h.globals m.instance.automaton) t.proposals e.positions → HasProposals part.code (scope_of_proposals m) t.proposals e.positions 0 (length part.code.instrs) → (env : Env) (slots : List Val) (words : Words) → Corresponds m.instance env slots → ProposalEnds part slots words (proposed m.instance e env words 0)
+  proposals_come t found typed k env slots words c =
+      let types = m.instance.types in
+      let s = scope_of_proposals m in
+      let b = bare_setting m e vs ps h in
+      let names = scope types types h.globals m.instance.automaton bare in
+      let variables = context_of types (variable_fields m.instance.automaton) in
+      let none : List Val = [] in
+      let inner = over (formal_values m.instance) env in
+      let known = knows m bare vs [] b none tt part same_types declared in
+      let own = holds m bare vs [] b none tt part same_types declared env slots c in
+      let suits = running.suits part.code s none no_words 0 types names variables vs h.types [] known inner slots own in
+      let agree = running.agree part.code s none no_words 0 types names variables vs h.types [] known inner slots own in
+      let runs = proposals_try part.code s words slots types same_types refl declared names refl inner suits agree t.proposals e.positions 0 0 (length part.code.instrs) [] (bare_typed m e vs ps h t.proposals e.positions typed) k in
+      subst (λ o. ProposalEnds part slots words (option_map_or (λ r. parameters words types inner r.proposals e.positions 0) o (meaning.idle 0))) (sym found)
+      (tried_ends part s slots words (parameters words types inner t.proposals e.positions 0) runs)
 
 -- ---- an entry
 
-on_part : (P Q : Part → Type 0) (k : Kind) (o : Option Part) (s : Scope) (g : Option Expr) → IsGuardFor k (codes_of o) s g → IfSome o Q → ((p : Part) → IsGuard p.code s g → Q p → P p) → IfSome o P
-on_part P Q Input None s g h q f = tt
-on_part P Q Input (Some p) s g h q f = absurd h
-on_part P Q Output None s g h q f = absurd h
-on_part P Q Output (Some p) s g h q f = f p h q
-on_part P Q Internal None s g h q f = absurd h
-on_part P Q Internal (Some p) s g h q f = f p h q
+-- what follows of the part that a locally controlled entry has
+on_part : (P Q : Part → Type 0) (H : Listing → Type 0) (k : Kind) (o : Option Part) → HasLocal H k (codes_of o) → IfSome o Q → ((p : Part) → is_input k ≡ false → H p.code → Q p → P p) → IfSome o P
+on_part P Q H Input None h q f = tt
+on_part P Q H Input (Some p) h q f = absurd h
+on_part P Q H Output None h q f = absurd h
+on_part P Q H Output (Some p) h q f = f p refl h q
+on_part P Q H Internal None h q f = absurd h
+on_part P Q H Internal (Some p) h q f = f p refl h q
 
 -- what the compiler makes of an entry matches it
 pub entry_matches : (m : Member) (vs : List ℕ) (e : EntryTree) (c : EntryCode) → IsFine component_limits m → AreTypesOf m.instance.types (variable_fields m.instance.automaton) vs → IsTranslated m vs e c → IsEntryOf m e → MatchesEntry m e c
@@ -230,8 +255,12 @@ entry_matches m vs e c fine types is own =
       positions = is.positions;
       transition = t;
       found = is.transition.1;
-      guard = on_part _ (λ p. IsFor p m.instance.types Pre (0 ∷ []) vs ps) e.kind c.pre (scope_of m e) t.pre is.transition.2.pre is.pre
-          (λ p k q env slots args r values. guard_comes m e vs ps all args values p q.types_are declared t.pre env slots r (guard_typed m.instance.types all.globals m.instance.automaton e t ok) k);
+      guard = on_part _ (λ p. IsFor p m.instance.types Pre (0 ∷ []) vs ps) (λ code. IsGuard code (scope_of m e) t.pre) e.kind c.pre is.transition.2.pre is.pre
+          (λ p local k q env slots args r values. guard_comes m e vs ps all args values p q.types_are declared t.pre env slots r (guard_typed m.instance.types all.globals m.instance.automaton e t ok) k);
+      propose = on_part _ (λ p. IsFor p m.instance.types Propose (parameter_types c.positions) vs []) (λ code. IsProposing code (scope_of_proposals m) t.proposals e.positions) e.kind c.propose is.transition.2.propose is.propose
+          (λ p local k q.
+          let its_kind : is_input t.kind ≡ false = ap is_input (sym (kind_of m e fine own t is.transition.1)) ∙ local in
+          proposals_come m e vs ps all p q.types_are declared t is.transition.1 (proposals_typed m.instance.types all.globals m.instance.automaton e t all.entry its_kind ok) k.has);
       effect = λ env slots args r values. effect_comes m e vs ps all args values c.effect is.effect.types_are declared t.effect env slots r (effect_typed m.instance.types all.globals m.instance.automaton e t ok) is.transition.2.effect.has;
     }
 

@@ -1,7 +1,8 @@
 -- What the steps of the compiler add up to.
 use Rattle.ioa_tree.specs.declared.tree.Kind.{Kind}
 use Rattle.ioa_tree.specs.declared.tree.Kind.TheVariants.{Output, Internal}
-use Rattle.ioa_compile.specs.Translated.{IsGuard, IsGuardFor}
+use Rattle.ioa_compile.specs.Tables.{HasLocal}
+use Rattle.ioa_compile.specs.Translated.{IsGuard, IsGuardFor, IsProposing}
 use Rattle.std.proofs.Common.{◌≡◌, ◌⊎◌, ⊎_elim, ℕ, ◌+◌, Bool, true, false, List, [], ◌∷◌, ◌++◌, length, Option, Some, None, IsSome, IfNone, refl, sym, ap, ◌∙◌, subst, arith, length-append}
 use Rattle.std.specs.Prelude.{slice_get}
 use Rattle.ioa_tree.specs.WellFormed.{nodes, exprs_nodes, stmts_nodes, arms_nodes}
@@ -15,16 +16,16 @@ use Rattle.ioa_value.specs.Table.{place_from, type_named}
 use Rattle.ioa_value.specs.Typing.{HasType, OwnTypes, own}
 use Rattle.ioa_value.proofs.ItemLemmas.{get_append, get_last}
 use Rattle.ioa_value.proofs.TypingLemmas.{OwnTypes-push}
-use Rattle.ioa_code.specs.declared.instr.Instr.TheVariants.{Const, Slot, Arg, Store, Jump, JumpIfFalse, Apply}
+use Rattle.ioa_code.specs.declared.instr.Instr.TheVariants.{Const, Slot, Arg, Store, Jump, JumpIfFalse, Any, Pick, Apply}
 use Rattle.ioa_code.specs.Machine.{Listing}
 use Rattle.ioa_tree.specs.declared.tree.Infix.{Infix}
 use Rattle.ioa_tree.specs.declared.tree.Infix.TheVariants.{Operator, And, Or, Implies}
-use Rattle.ioa_tree.specs.Tree.{Expr, number, truth, named, parens, prefix, binary, empty, make, select, Exprs, no_expr, also, Stmt, assign, choose, Stmts, stop, seq, Arms, no_arm, arm}
-use Rattle.ioa_compile.specs.Scopes.{Scope, Origin, slot, formal, parameter, fixed, unknown, origin, IsOrigin, parameter_from, place_of}
+use Rattle.ioa_tree.specs.Tree.{Expr, number, truth, named, parens, prefix, binary, empty, make, select, Exprs, no_expr, also, Stmt, assign, choose, Stmts, stop, seq, Arms, no_arm, arm, FieldTree, PositionTree, typed, only, ChoiceTree, exactly, any_below, ProposalTree}
+use Rattle.ioa_compile.specs.Scopes.{Scope, Origin, slot, formal, parameter, fixed, unknown, origin, IsOrigin, parameter_from, place_of, proposal_for, AreKnownProposals}
 use Rattle.ioa_tree.specs.Types.{constant, empty_of}
-use Rattle.ioa_compile.specs.Placed.{Stretch, At, Pushes, PushesTruth, Brings, Applies, Chooses, Combines, HasExpr, HasExprs, HasGuard, HasStmt, HasStmts, HasArms}
-use Rattle.ioa_compile.specs.Emitting.{Keeps, Adds, AddsInstr, AddsConst, AddsExpr, AddsExprs, AddsCombined, AddsTrueSide, AddsFalseSide, AddsStmt, AddsStmts, IsGrown}
-use Rattle.ioa_compile.specs.Extents.{extent, stmts_extent, arms_extent}
+use Rattle.ioa_compile.specs.Placed.{Stretch, At, Pushes, PushesTruth, Brings, Applies, Chooses, Combines, HasExpr, HasExprs, HasGuard, HasStmt, HasStmts, HasArms, HasChoice, HasProposal, HasProposals}
+use Rattle.ioa_compile.specs.Emitting.{Keeps, Adds, AddsInstr, AddsConst, AddsExpr, AddsExprs, AddsCombined, AddsTrueSide, AddsFalseSide, AddsStmt, AddsStmts, AddsChoice, AddsProposal, AddsProposals, proposals_nodes, IsGrown}
+use Rattle.ioa_compile.specs.Extents.{extent, stmts_extent, arms_extent, proposals_extent}
 use Rattle.ioa_compile.proofs.Lengths.{expr_long, stmts_long, arms_long}
 
 pub none_from : {X : Type 0} (o : Option X) → ((x : X) → o ≡ Some x → ⊥) → o ≡ None
@@ -188,6 +189,19 @@ module _ (c d : Listing) (k : Keeps c d) where
     HasArms-keeps s (arm e ts more) others f p q h =
         (h.0, HasExpr-keeps s e p h.0 h.1, Chooses-keeps (HasStmts c s ts) (HasArms c s more (HasStmts c s others)) (HasStmts d s ts) (HasArms d s more (HasStmts d s others)) (HasStmts-keeps s ts) (HasArms-keeps s more others f) h.0 q h.2)
 
+  HasChoice-keeps : (s : Scope) (x : ChoiceTree) (p q : ℕ) → HasChoice c s x p q → HasChoice d s x p q
+  HasChoice-keeps s (exactly e) p q h = HasExpr-keeps s e p q h
+  HasChoice-keeps s (any_below e) p q h = (h.0, HasExpr-keeps s e p h.0 h.1, k.instr h.0 _ h.2, h.3)
+
+  HasProposal-keeps : (s : Scope) (f : FieldTree) (r : Option ProposalTree) (p q : ℕ) → HasProposal c s f r p q → HasProposal d s f r p q
+  HasProposal-keeps s f (Some r) p q h = HasChoice-keeps s r.choice p q h
+  HasProposal-keeps s f None p q h = (h.0, h.1, k.instr p _ h.2, h.3)
+
+  pub HasProposals-keeps : (s : Scope) (rs : List ProposalTree) (ps : List PositionTree) (p q : ℕ) → HasProposals c s rs ps p q → HasProposals d s rs ps p q
+  HasProposals-keeps s rs [] p q h = h
+  HasProposals-keeps s rs (typed f ∷ ps) p q h = (h.0, HasProposal-keeps s f (proposal_for rs f) p h.0 h.1, HasProposals-keeps s rs ps h.0 q h.2)
+  HasProposals-keeps s rs (only x ∷ ps) p q h = HasProposals-keeps s rs ps p q h
+
 pub expr_kept : (s : Scope) (e : Expr) → IsKept (λ code p q. HasExpr code s e p q)
 expr_kept s e c d k p q h = HasExpr-keeps c d k s e p q h
 
@@ -310,12 +324,87 @@ adds_others c d s others h = record { keeps = h.keeps; has = h.has; few = omega 
 pub adds_choose : (c d : Listing) (s : Scope) (arms : Arms) (others : Stmts) → AddsArms c d s arms others → AddsStmt c d s (choose arms others)
 adds_choose c d s arms others h = record { keeps = h.keeps; has = h.has; few = omega (arith, h.few) }
 
--- the guard's code, with constants after its own
-pub grown_guard : (k : Kind) (s : Scope) (g : Option Expr) (old : Listing) (consts : List Val) → (k ≡ Output) ⊎ (k ≡ Internal) → IsGuard old s g → IsGrown old.consts consts → OwnTypes old.types consts → IsGuardFor k (Some (record { types = old.types; instrs = old.instrs; consts = consts })) s g
-grown_guard k s g old consts is h grown typed =
-    let new : Listing = record { types = old.types; instrs = old.instrs; consts = consts } in
-    let all : IsGuard new s g = record {
-      has = HasGuard-keeps old new (record { instr = λ p i e. e; const = grown; types = refl; typed = λ t. typed }) s g 0 (length old.instrs) h.has;
-      typed = typed;
-    } in
-    ⊎_elim (λ (e : k ≡ Output). subst (λ x. IsGuardFor x (Some new) s g) (sym e) all) (λ (e : k ≡ Internal). subst (λ x. IsGuardFor x (Some new) s g) (sym e) all) is
+-- ---- proposals
+
+pub adds_any : (c0 c1 c2 : Listing) (s : Scope) (e : Expr) → AddsExpr c0 c1 s e → AddsInstr c1 c2 Any → AddsChoice c0 c2 s (any_below e)
+adds_any c0 c1 c2 s e y z = record {
+  keeps = Keeps-trans c0 c1 c2 y.keeps z.keeps;
+  has = (length c1.instrs, HasExpr-keeps c1 c2 z.keeps s e _ _ y.has, z.has.0, z.has.1);
+  few = omega (arith, y.few, z.few);
+}
+
+pub adds_exactly : (c d : Listing) (s : Scope) (e : Expr) → AddsExpr c d s e → AddsChoice c d s (exactly e)
+adds_exactly c d s e h = record { keeps = h.keeps; has = h.has; few = h.few }
+
+pub adds_pick : (c d : Listing) (s : Scope) (f : FieldTree) (ty : ℕ) → type_named s.types f.ty ≡ Some ty → AddsInstr c d (Pick (record { 0 = ty })) → AddsProposal c d s f None
+adds_pick c d s f ty is h = record { keeps = h.keeps; has = (ty, is, h.has.0, h.has.1); few = h.few }
+
+pub adds_proposed : (c d : Listing) (s : Scope) (f : FieldTree) (r : ProposalTree) → AddsChoice c d s r.choice → AddsProposal c d s f (Some r)
+adds_proposed c d s f r h = record { keeps = h.keeps; has = h.has; few = h.few }
+
+pub adds_no_proposal : (c : Listing) (s : Scope) (rs : List ProposalTree) → AddsProposals c c s rs []
+adds_no_proposal c s rs = record { keeps = Keeps-self c; has = refl; few = omega arith }
+
+-- one position
+pub adds_typed : (c d : Listing) (s : Scope) (rs : List ProposalTree) (f : FieldTree) → AddsProposal c d s f (proposal_for rs f) → AddsProposals c d s rs (typed f ∷ [])
+adds_typed c d s rs f h = record { keeps = h.keeps; has = (length d.instrs, h.has, refl); few = omega (arith, h.few) }
+
+pub adds_only : (c : Listing) (s : Scope) (rs : List ProposalTree) (p : PositionTree) → ((f : FieldTree) → p ≡ typed f → ⊥) → AddsProposals c c s rs (p ∷ [])
+adds_only c s rs (typed f) h = absurd (h f refl)
+adds_only c s rs (only x) h = record { keeps = Keeps-self c; has = refl; few = omega arith }
+
+-- and those after it
+pub adds_position : (c0 c1 c2 : Listing) (s : Scope) (rs : List ProposalTree) (p : PositionTree) (ps : List PositionTree) → AddsProposals c0 c1 s rs (p ∷ []) → AddsProposals c1 c2 s rs ps → AddsProposals c0 c2 s rs (p ∷ ps)
+adds_position c0 c1 c2 s rs (typed f) ps y z =
+    let first : HasProposal c1 s f (proposal_for rs f) (length c0.instrs) (length c1.instrs) = subst (HasProposal c1 s f (proposal_for rs f) (length c0.instrs)) (sym y.has.2) y.has.1 in
+    record {
+      keeps = Keeps-trans c0 c1 c2 y.keeps z.keeps;
+      has = (length c1.instrs, HasProposal-keeps c1 c2 z.keeps s f (proposal_for rs f) _ _ first, z.has);
+      few = omega (arith, y.few, z.few);
+    }
+adds_position c0 c1 c2 s rs (only x) ps y z = record {
+  keeps = Keeps-trans c0 c1 c2 y.keeps z.keeps;
+  has = subst (λ n. HasProposals c2 s rs ps n (length c2.instrs)) y.has z.has;
+  few = omega (arith, y.few, z.few);
+}
+
+pub nodes_first : (rs : List ProposalTree) (p : PositionTree) (ps : List PositionTree) → proposals_nodes rs (p ∷ ps) ≡ proposals_nodes rs (p ∷ []) + proposals_nodes rs ps
+nodes_first rs (typed f) ps = omega arith
+nodes_first rs (only x) ps = omega arith
+
+pub extent_first : (rs : List ProposalTree) (p : PositionTree) (ps : List PositionTree) → proposals_extent rs (p ∷ ps) ≡ proposals_extent rs (p ∷ []) + proposals_extent rs ps
+extent_first rs (typed f) ps = omega arith
+extent_first rs (only x) ps = omega arith
+
+pub known_first : (s : Scope) (rs : List ProposalTree) (p : PositionTree) (ps : List PositionTree) → AreKnownProposals s rs (p ∷ ps) → AreKnownProposals s rs (p ∷ []) × AreKnownProposals s rs ps
+known_first s rs (typed f) ps h = ((h.0, tt), h.1)
+known_first s rs (only x) ps h = (tt, h)
+
+-- ---- a part's code, with constants after its own
+
+-- what is so of a locally controlled entry's code
+pub local_is : {X : Type 0} (P : X → Type 0) (k : Kind) (x : X) → (k ≡ Output) ⊎ (k ≡ Internal) → P x → HasLocal P k (Some x)
+local_is P k x is h =
+    ⊎_elim (λ (e : k ≡ Output). subst (λ l. HasLocal P l (Some x)) (sym e) h) (λ (e : k ≡ Internal). subst (λ l. HasLocal P l (Some x)) (sym e) h) is
+
+-- the same code with these constants
+abbrev pub with_consts : Listing → List Val → Listing
+with_consts old consts = record { types = old.types; instrs = old.instrs; consts = consts }
+
+grown_keeps : (old : Listing) (consts : List Val) → IsGrown old.consts consts → OwnTypes old.types consts → Keeps old (with_consts old consts)
+grown_keeps old consts grown own_types = record { instr = λ p i e. e; const = grown; types = refl; typed = λ t. own_types }
+
+pub grown_guard : (s : Scope) (g : Option Expr) (old : Listing) (consts : List Val) → IsGuard old s g → IsGrown old.consts consts → OwnTypes old.types consts → IsGuard (with_consts old consts) s g
+grown_guard s g old consts h grown own_types = record {
+  has = HasGuard-keeps old (with_consts old consts) (grown_keeps old consts grown own_types) s g 0 (length old.instrs) h.has;
+  typed = own_types;
+}
+
+pub grown_proposals : (s : Scope) (rs : List ProposalTree) (ps : List PositionTree) (old : Listing) (consts : List Val) → IsProposing old s rs ps → IsGrown old.consts consts → OwnTypes old.types consts → IsProposing (with_consts old consts) s rs ps
+grown_proposals s rs ps old consts h grown own_types = record {
+  has = HasProposals-keeps old (with_consts old consts) (grown_keeps old consts grown own_types) s rs ps 0 (length old.instrs) h.has;
+  typed = own_types;
+}
+
+pub grown_on : (a b c : List Val) → IsGrown a b → IsGrown b c → IsGrown a c
+grown_on a b c f g k v e = g k v (f k v e)

@@ -25,7 +25,7 @@ finds {X} p q k (x ∷ xs) h = go (p x) refl (q x) refl h (finds p q k xs)
     go false t true u h r = let yes = k x u in absurd (cc)
     go false t false u h r = let s = r h in record { item = s.item; place = suc s.place; found = s.found; here = s.here; passes = s.passes }
 
-contains_at : {X : Type 0} (name : X → Name) (xs : List X) (k : ℕ) (y : X) → slice_get xs k ≡ Some y → contains (map name xs) (name y) ≡ true
+pub contains_at : {X : Type 0} (name : X → Name) (xs : List X) (k : ℕ) (y : X) → slice_get xs k ≡ Some y → contains (map name xs) (name y) ≡ true
 contains_at name [] k y e = absurd (cc)
 contains_at name (x ∷ xs) zero y e =
     let same : x ≡ y = cc in

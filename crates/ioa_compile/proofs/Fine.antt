@@ -1,6 +1,6 @@
 -- What a well-formed automaton's entry keeps.
-use Rattle.std.proofs.Common.{All, inl, inr, ◌≡◌, ℕ, ◌+◌, ◌<◌, ◌≤◌, Bool, true, false, cond, not, ◌&&◌, ◌||◌, ◌==◌, nat_le, if◌then◌else◌, IsTrue, List, length, Option, Some, None, IsSome, pos, refl, sym, ap, ◌∙◌, subst, arith}
-use Rattle.std.specs.Prelude.{slice_get, IfSome}
+use Rattle.std.proofs.Common.{All, inl, inr, ◌≡◌, ℕ, ◌+◌, ◌<◌, ◌≤◌, Bool, true, false, cond, not, ◌&&◌, ◌||◌, ◌==◌, nat_le, if◌then◌else◌, IsTrue, List, [], map, length, Option, Some, None, IsSome, pos, refl, sym, ap, ◌∙◌, subst, arith}
+use Rattle.std.specs.Prelude.{slice_get, sum, IfSome}
 use Rattle.std.specs.List.{list_all, list_any, filter}
 use Rattle.std.specs.Option.{option_map_or}
 use Rattle.std.specs.Str.{bytes_eq}
@@ -19,7 +19,7 @@ use Rattle.ioa_value.proofs.TypingLemmas.{HaveTypes-length, HaveTypes-owns}
 use Rattle.ioa_value.proofs.NameLemmas.{same_name}
 use Rattle.ioa_tree.specs.declared.tree.Kind.{Kind}
 use Rattle.ioa_tree.specs.declared.tree.Kind.TheVariants.{Input, Output, Internal}
-use Rattle.ioa_tree.specs.Tree.{Expr, number, truth, named, parens, prefix, binary, empty, make, select, Exprs, no_expr, also, Stmt, assign, choose, Stmts, stop, seq, Arms, no_arm, arm, AutomatonTree, EntryTree, TransitionTree}
+use Rattle.ioa_tree.specs.Tree.{Expr, number, truth, named, parens, prefix, binary, empty, make, select, Exprs, no_expr, also, Stmt, assign, choose, Stmts, stop, seq, Arms, no_arm, arm, expr_in, AutomatonTree, EntryTree, TransitionTree}
 use Rattle.ioa_tree.specs.Meaning.{or_else}
 use Rattle.ioa_tree.specs.Types.{constant_type}
 use Rattle.ioa_tree.specs.Instances.{variable_names, transition_for}
@@ -30,7 +30,7 @@ use Rattle.ioa_tree.proofs.FineParts.{FineParts, fine_parts, EntryParts, entry_p
 use Rattle.ioa_tree.proofs.Domains.{domains_are}
 use Rattle.ioa_tree.proofs.ValTyped.{type_of_one, types_of_both, types_of_row}
 use Rattle.ioa_compose.specs.Fine.{IsFine, component_limits}
-use Rattle.ioa_compile.specs.Scopes.{scope_of, Origin, slot, formal, parameter, fixed, unknown, origin, IsOrigin, IsKnown, AreAllKnown, IsKnownStmt, AreKnown, AreKnownArms, IsKnownGuard, IsScope, place_of}
+use Rattle.ioa_compile.specs.Scopes.{scope_of, bare, Origin, slot, formal, parameter, fixed, unknown, origin, IsOrigin, IsKnown, AreAllKnown, IsKnownStmt, AreKnown, AreKnownArms, IsKnownGuard, IsScope, place_of}
 use Rattle.ioa_compile.specs.Emitting.{guard_nodes}
 use Rattle.ioa_compile.specs.Matching.{AreTypesOf}
 use Rattle.ioa_compile.specs.Tables.{position_types}
@@ -61,6 +61,7 @@ pub record Found (types : Table) (g : List Name) (a : AutomatonTree) (e : EntryT
   pub place : ℕ
   pub here : slice_get a.transitions place ≡ Some transition
   pub found : transition_for a e ≡ Some transition
+  pub kind : e.kind ≡ transition.kind
   pub fine : IsTrue (transition_fine types types g a e transition)
 
 or_right : (a b : Bool) → IsTrue (not a || b) → a ≡ true → IsTrue b
@@ -94,6 +95,7 @@ module _ (types : Table) (g : List Name) (a : AutomatonTree) (p : FineParts type
         place = first_named.place;
         here = first_named.here;
         found = first_named.found;
+        kind = kinds_same e.kind t.kind (and_parts (same_kind e.kind t.kind) (bytes_eq e.name t.name) match).0;
         fine = or_right (matches types types g a e t) (transition_fine types types g a e t) test match;
       }
 
@@ -179,13 +181,14 @@ guard_few (Some p) h = at_most (nodes p) h
 -- a transition's trees are small
 pub record IsSmall (r : TransitionTree) : Type 0 where
   pub guard : guard_nodes r.pre ≤ component_limits.nodes
+  pub proposals : sum (map (λ p. nodes (expr_in p.choice)) r.proposals) ≤ component_limits.nodes
   pub effect : stmts_nodes r.effect ≤ component_limits.nodes
 
 small : (r : TransitionTree) → IsTrue (transition_within component_limits r) → IsSmall r
 small r h =
     let p2 = and_parts (pre_within component_limits r && proposals_within component_limits r) (effect_within component_limits r) h in
     let p1 = and_parts (pre_within component_limits r) (proposals_within component_limits r) p2.0 in
-    record { guard = guard_few r.pre p1.0; effect = at_most (stmts_nodes r.effect) p2.1 }
+    record { guard = guard_few r.pre p1.0; proposals = at_most (sum (map (λ p. nodes (expr_in p.choice)) r.proposals)) p1.1; effect = at_most (stmts_nodes r.effect) p2.1 }
 
 -- ---- the types of what an entry's code may name
 
@@ -202,7 +205,6 @@ pub record Setting (m : Member) (e : EntryTree) (vs ps : List ℕ) : Type 0 wher
   pub types : List ℕ
   pub formals : AreTypesOf m.instance.types m.instance.automaton.formals types
   pub given : HaveTypes m.instance.types m.instance.arguments types
-  pub transition : Found m.instance.types globals m.instance.automaton e
 
 module _ (m : Member) (e : EntryTree) (h : IsFine component_limits m) (own : IsEntryOf m e) where
   pub parts_of : FineParts m.instance.types m.instance.types h.automaton.0 m.instance.automaton
@@ -230,6 +232,13 @@ module _ (m : Member) (e : EntryTree) (h : IsFine component_limits m) (own : IsE
       let both : Some found_of.transition ≡ Some t = sym found_of.found ∙ is in
       let same : found_of.transition ≡ t = cc in
       subst (λ r. IsTrue (transition_fine m.instance.types m.instance.types h.automaton.0 m.instance.automaton e r)) same found_of.fine
+
+  -- it is of the entry's kind
+  pub kind_of : (t : TransitionTree) → transition_for m.instance.automaton e ≡ Some t → e.kind ≡ t.kind
+  kind_of t is =
+      let both : Some found_of.transition ≡ Some t = sym found_of.found ∙ is in
+      let same : found_of.transition ≡ t = cc in
+      subst (λ (r : TransitionTree). e.kind ≡ r.kind) same found_of.kind
 
   -- and its trees are small
   pub small_of : (t : TransitionTree) → transition_for m.instance.automaton e ≡ Some t → IsSmall t
@@ -263,8 +272,24 @@ module _ (m : Member) (e : EntryTree) (h : IsFine component_limits m) (own : IsE
         types = f.0;
         formals = f.1;
         given = f.2;
-        transition = found_of;
       }
+
+-- an entry without positions has its setting in the same automaton
+abbrev pub bare_setting : (m : Member) (e : EntryTree) (vs ps : List ℕ) → Setting m e vs ps → Setting m bare vs []
+bare_setting m e vs ps h = record {
+  globals = h.globals;
+  parts = h.parts;
+  entry = record { distinct_names = refl; apart_names = refl; positions = refl; position_types = refl };
+  few_variables = h.few_variables;
+  few_positions = omega arith;
+  variables = h.variables;
+  domains = [];
+  parameters = tt;
+  types_are = refl;
+  types = h.types;
+  formals = h.formals;
+  given = h.given;
+}
 
 module _ (m : Member) (e : EntryTree) (vs ps : List ℕ) (h : Setting m e vs ps) where
   pub is_scope : IsScope (scope_of m e)

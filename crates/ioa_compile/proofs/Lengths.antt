@@ -1,14 +1,14 @@
 -- Code has as many instructions as its tree's extent says, and this is at most four for each node.
-use Rattle.std.proofs.Common.{◌≡◌, ℕ, ◌+◌, ◌*◌, ◌≤◌, true, false, Option, Some, None, arith}
+use Rattle.std.proofs.Common.{◌≡◌, ℕ, ◌+◌, ◌*◌, ◌≤◌, true, false, List, [], ◌∷◌, length, Option, Some, None, arith}
 use Rattle.ioa_code.specs.Machine.{Listing}
 use Rattle.ioa_tree.specs.declared.tree.Infix.{Infix}
 use Rattle.ioa_tree.specs.declared.tree.Infix.TheVariants.{Operator, And, Or, Implies}
-use Rattle.ioa_tree.specs.Tree.{Expr, number, truth, named, parens, prefix, binary, empty, make, select, Exprs, no_expr, also, Stmt, assign, choose, Stmts, stop, seq, Arms, no_arm, arm}
+use Rattle.ioa_tree.specs.Tree.{Expr, number, truth, named, parens, prefix, binary, empty, make, select, Exprs, no_expr, also, Stmt, assign, choose, Stmts, stop, seq, Arms, no_arm, arm, FieldTree, PositionTree, typed, only, ChoiceTree, exactly, any_below, expr_in, ProposalTree}
 use Rattle.ioa_tree.specs.WellFormed.{nodes, exprs_nodes, stmt_nodes, stmts_nodes, arms_nodes}
-use Rattle.ioa_compile.specs.Scopes.{Scope}
-use Rattle.ioa_compile.specs.Placed.{Stretch, PushesTruth, Chooses, Combines, HasExpr, HasExprs, HasGuard, HasStmt, HasStmts, HasArms}
-use Rattle.ioa_compile.specs.Emitting.{guard_nodes}
-use Rattle.ioa_compile.specs.Extents.{extent, exprs_extent, infix_extent, guard_extent, stmt_extent, stmts_extent, arms_extent}
+use Rattle.ioa_compile.specs.Scopes.{Scope, proposal_for}
+use Rattle.ioa_compile.specs.Placed.{Stretch, PushesTruth, Chooses, Combines, HasExpr, HasExprs, HasGuard, HasStmt, HasStmts, HasArms, HasChoice, HasProposal, HasProposals}
+use Rattle.ioa_compile.specs.Emitting.{guard_nodes, proposal_nodes, proposals_nodes}
+use Rattle.ioa_compile.specs.Extents.{extent, exprs_extent, infix_extent, guard_extent, stmt_extent, stmts_extent, arms_extent, choice_extent, proposal_extent, proposals_extent}
 
 module _ (code : Listing) where
   chooses_long : (This Other : Stretch) (a b : ℕ) → ((p q : ℕ) → This p q → q ≡ p + a) → ((p q : ℕ) → Other p q → q ≡ p + b) → (p q : ℕ) → Chooses code This Other p q → q ≡ p + (a + b + 2)
@@ -59,6 +59,19 @@ module _ (code : Listing) where
       arms_long (arm c ts more) others f p q h =
           omega (arith, expr_long c p h.0 h.1, chooses_long (HasStmts code s ts) (HasArms code s more (HasStmts code s others)) (stmts_extent ts) (arms_extent more + stmts_extent others) (stmts_long ts) (arms_long more others f) h.0 q h.2)
 
+    choice_long : (c : ChoiceTree) (p q : ℕ) → HasChoice code s c p q → q ≡ p + choice_extent c
+    choice_long (exactly e) p q h = expr_long e p q h
+    choice_long (any_below e) p q h = omega (arith, expr_long e p h.0 h.1, h.3)
+
+    proposal_long : (f : FieldTree) (r : Option ProposalTree) (p q : ℕ) → HasProposal code s f r p q → q ≡ p + proposal_extent r
+    proposal_long f None p q h = h.3
+    proposal_long f (Some r) p q h = choice_long r.choice p q h
+
+    pub proposals_long : (rs : List ProposalTree) (ps : List PositionTree) (p q : ℕ) → HasProposals code s rs ps p q → q ≡ p + proposals_extent rs ps
+    proposals_long rs [] p q h = omega (arith, h)
+    proposals_long rs (typed f ∷ ps) p q h = omega (arith, proposal_long f (proposal_for rs f) p h.0 h.1, proposals_long rs ps h.0 q h.2)
+    proposals_long rs (only c ∷ ps) p q h = proposals_long rs ps p q h
+
 infix_small : (o : Infix) → infix_extent o ≤ 3
 infix_small (Operator o) = omega arith
 infix_small And = omega arith
@@ -97,3 +110,17 @@ mutual
   arms_small : (arms : Arms) → arms_extent arms ≤ 4 * arms_nodes arms
   arms_small no_arm = omega arith
   arms_small (arm c ts more) = omega (arith, expr_small c, stmts_small ts, arms_small more)
+
+choice_small : (c : ChoiceTree) → choice_extent c ≤ 4 * nodes (expr_in c)
+choice_small (exactly e) = omega (arith, expr_small e)
+choice_small (any_below e) = omega (arith, expr_small e)
+
+proposal_small : (r : Option ProposalTree) → proposal_extent r ≤ 4 * proposal_nodes r + 1
+proposal_small None = omega arith
+proposal_small (Some r) = omega (arith, choice_small r.choice)
+
+-- one more for each parameter without a proposal
+pub proposals_small : (rs : List ProposalTree) (ps : List PositionTree) → proposals_extent rs ps ≤ 4 * proposals_nodes rs ps + length ps
+proposals_small rs [] = omega arith
+proposals_small rs (typed f ∷ ps) = omega (arith, proposal_small (proposal_for rs f), proposals_small rs ps)
+proposals_small rs (only c ∷ ps) = omega (arith, proposals_small rs ps)

@@ -10,11 +10,13 @@ pub mod Fixed
 pub mod Fits
 pub mod Finds
 pub mod Fine
+pub mod Proposed
 pub mod Blocks
 pub mod Validity
 pub mod Assembled
 pub mod Sizes
 pub mod Twins
 pub mod Running
+pub mod Trying
 pub mod Alike
 pub mod Meant

@@ -20,7 +20,6 @@ use Rattle.ioa_code.specs.declared.instr.Instr.TheVariants.{Const, Slot, Arg, St
 use Rattle.ioa_code.specs.Machine.{Listing, State, state, End, fault, Move, goes, over, stuck, act, next, pushed, replaced, stored, decided, branched, answered, applied, fetched, move, After, Ends}
 use Rattle.ioa_code.proofs.Applied.{applied_is}
 use Rattle.ioa_code.proofs.Lists.{on_top-append}
-use Rattle.ioa_node.specs.Runs.{no_words}
 use Rattle.ioa_tree.specs.declared.tree.Infix.{Infix}
 use Rattle.ioa_tree.specs.declared.tree.Infix.TheVariants.{Operator, And, Or, Implies}
 use Rattle.ioa_tree.specs.Tree.{Expr, number, truth, named, parens, prefix, binary, empty, make, select, Exprs, no_expr, also, Stmt, assign, choose, Stmts, stop, seq, Arms, no_arm, arm}
@@ -40,10 +39,6 @@ use Rattle.ioa_compile.proofs.Standing.{at, stands, stands_at, stands-paired}
 use Rattle.ioa_compile.proofs.Tuples.{of_make, of_select, place_is, made_is, selected_is}
 
 module _ (code : Listing) (s : Scope) (args : List Val) where
-  -- the machine at a place
-  abbrev pub on : ℕ → List Val → List Val → State
-  on p stack slots = state p stack slots args no_words 0
-
   -- the machine comes from one state to another: as that ends, so does this, after as many steps more as it is further on
   pub record Comes (x y : State) : Type 0 where
     pub by : (r : End) (n : ℕ) → Ends code n y r → (k : ℕ) × (k + x.place ≤ n + y.place) × Ends code k x r
@@ -54,366 +49,372 @@ module _ (code : Listing) (s : Scope) (args : List Val) where
   pub comes_on : (x y z : State) → Comes x y → Comes y z → Comes x z
   comes_on x y z a b = record { by = λ r n e. let f = b.by r n e in let g = a.by r f.0 f.2 in (g.0, omega (arith, f.1, g.1), g.2) }
 
-  step : (x y : State) → x.place < y.place → move code x ≡ goes y → Comes x y
+  pub step : (x y : State) → x.place < y.place → move code x ≡ goes y → Comes x y
   step x y p e = record {
     by = λ r n h. (suc n, omega arith, subst (λ m. After m (λ z. Ends code n z r) (λ z. (n ≡ 0) × (r ≡ z))) (sym e) h);
   }
 
-  moves : (p : ℕ) (stack slots : List Val) (i : Instr) (m : Move) → At code p i → act code i (on p stack slots) ≡ m → move code (on p stack slots) ≡ m
-  moves p stack slots i m h e = ap (λ o. fetched code o (on p stack slots)) h ∙ e
+  -- with these words, of which so many are taken, which stay as they are: nothing below takes one
+  module _ (words : ℕ → ℕ) (taken : ℕ) where
+    -- the machine at a place
+    abbrev pub on : ℕ → List Val → List Val → State
+    on p stack slots = state p stack slots args words taken
 
-  -- the machine ends by the fault, before the code does
-  pub record Breaks (x : State) (f : Fault) : Type 0 where
-    pub count : ℕ
-    pub within : count + x.place ≤ length code.instrs
-    pub ends : Ends code count x (fault f 0)
+    pub moves : (p : ℕ) (stack slots : List Val) (i : Instr) (m : Move) → At code p i → act code i (on p stack slots) ≡ m → move code (on p stack slots) ≡ m
+    moves p stack slots i m h e = ap (λ o. fetched code o (on p stack slots)) h ∙ e
 
-  breaks_on : (x y : State) (f : Fault) → Comes x y → y.place ≤ length code.instrs → Breaks y f → Breaks x f
-  breaks_on x y f c le b = let r = c.by (fault f 0) b.count b.ends in record { count = r.0; within = omega (arith, r.1, b.within); ends = r.2 }
+    -- the machine ends by the fault, before the code does
+    pub record Breaks (x : State) (f : Fault) : Type 0 where
+      pub count : ℕ
+      pub within : count + x.place ≤ length code.instrs
+      pub ends : Ends code count x (fault f taken)
 
-  -- the machine comes from x to q with the answer's value on the stack, or ends by its fault
-  abbrev pub Reaches : State → ℕ → List Val → List Val → Answer → Type 0
-  Reaches x q stack slots (gives v) = Comes x (on q (stack ++ v ∷ []) slots)
-  Reaches x q stack slots (faults f) = Breaks x f
-  Reaches x q stack slots nothing = Unit {0}
+    breaks_on : (x y : State) (f : Fault) → Comes x y → y.place ≤ length code.instrs → Breaks y f → Breaks x f
+    breaks_on x y f c le b = let r = c.by (fault f taken) b.count b.ends in record { count = r.0; within = omega (arith, r.1, b.within); ends = r.2 }
 
-  breaks_after : (x y : State) (f : Fault) → Comes x y → Breaks y f → Breaks x f
-  breaks_after x y f c b = let r = c.by (fault f 0) b.count b.ends in record { count = r.0; within = omega (arith, r.1, b.within); ends = r.2 }
+    -- the machine comes from x to q with the answer's value on the stack, or ends by its fault
+    abbrev pub Reaches : State → ℕ → List Val → List Val → Answer → Type 0
+    Reaches x q stack slots (gives v) = Comes x (on q (stack ++ v ∷ []) slots)
+    Reaches x q stack slots (faults f) = Breaks x f
+    Reaches x q stack slots nothing = Unit {0}
 
-  after_comes : (x y : State) (q : ℕ) (stack slots : List Val) (a : Answer) → Comes x y → Reaches y q stack slots a → Reaches x q stack slots a
-  after_comes x y q stack slots (gives v) c r = comes_on x y _ c r
-  after_comes x y q stack slots (faults f) c r = breaks_after x y f c r
-  after_comes x y q stack slots nothing c r = tt
+    breaks_after : (x y : State) (f : Fault) → Comes x y → Breaks y f → Breaks x f
+    breaks_after x y f c b = let r = c.by (fault f taken) b.count b.ends in record { count = r.0; within = omega (arith, r.1, b.within); ends = r.2 }
 
-  -- a value of this type, and what is done with it
-  then_reaches : (types : Table) (x : State) (m q ty : ℕ) (below stack slots : List Val) (a : Answer) (go : Val → Answer) → IsTypedAnswer types ty a → Reaches x m below slots a → ((v : Val) → HasType types v ty → Reaches (on m (below ++ v ∷ []) slots) q stack slots (go v)) → Reaches x q stack slots (then_value a go)
-  then_reaches types x m q ty below stack slots (gives v) go t r k =
-      after_comes x (on m (below ++ v ∷ []) slots) q stack slots (go v) r (k v t)
-  then_reaches types x m q ty below stack slots (faults f) go t r k = r
-  then_reaches types x m q ty below stack slots nothing go t r k = tt
+    after_comes : (x y : State) (q : ℕ) (stack slots : List Val) (a : Answer) → Comes x y → Reaches y q stack slots a → Reaches x q stack slots a
+    after_comes x y q stack slots (gives v) c r = comes_on x y _ c r
+    after_comes x y q stack slots (faults f) c r = breaks_after x y f c r
+    after_comes x y q stack slots nothing c r = tt
 
-  ends_fault : (p : ℕ) (stack slots : List Val) (f : Fault) → move code (on p stack slots) ≡ over (fault f 0) → Ends code 1 (on p stack slots) (fault f 0)
-  ends_fault p stack slots f e =
-      let P : Move → Type 0 = λ m. After m (λ z. Ends code 0 z (fault f 0)) (λ g. (◌≡◌ {A = ℕ} 0 0) × (fault f 0 ≡ g)) in subst P (sym e) (refl, refl)
+    -- a value of this type, and what is done with it
+    then_reaches : (types : Table) (x : State) (m q ty : ℕ) (below stack slots : List Val) (a : Answer) (go : Val → Answer) → IsTypedAnswer types ty a → Reaches x m below slots a → ((v : Val) → HasType types v ty → Reaches (on m (below ++ v ∷ []) slots) q stack slots (go v)) → Reaches x q stack slots (then_value a go)
+    then_reaches types x m q ty below stack slots (gives v) go t r k =
+        after_comes x (on m (below ++ v ∷ []) slots) q stack slots (go v) r (k v t)
+    then_reaches types x m q ty below stack slots (faults f) go t r k = r
+    then_reaches types x m q ty below stack slots nothing go t r k = tt
 
-  answer_reaches : (p : ℕ) (full stack slots : List Val) (a : Answer) → p < length code.instrs → move code (on p full slots) ≡ answered a (on p full slots) stack → Reaches (on p full slots) (p + 1) stack slots a
-  answer_reaches p full stack slots (gives v) lt e = step _ _ (omega arith) e
-  answer_reaches p full stack slots (faults f) lt e = record { count = 1; within = omega arith; ends = ends_fault p full slots f e }
-  answer_reaches p full stack slots nothing lt e = tt
+    ends_fault : (p : ℕ) (stack slots : List Val) (f : Fault) → move code (on p stack slots) ≡ over (fault f taken) → Ends code 1 (on p stack slots) (fault f taken)
+    ends_fault p stack slots f e =
+        let P : Move → Type 0 = λ m. After m (λ z. Ends code 0 z (fault f taken)) (λ g. (◌≡◌ {A = ℕ} 0 0) × (fault f taken ≡ g)) in subst P (sym e) (refl, refl)
 
-  pub push_comes : (p : ℕ) (stack slots : List Val) (v : Val) → Pushes code p v → Comes (on p stack slots) (on (p + 1) (stack ++ v ∷ []) slots)
-  push_comes p stack slots v h =
-      step _ _ (omega arith) (moves p stack slots (Const h.0) _ h.1 (ap (λ o. pushed o (on p stack slots)) h.2))
+    answer_reaches : (p : ℕ) (full stack slots : List Val) (a : Answer) → p < length code.instrs → move code (on p full slots) ≡ answered a (on p full slots) stack → Reaches (on p full slots) (p + 1) stack slots a
+    answer_reaches p full stack slots (gives v) lt e = step _ _ (omega arith) e
+    answer_reaches p full stack slots (faults f) lt e = record { count = 1; within = omega arith; ends = ends_fault p full slots f e }
+    answer_reaches p full stack slots nothing lt e = tt
 
-  read_comes : (p : ℕ) (stack slots : List Val) (i : Instr) (o : Option Val) (v : Val) → At code p i → act code i (on p stack slots) ≡ pushed o (on p stack slots) → o ≡ Some v → Comes (on p stack slots) (on (p + 1) (stack ++ v ∷ []) slots)
-  read_comes p stack slots i o v h e k = step _ _ (omega arith) (moves p stack slots i _ h (e ∙ ap (λ x. pushed x (on p stack slots)) k))
+    pub push_comes : (p : ℕ) (stack slots : List Val) (v : Val) → Pushes code p v → Comes (on p stack slots) (on (p + 1) (stack ++ v ∷ []) slots)
+    push_comes p stack slots v h =
+        step _ _ (omega arith) (moves p stack slots (Const h.0) _ h.1 (ap (λ o. pushed o (on p stack slots)) h.2))
 
-  brings_comes : (p : ℕ) (stack slots : List Val) (o : Origin) (v : Val) → at (λ w. w) o slots s.arguments args ≡ Some v → Brings code s p o → Comes (on p stack slots) (on (p + 1) (stack ++ v ∷ []) slots)
-  brings_comes p stack slots (slot i) v e h = read_comes p stack slots (Slot i) (slice_get slots i) v h refl e
-  brings_comes p stack slots (formal i) v e h =
-      let both : Some h.0 ≡ Some v = sym h.1 ∙ e in
-      let same : h.0 ≡ v = cc in
-      push_comes p stack slots v (subst (Pushes code p) same h.2)
-  brings_comes p stack slots (parameter i) v e h = read_comes p stack slots (Arg i) (slice_get args i) v h refl e
-  brings_comes p stack slots (fixed w) v e h = let same : w ≡ v = cc in push_comes p stack slots v (subst (Pushes code p) same h)
-  brings_comes p stack slots unknown v e h = absurd h
+    read_comes : (p : ℕ) (stack slots : List Val) (i : Instr) (o : Option Val) (v : Val) → At code p i → act code i (on p stack slots) ≡ pushed o (on p stack slots) → o ≡ Some v → Comes (on p stack slots) (on (p + 1) (stack ++ v ∷ []) slots)
+    read_comes p stack slots i o v h e k = step _ _ (omega arith) (moves p stack slots i _ h (e ∙ ap (λ x. pushed x (on p stack slots)) k))
 
-  brings_reaches : (p : ℕ) (stack slots : List Val) (o : Option Val) (w : Origin) → o ≡ at (λ v. v) w slots s.arguments args → Brings code s p w → Reaches (on p stack slots) (p + 1) stack slots (value_of o)
-  brings_reaches p stack slots None w e h = tt
-  brings_reaches p stack slots (Some v) w e h = brings_comes p stack slots w v (sym e) h
+    brings_comes : (p : ℕ) (stack slots : List Val) (o : Origin) (v : Val) → at (λ w. w) o slots s.arguments args ≡ Some v → Brings code s p o → Comes (on p stack slots) (on (p + 1) (stack ++ v ∷ []) slots)
+    brings_comes p stack slots (slot i) v e h = read_comes p stack slots (Slot i) (slice_get slots i) v h refl e
+    brings_comes p stack slots (formal i) v e h =
+        let both : Some h.0 ≡ Some v = sym h.1 ∙ e in
+        let same : h.0 ≡ v = cc in
+        push_comes p stack slots v (subst (Pushes code p) same h.2)
+    brings_comes p stack slots (parameter i) v e h = read_comes p stack slots (Arg i) (slice_get args i) v h refl e
+    brings_comes p stack slots (fixed w) v e h = let same : w ≡ v = cc in push_comes p stack slots v (subst (Pushes code p) same h)
+    brings_comes p stack slots unknown v e h = absurd h
 
-  jump_comes : (p t : ℕ) (stack slots : List Val) → At code p (Jump t) → p < t → Comes (on p stack slots) (on t stack slots)
-  jump_comes p t stack slots h lt = step _ _ lt (moves p stack slots (Jump t) _ h refl)
+    brings_reaches : (p : ℕ) (stack slots : List Val) (o : Option Val) (w : Origin) → o ≡ at (λ v. v) w slots s.arguments args → Brings code s p w → Reaches (on p stack slots) (p + 1) stack slots (value_of o)
+    brings_reaches p stack slots None w e h = tt
+    brings_reaches p stack slots (Some v) w e h = brings_comes p stack slots w v (sym e) h
 
-  branch_comes : (p t to : ℕ) (stack slots : List Val) (b : Bool) → At code p (JumpIfFalse t) → p < to → decided t (on p (stack ++ plain.truth b ∷ []) slots) stack (plain.truth b) ≡ goes (on to stack slots) → Comes (on p (stack ++ plain.truth b ∷ []) slots) (on to stack slots)
-  branch_comes p t to stack slots b h lt e =
-      let full = stack ++ plain.truth b ∷ [] in
-      step _ _ lt (moves p full slots (JumpIfFalse t) _ h
-      (on_top-append 1 stack (plain.truth b ∷ []) stuck (λ below top. branched t (on p full slots) below top) refl ∙ e))
+    jump_comes : (p t : ℕ) (stack slots : List Val) → At code p (Jump t) → p < t → Comes (on p stack slots) (on t stack slots)
+    jump_comes p t stack slots h lt = step _ _ lt (moves p stack slots (Jump t) _ h refl)
 
-  true_comes : (p t : ℕ) (stack slots : List Val) → At code p (JumpIfFalse t) → Comes (on p (stack ++ plain.truth true ∷ []) slots) (on (p + 1) stack slots)
-  true_comes p t stack slots h = branch_comes p t (p + 1) stack slots true h (omega arith) refl
+    branch_comes : (p t to : ℕ) (stack slots : List Val) (b : Bool) → At code p (JumpIfFalse t) → p < to → decided t (on p (stack ++ plain.truth b ∷ []) slots) stack (plain.truth b) ≡ goes (on to stack slots) → Comes (on p (stack ++ plain.truth b ∷ []) slots) (on to stack slots)
+    branch_comes p t to stack slots b h lt e =
+        let full = stack ++ plain.truth b ∷ [] in
+        step _ _ lt (moves p full slots (JumpIfFalse t) _ h
+        (on_top-append 1 stack (plain.truth b ∷ []) stuck (λ below top. branched t (on p full slots) below top) refl ∙ e))
 
-  false_comes : (p t : ℕ) (stack slots : List Val) → At code p (JumpIfFalse t) → p < t → Comes (on p (stack ++ plain.truth false ∷ []) slots) (on t stack slots)
-  false_comes p t stack slots h lt = branch_comes p t t stack slots false h lt refl
+    true_comes : (p t : ℕ) (stack slots : List Val) → At code p (JumpIfFalse t) → Comes (on p (stack ++ plain.truth true ∷ []) slots) (on (p + 1) stack slots)
+    true_comes p t stack slots h = branch_comes p t (p + 1) stack slots true h (omega arith) refl
 
-  reaches_jump : (x : State) (n q : ℕ) (stack slots : List Val) (a : Answer) → At code n (Jump q) → n < q → Reaches x n stack slots a → Reaches x q stack slots a
-  reaches_jump x n q stack slots (gives v) h lt r =
-      comes_on x (on n (stack ++ v ∷ []) slots) _ r (jump_comes n q (stack ++ v ∷ []) slots h lt)
-  reaches_jump x n q stack slots (faults f) h lt r = r
-  reaches_jump x n q stack slots nothing h lt r = tt
+    false_comes : (p t : ℕ) (stack slots : List Val) → At code p (JumpIfFalse t) → p < t → Comes (on p (stack ++ plain.truth false ∷ []) slots) (on t stack slots)
+    false_comes p t stack slots h lt = branch_comes p t t stack slots false h lt refl
 
-  -- a choice between two answers
-  module _ (This Other : Stretch) (p q : ℕ) (stack slots : List Val) (this other : Answer) (first : (m n : ℕ) → This m n → Reaches (on m stack slots) n stack slots this) (second : (m n : ℕ) → Other m n → Reaches (on m stack slots) n stack slots other) (this_on : (m n : ℕ) → This m n → m ≤ n) (other_on : (m n : ℕ) → Other m n → m ≤ n) (h : Chooses code This Other p q) where
-    chooses_reaches : (v : Val) → Reaches (on p (stack ++ v ∷ []) slots) q stack slots (Meaning.decided v this other)
-    chooses_reaches (plain.truth true) =
-        let on_to = other_on (h.0 + 1) q h.4 in
-        reaches_jump _ h.0 q stack slots this h.3 (omega arith)
-        (after_comes _ (on (p + 1) stack slots) h.0 stack slots this (true_comes p (h.0 + 1) stack slots h.1) (first (p + 1) h.0 h.2))
-    chooses_reaches (plain.truth false) =
-        let on_to = this_on (p + 1) h.0 h.2 in
-        after_comes _ (on (h.0 + 1) stack slots) q stack slots other (false_comes p (h.0 + 1) stack slots h.1 (omega arith)) (second (h.0 + 1) q h.4)
-    chooses_reaches (plain.num z) = tt
-    chooses_reaches (plain.name ty n) = tt
-    chooses_reaches (plain.tuple ty vs) = tt
-    chooses_reaches (plain.items ty vs) = tt
+    reaches_jump : (x : State) (n q : ℕ) (stack slots : List Val) (a : Answer) → At code n (Jump q) → n < q → Reaches x n stack slots a → Reaches x q stack slots a
+    reaches_jump x n q stack slots (gives v) h lt r =
+        comes_on x (on n (stack ++ v ∷ []) slots) _ r (jump_comes n q (stack ++ v ∷ []) slots h lt)
+    reaches_jump x n q stack slots (faults f) h lt r = r
+    reaches_jump x n q stack slots nothing h lt r = tt
 
-  truth_reaches : (b : Bool) (stack slots : List Val) (m n : ℕ) → PushesTruth code b m n → Reaches (on m stack slots) n stack slots (gives (plain.truth b))
-  truth_reaches b stack slots m n h =
-      subst (λ k. Comes (on m stack slots) (on k (stack ++ plain.truth b ∷ []) slots)) (sym h.1) (push_comes m stack slots (plain.truth b) h.0)
+    -- a choice between two answers
+    module _ (This Other : Stretch) (p q : ℕ) (stack slots : List Val) (this other : Answer) (first : (m n : ℕ) → This m n → Reaches (on m stack slots) n stack slots this) (second : (m n : ℕ) → Other m n → Reaches (on m stack slots) n stack slots other) (this_on : (m n : ℕ) → This m n → m ≤ n) (other_on : (m n : ℕ) → Other m n → m ≤ n) (h : Chooses code This Other p q) where
+      chooses_reaches : (v : Val) → Reaches (on p (stack ++ v ∷ []) slots) q stack slots (Meaning.decided v this other)
+      chooses_reaches (plain.truth true) =
+          let on_to = other_on (h.0 + 1) q h.4 in
+          reaches_jump _ h.0 q stack slots this h.3 (omega arith)
+          (after_comes _ (on (p + 1) stack slots) h.0 stack slots this (true_comes p (h.0 + 1) stack slots h.1) (first (p + 1) h.0 h.2))
+      chooses_reaches (plain.truth false) =
+          let on_to = this_on (p + 1) h.0 h.2 in
+          after_comes _ (on (h.0 + 1) stack slots) q stack slots other (false_comes p (h.0 + 1) stack slots h.1 (omega arith)) (second (h.0 + 1) q h.4)
+      chooses_reaches (plain.num z) = tt
+      chooses_reaches (plain.name ty n) = tt
+      chooses_reaches (plain.tuple ty vs) = tt
+      chooses_reaches (plain.items ty vs) = tt
 
-  truth_on : (b : Bool) (m n : ℕ) → PushesTruth code b m n → m ≤ n
-  truth_on b m n h = omega (arith, h.1)
+    truth_reaches : (b : Bool) (stack slots : List Val) (m n : ℕ) → PushesTruth code b m n → Reaches (on m stack slots) n stack slots (gives (plain.truth b))
+    truth_reaches b stack slots m n h =
+        subst (λ k. Comes (on m stack slots) (on k (stack ++ plain.truth b ∷ []) slots)) (sym h.1) (push_comes m stack slots (plain.truth b) h.0)
 
-  -- what a name stands for is where its code finds it
-  abbrev pub Agrees : Table → Env → List Val → Type 0
-  Agrees types env slots = (x : Name) → or_else (env x) (constant types x) ≡ at (λ v. v) (origin s x) slots s.arguments args
+    truth_on : (b : Bool) (m n : ℕ) → PushesTruth code b m n → m ≤ n
+    truth_on b m n h = omega (arith, h.1)
 
-  module _ (types : Table) (same_types : code.types ≡ types) (own_types : s.types ≡ types) where
-    -- an operator that takes operands of these types
-    apply_reaches : (p : ℕ) (stack operands slots : List Val) (op : Op) (tys : List ℕ) (ty : ℕ) → op_type types op tys ≡ Some ty → HaveTypes types operands tys → At code p (Apply op) → Reaches (on p (stack ++ operands) slots) (p + 1) stack slots (operate types op operands)
-    apply_reaches p stack operands slots op tys ty t e h =
-        let takes : length operands ≡ arity code.types op = HaveTypes-length types operands tys e ∙ sym (takes_all types op tys ty t) ∙ ap (λ l. arity l op) (sym same_types) in
-        let owns = HaveTypes-owns types operands tys e in
-        let is : applied code.types op operands ≡ operate types op operands =
-        ap (λ l. applied l op operands) same_types ∙ applied_is types op operands ty (ap (op_type types op) owns.0 ∙ t) in
-        let here : Reaches (on p (stack ++ operands) slots) (p + 1) stack slots (applied code.types op operands) =
-        answer_reaches p (stack ++ operands) stack slots (applied code.types op operands) (slice_get_within code.instrs p (Apply op) h)
-        (moves p (stack ++ operands) slots (Apply op) _ h (on_top-append (arity code.types op) stack operands stuck (λ below top. answered (applied code.types op top) (on p (stack ++ operands) slots) below) takes)) in
-        subst (Reaches (on p (stack ++ operands) slots) (p + 1) stack slots) is here
+    -- what a name stands for is where its code finds it
+    abbrev pub Agrees : Table → Env → List Val → Type 0
+    Agrees types env slots = (x : Name) → or_else (env x) (constant types x) ≡ at (λ v. v) (origin s x) slots s.arguments args
 
-    module _ (Second : Stretch) (p q : ℕ) (stack slots : List Val) (x : Val) (answer : Answer) (a b ty : ℕ) (typed : HasType types x a) (answers : IsTypedAnswer types b answer) (second : (m n : ℕ) (under : List Val) → Second m n → Reaches (on m under slots) n under slots answer) (second_on : (m n : ℕ) → Second m n → m ≤ n) where
-      combines_reaches : (o : Infix) → infix_type types o (a ∷ b ∷ []) ≡ Some ty → Combines code o Second p q → Reaches (on p (stack ++ x ∷ []) slots) q stack slots (combined types o x answer)
-      combines_reaches (Operator o) t h =
-          let go : Val → Answer = λ y. operate types o (x ∷ y ∷ []) in
-          subst (λ k. Reaches (on p (stack ++ x ∷ []) slots) k stack slots (then_value answer go)) (sym h.3)
-          (then_reaches types (on p (stack ++ x ∷ []) slots) h.0 (h.0 + 1) b (stack ++ x ∷ []) stack slots answer go answers (second p h.0 (stack ++ x ∷ []) h.1)
-          (λ y k. subst (λ l. Reaches (on h.0 l slots) (h.0 + 1) stack slots (go y)) (sym (append_assoc stack (x ∷ []) (y ∷ []))) (apply_reaches h.0 stack (x ∷ y ∷ []) slots o (a ∷ b ∷ []) ty t (typed, (k, tt)) h.2)))
-      combines_reaches And t h =
-          chooses_reaches Second (PushesTruth code false) p q stack slots answer (gives (plain.truth false)) (λ m n k. second m n stack k) (truth_reaches false stack slots) second_on (truth_on false) h x
-      combines_reaches Or t h =
-          chooses_reaches (PushesTruth code true) Second p q stack slots (gives (plain.truth true)) answer (truth_reaches true stack slots) (λ m n k. second m n stack k) (truth_on true) second_on h x
-      combines_reaches Implies t h =
-          chooses_reaches Second (PushesTruth code true) p q stack slots answer (gives (plain.truth true)) (λ m n k. second m n stack k) (truth_reaches true stack slots) second_on (truth_on true) h x
+    module _ (types : Table) (same_types : code.types ≡ types) (own_types : s.types ≡ types) where
+      -- an operator that takes operands of these types
+      apply_reaches : (p : ℕ) (stack operands slots : List Val) (op : Op) (tys : List ℕ) (ty : ℕ) → op_type types op tys ≡ Some ty → HaveTypes types operands tys → At code p (Apply op) → Reaches (on p (stack ++ operands) slots) (p + 1) stack slots (operate types op operands)
+      apply_reaches p stack operands slots op tys ty t e h =
+          let takes : length operands ≡ arity code.types op = HaveTypes-length types operands tys e ∙ sym (takes_all types op tys ty t) ∙ ap (λ l. arity l op) (sym same_types) in
+          let owns = HaveTypes-owns types operands tys e in
+          let is : applied code.types op operands ≡ operate types op operands =
+          ap (λ l. applied l op operands) same_types ∙ applied_is types op operands ty (ap (op_type types op) owns.0 ∙ t) in
+          let here : Reaches (on p (stack ++ operands) slots) (p + 1) stack slots (applied code.types op operands) =
+          answer_reaches p (stack ++ operands) stack slots (applied code.types op operands) (slice_get_within code.instrs p (Apply op) h)
+          (moves p (stack ++ operands) slots (Apply op) _ h (on_top-append (arity code.types op) stack operands stuck (λ below top. answered (applied code.types op top) (on p (stack ++ operands) slots) below) takes)) in
+          subst (Reaches (on p (stack ++ operands) slots) (p + 1) stack slots) is here
 
-    expr_on : (e : Expr) (m n : ℕ) → HasExpr code s e m n → m ≤ n
-    expr_on e m n h = omega (arith, expr_long code s e m n h)
+      module _ (Second : Stretch) (p q : ℕ) (stack slots : List Val) (x : Val) (answer : Answer) (a b ty : ℕ) (typed : HasType types x a) (answers : IsTypedAnswer types b answer) (second : (m n : ℕ) (under : List Val) → Second m n → Reaches (on m under slots) n under slots answer) (second_on : (m n : ℕ) → Second m n → m ≤ n) where
+        combines_reaches : (o : Infix) → infix_type types o (a ∷ b ∷ []) ≡ Some ty → Combines code o Second p q → Reaches (on p (stack ++ x ∷ []) slots) q stack slots (combined types o x answer)
+        combines_reaches (Operator o) t h =
+            let go : Val → Answer = λ y. operate types o (x ∷ y ∷ []) in
+            subst (λ k. Reaches (on p (stack ++ x ∷ []) slots) k stack slots (then_value answer go)) (sym h.3)
+            (then_reaches types (on p (stack ++ x ∷ []) slots) h.0 (h.0 + 1) b (stack ++ x ∷ []) stack slots answer go answers (second p h.0 (stack ++ x ∷ []) h.1)
+            (λ y k. subst (λ l. Reaches (on h.0 l slots) (h.0 + 1) stack slots (go y)) (sym (append_assoc stack (x ∷ []) (y ∷ []))) (apply_reaches h.0 stack (x ∷ y ∷ []) slots o (a ∷ b ∷ []) ty t (typed, (k, tt)) h.2)))
+        combines_reaches And t h =
+            chooses_reaches Second (PushesTruth code false) p q stack slots answer (gives (plain.truth false)) (λ m n k. second m n stack k) (truth_reaches false stack slots) second_on (truth_on false) h x
+        combines_reaches Or t h =
+            chooses_reaches (PushesTruth code true) Second p q stack slots (gives (plain.truth true)) answer (truth_reaches true stack slots) (λ m n k. second m n stack k) (truth_on true) second_on h x
+        combines_reaches Implies t h =
+            chooses_reaches Second (PushesTruth code true) p q stack slots answer (gives (plain.truth true)) (λ m n k. second m n stack k) (truth_reaches true stack slots) second_on (truth_on true) h x
 
-    -- where each name of a context stands for a value of its type
-    module _ (declared : AreTypes types) (c : Context) (own_context : s.context ≡ c) (env : Env) (suits : Suits types c env) (slots : List Val) (agrees : Agrees types env slots) where
-      answers_typed : (e : Expr) (ty : ℕ) → type_of types types c e ≡ Some ty → IsTypedAnswer types ty (val types e env)
-      answers_typed e ty t = val_typed types declared c env e ty suits t
+      expr_on : (e : Expr) (m n : ℕ) → HasExpr code s e m n → m ≤ n
+      expr_on e m n h = omega (arith, expr_long code s e m n h)
+
+      -- where each name of a context stands for a value of its type
+      module _ (declared : AreTypes types) (c : Context) (own_context : s.context ≡ c) (env : Env) (suits : Suits types c env) (slots : List Val) (agrees : Agrees types env slots) where
+        answers_typed : (e : Expr) (ty : ℕ) → type_of types types c e ≡ Some ty → IsTypedAnswer types ty (val types e env)
+        answers_typed e ty t = val_typed types declared c env e ty suits t
+
+        mutual
+          pub expr_runs : (e : Expr) (ty p q : ℕ) (stack : List Val) → type_of types types c e ≡ Some ty → HasExpr code s e p q → Reaches (on p stack slots) q stack slots (val types e env)
+          expr_runs (number n) ty p q stack t h =
+              subst (λ k. Comes (on p stack slots) (on k (stack ++ plain.num (pos n) ∷ []) slots)) (sym h.1) (push_comes p stack slots (plain.num (pos n)) h.0)
+          expr_runs (truth b) ty p q stack t h = truth_reaches b stack slots p q h
+          expr_runs (named x) ty p q stack t h =
+              subst (λ k. Reaches (on p stack slots) k stack slots (value_of (or_else (env x) (constant types x)))) (sym h.1) (brings_reaches p stack slots (or_else (env x) (constant types x)) (origin s x) (agrees x) h.0)
+          expr_runs (parens e) ty p q stack t h = expr_runs e ty p q stack t h
+          expr_runs (prefix o e) ty p q stack t h =
+              let operand = type_of_one (type_of types types c e) (op_type types o) ty t in
+              let go : Val → Answer = λ x. operate types o (x ∷ []) in
+              subst (λ k. Reaches (on p stack slots) k stack slots (then_value (val types e env) go)) (sym h.3)
+              (then_reaches types (on p stack slots) h.0 (h.0 + 1) operand.0 stack stack slots (val types e env) go (answers_typed e operand.0 operand.1) (expr_runs e operand.0 p h.0 stack operand.1 h.1)
+              (λ x k. apply_reaches h.0 stack (x ∷ []) slots o (operand.0 ∷ []) ty operand.2 (k, tt) h.2))
+          expr_runs (binary l o r) ty p q stack t h =
+              let both = types_of_both (type_of types types c l) (type_of types types c r) (infix_type types o) ty t in
+              let go : Val → Answer = λ x. combined types o x (val types r env) in
+              then_reaches types (on p stack slots) h.0 q both.0 stack stack slots (val types l env) go (answers_typed l both.0 both.2) (expr_runs l both.0 p h.0 stack both.2 h.1)
+              (λ x typed. combines_reaches (HasExpr code s r) h.0 q stack slots x (val types r env) both.0 both.1 ty typed (answers_typed r both.1 both.3) (λ m n under k. expr_runs r both.1 m n under both.3 k) (expr_on r) o both.4 h.2)
+          expr_runs (empty x) ty p q stack t h =
+              let there : empty_of types x ≡ Some h.0 = ap (λ l. empty_of l x) (sym own_types) ∙ h.1 in
+              subst (λ o. Reaches (on p stack slots) q stack slots (value_of o)) (sym there)
+              (subst (λ k. Comes (on p stack slots) (on k (stack ++ h.0 ∷ []) slots)) (sym h.3) (push_comes p stack slots h.0 h.2))
+          expr_runs (make x es) ty p q stack t h =
+              let parts = of_make types c x es ty t in
+              let end = h.2.0 in
+              let named : type_named types x ≡ Some h.0 = ap (λ l. type_named l x) (sym own_types) ∙ h.1 in
+              let both : Some parts.0 ≡ Some h.0 = sym parts.2 ∙ named in
+              let same : parts.0 ≡ h.0 = cc in
+              let takes = subst (λ n. op_type types (Make (record { 0 = n })) parts.1 ≡ Some ty) same parts.4 in
+              subst (λ k. Reaches (on p stack slots) k stack slots (then_all types es env (made types x))) (sym h.2.3)
+              (exprs_run es parts.1 p end (end + 1) stack stack (made types x) parts.3 h.2.1
+              (λ vs typed. subst (Reaches (on end (stack ++ vs) slots) (end + 1) stack slots) (sym (made_is types x h.0 vs named)) (apply_reaches end stack vs slots (Make (record { 0 = h.0 })) parts.1 ty takes typed h.2.2)))
+          expr_runs (select e x) ty p q stack t h =
+              let parts = of_select types c e x ty t in
+              let end = h.2.0 in
+              let place : field_place types parts.0 x ≡ Some h.0 = sym (place_is types c s e x parts.0 own_types own_context parts.2) ∙ h.1 in
+              let both : Some parts.1 ≡ Some h.0 = sym parts.3 ∙ place in
+              let same : parts.1 ≡ h.0 = cc in
+              let takes = subst (λ j. op_type types (Field j) (parts.0 ∷ []) ≡ Some ty) same parts.4 in
+              subst (λ k. Reaches (on p stack slots) k stack slots (then_value (val types e env) (selected types x))) (sym h.2.3)
+              (then_reaches types (on p stack slots) end (end + 1) parts.0 stack stack slots (val types e env) (selected types x) (answers_typed e parts.0 parts.2) (expr_runs e parts.0 p end stack parts.2 h.2.1)
+              (λ v typed. subst (Reaches (on end (stack ++ v ∷ []) slots) (end + 1) stack slots) (sym (selected_is types x v parts.0 h.0 (own_type types v parts.0 typed) place)) (apply_reaches end stack (v ∷ []) slots (Field h.0) (parts.0 ∷ []) ty takes (typed, tt) h.2.2)))
+
+          -- the machine pushes the values of expressions one after another, above what is under them
+          exprs_run : (es : Exprs) (tys : List ℕ) (p m q : ℕ) (under stack : List Val) (go : List Val → Answer) → types_of_all types types c es ≡ Some tys → HasExprs code s es p m → ((vs : List Val) → HaveTypes types vs tys → Reaches (on m (under ++ vs) slots) q stack slots (go vs)) → Reaches (on p under slots) q stack slots (then_all types es env go)
+          exprs_run no_expr tys p m q under stack go t h k =
+              let is : [] ≡ tys = cc in
+              subst (λ l. Reaches (on p l slots) q stack slots (go [])) (append-nil under)
+              (subst (λ n. Reaches (on n (under ++ []) slots) q stack slots (go [])) h (k [] (subst (HaveTypes types []) is tt)))
+          exprs_run (also e es) tys p m q under stack go t h k =
+              let parts = types_of_row (type_of types types c e) (types_of_all types types c es) tys t in
+              let more : Val → Answer = λ v. then_all types es env (λ vs. go (v ∷ vs)) in
+              then_reaches types (on p under slots) h.0 q parts.0 under stack slots (val types e env) more (answers_typed e parts.0 parts.2) (expr_runs e parts.0 p h.0 under parts.2 h.1)
+              (λ v first. exprs_run es parts.1 h.0 m q (under ++ v ∷ []) stack (λ vs. go (v ∷ vs)) parts.3 h.2
+              (λ vs rest. subst (λ l. Reaches (on m l slots) q stack slots (go (v ∷ vs))) (sym (append_assoc under (v ∷ []) vs)) (k (v ∷ vs) (subst (HaveTypes types (v ∷ vs)) parts.4 (first, rest)))))
+
+    -- ---- statements, where the code is typed
+
+    -- what is known of a scope's typed code: the types of its names, and that its values have them
+    pub record Knows (types : Table) (c v : Context) (vs fs ps : List ℕ) : Type 0 where
+      pub same_types : code.types ≡ types
+      pub own_types : s.types ≡ types
+      pub context : s.context ≡ c
+      pub declared : AreTypes types
+      pub variables : length s.variables ≡ length vs
+      pub formals : length s.formals ≡ length s.arguments
+      pub parameters : length s.parameters ≡ length args
+      pub given : HaveTypes types s.arguments fs
+      pub values : HaveTypes types args ps
+      pub names : (x : Name) → type_in c x ≡ stands s vs fs ps x
+      pub found : (x : Name) (ty i : ℕ) → type_in v x ≡ Some ty → place_from 0 s.variables x ≡ Some i → slice_get vs i ≡ Some ty
+
+    module _ (types : Table) (c v : Context) (vs fs ps : List ℕ) (known : Knows types c v vs fs ps) where
+      -- each name stands for its value, and the variables have their types
+      pub record Holds (env : Env) (slots : List Val) : Type 0 where
+        pub agrees : (x : Name) → env x ≡ stands s slots s.arguments args x
+        pub typed : HaveTypes types slots vs
+
+      slots_long : (env : Env) (slots : List Val) → Holds env slots → length s.variables ≡ length slots
+      slots_long env slots h = known.variables ∙ sym (HaveTypes-length types slots vs h.typed)
+
+      pub agree : (env : Env) (slots : List Val) → Holds env slots → Agrees types env slots
+      agree env slots h x =
+          ap (λ o. or_else o (constant types x)) (h.agrees x)
+          ∙ ap (or_else (stands s slots s.arguments args x)) (itself (constant types x) ∙ ap (λ t. option_map (λ v. v) (constant t x)) (sym known.own_types))
+          ∙ stands_at (λ v. v) s slots s.arguments args x (slots_long env slots h) known.formals known.parameters
+        where
+          itself : (o : Option Val) → o ≡ option_map (λ v. v) o
+          itself (Some v) = refl
+          itself None = refl
+
+      pub suits : (env : Env) (slots : List Val) → Holds env slots → Suits types c env
+      suits env slots h = record {
+        stands = λ x ty t. subst (λ o. Paired types o (env x)) t (both x);
+        others = λ x t. subst (λ o. Paired types o (env x)) t (both x);
+      }
+        where
+          both : (x : Name) → Paired types (type_in c x) (env x)
+          both x =
+              subst (λ o. Paired types o (env x)) (sym (known.names x))
+              (subst (Paired types (stands s vs fs ps x)) (sym (h.agrees x)) (stands-paired types s slots s.arguments args vs fs ps x h.typed known.given known.values))
+
+      -- the machine comes to q with the new variables, or ends by the fault
+      abbrev pub RunsTo : State → ℕ → Outcome → Type 0
+      RunsTo x q (becomes env) = (slots : List Val) × Holds env slots × Comes x (on q [] slots)
+      RunsTo x q (breaks f) = Breaks x f
+      RunsTo x q nowhere = ⊥
+
+      after_runs : (x y : State) (q : ℕ) (o : Outcome) → Comes x y → RunsTo y q o → RunsTo x q o
+      after_runs x y q (becomes env) k r = (r.0, r.1, comes_on x y _ k r.2)
+      after_runs x y q (breaks f) k r = breaks_after x y f k r
+      after_runs x y q nowhere k r = absurd r
+
+      then_runs : (x : State) (m q : ℕ) (o : Outcome) (go : Env → Outcome) → RunsTo x m o → ((env : Env) (slots : List Val) → Holds env slots → RunsTo (on m [] slots) q (go env)) → RunsTo x q (then_do o go)
+      then_runs x m q (becomes env) go r k = after_runs x _ q (go env) r.2 (k env r.0 r.1)
+      then_runs x m q (breaks f) go r k = r
+      then_runs x m q nowhere go r k = absurd r
+
+      store_comes : (m i : ℕ) (slots : List Val) (w was : Val) → At code m (Store i) → slice_get slots i ≡ Some was → (own was == own w) ≡ true → Comes (on m (w ∷ []) slots) (on (m + 1) [] (slice_set slots i w))
+      store_comes m i slots w was h here-is alike =
+          let here = on m (w ∷ []) slots in
+          step _ _ (omega arith) (moves m (w ∷ []) slots (Store i) _ h
+          (on_top-append 1 [] (w ∷ []) stuck (λ below top. stored i here below top) refl
+          ∙ ap (replaced i here [] w) here-is
+          ∙ ap (λ b. cond b (next here [] (slice_set slots i w)) stuck) alike))
+
+      holds_set : (env : Env) (slots : List Val) (x : Name) (i ty : ℕ) (w : Val) → Holds env slots → place_from 0 s.variables x ≡ Some i → slice_get vs i ≡ Some ty → HasType types w ty → Holds (with_name env x w) (slice_set slots i w)
+      holds_set env slots x i ty w h place t k =
+          let long = slots_long env slots h in
+          let n : i ≡ 0 + i = omega arith in
+          record {
+            agrees = λ y.
+                go y (bytes_eq x y)
+                ∙ sym (ap (λ o. or_else o (or_else (look s.formals s.arguments y) (passed s.parameters args y))) (look_set 0 s.variables slots x y i w long (place ∙ ap Some n)));
+            typed = HaveTypes-set types slots vs i ty w h.typed t k;
+          }
+        where
+          go : (y : Name) (b : Bool) → cond b (Some w) (env y) ≡ or_else (cond b (Some w) (look s.variables slots y)) (or_else (look s.formals s.arguments y) (passed s.parameters args y))
+          go y true = refl
+          go y false = h.agrees y
+
+      assigns : (m i ty : ℕ) (slots : List Val) (x : Name) (env : Env) (start : State) (a : Answer) (old : Option Val) (was : Val) → Holds env slots → At code m (Store i) → place_from 0 s.variables x ≡ Some i → slice_get vs i ≡ Some ty → slice_get slots i ≡ Some was → HasType types was ty → old ≡ Some was → IsTypedAnswer types ty a → Reaches start m [] slots a → RunsTo start (m + 1) (assigned x env a old)
+      assigns m i ty slots x env start (gives w) None was h k place t now kept e typed r = absurd (cc)
+      assigns m i ty slots x env start (gives w) (Some old) was h k place t now kept e typed r =
+          (slice_set slots i w, holds_set env slots x i ty w h place t typed, comes_on start (on m (w ∷ []) slots) _ r (store_comes m i slots w was k now (alike_own types was w ty kept typed)))
+      assigns m i ty slots x env start (faults f) old was h k place t now kept e typed r = r
+      assigns m i ty slots x env start nothing old was h k place t now kept e typed r = absurd typed
+
+      assign_runs : (x : Name) (e : Expr) (p q : ℕ) (env : Env) (slots : List Val) → Holds env slots → StmtTyped types c v (assign x e) → HasStmt code s (assign x e) p q → RunsTo (on p [] slots) q (does types (assign x e) env)
+      assign_runs x e p q env slots h t k =
+          let ty = t.0 in
+          let m = k.0 in
+          let i = k.1 in
+          let slot_ty = known.found x ty i t.1 k.4 in
+          let now = HaveTypes-get types slots vs i ty h.typed slot_ty in
+          let old : env x ≡ Some now.0 = h.agrees x ∙ ap (λ o. or_else o (or_else (look s.formals s.arguments x) (passed s.parameters args x))) (look_at s.variables slots x i now.0 (slots_long env slots h) k.4 now.1) in
+          let typed = val_typed types known.declared c env e ty (suits env slots h) t.2 in
+          let run = expr_runs types known.same_types known.own_types known.declared c known.context env (suits env slots h) slots (agree env slots h) e ty p m [] t.2 k.2 in
+          subst (λ n. RunsTo (on p [] slots) n (assigned x env (val types e env) (env x))) (sym k.5)
+          (assigns m i ty slots x env (on p [] slots) (val types e env) (env x) now.0 h k.3 k.4 slot_ty now.1 now.2 old typed run)
+
+      runs_jump : (x : State) (n q : ℕ) (o : Outcome) → At code n (Jump q) → n < q → RunsTo x n o → RunsTo x q o
+      runs_jump x n q (becomes env) h lt r = (r.0, r.1, comes_on x _ _ r.2 (jump_comes n q [] r.0 h lt))
+      runs_jump x n q (breaks f) h lt r = r
+      runs_jump x n q nowhere h lt r = absurd r
+
+      -- a choice between two outcomes
+      module _ (This Other : Stretch) (x : State) (p q : ℕ) (slots : List Val) (this other : Outcome) (first : (m n : ℕ) → This m n → RunsTo (on m [] slots) n this) (second : (m n : ℕ) → Other m n → RunsTo (on m [] slots) n other) (this_on : (m n : ℕ) → This m n → m ≤ n) (other_on : (m n : ℕ) → Other m n → m ≤ n) (h : Chooses code This Other p q) where
+        by_truth : (b : Bool) → RunsTo (on p (plain.truth b ∷ []) slots) q (chosen (gives (plain.truth b)) this other)
+        by_truth true =
+            let on_to = other_on (h.0 + 1) q h.4 in
+            runs_jump _ h.0 q this h.3 (omega arith)
+            (after_runs _ (on (p + 1) [] slots) h.0 this (true_comes p (h.0 + 1) [] slots h.1) (first (p + 1) h.0 h.2))
+        by_truth false =
+            let on_to = this_on (p + 1) h.0 h.2 in
+            after_runs _ (on (h.0 + 1) [] slots) q other (false_comes p (h.0 + 1) [] slots h.1 (omega arith)) (second (h.0 + 1) q h.4)
+
+        chosen_runs : (a : Answer) → IsTypedAnswer types 0 a → Reaches x p [] slots a → RunsTo x q (chosen a this other)
+        chosen_runs (gives w) typed r =
+            let b = is_truth types known.declared w typed in
+            after_runs x (on p (w ∷ []) slots) q (chosen (gives w) this other) r
+            (subst (λ z. RunsTo (on p (z ∷ []) slots) q (chosen (gives z) this other)) (sym b.1) (by_truth b.0))
+        chosen_runs (faults f) typed r = r
+        chosen_runs nothing typed r = absurd typed
+
+      stmts_on : (us : Stmts) (m n : ℕ) → HasStmts code s us m n → m ≤ n
+      stmts_on us m n k = omega (arith, stmts_long code s us m n k)
 
       mutual
-        pub expr_runs : (e : Expr) (ty p q : ℕ) (stack : List Val) → type_of types types c e ≡ Some ty → HasExpr code s e p q → Reaches (on p stack slots) q stack slots (val types e env)
-        expr_runs (number n) ty p q stack t h =
-            subst (λ k. Comes (on p stack slots) (on k (stack ++ plain.num (pos n) ∷ []) slots)) (sym h.1) (push_comes p stack slots (plain.num (pos n)) h.0)
-        expr_runs (truth b) ty p q stack t h = truth_reaches b stack slots p q h
-        expr_runs (named x) ty p q stack t h =
-            subst (λ k. Reaches (on p stack slots) k stack slots (value_of (or_else (env x) (constant types x)))) (sym h.1) (brings_reaches p stack slots (or_else (env x) (constant types x)) (origin s x) (agrees x) h.0)
-        expr_runs (parens e) ty p q stack t h = expr_runs e ty p q stack t h
-        expr_runs (prefix o e) ty p q stack t h =
-            let operand = type_of_one (type_of types types c e) (op_type types o) ty t in
-            let go : Val → Answer = λ x. operate types o (x ∷ []) in
-            subst (λ k. Reaches (on p stack slots) k stack slots (then_value (val types e env) go)) (sym h.3)
-            (then_reaches types (on p stack slots) h.0 (h.0 + 1) operand.0 stack stack slots (val types e env) go (answers_typed e operand.0 operand.1) (expr_runs e operand.0 p h.0 stack operand.1 h.1)
-            (λ x k. apply_reaches h.0 stack (x ∷ []) slots o (operand.0 ∷ []) ty operand.2 (k, tt) h.2))
-        expr_runs (binary l o r) ty p q stack t h =
-            let both = types_of_both (type_of types types c l) (type_of types types c r) (infix_type types o) ty t in
-            let go : Val → Answer = λ x. combined types o x (val types r env) in
-            then_reaches types (on p stack slots) h.0 q both.0 stack stack slots (val types l env) go (answers_typed l both.0 both.2) (expr_runs l both.0 p h.0 stack both.2 h.1)
-            (λ x typed. combines_reaches (HasExpr code s r) h.0 q stack slots x (val types r env) both.0 both.1 ty typed (answers_typed r both.1 both.3) (λ m n under k. expr_runs r both.1 m n under both.3 k) (expr_on r) o both.4 h.2)
-        expr_runs (empty x) ty p q stack t h =
-            let there : empty_of types x ≡ Some h.0 = ap (λ l. empty_of l x) (sym own_types) ∙ h.1 in
-            subst (λ o. Reaches (on p stack slots) q stack slots (value_of o)) (sym there)
-            (subst (λ k. Comes (on p stack slots) (on k (stack ++ h.0 ∷ []) slots)) (sym h.3) (push_comes p stack slots h.0 h.2))
-        expr_runs (make x es) ty p q stack t h =
-            let parts = of_make types c x es ty t in
-            let end = h.2.0 in
-            let named : type_named types x ≡ Some h.0 = ap (λ l. type_named l x) (sym own_types) ∙ h.1 in
-            let both : Some parts.0 ≡ Some h.0 = sym parts.2 ∙ named in
-            let same : parts.0 ≡ h.0 = cc in
-            let takes = subst (λ n. op_type types (Make (record { 0 = n })) parts.1 ≡ Some ty) same parts.4 in
-            subst (λ k. Reaches (on p stack slots) k stack slots (then_all types es env (made types x))) (sym h.2.3)
-            (exprs_run es parts.1 p end (end + 1) stack stack (made types x) parts.3 h.2.1
-            (λ vs typed. subst (Reaches (on end (stack ++ vs) slots) (end + 1) stack slots) (sym (made_is types x h.0 vs named)) (apply_reaches end stack vs slots (Make (record { 0 = h.0 })) parts.1 ty takes typed h.2.2)))
-        expr_runs (select e x) ty p q stack t h =
-            let parts = of_select types c e x ty t in
-            let end = h.2.0 in
-            let place : field_place types parts.0 x ≡ Some h.0 = sym (place_is types c s e x parts.0 own_types own_context parts.2) ∙ h.1 in
-            let both : Some parts.1 ≡ Some h.0 = sym parts.3 ∙ place in
-            let same : parts.1 ≡ h.0 = cc in
-            let takes = subst (λ j. op_type types (Field j) (parts.0 ∷ []) ≡ Some ty) same parts.4 in
-            subst (λ k. Reaches (on p stack slots) k stack slots (then_value (val types e env) (selected types x))) (sym h.2.3)
-            (then_reaches types (on p stack slots) end (end + 1) parts.0 stack stack slots (val types e env) (selected types x) (answers_typed e parts.0 parts.2) (expr_runs e parts.0 p end stack parts.2 h.2.1)
-            (λ v typed. subst (Reaches (on end (stack ++ v ∷ []) slots) (end + 1) stack slots) (sym (selected_is types x v parts.0 h.0 (own_type types v parts.0 typed) place)) (apply_reaches end stack (v ∷ []) slots (Field h.0) (parts.0 ∷ []) ty takes (typed, tt) h.2.2)))
+        stmt_runs : (u : Stmt) (p q : ℕ) (env : Env) (slots : List Val) → Holds env slots → StmtTyped types c v u → HasStmt code s u p q → RunsTo (on p [] slots) q (does types u env)
+        stmt_runs (assign x e) p q env slots h t k = assign_runs x e p q env slots h t k
+        stmt_runs (choose arms others) p q env slots h t k =
+            arms_run arms others p q env slots h t.0 (λ m n l. stmts_run others m n env slots h t.1 l) k
 
-        -- the machine pushes the values of expressions one after another, above what is under them
-        exprs_run : (es : Exprs) (tys : List ℕ) (p m q : ℕ) (under stack : List Val) (go : List Val → Answer) → types_of_all types types c es ≡ Some tys → HasExprs code s es p m → ((vs : List Val) → HaveTypes types vs tys → Reaches (on m (under ++ vs) slots) q stack slots (go vs)) → Reaches (on p under slots) q stack slots (then_all types es env go)
-        exprs_run no_expr tys p m q under stack go t h k =
-            let is : [] ≡ tys = cc in
-            subst (λ l. Reaches (on p l slots) q stack slots (go [])) (append-nil under)
-            (subst (λ n. Reaches (on n (under ++ []) slots) q stack slots (go [])) h (k [] (subst (HaveTypes types []) is tt)))
-        exprs_run (also e es) tys p m q under stack go t h k =
-            let parts = types_of_row (type_of types types c e) (types_of_all types types c es) tys t in
-            let more : Val → Answer = λ v. then_all types es env (λ vs. go (v ∷ vs)) in
-            then_reaches types (on p under slots) h.0 q parts.0 under stack slots (val types e env) more (answers_typed e parts.0 parts.2) (expr_runs e parts.0 p h.0 under parts.2 h.1)
-            (λ v first. exprs_run es parts.1 h.0 m q (under ++ v ∷ []) stack (λ vs. go (v ∷ vs)) parts.3 h.2
-            (λ vs rest. subst (λ l. Reaches (on m l slots) q stack slots (go (v ∷ vs))) (sym (append_assoc under (v ∷ []) vs)) (k (v ∷ vs) (subst (HaveTypes types (v ∷ vs)) parts.4 (first, rest)))))
+        pub stmts_run : (us : Stmts) (p q : ℕ) (env : Env) (slots : List Val) → Holds env slots → StmtsTyped types c v us → HasStmts code s us p q → RunsTo (on p [] slots) q (eff types us env)
+        stmts_run stop p q env slots h t k =
+            (slots, h, subst (λ n. Comes (on p [] slots) (on n [] slots)) (sym k) (stays (on p [] slots)))
+        stmts_run (seq u us) p q env slots h t k =
+            then_runs (on p [] slots) k.0 q (does types u env) (eff types us) (stmt_runs u p k.0 env slots h t.0 k.1) (λ env2 slots2 h2. stmts_run us k.0 q env2 slots2 h2 t.1 k.2)
 
-  -- ---- statements, where the code is typed
-
-  -- what is known of a scope's typed code: the types of its names, and that its values have them
-  pub record Knows (types : Table) (c v : Context) (vs fs ps : List ℕ) : Type 0 where
-    pub same_types : code.types ≡ types
-    pub own_types : s.types ≡ types
-    pub context : s.context ≡ c
-    pub declared : AreTypes types
-    pub variables : length s.variables ≡ length vs
-    pub formals : length s.formals ≡ length s.arguments
-    pub parameters : length s.parameters ≡ length args
-    pub given : HaveTypes types s.arguments fs
-    pub values : HaveTypes types args ps
-    pub names : (x : Name) → type_in c x ≡ stands s vs fs ps x
-    pub found : (x : Name) (ty i : ℕ) → type_in v x ≡ Some ty → place_from 0 s.variables x ≡ Some i → slice_get vs i ≡ Some ty
-
-  module _ (types : Table) (c v : Context) (vs fs ps : List ℕ) (known : Knows types c v vs fs ps) where
-    -- each name stands for its value, and the variables have their types
-    pub record Holds (env : Env) (slots : List Val) : Type 0 where
-      pub agrees : (x : Name) → env x ≡ stands s slots s.arguments args x
-      pub typed : HaveTypes types slots vs
-
-    slots_long : (env : Env) (slots : List Val) → Holds env slots → length s.variables ≡ length slots
-    slots_long env slots h = known.variables ∙ sym (HaveTypes-length types slots vs h.typed)
-
-    pub agree : (env : Env) (slots : List Val) → Holds env slots → Agrees types env slots
-    agree env slots h x =
-        ap (λ o. or_else o (constant types x)) (h.agrees x)
-        ∙ ap (or_else (stands s slots s.arguments args x)) (itself (constant types x) ∙ ap (λ t. option_map (λ v. v) (constant t x)) (sym known.own_types))
-        ∙ stands_at (λ v. v) s slots s.arguments args x (slots_long env slots h) known.formals known.parameters
-      where
-        itself : (o : Option Val) → o ≡ option_map (λ v. v) o
-        itself (Some v) = refl
-        itself None = refl
-
-    pub suits : (env : Env) (slots : List Val) → Holds env slots → Suits types c env
-    suits env slots h = record {
-      stands = λ x ty t. subst (λ o. Paired types o (env x)) t (both x);
-      others = λ x t. subst (λ o. Paired types o (env x)) t (both x);
-    }
-      where
-        both : (x : Name) → Paired types (type_in c x) (env x)
-        both x =
-            subst (λ o. Paired types o (env x)) (sym (known.names x))
-            (subst (Paired types (stands s vs fs ps x)) (sym (h.agrees x)) (stands-paired types s slots s.arguments args vs fs ps x h.typed known.given known.values))
-
-    -- the machine comes to q with the new variables, or ends by the fault
-    abbrev pub RunsTo : State → ℕ → Outcome → Type 0
-    RunsTo x q (becomes env) = (slots : List Val) × Holds env slots × Comes x (on q [] slots)
-    RunsTo x q (breaks f) = Breaks x f
-    RunsTo x q nowhere = ⊥
-
-    after_runs : (x y : State) (q : ℕ) (o : Outcome) → Comes x y → RunsTo y q o → RunsTo x q o
-    after_runs x y q (becomes env) k r = (r.0, r.1, comes_on x y _ k r.2)
-    after_runs x y q (breaks f) k r = breaks_after x y f k r
-    after_runs x y q nowhere k r = absurd r
-
-    then_runs : (x : State) (m q : ℕ) (o : Outcome) (go : Env → Outcome) → RunsTo x m o → ((env : Env) (slots : List Val) → Holds env slots → RunsTo (on m [] slots) q (go env)) → RunsTo x q (then_do o go)
-    then_runs x m q (becomes env) go r k = after_runs x _ q (go env) r.2 (k env r.0 r.1)
-    then_runs x m q (breaks f) go r k = r
-    then_runs x m q nowhere go r k = absurd r
-
-    store_comes : (m i : ℕ) (slots : List Val) (w was : Val) → At code m (Store i) → slice_get slots i ≡ Some was → (own was == own w) ≡ true → Comes (on m (w ∷ []) slots) (on (m + 1) [] (slice_set slots i w))
-    store_comes m i slots w was h here-is alike =
-        let here = on m (w ∷ []) slots in
-        step _ _ (omega arith) (moves m (w ∷ []) slots (Store i) _ h
-        (on_top-append 1 [] (w ∷ []) stuck (λ below top. stored i here below top) refl
-        ∙ ap (replaced i here [] w) here-is
-        ∙ ap (λ b. cond b (next here [] (slice_set slots i w)) stuck) alike))
-
-    holds_set : (env : Env) (slots : List Val) (x : Name) (i ty : ℕ) (w : Val) → Holds env slots → place_from 0 s.variables x ≡ Some i → slice_get vs i ≡ Some ty → HasType types w ty → Holds (with_name env x w) (slice_set slots i w)
-    holds_set env slots x i ty w h place t k =
-        let long = slots_long env slots h in
-        let n : i ≡ 0 + i = omega arith in
-        record {
-          agrees = λ y.
-              go y (bytes_eq x y)
-              ∙ sym (ap (λ o. or_else o (or_else (look s.formals s.arguments y) (passed s.parameters args y))) (look_set 0 s.variables slots x y i w long (place ∙ ap Some n)));
-          typed = HaveTypes-set types slots vs i ty w h.typed t k;
-        }
-      where
-        go : (y : Name) (b : Bool) → cond b (Some w) (env y) ≡ or_else (cond b (Some w) (look s.variables slots y)) (or_else (look s.formals s.arguments y) (passed s.parameters args y))
-        go y true = refl
-        go y false = h.agrees y
-
-    assigns : (m i ty : ℕ) (slots : List Val) (x : Name) (env : Env) (start : State) (a : Answer) (old : Option Val) (was : Val) → Holds env slots → At code m (Store i) → place_from 0 s.variables x ≡ Some i → slice_get vs i ≡ Some ty → slice_get slots i ≡ Some was → HasType types was ty → old ≡ Some was → IsTypedAnswer types ty a → Reaches start m [] slots a → RunsTo start (m + 1) (assigned x env a old)
-    assigns m i ty slots x env start (gives w) None was h k place t now kept e typed r = absurd (cc)
-    assigns m i ty slots x env start (gives w) (Some old) was h k place t now kept e typed r =
-        (slice_set slots i w, holds_set env slots x i ty w h place t typed, comes_on start (on m (w ∷ []) slots) _ r (store_comes m i slots w was k now (alike_own types was w ty kept typed)))
-    assigns m i ty slots x env start (faults f) old was h k place t now kept e typed r = r
-    assigns m i ty slots x env start nothing old was h k place t now kept e typed r = absurd typed
-
-    assign_runs : (x : Name) (e : Expr) (p q : ℕ) (env : Env) (slots : List Val) → Holds env slots → StmtTyped types c v (assign x e) → HasStmt code s (assign x e) p q → RunsTo (on p [] slots) q (does types (assign x e) env)
-    assign_runs x e p q env slots h t k =
-        let ty = t.0 in
-        let m = k.0 in
-        let i = k.1 in
-        let slot_ty = known.found x ty i t.1 k.4 in
-        let now = HaveTypes-get types slots vs i ty h.typed slot_ty in
-        let old : env x ≡ Some now.0 = h.agrees x ∙ ap (λ o. or_else o (or_else (look s.formals s.arguments x) (passed s.parameters args x))) (look_at s.variables slots x i now.0 (slots_long env slots h) k.4 now.1) in
-        let typed = val_typed types known.declared c env e ty (suits env slots h) t.2 in
-        let run = expr_runs types known.same_types known.own_types known.declared c known.context env (suits env slots h) slots (agree env slots h) e ty p m [] t.2 k.2 in
-        subst (λ n. RunsTo (on p [] slots) n (assigned x env (val types e env) (env x))) (sym k.5)
-        (assigns m i ty slots x env (on p [] slots) (val types e env) (env x) now.0 h k.3 k.4 slot_ty now.1 now.2 old typed run)
-
-    runs_jump : (x : State) (n q : ℕ) (o : Outcome) → At code n (Jump q) → n < q → RunsTo x n o → RunsTo x q o
-    runs_jump x n q (becomes env) h lt r = (r.0, r.1, comes_on x _ _ r.2 (jump_comes n q [] r.0 h lt))
-    runs_jump x n q (breaks f) h lt r = r
-    runs_jump x n q nowhere h lt r = absurd r
-
-    -- a choice between two outcomes
-    module _ (This Other : Stretch) (x : State) (p q : ℕ) (slots : List Val) (this other : Outcome) (first : (m n : ℕ) → This m n → RunsTo (on m [] slots) n this) (second : (m n : ℕ) → Other m n → RunsTo (on m [] slots) n other) (this_on : (m n : ℕ) → This m n → m ≤ n) (other_on : (m n : ℕ) → Other m n → m ≤ n) (h : Chooses code This Other p q) where
-      by_truth : (b : Bool) → RunsTo (on p (plain.truth b ∷ []) slots) q (chosen (gives (plain.truth b)) this other)
-      by_truth true =
-          let on_to = other_on (h.0 + 1) q h.4 in
-          runs_jump _ h.0 q this h.3 (omega arith)
-          (after_runs _ (on (p + 1) [] slots) h.0 this (true_comes p (h.0 + 1) [] slots h.1) (first (p + 1) h.0 h.2))
-      by_truth false =
-          let on_to = this_on (p + 1) h.0 h.2 in
-          after_runs _ (on (h.0 + 1) [] slots) q other (false_comes p (h.0 + 1) [] slots h.1 (omega arith)) (second (h.0 + 1) q h.4)
-
-      chosen_runs : (a : Answer) → IsTypedAnswer types 0 a → Reaches x p [] slots a → RunsTo x q (chosen a this other)
-      chosen_runs (gives w) typed r =
-          let b = is_truth types known.declared w typed in
-          after_runs x (on p (w ∷ []) slots) q (chosen (gives w) this other) r
-          (subst (λ z. RunsTo (on p (z ∷ []) slots) q (chosen (gives z) this other)) (sym b.1) (by_truth b.0))
-      chosen_runs (faults f) typed r = r
-      chosen_runs nothing typed r = absurd typed
-
-    stmts_on : (us : Stmts) (m n : ℕ) → HasStmts code s us m n → m ≤ n
-    stmts_on us m n k = omega (arith, stmts_long code s us m n k)
-
-    mutual
-      stmt_runs : (u : Stmt) (p q : ℕ) (env : Env) (slots : List Val) → Holds env slots → StmtTyped types c v u → HasStmt code s u p q → RunsTo (on p [] slots) q (does types u env)
-      stmt_runs (assign x e) p q env slots h t k = assign_runs x e p q env slots h t k
-      stmt_runs (choose arms others) p q env slots h t k =
-          arms_run arms others p q env slots h t.0 (λ m n l. stmts_run others m n env slots h t.1 l) k
-
-      pub stmts_run : (us : Stmts) (p q : ℕ) (env : Env) (slots : List Val) → Holds env slots → StmtsTyped types c v us → HasStmts code s us p q → RunsTo (on p [] slots) q (eff types us env)
-      stmts_run stop p q env slots h t k =
-          (slots, h, subst (λ n. Comes (on p [] slots) (on n [] slots)) (sym k) (stays (on p [] slots)))
-      stmts_run (seq u us) p q env slots h t k =
-          then_runs (on p [] slots) k.0 q (does types u env) (eff types us) (stmt_runs u p k.0 env slots h t.0 k.1) (λ env2 slots2 h2. stmts_run us k.0 q env2 slots2 h2 t.1 k.2)
-
-      arms_run : (arms : Arms) (others : Stmts) (p q : ℕ) (env : Env) (slots : List Val) → Holds env slots → ArmsTyped types c v arms → ((m n : ℕ) → HasStmts code s others m n → RunsTo (on m [] slots) n (eff types others env)) → HasArms code s arms (HasStmts code s others) p q → RunsTo (on p [] slots) q (picks types arms env (eff types others env))
-      arms_run no_arm others p q env slots h t f k = f p q k
-      arms_run (arm e us more) others p q env slots h t f k =
-          chosen_runs (HasStmts code s us) (HasArms code s more (HasStmts code s others)) (on p [] slots) k.0 q slots (eff types us env) (picks types more env (eff types others env))
-          (λ m n l. stmts_run us m n env slots h t.1 l)
-          (λ m n l. arms_run more others m n env slots h t.2 f l)
-          (stmts_on us)
-          (λ m n l. omega (arith, arms_long code s more others (stmts_long code s others) m n l))
-          k.2
-          (val types e env)
-          (val_typed types known.declared c env e 0 (suits env slots h) t.0)
-          (expr_runs types known.same_types known.own_types known.declared c known.context env (suits env slots h) slots (agree env slots h) e 0 p k.0 [] t.0 k.1)
+        arms_run : (arms : Arms) (others : Stmts) (p q : ℕ) (env : Env) (slots : List Val) → Holds env slots → ArmsTyped types c v arms → ((m n : ℕ) → HasStmts code s others m n → RunsTo (on m [] slots) n (eff types others env)) → HasArms code s arms (HasStmts code s others) p q → RunsTo (on p [] slots) q (picks types arms env (eff types others env))
+        arms_run no_arm others p q env slots h t f k = f p q k
+        arms_run (arm e us more) others p q env slots h t f k =
+            chosen_runs (HasStmts code s us) (HasArms code s more (HasStmts code s others)) (on p [] slots) k.0 q slots (eff types us env) (picks types more env (eff types others env))
+            (λ m n l. stmts_run us m n env slots h t.1 l)
+            (λ m n l. arms_run more others m n env slots h t.2 f l)
+            (stmts_on us)
+            (λ m n l. omega (arith, arms_long code s more others (stmts_long code s others) m n l))
+            k.2
+            (val types e env)
+            (val_typed types known.declared c env e 0 (suits env slots h) t.0)
+            (expr_runs types known.same_types known.own_types known.declared c known.context env (suits env slots h) slots (agree env slots h) e 0 p k.0 [] t.0 k.1)

@@ -14,12 +14,12 @@ use Rattle.ioa_value.specs.Positions.{IsDomain}
 use Rattle.ioa_value.specs.Typing.{HaveTypes}
 use Rattle.ioa_value.specs.declared.limits.TheConstants.{LIMITS}
 use Rattle.ioa_code.specs.declared.instr.PartKind.{PartKind}
-use Rattle.ioa_code.specs.declared.instr.PartKind.TheVariants.{Pre, Eff}
+use Rattle.ioa_code.specs.declared.instr.PartKind.TheVariants.{Pre, Propose, Eff}
 use Rattle.ioa_code.specs.Machine.{Listing}
 use Rattle.ioa_code.specs.Valid.{Part}
 use Rattle.ioa_tree.specs.declared.tree.Kind.{Kind}
 use Rattle.ioa_tree.specs.declared.tree.Kind.TheVariants.{Input, Output, Internal}
-use Rattle.ioa_tree.specs.Tree.{Expr, EntryTree}
+use Rattle.ioa_tree.specs.Tree.{Expr, EntryTree, PositionTree, ProposalTree}
 use Rattle.ioa_tree.specs.Instances.{positions_have, entry_has, component_of}
 use Rattle.ioa_tree.specs.Components.{Component, Compatible, is_output}
 use Rattle.ioa_tree.specs.Compositions.{Member, Composed, has_output, instances_of, is_output_of}
@@ -27,12 +27,12 @@ use Rattle.ioa_tree.specs.WellFormed.{distinct, variable_fields}
 use Rattle.ioa_compose.specs.Fine.{IsFine, AreOver, IsSound, component_limits}
 use Rattle.ioa_compile.specs.Programs.{EntryCode, MemberCode, Prog}
 use Rattle.ioa_compile.specs.Tables as programs
-use Rattle.ioa_compile.specs.Tables.{is_in, table_component, position_types, HasPre, IsPartOf, IsEntry, AreEntries, IsMember, AreMembers, IsProgram}
-use Rattle.ioa_compile.specs.Scopes.{Scope, scope_of}
+use Rattle.ioa_compile.specs.Tables.{is_in, table_component, position_types, parameter_types, HasLocal, IsPart, IsPartOf, IsEntry, AreEntries, IsMember, AreMembers, IsProgram}
+use Rattle.ioa_compile.specs.Scopes.{Scope, scope_of, scope_of_proposals}
 use Rattle.ioa_compile.specs.Matching.{AreTypesOf, MatchesEntry}
-use Rattle.ioa_compile.specs.Emitting.{guard_nodes}
-use Rattle.ioa_compile.specs.Translated.{IsGuard, IsGuardFor, IsFor, codes_of, IsTranslated, IsEntryOf, DoesSame}
-use Rattle.ioa_compile.proofs.Fine.{small_of, few_positions_of, domains_of}
+use Rattle.ioa_compile.specs.Emitting.{guard_nodes, proposals_nodes}
+use Rattle.ioa_compile.specs.Translated.{IsGuard, IsProposing, IsFor, codes_of, IsTranslated, IsEntryOf, DoesSame}
+use Rattle.ioa_compile.proofs.Fine.{small_of, few_positions_of, domains_of, entry_of}
 use Rattle.ioa_tree.proofs.Domains.{domains_have}
 use Rattle.ioa_tree.proofs.FineParts.{fine_parts, within_parts}
 use Rattle.ioa_compose.proofs.QuestionLemmas.{all_found}
@@ -40,7 +40,7 @@ use Rattle.ioa_compose.proofs.SignatureLemmas.{zip-to}
 use Rattle.ioa_compile.proofs.Fits.{types_long, variables_names}
 use Rattle.ioa_compile.proofs.Paired.{paired_map, paired_any, any_seen, all_same}
 use Rattle.ioa_compile.proofs.Parameters.{domains_long}
-use Rattle.ioa_compile.proofs.Sizes.{guard_short, stmts_short}
+use Rattle.ioa_compile.proofs.Sizes.{guard_short, stmts_short, proposals_short, proposals_few}
 
 module _ (m : Member) (slots : List ℕ) (a : Act) where
   in_same : (types : Table) → types ≡ m.instance.types → (e : EntryTree) (c : EntryCode) → IsTranslated m slots e c → entry_has m.instance a e ≡ is_in types a c
@@ -84,27 +84,31 @@ module _ (m : Member) (slots : List ℕ) (a : Act) where
 
 -- the table's parts are for the component's variables, and short, since the trees are small
 module _ (m : Member) (c : MemberCode) (fine : IsFine component_limits m) (same_types : c.start.table ≡ m.instance.types) where
-  part_of : (e : EntryCode) (k : PartKind) (end : List ℕ) (p : Part) → IsFor p m.instance.types k end c.start.types (position_types e.positions) → length p.code.instrs ≤ 4 * component_limits.nodes → IsPartOf c e k end p
-  part_of e k end p h short = record {
+  part_of : (k : PartKind) (values end : List ℕ) (p : Part) → IsFor p m.instance.types k end c.start.types values → length p.code.instrs ≤ 65535 → IsPart c k values end p
+  part_of k values end p h short = record {
     verified = h.verified;
     types = h.types_are ∙ sym same_types;
     kind = h.kind;
     result = h.result;
     slots = h.slots;
     args = h.args;
-    short = omega arith;
+    short = short;
   }
 
-  guard_part : (e : EntryCode) (p : Part) (s : Scope) (g : Option Expr) → guard_nodes g ≤ component_limits.nodes → IsGuard p.code s g → IsFor p m.instance.types Pre (0 ∷ []) c.start.types (position_types e.positions) → IsPartOf c e Pre (0 ∷ []) p
-  guard_part e p s g few h f = part_of e Pre (0 ∷ []) p f (omega (arith, guard_short p.code s g 0 (length p.code.instrs) h.has))
+  guard_part : (values : List ℕ) (p : Part) (s : Scope) (g : Option Expr) → guard_nodes g ≤ component_limits.nodes → IsGuard p.code s g → IsFor p m.instance.types Pre (0 ∷ []) c.start.types values → IsPart c Pre values (0 ∷ []) p
+  guard_part values p s g few h f = part_of Pre values (0 ∷ []) p f (omega (arith, guard_short p.code s g 0 (length p.code.instrs) h.has))
 
-  has_pre : (e : EntryCode) (k : Kind) (o : Option Part) (s : Scope) (g : Option Expr) → guard_nodes g ≤ component_limits.nodes → IsGuardFor k (codes_of o) s g → IfSome o (λ p. IsFor p m.instance.types Pre (0 ∷ []) c.start.types (position_types e.positions)) → HasPre c e k o
-  has_pre e Input None s g few h f = tt
-  has_pre e Input (Some p) s g few h f = absurd h
-  has_pre e Output None s g few h f = absurd h
-  has_pre e Output (Some p) s g few h f = guard_part e p s g few h f
-  has_pre e Internal None s g few h f = absurd h
-  has_pre e Internal (Some p) s g few h f = guard_part e p s g few h f
+  proposals_part : (end : List ℕ) (p : Part) (s : Scope) (rs : List ProposalTree) (ps : List PositionTree) → proposals_nodes rs ps ≤ component_limits.nodes → length ps ≤ LIMITS.parameters → IsProposing p.code s rs ps → IsFor p m.instance.types Propose end c.start.types [] → IsPart c Propose [] end p
+  proposals_part end p s rs ps few positions h f = part_of Propose [] end p f (omega (arith, proposals_short p.code s rs ps 0 (length p.code.instrs) h.has))
+
+  -- what is so of a locally controlled entry's part
+  local_part : (P Q : Part → Type 0) (H : Listing → Type 0) (k : Kind) (o : Option Part) → HasLocal H k (codes_of o) → IfSome o Q → ((p : Part) → H p.code → Q p → P p) → HasLocal P k o
+  local_part P Q H Input None h q f = tt
+  local_part P Q H Input (Some p) h q f = absurd h
+  local_part P Q H Output None h q f = absurd h
+  local_part P Q H Output (Some p) h q f = f p h q
+  local_part P Q H Internal None h q f = absurd h
+  local_part P Q H Internal (Some p) h q f = f p h q
 
   one_table : (o : Option Part) (k : Listing) → IfSome (codes_of o) (λ g. g.consts ≡ k.consts) → IfSome o (λ p. p.code.consts ≡ k.consts)
   one_table None k h = tt
@@ -117,15 +121,21 @@ module _ (m : Member) (c : MemberCode) (fine : IsFine component_limits m) (same_
       let made = h.transition.2 in
       let code = e.effect.code in
       let positions = few_positions_of m t fine own in
+      let proposed : proposals_nodes r.proposals t.positions ≤ component_limits.nodes = omega (arith, few.proposals, proposals_few r.proposals t.positions (entry_of m t fine own).distinct_names) in
       let as_many = domains_long m.instance t.positions e.positions h.positions in
       record {
         legal = subst IsName (sym h.name) (all_found (λ u. IsName u.name) m.instance.automaton.entries own.place t fine.legal_entries own.here);
         few_positions = omega arith;
         positions = subst (λ l. All (IsDomain l) e.positions) (sym same_types) (domains_of m t fine own e.positions (subst AreTypes h.effect.types_are h.effect.verified.types) h.positions);
-        pre = subst (λ k. HasPre c e k e.pre) (sym h.kind) (has_pre e t.kind e.pre (scope_of m t) r.pre few.guard made.pre h.pre);
-        effect = part_of e Eff [] e.effect h.effect (omega (arith, few.effect, stmts_short code (scope_of m t) r.effect 0 (length code.instrs) made.effect.has));
+        pre = subst (λ k. HasLocal (IsPartOf c e Pre (0 ∷ [])) k e.pre) (sym h.kind)
+            (local_part (IsPartOf c e Pre (0 ∷ [])) _ (λ code. IsGuard code (scope_of m t) r.pre) t.kind e.pre made.pre h.pre (λ p k f. guard_part (position_types e.positions) p (scope_of m t) r.pre few.guard k f));
+        propose = subst (λ k. HasLocal (IsPart c Propose [] (parameter_types e.positions)) k e.propose) (sym h.kind)
+            (local_part (IsPart c Propose [] (parameter_types e.positions)) _ (λ code. IsProposing code (scope_of_proposals m) r.proposals t.positions) t.kind e.propose made.propose h.propose
+            (λ p k f. proposals_part (parameter_types e.positions) p (scope_of_proposals m) r.proposals t.positions proposed positions k f));
+        effect = part_of Eff (position_types e.positions) [] e.effect h.effect (omega (arith, few.effect, stmts_short code (scope_of m t) r.effect 0 (length code.instrs) made.effect.has));
         consts = one_table e.pre code made.consts;
-        few_consts = omega (arith, few.guard, few.effect, made.few);
+        same_consts = one_table e.propose code made.same_consts;
+        few_consts = omega (arith, few.guard, proposed, few.effect, made.few);
       }
 
   are_entries : (ts : List EntryTree) (es : List EntryCode) → ((i : ℕ) (t : EntryTree) → slice_get ts i ≡ Some t → IsEntryOf m t) → AllZip (IsTranslated m c.start.types) ts es → AreEntries c es

@@ -1,5 +1,5 @@
 -- The code of typed trees is valid.
-use Rattle.std.proofs.Common.{◌≡◌, ℕ, ◌+◌, ◌==◌, Bool, true, false, cond, List, [], ◌∷◌, ◌++◌, length, map, Option, Some, None, Ok, pos, refl, sym, ap, ◌∙◌, subst, arith, append_assoc, append-nil}
+use Rattle.std.proofs.Common.{◌≡◌, ℕ, ◌+◌, ◌==◌, Bool, true, false, cond, IsTrue, List, [], ◌∷◌, ◌++◌, length, map, Option, Some, None, Ok, pos, refl, sym, ap, ◌∙◌, subst, arith, append_assoc, append-nil}
 use Rattle.std.specs.Prelude.{slice_get}
 use Rattle.std.specs.Option.{option_map}
 use Rattle.std.proofs.lemmas.Bool.Decides.{nat_tests}
@@ -11,29 +11,35 @@ use Rattle.ioa_arithmetic.specs.Arithmetic.{fits}
 use Rattle.ioa_value.specs.Operators.{op_type, arity}
 use Rattle.ioa_value.specs.Plain as plain
 use Rattle.ioa_value.specs.Plain.{Val}
-use Rattle.ioa_value.specs.Table.{place_from, type_named}
+use Rattle.ioa_value.specs.Positions.{Domain, every, single}
+use Rattle.ioa_value.specs.Table.{Shape, truths, numbers, names, fields, sequence, shape_at, place_from, type_named}
 use Rattle.ioa_value.specs.Typing.{HasType, HaveTypes, own}
 use Rattle.ioa_value.proofs.OperatorTyping.{takes_all}
 use Rattle.ioa_value.proofs.TypingLemmas.{own_type, HaveTypes-get}
-use Rattle.ioa_code.specs.declared.instr.Instr.TheVariants.{Const, Slot, Arg, Store, Apply}
+use Rattle.ioa_code.specs.declared.instr.Instr.TheVariants.{Const, Slot, Arg, Store, Any, Pick, Apply}
 use Rattle.ioa_code.specs.declared.instr.PartKind.{PartKind}
-use Rattle.ioa_code.specs.declared.instr.PartKind.TheVariants.{Pre, Eff}
+use Rattle.ioa_code.specs.declared.instr.PartKind.TheVariants.{Pre, Propose, Eff}
 use Rattle.ioa_code.specs.Machine.{Listing}
-use Rattle.ioa_code.specs.Valid.{Part, Valid, after, way, reads_arguments, writes_slots}
+use Rattle.ioa_code.specs.Valid.{Part, Valid, after, way, reads_arguments, writes_slots, takes_words}
+use Rattle.ioa_code.specs.Picks.{counted, counted_of}
 use Rattle.ioa_code.proofs.Lists.{on_top-append}
 use Rattle.ioa_tree.specs.declared.tree.Infix.{Infix}
 use Rattle.ioa_tree.specs.declared.tree.Infix.TheVariants.{Operator, And, Or, Implies}
-use Rattle.ioa_tree.specs.Tree.{Expr, number, truth, named, parens, prefix, binary, empty, make, select, Exprs, no_expr, also, Stmt, assign, choose, Stmts, stop, seq, Arms, no_arm, arm, EntryTree}
+use Rattle.ioa_tree.specs.Tree.{Expr, number, truth, named, parens, prefix, binary, empty, make, select, Exprs, no_expr, also, Stmt, assign, choose, Stmts, stop, seq, Arms, no_arm, arm, EntryTree, FieldTree, PositionTree, typed, only, ChoiceTree, exactly, any_below, ProposalTree}
 use Rattle.ioa_tree.specs.Meaning.{or_else}
 use Rattle.ioa_tree.specs.Types.{constant_type, empty_of}
 use Rattle.ioa_tree.specs.Compositions.{Member}
-use Rattle.ioa_tree.specs.WellFormed.{Context, type_in, type_of, types_of_all, of_truths, infix_type, scope, context_of, variable_fields}
+use Rattle.ioa_tree.specs.Domains.{AreDomainsOf}
+use Rattle.ioa_tree.specs.Instances.{Instance}
+use Rattle.ioa_tree.specs.WellFormed.{Context, type_in, type_of, types_of_all, of_truths, infix_type, held, scope, context_of, variable_fields, is_numbered}
 use Rattle.ioa_tree.proofs.ValTyped.{type_of_one, types_of_both, types_of_row, are_truths}
-use Rattle.ioa_compile.specs.Scopes.{Scope, scope_of, Origin, slot, formal, parameter, fixed, unknown, origin}
-use Rattle.ioa_compile.specs.Placed.{Stretch, At, Pushes, PushesTruth, Brings, Applies, Chooses, Combines, HasExpr, HasExprs, HasGuard, HasStmt, HasStmts, HasArms}
-use Rattle.ioa_compile.specs.Translated.{IsGuard, IsEffect}
+use Rattle.ioa_compile.specs.Scopes.{Scope, scope_of, scope_of_proposals, bare, proposal_for, Origin, slot, formal, parameter, fixed, unknown, origin}
+use Rattle.ioa_compile.specs.Placed.{Stretch, At, Pushes, PushesTruth, Brings, Applies, Chooses, Combines, HasExpr, HasExprs, HasGuard, HasStmt, HasStmts, HasArms, HasChoice, HasProposal, HasProposals}
+use Rattle.ioa_compile.specs.Tables.{parameter_types}
+use Rattle.ioa_compile.specs.Translated.{IsGuard, IsProposing, IsEffect}
 use Rattle.ioa_compile.proofs.Standing.{at}
-use Rattle.ioa_compile.proofs.Fine.{Setting, type_at, variable_at, GuardTyped, StmtTyped, StmtsTyped, ArmsTyped}
+use Rattle.ioa_compile.proofs.Fine.{Setting, bare_setting, type_at, variable_at, GuardTyped, StmtTyped, StmtsTyped, ArmsTyped}
+use Rattle.ioa_compile.proofs.Proposed.{ChoiceTyped, ProposalTyped, ProposalsTyped, bare_typed}
 use Rattle.ioa_compile.proofs.Tuples.{of_make, of_select, place_is}
 use Rattle.ioa_compile.proofs.Fixed.{own_empty}
 use Rattle.ioa_compile.proofs.Blocks.{Block, none, one, join, fork, valid}
@@ -42,7 +48,7 @@ use Rattle.ioa_compile.proofs.Blocks.{Block, none, one, join, fork, valid}
 pub record Reads (part : Part) (s : Scope) (c : Context) (vs fs ps : List ℕ) : Type 0 where
   pub slots : part.slots ≡ vs
   pub args : part.args ≡ ps
-  pub reads : reads_arguments part.kind ≡ true
+  pub reads : (i ty : ℕ) → slice_get ps i ≡ Some ty → reads_arguments part.kind ≡ true
   pub given : HaveTypes part.code.types s.arguments fs
   pub table : s.types ≡ part.code.types
   pub context : s.context ≡ c
@@ -68,7 +74,7 @@ module _ (part : Part) (s : Scope) (c : Context) (vs fs ps : List ℕ) (h : Read
       push_block p k.0 ty ts (given_own i k.0 ty k.1 e) k.2
   brings_block p (parameter i) ty ts e k =
       let there : slice_get part.args i ≡ Some ty = ap (λ l. slice_get l i) h.args ∙ e in
-      one part p (Arg i) ts (ts ++ ty ∷ []) k (rw h.reads (rw there refl))
+      one part p (Arg i) ts (ts ++ ty ∷ []) k (rw (h.reads i ty e) (rw there refl))
   brings_block p (fixed v) ty ts e k = let is : own v ≡ ty = cc in push_block p v ty ts is k
   brings_block p unknown ty ts e k = absurd k
 
@@ -171,6 +177,47 @@ module _ (part : Part) (s : Scope) (c : Context) (vs fs ps : List ℕ) (h : Read
   guard_block None p q t k = truth_block true p q [] k
   guard_block (Some x) p q t k = expr_block x 0 p q [] t k
 
+  -- a type with a number of values is one that they are picked of
+  counts : (ty : ℕ) (o : Option Shape) → IsTrue (is_numbered o) → counted_of ty o ≡ Some ty
+  counts ty (Some truths) h = refl
+  counts ty (Some (names ns)) h = refl
+  counts ty (Some numbers) h = absurd (cc)
+  counts ty (Some (fields fs)) h = absurd (cc)
+  counts ty (Some (sequence most of)) h = absurd (cc)
+  counts ty None h = absurd (cc)
+
+  module _ (takes : takes_words part.kind ≡ true) where
+    choice_block : (k : ChoiceTree) (ty p q : ℕ) (ts : List ℕ) → ChoiceTyped part.code.types c k ty → HasChoice part.code s k p q → Block part p q ts (ts ++ ty ∷ [])
+    choice_block (exactly e) ty p q ts t k = expr_block e ty p q ts t k
+    choice_block (any_below e) ty p q ts t k =
+        let finds : after part k.0 Any (ts ++ 1 ∷ []) ≡ Ok (way (k.0 + 1) (ts ++ 1 ∷ []) ∷ []) = rw takes (rw (on_top-append 1 ts (1 ∷ []) _ _ refl) refl) in
+        subst (λ n. Block part p q ts (ts ++ n ∷ [])) (sym t.0)
+        (at_end p q (k.0 + 1) ts _ k.3 (join part p k.0 (k.0 + 1) ts (ts ++ 1 ∷ []) _ (expr_block e 1 p k.0 ts t.1 k.1) (one part k.0 Any (ts ++ 1 ∷ []) (ts ++ 1 ∷ []) k.2 finds)))
+
+    proposal_block : (f : FieldTree) (o : Option ProposalTree) (ty p q : ℕ) (ts : List ℕ) → type_named part.code.types f.ty ≡ Some ty → ProposalTyped part.code.types c o ty → HasProposal part.code s f o p q → Block part p q ts (ts ++ ty ∷ [])
+    proposal_block f (Some r) ty p q ts is t k = choice_block r.choice ty p q ts t k
+    proposal_block f None ty p q ts is t k =
+        let both : Some ty ≡ Some k.0 = sym is ∙ ap (λ l. type_named l f.ty) (sym h.table) ∙ k.1 in
+        let same : ty ≡ k.0 = cc in
+        let here = subst (λ n. At part.code p (Pick (record { 0 = n }))) (sym same) k.2 in
+        let there : counted part.code.types ty ≡ Some ty = counts ty (shape_at part.code.types ty) t in
+        let finds : after part p (Pick (record { 0 = ty })) ts ≡ Ok (way (p + 1) (ts ++ ty ∷ []) ∷ []) = rw takes (rw there refl) in
+        at_end p q (p + 1) ts _ k.3 (one part p (Pick (record { 0 = ty })) ts (ts ++ ty ∷ []) here finds)
+
+    pub proposals_block : (i : Instance) → part.code.types ≡ i.types → (rs : List ProposalTree) (qs : List PositionTree) (ds : List Domain) (p q : ℕ) (ts : List ℕ) → AreDomainsOf i qs ds → ProposalsTyped part.code.types c rs qs → HasProposals part.code s rs qs p q → Block part p q ts (ts ++ parameter_types ds)
+    proposals_block i over rs [] [] p q ts ms t k = at_end p q p ts _ k (subst (Block part p p ts) (sym (append-nil ts)) (none part p ts))
+    proposals_block i over rs [] (d ∷ ds) p q ts ms t k = absurd ms
+    proposals_block i over rs (x ∷ qs) [] p q ts ms t k = absurd ms
+    proposals_block i over rs (only x ∷ qs) (every ty ∷ ds) p q ts ms t k = absurd ms.0
+    proposals_block i over rs (only x ∷ qs) (single v ∷ ds) p q ts ms t k = proposals_block i over rs qs ds p q ts ms.1 t k
+    proposals_block i over rs (typed f ∷ qs) (single v ∷ ds) p q ts ms t k = absurd ms.0
+    proposals_block i over rs (typed f ∷ qs) (every ty ∷ ds) p q ts ms t k =
+        let both : Some t.0.0 ≡ Some ty = sym t.0.1 ∙ ap (λ l. type_named l f.ty) over ∙ ms.0 in
+        let same : t.0.0 ≡ ty = cc in
+        let first = subst (λ n. Block part p k.0 ts (ts ++ n ∷ [])) same (proposal_block f (proposal_for rs f) t.0.0 p k.0 ts t.0.1 t.0.2 k.1) in
+        subst (Block part p q ts) (append_assoc ts (ty ∷ []) (parameter_types ds))
+        (join part p k.0 q ts (ts ++ ty ∷ []) _ first (proposals_block i over rs qs ds k.0 q (ts ++ ty ∷ []) ms.1 t.1 k.2))
+
   module _ (v : Context) (writes : writes_slots part.kind ≡ true) (found : (x : Name) (ty i : ℕ) → type_in v x ≡ Some ty → place_from 0 s.variables x ≡ Some i → slice_get vs i ≡ Some ty) where
     mutual
       stmt_block : (t : Stmt) (p q : ℕ) → StmtTyped part.code.types c v t → HasStmt part.code s t p q → Block part p q [] []
@@ -206,7 +253,7 @@ module _ (m : Member) (e : EntryTree) (vs ps : List ℕ) (h : Setting m e vs ps)
 
   module _ (over : code.types ≡ m.instance.types) where
     reads : (kind : PartKind) (result : List ℕ) → reads_arguments kind ≡ true → Reads (record { code = code; kind = kind; slots = vs; args = ps; result = result }) (scope_of m e) (scope m.instance.types m.instance.types h.globals m.instance.automaton e) vs h.types ps
-    reads kind result r = record { slots = refl; args = refl; reads = r; given = subst (λ t. HaveTypes t m.instance.arguments h.types) (sym over) h.given; table = sym over; context = refl; names = subst (λ t. (x : Name) → or_else (type_in (scope m.instance.types m.instance.types h.globals m.instance.automaton e) x) (constant_type t x) ≡ at own (origin (scope_of m e) x) vs h.types ps) (sym over) (type_at m e vs ps h) }
+    reads kind result r = record { slots = refl; args = refl; reads = λ i ty e. r; given = subst (λ t. HaveTypes t m.instance.arguments h.types) (sym over) h.given; table = sym over; context = refl; names = subst (λ t. (x : Name) → or_else (type_in (scope m.instance.types m.instance.types h.globals m.instance.automaton e) x) (constant_type t x) ≡ at own (origin (scope_of m e) x) vs h.types ps) (sym over) (type_at m e vs ps h) }
 
     pub guard_valid : (g : Option Expr) → GuardTyped m.instance.types (scope m.instance.types m.instance.types h.globals m.instance.automaton e) g → IsGuard code (scope_of m e) g → Valid (record { code = code; kind = Pre; slots = vs; args = ps; result = 0 ∷ [] })
     guard_valid g t k =
@@ -220,3 +267,23 @@ module _ (m : Member) (e : EntryTree) (vs ps : List ℕ) (h : Setting m e vs ps)
         let c = scope m.instance.types m.instance.types h.globals m.instance.automaton e in
         let v = context_of m.instance.types (variable_fields m.instance.automaton) in
         valid part (stmts_block part (scope_of m e) c vs h.types ps (reads Eff [] refl) v refl found_slot ss 0 (length code.instrs) (subst (λ l. StmtsTyped l c v ss) (sym over) t) k.has)
+
+-- the code of proposals, over an entry without positions
+module _ (m : Member) (e : EntryTree) (vs ps : List ℕ) (h : Setting m e vs ps) (code : Listing) (over : code.types ≡ m.instance.types) where
+  pub proposals_valid : (rs : List ProposalTree) (qs : List PositionTree) (ds : List Domain) → AreDomainsOf m.instance qs ds → ProposalsTyped m.instance.types (held m.instance.types m.instance.types h.globals m.instance.automaton) rs qs → IsProposing code (scope_of_proposals m) rs qs → Valid (record { code = code; kind = Propose; slots = vs; args = []; result = parameter_types ds })
+  proposals_valid rs qs ds ms t k =
+      let part : Part = record { code = code; kind = Propose; slots = vs; args = []; result = parameter_types ds } in
+      let s = scope_of_proposals m in
+      let b = bare_setting m e vs ps h in
+      let c = scope m.instance.types m.instance.types h.globals m.instance.automaton bare in
+      let reading : Reads part s c vs h.types [] = record {
+        slots = refl;
+        args = refl;
+        reads = λ i ty e. absurd (cc);
+        given = subst (λ t. HaveTypes t m.instance.arguments h.types) (sym over) h.given;
+        table = sym over;
+        context = refl;
+        names = subst (λ t. (x : Name) → or_else (type_in c x) (constant_type t x) ≡ at own (origin s x) vs h.types []) (sym over) (type_at m bare vs [] b);
+      } in
+      let each = subst (λ l. ProposalsTyped l c rs qs) (sym over) (bare_typed m e vs ps h rs qs t) in
+      valid part (proposals_block part s c vs h.types [] reading refl m.instance over rs qs ds 0 (length code.instrs) [] ms each k.has)

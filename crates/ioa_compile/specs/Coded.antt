@@ -18,9 +18,10 @@ coded_name = coded_list coded_ℕ
 
 abbrev pub coded_entry : Coded EntryCode
 coded_entry =
-    code_by (Kind × (Name × (List Domain × (Option Part × Part)))) (coded× kinds.the_row.coded (coded× coded_name (coded× (coded_list coded_domain) (coded× (coded_option coded_part) coded_part))))
-    (λ e. (e.kind, (e.name, (e.positions, (e.pre, e.effect)))))
-    (λ p. record { kind = p.0; name = p.1.0; positions = p.1.1.0; pre = p.1.1.1.0; effect = p.1.1.1.1 }) (λ _. refl)
+    code_by (Kind × (Name × (List Domain × (Option Part × (Option Part × Part)))))
+    (coded× kinds.the_row.coded (coded× coded_name (coded× (coded_list coded_domain) (coded× (coded_option coded_part) (coded× (coded_option coded_part) coded_part)))))
+    (λ e. (e.kind, (e.name, (e.positions, (e.pre, (e.propose, e.effect))))))
+    (λ p. record { kind = p.0; name = p.1.0; positions = p.1.1.0; pre = p.1.1.1.0; propose = p.1.1.1.1.0; effect = p.1.1.1.1.1 }) (λ _. refl)
 
 abbrev pub coded_member : Coded MemberCode
 coded_member =

@@ -1,14 +1,14 @@
 -- What a step of the compiler adds to the code.
-use Rattle.std.specs.Prelude.{◌≡◌, ℕ, ◌+◌, ◌≤◌, Bool, true, List, length, Option, Some, None, slice_get}
+use Rattle.std.specs.Prelude.{◌≡◌, ℕ, ◌+◌, ◌≤◌, Bool, true, List, [], ◌∷◌, length, Option, Some, None, slice_get}
 use Rattle.ioa_value.specs.Plain.{Val}
 use Rattle.ioa_value.specs.Typing.{OwnTypes}
 use Rattle.ioa_code.specs.declared.instr.Instr.{Instr}
 use Rattle.ioa_code.specs.Machine.{Listing}
 use Rattle.ioa_tree.specs.declared.tree.Infix.{Infix}
-use Rattle.ioa_tree.specs.Tree.{Expr, Exprs, Stmt, Stmts}
+use Rattle.ioa_tree.specs.Tree.{Expr, Exprs, Stmt, Stmts, PositionTree, typed, only, expr_in, ChoiceTree, ProposalTree, FieldTree}
 use Rattle.ioa_tree.specs.WellFormed.{nodes, exprs_nodes, stmt_nodes, stmts_nodes}
-use Rattle.ioa_compile.specs.Scopes.{Scope}
-use Rattle.ioa_compile.specs.Placed.{At, Pushes, PushesTruth, Chooses, Combines, HasExpr, HasExprs, HasGuard, HasStmt, HasStmts}
+use Rattle.ioa_compile.specs.Scopes.{Scope, proposal_for}
+use Rattle.ioa_compile.specs.Placed.{At, Pushes, PushesTruth, Chooses, Combines, HasExpr, HasExprs, HasGuard, HasStmt, HasStmts, HasChoice, HasProposal, HasProposals}
 
 -- what stands in the old code stands in the new one too
 pub record Keeps (old new : Listing) : Type 0 where
@@ -59,6 +59,24 @@ AddsStmt old new s t = Adds old new (stmt_nodes t) (λ code p q. HasStmt code s 
 
 abbrev pub AddsStmts : Listing → Listing → Scope → Stmts → Type 0
 AddsStmts old new s ts = Adds old new (stmts_nodes ts) (λ code p q. HasStmts code s ts p q)
+
+abbrev pub proposal_nodes : Option ProposalTree → ℕ
+proposal_nodes None = 0
+proposal_nodes (Some r) = nodes (expr_in r.choice)
+
+abbrev pub proposals_nodes : List ProposalTree → List PositionTree → ℕ
+proposals_nodes rs [] = 0
+proposals_nodes rs (typed f ∷ ps) = proposal_nodes (proposal_for rs f) + proposals_nodes rs ps
+proposals_nodes rs (only c ∷ ps) = proposals_nodes rs ps
+
+abbrev pub AddsChoice : Listing → Listing → Scope → ChoiceTree → Type 0
+AddsChoice old new s c = Adds old new (nodes (expr_in c)) (λ code p q. HasChoice code s c p q)
+
+abbrev pub AddsProposal : Listing → Listing → Scope → FieldTree → Option ProposalTree → Type 0
+AddsProposal old new s f r = Adds old new (proposal_nodes r) (λ code p q. HasProposal code s f r p q)
+
+abbrev pub AddsProposals : Listing → Listing → Scope → List ProposalTree → List PositionTree → Type 0
+AddsProposals old new s rs ps = Adds old new (proposals_nodes rs ps) (λ code p q. HasProposals code s rs ps p q)
 
 -- the first constants are these
 abbrev pub IsGrown : List Val → List Val → Type 0

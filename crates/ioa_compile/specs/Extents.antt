@@ -1,8 +1,9 @@
 -- How many instructions the code of a tree has.
-use Rattle.std.specs.Prelude.{ℕ, ◌+◌, Option, Some, None}
+use Rattle.std.specs.Prelude.{ℕ, ◌+◌, List, [], ◌∷◌, Option, Some, None}
 use Rattle.ioa_tree.specs.declared.tree.Infix.{Infix}
 use Rattle.ioa_tree.specs.declared.tree.Infix.TheVariants.{Operator, And, Or, Implies}
-use Rattle.ioa_tree.specs.Tree.{Expr, number, truth, named, parens, prefix, binary, empty, make, select, Exprs, no_expr, also, Stmt, assign, choose, Stmts, stop, seq, Arms, no_arm, arm}
+use Rattle.ioa_tree.specs.Tree.{Expr, number, truth, named, parens, prefix, binary, empty, make, select, Exprs, no_expr, also, Stmt, assign, choose, Stmts, stop, seq, Arms, no_arm, arm, PositionTree, typed, only, ChoiceTree, exactly, any_below, ProposalTree}
+use Rattle.ioa_compile.specs.Scopes.{proposal_for}
 
 -- beside the operands' code: the operator, or two jumps and a constant
 abbrev pub infix_extent : Infix → ℕ
@@ -45,3 +46,18 @@ abbrev mutual
   pub arms_extent : Arms → ℕ
   arms_extent no_arm = 0
   arms_extent (arm c ts more) = extent c + 2 + stmts_extent ts + arms_extent more
+
+-- any number below an expression is picked by one more
+abbrev pub choice_extent : ChoiceTree → ℕ
+choice_extent (exactly e) = extent e
+choice_extent (any_below e) = extent e + 1
+
+-- a value is picked by one
+abbrev pub proposal_extent : Option ProposalTree → ℕ
+proposal_extent None = 1
+proposal_extent (Some r) = choice_extent r.choice
+
+abbrev pub proposals_extent : List ProposalTree → List PositionTree → ℕ
+proposals_extent rs [] = 0
+proposals_extent rs (typed f ∷ ps) = proposal_extent (proposal_for rs f) + proposals_extent rs ps
+proposals_extent rs (only c ∷ ps) = proposals_extent rs ps

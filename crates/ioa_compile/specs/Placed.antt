@@ -1,18 +1,18 @@
 -- The code of a tree, as a relation between the tree and the places where its code stands.
-use Rattle.std.specs.Prelude.{◌≡◌, ℕ, ◌+◌, Bool, true, false, Option, Some, None, pos, slice_get}
+use Rattle.std.specs.Prelude.{◌≡◌, ℕ, ◌+◌, Bool, true, false, List, [], ◌∷◌, Option, Some, None, pos, slice_get}
 use Rattle.ioa_value.specs.declared.operator.Op.{Op}
 use Rattle.ioa_value.specs.declared.operator.Op.TheVariants.{Make, Field}
 use Rattle.ioa_value.specs.Plain as plain
 use Rattle.ioa_value.specs.Plain.{Val}
 use Rattle.ioa_code.specs.declared.instr.Instr.{Instr}
-use Rattle.ioa_code.specs.declared.instr.Instr.TheVariants.{Const, Slot, Arg, Store, Jump, JumpIfFalse, Apply}
+use Rattle.ioa_code.specs.declared.instr.Instr.TheVariants.{Const, Slot, Arg, Store, Jump, JumpIfFalse, Any, Pick, Apply}
 use Rattle.ioa_code.specs.Machine.{Listing}
 use Rattle.ioa_tree.specs.declared.tree.Infix.{Infix}
 use Rattle.ioa_tree.specs.declared.tree.Infix.TheVariants.{Operator, And, Or, Implies}
-use Rattle.ioa_tree.specs.Tree.{Expr, number, truth, named, parens, prefix, binary, empty, make, select, Exprs, no_expr, also, Stmt, assign, choose, Stmts, stop, seq, Arms, no_arm, arm}
+use Rattle.ioa_tree.specs.Tree.{Expr, number, truth, named, parens, prefix, binary, empty, make, select, Exprs, no_expr, also, Stmt, assign, choose, Stmts, stop, seq, Arms, no_arm, arm, FieldTree, PositionTree, typed, only, ChoiceTree, exactly, any_below, ProposalTree}
 use Rattle.ioa_tree.specs.Types.{empty_of}
 use Rattle.ioa_value.specs.Table.{place_from, type_named}
-use Rattle.ioa_compile.specs.Scopes.{Scope, Origin, slot, formal, parameter, fixed, unknown, origin, place_of}
+use Rattle.ioa_compile.specs.Scopes.{Scope, Origin, slot, formal, parameter, fixed, unknown, origin, place_of, proposal_for}
 
 -- the instruction stands at this place
 abbrev pub At : Listing → ℕ → Instr → Type 0
@@ -93,3 +93,19 @@ abbrev mutual
   HasArms code s no_arm Others p q = Others p q
   HasArms code s (arm c ts more) Others p q =
       (m : ℕ) × HasExpr code s c p m × Chooses code (HasStmts code s ts) (HasArms code s more Others) m q
+
+-- any number below an expression is picked after its value
+abbrev pub HasChoice : Listing → Scope → ChoiceTree → Stretch
+HasChoice code s (exactly e) p q = HasExpr code s e p q
+HasChoice code s (any_below e) p q = (m : ℕ) × HasExpr code s e p m × At code m Any × (q ≡ m + 1)
+
+-- where nothing is proposed, a value of the parameter's type is picked
+abbrev pub HasProposal : Listing → Scope → FieldTree → Option ProposalTree → Stretch
+HasProposal code s f (Some r) p q = HasChoice code s r.choice p q
+HasProposal code s f None p q = (ty : ℕ) × (type_named s.types f.ty ≡ Some ty) × At code p (Pick (record { 0 = ty })) × (q ≡ p + 1)
+
+-- the code of proposals, parameter by parameter; a constant has none
+abbrev pub HasProposals : Listing → Scope → List ProposalTree → List PositionTree → Stretch
+HasProposals code s rs [] p q = q ≡ p
+HasProposals code s rs (typed f ∷ ps) p q = (m : ℕ) × HasProposal code s f (proposal_for rs f) p m × HasProposals code s rs ps m q
+HasProposals code s rs (only c ∷ ps) p q = HasProposals code s rs ps p q

@@ -7,13 +7,14 @@ use Rattle.ioa_code.specs.Valid.{Part}
 use Rattle.ioa_node.specs.Nodes.{Node}
 use Rattle.ioa_tree.specs.declared.tree.Kind.{Kind}
 
--- an entry: the values that stand in its positions, and the code of its precondition, where it is locally controlled, and of its
--- effect
+-- an entry: the values that stand in its positions, and the code of its precondition and of its proposals, where it is locally
+-- controlled, and of its effect
 pub record EntryCode : Type 0 where
   pub kind : Kind
   pub name : Name
   pub positions : List Domain
   pub pre : Option Part
+  pub propose : Option Part
   pub effect : Part
 
 -- a component: the types and start values of its variables, and its entries

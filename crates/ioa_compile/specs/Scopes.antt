@@ -1,5 +1,6 @@
 -- Where the value of a name comes from in code.
 use Rattle.std.specs.Prelude.{◌≡◌, ℕ, ◌≤◌, ◌+◌, if◌then◌else◌, List, [], ◌∷◌, length, Option, Some, None, option_and_then, IsSome, pos, IsTrue}
+use Rattle.std.specs.List.{find}
 use Rattle.std.specs.Str.{bytes_eq}
 use Rattle.std.specs.Option.{option_map_or}
 use Rattle.ioa_value.specs.Actions.{Name}
@@ -8,12 +9,13 @@ use Rattle.ioa_value.specs.Plain.{Val}
 use Rattle.ioa_value.specs.Table.{Table, place_from, type_named, field_place}
 use Rattle.ioa_value.specs.Typing.{OwnTypes}
 use Rattle.ioa_value.specs.declared.limits.TheConstants.{LIMITS}
-use Rattle.ioa_tree.specs.Tree.{Expr, number, truth, named, parens, prefix, binary, empty, make, select, Exprs, no_expr, also, Stmt, assign, choose, Stmts, stop, seq, Arms, no_arm, arm, PositionTree, typed, only, EntryTree}
+use Rattle.ioa_tree.specs.Tree.{Expr, number, truth, named, parens, prefix, binary, empty, make, select, Exprs, no_expr, also, Stmt, assign, choose, Stmts, stop, seq, Arms, no_arm, arm, FieldTree, PositionTree, typed, only, EntryTree, expr_in, ProposalTree}
 use Rattle.ioa_tree.specs.Types.{constant, empty_of}
 use Rattle.ioa_tree.specs.Instances.{field_names, variable_names}
 use Rattle.ioa_tree.specs.WellFormed.{Context, type_of, scope}
 use Rattle.ioa_tree.specs.Compositions.{Member}
 use Rattle.ioa_tree.specs.declared.tree.Entry as tree
+use Rattle.ioa_tree.specs.declared.tree.Kind.TheVariants.{Internal}
 use Rattle.ioa_tree.specs.View.{entry_of}
 use Rattle.ioa_compose.specs.declared.member.Member as held
 use Rattle.ioa_compose.specs.Held.{member_of}
@@ -39,6 +41,14 @@ scope_of m e = record {
   parameters = e.positions;
   context = scope m.instance.types m.instance.types [] m.instance.automaton e;
 }
+
+-- an entry without positions
+abbrev pub bare : EntryTree
+bare = record { kind = Internal; name = []; positions = [] }
+
+-- those of a transition's proposals: they name no parameter
+abbrev pub scope_of_proposals : Member → Scope
+scope_of_proposals m = scope_of m bare
 
 -- for what the program holds of them
 abbrev pub scope_in : held.Member → tree.Entry → Scope
@@ -118,3 +128,17 @@ abbrev mutual
 abbrev pub IsKnownGuard : Scope → Option Expr → Type 0
 IsKnownGuard s None = Unit {0}
 IsKnownGuard s (Some e) = IsKnown s e
+
+-- the proposal for the parameter, where it has one
+abbrev pub proposal_for : List ProposalTree → FieldTree → Option ProposalTree
+proposal_for rs f = find (λ r. bytes_eq r.name f.name) rs
+
+-- the expression is known, or else the parameter's type
+abbrev pub IsKnownProposal : Scope → FieldTree → Option ProposalTree → Type 0
+IsKnownProposal s f None = IsSome (type_named s.types f.ty)
+IsKnownProposal s f (Some r) = IsKnown s (expr_in r.choice)
+
+abbrev pub AreKnownProposals : Scope → List ProposalTree → List PositionTree → Type 0
+AreKnownProposals s rs [] = Unit {0}
+AreKnownProposals s rs (typed f ∷ ps) = IsKnownProposal s f (proposal_for rs f) × AreKnownProposals s rs ps
+AreKnownProposals s rs (only c ∷ ps) = AreKnownProposals s rs ps

@@ -7,7 +7,7 @@ use Rattle.ioa_compile.specs.declared.table.Member.{Member}
 use Rattle.ioa_compile.specs.Programs.{EntryCode, MemberCode}
 
 abbrev pub entry_code : Entry → EntryCode
-entry_code e = record { kind = e.kind; name = string_bytes e.name; positions = map domain_of e.positions.items; pre = e.pre; effect = e.effect }
+entry_code e = record { kind = e.kind; name = string_bytes e.name; positions = map domain_of e.positions.items; pre = e.pre; propose = e.propose; effect = e.effect }
 
 abbrev pub member_code : Member → MemberCode
 member_code m = record { name = string_bytes m.name; start = m.start; entries = map entry_code m.entries.items }

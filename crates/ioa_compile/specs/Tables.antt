@@ -8,11 +8,11 @@ use Rattle.ioa_value.specs.Actions.{Name, Act}
 use Rattle.ioa_value.specs.Names.{IsName}
 use Rattle.ioa_value.specs.Plain.{Val}
 use Rattle.ioa_value.specs.Table.{Table, AreTypes}
-use Rattle.ioa_value.specs.Positions.{Domain, IsDomain, all_take, domain_type}
+use Rattle.ioa_value.specs.Positions.{Domain, every, single, IsDomain, all_take, domain_type}
 use Rattle.ioa_value.specs.Typing.{HaveTypes}
 use Rattle.ioa_value.specs.declared.limits.TheConstants.{LIMITS}
 use Rattle.ioa_code.specs.declared.instr.PartKind.{PartKind}
-use Rattle.ioa_code.specs.declared.instr.PartKind.TheVariants.{Pre, Eff}
+use Rattle.ioa_code.specs.declared.instr.PartKind.TheVariants.{Pre, Propose, Eff}
 use Rattle.ioa_code.specs.Parts.{IsVerified}
 use Rattle.ioa_code.specs.Valid.{Part}
 use Rattle.ioa_node.specs.Runs.{guard_of, effect_of}
@@ -56,29 +56,47 @@ start_states p = map (λ m. m.start.values) p.members
 abbrev pub position_types : List Domain → List ℕ
 position_types ds = map domain_type ds
 
+-- the types of the parameters among the positions, in order
+abbrev pub parameter_types : List Domain → List ℕ
+parameter_types [] = []
+parameter_types (every ty ∷ ds) = ty ∷ parameter_types ds
+parameter_types (single v ∷ ds) = parameter_types ds
+
 -- the places of a part's instructions, and of an entry's constants, fit 16 bits
 abbrev pub most_places : ℕ
 most_places = 65535
 
--- the part is verified code of this kind, over the component's types and variables and the entry's values, and ends with
--- values of these types on the stack
-pub record IsPartOf (m : MemberCode) (e : EntryCode) (k : PartKind) (end : List ℕ) (part : Part) : Type 0 where
+-- the part is verified code of this kind, over the component's types and variables and values of these types, and ends with
+-- values of those types on the stack
+pub record IsPart (m : MemberCode) (k : PartKind) (values end : List ℕ) (part : Part) : Type 0 where
   pub verified : IsVerified part
   pub types : part.code.types ≡ m.start.table
   pub kind : part.kind ≡ k
   pub result : part.result ≡ end
   pub slots : part.slots ≡ m.start.types
-  pub args : part.args ≡ position_types e.positions
+  pub args : part.args ≡ values
   pub short : length part.code.instrs ≤ most_places
 
--- an input has no precondition; any other entry has one, which ends with one truth value
+-- over the values of the entry's positions
+abbrev pub IsPartOf : MemberCode → EntryCode → PartKind → List ℕ → Part → Type 0
+IsPartOf m e k end part = IsPart m k (position_types e.positions) end part
+
+-- an input has none; any other entry has one, of which this is so
+abbrev pub HasLocal : {X : Type 0} → (X → Type 0) → Kind → Option X → Type 0
+HasLocal P Input None = Unit {0}
+HasLocal P Input (Some x) = ⊥
+HasLocal P Output None = ⊥
+HasLocal P Output (Some x) = P x
+HasLocal P Internal None = ⊥
+HasLocal P Internal (Some x) = P x
+
+-- a precondition ends with one truth value
 abbrev pub HasPre : MemberCode → EntryCode → Kind → Option Part → Type 0
-HasPre m e Input None = Unit {0}
-HasPre m e Input (Some part) = ⊥
-HasPre m e Output None = ⊥
-HasPre m e Output (Some part) = IsPartOf m e Pre (0 ∷ []) part
-HasPre m e Internal None = ⊥
-HasPre m e Internal (Some part) = IsPartOf m e Pre (0 ∷ []) part
+HasPre m e k pre = HasLocal (IsPartOf m e Pre (0 ∷ [])) k pre
+
+-- proposals are given no value of an action, and end with a value for each parameter
+abbrev pub HasPropose : MemberCode → EntryCode → Kind → Option Part → Type 0
+HasPropose m e k propose = HasLocal (IsPart m Propose [] (parameter_types e.positions)) k propose
 
 -- the name is legal, and each position has a value; an effect ends with nothing; the parts of an entry carry one table of
 -- constants
@@ -87,8 +105,10 @@ pub record IsEntry (m : MemberCode) (e : EntryCode) : Type 0 where
   pub few_positions : length e.positions ≤ LIMITS.parameters
   pub positions : All (IsDomain m.start.table) e.positions
   pub pre : HasPre m e e.kind e.pre
+  pub propose : HasPropose m e e.kind e.propose
   pub effect : IsPartOf m e Eff [] e.effect
   pub consts : IfSome e.pre (λ part. part.code.consts ≡ e.effect.code.consts)
+  pub same_consts : IfSome e.propose (λ part. part.code.consts ≡ e.effect.code.consts)
   pub few_consts : length e.effect.code.consts ≤ most_places
 
 abbrev pub AreEntries : MemberCode → List EntryCode → Type 0

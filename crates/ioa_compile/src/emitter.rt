@@ -128,7 +128,7 @@ fn emit_assignment(
 
 /// The code of an expression, which leaves its value on the stack.
 #[cycle(expression)]
-fn emit_expression(
+pub(crate) fn emit_expression(
     alloc: Global,
     out: &mut Code,
     scope: &Scope<'_>,
@@ -280,7 +280,7 @@ fn emit_name(
 }
 
 /// One instruction more, over any types.
-fn put(out: &mut Code, instr: Instr) -> Result<(), OutOfMemory>
+pub(crate) fn put(out: &mut Code, instr: Instr) -> Result<(), OutOfMemory>
     ensures { OnOk result ((types : Table) → AddsInstr (listing types out.old) (listing types out.new) instr) }
 {
     out.instrs.push(instr)?;

@@ -1,7 +1,6 @@
 ghost use Rattle.std.specs.Prelude.{◌≡◌, ◌∷◌, [], map, Some, None, IfOk, IfSome, IsSome};
 ghost use Rattle.std.specs.List.{AllZip};
 ghost use Rattle.std.specs.Option.{option_map};
-ghost use Rattle.ioa_code.specs.declared.instr.PartKind.TheVariants.{Pre};
 ghost use Rattle.ioa_value.specs.Plain.{plain, number};
 ghost use Rattle.ioa_value.specs.Table.{AreTypes};
 ghost use Rattle.ioa_value.specs.Typing.{OwnTypes};
@@ -19,7 +18,7 @@ ghost use Rattle.ioa_compile.specs.Translated.{IsEntryOf, IsTranslated};
 use crate::scope::Scope;
 use crate::table::Entry;
 use crate::transition::transition_code;
-use crate::types::position_types;
+use crate::types::{parameter_types, position_types};
 use ioa_code::{Code, CodeErr, Env, PartKind, Verified, verify};
 use ioa_compose::{Member, positions};
 use ioa_tree::{Automaton, Entry as EntryTree, Transition};
@@ -61,14 +60,41 @@ fn compile_entry(
     let types = &member.types;
     let positions = positions(alloc, types, &member.automaton, &member.arguments, entry)?;
     let arguments = position_types(alloc, &positions)?;
+    let parameters = parameter_types(alloc, &positions)?;
     let scope = Scope::of(member, entry);
-    let (guard, effect) = transition_code(alloc, &scope, entry.kind, transition)?;
+    let held = Scope::of_proposals(member);
+    let code = transition_code(alloc, &scope, &held, entry, transition)?;
     Ok(Entry {
         kind: entry.kind,
         name: entry.name.text.clone()?,
         positions,
-        pre: guard_part(alloc, types, guard, slots, &arguments)?,
-        effect: verified(alloc, types, effect, PartKind::Eff, slots, &arguments, &[])?,
+        pre: local_part(
+            alloc,
+            types,
+            code.guard,
+            PartKind::Pre,
+            slots,
+            &arguments,
+            &[Ty::BOOL],
+        )?,
+        propose: local_part(
+            alloc,
+            types,
+            code.proposals,
+            PartKind::Propose,
+            slots,
+            &[],
+            &parameters,
+        )?,
+        effect: verified(
+            alloc,
+            types,
+            code.effect,
+            PartKind::Eff,
+            slots,
+            &arguments,
+            &[],
+        )?,
     })
 }
 
@@ -85,29 +111,23 @@ fn transition_of<'a>(automaton: &'a Automaton, entry: &EntryTree) -> &'a Transit
     unreachable!()
 }
 
-/// The code of a precondition, verified.
-fn guard_part(
+/// Valid code of a locally controlled entry, verified.
+fn local_part(
     alloc: Global,
     types: &Types,
-    guard: Option<Code>,
+    code: Option<Code>,
+    kind: PartKind,
     slots: &[Ty],
     arguments: &[Ty],
+    stack: &[Ty],
 ) -> Result<Option<Verified>, OutOfMemory>
-    requires typed { IfSome guard (λ code. OwnTypes types.now (map plain code.consts.items)) }
-    requires valid { IfSome guard (λ code. Valid (part types.now code Pre slots.now arguments.now (Ty.BOOL ∷ []))) }
-    ensures value { IfOk result (λ p. p ≡ option_map (λ code. part types.now code Pre slots.now arguments.now (Ty.BOOL ∷ [])) guard) }
+    requires typed { IfSome code (λ code. OwnTypes types.now (map plain code.consts.items)) }
+    requires valid { IfSome code (λ code. Valid (part types.now code kind slots.now arguments.now stack.now)) }
+    ensures value { IfOk result (λ p. p ≡ option_map (λ code. part types.now code kind slots.now arguments.now stack.now) code) }
     ensures sound { IfOk result (λ p. IfSome p IsVerified) }
 {
-    match guard {
-        Some(code) => Ok(Some(verified(
-            alloc,
-            types,
-            code,
-            PartKind::Pre,
-            slots,
-            arguments,
-            &[Ty::BOOL],
-        )?)),
+    match code {
+        Some(code) => Ok(Some(verified(alloc, types, code, kind, slots, arguments, stack)?)),
         None => Ok(None),
     }
 }

@@ -7,6 +7,7 @@ mod entries;
 mod extents;
 mod places;
 mod program;
+mod proposals;
 mod scope;
 mod table;
 mod transition;

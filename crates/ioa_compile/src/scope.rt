@@ -2,7 +2,8 @@ ghost use Rattle.std.specs.Prelude.{◌≡◌, ℕ, length, Some, None, IfSome, 
 ghost use Rattle.ioa_value.specs.Plain.{plain};
 ghost use Rattle.ioa_value.specs.Table.{place_from};
 ghost use Rattle.ioa_tree.specs.View.{name_of, expr_of};
-ghost use Rattle.ioa_compile.specs.Scopes.{scope_in, place_of, parameter_from};
+ghost use Rattle.ioa_compose.specs.Held.{member_of};
+ghost use Rattle.ioa_compile.specs.Scopes.{scope_in, scope_of_proposals, place_of, parameter_from};
 
 use crate::places::{field_place, parameter_place, variable_place};
 use ioa_check::expression_type;
@@ -57,6 +58,19 @@ impl<'a> Scope<'a> {
             formals: &member.automaton.formals,
             arguments: &member.arguments,
             positions: &entry.positions,
+        }
+    }
+
+    /// The scope of a transition's proposals: the automaton's variables and formals.
+    pub(crate) fn of_proposals(member: &'a Member) -> Scope<'a>
+        ensures { result ≡ scope_of_proposals (member_of member.now) }
+    {
+        Scope {
+            types: &member.types,
+            variables: &member.automaton.variables,
+            formals: &member.automaton.formals,
+            arguments: &member.arguments,
+            positions: &[],
         }
     }
 

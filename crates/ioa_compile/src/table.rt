@@ -12,6 +12,8 @@ pub struct Entry {
     pub positions: Vec<Position>,
     /// The precondition of an output or internal entry.
     pub pre: Option<Verified>,
+    /// What gives values for the parameters of an output or internal entry, to try next.
+    pub propose: Option<Verified>,
     pub effect: Verified,
 }
 

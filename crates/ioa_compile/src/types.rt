@@ -5,7 +5,7 @@ ghost use Rattle.ioa_value.specs.Table.{type_named};
 ghost use Rattle.ioa_value.specs.Positions.{domain_of};
 ghost use Rattle.ioa_tree.specs.View.{name_of, field_of, variable_of};
 ghost use Rattle.ioa_tree.specs.WellFormed.{is_type};
-ghost use Rattle.ioa_compile.specs.Tables.{position_types as types_of_positions};
+ghost use Rattle.ioa_compile.specs.Tables.{position_types as types_of_positions, parameter_types as types_of_parameters};
 ghost use Rattle.ioa_compile.specs.Matching.{IsTypeOf, AreTypesOf};
 
 use ioa_tree::{Field, Name, Variable};
@@ -35,6 +35,19 @@ pub(crate) fn position_types(alloc: Global, positions: &[Position]) -> Result<Ve
     let mut found = Vec::new(alloc);
     for position in positions {
         found.push(position.ty())?;
+    }
+    Ok(found)
+}
+
+/// The types of the parameters among positions, in order.
+pub(crate) fn parameter_types(alloc: Global, positions: &[Position]) -> Result<Vec<Ty>, OutOfMemory>
+    ensures { IfOk result (λ found. map number found.items ≡ types_of_parameters (map domain_of positions.now)) }
+{
+    let mut found = Vec::new(alloc);
+    for position in positions {
+        if let Position::Typed(ty) = position {
+            found.push(*ty)?;
+        }
     }
     Ok(found)
 }

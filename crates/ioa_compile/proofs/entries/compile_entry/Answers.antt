@@ -1,10 +1,10 @@
-use Rattle.std.proofs.Common.{◌≡◌, List, [], ◌∷◌, map, Option, IfSome, refl, sym, ap, ◌∙◌, subst, rules}
+use Rattle.std.proofs.Common.{◌≡◌, false, arith, List, [], ◌∷◌, map, Option, IfSome, refl, sym, ap, ◌∙◌, subst, rules}
 use Rattle.std.specs.Option.{option_map}
 use Rattle.ioa_value.specs.declared.positions.Position.{Position}
 use Rattle.ioa_value.specs.declared.value.Ty.{Ty}
 use Rattle.ioa_value.specs.declared.value.Value.{Value}
 use Rattle.ioa_code.specs.declared.instr.Code.{Code}
-use Rattle.ioa_code.specs.declared.instr.PartKind.TheVariants.{Pre, Eff}
+use Rattle.ioa_code.specs.declared.instr.PartKind.TheVariants.{Pre, Propose, Eff}
 use Rattle.ioa_value.specs.Plain.{plain, number}
 use Rattle.ioa_value.specs.Positions.{domain_of}
 use Rattle.ioa_code.specs.Parts.{part, listing}
@@ -14,20 +14,22 @@ use Rattle.ioa_tree.specs.Compositions.{Member}
 use Rattle.ioa_tree.specs.Domains.{AreDomainsOf}
 use Rattle.ioa_tree.specs.Tree.{EntryTree, TransitionTree}
 use Rattle.ioa_tree.specs.View.{entry_of, transition_of, automaton_of}
-use Rattle.ioa_tree.specs.WellFormed.{variable_fields}
+use Rattle.ioa_tree.specs.WellFormed.{variable_fields, is_input}
 use Rattle.ioa_compose.specs.declared.member.Member as held
 use Rattle.ioa_compose.specs.Bindings.{instance_with}
 use Rattle.ioa_compose.specs.Fine.{IsFine, component_limits}
 use Rattle.ioa_compose.specs.Held.{member_of}
 use Rattle.ioa_compile.specs.Shown.{entry_code}
-use Rattle.ioa_compile.specs.Scopes.{Scope, scope_of, IsScope, IsKnownGuard, AreKnown}
+use Rattle.ioa_compile.specs.Scopes.{Scope, scope_of, scope_of_proposals, bare, IsScope, IsKnownGuard, AreKnownProposals, AreKnown}
 use Rattle.ioa_compile.specs.Matching.{AreTypesOf}
-use Rattle.ioa_compile.specs.Tables.{position_types}
-use Rattle.ioa_compile.specs.Translated.{IsEntryOf, IsTransition}
+use Rattle.ioa_compile.specs.Tables.{position_types, parameter_types}
+use Rattle.ioa_compile.specs.Translated.{IsEntryOf, IsGuard, IsProposing, IsTransition}
 use Rattle.ioa_compile.proofs.Fine as fine
-use Rattle.ioa_compile.proofs.Fine.{Setting, setting, fine_of, small_of, guard_typed, effect_typed, is_scope, known_guard, known_stmts, is_some_of_found}
-use Rattle.ioa_compile.proofs.Validity.{guard_valid, effect_valid}
-use Rattle.ioa_compile.proofs.Assembled.{on_guard, translated}
+use Rattle.ioa_compile.proofs.Fine.{Setting, setting, bare_setting, fine_of, kind_of, small_of, few_positions_of, guard_typed, effect_typed, is_scope, known_guard, known_stmts, is_some_of_found}
+use Rattle.ioa_compile.proofs.Proposed.{known_proposals, proposals_typed}
+use Rattle.ioa_compile.proofs.Sizes.{proposals_few}
+use Rattle.ioa_compile.proofs.Validity.{guard_valid, proposals_valid, effect_valid}
+use Rattle.ioa_compile.proofs.Assembled.{on_local, translated}
 use Rattle.ioa_compile.proofs.entries.compile_entry.Goals as goal
 
 -- the domains that are found over the formals' values are those of the member's entry
@@ -46,11 +48,12 @@ settled m entry slots is_fine own variables values values_are ps h seen seen_are
     setting (member_of m) (entry_of entry) is_fine own (map number slots) (map number args) (map domain_of ps) variables (found m entry values values_are ps h)
     (types_are ∙ ap (λ l. position_types (map domain_of l)) seen_are)
 
--- the code that is made over the transition's scope
-made : (s : Scope) (m : Member) (e : EntryTree) (t : TransitionTree) (guard : Option Code) (effect : Code) → s ≡ scope_of m e → IsTransition e.kind s t (option_map (listing s.types) guard) (listing s.types effect)
-    → IsTransition e.kind (scope_of m e) t (option_map (listing m.instance.types) guard) (listing m.instance.types effect)
-made s m e t guard effect is h =
-    subst (λ x. IsTransition e.kind x t (option_map (listing x.types) guard) (listing x.types effect)) is h
+-- the code that is made over the transition's scopes
+made : (s h : Scope) (m : Member) (e : EntryTree) (t : TransitionTree) (guard proposals : Option Code) (effect : Code) → s ≡ scope_of m e → h ≡ scope_of_proposals m → IsTransition e s h t (option_map (listing s.types) guard) (option_map (listing s.types) proposals) (listing s.types effect)
+    → IsTransition e (scope_of m e) (scope_of_proposals m) t (option_map (listing m.instance.types) guard) (option_map (listing m.instance.types) proposals) (listing m.instance.types effect)
+made s h m e t guard proposals effect is also_is all =
+    let over = subst (λ x. IsTransition e x h t (option_map (listing x.types) guard) (option_map (listing x.types) proposals) (listing x.types effect)) is all in
+    subst (λ x. IsTransition e (scope_of m e) x t (option_map (listing m.instance.types) guard) (option_map (listing m.instance.types) proposals) (listing m.instance.types effect)) also_is over
 
 pub transition_of-transition-requires : goal.transition_of-transition-requires
 transition_of-transition-requires c =
@@ -65,6 +68,39 @@ transition_code-requires-clause-scope c =
     let all = settled c.args.member.now c.args.entry.now c.args.slots.now c.requires.fine c.requires.own c.requires.slots c.deref.result.now c.deref.ensures.value
     c.in_ok-positions.positions.items c.in_ok-positions.ensures c.deref-2.result.now c.deref-2.ensures.value c.in_ok-arguments.arguments.items c.in_ok-arguments.ensures in
     subst IsScope (sym c.of-scope.ensures) (is_scope (member_of c.args.member.now) (entry_of c.args.entry.now) _ _ all)
+
+pub transition_code-requires-clause-held : goal.transition_code-requires-clause-held
+transition_code-requires-clause-held c =
+    let m = member_of c.args.member.now in
+    let e = entry_of c.args.entry.now in
+    let all = settled c.args.member.now c.args.entry.now c.args.slots.now c.requires.fine c.requires.own c.requires.slots c.deref.result.now c.deref.ensures.value
+    c.in_ok-positions.positions.items c.in_ok-positions.ensures c.deref-2.result.now c.deref-2.ensures.value c.in_ok-arguments.arguments.items c.in_ok-arguments.ensures in
+    subst IsScope (sym c.of_proposals-held.ensures) (is_scope m bare _ _ (bare_setting m e _ _ all))
+
+pub transition_code-requires-clause-types : goal.transition_code-requires-clause-types
+transition_code-requires-clause-types c = ap (λ (s : Scope). s.types) c.of_proposals-held.ensures ∙ sym (ap (λ (s : Scope). s.types) c.of-scope.ensures)
+
+pub transition_code-requires-clause-proposals : goal.transition_code-requires-clause-proposals
+transition_code-requires-clause-proposals c =
+    let m = member_of c.args.member.now in
+    let e = entry_of c.args.entry.now in
+    let all = settled c.args.member.now c.args.entry.now c.args.slots.now c.requires.fine c.requires.own c.requires.slots c.deref.result.now c.deref.ensures.value
+    c.in_ok-positions.positions.items c.in_ok-positions.ensures c.deref-2.result.now c.deref-2.ensures.value c.in_ok-arguments.arguments.items c.in_ok-arguments.ensures in
+    let t = transition_of c.transition_of-transition.result.now in
+    let known = known_proposals m e _ _ all t (fine_of m e c.requires.fine c.requires.own t c.transition_of-transition.ensures) in
+    subst (λ s. AreKnownProposals s t.proposals e.positions) (sym c.of_proposals-held.ensures) known
+
+pub transition_code-requires-clause-proposals_size : goal.transition_code-requires-clause-proposals_size
+transition_code-requires-clause-proposals_size c =
+    let m = member_of c.args.member.now in
+    let e = entry_of c.args.entry.now in
+    let t = transition_of c.transition_of-transition.result.now in
+    let few = (small_of m e c.requires.fine c.requires.own t c.transition_of-transition.ensures).proposals in
+    omega (arith, few, proposals_few t.proposals e.positions (fine.entry_of m e c.requires.fine c.requires.own).distinct_names)
+
+pub transition_code-requires-clause-positions : goal.transition_code-requires-clause-positions
+transition_code-requires-clause-positions c =
+    few_positions_of (member_of c.args.member.now) (entry_of c.args.entry.now) c.requires.fine c.requires.own
 
 pub transition_code-requires-clause-guard : goal.transition_code-requires-clause-guard
 transition_code-requires-clause-guard c =
@@ -96,8 +132,8 @@ pub transition_code-requires-clause-effect_size : goal.transition_code-requires-
 transition_code-requires-clause-effect_size c =
     (small_of (member_of c.args.member.now) (entry_of c.args.entry.now) c.requires.fine c.requires.own (transition_of c.transition_of-transition.result.now) c.transition_of-transition.ensures).effect
 
-pub guard_part-requires-clause-valid : goal.guard_part-requires-clause-valid
-guard_part-requires-clause-valid c =
+pub local_part-requires-clause-valid : goal.local_part-requires-clause-valid
+local_part-requires-clause-valid c =
     let m = member_of c.args.member.now in
     let e = entry_of c.args.entry.now in
     let args = c.in_ok-arguments.arguments.items in
@@ -108,9 +144,32 @@ guard_part-requires-clause-valid c =
     let is_fine = fine_of m e c.requires.fine c.requires.own t c.transition_of-transition.ensures in
     let typed = guard_typed declared all.globals m.instance.automaton e t is_fine in
     let bools : List Ty = record { 0 = 0 } ∷ [] in
-    let code = made c.of-scope.result m e t c.in_ok-guard.guard c.in_ok-guard.effect c.of-scope.ensures c.in_ok-guard.ensures in
-    let result = on_guard declared (λ code. Valid (part declared code Pre c.args.slots.now args bools)) e.kind c.in_ok-guard.guard (scope_of m e) t.pre code.pre (λ code h. guard_valid m e _ _ all (listing declared code) refl t.pre typed h) in
-    subst (λ l. IfSome c.in_ok-guard.guard (λ code. Valid (part declared code Pre c.args.slots.now l bools))) (sym c.deref-3.ensures.value) result
+    let code = made c.of-scope.result c.of_proposals-held.result m e t c.in_ok-code.code.guard c.in_ok-code.code.proposals c.in_ok-code.code.effect c.of-scope.ensures c.of_proposals-held.ensures c.in_ok-code.ensures in
+    let result = on_local declared (λ code. Valid (part declared code Pre c.args.slots.now args bools)) (λ code. IsGuard code (scope_of m e) t.pre) e.kind c.in_ok-code.code.guard code.pre (λ code local h. guard_valid m e _ _ all (listing declared code) refl t.pre typed h) in
+    subst (λ l. IfSome c.in_ok-code.code.guard (λ code. Valid (part declared code Pre c.args.slots.now l bools))) (sym c.deref-4.ensures.value) result
+
+pub local_part-requires-2-clause-valid : goal.local_part-requires-2-clause-valid
+local_part-requires-2-clause-valid c =
+    let m = member_of c.args.member.now in
+    let e = entry_of c.args.entry.now in
+    let ps = c.in_ok-positions.positions.items in
+    let all = settled c.args.member.now c.args.entry.now c.args.slots.now c.requires.fine c.requires.own c.requires.slots c.deref.result.now c.deref.ensures.value
+    c.in_ok-positions.positions.items c.in_ok-positions.ensures c.deref-2.result.now c.deref-2.ensures.value c.in_ok-arguments.arguments.items c.in_ok-arguments.ensures in
+    let declared = m.instance.types in
+    let t = transition_of c.transition_of-transition.result.now in
+    let is_fine = fine_of m e c.requires.fine c.requires.own t c.transition_of-transition.ensures in
+    let none : List Ty = [] in
+    let parameters = c.in_ok-parameters.parameters.items in
+    let ds = map domain_of ps in
+    let domains = found c.args.member.now c.args.entry.now c.deref.result.now c.deref.ensures.value ps c.in_ok-positions.ensures in
+    let types_are : map number parameters ≡ parameter_types ds = c.in_ok-parameters.ensures ∙ ap (λ l. parameter_types (map domain_of l)) c.deref-3.ensures.value in
+    let code = made c.of-scope.result c.of_proposals-held.result m e t c.in_ok-code.code.guard c.in_ok-code.code.proposals c.in_ok-code.code.effect c.of-scope.ensures c.of_proposals-held.ensures c.in_ok-code.ensures in
+    let result = on_local declared (λ code. Valid (part declared code Propose c.args.slots.now none parameters)) (λ code. IsProposing code (scope_of_proposals m) t.proposals e.positions) e.kind c.in_ok-code.code.proposals code.propose
+    (λ code local h.
+    let its_kind : is_input t.kind ≡ false = ap is_input (sym (kind_of m e c.requires.fine c.requires.own t c.transition_of-transition.ensures)) ∙ local in
+    subst (λ l. Valid (record { code = listing declared code; kind = Propose; slots = map number c.args.slots.now; args = []; result = l })) (sym types_are)
+    (proposals_valid m e _ _ all (listing declared code) refl t.proposals e.positions ds domains (proposals_typed declared all.globals m.instance.automaton e t all.entry its_kind is_fine) h)) in
+    subst (λ l. IfSome c.in_ok-code.code.proposals (λ code. Valid (part declared code Propose c.args.slots.now none l))) (sym c.deref-5.ensures.value) result
 
 pub verified-requires-clause-valid : goal.verified-requires-clause-valid
 verified-requires-clause-valid c =
@@ -124,9 +183,9 @@ verified-requires-clause-valid c =
     let is_fine = fine_of m e c.requires.fine c.requires.own t c.transition_of-transition.ensures in
     let typed = effect_typed declared all.globals m.instance.automaton e t is_fine in
     let none : List Ty = [] in
-    let code = made c.of-scope.result m e t c.in_ok-guard.guard c.in_ok-guard.effect c.of-scope.ensures c.in_ok-guard.ensures in
-    let result = effect_valid m e _ _ all (listing declared c.in_ok-guard.effect) refl t.effect typed code.effect in
-    subst (λ l. Valid (part declared c.in_ok-guard.effect Eff c.args.slots.now l none)) (sym c.deref-4.ensures.value) result
+    let code = made c.of-scope.result c.of_proposals-held.result m e t c.in_ok-code.code.guard c.in_ok-code.code.proposals c.in_ok-code.code.effect c.of-scope.ensures c.of_proposals-held.ensures c.in_ok-code.ensures in
+    let result = effect_valid m e _ _ all (listing declared c.in_ok-code.code.effect) refl t.effect typed code.effect in
+    subst (λ l. Valid (part declared c.in_ok-code.code.effect Eff c.args.slots.now l none)) (sym c.deref-6.ensures.value) result
 
 pub returns : goal.returns
 returns c =
@@ -141,11 +200,14 @@ returns c =
     let none : List Ty = [] in
     let declared = m.instance.types in
     let t = transition_of c.transition_of-transition.result.now in
-    let new = entry_code record { kind = c.args.entry.now.kind; name = c.in_ok-clone.field-0; positions = c.in_ok-positions.positions; pre = c.in_ok-guard_part.field-0; effect = c.in_ok-verified.field-0 } in
+    let new = entry_code record { kind = c.args.entry.now.kind; name = c.in_ok-clone.field-0; positions = c.in_ok-positions.positions; pre = c.in_ok-local_part.field-0; propose = c.in_ok-local_part-2.field-0; effect = c.in_ok-verified.field-0 } in
     let name : new.name ≡ e.name = search rules in
-    let code = made c.of-scope.result m e t c.in_ok-guard.guard c.in_ok-guard.effect c.of-scope.ensures c.in_ok-guard.ensures in
-    translated declared slots args bools refl m refl e new t c.in_ok-guard.guard c.in_ok-guard.effect refl name domains (sym types_are)
+    let code = made c.of-scope.result c.of_proposals-held.result m e t c.in_ok-code.code.guard c.in_ok-code.code.proposals c.in_ok-code.code.effect c.of-scope.ensures c.of_proposals-held.ensures c.in_ok-code.ensures in
+    let parameters = c.in_ok-parameters.parameters.items in
+    let parameters_are : map number parameters ≡ parameter_types (map domain_of ps) = c.in_ok-parameters.ensures ∙ ap (λ l. parameter_types (map domain_of l)) c.deref-3.ensures.value in
+    translated declared slots args parameters bools refl m refl e new t c.in_ok-code.code.guard c.in_ok-code.code.proposals c.in_ok-code.code.effect refl name domains (sym types_are) (sym parameters_are)
     c.transition_of-transition.ensures code
-    (c.in_ok-guard_part.ensures.value ∙ ap (λ l. option_map (λ code. part declared code Pre slots l bools) c.in_ok-guard.guard) c.deref-3.ensures.value)
-    (c.in_ok-verified.ensures.value ∙ ap (λ l. part declared c.in_ok-guard.effect Eff slots l none) c.deref-4.ensures.value)
-    c.in_ok-guard_part.ensures.sound c.in_ok-verified.ensures.sound
+    (c.in_ok-local_part.ensures.value ∙ ap (λ l. option_map (λ code. part declared code Pre slots l bools) c.in_ok-code.code.guard) c.deref-4.ensures.value)
+    (c.in_ok-local_part-2.ensures.value ∙ ap (λ l. option_map (λ code. part declared code Propose slots none l) c.in_ok-code.code.proposals) c.deref-5.ensures.value)
+    (c.in_ok-verified.ensures.value ∙ ap (λ l. part declared c.in_ok-code.code.effect Eff slots l none) c.deref-6.ensures.value)
+    c.in_ok-local_part.ensures.sound c.in_ok-local_part-2.ensures.sound c.in_ok-verified.ensures.sound
