@@ -1,0 +1,4 @@
+pub mod Numbers
+pub mod Performing
+pub mod Making
+pub mod Committing

@@ -1,0 +1,9 @@
+pub mod Histories
+pub mod Boards
+pub mod Schedules
+pub mod Coded
+pub mod ProgramBoards
+pub mod ProgramPlans
+pub mod Planning
+pub mod Verdicts
+pub mod ProgramSchedules

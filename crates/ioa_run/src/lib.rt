@@ -1,0 +1,21 @@
+//! The board to which the workers of a run commit their plans, and the machine of their schedules, which waits for nobody.
+#![tactic(auto)]
+
+mod answer;
+mod assessed;
+mod board;
+mod event;
+mod plan;
+mod planned;
+mod recorded;
+mod schedule;
+mod verdict;
+
+pub use answer::Answer;
+pub use board::Board;
+pub use event::Event;
+pub use plan::Plan;
+pub use planned::Planned;
+pub use recorded::Recorded;
+pub use schedule::Core;
+pub use verdict::Verdict;
