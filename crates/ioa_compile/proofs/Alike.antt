@@ -39,7 +39,7 @@ use Rattle.ioa_code.specs.declared.instr.PartKind.TheVariants.{Pre, Propose}
 use Rattle.ioa_compile.specs.Programs.{EntryCode, MemberCode}
 use Rattle.ioa_compile.specs.Tables.{HasLocal, allows, entry_of, table_component, position_types, parameter_types}
 use Rattle.ioa_compile.specs.Correspondence.{Corresponds}
-use Rattle.ioa_compile.specs.Scopes.{Scope, scope_of, scope_of_proposals, bare}
+use Rattle.ioa_compile.specs.Scopes.{Scope, scope_of, scope_of_proposals}
 use Rattle.ioa_compile.specs.Placed.{HasStmts, HasProposals}
 use Rattle.ioa_compile.specs.CodeEnds.{required, GuardEnds, EffectEnds, ProposalEnds}
 use Rattle.ioa_compile.specs.Matching.{AreTypesOf, MatchesEntry}
@@ -48,7 +48,7 @@ use Rattle.ioa_compile.proofs.Looks.{look, values_look, look_outside, look_insid
 use Rattle.ioa_compile.proofs.Parameters.{passed, passed_outside, values_passed}
 use Rattle.ioa_compile.proofs.Standing.{stands}
 use Rattle.ioa_compile.proofs.Fits.{fit_have, have_fit}
-use Rattle.ioa_compile.proofs.Fine.{Setting, setting, bare_setting, kind_of, is_scope, variables_long, parameters_long, type_look, fine_of, domains_of, guard_typed, effect_typed, GuardTyped, StmtsTyped}
+use Rattle.ioa_compile.proofs.Fine.{Setting, setting, bare_setting, bare, kind_of, is_scope, variables_long, parameters_long, type_look, fine_of, domains_of, guard_typed, effect_typed, GuardTyped, StmtsTyped}
 use Rattle.ioa_compile.proofs.Validity.{found_slot}
 use Rattle.ioa_compile.proofs.Running as running
 use Rattle.ioa_compile.proofs.Running.{Comes, Breaks, Reaches, Knows, on, push_comes, expr_runs}

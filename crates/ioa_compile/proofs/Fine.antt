@@ -30,7 +30,7 @@ use Rattle.ioa_tree.proofs.FineParts.{FineParts, fine_parts, EntryParts, entry_p
 use Rattle.ioa_tree.proofs.Domains.{domains_are}
 use Rattle.ioa_tree.proofs.ValTyped.{type_of_one, types_of_both, types_of_row}
 use Rattle.ioa_compose.specs.Fine.{IsFine, component_limits}
-use Rattle.ioa_compile.specs.Scopes.{scope_of, bare, Origin, slot, formal, parameter, fixed, unknown, origin, IsOrigin, IsKnown, AreAllKnown, IsKnownStmt, AreKnown, AreKnownArms, IsKnownGuard, IsScope, place_of}
+use Rattle.ioa_compile.specs.Scopes.{scope_of, Origin, slot, formal, parameter, fixed, unknown, origin, IsOrigin, IsKnown, AreAllKnown, IsKnownStmt, AreKnown, AreKnownArms, IsKnownGuard, IsScope, place_of}
 use Rattle.ioa_compile.specs.Emitting.{guard_nodes}
 use Rattle.ioa_compile.specs.Matching.{AreTypesOf}
 use Rattle.ioa_compile.specs.Tables.{position_types}
@@ -274,7 +274,11 @@ module _ (m : Member) (e : EntryTree) (h : IsFine component_limits m) (own : IsE
         given = f.2;
       }
 
--- an entry without positions has its setting in the same automaton
+-- an entry without positions, whose scope is that of proposals
+abbrev pub bare : EntryTree
+bare = record { kind = Internal; name = []; positions = [] }
+
+-- it has its setting in the same automaton
 abbrev pub bare_setting : (m : Member) (e : EntryTree) (vs ps : List ℕ) → Setting m e vs ps → Setting m bare vs []
 bare_setting m e vs ps h = record {
   globals = h.globals;

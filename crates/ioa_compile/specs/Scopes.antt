@@ -1,5 +1,5 @@
 -- Where the value of a name comes from in code.
-use Rattle.std.specs.Prelude.{◌≡◌, ℕ, ◌≤◌, ◌+◌, if◌then◌else◌, List, [], ◌∷◌, length, Option, Some, None, option_and_then, IsSome, pos, IsTrue}
+use Rattle.std.specs.Prelude.{◌≡◌, ℕ, ◌≤◌, ◌+◌, if◌then◌else◌, List, [], ◌∷◌, ◌++◌, length, Option, Some, None, option_and_then, IsSome, pos, IsTrue}
 use Rattle.std.specs.List.{find}
 use Rattle.std.specs.Str.{bytes_eq}
 use Rattle.std.specs.Option.{option_map_or}
@@ -11,11 +11,10 @@ use Rattle.ioa_value.specs.Typing.{OwnTypes}
 use Rattle.ioa_value.specs.declared.limits.TheConstants.{LIMITS}
 use Rattle.ioa_tree.specs.Tree.{Expr, number, truth, named, parens, prefix, binary, empty, make, select, Exprs, no_expr, also, Stmt, assign, choose, Stmts, stop, seq, Arms, no_arm, arm, FieldTree, PositionTree, typed, only, EntryTree, expr_in, ProposalTree}
 use Rattle.ioa_tree.specs.Types.{constant, empty_of}
-use Rattle.ioa_tree.specs.Instances.{field_names, variable_names}
-use Rattle.ioa_tree.specs.WellFormed.{Context, type_of, scope}
+use Rattle.ioa_tree.specs.Instances.{field_names, position_fields, variable_names}
+use Rattle.ioa_tree.specs.WellFormed.{Context, type_of, held as held_names, context_of}
 use Rattle.ioa_tree.specs.Compositions.{Member}
 use Rattle.ioa_tree.specs.declared.tree.Entry as tree
-use Rattle.ioa_tree.specs.declared.tree.Kind.TheVariants.{Internal}
 use Rattle.ioa_tree.specs.View.{entry_of}
 use Rattle.ioa_compose.specs.declared.member.Member as held
 use Rattle.ioa_compose.specs.Held.{member_of}
@@ -31,24 +30,24 @@ pub record Scope : Type 0 where
   pub parameters : List PositionTree
   pub context : Context
 
--- those of a transition
-abbrev pub scope_of : Member → EntryTree → Scope
-scope_of m e = record {
+-- those of an automaton, and of the parameters among these positions
+abbrev pub scope_over : Member → List PositionTree → Scope
+scope_over m ps = record {
   types = m.instance.types;
   variables = variable_names m.instance.automaton;
   formals = field_names m.instance.automaton.formals;
   arguments = m.instance.arguments;
-  parameters = e.positions;
-  context = scope m.instance.types m.instance.types [] m.instance.automaton e;
+  parameters = ps;
+  context = held_names m.instance.types m.instance.types [] m.instance.automaton ++ context_of m.instance.types (position_fields ps);
 }
 
--- an entry without positions
-abbrev pub bare : EntryTree
-bare = record { kind = Internal; name = []; positions = [] }
+-- those of a transition
+abbrev pub scope_of : Member → EntryTree → Scope
+scope_of m e = scope_over m e.positions
 
 -- those of a transition's proposals: they name no parameter
 abbrev pub scope_of_proposals : Member → Scope
-scope_of_proposals m = scope_of m bare
+scope_of_proposals m = scope_over m []
 
 -- for what the program holds of them
 abbrev pub scope_in : held.Member → tree.Entry → Scope

@@ -1,9 +1,9 @@
-ghost use Rattle.std.specs.Prelude.{◌≡◌, ℕ, length, Some, None, IfSome, IfNone, IsSome, slice_get};
+ghost use Rattle.std.specs.Prelude.{◌≡◌, ℕ, map, length, Some, None, IfSome, IfNone, IsSome, slice_get};
 ghost use Rattle.ioa_value.specs.Plain.{plain};
 ghost use Rattle.ioa_value.specs.Table.{place_from};
-ghost use Rattle.ioa_tree.specs.View.{name_of, expr_of};
+ghost use Rattle.ioa_tree.specs.View.{name_of, expr_of, position_of};
 ghost use Rattle.ioa_compose.specs.Held.{member_of};
-ghost use Rattle.ioa_compile.specs.Scopes.{scope_in, scope_of_proposals, place_of, parameter_from};
+ghost use Rattle.ioa_compile.specs.Scopes.{scope_in, scope_over, scope_of_proposals, place_of, parameter_from};
 
 use crate::places::{field_place, parameter_place, variable_place};
 use ioa_check::expression_type;
@@ -52,25 +52,26 @@ impl<'a> Scope<'a> {
     pub(crate) fn of(member: &'a Member, entry: &'a Entry) -> Scope<'a>
         ensures { result ≡ scope_in member.now entry.now }
     {
-        Scope {
-            types: &member.types,
-            variables: &member.automaton.variables,
-            formals: &member.automaton.formals,
-            arguments: &member.arguments,
-            positions: &entry.positions,
-        }
+        Scope::over(member, &entry.positions)
     }
 
     /// The scope of a transition's proposals: the automaton's variables and formals.
     pub(crate) fn of_proposals(member: &'a Member) -> Scope<'a>
         ensures { result ≡ scope_of_proposals (member_of member.now) }
     {
+        Scope::over(member, &[])
+    }
+
+    /// The scope of the automaton's variables and formals, and the parameters among these positions.
+    fn over(member: &'a Member, positions: &'a [Position]) -> Scope<'a>
+        ensures { result ≡ scope_over (member_of member.now) (map position_of positions.now) }
+    {
         Scope {
             types: &member.types,
             variables: &member.automaton.variables,
             formals: &member.automaton.formals,
             arguments: &member.arguments,
-            positions: &[],
+            positions,
         }
     }
 

@@ -20,12 +20,12 @@ use Rattle.ioa_compose.specs.Bindings.{instance_with}
 use Rattle.ioa_compose.specs.Fine.{IsFine, component_limits}
 use Rattle.ioa_compose.specs.Held.{member_of}
 use Rattle.ioa_compile.specs.Shown.{entry_code}
-use Rattle.ioa_compile.specs.Scopes.{Scope, scope_of, scope_of_proposals, bare, IsScope, IsKnownGuard, AreKnownProposals, AreKnown}
+use Rattle.ioa_compile.specs.Scopes.{Scope, scope_of, scope_of_proposals, IsScope, IsKnownGuard, AreKnownProposals, AreKnown}
 use Rattle.ioa_compile.specs.Matching.{AreTypesOf}
 use Rattle.ioa_compile.specs.Tables.{position_types, parameter_types}
 use Rattle.ioa_compile.specs.Translated.{IsEntryOf, IsGuard, IsProposing, IsTransition}
 use Rattle.ioa_compile.proofs.Fine as fine
-use Rattle.ioa_compile.proofs.Fine.{Setting, setting, bare_setting, fine_of, kind_of, small_of, few_positions_of, guard_typed, effect_typed, is_scope, known_guard, known_stmts, is_some_of_found}
+use Rattle.ioa_compile.proofs.Fine.{Setting, setting, bare_setting, bare, fine_of, kind_of, small_of, few_positions_of, guard_typed, effect_typed, is_scope, known_guard, known_stmts, is_some_of_found}
 use Rattle.ioa_compile.proofs.Proposed.{known_proposals, proposals_typed}
 use Rattle.ioa_compile.proofs.Sizes.{proposals_few}
 use Rattle.ioa_compile.proofs.Validity.{guard_valid, proposals_valid, effect_valid}
