@@ -271,7 +271,7 @@ guard_cases x Output (Some p) s g slots args l h f = f
 guard_cases x Internal None s g slots args l h f = absurd h
 guard_cases x Internal (Some p) s g slots args l h f = f
 
-if_some : (P Q : Part → Type 0) (o : Option Part) → ((p : Part) → P p → Q p) → IfSome o P → IfSome o Q
+pub if_some : (P Q : Part → Type 0) (o : Option Part) → ((p : Part) → P p → Q p) → IfSome o P → IfSome o Q
 if_some P Q None f h = tt
 if_some P Q (Some p) f h = f p h
 

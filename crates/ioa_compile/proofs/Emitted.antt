@@ -2,7 +2,7 @@
 use Rattle.ioa_tree.specs.declared.tree.Kind.{Kind}
 use Rattle.ioa_tree.specs.declared.tree.Kind.TheVariants.{Output, Internal}
 use Rattle.ioa_compile.specs.Tables.{HasLocal}
-use Rattle.ioa_compile.specs.Translated.{IsGuard, IsGuardFor, IsProposing}
+use Rattle.ioa_compile.specs.Translated.{IsGuard, IsProposing}
 use Rattle.std.proofs.Common.{◌≡◌, ◌⊎◌, ⊎_elim, ℕ, ◌+◌, Bool, true, false, List, [], ◌∷◌, ◌++◌, length, Option, Some, None, IsSome, IfNone, refl, sym, ap, ◌∙◌, subst, arith, length-append}
 use Rattle.std.specs.Prelude.{slice_get}
 use Rattle.ioa_tree.specs.WellFormed.{nodes, exprs_nodes, stmts_nodes, arms_nodes}

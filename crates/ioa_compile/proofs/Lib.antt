@@ -20,3 +20,4 @@ pub mod Running
 pub mod Trying
 pub mod Alike
 pub mod Meant
+pub mod HostEntries

@@ -1,14 +1,13 @@
 -- Code is no longer than a number for each node of the trees that it is made from.
-use Rattle.std.proofs.Common.{◌≡◌, ℕ, ◌+◌, ◌*◌, ◌≤◌, Bool, true, false, cond, not, ◌&&◌, ◌||◌, IsTrue, List, [], ◌∷◌, length, map, Option, Some, None, refl, sym, ap, ◌∙◌, subst, arith}
+use Rattle.std.proofs.Common.{◌≡◌, ℕ, ◌+◌, ◌*◌, ◌≤◌, Bool, true, false, cond, not, IsTrue, List, [], ◌∷◌, length, map, Option, Some, refl, sym, ap, ◌∙◌, arith}
 use Rattle.std.specs.Prelude.{sum}
-use Rattle.std.specs.List.{find}
 use Rattle.std.specs.Str.{bytes_eq}
 use Rattle.std.proofs.lemmas.Bool.{and_parts, or_parts}
 use Rattle.std.proofs.lemmas.List.Sums.{sum-map, sum_by-cons}
 use Rattle.ioa_value.specs.Actions.{Name}
 use Rattle.ioa_value.proofs.NameLemmas.{same_name}
 use Rattle.ioa_code.specs.Machine.{Listing}
-use Rattle.ioa_tree.specs.Tree.{Expr, Stmts, FieldTree, PositionTree, typed, only, expr_in, ProposalTree}
+use Rattle.ioa_tree.specs.Tree.{Expr, Stmts, PositionTree, typed, only, expr_in, ProposalTree}
 use Rattle.ioa_tree.specs.Instances.{field_names, position_fields}
 use Rattle.ioa_tree.specs.WellFormed.{nodes, stmts_nodes, contains, distinct}
 use Rattle.ioa_compile.specs.Scopes.{Scope, proposal_for}

@@ -4,11 +4,11 @@ use Rattle.std.specs.Option.{option_map_or}
 use Rattle.std.proofs.lemmas.Option.{slice_get_within}
 use Rattle.ioa_arithmetic.specs.declared.arithmetic.Fault.{Fault}
 use Rattle.ioa_value.specs.Operators.{Answer, gives, faults, nothing, IsTypedAnswer}
-use Rattle.ioa_value.specs.Plain.{Val, truth, num, name, tuple, items}
+use Rattle.ioa_value.specs.Plain.{Val, truth, num, name}
 use Rattle.ioa_value.specs.Table.{Table, AreTypes, Shape, truths, numbers, names, fields, sequence, shape_at, type_named}
 use Rattle.ioa_value.proofs.TypingLemmas.{is_number}
 use Rattle.ioa_code.specs.declared.instr.Instr.TheVariants.{Any, Pick}
-use Rattle.ioa_code.specs.Machine.{Listing, State, state, End, done, fault, idle, Move, goes, over, stuck, drawn, drawn_below, any_popped, picked, move, After, Ends}
+use Rattle.ioa_code.specs.Machine.{Listing, State, state, End, done, fault, idle, Move, over, stuck, drawn_below, any_popped, picked, move, After, Ends}
 use Rattle.ioa_code.specs.Picks.{number_picked, value_of}
 use Rattle.ioa_code.specs.Valid.{Part}
 use Rattle.ioa_code.proofs.Lists.{on_top-append}

@@ -6,6 +6,7 @@ pub mod Correspondence
 pub mod CodeEnds
 pub mod Matching
 pub mod Means
+pub mod Hosts
 pub mod Scopes
 pub mod CodedScopes
 pub mod Placed

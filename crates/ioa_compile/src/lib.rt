@@ -5,6 +5,7 @@ mod compiler;
 mod emitter;
 mod entries;
 mod extents;
+mod laws;
 mod places;
 mod program;
 mod proposals;
@@ -14,5 +15,6 @@ mod transition;
 mod types;
 
 pub use compiler::compile;
+pub use laws::entries_are_the_hosts;
 pub use program::Program;
 pub use table::{Entry, Member};

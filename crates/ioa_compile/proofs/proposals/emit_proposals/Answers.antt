@@ -1,4 +1,4 @@
-use Rattle.std.proofs.Common.{◌≡◌, ◌+◌, ◌<◌, [], ◌∷◌, List, length, map, drop, sym, ap, ◌∙◌, subst, arith}
+use Rattle.std.proofs.Common.{◌≡◌, ◌+◌, ◌<◌, [], ◌∷◌, List, length, map, drop, sym, subst, arith}
 use Rattle.std.proofs.lemmas.List.{length-map, drop_all}
 use Rattle.ioa_value.specs.Plain.{plain}
 use Rattle.ioa_value.proofs.ItemLemmas.{drop_item}

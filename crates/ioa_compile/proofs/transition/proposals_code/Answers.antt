@@ -1,8 +1,6 @@
 use Rattle.std.proofs.Common.{map, length, ap, arith}
-use Rattle.std.proofs.lemmas.List.{length-map}
 use Rattle.ioa_tree.specs.View.{position_of, proposal_of}
 use Rattle.ioa_compile.specs.Emitting.{proposals_nodes}
-use Rattle.ioa_compile.specs.Extents.{proposals_extent}
 use Rattle.ioa_compile.proofs.Lengths.{proposals_small}
 use Rattle.ioa_compile.proofs.transition.proposals_code.Goals as goal
 
