@@ -43,6 +43,6 @@ entries_are_the_hosts p h c stands means i k host e m at here there =
     λ part ends state slots words holds have.
     let found = stands.held i host cm at pair.1 state slots holds in
     let fit = have_fit cm.instance.types (variable_fields cm.instance.automaton) slots m.start.types (subst (λ t. HaveTypes t slots m.start.types) matches.types have) matches.variables in
-    subst (ProposalEnds part slots words) (stands.proposals i host cm at pair.1 k e here state found.0 found.1 words 0)
+    subst (ProposalEnds part slots words) (made.proposes k e state found.0 words 0 here found.1)
     (ends found.0 slots words (record { values = found.2; typed = fit })) in
     (d, entry.1, record { kind = own.kind; name = own.name; propose = if_some _ _ d.propose gives own.propose })
