@@ -2,3 +2,4 @@ pub mod Numbers
 pub mod Performing
 pub mod Making
 pub mod Committing
+pub mod Scheduling

@@ -50,3 +50,10 @@ Assesses p w a copied Assessed.NotAnAction = step_from (tabled p) a (values_of c
 Assesses p w a copied Assessed.NotEnabled = (w ≡ worker (tabled p) a) × (step_from (tabled p) a (values_of copied) ≡ not_enabled)
 Assesses p w a copied Assessed.NotYours = (step_from (tabled p) a (values_of copied) ≢ not_an_action) × (w ≢ worker (tabled p) a)
 Assesses p w a copied (Assessed.Usable ns m) = IsPlan (record { program = p; who = w; intent = record { action = a; copied = values_of copied } }) ns.items copied m
+
+-- the plan that the worker then has
+abbrev pub plan_in : Planned → Option ProgramPlan
+plan_in (Planned.Ready p) = Some p
+plan_in Planned.NotAnAction = None
+plan_in Planned.NotEnabled = None
+plan_in Planned.NotYours = None

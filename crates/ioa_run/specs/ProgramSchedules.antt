@@ -1,19 +1,25 @@
 -- The schedule machine of a program.
-use Rattle.std.specs.Prelude.{◌≡◌, ◌+◌, ℕ, List, Option, Some, length, map, refl, slice_get}
+use Rattle.std.specs.Prelude.{◌≡◌, ◌+◌, ℕ, List, Option, Some, Result, Ok, Err, length, map, refl, slice_get}
 use Rattle.std.specs.Coded.{Coded, code_by, coded×}
 use Rattle.std.specs.Option.{option_map}
-use Rattle.ioa_value.specs.Actions.{act_of}
+use Rattle.ioa_value.specs.Actions.{Act, act_of}
 use Rattle.ioa_value.specs.Plain.{Val}
 use Rattle.ioa_compile.specs.Programs.{Prog}
 use Rattle.ioa_compile.specs.Coded.{coded_prog}
-use Rattle.ioa_compile.specs.Tables.{start_states}
+use Rattle.ioa_compile.specs.Tables.{start_states, tabled}
+use Rattle.ioa_tree.specs.Steps.{step}
+use Rattle.ioa_system.specs.Logs.{worker}
+use Rattle.ioa_run.specs.declared.answer.Answer.{Answer}
+use Rattle.ioa_run.specs.declared.verdict.Verdict.{Verdict}
 use Rattle.ioa_run.specs.declared.event.Event.{Event}
 use Rattle.ioa_run.specs.Coded.{coded_schedule}
-use Rattle.ioa_run.specs.Planning.{IsOf}
+use Rattle.ioa_run.specs.declared.planned.Planned.{Planned}
+use Rattle.ioa_run.specs.Planning.{IfReady, IsOf, answer_of, intent_of, plan_in}
+use Rattle.ioa_run.specs.ProgramBoards.{ProgramBoard}
 use Rattle.ioa_run.specs.ProgramPlans.{ProgramPlan}
 use Rattle.ioa_run.specs.Boards.{Intent}
 use Rattle.ioa_run.specs.Schedules as machine
-use Rattle.ioa_run.specs.Schedules.{Schedule, start_schedule}
+use Rattle.ioa_run.specs.Schedules.{Plans, Plays, Schedule, intent, start_schedule}
 
 pub record ProgramSchedule : Type 0 where
   pub program : Prog
@@ -38,3 +44,28 @@ intents ps = map (option_map (λ p. p.intent)) ps
 pub record ArePlans (p : Prog) (plans : List (Option ProgramPlan)) : Type 0 where
   pub count : length plans ≡ length p.members + 1
   pub own : (w : ℕ) (q : ProgramPlan) → slice_get plans w ≡ Some (Some q) → IsOf p w q
+
+-- what a worker is answered that plans the action by the states as they are now
+pub record PlansNow (b : ProgramBoard) (w : ℕ) (a : Act) (r : Planned) : Type 0 where
+  pub plans : Plans w (worker (tabled b.program) a) (step (tabled b.program) a b.board.states) (intent (tabled b.program) a b.board.states) (answer_of r) (intent_of r)
+  pub ready : IfReady (IsOf b.program w) r
+
+-- the answer and the plan that the worker then has
+abbrev pub Parts : Planned → Answer → Option ProgramPlan → Type 0
+Parts r a q = (a ≡ answer_of r) × (q ≡ plan_in r)
+
+-- the verdict's answer, or the plan that it gives back
+abbrev pub settled_of : Verdict → Result Answer ProgramPlan
+settled_of Verdict.Stopped = Ok Answer.Stopped
+settled_of Verdict.Stale = Ok Answer.Stale
+settled_of (Verdict.Faulted c f) = Ok (Answer.Faulted c f)
+settled_of (Verdict.Committed n) = Ok (Answer.Committed n)
+settled_of (Verdict.Memory p) = Err p
+
+abbrev pub Settles : Verdict → Result Answer ProgramPlan → Type 0
+Settles v r = r ≡ settled_of v
+
+-- the machine's answers to these events, from the start, and the schedule to which they lead
+pub record IsPlay (p : Prog) (es : List machine.Event) (s : ProgramSchedule) (as' : List Answer) : Type 0 where
+  pub program : s.program ≡ p
+  pub plays : Plays (tabled p) es (start_schedule (start_states p)) as' s.schedule

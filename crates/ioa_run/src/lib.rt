@@ -17,5 +17,5 @@ pub use event::Event;
 pub use plan::Plan;
 pub use planned::Planned;
 pub use recorded::Recorded;
-pub use schedule::Core;
+pub use schedule::{Core, play};
 pub use verdict::Verdict;
