@@ -3,7 +3,6 @@ ghost use Rattle.ioa_value.specs.Actions.{act_of};
 ghost use Rattle.ioa_value.specs.Plain.{Val};
 ghost use Rattle.ioa_tree.specs.Steps.{fault, next, participants};
 ghost use Rattle.ioa_compile.specs.Tables.{tabled};
-ghost use Rattle.ioa_system.specs.Found.{numbers_of};
 ghost use Rattle.ioa_system.specs.Logs.{log_entry, worker};
 ghost use Rattle.ioa_system.specs.Participants.{put_back, taken};
 ghost use Rattle.ioa_system.specs.Systems.{slot_types, types_of, values_of};
@@ -14,7 +13,7 @@ use crate::assessed::Assessed;
 use crate::planned::Planned;
 use ioa_compile::Program;
 use ioa_node::NodeState;
-use ioa_system::{LogEntry, Moved, Participant, Participation, step_from};
+use ioa_system::{LogEntry, Moved, Participation};
 use ioa_value::{Action, Fault, OutOfMemory};
 use std::alloc::Global;
 use std::marker::Model;
@@ -144,26 +143,12 @@ fn assess(
     if participation.worker() != who {
         return Ok(Assessed::NotYours);
     }
-    let numbers = numbers(alloc, participation.participants())?;
-    match step_from(alloc, &participation, copied)? {
+    let numbers = participation.numbers(alloc)?;
+    match participation.step_from(alloc, copied)? {
         Moved::NotAnAction => Ok(Assessed::NotAnAction),
         Moved::NotEnabled => Ok(Assessed::NotEnabled),
         result => Ok(Assessed::Usable(numbers, result)),
     }
-}
-
-/// The numbers of the participants.
-pub(crate) fn numbers(
-    alloc: Global,
-    participants: &[Participant<'_>],
-) -> Result<Vec<usize>, OutOfMemory>
-    ensures { IfOk result (λ ns. ns.items ≡ numbers_of participants.now) }
-{
-    let mut numbers = Vec::new(alloc);
-    for participant in participants {
-        numbers.push(participant.component)?;
-    }
-    Ok(numbers)
 }
 
 /// Whether the states of these numbers are those that were copied.

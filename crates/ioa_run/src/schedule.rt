@@ -1,18 +1,17 @@
 ghost use Rattle.std.specs.Prelude.{◌≡◌, ◌+◌, IfOk, None, OnErr, map, replicate, slice_get, slice_set, unwrap_or};
 ghost use Rattle.ioa_value.specs.Actions.{act_of};
 ghost use Rattle.ioa_compile.specs.Tables.{tabled};
-ghost use Rattle.ioa_tree.specs.Steps as steps;
 ghost use Rattle.ioa_run.specs.Schedules as machine;
 ghost use Rattle.ioa_run.specs.ProgramSchedules.{IsPlay, Parts, PlansNow, Settles, event_of, start_program};
 
 use crate::answer::Answer;
 use crate::board::Board;
 use crate::event::Event;
-use crate::plan::{Plan, numbers};
+use crate::plan::Plan;
 use crate::planned::Planned;
 use crate::verdict::Verdict;
 use ioa_compile::Program;
-use ioa_system::Participation;
+use ioa_system::participants;
 use ioa_value::{Action, OutOfMemory};
 use std::alloc::Global;
 use std::marker::Model;
@@ -143,21 +142,9 @@ fn plan<'p>(
     ensures { IfOk result (PlansNow board.now who (act_of action)) }
 {
     let program = board.program();
-    let numbers = participants_of(alloc, program, &action)?;
+    let numbers = participants(alloc, program, &action)?;
     let copied = board.copy(&numbers)?;
     Plan::make(alloc, program, who, action, copied)
-}
-
-/// The numbers of the components that have the action.
-fn participants_of(
-    alloc: Global,
-    program: &Program,
-    action: &Action,
-) -> Result<Vec<usize>, OutOfMemory>
-    ensures { IfOk result (λ ns. ns.items ≡ steps.participants (tabled program.now) (act_of action.now)) }
-{
-    let participation = Participation::of(alloc, program, action)?;
-    numbers(alloc, participation.participants())
 }
 
 /// The answer, and the plan that the worker then has.
