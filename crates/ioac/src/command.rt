@@ -1,12 +1,15 @@
-ghost use Rattle.std.specs.Prelude.{◌≡◌, ◌⊎◌, map, option_map, IfOk, IfErr, IsSome};
+ghost use Rattle.std.specs.Prelude.{◌≡◌, ◌⊎◌, map, option_map, IfOk, IfErr, IsSome, IsErrOf};
 ghost use Rattle.ioa_system.specs.Answers.{ending_of};
+ghost use Rattle.ioa_log.specs.declared.failure.LogErr.{LogErr};
 ghost use Rattle.ioa_log.specs.Failing.{HasFailed};
 ghost use Rattle.ioac.specs.CommandLine.{IsAsked};
 ghost use Rattle.ioac.specs.Commands.{IsAnswered, IsUnasked};
 ghost use Rattle.ioac.specs.Logs.{found_of};
 ghost use Rattle.ioac.specs.Serving.{IsServed, IsUnserved};
 ghost use Rattle.ioac.specs.Statuses.{answer_status, ending_status, found_status, number_of};
+ghost use Rattle.ioac.specs.declared.failure.Failure.{Failure};
 ghost use Rattle.ioac.specs.declared.status.Status.{Status};
+ghost use Rattle.ioac.specs.declared.status.Status.TheVariants as statuses;
 ghost use Rattle.ioac.specs.declared.request.Request.{Request};
 
 use crate::check::check_text;
@@ -29,7 +32,7 @@ use std::convert::AsStr;
 /// The program: reads the words of its command line, does what they ask, and answers its exit status, as `Status` numbers it.
 ///
 /// What is wrong goes to `errors`, and nothing is written then, or, where a device failed, no more than a beginning. The status is that of
-/// `Broken` where `errors` failed, too.
+/// `Broken` where `errors` failed, too. Any other status means that no device failed in this call.
 pub fn command<S: AsStr, F: Store, R: InputDevice, W: OutputDevice, E: OutputDevice>(
     alloc: Global,
     words: &[S],
@@ -38,13 +41,14 @@ pub fn command<S: AsStr, F: Store, R: InputDevice, W: OutputDevice, E: OutputDev
     output: &mut W,
     errors: &mut E,
 ) -> u8
-    ensures { (status : Status) × (result ≡ number_of status) × (IsUnasked (map S.text words.now)
+    ensures answers { (status : Status) × (result ≡ number_of status) × (IsUnasked (map S.text words.now)
         (W.contents output.old) (W.contents output.new) (HasFailed (W.failure_count output.old) (W.failure_count output.new))
         (E.contents errors.old) (E.contents errors.new) (HasFailed (E.failure_count errors.old) (E.failure_count errors.new)) status
         ⊎ ((request : Request) × IsAsked (map S.text words.now) request
         × IsAnswered (F.holds store.old) (F.lacks store.old) request (R.remaining input.old) (HasFailed (R.failure_count input.old) (R.failure_count input.new))
         (W.contents output.old) (W.contents output.new) (HasFailed (W.failure_count output.old) (W.failure_count output.new))
         (E.contents errors.old) (E.contents errors.new) (HasFailed (E.failure_count errors.old) (E.failure_count errors.new)) status)) }
+    ensures passed { (result ≡ number_of statuses.Broken → ⊥) → (R.failure_count input.new ≡ R.failure_count input.old) × (W.failure_count output.new ≡ W.failure_count output.old) × (E.failure_count errors.new ≡ E.failure_count errors.old) }
 {
     perform(alloc, words, store, input, output, errors).number()
 }
@@ -58,13 +62,14 @@ fn perform<S: AsStr, F: Store, R: InputDevice, W: OutputDevice, E: OutputDevice>
     output: &mut W,
     errors: &mut E,
 ) -> Status
-    ensures { IsUnasked (map S.text words.now)
+    ensures performs { IsUnasked (map S.text words.now)
         (W.contents output.old) (W.contents output.new) (HasFailed (W.failure_count output.old) (W.failure_count output.new))
         (E.contents errors.old) (E.contents errors.new) (HasFailed (E.failure_count errors.old) (E.failure_count errors.new)) result
         ⊎ ((request : Request) × IsAsked (map S.text words.now) request
         × IsAnswered (F.holds store.old) (F.lacks store.old) request (R.remaining input.old) (HasFailed (R.failure_count input.old) (R.failure_count input.new))
         (W.contents output.old) (W.contents output.new) (HasFailed (W.failure_count output.old) (W.failure_count output.new))
         (E.contents errors.old) (E.contents errors.new) (HasFailed (E.failure_count errors.old) (E.failure_count errors.new)) result) }
+    ensures passed { (result ≡ statuses.Broken → ⊥) → (R.failure_count input.new ≡ R.failure_count input.old) × (W.failure_count output.new ≡ W.failure_count output.old) × (E.failure_count errors.new ≡ E.failure_count errors.old) }
 {
     match parse(alloc, words) {
         Ok(matches) => match read_request(&matches) {
@@ -76,6 +81,7 @@ fn perform<S: AsStr, F: Store, R: InputDevice, W: OutputDevice, E: OutputDevice>
 }
 
 /// Does what is asked, and tells why not.
+#[tactic(auto, using(crate::proofs::Reported::no_device_failed))]
 fn answer<F: Store, R: InputDevice, W: OutputDevice, E: OutputDevice>(
     alloc: Global,
     asked: &Request<'_>,
@@ -84,9 +90,10 @@ fn answer<F: Store, R: InputDevice, W: OutputDevice, E: OutputDevice>(
     output: &mut W,
     errors: &mut E,
 ) -> Status
-    ensures { IsAnswered (F.holds store.old) (F.lacks store.old) asked.now (R.remaining input.old) (HasFailed (R.failure_count input.old) (R.failure_count input.new))
+    ensures answers { IsAnswered (F.holds store.old) (F.lacks store.old) asked.now (R.remaining input.old) (HasFailed (R.failure_count input.old) (R.failure_count input.new))
         (W.contents output.old) (W.contents output.new) (HasFailed (W.failure_count output.old) (W.failure_count output.new))
         (E.contents errors.old) (E.contents errors.new) (HasFailed (E.failure_count errors.old) (E.failure_count errors.new)) result }
+    ensures passed { (result ≡ statuses.Broken → ⊥) → (R.failure_count input.new ≡ R.failure_count input.old) × (W.failure_count output.new ≡ W.failure_count output.old) × (E.failure_count errors.new ≡ E.failure_count errors.old) }
 {
     match serve(alloc, asked, store, input, output) {
         Ok(status) => status,
@@ -110,6 +117,7 @@ fn serve<F: Store, R: InputDevice, W: OutputDevice>(
     ensures refused { IfErr result (λ e. IsUnserved (F.holds store.old) (F.lacks store.old) asked.now (R.remaining input.old)
         (HasFailed (R.failure_count input.old) (R.failure_count input.new)) (HasFailed (W.failure_count output.old) (W.failure_count output.new))
         (W.contents output.old) (W.contents output.new) e) }
+    ensures passed { (IsErrOf result (Failure.List LogErr.Io) → ⊥) → (R.failure_count input.new ≡ R.failure_count input.old) × (W.failure_count output.new ≡ W.failure_count output.old) }
 {
     match asked {
         Request::Replay { file, composition } => {

@@ -15,7 +15,8 @@ use std::io::ErrorKind;
 
 /// Writes a text on standard error, and answers this exit status, or that of `Broken` where the device failed.
 pub fn put<E: OutputDevice>(text: &str, wanted: Status, errors: &mut E) -> Status
-    ensures { IsPut text.now wanted (E.contents errors.old) (E.contents errors.new) (HasFailed (E.failure_count errors.old) (E.failure_count errors.new)) result }
+    ensures puts { IsPut text.now wanted (E.contents errors.old) (E.contents errors.new) (HasFailed (E.failure_count errors.old) (E.failure_count errors.new)) result }
+    ensures passed { (result ≡ statuses.Broken → ⊥) → E.failure_count errors.new ≡ E.failure_count errors.old }
 {
     match send_all(errors, text.as_bytes()) {
         Ok(()) => wanted,
@@ -25,14 +26,16 @@ pub fn put<E: OutputDevice>(text: &str, wanted: Status, errors: &mut E) -> Statu
 
 /// Tells that a growth of memory was refused, which wants none, and answers the exit status.
 pub fn put_short<E: OutputDevice>(errors: &mut E) -> Status
-    ensures { IsShort (E.contents errors.old) (E.contents errors.new) (HasFailed (E.failure_count errors.old) (E.failure_count errors.new)) result }
+    ensures short { IsShort (E.contents errors.old) (E.contents errors.new) (HasFailed (E.failure_count errors.old) (E.failure_count errors.new)) result }
+    ensures passed { (result ≡ statuses.Broken → ⊥) → E.failure_count errors.new ≡ E.failure_count errors.old }
 {
     put("memory\n", Status::Broken, errors)
 }
 
 /// Tells why nothing was served, and answers the exit status.
 pub fn reported<E: OutputDevice>(alloc: Global, failure: &Failure, errors: &mut E) -> Status
-    ensures { IsReported failure.now (E.contents errors.old) (E.contents errors.new) (HasFailed (E.failure_count errors.old) (E.failure_count errors.new)) result }
+    ensures reports { IsReported failure.now (E.contents errors.old) (E.contents errors.new) (HasFailed (E.failure_count errors.old) (E.failure_count errors.new)) result }
+    ensures passed { (result ≡ statuses.Broken → ⊥) → E.failure_count errors.new ≡ E.failure_count errors.old }
 {
     match failure_line(alloc, failure) {
         Ok(line) => put(line.as_str(), failure.status(), errors),

@@ -24,9 +24,10 @@ pub fn told<W: OutputDevice, E: OutputDevice>(
     output: &mut W,
     errors: &mut E,
 ) -> Status
-    ensures { IsUsage (usage_status (kind_of error.now))
+    ensures usage { IsUsage (usage_status (kind_of error.now))
         (W.contents output.old) (W.contents output.new) (HasFailed (W.failure_count output.old) (W.failure_count output.new))
         (E.contents errors.old) (E.contents errors.new) (HasFailed (E.failure_count errors.old) (E.failure_count errors.new)) result }
+    ensures passed { (result ≡ statuses.Broken → ⊥) → (W.failure_count output.new ≡ W.failure_count output.old) × (E.failure_count errors.new ≡ E.failure_count errors.old) }
 {
     if error.kind() == ErrorKind::OutOfMemory {
         return put_short(errors);
@@ -50,15 +51,17 @@ fn usage_text(alloc: Global, error: &clap::Error) -> Result<String, AllocError>
 }
 
 /// Writes help or the version, and answers the exit status.
+#[tactic(auto, using(crate::proofs::Reported::no_device_failed))]
 fn shown<W: OutputDevice, E: OutputDevice>(
     alloc: Global,
     text: &str,
     output: &mut W,
     errors: &mut E,
 ) -> Status
-    ensures { IsShown text.now
+    ensures shows { IsShown text.now
         (W.contents output.old) (W.contents output.new) (HasFailed (W.failure_count output.old) (W.failure_count output.new))
         (E.contents errors.old) (E.contents errors.new) (HasFailed (E.failure_count errors.old) (E.failure_count errors.new)) result }
+    ensures passed { (result ≡ statuses.Broken → ⊥) → (W.failure_count output.new ≡ W.failure_count output.old) × (E.failure_count errors.new ≡ E.failure_count errors.old) }
 {
     match send_all(output, text.as_bytes()) {
         Ok(()) => Status::Done,
@@ -73,8 +76,9 @@ pub fn told_unasked<E: OutputDevice>(
     matches: &ArgMatches<'_>,
     errors: &mut E,
 ) -> Status
-    ensures { IsTold (telling.unasked_text (telling.given_code (subcommand_rows_of matches.now))) statuses.BadCommandLine
+    ensures tells { IsTold (telling.unasked_text (telling.given_code (subcommand_rows_of matches.now))) statuses.BadCommandLine
         (E.contents errors.old) (E.contents errors.new) (HasFailed (E.failure_count errors.old) (E.failure_count errors.new)) result }
+    ensures passed { (result ≡ statuses.Broken → ⊥) → E.failure_count errors.new ≡ E.failure_count errors.old }
 {
     match unasked_text(alloc, given_code(matches)) {
         Ok(text) => put(text.as_str(), Status::BadCommandLine, errors),
