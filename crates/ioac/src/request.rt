@@ -102,7 +102,7 @@ fn check_command<'a>(alloc: Global) -> Result<Command<'a>, AllocError>
         .about("Parses and checks a source, and prints ok where it is well formed")
         .after_help(
             "Compositions are composed by `replay` and `monitor` alone.\n\
-             Exit status: 0 done, 1 source refused, 2 bad command line, 5 memory or a device.",
+             Exit status: 0 done, 1 source refused, 2 bad command line, 5 memory, the file or a device.",
         )
         .arg(file_argument(alloc))
 }
@@ -141,7 +141,7 @@ fn described_replay<'a>(alloc: Global) -> Command<'a>
             "The list has one action a line, as `tick(5)`. Blank lines and lines that begin with % are skipped.\n\
              A log has one JSON object a line, as `{\"act\":\"tick(5)\",\"who\":0}`, and last `{\"end\":\"done after 1\"}`.\n\
              Exit status: 0 done, 1 source refused, 2 bad command line, 3 ended by a fault,\n\
-             4 list or log refused, invariant broken, or ended not enabled or not an action, 5 memory or a device.",
+             4 list or log refused, invariant broken, or ended not enabled or not an action, 5 memory, the file or a device.",
         )
         .override_usage("ioac replay [--comp <NAME>] [--log [--invariants]] <FILE>")
 }
@@ -157,7 +157,7 @@ fn monitor_command<'a>(alloc: Global) -> Result<Command<'a>, AllocError>
         .after_help(
             "The composition has no internal action, and hides none. It is run on those of the log's actions that its components have.\n\
              Exit status: 0 accepted, 1 source refused, 2 bad command line,\n\
-             4 not accepted, log refused, or no monitor, 5 memory or a device.",
+             4 not accepted, log refused, or no monitor, 5 memory, the file or a device.",
         )
         .arg(file_argument(alloc))?
         .arg(composition_option(alloc))
