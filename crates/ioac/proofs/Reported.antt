@@ -8,7 +8,7 @@ use Rattle.ioac.specs.Telling.{IsReported}
 
 -- it is the failure's own, or that of a device that failed, too
 pub reported_status : (e : Failure) (told telling : Option (List ℕ)) (failed : Type 0) (status : Status) → IsReported e told telling failed status
-    → (status ≡ Status.Broken → ⊥) → status ≡ failure_status e
+    → (status ≡ Status.Unable → ⊥) → status ≡ failure_status e
 reported_status e told telling failed status (inl (inl put)) whole = put.0
 reported_status e told telling failed status (inl (inr cut)) whole = absurd (whole cut.0)
 reported_status e told telling failed status (inr (inl put)) whole = absurd (whole put.0)
@@ -16,5 +16,5 @@ reported_status e told telling failed status (inr (inr cut)) whole = absurd (who
 
 -- a device's failure has the status of what is broken
 pub no_device_failed : (e : Failure) (told telling : Option (List ℕ)) (failed : Type 0) (status : Status) → IsReported e told telling failed status
-    → (status ≡ Status.Broken → ⊥) → e ≡ Failure.List LogErr.Io → ⊥
+    → (status ≡ Status.Unable → ⊥) → e ≡ Failure.List LogErr.Io → ⊥
 no_device_failed e told telling failed status reports whole is = whole (reported_status e told telling failed status reports whole ∙ ap failure_status is)

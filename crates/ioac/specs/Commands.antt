@@ -25,7 +25,7 @@ IsAnswered holds lacks request bytes reader_failed before after writer_failed to
 abbrev pub usage_status : ErrorKind → Status
 usage_status kinds.DisplayHelp = Status.Done
 usage_status kinds.DisplayVersion = Status.Done
-usage_status kinds.OutOfMemory = Status.Broken
+usage_status kinds.OutOfMemory = Status.Unable
 usage_status kinds.InvalidValue = Status.BadCommandLine
 usage_status kinds.UnknownArgument = Status.BadCommandLine
 usage_status kinds.InvalidSubcommand = Status.BadCommandLine
@@ -55,7 +55,7 @@ IsUsage Status.Done before after writer_failed told telling teller_failed status
     ⊎ (Keeps before after × IsShort told telling teller_failed status)
 IsUsage Status.BadCommandLine before after writer_failed told telling teller_failed status =
     Keeps before after × ((text : List ℕ) × (0 < length text) × IsTold text Status.BadCommandLine told telling teller_failed status)
-IsUsage Status.Broken before after writer_failed told telling teller_failed status = Keeps before after × IsShort told telling teller_failed status
+IsUsage Status.Unable before after writer_failed told telling teller_failed status = Keeps before after × IsShort told telling teller_failed status
 IsUsage Status.Refused before after writer_failed told telling teller_failed status = ⊥
 IsUsage Status.Faulted before after writer_failed told telling teller_failed status = ⊥
 IsUsage Status.ListRefused before after writer_failed told telling teller_failed status = ⊥

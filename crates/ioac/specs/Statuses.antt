@@ -13,7 +13,7 @@ number_of Status.Refused = 1
 number_of Status.BadCommandLine = 2
 number_of Status.Faulted = 3
 number_of Status.ListRefused = 4
-number_of Status.Broken = 5
+number_of Status.Unable = 5
 
 -- of a list or a log that was replayed to this end
 abbrev pub ending_status : Ending → Status
@@ -51,7 +51,7 @@ refusal_status (Refusal.Clash i j name) = Status.Refused
 refusal_status (Refusal.HiddenUnknown name) = Status.Refused
 refusal_status (Refusal.StartFault i fault) = Status.Refused
 refusal_status Refusal.NoComposition = Status.Refused
-refusal_status Refusal.OutOfMemory = Status.Broken
+refusal_status Refusal.OutOfMemory = Status.Unable
 
 -- of a list or a log that is refused
 abbrev pub log_status : LogErr → Status
@@ -61,12 +61,12 @@ log_status (LogErr.WrongOwner line) = Status.ListRefused
 log_status (LogErr.Diverges line) = Status.ListRefused
 log_status LogErr.NoEnd = Status.ListRefused
 log_status LogErr.AfterEnd = Status.ListRefused
-log_status LogErr.Io = Status.Broken
-log_status LogErr.OutOfMemory = Status.Broken
+log_status LogErr.Io = Status.Unable
+log_status LogErr.OutOfMemory = Status.Unable
 
 abbrev pub failure_status : Failure → Status
 failure_status (Failure.Refused refusal) = refusal_status refusal
 failure_status (Failure.List e) = log_status e
 failure_status Failure.SpecHasInternal = Status.ListRefused
-failure_status Failure.Io = Status.Broken
-failure_status Failure.OutOfMemory = Status.Broken
+failure_status Failure.Io = Status.Unable
+failure_status Failure.OutOfMemory = Status.Unable

@@ -16,11 +16,11 @@ IsCut text before after failed = failed × ((k : ℕ) × Appends before after (t
 -- the text is told, and the status is the one that is wanted; or the device failed
 abbrev pub IsPut : List ℕ → Status → Option (List ℕ) → Option (List ℕ) → Type 0 → Status → Type 0
 IsPut text wanted before after failed status =
-    ((status ≡ wanted) × Appends before after text) ⊎ ((status ≡ Status.Broken) × IsCut text before after failed)
+    ((status ≡ wanted) × Appends before after text) ⊎ ((status ≡ Status.Unable) × IsCut text before after failed)
 
 -- a growth of memory was refused, which is told
 abbrev pub IsShort : Option (List ℕ) → Option (List ℕ) → Type 0 → Status → Type 0
-IsShort before after failed status = IsPut (codes "memory\n") Status.Broken before after failed status
+IsShort before after failed status = IsPut (codes "memory\n") Status.Unable before after failed status
 
 -- the text is told, or that memory was short to write it
 abbrev pub IsTold : List ℕ → Status → Option (List ℕ) → Option (List ℕ) → Type 0 → Status → Type 0

@@ -32,7 +32,7 @@ use std::convert::AsStr;
 /// The program: reads the words of its command line, does what they ask, and answers its exit status, as `Status` numbers it.
 ///
 /// What is wrong goes to `errors`, and nothing is written then, or, where a device failed, no more than a beginning. The status is that of
-/// `Broken` where `errors` failed, too. Any other status means that no device failed in this call.
+/// `Unable` where `errors` failed, too. Any other status means that no device failed in this call.
 pub fn command<S: AsStr, F: Store, R: InputDevice, W: OutputDevice, E: OutputDevice>(
     alloc: Global,
     words: &[S],
@@ -48,7 +48,7 @@ pub fn command<S: AsStr, F: Store, R: InputDevice, W: OutputDevice, E: OutputDev
         × IsAnswered (F.holds store.old) (F.lacks store.old) request (R.remaining input.old) (HasFailed (R.failure_count input.old) (R.failure_count input.new))
         (W.contents output.old) (W.contents output.new) (HasFailed (W.failure_count output.old) (W.failure_count output.new))
         (E.contents errors.old) (E.contents errors.new) (HasFailed (E.failure_count errors.old) (E.failure_count errors.new)) status)) }
-    ensures passed { (result ≡ number_of statuses.Broken → ⊥) → (R.failure_count input.new ≡ R.failure_count input.old) × (W.failure_count output.new ≡ W.failure_count output.old) × (E.failure_count errors.new ≡ E.failure_count errors.old) }
+    ensures passed { (result ≡ number_of statuses.Unable → ⊥) → (R.failure_count input.new ≡ R.failure_count input.old) × (W.failure_count output.new ≡ W.failure_count output.old) × (E.failure_count errors.new ≡ E.failure_count errors.old) }
 {
     perform(alloc, words, store, input, output, errors).number()
 }
@@ -69,7 +69,7 @@ fn perform<S: AsStr, F: Store, R: InputDevice, W: OutputDevice, E: OutputDevice>
         × IsAnswered (F.holds store.old) (F.lacks store.old) request (R.remaining input.old) (HasFailed (R.failure_count input.old) (R.failure_count input.new))
         (W.contents output.old) (W.contents output.new) (HasFailed (W.failure_count output.old) (W.failure_count output.new))
         (E.contents errors.old) (E.contents errors.new) (HasFailed (E.failure_count errors.old) (E.failure_count errors.new)) result) }
-    ensures passed { (result ≡ statuses.Broken → ⊥) → (R.failure_count input.new ≡ R.failure_count input.old) × (W.failure_count output.new ≡ W.failure_count output.old) × (E.failure_count errors.new ≡ E.failure_count errors.old) }
+    ensures passed { (result ≡ statuses.Unable → ⊥) → (R.failure_count input.new ≡ R.failure_count input.old) × (W.failure_count output.new ≡ W.failure_count output.old) × (E.failure_count errors.new ≡ E.failure_count errors.old) }
 {
     match parse(alloc, words) {
         Ok(matches) => match read_request(&matches) {
@@ -93,7 +93,7 @@ fn answer<F: Store, R: InputDevice, W: OutputDevice, E: OutputDevice>(
     ensures answers { IsAnswered (F.holds store.old) (F.lacks store.old) asked.now (R.remaining input.old) (HasFailed (R.failure_count input.old) (R.failure_count input.new))
         (W.contents output.old) (W.contents output.new) (HasFailed (W.failure_count output.old) (W.failure_count output.new))
         (E.contents errors.old) (E.contents errors.new) (HasFailed (E.failure_count errors.old) (E.failure_count errors.new)) result }
-    ensures passed { (result ≡ statuses.Broken → ⊥) → (R.failure_count input.new ≡ R.failure_count input.old) × (W.failure_count output.new ≡ W.failure_count output.old) × (E.failure_count errors.new ≡ E.failure_count errors.old) }
+    ensures passed { (result ≡ statuses.Unable → ⊥) → (R.failure_count input.new ≡ R.failure_count input.old) × (W.failure_count output.new ≡ W.failure_count output.old) × (E.failure_count errors.new ≡ E.failure_count errors.old) }
 {
     match serve(alloc, asked, store, input, output) {
         Ok(status) => status,

@@ -52,7 +52,7 @@ impl Failure {
             Failure::Refused(refusal) => refusal_status(refusal),
             Failure::List(error) => log_status(*error),
             Failure::SpecHasInternal => Status::ListRefused,
-            Failure::Io | Failure::OutOfMemory => Status::Broken,
+            Failure::Io | Failure::OutOfMemory => Status::Unable,
         }
     }
 }
@@ -84,7 +84,7 @@ fn log_status(error: LogErr) -> Status
         | LogErr::Diverges(_)
         | LogErr::NoEnd
         | LogErr::AfterEnd => Status::ListRefused,
-        LogErr::Io | LogErr::OutOfMemory => Status::Broken,
+        LogErr::Io | LogErr::OutOfMemory => Status::Unable,
     }
 }
 

@@ -87,6 +87,6 @@ pub fn refusal_status(refusal: &Refusal) -> Status
         | Refusal::HiddenUnknown(_)
         | Refusal::StartFault(_, _)
         | Refusal::NoComposition => Status::Refused,
-        Refusal::OutOfMemory => Status::Broken,
+        Refusal::OutOfMemory => Status::Unable,
     }
 }

@@ -13,7 +13,7 @@ pub enum Status {
     /// The list, the log or the monitor is refused, or the monitor refuses, or the list ended not enabled or not an action.
     ListRefused = 4,
     /// Memory was short, a device failed, or a file could not be read.
-    Broken = 5,
+    Unable = 5,
 }
 
 impl Status {

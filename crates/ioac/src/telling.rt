@@ -13,29 +13,29 @@ use std::alloc::{AllocError, Global};
 use std::io;
 use std::io::ErrorKind;
 
-/// Writes a text on standard error, and answers this exit status, or that of `Broken` where the device failed.
+/// Writes a text on standard error, and answers this exit status, or that of `Unable` where the device failed.
 pub fn put<E: OutputDevice>(text: &str, wanted: Status, errors: &mut E) -> Status
     ensures puts { IsPut text.now wanted (E.contents errors.old) (E.contents errors.new) (HasFailed (E.failure_count errors.old) (E.failure_count errors.new)) result }
-    ensures passed { (result ≡ statuses.Broken → ⊥) → E.failure_count errors.new ≡ E.failure_count errors.old }
+    ensures passed { (result ≡ statuses.Unable → ⊥) → E.failure_count errors.new ≡ E.failure_count errors.old }
 {
     match send_all(errors, text.as_bytes()) {
         Ok(()) => wanted,
-        Err(_) => Status::Broken,
+        Err(_) => Status::Unable,
     }
 }
 
 /// Tells that a growth of memory was refused, which wants none, and answers the exit status.
 pub fn put_short<E: OutputDevice>(errors: &mut E) -> Status
     ensures short { IsShort (E.contents errors.old) (E.contents errors.new) (HasFailed (E.failure_count errors.old) (E.failure_count errors.new)) result }
-    ensures passed { (result ≡ statuses.Broken → ⊥) → E.failure_count errors.new ≡ E.failure_count errors.old }
+    ensures passed { (result ≡ statuses.Unable → ⊥) → E.failure_count errors.new ≡ E.failure_count errors.old }
 {
-    put("memory\n", Status::Broken, errors)
+    put("memory\n", Status::Unable, errors)
 }
 
 /// Tells why nothing was served, and answers the exit status.
 pub fn reported<E: OutputDevice>(alloc: Global, failure: &Failure, errors: &mut E) -> Status
     ensures reports { IsReported failure.now (E.contents errors.old) (E.contents errors.new) (HasFailed (E.failure_count errors.old) (E.failure_count errors.new)) result }
-    ensures passed { (result ≡ statuses.Broken → ⊥) → E.failure_count errors.new ≡ E.failure_count errors.old }
+    ensures passed { (result ≡ statuses.Unable → ⊥) → E.failure_count errors.new ≡ E.failure_count errors.old }
 {
     match failure_line(alloc, failure) {
         Ok(line) => put(line.as_str(), failure.status(), errors),

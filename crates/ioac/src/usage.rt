@@ -27,7 +27,7 @@ pub fn told<W: OutputDevice, E: OutputDevice>(
     ensures usage { IsUsage (usage_status (kind_of error.now))
         (W.contents output.old) (W.contents output.new) (HasFailed (W.failure_count output.old) (W.failure_count output.new))
         (E.contents errors.old) (E.contents errors.new) (HasFailed (E.failure_count errors.old) (E.failure_count errors.new)) result }
-    ensures passed { (result ≡ statuses.Broken → ⊥) → (W.failure_count output.new ≡ W.failure_count output.old) × (E.failure_count errors.new ≡ E.failure_count errors.old) }
+    ensures passed { (result ≡ statuses.Unable → ⊥) → (W.failure_count output.new ≡ W.failure_count output.old) × (E.failure_count errors.new ≡ E.failure_count errors.old) }
 {
     if error.kind() == ErrorKind::OutOfMemory {
         return put_short(errors);
@@ -61,7 +61,7 @@ fn shown<W: OutputDevice, E: OutputDevice>(
     ensures shows { IsShown text.now
         (W.contents output.old) (W.contents output.new) (HasFailed (W.failure_count output.old) (W.failure_count output.new))
         (E.contents errors.old) (E.contents errors.new) (HasFailed (E.failure_count errors.old) (E.failure_count errors.new)) result }
-    ensures passed { (result ≡ statuses.Broken → ⊥) → (W.failure_count output.new ≡ W.failure_count output.old) × (E.failure_count errors.new ≡ E.failure_count errors.old) }
+    ensures passed { (result ≡ statuses.Unable → ⊥) → (W.failure_count output.new ≡ W.failure_count output.old) × (E.failure_count errors.new ≡ E.failure_count errors.old) }
 {
     match send_all(output, text.as_bytes()) {
         Ok(()) => Status::Done,
@@ -78,7 +78,7 @@ pub fn told_unasked<E: OutputDevice>(
 ) -> Status
     ensures tells { IsTold (telling.unasked_text (telling.given_code (subcommand_rows_of matches.now))) statuses.BadCommandLine
         (E.contents errors.old) (E.contents errors.new) (HasFailed (E.failure_count errors.old) (E.failure_count errors.new)) result }
-    ensures passed { (result ≡ statuses.Broken → ⊥) → E.failure_count errors.new ≡ E.failure_count errors.old }
+    ensures passed { (result ≡ statuses.Unable → ⊥) → E.failure_count errors.new ≡ E.failure_count errors.old }
 {
     match unasked_text(alloc, given_code(matches)) {
         Ok(text) => put(text.as_str(), Status::BadCommandLine, errors),

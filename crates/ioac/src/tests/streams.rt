@@ -152,7 +152,7 @@ fn expect_failures(
 }
 
 fn assert_failed(rt: &impl Abort, ran: &Ran, failures: u64) {
-    assert_eq!(rt; ran.status, Status::Broken.number());
+    assert_eq!(rt; ran.status, Status::Unable.number());
     assert_eq!(rt; failures, 1);
     assert!(rt; ran.errors.as_slice() == b"L8\n".as_slice());
 }
@@ -186,7 +186,7 @@ fn fills(alloc: Global, given: &Given<'_>, printed: &[u8], told: &[u8]) -> Resul
         &mut Counted::new(errors.as_mut_slice()),
     )?;
     let is_full = output.as_slice() == printed && errors.as_slice() == told;
-    Ok(is_full && status == Status::Broken.number())
+    Ok(is_full && status == Status::Unable.number())
 }
 
 #[test]
