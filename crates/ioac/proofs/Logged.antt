@@ -24,7 +24,7 @@ use Rattle.ioa_log.specs.declared.broken_invariants.Broken.{Broken}
 use Rattle.ioa_log.specs.Breaking.{broken_of}
 use Rattle.ioa_log.specs.Monitoring.{IsRefusedAt}
 use Rattle.ioa_log.specs.Replays.{replay_text, run_text}
-use Rattle.ioac.specs.declared.finding.Finding.{Finding}
+use Rattle.ioac.specs.declared.invariant_replay.Finding.{Finding}
 use Rattle.ioac.specs.Logs.{broken, found_in, found_of, performed_in, unbroken}
 
 -- the text of a run is the text of the hosts' run

@@ -15,7 +15,7 @@ use Rattle.ioa_log.specs.Judging.{agrees, judged}
 use Rattle.ioa_log.specs.LogTexts.{ReadsLog}
 use Rattle.ioa_log.specs.Monitoring.{IsSeen, monitored}
 use Rattle.ioa_log.specs.Replays.{run_text}
-use Rattle.ioac.specs.declared.finding.Finding.{Finding}
+use Rattle.ioac.specs.declared.invariant_replay.Finding.{Finding}
 
 -- the bytes are a text of this log, and it is of the run that the hosts do
 abbrev pub IsRunLog : Hosted → List ℕ → Logged → Type 0

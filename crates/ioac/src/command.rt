@@ -15,7 +15,7 @@ ghost use Rattle.ioac.specs.declared.request.Request.{Request};
 use crate::check::check_text;
 use crate::explain::explain;
 use crate::failure::Failure;
-use crate::finding::{Finding, replay_invariants_text};
+use crate::invariant_replay::{Finding, replay_invariants_text};
 use crate::log_replay::replay_log_text;
 use crate::monitor::monitor_text;
 use crate::replay::replay_text;

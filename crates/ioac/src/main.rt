@@ -10,7 +10,7 @@ mod explanation;
 mod explanations;
 mod failure;
 mod files;
-mod finding;
+mod invariant_replay;
 mod log_replay;
 mod monitor;
 mod refusal;

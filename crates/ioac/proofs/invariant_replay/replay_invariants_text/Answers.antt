@@ -9,7 +9,7 @@ use Rattle.ioa_log.specs.LogTexts.{ReadsLog}
 use Rattle.ioac.specs.declared.failure.Failure.{Failure}
 use Rattle.ioac.specs.Logs.{found_in, found_text}
 use Rattle.ioac.proofs.Refused.{err_so, log_judged, log_unread, unread}
-use Rattle.ioac.proofs.finding.replay_invariants_text.Goals as goal
+use Rattle.ioac.proofs.invariant_replay.replay_invariants_text.Goals as goal
 
 pub returns-in_err-log-clause-refused : goal.returns-in_err-log-clause-refused
 returns-in_err-log-clause-refused g c =

@@ -7,7 +7,7 @@ use Rattle.ioa_log.specs.Breaking.{broken_of}
 use Rattle.ioac.specs.Logs.{found_text}
 use Rattle.ioac.proofs.Logged.{found_broken, found_unbroken, run_told}
 use Rattle.ioac.proofs.Refused.{err_as}
-use Rattle.ioac.proofs.finding.inspect.Goals as goal
+use Rattle.ioac.proofs.invariant_replay.inspect.Goals as goal
 
 pub returns-in_err-inspection-clause-owner : goal.returns-in_err-inspection-clause-owner
 returns-in_err-inspection-clause-owner c = λ n r h s.
