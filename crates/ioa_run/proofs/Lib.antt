@@ -3,3 +3,4 @@ pub mod Performing
 pub mod Making
 pub mod Committing
 pub mod Scheduling
+pub mod Once

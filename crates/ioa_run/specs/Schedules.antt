@@ -1,6 +1,7 @@
 -- The schedule machine: workers that plan and commit, one event after another, in any order.
 use Rattle.std.specs.Prelude.{◌≡◌, ◌≢◌, ◌+◌, ℕ, List, [], ◌∷◌, Option, None, Some, length, replicate, slice_get, slice_set, unwrap_or}
 use Rattle.ioa_value.specs.Actions.{Act}
+use Rattle.ioa_value.specs.Plain.{Val}
 use Rattle.ioa_tree.specs.Components.{Component}
 use Rattle.ioa_tree.specs.Steps.{Moved, not_an_action, not_enabled, step}
 use Rattle.ioa_system.specs.Logs.{worker}
@@ -60,3 +61,8 @@ Plays ps [] s [] t = t ≡ s
 Plays ps [] s (a ∷ as') t = ⊥
 Plays ps (e ∷ es) s [] t = ⊥
 Plays {S} ps (e ∷ es) s (a ∷ as') t = (u : Schedule S) × Answers ps e s a u × Plays ps es u as' t
+
+-- events are answered in one way, and lead to one schedule
+abbrev pub OnePlay : Type 0
+OnePlay =
+    (ps : List (Component (List Val))) (es : List Event) (s t u : Schedule (List Val)) (xs ys : List Answer) → Plays ps es s xs t → Plays ps es s ys u → (xs ≡ ys) × (t ≡ u)
