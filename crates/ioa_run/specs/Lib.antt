@@ -7,3 +7,4 @@ pub mod ProgramPlans
 pub mod Planning
 pub mod Verdicts
 pub mod ProgramSchedules
+pub mod Seeds

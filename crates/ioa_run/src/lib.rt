@@ -10,6 +10,7 @@ mod plan;
 mod planned;
 mod recorded;
 mod schedule;
+mod seeded;
 mod verdict;
 
 pub use answer::Answer;
@@ -20,4 +21,5 @@ pub use plan::Plan;
 pub use planned::Planned;
 pub use recorded::Recorded;
 pub use schedule::{Core, play};
+pub use seeded::Seeded;
 pub use verdict::Verdict;
