@@ -4,3 +4,5 @@ pub mod Making
 pub mod Committing
 pub mod Scheduling
 pub mod Once
+pub mod Telling
+pub mod Finishing

@@ -8,3 +8,7 @@ pub mod Planning
 pub mod Verdicts
 pub mod ProgramSchedules
 pub mod Seeds
+pub mod Reports
+pub mod ProgramRooms
+pub mod RoomCommits
+pub mod Outcomes

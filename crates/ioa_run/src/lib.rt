@@ -1,4 +1,5 @@
-//! The board to which the workers of a run commit their plans, and the machine of their schedules, which waits for nobody.
+//! The board to which the workers of a run commit their plans, the room that they share, and the machine of their schedules, which
+//! waits for nobody.
 #![tactic(auto)]
 
 mod answer;
@@ -6,9 +7,12 @@ mod assessed;
 mod board;
 mod event;
 mod laws;
+mod outcome;
 mod plan;
 mod planned;
 mod recorded;
+mod report;
+mod room;
 mod schedule;
 mod seeded;
 mod verdict;
@@ -17,9 +21,12 @@ pub use answer::Answer;
 pub use board::Board;
 pub use event::Event;
 pub use laws::one_play;
+pub use outcome::Outcome;
 pub use plan::Plan;
 pub use planned::Planned;
 pub use recorded::Recorded;
+pub use report::{Report, Why};
+pub use room::Room;
 pub use schedule::{Core, play};
 pub use seeded::Seeded;
 pub use verdict::Verdict;

@@ -92,6 +92,13 @@ impl<'p> Plan<'p> {
         }
     }
 
+    /// The action.
+    pub(crate) fn action(&self) -> &Action
+        ensures { act_of result.now ≡ self.now.intent.action }
+    {
+        &self.action
+    }
+
     /// The action with its worker.
     pub(crate) fn into_entry(self) -> LogEntry
         ensures { log_entry result ≡ (self.entry.who, self.entry.intent.action) }

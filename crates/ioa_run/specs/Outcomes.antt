@@ -1,0 +1,32 @@
+-- What a run gives.
+use Rattle.std.specs.Prelude.{◌≡◌, ◌++◌, ◌∷◌, ℕ, List, [], Option, None, Some, length, map}
+use Rattle.ioa_value.specs.Actions.{Act}
+use Rattle.ioa_value.specs.Plain.{Val}
+use Rattle.ioa_tree.specs.Runs.{Ending, done, fault_at, run}
+use Rattle.ioa_compile.specs.Programs.{Prog}
+use Rattle.ioa_compile.specs.Tables.{start_states, tabled}
+use Rattle.ioa_system.specs.Logs.{log_end, log_entry}
+use Rattle.ioa_system.specs.Systems.{values_of}
+use Rattle.ioa_system.specs.declared.log.LogEnd.{LogEnd}
+use Rattle.ioa_system.specs.declared.log.LogEntry.{LogEntry}
+use Rattle.ioa_node.specs.Nodes.{Node}
+use Rattle.ioa_run.specs.Boards.{Failure, IsSound, Standing}
+use Rattle.ioa_run.specs.Histories.{acts_of}
+
+-- the history, and last the action that faulted
+abbrev pub logged : List (ℕ × Act) → Option Failure → List (ℕ × Act)
+logged h None = h
+logged h (Some r) = h ++ r.entry ∷ []
+
+abbrev pub ending : List (ℕ × Act) → Option Failure → Ending
+ending h None = done (length h)
+ending h (Some r) = fault_at r.component r.fault (length h)
+
+-- the log, its end and the states are the board's, whose history is legal and whose fault is its action's; and they are those of the run
+-- over the logged actions
+pub record IsLogOf (p : Prog) (b : Standing (List Val)) (log : List LogEntry) (end : LogEnd) (ns : List Node) : Type 0 where
+  pub entries : map log_entry log ≡ logged b.history b.failure
+  pub ends : log_end end ≡ ending b.history b.failure
+  pub states : values_of ns ≡ b.states
+  pub sound : IsSound (tabled p) (start_states p) b
+  pub runs : run (tabled p) (acts_of (logged b.history b.failure)) (start_states p) ≡ record { performed = length b.history; states = b.states; ending = ending b.history b.failure }

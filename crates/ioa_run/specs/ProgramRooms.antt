@@ -1,0 +1,58 @@
+-- The room of a program: what its workers share.
+use Rattle.std.specs.Prelude.{◌≡◌, ◌+◌, ◌<◌, ℕ, List, length, refl, replicate}
+use Rattle.std.specs.Coded.{Coded, code_by, coded×, coded_ℕ, coded_list}
+use Rattle.ioa_value.specs.Actions.{Act}
+use Rattle.ioa_value.specs.Plain.{Val}
+use Rattle.ioa_compile.specs.Programs.{Prog}
+use Rattle.ioa_compile.specs.Coded.{coded_prog}
+use Rattle.ioa_compile.specs.Tables.{start_states}
+use Rattle.ioa_run.specs.declared.report.Report.{Report}
+use Rattle.ioa_run.specs.contracts.report.Report as report
+use Rattle.ioa_run.specs.Boards.{Standing, begun}
+use Rattle.ioa_run.specs.Coded.{coded_act, coded_standing}
+use Rattle.ioa_run.specs.Histories.{count}
+use Rattle.ioa_run.specs.ProgramBoards.{ProgramBoard}
+use Rattle.ioa_run.specs.Reports.{AreTold, Changes, blank}
+
+-- the inputs are the environment's script, and each worker has so many turns
+pub record ProgramRoom : Type 0 where
+  pub program : Prog
+  pub inputs : List Act
+  pub turns : ℕ
+  pub board : Standing (List Val)
+  pub reports : List Report
+
+abbrev pub coded_program_room : Coded ProgramRoom
+coded_program_room =
+    code_by (Prog × (List Act × (ℕ × (Standing (List Val) × List Report)))) (coded× coded_prog (coded× (coded_list coded_act) (coded× coded_ℕ (coded× coded_standing (coded_list report.the_row.coded)))))
+    (λ r. (r.program, (r.inputs, (r.turns, (r.board, r.reports)))))
+    (λ p. record { program = p.0; inputs = p.1.0; turns = p.1.1.0; board = p.1.1.1.0; reports = p.1.1.1.1 }) (λ _. refl)
+
+-- nothing is done yet
+abbrev pub start_room : Prog → List Act → ℕ → ProgramRoom
+start_room p inputs turns =
+    record { program = p; inputs = inputs; turns = turns; board = begun (start_states p); reports = replicate (length p.members + 1) blank }
+
+abbrev pub board_in : ProgramRoom → ProgramBoard
+board_in r = record { program = r.program; board = r.board }
+
+-- the environment's number
+abbrev pub environment : ProgramRoom → ℕ
+environment r = length r.program.members
+
+-- how many of the inputs are performed
+abbrev pub place : ProgramRoom → ℕ
+place r = count r.board.history (environment r)
+
+-- what a room keeps
+abbrev pub IsRoom : ProgramRoom → Type 0
+IsRoom r = AreTold (environment r) r.inputs r.turns r.board.history r.board.failure r.reports
+
+-- the worker is the environment, which has not performed all inputs
+abbrev pub HasInputsLeft : ProgramRoom → ℕ → Type 0
+HasInputsLeft r w = (w ≡ environment r) × (place r < length r.inputs)
+
+-- the worker's report is changed so, and nothing else
+pub record Tells (f : Report → Report) (w : ℕ) (r r' : ProgramRoom) : Type 0 where
+  pub report : Changes f w r.reports r'.reports
+  pub rest : r' ≡ record r { reports = r'.reports }
