@@ -3,6 +3,7 @@ ghost use Rattle.ioa_tree.specs.Names.{LegalNames};
 ghost use Rattle.ioa_tree.specs.Types.{types_of};
 ghost use Rattle.ioa_tree.specs.View.{tree_of};
 ghost use Rattle.ioa_tree.specs.WellFormed.{WellFormed};
+ghost use Rattle.ioa_syntax.specs.Source.{IsSource};
 ghost use Rattle.ioa_check.specs.Reasons.{in_source};
 ghost use Rattle.ioa_lex.specs.declared.refusal.Refusal.TheVariants.{OutOfMemory};
 
@@ -42,6 +43,8 @@ impl Checked {
     /// The declarations in order.
     pub fn declarations(&self) -> &[Declaration]
         ensures value { result.now ≡ self.now }
+        // Some tokens spell them.
+        ensures kept { IsSource (tree_of self.now) }
         ensures well_formed { WellFormed (tree_of self.now) }
         ensures legal { LegalNames (tree_of self.now) }
     {
