@@ -1,12 +1,12 @@
 -- A composition from its parts.
-use Rattle.std.proofs.Common.{◌≡◌, ◌≤◌, ℕ, Bool, true, ◌&&◌, length, List, [], ◌∷◌, map, take, ◌||◌, Some, Result, Ok, Err, IfErr, refl, sym, ap, subst, ◌∙◌}
+use Rattle.std.proofs.Common.{◌≡◌, ◌<◌, ◌≤◌, ℕ, Bool, true, not, ◌&&◌, length, List, [], ◌∷◌, map, take, ◌||◌, Some, Result, Ok, Err, IfErr, refl, sym, ap, subst, ◌∙◌}
 use Rattle.std.specs.Prelude.{slice_get}
 use Rattle.std.specs.List.{AllZip, list_all}
 use Rattle.std.proofs.lemmas.Simd.{map-map}
 use Rattle.std.proofs.lemmas.List.{length-map}
 use Rattle.ioa_value.specs.Actions.{Name}
 use Rattle.ioa_value.specs.Names.{IsName}
-use Rattle.ioa_value.specs.Table.{Table, AreTypes}
+use Rattle.ioa_value.specs.Table.{Table, AreTypes, contains, all_names}
 use Rattle.ioa_value.specs.declared.limits.TheConstants.{LIMITS}
 use Rattle.ioa_value.proofs.ItemLemmas.{get_map}
 use Rattle.ioa_lex.specs.declared.refusal.Refusal.{Refusal}
@@ -28,7 +28,7 @@ use Rattle.ioa_compose.specs.Bindings.{crash_in, plain_in, instance_in, host_in,
 use Rattle.ioa_compose.specs.Fine.{IsSound, IsTyped, AreOver}
 use Rattle.ioa_compose.specs.Held.{member_of}
 use Rattle.ioa_compose.specs.Refusals.{Reason, misfit, faulty, misnamed, clashing, hiding, no_memory, other, reason_of, IsUnbound, IsFirstUnknown, IsRefused, NoneClash, FaultsIn, ClashesIn, HidesIn}
-use Rattle.ioa_compose.specs.Rewriting.{spelled, with_signals}
+use Rattle.ioa_compose.specs.Rewriting.{spelled}
 use Rattle.ioa_compose.specs.Stands.{member_for, composed_for, signalled, Stands}
 use Rattle.ioa_compose.proofs.CompatibleLemmas.{compatible-from}
 use Rattle.ioa_compose.proofs.FineLemmas.{AllBind, all-bound}
@@ -66,14 +66,16 @@ module _ (s : SourceTree) (t : CompositionTree) (h : Hosted) (declared : AreType
   hosted-sound = record {
     types = subst AreTypes (sym b.types) declared;
     legal = subst IsName (sym b.name) k.legal;
+    apart = ap (λ ts. not (contains (all_names ts) h.name)) b.types ∙ ap (λ n. not (contains (all_names (types_of s)) n)) b.name ∙ k.apart;
     names = ap distinct called ∙ k.names;
+    some = subst (λ n. 0 < n) (sym long) k.some;
     few = subst (λ n. n ≤ LIMITS.components) (sym long) k.few;
     hidden = ap distinct b.hidden ∙ k.hidden;
     few_hidden = subst (λ (ns : List Name). length ns ≤ LIMITS.hidden) (sym b.hidden) k.few_hidden;
     outputs = all_same (is_output_of (map (λ (m : Member). m.instance) (map member_for h.hosts))) (is_output_of (host_instances h)) h.hidden (same_outputs h.hosts)
         ∙ ap (list_all (is_output_of (host_instances h))) b.hidden ∙ b.outputs;
     over = subst (λ l. AreOver l (map member_for h.hosts)) (sym b.types) (hosts_over s t.instances h.hosts b.hosts);
-    members = hosts_fine s fine legal t.instances h.hosts declared k.legal_names k.legal_crashes b.hosts;
+    members = hosts_fine s fine legal t.instances h.hosts declared k.entries k.legal_names k.legal_crashes b.hosts;
     compatible = stands_compatible h (composed_for h) stands b.compatible;
     few_invariants = subst (λ (us : List InvariantTree). length us ≤ LIMITS.invariants) (sym b.invariants) (invariants-few s fine);
     invariants = λ i j m v e at.

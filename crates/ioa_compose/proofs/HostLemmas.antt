@@ -1,5 +1,5 @@
 -- The hosts of a well formed source, and the components that stand for them.
-use Rattle.std.proofs.Common.{◌≡◌, ◌≤◌, ℕ, arith, drop, length, length-append, zero, suc, Bool, true, ◌&&◌, ◌||◌, List, [], ◌∷◌, ◌++◌, map, All, Option, Some, None, slice_get, refl, sym, ap, subst, ◌∙◌}
+use Rattle.std.proofs.Common.{◌≡◌, ◌<◌, ◌≤◌, ℕ, arith, drop, length, length-append, zero, suc, Bool, true, ◌&&◌, ◌||◌, List, [], ◌∷◌, ◌++◌, map, All, Option, Some, None, slice_get, refl, sym, ap, subst, ◌∙◌}
 use Rattle.std.specs.List.{list_all, list_any}
 use Rattle.std.specs.Str.{bytes_eq}
 use Rattle.std.proofs.lemmas.Bool.{and_from}
@@ -10,18 +10,20 @@ use Rattle.ioa_value.specs.Actions.{Name}
 use Rattle.ioa_value.specs.Names.{IsName}
 use Rattle.ioa_value.specs.Table.{AreTypes}
 use Rattle.ioa_value.specs.declared.limits.TheConstants.{LIMITS}
-use Rattle.ioa_tree.specs.Tree.{CrashTree, EntryTree, VariableTree, InstanceTree, InvariantTree, SourceTree}
+use Rattle.ioa_value.proofs.ItemLemmas.{find_at}
+use Rattle.ioa_tree.specs.Tree.{AutomatonTree, CrashTree, EntryTree, VariableTree, InstanceTree, InvariantTree, SourceTree}
 use Rattle.ioa_tree.specs.Names.{names_of_expr, names_of_crash, names_of_automaton, names_of_invariant, LegalNames}
 use Rattle.ioa_tree.specs.Types.{types_of}
 use Rattle.ioa_tree.specs.Components.{is_output}
 use Rattle.ioa_tree.specs.Instances.{Instance, Fit}
-use Rattle.ioa_tree.specs.Compositions.{Member, has_output, is_output_of, invariants}
+use Rattle.ioa_tree.specs.Compositions.{Member, automata, has_output, is_output_of, invariants}
 use Rattle.ioa_tree.specs.Hosts.{crash_fine, Host, IsHost, AreHosts}
 use Rattle.ioa_tree.specs.WellFormed.{is_some_of, held, has_ty, automaton_fine, entry_within, automaton_within, global_names, well_formed}
 use Rattle.ioa_tree.proofs.PartNames.{legal_automaton, legal_entries, legal_invariants}
 use Rattle.ioa_tree.proofs.Starts.{starts_fit}
 use Rattle.ioa_tree.proofs.FineParts.{fine_parts, within_parts}
 use Rattle.ioa_tree.proofs.TypeAgreement.{type_same}
+use Rattle.ioa_compose.specs.Bindings.{HaveEntries}
 use Rattle.ioa_compose.specs.Rewriting.{spelled, up_variable, signals, rewritten}
 use Rattle.ioa_compose.specs.Crashes.{MayCrash}
 use Rattle.ioa_compose.specs.Fine.{IsFine, AllFine, AreOver, IsTyped, component_limits}
@@ -34,6 +36,7 @@ use Rattle.ioa_compose.proofs.RewrittenLimits.{within_wider}
 use Rattle.ioa_compose.proofs.CrashLemmas.{means_crash}
 use Rattle.ioa_compose.proofs.StaysLemmas.{stays_fine}
 use Rattle.ioa_compose.proofs.StandLemmas.{AreSpelled, rewriting_stands}
+use Rattle.ioa_compose.proofs.QuestionLemmas.{all_found}
 use Rattle.ioa_compose.proofs.SourceLemmas.{named_fine, named_within}
 
 -- ---- names and outputs
@@ -126,8 +129,8 @@ module _ (s : SourceTree) (fine : well_formed s ≡ true) (legal : LegalNames s)
       (λ v k. all_spelled (names_of_expr v.condition) (All-tail IsName v.automaton (names_of_expr v.condition) k)) (invariants s) (legal_invariants s legal)
 
   -- the component that stands for a host is fine
-  pub host_fine : (i : InstanceTree) (p : Host) → AreTypes (types_of s) → IsName i.name → All IsName (names_of_crash i.crash) → IsHost s i p → IsFine component_limits (member_for p)
-  host_fine i p d named signalled b = go p.crash refl
+  pub host_fine : (i : InstanceTree) (p : Host) → AreTypes (types_of s) → HaveEntries s → IsName i.name → All IsName (names_of_crash i.crash) → IsHost s i p → IsFine component_limits (member_for p)
+  host_fine i p d filled named signalled b = go p.crash refl
     where
       types : AreTypes p.instance.types
       types = subst AreTypes (sym b.types) d
@@ -138,11 +141,17 @@ module _ (s : SourceTree) (fine : well_formed s ≡ true) (legal : LegalNames s)
       narrow : list_all (entry_within LIMITS) p.instance.automaton.entries ≡ true
       narrow = (within_parts LIMITS p.instance.automaton within).each_entry
 
+      some : 0 < length p.instance.automaton.entries
+      some =
+          let r = find_at (λ a. bytes_eq a.name i.automaton) (automata s) p.instance.automaton b.automaton in
+          all_found (λ (a : AutomatonTree). 0 < length a.entries) (automata s) r.0 p.instance.automaton filled r.1
+
       go : (o : Option CrashTree) → p.crash ≡ o → IsFine component_limits (member_by o p)
       go None e =
           let parts = fine_parts p.instance.types p.instance.types (global_names s) p.instance.automaton (host_automaton i p b) in
           record {
             legal = subst IsName (sym b.name) named;
+            some_entries = some;
             legal_entries = legal_entries p.instance.automaton (legal_automaton s i.automaton p.instance.automaton legal b.automaton);
             automaton = (global_names s, host_automaton i p b);
             within = within_wider p.instance.automaton within;
@@ -160,6 +169,7 @@ module _ (s : SourceTree) (fine : well_formed s ≡ true) (legal : LegalNames s)
           (All-head IsName n.recover [] (All-tail IsName n.crash (n.recover ∷ []) names)) may in
           record {
             legal = subst IsName (sym b.name) named;
+            some_entries = let more = length-append p.instance.automaton.entries (signals n) in omega (arith, some, more);
             legal_entries = k.legal_entries;
             automaton = k.automaton;
             within = k.within within;
@@ -172,15 +182,15 @@ module _ (s : SourceTree) (fine : well_formed s ≡ true) (legal : LegalNames s)
             added = added_behind p.instance.automaton.variables (up_variable ∷ []) refl;
           }
 
-  pub hosts_fine : (is : List InstanceTree) (hosts : List Host) → AreTypes (types_of s) → All (λ i. IsName i.name) is → All (λ i. All IsName (names_of_crash i.crash)) is
+  pub hosts_fine : (is : List InstanceTree) (hosts : List Host) → AreTypes (types_of s) → HaveEntries s → All (λ i. IsName i.name) is → All (λ i. All IsName (names_of_crash i.crash)) is
       → AreHosts s is hosts → AllFine component_limits (map member_for hosts)
-  hosts_fine [] [] d n c b = tt
-  hosts_fine [] (h ∷ hs) d n c b = absurd b
-  hosts_fine (i ∷ is) [] d n c b = absurd b
-  hosts_fine (i ∷ is) (h ∷ hs) d n c b =
+  hosts_fine [] [] d f n c b = tt
+  hosts_fine [] (h ∷ hs) d f n c b = absurd b
+  hosts_fine (i ∷ is) [] d f n c b = absurd b
+  hosts_fine (i ∷ is) (h ∷ hs) d f n c b =
       let crashes = λ (j : InstanceTree). All IsName (names_of_crash j.crash) in (
-        host_fine i h d (All-head (λ (j : InstanceTree). IsName j.name) i is n) (All-head crashes i is c) b.0,
-        hosts_fine is hs d (All-tail (λ (j : InstanceTree). IsName j.name) i is n) (All-tail crashes i is c) b.1,
+        host_fine i h d f (All-head (λ (j : InstanceTree). IsName j.name) i is n) (All-head crashes i is c) b.0,
+        hosts_fine is hs d f (All-tail (λ (j : InstanceTree). IsName j.name) i is n) (All-tail crashes i is c) b.1,
       )
 
 over_by : (o : Option CrashTree) (p : Host) → (member_by o p).instance.types ≡ p.instance.types

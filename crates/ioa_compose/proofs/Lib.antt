@@ -4,6 +4,8 @@ pub mod ValueLemmas
 pub mod PickLemmas
 pub mod BindingLemmas
 pub mod StartLemmas
+pub mod FilledLemmas
+pub mod ApartLemmas
 pub mod SourceLemmas
 pub mod FineLemmas
 pub mod SignatureLemmas

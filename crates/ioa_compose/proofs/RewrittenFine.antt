@@ -46,7 +46,7 @@ both_distinct ns ms d =
     (p.0, (and_parts (distinct ms) (apart ms ns) p.1).0)
 
 -- what is in neither part is not in the whole
-outside : (ns ms : List Name) (x : Name) → contains ns x ≡ false → contains ms x ≡ false → contains (ns ++ ms) x ≡ false
+pub outside : (ns ms : List Name) (x : Name) → contains ns x ≡ false → contains ms x ≡ false → contains (ns ++ ms) x ≡ false
 outside ns ms x h k = list_any-append (λ n. bytes_eq n x) ns ms ∙ ap (λ b. b || contains ms x) h ∙ k
 
 one_name : (y x : Name) → bytes_eq y x ≡ false → contains (y ∷ []) x ≡ false

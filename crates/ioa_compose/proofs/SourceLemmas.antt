@@ -1,5 +1,5 @@
 -- What a well formed source says of the declarations that are picked from it.
-use Rattle.std.proofs.Common.{◌≡◌, ◌&&◌, ◌||◌, Bool, true, false, List, [], ◌∷◌, ◌++◌, Option, Some, None, refl, subst, ◌∙◌, cond, map, length, nat_le}
+use Rattle.std.proofs.Common.{◌≡◌, ◌&&◌, ◌||◌, Bool, true, false, List, [], ◌∷◌, ◌++◌, Option, Some, None, refl, subst, ◌∙◌, cond, map, length, nat_le, nat_lt, ℕ, ◌<◌, arith}
 use Rattle.std.specs.List.{list_any, list_all, flat_map}
 use Rattle.std.specs.Str.{bytes_eq}
 use Rattle.std.proofs.lemmas.List.Elements.{All-head}
@@ -9,13 +9,18 @@ use Rattle.ioa_tree.proofs.FineParts.{source_parts, at_most}
 use Rattle.ioa_tree.proofs.Declared.{automata_fine, compositions_fine}
 use Rattle.ioa_tree.proofs.PartNames.{legal_composition, legal_instances, legal_crashes}
 use Rattle.std.proofs.lemmas.Bool.{and_from, and_parts}
+use Rattle.std.proofs.lemmas.Bool.Decides.{nat_tests}
 use Rattle.ioa_value.specs.Actions.{Name}
+use Rattle.ioa_value.specs.Table.{basic}
+use Rattle.ioa_syntax.specs.Source.{IsSource}
 use Rattle.ioa_tree.specs.Tree.{AutomatonTree, InstanceTree, CompositionTree, declared_type, automaton, composition, invariant, SourceTree}
 use Rattle.ioa_tree.specs.Types.{types_of}
 use Rattle.ioa_value.specs.declared.limits.TheConstants.{LIMITS}
 use Rattle.ioa_tree.specs.Compositions.{automata, compositions, picked, automaton_named}
 use Rattle.ioa_compose.specs.Bindings.{closed, AllReady, IsComposable}
 use Rattle.ioa_compose.proofs.PickLemmas.{last_or, last-first}
+use Rattle.ioa_compose.proofs.FilledLemmas.{has_instance, entries_spelled, instances_spelled}
+use Rattle.ioa_compose.proofs.ApartLemmas.{is_apart, compositions_apart}
 use Rattle.ioa_value.proofs.ItemLemmas.{find_both}
 use Rattle.ioa_tree.specs.WellFormed.{distinct, form_within, automaton_within, composition_within, declaration_within, automaton_fine, is_automaton_of, instance_fine, composition_fine, global_names, well_formed}
 
@@ -86,9 +91,12 @@ picked_passes : (p : CompositionTree → Bool) (s : SourceTree) (name : Option N
 picked_passes p s (Some n) c h e = (find_both (λ d. bytes_eq d.name n) p (compositions s) c e h).1
 picked_passes p s None c h e = last_passes p (compositions s) None c h (λ q. absurd (cc)) (last-first (compositions s) ∙ e)
 
--- a composition that is picked from a well formed source
-pub picked_composable : (s : SourceTree) (name : Option Name) (c : CompositionTree) → well_formed s ≡ true → LegalNames s → picked s name ≡ Some c → IsComposable s c
-picked_composable s name c h legal e =
+is_positive : (n : ℕ) → nat_lt 0 n ≡ true → 0 < n
+is_positive n h = grind (arith, nat_tests)
+
+-- a composition that is picked from a well formed source which some tokens spell
+pub picked_composable : (s : SourceTree) (name : Option Name) (c : CompositionTree) → IsSource s → well_formed s ≡ true → LegalNames s → picked s name ≡ Some c → IsComposable s c
+picked_composable s name c kept h legal e =
     let fine = picked_passes (composition_fine (types_of s) (types_of s) s) s name c (compositions_fine s h) e in
     let inner = and_parts (distinct (map (λ i. i.name) c.instances) && distinct c.hidden) (list_all (instance_fine (types_of s) (types_of s) s) c.instances) fine in
     let named = and_parts (distinct (map (λ i. i.name) c.instances)) (distinct c.hidden) inner.0 in
@@ -97,11 +105,14 @@ picked_composable s name c h legal e =
     let names = legal_composition s name c legal e in
     record {
       legal = All-head IsName c.name (flat_map names_of_instance c.instances ++ c.hidden) names;
+      apart = picked_passes (is_apart (types_of s)) s name c (compositions_apart basic s (source_parts s h).distinct_names) e;
       legal_names = legal_instances c names;
       legal_crashes = legal_crashes c names;
       names = named.0;
+      some = is_positive (length c.instances) (picked_passes has_instance s name c (instances_spelled s kept.0.0 kept.0.2) e);
       few = at_most (length c.instances) LIMITS.components few.0;
       ready = all_ready s c.instances inner.1;
       hidden = named.1;
       few_hidden = at_most (length c.hidden) LIMITS.hidden few.1;
+      entries = entries_spelled s kept.0.0 kept.0.2;
     }

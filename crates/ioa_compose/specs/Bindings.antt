@@ -1,5 +1,5 @@
 -- Components on the way: instances with the values of their arguments, and what evaluations leave.
-use Rattle.std.specs.Prelude.{◌≡◌, ◌≤◌, Bool, true, false, ◌&&◌, All, IsTrue, List, [], ◌∷◌, map, length, Option, Some, Result, Ok, Err, Vec}
+use Rattle.std.specs.Prelude.{◌≡◌, ◌<◌, ◌≤◌, Bool, true, false, not, ◌&&◌, All, IsTrue, List, [], ◌∷◌, map, length, Option, Some, Result, Ok, Err, Vec}
 use Rattle.std.specs.List.{list_all}
 use Rattle.std.specs.Option.{option_map, option_map_or}
 use Rattle.std.specs.Global.{Global}
@@ -8,7 +8,7 @@ use Rattle.ioa_value.specs.declared.value.Value.{Value}
 use Rattle.ioa_value.specs.Actions.{Name}
 use Rattle.ioa_value.specs.Names.{IsName}
 use Rattle.ioa_value.specs.Plain.{Val, plain}
-use Rattle.ioa_value.specs.Table.{Table}
+use Rattle.ioa_value.specs.Table.{Table, contains, all_names}
 use Rattle.ioa_tree.specs.Tree.{Expr, FieldTree, AutomatonTree, CrashTree, InstanceTree, CompositionTree, SourceTree}
 use Rattle.ioa_tree.specs.Names.{names_of_crash}
 use Rattle.ioa_tree.specs.View.{name_of, automaton_of, crash_of}
@@ -17,7 +17,7 @@ use Rattle.ioa_tree.specs.Types.{types_of, is_named}
 use Rattle.ioa_value.specs.declared.limits.TheConstants.{LIMITS}
 use Rattle.ioa_tree.specs.Meaning.{Env, val}
 use Rattle.ioa_tree.specs.Instances.{Instance, Fit, settled, argument_values, start_values}
-use Rattle.ioa_tree.specs.Compositions.{Member, automaton_named}
+use Rattle.ioa_tree.specs.Compositions.{Member, automata, automaton_named}
 use Rattle.ioa_tree.specs.WellFormed.{Context, distinct, type_of, start_fine, is_type, variable_fields, automaton_fine}
 use Rattle.ioa_compose.specs.Rewriting.{with_signals}
 use Rattle.ioa_compose.specs.Stands.{member_for}
@@ -111,17 +111,25 @@ abbrev pub AllReady : SourceTree → List InstanceTree → Type 0
 AllReady s [] = Unit {0}
 AllReady s (i ∷ is) = IsReady s i × AllReady s is
 
--- what a composition of a well formed source has: a legal name, components of different legal names, with legal names for crash and
--- recover, not too many, and each is ready, and different hidden names, not too many
+-- each automaton of the source has an entry
+abbrev pub HaveEntries : SourceTree → Type 0
+HaveEntries s = All (λ a. 0 < length a.entries) (automata s)
+
+-- what a composition of a well formed source has: a legal name that no type gives, at least one component, of different legal names,
+-- with legal names for crash and recover, not too many, and each is ready, and different hidden names, not too many; and the source's
+-- automata have entries
 pub record IsComposable (s : SourceTree) (c : CompositionTree) : Type 0 where
   pub legal : IsName c.name
+  pub apart : IsTrue (not (contains (all_names (types_of s)) c.name))
   pub legal_names : All (λ i. IsName i.name) c.instances
   pub legal_crashes : All (λ i. All IsName (names_of_crash i.crash)) c.instances
   pub names : IsTrue (distinct (map (λ i. i.name) c.instances))
+  pub some : 0 < length c.instances
   pub few : length c.instances ≤ LIMITS.components
   pub ready : AllReady s c.instances
   pub hidden : IsTrue (distinct c.hidden)
   pub few_hidden : length c.hidden ≤ LIMITS.hidden
+  pub entries : HaveEntries s
 
 -- start expressions have their variables' types, which are known
 pub record StartsWell (types : Table) (a : AutomatonTree) : Type 0 where

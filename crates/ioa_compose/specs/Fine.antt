@@ -1,10 +1,10 @@
 -- What each component of a composition keeps.
-use Rattle.std.specs.Prelude.{◌≡◌, ◌≤◌, ℕ, ◌+◌, not, All, IsTrue, List, [], ◌∷◌, Ok, map, drop, length}
+use Rattle.std.specs.Prelude.{◌≡◌, ◌<◌, ◌≤◌, ℕ, ◌+◌, not, All, IsTrue, List, [], ◌∷◌, Ok, map, drop, length}
 use Rattle.std.specs.List.{list_all}
 use Rattle.std.specs.Str.{bytes_eq}
 use Rattle.ioa_value.specs.Actions.{Name}
 use Rattle.ioa_value.specs.Names.{IsName}
-use Rattle.ioa_value.specs.Table.{Table, AreTypes}
+use Rattle.ioa_value.specs.Table.{Table, AreTypes, contains, all_names}
 use Rattle.ioa_value.specs.declared.limits.Limits.{Limits}
 use Rattle.ioa_value.specs.declared.limits.TheConstants.{LIMITS}
 use Rattle.ioa_tree.specs.Tree.{InvariantTree}
@@ -16,11 +16,12 @@ use Rattle.ioa_tree.specs.WellFormed.{distinct, variable_fields, held, has_ty, a
 use Rattle.ioa_compose.specs.Questions.{OfThese}
 use Rattle.ioa_compose.specs.Rewriting.{spelled}
 
--- the component's name and those of its entries are legal, the automaton is well formed and within these limits, but that an entry has
--- no more positions than in a source, the arguments are of the formals' types, and the start values, of the variables' types, are those
--- of the start expressions; and no text spells the name of a variable behind those that the source declares
+-- the component's name and those of its entries are legal, the automaton has an entry, is well formed and within these limits, but that
+-- an entry has no more positions than in a source, the arguments are of the formals' types, and the start values, of the variables' types,
+-- are those of the start expressions; and no text spells the name of a variable behind those that the source declares
 pub record IsFine (most : Limits) (m : Member) : Type 0 where
   pub legal : IsName m.name
+  pub some_entries : 0 < length m.instance.automaton.entries
   pub legal_entries : All (λ e. IsName e.name) m.instance.automaton.entries
   pub automaton : (globals : List Name) × IsTrue (automaton_fine m.instance.types m.instance.types globals m.instance.automaton)
   pub within : IsTrue (automaton_within most m.instance.automaton)
@@ -54,12 +55,14 @@ component_limits = record LIMITS {
   nodes = LIMITS.nodes + 2;
 }
 
--- what a composition keeps: its name is legal, the components have one table of types and different names, and so have the
--- hidden outputs; and the invariants are well typed, and name what a text can spell
+-- what a composition keeps: its name is legal and none that a type gives, it has a component, the components have one table of types
+-- and different names, and so have the hidden outputs; and the invariants are well typed, and name what a text can spell
 pub record IsSound (c : Composed) : Type 0 where
   pub types : AreTypes c.types
   pub legal : IsName c.name
+  pub apart : IsTrue (not (contains (all_names c.types) c.name))
   pub names : IsTrue (distinct (map (λ m. m.name) c.members))
+  pub some : 0 < length c.members
   pub few : length c.members ≤ LIMITS.components
   pub hidden : IsTrue (distinct c.hidden)
   pub few_hidden : length c.hidden ≤ LIMITS.hidden
