@@ -1,5 +1,5 @@
 -- An action has the same entry, and so the same kind, in the table as in the automaton.
-use Rattle.std.proofs.Common.{All, ◌≡◌, ℕ, suc, ◌≤◌, ◌⊎◌, inl, inr, Bool, true, false, cond, ◌&&◌, List, [], ◌∷◌, length, map, Option, Some, None, IfSome, refl, sym, ap, ◌∙◌, subst, arith}
+use Rattle.std.proofs.Common.{All, ◌≡◌, ℕ, suc, ◌≤◌, not, ◌⊎◌, inl, inr, Bool, true, false, cond, ◌&&◌, List, [], ◌∷◌, length, map, Option, Some, None, IfSome, refl, sym, ap, ◌∙◌, subst, arith}
 use Rattle.std.specs.Prelude.{slice_get}
 use Rattle.std.specs.List.{AllZip, find, list_any, list_all}
 use Rattle.std.specs.Option.{option_map}
@@ -9,7 +9,7 @@ use Rattle.std.proofs.lemmas.Option.{slice_get-map}
 use Rattle.ioa_value.specs.Actions.{Name, Act}
 use Rattle.ioa_value.specs.Names.{IsName}
 use Rattle.ioa_value.specs.Plain.{Val}
-use Rattle.ioa_value.specs.Table.{Table, AreTypes}
+use Rattle.ioa_value.specs.Table.{Table, AreTypes, contains, all_names}
 use Rattle.ioa_value.specs.Positions.{IsDomain}
 use Rattle.ioa_value.specs.Typing.{HaveTypes}
 use Rattle.ioa_value.specs.declared.limits.TheConstants.{LIMITS}
@@ -156,6 +156,7 @@ module _ (m : Member) (c : MemberCode) (fine : IsFine component_limits m) (same_
         types_are = same_types;
         few_variables = omega (arith, types_long m.instance.types (variable_fields a) c.start.types types, ap length (variables_names a), length-map a.variables (λ v. v.field.name), few.variables);
         typed = start;
+        some_entries = omega (arith, ap length names, length-map c.entries (λ e. e.name), length-map a.entries (λ t. t.name), fine.some_entries);
         few_entries = omega (arith, ap length names, length-map c.entries (λ e. e.name), length-map a.entries (λ t. t.name), few.entries);
         names = ap distinct names ∙ whole.entry_names;
         entries = are_entries a.entries c.entries (λ i t k. record { place = i; here = k }) all;
@@ -202,6 +203,8 @@ is_program c p h name typed_so hides all =
     record {
       types = subst AreTypes (sym typed_so) h.types;
       legal = subst IsName (sym name) h.legal;
+      apart = ap (λ ts. not (contains (all_names ts) p.name)) typed_so ∙ ap (λ n. not (contains (all_names c.types) n)) name ∙ h.apart;
+      some_members = omega (arith, ap length names, length-map p.members (λ m. m.name), length-map c.members (λ m. m.name), h.some);
       few_members = omega (arith, ap length names, length-map p.members (λ m. m.name), length-map c.members (λ m. m.name), h.few);
       names = ap distinct names ∙ h.names;
       members = subst (λ t. AreMembers t p.members) (sym typed_so) (are_members c.types c.members p.members h.over all);

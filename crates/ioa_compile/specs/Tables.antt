@@ -1,5 +1,5 @@
 -- What a program's table does: the components that its composition's step is made of.
-use Rattle.std.specs.Prelude.{◌≡◌, ◌≤◌, All, IsTrue, length, ℕ, Bool, true, false, ◌&&◌, List, [], ◌∷◌, map, find, Option, Some, None, IfSome, Result, Ok}
+use Rattle.std.specs.Prelude.{◌≡◌, ◌<◌, ◌≤◌, not, All, IsTrue, length, ℕ, Bool, true, false, ◌&&◌, List, [], ◌∷◌, map, find, Option, Some, None, IfSome, Result, Ok}
 use Rattle.std.specs.List.{list_any, list_all}
 use Rattle.std.specs.Option.{option_map, option_map_or}
 use Rattle.std.specs.Str.{bytes_eq}
@@ -7,7 +7,7 @@ use Rattle.ioa_arithmetic.specs.declared.arithmetic.Fault.{Fault}
 use Rattle.ioa_value.specs.Actions.{Name, Act}
 use Rattle.ioa_value.specs.Names.{IsName}
 use Rattle.ioa_value.specs.Plain.{Val}
-use Rattle.ioa_value.specs.Table.{Table, AreTypes}
+use Rattle.ioa_value.specs.Table.{Table, AreTypes, contains, all_names}
 use Rattle.ioa_value.specs.Positions.{Domain, every, single, IsDomain, all_take, domain_type}
 use Rattle.ioa_value.specs.Typing.{HaveTypes}
 use Rattle.ioa_value.specs.declared.limits.TheConstants.{LIMITS}
@@ -115,13 +115,14 @@ abbrev pub AreEntries : MemberCode → List EntryCode → Type 0
 AreEntries m [] = Unit {0}
 AreEntries m (e ∷ es) = IsEntry m e × AreEntries m es
 
--- the component's name is legal, it has these types, its variables start with values of theirs, and its entries have different
--- names
+-- the component's name is legal, it has these types, its variables start with values of theirs, and it has an entry, and entries of
+-- different names
 pub record IsMember (types : Table) (m : MemberCode) : Type 0 where
   pub legal : IsName m.name
   pub types_are : m.start.table ≡ types
   pub few_variables : length m.start.types ≤ component_limits.variables
   pub typed : HaveTypes types m.start.values m.start.types
+  pub some_entries : 0 < length m.entries
   pub few_entries : length m.entries ≤ component_limits.entries
   pub names : IsTrue (distinct (map (λ e. e.name) m.entries))
   pub entries : AreEntries m m.entries
@@ -134,11 +135,13 @@ AreMembers types (m ∷ ms) = IsMember types m × AreMembers types ms
 abbrev pub is_output_of : Prog → Name → Bool
 is_output_of p x = list_any (λ m. list_any (λ e. is_output (Some e.kind) && bytes_eq e.name x) m.entries) p.members
 
--- what a program keeps: its name is legal, the components have one table of types and different names and are compatible, and
--- the hidden names are different outputs'
+-- what a program keeps: its name is legal and none that a type gives, it has a component, the components have one table of types and
+-- different names and are compatible, and the hidden names are different outputs'
 pub record IsProgram (p : Prog) : Type 0 where
   pub types : AreTypes p.types
   pub legal : IsName p.name
+  pub apart : IsTrue (not (contains (all_names p.types) p.name))
+  pub some_members : 0 < length p.members
   pub few_members : length p.members ≤ LIMITS.components
   pub names : IsTrue (distinct (map (λ m. m.name) p.members))
   pub members : AreMembers p.types p.members
