@@ -6,3 +6,13 @@ pub mod Scheduling
 pub mod Once
 pub mod Telling
 pub mod Finishing
+pub mod Attempting
+pub mod Turned
+pub mod Counting
+pub mod Tried
+pub mod Going
+pub mod Choosing
+pub mod Acting
+pub mod Wishing
+pub mod Taking
+pub mod Ending

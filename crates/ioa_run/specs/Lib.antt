@@ -12,3 +12,11 @@ pub mod Reports
 pub mod ProgramRooms
 pub mod RoomCommits
 pub mod Outcomes
+pub mod Turns
+pub mod Attempts
+pub mod Proposers
+pub mod Alone
+pub mod Choices
+pub mod Going
+pub mod Turning
+pub mod Rounds

@@ -2,9 +2,11 @@
 //! waits for nobody.
 #![tactic(auto)]
 
+mod alone;
 mod answer;
 mod assessed;
 mod board;
+mod choice;
 mod event;
 mod laws;
 mod outcome;
@@ -13,20 +15,24 @@ mod planned;
 mod recorded;
 mod report;
 mod room;
+mod run_err;
 mod schedule;
 mod seeded;
+mod turn;
 mod verdict;
 
+pub use alone::run_alone;
 pub use answer::Answer;
 pub use board::Board;
 pub use event::Event;
-pub use laws::one_play;
+pub use laws::{attempts_answer, one_play};
 pub use outcome::Outcome;
 pub use plan::Plan;
 pub use planned::Planned;
 pub use recorded::Recorded;
 pub use report::{Report, Why};
 pub use room::Room;
+pub use run_err::RunErr;
 pub use schedule::{Core, play};
 pub use seeded::Seeded;
 pub use verdict::Verdict;

@@ -133,7 +133,7 @@ fn exchange<'p>(
 }
 
 /// What the worker is answered that plans the action by the participants' states as they are now.
-fn plan<'p>(
+pub(crate) fn plan<'p>(
     alloc: Global,
     board: &Board<'p>,
     who: usize,

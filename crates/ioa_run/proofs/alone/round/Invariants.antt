@@ -1,0 +1,6 @@
+use Rattle.std.proofs.Common.{map}
+use Rattle.ioa_run.specs.Rounds.{GoesFirst}
+use Rattle.ioa_run.proofs.alone.round.Given as goal
+
+abbrev pub invariant-loop-who : goal.invariant-loop-who
+invariant-loop-who g l = GoesFirst l.who l.fn.room (map g.W.Words.stream l.fn.words) l.fn.ended l.room (map g.W.Words.stream l.words) l.ended

@@ -1,0 +1,63 @@
+-- A run of a program's workers on one thread, and what it gives.
+use Rattle.std.specs.Prelude.{◌≡◌, ◌≢◌, ◌≤◌, ◌<◌, ℕ, List, [], None, Some, All, Result, Ok, Err, length, slice_get}
+use Rattle.ioa_value.specs.Actions.{Act}
+use Rattle.ioa_value.specs.Plain.{Val}
+use Rattle.ioa_tree.specs.Components.{Component}
+use Rattle.ioa_tree.specs.Proposing.{Words}
+use Rattle.ioa_tree.specs.Steps.{owner, participants}
+use Rattle.ioa_compile.specs.Programs.{Prog}
+use Rattle.ioa_compile.specs.Tables.{start_states, tabled}
+use Rattle.ioa_run.specs.Boards.{Standing}
+use Rattle.ioa_run.specs.Outcomes.{IsLogOf}
+use Rattle.ioa_run.specs.Proposers.{proposers}
+use Rattle.ioa_run.specs.Reports.{AreTold}
+use Rattle.ioa_run.specs.Turns.{Turns, alone}
+use Rattle.ioa_run.specs.declared.outcome.Outcome.{Outcome}
+use Rattle.ioa_run.specs.declared.report.Report.{Report}
+use Rattle.ioa_run.specs.declared.report.Why.{Why}
+use Rattle.ioa_run.specs.declared.run_err.RunErr.{RunErr}
+
+-- the run of the program on one thread
+abbrev pub alone_in : Prog → List Words → List Act → ℕ → Turns (List Val)
+alone_in p words inputs turns = alone (tabled p) (proposers p) inputs turns (start_states p) words
+
+-- ---- what it gives
+
+-- the log, the end and the states are a board's, and the reports tell of its history
+abbrev pub IsOutcome : Prog → List Act → ℕ → Outcome → Type 0
+IsOutcome p inputs turns o =
+    (b : Standing (List Val)) × IsLogOf p b o.log.items o.end o.states.items × AreTold (length p.members) inputs turns b.history b.failure o.reports.items
+
+-- memory was refused to no worker
+abbrev pub NoMemory : List Report → Type 0
+NoMemory rs = All (λ r. r.why ≢ Why.Memory) rs
+
+-- the log, the end, the states and the reports are those of the run that is defined
+pub record IsAlone (p : Prog) (words : List Words) (inputs : List Act) (turns : ℕ) (o : Outcome) : Type 0 where
+  pub log : IsLogOf p (alone_in p words inputs turns).board o.log.items o.end o.states.items
+  pub reports : o.reports.items ≡ (alone_in p words inputs turns).reports
+
+-- ---- when there is none
+
+-- an input of the composition: a component has the action, and none owns it
+pub record IsInput {S : Type 0} (ps : List (Component S)) (a : Act) : Type 0 where
+  pub known : participants ps a ≢ []
+  pub free : owner ps a ≡ None
+
+-- the first action that is none
+pub record IsFirstOther {S : Type 0} (ps : List (Component S)) (inputs : List Act) (i : ℕ) : Type 0 where
+  pub there : i < length inputs
+  pub other : (a : Act) → slice_get inputs i ≡ Some a → IsInput ps a → ⊥
+  pub before : (j : ℕ) (a : Act) → j < i → slice_get inputs j ≡ Some a → IsInput ps a
+
+-- more turns than these are too many
+abbrev pub most_turns : ℕ
+most_turns = 100000
+
+-- too many turns first, then the first action that is no input; where memory is wanting before the start no input need have been looked at
+abbrev pub Refuses : Prog → List Act → ℕ → Result Outcome RunErr → Type 0
+Refuses p inputs turns (Ok o) = (turns ≤ most_turns) × All (IsInput (tabled p)) inputs
+Refuses p inputs turns (Err RunErr.TooManyTurns) = most_turns < turns
+Refuses p inputs turns (Err (RunErr.BadInput i)) = (turns ≤ most_turns) × IsFirstOther (tabled p) inputs i
+Refuses p inputs turns (Err RunErr.Threads) = ⊥
+Refuses p inputs turns (Err RunErr.OutOfMemory) = turns ≤ most_turns

@@ -1,0 +1,52 @@
+-- Turns that are taken as they are defined, unless memory is refused to a worker.
+use Rattle.std.specs.Prelude.{◌≡◌, ◌≢◌, ◌⊎◌, ℕ, List, Bool, true, false, Some, cond, length, slice_get, unwrap_or}
+use Rattle.ioa_tree.specs.Components.{Component}
+use Rattle.ioa_value.specs.Actions.{Act}
+use Rattle.ioa_run.specs.declared.answer.Answer.{Answer}
+use Rattle.ioa_run.specs.declared.report.Report.{Report}
+use Rattle.ioa_run.specs.declared.report.Why.{Why}
+use Rattle.ioa_run.specs.Reports.{left}
+use Rattle.ioa_run.specs.Turns.{Proposer, Turns, meant, told, turned}
+
+-- the report of whoever takes more turns says no other thing
+abbrev pub AreGoing : {S : Type 0} → Turns S → Type 0
+AreGoing t = (w : ℕ) (q : Report) → slice_get t.ended w ≡ Some false → slice_get t.reports w ≡ Some q → q.why ≡ Why.Stopped
+
+-- memory was refused to a worker, which has ended
+pub record IsRefused (rs : List Report) (es : List Bool) : Type 0 where
+  pub worker : ℕ
+  pub report : Report
+  pub there : slice_get rs worker ≡ Some report
+  pub memory : report.why ≡ Why.Memory
+  pub ended : slice_get es worker ≡ Some true
+
+-- what an answer changes in a report, where each worker has so many turns: who is stopped leaves
+abbrev pub told_in : ℕ → Answer → Report → Report
+told_in turns Answer.Stopped r = left turns Why.Stopped r
+told_in turns (Answer.Committed n) r = told (Answer.Committed n) r
+told_in turns (Answer.Faulted c f) r = told (Answer.Faulted c f) r
+told_in turns Answer.NotAnAction r = told Answer.NotAnAction r
+told_in turns Answer.NotYours r = told Answer.NotYours r
+told_in turns Answer.NotEnabled r = told Answer.NotEnabled r
+told_in turns Answer.Planned r = told Answer.Planned r
+told_in turns Answer.NoPlan r = told Answer.NoPlan r
+told_in turns Answer.Stale r = told Answer.Stale r
+
+-- whether and how a worker is told that its turns are done, where each has so many
+abbrev pub dismissed : ℕ → List Bool → ℕ → Report → Report
+dismissed turns es w q = cond (unwrap_or (slice_get es w) true) q (left turns Why.TurnsDone q)
+
+-- where it goes on, the worker takes the turn that is defined; and other reports stay
+pub record IsTurn {S : Type 0} (ps : List (Component S)) (entries : List (List (Proposer S))) (inputs : List Act) (w : ℕ) (t t' : Turns S) : Type 0 where
+  pub others : (v : ℕ) → v ≢ w → slice_get t'.reports v ≡ slice_get t.reports v
+  pub kept : (v : ℕ) → v ≢ w → slice_get t'.ended v ≡ slice_get t.ended v
+  pub words : length t'.words ≡ length t.words
+  pub ended : length t'.ended ≡ length t.ended
+  pub turn : ((q : Report) → slice_get t.reports w ≡ Some q → q.why ≡ Why.Stopped) → t' ≡ turned ps w (meant ps entries inputs w t) t
+
+-- these turns are taken as they are defined, unless memory is refused to a worker; and that stays told
+pub record Follows {S : Type 0} (go : Turns S → Turns S) (t t' : Turns S) : Type 0 where
+  pub words : length t'.words ≡ length t.words
+  pub ended : length t'.ended ≡ length t.ended
+  pub follows : AreGoing t → (t' ≡ go t) ⊎ IsRefused t'.reports t'.ended
+  pub refused : IsRefused t.reports t.ended → IsRefused t'.reports t'.ended

@@ -1,0 +1,201 @@
+ghost use Rattle.std.specs.Prelude.{◌≡◌, ◌↔◌, ◌+◌, ◌<◌, All, IfOk, IsTrue, false, length, map, replicate};
+ghost use Rattle.std.specs.Option.{option_map};
+ghost use Rattle.ioa_value.specs.Actions.{act_of};
+ghost use Rattle.ioa_compile.specs.Tables.{tabled};
+ghost use Rattle.ioa_run.specs.Alone.{IsAlone, IsInput, IsOutcome, NoMemory, Refuses};
+ghost use Rattle.ioa_run.specs.Rounds.{Checks, Dismisses, GoesRound, GoesRounds};
+ghost use Rattle.ioa_run.specs.Turning.{HasPerformed, Takes, Wishes};
+
+use crate::choice::choose;
+use crate::outcome::Outcome;
+use crate::report::Why;
+use crate::room::Room;
+use crate::run_err::RunErr;
+use crate::turn::{TurnEnd, act, next_input};
+use ioa_compile::Program;
+use ioa_node::{Words, Workspace};
+use ioa_system::Participation;
+use ioa_value::{Action, OutOfMemory};
+use std::alloc::Global;
+
+/// More turns than these are too many.
+const MOST_TURNS: u64 = 100_000;
+
+/// Runs the program on one thread. In each of so many rounds each component takes a turn, in ascending order, and then the environment,
+/// which performs the inputs. There is one source of words for each component.
+///
+/// A worker takes no more turns after a fault of its action, or where it would commit after another's; the others go on. Memory that is
+/// refused to a worker in its turn ends that worker alone, and its report says so.
+///
+/// It answers `TooManyTurns` where each worker would have more than 100,000 turns; then `BadInput` with the first action that is no
+/// input of the composition; and `OutOfMemory` where memory was refused before the start. It never answers `Threads`.
+pub fn run_alone<W: Words + Drop>(
+    alloc: Global,
+    program: &Program,
+    turns: u64,
+    words: Vec<W>,
+    inputs: &[Action],
+) -> Result<Outcome, RunErr>
+    requires sources { length words.items ≡ length program.now.members }
+    ensures outcome { IfOk result (λ o. IsOutcome program.now (map act_of inputs.now) turns o) }
+    ensures alone { IfOk result (λ o. NoMemory o.reports.items → IsAlone program.now (map W.stream words.items) (map act_of inputs.now) turns o) }
+    ensures refused { Refuses program.now (map act_of inputs.now) turns result }
+{
+    check(alloc, program, turns, inputs)?;
+    let mut words = words;
+    let mut room = Room::start(alloc, program, inputs, turns)?;
+    let mut ended = none_ended(alloc, program.members().len())?;
+    take_turns(alloc, &mut room, inputs, turns, &mut words, &mut ended);
+    dismiss(&mut room, &ended);
+    Ok(room.finish())
+}
+
+/// Whether a run may begin, so far as turns and inputs say.
+fn check(alloc: Global, program: &Program, turns: u64, inputs: &[Action]) -> Result<(), RunErr>
+    ensures { Checks program.now (map act_of inputs.now) turns result }
+{
+    if turns > MOST_TURNS {
+        return Err(RunErr::TooManyTurns);
+    }
+    for i in 0..inputs.len() {
+        if !is_input(alloc, program, &inputs[i])? {
+            return Err(RunErr::BadInput(i));
+        }
+    }
+    Ok(())
+}
+
+/// Whether the action is an input of the composition.
+fn is_input(alloc: Global, program: &Program, action: &Action) -> Result<bool, OutOfMemory>
+    ensures { IfOk result (λ yes. IsTrue yes ↔ IsInput (tabled program.now) (act_of action.now)) }
+{
+    let participation = Participation::of(alloc, program, action)?;
+    Ok(!participation.participants().is_empty() && participation.owner().is_none())
+}
+
+/// For each of so many components, and for the environment, that it has not ended.
+fn none_ended(alloc: Global, components: usize) -> Result<Vec<bool>, OutOfMemory>
+    ensures { IfOk result (λ ended. ended.items ≡ replicate (components + 1) false) }
+{
+    let mut ended = Vec::new(alloc);
+    for _ in 0..components {
+        ended.push(false)?;
+    }
+    ended.push(false)?;
+    Ok(ended)
+}
+
+/// So many rounds of turns.
+fn take_turns<W: Words>(
+    alloc: Global,
+    room: &mut Room<'_>,
+    inputs: &[Action],
+    turns: u64,
+    words: &mut [W],
+    ended: &mut [bool],
+)
+    requires inputs { room.old.inputs ≡ map act_of inputs.now }
+    requires fine { All (IsInput (tabled room.old.program)) room.old.inputs }
+    requires words { length words.old ≡ length room.old.program.members }
+    requires ended { length ended.old ≡ length room.old.program.members + 1 }
+    ensures { GoesRounds turns room.old (map W.stream words.old) ended.old room.new (map W.stream words.new) ended.new }
+{
+    let mut workspace = Workspace::new(alloc);
+    for _ in 0..turns {
+        round(alloc, &mut workspace, room, inputs, words, ended);
+    }
+}
+
+/// A turn of each worker that has not ended: of the components in ascending order, and then of the environment.
+fn round<W: Words>(
+    alloc: Global,
+    workspace: &mut Workspace,
+    room: &mut Room<'_>,
+    inputs: &[Action],
+    words: &mut [W],
+    ended: &mut [bool],
+)
+    requires inputs { room.old.inputs ≡ map act_of inputs.now }
+    requires fine { All (IsInput (tabled room.old.program)) room.old.inputs }
+    requires words { length words.old ≡ length room.old.program.members }
+    requires ended { length ended.old ≡ length room.old.program.members + 1 }
+    ensures { GoesRound room.old (map W.stream words.old) ended.old room.new (map W.stream words.new) ended.new }
+{
+    for who in 0..ended.len() {
+        if !ended[who] {
+            let end = turn(alloc, workspace, room, inputs, words, who);
+            ended[who] = end.is_last();
+        }
+    }
+}
+
+/// A worker's turn. Where memory is refused it leaves.
+fn turn<W: Words>(
+    alloc: Global,
+    workspace: &mut Workspace,
+    room: &mut Room<'_>,
+    inputs: &[Action],
+    words: &mut [W],
+    who: usize,
+) -> TurnEnd
+    requires inputs { room.old.inputs ≡ map act_of inputs.now }
+    requires fine { All (IsInput (tabled room.old.program)) room.old.inputs }
+    requires words { length words.old ≡ length room.old.program.members }
+    requires worker { who < length room.old.program.members + 1 }
+    ensures { Takes room.old (map W.stream words.old) who result room.new (map W.stream words.new) }
+{
+    let performed = room.reports()[who].committed;
+    let Ok(action) = wish(alloc, workspace, room, inputs, words, who, performed) else {
+        room.leave(who, Why::Memory);
+        return TurnEnd::NoMemory;
+    };
+    let end = act(alloc, room, who, action);
+    if end.is_refused() {
+        room.leave(who, Why::Memory);
+    }
+    end
+}
+
+/// What a worker that has performed so many actions means to do: a component by its state on the board, which is lent, and by its words;
+/// the environment by its script.
+fn wish<W: Words>(
+    alloc: Global,
+    workspace: &mut Workspace,
+    room: &Room<'_>,
+    inputs: &[Action],
+    words: &mut [W],
+    who: usize,
+    performed: usize,
+) -> Result<Option<Action>, OutOfMemory>
+    requires inputs { room.now.inputs ≡ map act_of inputs.now }
+    requires words { length words.old ≡ length room.now.program.members }
+    requires worker { who < length room.now.program.members + 1 }
+    requires performed { HasPerformed room.now who performed }
+    ensures { IfOk result (λ r. Wishes room.now (map W.stream words.old) who (option_map act_of r) (map W.stream words.new)) }
+{
+    let members = room.board().program().members();
+    if who < members.len() {
+        let state = &room.board().states()[who];
+        let action = choose(
+            alloc,
+            workspace,
+            &members[who].entries,
+            state,
+            &mut words[who],
+        )?;
+        Ok(action)
+    } else {
+        next_input(alloc, inputs, performed)
+    }
+}
+
+/// Tells of each worker that has not ended that its turns are done.
+fn dismiss(room: &mut Room<'_>, ended: &[bool])
+    ensures { Dismisses room.old ended.now room.new }
+{
+    for who in 0..ended.len() {
+        if !ended[who] {
+            room.leave(who, Why::TurnsDone);
+        }
+    }
+}

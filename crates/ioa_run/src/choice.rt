@@ -1,0 +1,122 @@
+ghost use Rattle.std.specs.Prelude.{◌≡◌, IfOk, IfSome, length, map};
+ghost use Rattle.std.specs.Option.{option_map};
+ghost use Rattle.std.specs.Prelude.{slice_get};
+ghost use Rattle.ioa_value.specs.Actions.{act_of};
+ghost use Rattle.ioa_value.specs.Plain.{plain};
+ghost use Rattle.ioa_value.specs.Positions.{domain_of};
+ghost use Rattle.ioa_tree.specs.Components as components;
+ghost use Rattle.ioa_compile.specs.Shown.{entry_code, member_code};
+ghost use Rattle.ioa_run.specs.Proposers.{filled, local_entries};
+ghost use Rattle.ioa_run.specs.Choices.{AreOfState, Chooses, Gives, IsOfState};
+
+use ioa_compile::Entry;
+use ioa_node::{NodeState, Words, Workspace, propose_with};
+use ioa_tree::Kind;
+use ioa_value::{Action, OutOfMemory, Position, Value};
+use std::alloc::Global;
+
+/// The action that a component of these entries means to perform in this state: one word picks one of its local entries, whose proposal
+/// goes on with the words after it. None where it has no local entry, which takes no word, or the proposal gives none.
+///
+/// It asks that the entries' proposals are over the state's types.
+pub(crate) fn choose<W: Words>(
+    alloc: Global,
+    workspace: &mut Workspace,
+    entries: &[Entry],
+    state: &NodeState,
+    words: &mut W,
+) -> Result<Option<Action>, OutOfMemory>
+    requires { AreOfState state.now (map entry_code entries.now) }
+    ensures { IfOk result (λ r. Chooses (map entry_code entries.now) state.now.values (W.stream words.old) (option_map act_of r) (W.stream words.new)) }
+{
+    let count = local_count(entries);
+    if count == 0 {
+        return Ok(None);
+    }
+    let number = words.next() as usize % count;
+    match local_entry(entries, number) {
+        Some(entry) => propose_by(alloc, workspace, entry, state, words),
+        None => Ok(None),
+    }
+}
+
+/// How many entries their component performs.
+fn local_count(entries: &[Entry]) -> usize
+    ensures { result ≡ length (local_entries (map entry_code entries.now)) }
+{
+    let mut count = 0;
+    for entry in entries {
+        if is_local(entry.kind) {
+            count += 1;
+        }
+    }
+    count
+}
+
+/// The entry of this number among those that their component performs.
+fn local_entry<'a>(entries: &'a [Entry], number: usize) -> Option<&'a Entry>
+    ensures { option_map (λ e. entry_code e.now) result ≡ slice_get (local_entries (map entry_code entries.now)) number }
+{
+    let mut before = number;
+    for entry in entries {
+        if is_local(entry.kind) {
+            if before == 0 {
+                return Some(entry);
+            }
+            before -= 1;
+        }
+    }
+    None
+}
+
+fn is_local(kind: Kind) -> bool
+    ensures { result ≡ components.is_local (Some kind) }
+{
+    match kind {
+        Kind::Input => false,
+        Kind::Output | Kind::Internal => true,
+    }
+}
+
+/// The action that the entry proposes.
+fn propose_by<W: Words>(
+    alloc: Global,
+    workspace: &mut Workspace,
+    entry: &Entry,
+    state: &NodeState,
+    words: &mut W,
+) -> Result<Option<Action>, OutOfMemory>
+    requires { IfSome (entry_code entry.now).propose (IsOfState state.now) }
+    ensures { IfOk result (λ r. Gives (entry_code entry.now) state.now.values (W.stream words.old) (option_map act_of r) (W.stream words.new)) }
+{
+    let Some(code) = &entry.propose else {
+        return Ok(None);
+    };
+    let Some(values) = propose_with(alloc, workspace, code, state, words)? else {
+        return Ok(None);
+    };
+    Ok(Some(Action {
+        name: entry.name.clone()?,
+        vals: fill(alloc, &entry.positions, &values)?,
+    }))
+}
+
+/// Equals of these values, each in its place among the constants.
+fn fill(alloc: Global, positions: &[Position], values: &[Value]) -> Result<Vec<Value>, OutOfMemory>
+    ensures { IfOk result (λ all. map plain all.items ≡ filled (map domain_of positions.now) (map plain values.now)) }
+{
+    let mut all = Vec::with_capacity(alloc, positions.len())?;
+    let mut used = 0;
+    for position in positions {
+        match position {
+            Position::Constant(value) => all.push(value.try_copy(alloc)?)?,
+            Position::Typed(_) => {
+                if used < values.len() {
+                    all.push(values[used].try_copy(alloc)?)?;
+                    used += 1;
+                }
+            }
+        }
+    }
+    Ok(all)
+}

@@ -1,0 +1,118 @@
+ghost use Rattle.std.specs.Prelude.{◌≡◌, ◌↔◌, All, IfOk, IsTrue, Some, map, slice_get};
+ghost use Rattle.std.specs.Option.{option_map};
+ghost use Rattle.ioa_value.specs.Actions.{act_of};
+ghost use Rattle.ioa_compile.specs.Tables.{tabled};
+ghost use Rattle.ioa_run.specs.Alone.{IsInput};
+ghost use Rattle.ioa_run.specs.ProgramRooms.{environment, place};
+ghost use Rattle.ioa_run.specs.declared.turn.TurnEnd.TheVariants as turn_ends;
+ghost use Rattle.ioa_run.specs.Turning.{Acts, Commits, ends};
+
+use crate::plan::Plan;
+use crate::planned::Planned;
+use crate::report::Why;
+use crate::room::Room;
+use crate::schedule::plan;
+use crate::verdict::Verdict;
+use ioa_value::{Action, OutOfMemory};
+use std::alloc::Global;
+
+/// What a turn leaves of its worker.
+#[derive(Clone, Copy, Debug, PartialEq, Eq)]
+pub(crate) enum TurnEnd {
+    /// It takes more turns, if it has some.
+    GoesOn,
+    /// It takes no more turns.
+    IsLast,
+    /// Memory was refused: nothing was done.
+    NoMemory,
+}
+
+impl TurnEnd {
+    /// Whether the worker takes no more turns.
+    pub(crate) fn is_last(self) -> bool
+        ensures { result ≡ ends self }
+    {
+        match self {
+            TurnEnd::GoesOn => false,
+            TurnEnd::IsLast | TurnEnd::NoMemory => true,
+        }
+    }
+
+    /// Whether memory was refused.
+    pub(crate) fn is_refused(self) -> bool
+        ensures { IsTrue result ↔ (self ≡ turn_ends.NoMemory) }
+    {
+        match self {
+            TurnEnd::NoMemory => true,
+            TurnEnd::GoesOn | TurnEnd::IsLast => false,
+        }
+    }
+}
+
+/// The turn of a worker that means to perform this action, or has nothing to commit. A plan is made and committed at once, so none is stale.
+pub(crate) fn act<'p>(
+    alloc: Global,
+    room: &mut Room<'p>,
+    who: usize,
+    action: Option<Action>,
+) -> TurnEnd
+    requires script { who ≡ environment room.old → option_map act_of action ≡ slice_get room.old.inputs (place room.old) }
+    requires inputs { All (IsInput (tabled room.old.program)) room.old.inputs }
+    ensures { Acts room.old who (option_map act_of action) result room.new }
+{
+    match action {
+        Some(action) => attempt(alloc, room, who, action),
+        None => {
+            room.idle(who);
+            TurnEnd::GoesOn
+        }
+    }
+}
+
+/// The same for this action.
+fn attempt<'p>(alloc: Global, room: &mut Room<'p>, who: usize, action: Action) -> TurnEnd
+    requires script { who ≡ environment room.old → Some (act_of action) ≡ slice_get room.old.inputs (place room.old) }
+    requires inputs { All (IsInput (tabled room.old.program)) room.old.inputs }
+    ensures { Acts room.old who (Some (act_of action)) result room.new }
+{
+    let Ok(planned) = plan(alloc, room.board(), who, action) else {
+        return TurnEnd::NoMemory;
+    };
+    let Planned::Ready(plan) = planned else {
+        room.idle(who);
+        return TurnEnd::GoesOn;
+    };
+    commit(room, who, plan)
+}
+
+/// Commits the worker's plan. A worker that is stopped leaves.
+fn commit<'p>(room: &mut Room<'p>, who: usize, plan: Plan<'p>) -> TurnEnd
+    requires who { who ≡ plan.who }
+    requires program { plan.program ≡ room.old.program }
+    ensures { Commits room.old plan.entry result room.new }
+{
+    match room.commit(who, plan) {
+        Verdict::Committed(_) | Verdict::Stale => TurnEnd::GoesOn,
+        Verdict::Faulted(_, _) => TurnEnd::IsLast,
+        Verdict::Stopped => {
+            room.leave(who, Why::Stopped);
+            TurnEnd::IsLast
+        }
+        Verdict::Memory(_) => TurnEnd::NoMemory,
+    }
+}
+
+/// The next action of the script, of which so many are performed.
+pub(crate) fn next_input(
+    alloc: Global,
+    inputs: &[Action],
+    performed: usize,
+) -> Result<Option<Action>, OutOfMemory>
+    ensures { IfOk result (λ r. option_map act_of r ≡ slice_get (map act_of inputs.now) performed) }
+{
+    if performed < inputs.len() {
+        Ok(Some(inputs[performed].try_copy(alloc)?))
+    } else {
+        Ok(None)
+    }
+}
