@@ -12,7 +12,7 @@ use Rattle.ioa_run.specs.Boards.{Commits, Failure, Intent, Standing}
 use Rattle.ioa_run.specs.Schedules.{Schedule, Spends, intent, plan_of, with_plan}
 use Rattle.ioa_run.specs.Turns.{not_own, own_attempt}
 
-set_there : {X : Type 0} (xs : List X) (i : ℕ) (x : X) → i < length xs → slice_get (slice_set xs i x) i ≡ Some x
+pub set_there : {X : Type 0} (xs : List X) (i : ℕ) (x : X) → i < length xs → slice_get (slice_set xs i x) i ≡ Some x
 set_there [] i x l = absurd (omega (arith, l))
 set_there (y ∷ ys) zero x l = refl
 set_there (y ∷ ys) (suc i) x l = set_there ys i x (omega (arith, l))

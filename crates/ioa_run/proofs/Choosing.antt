@@ -1,17 +1,14 @@
 -- Which local entry a word picks, and what its proposal gives.
-use Rattle.std.proofs.Common.{◌≡◌, ℕ, zero, suc, ◌+◌, ◌<◌, ◌≤◌, List, [], ◌∷◌, ◌++◌, length, map, drop, get_or, All, true, false, cond, Option, None, Some, refl, sym, ◌∙◌, ap, subst, arith}
-use Rattle.std.proofs.lemmas.List.{length-map, map-append}
+use Rattle.std.proofs.Common.{◌≡◌, ℕ, ◌+◌, ◌<◌, List, length, map, All, Option, None, Some, sym, ◌∙◌, ap, subst, arith}
+use Rattle.std.proofs.lemmas.List.{length-map}
 use Rattle.std.specs.Prelude.{slice_get, ◌%◌, ◌≢◌}
 use Rattle.std.specs.Option.{option_map, option_map_or}
 use Rattle.std.proofs.lemmas.List.Elements.{All-filter}
 use Rattle.std.proofs.lemmas.Nat.{mod_below}
 use Rattle.std.proofs.lemmas.Option.{slice_get_past}
 use mathlib.Core.Path.{fun_ext}
-use Rattle.ioa_value.specs.declared.value.Value.{Value}
-use Rattle.ioa_value.specs.declared.positions.Position.{Position}
-use Rattle.ioa_value.specs.Plain.{Val, plain}
-use Rattle.ioa_value.specs.Positions.{domain_of}
-use Rattle.ioa_value.proofs.ItemLemmas.{drop_item, image_at, item_there}
+use Rattle.ioa_value.specs.Plain.{Val}
+use Rattle.ioa_value.proofs.ItemLemmas.{image_at, item_there}
 use Rattle.ioa_value.specs.Actions.{Act}
 use Rattle.ioa_code.specs.Valid.{Part}
 use Rattle.ioa_node.specs.Proposals.{Left, proposal_of, words_of}
@@ -21,7 +18,7 @@ use Rattle.ioa_compile.specs.Programs.{EntryCode}
 use Rattle.ioa_compile.specs.Shown.{entry_code}
 use Rattle.ioa_compile.specs.declared.table.Entry.{Entry}
 use Rattle.ioa_run.specs.Choices.{Chooses, Gives}
-use Rattle.ioa_run.specs.Proposers.{action_with, by_code, filled, local_entries, tried}
+use Rattle.ioa_run.specs.Proposers.{action_with, by_code, local_entries, tried}
 use Rattle.ioa_run.specs.Turns.{Proposer, after}
 use Rattle.ioa_run.proofs.Counting.{got_all}
 
@@ -29,56 +26,6 @@ use Rattle.ioa_run.proofs.Counting.{got_all}
 
 abbrev pub local_in : List Entry → List EntryCode
 local_in es = local_entries (map entry_code es)
-
-local_first : (e : EntryCode) (es : List EntryCode) → is_local (Some e.kind) ≡ true → local_entries (e ∷ es) ≡ e ∷ local_entries es
-local_first e es h = ap (λ b. cond b (e ∷ local_entries es) (local_entries es)) h
-
-other_first : (e : EntryCode) (es : List EntryCode) → is_local (Some e.kind) ≡ false → local_entries (e ∷ es) ≡ local_entries es
-other_first e es h = ap (λ b. cond b (e ∷ local_entries es) (local_entries es)) h
-
--- the entries from one on, where it is local or not
-pub local_here : (es : List Entry) (i : ℕ) (e : Entry) → i < length es → e ≡ get_or es i e → is_local (Some e.kind) ≡ true → local_in (drop i es) ≡ entry_code e ∷ local_in (drop (i + 1) es)
-local_here es i e l r h = ap local_in (drop_item es i e l r) ∙ local_first (entry_code e) (map entry_code (drop (i + 1) es)) h
-
-pub other_here : (es : List Entry) (i : ℕ) (e : Entry) → i < length es → e ≡ get_or es i e → is_local (Some e.kind) ≡ false → local_in (drop i es) ≡ local_in (drop (i + 1) es)
-other_here es i e l r h = ap local_in (drop_item es i e l r) ∙ other_first (entry_code e) (map entry_code (drop (i + 1) es)) h
-
-pub none_left : (es : List Entry) (i : ℕ) → length es ≤ i → drop i es ≡ []
-none_left [] zero l = refl
-none_left [] (suc i) l = refl
-none_left (e ∷ es) zero l = absurd (omega (arith, l))
-none_left (e ∷ es) (suc i) l = none_left es i (omega (arith, l))
-
--- ---- values among constants
-
-append_one : (xs ys : List Val) (y : Val) → (xs ++ y ∷ []) ++ ys ≡ xs ++ y ∷ ys
-append_one [] ys y = refl
-append_one (x ∷ xs) ys y = ap (λ zs. x ∷ zs) (append_one xs ys y)
-
-pub put_one : (all new : List Value) (x : Value) (y : Val) (rest whole : List Val) → new ≡ all ++ x ∷ [] → plain x ≡ y → map plain all ++ y ∷ rest ≡ whole → map plain new ++ rest ≡ whole
-put_one all new x y rest whole e p h =
-    ap (λ zs. map plain zs ++ rest) e ∙ ap (λ zs. zs ++ rest) (map-append plain all (x ∷ [])) ∙ ap (λ z. (map plain all ++ z ∷ []) ++ rest) p ∙ append_one (map plain all) rest y ∙ h
-
--- the positions from one on
-pub filled_from : (ps : List Position) (i : ℕ) (p : Position) (vs : List Val) → i < length ps → p ≡ get_or ps i p → filled (map domain_of (drop i ps)) vs ≡ filled (domain_of p ∷ map domain_of (drop (i + 1) ps)) vs
-filled_from ps i p vs l r = ap (λ qs. filled (map domain_of qs) vs) (drop_item ps i p l r)
-
-pub nothing_after : {X : Type 0} (xs : List X) (i : ℕ) → length xs ≤ i → drop i xs ≡ []
-nothing_after [] zero l = refl
-nothing_after [] (suc i) l = refl
-nothing_after (x ∷ xs) zero l = absurd (omega (arith, l))
-nothing_after (x ∷ xs) (suc i) l = nothing_after xs i (omega (arith, l))
-
-nothing_more : (vs : List Val) → vs ++ filled [] [] ≡ vs
-nothing_more [] = refl
-nothing_more (v ∷ vs) = ap (λ ws. v ∷ ws) (nothing_more vs)
-
-append_nothing : (vs : List Val) → vs ++ [] ≡ vs
-append_nothing [] = refl
-append_nothing (v ∷ vs) = ap (λ ws. v ∷ ws) (append_nothing vs)
-
-pub all_filled : (ps : List Position) (i : ℕ) (all ws whole : List Val) → length ps ≤ i → all ++ filled (map domain_of (drop i ps)) ws ≡ whole → all ≡ whole
-all_filled ps i all ws whole l h = sym (append_nothing all) ∙ sym (ap (λ qs. all ++ filled (map domain_of qs) ws) (nothing_after ps i l)) ∙ h
 
 -- ---- what is chosen
 

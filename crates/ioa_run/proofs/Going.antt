@@ -13,6 +13,8 @@ use Rattle.ioa_run.specs.Boards.{Standing}
 use Rattle.ioa_run.specs.Going.{AreGoing, Follows, IsRefused, IsTurn, dismissed, told_in}
 use Rattle.ioa_run.specs.Reports.{Changes, blank, left, unless_faulted, with_idle, with_why}
 use Rattle.ioa_run.specs.Turns.{Proposer, Turns, after, alone, attempt, changed, first_turns, is_last, meant, round, rounds, told, turn, turned, turns_of_first, with_done}
+use Rattle.ioa_run.proofs.Attempting.{set_there}
+use Rattle.ioa_run.proofs.Scheduling.{set_got}
 use Rattle.ioa_run.proofs.Counting.{AreCounted, counted_rounds, dismissed_is, first_counted, first_going, none_refused, refused_dismissed}
 use Rattle.ioa_run.proofs.Turned.{changed_alike, changed_set, changes_is, going_first, going_rounds, length_changed}
 
@@ -24,16 +26,6 @@ other_there (y ∷ ys) zero zero x d = absurd (d refl)
 other_there (y ∷ ys) zero (suc v) x d = refl
 other_there (y ∷ ys) (suc w) zero x d = refl
 other_there (y ∷ ys) (suc w) (suc v) x d = other_there ys w v x (λ e. d (ap suc e))
-
-set_same : {X : Type 0} (xs : List X) (i : ℕ) (x : X) → slice_get xs i ≡ Some x → slice_set xs i x ≡ xs
-set_same [] i x e = refl
-set_same (y ∷ ys) zero x e = cc
-set_same (y ∷ ys) (suc i) x e = ap (λ zs. y ∷ zs) (set_same ys i x e)
-
-pub set_got_there : {X : Type 0} (xs : List X) (i : ℕ) (x : X) → i < length xs → slice_get (slice_set xs i x) i ≡ Some x
-set_got_there [] i x l = absurd (omega (arith, l))
-set_got_there (y ∷ ys) zero x l = refl
-set_got_there (y ∷ ys) (suc i) x l = set_got_there ys i x (omega (arith, l))
 
 left_stopped : (turns : ℕ) (q : Report) → q.why ≡ Why.Stopped → left turns Why.Stopped q ≡ with_why Why.Stopped q
 left_stopped turns q s = ap (λ y. with_why (unless_faulted y Why.Stopped) q) s
@@ -68,7 +60,7 @@ module _ {S : Type 0} (ps : List (Component S)) (entries : List (List (Proposer 
     turn = λ _.
         ap (λ z. made b z ws' (slice_set es w false)) (changes_is with_idle w rs rs' c)
         ∙ ap (λ z. made b (changed with_idle w rs) z (slice_set es w false)) e
-        ∙ ap (λ z. made b (changed with_idle w rs) (changed (after taken) w ws) z) (set_same es w false f)
+        ∙ ap (λ z. made b (changed with_idle w rs) (changed (after taken) w ws) z) (set_got es w false f)
         ∙ ap (λ o. turned ps w o (made b rs ws es)) (sym m);
   }
 
@@ -156,7 +148,7 @@ module _ {S : Type 0} (ps : List (Component S)) (entries : List (List (Proposer 
                 report = left turns Why.Memory q;
                 there = c.own ∙ ap (option_map (left turns Why.Memory)) i;
                 memory = left_memory turns q (going n q e i);
-                ended = ap (λ xs. slice_get xs n) s ∙ set_got_there u.ended n true m;
+                ended = ap (λ xs. slice_get xs n) s ∙ set_there u.ended n true m;
               })
           | inr f ↦ inr (still f)
         ];
