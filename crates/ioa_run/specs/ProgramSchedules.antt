@@ -29,6 +29,10 @@ abbrev pub coded_program_schedule : Coded ProgramSchedule
 coded_program_schedule =
     code_by (Prog × Schedule (List Val)) (coded× coded_prog coded_schedule) (λ s. (s.program, s.schedule)) (λ p. record { program = p.0; schedule = p.1 }) (λ _. refl)
 
+-- the board as it is now
+abbrev pub board_now : ProgramSchedule → ProgramBoard
+board_now s = record { program = s.program; board = s.schedule.board }
+
 abbrev pub start_program : Prog → ProgramSchedule
 start_program p = record { program = p; schedule = start_schedule (start_states p) }
 

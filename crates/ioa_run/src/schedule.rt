@@ -2,7 +2,7 @@ ghost use Rattle.std.specs.Prelude.{◌≡◌, ◌+◌, IfOk, None, OnErr, map, 
 ghost use Rattle.ioa_value.specs.Actions.{act_of};
 ghost use Rattle.ioa_compile.specs.Tables.{tabled};
 ghost use Rattle.ioa_run.specs.Schedules as machine;
-ghost use Rattle.ioa_run.specs.ProgramSchedules.{IsPlay, Parts, PlansNow, Settles, event_of, start_program};
+ghost use Rattle.ioa_run.specs.ProgramSchedules.{IsPlay, Parts, PlansNow, Settles, board_now, event_of, start_program};
 
 use crate::answer::Answer;
 use crate::board::Board;
@@ -54,6 +54,13 @@ impl<'p> Core<'p> {
             board,
             plans,
         })
+    }
+
+    /// The board.
+    pub fn board(&self) -> &Board<'p>
+        ensures { result.now ≡ board_now self.now }
+    {
+        &self.board
     }
 
     /// Answers the event as the schedule machine does. A refusal of memory changes nothing.
