@@ -11,7 +11,8 @@ use ioa_value::{Action, Fault, OutOfMemory, Types, print_action, read_action, re
 use std::alloc::Global;
 use std::test::Fail;
 
-const TWO: &str = "
+/// A step in which two inputs fault.
+pub const TWO: &str = "
 type S = seq 1 of Int
 automaton Go signature output go states n: Int transitions output go eff n := n + 1
 automaton Pick signature input go states s: S; x: Int transitions input go eff x := at(s, 0)
@@ -24,7 +25,8 @@ automaton Go signature output go states n: Int transitions output go eff n := n 
 automaton Full signature input go states s: S transitions input go eff s := append(s, 1)
 composition Both components G: Go; F: Full";
 
-const PUTS: &str = "
+/// Two owners whose actions each change a third component.
+pub const PUTS: &str = "
 automaton Put(i: Int) signature output put(const i) states n: Int transitions output put eff n := n + 1
 automaton Cell signature input put(i: Int) states x: Int transitions input put eff x := 1 - x
 composition Puts components P: Put(0); Q: Put(1); C: Cell
@@ -98,8 +100,8 @@ pub fn program(alloc: Global, source: &str, composition: Option<&str>) -> Result
     Ok(compile(alloc, &composition)?)
 }
 
-// The values of a state, told as those of an action.
-fn told_state(alloc: Global, types: &Types, state: &NodeState) -> Result<String, OutOfMemory> {
+/// The values of a state, told as those of an action.
+pub fn told_state(alloc: Global, types: &Types, state: &NodeState) -> Result<String, OutOfMemory> {
     let values = Action {
         name: String::from_str(alloc, ", state")?,
         vals: state_values(alloc, state)?,

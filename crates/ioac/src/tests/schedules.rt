@@ -1,0 +1,162 @@
+//! Schedules: what workers are answered that copy and commit, and what then stands.
+
+use crate::tests::reached::{PUTS, TWO, action, program, told_state};
+use crate::tests::shelf::COUNTER;
+use ioa_compile::Program;
+use ioa_run::{Answer, Board, Core, Event, play};
+use ioa_system::LogEntry;
+use ioa_value::{Fault, OutOfMemory, Types, print_action};
+use std::alloc::Global;
+use std::test::Fail;
+
+/// A worker, the action that it copies, or none where it commits, and what it is answered.
+type Turn = (usize, Option<&'static str>, Answer);
+
+/// The second plan is made before the first one is committed.
+const OVERTAKEN: &[Turn] = &[
+    (0, Some("put(0)"), Answer::Planned),
+    (1, Some("put(1)"), Answer::Planned),
+    (0, None, Answer::Committed(0)),
+    (1, None, Answer::Stale),
+    (1, None, Answer::NoPlan),
+];
+
+/// The third component is twice changed, and is again as the second plan found it.
+const RETURNED: &[Turn] = &[
+    (0, Some("put(0)"), Answer::Planned),
+    (1, Some("put(1)"), Answer::Planned),
+    (0, None, Answer::Committed(0)),
+    (0, Some("put(0)"), Answer::Planned),
+    (0, None, Answer::Committed(1)),
+    (1, None, Answer::Committed(2)),
+    (1, Some("put(0)"), Answer::NotYours),
+    (1, None, Answer::NoPlan),
+    (2, Some("put(2)"), Answer::NotYours),
+    (3, Some("put(2)"), Answer::Planned),
+    (3, None, Answer::Committed(3)),
+];
+
+/// Each refused copy leaves its worker without a plan.
+const REFUSED: &[Turn] = &[
+    (0, None, Answer::NoPlan),
+    (0, Some("tick(5)"), Answer::Planned),
+    (0, Some("tock"), Answer::NotAnAction),
+    (0, None, Answer::NoPlan),
+    (0, Some("tick(5)"), Answer::Planned),
+    (0, Some("tick(6)"), Answer::NotEnabled),
+    (0, None, Answer::NoPlan),
+    (0, Some("tick(5)"), Answer::Planned),
+    (0, Some("reset"), Answer::NotYours),
+    (0, None, Answer::NoPlan),
+    (1, Some("tick(6)"), Answer::NotYours),
+    (2, Some("tock"), Answer::NotAnAction),
+    (2, Some("reset"), Answer::NotYours),
+    (2, None, Answer::NoPlan),
+    (1, Some("reset"), Answer::Planned),
+    (0, Some("tick(5)"), Answer::Planned),
+    (0, None, Answer::Committed(0)),
+    (1, None, Answer::Stale),
+];
+
+/// A plan that faults is told of when it is committed, and stops all later commits.
+const STOPPED: &[Turn] = &[
+    (0, Some("go"), Answer::Planned),
+    (0, None, Answer::Faulted(1, Fault::OutOfRange)),
+    (0, Some("go"), Answer::Planned),
+    (0, None, Answer::Stopped),
+    (0, None, Answer::NoPlan),
+];
+
+/// A source, turns, and what then stands: what was performed, the states, and the fault.
+const PLAYS: [(&str, &[Turn], &str); 5] = [
+    (COUNTER, &[], ", state(5)"),
+    (PUTS, OVERTAKEN, "0 put(0), state(1), state(0), state(1)"),
+    (
+        PUTS,
+        RETURNED,
+        "0 put(0); 0 put(0); 1 put(1); 3 put(2), state(2), state(1), state(0)",
+    ),
+    (COUNTER, REFUSED, "0 tick(5), state(6)"),
+    (
+        TWO,
+        STOPPED,
+        ", state(0), state(S[], 0), state(9223372036854775807), 0 go has fault 4 in component 1",
+    ),
+];
+
+fn event(alloc: Global, types: &Types, turn: &Turn) -> Result<Event, Fail> {
+    let (who, text, _) = turn;
+    Ok(match text {
+        Some(text) => Event::Copy(*who, action(alloc, types, text)?),
+        None => Event::Commit(*who),
+    })
+}
+
+/// A worker and its action.
+fn told_entry(alloc: Global, types: &Types, entry: &LogEntry) -> Result<String, OutOfMemory> {
+    let action = print_action(alloc, types, &entry.action)?;
+    Ok(format!(in alloc; "{} {action}", entry.who)?)
+}
+
+/// Workers and their actions, in order.
+pub fn told_entries(
+    alloc: Global,
+    types: &Types,
+    entries: &[LogEntry],
+) -> Result<String, OutOfMemory> {
+    let mut text = String::new(alloc);
+    for entry in entries {
+        if !text.is_empty() {
+            text.push_str("; ")?;
+        }
+        text.push_str(told_entry(alloc, types, entry)?.as_str())?;
+    }
+    Ok(text)
+}
+
+fn told_board(alloc: Global, board: &Board<'_>) -> Result<String, OutOfMemory> {
+    let types = board.program().types();
+    let mut text = told_entries(alloc, types, board.history())?;
+    for state in board.states() {
+        text.push_str(told_state(alloc, types, state)?.as_str())?;
+    }
+    if let Some(recorded) = board.recorded() {
+        let entry = told_entry(alloc, types, &recorded.entry)?;
+        let fault = recorded.fault.number();
+        let component = recorded.component;
+        write!(text, ", {entry} has fault {fault} in component {component}")?;
+    }
+    Ok(text)
+}
+
+/// What stands after the turns, where they are answered so.
+fn stands_after(alloc: Global, program: &Program, turns: &[Turn]) -> Result<String, Fail> {
+    let mut core = Core::start(alloc, program)?;
+    let mut events = Vec::new(alloc);
+    for turn in turns {
+        let answer = core.event(event(alloc, program.types(), turn)?)?;
+        if answer != turn.2 {
+            return Err(Fail::from("another answer"));
+        }
+        events.push(event(alloc, program.types(), turn)?)?;
+    }
+    let (played, answers) = play(alloc, program, &events)?;
+    if !answers.iter().eq(turns.iter().map(|turn| &turn.2)) {
+        return Err(Fail::from("other answers"));
+    }
+    let text = told_board(alloc, core.board())?;
+    if told_board(alloc, played.board())?.as_str() != text.as_str() {
+        return Err(Fail::from("another board"));
+    }
+    Ok(text)
+}
+
+#[test]
+fn schedules_are_answered(rt: HostRuntime) -> Result<(), Fail> {
+    for (source, turns, wanted) in PLAYS {
+        let program = program(rt.alloc(), source, None)?;
+        let told = stands_after(rt.alloc(), &program, turns)?;
+        assert!(rt; told.as_str() == wanted, "{told}");
+    }
+    Ok(())
+}
