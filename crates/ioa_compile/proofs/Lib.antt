@@ -20,4 +20,5 @@ pub mod Running
 pub mod Trying
 pub mod Alike
 pub mod Meant
+pub mod Outlined
 pub mod HostEntries

@@ -1,6 +1,7 @@
 pub mod Programs
 pub mod Tables
 pub mod Shown
+pub mod Outlines
 pub mod Coded
 pub mod Correspondence
 pub mod CodeEnds

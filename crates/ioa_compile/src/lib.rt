@@ -9,6 +9,7 @@ mod laws;
 mod places;
 mod program;
 mod proposals;
+mod same;
 mod scope;
 mod table;
 mod transition;
