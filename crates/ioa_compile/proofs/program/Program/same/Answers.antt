@@ -1,5 +1,3 @@
-use Rattle.std.proofs.Common.{◌≡◌, map, sym, ◌∙◌, ap}
-use Rattle.ioa_compile.specs.Outlines.{outlined}
 use Rattle.ioa_compile.specs.Programs.{Prog}
 use Rattle.ioa_compile.proofs.Outlined.{outlines_alike, programs_told}
 use Rattle.ioa_compile.proofs.program.Program.same.Goals as goal

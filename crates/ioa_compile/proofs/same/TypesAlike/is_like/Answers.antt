@@ -1,4 +1,4 @@
-use Rattle.std.proofs.Common.{◌≡◌, length, refl, sym, ◌∙◌, arith}
+use Rattle.std.proofs.Common.{refl, sym, ◌∙◌, arith}
 use Rattle.ioa_compile.proofs.Outlined.{alike_places}
 use Rattle.ioa_compile.proofs.same.TypesAlike.is_like.Goals as goal
 

@@ -1,4 +1,4 @@
-use Rattle.std.proofs.Common.{◌≡◌, IsTrue, sym, ◌∙◌, subst}
+use Rattle.std.proofs.Common.{IsTrue, sym, ◌∙◌, subst}
 use Rattle.ioa_value.specs.Plain.{plain}
 use Rattle.ioa_value.specs.Same as spec
 use Rattle.ioa_value.proofs.SameLemmas.{same_equal, same-refl}
