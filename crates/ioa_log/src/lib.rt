@@ -24,7 +24,7 @@ pub use laws::{
     first_broken_is_least, judged_is_the_run, logs_tell_histories, monitored_is_the_run,
     no_refusal, one_log, verdict_is_the_first_difference, written_log_is_read,
 };
-pub use logs::{read_log, write_log};
+pub use logs::{first_line, read_log, write_log};
 pub use monitors::{MonitorErr, monitor};
 pub use reading::push_line;
 pub use replays::replay_list;
