@@ -1,5 +1,5 @@
 -- What the matches of a command line ask for.
-use Rattle.std.proofs.Common.{◌≡◌, List, Option, Some, None, IfNone, refl, sym, ◌∙◌, ap, subst, codes, option_map, true, false}
+use Rattle.std.proofs.Common.{◌≡◌, List, Option, Some, None, IfNone, refl, sym, ◌∙◌, ap, ap₂, subst, codes, option_map, true, false}
 use Rattle.std.specs.Option.{option_copied, option_map_or}
 use Rattle.std.specs.Str.{bytes_eq}
 use Rattle.std.proofs.lemmas.Bool.{false≢true}
@@ -10,10 +10,12 @@ use Rattle.clap.specs.declared.parser.matches.ArgMatches.{ArgMatches}
 use Rattle.clap.specs.declared.parser.matches.ArgMatches.TheViews.{out-ArgMatches, out-SubCommand}
 use Rattle.clap.proofs.WalkLemmas.{first_value-rows}
 use Rattle.ioac.specs.declared.request.Request.{Request}
+use Rattle.ioac.specs.declared.settings.Settings.{Settings}
 use Rattle.ioac.specs.declared.code.Code.{Code}
 use Rattle.ioac.specs.Codes.{spelling}
-use Rattle.ioac.specs.CommandLine.{IsAskedBy, Names, is_set}
-use Rattle.ioac.specs.Telling.{given_code}
+use Rattle.ioac.specs.CommandLine.{AreSettings, IsAskedBy, Names, is_set}
+use Rattle.ioac.specs.Settings.{source_in, source_of, turns_in}
+use Rattle.ioac.specs.Telling.{bad_request_text, bad_settings_text, missing_log_text, unasked_text}
 
 name_in : (m : ArgMatches) → subcommand_name_of m ≡ option_map (λ p. p.0) (subcommand_rows_of m)
 name_in m =
@@ -48,6 +50,7 @@ no_file word rows other none (Request.Replay file composition) h = let z : None 
 no_file word rows other none (Request.ReplayLog file composition) h = let z : None ≡ Some file.now = sym none ∙ h.1.0 in cc
 no_file word rows other none (Request.ReplayInvariants file composition) h = let z : None ≡ Some file.now = sym none ∙ h.1.0 in cc
 no_file word rows other none (Request.Monitor file composition) h = let z : None ≡ Some file.now = sym none ∙ h.1.0 in cc
+no_file word rows other none (Request.Run s) h = let z : None ≡ Some s.file.now = sym none ∙ h.1.names.0 in cc
 no_file word rows other none (Request.Check file) h = let z : None ≡ Some file.now = sym none ∙ h.1 in cc
 no_file word rows other none (Request.Explain code) h = other h.0
 
@@ -64,6 +67,7 @@ no_explanation rows none (Request.Replay file composition) h = apart (codes "exp
 no_explanation rows none (Request.ReplayLog file composition) h = apart (codes "explain") (codes "replay") refl refl h.0.0
 no_explanation rows none (Request.ReplayInvariants file composition) h = apart (codes "explain") (codes "replay") refl refl h.0.0
 no_explanation rows none (Request.Monitor file composition) h = apart (codes "explain") (codes "monitor") refl refl h.0
+no_explanation rows none (Request.Run s) h = apart (codes "explain") (codes "run") refl refl h.0
 no_explanation rows none (Request.Check file) h = apart (codes "explain") (codes "check") refl refl h.0
 no_explanation rows none (Request.Explain code) h = none code h.1
 
@@ -80,6 +84,7 @@ no_log word rows is log invariants (Request.Replay file composition) h = false�
 no_log word rows is log invariants (Request.ReplayLog file composition) h = false≢true (sym log ∙ h.0.1)
 no_log word rows is log invariants (Request.ReplayInvariants file composition) h = false≢true (sym log ∙ h.0.1)
 no_log word rows is log invariants (Request.Monitor file composition) h = apart (codes "replay") (codes "monitor") refl refl (sym is ∙ h.0)
+no_log word rows is log invariants (Request.Run s) h = apart (codes "replay") (codes "run") refl refl (sym is ∙ h.0)
 no_log word rows is log invariants (Request.Check file) h = apart (codes "replay") (codes "check") refl refl (sym is ∙ h.0)
 no_log word rows is log invariants (Request.Explain code) h = apart (codes "replay") (codes "explain") refl refl (sym is ∙ h.0)
 
@@ -102,20 +107,77 @@ pub set_as : (found : ArgMatches) (flag : Text) (o : Option Text) → o ≡ firs
 set_as found flag o e =
     ap (λ (p : Option Text). option_map_or (λ value. bytes_eq value (codes "true")) p false) (sym (first_value-rows (found_of found) flag) ∙ sym e)
 
--- the word for a code, as it is lent
-pub coded : (m found : ArgMatches) (o : Option Text) → Some (rows_of (found_of found)) ≡ option_map (λ p. p.1) (subcommand_rows_of m)
-    → o ≡ first_value (found_of found) (codes "CODE") → o ≡ given_code (subcommand_rows_of m)
-coded m found o rows word = go (subcommand_rows_of m) rows
-  where
-    go : (s : Option (Text × List Row)) → Some (rows_of (found_of found)) ≡ option_map (λ p. p.1) s → o ≡ given_code s
-    go None e = cc
-    go (Some p) e =
-        let same : rows_of (found_of found) ≡ p.1 = cc in
-        word ∙ first_value-rows (found_of found) (codes "CODE") ∙ ap (first_of (codes "CODE")) same
+-- where the settings of a run are none
+abbrev AreNone : List Row → Type 0
+AreNone rows = (s : Settings) → AreSettings rows s → ⊥
 
-pub uncoded_none : (m : ArgMatches) → None ≡ option_map (λ p. p.1) (subcommand_rows_of m) → None ≡ given_code (subcommand_rows_of m)
-uncoded_none m rows = go (subcommand_rows_of m) rows
+no_run : (rows : List Row) → AreNone rows → AsksNothing (Some (codes "run", rows))
+no_run rows none (Request.Replay file composition) h = apart (codes "run") (codes "replay") refl refl h.0.0
+no_run rows none (Request.ReplayLog file composition) h = apart (codes "run") (codes "replay") refl refl h.0.0
+no_run rows none (Request.ReplayInvariants file composition) h = apart (codes "run") (codes "replay") refl refl h.0.0
+no_run rows none (Request.Run s) h = none s h.1
+no_run rows none (Request.Monitor file composition) h = apart (codes "run") (codes "monitor") refl refl h.0
+no_run rows none (Request.Check file) h = apart (codes "run") (codes "check") refl refl h.0
+no_run rows none (Request.Explain code) h = apart (codes "run") (codes "explain") refl refl h.0
+
+pub unset : (m found : ArgMatches) (r : Option Request) → subcommand_rows_of m ≡ Some (codes "run", rows_of (found_of found))
+    → ((s : Settings) → AreSettings (rows_of (found_of found)) s → ⊥) → r ≡ None → IfNone r (AsksNothing (subcommand_rows_of m))
+unset m found r here none is =
+    subst (λ o. IfNone o (AsksNothing (subcommand_rows_of m))) (sym is) (subst AsksNothing (sym here) (no_run (rows_of (found_of found)) none))
+
+-- settings without a file, without turns, or without a source of words
+pub unfiled_run : (found : ArgMatches) (r : Option Settings) → None ≡ first_value (found_of found) (codes "FILE") → r ≡ None
+    → IfNone r ((s : Settings) → AreSettings (rows_of (found_of found)) s → ⊥)
+unfiled_run found r none is =
+    subst (λ o. IfNone o ((s : Settings) → AreSettings (rows_of (found_of found)) s → ⊥)) (sym is)
+    (λ s h. let z : None ≡ Some s.file.now = none ∙ first_value-rows (found_of found) (codes "FILE") ∙ h.names.0 in cc)
+
+pub unturned : (found : ArgMatches) (word : Option Text) (r : Option Settings) → word ≡ first_value (found_of found) (codes "turns") → None ≡ turns_in word → r ≡ None
+    → IfNone r ((s : Settings) → AreSettings (rows_of (found_of found)) s → ⊥)
+unturned found word r given none is =
+    subst (λ o. IfNone o ((s : Settings) → AreSettings (rows_of (found_of found)) s → ⊥)) (sym is)
+    (λ s h. let z : None ≡ Some s.turns = none ∙ ap turns_in (given ∙ first_value-rows (found_of found) (codes "turns")) ∙ h.turns in cc)
+
+pub unworded : (found : ArgMatches) (seed file : Option Text) (r : Option Settings) → seed ≡ first_value (found_of found) (codes "seed")
+    → file ≡ first_value (found_of found) (codes "words") → None ≡ source_in seed file → r ≡ None
+    → IfNone r ((s : Settings) → AreSettings (rows_of (found_of found)) s → ⊥)
+unworded found seed file r a b none is =
+    subst (λ o. IfNone o ((s : Settings) → AreSettings (rows_of (found_of found)) s → ⊥)) (sym is)
+    (λ s h.
+    let z : None ≡ Some (source_of s.words) =
+    none ∙ ap₂ source_in (a ∙ first_value-rows (found_of found) (codes "seed")) (b ∙ first_value-rows (found_of found) (codes "words")) ∙ h.words in cc)
+
+-- an option, as it is lent
+pub given : (found : ArgMatches) (name : Text) (o : Option Text) → o ≡ first_value (found_of found) name → first_of name (rows_of (found_of found)) ≡ o
+given found name o e = sym (first_value-rows (found_of found) name) ∙ sym e
+
+-- what is told of a run whose settings are none, and of another request
+pub told_run : (m found : ArgMatches) (name : Text) (turns seed file : Option Text) → Some name ≡ subcommand_name_of m
+    → Some (rows_of (found_of found)) ≡ option_map (λ p. p.1) (subcommand_rows_of m) → bytes_eq name (codes "run") ≡ true
+    → turns ≡ first_value (found_of found) (codes "turns") → seed ≡ first_value (found_of found) (codes "seed") → file ≡ first_value (found_of found) (codes "words")
+    → bad_settings_text turns seed file ≡ unasked_text (subcommand_rows_of m)
+told_run m found name turns seed file e f is t s w =
+    let rows = rows_of (found_of found) in
+    let here = lent m found name name e f refl in
+    let values : bad_settings_text turns seed file ≡ bad_settings_text (first_of (codes "turns") rows) (first_of (codes "seed") rows) (first_of (codes "words") rows) =
+    ap (λ x. bad_settings_text x seed file) (sym (given found (codes "turns") turns t))
+    ∙ ap (λ x. bad_settings_text (first_of (codes "turns") rows) x file) (sym (given found (codes "seed") seed s))
+    ∙ ap (λ x. bad_settings_text (first_of (codes "turns") rows) (first_of (codes "seed") rows) x) (sym (given found (codes "words") file w)) in
+    let chosen : unasked_text (Some (name, rows)) ≡ bad_settings_text (first_of (codes "turns") rows) (first_of (codes "seed") rows) (first_of (codes "words") rows) = rw is refl in
+    values ∙ sym chosen ∙ ap unasked_text (sym here)
+
+pub told_other : (m found : ArgMatches) (name : Text) (code : Option Text) → Some name ≡ subcommand_name_of m
+    → Some (rows_of (found_of found)) ≡ option_map (λ p. p.1) (subcommand_rows_of m) → bytes_eq name (codes "run") ≡ false
+    → code ≡ first_value (found_of found) (codes "CODE") → bad_request_text code ≡ unasked_text (subcommand_rows_of m)
+told_other m found name code e f is w =
+    let rows = rows_of (found_of found) in
+    let here = lent m found name name e f refl in
+    let chosen : unasked_text (Some (name, rows)) ≡ bad_request_text (first_of (codes "CODE") rows) = rw is refl in
+    ap bad_request_text (sym (given found (codes "CODE") code w)) ∙ sym chosen ∙ ap unasked_text (sym here)
+
+pub told_none : (m : ArgMatches) → None ≡ option_map (λ p. p.1) (subcommand_rows_of m) → missing_log_text ≡ unasked_text (subcommand_rows_of m)
+told_none m rows = go (subcommand_rows_of m) rows
   where
-    go : (s : Option (Text × List Row)) → None ≡ option_map (λ p. p.1) s → None ≡ given_code s
+    go : (s : Option (Text × List Row)) → None ≡ option_map (λ p. p.1) s → missing_log_text ≡ unasked_text s
     go None e = refl
     go (Some p) e = cc

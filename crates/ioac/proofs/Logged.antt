@@ -56,7 +56,7 @@ found_unbroken h log end first ends =
 abbrev pub entered : List LogEntry → List Act
 entered es = map (λ e. act_of e.action) es
 
-entered_are : (l : Log) → actions_of (logged l) ≡ entered l.entries.items
+pub entered_are : (l : Log) → actions_of (logged l) ≡ entered l.entries.items
 entered_are l = map-map (λ e. e.1) log_entry l.entries.items
 
 -- what is performed of a log with this end

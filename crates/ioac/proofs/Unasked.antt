@@ -6,19 +6,19 @@ use Rattle.ioac.specs.declared.status.Status.{Status}
 use Rattle.ioac.specs.declared.request.Request.{Request}
 use Rattle.ioac.specs.CommandLine.{HasNoFault, IsAsked, IsAskedBy, ioac_app}
 use Rattle.ioac.specs.Commands.{IsUnasked}
-use Rattle.ioac.specs.Telling.{IsTold, given_code, unasked_text}
+use Rattle.ioac.specs.Telling.{IsTold, unasked_text}
 
 -- where the matches give no request, the words ask for none
 pub is_unasked : (words : List Text) (rows : Option (Text × List Row)) (before after : Option (List ℕ)) (writer_failed : Type 0) (told telling : Option (List ℕ)) (teller_failed : Type 0)
     (status : Status) → rows ≡ subcommand_of ioac_app words → HasNoFault words → ((request : Request) → IsAskedBy rows request → ⊥) → Keeps before after
-    → IsTold (unasked_text (given_code rows)) Status.BadCommandLine told telling teller_failed status
+    → IsTold (unasked_text rows) Status.BadCommandLine told telling teller_failed status
     → IsUnasked words before after writer_failed told telling teller_failed status
 is_unasked words rows before after writer_failed told telling teller_failed status same free none keeps tells =
     inr (
       free,
       (λ request asks. none request (subst (λ o. IsAskedBy o request) (sym same) asks.1)),
       keeps,
-      subst (λ o. IsTold (unasked_text (given_code o)) Status.BadCommandLine told telling teller_failed status) same tells,
+      subst (λ o. IsTold (unasked_text o) Status.BadCommandLine told telling teller_failed status) same tells,
     )
 
 -- what a device holds is what it holds

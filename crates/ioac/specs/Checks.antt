@@ -25,6 +25,9 @@ abbrev pub IsCheckFailure : List ℕ → Type 0 → Failure → Type 0
 IsCheckFailure text failed (Failure.Refused r) = (r ≡ refusals.OutOfMemory) ⊎ (texts.IsRefused text r ⊎ IsIllFormed text r)
 IsCheckFailure text failed (Failure.List e) = IsDeviceErr (IsFine text × failed) e
 IsCheckFailure text failed Failure.SpecHasInternal = ⊥
+IsCheckFailure text failed (Failure.BadWords n) = ⊥
+IsCheckFailure text failed Failure.TooManyTurns = ⊥
+IsCheckFailure text failed (Failure.BadInput i) = ⊥
 IsCheckFailure text failed Failure.Io = ⊥
 IsCheckFailure text failed Failure.OutOfMemory = Unit {0}
 

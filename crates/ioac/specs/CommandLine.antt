@@ -8,7 +8,9 @@ use Rattle.clap.specs.declared.builder.action.ArgAction.{ArgAction}
 use Rattle.clap.specs.declared.builder.command.Command.{Command}
 use Rattle.clap.specs.declared.builder.command.Command.TheViews.{out-Command}
 use Rattle.ioac.specs.declared.request.Request.{Request}
+use Rattle.ioac.specs.declared.settings.Settings.{Settings}
 use Rattle.ioac.specs.Codes.{spelling}
+use Rattle.ioac.specs.Settings.{source_in, source_of, turns_in}
 
 -- words that have to stand
 abbrev pub file_rule : Rule
@@ -29,6 +31,30 @@ log_rule = record (new_rule (codes "log")) { long = Some (codes "log"); action =
 abbrev pub invariants_rule : Rule
 invariants_rule = record (new_rule (codes "invariants")) { long = Some (codes "invariants"); action = Some ArgAction.SetTrue }
 
+-- `--alone`, which has to stand
+abbrev pub alone_rule : Rule
+alone_rule = record (new_rule (codes "alone")) { long = Some (codes "alone"); action = Some ArgAction.SetTrue; required = true }
+
+-- `--turns N`
+abbrev pub turns_rule : Rule
+turns_rule = record (new_rule (codes "turns")) { long = Some (codes "turns"); value_names = 1 }
+
+-- `--seed HEX`
+abbrev pub seed_rule : Rule
+seed_rule = record (new_rule (codes "seed")) { long = Some (codes "seed"); value_names = 1 }
+
+-- `--words WFILE`
+abbrev pub words_rule : Rule
+words_rule = record (new_rule (codes "words")) { long = Some (codes "words"); value_names = 1 }
+
+-- `--inputs LFILE`
+abbrev pub inputs_rule : Rule
+inputs_rule = record (new_rule (codes "inputs")) { long = Some (codes "inputs"); value_names = 1 }
+
+-- `--reports`
+abbrev pub reports_rule : Rule
+reports_rule = record (new_rule (codes "reports")) { long = Some (codes "reports"); action = Some ArgAction.SetTrue }
+
 abbrev pub check_app : App
 check_app = with_rule (new_app (codes "check")) file_rule
 
@@ -41,12 +67,19 @@ replay_app = with_rule (with_rule (with_rule (with_rule (new_app (codes "replay"
 abbrev pub monitor_app : App
 monitor_app = with_rule (with_rule (new_app (codes "monitor")) file_rule) comp_rule
 
+abbrev pub run_app : App
+run_app =
+    with_rule (with_rule (with_rule (with_rule (with_rule (with_rule (with_rule (with_rule (with_rule (new_app (codes "run")) file_rule) comp_rule) alone_rule) turns_rule)
+    seed_rule) words_rule) inputs_rule) log_rule) reports_rule
+
 -- a subcommand has to stand; where no word stands, help is given; there is a version
 abbrev pub bare_app : App
 bare_app = on_top (λ top. record top { has_version = true; subcommand_required = true; arg_required_else_help = true; disable_help_subcommand = true }) (new_app (codes "ioac"))
 
 abbrev pub ioac_app : App
-ioac_app = with_subcommand (with_subcommand (with_subcommand (with_subcommand bare_app check_app.top) replay_app.top) monitor_app.top) explain_app.top
+ioac_app =
+    with_subcommand (with_subcommand (with_subcommand (with_subcommand (with_subcommand bare_app check_app.top) replay_app.top) run_app.top) monitor_app.top)
+    explain_app.top
 
 -- no argument is one of the subcommands too
 abbrev pub IsLocal : Command → Type 0
@@ -65,6 +98,15 @@ IsReplayWith log invariants found =
 abbrev pub Names : List Row → Text → Option Text → Type 0
 Names rows file composition = (first_of (codes "FILE") rows ≡ Some file) × (first_of (codes "comp") rows ≡ composition)
 
+-- a run of these settings is what a subcommand's values ask for
+pub record AreSettings (rows : List Row) (s : Settings) : Type 0 where
+  pub names : Names rows s.file.now (option_copied s.composition)
+  pub turns : turns_in (first_of (codes "turns") rows) ≡ Some s.turns
+  pub words : source_in (first_of (codes "seed") rows) (first_of (codes "words") rows) ≡ Some (source_of s.words)
+  pub inputs : first_of (codes "inputs") rows ≡ option_copied s.inputs
+  pub log : is_set (codes "log") rows ≡ s.log
+  pub reports : is_set (codes "reports") rows ≡ s.reports
+
 -- a subcommand with its values, if there is one, asks for this; a replay of a list cannot be asked for invariants
 abbrev pub IsAskedBy : Option (Text × List Row) → Request → Type 0
 IsAskedBy None request = ⊥
@@ -75,6 +117,7 @@ IsAskedBy (Some found) (Request.ReplayLog file composition) =
 IsAskedBy (Some found) (Request.ReplayInvariants file composition) =
     IsReplayWith true true found × Names found.1 file.now (option_copied composition)
 IsAskedBy (Some found) (Request.Monitor file composition) = (found.0 ≡ codes "monitor") × Names found.1 file.now (option_copied composition)
+IsAskedBy (Some found) (Request.Run settings) = (found.0 ≡ codes "run") × AreSettings found.1 settings
 IsAskedBy (Some found) (Request.Check file) = (found.0 ≡ codes "check") × (first_of (codes "FILE") found.1 ≡ Some file.now)
 IsAskedBy (Some found) (Request.Explain code) = (found.0 ≡ codes "explain") × (first_of (codes "CODE") found.1 ≡ Some (spelling code))
 

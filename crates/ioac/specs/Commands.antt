@@ -1,6 +1,6 @@
 -- What a run of the program comes to: what is asked, what is written, what is told, and the exit status. Of each device it is said what it
 -- holds before and after, and whether it failed.
-use Rattle.std.specs.Prelude.{◌≡◌, ℕ, ◌⊎◌, ◌<◌, List, length, Option}
+use Rattle.std.specs.Prelude.{◌≡◌, ℕ, ◌⊎◌, ◌<◌, List, length, Option, Some, None}
 use Rattle.std.specs.Io.KnownBytes.{Appends, Keeps}
 use Rattle.clap.specs.Words.{IsAmong, Text, fault_of, subcommand_of}
 use Rattle.clap.specs.declared.error.kind.ErrorKind.{ErrorKind}
@@ -12,13 +12,18 @@ use Rattle.ioac.specs.declared.request.Request.{Request}
 use Rattle.ioac.specs.declared.status.Status.{Status}
 use Rattle.ioac.specs.CommandLine.{ioac_app, HasNoFault, IsAsked}
 use Rattle.ioac.specs.Serving.{IsServed, IsUnserved}
-use Rattle.ioac.specs.Telling.{IsCut, IsReported, IsShort, IsTold, given_code, unasked_text}
+use Rattle.ioac.specs.Telling.{IsCut, IsPut, IsReported, IsShort, IsTold, unasked_text}
 
--- the request was served, and nothing is told; or why it was not is told
+-- what is served leaves nothing to tell, or this text, whose device may fail
+abbrev pub IsFinished : Option (List ℕ) → Status → Option (List ℕ) → Option (List ℕ) → Type 0 → Status → Type 0
+IsFinished None done told telling teller_failed status = (status ≡ done) × Keeps told telling
+IsFinished (Some text) done told telling teller_failed status = IsPut text done told telling teller_failed status
+
+-- the request was served; or why it was not is told
 abbrev pub IsAnswered : (Name → List ℕ → Type 0) → (Name → Type 0) → Request → Option (List ℕ) → Type 0
     → Option (List ℕ) → Option (List ℕ) → Type 0 → Option (List ℕ) → Option (List ℕ) → Type 0 → Status → Type 0
 IsAnswered holds lacks request bytes reader_failed before after writer_failed told telling teller_failed status =
-    (IsServed holds request bytes before after status × Keeps told telling)
+    ((reports : Option (List ℕ)) × (done : Status) × IsServed holds request bytes before after reports done × IsFinished reports done told telling teller_failed status)
     ⊎ ((e : Failure) × IsUnserved holds lacks request bytes reader_failed writer_failed before after e × IsReported e told telling teller_failed status)
 
 -- of a parse that gives no request, by what it tells
@@ -61,10 +66,10 @@ IsUsage Status.Faulted before after writer_failed told telling teller_failed sta
 IsUsage Status.ListRefused before after writer_failed told telling teller_failed status = ⊥
 
 -- Nothing is served. The words have a fault, or ask for help or the version, or memory was short while they were read; or they have
--- no fault and ask for nothing, as for a code that is none, or for the invariants of a list.
+-- no fault and ask for nothing, as for a code that is none, for the invariants of a list, or for a run with turns that are no number.
 abbrev pub IsUnasked : List Text → Option (List ℕ) → Option (List ℕ) → Type 0 → Option (List ℕ) → Option (List ℕ) → Type 0 → Status → Type 0
 IsUnasked words before after writer_failed told telling teller_failed status =
     ((kind : ErrorKind) × ((kind ≡ kinds.OutOfMemory) ⊎ IsAmong kind (fault_of ioac_app words))
     × IsUsage (usage_status kind) before after writer_failed told telling teller_failed status)
     ⊎ (HasNoFault words × ((request : Request) → IsAsked words request → ⊥) × Keeps before after
-    × IsTold (unasked_text (given_code (subcommand_of ioac_app words))) Status.BadCommandLine told telling teller_failed status)
+    × IsTold (unasked_text (subcommand_of ioac_app words)) Status.BadCommandLine told telling teller_failed status)

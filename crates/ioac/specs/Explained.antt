@@ -36,5 +36,8 @@ IsUnexplained code failed before after (Failure.Refused r) = ⊥
 IsUnexplained code failed before after (Failure.List e) =
     IsDeviceErr (failed × ((e : Explanation) × (k : ℕ) × (e.code ≡ code) × Appends before after (take k (explanation_text e)))) e
 IsUnexplained code failed before after Failure.SpecHasInternal = ⊥
+IsUnexplained code failed before after (Failure.BadWords n) = ⊥
+IsUnexplained code failed before after Failure.TooManyTurns = ⊥
+IsUnexplained code failed before after (Failure.BadInput i) = ⊥
 IsUnexplained code failed before after Failure.Io = ⊥
 IsUnexplained code failed before after Failure.OutOfMemory = Keeps before after

@@ -72,6 +72,9 @@ IsFailure text name bytes failed (Failure.List LogErr.AfterEnd) = ⊥
 IsFailure text name bytes failed (Failure.List LogErr.Io) = (h : Hosted) × Declares text name h × failed
 IsFailure text name bytes failed (Failure.List LogErr.OutOfMemory) = Unit {0}
 IsFailure text name bytes failed Failure.SpecHasInternal = ⊥
+IsFailure text name bytes failed (Failure.BadWords n) = ⊥
+IsFailure text name bytes failed Failure.TooManyTurns = ⊥
+IsFailure text name bytes failed (Failure.BadInput i) = ⊥
 IsFailure text name bytes failed Failure.Io = ⊥
 IsFailure text name bytes failed Failure.OutOfMemory = Unit {0}
 
@@ -88,6 +91,9 @@ IsLogFailure text name bytes failed (Failure.List LogErr.AfterEnd) = Given text 
 IsLogFailure text name bytes failed (Failure.List LogErr.Io) = (h : Hosted) × Declares text name h × failed
 IsLogFailure text name bytes failed (Failure.List LogErr.OutOfMemory) = Unit {0}
 IsLogFailure text name bytes failed Failure.SpecHasInternal = ⊥
+IsLogFailure text name bytes failed (Failure.BadWords n) = ⊥
+IsLogFailure text name bytes failed Failure.TooManyTurns = ⊥
+IsLogFailure text name bytes failed (Failure.BadInput i) = ⊥
 IsLogFailure text name bytes failed Failure.Io = ⊥
 IsLogFailure text name bytes failed Failure.OutOfMemory = Unit {0}
 
@@ -104,6 +110,9 @@ IsMonitorFailure text name bytes failed (Failure.List LogErr.AfterEnd) = GivenMo
 IsMonitorFailure text name bytes failed (Failure.List LogErr.Io) = (h : Hosted) × Declares text name h × IsSeen h × failed
 IsMonitorFailure text name bytes failed (Failure.List LogErr.OutOfMemory) = Unit {0}
 IsMonitorFailure text name bytes failed Failure.SpecHasInternal = (h : Hosted) × Declares text name h × IsHiding h
+IsMonitorFailure text name bytes failed (Failure.BadWords n) = ⊥
+IsMonitorFailure text name bytes failed Failure.TooManyTurns = ⊥
+IsMonitorFailure text name bytes failed (Failure.BadInput i) = ⊥
 IsMonitorFailure text name bytes failed Failure.Io = ⊥
 IsMonitorFailure text name bytes failed Failure.OutOfMemory = Unit {0}
 
@@ -133,6 +142,9 @@ IsLeft broken other (Failure.List LogErr.AfterEnd) = other
 IsLeft broken other (Failure.List LogErr.Io) = broken
 IsLeft broken other (Failure.List LogErr.OutOfMemory) = other
 IsLeft broken other Failure.SpecHasInternal = other
+IsLeft broken other (Failure.BadWords n) = other
+IsLeft broken other Failure.TooManyTurns = other
+IsLeft broken other (Failure.BadInput i) = other
 IsLeft broken other Failure.Io = other
 IsLeft broken other Failure.OutOfMemory = other
 

@@ -47,6 +47,9 @@ abbrev pub failure_details : Failure → List ℕ
 failure_details (Failure.Refused refusal) = refusal_details refusal
 failure_details (Failure.List e) = log_details e
 failure_details Failure.SpecHasInternal = []
+failure_details (Failure.BadWords n) = on_line n
+failure_details Failure.TooManyTurns = []
+failure_details (Failure.BadInput i) = codes " index " ++ decimal i
 failure_details Failure.Io = []
 failure_details Failure.OutOfMemory = []
 

@@ -1,50 +1,66 @@
 -- What a request comes to, from what files may hold to the bytes that are written.
-use Rattle.std.specs.Prelude.{◌≡◌, ℕ, ◌⊎◌, List, Option, IfSome}
-use Rattle.std.specs.Option.{option_copied}
+use Rattle.std.specs.Prelude.{◌≡◌, ℕ, ◌⊎◌, List, Option, None, IfSome}
+use Rattle.std.specs.Option.{option_copied, option_map}
+use Rattle.std.specs.String.{string_bytes}
 use Rattle.std.specs.Io.KnownBytes.{Keeps}
 use Rattle.ioa_value.specs.Actions.{Name}
 use Rattle.ioa_tree.specs.Runs.{Ending}
+use Rattle.ioa_run.specs.declared.run_err.RunErr.{RunErr}
 use Rattle.ioac.specs.declared.failure.Failure.{Failure}
 use Rattle.ioac.specs.declared.request.Request.{Request}
+use Rattle.ioac.specs.declared.served.Served.{Served}
 use Rattle.ioac.specs.declared.store.StoreErr.{StoreErr}
 use Rattle.ioac.specs.declared.status.Status.{Status}
 use Rattle.ioac.specs.Checks.{IsCheck, IsCheckFailure, IsUnchecked}
 use Rattle.ioac.specs.Explained.{IsExplained, IsUnexplained}
 use Rattle.ioac.specs.Headline.{IsReplay, IsLogReplay, IsInvariantReplay, IsMonitoring}
 use Rattle.ioac.specs.Logs.{Found}
+use Rattle.ioac.specs.Alone.{BeginsRunOf, IsRunServed, IsUnrun}
 use Rattle.ioac.specs.Failing.{IsFailure, IsLogFailure, IsMonitorFailure, IsUnwritten, BeginsReplayOf, BeginsLogOf, BeginsFoundOf, BeginsMonitorOf}
 use Rattle.ioac.specs.Statuses.{answer_status, ending_status, found_status}
+
+-- what is left to be told
+abbrev pub reports_of : Served → Option (List ℕ)
+reports_of s = option_map string_bytes s.reports
 
 -- why nothing is served of a file that was not read
 abbrev pub failure_of : StoreErr → Failure
 failure_of StoreErr.Io = Failure.Io
 failure_of StoreErr.OutOfMemory = Failure.OutOfMemory
 
+-- why nothing is run. On one thread no other is refused
+abbrev pub run_failure : RunErr → Failure
+run_failure RunErr.TooManyTurns = Failure.TooManyTurns
+run_failure (RunErr.BadInput i) = Failure.BadInput i
+run_failure RunErr.Threads = Failure.OutOfMemory
+run_failure RunErr.OutOfMemory = Failure.OutOfMemory
+
 -- the file may hold a text such that the list or the log was replayed, or monitored, in the composition that is asked for, the last
--- one where none is; or that passed the check; or the code was explained
-abbrev pub IsServed : (Name → List ℕ → Type 0) → Request → Option (List ℕ) → Option (List ℕ) → Option (List ℕ) → Status → Type 0
-IsServed holds (Request.Replay file composition) bytes before after status =
+-- one where none is; or that passed the check; or a composition was run; or the code was explained. Reports of a run are left to be told
+abbrev pub IsServed : (Name → List ℕ → Type 0) → Request → Option (List ℕ) → Option (List ℕ) → Option (List ℕ) → Option (List ℕ) → Status → Type 0
+IsServed holds (Request.Replay file composition) bytes before after told status =
     (text : List ℕ) × holds file.now text
-    × ((end : Ending) × IfSome bytes (λ xs. IsReplay text (option_copied composition) xs end before after) × (status ≡ ending_status end))
-IsServed holds (Request.ReplayLog file composition) bytes before after status =
+    × ((end : Ending) × IfSome bytes (λ xs. IsReplay text (option_copied composition) xs end before after) × (status ≡ ending_status end)) × (told ≡ None)
+IsServed holds (Request.ReplayLog file composition) bytes before after told status =
     (text : List ℕ) × holds file.now text
-    × ((end : Ending) × IfSome bytes (λ xs. IsLogReplay text (option_copied composition) xs end before after) × (status ≡ ending_status end))
-IsServed holds (Request.ReplayInvariants file composition) bytes before after status =
+    × ((end : Ending) × IfSome bytes (λ xs. IsLogReplay text (option_copied composition) xs end before after) × (status ≡ ending_status end)) × (told ≡ None)
+IsServed holds (Request.ReplayInvariants file composition) bytes before after told status =
     (text : List ℕ) × holds file.now text
-    × ((found : Found) × IfSome bytes (λ xs. IsInvariantReplay text (option_copied composition) xs found before after) × (status ≡ found_status found))
-IsServed holds (Request.Monitor file composition) bytes before after status =
+    × ((found : Found) × IfSome bytes (λ xs. IsInvariantReplay text (option_copied composition) xs found before after) × (status ≡ found_status found)) × (told ≡ None)
+IsServed holds (Request.Monitor file composition) bytes before after told status =
     (text : List ℕ) × holds file.now text
-    × ((answer : Option Ending) × IfSome bytes (λ xs. IsMonitoring text (option_copied composition) xs answer before after) × (status ≡ answer_status answer))
-IsServed holds (Request.Check file) bytes before after status =
-    ((text : List ℕ) × holds file.now text × IsCheck text before after) × (status ≡ Status.Done)
-IsServed holds (Request.Explain code) bytes before after status = IsExplained code before after × (status ≡ Status.Done)
+    × ((answer : Option Ending) × IfSome bytes (λ xs. IsMonitoring text (option_copied composition) xs answer before after) × (status ≡ answer_status answer)) × (told ≡ None)
+IsServed holds (Request.Run settings) bytes before after told status = IsRunServed holds settings before after told status
+IsServed holds (Request.Check file) bytes before after told status =
+    ((text : List ℕ) × holds file.now text × IsCheck text before after) × (status ≡ Status.Done) × (told ≡ None)
+IsServed holds (Request.Explain code) bytes before after told status = IsExplained code before after × (status ≡ Status.Done) × (told ≡ None)
 
 -- a load of the file may fail, or memory is short, and nothing was written
 abbrev pub IsUnread : Type 0 → Option (List ℕ) → Option (List ℕ) → Failure → Type 0
 IsUnread lacks before after e = (((e ≡ Failure.Io) × lacks) ⊎ (e ≡ Failure.OutOfMemory)) × Keeps before after
 
--- The file is not read, or it may hold a text with which the replay, the monitor or the check fails so; or the code is not
--- explained. The reader of standard input and the writer failed where these say so.
+-- The file is not read, or it may hold a text with which the replay, the monitor or the check fails so; or nothing is run; or the code is
+-- not explained. The reader of standard input and the writer failed where these say so.
 abbrev pub IsUnserved : (Name → List ℕ → Type 0) → (Name → Type 0) → Request → Option (List ℕ) → Type 0 → Type 0 → Option (List ℕ) → Option (List ℕ) → Failure → Type 0
 IsUnserved holds lacks (Request.Replay file composition) bytes reader_failed writer_failed before after e =
     IsUnread (lacks file.now) before after e
@@ -62,6 +78,8 @@ IsUnserved holds lacks (Request.Monitor file composition) bytes reader_failed wr
     IsUnread (lacks file.now) before after e
     ⊎ ((text : List ℕ) × holds file.now text × IsMonitorFailure text (option_copied composition) bytes (reader_failed ⊎ writer_failed) e
     × IsUnwritten (BeginsMonitorOf text (option_copied composition) bytes) before after e)
+IsUnserved holds lacks (Request.Run settings) bytes reader_failed writer_failed before after e =
+    IsUnrun holds lacks settings writer_failed e × IsUnwritten (BeginsRunOf holds settings) before after e
 IsUnserved holds lacks (Request.Check file) bytes reader_failed writer_failed before after e =
     IsUnread (lacks file.now) before after e
     ⊎ ((text : List ℕ) × holds file.now text × IsCheckFailure text writer_failed e × IsUnchecked before after e)

@@ -68,5 +68,8 @@ abbrev pub failure_status : Failure → Status
 failure_status (Failure.Refused refusal) = refusal_status refusal
 failure_status (Failure.List e) = log_status e
 failure_status Failure.SpecHasInternal = Status.ListRefused
+failure_status (Failure.BadWords n) = Status.BadCommandLine
+failure_status Failure.TooManyTurns = Status.BadCommandLine
+failure_status (Failure.BadInput i) = Status.ListRefused
 failure_status Failure.Io = Status.Unable
 failure_status Failure.OutOfMemory = Status.Unable

@@ -1,12 +1,14 @@
 -- What is told on standard error. Of a device it is said what it holds before and after, and whether it failed.
-use Rattle.std.specs.Prelude.{◌≡◌, ℕ, ◌⊎◌, ◌++◌, ◌∷◌, [], List, Option, Some, None, take, codes}
+use Rattle.std.specs.Prelude.{◌≡◌, ℕ, ◌⊎◌, ◌++◌, ◌∷◌, [], if◌then◌else◌, is_some, List, Option, Some, None, take, codes}
 use Rattle.std.specs.Io.KnownBytes.{Appends}
 use Rattle.std.specs.List.{join_by}
+use Rattle.std.specs.Str.{bytes_eq}
 use Rattle.clap.specs.Words.{Row, Text, first_of}
 use Rattle.ioac.specs.declared.failure.Failure.{Failure}
 use Rattle.ioac.specs.declared.status.Status.{Status}
 use Rattle.ioac.specs.Codes.{all_codes, spelling}
 use Rattle.ioac.specs.Printed.{failure_text}
+use Rattle.ioac.specs.Settings.{turns_in}
 use Rattle.ioac.specs.Statuses.{failure_status}
 
 -- the device failed, and has taken no more than a beginning of the text
@@ -52,12 +54,34 @@ abbrev pub missing_log_text : List ℕ
 missing_log_text =
     codes "error: the following required arguments were not provided:\n  --log\n\nUsage: ioac replay --log --invariants <FILE>" ++ try_help
 
--- the word that a subcommand has for a code, if it has one
-abbrev pub given_code : Option (Text × List Row) → Option Text
-given_code None = None
-given_code (Some found) = first_of (codes "CODE") found.1
+-- of a value that an option does not take
+abbrev pub invalid_value_text : Text → List ℕ → List ℕ
+invalid_value_text word option = codes "error: invalid value '" ++ (word ++ (codes "' for '" ++ (option ++ (codes "'" ++ try_help))))
 
--- of a command line without a fault that asks for nothing, by the word that it has for a code
-abbrev pub unasked_text : Option Text → List ℕ
+-- of words that are given twice
+abbrev pub two_sources_text : List ℕ
+two_sources_text = codes "error: the argument '--seed <HEX>' cannot be used with '--words <WFILE>'" ++ try_help
+
+-- of a seed that is no key, or that is given together with a file of words
+abbrev pub bad_source_text : Option Text → Option Text → List ℕ
+bad_source_text None file = two_sources_text
+bad_source_text (Some digits) None = invalid_value_text digits (codes "--seed <HEX>")
+bad_source_text (Some digits) (Some file) = two_sources_text
+
+-- of turns that are no number, or else of the words' source
+abbrev pub bad_settings_text : Option Text → Option Text → Option Text → List ℕ
+bad_settings_text None seed file = bad_source_text seed file
+bad_settings_text (Some word) seed file =
+    if is_some (turns_in (Some word)) then bad_source_text seed file else invalid_value_text word (codes "--turns <N>")
+
+-- of a code that is none; or without one, of invariants of a list
+abbrev pub bad_request_text : Option Text → List ℕ
+bad_request_text None = missing_log_text
+bad_request_text (Some word) = unknown_code_text word known_codes
+
+-- of a command line without a fault that asks for nothing, by its subcommand and the values of this
+abbrev pub unasked_text : Option (Text × List Row) → List ℕ
 unasked_text None = missing_log_text
-unasked_text (Some word) = unknown_code_text word known_codes
+unasked_text (Some found) =
+    if bytes_eq found.0 (codes "run") then bad_settings_text (first_of (codes "turns") found.1) (first_of (codes "seed") found.1) (first_of (codes "words") found.1)
+    else bad_request_text (first_of (codes "CODE") found.1)

@@ -33,6 +33,9 @@ pub enum Code {
     L6,
     L7,
     L8,
+    N1,
+    N2,
+    Words,
     Memory,
     Io,
 }
@@ -41,7 +44,7 @@ impl Code {
     ghost use Rattle.ioac.specs.declared.code.Code.{Code};
 
     /// Each code, once.
-    pub const ALL: [Code; 27] = [
+    pub const ALL: [Code; 30] = [
         Code::E1,
         Code::E2,
         Code::E3,
@@ -67,6 +70,9 @@ impl Code {
         Code::L6,
         Code::L7,
         Code::L8,
+        Code::N1,
+        Code::N2,
+        Code::Words,
         Code::Memory,
         Code::Io,
     ];
@@ -101,6 +107,9 @@ impl Code {
             Code::L6 => "L6",
             Code::L7 => "L7",
             Code::L8 => "L8",
+            Code::N1 => "N1",
+            Code::N2 => "N2",
+            Code::Words => "words",
             Code::Memory => "memory",
             Code::Io => "io",
         }

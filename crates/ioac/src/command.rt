@@ -5,7 +5,7 @@ ghost use Rattle.ioa_log.specs.Failing.{HasFailed};
 ghost use Rattle.ioac.specs.CommandLine.{IsAsked};
 ghost use Rattle.ioac.specs.Commands.{IsAnswered, IsUnasked};
 ghost use Rattle.ioac.specs.Logs.{found_of};
-ghost use Rattle.ioac.specs.Serving.{IsServed, IsUnserved};
+ghost use Rattle.ioac.specs.Serving.{IsServed, IsUnserved, reports_of};
 ghost use Rattle.ioac.specs.Statuses.{answer_status, ending_status, found_status, number_of};
 ghost use Rattle.ioac.specs.declared.failure.Failure.{Failure};
 ghost use Rattle.ioac.specs.declared.status.Status.{Status};
@@ -20,6 +20,8 @@ use crate::log_replay::replay_log_text;
 use crate::monitor::monitor_text;
 use crate::replay::replay_text;
 use crate::request::{Request, parse, read_request};
+use crate::run::run_file;
+use crate::served::{Served, finish, silent};
 use crate::status::Status;
 use crate::store::Store;
 use crate::telling::reported;
@@ -96,15 +98,15 @@ fn answer<F: Store, R: InputDevice, W: OutputDevice, E: OutputDevice>(
     ensures passed { (result ≡ statuses.Unable → ⊥) → (R.failure_count input.new ≡ R.failure_count input.old) × (W.failure_count output.new ≡ W.failure_count output.old) × (E.failure_count errors.new ≡ E.failure_count errors.old) }
 {
     match serve(alloc, asked, store, input, output) {
-        Ok(status) => status,
+        Ok(served) => finish(&served, errors),
         Err(failure) => reported(alloc, &failure, errors),
     }
 }
 
-/// Does what is asked, and answers the exit status.
+/// Does what is asked, and answers the exit status with what is left to tell.
 ///
 /// # Errors
-/// `Io` or `OutOfMemory` where the file is not read, and those of the replay, the monitor or the check of what it holds, or of the
+/// `Io` or `OutOfMemory` where the file is not read, and those of the replay, the run, the monitor or the check of what it holds, or of the
 /// explanation. Nothing was written then, or, where a device failed, no more than a beginning of the text.
 fn serve<F: Store, R: InputDevice, W: OutputDevice>(
     alloc: Global,
@@ -112,8 +114,8 @@ fn serve<F: Store, R: InputDevice, W: OutputDevice>(
     store: &mut F,
     input: &mut R,
     output: &mut W,
-) -> Result<Status, Failure>
-    ensures served { IfOk result (λ status. IsServed (F.holds store.old) asked.now (R.remaining input.old) (W.contents output.old) (W.contents output.new) status) }
+) -> Result<Served, Failure>
+    ensures served { IfOk result (λ s. IsServed (F.holds store.old) asked.now (R.remaining input.old) (W.contents output.old) (W.contents output.new) (reports_of s) s.status) }
     ensures refused { IfErr result (λ e. IsUnserved (F.holds store.old) (F.lacks store.old) asked.now (R.remaining input.old)
         (HasFailed (R.failure_count input.old) (R.failure_count input.new)) (HasFailed (W.failure_count output.old) (W.failure_count output.new))
         (W.contents output.old) (W.contents output.new) e) }
@@ -123,12 +125,12 @@ fn serve<F: Store, R: InputDevice, W: OutputDevice>(
         Request::Replay { file, composition } => {
             let text = store.load(alloc, file)?;
             let end = replay_text(alloc, text.as_slice(), *composition, input, output)?;
-            Ok(status_of(end))
+            Ok(silent(status_of(end)))
         }
         Request::ReplayLog { file, composition } => {
             let automata = store.load(alloc, file)?;
             let end = replay_log_text(alloc, automata.as_slice(), *composition, input, output)?;
-            Ok(status_of(end))
+            Ok(silent(status_of(end)))
         }
         Request::ReplayInvariants { file, composition } => {
             let declared = store.load(alloc, file)?;
@@ -139,8 +141,9 @@ fn serve<F: Store, R: InputDevice, W: OutputDevice>(
                 input,
                 output,
             )?;
-            Ok(status_of_finding(finding))
+            Ok(silent(status_of_finding(finding)))
         }
+        Request::Run(settings) => run_file(alloc, settings, store, output),
         Request::Monitor { file, composition } => {
             let specification = store.load(alloc, file)?;
             let answer = monitor_text(
@@ -150,22 +153,22 @@ fn serve<F: Store, R: InputDevice, W: OutputDevice>(
                 input,
                 output,
             )?;
-            Ok(status_of_answer(answer))
+            Ok(silent(status_of_answer(answer)))
         }
         Request::Check { file } => {
             let source = store.load(alloc, file)?;
             check_text(alloc, source.as_slice(), output)?;
-            Ok(Status::Done)
+            Ok(silent(Status::Done))
         }
         Request::Explain { code } => {
             explain(alloc, *code, output)?;
-            Ok(Status::Done)
+            Ok(silent(Status::Done))
         }
     }
 }
 
 /// The exit status of a list or a log that was replayed to this end.
-fn status_of(end: End) -> Status
+pub fn status_of(end: End) -> Status
     ensures { result ≡ ending_status (ending_of end) }
 {
     match end {

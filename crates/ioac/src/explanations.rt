@@ -1,6 +1,7 @@
 mod compositions;
 mod logs;
 mod runs;
+mod scripts;
 mod sources;
 mod texts;
 
@@ -39,6 +40,9 @@ pub fn explanation(code: Code) -> Explanation
         Code::L6 => logs::L6,
         Code::L7 => logs::L7,
         Code::L8 => runs::L8,
+        Code::N1 => scripts::N1,
+        Code::N2 => scripts::N2,
+        Code::Words => scripts::WORDS,
         Code::Memory => runs::MEMORY,
         Code::Io => runs::IO,
     }

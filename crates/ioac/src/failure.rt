@@ -7,6 +7,7 @@ use crate::refusal::{Details, refusal_code, refusal_status};
 use crate::status::Status;
 use crate::store::StoreErr;
 use ioa_log::LogErr;
+use ioa_run::RunErr;
 use ioa_syntax::Refusal;
 use std::alloc::AllocError;
 use std::fmt;
@@ -20,6 +21,12 @@ pub enum Failure {
     List(LogErr),
     /// The composition has internal or hidden actions, and is no monitor.
     SpecHasInternal,
+    /// This line of a file of words is no list of words. Lines count from 1.
+    BadWords(usize),
+    /// A run was asked for with too many turns.
+    TooManyTurns,
+    /// The action of this number, from 0, is the first of a run's script that is no input.
+    BadInput(usize),
     /// A file was not read.
     Io,
     /// A growth of memory was refused.
@@ -39,6 +46,9 @@ impl Failure {
             Failure::Refused(refusal) => refusal_code(refusal),
             Failure::List(error) => log_code(*error),
             Failure::SpecHasInternal => Code::L7,
+            Failure::BadWords(_) => Code::Words,
+            Failure::TooManyTurns => Code::N1,
+            Failure::BadInput(_) => Code::N2,
             Failure::Io => Code::Io,
             Failure::OutOfMemory => Code::Memory,
         }
@@ -51,7 +61,8 @@ impl Failure {
         match self {
             Failure::Refused(refusal) => refusal_status(refusal),
             Failure::List(error) => log_status(*error),
-            Failure::SpecHasInternal => Status::ListRefused,
+            Failure::SpecHasInternal | Failure::BadInput(_) => Status::ListRefused,
+            Failure::BadWords(_) | Failure::TooManyTurns => Status::BadCommandLine,
             Failure::Io | Failure::OutOfMemory => Status::Unable,
         }
     }
@@ -107,8 +118,11 @@ impl fmt::Display for Failure {
                 | LogErr::WrongOwner(line)
                 | LogErr::Diverges(line),
             ) => write!(f, "{code} line {line}"),
+            Failure::BadWords(line) => write!(f, "{code} line {line}"),
+            Failure::BadInput(index) => write!(f, "{code} index {index}"),
             Failure::List(LogErr::NoEnd | LogErr::AfterEnd | LogErr::Io | LogErr::OutOfMemory)
             | Failure::SpecHasInternal
+            | Failure::TooManyTurns
             | Failure::Io
             | Failure::OutOfMemory => write!(f, "{code}"),
         }
@@ -148,6 +162,22 @@ impl From<LogErr> for Failure {
 
     fn from(error: LogErr) -> Failure {
         Failure::List(error)
+    }
+}
+
+impl From<RunErr> for Failure {
+    ghost use Rattle.std.specs.Prelude.{◌≡◌};
+    ghost use Rattle.ioac.specs.Serving.{run_failure};
+
+    ghost from_gives = { λ r e. e ≡ run_failure r };
+
+    fn from(error: RunErr) -> Failure {
+        match error {
+            RunErr::TooManyTurns => Failure::TooManyTurns,
+            RunErr::BadInput(index) => Failure::BadInput(index),
+            // A run on one thread is refused none.
+            RunErr::Threads | RunErr::OutOfMemory => Failure::OutOfMemory,
+        }
     }
 }
 

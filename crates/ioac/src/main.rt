@@ -1,4 +1,4 @@
-//! `ioac`: checks, composes, compiles, replays and monitors I/O automata.
+//! `ioac`: checks, composes, compiles, runs, replays and monitors I/O automata.
 #![tactic(auto)]
 
 mod check;
@@ -13,15 +13,26 @@ mod files;
 mod invariant_replay;
 mod log_replay;
 mod monitor;
+mod numerals;
 mod refusal;
 mod replay;
+mod reports;
 mod request;
+mod run;
+mod run_usage;
+mod script;
+mod seed;
+mod served;
+mod settings;
 mod status;
 mod store;
 mod telling;
 #[cfg(test)]
 mod tests;
+mod trace;
 mod usage;
+mod word_sources;
+mod words_file;
 
 use crate::files::Files;
 use crate::telling::told_unread;

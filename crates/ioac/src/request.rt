@@ -5,6 +5,8 @@ ghost use Rattle.ioac.specs.CommandLine.{IsAskedBy, IsLocal, check_app, code_rul
 ghost use Rattle.ioac.specs.declared.request.Request.{Request};
 
 use crate::code::Code;
+use crate::run_usage::run_command;
+use crate::settings::{Settings, read_settings};
 use clap::{Arg, ArgAction, ArgMatches, Command, Error};
 use std::alloc::{AllocError, Global};
 use std::convert::AsStr;
@@ -27,6 +29,8 @@ pub enum Request<'a> {
         file: &'a str,
         composition: Option<&'a str>,
     },
+    /// To run a composition of a source.
+    Run(Settings<'a>),
     /// To monitor the log on standard input by a composition of a source.
     Monitor {
         file: &'a str,
@@ -45,7 +49,8 @@ pub enum Request<'a> {
 /// The version that `--version` prints.
 const VERSION: &str = "0.2.0";
 
-fn file_argument<'a>(alloc: Global) -> Arg<'a>
+/// The source that a subcommand takes.
+pub fn file_argument<'a>(alloc: Global) -> Arg<'a>
     ensures rule { rule_of result ≡ file_rule }
     ensures local { result.global ≡ false }
 {
@@ -54,7 +59,8 @@ fn file_argument<'a>(alloc: Global) -> Arg<'a>
         .help("A source of I/O automata")
 }
 
-fn composition_option<'a>(alloc: Global) -> Arg<'a>
+/// The name of a composition.
+pub fn composition_option<'a>(alloc: Global) -> Arg<'a>
     ensures rule { rule_of result ≡ comp_rule }
     ensures local { result.global ≡ false }
 {
@@ -167,13 +173,14 @@ fn program<'a>(alloc: Global) -> Result<Command<'a>, AllocError>
     ensures { IfOk result (λ command. app_of command ≡ ioac_app) }
 {
     Command::new(alloc, "ioac")
-        .about("Compiles I/O automata and replays lists of their actions")
+        .about("Compiles I/O automata, runs them, and replays lists of their actions")
         .version(VERSION)
         .subcommand_required(true)
         .arg_required_else_help(true)
         .disable_help_subcommand(true)
         .subcommand(check_command(alloc)?)?
         .subcommand(replay_command(alloc)?)?
+        .subcommand(run_command(alloc)?)?
         .subcommand(monitor_command(alloc)?)?
         .subcommand(explain_command(alloc)?)
 }
@@ -190,7 +197,7 @@ pub fn parse<'a, S: AsStr>(alloc: Global, words: &'a [S]) -> Result<ArgMatches<'
 }
 
 /// Whether a flag stands.
-fn is_set(found: &ArgMatches<'_>, flag: &str) -> bool
+pub fn is_set(found: &ArgMatches<'_>, flag: &str) -> bool
     ensures { result ≡ asked.is_set flag.now (rows_of (found_of found.now)) }
 {
     match found.get_str(flag) {
@@ -200,7 +207,8 @@ fn is_set(found: &ArgMatches<'_>, flag: &str) -> bool
 }
 
 /// The request of a command line without a fault. None where a word is missing, which a parse rules out, where there is no such code,
-/// or where the invariants of a list are asked for.
+/// where the invariants of a list
+/// are asked for, or where the settings of a run are none.
 pub fn read_request<'a>(matches: &ArgMatches<'a>) -> Option<Request<'a>>
     ensures some { IfSome result (λ asked. IsAskedBy (subcommand_rows_of matches.now) asked) }
     ensures none { IfNone result ((asked : Request) → IsAskedBy (subcommand_rows_of matches.now) asked → ⊥) }
@@ -216,6 +224,10 @@ pub fn read_request<'a>(matches: &ArgMatches<'a>) -> Option<Request<'a>>
                 (false, true) => None,
                 (false, false) => Some(Request::Replay { file, composition }),
             }
+        }
+        "run" => {
+            let settings = read_settings(found)?;
+            Some(Request::Run(settings))
         }
         "monitor" => {
             let file = found.get_str("FILE")?;

@@ -20,6 +20,7 @@ mod reached;
 mod requests;
 mod rooms;
 mod rows;
+mod runs;
 mod schedules;
 mod shelf;
 mod streams;

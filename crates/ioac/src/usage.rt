@@ -10,6 +10,7 @@ ghost use Rattle.ioac.specs.declared.status.Status.TheVariants as statuses;
 
 use crate::code::Code;
 use crate::failure::Failure;
+use crate::settings::read_turns;
 use crate::status::Status;
 use crate::telling::{put, put_short, reported};
 use clap::ArgMatches;
@@ -69,42 +70,100 @@ fn shown<W: OutputDevice, E: OutputDevice>(
     }
 }
 
-/// Tells of a command line that has no fault and asks for nothing, and answers the exit status. It asks for a code that is none, or for
-/// the invariants of a list.
+/// Tells of a command line that has no fault and asks for nothing, and answers the exit status. It asks for a code that is none, for the
+/// invariants of a list, or for a run whose settings are none.
 pub fn told_unasked<E: OutputDevice>(
     alloc: Global,
     matches: &ArgMatches<'_>,
     errors: &mut E,
 ) -> Status
-    ensures tells { IsTold (telling.unasked_text (telling.given_code (subcommand_rows_of matches.now))) statuses.BadCommandLine
+    ensures tells { IsTold (telling.unasked_text (subcommand_rows_of matches.now)) statuses.BadCommandLine
         (E.contents errors.old) (E.contents errors.new) (HasFailed (E.failure_count errors.old) (E.failure_count errors.new)) result }
     ensures passed { (result ≡ statuses.Unable → ⊥) → E.failure_count errors.new ≡ E.failure_count errors.old }
 {
-    match unasked_text(alloc, given_code(matches)) {
+    match unasked_text(alloc, matches) {
         Ok(text) => put(text.as_str(), Status::BadCommandLine, errors),
         Err(AllocError) => put_short(errors),
     }
 }
 
-/// The word that a command line has for a code, if it has one.
-#[tactic(auto, using(crate::proofs::Asked::coded, crate::proofs::Asked::uncoded_none))]
-fn given_code<'a>(matches: &ArgMatches<'a>) -> Option<&'a str>
-    ensures { option_copied result ≡ telling.given_code (subcommand_rows_of matches.now) }
+/// What is wrong with what a command line asks for.
+#[tactic(auto, using(crate::proofs::Asked::told_run, crate::proofs::Asked::told_other, crate::proofs::Asked::told_none))]
+fn unasked_text(alloc: Global, matches: &ArgMatches<'_>) -> Result<String, AllocError>
+    ensures { IfOk result (λ text. string_bytes text ≡ telling.unasked_text (subcommand_rows_of matches.now)) }
 {
-    match matches.subcommand() {
-        Some((_, found)) => found.get_str("CODE"),
-        None => None,
+    let Some((name, found)) = matches.subcommand() else {
+        return missing_log_text(alloc);
+    };
+    if name == "run" {
+        return bad_settings_text(
+            alloc,
+            found.get_str("turns"),
+            found.get_str("seed"),
+            found.get_str("words"),
+        );
+    }
+    bad_request_text(alloc, found.get_str("CODE"))
+}
+
+/// What is wrong with the words for a run: with those for its turns, or else with the source of its workers' words.
+fn bad_settings_text(
+    alloc: Global,
+    turns: Option<&str>,
+    seed: Option<&str>,
+    file: Option<&str>,
+) -> Result<String, AllocError>
+    ensures { IfOk result (λ text. string_bytes text ≡ telling.bad_settings_text (option_copied turns.entry) (option_copied seed.entry) (option_copied file.entry)) }
+{
+    match turns {
+        Some(word) if read_turns(turns).is_none() => {
+            invalid_value_text(alloc, word, "--turns <N>")
+        }
+        _ => bad_source_text(alloc, seed, file),
+    }
+}
+
+/// What is wrong with a seed that is no key, or that is given with a file.
+fn bad_source_text(
+    alloc: Global,
+    seed: Option<&str>,
+    file: Option<&str>,
+) -> Result<String, AllocError>
+    ensures { IfOk result (λ text. string_bytes text ≡ telling.bad_source_text (option_copied seed.entry) (option_copied file.entry)) }
+{
+    match (seed, file) {
+        (Some(digits), None) => invalid_value_text(alloc, digits, "--seed <HEX>"),
+        _ => two_sources_text(alloc),
     }
 }
 
 /// What is wrong with the word for a code; or without a word, that invariants are those of a log.
-fn unasked_text(alloc: Global, code: Option<&str>) -> Result<String, AllocError>
-    ensures { IfOk result (λ text. string_bytes text ≡ telling.unasked_text (option_copied code.entry)) }
+fn bad_request_text(alloc: Global, code: Option<&str>) -> Result<String, AllocError>
+    ensures { IfOk result (λ text. string_bytes text ≡ telling.bad_request_text (option_copied code.entry)) }
 {
     match code {
         Some(word) => unknown_code_text(alloc, word),
         None => missing_log_text(alloc),
     }
+}
+
+/// That an option does not take the word, in the manner of `clap`.
+fn invalid_value_text(alloc: Global, word: &str, option: &str) -> Result<String, AllocError>
+    ensures { IfOk result (λ text. string_bytes text ≡ telling.invalid_value_text word.now option.now) }
+{
+    format!(in alloc;
+        "error: invalid value '{word}' for '{option}'\n\nFor more information, try '--help'.\n"
+    )
+}
+
+/// That a seed and a file of words are not given together, in the same manner.
+fn two_sources_text(alloc: Global) -> Result<String, AllocError>
+    ensures { IfOk result (λ text. string_bytes text ≡ telling.two_sources_text) }
+{
+    String::from_str(
+        alloc,
+        "error: the argument '--seed <HEX>' cannot be used with '--words <WFILE>'\n\nFor more information, try '--help'.\n",
+    )
 }
 
 /// That the word is no code, and which there are, in the manner of `clap`.

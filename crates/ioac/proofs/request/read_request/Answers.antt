@@ -2,7 +2,7 @@ use Rattle.std.proofs.Common.{ap, sym, ◌∙◌, Some, codes, refl}
 use Rattle.clap.specs.Words.{found_of}
 use Rattle.clap.proofs.WalkLemmas.{first_value-rows}
 use Rattle.ioac.specs.declared.request.Request.{Request}
-use Rattle.ioac.proofs.Asked.{apart, asks, lent, names, uncoded, unfiled, unlogged}
+use Rattle.ioac.proofs.Asked.{apart, asks, lent, names, uncoded, unfiled, unlogged, unset}
 use Rattle.ioac.proofs.request.read_request.Goals as goal
 
 pub returns-in_err-file-in-replay-clause-none : goal.returns-in_err-file-in-replay-clause-none
@@ -87,3 +87,14 @@ returns-in-false-true-clause-none c =
     let found = c.in_ok-name.found.now in
     let here = lent c.args.matches.now found c.in_ok-name.name.now (codes "replay") c.in_ok-name.ensures.name c.in_ok-name.ensures.rows c.in-replay.is in
     unlogged c.args.matches.now found here (sym c.in-false-true.ensures) (sym c.in-false-true.ensures')
+
+pub returns-in_err-settings-in-run-clause-none : goal.returns-in_err-settings-in-run-clause-none
+returns-in_err-settings-in-run-clause-none c =
+    let here = lent c.args.matches.now c.in_ok-name.found.now c.in_ok-name.name.now (codes "run") c.in_ok-name.ensures.name c.in_ok-name.ensures.rows c.in-run.is in
+    unset c.args.matches.now c.in_ok-name.found.now _ here c.in_err-settings-in-run.ensures.none c.from_residual-in_err-settings-in-run.ensures
+
+pub returns-in_ok-settings-in-run-clause-some : goal.returns-in_ok-settings-in-run-clause-some
+returns-in_ok-settings-in-run-clause-some c =
+    let found = c.in_ok-name.found.now in
+    let here = lent c.args.matches.now found c.in_ok-name.name.now (codes "run") c.in_ok-name.ensures.name c.in_ok-name.ensures.rows c.in-run.is in
+    asks c.args.matches.now found (codes "run") (Request.Run c.in_ok-settings-in-run.settings) here (refl, c.in_ok-settings-in-run.ensures.some)

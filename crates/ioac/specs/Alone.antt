@@ -1,0 +1,202 @@
+-- What a run of a composition writes and tells, whose workers take turns on one thread, and why there is none.
+use Rattle.std.specs.Prelude.{◌≡◌, ◌<◌, ◌≤◌, ◌⊎◌, ◌++◌, ℕ, Bool, true, false, cond, List, [], Option, Some, None, All, length, map, take}
+use Rattle.std.specs.Io.KnownBytes.{Appends}
+use Rattle.std.specs.Option.{option_copied}
+use Rattle.ioa_value.specs.declared.limits.TheConstants.{LIMITS}
+use Rattle.ioa_value.specs.Actions.{Act, Name}
+use Rattle.ioa_value.specs.Lists as lists
+use Rattle.ioa_value.specs.Lists.{ReadsList}
+use Rattle.ioa_value.specs.Table.{Table}
+use Rattle.ioa_tree.specs.Hosts.{Hosted, hosts_of, host_starts}
+use Rattle.ioa_system.specs.Histories.{TellsHistory}
+use Rattle.ioa_system.specs.Logs.{Logged}
+use Rattle.ioa_log.specs.declared.failure.LogErr.{LogErr}
+use Rattle.ioa_log.specs.LogTexts.{log_text}
+use Rattle.ioa_run.specs.declared.report.Report.{Report}
+use Rattle.ioa_run.specs.Alone.{IsFirstOther, IsInput, most_turns}
+use Rattle.ioa_run.specs.Boards as boards
+use Rattle.ioa_run.specs.Outcomes.{ending, logged}
+use Rattle.ioa_run.specs.Reports.{AreTold}
+use Rattle.ioac.specs.declared.failure.Failure.{Failure}
+use Rattle.ioac.specs.declared.settings.Settings.{Settings}
+use Rattle.ioac.specs.declared.settings.WordsFrom.{WordsFrom}
+use Rattle.ioac.specs.declared.status.Status.{Status}
+use Rattle.ioac.specs.declared.word_sources.WordSources.{WordSources}
+use Rattle.ioac.specs.Failing.{IsRefusedSource}
+use Rattle.ioac.specs.Headline.{Declares}
+use Rattle.ioac.specs.Keys.{AreStreams}
+use Rattle.ioac.specs.Logs.{log_run_text}
+use Rattle.ioac.specs.RunReports.{reports_text}
+use Rattle.ioac.specs.Statuses.{ending_status}
+use Rattle.ioac.specs.WordLists.{AreWords, IsBadWords, listed}
+
+-- ---- what a run is
+
+-- The log tells a legal history of the hosts, and the fault by which it ends, if it does. Of this the reports tell: each counts what its
+-- worker performed, and the environment performed the script's first actions, in order.
+pub record IsRun (h : Hosted) (script : List Act) (turns : ℕ) (log : Logged) (reports : List Report) : Type 0 where
+  pub legal : TellsHistory (hosts_of h) (host_starts h) log
+  pub history : List (ℕ × Act)
+  pub failure : Option boards.Failure
+  pub entries : log.entries ≡ logged history failure
+  pub ends : log.ending ≡ ending history failure
+  pub told : AreTold (length h.hosts) script turns history failure reports
+
+-- what is written of it: the log, or the external trace and how the run ends
+abbrev pub written : Hosted → Bool → Logged → List ℕ
+written h true log = log_text h.types log
+written h false log = log_run_text h log
+
+abbrev pub told_of : Hosted → Bool → List Report → Option (List ℕ)
+told_of h true reports = Some (reports_text (map (λ p. p.name) h.hosts) reports)
+told_of h false reports = None
+
+-- ---- what it is given
+
+-- the file may hold a text that declares these hosts
+abbrev pub MayDeclare : (Name → List ℕ → Type 0) → Settings → Hosted → Type 0
+MayDeclare holds s h = (text : List ℕ) × holds s.file.now text × Declares text (option_copied s.composition) h
+
+-- a file that is not a source is no longer than this
+abbrev pub IsShort : List ℕ → Type 0
+IsShort text = length text ≤ LIMITS.text
+
+-- where the words of so many workers are listed, the file may hold a text that lists them
+abbrev pub HasWords : (Name → List ℕ → Type 0) → WordsFrom → ℕ → Type 0
+HasWords holds (WordsFrom.Key key) workers = Unit {0}
+HasWords holds (WordsFrom.File file) workers =
+    (text : List ℕ) × holds file.now text × IsShort text × ((words : List (List ℕ)) × AreWords workers text words)
+
+-- the script is that of a list that the file may hold; without a file it is empty
+abbrev pub IsScript : (Name → List ℕ → Type 0) → Table → Option Name → List Act → Type 0
+IsScript holds types None script = script ≡ []
+IsScript holds types (Some file) script = (text : List ℕ) × holds file text × IsShort text × ReadsList types text script
+
+-- all that is read for a run of these hosts with this script
+pub record IsReady (holds : Name → List ℕ → Type 0) (s : Settings) (h : Hosted) (script : List Act) : Type 0 where
+  pub declares : MayDeclare holds s h
+  pub words : HasWords holds s.words (length h.hosts)
+  pub inputs : IsScript holds h.types (option_copied s.inputs) script
+
+-- ---- what comes of it
+
+-- all is read; the turns are not too many, and the script is of inputs; and a run's text is written, and its reports are left to be told
+pub record IsRunServed (holds : Name → List ℕ → Type 0) (s : Settings) (before after : Option (List ℕ)) (telling : Option (List ℕ)) (done : Status) : Type 0 where
+  pub hosts : Hosted
+  pub script : List Act
+  pub ready : IsReady holds s hosts script
+  pub turns : s.turns ≤ most_turns
+  pub inputs : All (IsInput (hosts_of hosts)) script
+  pub log : Logged
+  pub reports : List Report
+  pub run : IsRun hosts script s.turns log reports
+  pub output : Appends before after (written hosts s.log log)
+  pub told : telling ≡ told_of hosts s.reports reports
+  pub status : done ≡ ending_status log.ending
+
+-- a beginning of a run's text is written
+pub record BeginsRunOf (holds : Name → List ℕ → Type 0) (s : Settings) (before after : Option (List ℕ)) : Type 0 where
+  pub hosts : Hosted
+  pub script : List Act
+  pub ready : IsReady holds s hosts script
+  pub turns : s.turns ≤ most_turns
+  pub inputs : All (IsInput (hosts_of hosts)) script
+  pub log : Logged
+  pub reports : List Report
+  pub run : IsRun hosts script s.turns log reports
+  pub taken : ℕ
+  pub begun : Appends before after (take taken (written hosts s.log log))
+
+-- ---- why there is none
+
+-- a load of the file may fail, or give a text that is too long for a file that is not a source
+abbrev pub IsUnreadable : (Name → List ℕ → Type 0) → (Name → Type 0) → Name → Type 0
+IsUnreadable holds lacks file = lacks file ⊎ ((text : List ℕ) × holds file text × (IsShort text → ⊥))
+
+abbrev pub LacksWords : (Name → List ℕ → Type 0) → (Name → Type 0) → WordsFrom → Type 0
+LacksWords holds lacks (WordsFrom.Key key) = ⊥
+LacksWords holds lacks (WordsFrom.File file) = IsUnreadable holds lacks file.now
+
+abbrev pub LacksScript : (Name → List ℕ → Type 0) → (Name → Type 0) → Option Name → Type 0
+LacksScript holds lacks None = ⊥
+LacksScript holds lacks (Some file) = IsUnreadable holds lacks file
+
+-- the words are from there: of the key, each worker's stream; of the file, each worker's line, from its first word
+abbrev pub AreSources : (Name → List ℕ → Type 0) → WordsFrom → ℕ → WordSources → Type 0
+AreSources holds (WordsFrom.Key key) workers (WordSources.Seeded sources) = AreStreams key workers sources.items
+AreSources holds (WordsFrom.Key key) workers (WordSources.Listed sources) = ⊥
+AreSources holds (WordsFrom.File file) workers (WordSources.Seeded sources) = ⊥
+AreSources holds (WordsFrom.File file) workers (WordSources.Listed sources) =
+    (text : List ℕ) × holds file.now text × IsShort text × AreWords workers text (map listed sources.items) × All (λ s. s.taken ≡ 0) sources.items
+
+abbrev pub count_of : WordSources → ℕ
+count_of (WordSources.Seeded sources) = length sources.items
+count_of (WordSources.Listed sources) = length sources.items
+
+-- the file may hold a text of which this line is the first that lists no words
+abbrev pub HasBadWords : (Name → List ℕ → Type 0) → WordsFrom → ℕ → ℕ → Type 0
+HasBadWords holds (WordsFrom.Key key) workers n = ⊥
+HasBadWords holds (WordsFrom.File file) workers n = (text : List ℕ) × holds file.now text × IsShort text × IsBadWords workers text n
+
+-- the file may hold a text of which this line is the first that is no action
+abbrev pub HasBadLine : (Name → List ℕ → Type 0) → Table → Option Name → ℕ → Type 0
+HasBadLine holds types None n = ⊥
+HasBadLine holds types (Some file) n = (text : List ℕ) × holds file text × IsShort text × lists.BadLine types text n
+
+-- why there are no words, and why there is no script
+abbrev pub IsWordless : (Name → List ℕ → Type 0) → (Name → Type 0) → WordsFrom → ℕ → Failure → Type 0
+IsWordless holds lacks from workers (Failure.BadWords n) = HasBadWords holds from workers n
+IsWordless holds lacks from workers Failure.Io = LacksWords holds lacks from
+IsWordless holds lacks from workers Failure.OutOfMemory = Unit {0}
+IsWordless holds lacks from workers (Failure.Refused r) = ⊥
+IsWordless holds lacks from workers (Failure.List e) = ⊥
+IsWordless holds lacks from workers Failure.SpecHasInternal = ⊥
+IsWordless holds lacks from workers Failure.TooManyTurns = ⊥
+IsWordless holds lacks from workers (Failure.BadInput i) = ⊥
+
+abbrev pub IsScriptless : (Name → List ℕ → Type 0) → (Name → Type 0) → Table → Option Name → Failure → Type 0
+IsScriptless holds lacks types file (Failure.List (LogErr.BadLine n)) = HasBadLine holds types file n
+IsScriptless holds lacks types file Failure.Io = LacksScript holds lacks file
+IsScriptless holds lacks types file Failure.OutOfMemory = Unit {0}
+IsScriptless holds lacks types file (Failure.List (LogErr.NotJson n)) = ⊥
+IsScriptless holds lacks types file (Failure.List (LogErr.WrongOwner n)) = ⊥
+IsScriptless holds lacks types file (Failure.List (LogErr.Diverges n)) = ⊥
+IsScriptless holds lacks types file (Failure.List LogErr.NoEnd) = ⊥
+IsScriptless holds lacks types file (Failure.List LogErr.AfterEnd) = ⊥
+IsScriptless holds lacks types file (Failure.List LogErr.Io) = ⊥
+IsScriptless holds lacks types file (Failure.List LogErr.OutOfMemory) = ⊥
+IsScriptless holds lacks types file (Failure.Refused r) = ⊥
+IsScriptless holds lacks types file (Failure.BadWords n) = ⊥
+IsScriptless holds lacks types file Failure.SpecHasInternal = ⊥
+IsScriptless holds lacks types file Failure.TooManyTurns = ⊥
+IsScriptless holds lacks types file (Failure.BadInput i) = ⊥
+
+-- a file is not read: the source's; or where that declares hosts, the words'; or where all have words, the script's
+abbrev pub IsUnloaded : (Name → List ℕ → Type 0) → (Name → Type 0) → Settings → Type 0
+IsUnloaded holds lacks s =
+    lacks s.file.now
+    ⊎ ((h : Hosted) × MayDeclare holds s h
+    × (LacksWords holds lacks s.words ⊎ (HasWords holds s.words (length h.hosts) × LacksScript holds lacks (option_copied s.inputs))))
+
+-- Each reason comes only where those before it do not hold: a file is not read; the source or its composition is refused; a line of words is
+-- none; a line of the script is no action; there are too many turns; an action of the script is no input. Or the device failed, after all
+-- were past. Memory may be short at any time.
+abbrev pub IsUnrun : (Name → List ℕ → Type 0) → (Name → Type 0) → Settings → Type 0 → Failure → Type 0
+IsUnrun holds lacks s failed (Failure.Refused r) = (text : List ℕ) × holds s.file.now text × IsRefusedSource text (option_copied s.composition) r
+IsUnrun holds lacks s failed (Failure.BadWords n) = (h : Hosted) × MayDeclare holds s h × HasBadWords holds s.words (length h.hosts) n
+IsUnrun holds lacks s failed (Failure.List (LogErr.BadLine n)) =
+    (h : Hosted) × MayDeclare holds s h × HasWords holds s.words (length h.hosts) × HasBadLine holds h.types (option_copied s.inputs) n
+IsUnrun holds lacks s failed Failure.TooManyTurns = (h : Hosted) × (script : List Act) × IsReady holds s h script × (most_turns < s.turns)
+IsUnrun holds lacks s failed (Failure.BadInput i) =
+    (h : Hosted) × (script : List Act) × IsReady holds s h script × (s.turns ≤ most_turns) × IsFirstOther (hosts_of h) script i
+IsUnrun holds lacks s failed (Failure.List LogErr.Io) =
+    (h : Hosted) × (script : List Act) × IsReady holds s h script × (s.turns ≤ most_turns) × All (IsInput (hosts_of h)) script × failed
+IsUnrun holds lacks s failed Failure.Io = IsUnloaded holds lacks s
+IsUnrun holds lacks s failed Failure.OutOfMemory = Unit {0}
+IsUnrun holds lacks s failed (Failure.List LogErr.OutOfMemory) = Unit {0}
+IsUnrun holds lacks s failed (Failure.List (LogErr.NotJson n)) = ⊥
+IsUnrun holds lacks s failed (Failure.List (LogErr.WrongOwner n)) = ⊥
+IsUnrun holds lacks s failed (Failure.List (LogErr.Diverges n)) = ⊥
+IsUnrun holds lacks s failed (Failure.List LogErr.NoEnd) = ⊥
+IsUnrun holds lacks s failed (Failure.List LogErr.AfterEnd) = ⊥
+IsUnrun holds lacks s failed Failure.SpecHasInternal = ⊥

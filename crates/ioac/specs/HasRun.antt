@@ -1,0 +1,28 @@
+-- What was run: the program's run, before anything is written.
+use Rattle.std.specs.Prelude.{◌≤◌, ℕ, List, All, length}
+use Rattle.ioa_value.specs.Actions.{Act, Name}
+use Rattle.ioa_value.specs.Plain.{Val}
+use Rattle.ioa_node.specs.Nodes.{Node}
+use Rattle.ioa_tree.specs.Hosts.{Hosted}
+use Rattle.ioa_compile.specs.Tables.{tabled}
+use Rattle.ioa_run.specs.Alone.{IsInput, most_turns}
+use Rattle.ioa_run.specs.Boards.{Standing}
+use Rattle.ioa_run.specs.Outcomes.{IsLogOf}
+use Rattle.ioa_run.specs.Reports.{AreTold}
+use Rattle.ioac.specs.declared.run.Ran.{Ran}
+use Rattle.ioac.specs.declared.settings.Settings.{Settings}
+use Rattle.ioac.specs.Alone.{IsReady}
+use Rattle.ioac.specs.Running.{Runs}
+
+-- all was read, and the program of these hosts was run: the log is that of a board, and the reports tell of its history
+pub record HasRun (holds : Name → List ℕ → Type 0) (s : Settings) (r : Ran) : Type 0 where
+  pub hosts : Hosted
+  pub script : List Act
+  pub ready : IsReady holds s hosts script
+  pub runs : Runs r.program hosts
+  pub turns : s.turns ≤ most_turns
+  pub inputs : All (IsInput (tabled r.program)) script
+  pub board : Standing (List Val)
+  pub states : List Node
+  pub log : IsLogOf r.program board r.log.entries.items r.log.end states
+  pub told : AreTold (length r.program.members) script s.turns board.history board.failure r.reports.items

@@ -1,0 +1,186 @@
+//! Runs on one thread: what they print, by their words and their scripts.
+
+use crate::command::command;
+use crate::store::{Store, StoreErr};
+use crate::tests::shelf::{COUNTER, Ran};
+use crate::tests::tables::{column, columns, is_row};
+use ioa_log::Counted;
+use std::alloc::Global;
+use std::process::Abort;
+use std::test::Fail;
+
+/// A component that rolls, twice at most, and one that adds and tells.
+const GAME: &str = "\
+automaton Dice(n: Int) signature output roll(d: Int) states k: Int \
+transitions output roll pre k < 2 propose d := any(n) eff k := k + 1 \
+automaton Keep signature input roll(d: Int); output tell(s: Int); internal clear states sum: Int \
+transitions input roll eff sum := sum + d output tell pre s = sum propose s := sum internal clear pre sum > 0 eff sum := 0 \
+composition Zero components D: Dice(0); K: Keep \
+composition Game components D: Dice(6); K: Keep";
+
+/// A component whose action faults in another one.
+const FAULTY: &str = "\
+type S = seq 1 of Int \
+automaton Go signature output go states n: Int transitions output go eff n := n + 1 \
+automaton Pick signature input go states s: S; x: Int transitions input go eff x := at(s, 0) \
+composition Two components G: Go; P: Pick";
+
+/// The words after `run f`, the file of words `w`, the script `l`, what is printed, what is told of errors, and the exit status.
+const GAMES: &str = "\
+--alone --turns 3 --words w | 9 17 4^1 2^ |  | roll(5)^roll(0)^tell(0)^tell(0)^end: done after 5^ |  | 0
+--alone --turns 3 --words w --reports | 9 17 4^1 2 |  | roll(5)^roll(0)^tell(0)^tell(0)^end: done after 5^ | D: 2 committed, 1 idle, 0 stale^K: 3 committed, 0 idle, 0 stale^environment: 0 committed, 3 idle, 0 stale^ | 0
+--alone --turns 3 --words w --log | 9 17 4^1 2 |  | {\"act\":\"roll(5)\",\"who\":0}^{\"act\":\"clear\",\"who\":1}^{\"act\":\"roll(0)\",\"who\":0}^{\"act\":\"tell(0)\",\"who\":1}^{\"act\":\"tell(0)\",\"who\":1}^{\"end\":\"done after 5\"}^ |  | 0
+--alone --turns 3 --words w --comp Zero --reports | 9 17 4^1 2 |  | tell(0)^tell(0)^end: done after 2^ | D: 0 committed, 3 idle, 0 stale^K: 2 committed, 1 idle, 0 stale^environment: 0 committed, 3 idle, 0 stale^ | 0
+-- lines past the components' are not looked at, and words that are used up, or of a line that is missing, are 0
+--alone --turns 3 --words w | 9 17 4^1 2^x |  | roll(5)^roll(0)^tell(0)^tell(0)^end: done after 5^ |  | 0
+--alone --turns 3 --words w |  |  | roll(0)^tell(0)^roll(0)^tell(0)^tell(0)^end: done after 5^ |  | 0
+--alone --turns 3 --words w | ^1 |  | roll(0)^roll(0)^tell(0)^tell(0)^end: done after 4^ |  | 0
+--alone --turns 1 --words w | 4294967295 4294967295 |  | roll(3)^tell(3)^end: done after 2^ |  | 0
+-- lines that are no list of words
+--alone --words w | 9  17 |  |  | words line 1^ | 2
+--alone --words w | 9 17 ^1 |  |  | words line 1^ | 2
+--alone --words w | 9^1 4294967296 |  |  | words line 2^ | 2
+--alone --words w | 9^+1 |  |  | words line 2^ | 2
+--alone --words w | 9^-1 |  |  | words line 2^ | 2
+--alone --words w | 9,1 |  |  | words line 1^ | 2
+--alone --words w --comp Nine | x |  |  | E17^ | 1
+--alone --words w --inputs l --turns 100001 | x | roll( |  | words line 1^ | 2
+--alone --words q --inputs l | x | roll( |  | io^ | 5
+";
+
+/// The same.
+const COUNTS: &str = "\
+--alone --turns 2 --inputs l |  | reset | tick(5)^reset^tick(5)^end: done after 3^ |  | 0
+--alone --turns 2 --inputs l --reports |  | % once^^reset^ | tick(5)^reset^tick(5)^end: done after 3^ | A: 2 committed, 0 idle, 0 stale^environment: 1 committed, 1 idle, 0 stale^ | 0
+--alone --turns 2 --inputs l --log |  | reset | {\"act\":\"tick(5)\",\"who\":0}^{\"act\":\"reset\",\"who\":1}^{\"act\":\"tick(5)\",\"who\":0}^{\"end\":\"done after 3\"}^ |  | 0
+--alone --turns 0 |  |  | end: done after 0^ |  | 0
+--alone --turns 2 --inputs l |  | tick(5) |  | N2 index 0^ | 4
+--alone --turns 2 --inputs l |  | reset^% no^tick( |  | L2 line 3^ | 4
+--alone --turns 2 --inputs l |  | reset^reset^tock |  | N2 index 2^ | 4
+--alone --turns 2 --inputs l |  | reset^% no^tick(5) |  | N2 index 1^ | 4
+--alone --turns 100001 --inputs l |  | tick(5) |  | N1^ | 2
+--alone --turns 100001 --inputs l |  | tick( |  | L2 line 1^ | 4
+--alone --turns 100001 |  |  |  | N1^ | 2
+--alone --turns 18446744073709551615 |  |  |  | N1^ | 2
+--alone --inputs q |  |  |  | io^ | 5
+-- words that are none of a run's
+--alone --turns x |  |  |  | error: invalid value 'x' for '--turns <N>'^^For more information, try '--help'.^ | 2
+--alone --turns +5 |  |  |  | error: invalid value '+5' for '--turns <N>'^^For more information, try '--help'.^ | 2
+--alone --turns 18446744073709551616 |  |  |  | error: invalid value '18446744073709551616' for '--turns <N>'^^For more information, try '--help'.^ | 2
+--alone --seed 12 |  |  |  | error: invalid value '12' for '--seed <HEX>'^^For more information, try '--help'.^ | 2
+--alone --seed 00000000000000000000000000000000000000000000000000000000000000000 |  |  |  | error: invalid value '00000000000000000000000000000000000000000000000000000000000000000' for '--seed <HEX>'^^For more information, try '--help'.^ | 2
+--alone --seed g000000000000000000000000000000000000000000000000000000000000000 |  |  |  | error: invalid value 'g000000000000000000000000000000000000000000000000000000000000000' for '--seed <HEX>'^^For more information, try '--help'.^ | 2
+--alone --seed 12 --words w |  |  |  | error: the argument '--seed <HEX>' cannot be used with '--words <WFILE>'^^For more information, try '--help'.^ | 2
+--turns 2 |  |  |  | error: the following required arguments were not provided:^  --alone^^Usage: ioac run [--comp <NAME>] --alone [--turns <N>] [--seed <HEX>|--words <WFILE>] [--inputs <LFILE>] [--log] [--reports] <FILE>^^For more information, try '--help'.^ | 2
+";
+
+/// The same.
+const FAULTS: &str = "\
+--alone --turns 1 |  |  | end: fault 4 in component 1 at 0^ |  | 3
+--alone --turns 1 --log --reports |  |  | {\"act\":\"go\",\"who\":0}^{\"end\":\"fault 4 in component 1 at 0\"}^ | G: 0 committed, 0 idle, 0 stale^P: 0 committed, 1 idle, 0 stale^environment: 0 committed, 1 idle, 0 stale^ | 3
+";
+
+/// Three files in memory: the source `f`, the words `w` and the script `l`.
+#[derive(Drop)]
+struct Rack<'a> {
+    source: &'a str,
+    words: &'a str,
+    script: &'a str,
+}
+
+impl<'a> Store for Rack<'a> {
+    ghost holds = { λ _ _ _. Unit {0} };
+
+    ghost lacks = { λ _ _. Unit {0} };
+
+    fn load(&mut self, alloc: Global, name: &str) -> Result<Vec<u8>, StoreErr> {
+        let text = match name {
+            "f" => self.source,
+            "w" => self.words,
+            "l" => self.script,
+            _ => return Err(StoreErr::Io),
+        };
+        Ok(Vec::from_slice(alloc, text.as_bytes())?)
+    }
+}
+
+/// Runs the program by these words after `run f`.
+fn run_by(alloc: Global, options: &str, rack: &mut Rack<'_>) -> Result<Ran, Fail> {
+    let mut words = Vec::new(alloc);
+    words.push("ioac")?;
+    words.push("run")?;
+    words.push("f")?;
+    for option in options.split_whitespace() {
+        words.push(option)?;
+    }
+    let mut input = Counted::new(b"".as_slice());
+    let mut output = Counted::new(Vec::new(alloc));
+    let mut errors = Counted::new(Vec::new(alloc));
+    let status = command(
+        alloc,
+        words.as_slice(),
+        rack,
+        &mut input,
+        &mut output,
+        &mut errors,
+    );
+    Ok(Ran {
+        output: output.into_inner(),
+        errors: errors.into_inner(),
+        status,
+    })
+}
+
+/// Runs each row of a table on this source.
+fn expect_runs(rt: &impl Abort, alloc: Global, rows: &str, source: &str) -> Result<(), Fail> {
+    for row in rows.lines().filter(|line| is_row(line)) {
+        let columns = columns(alloc, row)?;
+        let mut rack = Rack {
+            source,
+            words: column(&columns, 1),
+            script: column(&columns, 2),
+        };
+        let ran = run_by(alloc, column(&columns, 0), &mut rack)?;
+        assert!(rt;
+            ran.errors.as_slice() == column(&columns, 4).as_bytes(),
+            "errors in {row}"
+        );
+        assert!(rt;
+            ran.output.as_slice() == column(&columns, 3).as_bytes(),
+            "output in {row}"
+        );
+        assert!(rt;
+            ran.status == column(&columns, 5).parse::<u8>()?,
+            "status in {row}"
+        );
+    }
+    Ok(())
+}
+
+#[test]
+fn runs_print_what_is_wanted(rt: HostRuntime) -> Result<(), Fail> {
+    expect_runs(&rt, rt.alloc(), GAMES, GAME)?;
+    expect_runs(&rt, rt.alloc(), COUNTS, COUNTER)?;
+    expect_runs(&rt, rt.alloc(), FAULTS, FAULTY)?;
+    Ok(())
+}
+
+#[test]
+fn a_run_without_a_seed_has_one_of_zeros(rt: HostRuntime) -> Result<(), Fail> {
+    let mut rack = Rack {
+        source: GAME,
+        words: "",
+        script: "",
+    };
+    let zeros =
+        "--alone --turns 50 --log --seed 0000000000000000000000000000000000000000000000000000000000000000";
+    let ones =
+        "--alone --turns 50 --log --seed 1111111111111111111111111111111111111111111111111111111111111111";
+    let without = run_by(rt.alloc(), "--alone --turns 50 --log", &mut rack)?;
+    let with_zeros = run_by(rt.alloc(), zeros, &mut rack)?;
+    let with_ones = run_by(rt.alloc(), ones, &mut rack)?;
+    assert_eq!(rt; without.status, 0);
+    assert!(rt; without.output.as_slice() == with_zeros.output.as_slice());
+    assert!(rt; without.output.as_slice() != with_ones.output.as_slice());
+    Ok(())
+}

@@ -1,0 +1,48 @@
+ghost use Rattle.std.specs.Prelude.{◌≡◌, ℕ, List, IfOk, IfErr};
+ghost use Rattle.ioa_value.specs.Actions.{Name};
+ghost use Rattle.ioac.specs.Alone.{AreSources, IsWordless};
+
+use crate::failure::Failure;
+use crate::seed::seeded;
+use crate::settings::WordsFrom;
+use crate::store::{Store, load_short};
+use crate::words_file::{ListedWords, read_words};
+use ioa_run::Seeded;
+use std::alloc::Global;
+
+/// A source of words for each worker of a run.
+#[derive(Drop)]
+pub enum WordSources {
+    Seeded(Vec<Seeded>),
+    Listed(Vec<ListedWords>),
+}
+
+/// A source of words for each of so many workers.
+///
+/// # Errors
+/// `BadWords` where a line of the file is no list of words; `Io` where the file is not read; or want of memory.
+pub fn load_words<F: Store>(
+    alloc: Global,
+    from: WordsFrom<'_>,
+    workers: usize,
+    store: &mut F,
+) -> Result<WordSources, Failure>
+    ensures words { IfOk result (λ sources. AreSources (F.holds store.old) from.entry workers sources) }
+    ensures refused { IfErr result (λ e. IsWordless (F.holds store.old) (F.lacks store.old) from.entry workers e) }
+    ensures holding { (file : Name) (bytes : List ℕ) → F.holds store.new file bytes → F.holds store.old file bytes }
+    ensures lacking { (file : Name) → F.lacks store.new file → F.lacks store.old file }
+{
+    match from {
+        WordsFrom::Key(key) => {
+            let sources = seeded(alloc, key, workers)?;
+            Ok(WordSources::Seeded(sources))
+        }
+        WordsFrom::File(name) => {
+            let text = load_short(alloc, name, store)?;
+            match read_words(alloc, text.as_slice(), workers)? {
+                Ok(sources) => Ok(WordSources::Listed(sources)),
+                Err(line) => Err(Failure::BadWords(line)),
+            }
+        }
+    }
+}
