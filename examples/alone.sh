@@ -1,0 +1,51 @@
+#!/bin/sh
+# Runs the examples on one thread by chance, and replays what they log: examples/alone.sh PROGRAM
+#
+# Each composition of a source that the program accepts is run over ten seeds, 1,000 turns each; the environment performs the inputs of the
+# folder's inputs.script, where it has one that fits. The log has to be accepted by `replay --log`, which has to print what the run
+# prints without `--log`, with the same exit status.
+set -u
+program=$1
+case $program in /*) ;; *) program=$PWD/$program ;; esac
+top=$(cd "$(dirname "$0")" && pwd)
+work=$(mktemp -d) || exit 1
+trap 'rm -rf "$work"' EXIT
+runs=0
+
+fail() {
+  echo "runs: $1: $2"
+  exit 1
+}
+
+# The words that name what is run: source, composition and, where it fits, the script.
+named() {
+  set -- "$1" --comp "$2"
+  script=$(dirname "$1")/inputs.script
+  if [ -f "$script" ] && "$program" run "$@" --alone --turns 0 --inputs "$script" > "$work/fits" 2>&1; then
+    set -- "$@" --inputs "$script"
+  fi
+  echo "$@"
+}
+
+for source in "$top"/*/*.ioa; do
+  for composition in $(sed -n 's/^ *composition \([A-Za-z0-9_]*\).*/\1/p' "$source"); do
+    "$program" run "$source" --comp "$composition" --alone --turns 0 > "$work/fits" 2>&1 || continue
+    asked=$(named "$source" "$composition")
+    for digit in 0 1 2 3 4 5 6 7 8 9; do
+      seed=$(printf '%064d' "$digit")
+      # shellcheck disable=SC2086
+      "$program" run $asked --alone --seed "$seed" > "$work/printed" 2> "$work/errors"
+      status=$?
+      # shellcheck disable=SC2086
+      "$program" run $asked --alone --seed "$seed" --log > "$work/log" 2>> "$work/errors"
+      [ $? -eq "$status" ] || fail "$asked" "with and without --log the exit statuses of seed $seed differ"
+      "$program" replay "$source" --comp "$composition" --log < "$work/log" > "$work/replayed" 2>> "$work/errors"
+      [ $? -eq "$status" ] || fail "$asked" "the log of seed $seed is not replayed with exit status $status"
+      cmp -s "$work/printed" "$work/replayed" || fail "$asked" "the log of seed $seed is replayed otherwise"
+      [ -s "$work/errors" ] && fail "$asked" "seed $seed tells of an error"
+      runs=$((runs + 1))
+    done
+  done
+done
+[ "$runs" -gt 0 ] || fail "examples" "there are none"
+echo "runs: $runs passed, 0 failed"
