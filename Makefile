@@ -28,11 +28,13 @@ planted:
 examples: all
 	@sh examples/run.sh $(PROGRAM)
 
-# Figures: how time and memory grow with the list, with the source, with the components, and with the code that is verified.
+# Figures: how time and memory grow with the list, with the source, with the components, and with the code that is verified; and how fast
+# the protocols of the library run.
 bench: all
 	@sh bench/ratios.sh $(PROGRAM)
 	@sh bench/compose.sh $(PROGRAM)
 	@sh bench/verify.sh
+	@sh bench/links.sh $(PROGRAM)
 
 install: all
 	install -d $(DESTDIR)$(PREFIX)/bin

@@ -1,0 +1,57 @@
+#!/bin/sh
+# How fast the protocols of the library run on one thread: bench/links.sh PROGRAM [ANCHOR]
+#
+# Runs each protocol with 20,000 turns of each worker, a component or the environment, and prints the worker turns a second of the best
+# of five runs. ANCHOR is a folder with a plain interpreter of the language, which its build.sh compiles to the file that it is given: with
+# it the runs of both take turns, their answers are compared, and the ratio of the two is printed. Last come the seconds of 10,000
+# and of 100,000 turns of Stenning's protocol, and their ratio. The figures are of this machine and this run.
+set -eu
+program=$1
+case $program in /*) ;; *) program=$PWD/$program ;; esac
+anchor=${2-}
+top=$(cd "$(dirname "$0")/.." && pwd)
+source=$top/examples/links/links.ioa
+work=$(mktemp -d)
+trap 'rm -rf "$work"' EXIT
+turns=20000
+
+# run PROGRAM COMPOSITION TURNS: runs it, and prints the seconds; the answer stays in the temporary folder
+run() {
+  from=$(date +%s.%N)
+  "$1" run "$source" --comp "$2" --alone --turns "$3" --log > "$work/log"
+  till=$(date +%s.%N)
+  awk -v a="$from" -v b="$till" 'BEGIN { print b - a }'
+}
+# least: of the numbers on standard input
+least() { sort -g | head -n 1; }
+# measure COMPOSITION WORKERS: of the five best runs, beside the plain interpreter where there is one
+measure() {
+  : > "$work/ours"
+  : > "$work/theirs"
+  for _ in 1 2 3 4 5; do
+    run "$program" "$1" "$turns" >> "$work/ours"
+    if [ -n "$anchor" ]; then
+      mv "$work/log" "$work/printed"
+      run "$work/plain" "$1" "$turns" >> "$work/theirs"
+      cmp -s "$work/log" "$work/printed" || { echo "$1: the answers differ"; exit 1; }
+    fi
+  done
+  awk -v name="$1" -v count=$((turns * $2)) -v ours="$(least < "$work/ours")" -v theirs="$(least < "$work/theirs")" 'BEGIN {
+    printf "%s: %d worker turns a second", name, count / ours
+    if (theirs != "") printf "; the plain interpreter: %d; ratio %.2f", count / theirs, theirs / ours
+    print ""
+  }'
+}
+# best TURNS: the seconds of the best of three runs of Stenning's protocol
+best() { for _ in 1 2 3; do run "$program" Stenning "$1"; done | least; }
+
+if [ -n "$anchor" ]; then
+  sh "$anchor/build.sh" "$work/plain" 2> "$work/warnings"
+fi
+measure Stenning 7
+measure AltBit 6
+measure Sliding 6
+measure Handshake 7
+small=$(best 10000)
+large=$(best 100000)
+awk -v s="$small" -v l="$large" 'BEGIN { printf "Stenning, 10000 turns: %.3f s; 100000: %.3f s; ratio %.1f\n", s, l, l / s }'
