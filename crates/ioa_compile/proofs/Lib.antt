@@ -20,5 +20,6 @@ pub mod Running
 pub mod Trying
 pub mod Alike
 pub mod Meant
+pub mod Clashing
 pub mod Outlined
 pub mod HostEntries

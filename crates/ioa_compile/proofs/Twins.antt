@@ -5,10 +5,8 @@ use Rattle.std.specs.List.{AllZip, find, list_any, list_all}
 use Rattle.std.specs.Option.{option_map}
 use Rattle.std.specs.Str.{bytes_eq}
 use Rattle.std.proofs.lemmas.List.{length-map}
-use Rattle.std.proofs.lemmas.Option.{slice_get-map}
 use Rattle.ioa_value.specs.Actions.{Name, Act}
 use Rattle.ioa_value.specs.Names.{IsName}
-use Rattle.ioa_value.specs.Plain.{Val}
 use Rattle.ioa_value.specs.Table.{Table, AreTypes, contains, all_names}
 use Rattle.ioa_value.specs.Positions.{IsDomain}
 use Rattle.ioa_value.specs.Typing.{HaveTypes}
@@ -21,7 +19,7 @@ use Rattle.ioa_tree.specs.declared.tree.Kind.{Kind}
 use Rattle.ioa_tree.specs.declared.tree.Kind.TheVariants.{Input, Output, Internal}
 use Rattle.ioa_tree.specs.Tree.{Expr, EntryTree, PositionTree, ProposalTree}
 use Rattle.ioa_tree.specs.Instances.{positions_have, entry_has, component_of}
-use Rattle.ioa_tree.specs.Components.{Component, Compatible, is_output}
+use Rattle.ioa_tree.specs.Components.{Compatible, is_output}
 use Rattle.ioa_tree.specs.Compositions.{Member, Composed, has_output, instances_of, is_output_of}
 use Rattle.ioa_tree.specs.WellFormed.{distinct, variable_fields}
 use Rattle.ioa_compose.specs.Fine.{IsFine, AreOver, IsSound, component_limits}
@@ -36,7 +34,7 @@ use Rattle.ioa_compile.proofs.Fine.{small_of, few_positions_of, domains_of, entr
 use Rattle.ioa_tree.proofs.Domains.{domains_have}
 use Rattle.ioa_tree.proofs.FineParts.{fine_parts, within_parts}
 use Rattle.ioa_compose.proofs.QuestionLemmas.{all_found}
-use Rattle.ioa_compose.proofs.SignatureLemmas.{zip-to}
+use Rattle.ioa_compose.proofs.CompatibleLemmas.{HaveSameKinds, compatible-like}
 use Rattle.ioa_compile.proofs.Fits.{types_long, variables_names}
 use Rattle.ioa_compile.proofs.Paired.{paired_map, paired_any, any_seen, all_same}
 use Rattle.ioa_compile.proofs.Parameters.{domains_long}
@@ -164,24 +162,14 @@ module _ (m : Member) (c : MemberCode) (fine : IsFine component_limits m) (same_
 
 -- ---- all components
 
-mapped : {X Y : Type 0} (f : X → Y) (o : Option X) (y : Y) → option_map f o ≡ Some y → (x : X) × (o ≡ Some x) × (f x ≡ y)
-mapped f None y e = absurd (cc)
-mapped f (Some x) y e = let same : f x ≡ y = cc in (x, refl, same)
+all_kinds_same : (ms : List Member) (cs : List MemberCode) → AllZip DoesSame ms cs → AllZip HaveSameKinds (map (λ m. component_of m.instance) ms) (map table_component cs)
+all_kinds_same [] [] h = tt
+all_kinds_same [] (c ∷ cs) h = absurd h
+all_kinds_same (m ∷ ms) [] h = absurd h
+all_kinds_same (m ∷ ms) (c ∷ cs) h = (h.0.like.kinds, all_kinds_same ms cs h.1)
 
-module _ (ms : List Member) (cs : List MemberCode) (h : AllZip DoesSame ms cs) where
-  -- the component of the tree at the same place, with the same kinds
-  twin : (i : ℕ) (p : Component (List Val)) → slice_get (map table_component cs) i ≡ Some p → (m : Member) × (slice_get (map (λ m. component_of m.instance) ms) i ≡ Some (component_of m.instance)) × ((a : Act) → (component_of m.instance).kind_of a ≡ p.kind_of a)
-  twin i p e =
-      let c = mapped table_component (slice_get cs i) p (sym (slice_get-map table_component cs i) ∙ e) in
-      let z = zip-to DoesSame ms cs i c.0 h c.1 in
-      (z.0, slice_get-map (λ m. component_of m.instance) ms i ∙ ap (option_map (λ m. component_of m.instance)) z.1, λ a. z.2.like.kinds a ∙ ap (λ (q : Component (List Val)). q.kind_of a) c.2)
-
-  pub compatible_same : Compatible (map (λ m. component_of m.instance) ms) → Compatible (map table_component cs)
-  compatible_same k i j p q a ne ei ej =
-      let x = twin i p ei in
-      let y = twin j q ej in
-      let both = k i j _ _ a ne x.1 y.1 in
-      (λ internal. sym (y.2 a) ∙ both.0 (x.2 a ∙ internal), λ out other. both.1 (x.2 a ∙ out) (y.2 a ∙ other))
+compatible_same : (ms : List Member) (cs : List MemberCode) → AllZip DoesSame ms cs → Compatible (map (λ m. component_of m.instance) ms) → Compatible (map table_component cs)
+compatible_same ms cs h k = compatible-like (map (λ m. component_of m.instance) ms) (map table_component cs) (all_kinds_same ms cs h) k
 
 are_members : (types : Table) (ms : List Member) (cs : List MemberCode) → AreOver types ms → AllZip DoesSame ms cs → AreMembers types cs
 are_members types [] [] o h = tt

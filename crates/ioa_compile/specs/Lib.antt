@@ -1,5 +1,6 @@
 pub mod Programs
 pub mod Tables
+pub mod Clashes
 pub mod Shown
 pub mod Outlines
 pub mod Coded

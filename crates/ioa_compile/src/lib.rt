@@ -1,6 +1,7 @@
 //! From compositions to programs: tables, start states and verified code.
 #![tactic(auto)]
 
+mod compatibility;
 mod compiler;
 mod emitter;
 mod entries;
@@ -15,6 +16,7 @@ mod table;
 mod transition;
 mod types;
 
+pub use compatibility::clash_among;
 pub use compiler::compile;
 pub use laws::entries_are_the_hosts;
 pub use program::Program;

@@ -10,6 +10,7 @@ pub mod SourceLemmas
 pub mod FineLemmas
 pub mod SignatureLemmas
 pub mod ClashLemmas
+pub mod SignedLemmas
 pub mod IndexLemmas
 pub mod SearchLemmas
 pub mod ComposeLemmas

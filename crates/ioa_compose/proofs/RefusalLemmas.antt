@@ -19,7 +19,7 @@ use Rattle.ioa_tree.specs.Hosts.{crash_fine, Host, Hosted, IsHost, AreHosts, IsH
 use Rattle.ioa_compose.specs.Bindings.{instance_with, IsBound, AreBound}
 use Rattle.ioa_compose.specs.Rewriting.{with_signals}
 use Rattle.ioa_compose.specs.Stands.{signalled}
-use Rattle.ioa_compose.specs.Refusals.{Clashing, ClashOn, Reason, misfit, faulty, misnamed, clashing, hiding, no_memory, other, reason_of, IsUnbound, IsRefusedFor, IsRefused, IsFirstClash, NoClash, IsFirstFault, NoneClashes, NoneClash, NoneFaults, FaultsIn, ClashesIn, HidesIn, TellsClash}
+use Rattle.ioa_compose.specs.Refusals.{Clashing, ClashOn, Reason, misfit, faulty, misnamed, clashing, hiding, no_memory, other, reason_of, IsUnbound, IsRefusedFor, IsRefused, NoClashBefore, NoClash, IsFirstFault, NoneClashes, NoneClash, NoneFaults, FaultsIn, ClashesIn, HidesIn, TellsClash}
 use Rattle.ioa_value.proofs.ItemLemmas.{all_at}
 use Rattle.ioa_compose.proofs.CompatibleLemmas.{compatible-from, none-from}
 use Rattle.ioa_compose.proofs.HostLemmas.{hosts_named}
@@ -81,7 +81,7 @@ clash-bound : (s : SourceTree) (i j : InstanceTree) (m n : Instance) (x : Name) 
 clash-bound s i j m n x p q d =
     subst (λ y. Clashing x m y) (one-bound s j d.second n d.second_bound q) (subst (λ y. Clashing x y d.second) (one-bound s i d.first m d.first_bound p) d.clash)
 
-first-clash : (s : SourceTree) (is : List InstanceTree) (ns : List Instance) (i j : ℕ) → AreBound s is ns → NoneClashes ns i j → IsFirstClash s is i j
+first-clash : (s : SourceTree) (is : List InstanceTree) (ns : List Instance) (i j : ℕ) → AreBound s is ns → NoneClashes ns i j → NoClashBefore s is i j
 first-clash s is ns i j b none = λ k l m n x before e f d.
     let p = bound-at s is ns k m b e in
     let q = bound-at s is ns l n b f in

@@ -5,8 +5,10 @@ use Rattle.std.specs.Option.{is_some}
 use Rattle.std.proofs.lemmas.List.{map-append}
 use Rattle.std.proofs.lemmas.Option.{slice_get_within, slice_get_read}
 use Rattle.ioa_value.proofs.ItemLemmas.{take_item, get_map}
-use Rattle.ioa_compose.specs.declared.signatures.SignedEntry as held
+use Rattle.ioa_compose.specs.declared.clashes.SignedEntry as lent
+use Rattle.ioa_compose.specs.declared.signatures.BoundEntry.{BoundEntry}
 use Rattle.ioa_compose.specs.Clashes.{SignedEntry, signed_of, signature_of}
+use Rattle.ioa_compose.specs.Signatures.{bound_of}
 
 pub there : {X : Type 0} (o : Option X) → is_some o ≡ true → (x : X) × (o ≡ Some x)
 there (Some x) h = (x, refl)
@@ -36,11 +38,11 @@ zip-more {A} {B} R xs k x ys new y l e n h r =
     (subst (λ (us : List A). AllZip R us (ys ++ y ∷ [])) (sym (take_item xs k x l e)) (zip-append R (take k xs) ys x y h r))
 
 -- two more entries
-pub two-pushed : (xs ys zs : List held.SignedEntry) (e f : held.SignedEntry) → ys ≡ xs ++ e ∷ [] → zs ≡ ys ++ f ∷ [] → (s t : SignedEntry) → signed_of e ≡ s → signed_of f ≡ t
-    → map signed_of zs ≡ map signed_of xs ++ s ∷ t ∷ []
+pub two-pushed : (xs ys zs : List BoundEntry) (e f : BoundEntry) → ys ≡ xs ++ e ∷ [] → zs ≡ ys ++ f ∷ [] → (s t : SignedEntry) → bound_of e ≡ s → bound_of f ≡ t
+    → map bound_of zs ≡ map bound_of xs ++ s ∷ t ∷ []
 two-pushed xs ys zs e f p q s t r w =
-    ap (map signed_of) (q ∙ ap (λ us. us ++ f ∷ []) p ∙ append_assoc xs (e ∷ []) (f ∷ [])) ∙ map-append signed_of xs (e ∷ f ∷ [])
-    ∙ ap (λ u. map signed_of xs ++ u ∷ signed_of f ∷ []) r ∙ ap (λ u. map signed_of xs ++ s ∷ u ∷ []) w
+    ap (map bound_of) (q ∙ ap (λ us. us ++ f ∷ []) p ∙ append_assoc xs (e ∷ []) (f ∷ [])) ∙ map-append bound_of xs (e ∷ f ∷ [])
+    ∙ ap (λ u. map bound_of xs ++ u ∷ bound_of f ∷ []) r ∙ ap (λ u. map bound_of xs ++ s ∷ u ∷ []) w
 
 -- item by item
 pub zip-at : {A B : Type 0} (R : A → B → Type 0) (xs : List A) (ys : List B) (k : ℕ) (x : A) → AllZip R xs ys → slice_get xs k ≡ Some x
@@ -61,7 +63,7 @@ pub same-item : {X : Type 0} {x y : X} {o : Option X} → o ≡ Some x → o ≡
 same-item {x = x} {y = y} e f = let q : Some x ≡ Some y = sym e ∙ f in cc
 
 -- the entry that is read is the one in its place
-pub signed-read : (vs : List (Vec held.SignedEntry Global)) (i k : ℕ) (v : Vec held.SignedEntry Global) (e : held.SignedEntry) (es : List SignedEntry) (s : SignedEntry)
+pub signed-read : (vs : List (Vec lent.SignedEntry Global)) (i k : ℕ) (v : Vec lent.SignedEntry Global) (e : lent.SignedEntry) (es : List SignedEntry) (s : SignedEntry)
     → v ≡ get_or vs i v → e ≡ get_or v.items k e
     → slice_get (map signature_of vs) i ≡ Some es → slice_get es k ≡ Some s → s ≡ signed_of e
 signed-read vs i k v e es s p q at on =

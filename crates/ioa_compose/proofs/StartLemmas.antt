@@ -7,7 +7,7 @@ use Rattle.std.proofs.lemmas.List.{length-map}
 use Rattle.ioa_arithmetic.specs.declared.arithmetic.Fault.{Fault}
 use Rattle.ioa_value.specs.declared.memory.OutOfMemory.{OutOfMemory}
 use Rattle.ioa_value.specs.declared.value.Value.{Value}
-use Rattle.ioa_value.specs.Plain.{Val, plain}
+use Rattle.ioa_value.specs.Plain.{plain}
 use Rattle.ioa_value.specs.Operators.{gives, answer_of}
 use Rattle.ioa_tree.specs.Types.{first_named}
 use Rattle.ioa_tree.specs.declared.tree.Field.{Field}
@@ -17,7 +17,7 @@ use Rattle.ioa_tree.specs.View.{field_of, variable_of, automaton_of}
 use Rattle.ioa_tree.specs.Compositions.{Member}
 use Rattle.ioa_tree.specs.Meaning.{val, values_of}
 use Rattle.ioa_value.specs.Table.{Table}
-use Rattle.ioa_tree.specs.Instances.{Instance, field_names, settled, start_value, start_values}
+use Rattle.ioa_tree.specs.Instances.{field_names, settled, start_value, start_values}
 use Rattle.ioa_tree.specs.WellFormed.{start_fine, is_type}
 use Rattle.ioa_compose.specs.declared.binding.Binding.{Binding}
 use Rattle.ioa_compose.specs.declared.member.Member as held

@@ -17,7 +17,8 @@ use Rattle.ioa_tree.specs.Hosts.{crash_fine}
 use Rattle.ioa_tree.specs.Instances.{Instance, constant_value, start_values}
 use Rattle.ioa_tree.specs.WellFormed.{position_fine, formals}
 use Rattle.ioa_compose.specs.Bindings.{instance_with}
-use Rattle.ioa_compose.specs.Clashes.{SignedEntry, IsSigned, IsSignatureOf}
+use Rattle.ioa_compose.specs.Clashes.{SignedEntry}
+use Rattle.ioa_compose.specs.Signatures.{IsSigned, IsSignatureOf}
 use Rattle.ioa_compose.specs.Rewriting.{signal_entry, signals, with_signals}
 use Rattle.ioa_compose.proofs.SpelledNames.{or_false}
 use Rattle.ioa_compose.proofs.RewrittenEntries.{apart_of}

@@ -1,18 +1,39 @@
--- When two entries have an action in common that may not be.
-use Rattle.std.specs.Prelude.{◌≡◌, ℕ, ◌<◌, ◌≤◌, Bool, true, false, not, ◌&&◌, List, map, Vec, Some, slice_get}
-use Rattle.std.specs.List.{AllZip, list_all}
+-- When components have an action in common that may not be, and how that is seen of their signatures.
+use Rattle.std.specs.Prelude.{◌≡◌, ℕ, ◌<◌, ◌≤◌, ◌⊎◌, Bool, true, false, not, ◌&&◌, All, IsTrue, List, map, find, Vec, Some, None, Ok, slice_get}
+use Rattle.std.specs.List.{list_all}
 use Rattle.std.specs.Global.{Global}
+use Rattle.std.specs.Option.{option_map}
 use Rattle.std.specs.Str.{bytes_eq}
-use Rattle.ioa_value.specs.Actions.{Name}
-use Rattle.ioa_value.specs.Positions.{Domain, domain_of, all_meet}
+use Rattle.ioa_value.specs.Actions.{Name, Act}
+use Rattle.ioa_value.specs.Positions.{Domain, IsDomain, domain_of, all_take, all_meet}
 use Rattle.ioa_value.specs.Table.{Table}
 use Rattle.ioa_tree.specs.declared.tree.Kind.{Kind}
 use Rattle.ioa_tree.specs.declared.tree.Kind.TheVariants.{Input, Output, Internal}
-use Rattle.ioa_tree.specs.Tree.{EntryTree}
-use Rattle.ioa_tree.specs.View.{name_of}
-use Rattle.ioa_tree.specs.Instances.{Instance}
-use Rattle.ioa_tree.specs.Domains.{AreDomainsOf}
-use Rattle.ioa_compose.specs.declared.signatures.SignedEntry as held
+use Rattle.ioa_tree.specs.Components.{Component}
+use Rattle.ioa_tree.specs.WellFormed.{distinct}
+use Rattle.ioa_compose.specs.declared.clashes.Clash.{Clash}
+use Rattle.ioa_compose.specs.declared.clashes.SignedEntry as lent
+
+-- some action of this name is internal to one of the two and an action of the other, or an output of both
+abbrev pub AreClashing : {S : Type 0} → Name → Component S → Component S → Type 0
+AreClashing name p q = (a : Act) × (a.name ≡ name)
+    × ((p.kind_of a ≡ Some Internal × (q.kind_of a ≡ None → ⊥))
+    ⊎ ((q.kind_of a ≡ Some Internal × (p.kind_of a ≡ None → ⊥))
+    ⊎ (p.kind_of a ≡ Some Output × q.kind_of a ≡ Some Output)))
+
+-- a pair of places that stands before another: by its first place, then by its second
+abbrev pub Before : ℕ → ℕ → ℕ → ℕ → Type 0
+Before k l i j = (k < l) × ((k < i) ⊎ ((k ≡ i) × (l < j)))
+
+-- these two of the components clash on an action of this name, and no two before them clash
+pub record AreFirstToClash {S : Type 0} (ps : List (Component S)) (i j : ℕ) (name : Name) : Type 0 where
+  pub later : i < j
+  pub first : Component S
+  pub second : Component S
+  pub here : slice_get ps i ≡ Some first
+  pub there : slice_get ps j ≡ Some second
+  pub clash : AreClashing name first second
+  pub none_before : (k l : ℕ) (p q : Component S) (x : Name) → Before k l i j → slice_get ps k ≡ Some p → slice_get ps l ≡ Some q → AreClashing x p q → ⊥
 
 -- an entry as its actions are told: its kind, its name, and the values that stand in its positions
 pub record SignedEntry : Type 0 where
@@ -20,22 +41,42 @@ pub record SignedEntry : Type 0 where
   pub name : Name
   pub domains : List Domain
 
--- the entry of an instance is told so
-pub record IsSigned (i : Instance) (e : EntryTree) (s : SignedEntry) : Type 0 where
-  pub kind : s.kind ≡ e.kind
-  pub name : s.name ≡ e.name
-  pub domains : AreDomainsOf i e.positions s.domains
+-- the action is in the entry
+abbrev pub signed_has : Table → Act → SignedEntry → Bool
+signed_has types a e = bytes_eq e.name a.name && all_take types e.domains a.vals
 
--- so is each of its entries, in order
-abbrev pub IsSignatureOf : Instance → List SignedEntry → Type 0
-IsSignatureOf i ss = AllZip (IsSigned i) i.automaton.entries ss
+-- what a signature tells of a component: the kinds of its actions
+abbrev pub signed_component : Table → List SignedEntry → Component (Unit {0})
+signed_component types es = record {
+  kind_of = λ a. option_map (λ e. e.kind) (find (signed_has types a) es);
+  guard = λ a s. Ok false;
+  effect = λ a s. Ok s;
+}
+
+abbrev pub signed_components : Table → List (List SignedEntry) → List (Component (Unit {0}))
+signed_components types ss = map (signed_component types) ss
+
+-- the entries of a component: their names differ, and each position has a value
+pub record IsSignature (types : Table) (es : List SignedEntry) : Type 0 where
+  pub names : IsTrue (distinct (map (λ e. e.name) es))
+  pub positions : All (λ e. All (IsDomain types) e.domains) es
 
 -- without the memory that holds them
-abbrev pub signed_of : held.SignedEntry → SignedEntry
-signed_of e = record { kind = e.kind; name = name_of e.name.now; domains = map domain_of e.positions.items }
+abbrev pub signed_of : lent.SignedEntry → SignedEntry
+signed_of e = record { kind = e.kind; name = e.name.now; domains = map domain_of e.positions.now }
 
-abbrev pub signature_of : Vec held.SignedEntry Global → List SignedEntry
+abbrev pub signature_of : Vec lent.SignedEntry Global → List SignedEntry
 signature_of es = map signed_of es.items
+
+-- two of these signatures clash on this entry of the first one, and on none before it; no two before them clash
+pub record IsFirstClash (types : Table) (ss : List (List SignedEntry)) (c : Clash) : Type 0 where
+  pub signature : List SignedEntry
+  pub here : slice_get ss c.first ≡ Some signature
+  pub entry : SignedEntry
+  pub among : slice_get signature c.entry ≡ Some entry
+  pub first : AreFirstToClash (signed_components types ss) c.first c.second entry.name
+  pub earlier : (l : ℕ) (d : SignedEntry) (other : List SignedEntry) → l < c.entry → slice_get signature l ≡ Some d → slice_get ss c.second ≡ Some other
+      → AreClashing d.name (signed_component types signature) (signed_component types other) → ⊥
 
 -- one is internal, or both are outputs
 abbrev pub kinds_clash : Kind → Kind → Bool

@@ -2,6 +2,7 @@ pub mod Fine
 pub mod Held
 pub mod Bindings
 pub mod Clashes
+pub mod Signatures
 pub mod Index
 pub mod Refusals
 pub mod Operands

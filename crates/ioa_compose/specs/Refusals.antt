@@ -1,19 +1,19 @@
 -- Why a composition is refused.
-use Rattle.std.specs.Prelude.{◌≡◌, ℕ, ◌<◌, ◌⊎◌, true, false, List, take, Some, None, Ok, Err, slice_get}
+use Rattle.std.specs.Prelude.{◌≡◌, ℕ, ◌<◌, ◌⊎◌, true, false, List, take, Some, Ok, Err, slice_get}
 use Rattle.std.specs.List.{list_all}
 use Rattle.std.specs.String.{string_bytes}
 use Rattle.ioa_arithmetic.specs.declared.arithmetic.Fault.{Fault}
-use Rattle.ioa_value.specs.Actions.{Name, Act}
+use Rattle.ioa_value.specs.Actions.{Name}
 use Rattle.ioa_value.specs.Plain.{Val}
 use Rattle.ioa_lex.specs.declared.refusal.Refusal.{Refusal}
 use Rattle.ioa_lex.specs.declared.refusal.Refusal.TheVariants.{TextTooLong, BadByte, Syntax, TooDeep, DuplicateName, UnknownName, TypeMismatch, BadSignature, NoProposal, TooMany, TooWide, ArgMismatch, CrashName, Clash, HiddenUnknown, StartFault, NoComposition, OutOfMemory}
-use Rattle.ioa_tree.specs.declared.tree.Kind.TheVariants.{Internal, Output}
 use Rattle.ioa_tree.specs.Tree.{EntryTree, AutomatonTree, InstanceTree, CompositionTree, SourceTree}
 use Rattle.ioa_tree.specs.Types.{types_of}
 use Rattle.ioa_tree.specs.Instances.{Instance, Fit, argument_values, start_values, component_of}
 use Rattle.ioa_tree.specs.Compositions.{automaton_named, is_output_of}
 use Rattle.ioa_tree.specs.Hosts.{crash_fine}
 use Rattle.ioa_compose.specs.Bindings.{IsBound, AreBound}
+use Rattle.ioa_compose.specs.Clashes.{AreClashing, Before}
 
 -- the arguments have values, and these are not of the formals' types, one for each
 pub record Misfits (s : SourceTree) (i : InstanceTree) : Type 0 where
@@ -39,12 +39,9 @@ pub record StartsWith (s : SourceTree) (i : InstanceTree) (f : Fault) : Type 0 w
   pub bound : IsBound s i instance
   pub faulting : start_values instance ≡ Err f
 
--- some action of this name is internal to one of the two and an action of the other, or an output of both
+-- two instances clash on an action of this name
 abbrev pub Clashing : Name → Instance → Instance → Type 0
-Clashing name m n = (a : Act) × (a.name ≡ name)
-    × (((component_of m).kind_of a ≡ Some Internal × ((component_of n).kind_of a ≡ None → ⊥))
-    ⊎ (((component_of n).kind_of a ≡ Some Internal × ((component_of m).kind_of a ≡ None → ⊥))
-    ⊎ ((component_of m).kind_of a ≡ Some Output × (component_of n).kind_of a ≡ Some Output)))
+Clashing name m n = AreClashing name (component_of m) (component_of n)
 
 -- of the first one's entries none before that of this name has an action on which they clash
 abbrev pub IsFirstEntry : Name → Instance → Instance → Type 0
@@ -57,13 +54,9 @@ pub record ClashOn (s : SourceTree) (i j : InstanceTree) (name : Name) : Type 0 
   pub second_bound : IsBound s j second
   pub clash : Clashing name first second
 
--- a pair of places that stands before another: by its first place, then by its second
-abbrev pub Before : ℕ → ℕ → ℕ → ℕ → Type 0
-Before k l i j = (k < l) × ((k < i) ⊎ ((k ≡ i) × (l < j)))
-
 -- no pair before these two clashes
-abbrev pub IsFirstClash : SourceTree → List InstanceTree → ℕ → ℕ → Type 0
-IsFirstClash s is i j = (k l : ℕ) (m n : InstanceTree) (name : Name) → Before k l i j → slice_get is k ≡ Some m → slice_get is l ≡ Some n → ClashOn s m n name → ⊥
+abbrev pub NoClashBefore : SourceTree → List InstanceTree → ℕ → ℕ → Type 0
+NoClashBefore s is i j = (k l : ℕ) (m n : InstanceTree) (name : Name) → Before k l i j → slice_get is k ≡ Some m → slice_get is l ≡ Some n → ClashOn s m n name → ⊥
 
 -- no two components clash
 abbrev pub NoClash : SourceTree → List InstanceTree → Type 0
@@ -136,7 +129,7 @@ StartFaults s is i f = (n : InstanceTree) × (slice_get is i ≡ Some n) × Star
 
 -- two of the components clash: the first two, on the first entry
 abbrev pub TwoClash : SourceTree → List InstanceTree → ℕ → ℕ → Name → Type 0
-TwoClash s is i j name = (m : InstanceTree) × (n : InstanceTree) × (i < j) × (slice_get is i ≡ Some m) × (slice_get is j ≡ Some n) × (c : ClashOn s m n name) × IsFirstClash s is i j × IsFirstEntry name c.first c.second
+TwoClash s is i j name = (m : InstanceTree) × (n : InstanceTree) × (i < j) × (slice_get is i ≡ Some m) × (slice_get is j ≡ Some n) × (c : ClashOn s m n name) × NoClashBefore s is i j × IsFirstEntry name c.first c.second
 
 -- what holds of a composition that is refused so: a clash is told only where each component has its instance, a hidden name that is
 -- no output's only where no components clash too, and a start expression's fault only where all hidden names are outputs' too

@@ -1,38 +1,60 @@
-ghost use Rattle.std.specs.Prelude.{◌≡◌, ◌<◌, ◌≤◌, map, length, OnOk, IfErr, IfSome, IfNone};
+//! Which components have an action in common that may not be. It is asked of their signatures alone, so of components of any kind.
+
+ghost use Rattle.std.specs.Prelude.{◌≡◌, ◌↔◌, ◌<◌, ◌≤◌, map, length, All, None, IfOk, IfSome, IfNone};
 ghost use Rattle.ioa_value.specs.Table.{AreTypes};
-ghost use Rattle.ioa_compose.specs.Bindings.{plain_in, instance_in, AllSound, AllStartable, AllApart};
-ghost use Rattle.ioa_compose.specs.Refusals.{NoneClash, ClashesIn, reason_of};
+ghost use Rattle.ioa_tree.specs.Components.{Compatible};
 ghost use Rattle.ioa_compose.specs.Clashes as spec;
-ghost use Rattle.ioa_compose.specs.Clashes.{signed_of, signature_of, IsFirstHit, IsHit, IsClearTill};
+ghost use Rattle.ioa_compose.specs.Clashes.{signed_of, signature_of, signed_components, IsSignature, IsFirstClash, IsFirstHit, IsHit, IsClearTill};
 ghost use Rattle.ioa_compose.specs.Index.{IsAt, IsIndexOf};
 
-use crate::binding::Binding;
 use crate::index::{Index, Place};
-use crate::signatures::{SignedEntry, signatures};
-use ioa_syntax::Refusal;
 use ioa_tree::Kind;
-use ioa_value::{Types, all_meet};
+use ioa_value::{OutOfMemory, Position, Types, all_meet};
 use std::alloc::Global;
 
-/// Whether no two of these clash, with inputs for crash and recover. It asks for well formed automata, with arguments of their
-/// formals' types.
-pub(crate) fn compatible(alloc: Global, types: &Types, bindings: &[Binding]) -> Result<(), Refusal>
+/// An entry as it is compared with others: its kind, its name, and what its actions may have in their places.
+#[derive(Drop)]
+pub struct SignedEntry<'a> {
+    pub kind: Kind,
+    pub name: &'a str,
+    pub positions: &'a [Position],
+}
+
+/// Two components that are not compatible, by their places, and the first one's first entry with an action that may not be in
+/// both.
+#[derive(Clone, Copy)]
+pub struct Clash {
+    pub first: usize,
+    pub second: usize,
+    pub entry: usize,
+}
+
+/// The first two components that are not compatible, by the first one's place and then by the other's, or none if all are. It is
+/// given the entries of each component, whose names differ, and whose positions have values.
+///
+/// # Errors
+/// `OutOfMemory`.
+pub fn first_clash(
+    alloc: Global,
+    types: &Types,
+    signatures: &[Vec<SignedEntry>],
+) -> Result<Option<Clash>, OutOfMemory>
     requires declared { AreTypes types.now }
-    requires sound { AllSound (map (plain_in types.now) bindings.now) }
-    requires startable { AllStartable (map (plain_in types.now) bindings.now) }
-    requires apart { AllApart bindings.now }
-    ensures ok { OnOk result (NoneClash (map (instance_in types.now) bindings.now)) }
-    ensures refused { IfErr result (λ r. ClashesIn (map (instance_in types.now) bindings.now) (reason_of r)) }
+    requires signed { All (IsSignature types.now) (map signature_of signatures.now) }
+    ensures exact { IfOk result (λ clash. (clash ≡ None) ↔ Compatible (signed_components types.now (map signature_of signatures.now))) }
+    ensures first { IfOk result (λ clash. IfSome clash (IsFirstClash types.now (map signature_of signatures.now))) }
 {
-    let signatures = signatures(alloc, types, bindings)?;
-    let index = Index::of(alloc, &signatures)?;
+    let index = Index::of(alloc, signatures)?;
     for i in 0..signatures.len() {
-        if let Some(hit) = first_clash(types, &signatures, &index, i) {
-            let name = signatures[i][hit.entry].name.text.as_str();
-            return Err(Refusal::Clash(i, hit.other, String::from_str(alloc, name)?));
+        if let Some(hit) = first_of(types, signatures, &index, i) {
+            return Ok(Some(Clash {
+                first: i,
+                second: hit.other,
+                entry: hit.entry,
+            }));
         }
     }
-    Ok(())
+    Ok(None)
 }
 
 /// An entry of a component, and the place of another component with which it clashes.
@@ -43,12 +65,7 @@ struct Hit {
 }
 
 /// The first later component with which this one clashes, and the first entry on which it does.
-fn first_clash(
-    types: &Types,
-    signatures: &[Vec<SignedEntry>],
-    index: &Index,
-    i: usize,
-) -> Option<Hit>
+fn first_of(types: &Types, signatures: &[Vec<SignedEntry>], index: &Index, i: usize) -> Option<Hit>
     requires within { i < length signatures.now }
     requires indexed { IsIndexOf index.now.places (map signature_of signatures.now) }
     ensures none { IfNone result (IsClearTill types.now (map signature_of signatures.now) i (length signatures.now)) }
@@ -89,7 +106,7 @@ fn first_hit(
     ensures { IsFirstHit types.now (map signature_of signatures.now) (signed_of entry.now) start end result }
 {
     let mut first = end;
-    let places = index.named(entry.name.text.as_str());
+    let places = index.named(entry.name);
     for k in 0..places.len() {
         let place = places[k];
         if start <= place.component
@@ -103,7 +120,10 @@ fn first_hit(
 }
 
 /// The entry in this place.
-fn entry_at<'s, 'a>(signatures: &'s [Vec<SignedEntry<'a>>], place: Place) -> &'s SignedEntry<'a>
+pub(crate) fn entry_at<'s, 'a>(
+    signatures: &'s [Vec<SignedEntry<'a>>],
+    place: Place,
+) -> &'s SignedEntry<'a>
     requires { (e : spec.SignedEntry) × IsAt (map signature_of signatures.now) place e }
     ensures { IsAt (map signature_of signatures.now) place (signed_of result.now) }
 {
@@ -114,9 +134,7 @@ fn entry_at<'s, 'a>(signatures: &'s [Vec<SignedEntry<'a>>], place: Place) -> &'s
 fn entries_clash(types: &Types, a: &SignedEntry, b: &SignedEntry) -> bool
     ensures { result ≡ spec.clash types.now (signed_of a.now) (signed_of b.now) }
 {
-    a.name.text.as_str() == b.name.text.as_str()
-        && all_meet(types, &a.positions, &b.positions)
-        && kinds_clash(a.kind, b.kind)
+    a.name == b.name && all_meet(types, a.positions, b.positions) && kinds_clash(a.kind, b.kind)
 }
 
 /// Whether one is internal, or both are outputs.

@@ -21,7 +21,7 @@ ghost use Rattle.ioa_compose.specs.Held.{composed_of};
 ghost use Rattle.ioa_compose.specs.Questions.{OfThese, IsQuestion};
 
 use crate::binding::bind_all;
-use crate::clashes::compatible;
+use crate::compatibility::compatible;
 use crate::hidden::hidden_outputs;
 use crate::invariants::{declared_invariants, is_kept};
 use crate::member::Member;

@@ -6,7 +6,7 @@ ghost use Rattle.ioa_value.specs.Actions as actions;
 ghost use Rattle.ioa_compose.specs.Clashes.{signature_of};
 ghost use Rattle.ioa_compose.specs.Index.{places_in, IsIndexUpTo, IsIndexOf};
 
-use crate::signatures::SignedEntry;
+use crate::clashes::SignedEntry;
 use ioa_value::OutOfMemory;
 use std::alloc::Global;
 use std::collections::BTreeMap;
@@ -57,7 +57,7 @@ impl<'a> Index<'a> {
                 component,
                 entry: k,
             };
-            self.add(name.text.as_str(), place)?;
+            self.add(name, place)?;
         }
         Ok(())
     }

@@ -3,6 +3,7 @@
 
 mod binding;
 mod clashes;
+mod compatibility;
 mod composition;
 mod constants;
 mod copies;
@@ -19,6 +20,7 @@ mod scope;
 mod signatures;
 mod starts;
 
+pub use clashes::{Clash, SignedEntry, first_clash};
 pub use composition::{Composition, compose};
 pub use constants::{constant, empty};
 pub use domains::positions;

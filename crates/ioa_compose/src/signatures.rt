@@ -7,9 +7,11 @@ ghost use Rattle.ioa_tree.specs.View.{name_of};
 ghost use Rattle.ioa_tree.specs.Instances.{Fit};
 ghost use Rattle.ioa_tree.specs.WellFormed.{automaton_fine};
 ghost use Rattle.ioa_compose.specs.Bindings.{plain_in, instance_in, AllSound, AllStartable};
-ghost use Rattle.ioa_compose.specs.Clashes.{IsSignatureOf, signed_of, signature_of};
+ghost use Rattle.ioa_compose.specs.Clashes.{signature_of};
+ghost use Rattle.ioa_compose.specs.Signatures.{IsSignatureOf, bound_of, bound_entries};
 
 use crate::binding::Binding;
+use crate::clashes::SignedEntry;
 use crate::domains::positions;
 use ioa_tree::{Kind, Name};
 use ioa_value::{OutOfMemory, Position, Types};
@@ -17,10 +19,10 @@ use std::alloc::Global;
 
 /// An entry with the values of its constants.
 #[derive(Drop)]
-pub(crate) struct SignedEntry<'a> {
-    pub(crate) kind: Kind,
-    pub(crate) name: &'a Name,
-    pub(crate) positions: Vec<Position>,
+pub(crate) struct BoundEntry<'a> {
+    kind: Kind,
+    name: &'a Name,
+    positions: Vec<Position>,
 }
 
 /// The entries of each component, in order, and behind them the inputs by which it crashes and recovers.
@@ -28,11 +30,11 @@ pub(crate) fn signatures<'a>(
     alloc: Global,
     types: &Types,
     bindings: &[Binding<'a>],
-) -> Result<Vec<Vec<SignedEntry<'a>>>, OutOfMemory>
+) -> Result<Vec<Vec<BoundEntry<'a>>>, OutOfMemory>
     requires declared { AreTypes types.now }
     requires sound { AllSound (map (plain_in types.now) bindings.now) }
     requires startable { AllStartable (map (plain_in types.now) bindings.now) }
-    ensures { IfOk result (λ ss. AllZip IsSignatureOf (map (instance_in types.now) bindings.now) (map signature_of ss.items)) }
+    ensures { IfOk result (λ ss. AllZip IsSignatureOf (map (instance_in types.now) bindings.now) (map bound_entries ss.items)) }
 {
     let mut signatures = Vec::with_capacity(alloc, bindings.len())?;
     for binding in bindings {
@@ -45,16 +47,16 @@ fn signature<'a>(
     alloc: Global,
     types: &Types,
     binding: &Binding<'a>,
-) -> Result<Vec<SignedEntry<'a>>, OutOfMemory>
+) -> Result<Vec<BoundEntry<'a>>, OutOfMemory>
     requires declared { AreTypes types.now }
     requires fit { let n = plain_in types.now binding.now in Fit n.types n.automaton.formals n.arguments }
     requires sound { (globals : List actions.Name) × (automaton_fine types.now types.now globals (plain_in types.now binding.now).automaton ≡ true) }
-    ensures { IfOk result (λ s. IsSignatureOf (instance_in types.now binding.now) (signature_of s)) }
+    ensures { IfOk result (λ s. IsSignatureOf (instance_in types.now binding.now) (bound_entries s)) }
 {
     let mut entries = Vec::with_capacity(alloc, binding.automaton.entries.len())?;
     for entry in &binding.automaton.entries {
         let positions = positions(alloc, types, binding.automaton, &binding.arguments, entry)?;
-        entries.push(SignedEntry {
+        entries.push(BoundEntry {
             kind: entry.kind,
             name: &entry.name,
             positions,
@@ -68,12 +70,43 @@ fn signature<'a>(
 }
 
 /// An input without parameters.
-fn signal<'a>(alloc: Global, name: &'a Name) -> SignedEntry<'a>
-    ensures { signed_of result ≡ record { kind = Input; name = name_of name.now; domains = [] } }
+fn signal<'a>(alloc: Global, name: &'a Name) -> BoundEntry<'a>
+    ensures { bound_of result ≡ record { kind = Input; name = name_of name.now; domains = [] } }
 {
-    SignedEntry {
+    BoundEntry {
         kind: Kind::Input,
         name,
         positions: Vec::new(alloc),
     }
+}
+
+/// The entries as they are compared.
+pub(crate) fn lent<'s>(
+    alloc: Global,
+    signatures: &'s [Vec<BoundEntry<'_>>],
+) -> Result<Vec<Vec<SignedEntry<'s>>>, OutOfMemory>
+    ensures { IfOk result (λ ss. map signature_of ss.items ≡ map bound_entries signatures.now) }
+{
+    let mut copies = Vec::with_capacity(alloc, signatures.len())?;
+    for entries in signatures {
+        copies.push(lent_entries(alloc, entries)?)?;
+    }
+    Ok(copies)
+}
+
+fn lent_entries<'s>(
+    alloc: Global,
+    entries: &'s [BoundEntry<'_>],
+) -> Result<Vec<SignedEntry<'s>>, OutOfMemory>
+    ensures { IfOk result (λ s. signature_of s ≡ map bound_of entries.now) }
+{
+    let mut copies = Vec::with_capacity(alloc, entries.len())?;
+    for entry in entries {
+        copies.push(SignedEntry {
+            kind: entry.kind,
+            name: entry.name.text.as_str(),
+            positions: &entry.positions,
+        })?;
+    }
+    Ok(copies)
 }

@@ -1,7 +1,6 @@
-use Rattle.std.proofs.Common.{length, map}
-use Rattle.ioa_compose.specs.Clashes.{signature_of}
-use Rattle.ioa_compose.proofs.SearchLemmas.{IsBest}
+use Rattle.std.proofs.Common.{ℕ, ◌<◌, length, map}
+use Rattle.ioa_compose.specs.Clashes.{signature_of, IsClearTill}
 use Rattle.ioa_compose.proofs.clashes.first_clash.Given as goal
 
-abbrev pub invariant-loop-k : goal.invariant-loop-k
-invariant-loop-k l = IsBest l.types (map signature_of l.signatures) (length l.signatures) l.i l.k l.end l.first
+abbrev pub invariant-loop-i : goal.invariant-loop-i
+invariant-loop-i l = (k : ℕ) → k < l.i → IsClearTill l.types (map signature_of l.signatures) k (length l.signatures)

@@ -12,8 +12,8 @@ use Rattle.ioa_tree.specs.Domains.{AreDomainsOf}
 use Rattle.ioa_tree.specs.WellFormed.{entry_fine}
 use Rattle.ioa_tree.proofs.FineParts.{fine_parts, entry_parts}
 use Rattle.ioa_compose.specs.Bindings.{instance_with, crash_in, plain_in}
-use Rattle.ioa_compose.specs.declared.signatures.SignedEntry as held
-use Rattle.ioa_compose.specs.Clashes.{IsSigned, signed_of}
+use Rattle.ioa_compose.specs.declared.signatures.BoundEntry.{BoundEntry}
+use Rattle.ioa_compose.specs.Signatures.{IsSigned, bound_of}
 use Rattle.ioa_compose.proofs.SignatureLemmas.{zip-push, two-pushed}
 use Rattle.ioa_compose.proofs.WithSignals.{signed_none, signed_some}
 use Rattle.ioa_compose.proofs.signatures.signature.Goals as goal
@@ -34,7 +34,7 @@ loop-entry-preserved c =
     let types = c.args.types.now in
     let b = c.args.binding.now in
     let a = automaton_of b.automaton.now in
-    zip-push (IsSigned (plain_in types b)) entry_of signed_of b.automaton.now.entries.items c.deref-entry-items.result.now c.loop-entry.entry-index
+    zip-push (IsSigned (plain_in types b)) entry_of bound_of b.automaton.now.entries.items c.deref-entry-items.result.now c.loop-entry.entry-index
     c.entry-item.result
     c.loop-entry.entries.items _ _ c.deref-entry-items.ensures.value c.loop-entry-test.true c.entry-item.is c.in_ok-push.ensures.items c.loop-entry.invariant
     (record {
@@ -52,14 +52,14 @@ returns c =
     let vs = map plain b.arguments.items in
     let told = c.loop-entry.entries.items in
     let past = subst (λ (es : List Entry). length es ≤ c.loop-entry.entry-index) c.deref-entry-items.ensures.value c.loop-entry-test.false in
-    let all = subst (λ (es : List Entry). AllZip (IsSigned (plain_in types b)) (map entry_of es) (map signed_of told))
+    let all = subst (λ (es : List Entry). AllZip (IsSigned (plain_in types b)) (map entry_of es) (map bound_of told))
     (take_all c.loop-entry.entry-index b.automaton.now.entries.items past) c.loop-entry.invariant in
     elim c.match-binding.branch [
       | in-Some+in_ok-push-2+in_ok-push-3 w ↦
-          signed_some types (crash_in b) (crash_of w.in-Some.names.now) a vs (map signed_of told) _ (ap (option_map (λ (n : Bor Crash). crash_of n.now)) w.in-Some.is)
-          (two-pushed told _ _ w.signal.result w.signal-in-Some.result w.in_ok-push-2.ensures.items (ap (λ (v : Vec held.SignedEntry Global). v.items) w.entries-is ∙ w.in_ok-push-3.ensures.items)
+          signed_some types (crash_in b) (crash_of w.in-Some.names.now) a vs (map bound_of told) _ (ap (option_map (λ (n : Bor Crash). crash_of n.now)) w.in-Some.is)
+          (two-pushed told _ _ w.signal.result w.signal-in-Some.result w.in_ok-push-2.ensures.items (ap (λ (v : Vec BoundEntry Global). v.items) w.entries-is ∙ w.in_ok-push-3.ensures.items)
           _ _ w.signal.ensures w.signal-in-Some.ensures) all
       | in_default w ↦
           signed_none types (crash_in b) a vs _ (ap (option_map (λ (n : Bor Crash). crash_of n.now)) w.in_default.is)
-          (subst (λ (v : Vec held.SignedEntry Global). AllZip (IsSigned (plain_in types b)) a.entries (map signed_of v.items)) (sym w.entries-is) all)
+          (subst (λ (v : Vec BoundEntry Global). AllZip (IsSigned (plain_in types b)) a.entries (map bound_of v.items)) (sym w.entries-is) all)
     ]

@@ -1,6 +1,6 @@
 use Rattle.std.proofs.Common.{refl}
 use Rattle.ioa_compose.specs.Bindings.{instance_in}
-use Rattle.ioa_compose.specs.Clashes.{IsSignatureOf, signature_of}
+use Rattle.ioa_compose.specs.Signatures.{IsSignatureOf, bound_entries}
 use Rattle.ioa_compose.proofs.BindingLemmas.{startable-at, sound-at}
 use Rattle.ioa_compose.proofs.SignatureLemmas.{zip-push}
 use Rattle.ioa_compose.proofs.signatures.signatures.Goals as goal
@@ -16,6 +16,6 @@ signature-requires-clause-sound c =
 
 pub loop-binding-preserved : goal.loop-binding-preserved
 loop-binding-preserved c =
-    zip-push IsSignatureOf (instance_in c.args.types.now) signature_of c.args.bindings.now c.args.bindings.now c.loop-binding.binding-index c.binding-item.result
+    zip-push IsSignatureOf (instance_in c.args.types.now) bound_entries c.args.bindings.now c.args.bindings.now c.loop-binding.binding-index c.binding-item.result
     c.loop-binding.signatures.items _ c.in_ok-signature.field-0 refl c.loop-binding-test.true c.binding-item.is c.in_ok-push.ensures.items
     c.loop-binding.invariant c.in_ok-signature.ensures
