@@ -106,7 +106,8 @@ impl<'a> Runner<'a> {
 
     /// The components' states that are reached, in order.
     pub fn states(&self) -> &[NodeState]
-        ensures { values_of result.now ≡ self.now.states }
+        ensures values { values_of result.now ≡ self.now.states }
+        ensures types { types_of result.now ≡ slot_types self.now.program.members }
     {
         self.system.states()
     }
