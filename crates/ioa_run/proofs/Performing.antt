@@ -1,16 +1,17 @@
 -- What a commit performs.
 use Rattle.std.proofs.Common.{◌≡◌, ℕ, ◌+◌, ◌<◌, List, [], ◌∷◌, ◌++◌, length, All, None, refl, sym, ◌∙◌, ap, subst, arith, length-append}
 use Rattle.std.proofs.lemmas.List.{length-map, map-append}
-use Rattle.std.proofs.lemmas.List.Elements.{All-append}
+use Rattle.std.proofs.lemmas.List.Elements.{All-nil, All-cons}
 use Rattle.ioa_arithmetic.specs.declared.arithmetic.Fault.{Fault}
 use Rattle.ioa_value.specs.Actions.{Act}
 use Rattle.ioa_value.specs.Plain.{Val}
 use Rattle.ioa_node.specs.Nodes.{Node}
 use Rattle.ioa_tree.specs.Components.{Component}
 use Rattle.ioa_tree.specs.Steps.{Moved, next, not_an_action, not_enabled, fault, participants, step}
-use Rattle.ioa_tree.specs.Runs.{Reached, after, run_from}
+use Rattle.ioa_tree.specs.Runs.{after, run_from, run}
 use Rattle.ioa_compile.specs.Programs.{Prog}
 use Rattle.ioa_compile.specs.Tables.{tabled, start_states, table_component}
+use Rattle.ioa_system.specs.Histories.{Leads}
 use Rattle.ioa_system.specs.Logs.{worker}
 use Rattle.ioa_system.specs.Participants.{all_back, put_back, step_from, taken}
 use Rattle.ioa_system.specs.Systems.{slots_of, slot_types, types_of, values_of}
@@ -18,40 +19,37 @@ use Rattle.ioa_system.proofs.Finding.{one_item}
 use Rattle.ioa_system.proofs.Participating.{map_put_back, put_back-taken, step_taken}
 use Rattle.ioa_system.proofs.Readying.{same_length}
 use Rattle.ioa_run.specs.Boards.{Standing, now_of, with_entry}
-use Rattle.ioa_run.specs.Histories.{IsLegal, acts_of, all_performed}
+use Rattle.ioa_run.specs.Histories.{acts_of, all_performed}
 use Rattle.ioa_run.specs.ProgramBoards.{IsBoard}
 use Rattle.ioa_run.specs.ProgramPlans.{ProgramPlan, foreseen, numbers_in}
 use Rattle.ioa_run.proofs.Numbers.{participants_within}
 
 -- ---- one action more
 
-goes_on : {S : Type 0} (n k j : ℕ) (ss to ts : List S) (m : Moved S) (f g : List S → Reached S) → ((us : List S) → f us ≡ all_performed k to → g us ≡ all_performed j ts)
-    → after n ss m f ≡ all_performed k to → after n ss m g ≡ all_performed j ts
-goes_on n k j ss to ts (next us) f g h e = h us e
-goes_on n k j ss to ts not_an_action f g h e = absurd (cc (ap (λ (r : Reached _). r.ending) e))
-goes_on n k j ss to ts not_enabled f g h e = absurd (cc (ap (λ (r : Reached _). r.ending) e))
-goes_on n k j ss to ts (fault c x) f g h e = absurd (cc (ap (λ (r : Reached _). r.ending) e))
+pub legal_more : {S : Type 0} (ps : List (Component S)) (h : List (ℕ × Act)) (ss ts us : List S) (w : ℕ) (a : Act) → Leads ps h ss ts → w ≡ worker ps a
+    → step ps a ts ≡ next us → Leads ps (h ++ (w, a) ∷ []) ss us
+legal_more ps [] ss ts us w a l o s = (us, o, subst (λ vs. step ps a vs ≡ next us) l s, refl)
+legal_more ps (e ∷ es) ss ts us w a l o s = (l.0, l.1, l.2, legal_more ps es l.0 ts us w a l.3 o s)
 
-performed_more : {S : Type 0} (n k : ℕ) (ps : List (Component S)) (acts : List Act) (ss to ts : List S) (a : Act) → step ps a to ≡ next ts
-    → run_from n ps acts ss ≡ all_performed k to → run_from n ps (acts ++ a ∷ []) ss ≡ all_performed (k + 1) ts
-performed_more n k ps [] ss to ts a s e =
-    let i : n ≡ k = ap (λ (r : Reached _). r.performed) e in
-    let same : ss ≡ to = ap (λ (r : Reached _). r.states) e in
-    rw (same, s, i) refl
-performed_more n k ps (b ∷ acts) ss to ts a s e =
-    goes_on n k (k + 1) ss to ts (step ps b ss) (λ us. run_from (n + 1) ps acts us) (λ us. run_from (n + 1) ps (acts ++ a ∷ []) us)
-    (λ us h. performed_more (n + 1) k ps acts us to ts a s h) e
+-- the actions of a legal history run to done, to the states to which it leads
+run_legal : {S : Type 0} (n : ℕ) (ps : List (Component S)) (h : List (ℕ × Act)) (ss ts : List S) → Leads ps h ss ts
+    → run_from n ps (acts_of h) ss ≡ all_performed (n + length h) ts
+run_legal n ps [] ss ts l =
+    let count : n ≡ n + length {A = ℕ × Act} [] = omega arith in
+    ap (λ us. all_performed n us) (sym l) ∙ ap (λ k. all_performed k ts) count
+run_legal n ps (e ∷ es) ss ts l =
+    let count : n + 1 + length es ≡ n + length (e ∷ es) = omega arith in
+    ap (λ m. after n ss m (λ us. run_from (n + 1) ps (acts_of es) us)) l.2 ∙ run_legal (n + 1) ps es l.0 ts l.3 ∙ ap (λ k. all_performed k ts) count
 
-pub legal_more : {S : Type 0} (ps : List (Component S)) (start : List S) (h : List (ℕ × Act)) (ss ts : List S) (w : ℕ) (a : Act) → IsLegal ps start h ss
-    → step ps a ss ≡ next ts → w ≡ worker ps a → IsLegal ps start (h ++ (w, a) ∷ []) ts
-legal_more {S} ps start h ss ts w a l s o =
-    let e : ℕ × Act = (w, a) in
-    let acts : acts_of (h ++ e ∷ []) ≡ acts_of h ++ a ∷ [] = map-append (λ (x : ℕ × Act). x.1) h (e ∷ []) in
-    let count : length h + 1 ≡ length (h ++ e ∷ []) = omega (arith, length-append h (e ∷ [])) in
-    record {
-      run = ap (λ (as' : List Act). run_from 0 ps as' start) acts ∙ performed_more 0 (length h) ps (acts_of h) start ss ts a s l.run ∙ ap (λ (n : ℕ). all_performed n ts) count;
-      workers = All-append (λ (x : ℕ × Act). x.0 ≡ worker ps x.1) h (e ∷ []) l.workers (one_item (λ (x : ℕ × Act). x.0 ≡ worker ps x.1) e o);
-    }
+pub legal_run : {S : Type 0} (ps : List (Component S)) (h : List (ℕ × Act)) (ss ts : List S) → Leads ps h ss ts → run ps (acts_of h) ss ≡ all_performed (length h) ts
+legal_run ps h ss ts l =
+    let count : 0 + length h ≡ length h = omega arith in
+    run_legal 0 ps h ss ts l ∙ ap (λ k. all_performed k ts) count
+
+-- and its workers are those that perform them
+pub legal_workers : {S : Type 0} (ps : List (Component S)) (h : List (ℕ × Act)) (ss ts : List S) → Leads ps h ss ts → All (λ e. e.0 ≡ worker ps e.1) h
+legal_workers ps [] ss ts l = All-nil (λ (e : ℕ × Act). e.0 ≡ worker ps e.1)
+legal_workers ps (e ∷ es) ss ts l = All-cons (λ (d : ℕ × Act). d.0 ≡ worker ps d.1) e es l.1 (legal_workers ps es l.0 ts l.3)
 
 -- ---- the step from the states as they are now
 
@@ -108,7 +106,7 @@ board_more p q ns new b k v calm e own fresh h n =
     record {
       types = types_kept p q ns new k.types e n;
       sound = record {
-        legal = legal_more (tabled p) (start_states p) b.history b.states ts q.who q.intent.action k.sound.legal s own;
+        legal = legal_more (tabled p) b.history (start_states p) b.states ts q.who q.intent.action k.sound.legal own s;
         failure = rw calm tt;
       };
     }

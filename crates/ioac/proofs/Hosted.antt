@@ -30,6 +30,7 @@ use Rattle.ioa_run.specs.declared.report.Report.{Report}
 use Rattle.ioa_run.specs.Alone.{IsFirstOther, IsInput}
 use Rattle.ioa_run.specs.Boards.{Failure, IsFailureFrom, Standing}
 use Rattle.ioa_run.specs.Histories.{acts_of}
+use Rattle.ioa_run.proofs.Performing.{legal_workers}
 use Rattle.ioa_run.specs.Outcomes.{IsLogOf, ending, logged}
 use Rattle.ioa_run.specs.Reports.{AreTold}
 use Rattle.ioac.specs.Alone.{IsRun, told_of, written}
@@ -117,8 +118,8 @@ module _ (p : Prog) (h : Hosted) (c : Composed) (s : Stands h c) (m : Means p c)
     all_workers = go b.failure l.sound.failure
       where
         go : (f : Option Failure) → IsFailureFrom (tabled p) b.states f → All (λ e. e.0 ≡ worker (tabled p) e.1) (logged b.history f)
-        go None k = l.sound.legal.workers
-        go (Some r) k = All-append (λ e. e.0 ≡ worker (tabled p) e.1) b.history (r.entry ∷ []) l.sound.legal.workers
+        go None k = legal_workers (tabled p) b.history (start_states p) b.states l.sound.legal
+        go (Some r) k = All-append (λ e. e.0 ≡ worker (tabled p) e.1) b.history (r.entry ∷ []) (legal_workers (tabled p) b.history (start_states p) b.states l.sound.legal)
             (All-cons (λ (e : ℕ × Act). e.0 ≡ worker (tabled p) e.1) r.entry [] k.0 (All-nil (λ (e : ℕ × Act). e.0 ≡ worker (tabled p) e.1)))
 
     pub hosts_tell : TellsRun (hosts_of h) (host_starts h) (log_of es end)
