@@ -58,19 +58,8 @@ impl<'p> Plan<'p> {
         requires { types_of copied.items ≡ taken (participants (tabled program.now) (act_of action)) (slot_types program.now.members) }
         ensures { IfOk result (Makes program.now who (act_of action) (values_of copied.items)) }
     {
-        match assess(alloc, program, who, &action, &copied)? {
-            Assessed::NotAnAction => Ok(Planned::NotAnAction),
-            Assessed::NotEnabled => Ok(Planned::NotEnabled),
-            Assessed::NotYours => Ok(Planned::NotYours),
-            Assessed::Usable(participants, result) => Ok(Planned::Ready(Plan {
-                program,
-                who,
-                action,
-                participants,
-                copied,
-                result,
-            })),
-        }
+        let assessed = assess_alone(alloc, program, who, &action, &copied)?;
+        Ok(plan_by(program, who, action, copied, assessed))
     }
 
     /// Whether the participants are in the states that were copied.
@@ -133,7 +122,7 @@ impl<'p> Plan<'p> {
 }
 
 /// Whether the worker can plan the action by these states, with the participants' numbers and what the action does to the states.
-fn assess(
+fn assess_alone(
     alloc: Global,
     program: &Program,
     who: usize,
@@ -144,17 +133,58 @@ fn assess(
     ensures { IfOk result (Assesses program.now who (act_of action.now) copied.now) }
 {
     let participation = Participation::of(alloc, program, action)?;
+    let numbers = participation.numbers(alloc)?;
+    assess(alloc, &participation, who, numbers, copied)
+}
+
+/// The same for an action that was looked up, and whose participants have these numbers.
+pub(crate) fn assess(
+    alloc: Global,
+    participation: &Participation<'_, '_>,
+    who: usize,
+    numbers: Vec<usize>,
+    copied: &[NodeState],
+) -> Result<Assessed, OutOfMemory>
+    requires numbers { numbers.items ≡ participants (tabled participation.now.program) participation.now.action }
+    requires types { types_of copied.now ≡ taken numbers.items (slot_types participation.now.program.members) }
+    ensures { IfOk result (Assesses participation.now.program who participation.now.action copied.now) }
+{
     if participation.participants().is_empty() {
         return Ok(Assessed::NotAnAction);
     }
     if participation.worker() != who {
         return Ok(Assessed::NotYours);
     }
-    let numbers = participation.numbers(alloc)?;
     match participation.step_from(alloc, copied)? {
         Moved::NotAnAction => Ok(Assessed::NotAnAction),
         Moved::NotEnabled => Ok(Assessed::NotEnabled),
         result => Ok(Assessed::Usable(numbers, result)),
+    }
+}
+
+/// The worker's plan, where it can plan the action by these states.
+pub(crate) fn plan_by<'p>(
+    program: &'p Program,
+    who: usize,
+    action: Action,
+    copied: Vec<NodeState>,
+    assessed: Assessed,
+) -> Planned<'p>
+    requires { Assesses program.now who (act_of action) copied.items assessed }
+    ensures { Makes program.now who (act_of action) (values_of copied.items) result }
+{
+    match assessed {
+        Assessed::NotAnAction => Planned::NotAnAction,
+        Assessed::NotEnabled => Planned::NotEnabled,
+        Assessed::NotYours => Planned::NotYours,
+        Assessed::Usable(participants, result) => Planned::Ready(Plan {
+            program,
+            who,
+            action,
+            participants,
+            copied,
+            result,
+        }),
     }
 }
 
