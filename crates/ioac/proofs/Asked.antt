@@ -45,21 +45,24 @@ abbrev pub AsksNothing : Option (Text × List Row) → Type 0
 AsksNothing o = (asked : Request) → IsAskedBy o asked → ⊥
 
 -- where the file is missing
-no_file : (word : Text) (rows : List Row) → (word ≡ codes "explain" → ⊥) → first_of (codes "FILE") rows ≡ None → AsksNothing (Some (word, rows))
-no_file word rows other none (Request.Replay file composition) h = let z : None ≡ Some file.now = sym none ∙ h.1.0 in cc
-no_file word rows other none (Request.ReplayLog file composition) h = let z : None ≡ Some file.now = sym none ∙ h.1.0 in cc
-no_file word rows other none (Request.ReplayInvariants file composition) h = let z : None ≡ Some file.now = sym none ∙ h.1.0 in cc
-no_file word rows other none (Request.Monitor file composition) h = let z : None ≡ Some file.now = sym none ∙ h.1.0 in cc
-no_file word rows other none (Request.Run s) h = let z : None ≡ Some s.file.now = sym none ∙ h.1.names.0 in cc
-no_file word rows other none (Request.Check file) h = let z : None ≡ Some file.now = sym none ∙ h.1 in cc
-no_file word rows other none (Request.Explain code) h = other h.0
+no_file : (word : Text) (rows : List Row) → (word ≡ codes "explain" → ⊥) → (word ≡ codes "library" → ⊥) → first_of (codes "FILE") rows ≡ None
+    → AsksNothing (Some (word, rows))
+no_file word rows other another none (Request.Replay file composition) h = let z : None ≡ Some file.now = sym none ∙ h.1.0 in cc
+no_file word rows other another none (Request.ReplayLog file composition) h = let z : None ≡ Some file.now = sym none ∙ h.1.0 in cc
+no_file word rows other another none (Request.ReplayInvariants file composition) h = let z : None ≡ Some file.now = sym none ∙ h.1.0 in cc
+no_file word rows other another none (Request.Monitor file composition) h = let z : None ≡ Some file.now = sym none ∙ h.1.0 in cc
+no_file word rows other another none (Request.Run s) h = let z : None ≡ Some s.file.now = sym none ∙ h.1.names.0 in cc
+no_file word rows other another none (Request.Check file) h = let z : None ≡ Some file.now = sym none ∙ h.1 in cc
+no_file word rows other another none (Request.Explain code) h = other h.0
+no_file word rows other another none Request.Library h = another h
 
 pub unfiled : (m found : ArgMatches) (word : Text) (r : Option Request) → subcommand_rows_of m ≡ Some (word, rows_of (found_of found))
-    → (word ≡ codes "explain" → ⊥) → None ≡ first_value (found_of found) (codes "FILE") → r ≡ None → IfNone r (AsksNothing (subcommand_rows_of m))
-unfiled m found word r here other none is =
+    → (word ≡ codes "explain" → ⊥) → (word ≡ codes "library" → ⊥) → None ≡ first_value (found_of found) (codes "FILE") → r ≡ None
+    → IfNone r (AsksNothing (subcommand_rows_of m))
+unfiled m found word r here other another none is =
     let missing : first_of (codes "FILE") (rows_of (found_of found)) ≡ None = sym (first_value-rows (found_of found) (codes "FILE")) ∙ sym none in
     subst (λ o. IfNone o (AsksNothing (subcommand_rows_of m))) (sym is)
-    (subst AsksNothing (sym here) (no_file word (rows_of (found_of found)) other missing))
+    (subst AsksNothing (sym here) (no_file word (rows_of (found_of found)) other another missing))
 
 -- where there is no such code
 no_explanation : (rows : List Row) → ((code : Code) → first_of (codes "CODE") rows ≡ Some (spelling code) → ⊥) → AsksNothing (Some (codes "explain", rows))
@@ -70,6 +73,7 @@ no_explanation rows none (Request.Monitor file composition) h = apart (codes "ex
 no_explanation rows none (Request.Run s) h = apart (codes "explain") (codes "run") refl refl h.0
 no_explanation rows none (Request.Check file) h = apart (codes "explain") (codes "check") refl refl h.0
 no_explanation rows none (Request.Explain code) h = none code h.1
+no_explanation rows none Request.Library h = apart (codes "explain") (codes "library") refl refl h
 
 pub uncoded : (m found : ArgMatches) (r : Option Request) (o : Option Text) → subcommand_rows_of m ≡ Some (codes "explain", rows_of (found_of found))
     → o ≡ first_value (found_of found) (codes "CODE") → ((code : Code) → o ≡ Some (spelling code) → ⊥) → r ≡ None → IfNone r (AsksNothing (subcommand_rows_of m))
@@ -87,6 +91,7 @@ no_log word rows is log invariants (Request.Monitor file composition) h = apart 
 no_log word rows is log invariants (Request.Run s) h = apart (codes "replay") (codes "run") refl refl (sym is ∙ h.0)
 no_log word rows is log invariants (Request.Check file) h = apart (codes "replay") (codes "check") refl refl (sym is ∙ h.0)
 no_log word rows is log invariants (Request.Explain code) h = apart (codes "replay") (codes "explain") refl refl (sym is ∙ h.0)
+no_log word rows is log invariants Request.Library h = apart (codes "replay") (codes "library") refl refl (sym is ∙ h)
 
 pub unlogged : (m found : ArgMatches) → subcommand_rows_of m ≡ Some (codes "replay", rows_of (found_of found)) → is_set (codes "log") (rows_of (found_of found)) ≡ false
     → is_set (codes "invariants") (rows_of (found_of found)) ≡ true → AsksNothing (subcommand_rows_of m)
@@ -119,6 +124,7 @@ no_run rows none (Request.Run s) h = none s h.1
 no_run rows none (Request.Monitor file composition) h = apart (codes "run") (codes "monitor") refl refl h.0
 no_run rows none (Request.Check file) h = apart (codes "run") (codes "check") refl refl h.0
 no_run rows none (Request.Explain code) h = apart (codes "run") (codes "explain") refl refl h.0
+no_run rows none Request.Library h = apart (codes "run") (codes "library") refl refl h
 
 pub unset : (m found : ArgMatches) (r : Option Request) → subcommand_rows_of m ≡ Some (codes "run", rows_of (found_of found))
     → ((s : Settings) → AreSettings (rows_of (found_of found)) s → ⊥) → r ≡ None → IfNone r (AsksNothing (subcommand_rows_of m))

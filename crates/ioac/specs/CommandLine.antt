@@ -61,6 +61,9 @@ check_app = with_rule (new_app (codes "check")) file_rule
 abbrev pub explain_app : App
 explain_app = with_rule (new_app (codes "explain")) code_rule
 
+abbrev pub library_app : App
+library_app = new_app (codes "library")
+
 abbrev pub replay_app : App
 replay_app = with_rule (with_rule (with_rule (with_rule (new_app (codes "replay")) file_rule) comp_rule) log_rule) invariants_rule
 
@@ -78,8 +81,10 @@ bare_app = on_top (λ top. record top { has_version = true; subcommand_required 
 
 abbrev pub ioac_app : App
 ioac_app =
-    with_subcommand (with_subcommand (with_subcommand (with_subcommand (with_subcommand bare_app check_app.top) replay_app.top) run_app.top) monitor_app.top)
-    explain_app.top
+    with_subcommand
+    (with_subcommand (with_subcommand (with_subcommand (with_subcommand (with_subcommand bare_app check_app.top) replay_app.top) run_app.top) monitor_app.top)
+    explain_app.top)
+    library_app.top
 
 -- no argument is one of the subcommands too
 abbrev pub IsLocal : Command → Type 0
@@ -120,6 +125,7 @@ IsAskedBy (Some found) (Request.Monitor file composition) = (found.0 ≡ codes "
 IsAskedBy (Some found) (Request.Run settings) = (found.0 ≡ codes "run") × AreSettings found.1 settings
 IsAskedBy (Some found) (Request.Check file) = (found.0 ≡ codes "check") × (first_of (codes "FILE") found.1 ≡ Some file.now)
 IsAskedBy (Some found) (Request.Explain code) = (found.0 ≡ codes "explain") × (first_of (codes "CODE") found.1 ≡ Some (spelling code))
+IsAskedBy (Some found) Request.Library = found.0 ≡ codes "library"
 
 -- the words of a command line, the program's own first, have no fault: the program reads each of them, and they ask for no help or version
 abbrev pub HasNoFault : List Text → Type 0

@@ -2,9 +2,10 @@
 use Rattle.std.specs.Prelude.{◌≡◌, ℕ, ◌⊎◌, List, Option, None, IfSome}
 use Rattle.std.specs.Option.{option_copied, option_map}
 use Rattle.std.specs.String.{string_bytes}
-use Rattle.std.specs.Io.KnownBytes.{Keeps}
+use Rattle.std.specs.Io.KnownBytes.{Appends, Keeps}
 use Rattle.ioa_value.specs.Actions.{Name}
 use Rattle.ioa_tree.specs.Runs.{Ending}
+use Rattle.ioa_links.specs.Library.{library_text}
 use Rattle.ioa_run.specs.declared.run_err.RunErr.{RunErr}
 use Rattle.ioac.specs.declared.failure.Failure.{Failure}
 use Rattle.ioac.specs.declared.request.Request.{Request}
@@ -14,6 +15,7 @@ use Rattle.ioac.specs.declared.status.Status.{Status}
 use Rattle.ioac.specs.Checks.{IsCheck, IsCheckFailure, IsUnchecked}
 use Rattle.ioac.specs.Explained.{IsExplained, IsUnexplained}
 use Rattle.ioac.specs.Headline.{IsReplay, IsLogReplay, IsInvariantReplay, IsMonitoring}
+use Rattle.ioac.specs.Libraries.{IsUnlisted}
 use Rattle.ioac.specs.Logs.{Found}
 use Rattle.ioac.specs.Alone.{BeginsRunOf, IsRunServed, IsUnrun}
 use Rattle.ioac.specs.Failing.{IsFailure, IsLogFailure, IsMonitorFailure, IsUnwritten, BeginsReplayOf, BeginsLogOf, BeginsFoundOf, BeginsMonitorOf}
@@ -36,7 +38,8 @@ run_failure RunErr.Threads = Failure.OutOfMemory
 run_failure RunErr.OutOfMemory = Failure.OutOfMemory
 
 -- the file may hold a text such that the list or the log was replayed, or monitored, in the composition that is asked for, the last
--- one where none is; or that passed the check; or a composition was run; or the code was explained. Reports of a run are left to be told
+-- one where none is; or that passed the check; or a composition was run; or the code was explained; or the library's text was written.
+-- Reports of a run are left to be told
 abbrev pub IsServed : (Name → List ℕ → Type 0) → Request → Option (List ℕ) → Option (List ℕ) → Option (List ℕ) → Option (List ℕ) → Status → Type 0
 IsServed holds (Request.Replay file composition) bytes before after told status =
     (text : List ℕ) × holds file.now text
@@ -54,13 +57,14 @@ IsServed holds (Request.Run settings) bytes before after told status = IsRunServ
 IsServed holds (Request.Check file) bytes before after told status =
     ((text : List ℕ) × holds file.now text × IsCheck text before after) × (status ≡ Status.Done) × (told ≡ None)
 IsServed holds (Request.Explain code) bytes before after told status = IsExplained code before after × (status ≡ Status.Done) × (told ≡ None)
+IsServed holds Request.Library bytes before after told status = Appends before after library_text × (status ≡ Status.Done) × (told ≡ None)
 
 -- a load of the file may fail, or memory is short, and nothing was written
 abbrev pub IsUnread : Type 0 → Option (List ℕ) → Option (List ℕ) → Failure → Type 0
 IsUnread lacks before after e = (((e ≡ Failure.Io) × lacks) ⊎ (e ≡ Failure.OutOfMemory)) × Keeps before after
 
 -- The file is not read, or it may hold a text with which the replay, the monitor or the check fails so; or nothing is run; or the code is
--- not explained. The reader of standard input and the writer failed where these say so.
+-- not explained; or the library's text is not written. The reader of standard input and the writer failed where these say so.
 abbrev pub IsUnserved : (Name → List ℕ → Type 0) → (Name → Type 0) → Request → Option (List ℕ) → Type 0 → Type 0 → Option (List ℕ) → Option (List ℕ) → Failure → Type 0
 IsUnserved holds lacks (Request.Replay file composition) bytes reader_failed writer_failed before after e =
     IsUnread (lacks file.now) before after e
@@ -84,3 +88,4 @@ IsUnserved holds lacks (Request.Check file) bytes reader_failed writer_failed be
     IsUnread (lacks file.now) before after e
     ⊎ ((text : List ℕ) × holds file.now text × IsCheckFailure text writer_failed e × IsUnchecked before after e)
 IsUnserved holds lacks (Request.Explain code) bytes reader_failed writer_failed before after e = IsUnexplained code writer_failed before after e
+IsUnserved holds lacks Request.Library bytes reader_failed writer_failed before after e = IsUnlisted writer_failed before after e

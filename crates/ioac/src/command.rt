@@ -16,6 +16,7 @@ use crate::check::check_text;
 use crate::explain::explain;
 use crate::failure::Failure;
 use crate::invariant_replay::{Finding, replay_invariants_text};
+use crate::library::write_library;
 use crate::log_replay::replay_log_text;
 use crate::monitor::monitor_text;
 use crate::replay::replay_text;
@@ -107,7 +108,7 @@ fn answer<F: Store, R: InputDevice, W: OutputDevice, E: OutputDevice>(
 ///
 /// # Errors
 /// `Io` or `OutOfMemory` where the file is not read, and those of the replay, the run, the monitor or the check of what it holds, or of the
-/// explanation. Nothing was written then, or, where a device failed, no more than a beginning of the text.
+/// explanation or the library. Nothing was written then, or, where a device failed, no more than a beginning of the text.
 fn serve<F: Store, R: InputDevice, W: OutputDevice>(
     alloc: Global,
     asked: &Request<'_>,
@@ -162,6 +163,10 @@ fn serve<F: Store, R: InputDevice, W: OutputDevice>(
         }
         Request::Explain { code } => {
             explain(alloc, *code, output)?;
+            Ok(silent(Status::Done))
+        }
+        Request::Library => {
+            write_library(output)?;
             Ok(silent(Status::Done))
         }
     }

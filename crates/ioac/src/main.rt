@@ -11,6 +11,7 @@ mod explanations;
 mod failure;
 mod files;
 mod invariant_replay;
+mod library;
 mod log_replay;
 mod monitor;
 mod numerals;

@@ -1,7 +1,7 @@
 ghost use Rattle.std.specs.Prelude.{◌≡◌, false, map, codes, IfOk, IfSome, IfNone};
 ghost use Rattle.clap.specs.Words.{FailsBy, app_of, fault_of, found_of, new_app, rows_of, rule_of, subcommand_of, subcommand_rows_of};
 ghost use Rattle.ioac.specs.CommandLine as asked;
-ghost use Rattle.ioac.specs.CommandLine.{IsAskedBy, IsLocal, check_app, code_rule, comp_rule, explain_app, file_rule, invariants_rule, ioac_app, log_rule, monitor_app, replay_app};
+ghost use Rattle.ioac.specs.CommandLine.{IsAskedBy, IsLocal, check_app, code_rule, comp_rule, explain_app, file_rule, invariants_rule, ioac_app, library_app, log_rule, monitor_app, replay_app};
 ghost use Rattle.ioac.specs.declared.request.Request.{Request};
 
 use crate::code::Code;
@@ -44,6 +44,8 @@ pub enum Request<'a> {
     Explain {
         code: Code,
     },
+    /// To write the library's source.
+    Library,
 }
 
 /// The version that `--version` prints.
@@ -125,6 +127,15 @@ fn explain_command<'a>(alloc: Global) -> Result<Command<'a>, AllocError>
         .arg(code_argument(alloc))
 }
 
+fn library_command<'a>(alloc: Global) -> Command<'a>
+    ensures app { app_of result ≡ library_app }
+    ensures local { IsLocal result }
+{
+    Command::new(alloc, "library")
+        .about("Prints the library of link protocols, a source to check, run and replay")
+        .after_help("Exit status: 0 done, 2 bad command line, 5 memory or a device.")
+}
+
 fn replay_command<'a>(alloc: Global) -> Result<Command<'a>, AllocError>
     ensures app { IfOk result (λ command. app_of command ≡ replay_app) }
     ensures local { IfOk result IsLocal }
@@ -182,7 +193,8 @@ fn program<'a>(alloc: Global) -> Result<Command<'a>, AllocError>
         .subcommand(replay_command(alloc)?)?
         .subcommand(run_command(alloc)?)?
         .subcommand(monitor_command(alloc)?)?
-        .subcommand(explain_command(alloc)?)
+        .subcommand(explain_command(alloc)?)?
+        .subcommand(library_command(alloc))
 }
 
 /// Reads a command line, whose first word is the program's.
@@ -246,6 +258,7 @@ pub fn read_request<'a>(matches: &ArgMatches<'a>) -> Option<Request<'a>>
             let code = Code::find(word)?;
             Some(Request::Explain { code })
         }
+        "library" => Some(Request::Library),
         _ => None,
     }
 }

@@ -11,6 +11,7 @@ mod declared;
 mod drawn;
 mod explained;
 mod invariants;
+mod library;
 mod lines;
 mod lists;
 mod logs;

@@ -18,6 +18,9 @@ explain E18 |  |  | error: invalid value 'E18' for '<CODE>'^  [possible values: 
 explain e5 |  |  | error: invalid value 'e5' for '<CODE>'^  [possible values: E1, E2, E3, E4, E5, E6, E7, E8, E9, E10, E11, E12, E13, E14, E15, E16, E17, L1, L2, L3, L4, L5, L6, L7, L8, N1, N2, words, memory, io]^^For more information, try '--help'.^ | 2
 explain |  |  | error: the following required arguments were not provided:^  <CODE>^^Usage: ioac explain <CODE>^^For more information, try '--help'.^ | 2
 explain --help |  | Says what a code means that the program printed, what gives it, and how to mend it^^Usage: ioac explain <CODE>^^Arguments:^  <CODE>  A code that the program printed, as E7^^Options:^  -h, --help  Print help^^Exit status: 0 done, 2 bad command line or no such code, 5 memory or a device.^ |  | 0
+-- the library
+library x |  |  | error: unexpected argument 'x' found^^Usage: ioac library^^For more information, try '--help'.^ | 2
+library --help |  | Prints the library of link protocols, a source to check, run and replay^^Usage: ioac library^^Options:^  -h, --help  Print help^^Exit status: 0 done, 2 bad command line, 5 memory or a device.^ |  | 0
 -- the version
 --version |  | ioac 0.2.0^ |  | 0
 -V |  | ioac 0.2.0^ |  | 0

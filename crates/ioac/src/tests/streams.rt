@@ -162,9 +162,10 @@ const SMALL: &str = "automaton A signature input a transitions input a";
 
 /// The words, a file, standard input, and what stands in the end in rooms of these lengths for what is printed and for what is told of
 /// errors. They were zeros.
-const ROOMS: [(&str, &str, &str, &[u8], &[u8]); 9] = [
+const ROOMS: [(&str, &str, &str, &[u8], &[u8]); 10] = [
     ("check f", SMALL, "", b"ok", b"L8\n\0"),
     ("explain E1", SMALL, "", b"E1", b"L8\n\0"),
+    ("library", SMALL, "", b"type", b"L8\n\0"),
     ("--version", SMALL, "", b"io", b"L8\n\0"),
     ("replay f", COUNTER, LIST, b"", b""),
     ("replay g", COUNTER, LIST, b"", b""),

@@ -8,19 +8,19 @@ use Rattle.ioac.proofs.request.read_request.Goals as goal
 pub returns-in_err-file-in-replay-clause-none : goal.returns-in_err-file-in-replay-clause-none
 returns-in_err-file-in-replay-clause-none c =
     let here = lent c.args.matches.now c.in_ok-name.found.now c.in_ok-name.name.now (codes "replay") c.in_ok-name.ensures.name c.in_ok-name.ensures.rows c.in-replay.is in
-    unfiled c.args.matches.now c.in_ok-name.found.now (codes "replay") _ here (apart (codes "replay") (codes "explain") refl refl)
+    unfiled c.args.matches.now c.in_ok-name.found.now (codes "replay") _ here (apart (codes "replay") (codes "explain") refl refl) (apart (codes "replay") (codes "library") refl refl)
     c.in_err-file-in-replay.ensures c.from_residual-in_err-file-in-replay.ensures
 
 pub returns-in_err-file-in-monitor-clause-none : goal.returns-in_err-file-in-monitor-clause-none
 returns-in_err-file-in-monitor-clause-none c =
     let here = lent c.args.matches.now c.in_ok-name.found.now c.in_ok-name.name.now (codes "monitor") c.in_ok-name.ensures.name c.in_ok-name.ensures.rows c.in-monitor.is in
-    unfiled c.args.matches.now c.in_ok-name.found.now (codes "monitor") _ here (apart (codes "monitor") (codes "explain") refl refl)
+    unfiled c.args.matches.now c.in_ok-name.found.now (codes "monitor") _ here (apart (codes "monitor") (codes "explain") refl refl) (apart (codes "monitor") (codes "library") refl refl)
     c.in_err-file-in-monitor.ensures c.from_residual-in_err-file-in-monitor.ensures
 
 pub returns-in_err-file-in-check-clause-none : goal.returns-in_err-file-in-check-clause-none
 returns-in_err-file-in-check-clause-none c =
     let here = lent c.args.matches.now c.in_ok-name.found.now c.in_ok-name.name.now (codes "check") c.in_ok-name.ensures.name c.in_ok-name.ensures.rows c.in-check.is in
-    unfiled c.args.matches.now c.in_ok-name.found.now (codes "check") _ here (apart (codes "check") (codes "explain") refl refl)
+    unfiled c.args.matches.now c.in_ok-name.found.now (codes "check") _ here (apart (codes "check") (codes "explain") refl refl) (apart (codes "check") (codes "library") refl refl)
     c.in_err-file-in-check.ensures c.from_residual-in_err-file-in-check.ensures
 
 pub returns-in_err-word-in-explain-clause-none : goal.returns-in_err-word-in-explain-clause-none
@@ -98,3 +98,9 @@ returns-in_ok-settings-in-run-clause-some c =
     let found = c.in_ok-name.found.now in
     let here = lent c.args.matches.now found c.in_ok-name.name.now (codes "run") c.in_ok-name.ensures.name c.in_ok-name.ensures.rows c.in-run.is in
     asks c.args.matches.now found (codes "run") (Request.Run c.in_ok-settings-in-run.settings) here (refl, c.in_ok-settings-in-run.ensures.some)
+
+pub returns-in-library-clause-some : goal.returns-in-library-clause-some
+returns-in-library-clause-some c =
+    let found = c.in_ok-name.found.now in
+    let here = lent c.args.matches.now found c.in_ok-name.name.now (codes "library") c.in_ok-name.ensures.name c.in_ok-name.ensures.rows c.in-library.is in
+    asks c.args.matches.now found (codes "library") Request.Library here refl

@@ -1,0 +1,128 @@
+//! The library of protocols: its text, lists of actions on its compositions, and runs by chance that its specifications monitor.
+
+use crate::status::Status;
+use crate::tests::reached::{program, told_state};
+use crate::tests::shelf::{First, Given, Wanted, expect, expect_rows, run};
+use ioa_system::run_list;
+use ioa_value::read_list;
+use std::alloc::Global;
+use std::test::Fail;
+
+/// The words after the program's name, a list or a log for the library, what is printed, what is told of errors, and the exit status.
+const ROWS: &str = r#"
+check f |  | ok^ |  | 0
+-- without order the bit is not enough: the first packet comes again, and is taken for the third
+replay f --comp AltBitReorder | send_msg(1)^send(0, Pkt(data, 0, 0, 1))^recv(0, Pkt(data, 0, 0, 1))^receive_msg(1)^send(1, Pkt(ack, 0, 0, 0))^recv(1, Pkt(ack, 0, 0, 0))^send_msg(2)^send(0, Pkt(data, 1, 0, 2))^recv(0, Pkt(data, 1, 0, 2))^receive_msg(2)^recv(0, Pkt(data, 0, 0, 1))^receive_msg(1) | send_msg(1)^receive_msg(1)^send_msg(2)^receive_msg(2)^receive_msg(1)^end: done after 12^ |  | 0
+replay f --comp AltBitReorder --log | {"act":"send_msg(1)","who":0}^{"act":"send(0, Pkt(data, 0, 0, 1))","who":0}^{"act":"recv(0, Pkt(data, 0, 0, 1))","who":1}^{"act":"receive_msg(1)","who":3}^{"act":"send(1, Pkt(ack, 0, 0, 0))","who":3}^{"act":"recv(1, Pkt(ack, 0, 0, 0))","who":2}^{"act":"send_msg(2)","who":0}^{"act":"send(0, Pkt(data, 1, 0, 2))","who":0}^{"act":"recv(0, Pkt(data, 1, 0, 2))","who":1}^{"act":"receive_msg(2)","who":3}^{"act":"recv(0, Pkt(data, 0, 0, 1))","who":1}^{"act":"receive_msg(1)","who":3}^{"end":"done after 12"}^ | send_msg(1)^receive_msg(1)^send_msg(2)^receive_msg(2)^receive_msg(1)^end: done after 12^ |  | 0
+monitor f --comp ReliableFifo | {"act":"send_msg(1)","who":0}^{"act":"send(0, Pkt(data, 0, 0, 1))","who":0}^{"act":"recv(0, Pkt(data, 0, 0, 1))","who":1}^{"act":"receive_msg(1)","who":3}^{"act":"send(1, Pkt(ack, 0, 0, 0))","who":3}^{"act":"recv(1, Pkt(ack, 0, 0, 0))","who":2}^{"act":"send_msg(2)","who":0}^{"act":"send(0, Pkt(data, 1, 0, 2))","who":0}^{"act":"recv(0, Pkt(data, 1, 0, 2))","who":1}^{"act":"receive_msg(2)","who":3}^{"act":"recv(0, Pkt(data, 0, 0, 1))","who":1}^{"act":"receive_msg(1)","who":3}^{"end":"done after 12"}^ | monitor: not enabled at 11^ |  | 4
+replay f --comp AltBitReorder --log --invariants | {"act":"send_msg(1)","who":0}^{"act":"send(0, Pkt(data, 0, 0, 1))","who":0}^{"act":"recv(0, Pkt(data, 0, 0, 1))","who":1}^{"act":"receive_msg(1)","who":3}^{"act":"send(1, Pkt(ack, 0, 0, 0))","who":3}^{"act":"recv(1, Pkt(ack, 0, 0, 0))","who":2}^{"act":"send_msg(2)","who":0}^{"act":"send(0, Pkt(data, 1, 0, 2))","who":0}^{"act":"recv(0, Pkt(data, 1, 0, 2))","who":1}^{"act":"receive_msg(2)","who":3}^{"act":"recv(0, Pkt(data, 0, 0, 1))","who":1}^{"act":"receive_msg(1)","who":3}^{"end":"done after 12"}^ | invariant 0 of component 4 broken after 12^ |  | 4
+-- numbers that are not used twice are
+replay f --comp Stenning | send_msg(1)^send(0, Pkt(data, 1, 0, 1))^recv(0, Pkt(data, 1, 0, 1))^receive_msg(1)^send(1, Pkt(ack, 1, 0, 0))^recv(1, Pkt(ack, 1, 0, 0))^send_msg(2)^send(0, Pkt(data, 2, 0, 2))^recv(0, Pkt(data, 2, 0, 2))^receive_msg(2)^recv(0, Pkt(data, 1, 0, 1))^receive_msg(1) | send_msg(1)^receive_msg(1)^send_msg(2)^receive_msg(2)^end: not enabled at 11^ |  | 4
+monitor f --comp ReliableFifo | {"act":"send_msg(1)","who":0}^{"act":"send(0, Pkt(data, 1, 0, 1))","who":0}^{"act":"recv(0, Pkt(data, 1, 0, 1))","who":1}^{"act":"receive_msg(1)","who":3}^{"act":"send(1, Pkt(ack, 1, 0, 0))","who":3}^{"act":"recv(1, Pkt(ack, 1, 0, 0))","who":2}^{"act":"send_msg(2)","who":0}^{"act":"send(0, Pkt(data, 2, 0, 2))","who":0}^{"act":"recv(0, Pkt(data, 2, 0, 2))","who":1}^{"act":"receive_msg(2)","who":3}^{"act":"recv(0, Pkt(data, 1, 0, 1))","who":1}^{"end":"done after 11"}^ | monitor: ok^ |  | 0
+replay f --comp Stenning --log | {"act":"send_msg(1)","who":0}^{"act":"send(0, Pkt(data, 1, 0, 1))","who":0}^{"act":"recv(0, Pkt(data, 1, 0, 1))","who":1}^{"act":"receive_msg(1)","who":3}^{"act":"send(1, Pkt(ack, 1, 0, 0))","who":3}^{"act":"recv(1, Pkt(ack, 1, 0, 0))","who":2}^{"act":"send_msg(2)","who":0}^{"act":"send(0, Pkt(data, 2, 0, 2))","who":0}^{"act":"recv(0, Pkt(data, 2, 0, 2))","who":1}^{"act":"receive_msg(2)","who":3}^{"act":"recv(0, Pkt(data, 1, 0, 1))","who":1}^{"end":"done after 11"}^ | send_msg(1)^receive_msg(1)^send_msg(2)^receive_msg(2)^end: done after 11^ |  | 0
+-- an acknowledgement of the last packet is enough, and a channel gives its packets in order
+replay f --comp Sliding | send_msg(7)^send_msg(8)^send(0, Pkt(data, 1, 0, 7))^send(0, Pkt(data, 2, 0, 8))^recv(0, Pkt(data, 1, 0, 7))^drop(0)^recv(0, Pkt(data, 2, 0, 8))^receive_msg(7)^receive_msg(8)^send(1, Pkt(ack, 2, 0, 0))^recv(1, Pkt(ack, 2, 0, 0)) | send_msg(7)^send_msg(8)^receive_msg(7)^receive_msg(8)^end: done after 11^ |  | 0
+replay f --comp Sliding | send_msg(7)^send_msg(8)^send(0, Pkt(data, 1, 0, 7))^send(0, Pkt(data, 2, 0, 8))^recv(0, Pkt(data, 1, 0, 7))^recv(0, Pkt(data, 2, 0, 8))^receive_msg(7)^receive_msg(8)^send(1, Pkt(ack, 2, 0, 0))^recv(1, Pkt(ack, 2, 0, 0)) | send_msg(7)^send_msg(8)^end: not enabled at 5^ |  | 4
+-- five packets deliver one message
+replay f --comp Handshake | send_msg(3)^begin^send(0, Pkt(needid, 1, 0, 0))^recv(0, Pkt(needid, 1, 0, 0))^send(1, Pkt(accept, 1, 1, 0))^recv(1, Pkt(accept, 1, 1, 0))^send(0, Pkt(data, 0, 1, 3))^recv(0, Pkt(data, 0, 1, 3))^receive_msg(3)^send(1, Pkt(ack, 0, 1, 0))^recv(1, Pkt(ack, 0, 1, 0))^send(0, Pkt(cleanup, 0, 1, 0))^recv(0, Pkt(cleanup, 0, 1, 0)) | send_msg(3)^receive_msg(3)^end: done after 13^ |  | 0
+replay f --comp Handshake --log | {"act":"send_msg(3)","who":0}^{"act":"begin","who":0}^{"act":"send(0, Pkt(needid, 1, 0, 0))","who":0}^{"act":"recv(0, Pkt(needid, 1, 0, 0))","who":1}^{"act":"send(1, Pkt(accept, 1, 1, 0))","who":3}^{"act":"recv(1, Pkt(accept, 1, 1, 0))","who":2}^{"act":"send(0, Pkt(data, 0, 1, 3))","who":0}^{"act":"recv(0, Pkt(data, 0, 1, 3))","who":1}^{"act":"receive_msg(3)","who":3}^{"act":"send(1, Pkt(ack, 0, 1, 0))","who":3}^{"act":"recv(1, Pkt(ack, 0, 1, 0))","who":2}^{"act":"send(0, Pkt(cleanup, 0, 1, 0))","who":0}^{"act":"recv(0, Pkt(cleanup, 0, 1, 0))","who":1}^{"end":"done after 13"}^ | send_msg(3)^receive_msg(3)^end: done after 13^ |  | 0
+monitor f --comp AtMostOnce | {"act":"send_msg(3)","who":0}^{"act":"begin","who":0}^{"act":"send(0, Pkt(needid, 1, 0, 0))","who":0}^{"act":"recv(0, Pkt(needid, 1, 0, 0))","who":1}^{"act":"send(1, Pkt(accept, 1, 1, 0))","who":3}^{"act":"recv(1, Pkt(accept, 1, 1, 0))","who":2}^{"act":"send(0, Pkt(data, 0, 1, 3))","who":0}^{"act":"recv(0, Pkt(data, 0, 1, 3))","who":1}^{"act":"receive_msg(3)","who":3}^{"act":"send(1, Pkt(ack, 0, 1, 0))","who":3}^{"act":"recv(1, Pkt(ack, 0, 1, 0))","who":2}^{"act":"send(0, Pkt(cleanup, 0, 1, 0))","who":0}^{"act":"recv(0, Pkt(cleanup, 0, 1, 0))","who":1}^{"end":"done after 13"}^ | monitor: ok^ |  | 0
+"#;
+
+/// A list after which the first of two messages is acknowledged.
+const SLID: &str =
+    "send_msg(7)\nsend_msg(8)\nsend(0, Pkt(data, 1, 0, 7))\nsend(0, Pkt(data, 2, 0, 8))\nrecv(0, Pkt(data, 1, 0, 7))\ndrop(0)\nrecv(0, Pkt(data, 2, 0, 8))\nreceive_msg(7)\nreceive_msg(8)\nsend(1, Pkt(ack, 2, 0, 0))\nrecv(1, Pkt(ack, 2, 0, 0))";
+
+/// The compositions that run, and their specifications.
+const RUNS: [(&str, &str); 4] = [
+    ("Stenning", "ReliableFifo"),
+    ("AltBit", "ReliableFifo"),
+    ("Sliding", "ReliableFifo"),
+    ("Handshake", "AtMostOnce"),
+];
+
+/// The library.
+fn library() -> Result<&'static str, Fail> {
+    Ok(str::from_utf8(ioa_links::text())?)
+}
+
+#[test]
+fn the_library_gives_what_is_wanted(rt: HostRuntime) -> Result<(), Fail> {
+    let text = library()?;
+    expect_rows(&rt, rt.alloc(), ROWS, First::Words(text))?;
+    let given = Given {
+        words: "library",
+        file: "",
+        list: "",
+    };
+    let wanted = Wanted {
+        output: text,
+        errors: "",
+        status: Status::Done.number(),
+    };
+    expect(&rt, rt.alloc(), "library", &given, &wanted)
+}
+
+/// What the sender's variables are after these actions of the sliding window.
+fn slid(alloc: Global) -> Result<String, Fail> {
+    let program = program(alloc, library()?, Some("Sliding"))?;
+    let actions = read_list(alloc, program.types(), SLID.as_bytes())?
+        .ok()
+        .ok_or("no list")?;
+    let run = run_list(alloc, &program, &actions)?;
+    let sender = run.states.first().ok_or("no sender")?;
+    Ok(told_state(alloc, program.types(), sender)?)
+}
+
+#[test]
+fn the_window_moves(rt: HostRuntime) -> Result<(), Fail> {
+    let told = slid(rt.alloc())?;
+    assert!(rt; told.as_str() == ", state(Ints[8], 2, 1)", "{told}");
+    Ok(())
+}
+
+/// Runs a composition, and answers whether its log is replayed, and whether its specification accepts it.
+fn is_accepted(alloc: Global, composition: &str, specification: &str) -> Result<bool, Fail> {
+    let file = library()?;
+    let words = format!(in alloc; "run f --comp {composition} --alone --turns 200 --log")?;
+    let ran = run(
+        alloc,
+        &Given {
+            words: words.as_str(),
+            file,
+            list: "",
+        },
+    )?;
+    let list = str::from_utf8(ran.output.as_slice())?;
+    let words = format!(in alloc; "replay f --comp {composition} --log")?;
+    let replayed = run(
+        alloc,
+        &Given {
+            words: words.as_str(),
+            file,
+            list,
+        },
+    )?;
+    let words = format!(in alloc; "monitor f --comp {specification}")?;
+    let monitored = run(
+        alloc,
+        &Given {
+            words: words.as_str(),
+            file,
+            list,
+        },
+    )?;
+    let is_done = ran.status == 0 && replayed.status == 0 && monitored.status == 0;
+    Ok(is_done && monitored.output.as_slice() == b"monitor: ok\n".as_slice())
+}
+
+#[test]
+fn runs_are_accepted(rt: HostRuntime) -> Result<(), Fail> {
+    for (composition, specification) in RUNS {
+        assert!(rt;
+            is_accepted(rt.alloc(), composition, specification)?,
+            "{composition}"
+        );
+    }
+    Ok(())
+}
