@@ -2,6 +2,7 @@ pub mod Programs
 pub mod Tables
 pub mod Clashes
 pub mod Shown
+pub mod Given
 pub mod Outlines
 pub mod Coded
 pub mod Correspondence

@@ -135,9 +135,9 @@ AreMembers types (m ∷ ms) = IsMember types m × AreMembers types ms
 abbrev pub is_output_of : Prog → Name → Bool
 is_output_of p x = list_any (λ m. list_any (λ e. is_output (Some e.kind) && bytes_eq e.name x) m.entries) p.members
 
--- what a program keeps: its name is legal and none that a type gives, it has a component, the components have one table of types and
--- different names and are compatible, and the hidden names are different outputs'
-pub record IsProgram (p : Prog) : Type 0 where
+-- what a program keeps, with this of its components together: its name is legal and none that a type gives, it has a component, the
+-- components have one table of types and different names, and the hidden names are different outputs'
+pub record AreTables (together : Type 0) (p : Prog) : Type 0 where
   pub types : AreTypes p.types
   pub legal : IsName p.name
   pub apart : IsTrue (not (contains (all_names p.types) p.name))
@@ -145,7 +145,15 @@ pub record IsProgram (p : Prog) : Type 0 where
   pub few_members : length p.members ≤ LIMITS.components
   pub names : IsTrue (distinct (map (λ m. m.name) p.members))
   pub members : AreMembers p.types p.members
-  pub compatible : Compatible (tabled p)
+  pub compatible : together
   pub few_hidden : length p.hidden ≤ LIMITS.hidden
   pub hidden : IsTrue (distinct p.hidden)
   pub outputs : IsTrue (list_all (is_output_of p) p.hidden)
+
+-- the tables are right, whether the components are compatible or not
+abbrev pub AreRight : Prog → Type 0
+AreRight p = AreTables (Unit {0}) p
+
+-- a program's tables are right, and its components are compatible
+abbrev pub IsProgram : Prog → Type 0
+IsProgram p = AreTables (Compatible (tabled p)) p

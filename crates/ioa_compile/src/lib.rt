@@ -1,23 +1,29 @@
 //! From compositions to programs: tables, start states and verified code.
 #![tactic(auto)]
 
+mod clashes;
 mod compatibility;
 mod compiler;
 mod emitter;
 mod entries;
 mod extents;
 mod laws;
+mod limits;
 mod places;
 mod program;
 mod proposals;
+mod rightness;
 mod same;
 mod scope;
 mod table;
+mod tables;
 mod transition;
 mod types;
 
 pub use compatibility::clash_among;
 pub use compiler::compile;
 pub use laws::entries_are_the_hosts;
+pub use limits::{COMPONENT_LIMITS, MOST_PLACES};
 pub use program::Program;
 pub use table::{Entry, Member};
+pub use tables::{TableErr, Tables};

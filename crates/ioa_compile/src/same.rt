@@ -28,7 +28,7 @@ impl Program {
 }
 
 /// Parts of programs. The trait is of this crate, since most of the types are not.
-trait Alike {
+pub(crate) trait Alike {
     ghost Part: { Type 0 };
 
     ghost part: { Self → Part };
@@ -39,7 +39,7 @@ trait Alike {
 }
 
 /// Whether the parts are alike, one by one.
-fn are_alike<T: Alike>(these: &[T], those: &[T]) -> bool
+pub(crate) fn are_alike<T: Alike>(these: &[T], those: &[T]) -> bool
     ensures { IsTrue result ↔ (map T.part these.now ≡ map T.part those.now) }
 {
     if these.len() != those.len() {
