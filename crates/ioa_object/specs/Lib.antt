@@ -1,0 +1,7 @@
+pub mod Spelling
+pub mod Objects
+pub mod Spots
+pub mod Reading
+pub mod Openings
+pub mod Taken
+pub mod Refusals

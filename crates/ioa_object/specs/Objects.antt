@@ -1,0 +1,22 @@
+-- Objects: the bytes of programs.
+use Rattle.std.specs.Prelude.{◌≡◌, List, [], ◌++◌, ℕ}
+use Rattle.ioa_compile.specs.Programs.{Prog}
+use Rattle.ioa_compile.specs.Tables.{IsProgram}
+use Rattle.ioa_object.specs.Spelling.{object}
+
+-- the bytes are the object of the program
+pub record IsObject (bytes : List ℕ) (p : Prog) : Type 0 where
+  pub program : IsProgram p
+  pub spelled : bytes ≡ object p
+
+-- a program has one object
+abbrev pub OneObject : Type 0
+OneObject = (p : Prog) (a b : List ℕ) → IsObject a p → IsObject b p → a ≡ b
+
+-- an object is of one program
+abbrev pub OneProgram : Type 0
+OneProgram = (bytes : List ℕ) (p q : Prog) → IsObject bytes p → IsObject bytes q → p ≡ q
+
+-- no object begins another
+abbrev pub NoneBeginsAnother : Type 0
+NoneBeginsAnother = (front more : List ℕ) (p q : Prog) → IsObject front p → IsObject (front ++ more) q → more ≡ []

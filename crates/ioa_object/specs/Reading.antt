@@ -1,0 +1,378 @@
+-- What may stand at each place of an object, read from the left: what stands there with the place after it, or the first thing that is
+-- wrong. A tag, a number, a name or a payload that may not stand is told by its first byte.
+use Rattle.std.specs.Prelude.{◌≡◌, ℕ, zero, suc, ◌+◌, ◌==◌, Bool, not, ◌&&◌, ◌||◌, nat_lt, nat_le, if◌then◌else◌, List, [], ◌∷◌, ◌++◌, length, take, drop, map, Option, Some, None, Result, Ok, Err}
+use Rattle.std.specs.Int.{w16, w64, from_le_bytes, cast_signed}
+use Rattle.ioa_value.specs.Actions.{Name}
+use Rattle.ioa_value.specs.Names.{is_name}
+use Rattle.ioa_value.specs.Plain.{Val, truth, num, name, tuple, items, vals}
+use Rattle.ioa_value.specs.Positions.{Domain, every, single}
+use Rattle.ioa_value.specs.Table.{Table, TupleField, Shape, truths, numbers, names, fields, sequence, Declaration, basic, shape_at, types_of, contains, field_names, all_names}
+use Rattle.ioa_value.specs.Typing.{own}
+use Rattle.ioa_value.specs.Widths.{shape_width, widths}
+use Rattle.ioa_value.specs.declared.limits.TheConstants.{LIMITS}
+use Rattle.ioa_value.specs.declared.operator.Op.{Op}
+use Rattle.ioa_value.specs.declared.operator.Op.TheVariants.{Neg, Add, Sub, Mul, Div, Mod, Lt, Le, Gt, Ge, Not, Eq, Ne, Len, Head, Tail, Last, Init, Append, At, Member, Without, Make, Field}
+use Rattle.ioa_value.specs.declared.value.Ty.{Ty}
+use Rattle.ioa_code.specs.declared.instr.Instr.{Instr}
+use Rattle.ioa_code.specs.declared.instr.Instr.TheVariants.{Const, Slot, Arg, Store, Jump, JumpIfFalse, Any, Pick, Apply}
+use Rattle.ioa_code.specs.declared.instr.PartKind.{PartKind}
+use Rattle.ioa_code.specs.declared.instr.PartKind.TheVariants.{Pre, Propose, Eff}
+use Rattle.ioa_code.specs.Scan.{Verdict, good, bad, scan}
+use Rattle.ioa_code.specs.Valid.{Part}
+use Rattle.ioa_tree.specs.declared.tree.Kind.{Kind}
+use Rattle.ioa_tree.specs.declared.tree.Kind.TheVariants.{Input, Output, Internal}
+use Rattle.ioa_compose.specs.Fine.{component_limits}
+use Rattle.ioa_compile.specs.Programs.{EntryCode, MemberCode, Prog}
+use Rattle.ioa_compile.specs.Tables.{is_output_of, most_places, parameter_types, position_types}
+use Rattle.ioa_object.specs.Spots.{Spot}
+use Rattle.ioa_object.specs.Spelling.{mark, version}
+use Rattle.ioa_object.specs.declared.failure.ObjErr.{ObjErr}
+use Rattle.ioa_object.specs.declared.failure.ObjErr.TheVariants as errors
+
+abbrev pub Outcome : Type 0 → Type 0
+Outcome A = Result (A × Spot) ObjErr
+
+abbrev pub Reader : Type 0 → Type 0
+Reader A = Spot → Outcome A
+
+-- What a function returned, seen by view, with the place after it is the outcome, unless memory ran out.
+abbrev pub Fails : {Y : Type 0} → ObjErr → Result Y ObjErr → Type 0
+Fails errors.Magic read = read ≡ Err errors.Magic
+Fails errors.Version read = read ≡ Err errors.Version
+Fails errors.Truncated read = read ≡ Err errors.Truncated
+Fails errors.Trailing read = read ≡ Err errors.Trailing
+Fails (errors.BadTable at) read = read ≡ Err (errors.BadTable at)
+Fails (errors.BadCode part at) read = read ≡ Err (errors.BadCode part at)
+Fails errors.Clash read = read ≡ Err errors.Clash
+Fails errors.OutOfMemory read = Unit {0}
+
+abbrev pub Reads : {X Y : Type 0} → (X → Y) → Outcome Y → Result X ObjErr → Spot → Type 0
+Reads view read (Ok x) c = read ≡ Ok (view x, c)
+Reads view read (Err e) c = Fails e read
+
+infixl 10 ◌>>=◌
+abbrev pub ◌>>=◌ : {A B : Type 0} → Result A ObjErr → (A → Result B ObjErr) → Result B ObjErr
+(Ok x) >>= f = f x
+(Err e) >>= f = Err e
+
+infixl 10 ◌>>◌
+abbrev pub ◌>>◌ : {B : Type 0} → Result (Unit {0}) ObjErr → Result B ObjErr → Result B ObjErr
+(Ok u) >> next = next
+(Err e) >> next = Err e
+
+abbrev pub built : {A B : Type 0} → (A → B) → Outcome A → Outcome B
+built f read = read >>= λ x. Ok (f x.0, x.1)
+
+-- what stands at the place may stand there
+abbrev pub right : Bool → ℕ → Result (Unit {0}) ObjErr
+right ok place = if ok then Ok tt else Err (errors.BadTable place)
+
+-- ---- bytes and numbers
+
+abbrev pub passed : ℕ → Spot → Spot
+passed n c = record { place = c.place + n; rest = drop n c.rest; parts = c.parts }
+
+-- so many bytes
+unfoldable pub bytes_at : ℕ → Reader (List ℕ)
+bytes_at n c = if nat_lt (length c.rest) n then Err errors.Truncated else Ok (take n c.rest, passed n c)
+
+abbrev pub byte_of : List ℕ → Reader ℕ
+byte_of [] c = Err errors.Truncated
+byte_of (b ∷ bs) c = Ok (b, passed 1 c)
+
+unfoldable pub byte_at : Reader ℕ
+byte_at c = byte_of c.rest c
+
+-- a number of 16 bits
+unfoldable pub short_at : Reader ℕ
+short_at c = built (from_le_bytes w16) (bytes_at 2 c)
+
+-- a whole number of 64 bits
+unfoldable pub long_at : Reader Val
+long_at c = built (λ bytes. num (cast_signed w64 (from_le_bytes w64 bytes))) (bytes_at 8 c)
+
+-- a number from this one to that one
+unfoldable pub count_at : ℕ → ℕ → Reader ℕ
+count_at least most c = do
+  n ← short_at c
+  right (nat_le least n.0 && nat_le n.0 most) c.place
+  Ok n
+
+-- a type's number, of so many types
+unfoldable pub type_at : ℕ → Reader ℕ
+type_at count c = do
+  ty ← short_at c
+  right (nat_lt ty.0 count) c.place
+  Ok ty
+
+-- ---- texts and lists
+
+-- a legal name, with the place of its first letter
+unfoldable pub named_at : Reader (Name × ℕ)
+named_at c = do
+  n ← byte_at c
+  right (nat_le 1 n.0 && nat_le n.0 LIMITS.name) c.place
+  x ← bytes_at n.0 n.1
+  right (is_name x.0) n.1.place
+  Ok ((x.0, n.1.place), x.1)
+
+-- a legal name that is not taken
+unfoldable pub name_at : (Name → Bool) → Reader Name
+name_at taken c = do
+  x ← named_at c
+  right (not (taken x.0.0)) x.0.1
+  Ok (x.0.0, x.1)
+
+-- so many items more, each of which may depend on those before it
+unfoldable pub items_at : {A : Type 0} → (List A → Reader A) → List A → ℕ → Reader (List A)
+items_at item before zero c = Ok (before, c)
+items_at item before (suc n) c = item before c >>= λ x. items_at item (before ++ x.0 ∷ []) n x.1
+
+-- a list of so many items at least, and at most so many
+unfoldable pub list_at : {A : Type 0} → ℕ → ℕ → (List A → Reader A) → Reader (List A)
+list_at least most item c = do
+  n ← count_at least most c
+  items_at item [] n.0 n.1
+
+-- ---- types
+
+unfoldable pub field_at : ℕ → List TupleField → Reader TupleField
+field_at count before c = do
+  x ← name_at (contains (field_names before)) c
+  ty ← type_at count x.1
+  Ok (record { name = x.0; ty = ty.0 }, ty.1)
+
+unfoldable pub sequence_at : ℕ → Reader Shape
+sequence_at count c = do
+  most ← count_at 1 LIMITS.capacity c
+  of ← type_at count most.1
+  Ok (sequence most.0 of.0, of.1)
+
+-- what a type of this tag is, where these names are taken and there are so many types
+unfoldable pub form_at : ℕ → List Name → ℕ → Reader Shape
+form_at tag taken count c =
+    if tag == 1 then built names (list_at 1 LIMITS.names (λ before. name_at (contains (taken ++ before))) c)
+    else (if tag == 2 then built fields (list_at 1 LIMITS.fields (field_at count) c) else sequence_at count c)
+
+-- the declaration that comes after these
+unfoldable pub declaration_at : Table → Reader Declaration
+declaration_at types c = do
+  tag ← byte_at c
+  right (nat_le 1 tag.0 && nat_le tag.0 3) c.place
+  x ← name_at (contains (all_names types)) tag.1
+  form ← form_at tag.0 (all_names types ++ x.0 ∷ []) (length types) x.1
+  right (nat_le (shape_width (widths types) form.0) LIMITS.words) c.place
+  Ok (record { name = x.0; shape = form.0 }, form.1)
+
+unfoldable pub types_at : Reader Table
+types_at c = do
+  n ← count_at 0 LIMITS.types c
+  items_at declaration_at basic n.0 n.1
+
+-- ---- values
+
+unfoldable pub truth_at : Reader Val
+truth_at c = do
+  b ← byte_at c
+  right (nat_le b.0 1) c.place
+  Ok (truth (b.0 == 1), b.1)
+
+-- a name of an enumeration that has so many
+unfoldable pub constant_at : ℕ → ℕ → Reader Val
+constant_at ty count c = do
+  n ← byte_at c
+  right (nat_lt n.0 count) c.place
+  Ok (name ty n.0, n.1)
+
+-- values more, one of each of these types
+unfoldable pub parts_at : (ℕ → Reader Val) → List Val → List ℕ → Reader (List Val)
+parts_at inner before [] c = Ok (before, c)
+parts_at inner before (ty ∷ tys) c = inner ty c >>= λ v. parts_at inner (before ++ v.0 ∷ []) tys v.1
+
+-- what is spelled of a value of a type of this shape
+abbrev pub payload_shaped : (ℕ → Reader Val) → ℕ → Option Shape → Reader Val
+payload_shaped inner ty (Some truths) c = truth_at c
+payload_shaped inner ty (Some numbers) c = long_at c
+payload_shaped inner ty (Some (names ns)) c = constant_at ty (length ns) c
+payload_shaped inner ty (Some (fields fs)) c = built (λ vs. tuple ty (vals vs)) (parts_at inner [] (types_of fs) c)
+payload_shaped inner ty (Some (sequence most of)) c = built (λ vs. items ty (vals vs)) (list_at 0 most (λ _. inner of) c)
+payload_shaped inner ty None c = Err (errors.BadTable c.place)
+
+-- of a value of this type, in whose parts there are at most so many types within each other: none has more than its number tells
+unfoldable pub payload_in : ℕ → Table → ℕ → Reader Val
+payload_in zero types ty c = Err (errors.BadTable c.place)
+payload_in (suc n) types ty c = payload_shaped (λ t. payload_in n types t) ty (shape_at types ty) c
+
+abbrev pub payload_at : Table → ℕ → Reader Val
+payload_at types ty = payload_in (suc ty) types ty
+
+unfoldable pub value_at : Table → Reader Val
+value_at types c = do
+  ty ← type_at (length types) c
+  payload_at types ty.0 ty.1
+
+-- ---- code
+
+-- the operator's instruction of this byte, or there is none
+unfoldable pub operator_at : ℕ → Option Op
+operator_at b =
+    if b == 16 then Some Neg else (if b == 17 then Some Add else (if b == 18 then Some Sub else (if b == 19 then Some Mul else (
+    if b == 20 then Some Div else (if b == 21 then Some Mod else (if b == 22 then Some Lt else (if b == 23 then Some Le else (
+    if b == 24 then Some Gt else (if b == 25 then Some Ge else (if b == 26 then Some Not else (if b == 27 then Some Eq else (
+    if b == 28 then Some Ne else (if b == 29 then Some Len else (if b == 30 then Some Head else (if b == 31 then Some Tail else (
+    if b == 32 then Some Last else (if b == 33 then Some Init else (if b == 34 then Some Append else (if b == 35 then Some At else (
+    if b == 36 then Some Member else (if b == 37 then Some Without else None)))))))))))))))))))))
+
+abbrev pub type_operand : ℕ → Ty
+type_operand n = record { 0 = n }
+
+-- the instruction of this byte, which is an operator's without an operand, or there is none
+abbrev pub applied : ℕ → ℕ → Option Op → Reader Instr
+applied part at (Some op) c = Ok (Apply op, c)
+applied part at None c = Err (errors.BadCode part at)
+
+-- the instruction of this byte, as the one of this place of this part
+unfoldable pub instr_of : ℕ → ℕ → ℕ → Reader Instr
+instr_of part at b c =
+    if b == 1 then built Const (short_at c) else (
+    if b == 2 then built Slot (short_at c) else (
+    if b == 3 then built Arg (short_at c) else (
+    if b == 4 then built Store (short_at c) else (
+    if b == 5 then built Jump (short_at c) else (
+    if b == 6 then built JumpIfFalse (short_at c) else (
+    if b == 7 then Ok (Any, c) else (
+    if b == 8 then built (λ n. Pick (type_operand n)) (short_at c) else (
+    if b == 38 then built (λ n. Apply (Make (type_operand n))) (short_at c) else (
+    if b == 39 then built (λ n. Apply (Field n)) (short_at c) else
+    applied part at (operator_at b) c)))))))))
+
+unfoldable pub instr_at : ℕ → List Instr → Reader Instr
+instr_at part before c = do
+  b ← byte_at c
+  instr_of part (length before) b.0 b.1
+
+-- one more part came before
+abbrev pub counted : Spot → Spot
+counted c = record { place = c.place; rest = c.rest; parts = c.parts + 1 }
+
+-- the part, which is valid code
+abbrev pub verified : Verdict → Part → Reader Part
+verified good part c = Ok (part, counted c)
+verified (bad at why) part c = Err (errors.BadCode c.parts at)
+
+-- code over these types, variables and constants, of this kind, over values of these types, that ends with those on the stack
+abbrev pub part_of : Table → List ℕ → List Val → PartKind → List ℕ → List ℕ → List Instr → Part
+part_of types slots consts kind args end instrs =
+    record { code = record { types = types; instrs = instrs; consts = consts }; kind = kind; slots = slots; args = args; result = end }
+
+unfoldable pub instrs_at : Reader (List Instr)
+instrs_at c = do
+  n ← short_at c
+  items_at (instr_at c.parts) [] n.0 n.1
+
+unfoldable pub part_at : Table → List ℕ → List Val → PartKind → List ℕ → List ℕ → Reader Part
+part_at types slots consts kind args end c = do
+  instrs ← instrs_at c
+  verified (scan (part_of types slots consts kind args end instrs.0)) (part_of types slots consts kind args end instrs.0) instrs.1
+
+-- a part that an input has not
+unfoldable pub local_at : Kind → Reader Part → Reader (Option Part)
+local_at Input part c = Ok (None, c)
+local_at Output part c = built Some (part c)
+local_at Internal part c = built Some (part c)
+
+-- ---- components
+
+-- the kind of this byte
+abbrev pub kind_of : ℕ → Option Kind
+kind_of zero = Some Input
+kind_of (suc zero) = Some Output
+kind_of (suc (suc zero)) = Some Internal
+kind_of (suc (suc (suc n))) = None
+
+abbrev pub kind_from : ℕ → Option Kind → Reader Kind
+kind_from place (Some kind) c = Ok (kind, c)
+kind_from place None c = Err (errors.BadTable place)
+
+unfoldable pub kind_at : Reader Kind
+kind_at c = do
+  b ← byte_at c
+  kind_from c.place (kind_of b.0) b.1
+
+unfoldable pub position_at : Table → Reader Domain
+position_at types c = do
+  tag ← byte_at c
+  right (nat_le tag.0 1) c.place
+  if tag.0 == 0 then built every (type_at (length types) tag.1) else built single (value_at types tag.1)
+
+-- what stands of an entry before its code
+pub record Opening : Type 0 where
+  pub kind : Kind
+  pub name : Name
+  pub positions : List Domain
+  pub consts : List Val
+
+-- of the entry that comes after these
+unfoldable pub opening_at : Table → List EntryCode → Reader Opening
+opening_at types before c = do
+  kind ← kind_at c
+  x ← name_at (contains (map (λ e. e.name) before)) kind.1
+  ds ← list_at 0 LIMITS.parameters (λ _. position_at types) x.1
+  consts ← list_at 0 most_places (λ _. value_at types) ds.1
+  Ok (record { kind = kind.0; name = x.0; positions = ds.0; consts = consts.0 }, consts.1)
+
+-- the entry, with its code over variables of these types
+unfoldable pub coded_at : Table → List ℕ → Opening → Reader EntryCode
+coded_at types slots o c = do
+  pre ← local_at o.kind (part_at types slots o.consts Pre (position_types o.positions) (0 ∷ [])) c
+  propose ← local_at o.kind (part_at types slots o.consts Propose [] (parameter_types o.positions)) pre.1
+  effect ← part_at types slots o.consts Eff (position_types o.positions) [] propose.1
+  Ok (record { kind = o.kind; name = o.name; positions = o.positions; pre = pre.0; propose = propose.0; effect = effect.0 }, effect.1)
+
+-- the entry that comes after these, over variables of these types
+unfoldable pub entry_at : Table → List ℕ → List EntryCode → Reader EntryCode
+entry_at types slots before c = do
+  o ← opening_at types before c
+  coded_at types slots o.0 o.1
+
+-- the component that comes after these
+unfoldable pub component_at : Table → List MemberCode → Reader MemberCode
+component_at types before c = do
+  x ← name_at (contains (map (λ m. m.name) before)) c
+  vs ← list_at 0 component_limits.variables (λ _. value_at types) x.1
+  es ← list_at 1 component_limits.entries (entry_at types (map own vs.0)) vs.1
+  Ok (record { name = x.0; start = record { table = types; types = map own vs.0; values = vs.0 }; entries = es.0 }, es.1)
+
+-- ---- programs
+
+-- a program's tables
+abbrev pub program_of : Table → Name → List MemberCode → List Name → Prog
+program_of types x ms hidden = record { types = types; name = x; members = ms; hidden = hidden }
+
+-- the hidden name that comes after these: an output of one of the components has it
+unfoldable pub hidden_at : List MemberCode → List Name → Reader Name
+hidden_at ms before c = name_at (λ x. contains before x || not (is_output_of (program_of [] [] ms []) x)) c
+
+unfoldable pub tables_at : Reader Prog
+tables_at c = do
+  types ← types_at c
+  x ← name_at (contains (all_names types.0)) types.1
+  ms ← list_at 1 LIMITS.components (component_at types.0) x.1
+  hidden ← list_at 0 LIMITS.hidden (hidden_at ms.0) ms.1
+  Ok (program_of types.0 x.0 ms.0 hidden.0, hidden.1)
+
+-- the bytes begin with these ones
+abbrev pub begins : List ℕ → List ℕ → Bool
+begins [] bytes = Bool.true
+begins (b ∷ bs) [] = Bool.false
+begins (b ∷ bs) (c ∷ cs) = (b == c) && begins bs cs
+
+-- behind the mark the version, and then the tables
+unfoldable pub versioned_at : Reader Prog
+versioned_at c = do
+  v ← byte_at c
+  if v.0 == version then tables_at v.1 else Err errors.Version
+
+-- the tables that stand at the front of the bytes, behind the mark and the version
+unfoldable pub read : List ℕ → Outcome Prog
+read bytes = if begins mark bytes then versioned_at (record { place = 4; rest = drop 4 bytes; parts = 0 }) else Err errors.Magic

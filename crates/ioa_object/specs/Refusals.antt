@@ -1,0 +1,45 @@
+-- Why bytes are not the object of a program.
+use Rattle.std.specs.Prelude.{◌≡◌, ◌≢◌, ◌⊎◌, ℕ, ◌≤◌, List, [], ◌∷◌, ◌++◌, length, Err, Result, IsErrOf}
+use Rattle.ioa_compile.specs.Programs.{Prog}
+use Rattle.ioa_compile.specs.Tables.{AreRight, tabled}
+use Rattle.ioa_tree.specs.Components.{Compatible}
+use Rattle.ioa_object.specs.Objects.{IsObject}
+use Rattle.ioa_object.specs.Reading.{read}
+use Rattle.ioa_object.specs.Spelling.{mark, version, object}
+use Rattle.ioa_object.specs.declared.failure.ObjErr.{ObjErr}
+use Rattle.ioa_object.specs.declared.failure.ObjErr.TheVariants as errors
+
+-- the first four bytes are not all there, or others
+abbrev pub HasNoMark : List ℕ → Type 0
+HasNoMark bytes = (rest : List ℕ) → bytes ≢ mark ++ rest
+
+-- they are there, and another version's byte behind them
+abbrev pub HasOtherVersion : List ℕ → Type 0
+HasOtherVersion bytes = (v : ℕ) × (rest : List ℕ) × (v ≢ version) × (bytes ≡ mark ++ (v ∷ rest))
+
+-- an object, and more bytes behind it
+abbrev pub GoesOn : List ℕ → Type 0
+GoesOn bytes = (front more : List ℕ) × (p : Prog) × IsObject front p × (more ≢ []) × (bytes ≡ front ++ more)
+
+-- at least the mark, and not all, of an object
+abbrev pub IsCut : List ℕ → Type 0
+IsCut bytes = (more : List ℕ) × (p : Prog) × IsObject (bytes ++ more) p × (more ≢ []) × (4 ≤ length bytes)
+
+-- the bytes begin with tables that are right, but two of their components clash
+abbrev pub Clashes : List ℕ → Type 0
+Clashes bytes = (p : Prog) × (rest : List ℕ) × AreRight p × (bytes ≡ object p ++ rest) × (Compatible (tabled p) → ⊥)
+
+-- this is why: of what may stand at each place, the first thing that is wrong, where the bytes end inside an item, or an item is wrong
+abbrev pub IsRefused : List ℕ → ObjErr → Type 0
+IsRefused bytes errors.Magic = HasNoMark bytes
+IsRefused bytes errors.Version = HasOtherVersion bytes
+IsRefused bytes errors.Truncated = read bytes ≡ Err errors.Truncated
+IsRefused bytes errors.Trailing = GoesOn bytes
+IsRefused bytes (errors.BadTable byte) = read bytes ≡ Err (errors.BadTable byte)
+IsRefused bytes (errors.BadCode part at) = read bytes ≡ Err (errors.BadCode part at)
+IsRefused bytes errors.Clash = Clashes bytes
+IsRefused bytes errors.OutOfMemory = Unit {0}
+
+-- the answer is this refusal, unless memory ran out
+abbrev pub IsRefusal : {A : Type 0} → Result A ObjErr → ObjErr → Type 0
+IsRefusal result e = IsErrOf result e ⊎ IsErrOf result errors.OutOfMemory

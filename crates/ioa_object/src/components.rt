@@ -1,0 +1,264 @@
+//! Components and their entries.
+
+ghost use Rattle.std.specs.Prelude.{◌≡◌, IfOk, map};
+ghost use Rattle.std.specs.String.{string_bytes};
+ghost use Rattle.ioa_value.specs.Plain.{number, plain};
+ghost use Rattle.ioa_value.specs.Positions.{domain_of};
+ghost use Rattle.ioa_value.specs.Table.{contains};
+ghost use Rattle.ioa_value.specs.Typing.{own, OwnTypes};
+ghost use Rattle.ioa_value.specs.declared.limits.TheConstants.{LIMITS as most};
+ghost use Rattle.ioa_compose.specs.Fine.{component_limits};
+ghost use Rattle.ioa_compile.specs.Shown.{entry_code, member_code};
+ghost use Rattle.ioa_compile.specs.Tables as tables;
+ghost use Rattle.ioa_object.specs.Openings.{opening};
+ghost use Rattle.ioa_object.specs.Reading as spec;
+ghost use Rattle.ioa_object.specs.Reading.{Reads};
+
+use crate::cursor::Cursor;
+use crate::failure::ObjErr;
+use crate::parts::{local_part, part};
+use crate::values::{value, values};
+use ioa_code::{Env, PartKind};
+use ioa_compile::{COMPONENT_LIMITS, Entry, MOST_PLACES, Member};
+use ioa_node::from_values;
+use ioa_tree::Kind;
+use ioa_value::{LIMITS, OutOfMemory, Position, Ty, Types, Value};
+use std::alloc::Global;
+
+/// The components of a program over these types.
+pub(crate) fn components(cursor: &mut Cursor<'_>, types: &Types) -> Result<Vec<Member>, ObjErr>
+    ensures { Reads (λ v. map member_code v.items) (spec.list_at 1 most.components (spec.component_at types.now) cursor.old) result cursor.new }
+{
+    let count = cursor.count(1, LIMITS.components)?;
+    let mut found = Vec::new(cursor.alloc());
+    for _ in 0..count {
+        found.push(component(cursor, types, &found)?)?;
+    }
+    Ok(found)
+}
+
+/// The component that comes after these.
+#[tactic(auto, unfolding(crate::specs::Reading::component_at, crate::specs::Reading::name_at))]
+fn component(cursor: &mut Cursor<'_>, types: &Types, before: &[Member]) -> Result<Member, ObjErr>
+    ensures { Reads member_code (spec.component_at types.now (map member_code before.now) cursor.old) result cursor.new }
+{
+    let alloc = cursor.alloc();
+    let name = cursor.name()?;
+    if is_member(before, name.text) {
+        return Err(ObjErr::BadTable(name.at));
+    }
+    let starts = values(cursor, types, COMPONENT_LIMITS.variables)?;
+    let slots = types_of(alloc, &starts)?;
+    let entries = entries(cursor, types, &slots)?;
+    Ok(Member {
+        name: text(alloc, name.text)?,
+        start: from_values(alloc, types, &slots, &starts)?,
+        entries,
+    })
+}
+
+/// A name that is kept.
+fn text(alloc: Global, name: &str) -> Result<String, OutOfMemory>
+    ensures { IfOk result (λ s. string_bytes s ≡ name.now) }
+{
+    Ok(String::from_str(alloc, name)?)
+}
+
+/// The types of values.
+fn types_of(alloc: Global, values: &[Value]) -> Result<Vec<Ty>, OutOfMemory>
+    ensures { IfOk result (λ found. map number found.items ≡ map own (map plain values.now)) }
+{
+    let mut found = Vec::new(alloc);
+    for value in values {
+        found.push(value.ty())?;
+    }
+    Ok(found)
+}
+
+/// Whether one of the components has this name.
+fn is_member(members: &[Member], name: &str) -> bool
+    ensures { result ≡ contains (map (λ m. m.name) (map member_code members.now)) name.now }
+{
+    for i in 0..members.len() {
+        if members[i].name.as_str() == name {
+            return true;
+        }
+    }
+    false
+}
+
+/// The entries of a component, over variables of these types.
+#[tactic(auto, unfolding(crate::specs::Reading::list_at))]
+fn entries(cursor: &mut Cursor<'_>, types: &Types, slots: &[Ty]) -> Result<Vec<Entry>, ObjErr>
+    ensures { Reads (λ v. map entry_code v.items) (spec.list_at 1 component_limits.entries (spec.entry_at types.now (map number slots.now)) cursor.old) result cursor.new }
+{
+    let count = cursor.count(1, COMPONENT_LIMITS.entries)?;
+    let mut found = Vec::new(cursor.alloc());
+    for _ in 0..count {
+        found.push(entry(cursor, types, slots, &found)?)?;
+    }
+    Ok(found)
+}
+
+/// What an entry is before its code.
+#[derive(Drop)]
+struct Front {
+    kind: Kind,
+    name: String,
+    positions: Vec<Position>,
+    consts: Vec<Value>,
+}
+
+/// The entry that comes after these.
+#[tactic(auto, unfolding(crate::specs::Reading::entry_at))]
+fn entry(
+    cursor: &mut Cursor<'_>,
+    types: &Types,
+    slots: &[Ty],
+    before: &[Entry],
+) -> Result<Entry, ObjErr>
+    ensures { Reads entry_code (spec.entry_at types.now (map number slots.now) (map entry_code before.now) cursor.old) result cursor.new }
+{
+    let front = front_of(cursor, types, before)?;
+    coded(cursor, types, slots, front)
+}
+
+/// What the entry is that comes after these, before its code.
+#[tactic(auto, unfolding(crate::specs::Reading::opening_at, crate::specs::Reading::name_at))]
+fn front_of(cursor: &mut Cursor<'_>, types: &Types, before: &[Entry]) -> Result<Front, ObjErr>
+    ensures { Reads opening (spec.opening_at types.now (map entry_code before.now) cursor.old) result cursor.new }
+{
+    let kind = kind(cursor)?;
+    let name = cursor.name()?;
+    if is_entry(before, name.text) {
+        return Err(ObjErr::BadTable(name.at));
+    }
+    let positions = positions(cursor, types)?;
+    let consts = values(cursor, types, MOST_PLACES)?;
+    Ok(Front {
+        kind,
+        name: text(cursor.alloc(), name.text)?,
+        positions,
+        consts,
+    })
+}
+
+/// Whether one of the entries has this name.
+fn is_entry(entries: &[Entry], name: &str) -> bool
+    ensures { result ≡ contains (map (λ e. e.name) (map entry_code entries.now)) name.now }
+{
+    for i in 0..entries.len() {
+        if entries[i].name.as_str() == name {
+            return true;
+        }
+    }
+    false
+}
+
+/// The kind of an entry.
+#[tactic(auto, unfolding(crate::specs::Reading::kind_at))]
+fn kind(cursor: &mut Cursor<'_>) -> Result<Kind, ObjErr>
+    ensures { Reads (λ kind. kind) (spec.kind_at cursor.old) result cursor.new }
+{
+    let at = cursor.place();
+    match cursor.byte()? {
+        0 => Ok(Kind::Input),
+        1 => Ok(Kind::Output),
+        2 => Ok(Kind::Internal),
+        _ => Err(ObjErr::BadTable(at)),
+    }
+}
+
+/// The positions of an entry.
+fn positions(cursor: &mut Cursor<'_>, types: &Types) -> Result<Vec<Position>, ObjErr>
+    ensures { Reads (λ v. map domain_of v.items) (spec.list_at 0 most.parameters (λ _. spec.position_at types.now) cursor.old) result cursor.new }
+{
+    let count = cursor.count(0, LIMITS.parameters)?;
+    let mut found = Vec::new(cursor.alloc());
+    for _ in 0..count {
+        found.push(position(cursor, types)?)?;
+    }
+    Ok(found)
+}
+
+/// A position: any value of a type, or a single value.
+#[tactic(auto, unfolding(crate::specs::Reading::position_at))]
+fn position(cursor: &mut Cursor<'_>, types: &Types) -> Result<Position, ObjErr>
+    ensures { Reads domain_of (spec.position_at types.now cursor.old) result cursor.new }
+{
+    let at = cursor.place();
+    match cursor.byte()? {
+        0 => Ok(Position::Typed(cursor.ty(types.len())?)),
+        1 => Ok(Position::Constant(value(cursor, types)?)),
+        _ => Err(ObjErr::BadTable(at)),
+    }
+}
+
+/// The entry with its code, over variables of these types.
+#[tactic(auto, unfolding(crate::specs::Reading::coded_at))]
+fn coded(
+    cursor: &mut Cursor<'_>,
+    types: &Types,
+    slots: &[Ty],
+    front: Front,
+) -> Result<Entry, ObjErr>
+    requires { OwnTypes types.now (map plain front.consts.items) }
+    ensures { Reads entry_code (spec.coded_at types.now (map number slots.now) (opening front) cursor.old) result cursor.new }
+{
+    let alloc = cursor.alloc();
+    let arguments = position_types(alloc, &front.positions)?;
+    let parameters = parameter_types(alloc, &front.positions)?;
+    let pre = Env {
+        types,
+        kind: PartKind::Pre,
+        slots,
+        arguments: &arguments,
+        result: &[Ty::BOOL],
+    };
+    let propose = Env {
+        types,
+        kind: PartKind::Propose,
+        slots,
+        arguments: &[],
+        result: &parameters,
+    };
+    let effect = Env {
+        types,
+        kind: PartKind::Eff,
+        slots,
+        arguments: &arguments,
+        result: &[],
+    };
+    Ok(Entry {
+        pre: local_part(cursor, front.kind, &front.consts, &pre)?,
+        propose: local_part(cursor, front.kind, &front.consts, &propose)?,
+        effect: part(cursor, &front.consts, &effect)?,
+        kind: front.kind,
+        name: front.name,
+        positions: front.positions,
+    })
+}
+
+/// The types of what stands in positions, in order.
+fn position_types(alloc: Global, positions: &[Position]) -> Result<Vec<Ty>, OutOfMemory>
+    ensures { IfOk result (λ found. map number found.items ≡ tables.position_types (map domain_of positions.now)) }
+{
+    let mut found = Vec::new(alloc);
+    for position in positions {
+        found.push(position.ty())?;
+    }
+    Ok(found)
+}
+
+/// The types of the parameters among positions, in order.
+fn parameter_types(alloc: Global, positions: &[Position]) -> Result<Vec<Ty>, OutOfMemory>
+    ensures { IfOk result (λ found. map number found.items ≡ tables.parameter_types (map domain_of positions.now)) }
+{
+    let mut found = Vec::new(alloc);
+    for position in positions {
+        if let Position::Typed(ty) = position {
+            found.push(*ty)?;
+        }
+    }
+    Ok(found)
+}

@@ -1,0 +1,185 @@
+//! A place in some bytes, from which they are read.
+
+ghost use Rattle.std.specs.Prelude.{◌≡◌, ◌<◌, ◌≤◌, length};
+ghost use Rattle.ioa_value.specs.Plain.{number as type_number, plain};
+ghost use Rattle.ioa_object.specs.Reading as spec;
+ghost use Rattle.ioa_object.specs.Reading.{Reads, counted};
+
+use crate::failure::ObjErr;
+use ioa_value::{LIMITS, Ty, Value, is_name};
+use std::alloc::Global;
+use std::marker::Model;
+
+/// What is left to read of some bytes, and how many parts of code came before.
+#[derive(Drop)]
+pub(crate) struct Cursor<'a> {
+    alloc: Global,
+    bytes: &'a [u8],
+    place: usize,
+    parts: usize,
+}
+
+impl<'a> Model for Cursor<'a> {
+    ghost use Rattle.ioa_object.specs.Spots.{Spot, coded_spot};
+
+    ghost Value = { Spot };
+
+    ghost coded = { coded_spot };
+
+    ghost use Rattle.std.specs.Prelude.{◌≤◌, drop, length};
+
+    ghost view = { λ c. record { place = c.place; rest = drop c.place c.bytes.now; parts = c.parts } };
+
+    ghost invariant = { λ c. (c.place ≤ length c.bytes.now) × (c.parts ≤ c.place) };
+}
+
+/// A legal name, and the place of its first letter.
+#[derive(Clone, Copy)]
+pub(crate) struct Named<'a> {
+    pub(crate) text: &'a str,
+    pub(crate) at: usize,
+}
+
+impl<'a> Cursor<'a> {
+    /// At this place of some bytes, which they have. No part came before.
+    pub fn new(alloc: Global, bytes: &'a [u8], place: usize) -> Cursor<'a>
+        requires { place ≤ length bytes.now }
+        ensures place { result.place ≡ place }
+        ensures parts { result.parts ≡ 0 }
+    {
+        Cursor {
+            alloc,
+            bytes,
+            place,
+            parts: 0,
+        }
+    }
+
+    pub fn alloc(&self) -> Global {
+        self.alloc
+    }
+
+    /// How many bytes came before.
+    pub fn place(&self) -> usize
+        ensures { result ≡ self.now.place }
+    {
+        self.place
+    }
+
+    /// How many bytes are left.
+    pub fn left(&self) -> usize
+        ensures { result ≡ length self.now.rest }
+    {
+        self.bytes.len() - self.place
+    }
+
+    /// How many parts of code came before.
+    pub fn parts(&self) -> usize
+        ensures { result ≡ self.now.parts }
+    {
+        self.parts
+    }
+
+    /// One more part came before.
+    pub fn count_part(&mut self)
+        requires { self.old.parts < self.old.place }
+        ensures { self.new ≡ counted self.old }
+    {
+        self.parts += 1;
+    }
+
+    /// So many bytes.
+    #[tactic(auto, unfolding(crate::specs::Reading::bytes_at))]
+    pub fn bytes(&mut self, count: usize) -> Result<&'a [u8], ObjErr>
+        ensures { Reads (λ bytes. bytes.now) (spec.bytes_at count self.old) result self.new }
+    {
+        if self.left() < count {
+            return Err(ObjErr::Truncated);
+        }
+        let start = self.place;
+        self.place += count;
+        Ok(&self.bytes[start..self.place])
+    }
+
+    /// The next byte.
+    #[tactic(auto, unfolding(crate::specs::Reading::byte_at))]
+    pub fn byte(&mut self) -> Result<u8, ObjErr>
+        ensures { Reads (λ b. b) (spec.byte_at self.old) result self.new }
+    {
+        match self.bytes.get(self.place) {
+            Some(byte) => {
+                self.place += 1;
+                Ok(*byte)
+            }
+            None => Err(ObjErr::Truncated),
+        }
+    }
+
+    /// A number of 16 bits.
+    #[tactic(auto, unfolding(crate::specs::Reading::short_at))]
+    pub fn short(&mut self) -> Result<u16, ObjErr>
+        ensures { Reads (λ n. n) (spec.short_at self.old) result self.new }
+    {
+        let found = self.bytes(2)?;
+        Ok(u16::from_le_bytes([found[0], found[1]]))
+    }
+
+    /// A whole number of 64 bits.
+    #[tactic(auto, unfolding(crate::specs::Reading::long_at))]
+    pub fn long(&mut self) -> Result<Value, ObjErr>
+        ensures { Reads plain (spec.long_at self.old) result self.new }
+    {
+        let b = self.bytes(8)?;
+        let number = i64::from_le_bytes([b[0], b[1], b[2], b[3], b[4], b[5], b[6], b[7]]);
+        Ok(Value::Num(number))
+    }
+
+    /// A number from `least` to `most`.
+    #[tactic(auto, unfolding(crate::specs::Reading::count_at))]
+    pub fn count(&mut self, least: usize, most: usize) -> Result<usize, ObjErr>
+        ensures { Reads (λ n. n) (spec.count_at least most self.old) result self.new }
+    {
+        let at = self.place;
+        let count = self.short()? as usize;
+        if least <= count && count <= most {
+            Ok(count)
+        } else {
+            Err(ObjErr::BadTable(at))
+        }
+    }
+
+    /// The number of one of so many types.
+    #[tactic(auto, unfolding(crate::specs::Reading::type_at))]
+    pub fn ty(&mut self, count: usize) -> Result<Ty, ObjErr>
+        ensures { Reads type_number (spec.type_at count self.old) result self.new }
+    {
+        let at = self.place;
+        let ty = self.short()?;
+        if (ty as usize) < count {
+            Ok(Ty(ty))
+        } else {
+            Err(ObjErr::BadTable(at))
+        }
+    }
+
+    /// A legal name.
+    #[tactic(auto, unfolding(crate::specs::Reading::named_at))]
+    pub fn name(&mut self) -> Result<Named<'a>, ObjErr>
+        ensures { Reads (λ x. (x.text.now, x.at)) (spec.named_at self.old) result self.new }
+    {
+        let at = self.place;
+        let length = self.byte()? as usize;
+        if length < 1 || LIMITS.name < length {
+            return Err(ObjErr::BadTable(at));
+        }
+        let at = self.place;
+        let word = self.bytes(length)?;
+        if !is_name(word) {
+            return Err(ObjErr::BadTable(at));
+        }
+        match str::from_utf8(word) {
+            Ok(text) => Ok(Named { text, at }),
+            Err(_) => unreachable!(),
+        }
+    }
+}

@@ -1,0 +1,72 @@
+//! Parts of code, which are verified.
+
+ghost use Rattle.std.specs.Prelude.{◌≡◌, map};
+ghost use Rattle.ioa_value.specs.Plain.{number, plain};
+ghost use Rattle.ioa_value.specs.Typing.{OwnTypes};
+ghost use Rattle.ioa_object.specs.Reading as spec;
+ghost use Rattle.ioa_object.specs.Reading.{Reads};
+
+use crate::cursor::Cursor;
+use crate::failure::ObjErr;
+use crate::instructions::instruction;
+use ioa_code::{Code, CodeErr, Env, Instr, Verified, verify};
+use ioa_tree::Kind;
+use ioa_value::{Value, copies};
+
+/// The part of an entry that an input has not.
+#[tactic(auto, unfolding(crate::specs::Reading::local_at))]
+pub(crate) fn local_part(
+    cursor: &mut Cursor<'_>,
+    kind: Kind,
+    consts: &[Value],
+    env: &Env<'_>,
+) -> Result<Option<Verified>, ObjErr>
+    requires { OwnTypes env.now.types.now (map plain consts.now) }
+    ensures { Reads (λ part. part) (spec.local_at kind (spec.part_at env.now.types.now (map number env.now.slots.now) (map plain consts.now) env.now.kind (map number env.now.arguments.now) (map number env.now.result.now)) cursor.old) result cursor.new }
+{
+    match kind {
+        Kind::Input => Ok(None),
+        Kind::Output | Kind::Internal => Ok(Some(part(cursor, consts, env)?)),
+    }
+}
+
+/// A part of code over these constants, verified.
+#[tactic(auto, unfolding(crate::specs::Reading::part_at))]
+pub(crate) fn part(
+    cursor: &mut Cursor<'_>,
+    consts: &[Value],
+    env: &Env<'_>,
+) -> Result<Verified, ObjErr>
+    requires { OwnTypes env.now.types.now (map plain consts.now) }
+    ensures { Reads (λ v. v) (spec.part_at env.now.types.now (map number env.now.slots.now) (map plain consts.now) env.now.kind (map number env.now.arguments.now) (map number env.now.result.now) cursor.old) result cursor.new }
+{
+    let alloc = cursor.alloc();
+    let instrs = instructions(cursor)?;
+    let code = Code {
+        instrs,
+        consts: copies(alloc, consts)?,
+    };
+    match verify(alloc, code, env) {
+        Ok(verified) => {
+            cursor.count_part();
+            Ok(verified)
+        }
+        Err(CodeErr::Bad { at, .. }) => Err(ObjErr::BadCode(cursor.parts(), at)),
+        Err(CodeErr::OutOfMemory) => Err(ObjErr::OutOfMemory),
+    }
+}
+
+/// The instructions of a part.
+#[tactic(auto, unfolding(crate::specs::Reading::instrs_at, crate::specs::Reading::instr_at))]
+fn instructions(cursor: &mut Cursor<'_>) -> Result<Vec<Instr>, ObjErr>
+    ensures { Reads (λ v. v.items) (spec.instrs_at cursor.old) result cursor.new }
+{
+    let count = cursor.short()? as usize;
+    let mut found = Vec::new(cursor.alloc());
+    for at in 0..count {
+        let byte = cursor.byte()?;
+        let part = cursor.parts();
+        found.push(instruction(cursor, part, at, byte)?)?;
+    }
+    Ok(found)
+}

@@ -1,0 +1,175 @@
+//! Bytes as programs.
+
+ghost use Rattle.std.specs.Prelude.{◌≡◌, ◌↔◌, ◌++◌, ◌&&◌, ℕ, [], List, Some, IfOk, IfErr, IsErrOf, IsTrue, map};
+ghost use Rattle.std.specs.List.{list_any};
+ghost use Rattle.std.specs.Str.{bytes_eq};
+ghost use Rattle.ioa_tree.specs.Components.{is_output as is_output_kind};
+ghost use Rattle.std.specs.String.{string_bytes};
+ghost use Rattle.ioa_value.specs.Table.{all_names, contains};
+ghost use Rattle.ioa_value.specs.declared.limits.TheConstants.{LIMITS as most};
+ghost use Rattle.ioa_compile.specs.Given.{prog_of};
+ghost use Rattle.ioa_compile.specs.Programs.{Prog};
+ghost use Rattle.ioa_compile.specs.Shown.{entry_code, member_code};
+ghost use Rattle.ioa_compile.specs.Tables.{is_output_of};
+ghost use Rattle.ioa_object.specs.Objects.{IsObject};
+ghost use Rattle.ioa_object.specs.Reading as spec;
+ghost use Rattle.ioa_object.specs.Refusals.{HasNoMark, HasOtherVersion, GoesOn, IsCut, IsRefused, IsRefusal};
+ghost use Rattle.ioa_object.specs.Spelling.{mark};
+ghost use Rattle.ioa_object.specs.declared.failure.ObjErr.{ObjErr};
+
+use crate::components::components;
+use crate::cursor::Cursor;
+use crate::failure::ObjErr;
+use crate::mark::{MARK, VERSION};
+use crate::types::types;
+use ioa_compile::{Entry, Member, Program, TableErr, Tables};
+use ioa_tree::Kind;
+use ioa_value::{LIMITS, Types};
+use std::alloc::Global;
+
+/// Whether the bytes begin as an object does.
+fn is_marked(bytes: &[u8]) -> bool
+    ensures { IsTrue result ↔ ((rest : List ℕ) × (bytes.now ≡ mark ++ rest)) }
+{
+    match bytes {
+        [0x7F, 0x49, 0x4F, 0x41, ..] => true,
+        _ => false,
+    }
+}
+
+/// The program whose object the bytes are. Its code is verified.
+///
+/// No more memory is taken than the bytes that are there ask for, whatever their numbers say.
+///
+/// # Errors
+/// - `Magic`, exactly where the first four bytes are not all there, or are others.
+/// - `Version`, exactly where they are, and another version's byte behind them.
+/// - `Truncated`, where the bytes end inside an item, and so where they are a beginning of an object, of four bytes or more.
+/// - `BadTable`, where a tag, a number, a name or a payload may not stand in its place: the first byte of it.
+/// - `BadCode`, where a part of code is not valid: the part's number, and the first place at which it is not, or which has an unknown
+///   instruction.
+/// - `Clash`, where all this is right, and two components clash.
+/// - `Trailing`, exactly where an object ends before the bytes do.
+/// - `OutOfMemory`.
+pub fn read_object(alloc: Global, bytes: &[u8]) -> Result<Program, ObjErr>
+    ensures found { IfOk result (IsObject bytes.now) }
+    ensures only { (p : Prog) → IsObject bytes.now p → IfErr result (λ e. e ≡ ObjErr.OutOfMemory) }
+    ensures magic { IsErrOf result ObjErr.Magic ↔ HasNoMark bytes.now }
+    ensures version { IsErrOf result ObjErr.Version ↔ HasOtherVersion bytes.now }
+    ensures cut { IsCut bytes.now → IsRefusal result ObjErr.Truncated }
+    ensures trailing { GoesOn bytes.now → IsRefusal result ObjErr.Trailing }
+    ensures refused { IfErr result (IsRefused bytes.now) }
+{
+    if !is_marked(bytes) {
+        return Err(ObjErr::Magic);
+    }
+    let mut cursor = Cursor::new(alloc, bytes, MARK.len());
+    if cursor.byte()? != VERSION {
+        return Err(ObjErr::Version);
+    }
+    let tables = tables(&mut cursor)?;
+    let program = match Program::from_right(alloc, tables) {
+        Ok(program) => program,
+        Err(TableErr::Clash(..)) => return Err(ObjErr::Clash),
+        Err(TableErr::OutOfMemory) => return Err(ObjErr::OutOfMemory),
+        Err(TableErr::Table) => unreachable!(),
+    };
+    if cursor.left() > 0 {
+        return Err(ObjErr::Trailing);
+    }
+    Ok(program)
+}
+
+/// The tables of a program.
+#[tactic(auto, unfolding(crate::specs::Reading::tables_at))]
+fn tables(cursor: &mut Cursor<'_>) -> Result<Tables, ObjErr>
+    ensures { spec.Reads prog_of (spec.tables_at cursor.old) result cursor.new }
+{
+    let types = types(cursor)?;
+    let name = name(cursor, &types)?;
+    let members = components(cursor, &types)?;
+    let hidden = hidden_names(cursor, &members)?;
+    Ok(Tables {
+        types,
+        name,
+        members,
+        hidden,
+    })
+}
+
+/// The composition's name, which no type gives.
+#[tactic(auto, unfolding(crate::specs::Reading::name_at))]
+fn name(cursor: &mut Cursor<'_>, types: &Types) -> Result<String, ObjErr>
+    ensures { spec.Reads string_bytes (spec.name_at (contains (all_names types.now)) cursor.old) result cursor.new }
+{
+    let name = cursor.name()?;
+    if types.named(name.text).is_some() || types.constant(name.text).is_some() {
+        return Err(ObjErr::BadTable(name.at));
+    }
+    Ok(String::from_str(cursor.alloc(), name.text)?)
+}
+
+/// The hidden names, each of an output.
+#[tactic(auto, unfolding(crate::specs::Reading::list_at))]
+fn hidden_names(cursor: &mut Cursor<'_>, members: &[Member]) -> Result<Vec<String>, ObjErr>
+    ensures { spec.Reads (λ v. map string_bytes v.items) (spec.list_at 0 most.hidden (spec.hidden_at (map member_code members.now)) cursor.old) result cursor.new }
+{
+    let count = cursor.count(0, LIMITS.hidden)?;
+    let mut found = Vec::new(cursor.alloc());
+    for _ in 0..count {
+        found.push(hidden_name(cursor, members, &found)?)?;
+    }
+    Ok(found)
+}
+
+/// The hidden name that comes after these.
+#[tactic(auto, unfolding(crate::specs::Reading::hidden_at, crate::specs::Reading::name_at))]
+fn hidden_name(
+    cursor: &mut Cursor<'_>,
+    members: &[Member],
+    before: &[String],
+) -> Result<String, ObjErr>
+    ensures { spec.Reads string_bytes (spec.hidden_at (map member_code members.now) (map string_bytes before.now) cursor.old) result cursor.new }
+{
+    let name = cursor.name()?;
+    if is_among(before, name.text) || !is_output(members, name.text) {
+        return Err(ObjErr::BadTable(name.at));
+    }
+    Ok(String::from_str(cursor.alloc(), name.text)?)
+}
+
+/// Whether the name is one of these.
+fn is_among(names: &[String], name: &str) -> bool
+    ensures { result ≡ contains (map string_bytes names.now) name.now }
+{
+    for i in 0..names.len() {
+        if names[i].as_str() == name {
+            return true;
+        }
+    }
+    false
+}
+
+/// Whether an output of one of the components has this name.
+fn is_output(members: &[Member], name: &str) -> bool
+    ensures { result ≡ is_output_of (spec.program_of [] [] (map member_code members.now) []) name.now }
+{
+    for member in members {
+        if has_output(&member.entries, name) {
+            return true;
+        }
+    }
+    false
+}
+
+/// Whether one of the entries is an output of this name.
+fn has_output(entries: &[Entry], name: &str) -> bool
+    ensures { result ≡ list_any (λ e. is_output_kind (Some e.kind) && bytes_eq e.name name.now) (map entry_code entries.now) }
+{
+    for entry in entries {
+        if entry.kind == Kind::Output && entry.name.as_str() == name {
+            return true;
+        }
+    }
+    false
+}
