@@ -23,3 +23,4 @@ pub mod Meant
 pub mod Clashing
 pub mod Outlined
 pub mod HostEntries
+pub mod Given

@@ -21,6 +21,7 @@ use Rattle.ioa_tree.specs.declared.tree.Kind.TheVariants.{Input, Output, Interna
 use Rattle.ioa_tree.specs.Components.{Component, Compatible, is_output}
 use Rattle.ioa_tree.specs.WellFormed.{distinct}
 use Rattle.ioa_compose.specs.Fine.{component_limits}
+use Rattle.ioa_compile.specs.declared.limits.TheConstants.{MOST_PLACES}
 use Rattle.ioa_compile.specs.Programs.{EntryCode, MemberCode, Prog}
 
 -- the action is in the entry
@@ -62,10 +63,6 @@ parameter_types [] = []
 parameter_types (every ty ∷ ds) = ty ∷ parameter_types ds
 parameter_types (single v ∷ ds) = parameter_types ds
 
--- the places of a part's instructions, and of an entry's constants, fit 16 bits
-abbrev pub most_places : ℕ
-most_places = 65535
-
 -- the part is verified code of this kind, over the component's types and variables and values of these types, and ends with
 -- values of those types on the stack
 pub record IsPart (m : MemberCode) (k : PartKind) (values end : List ℕ) (part : Part) : Type 0 where
@@ -75,7 +72,7 @@ pub record IsPart (m : MemberCode) (k : PartKind) (values end : List ℕ) (part 
   pub result : part.result ≡ end
   pub slots : part.slots ≡ m.start.types
   pub args : part.args ≡ values
-  pub short : length part.code.instrs ≤ most_places
+  pub short : length part.code.instrs ≤ MOST_PLACES
 
 -- over the values of the entry's positions
 abbrev pub IsPartOf : MemberCode → EntryCode → PartKind → List ℕ → Part → Type 0
@@ -109,11 +106,15 @@ pub record IsEntry (m : MemberCode) (e : EntryCode) : Type 0 where
   pub effect : IsPartOf m e Eff [] e.effect
   pub consts : IfSome e.pre (λ part. part.code.consts ≡ e.effect.code.consts)
   pub same_consts : IfSome e.propose (λ part. part.code.consts ≡ e.effect.code.consts)
-  pub few_consts : length e.effect.code.consts ≤ most_places
+  pub few_consts : length e.effect.code.consts ≤ MOST_PLACES
 
 abbrev pub AreEntries : MemberCode → List EntryCode → Type 0
 AreEntries m [] = Unit {0}
 AreEntries m (e ∷ es) = IsEntry m e × AreEntries m es
+
+-- some names, no more than so many, and no two of them alike
+abbrev pub AreFew : ℕ → List Name → Type 0
+AreFew most ns = (0 < length ns) × (length ns ≤ most) × IsTrue (distinct ns)
 
 -- the component's name is legal, it has these types, its variables start with values of theirs, and it has an entry, and entries of
 -- different names
@@ -131,9 +132,17 @@ abbrev pub AreMembers : Table → List MemberCode → Type 0
 AreMembers types [] = Unit {0}
 AreMembers types (m ∷ ms) = IsMember types m × AreMembers types ms
 
+-- one of these entries is an output of this name
+abbrev pub has_output : List EntryCode → Name → Bool
+has_output es x = list_any (λ e. is_output (Some e.kind) && bytes_eq e.name x) es
+
+-- one of these components has an output of this name
+abbrev pub have_output : List MemberCode → Name → Bool
+have_output ms x = list_any (λ m. has_output m.entries x) ms
+
 -- an output of one of the components has this name
 abbrev pub is_output_of : Prog → Name → Bool
-is_output_of p x = list_any (λ m. list_any (λ e. is_output (Some e.kind) && bytes_eq e.name x) m.entries) p.members
+is_output_of p x = have_output p.members x
 
 -- what a program keeps, with this of its components together: its name is legal and none that a type gives, it has a component, the
 -- components have one table of types and different names, and the hidden names are different outputs'

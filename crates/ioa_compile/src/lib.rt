@@ -1,7 +1,6 @@
 //! From compositions to programs: tables, start states and verified code.
 #![tactic(auto)]
 
-mod clashes;
 mod compatibility;
 mod compiler;
 mod emitter;
@@ -9,6 +8,7 @@ mod entries;
 mod extents;
 mod laws;
 mod limits;
+mod named;
 mod places;
 mod program;
 mod proposals;
@@ -23,7 +23,9 @@ mod types;
 pub use compatibility::clash_among;
 pub use compiler::compile;
 pub use laws::entries_are_the_hosts;
-pub use limits::{COMPONENT_LIMITS, MOST_PLACES};
+pub use limits::MOST_PLACES;
+pub use named::{Named, is_given, is_named};
 pub use program::Program;
+pub use rightness::is_output;
 pub use table::{Entry, Member};
 pub use tables::{TableErr, Tables};

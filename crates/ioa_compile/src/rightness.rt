@@ -1,27 +1,28 @@
 //! Whether tables are right: what a program keeps, but for the compatibility of its components.
 
 ghost use Rattle.std.specs.Prelude.{◌≡◌, ◌↔◌, ◌<◌, ◌≤◌, ◌&&◌, [], not, All, IfOk, IfSome, IsTrue, Some, length, map};
-ghost use Rattle.std.specs.List.{list_all, list_any};
-ghost use Rattle.std.specs.Str.{bytes_eq};
+ghost use Rattle.std.specs.List.{list_all};
 ghost use Rattle.std.specs.String.{string_bytes};
 ghost use Rattle.ioa_value.specs.Names as names;
 ghost use Rattle.ioa_value.specs.Plain.{number, plain};
 ghost use Rattle.ioa_value.specs.Positions.{IsDomain, domain_of};
-ghost use Rattle.ioa_value.specs.Table.{all_names, contains, distinct};
+ghost use Rattle.ioa_value.specs.Table.{AreTypes, all_names, contains, distinct};
 ghost use Rattle.ioa_value.specs.declared.limits.TheConstants.{LIMITS as most};
 ghost use Rattle.ioa_code.specs.declared.instr.PartKind.TheVariants as kinds;
-ghost use Rattle.ioa_tree.specs.Components as components;
 ghost use Rattle.ioa_compose.specs.Fine.{component_limits};
 ghost use Rattle.ioa_compile.specs.Given.{prog_of};
 ghost use Rattle.ioa_compile.specs.Shown.{entry_code, member_code};
-ghost use Rattle.ioa_compile.specs.Tables.{AreRight, AreMembers, AreEntries, IsMember, IsEntry, IsPart, IsPartOf, HasLocal, HasPre, HasPropose, is_output_of};
+ghost use Rattle.ioa_compile.specs.Tables.{AreFew, AreRight, AreMembers, AreEntries, IsMember, IsEntry, IsPart, IsPartOf, HasLocal, HasPre, HasPropose, have_output, is_output_of};
+ghost use Rattle.ioa_compile.specs.Tables as tables;
 
-use crate::limits::{COMPONENT_LIMITS, MOST_PLACES};
+use crate::limits::MOST_PLACES;
+use crate::named::{are_distinct, are_few, is_given};
 use crate::same::{Alike, are_alike};
 use crate::table::{Entry, Member};
 use crate::tables::Tables;
 use crate::types::{parameter_types, position_types};
 use ioa_code::{PartKind, Verified};
+use ioa_compose::COMPONENT_LIMITS;
 use ioa_tree::Kind;
 use ioa_value::{LIMITS, OutOfMemory, Position, Ty, Types, Value, has_type, is_name};
 use std::alloc::Global;
@@ -38,9 +39,10 @@ pub(crate) fn are_right(alloc: Global, tables: &Tables) -> Result<bool, OutOfMem
 
 /// Whether the name is legal, and none that a type gives.
 fn is_well_named(types: &Types, name: &str) -> bool
-    ensures { result ≡ (names.is_name name.now && not (contains (all_names types.now) name.now)) }
+    ensures types { AreTypes types.now }
+    ensures well_named { result ≡ (names.is_name name.now && not (contains (all_names types.now) name.now)) }
 {
-    is_name(name.as_bytes()) && types.named(name).is_none() && types.constant(name).is_none()
+    !is_given(types, name) && is_name(name.as_bytes())
 }
 
 /// Whether the hidden names are different names of outputs, and not too many.
@@ -54,7 +56,7 @@ fn hides_outputs(tables: &Tables) -> bool
 
 /// Whether each of the names is an output's.
 fn are_outputs(members: &[Member], names: &[String]) -> bool
-    ensures { result ≡ list_all (λ x. list_any (λ m. list_any (λ e. components.is_output (Some e.kind) && bytes_eq e.name x) m.entries) (map member_code members.now)) (map string_bytes names.now) }
+    ensures { result ≡ list_all (have_output (map member_code members.now)) (map string_bytes names.now) }
 {
     for name in names {
         if !is_output(members, name.as_str()) {
@@ -65,8 +67,8 @@ fn are_outputs(members: &[Member], names: &[String]) -> bool
 }
 
 /// Whether an output of one of the components has this name.
-fn is_output(members: &[Member], name: &str) -> bool
-    ensures { result ≡ list_any (λ m. list_any (λ e. components.is_output (Some e.kind) && bytes_eq e.name name.now) m.entries) (map member_code members.now) }
+pub fn is_output(members: &[Member], name: &str) -> bool
+    ensures { result ≡ have_output (map member_code members.now) name.now }
 {
     for member in members {
         if has_output(&member.entries, name) {
@@ -78,7 +80,7 @@ fn is_output(members: &[Member], name: &str) -> bool
 
 /// Whether one of the entries is an output of this name.
 fn has_output(entries: &[Entry], name: &str) -> bool
-    ensures { result ≡ list_any (λ e. components.is_output (Some e.kind) && bytes_eq e.name name.now) (map entry_code entries.now) }
+    ensures { result ≡ tables.has_output (map entry_code entries.now) name.now }
 {
     for entry in entries {
         if entry.kind == Kind::Output && entry.name.as_str() == name {
@@ -88,62 +90,14 @@ fn has_output(entries: &[Entry], name: &str) -> bool
     false
 }
 
-/// Whether no two of the names are equal. There are few.
-fn are_distinct(names: &[String]) -> bool
-    ensures { result ≡ distinct (map string_bytes names.now) }
-{
-    for i in 0..names.len() {
-        if is_among(&names[i + 1..], names[i].as_str()) {
-            return false;
-        }
-    }
-    true
-}
-
-/// Whether the name is one of these.
-fn is_among(names: &[String], name: &str) -> bool
-    ensures { result ≡ contains (map string_bytes names.now) name.now }
-{
-    for i in 0..names.len() {
-        if names[i].as_str() == name {
-            return true;
-        }
-    }
-    false
-}
-
 /// Whether these are components of one program: some, not too many, of different names, and each right.
 fn are_members(alloc: Global, types: &Types, members: &[Member]) -> Result<bool, OutOfMemory>
-    ensures { IfOk result (λ b. IsTrue b ↔ ((0 < length members.now) × (length members.now ≤ most.components) × IsTrue (distinct (map (λ m. m.name) (map member_code members.now))) × AreMembers types.now (map member_code members.now))) }
+    ensures { IfOk result (λ b. IsTrue b ↔ (AreFew most.components (map (λ m. m.name) (map member_code members.now)) × AreMembers types.now (map member_code members.now))) }
 {
-    if members.is_empty() || members.len() > LIMITS.components || !are_distinct_members(members) {
+    if !are_few(members, LIMITS.components) {
         return Ok(false);
     }
     all_members(alloc, types, members)
-}
-
-/// Whether no two of the components have one name. There are few.
-fn are_distinct_members(members: &[Member]) -> bool
-    ensures { result ≡ distinct (map (λ m. m.name) (map member_code members.now)) }
-{
-    for i in 0..members.len() {
-        if has_member(&members[i + 1..], members[i].name.as_str()) {
-            return false;
-        }
-    }
-    true
-}
-
-/// Whether one of the components has this name.
-fn has_member(members: &[Member], name: &str) -> bool
-    ensures { result ≡ contains (map (λ m. m.name) (map member_code members.now)) name.now }
-{
-    for i in 0..members.len() {
-        if members[i].name.as_str() == name {
-            return true;
-        }
-    }
-    false
 }
 
 /// Whether each of the components is right by itself.
@@ -173,40 +127,12 @@ fn is_member(alloc: Global, types: &Types, member: &Member) -> Result<bool, OutO
 
 /// Whether a component has some entries, not too many, of different names, and each right.
 fn are_entries(alloc: Global, member: &Member) -> Result<bool, OutOfMemory>
-    ensures { IfOk result (λ b. IsTrue b ↔ ((0 < length (member_code member.now).entries) × (length (member_code member.now).entries ≤ component_limits.entries) × IsTrue (distinct (map (λ e. e.name) (member_code member.now).entries)) × AreEntries (member_code member.now) (member_code member.now).entries)) }
+    ensures { IfOk result (λ b. IsTrue b ↔ (AreFew component_limits.entries (map (λ e. e.name) (member_code member.now).entries) × AreEntries (member_code member.now) (member_code member.now).entries)) }
 {
-    let entries = &member.entries;
-    if entries.is_empty()
-        || entries.len() > COMPONENT_LIMITS.entries
-        || !are_distinct_entries(entries)
-    {
+    if !are_few(&member.entries, COMPONENT_LIMITS.entries) {
         return Ok(false);
     }
-    all_entries(alloc, member, entries)
-}
-
-/// Whether no two of the entries have one name. There are few.
-fn are_distinct_entries(entries: &[Entry]) -> bool
-    ensures { result ≡ distinct (map (λ e. e.name) (map entry_code entries.now)) }
-{
-    for i in 0..entries.len() {
-        if has_entry(&entries[i + 1..], entries[i].name.as_str()) {
-            return false;
-        }
-    }
-    true
-}
-
-/// Whether one of the entries has this name.
-fn has_entry(entries: &[Entry], name: &str) -> bool
-    ensures { result ≡ contains (map (λ e. e.name) (map entry_code entries.now)) name.now }
-{
-    for i in 0..entries.len() {
-        if entries[i].name.as_str() == name {
-            return true;
-        }
-    }
-    false
+    all_entries(alloc, member, &member.entries)
 }
 
 /// Whether each of these entries of the component is right.
@@ -268,8 +194,8 @@ fn are_parts(alloc: Global, member: &Member, entry: &Entry) -> Result<bool, OutO
 fn are_positions(types: &Types, positions: &[Position]) -> bool
     ensures { IsTrue result ↔ All (IsDomain types.now) (map domain_of positions.now) }
 {
-    for i in 0..positions.len() {
-        if !is_position(types, &positions[i]) {
+    for position in positions {
+        if !is_position(types, position) {
             return false;
         }
     }

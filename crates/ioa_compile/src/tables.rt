@@ -4,7 +4,7 @@ ghost use Rattle.std.specs.Prelude.{◌≡◌, IfOk, IfErr};
 ghost use Rattle.ioa_compile.specs.Given.{prog_of, IsNoProgram};
 ghost use Rattle.ioa_compile.specs.Tables.{AreRight};
 
-use crate::clashes::first_to_clash;
+use crate::compatibility::clash_among;
 use crate::program::Program;
 use crate::rightness::are_right;
 use crate::table::Member;
@@ -77,8 +77,8 @@ impl Program {
         ensures program { IfOk result (λ p. p ≡ prog_of tables) }
         ensures clash { IfErr result (IsNoProgram (prog_of tables)) }
     {
-        if let Some((first, second)) = first_to_clash(alloc, &tables.types, &tables.members)? {
-            return Err(TableErr::Clash(first, second));
+        if let Some(clash) = clash_among(alloc, &tables.types, &tables.members)? {
+            return Err(TableErr::Clash(clash.first, clash.second));
         }
         Ok(Program::new(tables.types, tables.name, tables.members, tables.hidden))
     }

@@ -15,6 +15,7 @@ use Rattle.ioa_tree.specs.Compositions.{Member, Composed, components_of, instanc
 use Rattle.ioa_tree.specs.WellFormed.{distinct, variable_fields, held, has_ty, automaton_fine, entry_within, automaton_within}
 use Rattle.ioa_compose.specs.Questions.{OfThese}
 use Rattle.ioa_compose.specs.Rewriting.{spelled}
+use Rattle.ioa_compose.specs.declared.limits.TheConstants.{COMPONENT_LIMITS}
 
 -- the component's name and those of its entries are legal, the automaton has an entry, is well formed and within these limits, but that
 -- an entry has no more positions than in a source, the arguments are of the formals' types, and the start values, of the variables' types,
@@ -45,15 +46,9 @@ AreOver types (m ∷ ms) = (m.instance.types ≡ types) × AreOver types ms
 abbrev pub IsTyped : Instance → InvariantTree → Type 0
 IsTyped n v = IsTrue (bytes_eq v.automaton n.automaton.name) → IsTrue (has_ty n.types n.types (held n.types n.types [] n.automaton) v.condition 0)
 
--- what a composition keeps within. A component that crashes and recovers is rewritten: it has a variable and two entries more, a formal
--- more for each variable, and two nodes more in its preconditions and effects.
+-- what each component of a composition keeps within
 abbrev pub component_limits : Limits
-component_limits = record LIMITS {
-  parameters = LIMITS.parameters + LIMITS.variables;
-  variables = LIMITS.variables + 1;
-  entries = LIMITS.entries + 2;
-  nodes = LIMITS.nodes + 2;
-}
+component_limits = COMPONENT_LIMITS
 
 -- what a composition keeps: its name is legal and none that a type gives, it has a component, the components have one table of types
 -- and different names, and so have the hidden outputs; and the invariants are well typed, and name what a text can spell

@@ -13,6 +13,7 @@ mod hidden;
 mod index;
 mod invariants;
 mod laws;
+mod limits;
 mod member;
 mod picks;
 mod rewriting;
@@ -28,4 +29,5 @@ pub use ioa_syntax::Refusal;
 pub use laws::{
     hosts_stand, rewriting_means_crash, rewriting_stands, rewriting_stays_fine, signals_decide,
 };
+pub use limits::COMPONENT_LIMITS;
 pub use member::Member;

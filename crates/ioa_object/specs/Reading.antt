@@ -23,7 +23,8 @@ use Rattle.ioa_tree.specs.declared.tree.Kind.{Kind}
 use Rattle.ioa_tree.specs.declared.tree.Kind.TheVariants.{Input, Output, Internal}
 use Rattle.ioa_compose.specs.Fine.{component_limits}
 use Rattle.ioa_compile.specs.Programs.{EntryCode, MemberCode, Prog}
-use Rattle.ioa_compile.specs.Tables.{is_output_of, most_places, parameter_types, position_types}
+use Rattle.ioa_compile.specs.Tables.{have_output, parameter_types, position_types}
+use Rattle.ioa_compile.specs.declared.limits.TheConstants.{MOST_PLACES}
 use Rattle.ioa_object.specs.Spots.{Spot}
 use Rattle.ioa_object.specs.Spelling.{mark, version}
 use Rattle.ioa_object.specs.declared.failure.ObjErr.{ObjErr}
@@ -318,7 +319,7 @@ opening_at types before c = do
   kind ← kind_at c
   x ← name_at (contains (map (λ e. e.name) before)) kind.1
   ds ← list_at 0 LIMITS.parameters (λ _. position_at types) x.1
-  consts ← list_at 0 most_places (λ _. value_at types) ds.1
+  consts ← list_at 0 MOST_PLACES (λ _. value_at types) ds.1
   Ok (record { kind = kind.0; name = x.0; positions = ds.0; consts = consts.0 }, consts.1)
 
 -- the entry, with its code over variables of these types
@@ -351,7 +352,7 @@ program_of types x ms hidden = record { types = types; name = x; members = ms; h
 
 -- the hidden name that comes after these: an output of one of the components has it
 unfoldable pub hidden_at : List MemberCode → List Name → Reader Name
-hidden_at ms before c = name_at (λ x. contains before x || not (is_output_of (program_of [] [] ms []) x)) c
+hidden_at ms before c = name_at (λ x. contains before x || not (have_output ms x)) c
 
 unfoldable pub tables_at : Reader Prog
 tables_at c = do
