@@ -1,3 +1,4 @@
 pub mod Outcomes
 pub mod Local
 pub mod Formats
+pub mod Numbers
