@@ -2,3 +2,4 @@ pub mod Outcomes
 pub mod Local
 pub mod Formats
 pub mod Numbers
+pub mod Lists
