@@ -90,11 +90,11 @@ pub record AreListed {A : Type 0} (least most : ℕ) (Fine : A → Type 0) (xs :
   pub few : length xs ≤ most
   pub fine : All Fine xs
 
-all_fine : {A : Type 0} (Fine : A → Type 0) (before xs : List A) → AreFine (Anywhere Fine) before xs → All Fine xs
+pub all_fine : {A : Type 0} (Fine : A → Type 0) (before xs : List A) → AreFine (Anywhere Fine) before xs → All Fine xs
 all_fine Fine before [] h = All-nil Fine
 all_fine Fine before (x ∷ xs) h = All-cons Fine x xs h.0 (all_fine Fine (before ++ x ∷ []) xs h.1)
 
-fine_all : {A : Type 0} (Fine : A → Type 0) (before xs : List A) → All Fine xs → AreFine (Anywhere Fine) before xs
+pub fine_all : {A : Type 0} (Fine : A → Type 0) (before xs : List A) → All Fine xs → AreFine (Anywhere Fine) before xs
 fine_all Fine before [] h = tt
 fine_all Fine before (x ∷ xs) h = (All-head Fine x xs h, fine_all Fine (before ++ x ∷ []) xs (All-tail Fine x xs h))
 
