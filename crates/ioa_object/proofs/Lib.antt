@@ -3,3 +3,4 @@ pub mod Local
 pub mod Formats
 pub mod Numbers
 pub mod Lists
+pub mod Texts
