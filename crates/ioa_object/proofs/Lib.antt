@@ -4,3 +4,4 @@ pub mod Formats
 pub mod Numbers
 pub mod Lists
 pub mod Texts
+pub mod Fresh
