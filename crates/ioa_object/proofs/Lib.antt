@@ -5,3 +5,4 @@ pub mod Numbers
 pub mod Lists
 pub mod Texts
 pub mod Fresh
+pub mod Forms
