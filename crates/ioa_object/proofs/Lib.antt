@@ -6,3 +6,4 @@ pub mod Lists
 pub mod Texts
 pub mod Fresh
 pub mod Forms
+pub mod Types
