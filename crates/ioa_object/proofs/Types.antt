@@ -40,7 +40,7 @@ tagged count (names ns) h k = (omega arith, omega arith)
 tagged count (fields fs) h k = (omega arith, omega arith)
 tagged count (sequence most of) h k = (omega arith, omega arith)
 
-two_types : (types : Table) → AreTypes types → 2 ≤ length types
+pub two_types : (types : Table) → AreTypes types → 2 ≤ length types
 two_types [] h = let e = h.first in absurd (cc)
 two_types (d ∷ []) h = let e = h.second in absurd (cc)
 two_types (d ∷ e ∷ ds) h = omega arith
