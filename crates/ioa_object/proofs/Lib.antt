@@ -7,3 +7,4 @@ pub mod Texts
 pub mod Fresh
 pub mod Forms
 pub mod Types
+pub mod Values
