@@ -8,3 +8,4 @@ pub mod Fresh
 pub mod Forms
 pub mod Types
 pub mod Values
+pub mod Instructions
