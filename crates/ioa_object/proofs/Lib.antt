@@ -9,3 +9,4 @@ pub mod Forms
 pub mod Types
 pub mod Values
 pub mod Instructions
+pub mod Operands
