@@ -14,7 +14,7 @@ use Rattle.ioa_value.proofs.ItemLemmas.{item_there}
 use Rattle.ioa_value.proofs.PlainLemmas.{vals-listed}
 use Rattle.ioa_value.proofs.SameLemmas.{equal, equal_numbers}
 use Rattle.ioa_value.proofs.TableLemmas.{stands}
-use Rattle.ioa_value.proofs.TypingLemmas.{is_truth, is_number, has_own, own_type}
+use Rattle.ioa_value.proofs.TypingLemmas.{IsOwn, is_truth, is_number, has_own, own_type}
 use Rattle.ioa_value.proofs.SequenceTyping.{AreItems, sequence_typed, made_typed, sequence_parts, tuple_parts}
 use Rattle.ioa_object.specs.Reading.{Reader, ◌>>◌, right, built, list_at, truth_at, long_at, constant_at, parts_at, payload_shaped, payload_in, value_at}
 use Rattle.ioa_object.specs.Spelling.{short, bit, payload, payloads, value, list_of}
@@ -193,12 +193,8 @@ module _ (types : Table) (are : AreTypes types) where
       let whole = shaped_format (λ t. payload_in n types t) s (λ t earlier. payload_format n t (omega arith) (omega arith)) shape at (stands types s shape are at) in
       subst (λ (o : Option Shape). IsFormat (payload_shaped (λ t. payload_in n types t) s o) payload (IsOf s)) (sym at) whole
 
-  few_types : length types ≤ 2 ^ 16
+  pub few_types : length types ≤ 2 ^ 16
   few_types = omega (arith, are.few)
-
-  -- the value is one of the type that it says it has
-  abbrev pub IsOwn : Val → Type 0
-  IsOwn v = HasType types v (own v)
 
   -- a type whose shape passes a test that none passes
   tested_there : (test : Option Shape → Bool) (s : ℕ) → test None ≡ false → test (shape_at types s) ≡ true → s < length types
@@ -208,7 +204,7 @@ module _ (types : Table) (are : AreTypes types) where
         | inr past ↦ absurd (false≢true (sym none ∙ ap (λ o. test (option_map (λ d. d.shape) o)) (sym (slice_get_past types s past)) ∙ some))
       ]
 
-  own_there : (v : Val) → IsOwn v → own v < length types
+  own_there : (v : Val) → IsOwn types v → own v < length types
   own_there (truth b) h = omega (arith, two_types types are)
   own_there (num z) h = omega (arith, two_types types are)
   own_there (name s n) h = tested_there (λ o. is_name_of o n) s refl (and_parts (s == s) (is_name_of (shape_at types s) n) h).1
@@ -219,7 +215,7 @@ module _ (types : Table) (are : AreTypes types) where
       let test : Option Shape → Bool = λ o. of_sequence o (λ most of. nat_le (count vs) most && items_are types vs of) in
       tested_there test s refl (and_parts (s == s) (test (shape_at types s)) h).1
 
-  pub value_format : IsFormat (value_at types) value IsOwn
+  pub value_format : IsFormat (value_at types) value (IsOwn types)
   unfolding value_at
   value_format = record {
     finds = λ v h c more e.
