@@ -10,3 +10,4 @@ pub mod Types
 pub mod Values
 pub mod Instructions
 pub mod Operands
+pub mod Parts
