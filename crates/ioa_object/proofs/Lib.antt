@@ -11,3 +11,4 @@ pub mod Values
 pub mod Instructions
 pub mod Operands
 pub mod Parts
+pub mod Entries
