@@ -121,7 +121,7 @@ local_both P Q R f Output (Some x) h q = f x h q
 local_both P Q R f Internal None h q = absurd h
 local_both P Q R f Internal (Some x) h q = f x h q
 
-local_weaker : {X : Type 0} (P Q : X → Type 0) → ((x : X) → P x → Q x) → (k : Kind) (o : Option X) → HasLocal P k o → HasLocal Q k o
+pub local_weaker : {X : Type 0} (P Q : X → Type 0) → ((x : X) → P x → Q x) → (k : Kind) (o : Option X) → HasLocal P k o → HasLocal Q k o
 local_weaker P Q f Input None h = tt
 local_weaker P Q f Input (Some x) h = absurd h
 local_weaker P Q f Output None h = absurd h
