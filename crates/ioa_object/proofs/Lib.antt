@@ -12,3 +12,4 @@ pub mod Instructions
 pub mod Operands
 pub mod Parts
 pub mod Entries
+pub mod Components
