@@ -13,3 +13,4 @@ pub mod Operands
 pub mod Parts
 pub mod Entries
 pub mod Components
+pub mod Tables
