@@ -1,5 +1,6 @@
--- What is said of readers: how they answer with more bytes behind, that they find what is spelled, and what they find is spelled so.
-use Rattle.std.proofs.Common.{◌≡◌, ℕ, ◌⊎◌, inl, inr, Bool, true, false, List, ◌++◌, refl, sym, ap, subst, Ok, Err, if◌then◌else◌}
+-- What is said of readers: how they answer with more bytes behind what they read.
+use Rattle.std.proofs.Common.{◌≡◌, ℕ, ◌<◌, ◌⊎◌, inl, inr, Bool, true, false, List, ◌++◌, refl, sym, ap, ◌∙◌, subst, Ok, Err, if◌then◌else◌, length, arith}
+use Rattle.std.proofs.lemmas.List.{length-append}
 use Rattle.ioa_object.specs.Reading.{Outcome, Reader, ◌>>=◌, ◌>>◌, built, right}
 use Rattle.ioa_object.specs.Spots.{Spot}
 use Rattle.ioa_object.specs.declared.failure.ObjErr.{ObjErr}
@@ -60,3 +61,19 @@ stays_if more false o p o' p' h k = k
 
 pub stays_built : {A B : Type 0} (more : List ℕ) (f : A → B) (o p : Outcome A) → Stays more o p → Stays more (built f o) (built f p)
 stays_built more f o p h = stays_on more o p (λ x. Ok (f x.0, x.1)) (λ x. Ok (f x.0, x.1)) h (λ x d. stays_ok more (f x) d)
+
+-- what is wrong with an answer: the bytes end inside an item, or something is wrong
+pub ended_or_wrong : {A : Type 0} (more : List ℕ) (o after : Outcome A) (e : ObjErr) → Stays more o after → o ≡ Err e → (e ≡ errors.Truncated) ⊎ IsWrong e
+ended_or_wrong {A} more o after e h is = elim (subst (λ (o : Outcome A). StaysAs more o after) is h.same) [ inl t ↦ inl t | inr w ↦ inr w.0 ]
+
+-- where the whole is found within the bytes behind, those before end inside an item
+pub cut_inside : {A : Type 0} (more : List ℕ) (o after : Outcome A) (x : A) (d : Spot) → Stays more o after → after ≡ Ok (x, d) → length d.rest < length more → o ≡ Err errors.Truncated
+cut_inside {A} more o after x d h is short = go o h.same
+  where
+    go : (o : Outcome A) → StaysAs more o after → o ≡ Err errors.Truncated
+    go (Ok y) k =
+        let same : ◌≡◌ {A = A × Spot} (y.0, longer more y.1) (x, d) = let both : Ok (y.0, longer more y.1) ≡ Ok (x, d) = sym k ∙ is in cc in
+        let left : y.1.rest ++ more ≡ d.rest = ap (λ p. p.1.rest) same in
+        absurd (omega (arith, length-append y.1.rest more, ap length left))
+    go (Err e) (inl t) = ap Err t
+    go (Err e) (inr w) = let both : ◌≡◌ {A = Outcome A} (Err e) (Ok (x, d)) = sym w.1 ∙ is in absurd (cc)
