@@ -1,5 +1,5 @@
 -- The tables of a program, read and spelled: what is read is right, and what is right is read.
-use Rattle.std.proofs.Common.{◌≡◌, ℕ, zero, suc, ◌<◌, ◌≤◌, Bool, true, false, not, ◌&&◌, ◌||◌, List, [], ◌∷◌, ◌++◌, length, map, Some, refl, sym, ap, ◌∙◌, subst, arith}
+use Rattle.std.proofs.Common.{◌≡◌, ℕ, zero, suc, ◌<◌, ◌≤◌, true, false, not, ◌&&◌, ◌||◌, List, [], ◌∷◌, ◌++◌, length, map, Some, refl, sym, ap, ◌∙◌, subst, arith}
 use Rattle.std.specs.Prelude.{slice_get}
 use Rattle.std.specs.List.{list_any, list_all}
 use Rattle.std.specs.Str.{bytes_eq}
@@ -13,8 +13,8 @@ use Rattle.ioa_value.proofs.ItemLemmas.{some_at}
 use Rattle.ioa_value.proofs.NameLemmas.{same_name}
 use Rattle.ioa_tree.specs.Components.{is_output}
 use Rattle.ioa_compile.specs.Programs.{EntryCode, MemberCode, Prog}
-use Rattle.ioa_compile.specs.Tables.{IsEntry, AreEntries, IsMember, AreMembers, is_output_of, AreRight}
-use Rattle.ioa_object.specs.Reading.{list_at, component_at, hidden_at, program_of, tables_at}
+use Rattle.ioa_compile.specs.Tables.{IsEntry, AreEntries, IsMember, AreMembers, have_output, AreRight}
+use Rattle.ioa_object.specs.Reading.{list_at, component_at, hidden_at, tables_at}
 use Rattle.ioa_object.specs.Spelling.{text, list_of, declaration, declared, component, tables}
 use Rattle.ioa_object.specs.Spots.{Spot}
 use Rattle.ioa_object.proofs.Formats.{AreBytes, Finds, finds_ok, finds_on, Yields, yields_ok, yields_on, Taken, IsFormat, same_format, chained}
@@ -53,35 +53,31 @@ member_at types [] i m h e = absurd (cc)
 member_at types (n ∷ ms) zero m h e = let same : n ≡ m = cc in subst (IsMember types) same h.0
 member_at types (n ∷ ms) (suc i) m h e = member_at types ms i m h.1 e
 
-entry_at' : (m : MemberCode) (es : List EntryCode) (i : ℕ) (e : EntryCode) → AreEntries m es → slice_get es i ≡ Some e → IsEntry m e
-entry_at' m [] i e h at = absurd (cc)
-entry_at' m (f ∷ es) zero e h at = let same : f ≡ e = cc in subst (IsEntry m) same h.0
-entry_at' m (f ∷ es) (suc i) e h at = entry_at' m es i e h.1 at
+entry_in : (m : MemberCode) (es : List EntryCode) (i : ℕ) (e : EntryCode) → AreEntries m es → slice_get es i ≡ Some e → IsEntry m e
+entry_in m [] i e h at = absurd (cc)
+entry_in m (f ∷ es) zero e h at = let same : f ≡ e = cc in subst (IsEntry m) same h.0
+entry_in m (f ∷ es) (suc i) e h at = entry_in m es i e h.1 at
 
 module _ (types : Table) (ms : List MemberCode) (h : AreMembers types ms) where
-  -- whether an output of these components has the name
-  abbrev is_ones : Name → Bool
-  is_ones x = is_output_of (program_of [] [] ms []) x
-
   -- an output has a legal name
-  output_legal : (x : Name) → is_ones x ≡ true → IsName x
+  output_legal : (x : Name) → have_output ms x ≡ true → IsName x
   output_legal x out =
       let (m, i, at, has) = some_at (λ m. list_any (λ e. is_output (Some e.kind) && bytes_eq e.name x) m.entries) ms out in
       let (e, j, there, is) = some_at (λ e. is_output (Some e.kind) && bytes_eq e.name x) m.entries has in
       let same : e.name ≡ x = same_name e.name x (and_parts (is_output (Some e.kind)) (bytes_eq e.name x) is).1 in
-      subst IsName same (entry_at' m m.entries j e (member_at types ms i m h at).entries there).legal
+      subst IsName same (entry_in m m.entries j e (member_at types ms i m h at).entries there).legal
 
   -- an output's name that is none of those before
   pub record IsHidden (before : List Name) (x : Name) : Type 0 where
-    pub output : is_ones x ≡ true
+    pub output : have_output ms x ≡ true
     pub new : IsNew (λ x. x) before x
 
   hidden_format : (before : List Name) → IsFormat (hidden_at ms before) text (IsHidden before)
   unfolding hidden_at
   hidden_format before =
-      same_format (hidden_at ms before) text text _ (IsHidden before) (name_format (λ x. contains before x || not (is_ones x)))
-      (λ x k. record { legal = output_legal x k.output; free = or_from (contains before x) (not (is_ones x)) (same_names before x k.new) (not_from_true (is_ones x) k.output) })
-      (λ x k. let p = or_parts (contains before x) (not (is_ones x)) k.free in record { output = not-false (is_ones x) p.1; new = names_same before x p.0 })
+      same_format (hidden_at ms before) text text _ (IsHidden before) (name_format (λ x. contains before x || not (have_output ms x)))
+      (λ x k. record { legal = output_legal x k.output; free = or_from (contains before x) (not (have_output ms x)) (same_names before x k.new) (not_from_true (have_output ms x) k.output) })
+      (λ x k. let p = or_parts (contains before x) (not (have_output ms x)) k.free in record { output = not-false (have_output ms x) p.1; new = names_same before x p.0 })
       (λ x k. refl)
     where
       same_names : (before : List Name) (x : Name) → IsNew (λ x. x) before x → contains before x ≡ false
@@ -93,19 +89,19 @@ module _ (types : Table) (ms : List MemberCode) (h : AreMembers types ms) where
   hiddens_format : IsFormat (list_at 0 LIMITS.hidden (hidden_at ms)) (list_of text) (IsListed 0 LIMITS.hidden IsHidden)
   hiddens_format = list_format (hidden_at ms) text IsHidden (λ n before. Unit {0}) (λ n before k. hidden_format before) (λ n before x k l. tt) 0 LIMITS.hidden (omega arith) (λ n less. tt)
 
-  outputs_fine : (before xs : List Name) → list_all is_ones xs ≡ true → AreFine (Anywhere (λ x. is_ones x ≡ true)) before xs
+  outputs_fine : (before xs : List Name) → list_all (have_output ms) xs ≡ true → AreFine (Anywhere (λ x. have_output ms x ≡ true)) before xs
   outputs_fine before [] k = tt
-  outputs_fine before (x ∷ xs) k = let p = and_parts (is_ones x) (list_all is_ones xs) k in (p.0, outputs_fine (before ++ x ∷ []) xs p.1)
+  outputs_fine before (x ∷ xs) k = let p = and_parts (have_output ms x) (list_all (have_output ms) xs) k in (p.0, outputs_fine (before ++ x ∷ []) xs p.1)
 
-  fine_outputs : (before xs : List Name) → AreFine (Anywhere (λ x. is_ones x ≡ true)) before xs → list_all is_ones xs ≡ true
+  fine_outputs : (before xs : List Name) → AreFine (Anywhere (λ x. have_output ms x ≡ true)) before xs → list_all (have_output ms) xs ≡ true
   fine_outputs before [] k = refl
-  fine_outputs before (x ∷ xs) k = and_from (is_ones x) (list_all is_ones xs) k.0 (fine_outputs (before ++ x ∷ []) xs k.1)
+  fine_outputs before (x ∷ xs) k = and_from (have_output ms x) (list_all (have_output ms) xs) k.0 (fine_outputs (before ++ x ∷ []) xs k.1)
 
-  listed_hidden : (xs : List Name) → length xs ≤ LIMITS.hidden → distinct xs ≡ true → list_all is_ones xs ≡ true → IsListed 0 LIMITS.hidden IsHidden xs
+  listed_hidden : (xs : List Name) → length xs ≤ LIMITS.hidden → distinct xs ≡ true → list_all (have_output ms) xs ≡ true → IsListed 0 LIMITS.hidden IsHidden xs
   listed_hidden xs few names outputs = record {
     some = omega arith;
     few = few;
-    fine = fine_both (Anywhere (λ x. is_ones x ≡ true)) (IsNew (λ x. x)) IsHidden (λ before x k n. record { output = k; new = n }) [] xs (outputs_fine [] xs outputs) (distinct_new (λ x. x) [] xs (ap distinct (map-id xs) ∙ names));
+    fine = fine_both (Anywhere (λ x. have_output ms x ≡ true)) (IsNew (λ x. x)) IsHidden (λ before x k n. record { output = k; new = n }) [] xs (outputs_fine [] xs outputs) (distinct_new (λ x. x) [] xs (ap distinct (map-id xs) ∙ names));
   }
 
 -- ---- all tables
