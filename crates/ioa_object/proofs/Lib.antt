@@ -14,3 +14,4 @@ pub mod Parts
 pub mod Entries
 pub mod Components
 pub mod Tables
+pub mod Laws

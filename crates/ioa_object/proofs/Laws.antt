@@ -1,0 +1,79 @@
+-- Objects: what is read of them, and what follows for all.
+use Rattle.std.proofs.Common.{◌≡◌, ℕ, List, [], ◌∷◌, ◌++◌, refl, sym, ap, ◌∙◌, subst, Ok}
+use Rattle.std.proofs.lemmas.List.{append-nil}
+use Rattle.ioa_compile.specs.Programs.{Prog}
+use Rattle.ioa_compile.specs.Tables.{AreTables, AreRight, IsProgram, tabled}
+use Rattle.ioa_tree.specs.Components.{Compatible}
+use Rattle.ioa_object.specs.Objects.{IsObject, OneObject, OneProgram, NoneBeginsAnother}
+use Rattle.ioa_object.specs.Reading.{Outcome, byte_at, versioned_at, tables_at, read}
+use Rattle.ioa_object.specs.Spelling.{mark, version, tables, object}
+use Rattle.ioa_object.specs.Spots.{Spot}
+use Rattle.ioa_object.proofs.Formats.{Finds}
+use Rattle.ioa_object.proofs.Tables.{tables_format}
+
+-- the place behind the mark and the version, with these bytes to come
+abbrev pub begun : List ℕ → Spot
+begun rest = record { place = 5; rest = rest; parts = 0 }
+
+-- behind the mark and the version the tables are read
+pub read_begun : (rest : List ℕ) → read (mark ++ (version ∷ rest)) ≡ tables_at (begun rest)
+unfolding read versioned_at byte_at
+read_begun rest = refl
+
+pub are_right : {T : Type 0} (p : Prog) → AreTables T p → AreRight p
+are_right p h = record {
+  types = h.types;
+  legal = h.legal;
+  apart = h.apart;
+  some_members = h.some_members;
+  few_members = h.few_members;
+  names = h.names;
+  members = h.members;
+  compatible = tt;
+  few_hidden = h.few_hidden;
+  hidden = h.hidden;
+  outputs = h.outputs;
+}
+
+pub is_program : (p : Prog) → AreRight p → Compatible (tabled p) → IsProgram p
+is_program p h k = record {
+  types = h.types;
+  legal = h.legal;
+  apart = h.apart;
+  some_members = h.some_members;
+  few_members = h.few_members;
+  names = h.names;
+  members = h.members;
+  compatible = k;
+  few_hidden = h.few_hidden;
+  hidden = h.hidden;
+  outputs = h.outputs;
+}
+
+-- ---- objects are read
+
+-- what is spelled of tables that are right is found, whatever follows
+pub tables_found : (p : Prog) (more : List ℕ) → AreRight p → Finds (tables_at (begun (tables p ++ more))) p more
+tables_found p more h = tables_format.finds p h (begun (tables p ++ more)) more refl
+
+pub object_found : (bytes : List ℕ) (p : Prog) (more : List ℕ) → AreRight p → bytes ≡ object p ++ more → Finds (read bytes) p more
+object_found bytes p more h e = subst (λ (o : Outcome Prog). Finds o p more) (sym (ap read e ∙ read_begun (tables p ++ more))) (tables_found p more h)
+
+-- an outcome finds one thing
+found_once : (o : Outcome Prog) (p q : Prog) (m n : List ℕ) → Finds o p m → Finds o q n → (p ≡ q) × (m ≡ n)
+found_once o p q m n h k =
+    let same : ◌≡◌ {A = Prog × Spot} (p, h.behind) (q, k.behind) = let both : Ok (p, h.behind) ≡ Ok (q, k.behind) = sym h.is ∙ k.is in cc in
+    (ap (λ x. x.0) same, sym h.left ∙ ap (λ x. x.1.rest) same ∙ k.left)
+
+pub whole : (bytes : List ℕ) (p : Prog) → IsObject bytes p → Finds (read bytes) p []
+whole bytes p h = object_found bytes p [] (are_right p h.program) (h.spelled ∙ sym (append-nil (object p)))
+
+pub one_object : OneObject
+one_object p a b h k = h.spelled ∙ sym k.spelled
+
+pub one_program : OneProgram
+one_program bytes p q h k = (found_once (read bytes) p q [] [] (whole bytes p h) (whole bytes q k)).0
+
+pub none_begins_another : NoneBeginsAnother
+none_begins_another front more p q h k =
+    (found_once (read (front ++ more)) p q more [] (object_found (front ++ more) p more (are_right p h.program) (ap (λ l. l ++ more) h.spelled)) (whole (front ++ more) q k)).1
