@@ -15,3 +15,4 @@ pub mod Entries
 pub mod Components
 pub mod Tables
 pub mod Laws
+pub mod Refused
