@@ -16,3 +16,4 @@ pub mod Components
 pub mod Tables
 pub mod Laws
 pub mod Refused
+pub mod Computed
