@@ -17,3 +17,6 @@ pub mod Tables
 pub mod Laws
 pub mod Refused
 pub mod Computed
+pub mod Names
+pub mod Payloads
+pub mod Readers

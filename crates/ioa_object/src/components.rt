@@ -19,7 +19,8 @@ use crate::failure::ObjErr;
 use crate::parts::{local_part, part};
 use crate::values::{value, values};
 use ioa_code::{Env, PartKind};
-use ioa_compile::{COMPONENT_LIMITS, Entry, MOST_PLACES, Member};
+use ioa_compile::{Entry, MOST_PLACES, Member, is_named};
+use ioa_compose::COMPONENT_LIMITS;
 use ioa_node::from_values;
 use ioa_tree::Kind;
 use ioa_value::{LIMITS, OutOfMemory, Position, Ty, Types, Value};
@@ -44,7 +45,7 @@ fn component(cursor: &mut Cursor<'_>, types: &Types, before: &[Member]) -> Resul
 {
     let alloc = cursor.alloc();
     let name = cursor.name()?;
-    if is_member(before, name.text) {
+    if is_named(before, name.text) {
         return Err(ObjErr::BadTable(name.at));
     }
     let starts = values(cursor, types, COMPONENT_LIMITS.variables)?;
@@ -73,18 +74,6 @@ fn types_of(alloc: Global, values: &[Value]) -> Result<Vec<Ty>, OutOfMemory>
         found.push(value.ty())?;
     }
     Ok(found)
-}
-
-/// Whether one of the components has this name.
-fn is_member(members: &[Member], name: &str) -> bool
-    ensures { result ≡ contains (map (λ m. m.name) (map member_code members.now)) name.now }
-{
-    for i in 0..members.len() {
-        if members[i].name.as_str() == name {
-            return true;
-        }
-    }
-    false
 }
 
 /// The entries of a component, over variables of these types.
@@ -128,31 +117,20 @@ fn entry(
 fn front_of(cursor: &mut Cursor<'_>, types: &Types, before: &[Entry]) -> Result<Front, ObjErr>
     ensures { Reads opening (spec.opening_at types.now (map entry_code before.now) cursor.old) result cursor.new }
 {
+    let alloc = cursor.alloc();
     let kind = kind(cursor)?;
     let name = cursor.name()?;
-    if is_entry(before, name.text) {
+    if is_named(before, name.text) {
         return Err(ObjErr::BadTable(name.at));
     }
     let positions = positions(cursor, types)?;
     let consts = values(cursor, types, MOST_PLACES)?;
     Ok(Front {
         kind,
-        name: text(cursor.alloc(), name.text)?,
+        name: text(alloc, name.text)?,
         positions,
         consts,
     })
-}
-
-/// Whether one of the entries has this name.
-fn is_entry(entries: &[Entry], name: &str) -> bool
-    ensures { result ≡ contains (map (λ e. e.name) (map entry_code entries.now)) name.now }
-{
-    for i in 0..entries.len() {
-        if entries[i].name.as_str() == name {
-            return true;
-        }
-    }
-    false
 }
 
 /// The kind of an entry.

@@ -1,9 +1,11 @@
 //! A place in some bytes, from which they are read.
 
-ghost use Rattle.std.specs.Prelude.{◌≡◌, ◌<◌, ◌≤◌, length};
+ghost use Rattle.std.specs.Prelude.{◌≡◌, ◌<◌, ◌≤◌, ◌^◌, All, drop, length, IfOk, IfErr};
+ghost use Rattle.ioa_value.specs.Names.{IsName};
 ghost use Rattle.ioa_value.specs.Plain.{number as type_number, plain};
 ghost use Rattle.ioa_object.specs.Reading as spec;
 ghost use Rattle.ioa_object.specs.Reading.{Reads, counted};
+ghost use Rattle.ioa_object.specs.declared.failure.ObjErr.TheVariants as errors;
 
 use crate::failure::ObjErr;
 use ioa_value::{LIMITS, Ty, Value, is_name};
@@ -26,11 +28,11 @@ impl<'a> Model for Cursor<'a> {
 
     ghost coded = { coded_spot };
 
-    ghost use Rattle.std.specs.Prelude.{◌≤◌, drop, length};
+    ghost use Rattle.std.specs.Prelude.{◌<◌, ◌≤◌, ◌^◌, All, drop, length};
 
     ghost view = { λ c. record { place = c.place; rest = drop c.place c.bytes.now; parts = c.parts } };
 
-    ghost invariant = { λ c. (c.place ≤ length c.bytes.now) × (c.parts ≤ c.place) };
+    ghost invariant = { λ c. (c.place ≤ length c.bytes.now) × (c.parts ≤ c.place) × All (λ b. b < 2 ^ 8) c.bytes.now };
 }
 
 /// A legal name, and the place of its first letter.
@@ -44,8 +46,7 @@ impl<'a> Cursor<'a> {
     /// At this place of some bytes, which they have. No part came before.
     pub fn new(alloc: Global, bytes: &'a [u8], place: usize) -> Cursor<'a>
         requires { place ≤ length bytes.now }
-        ensures place { result.place ≡ place }
-        ensures parts { result.parts ≡ 0 }
+        ensures { result ≡ record { place = place; rest = drop place bytes.now; parts = 0 } }
     {
         Cursor {
             alloc,
@@ -55,7 +56,10 @@ impl<'a> Cursor<'a> {
         }
     }
 
-    pub fn alloc(&self) -> Global {
+    /// Where memory comes from.
+    pub fn alloc(&self) -> Global
+        ensures bytes { All (λ b. b < 2 ^ 8) self.now.rest }
+    {
         self.alloc
     }
 
@@ -91,7 +95,8 @@ impl<'a> Cursor<'a> {
     /// So many bytes.
     #[tactic(auto, unfolding(crate::specs::Reading::bytes_at))]
     pub fn bytes(&mut self, count: usize) -> Result<&'a [u8], ObjErr>
-        ensures { Reads (λ bytes. bytes.now) (spec.bytes_at count self.old) result self.new }
+        ensures read { Reads (λ bytes. bytes.now) (spec.bytes_at count self.old) result self.new }
+        ensures count { IfOk result (λ bytes. length bytes.now ≡ count) }
     {
         if self.left() < count {
             return Err(ObjErr::Truncated);
@@ -104,7 +109,8 @@ impl<'a> Cursor<'a> {
     /// The next byte.
     #[tactic(auto, unfolding(crate::specs::Reading::byte_at))]
     pub fn byte(&mut self) -> Result<u8, ObjErr>
-        ensures { Reads (λ b. b) (spec.byte_at self.old) result self.new }
+        ensures read { Reads (λ b. b) (spec.byte_at self.old) result self.new }
+        ensures cut { IfErr result (λ e. e ≡ errors.Truncated) }
     {
         match self.bytes.get(self.place) {
             Some(byte) => {
@@ -137,7 +143,8 @@ impl<'a> Cursor<'a> {
     /// A number from `least` to `most`.
     #[tactic(auto, unfolding(crate::specs::Reading::count_at))]
     pub fn count(&mut self, least: usize, most: usize) -> Result<usize, ObjErr>
-        ensures { Reads (λ n. n) (spec.count_at least most self.old) result self.new }
+        ensures read { Reads (λ n. n) (spec.count_at least most self.old) result self.new }
+        ensures within { IfOk result (λ n. (least ≤ n) × (n ≤ most)) }
     {
         let at = self.place;
         let count = self.short()? as usize;
@@ -151,7 +158,8 @@ impl<'a> Cursor<'a> {
     /// The number of one of so many types.
     #[tactic(auto, unfolding(crate::specs::Reading::type_at))]
     pub fn ty(&mut self, count: usize) -> Result<Ty, ObjErr>
-        ensures { Reads type_number (spec.type_at count self.old) result self.new }
+        ensures read { Reads type_number (spec.type_at count self.old) result self.new }
+        ensures within { IfOk result (λ ty. ty.0 < count) }
     {
         let at = self.place;
         let ty = self.short()?;
@@ -165,7 +173,8 @@ impl<'a> Cursor<'a> {
     /// A legal name.
     #[tactic(auto, unfolding(crate::specs::Reading::named_at))]
     pub fn name(&mut self) -> Result<Named<'a>, ObjErr>
-        ensures { Reads (λ x. (x.text.now, x.at)) (spec.named_at self.old) result self.new }
+        ensures read { Reads (λ x. (x.text.now, x.at)) (spec.named_at self.old) result self.new }
+        ensures legal { IfOk result (λ x. IsName x.text.now) }
     {
         let at = self.place;
         let length = self.byte()? as usize;

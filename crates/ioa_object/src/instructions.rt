@@ -9,9 +9,22 @@ use crate::failure::ObjErr;
 use ioa_code::Instr;
 use ioa_value::{Op, Ty};
 
+/// The instruction of this part that comes after these.
+#[tactic(auto, unfolding(crate::specs::Reading::instr_at))]
+pub(crate) fn instruction(
+    cursor: &mut Cursor<'_>,
+    part: usize,
+    before: &[Instr],
+) -> Result<Instr, ObjErr>
+    ensures { Reads (λ i. i) (spec.instr_at part before.now cursor.old) result cursor.new }
+{
+    let byte = cursor.byte()?;
+    of_byte(cursor, part, before.len(), byte)
+}
+
 /// The instruction of this byte, with its operand, as the one at this place of this part.
 #[tactic(auto, unfolding(crate::specs::Reading::instr_of))]
-pub(crate) fn instruction(
+fn of_byte(
     cursor: &mut Cursor<'_>,
     part: usize,
     at: usize,

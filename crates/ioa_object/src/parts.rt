@@ -57,16 +57,15 @@ pub(crate) fn part(
 }
 
 /// The instructions of a part.
-#[tactic(auto, unfolding(crate::specs::Reading::instrs_at, crate::specs::Reading::instr_at))]
+#[tactic(auto, unfolding(crate::specs::Reading::instrs_at))]
 fn instructions(cursor: &mut Cursor<'_>) -> Result<Vec<Instr>, ObjErr>
     ensures { Reads (λ v. v.items) (spec.instrs_at cursor.old) result cursor.new }
 {
+    let part = cursor.parts();
     let count = cursor.short()? as usize;
     let mut found = Vec::new(cursor.alloc());
-    for at in 0..count {
-        let byte = cursor.byte()?;
-        let part = cursor.parts();
-        found.push(instruction(cursor, part, at, byte)?)?;
+    for _ in 0..count {
+        found.push(instruction(cursor, part, &found)?)?;
     }
     Ok(found)
 }

@@ -1,16 +1,12 @@
 //! Bytes as programs.
 
-ghost use Rattle.std.specs.Prelude.{◌≡◌, ◌↔◌, ◌++◌, ◌&&◌, ℕ, [], List, Some, IfOk, IfErr, IsErrOf, IsTrue, map};
-ghost use Rattle.std.specs.List.{list_any};
-ghost use Rattle.std.specs.Str.{bytes_eq};
-ghost use Rattle.ioa_tree.specs.Components.{is_output as is_output_kind};
+ghost use Rattle.std.specs.Prelude.{◌≡◌, ◌↔◌, ◌++◌, List, IfOk, IfErr, IsErrOf, IsTrue, map};
 ghost use Rattle.std.specs.String.{string_bytes};
 ghost use Rattle.ioa_value.specs.Table.{all_names, contains};
 ghost use Rattle.ioa_value.specs.declared.limits.TheConstants.{LIMITS as most};
 ghost use Rattle.ioa_compile.specs.Given.{prog_of};
 ghost use Rattle.ioa_compile.specs.Programs.{Prog};
-ghost use Rattle.ioa_compile.specs.Shown.{entry_code, member_code};
-ghost use Rattle.ioa_compile.specs.Tables.{is_output_of};
+ghost use Rattle.ioa_compile.specs.Shown.{member_code};
 ghost use Rattle.ioa_object.specs.Objects.{IsObject};
 ghost use Rattle.ioa_object.specs.Reading as spec;
 ghost use Rattle.ioa_object.specs.Refusals.{HasNoMark, HasOtherVersion, GoesOn, IsCut, IsRefused, IsRefusal};
@@ -22,8 +18,7 @@ use crate::cursor::Cursor;
 use crate::failure::ObjErr;
 use crate::mark::{MARK, VERSION};
 use crate::types::types;
-use ioa_compile::{Entry, Member, Program, TableErr, Tables};
-use ioa_tree::Kind;
+use ioa_compile::{Member, Program, TableErr, Tables, is_given, is_named, is_output};
 use ioa_value::{LIMITS, Types};
 use std::alloc::Global;
 
@@ -103,7 +98,7 @@ fn name(cursor: &mut Cursor<'_>, types: &Types) -> Result<String, ObjErr>
     ensures { spec.Reads string_bytes (spec.name_at (contains (all_names types.now)) cursor.old) result cursor.new }
 {
     let name = cursor.name()?;
-    if types.named(name.text).is_some() || types.constant(name.text).is_some() {
+    if is_given(types, name.text) {
         return Err(ObjErr::BadTable(name.at));
     }
     Ok(String::from_str(cursor.alloc(), name.text)?)
@@ -132,44 +127,8 @@ fn hidden_name(
     ensures { spec.Reads string_bytes (spec.hidden_at (map member_code members.now) (map string_bytes before.now) cursor.old) result cursor.new }
 {
     let name = cursor.name()?;
-    if is_among(before, name.text) || !is_output(members, name.text) {
+    if is_named(before, name.text) || !is_output(members, name.text) {
         return Err(ObjErr::BadTable(name.at));
     }
     Ok(String::from_str(cursor.alloc(), name.text)?)
-}
-
-/// Whether the name is one of these.
-fn is_among(names: &[String], name: &str) -> bool
-    ensures { result ≡ contains (map string_bytes names.now) name.now }
-{
-    for i in 0..names.len() {
-        if names[i].as_str() == name {
-            return true;
-        }
-    }
-    false
-}
-
-/// Whether an output of one of the components has this name.
-fn is_output(members: &[Member], name: &str) -> bool
-    ensures { result ≡ is_output_of (spec.program_of [] [] (map member_code members.now) []) name.now }
-{
-    for member in members {
-        if has_output(&member.entries, name) {
-            return true;
-        }
-    }
-    false
-}
-
-/// Whether one of the entries is an output of this name.
-fn has_output(entries: &[Entry], name: &str) -> bool
-    ensures { result ≡ list_any (λ e. is_output_kind (Some e.kind) && bytes_eq e.name name.now) (map entry_code entries.now) }
-{
-    for entry in entries {
-        if entry.kind == Kind::Output && entry.name.as_str() == name {
-            return true;
-        }
-    }
-    false
 }

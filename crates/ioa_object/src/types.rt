@@ -12,6 +12,7 @@ ghost use Rattle.ioa_object.specs.Taken.{taken_in};
 use crate::cursor::Cursor;
 use crate::failure::ObjErr;
 use indexmap::IndexSet;
+use ioa_compile::is_named;
 use ioa_value::{Declarations, Declared, Field, Form, LIMITS, Types};
 
 /// The types of a program. Bool and Int are there without a declaration.
@@ -42,6 +43,7 @@ fn one_more<'a>(
     ensures read { Reads (λ types. types) (spec.built (λ d. declarations ++ d ∷ []) (spec.declaration_at declarations cursor.old)) result cursor.new }
     ensures names { IfOk result (λ types. taken_in taken.new ≡ all_names types) }
 {
+    let alloc = cursor.alloc();
     let at = cursor.place();
     let tag = cursor.byte()?;
     if tag < 1 || 3 < tag {
@@ -52,7 +54,7 @@ fn one_more<'a>(
     if declarations.width(&form) > LIMITS.words {
         return Err(ObjErr::BadTable(at));
     }
-    let name = String::from_str(cursor.alloc(), name)?;
+    let name = String::from_str(alloc, name)?;
     Ok(declarations.push(Declared { name, form })?)
 }
 
@@ -71,6 +73,7 @@ fn new_name<'a>(cursor: &mut Cursor<'a>, taken: &mut IndexSet<&'a str>) -> Resul
 }
 
 /// What a type of this tag is, where there are so many types before it.
+#[tactic(auto, unfolding(crate::specs::Reading::form_at))]
 fn form<'a>(
     cursor: &mut Cursor<'a>,
     tag: u8,
@@ -122,7 +125,7 @@ fn field(cursor: &mut Cursor<'_>, count: usize, before: &[Field]) -> Result<Fiel
     ensures { Reads tuple_field (spec.field_at count (map tuple_field before.now) cursor.old) result cursor.new }
 {
     let name = cursor.name()?;
-    if is_field(before, name.text) {
+    if is_named(before, name.text) {
         return Err(ObjErr::BadTable(name.at));
     }
     let ty = cursor.ty(count)?;
@@ -132,22 +135,11 @@ fn field(cursor: &mut Cursor<'_>, count: usize, before: &[Field]) -> Result<Fiel
     })
 }
 
-/// Whether one of the fields has this name.
-fn is_field(fields: &[Field], name: &str) -> bool
-    ensures { result ≡ contains (map (λ f. f.name) (map tuple_field fields.now)) name.now }
-{
-    for i in 0..fields.len() {
-        if fields[i].name.as_str() == name {
-            return true;
-        }
-    }
-    false
-}
-
 /// A sequence of items of one of so many types.
 #[tactic(auto, unfolding(crate::specs::Reading::sequence_at))]
 fn sequence(cursor: &mut Cursor<'_>, count: usize) -> Result<Form, ObjErr>
-    ensures { Reads shape (spec.sequence_at count cursor.old) result cursor.new }
+    ensures read { Reads shape (spec.sequence_at count cursor.old) result cursor.new }
+    ensures names { IfOk result (λ form. names_in (shape form) ≡ []) }
 {
     let most = cursor.count(1, LIMITS.capacity)? as u16;
     let of = cursor.ty(count)?;
