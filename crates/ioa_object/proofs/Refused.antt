@@ -71,8 +71,8 @@ wrong_refused bytes errors.Clash w h = absurd w
 wrong_refused bytes errors.OutOfMemory w h = absurd w
 
 -- tables are refused where the bytes end inside an item, or something is wrong
-pub tables_wrong : (rest : List ℕ) (e : ObjErr) → tables_at (begun rest) ≡ Err e → (e ≡ errors.Truncated) ⊎ IsWrong e
-tables_wrong rest e h = ended_or_wrong [] _ _ e (tables_local.stays (begun rest) []) h
+pub tables_wrong : (c : Spot) (e : ObjErr) → tables_at c ≡ Err e → (e ≡ errors.Truncated) ⊎ IsWrong e
+tables_wrong c e h = ended_or_wrong [] _ _ e (tables_local.stays c []) h
 
 pub refused : (bytes : List ℕ) (e : ObjErr) → read bytes ≡ Err e → IsRefused bytes e
 refused bytes e h = go (beginning bytes)
@@ -85,7 +85,7 @@ refused bytes e h = go (beginning bytes)
     go (marked is k) = subst (IsRefused bytes) (same_error errors.Truncated k) k
     go (other v rest is differs k) = subst (IsRefused bytes) (same_error errors.Version k) (v, rest, differs, is)
     go (versioned rest is k) =
-        elim (tables_wrong rest e (sym k ∙ h)) [
+        elim (tables_wrong (begun rest) e (sym k ∙ h)) [
           | inl t ↦ subst (IsRefused bytes) (sym t) (h ∙ ap Err t)
           | inr w ↦ wrong_refused bytes e w h
         ]
