@@ -1,3 +1,6 @@
+pub mod Names
+pub mod Payloads
+pub mod Readers
 pub mod Outcomes
 pub mod Local
 pub mod Formats
@@ -17,6 +20,4 @@ pub mod Tables
 pub mod Laws
 pub mod Refused
 pub mod Computed
-pub mod Names
-pub mod Payloads
-pub mod Readers
+pub mod Exits
