@@ -25,8 +25,8 @@ use Rattle.ioa_object.proofs.Numbers.{IsAny, byte_format, type_format}
 use Rattle.ioa_object.proofs.Texts.{name_format}
 use Rattle.ioa_object.proofs.Lists.{AreListed, plain_list_format}
 use Rattle.ioa_object.proofs.Fresh.{IsNew}
-use Rattle.ioa_object.proofs.Values.{value_format, few_types}
-use Rattle.ioa_object.proofs.Parts.{over, own_types, types_own, IsPartHere, part_format, local_format}
+use Rattle.ioa_object.proofs.ValueFormats.{value_format, few_types}
+use Rattle.ioa_object.proofs.PartFormats.{over, own_types, types_own, IsPartHere, part_format, local_format}
 
 -- ---- kinds
 

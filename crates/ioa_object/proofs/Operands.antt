@@ -17,7 +17,7 @@ use Rattle.ioa_code.specs.declared.instr.Instr.{Instr}
 use Rattle.ioa_code.specs.declared.instr.Instr.TheVariants.{Const, Slot, Arg, Store, Jump, JumpIfFalse, Any, Pick, Apply}
 use Rattle.ioa_code.specs.Picks.{counted_of, counted}
 use Rattle.ioa_code.specs.Valid.{Part, Way, way, wanted, allowed, to_next, to_either, after, Leads, GoForward, Valid}
-use Rattle.ioa_object.proofs.Instructions.{IsShortOp, IsShort}
+use Rattle.ioa_object.proofs.InstructionFormats.{IsShortOp, IsShort}
 
 next_ok : (p : ℕ) (r : Result (List ℕ) _) (ways : List Way) → to_next p r ≡ Ok ways → (ts : List ℕ) × (r ≡ Ok ts)
 next_ok p (Ok ts) ways e = (ts, refl)

@@ -17,7 +17,7 @@ use Rattle.ioa_object.proofs.Outcomes.{IsWrong, ended_or_wrong, cut_inside}
 use Rattle.ioa_object.proofs.Local.{tables_local}
 use Rattle.ioa_object.proofs.Formats.{AreBytes, yielded, bytes_behind}
 use Rattle.ioa_object.proofs.Tables.{tables_format}
-use Rattle.ioa_object.proofs.Laws.{begun, read_begun, are_right, is_program, tables_found, object_found, whole}
+use Rattle.ioa_object.proofs.ObjectLaws.{begun, read_begun, are_right, is_program, tables_found, object_found, whole}
 
 -- ---- the mark and the version
 

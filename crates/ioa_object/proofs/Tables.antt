@@ -21,8 +21,8 @@ use Rattle.ioa_object.proofs.Formats.{AreBytes, Finds, finds_ok, finds_on, Yield
 use Rattle.ioa_object.proofs.Texts.{name_format}
 use Rattle.ioa_object.proofs.Lists.{AreFine, IsListed, Anywhere, list_format}
 use Rattle.ioa_object.proofs.Fresh.{fine_weaker, fine_both, IsNew, distinct_new, new_distinct}
-use Rattle.ioa_object.proofs.Types.{types_format}
-use Rattle.ioa_object.proofs.Components.{IsComponent, component_format}
+use Rattle.ioa_object.proofs.TypeFormats.{types_format}
+use Rattle.ioa_object.proofs.ComponentFormats.{IsComponent, component_format}
 
 -- ---- components
 

@@ -20,7 +20,7 @@ use Rattle.ioa_object.proofs.Formats.{AreBytes, Finds, finds_ok, finds_on, Yield
 use Rattle.ioa_object.proofs.Texts.{name_format}
 use Rattle.ioa_object.proofs.Lists.{AreFine, IsListed, Anywhere, list_format}
 use Rattle.ioa_object.proofs.Fresh.{fine_weaker, fine_both, IsNew, distinct_new, new_distinct}
-use Rattle.ioa_object.proofs.Parts.{over, own_types, types_own}
+use Rattle.ioa_object.proofs.PartFormats.{over, own_types, types_own}
 use Rattle.ioa_object.proofs.Entries.{local_weaker, values_format, IsEntryHere, entry_format}
 
 -- ---- entries of components with the same types

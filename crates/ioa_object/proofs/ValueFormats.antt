@@ -21,7 +21,7 @@ use Rattle.ioa_object.specs.Spelling.{short, bit, payload, payloads, value, list
 use Rattle.ioa_object.specs.Spots.{Spot}
 use Rattle.ioa_object.proofs.Formats.{AreBytes, Finds, finds_ok, finds_on, finds_right, finds_built, Yields, yields_ok, yields_on, yields_right, yields_weaker, IsFormat, same_format, chained}
 use Rattle.ioa_object.proofs.Numbers.{IsLong, byte_format, long_format, type_format}
-use Rattle.ioa_object.proofs.Types.{two_types}
+use Rattle.ioa_object.proofs.TypeFormats.{two_types}
 use Rattle.ioa_object.proofs.Lists.{AreListed, plain_list_format}
 
 payloads-vals : (vs : List Val) → payloads (vals vs) ≡ flat_map payload vs

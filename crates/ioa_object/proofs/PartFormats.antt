@@ -23,7 +23,7 @@ use Rattle.ioa_object.specs.Spots.{Spot}
 use Rattle.ioa_object.proofs.Formats.{AreBytes, Finds, finds_ok, finds_on, finds_built, Yields, yields_ok, yields_none, yields_on, yields_weaker, Taken, IsFormat, chained}
 use Rattle.ioa_object.proofs.Numbers.{short_format}
 use Rattle.ioa_object.proofs.Lists.{Anywhere, all_fine, fine_all, items_find, items_yield}
-use Rattle.ioa_object.proofs.Instructions.{IsShort, instr_format}
+use Rattle.ioa_object.proofs.InstructionFormats.{IsShort, instr_format}
 use Rattle.ioa_object.proofs.Operands.{IsSmall, valid_short}
 
 -- ---- instructions in a row
