@@ -29,3 +29,4 @@ pub use program::Program;
 pub use rightness::is_output;
 pub use table::{Entry, Member};
 pub use tables::{TableErr, Tables};
+pub use types::{parameter_types, position_types};

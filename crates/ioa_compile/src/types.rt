@@ -29,7 +29,7 @@ pub(crate) fn variable_types(
 }
 
 /// The types of what stands in positions, in order.
-pub(crate) fn position_types(alloc: Global, positions: &[Position]) -> Result<Vec<Ty>, OutOfMemory>
+pub fn position_types(alloc: Global, positions: &[Position]) -> Result<Vec<Ty>, OutOfMemory>
     ensures { IfOk result (λ found. map number found.items ≡ types_of_positions (map domain_of positions.now)) }
 {
     let mut found = Vec::new(alloc);
@@ -40,7 +40,7 @@ pub(crate) fn position_types(alloc: Global, positions: &[Position]) -> Result<Ve
 }
 
 /// The types of the parameters among positions, in order.
-pub(crate) fn parameter_types(alloc: Global, positions: &[Position]) -> Result<Vec<Ty>, OutOfMemory>
+pub fn parameter_types(alloc: Global, positions: &[Position]) -> Result<Vec<Ty>, OutOfMemory>
     ensures { IfOk result (λ found. map number found.items ≡ types_of_parameters (map domain_of positions.now)) }
 {
     let mut found = Vec::new(alloc);

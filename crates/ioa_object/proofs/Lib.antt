@@ -1,3 +1,4 @@
+pub mod Declaring
 pub mod Names
 pub mod Payloads
 pub mod Readers

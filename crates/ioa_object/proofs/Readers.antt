@@ -44,6 +44,17 @@ built_err f r e h = ap (built f) h
 pub built_ok : {A B : Type 0} (f : A → B) (r : Outcome A) (x : A) (d : Spot) → r ≡ Ok (x, d) → built f r ≡ Ok (f x, d)
 built_ok f r x d h = ap (built f) h
 
+-- what built an outcome
+pub built_failed : {A B : Type 0} (f : A → B) (r : Outcome A) (e : ObjErr) → built f r ≡ Err e → r ≡ Err e
+built_failed f (Ok x) e h = absurd (cc)
+built_failed f (Err g) e h = cc
+
+pub built_was : {A B : Type 0} (f : A → B) (r : Outcome A) (y : B) (d : Spot) → built f r ≡ Ok (y, d) → (x : A) × (r ≡ Ok (x, d)) × (y ≡ f x)
+built_was f (Ok x) y d h =
+    let same : (f x.0, x.1) ≡ (y, d) = cc in
+    (x.0, ap (λ g. Ok (x.0, g)) (ap (λ p. p.1) same), sym (ap (λ p. p.0) same))
+built_was f (Err g) y d h = absurd (cc)
+
 -- a thing more, seen without the memory that holds it
 pub seen_more : {A B : Type 0} (view : A → B) (xs ys : List A) (x : A) → ys ≡ xs ++ x ∷ [] → map view ys ≡ map view xs ++ view x ∷ []
 seen_more view xs ys x h = ap (map view) h ∙ map-append view xs (x ∷ [])

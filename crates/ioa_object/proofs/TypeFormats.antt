@@ -63,7 +63,7 @@ module _ (types : Table) (are : AreTypes types) (room : length types < 2 + LIMIT
   taken_names : Name → List Name
   taken_names x = all_names types ++ x ∷ []
 
-  declaration_format : IsFormat (declaration_at types) declaration (MayFollow types)
+  pub declaration_format : IsFormat (declaration_at types) declaration (MayFollow types)
   unfolding declaration_at taken_names
   declaration_format = record { finds = finds; yields = yields }
     where

@@ -9,7 +9,6 @@ ghost use Rattle.ioa_value.specs.Typing.{own, OwnTypes};
 ghost use Rattle.ioa_value.specs.declared.limits.TheConstants.{LIMITS as most};
 ghost use Rattle.ioa_compose.specs.Fine.{component_limits};
 ghost use Rattle.ioa_compile.specs.Shown.{entry_code, member_code};
-ghost use Rattle.ioa_compile.specs.Tables as tables;
 ghost use Rattle.ioa_object.specs.Openings.{opening};
 ghost use Rattle.ioa_object.specs.Reading as spec;
 ghost use Rattle.ioa_object.specs.Reading.{Reads};
@@ -19,7 +18,7 @@ use crate::failure::ObjErr;
 use crate::parts::{local_part, part};
 use crate::values::{value, values};
 use ioa_code::{Env, PartKind};
-use ioa_compile::{Entry, MOST_PLACES, Member, is_named};
+use ioa_compile::{Entry, MOST_PLACES, Member, is_named, parameter_types, position_types};
 use ioa_compose::COMPONENT_LIMITS;
 use ioa_node::from_values;
 use ioa_tree::Kind;
@@ -215,28 +214,4 @@ fn coded(
         name: front.name,
         positions: front.positions,
     })
-}
-
-/// The types of what stands in positions, in order.
-fn position_types(alloc: Global, positions: &[Position]) -> Result<Vec<Ty>, OutOfMemory>
-    ensures { IfOk result (λ found. map number found.items ≡ tables.position_types (map domain_of positions.now)) }
-{
-    let mut found = Vec::new(alloc);
-    for position in positions {
-        found.push(position.ty())?;
-    }
-    Ok(found)
-}
-
-/// The types of the parameters among positions, in order.
-fn parameter_types(alloc: Global, positions: &[Position]) -> Result<Vec<Ty>, OutOfMemory>
-    ensures { IfOk result (λ found. map number found.items ≡ tables.parameter_types (map domain_of positions.now)) }
-{
-    let mut found = Vec::new(alloc);
-    for position in positions {
-        if let Position::Typed(ty) = position {
-            found.push(*ty)?;
-        }
-    }
-    Ok(found)
 }

@@ -1,6 +1,6 @@
 //! A place in some bytes, from which they are read.
 
-ghost use Rattle.std.specs.Prelude.{◌≡◌, ◌<◌, ◌≤◌, ◌^◌, All, drop, length, IfOk, IfErr};
+ghost use Rattle.std.specs.Prelude.{◌≡◌, ◌+◌, ◌<◌, ◌≤◌, ◌^◌, All, drop, length, IfOk, IfErr, OnOk};
 ghost use Rattle.ioa_value.specs.Names.{IsName};
 ghost use Rattle.ioa_value.specs.Plain.{number as type_number, plain};
 ghost use Rattle.ioa_object.specs.Reading as spec;
@@ -59,6 +59,7 @@ impl<'a> Cursor<'a> {
     /// Where memory comes from.
     pub fn alloc(&self) -> Global
         ensures bytes { All (λ b. b < 2 ^ 8) self.now.rest }
+        ensures parts { self.now.parts ≤ self.now.place }
     {
         self.alloc
     }
@@ -97,6 +98,7 @@ impl<'a> Cursor<'a> {
     pub fn bytes(&mut self, count: usize) -> Result<&'a [u8], ObjErr>
         ensures read { Reads (λ bytes. bytes.now) (spec.bytes_at count self.old) result self.new }
         ensures count { IfOk result (λ bytes. length bytes.now ≡ count) }
+        ensures further { OnOk result ((self.new.place ≡ self.old.place + count) × (self.new.parts ≡ self.old.parts)) }
     {
         if self.left() < count {
             return Err(ObjErr::Truncated);
@@ -111,6 +113,7 @@ impl<'a> Cursor<'a> {
     pub fn byte(&mut self) -> Result<u8, ObjErr>
         ensures read { Reads (λ b. b) (spec.byte_at self.old) result self.new }
         ensures cut { IfErr result (λ e. e ≡ errors.Truncated) }
+        ensures further { OnOk result ((self.new.place ≡ self.old.place + 1) × (self.new.parts ≡ self.old.parts)) }
     {
         match self.bytes.get(self.place) {
             Some(byte) => {
@@ -124,7 +127,8 @@ impl<'a> Cursor<'a> {
     /// A number of 16 bits.
     #[tactic(auto, unfolding(crate::specs::Reading::short_at))]
     pub fn short(&mut self) -> Result<u16, ObjErr>
-        ensures { Reads (λ n. n) (spec.short_at self.old) result self.new }
+        ensures read { Reads (λ n. n) (spec.short_at self.old) result self.new }
+        ensures further { OnOk result ((self.new.place ≡ self.old.place + 2) × (self.new.parts ≡ self.old.parts)) }
     {
         let found = self.bytes(2)?;
         Ok(u16::from_le_bytes([found[0], found[1]]))

@@ -1,6 +1,6 @@
 //! Instructions by their bytes.
 
-ghost use Rattle.std.specs.Prelude.{◌≡◌, ◌++◌};
+ghost use Rattle.std.specs.Prelude.{◌≡◌, ◌≤◌, OnOk};
 ghost use Rattle.ioa_object.specs.Reading as spec;
 ghost use Rattle.ioa_object.specs.Reading.{Reads};
 
@@ -16,7 +16,8 @@ pub(crate) fn instruction(
     part: usize,
     before: &[Instr],
 ) -> Result<Instr, ObjErr>
-    ensures { Reads (λ i. i) (spec.instr_at part before.now cursor.old) result cursor.new }
+    ensures read { Reads (λ i. i) (spec.instr_at part before.now cursor.old) result cursor.new }
+    ensures further { OnOk result ((cursor.old.place ≤ cursor.new.place) × (cursor.new.parts ≡ cursor.old.parts)) }
 {
     let byte = cursor.byte()?;
     of_byte(cursor, part, before.len(), byte)
@@ -30,7 +31,8 @@ fn of_byte(
     at: usize,
     byte: u8,
 ) -> Result<Instr, ObjErr>
-    ensures { Reads (λ i. i) (spec.instr_of part at byte cursor.old) result cursor.new }
+    ensures read { Reads (λ i. i) (spec.instr_of part at byte cursor.old) result cursor.new }
+    ensures further { OnOk result ((cursor.old.place ≤ cursor.new.place) × (cursor.new.parts ≡ cursor.old.parts)) }
 {
     match byte {
         0x01 => Ok(Instr::Const(cursor.short()?)),

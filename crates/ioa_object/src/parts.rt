@@ -1,6 +1,6 @@
 //! Parts of code, which are verified.
 
-ghost use Rattle.std.specs.Prelude.{◌≡◌, map};
+ghost use Rattle.std.specs.Prelude.{◌≡◌, ◌<◌, OnOk, map};
 ghost use Rattle.ioa_value.specs.Plain.{number, plain};
 ghost use Rattle.ioa_value.specs.Typing.{OwnTypes};
 ghost use Rattle.ioa_object.specs.Reading as spec;
@@ -59,7 +59,8 @@ pub(crate) fn part(
 /// The instructions of a part.
 #[tactic(auto, unfolding(crate::specs::Reading::instrs_at))]
 fn instructions(cursor: &mut Cursor<'_>) -> Result<Vec<Instr>, ObjErr>
-    ensures { Reads (λ v. v.items) (spec.instrs_at cursor.old) result cursor.new }
+    ensures read { Reads (λ v. v.items) (spec.instrs_at cursor.old) result cursor.new }
+    ensures further { OnOk result ((cursor.old.place < cursor.new.place) × (cursor.new.parts ≡ cursor.old.parts)) }
 {
     let part = cursor.parts();
     let count = cursor.short()? as usize;

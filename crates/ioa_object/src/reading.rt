@@ -1,6 +1,6 @@
 //! Bytes as programs.
 
-ghost use Rattle.std.specs.Prelude.{◌≡◌, ◌↔◌, ◌++◌, List, IfOk, IfErr, IsErrOf, IsTrue, map};
+ghost use Rattle.std.specs.Prelude.{◌≡◌, ◌↔◌, ◌++◌, ℕ, List, IfOk, IfErr, IsErrOf, IsTrue, map};
 ghost use Rattle.std.specs.String.{string_bytes};
 ghost use Rattle.ioa_value.specs.Table.{all_names, contains};
 ghost use Rattle.ioa_value.specs.declared.limits.TheConstants.{LIMITS as most};

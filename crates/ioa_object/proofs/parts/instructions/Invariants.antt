@@ -1,6 +1,10 @@
-use Rattle.std.proofs.Common.{◌≡◌, ◌-◌, ◌≤◌, length}
+use Rattle.std.proofs.Common.{◌≡◌, ◌-◌, ◌<◌}
 use Rattle.ioa_object.specs.Reading.{instrs_at, instr_at, items_at}
 use Rattle.ioa_object.proofs.parts.instructions.Given as goal
 
 abbrev pub invariant-loop : goal.invariant-loop
-invariant-loop l = instrs_at l.fn.cursor ≡ items_at (instr_at l.part) l.found.items (l.count - l.counter) l.cursor
+invariant-loop l = record {
+  read : instrs_at l.fn.cursor ≡ items_at (instr_at l.part) l.found.items (l.count - l.counter) l.cursor;
+  further : l.fn.cursor.place < l.cursor.place;
+  parts : l.cursor.parts ≡ l.fn.cursor.parts
+}

@@ -1,0 +1,9 @@
+use Rattle.std.proofs.Common.{◌≡◌, ◌-◌, map}
+use Rattle.ioa_compile.specs.Shown.{entry_code}
+use Rattle.ioa_value.specs.Plain.{number}
+use Rattle.ioa_compose.specs.Fine.{component_limits}
+use Rattle.ioa_object.specs.Reading.{list_at, items_at, entry_at}
+use Rattle.ioa_object.proofs.components.entries.Given as goal
+
+abbrev pub invariant-loop : goal.invariant-loop
+invariant-loop l = list_at 1 component_limits.entries (entry_at l.types (map number l.slots)) l.fn.cursor ≡ items_at (entry_at l.types (map number l.slots)) (map entry_code l.found.items) (l.count - l.counter) l.cursor
