@@ -22,3 +22,4 @@ pub mod ObjectLaws
 pub mod Refused
 pub mod Computed
 pub mod Exits
+pub mod Written

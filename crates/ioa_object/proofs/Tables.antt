@@ -1,5 +1,5 @@
 -- The tables of a program, read and spelled: what is read is right, and what is right is read.
-use Rattle.std.proofs.Common.{◌≡◌, ℕ, zero, suc, ◌<◌, ◌≤◌, true, false, not, ◌&&◌, ◌||◌, List, [], ◌∷◌, ◌++◌, length, map, Some, refl, sym, ap, ◌∙◌, subst, arith}
+use Rattle.std.proofs.Common.{All, ◌≡◌, ℕ, zero, suc, ◌<◌, ◌≤◌, true, false, not, ◌&&◌, ◌||◌, List, [], ◌∷◌, ◌++◌, length, map, Some, refl, sym, ap, ◌∙◌, subst, arith}
 use Rattle.std.specs.Prelude.{slice_get}
 use Rattle.std.specs.List.{list_any, list_all}
 use Rattle.std.specs.Str.{bytes_eq}
@@ -19,7 +19,7 @@ use Rattle.ioa_object.specs.Spelling.{text, list_of, declaration, declared, comp
 use Rattle.ioa_object.specs.Spots.{Spot}
 use Rattle.ioa_object.proofs.Formats.{AreBytes, Finds, finds_ok, finds_on, Yields, yields_ok, yields_on, Taken, IsFormat, same_format, chained}
 use Rattle.ioa_object.proofs.Texts.{name_format}
-use Rattle.ioa_object.proofs.Lists.{AreFine, IsListed, Anywhere, list_format}
+use Rattle.ioa_object.proofs.Lists.{AreFine, IsListed, Anywhere, all_fine, list_format}
 use Rattle.ioa_object.proofs.Fresh.{fine_weaker, fine_both, IsNew, distinct_new, new_distinct}
 use Rattle.ioa_object.proofs.TypeFormats.{types_format}
 use Rattle.ioa_object.proofs.ComponentFormats.{IsComponent, component_format}
@@ -48,19 +48,19 @@ module _ (types : Table) (are : AreTypes types) where
 
 -- ---- hidden names
 
-member_at : (types : Table) (ms : List MemberCode) (i : ℕ) (m : MemberCode) → AreMembers types ms → slice_get ms i ≡ Some m → IsMember types m
+pub member_at : (types : Table) (ms : List MemberCode) (i : ℕ) (m : MemberCode) → AreMembers types ms → slice_get ms i ≡ Some m → IsMember types m
 member_at types [] i m h e = absurd (cc)
 member_at types (n ∷ ms) zero m h e = let same : n ≡ m = cc in subst (IsMember types) same h.0
 member_at types (n ∷ ms) (suc i) m h e = member_at types ms i m h.1 e
 
-entry_in : (m : MemberCode) (es : List EntryCode) (i : ℕ) (e : EntryCode) → AreEntries m es → slice_get es i ≡ Some e → IsEntry m e
+pub entry_in : (m : MemberCode) (es : List EntryCode) (i : ℕ) (e : EntryCode) → AreEntries m es → slice_get es i ≡ Some e → IsEntry m e
 entry_in m [] i e h at = absurd (cc)
 entry_in m (f ∷ es) zero e h at = let same : f ≡ e = cc in subst (IsEntry m) same h.0
 entry_in m (f ∷ es) (suc i) e h at = entry_in m es i e h.1 at
 
 module _ (types : Table) (ms : List MemberCode) (h : AreMembers types ms) where
   -- an output has a legal name
-  output_legal : (x : Name) → have_output ms x ≡ true → IsName x
+  pub output_legal : (x : Name) → have_output ms x ≡ true → IsName x
   output_legal x out =
       let (m, i, at, has) = some_at (λ m. list_any (λ e. is_output (Some e.kind) && bytes_eq e.name x) m.entries) ms out in
       let (e, j, there, is) = some_at (λ e. is_output (Some e.kind) && bytes_eq e.name x) m.entries has in
@@ -103,6 +103,10 @@ module _ (types : Table) (ms : List MemberCode) (h : AreMembers types ms) where
     few = few;
     fine = fine_both (Anywhere (λ x. have_output ms x ≡ true)) (IsNew (λ x. x)) IsHidden (λ before x k n. record { output = k; new = n }) [] xs (outputs_fine [] xs outputs) (distinct_new (λ x. x) [] xs (ap distinct (map-id xs) ∙ names));
   }
+
+-- hidden names are legal
+pub hidden_legal : (p : Prog) → AreRight p → All IsName p.hidden
+hidden_legal p h = all_fine IsName [] p.hidden (fine_weaker _ _ (λ before x k. output_legal p.types p.members h.members x k) [] p.hidden (outputs_fine p.types p.members h.members [] p.hidden h.outputs))
 
 -- ---- all tables
 
