@@ -50,8 +50,8 @@ built_failed f (Ok x) e h = absurd (cc)
 built_failed f (Err g) e h = cc
 
 pub built_was : {A B : Type 0} (f : A → B) (r : Outcome A) (y : B) (d : Spot) → built f r ≡ Ok (y, d) → (x : A) × (r ≡ Ok (x, d)) × (y ≡ f x)
-built_was f (Ok x) y d h =
-    let same : (f x.0, x.1) ≡ (y, d) = cc in
+built_was {A} {B} f (Ok x) y d h =
+    let same : ◌≡◌ {A = B × Spot} (f x.0, x.1) (y, d) = cc in
     (x.0, ap (λ g. Ok (x.0, g)) (ap (λ p. p.1) same), sym (ap (λ p. p.0) same))
 built_was f (Err g) y d h = absurd (cc)
 

@@ -4,7 +4,7 @@ ghost use Rattle.std.specs.Prelude.{◌≡◌, IfOk, map};
 ghost use Rattle.std.specs.String.{string_bytes};
 ghost use Rattle.ioa_value.specs.Plain.{number, plain};
 ghost use Rattle.ioa_value.specs.Positions.{domain_of};
-ghost use Rattle.ioa_value.specs.Table.{contains};
+ghost use Rattle.ioa_value.specs.Table.{AreTypes};
 ghost use Rattle.ioa_value.specs.Typing.{own, OwnTypes};
 ghost use Rattle.ioa_value.specs.declared.limits.TheConstants.{LIMITS as most};
 ghost use Rattle.ioa_compose.specs.Fine.{component_limits};
@@ -27,6 +27,7 @@ use std::alloc::Global;
 
 /// The components of a program over these types.
 pub(crate) fn components(cursor: &mut Cursor<'_>, types: &Types) -> Result<Vec<Member>, ObjErr>
+    requires { AreTypes types.now }
     ensures { Reads (λ v. map member_code v.items) (spec.list_at 1 most.components (spec.component_at types.now) cursor.old) result cursor.new }
 {
     let count = cursor.count(1, LIMITS.components)?;
@@ -40,6 +41,7 @@ pub(crate) fn components(cursor: &mut Cursor<'_>, types: &Types) -> Result<Vec<M
 /// The component that comes after these.
 #[tactic(auto, unfolding(crate::specs::Reading::component_at, crate::specs::Reading::name_at))]
 fn component(cursor: &mut Cursor<'_>, types: &Types, before: &[Member]) -> Result<Member, ObjErr>
+    requires { AreTypes types.now }
     ensures { Reads member_code (spec.component_at types.now (map member_code before.now) cursor.old) result cursor.new }
 {
     let alloc = cursor.alloc();
@@ -78,6 +80,7 @@ fn types_of(alloc: Global, values: &[Value]) -> Result<Vec<Ty>, OutOfMemory>
 /// The entries of a component, over variables of these types.
 #[tactic(auto, unfolding(crate::specs::Reading::list_at))]
 fn entries(cursor: &mut Cursor<'_>, types: &Types, slots: &[Ty]) -> Result<Vec<Entry>, ObjErr>
+    requires { AreTypes types.now }
     ensures { Reads (λ v. map entry_code v.items) (spec.list_at 1 component_limits.entries (spec.entry_at types.now (map number slots.now)) cursor.old) result cursor.new }
 {
     let count = cursor.count(1, COMPONENT_LIMITS.entries)?;
@@ -105,6 +108,7 @@ fn entry(
     slots: &[Ty],
     before: &[Entry],
 ) -> Result<Entry, ObjErr>
+    requires { AreTypes types.now }
     ensures { Reads entry_code (spec.entry_at types.now (map number slots.now) (map entry_code before.now) cursor.old) result cursor.new }
 {
     let front = front_of(cursor, types, before)?;
@@ -114,7 +118,9 @@ fn entry(
 /// What the entry is that comes after these, before its code.
 #[tactic(auto, unfolding(crate::specs::Reading::opening_at, crate::specs::Reading::name_at))]
 fn front_of(cursor: &mut Cursor<'_>, types: &Types, before: &[Entry]) -> Result<Front, ObjErr>
-    ensures { Reads opening (spec.opening_at types.now (map entry_code before.now) cursor.old) result cursor.new }
+    requires { AreTypes types.now }
+    ensures typed { IfOk result (λ front. OwnTypes types.now (map plain front.consts.items)) }
+    ensures read { Reads opening (spec.opening_at types.now (map entry_code before.now) cursor.old) result cursor.new }
 {
     let alloc = cursor.alloc();
     let kind = kind(cursor)?;

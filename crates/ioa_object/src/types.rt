@@ -3,7 +3,7 @@
 ghost use Rattle.std.specs.Prelude.{◌≡◌, ◌+◌, ◌<◌, ◌++◌, ◌∷◌, [], IfOk, length, map};
 ghost use Rattle.std.specs.String.{string_bytes};
 ghost use Rattle.ioa_value.specs.Shapes.{shape, tuple_field};
-ghost use Rattle.ioa_value.specs.Table.{all_names, contains, names_in};
+ghost use Rattle.ioa_value.specs.Table.{AreTypes, all_names, contains, names_in};
 ghost use Rattle.ioa_value.specs.declared.limits.TheConstants.{LIMITS as most};
 ghost use Rattle.ioa_object.specs.Reading as spec;
 ghost use Rattle.ioa_object.specs.Reading.{Reads};
@@ -18,7 +18,8 @@ use ioa_value::{Declarations, Declared, Field, Form, LIMITS, Types};
 /// The types of a program. Bool and Int are there without a declaration.
 #[tactic(auto, unfolding(crate::specs::Reading::types_at))]
 pub(crate) fn types(cursor: &mut Cursor<'_>) -> Result<Types, ObjErr>
-    ensures { Reads (λ types. types) (spec.types_at cursor.old) result cursor.new }
+    ensures read { Reads (λ types. types) (spec.types_at cursor.old) result cursor.new }
+    ensures declared { IfOk result AreTypes }
 {
     let alloc = cursor.alloc();
     let count = cursor.count(0, LIMITS.types)?;
