@@ -1,15 +1,11 @@
 -- Names that are taken, in a set of texts.
-use Rattle.std.proofs.Common.{◌≡◌, ℕ, Bool, true, false, not, ◌||◌, List, [], ◌∷◌, map, refl, sym, ap, ◌∙◌}
+use Rattle.std.proofs.Common.{◌≡◌, ℕ, Bool, true, false, not, List, map, refl, sym, ap, ◌∙◌}
 use Rattle.std.specs.List.{list_any}
 use Rattle.std.specs.Str.{bytes_eq}
 use Rattle.std.proofs.lemmas.Simd.{map-map}
 use denote.Ref.{Bor}
 use Rattle.ioa_value.specs.Table.{contains}
-use Rattle.ioa_value.proofs.NameLemmas.{bytes_eq-sym}
-
-pub contains-texts : (ks : List (Bor (List ℕ))) (x : List ℕ) → list_any (λ k. bytes_eq x k.now) ks ≡ contains (map (λ k. k.now) ks) x
-contains-texts [] x = refl
-contains-texts (k ∷ ks) x = ap (λ b. b || list_any (λ k. bytes_eq x k.now) ks) (bytes_eq-sym x k.now) ∙ ap (λ b. bytes_eq k.now x || b) (contains-texts ks x)
+use Rattle.ioa_check.proofs.NameLemmas.{contains-texts}
 
 other : (a b : Bool) → a ≡ not b → b ≡ not a
 other true true h = h

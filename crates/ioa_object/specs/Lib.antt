@@ -3,5 +3,4 @@ pub mod Objects
 pub mod Spots
 pub mod Reading
 pub mod Openings
-pub mod Taken
 pub mod Refusals

@@ -7,7 +7,7 @@ ghost use Rattle.ioa_value.specs.Table.{AreTypes, all_names, contains, names_in}
 ghost use Rattle.ioa_value.specs.declared.limits.TheConstants.{LIMITS as most};
 ghost use Rattle.ioa_object.specs.Reading as spec;
 ghost use Rattle.ioa_object.specs.Reading.{Reads};
-ghost use Rattle.ioa_object.specs.Taken.{taken_in};
+ghost use Rattle.ioa_check.specs.Globals.{texts};
 
 use crate::cursor::Cursor;
 use crate::failure::ObjErr;
@@ -40,9 +40,9 @@ fn one_more<'a>(
     taken: &mut IndexSet<&'a str>,
 ) -> Result<Declarations, ObjErr>
     requires room { length declarations < 2 + most.types }
-    requires names { taken_in taken.old ≡ all_names declarations }
+    requires names { texts taken.old ≡ all_names declarations }
     ensures read { Reads (λ types. types) (spec.built (λ d. declarations ++ d ∷ []) (spec.declaration_at declarations cursor.old)) result cursor.new }
-    ensures names { IfOk result (λ types. taken_in taken.new ≡ all_names types) }
+    ensures names { IfOk result (λ types. texts taken.new ≡ all_names types) }
 {
     let alloc = cursor.alloc();
     let at = cursor.place();
@@ -62,8 +62,8 @@ fn one_more<'a>(
 /// A name that is not taken, and is taken from here on.
 #[tactic(auto, unfolding(crate::specs::Reading::name_at))]
 fn new_name<'a>(cursor: &mut Cursor<'a>, taken: &mut IndexSet<&'a str>) -> Result<&'a str, ObjErr>
-    ensures read { Reads (λ x. x.now) (spec.name_at (contains (taken_in taken.old)) cursor.old) result cursor.new }
-    ensures names { IfOk result (λ x. taken_in taken.new ≡ taken_in taken.old ++ x.now ∷ []) }
+    ensures read { Reads (λ x. x.now) (spec.name_at (contains (texts taken.old)) cursor.old) result cursor.new }
+    ensures names { IfOk result (λ x. texts taken.new ≡ texts taken.old ++ x.now ∷ []) }
 {
     let name = cursor.name()?;
     if taken.insert(name.text)? {
@@ -81,8 +81,8 @@ fn form<'a>(
     count: usize,
     taken: &mut IndexSet<&'a str>,
 ) -> Result<Form, ObjErr>
-    ensures read { Reads shape (spec.form_at tag (taken_in taken.old) count cursor.old) result cursor.new }
-    ensures names { IfOk result (λ form. taken_in taken.new ≡ taken_in taken.old ++ names_in (shape form)) }
+    ensures read { Reads shape (spec.form_at tag (texts taken.old) count cursor.old) result cursor.new }
+    ensures names { IfOk result (λ form. texts taken.new ≡ texts taken.old ++ names_in (shape form)) }
 {
     match tag {
         1 => Ok(Form::Names(constants(cursor, taken)?)),
@@ -96,8 +96,8 @@ fn constants<'a>(
     cursor: &mut Cursor<'a>,
     taken: &mut IndexSet<&'a str>,
 ) -> Result<Vec<String>, ObjErr>
-    ensures read { Reads (λ v. map string_bytes v.items) (spec.list_at 1 most.names (λ before. spec.name_at (contains (taken_in taken.old ++ before))) cursor.old) result cursor.new }
-    ensures names { IfOk result (λ v. taken_in taken.new ≡ taken_in taken.old ++ map string_bytes v.items) }
+    ensures read { Reads (λ v. map string_bytes v.items) (spec.list_at 1 most.names (λ before. spec.name_at (contains (texts taken.old ++ before))) cursor.old) result cursor.new }
+    ensures names { IfOk result (λ v. texts taken.new ≡ texts taken.old ++ map string_bytes v.items) }
 {
     let alloc = cursor.alloc();
     let count = cursor.count(1, LIMITS.names)?;
