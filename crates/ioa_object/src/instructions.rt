@@ -25,12 +25,7 @@ pub(crate) fn instruction(
 
 /// The instruction of this byte, with its operand, as the one at this place of this part.
 #[tactic(auto, unfolding(crate::specs::Reading::instr_of))]
-fn of_byte(
-    cursor: &mut Cursor<'_>,
-    part: usize,
-    at: usize,
-    byte: u8,
-) -> Result<Instr, ObjErr>
+fn of_byte(cursor: &mut Cursor<'_>, part: usize, at: usize, byte: u8) -> Result<Instr, ObjErr>
     ensures read { Reads (λ i. i) (spec.instr_of part at byte cursor.old) result cursor.new }
     ensures further { OnOk result ((cursor.old.place ≤ cursor.new.place) × (cursor.new.parts ≡ cursor.old.parts)) }
 {

@@ -28,7 +28,7 @@ pub returns-in_err-starts : goal.returns-in_err-starts
 unfolding component_at
 returns-in_err-starts c =
     let free = name_free (contains (map (λ m. m.name) (map member_code c.args.before.now))) c.args.cursor.now c.in_ok-name.name.text.now c.in_ok-name.name.at c.name.new.self c.in_ok-name.ensures.read
-        (named_alike member_code (λ m. m.name) c.args.before.now _ _ _ c.is_named.ensures c.if-is_named.false) in
+    (named_alike member_code (λ m. m.name) c.args.before.now _ _ _ c.is_named.ensures c.if-is_named.false) in
     reads_err _ c.from_residual-in_err-starts.result c.in_err-starts.field-0.0 _ _ _ c.from_residual-in_err-starts.ensures.1
     (λ f q. then_ok _ _ _ free ∙ then_err _ _ f q) c.in_err-starts.ensures
 
@@ -37,7 +37,7 @@ unfolding component_at
 returns-in_err-entries c =
     let slots : map number c.in_ok-slots.slots.items ≡ map own (map plain c.in_ok-starts.starts.items) = c.in_ok-slots.ensures ∙ ap (λ l. map own (map plain l)) c.deref.ensures.value in
     let free = name_free (contains (map (λ m. m.name) (map member_code c.args.before.now))) c.args.cursor.now c.in_ok-name.name.text.now c.in_ok-name.name.at c.name.new.self c.in_ok-name.ensures.read
-        (named_alike member_code (λ m. m.name) c.args.before.now _ _ _ c.is_named.ensures c.if-is_named.false) in
+    (named_alike member_code (λ m. m.name) c.args.before.now _ _ _ c.is_named.ensures c.if-is_named.false) in
     reads_err _ c.from_residual-in_err-entries.result c.in_err-entries.field-0.0 _ _ _ c.from_residual-in_err-entries.ensures.1
     (λ f q. then_ok _ _ _ free ∙ then_ok _ _ _ c.in_ok-starts.ensures ∙ then_err _ _ f q) (rw (c.deref-2.ensures.value, slots) at c.in_err-entries.ensures)
 
@@ -47,9 +47,9 @@ from_values-requires c =
     let vs = map plain c.in_ok-starts.starts.items in
     let slots : map number c.in_ok-slots.slots.items ≡ map own vs = c.in_ok-slots.ensures ∙ ap (λ l. map own (map plain l)) c.deref.ensures.value in
     let free = name_free (contains (map (λ m. m.name) (map member_code c.args.before.now))) c.args.cursor.now c.in_ok-name.name.text.now c.in_ok-name.name.at c.name.new.self c.in_ok-name.ensures.read
-        (named_alike member_code (λ m. m.name) c.args.before.now _ _ _ c.is_named.ensures c.if-is_named.false) in
+    (named_alike member_code (λ m. m.name) c.args.before.now _ _ _ c.is_named.ensures c.if-is_named.false) in
     let named = yielded _ _ c.in_ok-name.name.text.now c.name.new.self
-        ((name_format (contains (map (λ m. m.name) (map member_code c.args.before.now)))).yields c.args.cursor.now c.alloc-alloc.ensures.bytes) free in
+    ((name_format (contains (map (λ m. m.name) (map member_code c.args.before.now)))).yields c.args.cursor.now c.alloc-alloc.ensures.bytes) free in
     let started = yielded _ _ vs c.values.new.cursor ((values_format types c.requires component_limits.variables (omega arith)).yields c.name.new.self named.after) c.in_ok-starts.ensures in
     rw (c.deref-4.ensures.value, c.deref-3.ensures.value) (HaveTypes-from_own types vs (map number c.in_ok-slots.slots.items) (sym slots) (own_types types vs started.fine.fine))
 
@@ -64,9 +64,9 @@ returns c =
     let made : Name → Node → MemberCode = λ x s. record { name = x; start = s; entries = es } in
     let slots : map number c.in_ok-slots.slots.items ≡ map own vs = c.in_ok-slots.ensures ∙ ap (λ l. map own (map plain l)) c.deref.ensures.value in
     let start : c.in_ok-from_values.field-0 ≡ node (map own vs) vs =
-        c.in_ok-from_values.ensures ∙ ap (λ l. node (map number l) (map plain c.deref-4.result.now)) c.deref-3.ensures.value
-        ∙ ap (λ l. node (map number c.in_ok-slots.slots.items) (map plain l)) c.deref-4.ensures.value ∙ ap (λ ts. node ts vs) slots in
+    c.in_ok-from_values.ensures ∙ ap (λ l. node (map number l) (map plain c.deref-4.result.now)) c.deref-3.ensures.value
+    ∙ ap (λ l. node (map number c.in_ok-slots.slots.items) (map plain l)) c.deref-4.ensures.value ∙ ap (λ ts. node ts vs) slots in
     let free = name_free (contains (map (λ m. m.name) (map member_code c.args.before.now))) c.args.cursor.now c.in_ok-name.name.text.now c.in_ok-name.name.at c.name.new.self c.in_ok-name.ensures.read
-        (named_alike member_code (λ m. m.name) c.args.before.now _ _ _ c.is_named.ensures c.if-is_named.false) in
+    (named_alike member_code (λ m. m.name) c.args.before.now _ _ _ c.is_named.ensures c.if-is_named.false) in
     then_ok _ _ _ free ∙ then_ok _ _ _ c.in_ok-starts.ensures ∙ then_ok _ _ _ (rw (c.deref-2.ensures.value, slots) at c.in_ok-entries.ensures)
     ∙ ap (λ x. Ok (made x (node (map own vs) vs), d)) (sym c.in_ok-text.ensures) ∙ ap (λ s. Ok (made (string_bytes c.in_ok-text.field-0) s, d)) (sym start)

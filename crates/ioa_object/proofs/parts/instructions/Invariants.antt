@@ -6,5 +6,5 @@ abbrev pub invariant-loop : goal.invariant-loop
 invariant-loop l = record {
   read : instrs_at l.fn.cursor ≡ items_at (instr_at l.part) l.found.items (l.count - l.counter) l.cursor;
   further : l.fn.cursor.place < l.cursor.place;
-  parts : l.cursor.parts ≡ l.fn.cursor.parts
+  parts : l.cursor.parts ≡ l.fn.cursor.parts;
 }

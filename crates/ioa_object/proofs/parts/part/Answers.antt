@@ -21,8 +21,8 @@ returns-in-Ok c =
     let d = c.instructions.new.cursor in
     let whole = part_of env.types.now (map number env.slots.now) (map plain c.args.consts.now) env.kind (map number env.arguments.now) (map number env.result.now) is in
     let same : c.in-Ok.verified ≡ whole =
-        c.in-Ok.ensures.valid
-        ∙ ap (λ consts. part_of env.types.now (map number env.slots.now) consts env.kind (map number env.arguments.now) (map number env.result.now) is) c.in_ok-copies.ensures in
+    c.in-Ok.ensures.valid
+    ∙ ap (λ consts. part_of env.types.now (map number env.slots.now) consts env.kind (map number env.arguments.now) (map number env.result.now) is) c.in_ok-copies.ensures in
     let sound = subst (λ (p : Part). IsVerified p) same c.in-Ok.ensures.sound in
     then_ok _ _ (is, d) c.in_ok-instrs.ensures.read ∙ ap (λ v. verified v whole d) ((exact whole).1 sound.valid)
     ∙ ap (λ p. Ok (p, counted d)) (sym same) ∙ ap (λ e. Ok (c.in-Ok.verified, e)) (sym c.count_part.ensures)

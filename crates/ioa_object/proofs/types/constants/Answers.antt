@@ -32,8 +32,8 @@ pub loop-preserved : goal.loop-preserved
 loop-preserved c =
     let x = c.in_ok-new_name.field-0.now in
     let more : map string_bytes c.push.new.self.items ≡ map string_bytes c.loop.names.items ++ x ∷ [] =
-        seen_more string_bytes c.loop.names.items c.push.new.self.items c.in_ok-from_str.field-0 c.in_ok-push.ensures.items
-        ∙ ap (λ y. map string_bytes c.loop.names.items ++ y ∷ []) c.in_ok-from_str.ensures.ok in
+    seen_more string_bytes c.loop.names.items c.push.new.self.items c.in_ok-from_str.field-0 c.in_ok-push.ensures.items
+    ∙ ap (λ y. map string_bytes c.loop.names.items ++ y ∷ []) c.in_ok-from_str.ensures.ok in
     record {
       read = amid_more (item (texts c.args.taken.now)) _ c.in_ok-count.count c.loop.counter (map string_bytes c.loop.names.items) (map string_bytes c.push.new.self.items) c.loop.cursor
           c.new_name.new.cursor x c.loop-test.true c.loop.invariant.read (rw c.loop.invariant.taken at c.in_ok-new_name.ensures.read) more;

@@ -10,5 +10,5 @@ abbrev pub invariant-loop : goal.invariant-loop
 invariant-loop l = record {
   read : list_at 1 most.names (λ before. name_at (contains (texts l.fn.taken ++ before))) l.fn.cursor
       ≡ items_at (λ before. name_at (contains (texts l.fn.taken ++ before))) (map string_bytes l.names.items) (l.count - l.counter) l.cursor;
-  taken : texts l.taken ≡ texts l.fn.taken ++ map string_bytes l.names.items
+  taken : texts l.taken ≡ texts l.fn.taken ++ map string_bytes l.names.items;
 }

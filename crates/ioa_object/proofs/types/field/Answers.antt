@@ -16,7 +16,7 @@ pub returns-in_err-ty : goal.returns-in_err-ty
 unfolding field_at
 returns-in_err-ty c =
     let free = name_free (contains (field_names (map tuple_field c.args.before.now))) c.args.cursor.now c.in_ok-name.name.text.now c.in_ok-name.name.at c.name.new.self c.in_ok-name.ensures.read
-        (named_alike tuple_field (λ f. f.name) c.args.before.now _ _ _ c.is_named.ensures c.if-is_named.false) in
+    (named_alike tuple_field (λ f. f.name) c.args.before.now _ _ _ c.is_named.ensures c.if-is_named.false) in
     reads_err tuple_field c.from_residual-in_err-ty.result c.in_err-ty.field-0.0 (type_at c.args.count c.name.new.self) _ c.ty.new.self c.from_residual-in_err-ty.ensures.1
     (λ f q. then_ok _ _ _ free ∙ then_err _ _ f q) c.in_err-ty.ensures.read
 
@@ -24,5 +24,5 @@ pub returns : goal.returns
 unfolding field_at
 returns c =
     let free = name_free (contains (field_names (map tuple_field c.args.before.now))) c.args.cursor.now c.in_ok-name.name.text.now c.in_ok-name.name.at c.name.new.self c.in_ok-name.ensures.read
-        (named_alike tuple_field (λ f. f.name) c.args.before.now _ _ _ c.is_named.ensures c.if-is_named.false) in
+    (named_alike tuple_field (λ f. f.name) c.args.before.now _ _ _ c.is_named.ensures c.if-is_named.false) in
     then_ok _ _ _ free ∙ then_ok _ _ _ c.in_ok-ty.ensures.read ∙ ap (λ x. Ok (record { name = x; ty = c.in_ok-ty.ty.0 }, c.ty.new.self)) (sym c.in_ok-from_str.ensures.ok)

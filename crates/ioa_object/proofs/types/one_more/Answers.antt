@@ -47,8 +47,8 @@ push-requires c =
     let second = rw c.requires.names at c.in_ok-name.ensures.read in
     let third = rw (c.in_ok-name.ensures.names, c.requires.names, c.len.ensures.count) at c.in_ok-form.ensures.read in
     let d : MayFollow c.args.declarations (record { name = c.in_ok-name.name.now; shape = shape c.in_ok-form.form }) =
-        follows c.args.declarations c.args.cursor.now c.in_ok-tag.tag c.byte.new.self c.in_ok-tag.ensures.read (omega arith) (omega arith) c.in_ok-name.name.now c.new_name.new.cursor second
-        (shape c.in_ok-form.form) c.form.new.cursor third c.len.ensures.types c.alloc-alloc.ensures.bytes c.requires.room (omega (arith, c.width.ensures)) in
+    follows c.args.declarations c.args.cursor.now c.in_ok-tag.tag c.byte.new.self c.in_ok-tag.ensures.read (omega arith) (omega arith) c.in_ok-name.name.now c.new_name.new.cursor second
+    (shape c.in_ok-form.form) c.form.new.cursor third c.len.ensures.types c.alloc-alloc.ensures.bytes c.requires.room (omega (arith, c.width.ensures)) in
     rw c.in_ok-name-2.ensures.ok d
 
 pub returns-clause-read : goal.returns-clause-read
@@ -56,7 +56,7 @@ returns-clause-read c =
     let second = rw c.requires.names at c.in_ok-name.ensures.read in
     let third = rw (c.in_ok-name.ensures.names, c.requires.names, c.len.ensures.count) at c.in_ok-form.ensures.read in
     let all = whole c.args.declarations c.args.cursor.now c.in_ok-tag.tag c.byte.new.self c.in_ok-tag.ensures.read (omega arith) (omega arith) c.in_ok-name.name.now c.new_name.new.cursor second
-        (shape c.in_ok-form.form) c.form.new.cursor third (omega (arith, c.width.ensures)) in
+    (shape c.in_ok-form.form) c.form.new.cursor third (omega (arith, c.width.ensures)) in
     built_ok (λ d. c.args.declarations ++ d ∷ []) _ _ c.form.new.cursor all
     ∙ ap (λ (x : _). Ok (c.args.declarations ++ (record { name = x; shape = shape c.in_ok-form.form }) ∷ [], c.form.new.cursor)) (sym c.in_ok-name-2.ensures.ok)
     ∙ ap (λ t. Ok (t, c.form.new.cursor)) (sym c.in_ok-push.ensures)

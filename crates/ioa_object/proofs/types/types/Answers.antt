@@ -25,7 +25,7 @@ loop-preserved c =
 pub returns : goal.returns
 returns c =
     let read = amid_done declaration_at _ c.in_ok-count.count c.loop.counter c.loop.declarations c.loop.cursor c.loop-test.false c.loop.invariant.read
-        ∙ ap (λ t. Ok (t, c.loop.cursor)) (sym c.in_ok-finish.ensures) in
+    ∙ ap (λ t. Ok (t, c.loop.cursor)) (sym c.in_ok-finish.ensures) in
     record {
       read = read;
       declared = (yielded _ _ c.in_ok-finish.field-0 c.loop.cursor (types_format.yields c.args.cursor.now c.alloc-alloc.ensures.bytes) read).fine;

@@ -8,5 +8,5 @@ abbrev pub invariant-loop : goal.invariant-loop
 invariant-loop l = record {
   read : types_at l.fn.cursor ≡ items_at declaration_at l.declarations (l.count - l.counter) l.cursor;
   taken : texts l.taken ≡ all_names l.declarations;
-  long : length l.declarations ≡ 2 + l.counter
+  long : length l.declarations ≡ 2 + l.counter;
 }
