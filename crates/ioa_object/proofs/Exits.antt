@@ -1,6 +1,8 @@
 -- What a reader of objects has to answer, by what is read of the bytes: each of its exits.
-use Rattle.std.proofs.Common.{◌≡◌, ℕ, ◌↔◌, ◌≢◌, inl, inr, ◌==◌, List, [], ◌++◌, drop, refl, sym, ap, ◌∙◌, subst, Result, Ok, Err, if◌then◌else◌}
+use Rattle.std.proofs.Common.{◌<◌, get_or, w8, Fits, ◌≡◌, ℕ, ◌↔◌, ◌≢◌, inl, inr, ◌==◌, List, [], ◌++◌, drop, refl, sym, ap, ◌∙◌, subst, Result, Ok, Err, if◌then◌else◌}
 use Rattle.std.specs.Prelude.{IfOk, IfErr, IsErrOf}
+use Rattle.std.specs.Result.{IsErrAnd}
+use Rattle.std.proofs.lemmas.List.{get_or_default}
 use Rattle.std.proofs.lemmas.Bool.{ne_eqb}
 use Rattle.ioa_tree.specs.Components.{Compatible}
 use Rattle.ioa_compile.specs.Programs.{Prog}
@@ -17,14 +19,25 @@ use Rattle.ioa_object.proofs.Outcomes.{IsWrong}
 use Rattle.ioa_object.proofs.Refused.{tables_wrong, refused, no_mark, other_version, cut, goes_on, is_read, is_object, is_longer, clashes}
 
 -- all that is promised of an answer
-pub record Answers (bytes : List ℕ) (result : Result Prog ObjErr) : Type 0 where
-  pub found : IfOk result (IsObject bytes)
-  pub only : (p : Prog) → IsObject bytes p → IfErr result (λ e. e ≡ errors.OutOfMemory)
-  pub magic : IsErrOf result errors.Magic ↔ HasNoMark bytes
-  pub version : IsErrOf result errors.Version ↔ HasOtherVersion bytes
-  pub cut : IsCut bytes → IsRefusal result errors.Truncated
-  pub trailing : GoesOn bytes → IsRefusal result errors.Trailing
-  pub refused : IfErr result (IsRefused bytes)
+abbrev pub Answers : List ℕ → Result Prog ObjErr → Type 0
+Answers bytes result = record {
+  found : IfOk result (IsObject bytes);
+  only : (p : Prog) → IsObject bytes p → IfErr result (λ e. e ≡ errors.OutOfMemory);
+  magic : IsErrOf result errors.Magic ↔ HasNoMark bytes;
+  version : IsErrOf result errors.Version ↔ HasOtherVersion bytes;
+  cut : IsCut bytes → IsRefusal result errors.Truncated;
+  trailing : GoesOn bytes → IsRefusal result errors.Trailing;
+  refused : IfErr result (IsRefused bytes);
+}
+
+-- the answer that passes an error on
+pub passed_on : (bytes : List ℕ) (result : Result Prog ObjErr) (e : ObjErr) → IsErrAnd result (λ f. f ≡ e) → Answers bytes (Err e) → Answers bytes result
+passed_on bytes (Ok p) e h a = absurd h
+passed_on bytes (Err f) e h a = subst (λ (g : ObjErr). Answers bytes (Err g)) (sym h) a
+
+-- numbers that each fit a byte
+pub are_bytes : (bytes : List ℕ) → ((i : ℕ) → Fits w8 (get_or bytes i 0)) → AreBytes bytes
+are_bytes bytes h = λ k d less. subst (λ (n : ℕ). n < 256) (get_or_default bytes k 0 d less) (h k).fits
 
 same_error : {A : Type 0} (o : Outcome A) (e f : ObjErr) → o ≡ Err e → o ≡ Err f → e ≡ f
 same_error {A} o e f h k = let both : ◌≡◌ {A = Outcome A} (Err e) (Err f) = sym h ∙ k in cc
