@@ -20,8 +20,9 @@ pub read_begun : (rest : List ℕ) → read (mark ++ (version ∷ rest)) ≡ tab
 unfolding read versioned_at byte_at
 read_begun rest = refl
 
-pub are_right : {T : Type 0} (p : Prog) → AreTables T p → AreRight p
-are_right p h = record {
+-- tables of whose components something else is so together
+retold : {S T : Type 0} (p : Prog) → AreTables S p → T → AreTables T p
+retold p h together = record {
   types = h.types;
   legal = h.legal;
   apart = h.apart;
@@ -29,26 +30,17 @@ are_right p h = record {
   few_members = h.few_members;
   names = h.names;
   members = h.members;
-  compatible = tt;
+  compatible = together;
   few_hidden = h.few_hidden;
   hidden = h.hidden;
   outputs = h.outputs;
 }
 
+pub are_right : {T : Type 0} (p : Prog) → AreTables T p → AreRight p
+are_right p h = retold p h tt
+
 pub is_program : (p : Prog) → AreRight p → Compatible (tabled p) → IsProgram p
-is_program p h k = record {
-  types = h.types;
-  legal = h.legal;
-  apart = h.apart;
-  some_members = h.some_members;
-  few_members = h.few_members;
-  names = h.names;
-  members = h.members;
-  compatible = k;
-  few_hidden = h.few_hidden;
-  hidden = h.hidden;
-  outputs = h.outputs;
-}
+is_program p h k = retold p h k
 
 -- ---- objects are read
 
