@@ -15,7 +15,6 @@ mod library;
 mod lines;
 mod lists;
 mod logs;
-mod objects;
 mod operators;
 mod proposals;
 mod reached;
