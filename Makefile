@@ -19,7 +19,7 @@ demo:
 # The whole gate. It leaves no new file in the checkout.
 test:
 	@FILES=$$(sh examples/files.sh) && export FILES && tools/planted --texts && rt ci && sh examples/alone.sh $(PROGRAM) && sh examples/library.sh $(PROGRAM) && \
-	  sh examples/tutorial.sh $(PROGRAM) && sh examples/run.sh $(PROGRAM)
+	  tools/pages $(PROGRAM) && sh examples/run.sh $(PROGRAM)
 
 # Tries the planted bugs, over what checks kept: those of all crates, or of CRATES.
 planted:
