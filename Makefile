@@ -19,7 +19,7 @@ demo:
 # The whole gate. It leaves no new file in the checkout.
 test:
 	@FILES=$$(sh examples/files.sh) && export FILES && tools/planted --texts && rt ci && sh examples/alone.sh $(PROGRAM) && sh examples/library.sh $(PROGRAM) && \
-	  tools/pages $(PROGRAM) && sh examples/run.sh $(PROGRAM)
+	  tools/pages $(PROGRAM) && tools/manual $(PROGRAM) && sh examples/run.sh $(PROGRAM)
 
 # Tries the planted bugs, over what checks kept: those of all crates, or of CRATES.
 planted:
@@ -40,6 +40,8 @@ bench: all
 install: all
 	install -d $(DESTDIR)$(PREFIX)/bin
 	install -m 755 $(PROGRAM) $(DESTDIR)$(PREFIX)/bin/ioac
+	install -d $(DESTDIR)$(PREFIX)/share/man/man1
+	install -m 644 docs/ioac.1 $(DESTDIR)$(PREFIX)/share/man/man1/ioac.1
 
 clean:
 	rm -rf crates/*/out
