@@ -14,8 +14,7 @@ if [ -x "$program" ]; then
 fi
 echo "the program is not proved here yet ('make' proves it): it is read and compiled without its proofs now, in about a minute" >&2
 work=$(mktemp -d) || exit 1
-trap 'rm -rf "$work"' EXIT
-(cd "$top/crates/ioac" && TMPDIR=$work rt try -- replay "$example/counter.ioa" < "$example/counts.list" > "$work/printed" 2> "$work/told"; echo $? > "$work/status") &
+begun=$(date +%s)
 
 # Code for the machine stands in the folder that is lent to the compiler once all sources are read.
 doing() {
@@ -26,19 +25,33 @@ doing() {
   fi
 }
 
-seconds=0
-told=
-while [ ! -s "$work/status" ]; do
-  now=$(doing)
-  if [ "$now" != "$told" ] || [ $((seconds % 10)) -eq 0 ]; then
-    echo "  $seconds s: $now" >&2
-    told=$now
-  fi
-  sleep 1
-  seconds=$((seconds + 1))
-done
-echo "  $seconds s: done" >&2
+elapsed() {
+  echo $(($(date +%s) - begun))
+}
+
+# Tells what is being done, when it changes and each ten seconds, until it is stopped.
+tell() {
+  told=
+  seconds=0
+  while :; do
+    now=$(doing)
+    if [ "$now" != "$told" ] || [ $((seconds % 10)) -eq 0 ]; then
+      echo "  $(elapsed) s: $now" >&2
+      told=$now
+    fi
+    sleep 1
+    seconds=$((seconds + 1))
+  done
+}
+
+tell &
+teller=$!
+trap 'kill "$teller" 2> /dev/null; rm -rf "$work"' EXIT
+trap 'exit 130' HUP INT TERM
+(cd "$top/crates/ioac" && TMPDIR=$work rt try -- replay "$example/counter.ioa" < "$example/counts.list" > "$work/printed" 2> "$work/told")
+status=$?
+kill "$teller"
+echo "  $(elapsed) s: done" >&2
 cat "$work/printed"
-status=$(cat "$work/status")
 [ "$status" -eq 0 ] || cat "$work/told" >&2
 exit "$status"
