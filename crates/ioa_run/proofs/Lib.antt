@@ -16,3 +16,7 @@ pub mod Acting
 pub mod Wishing
 pub mod Taking
 pub mod Ending
+pub mod Alike
+pub mod AlikeSchedules
+pub mod HostProposals
+pub mod Hosting

@@ -20,3 +20,4 @@ pub mod Choices
 pub mod Going
 pub mod Turning
 pub mod Rounds
+pub mod Hosts

@@ -1,6 +1,7 @@
 //! Laws of schedules. The functions do nothing: what they say is in their contracts.
 
 ghost use Rattle.ioa_run.specs.Attempts.{AttemptsAnswer};
+ghost use Rattle.ioa_run.specs.Hosts.{HostAlone, HostHistory, HostOutcome, HostSchedule, HostTurns, HostsApart, ProgramHistory, ProgramSchedule};
 ghost use Rattle.ioa_run.specs.Schedules.{OnePlay};
 
 /// The schedule machine answers events in one way, and they lead to one schedule.
@@ -11,4 +12,30 @@ pub fn one_play()
 /// A turn's attempt is what the schedule machine answers to a copy and, where that is planned, to the commit at once after it.
 pub fn attempts_answer()
     ensures { AttemptsAnswer }
+{}
+
+/// A program's run on one thread is that of the hosts for which the composition stands that the program means: each host takes its turns by
+/// its own entries, state and words, and the environment by the script. Both have the same history, fault, reports and words left, and the
+/// program's slots hold the states that the hosts reach. So a run's log and reports are those of the hosts' run.
+pub fn turns_are_the_hosts()
+    ensures turns { HostTurns }
+    ensures outcome { HostAlone }
+{}
+
+/// What workers of a program did, in whichever order, the hosts may do for which the composition stands that the program means: its history is
+/// legal for the hosts, with the same workers and the same fault, and the slots hold the states to which it leads them; and what is legal for the
+/// hosts is legal for the program. So of the log, the states and the reports that any run gives.
+pub fn histories_are_the_hosts()
+    ensures history { HostHistory }
+    ensures back { ProgramHistory }
+    ensures outcome { HostOutcome }
+{}
+
+/// The schedule machine answers every list of events of a program's workers as it answers those of the hosts for which the composition stands
+/// that the program means, also where a plan is stale. The variables of each host have names of their own, as those of a well formed source
+/// have.
+pub fn schedules_are_the_hosts()
+    ensures answers { HostSchedule }
+    ensures back { ProgramSchedule }
+    ensures apart { HostsApart }
 {}

@@ -25,7 +25,10 @@ pub use alone::run_alone;
 pub use answer::Answer;
 pub use board::Board;
 pub use event::Event;
-pub use laws::{attempts_answer, one_play};
+pub use laws::{
+    attempts_answer, histories_are_the_hosts, one_play, schedules_are_the_hosts,
+    turns_are_the_hosts,
+};
 pub use outcome::Outcome;
 pub use plan::Plan;
 pub use planned::Planned;
