@@ -54,10 +54,11 @@ pub record IsFirstOther {S : Type 0} (ps : List (Component S)) (inputs : List Ac
 abbrev pub most_turns : ℕ
 most_turns = 100000
 
--- too many turns first, then the first action that is no input; where memory is wanting before the start no input need have been looked at
+-- too many turns first, then the first action that is no input; a thread is refused of a run that may begin alone; where memory is wanting
+-- before the start no input need have been looked at
 abbrev pub Refuses : Prog → List Act → ℕ → Result Outcome RunErr → Type 0
 Refuses p inputs turns (Ok o) = (turns ≤ most_turns) × All (IsInput (tabled p)) inputs
 Refuses p inputs turns (Err RunErr.TooManyTurns) = most_turns < turns
 Refuses p inputs turns (Err (RunErr.BadInput i)) = (turns ≤ most_turns) × IsFirstOther (tabled p) inputs i
-Refuses p inputs turns (Err RunErr.Threads) = ⊥
+Refuses p inputs turns (Err RunErr.Threads) = (turns ≤ most_turns) × All (IsInput (tabled p)) inputs
 Refuses p inputs turns (Err RunErr.OutOfMemory) = turns ≤ most_turns

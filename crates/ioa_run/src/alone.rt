@@ -1,8 +1,9 @@
-ghost use Rattle.std.specs.Prelude.{◌≡◌, ◌↔◌, ◌+◌, ◌<◌, All, IfOk, IsTrue, false, length, map, replicate};
+ghost use Rattle.std.specs.Prelude.{◌≡◌, ◌↔◌, ◌+◌, ◌<◌, All, IfOk, IsErrOf, IsTrue, false, length, map, replicate};
 ghost use Rattle.std.specs.Option.{option_map};
 ghost use Rattle.ioa_value.specs.Actions.{act_of};
 ghost use Rattle.ioa_compile.specs.Tables.{tabled};
 ghost use Rattle.ioa_run.specs.Alone.{IsAlone, IsInput, IsOutcome, NoMemory, Refuses};
+ghost use Rattle.ioa_run.specs.declared.run_err.RunErr.{RunErr};
 ghost use Rattle.ioa_run.specs.Rounds.{Checks, Dismisses, GoesRound, GoesRounds};
 ghost use Rattle.ioa_run.specs.Turning.{HasPerformed, Takes, Wishes};
 
@@ -40,6 +41,7 @@ pub fn run_alone<W: Words + Drop>(
     ensures outcome { IfOk result (λ o. IsOutcome program.now (map act_of inputs.now) turns o) }
     ensures alone { IfOk result (λ o. NoMemory o.reports.items → IsAlone program.now (map W.stream words.items) (map act_of inputs.now) turns o) }
     ensures refused { Refuses program.now (map act_of inputs.now) turns result }
+    ensures threads { IsErrOf result RunErr.Threads → ⊥ }
 {
     check(alloc, program, turns, inputs)?;
     let mut words = words;

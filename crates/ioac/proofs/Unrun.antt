@@ -122,5 +122,5 @@ pub unrun_by : (p : Prog) (h : Hosted) (c : Composed) (holds : Name → List ℕ
     → IsReady holds s h script → Refuses p script s.turns (Err x) → IsUnrun holds lacks s ⊥ (run_failure x)
 unrun_by p h c holds lacks s script RunErr.TooManyTurns stands means ready k = (h, script, ready, k)
 unrun_by p h c holds lacks s script (RunErr.BadInput i) stands means ready k = (h, script, ready, k.0, other_same p h c stands means script i k.1)
-unrun_by p h c holds lacks s script RunErr.Threads stands means ready k = absurd k
+unrun_by p h c holds lacks s script RunErr.Threads stands means ready k = tt
 unrun_by p h c holds lacks s script RunErr.OutOfMemory stands means ready k = tt
