@@ -15,8 +15,10 @@ use Rattle.ioa_tree.specs.declared.tree.Kind.TheVariants.{Input, Output, Interna
 use Rattle.ioa_tree.specs.Proposing.{Words, tries, idle}
 use Rattle.ioa_compile.specs.Programs.{EntryCode, MemberCode, Prog}
 use Rattle.ioa_compile.specs.Tables.{AreEntries, AreMembers, HasLocal, IsEntry, IsMember, IsProgram}
+use Rattle.ioa_system.specs.Participants.{taken}
 use Rattle.ioa_system.specs.Systems.{Slots, slot_types, slots_of, types_of}
 use Rattle.ioa_system.proofs.Finding.{no_item}
+use Rattle.ioa_system.proofs.Participating.{taken_some}
 use Rattle.ioa_run.specs.Choices.{AreOfState, Chooses, IsOfState}
 use Rattle.ioa_run.specs.Histories.{count}
 use Rattle.ioa_run.specs.ProgramRooms.{ProgramRoom}
@@ -69,6 +71,21 @@ same_place ns ms w n m t e f =
 pub over_state : (p : Prog) (ns : List Node) (w : ℕ) (n : Node) (m : MemberCode) → IsProgram p → types_of ns ≡ slot_types p.members → slice_get ns w ≡ Some n → slice_get p.members w ≡ Some m
     → AreOfState n m.entries
 over_state p ns w n m h t e f = entries_over m n m.entries (same_place ns p.members w n m t e f) (member_at p.types p.members w m h.members f).entries
+
+-- what a copy of the component's own state alone is
+own_slots : (ns : List Node) (ms : List MemberCode) (w : ℕ) (m : MemberCode) → types_of ns ≡ taken (w ∷ []) (slot_types ms) → slice_get ms w ≡ Some m → types_of ns ≡ slots_of m.start ∷ []
+own_slots ns ms w m t f = t ∙ taken_some w [] (slot_types ms) (slots_of m.start) (image_at (λ (x : MemberCode). slots_of x.start) ms w m f)
+
+pub own_there : (ns : List Node) (ms : List MemberCode) (w : ℕ) (m : MemberCode) → types_of ns ≡ taken (w ∷ []) (slot_types ms) → slice_get ms w ≡ Some m → length ns ≡ 1
+own_there ns ms w m t f = sym (length-map ns slots_of) ∙ ap length (own_slots ns ms w m t f)
+
+-- and over a copy of that state
+pub over_copy : (p : Prog) (ns : List Node) (w : ℕ) (n : Node) (m : MemberCode) → IsProgram p → types_of ns ≡ taken (w ∷ []) (slot_types p.members) → slice_get ns 0 ≡ Some n
+    → slice_get p.members w ≡ Some m → AreOfState n m.entries
+over_copy p ns w n m h t e f =
+    let q : Some (slots_of n) ≡ Some (slots_of m.start) = sym (image_at slots_of ns 0 n e) ∙ ap (λ ts. slice_get ts 0) (own_slots ns p.members w m t f) in
+    let same : slots_of n ≡ slots_of m.start = cc in
+    entries_over m n m.entries same (member_at p.types p.members w m h.members f).entries
 
 -- ---- what is meant
 

@@ -1,12 +1,13 @@
-ghost use Rattle.std.specs.Prelude.{◌≡◌, ◌↔◌, ◌+◌, ◌<◌, All, IfOk, IsErrOf, IsTrue, false, length, map, replicate};
+ghost use Rattle.std.specs.Prelude.{◌≡◌, ◌+◌, ◌<◌, All, IfOk, IsErrOf, false, length, map, replicate};
 ghost use Rattle.std.specs.Option.{option_map};
 ghost use Rattle.ioa_value.specs.Actions.{act_of};
 ghost use Rattle.ioa_compile.specs.Tables.{tabled};
 ghost use Rattle.ioa_run.specs.Alone.{IsAlone, IsInput, IsOutcome, NoMemory, Refuses};
 ghost use Rattle.ioa_run.specs.declared.run_err.RunErr.{RunErr};
-ghost use Rattle.ioa_run.specs.Rounds.{Checks, Dismisses, GoesRound, GoesRounds};
+ghost use Rattle.ioa_run.specs.Rounds.{Dismisses, GoesRound, GoesRounds};
 ghost use Rattle.ioa_run.specs.Turning.{HasPerformed, Takes, Wishes};
 
+use crate::beginning::check;
 use crate::choice::choose;
 use crate::outcome::Outcome;
 use crate::report::Why;
@@ -15,12 +16,8 @@ use crate::run_err::RunErr;
 use crate::turn::{TurnEnd, act, next_input};
 use ioa_compile::Program;
 use ioa_node::{Words, Workspace};
-use ioa_system::Participation;
 use ioa_value::{Action, OutOfMemory};
 use std::alloc::Global;
-
-/// More turns than these are too many.
-const MOST_TURNS: u64 = 100_000;
 
 /// Runs the program on one thread. In each of so many rounds each component takes a turn, in ascending order, and then the environment,
 /// which performs the inputs. There is one source of words for each component.
@@ -50,29 +47,6 @@ pub fn run_alone<W: Words + Drop>(
     take_turns(alloc, &mut room, inputs, turns, &mut words, &mut ended);
     dismiss(&mut room, &ended);
     Ok(room.finish())
-}
-
-/// Whether a run may begin, so far as turns and inputs say.
-fn check(alloc: Global, program: &Program, turns: u64, inputs: &[Action]) -> Result<(), RunErr>
-    ensures { Checks program.now (map act_of inputs.now) turns result }
-{
-    if turns > MOST_TURNS {
-        return Err(RunErr::TooManyTurns);
-    }
-    for i in 0..inputs.len() {
-        if !is_input(alloc, program, &inputs[i])? {
-            return Err(RunErr::BadInput(i));
-        }
-    }
-    Ok(())
-}
-
-/// Whether the action is an input of the composition.
-fn is_input(alloc: Global, program: &Program, action: &Action) -> Result<bool, OutOfMemory>
-    ensures { IfOk result (λ yes. IsTrue yes ↔ IsInput (tabled program.now) (act_of action.now)) }
-{
-    let participation = Participation::of(alloc, program, action)?;
-    Ok(!participation.participants().is_empty() && participation.owner().is_none())
 }
 
 /// For each of so many components, and for the environment, that it has not ended.

@@ -5,11 +5,15 @@
 mod alone;
 mod answer;
 mod assessed;
+mod beginning;
 mod board;
 mod choice;
+mod crew;
 mod event;
+mod gate;
 mod laws;
 mod outcome;
+mod own_room;
 mod plan;
 mod planned;
 mod recorded;
@@ -18,13 +22,16 @@ mod room;
 mod run_err;
 mod schedule;
 mod seeded;
+mod threads;
 mod turn;
 mod verdict;
+mod worker;
 
 pub use alone::run_alone;
 pub use answer::Answer;
 pub use board::Board;
 pub use event::Event;
+pub use gate::{Gate, OpenGate, Point};
 pub use laws::{
     attempts_answer, histories_are_the_hosts, one_play, schedules_are_the_hosts,
     turns_are_the_hosts,
@@ -38,4 +45,5 @@ pub use room::Room;
 pub use run_err::RunErr;
 pub use schedule::{Core, play};
 pub use seeded::Seeded;
+pub use threads::run_threads;
 pub use verdict::Verdict;

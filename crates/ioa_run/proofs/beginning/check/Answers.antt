@@ -5,7 +5,7 @@ use Rattle.ioa_value.proofs.ItemLemmas.{at_map}
 use Rattle.ioa_compile.specs.Tables.{tabled}
 use Rattle.ioa_run.specs.Alone.{IsInput}
 use Rattle.ioa_run.proofs.Ending.{all_before, before_more, first_other}
-use Rattle.ioa_run.proofs.alone.check.Goals as goal
+use Rattle.ioa_run.proofs.beginning.check.Goals as goal
 
 pub returns-then-not-branch : goal.returns-then-not-branch
 returns-then-not-branch c = (

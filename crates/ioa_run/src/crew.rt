@@ -1,0 +1,105 @@
+ghost use Rattle.std.specs.Prelude.{◌≡◌, ◌<◌, All, IfOk, length, map};
+ghost use Rattle.ioa_value.specs.Actions.{act_of};
+ghost use Rattle.ioa_system.specs.Participants.{taken};
+ghost use Rattle.ioa_system.specs.Systems.{slot_types, types_of};
+ghost use Rattle.ioa_run.specs.Alone.{IsOutcome};
+
+use crate::outcome::Outcome;
+use crate::own_room::{OwnRoom, Terms};
+use crate::plan::Plan;
+use crate::report::Why;
+use crate::verdict::Verdict;
+use ioa_compile::Program;
+use ioa_node::NodeState;
+use ioa_value::{Action, OutOfMemory};
+use std::alloc::Global;
+use std::sync::atomic::{AtomicBool, Ordering};
+use std::sync::{Mutex, Wait};
+
+/// What the threads of a run share: what the run is of, the room under its lock, and whether the run is cancelled.
+///
+/// Each function that takes the lock gives it back before it answers.
+#[derive(Drop)]
+pub(crate) struct Crew<'p, T: Terms> {
+    pub program: &'p Program,
+    pub inputs: &'p [Action],
+    pub turns: u64,
+    room: Mutex<OwnRoom<'p, T>>,
+    cancelled: AtomicBool,
+    ghost own: { program.now ≡ T.program },
+}
+
+impl<'p, T: Terms> Crew<'p, T> {
+    /// The crew of a run in which nothing is done yet.
+    pub(crate) fn start(
+        alloc: Global,
+        program: &'p Program,
+        inputs: &'p [Action],
+        turns: u64,
+    ) -> Result<Crew<'p, T>, OutOfMemory>
+        requires program { program.now ≡ T.program }
+        requires inputs { map act_of inputs.now ≡ T.inputs }
+        requires turns { turns ≡ T.turns }
+    {
+        let room = OwnRoom::start(alloc, program, inputs, turns)?;
+        Ok(Crew {
+            program,
+            inputs,
+            turns,
+            room: Mutex::new(room),
+            cancelled: AtomicBool::new(false),
+        })
+    }
+
+    /// Equals of the states of the components of these numbers, in their order, all as they are at one moment.
+    pub(crate) fn copy<R: Wait>(
+        &self,
+        rt: &R,
+        numbers: &[usize],
+    ) -> Result<Vec<NodeState>, OutOfMemory>
+        requires { All (λ n. n < length T.program.members) numbers.now }
+        ensures { IfOk result (λ states. types_of states.items ≡ taken numbers.now (slot_types T.program.members)) }
+    {
+        self.room.lock(rt).copy(numbers)
+    }
+
+    /// How many actions of the script are performed.
+    pub(crate) fn place<R: Wait>(&self, rt: &R) -> usize {
+        self.room.lock(rt).place()
+    }
+
+    /// Commits the worker's plan.
+    pub(crate) fn commit<R: Wait>(&self, rt: &R, who: usize, plan: Plan<'p>) -> Verdict<'p>
+        requires who { who ≡ plan.who }
+        requires program { plan.program ≡ T.program }
+    {
+        self.room.lock(rt).commit(who, plan)
+    }
+
+    /// Counts a turn in which the worker had nothing to commit.
+    pub(crate) fn idle<R: Wait>(&self, rt: &R, who: usize) {
+        self.room.lock(rt).idle(who);
+    }
+
+    /// Says why the worker takes no more turns.
+    pub(crate) fn leave<R: Wait>(&self, rt: &R, who: usize, why: Why) {
+        self.room.lock(rt).leave(who, why);
+    }
+
+    /// Tells all workers to take no more turns.
+    pub(crate) fn cancel(&self) {
+        self.cancelled.store(true, Ordering::SeqCst);
+    }
+
+    /// Whether no more turns are to be taken.
+    pub(crate) fn is_cancelled(&self) -> bool {
+        self.cancelled.load(Ordering::SeqCst)
+    }
+
+    /// What the run gives, once no thread is left.
+    pub(crate) fn finish(self) -> Outcome
+        ensures { IsOutcome T.program T.inputs T.turns result }
+    {
+        self.room.into_inner().finish()
+    }
+}

@@ -1,0 +1,128 @@
+ghost use Rattle.std.specs.Prelude.{◌≡◌, ◌≤◌, All, IfOk, length, map};
+ghost use denote.Param.Send.{IsSend, IsSync};
+ghost use Rattle.ioa_value.specs.Actions.{act_of};
+ghost use Rattle.ioa_compile.specs.Tables.{tabled};
+ghost use Rattle.ioa_run.specs.Alone.{IsInput, IsOutcome, Refuses, most_turns};
+
+use crate::beginning::check;
+use crate::crew::Crew;
+use crate::gate::Gate;
+use crate::outcome::Outcome;
+use crate::own_room::Terms;
+use crate::run_err::RunErr;
+use crate::worker::{Source, Worker};
+use ioa_compile::Program;
+use ioa_node::Words;
+use ioa_value::Action;
+use std::alloc::Global;
+use std::marker::Brand;
+use std::sync::Wait;
+use std::thread;
+use std::thread::Threads;
+
+/// Runs the program on threads: one for each component, which takes so many turns by its source of words, and one for the environment,
+/// which performs the inputs in as many turns. There is one source of words for each component.
+///
+/// A worker tells the gate where it is, and waits there as long as the gate holds it. It takes no more turns after a fault of its action,
+/// or where it would commit after another's; the others go on. Memory that is refused to a worker in its turn ends that worker alone, and
+/// its report says so.
+///
+/// It answers `TooManyTurns` where each worker would have more than 100,000 turns; then `BadInput` with the first action that is no input
+/// of the composition; `Threads` where a thread was refused, once the others are stopped and have ended; and `OutOfMemory` where memory was
+/// refused before the start.
+pub fn run_threads<R: Threads + Wait + Sync, W: Words + Send + Drop, G: Gate + Sync>(
+    rt: &R,
+    alloc: Global,
+    program: &Program,
+    turns: u64,
+    words: Vec<W>,
+    inputs: &[Action],
+    gate: &G,
+) -> Result<Outcome, RunErr>
+    requires sources { length words.items ≡ length program.now.members }
+    ensures outcome { IfOk result (λ o. IsOutcome program.now (map act_of inputs.now) turns o) }
+    ensures refused { Refuses program.now (map act_of inputs.now) turns result }
+{
+    check(alloc, program, turns, inputs)?;
+    run_on::<Brand, R, W, G>(rt, alloc, program, turns, words, inputs, gate)
+}
+
+/// A run of these terms, which may begin.
+fn run_on<T: Terms + Send + Sync, R: Threads + Wait + Sync, W: Words + Send + Drop, G: Gate + Sync>(
+    rt: &R,
+    alloc: Global,
+    program: &Program,
+    turns: u64,
+    words: Vec<W>,
+    inputs: &[Action],
+    gate: &G,
+) -> Result<Outcome, RunErr>
+    requires program { program.now ≡ T.program }
+    requires inputs { map act_of inputs.now ≡ T.inputs }
+    requires turns { turns ≡ T.turns }
+    requires few { T.turns ≤ most_turns }
+    requires fine { All (IsInput (tabled T.program)) T.inputs }
+    ensures outcome { IfOk result (λ o. IsOutcome T.program T.inputs T.turns o) }
+    ensures refused { Refuses T.program T.inputs T.turns result }
+{
+    let crew: Crew<'_, T> = Crew::start(alloc, program, inputs, turns)?;
+    if !work_all(rt, alloc, &crew, words, gate) {
+        return Err(RunErr::Threads);
+    }
+    Ok(crew.finish())
+}
+
+/// Starts a thread for each worker of the crew, and waits until all have ended. Where a thread is refused, those that were started take no
+/// more turns, and it answers false.
+fn work_all<
+    T: Terms + Send + Sync,
+    R: Threads + Wait + Sync,
+    W: Words + Send + Drop,
+    G: Gate + Sync,
+>(rt: &R, alloc: Global, crew: &Crew<'_, T>, words: Vec<W>, gate: &G) -> bool {
+    let environment = crew.program.members().len();
+    thread::scope(
+        thread::scope_env(),
+        rt,
+        |scope| -> bool
+            requires { IsSync R.row × IsSend W.row × IsSync G.row × IsSend T.row × IsSync T.row }
+        {
+            for (who, words) in words.into_iter().enumerate() {
+                let started = scope
+                    .spawn(move || work(rt, alloc, crew, gate, who, Source::Words(words)))
+                    .is_ok();
+                if !started {
+                    crew.cancel();
+                    return false;
+                }
+            }
+            let started = scope
+                .spawn(move || work(rt, alloc, crew, gate, environment, Source::<W>::Script))
+                .is_ok();
+            if !started {
+                crew.cancel();
+            }
+            started
+        },
+    )
+}
+
+/// The turns of the worker of this number.
+fn work<R: Wait, T: Terms, W: Words + Drop, G: Gate>(
+    rt: &R,
+    alloc: Global,
+    crew: &Crew<'_, T>,
+    gate: &G,
+    who: usize,
+    source: Source<W>,
+) {
+    let mut source = source;
+    let worker = Worker {
+        rt,
+        alloc,
+        crew,
+        gate,
+        who,
+    };
+    worker.work(&mut source);
+}

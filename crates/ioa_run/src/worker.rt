@@ -1,0 +1,158 @@
+ghost use Rattle.std.specs.Prelude.{◌≡◌, IfOk};
+ghost use Rattle.ioa_value.specs.Actions.{act_of};
+ghost use Rattle.ioa_run.specs.Planning.{Assesses, IfReady, IsOf};
+
+use crate::assessed::Assessed;
+use crate::choice::choose;
+use crate::crew::Crew;
+use crate::gate::{Gate, Point};
+use crate::own_room::Terms;
+use crate::plan::{Plan, assess, plan_by};
+use crate::planned::Planned;
+use crate::report::Why;
+use crate::turn::next_input;
+use crate::verdict::Verdict;
+use ioa_node::{NodeState, Words, Workspace};
+use ioa_system::Participation;
+use ioa_value::{Action, OutOfMemory};
+use std::alloc::Global;
+use std::sync::Wait;
+
+/// From what a worker's actions come.
+#[derive(Drop)]
+pub(crate) enum Source<W> {
+    /// A component's: its state, and these words.
+    Words(W),
+    /// The environment's: the script.
+    Script,
+}
+
+/// A worker of a run on threads, on its own thread.
+#[derive(Drop)]
+pub(crate) struct Worker<'a, 'p, R: Wait, T: Terms, G: Gate> {
+    pub rt: &'a R,
+    pub alloc: Global,
+    pub crew: &'a Crew<'p, T>,
+    pub gate: &'a G,
+    pub who: usize,
+}
+
+impl<'a, 'p, R: Wait, T: Terms, G: Gate> Worker<'a, 'p, R, T, G> {
+    /// Takes the worker's turns, and leaves. A fault of its action ends them, and so do a fault of another's, where it would commit, and
+    /// memory that is refused.
+    pub(crate) fn work<W: Words>(&self, source: &mut Source<W>) {
+        let mut workspace = Workspace::new(self.alloc);
+        for _ in 0..self.crew.turns {
+            if self.crew.is_cancelled() {
+                return;
+            }
+            self.gate.reach(self.who, Point::Turn);
+            match self.turn(&mut workspace, source) {
+                Ok(Some(end)) => self.gate.reach(self.who, end),
+                Ok(None) => return,
+                Err(_) => {
+                    self.crew.leave(self.rt, self.who, Why::Memory);
+                    return;
+                }
+            }
+        }
+        self.crew.leave(self.rt, self.who, Why::TurnsDone);
+    }
+
+    /// A turn, and where it ends; nowhere where the worker takes no more.
+    fn turn<W: Words>(
+        &self,
+        workspace: &mut Workspace,
+        source: &mut Source<W>,
+    ) -> Result<Option<Point>, OutOfMemory> {
+        match self.wish(workspace, source)? {
+            Some(action) => self.attempt(action),
+            None => Ok(Some(self.idle())),
+        }
+    }
+
+    /// What the worker means to do, or nothing.
+    fn wish<W: Words>(
+        &self,
+        workspace: &mut Workspace,
+        source: &mut Source<W>,
+    ) -> Result<Option<Action>, OutOfMemory> {
+        match source {
+            Source::Words(words) => self.choice(workspace, words),
+            Source::Script => { next_input(self.alloc, self.crew.inputs, self.crew.place(self.rt)) }
+        }
+    }
+
+    /// What a component means to do by a copy of its own state; a number past the components' means nothing.
+    fn choice<W: Words>(
+        &self,
+        workspace: &mut Workspace,
+        words: &mut W,
+    ) -> Result<Option<Action>, OutOfMemory> {
+        let members = self.crew.program.members();
+        if self.who >= members.len() {
+            return Ok(None);
+        }
+        let own = self.crew.copy(self.rt, &[self.who])?;
+        let action = choose(
+            self.alloc,
+            workspace,
+            &members[self.who].entries,
+            &own[0],
+            words,
+        )?;
+        Ok(action)
+    }
+
+    /// Plans the action and commits the plan, with the gate between.
+    fn attempt(&self, action: Action) -> Result<Option<Point>, OutOfMemory> {
+        let Planned::Ready(plan) = self.plan(action)? else {
+            return Ok(Some(self.idle()));
+        };
+        self.gate.reach(self.who, Point::Planned);
+        self.commit(plan)
+    }
+
+    /// The worker's plan for the action, by copies of its participants' states.
+    fn plan(&self, action: Action) -> Result<Planned<'p>, OutOfMemory>
+        ensures { IfOk result (IfReady (IsOf T.program self.now.who)) }
+    {
+        let (copied, assessed) = self.assess(&action)?;
+        Ok(plan_by(self.crew.program, self.who, action, copied, assessed))
+    }
+
+    /// Copies of the participants' states, and whether the worker can plan the action by these. The action is looked up once.
+    fn assess(&self, action: &Action) -> Result<(Vec<NodeState>, Assessed), OutOfMemory>
+        ensures { IfOk result (λ r. Assesses T.program self.now.who (act_of action.now) r.0.items r.1) }
+    {
+        let participation = Participation::of(self.alloc, self.crew.program, action)?;
+        let numbers = participation.numbers(self.alloc)?;
+        let copied = self.crew.copy(self.rt, &numbers)?;
+        let assessed = assess(self.alloc, &participation, self.who, numbers, &copied)?;
+        Ok((copied, assessed))
+    }
+
+    /// Commits the plan. A worker that is stopped leaves.
+    fn commit(&self, plan: Plan<'p>) -> Result<Option<Point>, OutOfMemory>
+        requires who { self.now.who ≡ plan.who }
+        requires program { plan.program ≡ T.program }
+    {
+        let verdict = self.crew.commit(self.rt, self.who, plan);
+        match verdict {
+            Verdict::Committed(_) => Ok(Some(Point::Committed)),
+            Verdict::Stale => Ok(Some(Point::Stale)),
+            Verdict::Faulted(_, _) => Ok(None),
+            Verdict::Stopped => {
+                self.crew.leave(self.rt, self.who, Why::Stopped);
+                Ok(None)
+            }
+            Verdict::Memory(_) => Err(OutOfMemory),
+        }
+    }
+
+    /// Counts a turn in which there is nothing to commit.
+    fn idle(&self) -> Point {
+        self.crew.idle(self.rt, self.who);
+        Point::Idle
+    }
+}
