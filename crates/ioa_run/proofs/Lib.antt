@@ -20,3 +20,4 @@ pub mod Alike
 pub mod AlikeSchedules
 pub mod HostProposals
 pub mod Hosting
+pub mod Sharing

@@ -1,13 +1,13 @@
 -- What a commit performs.
-use Rattle.std.proofs.Common.{◌≡◌, ℕ, ◌+◌, ◌<◌, List, [], ◌∷◌, ◌++◌, length, All, None, refl, sym, ◌∙◌, ap, subst, arith, length-append}
-use Rattle.std.proofs.lemmas.List.{length-map, map-append}
+use Rattle.std.proofs.Common.{◌≡◌, ℕ, ◌+◌, ◌<◌, List, [], ◌∷◌, ◌++◌, length, All, None, refl, sym, ◌∙◌, ap, subst, arith}
+use Rattle.std.proofs.lemmas.List.{length-map}
 use Rattle.std.proofs.lemmas.List.Elements.{All-nil, All-cons}
 use Rattle.ioa_arithmetic.specs.declared.arithmetic.Fault.{Fault}
 use Rattle.ioa_value.specs.Actions.{Act}
 use Rattle.ioa_value.specs.Plain.{Val}
 use Rattle.ioa_node.specs.Nodes.{Node}
 use Rattle.ioa_tree.specs.Components.{Component}
-use Rattle.ioa_tree.specs.Steps.{Moved, next, not_an_action, not_enabled, fault, participants, step}
+use Rattle.ioa_tree.specs.Steps.{next, fault, participants, step}
 use Rattle.ioa_tree.specs.Runs.{after, run_from, run}
 use Rattle.ioa_compile.specs.Programs.{Prog}
 use Rattle.ioa_compile.specs.Tables.{tabled, start_states, table_component}
@@ -15,7 +15,6 @@ use Rattle.ioa_system.specs.Histories.{Leads}
 use Rattle.ioa_system.specs.Logs.{worker}
 use Rattle.ioa_system.specs.Participants.{all_back, put_back, step_from, taken}
 use Rattle.ioa_system.specs.Systems.{slots_of, slot_types, types_of, values_of}
-use Rattle.ioa_system.proofs.Finding.{one_item}
 use Rattle.ioa_system.proofs.Participating.{map_put_back, put_back-taken, step_taken}
 use Rattle.ioa_system.proofs.Readying.{same_length}
 use Rattle.ioa_run.specs.Boards.{Standing, now_of, with_entry}

@@ -48,7 +48,7 @@ pub fn run_threads<R: Threads + Wait + Sync, W: Words + Send + Drop, G: Gate + S
 }
 
 /// A run of these terms, which may begin.
-fn run_on<T: Terms + Send + Sync, R: Threads + Wait + Sync, W: Words + Send + Drop, G: Gate + Sync>(
+fn run_on<T: Terms + Send, R: Threads + Wait + Sync, W: Words + Send + Drop, G: Gate + Sync>(
     rt: &R,
     alloc: Global,
     program: &Program,
@@ -74,18 +74,19 @@ fn run_on<T: Terms + Send + Sync, R: Threads + Wait + Sync, W: Words + Send + Dr
 
 /// Starts a thread for each worker of the crew, and waits until all have ended. Where a thread is refused, those that were started take no
 /// more turns, and it answers false.
-fn work_all<
-    T: Terms + Send + Sync,
-    R: Threads + Wait + Sync,
-    W: Words + Send + Drop,
-    G: Gate + Sync,
->(rt: &R, alloc: Global, crew: &Crew<'_, T>, words: Vec<W>, gate: &G) -> bool {
+fn work_all<T: Terms + Send, R: Threads + Wait + Sync, W: Words + Send + Drop, G: Gate + Sync>(
+    rt: &R,
+    alloc: Global,
+    crew: &Crew<'_, T>,
+    words: Vec<W>,
+    gate: &G,
+) -> bool {
     let environment = crew.program.members().len();
     thread::scope(
         thread::scope_env(),
         rt,
         |scope| -> bool
-            requires { IsSync R.row × IsSend W.row × IsSync G.row × IsSend T.row × IsSync T.row }
+            requires { IsSync R.row × IsSend W.row × IsSync G.row }
         {
             for (who, words) in words.into_iter().enumerate() {
                 let started = scope

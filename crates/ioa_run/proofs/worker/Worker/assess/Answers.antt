@@ -1,4 +1,4 @@
-use Rattle.std.proofs.Common.{◌≡◌, ◌<◌, ◌∙◌, All, length, sym, ap, subst, refl}
+use Rattle.std.proofs.Common.{◌<◌, ◌∙◌, All, length, sym, ap, subst, refl}
 use Rattle.ioa_value.specs.Actions.{act_of}
 use Rattle.ioa_compile.specs.Programs.{Prog}
 use Rattle.ioa_compile.specs.Tables.{tabled}
