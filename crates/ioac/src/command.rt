@@ -31,12 +31,23 @@ use ioa_log::{InputDevice, OutputDevice};
 use ioa_system::End;
 use std::alloc::Global;
 use std::convert::AsStr;
+use std::sync::Wait;
+use std::thread::Threads;
 
-/// The program: reads the words of its command line, does what they ask, and answers its exit status, as `Status` numbers it.
+/// The program: reads the words of its command line, does what they ask, and answers its exit status, as `Status` numbers it. A run may take
+/// threads of the runtime.
 ///
 /// What is wrong goes to `errors`, and nothing is written then, or, where a device failed, no more than a beginning. The status is that of
 /// `Unable` where `errors` failed, too. Any other status means that no device failed in this call.
-pub fn command<S: AsStr, F: Store, R: InputDevice, W: OutputDevice, E: OutputDevice>(
+pub fn command<
+    H: Threads + Wait + Sync,
+    S: AsStr,
+    F: Store,
+    R: InputDevice,
+    W: OutputDevice,
+    E: OutputDevice,
+>(
+    rt: &H,
     alloc: Global,
     words: &[S],
     store: &mut F,
@@ -53,11 +64,19 @@ pub fn command<S: AsStr, F: Store, R: InputDevice, W: OutputDevice, E: OutputDev
         (E.contents errors.old) (E.contents errors.new) (HasFailed (E.failure_count errors.old) (E.failure_count errors.new)) status)) }
     ensures passed { (result ≡ number_of statuses.Unable → ⊥) → (R.failure_count input.new ≡ R.failure_count input.old) × (W.failure_count output.new ≡ W.failure_count output.old) × (E.failure_count errors.new ≡ E.failure_count errors.old) }
 {
-    perform(alloc, words, store, input, output, errors).number()
+    perform(rt, alloc, words, store, input, output, errors).number()
 }
 
 /// Does what the words of a command line ask.
-fn perform<S: AsStr, F: Store, R: InputDevice, W: OutputDevice, E: OutputDevice>(
+fn perform<
+    H: Threads + Wait + Sync,
+    S: AsStr,
+    F: Store,
+    R: InputDevice,
+    W: OutputDevice,
+    E: OutputDevice,
+>(
+    rt: &H,
     alloc: Global,
     words: &[S],
     store: &mut F,
@@ -76,7 +95,7 @@ fn perform<S: AsStr, F: Store, R: InputDevice, W: OutputDevice, E: OutputDevice>
 {
     match parse(alloc, words) {
         Ok(matches) => match read_request(&matches) {
-            Some(asked) => answer(alloc, &asked, store, input, output, errors),
+            Some(asked) => answer(rt, alloc, &asked, store, input, output, errors),
             None => told_unasked(alloc, &matches, errors),
         },
         Err(error) => told(alloc, &error, output, errors),
@@ -85,7 +104,8 @@ fn perform<S: AsStr, F: Store, R: InputDevice, W: OutputDevice, E: OutputDevice>
 
 /// Does what is asked, and tells why not.
 #[tactic(auto, using(crate::proofs::Reported::no_device_failed))]
-fn answer<F: Store, R: InputDevice, W: OutputDevice, E: OutputDevice>(
+fn answer<H: Threads + Wait + Sync, F: Store, R: InputDevice, W: OutputDevice, E: OutputDevice>(
+    rt: &H,
     alloc: Global,
     asked: &Request<'_>,
     store: &mut F,
@@ -98,7 +118,7 @@ fn answer<F: Store, R: InputDevice, W: OutputDevice, E: OutputDevice>(
         (E.contents errors.old) (E.contents errors.new) (HasFailed (E.failure_count errors.old) (E.failure_count errors.new)) result }
     ensures passed { (result ≡ statuses.Unable → ⊥) → (R.failure_count input.new ≡ R.failure_count input.old) × (W.failure_count output.new ≡ W.failure_count output.old) × (E.failure_count errors.new ≡ E.failure_count errors.old) }
 {
-    match serve(alloc, asked, store, input, output) {
+    match serve(rt, alloc, asked, store, input, output) {
         Ok(served) => finish(&served, errors),
         Err(failure) => reported(alloc, &failure, errors),
     }
@@ -109,7 +129,8 @@ fn answer<F: Store, R: InputDevice, W: OutputDevice, E: OutputDevice>(
 /// # Errors
 /// `Io` or `OutOfMemory` where the file is not read, and those of the replay, the run, the monitor or the check of what it holds, or of the
 /// explanation or the library. Nothing was written then, or, where a device failed, no more than a beginning of the text.
-fn serve<F: Store, R: InputDevice, W: OutputDevice>(
+fn serve<H: Threads + Wait + Sync, F: Store, R: InputDevice, W: OutputDevice>(
+    rt: &H,
     alloc: Global,
     asked: &Request<'_>,
     store: &mut F,
@@ -144,7 +165,7 @@ fn serve<F: Store, R: InputDevice, W: OutputDevice>(
             )?;
             Ok(silent(status_of_finding(finding)))
         }
-        Request::Run(settings) => run_file(alloc, settings, store, output),
+        Request::Run(settings) => run_file(rt, alloc, settings, store, output),
         Request::Monitor { file, composition } => {
             let specification = store.load(alloc, file)?;
             let answer = monitor_text(

@@ -51,6 +51,7 @@ fn main(rt: HostRuntime) -> ExitCode {
     let mut input = Counted::new(rt.stdin());
     let mut output = Counted::new(rt.stdout());
     let status = command::command(
+        &rt,
         rt.alloc(),
         words.as_slice(),
         &mut store,

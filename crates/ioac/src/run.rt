@@ -29,6 +29,8 @@ use ioa_log::{Log, LogErr, OutputDevice, send_all, write_log};
 use ioa_run::{Outcome, Report, RunErr, run_alone};
 use ioa_value::Action;
 use std::alloc::{AllocError, Global};
+use std::sync::Wait;
+use std::thread::Threads;
 
 /// Runs a composition of a source on one thread, and writes its trace and how it ends, or its log.
 ///
@@ -39,7 +41,8 @@ use std::alloc::{AllocError, Global};
 /// `Io` where a file is not read; `Refused` where the source or its composition is; `BadWords` where a line of the file of words is no list
 /// of words; `List` where a line of the script is no action; `TooManyTurns`, `BadInput`; then `List` where the device failed; or want of
 /// memory. Nothing was written then, or, where the device failed, no more than a beginning of the text.
-pub fn run_file<F: Store, W: OutputDevice>(
+pub fn run_file<H: Threads + Wait + Sync, F: Store, W: OutputDevice>(
+    _rt: &H,
     alloc: Global,
     settings: &Settings<'_>,
     store: &mut F,

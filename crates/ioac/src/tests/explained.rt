@@ -5,7 +5,9 @@ use crate::status::Status;
 use crate::tests::shelf::{Given, REPLAY, Wanted, expect, run};
 use crate::tests::tables::text;
 use std::alloc::Global;
+use std::sync::Wait;
 use std::test::Fail;
+use std::thread::Threads;
 
 /// What gives a code, if texts do: for `E1` this long one.
 fn example<'a>(code: Code, long: &'a str) -> Option<Given<'a>> {
@@ -29,8 +31,13 @@ fn tells(errors: &[u8], code: Code) -> bool {
 }
 
 /// Whether the program tells this code of what it is given, and nothing else.
-fn is_given(alloc: Global, code: Code, given: &Given<'_>) -> Result<bool, Fail> {
-    let ran = run(alloc, given)?;
+fn is_given<H: Threads + Wait + Sync>(
+    rt: &H,
+    alloc: Global,
+    code: Code,
+    given: &Given<'_>,
+) -> Result<bool, Fail> {
+    let ran = run(rt, alloc, given)?;
     let status = if code.spelling().starts_with("L") {
         Status::ListRefused
     } else {
@@ -45,7 +52,7 @@ fn examples_give_their_codes(rt: HostRuntime) -> Result<(), Fail> {
     let mut count = 0usize;
     for code in Code::ALL {
         if let Some(given) = example(code, long.as_str()) {
-            assert!(rt; is_given(rt.alloc(), code, &given)?, "{code}");
+            assert!(rt; is_given(&rt, rt.alloc(), code, &given)?, "{code}");
             count = count.saturating_add(1);
         }
     }

@@ -6,7 +6,9 @@ use crate::tests::shelf::{First, Given, Wanted, expect, expect_rows, run};
 use ioa_system::run_list;
 use ioa_value::read_list;
 use std::alloc::Global;
+use std::sync::Wait;
 use std::test::Fail;
+use std::thread::Threads;
 
 /// The words after the program's name, a list or a log for the library, what is printed, what is told of errors, and the exit status.
 const ROWS: &str = r#"
@@ -82,10 +84,16 @@ fn the_window_moves(rt: HostRuntime) -> Result<(), Fail> {
 }
 
 /// Runs a composition, and answers whether its log is replayed, and whether its specification accepts it.
-fn is_accepted(alloc: Global, composition: &str, specification: &str) -> Result<bool, Fail> {
+fn is_accepted<H: Threads + Wait + Sync>(
+    rt: &H,
+    alloc: Global,
+    composition: &str,
+    specification: &str,
+) -> Result<bool, Fail> {
     let file = library()?;
     let words = format!(in alloc; "run f --comp {composition} --alone --turns 200 --log")?;
     let ran = run(
+        rt,
         alloc,
         &Given {
             words: words.as_str(),
@@ -96,6 +104,7 @@ fn is_accepted(alloc: Global, composition: &str, specification: &str) -> Result<
     let list = str::from_utf8(ran.output.as_slice())?;
     let words = format!(in alloc; "replay f --comp {composition} --log")?;
     let replayed = run(
+        rt,
         alloc,
         &Given {
             words: words.as_str(),
@@ -105,6 +114,7 @@ fn is_accepted(alloc: Global, composition: &str, specification: &str) -> Result<
     )?;
     let words = format!(in alloc; "monitor f --comp {specification}")?;
     let monitored = run(
+        rt,
         alloc,
         &Given {
             words: words.as_str(),
@@ -120,7 +130,7 @@ fn is_accepted(alloc: Global, composition: &str, specification: &str) -> Result<
 fn runs_are_accepted(rt: HostRuntime) -> Result<(), Fail> {
     for (composition, specification) in RUNS {
         assert!(rt;
-            is_accepted(rt.alloc(), composition, specification)?,
+            is_accepted(&rt, rt.alloc(), composition, specification)?,
             "{composition}"
         );
     }

@@ -7,7 +7,9 @@ use crate::tests::tables::{column, columns, is_row};
 use ioa_log::Counted;
 use std::alloc::Global;
 use std::process::Abort;
+use std::sync::Wait;
 use std::test::Fail;
+use std::thread::Threads;
 
 /// A component that rolls, twice at most, and one that adds and tells.
 const GAME: &str = "\
@@ -105,7 +107,12 @@ impl<'a> Store for Rack<'a> {
 }
 
 /// Runs the program by these words after `run f`.
-fn run_by(alloc: Global, options: &str, rack: &mut Rack<'_>) -> Result<Ran, Fail> {
+fn run_by<H: Threads + Wait + Sync>(
+    rt: &H,
+    alloc: Global,
+    options: &str,
+    rack: &mut Rack<'_>,
+) -> Result<Ran, Fail> {
     let mut words = Vec::new(alloc);
     words.push("ioac")?;
     words.push("run")?;
@@ -117,6 +124,7 @@ fn run_by(alloc: Global, options: &str, rack: &mut Rack<'_>) -> Result<Ran, Fail
     let mut output = Counted::new(Vec::new(alloc));
     let mut errors = Counted::new(Vec::new(alloc));
     let status = command(
+        rt,
         alloc,
         words.as_slice(),
         rack,
@@ -132,7 +140,12 @@ fn run_by(alloc: Global, options: &str, rack: &mut Rack<'_>) -> Result<Ran, Fail
 }
 
 /// Runs each row of a table on this source.
-fn expect_runs(rt: &impl Abort, alloc: Global, rows: &str, source: &str) -> Result<(), Fail> {
+fn expect_runs<H: Abort + Threads + Wait + Sync>(
+    rt: &H,
+    alloc: Global,
+    rows: &str,
+    source: &str,
+) -> Result<(), Fail> {
     for row in rows.lines().filter(|line| is_row(line)) {
         let columns = columns(alloc, row)?;
         let mut rack = Rack {
@@ -140,7 +153,7 @@ fn expect_runs(rt: &impl Abort, alloc: Global, rows: &str, source: &str) -> Resu
             words: column(&columns, 1),
             script: column(&columns, 2),
         };
-        let ran = run_by(alloc, column(&columns, 0), &mut rack)?;
+        let ran = run_by(rt, alloc, column(&columns, 0), &mut rack)?;
         assert!(rt;
             ran.errors.as_slice() == column(&columns, 4).as_bytes(),
             "errors in {row}"
@@ -176,9 +189,9 @@ fn a_run_without_a_seed_has_one_of_zeros(rt: HostRuntime) -> Result<(), Fail> {
         "--alone --turns 50 --log --seed 0000000000000000000000000000000000000000000000000000000000000000";
     let ones =
         "--alone --turns 50 --log --seed 1111111111111111111111111111111111111111111111111111111111111111";
-    let without = run_by(rt.alloc(), "--alone --turns 50 --log", &mut rack)?;
-    let with_zeros = run_by(rt.alloc(), zeros, &mut rack)?;
-    let with_ones = run_by(rt.alloc(), ones, &mut rack)?;
+    let without = run_by(&rt, rt.alloc(), "--alone --turns 50 --log", &mut rack)?;
+    let with_zeros = run_by(&rt, rt.alloc(), zeros, &mut rack)?;
+    let with_ones = run_by(&rt, rt.alloc(), ones, &mut rack)?;
     assert_eq!(rt; without.status, 0);
     assert!(rt; without.output.as_slice() == with_zeros.output.as_slice());
     assert!(rt; without.output.as_slice() != with_ones.output.as_slice());

@@ -8,7 +8,9 @@ use ioa_log::{Counted, InputDevice, OutputDevice};
 use ioa_value::{Declarations, OutOfMemory, Types};
 use std::alloc::{AllocError, Global};
 use std::process::Abort;
+use std::sync::Wait;
 use std::test::Fail;
+use std::thread::Threads;
 
 /// The counter that most tests replay.
 pub const COUNTER: &str =
@@ -74,7 +76,8 @@ pub struct Ran {
 }
 
 /// Runs the program on devices, and answers its exit status.
-pub fn run_on<R: InputDevice, W: OutputDevice, E: OutputDevice>(
+pub fn run_on<H: Threads + Wait + Sync, R: InputDevice, W: OutputDevice, E: OutputDevice>(
+    rt: &H,
     alloc: Global,
     given: &Given<'_>,
     input: &mut R,
@@ -89,15 +92,27 @@ pub fn run_on<R: InputDevice, W: OutputDevice, E: OutputDevice>(
     let mut store = Shelf {
         bytes: given.file.as_bytes(),
     };
-    Ok(command(alloc, words.as_slice(), &mut store, input, output, errors))
+    Ok(command(
+        rt,
+        alloc,
+        words.as_slice(),
+        &mut store,
+        input,
+        output,
+        errors,
+    ))
 }
 
 /// Runs the program.
-pub fn run(alloc: Global, given: &Given<'_>) -> Result<Ran, Fail> {
+pub fn run<H: Threads + Wait + Sync>(
+    rt: &H,
+    alloc: Global,
+    given: &Given<'_>,
+) -> Result<Ran, Fail> {
     let mut input = Counted::new(given.list.as_bytes());
     let mut output = Counted::new(Vec::new(alloc));
     let mut errors = Counted::new(Vec::new(alloc));
-    let status = run_on(alloc, given, &mut input, &mut output, &mut errors)?;
+    let status = run_on(rt, alloc, given, &mut input, &mut output, &mut errors)?;
     Ok(Ran {
         output: output.into_inner(),
         errors: errors.into_inner(),
@@ -106,14 +121,14 @@ pub fn run(alloc: Global, given: &Given<'_>) -> Result<Ran, Fail> {
 }
 
 /// Runs the program and compares what it prints. It tells the row that fails.
-pub fn expect(
-    rt: &impl Abort,
+pub fn expect<H: Abort + Threads + Wait + Sync>(
+    rt: &H,
     alloc: Global,
     row: &str,
     given: &Given<'_>,
     wanted: &Wanted<'_>,
 ) -> Result<(), Fail> {
-    let ran = run(alloc, given)?;
+    let ran = run(rt, alloc, given)?;
     assert!(rt;
         ran.errors.as_slice() == wanted.errors.as_bytes(),
         "errors in {row}"
@@ -184,8 +199,8 @@ fn wanted_in(columns: &[String], number: usize) -> Result<Wanted<'_>, Fail> {
 
 /// Runs the program on each row of a table and compares what it prints: after the first columns come what is printed, what is
 /// told of errors, and the exit status.
-pub fn expect_rows(
-    rt: &impl Abort,
+pub fn expect_rows<H: Abort + Threads + Wait + Sync>(
+    rt: &H,
     alloc: Global,
     rows: &str,
     first: First<'_>,

@@ -5,7 +5,9 @@ use std::alloc::Global;
 use std::io;
 use std::io::{Read, Write};
 use std::process::Abort;
+use std::sync::Wait;
 use std::test::Fail;
+use std::thread::Threads;
 
 /// Takes one byte a call, and fails after so many calls.
 #[derive(Drop)]
@@ -93,7 +95,13 @@ const GIVEN: [(&str, &str, &str, &str, Status); 4] = [
 
 /// Replays what is given on a device that fails after so many calls, and the answer is printed on one that takes so many;
 /// with how many calls failed.
-fn replayed(alloc: Global, given: &Given<'_>, reads: u64, writes: u64) -> Result<(Ran, u64), Fail> {
+fn replayed<H: Threads + Wait + Sync>(
+    rt: &H,
+    alloc: Global,
+    given: &Given<'_>,
+    reads: u64,
+    writes: u64,
+) -> Result<(Ran, u64), Fail> {
     let mut input = Counted::new(Dripping {
         bytes: given.list.as_bytes(),
         left: reads,
@@ -103,7 +111,7 @@ fn replayed(alloc: Global, given: &Given<'_>, reads: u64, writes: u64) -> Result
         left: writes,
     });
     let mut errors = Counted::new(Vec::new(alloc));
-    let status = run_on(alloc, given, &mut input, &mut output, &mut errors)?;
+    let status = run_on(rt, alloc, given, &mut input, &mut output, &mut errors)?;
     let failures = input.failures().saturating_add(output.failures());
     let ran = Ran {
         output: output.into_inner().held,
@@ -123,8 +131,8 @@ fn fails_with_its_devices(rt: HostRuntime) -> Result<(), Fail> {
 }
 
 /// Replays on devices that fail at each call in turn, and on one that does not. The end is one more read.
-fn expect_failures(
-    rt: &impl Abort,
+fn expect_failures<H: Abort + Threads + Wait + Sync>(
+    rt: &H,
     alloc: Global,
     given: &Given<'_>,
     printed: &[u8],
@@ -133,17 +141,17 @@ fn expect_failures(
     let all = (given.list.len() as u64).saturating_add(1);
     let calls = printed.len() as u64;
     for reads in 0..all {
-        let (ran, failures) = replayed(alloc, given, reads, calls)?;
+        let (ran, failures) = replayed(rt, alloc, given, reads, calls)?;
         assert_failed(rt, &ran, failures);
         assert!(rt; ran.output.is_empty());
     }
     for writes in 0..calls {
-        let (ran, failures) = replayed(alloc, given, all, writes)?;
+        let (ran, failures) = replayed(rt, alloc, given, all, writes)?;
         assert_failed(rt, &ran, failures);
         assert_eq!(rt; ran.output.len() as u64, writes);
         assert!(rt; printed.starts_with(ran.output.as_slice()));
     }
-    let (ran, failures) = replayed(alloc, given, all, calls)?;
+    let (ran, failures) = replayed(rt, alloc, given, all, calls)?;
     assert_eq!(rt; ran.status, status.number());
     assert_eq!(rt; failures, 0);
     assert!(rt; ran.output.as_slice() == printed);
@@ -176,10 +184,17 @@ const ROOMS: [(&str, &str, &str, &[u8], &[u8]); 10] = [
 ];
 
 /// Whether the program fails where no more than this can be written.
-fn fills(alloc: Global, given: &Given<'_>, printed: &[u8], told: &[u8]) -> Result<bool, Fail> {
+fn fills<H: Threads + Wait + Sync>(
+    rt: &H,
+    alloc: Global,
+    given: &Given<'_>,
+    printed: &[u8],
+    told: &[u8],
+) -> Result<bool, Fail> {
     let mut output = vec![in alloc; 0u8; printed.len()]?;
     let mut errors = vec![in alloc; 0u8; told.len()]?;
     let status = run_on(
+        rt,
         alloc,
         given,
         &mut Counted::new(given.list.as_bytes()),
@@ -194,7 +209,7 @@ fn fills(alloc: Global, given: &Given<'_>, printed: &[u8], told: &[u8]) -> Resul
 fn full_devices_fail(rt: HostRuntime) -> Result<(), Fail> {
     for (words, file, list, printed, told) in ROOMS {
         let given = Given { words, file, list };
-        assert!(rt; fills(rt.alloc(), &given, printed, told)?, "{words}");
+        assert!(rt; fills(&rt, rt.alloc(), &given, printed, told)?, "{words}");
     }
     Ok(())
 }
