@@ -1,5 +1,5 @@
 -- From the clauses of the parts to why nothing is run.
-use Rattle.std.proofs.Common.{◌≡◌, ◌∙◌, ℕ, List, Option, Some, None, Err, inl, inr, length, map, refl, subst, sym}
+use Rattle.std.proofs.Common.{◌≡◌, ◌∙◌, ℕ, List, Option, Some, None, Err, false, inl, inr, length, map, refl, subst, sym}
 use Rattle.std.specs.Option.{option_copied}
 use Rattle.std.specs.Result.{IsErrOf}
 use Rattle.std.proofs.lemmas.List.{length-map}
@@ -22,7 +22,7 @@ use Rattle.ioac.specs.declared.word_sources.WordSources.{WordSources}
 use Rattle.ioac.specs.Alone.{AreSources, HasBadLine, HasBadWords, HasWords, IsReady, IsScript, IsScriptless, IsUnreadable, IsUnrun, IsWordless, LacksScript, LacksWords, MayDeclare, count_of}
 use Rattle.ioac.specs.Serving.{failure_of, run_failure}
 use Rattle.ioac.specs.WordLists.{AreWords, IsBadWords, listed}
-use Rattle.ioac.proofs.Hosted.{other_same}
+use Rattle.ioac.proofs.Hosted.{inputs_same, other_same}
 
 -- a device that did not fail is no reason
 pub unrun_weaker : (holds : Name → List ℕ → Type 0) (lacks : Name → Type 0) (s : Settings) (failed : Type 0) (e : Failure) → IsUnrun holds lacks s ⊥ e → IsUnrun holds lacks s failed e
@@ -38,6 +38,7 @@ unrun_weaker holds lacks s failed (Failure.List LogErr.NoEnd) k = k
 unrun_weaker holds lacks s failed (Failure.List LogErr.AfterEnd) k = k
 unrun_weaker holds lacks s failed Failure.TooManyTurns k = k
 unrun_weaker holds lacks s failed (Failure.BadInput i) k = k
+unrun_weaker holds lacks s failed Failure.Threads k = k
 unrun_weaker holds lacks s failed Failure.Io k = k
 unrun_weaker holds lacks s failed Failure.OutOfMemory k = k
 unrun_weaker holds lacks s failed Failure.SpecHasInternal k = k
@@ -90,6 +91,7 @@ module _ (holds later : Name → List ℕ → Type 0) (lacks failing : Name → 
   wordless s h m Failure.SpecHasInternal d same k = absurd k
   wordless s h m Failure.TooManyTurns d same k = absurd k
   wordless s h m (Failure.BadInput i) d same k = absurd k
+  wordless s h m Failure.Threads d same k = absurd k
 
   -- there is no script
   pub scriptless : (s : Settings) (h : Hosted) (own : Table) (e : Failure) → MayDeclare holds s h → HasWords holds s.words (length h.hosts) → own ≡ h.types
@@ -110,6 +112,7 @@ module _ (holds later : Name → List ℕ → Type 0) (lacks failing : Name → 
   scriptless s h own Failure.SpecHasInternal d w same k = absurd k
   scriptless s h own Failure.TooManyTurns d w same k = absurd k
   scriptless s h own (Failure.BadInput i) d w same k = absurd k
+  scriptless s h own Failure.Threads d w same k = absurd k
 
 pub count_is : (holds : Name → List ℕ → Type 0) (from : WordsFrom) (workers : ℕ) (sources : WordSources) → AreSources holds from workers sources → count_of sources ≡ workers
 count_is holds (WordsFrom.Key key) workers (WordSources.Seeded v) k = k.count
@@ -118,9 +121,9 @@ count_is holds (WordsFrom.File file) workers (WordSources.Seeded v) k = absurd k
 count_is holds (WordsFrom.File file) workers (WordSources.Listed v) k = sym (length-map v.items listed) ∙ k.3.count
 
 -- the run is refused
-pub unrun_by : (p : Prog) (h : Hosted) (c : Composed) (holds : Name → List ℕ → Type 0) (lacks : Name → Type 0) (s : Settings) (script : List Act) (x : RunErr) → Stands h c → Means p c
-    → IsReady holds s h script → Refuses p script s.turns (Err x) → IsUnrun holds lacks s ⊥ (run_failure x)
-unrun_by p h c holds lacks s script RunErr.TooManyTurns stands means ready k = (h, script, ready, k)
-unrun_by p h c holds lacks s script (RunErr.BadInput i) stands means ready k = (h, script, ready, k.0, other_same p h c stands means script i k.1)
-unrun_by p h c holds lacks s script RunErr.Threads stands means ready k = tt
-unrun_by p h c holds lacks s script RunErr.OutOfMemory stands means ready k = tt
+pub unrun_by : (p : Prog) (h : Hosted) (c : Composed) (holds : Name → List ℕ → Type 0) (lacks : Name → Type 0) (s : Settings) (script : List Act) (x : RunErr) {T : Type 0} → Stands h c → Means p c
+    → IsReady holds s h script → Refuses p script s.turns (Err x) → (IsErrOf {T = T} (Err x) RunErr.Threads → s.alone ≡ false) → IsUnrun holds lacks s ⊥ (run_failure x)
+unrun_by p h c holds lacks s script RunErr.TooManyTurns stands means ready k own = (h, script, ready, k)
+unrun_by p h c holds lacks s script (RunErr.BadInput i) stands means ready k own = (h, script, ready, k.0, other_same p h c stands means script i k.1)
+unrun_by p h c holds lacks s script RunErr.Threads stands means ready k own = (h, script, ready, k.0, inputs_same p h c stands means script k.1, own refl)
+unrun_by p h c holds lacks s script RunErr.OutOfMemory stands means ready k own = tt

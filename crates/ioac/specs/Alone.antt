@@ -1,4 +1,4 @@
--- What a run of a composition writes and tells, whose workers take turns on one thread, and why there is none.
+-- What a run of a composition writes and tells, whose workers take turns on one thread or have a thread each, and why there is none.
 use Rattle.std.specs.Prelude.{◌≡◌, ◌<◌, ◌≤◌, ◌⊎◌, ◌++◌, ℕ, Bool, true, false, cond, List, [], Option, Some, None, All, length, map, take}
 use Rattle.std.specs.Io.KnownBytes.{Appends}
 use Rattle.std.specs.Option.{option_copied}
@@ -153,6 +153,7 @@ IsWordless holds lacks from workers (Failure.List e) = ⊥
 IsWordless holds lacks from workers Failure.SpecHasInternal = ⊥
 IsWordless holds lacks from workers Failure.TooManyTurns = ⊥
 IsWordless holds lacks from workers (Failure.BadInput i) = ⊥
+IsWordless holds lacks from workers Failure.Threads = ⊥
 
 abbrev pub IsScriptless : (Name → List ℕ → Type 0) → (Name → Type 0) → Table → Option Name → Failure → Type 0
 IsScriptless holds lacks types file (Failure.List (LogErr.BadLine n)) = HasBadLine holds types file n
@@ -170,6 +171,7 @@ IsScriptless holds lacks types file (Failure.BadWords n) = ⊥
 IsScriptless holds lacks types file Failure.SpecHasInternal = ⊥
 IsScriptless holds lacks types file Failure.TooManyTurns = ⊥
 IsScriptless holds lacks types file (Failure.BadInput i) = ⊥
+IsScriptless holds lacks types file Failure.Threads = ⊥
 
 -- a file is not read: the source's; or where that declares hosts, the words'; or where all have words, the script's
 abbrev pub IsUnloaded : (Name → List ℕ → Type 0) → (Name → Type 0) → Settings → Type 0
@@ -179,8 +181,8 @@ IsUnloaded holds lacks s =
     × (LacksWords holds lacks s.words ⊎ (HasWords holds s.words (length h.hosts) × LacksScript holds lacks (option_copied s.inputs))))
 
 -- Each reason comes only where those before it do not hold: a file is not read; the source or its composition is refused; a line of words is
--- none; a line of the script is no action; there are too many turns; an action of the script is no input. Or the device failed, after all
--- were past. Memory may be short at any time.
+-- none; a line of the script is no action; there are too many turns; an action of the script is no input; a thread is refused, of which a run
+-- on one thread takes none. Or the device failed, after all were past. Memory may be short at any time.
 abbrev pub IsUnrun : (Name → List ℕ → Type 0) → (Name → Type 0) → Settings → Type 0 → Failure → Type 0
 IsUnrun holds lacks s failed (Failure.Refused r) = (text : List ℕ) × holds s.file.now text × IsRefusedSource text (option_copied s.composition) r
 IsUnrun holds lacks s failed (Failure.BadWords n) = (h : Hosted) × MayDeclare holds s h × HasBadWords holds s.words (length h.hosts) n
@@ -189,6 +191,8 @@ IsUnrun holds lacks s failed (Failure.List (LogErr.BadLine n)) =
 IsUnrun holds lacks s failed Failure.TooManyTurns = (h : Hosted) × (script : List Act) × IsReady holds s h script × (most_turns < s.turns)
 IsUnrun holds lacks s failed (Failure.BadInput i) =
     (h : Hosted) × (script : List Act) × IsReady holds s h script × (s.turns ≤ most_turns) × IsFirstOther (hosts_of h) script i
+IsUnrun holds lacks s failed Failure.Threads =
+    (h : Hosted) × (script : List Act) × IsReady holds s h script × (s.turns ≤ most_turns) × All (IsInput (hosts_of h)) script × (s.alone ≡ false)
 IsUnrun holds lacks s failed (Failure.List LogErr.Io) =
     (h : Hosted) × (script : List Act) × IsReady holds s h script × (s.turns ≤ most_turns) × All (IsInput (hosts_of h)) script × failed
 IsUnrun holds lacks s failed Failure.Io = IsUnloaded holds lacks s

@@ -28,6 +28,7 @@ IsCheckFailure text failed Failure.SpecHasInternal = ⊥
 IsCheckFailure text failed (Failure.BadWords n) = ⊥
 IsCheckFailure text failed Failure.TooManyTurns = ⊥
 IsCheckFailure text failed (Failure.BadInput i) = ⊥
+IsCheckFailure text failed Failure.Threads = ⊥
 IsCheckFailure text failed Failure.Io = ⊥
 IsCheckFailure text failed Failure.OutOfMemory = Unit {0}
 

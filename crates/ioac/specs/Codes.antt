@@ -10,7 +10,7 @@ abbrev pub all_codes : List Code
 all_codes =
     Code.E1 ∷ Code.E2 ∷ Code.E3 ∷ Code.E4 ∷ Code.E5 ∷ Code.E6 ∷ Code.E7 ∷ Code.E8 ∷ Code.E9 ∷ Code.E10 ∷
     Code.E11 ∷ Code.E12 ∷ Code.E13 ∷ Code.E14 ∷ Code.E15 ∷ Code.E16 ∷ Code.E17 ∷ Code.L1 ∷ Code.L2 ∷ Code.L3 ∷
-    Code.L4 ∷ Code.L5 ∷ Code.L6 ∷ Code.L7 ∷ Code.L8 ∷ Code.N1 ∷ Code.N2 ∷ Code.Words ∷
+    Code.L4 ∷ Code.L5 ∷ Code.L6 ∷ Code.L7 ∷ Code.L8 ∷ Code.N1 ∷ Code.N2 ∷ Code.N3 ∷ Code.Words ∷
     Code.Memory ∷ Code.Io ∷ []
 
 abbrev pub spelling : Code → List ℕ
@@ -41,6 +41,7 @@ spelling Code.L7 = codes "L7"
 spelling Code.L8 = codes "L8"
 spelling Code.N1 = codes "N1"
 spelling Code.N2 = codes "N2"
+spelling Code.N3 = codes "N3"
 spelling Code.Words = codes "words"
 spelling Code.Memory = codes "memory"
 spelling Code.Io = codes "io"
@@ -82,5 +83,6 @@ failure_code Failure.SpecHasInternal = Code.L7
 failure_code (Failure.BadWords n) = Code.Words
 failure_code Failure.TooManyTurns = Code.N1
 failure_code (Failure.BadInput i) = Code.N2
+failure_code Failure.Threads = Code.N3
 failure_code Failure.Io = Code.Io
 failure_code Failure.OutOfMemory = Code.Memory

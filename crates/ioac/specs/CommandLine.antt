@@ -31,9 +31,9 @@ log_rule = record (new_rule (codes "log")) { long = Some (codes "log"); action =
 abbrev pub invariants_rule : Rule
 invariants_rule = record (new_rule (codes "invariants")) { long = Some (codes "invariants"); action = Some ArgAction.SetTrue }
 
--- `--alone`, which has to stand
+-- `--alone`
 abbrev pub alone_rule : Rule
-alone_rule = record (new_rule (codes "alone")) { long = Some (codes "alone"); action = Some ArgAction.SetTrue; required = true }
+alone_rule = record (new_rule (codes "alone")) { long = Some (codes "alone"); action = Some ArgAction.SetTrue }
 
 -- `--turns N`
 abbrev pub turns_rule : Rule
@@ -106,6 +106,7 @@ Names rows file composition = (first_of (codes "FILE") rows ≡ Some file) × (f
 -- a run of these settings is what a subcommand's values ask for
 pub record AreSettings (rows : List Row) (s : Settings) : Type 0 where
   pub names : Names rows s.file.now (option_copied s.composition)
+  pub alone : is_set (codes "alone") rows ≡ s.alone
   pub turns : turns_in (first_of (codes "turns") rows) ≡ Some s.turns
   pub words : source_in (first_of (codes "seed") rows) (first_of (codes "words") rows) ≡ Some (source_of s.words)
   pub inputs : first_of (codes "inputs") rows ≡ option_copied s.inputs

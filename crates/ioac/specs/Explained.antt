@@ -39,5 +39,6 @@ IsUnexplained code failed before after Failure.SpecHasInternal = ⊥
 IsUnexplained code failed before after (Failure.BadWords n) = ⊥
 IsUnexplained code failed before after Failure.TooManyTurns = ⊥
 IsUnexplained code failed before after (Failure.BadInput i) = ⊥
+IsUnexplained code failed before after Failure.Threads = ⊥
 IsUnexplained code failed before after Failure.Io = ⊥
 IsUnexplained code failed before after Failure.OutOfMemory = Keeps before after

@@ -75,6 +75,7 @@ IsFailure text name bytes failed Failure.SpecHasInternal = ⊥
 IsFailure text name bytes failed (Failure.BadWords n) = ⊥
 IsFailure text name bytes failed Failure.TooManyTurns = ⊥
 IsFailure text name bytes failed (Failure.BadInput i) = ⊥
+IsFailure text name bytes failed Failure.Threads = ⊥
 IsFailure text name bytes failed Failure.Io = ⊥
 IsFailure text name bytes failed Failure.OutOfMemory = Unit {0}
 
@@ -94,6 +95,7 @@ IsLogFailure text name bytes failed Failure.SpecHasInternal = ⊥
 IsLogFailure text name bytes failed (Failure.BadWords n) = ⊥
 IsLogFailure text name bytes failed Failure.TooManyTurns = ⊥
 IsLogFailure text name bytes failed (Failure.BadInput i) = ⊥
+IsLogFailure text name bytes failed Failure.Threads = ⊥
 IsLogFailure text name bytes failed Failure.Io = ⊥
 IsLogFailure text name bytes failed Failure.OutOfMemory = Unit {0}
 
@@ -113,6 +115,7 @@ IsMonitorFailure text name bytes failed Failure.SpecHasInternal = (h : Hosted) �
 IsMonitorFailure text name bytes failed (Failure.BadWords n) = ⊥
 IsMonitorFailure text name bytes failed Failure.TooManyTurns = ⊥
 IsMonitorFailure text name bytes failed (Failure.BadInput i) = ⊥
+IsMonitorFailure text name bytes failed Failure.Threads = ⊥
 IsMonitorFailure text name bytes failed Failure.Io = ⊥
 IsMonitorFailure text name bytes failed Failure.OutOfMemory = Unit {0}
 
@@ -145,6 +148,7 @@ IsLeft broken other Failure.SpecHasInternal = other
 IsLeft broken other (Failure.BadWords n) = other
 IsLeft broken other Failure.TooManyTurns = other
 IsLeft broken other (Failure.BadInput i) = other
+IsLeft broken other Failure.Threads = other
 IsLeft broken other Failure.Io = other
 IsLeft broken other Failure.OutOfMemory = other
 

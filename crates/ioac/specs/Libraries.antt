@@ -13,5 +13,6 @@ IsUnlisted failed before after Failure.SpecHasInternal = ⊥
 IsUnlisted failed before after (Failure.BadWords n) = ⊥
 IsUnlisted failed before after Failure.TooManyTurns = ⊥
 IsUnlisted failed before after (Failure.BadInput i) = ⊥
+IsUnlisted failed before after Failure.Threads = ⊥
 IsUnlisted failed before after Failure.Io = ⊥
 IsUnlisted failed before after Failure.OutOfMemory = ⊥

@@ -50,6 +50,7 @@ failure_details Failure.SpecHasInternal = []
 failure_details (Failure.BadWords n) = on_line n
 failure_details Failure.TooManyTurns = []
 failure_details (Failure.BadInput i) = codes " index " ++ decimal i
+failure_details Failure.Threads = []
 failure_details Failure.Io = []
 failure_details Failure.OutOfMemory = []
 

@@ -30,11 +30,11 @@ abbrev pub failure_of : StoreErr → Failure
 failure_of StoreErr.Io = Failure.Io
 failure_of StoreErr.OutOfMemory = Failure.OutOfMemory
 
--- why nothing is run. On one thread no other is refused
+-- why nothing is run
 abbrev pub run_failure : RunErr → Failure
 run_failure RunErr.TooManyTurns = Failure.TooManyTurns
 run_failure (RunErr.BadInput i) = Failure.BadInput i
-run_failure RunErr.Threads = Failure.OutOfMemory
+run_failure RunErr.Threads = Failure.Threads
 run_failure RunErr.OutOfMemory = Failure.OutOfMemory
 
 -- the file may hold a text such that the list or the log was replayed, or monitored, in the composition that is asked for, the last

@@ -71,5 +71,6 @@ failure_status Failure.SpecHasInternal = Status.ListRefused
 failure_status (Failure.BadWords n) = Status.BadCommandLine
 failure_status Failure.TooManyTurns = Status.BadCommandLine
 failure_status (Failure.BadInput i) = Status.ListRefused
+failure_status Failure.Threads = Status.Unable
 failure_status Failure.Io = Status.Unable
 failure_status Failure.OutOfMemory = Status.Unable

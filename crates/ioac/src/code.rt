@@ -35,6 +35,7 @@ pub enum Code {
     L8,
     N1,
     N2,
+    N3,
     Words,
     Memory,
     Io,
@@ -44,7 +45,7 @@ impl Code {
     ghost use Rattle.ioac.specs.declared.code.Code.{Code};
 
     /// Each code, once.
-    pub const ALL: [Code; 30] = [
+    pub const ALL: [Code; 31] = [
         Code::E1,
         Code::E2,
         Code::E3,
@@ -72,6 +73,7 @@ impl Code {
         Code::L8,
         Code::N1,
         Code::N2,
+        Code::N3,
         Code::Words,
         Code::Memory,
         Code::Io,
@@ -109,6 +111,7 @@ impl Code {
             Code::L8 => "L8",
             Code::N1 => "N1",
             Code::N2 => "N2",
+            Code::N3 => "N3",
             Code::Words => "words",
             Code::Memory => "memory",
             Code::Io => "io",

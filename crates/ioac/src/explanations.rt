@@ -42,6 +42,7 @@ pub fn explanation(code: Code) -> Explanation
         Code::L8 => runs::L8,
         Code::N1 => scripts::N1,
         Code::N2 => scripts::N2,
+        Code::N3 => scripts::N3,
         Code::Words => scripts::WORDS,
         Code::Memory => runs::MEMORY,
         Code::Io => runs::IO,

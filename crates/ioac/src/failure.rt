@@ -27,6 +27,8 @@ pub enum Failure {
     TooManyTurns,
     /// The action of this number, from 0, is the first of a run's script that is no input.
     BadInput(usize),
+    /// A thread was refused to a run.
+    Threads,
     /// A file was not read.
     Io,
     /// A growth of memory was refused.
@@ -49,6 +51,7 @@ impl Failure {
             Failure::BadWords(_) => Code::Words,
             Failure::TooManyTurns => Code::N1,
             Failure::BadInput(_) => Code::N2,
+            Failure::Threads => Code::N3,
             Failure::Io => Code::Io,
             Failure::OutOfMemory => Code::Memory,
         }
@@ -63,7 +66,7 @@ impl Failure {
             Failure::List(error) => log_status(*error),
             Failure::SpecHasInternal | Failure::BadInput(_) => Status::ListRefused,
             Failure::BadWords(_) | Failure::TooManyTurns => Status::BadCommandLine,
-            Failure::Io | Failure::OutOfMemory => Status::Unable,
+            Failure::Threads | Failure::Io | Failure::OutOfMemory => Status::Unable,
         }
     }
 }
@@ -123,6 +126,7 @@ impl fmt::Display for Failure {
             Failure::List(LogErr::NoEnd | LogErr::AfterEnd | LogErr::Io | LogErr::OutOfMemory)
             | Failure::SpecHasInternal
             | Failure::TooManyTurns
+            | Failure::Threads
             | Failure::Io
             | Failure::OutOfMemory => write!(f, "{code}"),
         }
@@ -175,8 +179,8 @@ impl From<RunErr> for Failure {
         match error {
             RunErr::TooManyTurns => Failure::TooManyTurns,
             RunErr::BadInput(index) => Failure::BadInput(index),
-            // A run on one thread is refused none.
-            RunErr::Threads | RunErr::OutOfMemory => Failure::OutOfMemory,
+            RunErr::Threads => Failure::Threads,
+            RunErr::OutOfMemory => Failure::OutOfMemory,
         }
     }
 }

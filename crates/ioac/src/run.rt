@@ -8,6 +8,7 @@ ghost use Rattle.ioa_system.specs.Logs.{logged};
 ghost use Rattle.ioa_log.specs.declared.failure.LogErr.{LogErr};
 ghost use Rattle.ioa_log.specs.Failing.{HasFailed};
 ghost use Rattle.ioa_run.specs.Alone.{IsOutcome, Refuses};
+ghost use Rattle.ioa_run.specs.declared.run_err.RunErr.{RunErr};
 ghost use Rattle.ioac.specs.Alone.{BeginsRunOf, IsRunServed, IsUnrun, count_of};
 ghost use Rattle.ioac.specs.Failing.{IsUnwritten};
 ghost use Rattle.ioac.specs.HasRun.{HasRun};
@@ -26,23 +27,25 @@ use crate::trace::trace_text;
 use crate::word_sources::{WordSources, load_words};
 use ioa_compile::Program;
 use ioa_log::{Log, LogErr, OutputDevice, send_all, write_log};
-use ioa_run::{Outcome, Report, RunErr, run_alone};
+use ioa_node::Words;
+use ioa_run::{OpenGate, Outcome, Report, RunErr, run_alone, run_threads};
 use ioa_value::Action;
 use std::alloc::{AllocError, Global};
 use std::sync::Wait;
 use std::thread::Threads;
 
-/// Runs a composition of a source on one thread, and writes its trace and how it ends, or its log.
+/// Runs a composition of a source, on one thread or on one for each worker, and writes its trace and how it ends, or its log.
 ///
-/// Whatever the words: where the answer is `Ok`, what was written is the trace and the end, or the log, of a legal history of what the
-/// source declares, in which the environment performs its script in order.
+/// Whatever the words and the schedule: where the answer is `Ok`, what was written is the trace and the end, or the log, of a legal
+/// history of what the source declares, in which the environment performs its script in order.
 ///
 /// # Errors
 /// `Io` where a file is not read; `Refused` where the source or its composition is; `BadWords` where a line of the file of words is no list
-/// of words; `List` where a line of the script is no action; `TooManyTurns`, `BadInput`; then `List` where the device failed; or want of
-/// memory. Nothing was written then, or, where the device failed, no more than a beginning of the text.
+/// of words; `List` where a line of the script is no action; `TooManyTurns`, `BadInput`; `Threads`, unless the run is on one thread; then
+/// `List` where the device failed; or want of memory. Nothing was written then, or, where the device failed, no more than a beginning of
+/// the text.
 pub fn run_file<H: Threads + Wait + Sync, F: Store, W: OutputDevice>(
-    _rt: &H,
+    rt: &H,
     alloc: Global,
     settings: &Settings<'_>,
     store: &mut F,
@@ -53,7 +56,7 @@ pub fn run_file<H: Threads + Wait + Sync, F: Store, W: OutputDevice>(
     ensures unwritten { IfErr result (λ e. IsUnwritten (BeginsRunOf (F.holds store.old) settings.now) (W.contents output.old) (W.contents output.new) e) }
     ensures passed { (IsErrOf result (Failure.List LogErr.Io) → ⊥) → W.failure_count output.new ≡ W.failure_count output.old }
 {
-    let ran = run_settings(alloc, settings, store)?;
+    let ran = run_settings(rt, alloc, settings, store)?;
     let told = told_reports(alloc, settings, &ran)?;
     let status = status_of(ran.log.end.end());
     write_run(alloc, &ran.program, &ran.log, settings.log, output)?;
@@ -72,7 +75,8 @@ pub struct Ran {
 }
 
 /// Reads what a run is given, and runs it. Nothing is written.
-fn run_settings<F: Store>(
+fn run_settings<H: Threads + Wait + Sync, F: Store>(
+    rt: &H,
     alloc: Global,
     settings: &Settings<'_>,
     store: &mut F,
@@ -85,7 +89,7 @@ fn run_settings<F: Store>(
     let components = program.members().len();
     let words = load_words(alloc, settings.words, components, store)?;
     let script = load_script(alloc, program.types(), settings.inputs, store)?;
-    let outcome = run_sources(alloc, &program, settings.turns, words, script.as_slice())?;
+    let outcome = run_sources(rt, alloc, &program, settings, words, script.as_slice())?;
     Ok(ran_of(program, outcome))
 }
 
@@ -110,21 +114,44 @@ fn ran_of(program: Program, outcome: Outcome) -> Ran
 }
 
 /// Runs the program by these words, one source for each component.
-fn run_sources(
+fn run_sources<H: Threads + Wait + Sync>(
+    rt: &H,
     alloc: Global,
     program: &Program,
-    turns: u64,
+    settings: &Settings<'_>,
     words: WordSources,
     script: &[Action],
 ) -> Result<Outcome, RunErr>
     requires { count_of words ≡ length program.now.members }
-    ensures outcome { IfOk result (λ o. IsOutcome program.now (map act_of script.now) turns o) }
-    ensures refused { Refuses program.now (map act_of script.now) turns result }
+    ensures outcome { IfOk result (λ o. IsOutcome program.now (map act_of script.now) settings.now.turns o) }
+    ensures refused { Refuses program.now (map act_of script.now) settings.now.turns result }
+    ensures threads { IsErrOf result RunErr.Threads → settings.now.alone ≡ false }
 {
     match words {
-        WordSources::Seeded(sources) => run_alone(alloc, program, turns, sources, script),
-        WordSources::Listed(sources) => run_alone(alloc, program, turns, sources, script),
+        WordSources::Seeded(sources) => run_by(rt, alloc, program, settings, sources, script),
+        WordSources::Listed(sources) => run_by(rt, alloc, program, settings, sources, script),
     }
+}
+
+/// The same, of sources of one kind: on one thread, where that is asked for, or on one for each worker.
+fn run_by<H: Threads + Wait + Sync, W: Words + Send + Drop>(
+    rt: &H,
+    alloc: Global,
+    program: &Program,
+    settings: &Settings<'_>,
+    words: Vec<W>,
+    script: &[Action],
+) -> Result<Outcome, RunErr>
+    requires { length words.items ≡ length program.now.members }
+    ensures outcome { IfOk result (λ o. IsOutcome program.now (map act_of script.now) settings.now.turns o) }
+    ensures refused { Refuses program.now (map act_of script.now) settings.now.turns result }
+    ensures threads { IsErrOf result RunErr.Threads → settings.now.alone ≡ false }
+{
+    let turns = settings.turns;
+    if settings.alone {
+        return run_alone(alloc, program, turns, words, script);
+    }
+    run_threads(rt, alloc, program, turns, words, script, &OpenGate)
 }
 
 /// The text of the reports, where they are to be told.

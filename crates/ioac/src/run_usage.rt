@@ -14,9 +14,8 @@ fn alone_flag<'a>(alloc: Global) -> Arg<'a>
 {
     Arg::new(alloc, "alone")
         .long("alone")
-        .required(true)
         .action(ArgAction::SetTrue)
-        .help("On one thread, whose workers take turns in their order")
+        .help("The workers take turns on one thread, in their order; without it, each has a thread")
 }
 
 fn turns_option<'a>(alloc: Global) -> Arg<'a>
@@ -106,9 +105,9 @@ fn described_run<'a>(alloc: Global) -> Command<'a>
              The environment performs the inputs of LFILE in order, one action a line, as `reset`.\n\
              WFILE has the words of the first component on its first line, in decimal, as `9 17 4`; then they are 0.\n\
              Exit status: 0 done, 1 source refused, 2 bad command line, words or turns, 3 ended by a fault,\n\
-             4 inputs refused, 5 memory, a file or a device.",
+             4 inputs refused, 5 memory, a thread, a file or a device.",
         )
         .override_usage(
-            "ioac run [--comp <NAME>] --alone [--turns <N>] [--seed <HEX>|--words <WFILE>] [--inputs <LFILE>] [--log] [--reports] <FILE>",
+            "ioac run [--comp <NAME>] [--alone] [--turns <N>] [--seed <HEX>|--words <WFILE>] [--inputs <LFILE>] [--log] [--reports] <FILE>",
         )
 }

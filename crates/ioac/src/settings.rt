@@ -15,6 +15,8 @@ use clap::ArgMatches;
 pub struct Settings<'a> {
     pub file: &'a str,
     pub composition: Option<&'a str>,
+    /// Whether the workers take turns on one thread, and do not have a thread each.
+    pub alone: bool,
     /// How many turns each worker has.
     pub turns: u64,
     pub words: WordsFrom<'a>,
@@ -43,6 +45,7 @@ pub fn read_settings<'a>(found: &ArgMatches<'a>) -> Option<Settings<'a>>
 {
     let file = found.get_str("FILE")?;
     let composition = found.get_str("comp");
+    let alone = is_set(found, "alone");
     let asked = found.get_str("turns");
     let turns = read_turns(asked)?;
     let seed = found.get_str("seed");
@@ -54,6 +57,7 @@ pub fn read_settings<'a>(found: &ArgMatches<'a>) -> Option<Settings<'a>>
     Some(Settings {
         file,
         composition,
+        alone,
         turns,
         words,
         inputs,

@@ -12,7 +12,7 @@ pub enum Status {
     Faulted = 3,
     /// The list, the log or the monitor is refused, or the monitor refuses, or the list ended not enabled or not an action.
     ListRefused = 4,
-    /// Memory was short, a device failed, or a file could not be read.
+    /// Memory was short, a thread was refused, a device failed, or a file could not be read.
     Unable = 5,
 }
 

@@ -1,4 +1,4 @@
-//! What is wrong with what a run is given.
+//! Why a run does not begin.
 
 use crate::code::Code;
 use crate::explanation::{Example, Explanation};
@@ -19,6 +19,16 @@ pub const N2: Explanation = Explanation {
         "A script gives it with the line `tick(5)`, where a component has `output tick(k: Int)`.",
     ),
     mending: "Take the action out of the script, or run another composition.",
+};
+
+pub const N3: Explanation = Explanation {
+    code: Code::N3,
+    meaning: "A run takes a thread for each component and one for the environment, and the system refused one of them. The other threads were\n\
+        stopped, and nothing was written.",
+    example: Example::Told(
+        "No source gives it by itself. A limit on the number of threads or processes does, as `ulimit -u` sets one.",
+    ),
+    mending: "Raise the limit, or run it with `--alone`, on one thread.",
 };
 
 pub const WORDS: Explanation = Explanation {

@@ -14,8 +14,8 @@ check f --comp One |  |  | error: unexpected argument '--comp' found^^  tip: to 
 check --help |  | Parses and checks a source, and prints ok where it is well formed^^Usage: ioac check <FILE>^^Arguments:^  <FILE>  A source of I/O automata^^Options:^  -h, --help  Print help^^Compositions are composed by `replay` and `monitor` alone.^Exit status: 0 done, 1 source refused, 2 bad command line, 5 memory, the file or a device.^ |  | 0
 -- codes
 explain io |  | io: The file cannot be read.^^No source or list gives it. A name that no file has does, or a file that you may not read.^^Mend the name of the file, or its rights.^ |  | 0
-explain E18 |  |  | error: invalid value 'E18' for '<CODE>'^  [possible values: E1, E2, E3, E4, E5, E6, E7, E8, E9, E10, E11, E12, E13, E14, E15, E16, E17, L1, L2, L3, L4, L5, L6, L7, L8, N1, N2, words, memory, io]^^For more information, try '--help'.^ | 2
-explain e5 |  |  | error: invalid value 'e5' for '<CODE>'^  [possible values: E1, E2, E3, E4, E5, E6, E7, E8, E9, E10, E11, E12, E13, E14, E15, E16, E17, L1, L2, L3, L4, L5, L6, L7, L8, N1, N2, words, memory, io]^^For more information, try '--help'.^ | 2
+explain E18 |  |  | error: invalid value 'E18' for '<CODE>'^  [possible values: E1, E2, E3, E4, E5, E6, E7, E8, E9, E10, E11, E12, E13, E14, E15, E16, E17, L1, L2, L3, L4, L5, L6, L7, L8, N1, N2, N3, words, memory, io]^^For more information, try '--help'.^ | 2
+explain e5 |  |  | error: invalid value 'e5' for '<CODE>'^  [possible values: E1, E2, E3, E4, E5, E6, E7, E8, E9, E10, E11, E12, E13, E14, E15, E16, E17, L1, L2, L3, L4, L5, L6, L7, L8, N1, N2, N3, words, memory, io]^^For more information, try '--help'.^ | 2
 explain |  |  | error: the following required arguments were not provided:^  <CODE>^^Usage: ioac explain <CODE>^^For more information, try '--help'.^ | 2
 explain --help |  | Says what a code means that the program printed, what gives it, and how to mend it^^Usage: ioac explain <CODE>^^Arguments:^  <CODE>  A code that the program printed, as E7^^Options:^  -h, --help  Print help^^Exit status: 0 done, 2 bad command line or no such code, 5 memory or a device.^ |  | 0
 -- the library

@@ -1,4 +1,4 @@
-//! Runs on one thread: what they print, by their words and their scripts.
+//! Runs: what they print, by their words and their scripts, on one thread and, where that is the same in every schedule, on threads.
 
 use crate::command::command;
 use crate::store::{Store, StoreErr};
@@ -33,6 +33,7 @@ const GAMES: &str = "\
 --alone --turns 3 --words w --reports | 9 17 4^1 2 |  | roll(5)^roll(0)^tell(0)^tell(0)^end: done after 5^ | D: 2 committed, 1 idle, 0 stale^K: 3 committed, 0 idle, 0 stale^environment: 0 committed, 3 idle, 0 stale^ | 0
 --alone --turns 3 --words w --log | 9 17 4^1 2 |  | {\"act\":\"roll(5)\",\"who\":0}^{\"act\":\"clear\",\"who\":1}^{\"act\":\"roll(0)\",\"who\":0}^{\"act\":\"tell(0)\",\"who\":1}^{\"act\":\"tell(0)\",\"who\":1}^{\"end\":\"done after 5\"}^ |  | 0
 --alone --turns 3 --words w --comp Zero --reports | 9 17 4^1 2 |  | tell(0)^tell(0)^end: done after 2^ | D: 0 committed, 3 idle, 0 stale^K: 2 committed, 1 idle, 0 stale^environment: 0 committed, 3 idle, 0 stale^ | 0
+--turns 3 --words w --comp Zero --reports | 9 17 4^1 2 |  | tell(0)^tell(0)^end: done after 2^ | D: 0 committed, 3 idle, 0 stale^K: 2 committed, 1 idle, 0 stale^environment: 0 committed, 3 idle, 0 stale^ | 0
 -- lines past the components' are not looked at, and words that are used up, or of a line that is missing, are 0
 --alone --turns 3 --words w | 9 17 4^1 2^x |  | roll(5)^roll(0)^tell(0)^tell(0)^end: done after 5^ |  | 0
 --alone --turns 3 --words w |  |  | roll(0)^tell(0)^roll(0)^tell(0)^tell(0)^end: done after 5^ |  | 0
@@ -45,6 +46,7 @@ const GAMES: &str = "\
 --alone --words w | 9^+1 |  |  | words line 2^ | 2
 --alone --words w | 9^-1 |  |  | words line 2^ | 2
 --alone --words w | 9,1 |  |  | words line 1^ | 2
+--words w | 9  17 |  |  | words line 1^ | 2
 --alone --words w --comp Nine | x |  |  | E17^ | 1
 --alone --words w --inputs l --turns 100001 | x | roll( |  | words line 1^ | 2
 --alone --words q --inputs l | x | roll( |  | io^ | 5
@@ -65,6 +67,13 @@ const COUNTS: &str = "\
 --alone --turns 100001 |  |  |  | N1^ | 2
 --alone --turns 18446744073709551615 |  |  |  | N1^ | 2
 --alone --inputs q |  |  |  | io^ | 5
+--turns 3 |  |  | tick(5)^tick(6)^tick(7)^end: done after 3^ |  | 0
+--turns 2 --log --reports |  |  | {\"act\":\"tick(5)\",\"who\":0}^{\"act\":\"tick(6)\",\"who\":0}^{\"end\":\"done after 2\"}^ | A: 2 committed, 0 idle, 0 stale^environment: 0 committed, 2 idle, 0 stale^ | 0
+--turns 0 --inputs l |  | reset | end: done after 0^ |  | 0
+--turns 2 --inputs l |  | reset^% no^tick(5) |  | N2 index 1^ | 4
+--turns 100001 --inputs l |  | tick(5) |  | N1^ | 2
+--turns 100001 --inputs l |  | tick( |  | L2 line 1^ | 4
+--inputs q |  |  |  | io^ | 5
 -- words that are none of a run's
 --alone --turns x |  |  |  | error: invalid value 'x' for '--turns <N>'^^For more information, try '--help'.^ | 2
 --alone --turns +5 |  |  |  | error: invalid value '+5' for '--turns <N>'^^For more information, try '--help'.^ | 2
@@ -73,13 +82,14 @@ const COUNTS: &str = "\
 --alone --seed 00000000000000000000000000000000000000000000000000000000000000000 |  |  |  | error: invalid value '00000000000000000000000000000000000000000000000000000000000000000' for '--seed <HEX>'^^For more information, try '--help'.^ | 2
 --alone --seed g000000000000000000000000000000000000000000000000000000000000000 |  |  |  | error: invalid value 'g000000000000000000000000000000000000000000000000000000000000000' for '--seed <HEX>'^^For more information, try '--help'.^ | 2
 --alone --seed 12 --words w |  |  |  | error: the argument '--seed <HEX>' cannot be used with '--words <WFILE>'^^For more information, try '--help'.^ | 2
---turns 2 |  |  |  | error: the following required arguments were not provided:^  --alone^^Usage: ioac run [--comp <NAME>] --alone [--turns <N>] [--seed <HEX>|--words <WFILE>] [--inputs <LFILE>] [--log] [--reports] <FILE>^^For more information, try '--help'.^ | 2
 ";
 
 /// The same.
 const FAULTS: &str = "\
 --alone --turns 1 |  |  | end: fault 4 in component 1 at 0^ |  | 3
 --alone --turns 1 --log --reports |  |  | {\"act\":\"go\",\"who\":0}^{\"end\":\"fault 4 in component 1 at 0\"}^ | G: 0 committed, 0 idle, 0 stale^P: 0 committed, 1 idle, 0 stale^environment: 0 committed, 1 idle, 0 stale^ | 3
+--turns 1 |  |  | end: fault 4 in component 1 at 0^ |  | 3
+--turns 1 --log --reports |  |  | {\"act\":\"go\",\"who\":0}^{\"end\":\"fault 4 in component 1 at 0\"}^ | G: 0 committed, 0 idle, 0 stale^P: 0 committed, 1 idle, 0 stale^environment: 0 committed, 1 idle, 0 stale^ | 3
 ";
 
 /// Three files in memory: the source `f`, the words `w` and the script `l`.

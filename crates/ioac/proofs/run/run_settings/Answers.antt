@@ -61,7 +61,7 @@ returns-in_err-outcome-clause-refused g c =
     let list = subst (λ xs. IsScript (g.F.Store.holds c.args.store.now) of.0.types (option_copied c.args.settings.now.inputs) (map act_of xs)) (sym c.as_slice-2.ensures.value) script in
     err_so c.from_residual-in_err-outcome.result e.0 _ _ e.1 e.2
     (unrun_by p of.0 of.2.0 (g.F.Store.holds c.args.store.now) (g.F.Store.lacks c.args.store.now) c.args.settings.now (map act_of c.as_slice-2.result.now) c.in_err-outcome.field-0.0 of.2.1 of.2.2
-    (record { declares = (c.as_slice.result.now, held, of.1); words = words; inputs = list }) c.in_err-outcome.ensures.refused)
+    (record { declares = (c.as_slice.result.now, held, of.1); words = words; inputs = list }) c.in_err-outcome.ensures.refused c.in_err-outcome.ensures.threads)
 
 pub run_sources-requires : goal.run_sources-requires
 run_sources-requires g c =

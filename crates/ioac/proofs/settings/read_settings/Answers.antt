@@ -21,6 +21,7 @@ returns-clause-some c =
     let found = c.args.found.now in
     record {
       names = names found c.in_ok-file.file c.get_str-composition.result c.in_ok-file.ensures c.get_str-composition.ensures;
+      alone = sym c.is_set-alone.ensures;
       turns = ap turns_in (given found (codes "turns") (option_copied c.get_str-asked.result) c.get_str-asked.ensures) ∙ sym c.in_ok-turns.ensures;
       words = ap₂ source_in (given found (codes "seed") (option_copied c.get_str-seed.result) c.get_str-seed.ensures)
           (given found (codes "words") (option_copied c.get_str-listed.result) c.get_str-listed.ensures) ∙ sym c.in_ok-words.ensures;
