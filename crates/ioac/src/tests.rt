@@ -26,4 +26,5 @@ mod schedules;
 mod shelf;
 mod streams;
 mod tables;
+mod threads;
 mod tokens;

@@ -83,15 +83,16 @@ fn the_window_moves(rt: HostRuntime) -> Result<(), Fail> {
     Ok(())
 }
 
-/// Runs a composition, and answers whether its log is replayed, and whether its specification accepts it.
+/// Runs a composition on one thread or on several, and answers whether its log is replayed, and whether its specification accepts it.
 fn is_accepted<H: Threads + Wait + Sync>(
     rt: &H,
     alloc: Global,
     composition: &str,
     specification: &str,
+    way: &str,
 ) -> Result<bool, Fail> {
     let file = library()?;
-    let words = format!(in alloc; "run f --comp {composition} --alone --turns 200 --log")?;
+    let words = format!(in alloc; "run f --comp {composition} {way} --turns 200 --log")?;
     let ran = run(
         rt,
         alloc,
@@ -129,10 +130,12 @@ fn is_accepted<H: Threads + Wait + Sync>(
 #[test]
 fn runs_are_accepted(rt: HostRuntime) -> Result<(), Fail> {
     for (composition, specification) in RUNS {
-        assert!(rt;
-            is_accepted(&rt, rt.alloc(), composition, specification)?,
-            "{composition}"
-        );
+        for way in ["--alone", ""] {
+            assert!(rt;
+                is_accepted(&rt, rt.alloc(), composition, specification, way)?,
+                "{composition} {way}"
+            );
+        }
     }
     Ok(())
 }

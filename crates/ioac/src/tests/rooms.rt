@@ -190,7 +190,7 @@ fn walked(
     Ok(room.finish())
 }
 
-fn script(alloc: Global, types: &Types, texts: &[&str]) -> Result<Vec<Action>, Fail> {
+pub fn script(alloc: Global, types: &Types, texts: &[&str]) -> Result<Vec<Action>, Fail> {
     let mut actions = Vec::new(alloc);
     for text in texts {
         actions.push(action(alloc, types, text)?)?;
@@ -198,7 +198,12 @@ fn script(alloc: Global, types: &Types, texts: &[&str]) -> Result<Vec<Action>, F
     Ok(actions)
 }
 
-fn told_outcome(alloc: Global, types: &Types, outcome: &Outcome) -> Result<String, OutOfMemory> {
+/// What was performed, the states, and the end.
+pub fn told_outcome(
+    alloc: Global,
+    types: &Types,
+    outcome: &Outcome,
+) -> Result<String, OutOfMemory> {
     let mut text = told_entries(alloc, types, &outcome.log)?;
     for state in &outcome.states {
         text.push_str(told_state(alloc, types, state)?.as_str())?;

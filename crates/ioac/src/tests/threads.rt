@@ -1,0 +1,443 @@
+//! Runs on threads, whose workers are held at stops of their turns.
+
+ghost use Rattle.std.specs.Prelude.{◌≡◌, IfOk, length};
+
+use crate::tests::reached::{PUTS, TWO, program};
+use crate::tests::rooms::{script, told_outcome};
+use crate::tests::shelf::COUNTER;
+use crate::tests::tables::text;
+use ioa_compile::Program;
+use ioa_log::replay;
+use ioa_node::Words;
+use ioa_run::{Gate, Outcome, Point, Report, Why, run_alone, run_threads};
+use ioa_system::Log;
+use std::alloc::{AllocError, Global};
+use std::sync::{Condvar, Mutex, Wait};
+use std::test::Fail;
+use std::thread::Threads;
+use std::time::{Clock, Duration};
+
+/// Where a worker may be held: at a point of its turn, or as it asks for its word of this number, from 0.
+#[derive(Clone, Copy, Debug, PartialEq, Eq)]
+enum Stop {
+    At(usize, Point),
+    Word(usize, usize),
+}
+
+/// Who comes to the first stop waits there until somebody has come to the second one.
+type Hold = (Stop, Stop);
+
+/// No worker waits longer, and the test fails.
+const SECONDS: u64 = 10;
+
+/// The stops that were reached, and whether somebody has waited too long.
+#[derive(Drop)]
+struct Reached {
+    stops: Vec<Stop>,
+    is_late: bool,
+}
+
+/// What holds the workers of a run.
+#[derive(Drop)]
+struct Course<'a, R> {
+    rt: &'a R,
+    holds: &'a [Hold],
+    reached: Mutex<Reached>,
+    changed: Condvar,
+}
+
+impl<'a, R> Course<'a, R> {
+    /// One on which nobody has come to a stop yet.
+    fn new(rt: &'a R, alloc: Global, holds: &'a [Hold]) -> Course<'a, R> {
+        Course {
+            rt,
+            holds,
+            reached: Mutex::new(Reached {
+                stops: Vec::new(alloc),
+                is_late: false,
+            }),
+            changed: Condvar::new(),
+        }
+    }
+
+    /// Whether somebody was held at each stop where that is wanted, and nobody too long.
+    fn is_kept(self) -> bool {
+        let Reached { stops, is_late } = self.reached.into_inner();
+        !is_late && self.holds.iter().all(|(held, _)| stops.contains(held))
+    }
+}
+
+impl<R: Wait + Clock> Course<'_, R> {
+    /// Tells that a worker has come to this stop, and holds it there.
+    fn stop(&self, stop: Stop) {
+        self.tell(stop);
+        for (held, until) in self.holds {
+            if *held == stop {
+                self.wait(*until);
+            }
+        }
+    }
+
+    fn tell(&self, stop: Stop) {
+        let mut reached = self.reached.lock(self.rt);
+        if reached.stops.push(stop).is_err() {
+            reached.is_late = true;
+        }
+        self.changed.notify_all();
+    }
+
+    fn wait(&self, until: Stop) {
+        let (mut reached, waited) = self.changed.wait_timeout_while(
+            self.rt,
+            self.reached.lock(self.rt),
+            Duration::from_secs(SECONDS),
+            |reached| !reached.is_late && !reached.stops.contains(&until),
+        );
+        if waited.timed_out() {
+            reached.is_late = true;
+        }
+    }
+}
+
+impl<R: Wait + Clock> Gate for Course<'_, R> {
+    fn reach(&self, who: usize, at: Point) {
+        self.stop(Stop::At(who, at));
+    }
+}
+
+/// A worker's words, at each of which it may be held; after those that are given they are 0.
+#[derive(Drop)]
+struct Asked<'a, R> {
+    words: &'a [u32],
+    who: usize,
+    number: usize,
+    course: &'a Course<'a, R>,
+}
+
+impl<R: Wait + Clock> Words for Asked<'_, R> {
+    ghost use Rattle.std.specs.Prelude.{get_or};
+
+    ghost stream = { λ s k. get_or s.words.now k 0 };
+
+    fn next(&mut self) -> u32 {
+        self.course.stop(Stop::Word(self.who, self.number));
+        self.number = self.number.saturating_add(1);
+        match self.words.split_first() {
+            Some((first, rest)) => {
+                self.words = rest;
+                *first
+            }
+            None => 0,
+        }
+    }
+}
+
+/// A run on threads: a source, how many turns each worker has, the components' words, the script, and the holds; of what it may give the
+/// logs, each with the states and the end, and the reports, where they are few.
+#[derive(Clone, Copy)]
+struct Case {
+    source: &'static str,
+    turns: u64,
+    words: &'static [&'static [u32]],
+    script: &'static [&'static str],
+    holds: &'static [Hold],
+    logs: &'static [&'static str],
+    reports: &'static [&'static str],
+}
+
+const SOLO: &str = "
+automaton Go signature output go states n: Int transitions output go eff n := n + 1
+composition Solo components G: Go";
+
+const CASES: [Case; 5] = [
+    Case {
+        source: SOLO,
+        turns: 100,
+        words: &[],
+        script: &[],
+        holds: &[],
+        logs: &["0 go&; 0 go@99&, state(100), done after 100"],
+        reports: &[
+            "100 committed, 0 idle, 0 stale, TurnsDone; 0 committed, 100 idle, 0 stale, TurnsDone",
+        ],
+    },
+    Case {
+        source: SOLO,
+        turns: 0,
+        words: &[],
+        script: &[],
+        holds: &[],
+        logs: &[", state(0), done after 0"],
+        reports: &[
+            "0 committed, 0 idle, 0 stale, TurnsDone; 0 committed, 0 idle, 0 stale, TurnsDone",
+        ],
+    },
+    // the second plan is committed before the first one, which is stale then
+    Case {
+        source: PUTS,
+        turns: 1,
+        words: &[],
+        script: &[],
+        holds: &[
+            (Stop::At(1, Point::Turn), Stop::At(0, Point::Planned)),
+            (Stop::At(0, Point::Planned), Stop::At(1, Point::Committed)),
+        ],
+        logs: &["1 put(1), state(0), state(1), state(1), done after 1"],
+        reports: &[
+            "0 committed, 0 idle, 1 stale, TurnsDone; 1 committed, 0 idle, 0 stale, TurnsDone; \
+            0 committed, 1 idle, 0 stale, TurnsDone; 0 committed, 1 idle, 0 stale, TurnsDone",
+        ],
+    },
+    Case {
+        source: TWO,
+        turns: 1,
+        words: &[],
+        script: &[],
+        holds: &[],
+        logs: &[
+            "0 go, state(0), state(S[], 0), state(9223372036854775807), fault 4 in component 1 at 0",
+        ],
+        reports: &[
+            "0 committed, 0 idle, 0 stale, Faulted; 0 committed, 1 idle, 0 stale, TurnsDone; \
+            0 committed, 1 idle, 0 stale, TurnsDone; 0 committed, 1 idle, 0 stale, TurnsDone",
+        ],
+    },
+    Case {
+        source: COUNTER,
+        turns: 50,
+        words: &[],
+        script: &["reset", "reset", "reset"],
+        holds: &[],
+        logs: &[],
+        reports: &[],
+    },
+];
+
+/// Each worker has a plan before either one is committed.
+const OVERLAP: Case = Case {
+    source: "
+automaton Go signature output go states n: Int transitions output go eff n := n + 1
+automaton Go2 signature output go2 states n: Int transitions output go2 eff n := n + 1
+composition Both components G: Go; H: Go2",
+    turns: 1,
+    words: &[],
+    script: &[],
+    holds: &[
+        (Stop::At(0, Point::Planned), Stop::At(1, Point::Planned)),
+        (Stop::At(1, Point::Planned), Stop::At(0, Point::Planned)),
+    ],
+    logs: &[
+        "0 go; 1 go2, state(1), state(1), done after 2",
+        "1 go2; 0 go, state(1), state(1), done after 2",
+    ],
+    reports: &[
+        "1 committed, 0 idle, 0 stale, TurnsDone; 1 committed, 0 idle, 0 stale, TurnsDone; 0 committed, 1 idle, 0 stale, TurnsDone",
+    ],
+};
+
+/// While the first worker waits for its word of this number, the second one takes its turn.
+fn unlocked(holds: &'static [Hold]) -> Case {
+    Case {
+        source: "
+automaton Dice(n: Int) signature output roll(d: Int) states k: Int transitions output roll pre k < 2 propose d := any(n) eff k := k + 1
+automaton Go signature output go states n: Int transitions output go eff n := n + 1
+composition Both components D: Dice(6); G: Go",
+        turns: 1,
+        words: &[&[9, 17, 4]],
+        script: &[],
+        holds,
+        logs: &["1 go; 0 roll(5), state(1), state(1), done after 2"],
+        reports: &[
+            "1 committed, 0 idle, 0 stale, TurnsDone; 1 committed, 0 idle, 0 stale, TurnsDone; 0 committed, 1 idle, 0 stale, TurnsDone",
+        ],
+    }
+}
+
+/// The first word picks an entry, and the second one a value.
+const UNLOCKED: [&[Hold]; 2] = [
+    &[
+        (Stop::At(1, Point::Turn), Stop::Word(0, 0)),
+        (Stop::Word(0, 0), Stop::At(1, Point::Committed)),
+    ],
+    &[
+        (Stop::At(1, Point::Turn), Stop::Word(0, 1)),
+        (Stop::Word(0, 1), Stop::At(1, Point::Committed)),
+    ],
+];
+
+const KEPT: Case = Case {
+    source: "
+automaton Keep signature input roll(d: Int); output tell(s: Int); internal clear states sum: Int
+transitions input roll eff sum := sum + d output tell pre s = sum propose s := sum internal clear pre sum > 0 eff sum := 0
+composition Kept components K: Keep",
+    turns: 3,
+    words: &[&[1, 2, 0]],
+    script: &[],
+    holds: &[],
+    logs: &["0 tell(0); 0 tell(0), state(0), done after 2"],
+    reports: &["2 committed, 1 idle, 0 stale, TurnsDone; 0 committed, 3 idle, 0 stale, TurnsDone"],
+};
+
+/// A source of words for each of the components, of which there are so many.
+fn sources<'a, R>(
+    alloc: Global,
+    case: &Case,
+    course: &'a Course<'a, R>,
+    components: usize,
+) -> Result<Vec<Asked<'a, R>>, AllocError>
+    ensures { IfOk result (λ sources. length sources.items ≡ components) }
+{
+    let mut sources = Vec::new(alloc);
+    for who in 0..components {
+        sources.push(Asked {
+            words: case.words.get(who).copied().unwrap_or(&[]),
+            who,
+            number: 0,
+            course,
+        })?;
+    }
+    Ok(sources)
+}
+
+/// What the run on threads gives, unless somebody is held too long.
+fn ran<R: Threads + Wait + Clock + Sync>(
+    rt: &R,
+    alloc: Global,
+    program: &Program,
+    case: &Case,
+) -> Result<Outcome, Fail> {
+    let script = script(alloc, program.types(), case.script)?;
+    let course = Course::new(rt, alloc, case.holds);
+    let words = sources(alloc, case, &course, program.members().len())?;
+    let outcome = run_threads(rt, alloc, program, case.turns, words, &script, &course)?;
+    if !course.is_kept() {
+        return Err(Fail::from("a worker was not held, or too long"));
+    }
+    Ok(outcome)
+}
+
+/// What the run on one thread gives.
+fn ran_alone<R: Wait + Clock>(
+    rt: &R,
+    alloc: Global,
+    program: &Program,
+    case: &Case,
+) -> Result<Outcome, Fail> {
+    let script = script(alloc, program.types(), case.script)?;
+    let course = Course::new(rt, alloc, case.holds);
+    let words = sources(alloc, case, &course, program.members().len())?;
+    Ok(run_alone(alloc, program, case.turns, words, &script)?)
+}
+
+fn told_reports(alloc: Global, reports: &[Report]) -> Result<String, AllocError> {
+    let mut text = String::new(alloc);
+    for report in reports {
+        let Report {
+            committed,
+            idle,
+            stale,
+            why,
+        } = report;
+        if !text.is_empty() {
+            text.push_str("; ")?;
+        }
+        write!(
+            text,
+            "{committed} committed, {idle} idle, {stale} stale, {why:?}"
+        )?;
+    }
+    Ok(text)
+}
+
+/// Whether the worker of this number did what its report counts, and has taken all turns if it says so.
+fn is_counted(outcome: &Outcome, turns: u64, who: usize, report: &Report) -> bool {
+    let performed = outcome.log.iter().filter(|entry| entry.who == who).count();
+    let taken = report.idle.saturating_add(report.stale);
+    match report.why {
+        Why::TurnsDone => {
+            performed == report.committed && taken.saturating_add(performed as u64) == turns
+        }
+        Why::Faulted => performed == report.committed.saturating_add(1),
+        Why::Stopped | Why::Memory => performed == report.committed,
+    }
+}
+
+/// Whether each worker did what its report counts, and has taken all turns if it says so.
+fn are_counted(outcome: &Outcome, turns: u64) -> bool {
+    let mut numbered = outcome.reports.iter().enumerate();
+    numbered.all(|(who, report)| is_counted(outcome, turns, who, report))
+}
+
+/// Whether the text is one of those that are wanted, if there are some.
+fn is_wanted(alloc: Global, wanted: &[&str], told: &str) -> Result<bool, Fail> {
+    for pieces in wanted {
+        if text(alloc, pieces)?.as_str() == told {
+            return Ok(true);
+        }
+    }
+    Ok(wanted.is_empty())
+}
+
+/// Compares what a run gives with what is wanted, and replays its log.
+fn expect_outcome(
+    alloc: Global,
+    program: &Program,
+    case: &Case,
+    outcome: Outcome,
+) -> Result<(), Fail> {
+    let log = told_outcome(alloc, program.types(), &outcome)?;
+    if !is_wanted(alloc, case.logs, log.as_str())? {
+        return Err(Fail::from(log));
+    }
+    let reports = told_reports(alloc, &outcome.reports)?;
+    if !is_wanted(alloc, case.reports, reports.as_str())? || !are_counted(&outcome, case.turns) {
+        return Err(Fail::from(reports));
+    }
+    let log = Log {
+        entries: outcome.log,
+        end: outcome.end,
+    };
+    replay(alloc, program, &log)?;
+    Ok(())
+}
+
+/// Runs on threads, and compares what the run gives with what is wanted.
+fn expect_case<R: Threads + Wait + Clock + Sync>(
+    rt: &R,
+    alloc: Global,
+    case: &Case,
+) -> Result<(), Fail> {
+    let program = program(alloc, case.source, None)?;
+    let outcome = ran(rt, alloc, &program, case)?;
+    expect_outcome(alloc, &program, case, outcome)
+}
+
+#[test]
+fn threads_give_what_is_wanted(rt: HostRuntime) -> Result<(), Fail> {
+    for case in CASES {
+        expect_case(&rt, rt.alloc(), &case)?;
+    }
+    Ok(())
+}
+
+#[test]
+fn two_workers_overlap(rt: HostRuntime) -> Result<(), Fail> {
+    expect_case(&rt, rt.alloc(), &OVERLAP)
+}
+
+#[test]
+fn words_unlocked(rt: HostRuntime) -> Result<(), Fail> {
+    for holds in UNLOCKED {
+        expect_case(&rt, rt.alloc(), &unlocked(holds))?;
+    }
+    Ok(())
+}
+
+#[test]
+fn one_worker_exact(rt: HostRuntime) -> Result<(), Fail> {
+    let program = program(rt.alloc(), KEPT.source, None)?;
+    let outcome = ran(&rt, rt.alloc(), &program, &KEPT)?;
+    expect_outcome(rt.alloc(), &program, &KEPT, outcome)?;
+    let outcome = ran_alone(&rt, rt.alloc(), &program, &KEPT)?;
+    expect_outcome(rt.alloc(), &program, &KEPT, outcome)
+}
