@@ -1,9 +1,9 @@
 #!/bin/sh
 # The library of protocols on a program, as it is printed and as it runs: examples/library.sh PROGRAM
 #
-# `library` has to print the bytes of links/links.ioa. Each protocol is run over ten seeds, 200 turns each. A log has to be accepted by
-# `replay --log` and by the protocol's specification: but for the handshake's, which may lose messages where hosts crash, that is
-# `ReliableFifo`.
+# `library` has to print the bytes of links/links.ioa. Each protocol is run over ten seeds, 200 turns each, on one thread and on threads. A
+# log has to be accepted by `replay --log` and by the protocol's specification: but for the handshake's, which may lose messages where hosts
+# crash, that is `ReliableFifo`. On one thread each run delivers something; on threads no schedule has to.
 set -u
 program=$1
 case $program in /*) ;; *) program=$PWD/$program ;; esac
@@ -18,20 +18,26 @@ fail() {
   exit 1
 }
 
-# accepted COMPOSITION SPECIFICATION: runs the composition over ten seeds, whose logs are replayed and monitored
+# accepted COMPOSITION SPECIFICATION: runs the composition over ten seeds, on one thread and on threads
 accepted() {
   for digit in 0 1 2 3 4 5 6 7 8 9; do
-    seed=$(printf '%064d' "$digit")
-    "$program" run "$source" --comp "$1" --alone --turns 200 --seed "$seed" --log > "$work/log" 2> "$work/errors" ||
-      fail "the run of $1 with seed $digit fails"
-    "$program" replay "$source" --comp "$1" --log < "$work/log" > "$work/trace" 2>> "$work/errors" ||
-      fail "the log of $1 with seed $digit is not replayed"
-    "$program" monitor "$source" --comp "$2" < "$work/log" > "$work/answer" 2>> "$work/errors" ||
-      fail "the log of $1 with seed $digit is not accepted by $2: $(cat "$work/answer")"
-    [ -s "$work/errors" ] && fail "$1 with seed $digit tells of an error"
+    judged "$1" "$2" "$digit" --alone
     grep -q '"receive_msg(' "$work/log" || fail "$1 with seed $digit delivers nothing"
-    runs=$((runs + 1))
+    judged "$1" "$2" "$digit"
   done
+}
+
+# judged COMPOSITION SPECIFICATION DIGIT [--alone]: runs the composition with the seed, and replays and monitors the log
+judged() {
+  named="$1 with seed $3${4+ $4}"
+  timeout 60 "$program" run "$source" --comp "$1" ${4+"$4"} --turns 200 --seed "$(printf '%064d' "$3")" --log > "$work/log" 2> "$work/errors" ||
+    fail "the run of $named fails"
+  "$program" replay "$source" --comp "$1" --log < "$work/log" > "$work/trace" 2>> "$work/errors" ||
+    fail "the log of $named is not replayed"
+  "$program" monitor "$source" --comp "$2" < "$work/log" > "$work/answer" 2>> "$work/errors" ||
+    fail "the log of $named is not accepted by $2: $(cat "$work/answer")"
+  [ -s "$work/errors" ] && fail "$named tells of an error"
+  runs=$((runs + 1))
 }
 
 "$program" library > "$work/printed" 2> "$work/errors" || fail "it is not printed"
