@@ -18,8 +18,8 @@ demo:
 
 # The whole gate. It leaves no new file in the checkout.
 test:
-	@FILES=$$(sh examples/files.sh) && export FILES && tools/planted --texts && rt ci && sh examples/alone.sh $(PROGRAM) && sh examples/library.sh $(PROGRAM) && \
-	  tools/pages $(PROGRAM) && tools/manual $(PROGRAM) && sh examples/run.sh $(PROGRAM)
+	@FILES=$$(sh examples/files.sh) && export FILES && tools/planted --texts && rt ci && sh examples/alone.sh $(PROGRAM) && sh examples/threads.sh $(PROGRAM) && \
+	  sh examples/library.sh $(PROGRAM) && tools/pages $(PROGRAM) && tools/manual $(PROGRAM) && sh examples/run.sh $(PROGRAM)
 
 # Tries the planted bugs, over what checks kept: those of all crates, or of CRATES.
 planted:
@@ -29,13 +29,15 @@ planted:
 examples: all
 	@sh examples/run.sh $(PROGRAM)
 
-# Figures: how time and memory grow with the list, with the source, with the components, and with the code that is verified; and how fast
-# the protocols of the library run.
+# Figures: how time and memory grow with the list, with the source, with the components, and with the code that is verified; how fast
+# the protocols of the library run; and what threads gain. Last, some thousand runs on threads are replayed.
 bench: all
 	@sh bench/ratios.sh $(PROGRAM)
 	@sh bench/compose.sh $(PROGRAM)
 	@sh bench/verify.sh
 	@sh bench/links.sh $(PROGRAM)
+	@sh bench/threads.sh $(PROGRAM)
+	@sh bench/soak.sh $(PROGRAM) 50
 
 install: all
 	install -d $(DESTDIR)$(PREFIX)/bin
