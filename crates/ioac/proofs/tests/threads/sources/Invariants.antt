@@ -1,0 +1,6 @@
+use Rattle.std.proofs.Common.{◌≡◌, length}
+use Rattle.ioac.proofs.tests.threads.sources.Given as goal
+
+-- each of the components so far has a source
+abbrev pub invariant-loop-who : goal.invariant-loop-who
+invariant-loop-who g l = length l.sources.items ≡ l.who
