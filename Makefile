@@ -19,6 +19,7 @@ demo:
 # The whole gate. It leaves no new file in the checkout.
 test:
 	@FILES=$$(sh examples/files.sh) && export FILES && tools/planted --texts && rt ci && sh examples/alone.sh $(PROGRAM) && sh examples/threads.sh $(PROGRAM) && \
+	  sh examples/objects.sh $(PROGRAM) && \
 	  sh examples/library.sh $(PROGRAM) && tools/pages $(PROGRAM) && tools/manual $(PROGRAM) && sh examples/run.sh $(PROGRAM)
 
 # Tries the planted bugs, over what checks kept: those of all crates, or of CRATES.
@@ -30,12 +31,13 @@ examples: all
 	@sh examples/run.sh $(PROGRAM)
 
 # Figures: how time and memory grow with the list, with the source, with the components, and with the code that is verified; how fast
-# the protocols of the library run; and what threads gain. Last, some thousand runs on threads are replayed.
+# the protocols of the library run; how fast objects are read and written; and what threads gain. Last, some thousand runs on threads are replayed.
 bench: all
 	@sh bench/ratios.sh $(PROGRAM)
 	@sh bench/compose.sh $(PROGRAM)
 	@sh bench/verify.sh
 	@sh bench/links.sh $(PROGRAM)
+	@sh bench/objects.sh $(PROGRAM)
 	@sh bench/threads.sh $(PROGRAM)
 	@sh bench/soak.sh $(PROGRAM) 50
 

@@ -53,6 +53,7 @@ no_file word rows other another none (Request.ReplayInvariants file composition)
 no_file word rows other another none (Request.Monitor file composition) h = let z : None ≡ Some file.now = sym none ∙ h.1.0 in cc
 no_file word rows other another none (Request.Run s) h = let z : None ≡ Some s.file.now = sym none ∙ h.1.names.0 in cc
 no_file word rows other another none (Request.Check file) h = let z : None ≡ Some file.now = sym none ∙ h.1 in cc
+no_file word rows other another none (Request.Compile file out composition) h = let z : None ≡ Some file.now = sym none ∙ h.1.0 in cc
 no_file word rows other another none (Request.Explain code) h = other h.0
 no_file word rows other another none Request.Library h = another h
 
@@ -72,6 +73,7 @@ no_explanation rows none (Request.ReplayInvariants file composition) h = apart (
 no_explanation rows none (Request.Monitor file composition) h = apart (codes "explain") (codes "monitor") refl refl h.0
 no_explanation rows none (Request.Run s) h = apart (codes "explain") (codes "run") refl refl h.0
 no_explanation rows none (Request.Check file) h = apart (codes "explain") (codes "check") refl refl h.0
+no_explanation rows none (Request.Compile file out composition) h = apart (codes "explain") (codes "compile") refl refl h.0
 no_explanation rows none (Request.Explain code) h = none code h.1
 no_explanation rows none Request.Library h = apart (codes "explain") (codes "library") refl refl h
 
@@ -82,6 +84,24 @@ uncoded m found r o here given none is =
     subst (λ o. IfNone o (AsksNothing (subcommand_rows_of m))) (sym is)
     (subst AsksNothing (sym here) (no_explanation (rows_of (found_of found)) (λ code h. none code (sym first ∙ h))))
 
+-- where no file is named for an object
+no_out : (rows : List Row) → first_of (codes "OUT") rows ≡ None → AsksNothing (Some (codes "compile", rows))
+no_out rows none (Request.Replay file composition) h = apart (codes "compile") (codes "replay") refl refl h.0.0
+no_out rows none (Request.ReplayLog file composition) h = apart (codes "compile") (codes "replay") refl refl h.0.0
+no_out rows none (Request.ReplayInvariants file composition) h = apart (codes "compile") (codes "replay") refl refl h.0.0
+no_out rows none (Request.Monitor file composition) h = apart (codes "compile") (codes "monitor") refl refl h.0
+no_out rows none (Request.Run s) h = apart (codes "compile") (codes "run") refl refl h.0
+no_out rows none (Request.Check file) h = apart (codes "compile") (codes "check") refl refl h.0
+no_out rows none (Request.Compile file out composition) h = let z : None ≡ Some out.now = sym none ∙ h.2 in cc
+no_out rows none (Request.Explain code) h = apart (codes "compile") (codes "explain") refl refl h.0
+no_out rows none Request.Library h = apart (codes "compile") (codes "library") refl refl h
+
+pub unplaced : (m found : ArgMatches) (r : Option Request) → subcommand_rows_of m ≡ Some (codes "compile", rows_of (found_of found))
+    → None ≡ first_value (found_of found) (codes "OUT") → r ≡ None → IfNone r (AsksNothing (subcommand_rows_of m))
+unplaced m found r here none is =
+    let missing : first_of (codes "OUT") (rows_of (found_of found)) ≡ None = sym (first_value-rows (found_of found) (codes "OUT")) ∙ sym none in
+    subst (λ o. IfNone o (AsksNothing (subcommand_rows_of m))) (sym is) (subst AsksNothing (sym here) (no_out (rows_of (found_of found)) missing))
+
 -- where the invariants of a list are asked for
 no_log : (word : Text) (rows : List Row) → word ≡ codes "replay" → is_set (codes "log") rows ≡ false → is_set (codes "invariants") rows ≡ true → AsksNothing (Some (word, rows))
 no_log word rows is log invariants (Request.Replay file composition) h = false≢true (sym h.0.2 ∙ invariants)
@@ -90,6 +110,7 @@ no_log word rows is log invariants (Request.ReplayInvariants file composition) h
 no_log word rows is log invariants (Request.Monitor file composition) h = apart (codes "replay") (codes "monitor") refl refl (sym is ∙ h.0)
 no_log word rows is log invariants (Request.Run s) h = apart (codes "replay") (codes "run") refl refl (sym is ∙ h.0)
 no_log word rows is log invariants (Request.Check file) h = apart (codes "replay") (codes "check") refl refl (sym is ∙ h.0)
+no_log word rows is log invariants (Request.Compile file out composition) h = apart (codes "replay") (codes "compile") refl refl (sym is ∙ h.0)
 no_log word rows is log invariants (Request.Explain code) h = apart (codes "replay") (codes "explain") refl refl (sym is ∙ h.0)
 no_log word rows is log invariants Request.Library h = apart (codes "replay") (codes "library") refl refl (sym is ∙ h)
 
@@ -123,6 +144,7 @@ no_run rows none (Request.ReplayInvariants file composition) h = apart (codes "r
 no_run rows none (Request.Run s) h = none s h.1
 no_run rows none (Request.Monitor file composition) h = apart (codes "run") (codes "monitor") refl refl h.0
 no_run rows none (Request.Check file) h = apart (codes "run") (codes "check") refl refl h.0
+no_run rows none (Request.Compile file out composition) h = apart (codes "run") (codes "compile") refl refl h.0
 no_run rows none (Request.Explain code) h = apart (codes "run") (codes "explain") refl refl h.0
 no_run rows none Request.Library h = apart (codes "run") (codes "library") refl refl h
 

@@ -69,6 +69,18 @@ checked : asked (codes "ioac" ∷ codes "check" ∷ codes "f" ∷ []) ≡ Some (
 unfolding asked clap_on_literals
 checked = refl
 
+-- the command, and the file for its object
+placed : List Text → Option (Text × Option Text)
+placed words = option_map (λ p. (p.0, first_of (codes "OUT") p.1)) (subcommand_of ioac_app words)
+
+compiled : placed (codes "ioac" ∷ codes "compile" ∷ codes "f" ∷ codes "o" ∷ []) ≡ Some (codes "compile", Some (codes "o"))
+unfolding placed clap_on_literals
+compiled = refl
+
+no_out : fault_of ioac_app (codes "ioac" ∷ codes "compile" ∷ codes "f" ∷ []) ≡ kinds.MissingRequiredArgument ∷ []
+unfolding clap_on_literals
+no_out = refl
+
 -- the command and its code
 coded : List Text → Option (Text × Option Text)
 coded words = option_map (λ p. (p.0, first_of (codes "CODE") p.1)) (subcommand_of ioac_app words)

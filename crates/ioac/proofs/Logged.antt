@@ -8,31 +8,20 @@ use Rattle.std.proofs.lemmas.Simd.{map-map}
 use Rattle.ioa_value.specs.declared.action.Action.{Action}
 use Rattle.ioa_value.specs.Actions.{Act, act_of}
 use Rattle.ioa_value.specs.Plain.{Val}
-use Rattle.ioa_value.specs.Table.{Table}
 use Rattle.ioa_tree.specs.Hosts.{Hosted, hosts_of, host_starts, first_broken_host}
-use Rattle.ioa_tree.specs.Runs.{Ending, Reached, after, not_an_action_at, run, trace}
+use Rattle.ioa_tree.specs.Runs.{Ending, Reached, after, not_an_action_at, run}
 use Rattle.ioa_system.specs.declared.answer.End.{End}
 use Rattle.ioa_system.specs.declared.answer.Step.{Step}
 use Rattle.ioa_system.specs.declared.log.Log.{Log}
 use Rattle.ioa_system.specs.declared.log.LogEnd.{LogEnd}
 use Rattle.ioa_system.specs.declared.log.LogEntry.{LogEntry}
-use Rattle.ioa_system.specs.declared.runs.Run.{Run}
 use Rattle.ioa_system.specs.Answers.{ending_of, step_of}
 use Rattle.ioa_system.specs.Logs.{Logged, actions_of, is_fault, log_end, log_entry, logged}
-use Rattle.ioa_system.specs.Records.{IsHostRun, trace_of}
 use Rattle.ioa_log.specs.declared.broken_invariants.Broken.{Broken}
 use Rattle.ioa_log.specs.Breaking.{broken_of}
 use Rattle.ioa_log.specs.Monitoring.{IsRefusedAt}
-use Rattle.ioa_log.specs.Replays.{replay_text, run_text}
 use Rattle.ioac.specs.declared.invariant_replay.Finding.{Finding}
 use Rattle.ioac.specs.Logs.{broken, found_in, found_of, performed_in, unbroken}
-
--- the text of a run is the text of the hosts' run
-pub run_told : (h : Hosted) (types : Table) (acts : List Act) (r : Run) → types ≡ h.types → IsHostRun h acts r
-    → replay_text types (trace_of r) (ending_of r.end) ≡ run_text h.types h.hidden (hosts_of h) (host_starts h) acts
-run_told h types acts r same run =
-    ap (λ ts. replay_text ts (trace_of r) (ending_of r.end)) same
-    ∙ ap₂ (λ acts end. replay_text h.types acts end) (run.trace ∙ ap (trace h.hidden (hosts_of h) acts) (sym run.reached.performed)) (sym run.reached.ending)
 
 -- what is left where the last item is taken away
 popped : {X : Type 0} (xs ys : List X) (o : Option X) → xs ≡ ys ++ option_to_list o → (0 < length xs → IsSome o) → ys ≡ take (length xs - 1) xs

@@ -1,10 +1,9 @@
--- From a program's run to what is written and told of the hosts' run.
+-- From a program's run to what is written and told of the subject's run.
 use Rattle.std.proofs.Common.{◌≡◌, ◌≤◌, ◌⊎◌, ◌∙◌, ℕ, List, Option, Err, Vec, All, inl, inr, length, map, refl, subst, sym, take}
 use Rattle.std.specs.Global.{Global}
 use Rattle.std.specs.Io.KnownBytes.{Appends, Keeps}
 use Rattle.std.specs.Result.{IsErrOf}
 use Rattle.ioa_value.specs.Actions.{Act, Name}
-use Rattle.ioa_tree.specs.Hosts.{Hosted}
 use Rattle.ioa_compile.specs.Programs.{Prog}
 use Rattle.ioa_compile.specs.Tables.{tabled}
 use Rattle.ioa_system.specs.declared.log.LogEntry.{LogEntry}
@@ -22,20 +21,21 @@ use Rattle.ioac.specs.declared.status.Status.{Status}
 use Rattle.ioac.specs.Alone.{BeginsRunOf, IsReady, IsRunServed, IsUnrun}
 use Rattle.ioac.specs.Failing.{IsUnwritten}
 use Rattle.ioac.specs.HasRun.{HasRun}
-use Rattle.ioac.specs.Running.{Runs}
+use Rattle.ioac.specs.Running.{RunsAs}
 use Rattle.ioac.specs.Statuses.{ending_status}
+use Rattle.ioac.specs.Subjects.{Subject}
 use Rattle.ioac.specs.Traces.{performed, table_reports, table_text}
 use Rattle.ioac.proofs.Hosted.{inputs_same, is_run, performed_within, text_same, told_same}
 
 -- the program, its log and its reports, of what the run gave
-pub has_run : (holds : Name → List ℕ → Type 0) (s : Settings) (r : Ran) (p : Prog) (o : Outcome) (h : Hosted) (script : List Act) → r.program ≡ p → r.log.entries ≡ o.log
-    → r.log.end ≡ o.end → r.reports ≡ o.reports → IsReady holds s h script → Runs p h → (s.turns ≤ most_turns) × All (IsInput (tabled p)) script
+pub has_run : (holds : Name → List ℕ → Type 0) (s : Settings) (r : Ran) (p : Prog) (o : Outcome) (x : Subject) (script : List Act) → r.program ≡ p → r.log.entries ≡ o.log
+    → r.log.end ≡ o.end → r.reports ≡ o.reports → IsReady holds s x script → RunsAs p x → (s.turns ≤ most_turns) × All (IsInput (tabled p)) script
     → IsOutcome p script s.turns o → HasRun holds s r
-has_run holds s r p o h script of entries end reports ready runs fine (b, log, told) = record {
-  hosts = h;
+has_run holds s r p o x script of entries end reports ready runs fine (b, log, told) = record {
+  subject = x;
   script = script;
   ready = ready;
-  runs = subst (λ q. Runs q h) (sym of) runs;
+  runs = subst (λ q. RunsAs q x) (sym of) runs;
   turns = fine.0;
   inputs = subst (λ (q : Prog). All (IsInput (tabled q)) script) (sym of) fine.1;
   board = b;
@@ -57,32 +57,32 @@ module _ (holds : Name → List ℕ → Type 0) (s : Settings) (r : Ran) (k : Ha
   pub served : (before after telling : Option (List ℕ)) (done : Status) → Appends before after (ran_text s r) → telling ≡ table_reports r.program s.reports r.reports.items
       → done ≡ ending_status (log_end r.log.end) → IsRunServed holds s before after telling done
   served before after telling done output told status = record {
-    hosts = k.hosts;
+    subject = k.subject;
     script = k.script;
     ready = k.ready;
     turns = k.turns;
-    inputs = inputs_same r.program k.hosts k.runs.0 k.runs.1 k.runs.2 k.script k.inputs;
+    inputs = inputs_same r.program k.subject k.runs k.script k.inputs;
     log = logged r.log;
     reports = r.reports.items;
-    run = is_run r.program k.hosts k.runs.0 k.runs.1 k.runs.2 k.board r.log.entries.items r.log.end k.states k.log k.script s.turns r.reports.items k.told;
-    output = subst (Appends before after) (text_same r.program k.hosts k.runs.0 k.runs.1 k.runs.2 k.board r.log.entries.items r.log.end k.states k.log s.log) output;
-    told = told ∙ told_same r.program k.hosts k.runs.0 k.runs.1 k.runs.2 s.reports r.reports.items;
+    run = is_run r.program k.subject k.runs k.board r.log.entries.items r.log.end k.states k.log k.script s.turns r.reports.items k.told;
+    output = subst (Appends before after) (text_same r.program k.subject k.runs k.board r.log.entries.items r.log.end k.states k.log s.log) output;
+    told = told ∙ told_same r.program k.subject k.runs s.reports r.reports.items;
     status = status;
   }
 
   begun : (before after : Option (List ℕ)) → (n : ℕ) × Appends before after (take n (ran_text s r)) → BeginsRunOf holds s before after
   begun before after output = record {
-    hosts = k.hosts;
+    subject = k.subject;
     script = k.script;
     ready = k.ready;
     turns = k.turns;
-    inputs = inputs_same r.program k.hosts k.runs.0 k.runs.1 k.runs.2 k.script k.inputs;
+    inputs = inputs_same r.program k.subject k.runs k.script k.inputs;
     log = logged r.log;
     reports = r.reports.items;
-    run = is_run r.program k.hosts k.runs.0 k.runs.1 k.runs.2 k.board r.log.entries.items r.log.end k.states k.log k.script s.turns r.reports.items k.told;
+    run = is_run r.program k.subject k.runs k.board r.log.entries.items r.log.end k.states k.log k.script s.turns r.reports.items k.told;
     taken = output.0;
     begun = subst (λ t. Appends before after (take output.0 t))
-        (text_same r.program k.hosts k.runs.0 k.runs.1 k.runs.2 k.board r.log.entries.items r.log.end k.states k.log s.log) output.1;
+        (text_same r.program k.subject k.runs k.board r.log.entries.items r.log.end k.states k.log s.log) output.1;
   }
 
   -- the device failed, or memory was short
@@ -90,7 +90,7 @@ module _ (holds : Name → List ℕ → Type 0) (s : Settings) (r : Ran) (k : Ha
       → IsUnrun holds lacks s failed (Failure.List x)
   write_failed {T} lacks failed x (inl e) io =
       subst (λ y. IsUnrun holds lacks s failed (Failure.List y)) (sym e)
-      (k.hosts, k.script, k.ready, k.turns, inputs_same r.program k.hosts k.runs.0 k.runs.1 k.runs.2 k.script k.inputs, io (subst (λ y. IsErrOf {T = T} (Err y) LogErr.Io) (sym e) refl))
+      (k.subject, k.script, k.ready, k.turns, inputs_same r.program k.subject k.runs k.script k.inputs, io (subst (λ y. IsErrOf {T = T} (Err y) LogErr.Io) (sym e) refl))
   write_failed lacks failed x (inr e) io = subst (λ y. IsUnrun holds lacks s failed (Failure.List y)) (sym e) tt
 
   pub write_left : {T : Type 0} (before after : Option (List ℕ)) (x : LogErr) → (x ≡ LogErr.Io) ⊎ (x ≡ LogErr.OutOfMemory)

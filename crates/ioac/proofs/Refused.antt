@@ -10,23 +10,19 @@ use Rattle.ioa_lex.specs.declared.refusal.Refusal.{Refusal}
 use Rattle.ioa_lex.specs.declared.refusal.Refusal.TheVariants as refusals
 use Rattle.ioa_tree.specs.Tree.{SourceTree, CompositionTree}
 use Rattle.ioa_tree.specs.WellFormed.{WellFormed}
-use Rattle.ioa_tree.specs.Compositions.{Composed, picked}
-use Rattle.ioa_tree.specs.Hosts.{Hosted, IsHosted, hosts_of, host_starts}
+use Rattle.ioa_tree.specs.Compositions.{picked}
+use Rattle.ioa_tree.specs.Hosts.{Hosted, IsHosted}
 use Rattle.ioa_compose.specs.Refusals as compositions
-use Rattle.ioa_compose.specs.Stands.{Stands}
-use Rattle.ioa_compile.specs.Means.{Means}
-use Rattle.ioa_compile.specs.Programs.{Prog}
 use Rattle.ioa_system.specs.Logs.{Logged}
 use Rattle.ioa_log.specs.declared.failure.LogErr.{LogErr}
 use Rattle.ioa_log.specs.Failing.{IsListErr, IsTextErr}
 use Rattle.ioa_log.specs.Judging.{IsReplayErr, judged, wrong_owner, diverges}
 use Rattle.ioa_log.specs.LogTexts.{GoesOnAt, HasNoEnd, NoEntryAt, NotJsonAt, ReadsLog}
-use Rattle.ioa_log.specs.Monitoring.{IsSeen}
 use Rattle.ioa_log.specs.Replays.{BeginsReplay}
 use Rattle.ioac.specs.declared.failure.Failure.{Failure}
-use Rattle.ioac.specs.Headline.{Declares, Spells}
-use Rattle.ioac.specs.Failing.{BeginsReplayOf, IsFailure, IsLogFailure, IsMonitorFailure, IsRefusedSource, IsUnwritten}
-use Rattle.ioac.specs.Running.{Runs}
+use Rattle.ioac.specs.Headline.{Declares, Gives, Spells}
+use Rattle.ioac.specs.Failing.{BeginsReplayOf, IsFailure, IsLogFailure, IsMonitorFailure, IsRefusedGiven, IsRefusedSource, IsUnwritten}
+use Rattle.ioac.specs.Subjects.{IsOpen, Subject, its_components, its_hidden, its_starts, its_types}
 
 -- what checking and composing answer, told of the text
 pub declared : (text : List ℕ) (name : Option Name) (s u : SourceTree) (t : CompositionTree) (h : Hosted) → Spells text s → u ≡ s → WellFormed s
@@ -76,19 +72,19 @@ err_as (Err w) y x z is of h =
     ap Err (sym of ∙ sym a ∙ b)
 
 -- a list that is refused, or a device that failed
-pub list_failed : (text : List ℕ) (name : Option Name) (bytes : Option (List ℕ)) (failed : Type 0) (h : Hosted) (types : Table) (x : LogErr) {T : Type 0}
-    → Declares text name h → types ≡ h.types → IsListErr x
+pub list_failed : (text : List ℕ) (name : Option Name) (bytes : Option (List ℕ)) (failed : Type 0) (s : Subject) (types : Table) (x : LogErr) {T : Type 0}
+    → Gives text name s → types ≡ its_types s → IsListErr x
     → ((n : ℕ) → IsErrOf {T = T} (Err x) (LogErr.BadLine n) → IfSome bytes (λ xs. lists.BadLine types xs n))
     → (IsErrOf {T = T} (Err x) LogErr.Io → failed)
     → IsFailure text name bytes failed (Failure.List x)
-list_failed text name bytes failed h types (LogErr.BadLine n) of same only bad io = (h, of, subst (λ ts. IfSome bytes (λ xs. lists.BadLine ts xs n)) same (bad n refl))
-list_failed text name bytes failed h types LogErr.Io of same only bad io = (h, of, io refl)
-list_failed text name bytes failed h types LogErr.OutOfMemory of same only bad io = tt
-list_failed text name bytes failed h types (LogErr.NotJson n) of same only bad io = absurd only
-list_failed text name bytes failed h types (LogErr.WrongOwner n) of same only bad io = absurd only
-list_failed text name bytes failed h types (LogErr.Diverges n) of same only bad io = absurd only
-list_failed text name bytes failed h types LogErr.NoEnd of same only bad io = absurd only
-list_failed text name bytes failed h types LogErr.AfterEnd of same only bad io = absurd only
+list_failed text name bytes failed s types (LogErr.BadLine n) of same only bad io = (s, of, subst (λ ts. IfSome bytes (λ xs. lists.BadLine ts xs n)) same (bad n refl))
+list_failed text name bytes failed s types LogErr.Io of same only bad io = (s, of, io refl)
+list_failed text name bytes failed s types LogErr.OutOfMemory of same only bad io = tt
+list_failed text name bytes failed s types (LogErr.NotJson n) of same only bad io = absurd only
+list_failed text name bytes failed s types (LogErr.WrongOwner n) of same only bad io = absurd only
+list_failed text name bytes failed s types (LogErr.Diverges n) of same only bad io = absurd only
+list_failed text name bytes failed s types LogErr.NoEnd of same only bad io = absurd only
+list_failed text name bytes failed s types LogErr.AfterEnd of same only bad io = absurd only
 
 -- why a log is not read
 abbrev pub IsUnread : Table → Option (List ℕ) → Type 0 → LogErr → Type 0
@@ -117,70 +113,109 @@ unread types bytes failed LogErr.OutOfMemory only not_json bad after no_end io =
 unread types bytes failed (LogErr.WrongOwner n) only not_json bad after no_end io = absurd only
 unread types bytes failed (LogErr.Diverges n) only not_json bad after no_end io = absurd only
 
-pub log_unread : (text : List ℕ) (name : Option Name) (bytes : Option (List ℕ)) (failed : Type 0) (h : Hosted) (types : Table) (x : LogErr)
-    → Declares text name h → types ≡ h.types → IsUnread types bytes failed x → IsLogFailure text name bytes failed (Failure.List x)
-log_unread text name bytes failed h types x of same u = go x (subst (λ ts. IsUnread ts bytes failed x) same u)
+pub log_unread : (text : List ℕ) (name : Option Name) (bytes : Option (List ℕ)) (failed : Type 0) (s : Subject) (types : Table) (x : LogErr)
+    → Gives text name s → types ≡ its_types s → IsUnread types bytes failed x → IsLogFailure text name bytes failed (Failure.List x)
+log_unread text name bytes failed s types x of same u = go x (subst (λ ts. IsUnread ts bytes failed x) same u)
   where
-    go : (x : LogErr) → IsUnread h.types bytes failed x → IsLogFailure text name bytes failed (Failure.List x)
-    go (LogErr.NotJson n) u = (h, of, u)
-    go (LogErr.BadLine n) u = (h, of, u)
-    go LogErr.NoEnd u = (h, of, u)
-    go LogErr.AfterEnd u = (h, of, u)
-    go LogErr.Io u = (h, of, u)
+    go : (x : LogErr) → IsUnread (its_types s) bytes failed x → IsLogFailure text name bytes failed (Failure.List x)
+    go (LogErr.NotJson n) u = (s, of, u)
+    go (LogErr.BadLine n) u = (s, of, u)
+    go LogErr.NoEnd u = (s, of, u)
+    go LogErr.AfterEnd u = (s, of, u)
+    go LogErr.Io u = (s, of, u)
     go LogErr.OutOfMemory u = tt
     go (LogErr.WrongOwner n) u = absurd u
     go (LogErr.Diverges n) u = absurd u
 
-pub monitor_unread : (text : List ℕ) (name : Option Name) (bytes : Option (List ℕ)) (failed : Type 0) (h : Hosted) (types : Table) (x : LogErr)
-    → Declares text name h → types ≡ h.types → IsSeen h → IsUnread types bytes failed x → IsMonitorFailure text name bytes failed (Failure.List x)
-monitor_unread text name bytes failed h types x of same seen u = go x (subst (λ ts. IsUnread ts bytes failed x) same u)
+pub monitor_unread : (text : List ℕ) (name : Option Name) (bytes : Option (List ℕ)) (failed : Type 0) (s : Subject) (types : Table) (x : LogErr)
+    → Gives text name s → types ≡ its_types s → IsOpen s → IsUnread types bytes failed x → IsMonitorFailure text name bytes failed (Failure.List x)
+monitor_unread text name bytes failed s types x of same seen u = go x (subst (λ ts. IsUnread ts bytes failed x) same u)
   where
-    go : (x : LogErr) → IsUnread h.types bytes failed x → IsMonitorFailure text name bytes failed (Failure.List x)
-    go (LogErr.NotJson n) u = (h, of, seen, u)
-    go (LogErr.BadLine n) u = (h, of, seen, u)
-    go LogErr.NoEnd u = (h, of, seen, u)
-    go LogErr.AfterEnd u = (h, of, seen, u)
-    go LogErr.Io u = (h, of, seen, u)
+    go : (x : LogErr) → IsUnread (its_types s) bytes failed x → IsMonitorFailure text name bytes failed (Failure.List x)
+    go (LogErr.NotJson n) u = (s, of, seen, u)
+    go (LogErr.BadLine n) u = (s, of, seen, u)
+    go LogErr.NoEnd u = (s, of, seen, u)
+    go LogErr.AfterEnd u = (s, of, seen, u)
+    go LogErr.Io u = (s, of, seen, u)
     go LogErr.OutOfMemory u = tt
     go (LogErr.WrongOwner n) u = absurd u
     go (LogErr.Diverges n) u = absurd u
 
 -- a log that is not the run's
-pub log_judged : (text : List ℕ) (name : Option Name) (bytes : Option (List ℕ)) (failed : Type 0) (h : Hosted) (log : Logged) (x : LogErr) {T : Type 0}
-    → Declares text name h → IfSome bytes (λ xs. ReadsLog h.types xs log) → IsReplayErr x
-    → ((n : ℕ) → IsErrOf {T = T} (Err x) (LogErr.WrongOwner n) → judged (hosts_of h) (host_starts h) log ≡ wrong_owner n)
-    → ((n : ℕ) → IsErrOf {T = T} (Err x) (LogErr.Diverges n) → judged (hosts_of h) (host_starts h) log ≡ diverges n)
+pub log_judged : (text : List ℕ) (name : Option Name) (bytes : Option (List ℕ)) (failed : Type 0) (s : Subject) (log : Logged) (x : LogErr) {T : Type 0}
+    → Gives text name s → IfSome bytes (λ xs. ReadsLog (its_types s) xs log) → IsReplayErr x
+    → ((n : ℕ) → IsErrOf {T = T} (Err x) (LogErr.WrongOwner n) → judged (its_components s) (its_starts s) log ≡ wrong_owner n)
+    → ((n : ℕ) → IsErrOf {T = T} (Err x) (LogErr.Diverges n) → judged (its_components s) (its_starts s) log ≡ diverges n)
     → IsLogFailure text name bytes failed (Failure.List x)
-log_judged text name bytes failed h log (LogErr.WrongOwner n) of reads only owner diverging =
-    (h, of, IfSome_then bytes reads (λ xs r. (log, r, owner n refl)))
-log_judged text name bytes failed h log (LogErr.Diverges n) of reads only owner diverging =
-    (h, of, IfSome_then bytes reads (λ xs r. (log, r, diverging n refl)))
-log_judged text name bytes failed h log LogErr.OutOfMemory of reads only owner diverging = tt
-log_judged text name bytes failed h log (LogErr.NotJson n) of reads only owner diverging = absurd only
-log_judged text name bytes failed h log (LogErr.BadLine n) of reads only owner diverging = absurd only
-log_judged text name bytes failed h log LogErr.NoEnd of reads only owner diverging = absurd only
-log_judged text name bytes failed h log LogErr.AfterEnd of reads only owner diverging = absurd only
-log_judged text name bytes failed h log LogErr.Io of reads only owner diverging = absurd only
+log_judged text name bytes failed s log (LogErr.WrongOwner n) of reads only owner diverging =
+    (s, of, IfSome_then bytes reads (λ xs r. (log, r, owner n refl)))
+log_judged text name bytes failed s log (LogErr.Diverges n) of reads only owner diverging =
+    (s, of, IfSome_then bytes reads (λ xs r. (log, r, diverging n refl)))
+log_judged text name bytes failed s log LogErr.OutOfMemory of reads only owner diverging = tt
+log_judged text name bytes failed s log (LogErr.NotJson n) of reads only owner diverging = absurd only
+log_judged text name bytes failed s log (LogErr.BadLine n) of reads only owner diverging = absurd only
+log_judged text name bytes failed s log LogErr.NoEnd of reads only owner diverging = absurd only
+log_judged text name bytes failed s log LogErr.AfterEnd of reads only owner diverging = absurd only
+log_judged text name bytes failed s log LogErr.Io of reads only owner diverging = absurd only
 
 -- what was written of a list where a device failed
-pub list_unwritten : (text : List ℕ) (name : Option Name) (bytes before after : Option (List ℕ)) (p : Prog) (h : Hosted) (x : LogErr) {T : Type 0}
-    → Declares text name h → Runs p h → IsListErr x
+pub list_unwritten : (text : List ℕ) (name : Option Name) (bytes before after : Option (List ℕ)) (s : Subject) (x : LogErr) {T : Type 0}
+    → Gives text name s → IsListErr x
     → ((n : ℕ) → IsErrOf {T = T} (Err x) (LogErr.BadLine n) → Keeps before after)
     → (IsErrOf {T = T} (Err x) LogErr.OutOfMemory → Keeps before after)
-    → (IsErrOf {T = T} (Err x) LogErr.Io → (h : Hosted) (c : Composed) → Stands h c → Means p c
-    → Keeps before after ⊎ IfSome bytes (λ xs. BeginsReplay h.types h.hidden (hosts_of h) (host_starts h) xs before after))
+    → (IsErrOf {T = T} (Err x) LogErr.Io
+    → Keeps before after ⊎ IfSome bytes (λ xs. BeginsReplay (its_types s) (its_hidden s) (its_components s) (its_starts s) xs before after))
     → IsUnwritten (BeginsReplayOf text name bytes) before after (Failure.List x)
-list_unwritten text name bytes before after p h (LogErr.BadLine n) of runs only bad memory io = bad n refl
-list_unwritten text name bytes before after p h LogErr.OutOfMemory of runs only bad memory io = memory refl
-list_unwritten text name bytes before after p h LogErr.Io of runs only bad memory io =
-    elim (io refl h runs.0 runs.1 runs.2) [ inl k ↦ inl k | inr k ↦ inr (h, of, k) ]
-list_unwritten text name bytes before after p h (LogErr.NotJson n) of runs only bad memory io = absurd only
-list_unwritten text name bytes before after p h (LogErr.WrongOwner n) of runs only bad memory io = absurd only
-list_unwritten text name bytes before after p h (LogErr.Diverges n) of runs only bad memory io = absurd only
-list_unwritten text name bytes before after p h LogErr.NoEnd of runs only bad memory io = absurd only
-list_unwritten text name bytes before after p h LogErr.AfterEnd of runs only bad memory io = absurd only
+list_unwritten text name bytes before after s (LogErr.BadLine n) of only bad memory io = bad n refl
+list_unwritten text name bytes before after s LogErr.OutOfMemory of only bad memory io = memory refl
+list_unwritten text name bytes before after s LogErr.Io of only bad memory io = elim (io refl) [ inl k ↦ inl k | inr k ↦ inr (s, of, k) ]
+list_unwritten text name bytes before after s (LogErr.NotJson n) of only bad memory io = absurd only
+list_unwritten text name bytes before after s (LogErr.WrongOwner n) of only bad memory io = absurd only
+list_unwritten text name bytes before after s (LogErr.Diverges n) of only bad memory io = absurd only
+list_unwritten text name bytes before after s LogErr.NoEnd of only bad memory io = absurd only
+list_unwritten text name bytes before after s LogErr.AfterEnd of only bad memory io = absurd only
 
 -- nothing was written
 pub kept : (begins : Option (List ℕ) → Option (List ℕ) → Type 0) (before after : Option (List ℕ)) (e : Failure) → Keeps before after → IsUnwritten begins before after e
 kept begins before after (Failure.List LogErr.Io) k = inl k
 kept begins before after _ k = k
+
+-- a file that gives nothing is why
+pub list_ungiven : (text : List ℕ) (name : Option Name) (bytes : Option (List ℕ)) (failed : Type 0) (e : Failure) → IsRefusedGiven text name e → IsFailure text name bytes failed e
+list_ungiven text name bytes failed (Failure.Refused r) k = k
+list_ungiven text name bytes failed (Failure.Object e) k = k
+list_ungiven text name bytes failed Failure.SourceWanted k = absurd k
+list_ungiven text name bytes failed (Failure.List e) k = absurd k
+list_ungiven text name bytes failed Failure.SpecHasInternal k = absurd k
+list_ungiven text name bytes failed (Failure.BadWords n) k = absurd k
+list_ungiven text name bytes failed Failure.TooManyTurns k = absurd k
+list_ungiven text name bytes failed (Failure.BadInput i) k = absurd k
+list_ungiven text name bytes failed Failure.Threads k = absurd k
+list_ungiven text name bytes failed Failure.Io k = absurd k
+list_ungiven text name bytes failed Failure.OutOfMemory k = absurd k
+
+pub log_ungiven : (text : List ℕ) (name : Option Name) (bytes : Option (List ℕ)) (failed : Type 0) (e : Failure) → IsRefusedGiven text name e → IsLogFailure text name bytes failed e
+log_ungiven text name bytes failed (Failure.Refused r) k = k
+log_ungiven text name bytes failed (Failure.Object e) k = k
+log_ungiven text name bytes failed Failure.SourceWanted k = absurd k
+log_ungiven text name bytes failed (Failure.List e) k = absurd k
+log_ungiven text name bytes failed Failure.SpecHasInternal k = absurd k
+log_ungiven text name bytes failed (Failure.BadWords n) k = absurd k
+log_ungiven text name bytes failed Failure.TooManyTurns k = absurd k
+log_ungiven text name bytes failed (Failure.BadInput i) k = absurd k
+log_ungiven text name bytes failed Failure.Threads k = absurd k
+log_ungiven text name bytes failed Failure.Io k = absurd k
+log_ungiven text name bytes failed Failure.OutOfMemory k = absurd k
+
+pub monitor_ungiven : (text : List ℕ) (name : Option Name) (bytes : Option (List ℕ)) (failed : Type 0) (e : Failure) → IsRefusedGiven text name e → IsMonitorFailure text name bytes failed e
+monitor_ungiven text name bytes failed (Failure.Refused r) k = k
+monitor_ungiven text name bytes failed (Failure.Object e) k = k
+monitor_ungiven text name bytes failed Failure.SourceWanted k = absurd k
+monitor_ungiven text name bytes failed (Failure.List e) k = absurd k
+monitor_ungiven text name bytes failed Failure.SpecHasInternal k = absurd k
+monitor_ungiven text name bytes failed (Failure.BadWords n) k = absurd k
+monitor_ungiven text name bytes failed Failure.TooManyTurns k = absurd k
+monitor_ungiven text name bytes failed (Failure.BadInput i) k = absurd k
+monitor_ungiven text name bytes failed Failure.Threads k = absurd k
+monitor_ungiven text name bytes failed Failure.Io k = absurd k
+monitor_ungiven text name bytes failed Failure.OutOfMemory k = absurd k

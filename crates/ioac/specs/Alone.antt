@@ -7,7 +7,6 @@ use Rattle.ioa_value.specs.Actions.{Act, Name}
 use Rattle.ioa_value.specs.Lists as lists
 use Rattle.ioa_value.specs.Lists.{ReadsList}
 use Rattle.ioa_value.specs.Table.{Table}
-use Rattle.ioa_tree.specs.Hosts.{Hosted, hosts_of, host_starts}
 use Rattle.ioa_system.specs.Histories.{TellsHistory}
 use Rattle.ioa_system.specs.Logs.{Logged}
 use Rattle.ioa_log.specs.declared.failure.LogErr.{LogErr}
@@ -22,40 +21,41 @@ use Rattle.ioac.specs.declared.settings.Settings.{Settings}
 use Rattle.ioac.specs.declared.settings.WordsFrom.{WordsFrom}
 use Rattle.ioac.specs.declared.status.Status.{Status}
 use Rattle.ioac.specs.declared.word_sources.WordSources.{WordSources}
-use Rattle.ioac.specs.Failing.{IsRefusedSource}
-use Rattle.ioac.specs.Headline.{Declares}
+use Rattle.ioac.specs.Failing.{IsNoObject, IsRefusedFile}
+use Rattle.ioac.specs.Headline.{Gives}
 use Rattle.ioac.specs.Keys.{AreStreams}
 use Rattle.ioac.specs.Logs.{log_run_text}
 use Rattle.ioac.specs.RunReports.{reports_text}
 use Rattle.ioac.specs.Statuses.{ending_status}
+use Rattle.ioac.specs.Subjects.{Subject, its_components, its_names, its_starts, its_types}
 use Rattle.ioac.specs.WordLists.{AreWords, IsBadWords, listed}
 
 -- ---- what a run is
 
--- The log tells a legal history of the hosts, and the fault by which it ends, if it does. Of this the reports tell: each counts what its
+-- The log tells a legal history of the subject, and the fault by which it ends, if it does. Of this the reports tell: each counts what its
 -- worker performed, and the environment performed the script's first actions, in order.
-pub record IsRun (h : Hosted) (script : List Act) (turns : ℕ) (log : Logged) (reports : List Report) : Type 0 where
-  pub legal : TellsHistory (hosts_of h) (host_starts h) log
+pub record IsRun (s : Subject) (script : List Act) (turns : ℕ) (log : Logged) (reports : List Report) : Type 0 where
+  pub legal : TellsHistory (its_components s) (its_starts s) log
   pub history : List (ℕ × Act)
   pub failure : Option boards.Failure
   pub entries : log.entries ≡ logged history failure
   pub ends : log.ending ≡ ending history failure
-  pub told : AreTold (length h.hosts) script turns history failure reports
+  pub told : AreTold (length (its_names s)) script turns history failure reports
 
 -- what is written of it: the log, or the external trace and how the run ends
-abbrev pub written : Hosted → Bool → Logged → List ℕ
-written h true log = log_text h.types log
-written h false log = log_run_text h log
+abbrev pub written : Subject → Bool → Logged → List ℕ
+written s true log = log_text (its_types s) log
+written s false log = log_run_text s log
 
-abbrev pub told_of : Hosted → Bool → List Report → Option (List ℕ)
-told_of h true reports = Some (reports_text (map (λ p. p.name) h.hosts) reports)
-told_of h false reports = None
+abbrev pub told_of : Subject → Bool → List Report → Option (List ℕ)
+told_of s true reports = Some (reports_text (its_names s) reports)
+told_of s false reports = None
 
 -- ---- what it is given
 
--- the file may hold a text that declares these hosts
-abbrev pub MayDeclare : (Name → List ℕ → Type 0) → Settings → Hosted → Type 0
-MayDeclare holds s h = (text : List ℕ) × holds s.file.now text × Declares text (option_copied s.composition) h
+-- the file may hold a source that declares these hosts, or the object of this program
+abbrev pub MayGive : (Name → List ℕ → Type 0) → Settings → Subject → Type 0
+MayGive holds s x = (text : List ℕ) × holds s.file.now text × Gives text (option_copied s.composition) x
 
 -- a file that is not a source is no longer than this
 abbrev pub IsShort : List ℕ → Type 0
@@ -72,40 +72,40 @@ abbrev pub IsScript : (Name → List ℕ → Type 0) → Table → Option Name �
 IsScript holds types None script = script ≡ []
 IsScript holds types (Some file) script = (text : List ℕ) × holds file text × IsShort text × ReadsList types text script
 
--- all that is read for a run of these hosts with this script
-pub record IsReady (holds : Name → List ℕ → Type 0) (s : Settings) (h : Hosted) (script : List Act) : Type 0 where
-  pub declares : MayDeclare holds s h
-  pub words : HasWords holds s.words (length h.hosts)
-  pub inputs : IsScript holds h.types (option_copied s.inputs) script
+-- all that is read for a run of this subject with this script
+pub record IsReady (holds : Name → List ℕ → Type 0) (s : Settings) (x : Subject) (script : List Act) : Type 0 where
+  pub gives : MayGive holds s x
+  pub words : HasWords holds s.words (length (its_names x))
+  pub inputs : IsScript holds (its_types x) (option_copied s.inputs) script
 
 -- ---- what comes of it
 
 -- all is read; the turns are not too many, and the script is of inputs; and a run's text is written, and its reports are left to be told
 pub record IsRunServed (holds : Name → List ℕ → Type 0) (s : Settings) (before after : Option (List ℕ)) (telling : Option (List ℕ)) (done : Status) : Type 0 where
-  pub hosts : Hosted
+  pub subject : Subject
   pub script : List Act
-  pub ready : IsReady holds s hosts script
+  pub ready : IsReady holds s subject script
   pub turns : s.turns ≤ most_turns
-  pub inputs : All (IsInput (hosts_of hosts)) script
+  pub inputs : All (IsInput (its_components subject)) script
   pub log : Logged
   pub reports : List Report
-  pub run : IsRun hosts script s.turns log reports
-  pub output : Appends before after (written hosts s.log log)
-  pub told : telling ≡ told_of hosts s.reports reports
+  pub run : IsRun subject script s.turns log reports
+  pub output : Appends before after (written subject s.log log)
+  pub told : telling ≡ told_of subject s.reports reports
   pub status : done ≡ ending_status log.ending
 
 -- a beginning of a run's text is written
 pub record BeginsRunOf (holds : Name → List ℕ → Type 0) (s : Settings) (before after : Option (List ℕ)) : Type 0 where
-  pub hosts : Hosted
+  pub subject : Subject
   pub script : List Act
-  pub ready : IsReady holds s hosts script
+  pub ready : IsReady holds s subject script
   pub turns : s.turns ≤ most_turns
-  pub inputs : All (IsInput (hosts_of hosts)) script
+  pub inputs : All (IsInput (its_components subject)) script
   pub log : Logged
   pub reports : List Report
-  pub run : IsRun hosts script s.turns log reports
+  pub run : IsRun subject script s.turns log reports
   pub taken : ℕ
-  pub begun : Appends before after (take taken (written hosts s.log log))
+  pub begun : Appends before after (take taken (written subject s.log log))
 
 -- ---- why there is none
 
@@ -149,6 +149,8 @@ IsWordless holds lacks from workers (Failure.BadWords n) = HasBadWords holds fro
 IsWordless holds lacks from workers Failure.Io = LacksWords holds lacks from
 IsWordless holds lacks from workers Failure.OutOfMemory = Unit {0}
 IsWordless holds lacks from workers (Failure.Refused r) = ⊥
+IsWordless holds lacks from workers (Failure.Object e) = ⊥
+IsWordless holds lacks from workers Failure.SourceWanted = ⊥
 IsWordless holds lacks from workers (Failure.List e) = ⊥
 IsWordless holds lacks from workers Failure.SpecHasInternal = ⊥
 IsWordless holds lacks from workers Failure.TooManyTurns = ⊥
@@ -167,34 +169,38 @@ IsScriptless holds lacks types file (Failure.List LogErr.AfterEnd) = ⊥
 IsScriptless holds lacks types file (Failure.List LogErr.Io) = ⊥
 IsScriptless holds lacks types file (Failure.List LogErr.OutOfMemory) = ⊥
 IsScriptless holds lacks types file (Failure.Refused r) = ⊥
+IsScriptless holds lacks types file (Failure.Object e) = ⊥
+IsScriptless holds lacks types file Failure.SourceWanted = ⊥
 IsScriptless holds lacks types file (Failure.BadWords n) = ⊥
 IsScriptless holds lacks types file Failure.SpecHasInternal = ⊥
 IsScriptless holds lacks types file Failure.TooManyTurns = ⊥
 IsScriptless holds lacks types file (Failure.BadInput i) = ⊥
 IsScriptless holds lacks types file Failure.Threads = ⊥
 
--- a file is not read: the source's; or where that declares hosts, the words'; or where all have words, the script's
+-- a file is not read: the first one; or where that gives a subject, the words'; or where all have words, the script's
 abbrev pub IsUnloaded : (Name → List ℕ → Type 0) → (Name → Type 0) → Settings → Type 0
 IsUnloaded holds lacks s =
     lacks s.file.now
-    ⊎ ((h : Hosted) × MayDeclare holds s h
-    × (LacksWords holds lacks s.words ⊎ (HasWords holds s.words (length h.hosts) × LacksScript holds lacks (option_copied s.inputs))))
+    ⊎ ((x : Subject) × MayGive holds s x
+    × (LacksWords holds lacks s.words ⊎ (HasWords holds s.words (length (its_names x)) × LacksScript holds lacks (option_copied s.inputs))))
 
--- Each reason comes only where those before it do not hold: a file is not read; the source or its composition is refused; a line of words is
--- none; a line of the script is no action; there are too many turns; an action of the script is no input; a thread is refused, of which a run
+-- Each reason comes only where those before it do not hold: a file is not read; the source or its composition, or the object, is refused; a line of
+-- words is none; a line of the script is no action; there are too many turns; an action of the script is no input; a thread is refused, of which a run
 -- on one thread takes none. Or the device failed, after all were past. Memory may be short at any time.
 abbrev pub IsUnrun : (Name → List ℕ → Type 0) → (Name → Type 0) → Settings → Type 0 → Failure → Type 0
-IsUnrun holds lacks s failed (Failure.Refused r) = (text : List ℕ) × holds s.file.now text × IsRefusedSource text (option_copied s.composition) r
-IsUnrun holds lacks s failed (Failure.BadWords n) = (h : Hosted) × MayDeclare holds s h × HasBadWords holds s.words (length h.hosts) n
+IsUnrun holds lacks s failed (Failure.Refused r) = (text : List ℕ) × holds s.file.now text × IsRefusedFile text (option_copied s.composition) r
+IsUnrun holds lacks s failed (Failure.Object e) = (text : List ℕ) × holds s.file.now text × IsNoObject text e
+IsUnrun holds lacks s failed Failure.SourceWanted = ⊥
+IsUnrun holds lacks s failed (Failure.BadWords n) = (x : Subject) × MayGive holds s x × HasBadWords holds s.words (length (its_names x)) n
 IsUnrun holds lacks s failed (Failure.List (LogErr.BadLine n)) =
-    (h : Hosted) × MayDeclare holds s h × HasWords holds s.words (length h.hosts) × HasBadLine holds h.types (option_copied s.inputs) n
-IsUnrun holds lacks s failed Failure.TooManyTurns = (h : Hosted) × (script : List Act) × IsReady holds s h script × (most_turns < s.turns)
+    (x : Subject) × MayGive holds s x × HasWords holds s.words (length (its_names x)) × HasBadLine holds (its_types x) (option_copied s.inputs) n
+IsUnrun holds lacks s failed Failure.TooManyTurns = (x : Subject) × (script : List Act) × IsReady holds s x script × (most_turns < s.turns)
 IsUnrun holds lacks s failed (Failure.BadInput i) =
-    (h : Hosted) × (script : List Act) × IsReady holds s h script × (s.turns ≤ most_turns) × IsFirstOther (hosts_of h) script i
+    (x : Subject) × (script : List Act) × IsReady holds s x script × (s.turns ≤ most_turns) × IsFirstOther (its_components x) script i
 IsUnrun holds lacks s failed Failure.Threads =
-    (h : Hosted) × (script : List Act) × IsReady holds s h script × (s.turns ≤ most_turns) × All (IsInput (hosts_of h)) script × (s.alone ≡ false)
+    (x : Subject) × (script : List Act) × IsReady holds s x script × (s.turns ≤ most_turns) × All (IsInput (its_components x)) script × (s.alone ≡ false)
 IsUnrun holds lacks s failed (Failure.List LogErr.Io) =
-    (h : Hosted) × (script : List Act) × IsReady holds s h script × (s.turns ≤ most_turns) × All (IsInput (hosts_of h)) script × failed
+    (x : Subject) × (script : List Act) × IsReady holds s x script × (s.turns ≤ most_turns) × All (IsInput (its_components x)) script × failed
 IsUnrun holds lacks s failed Failure.Io = IsUnloaded holds lacks s
 IsUnrun holds lacks s failed Failure.OutOfMemory = Unit {0}
 IsUnrun holds lacks s failed (Failure.List LogErr.OutOfMemory) = Unit {0}

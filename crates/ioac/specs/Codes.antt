@@ -2,6 +2,7 @@
 use Rattle.std.specs.Prelude.{ℕ, List, [], ◌∷◌, codes}
 use Rattle.ioa_lex.specs.declared.refusal.Refusal.{Refusal}
 use Rattle.ioa_log.specs.declared.failure.LogErr.{LogErr}
+use Rattle.ioa_object.specs.declared.failure.ObjErr.{ObjErr}
 use Rattle.ioac.specs.declared.code.Code.{Code}
 use Rattle.ioac.specs.declared.failure.Failure.{Failure}
 
@@ -9,9 +10,9 @@ use Rattle.ioac.specs.declared.failure.Failure.{Failure}
 abbrev pub all_codes : List Code
 all_codes =
     Code.E1 ∷ Code.E2 ∷ Code.E3 ∷ Code.E4 ∷ Code.E5 ∷ Code.E6 ∷ Code.E7 ∷ Code.E8 ∷ Code.E9 ∷ Code.E10 ∷
-    Code.E11 ∷ Code.E12 ∷ Code.E13 ∷ Code.E14 ∷ Code.E15 ∷ Code.E16 ∷ Code.E17 ∷ Code.L1 ∷ Code.L2 ∷ Code.L3 ∷
-    Code.L4 ∷ Code.L5 ∷ Code.L6 ∷ Code.L7 ∷ Code.L8 ∷ Code.N1 ∷ Code.N2 ∷ Code.N3 ∷ Code.Words ∷
-    Code.Memory ∷ Code.Io ∷ []
+    Code.E11 ∷ Code.E12 ∷ Code.E13 ∷ Code.E14 ∷ Code.E15 ∷ Code.E16 ∷ Code.E17 ∷ Code.O1 ∷ Code.O2 ∷ Code.O3 ∷
+    Code.O4 ∷ Code.O5 ∷ Code.O6 ∷ Code.O7 ∷ Code.L1 ∷ Code.L2 ∷ Code.L3 ∷ Code.L4 ∷ Code.L5 ∷ Code.L6 ∷
+    Code.L7 ∷ Code.L8 ∷ Code.N1 ∷ Code.N2 ∷ Code.N3 ∷ Code.Words ∷ Code.Object ∷ Code.Memory ∷ Code.Io ∷ []
 
 abbrev pub spelling : Code → List ℕ
 spelling Code.E1 = codes "E1"
@@ -31,6 +32,13 @@ spelling Code.E14 = codes "E14"
 spelling Code.E15 = codes "E15"
 spelling Code.E16 = codes "E16"
 spelling Code.E17 = codes "E17"
+spelling Code.O1 = codes "O1"
+spelling Code.O2 = codes "O2"
+spelling Code.O3 = codes "O3"
+spelling Code.O4 = codes "O4"
+spelling Code.O5 = codes "O5"
+spelling Code.O6 = codes "O6"
+spelling Code.O7 = codes "O7"
 spelling Code.L1 = codes "L1"
 spelling Code.L2 = codes "L2"
 spelling Code.L3 = codes "L3"
@@ -43,6 +51,7 @@ spelling Code.N1 = codes "N1"
 spelling Code.N2 = codes "N2"
 spelling Code.N3 = codes "N3"
 spelling Code.Words = codes "words"
+spelling Code.Object = codes "object"
 spelling Code.Memory = codes "memory"
 spelling Code.Io = codes "io"
 
@@ -66,6 +75,16 @@ refusal_code (Refusal.StartFault i fault) = Code.E16
 refusal_code Refusal.NoComposition = Code.E17
 refusal_code Refusal.OutOfMemory = Code.Memory
 
+abbrev pub object_code : ObjErr → Code
+object_code ObjErr.Magic = Code.O1
+object_code ObjErr.Version = Code.O2
+object_code ObjErr.Truncated = Code.O3
+object_code ObjErr.Trailing = Code.O4
+object_code (ObjErr.BadTable byte) = Code.O5
+object_code (ObjErr.BadCode part at) = Code.O6
+object_code ObjErr.Clash = Code.O7
+object_code ObjErr.OutOfMemory = Code.Memory
+
 abbrev pub log_code : LogErr → Code
 log_code (LogErr.NotJson line) = Code.L1
 log_code (LogErr.BadLine line) = Code.L2
@@ -78,6 +97,8 @@ log_code LogErr.OutOfMemory = Code.Memory
 
 abbrev pub failure_code : Failure → Code
 failure_code (Failure.Refused refusal) = refusal_code refusal
+failure_code (Failure.Object e) = object_code e
+failure_code Failure.SourceWanted = Code.Object
 failure_code (Failure.List e) = log_code e
 failure_code Failure.SpecHasInternal = Code.L7
 failure_code (Failure.BadWords n) = Code.Words

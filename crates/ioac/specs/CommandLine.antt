@@ -16,6 +16,9 @@ use Rattle.ioac.specs.Settings.{source_in, source_of, turns_in}
 abbrev pub file_rule : Rule
 file_rule = record (new_rule (codes "FILE")) { required = true }
 
+abbrev pub out_rule : Rule
+out_rule = record (new_rule (codes "OUT")) { required = true }
+
 abbrev pub code_rule : Rule
 code_rule = record (new_rule (codes "CODE")) { required = true }
 
@@ -58,6 +61,9 @@ reports_rule = record (new_rule (codes "reports")) { long = Some (codes "reports
 abbrev pub check_app : App
 check_app = with_rule (new_app (codes "check")) file_rule
 
+abbrev pub compile_app : App
+compile_app = with_rule (with_rule (with_rule (new_app (codes "compile")) file_rule) out_rule) comp_rule
+
 abbrev pub explain_app : App
 explain_app = with_rule (new_app (codes "explain")) code_rule
 
@@ -82,7 +88,8 @@ bare_app = on_top (λ top. record top { has_version = true; subcommand_required 
 abbrev pub ioac_app : App
 ioac_app =
     with_subcommand
-    (with_subcommand (with_subcommand (with_subcommand (with_subcommand (with_subcommand bare_app check_app.top) replay_app.top) run_app.top) monitor_app.top)
+    (with_subcommand (with_subcommand (with_subcommand (with_subcommand (with_subcommand (with_subcommand bare_app check_app.top) compile_app.top) replay_app.top) run_app.top)
+    monitor_app.top)
     explain_app.top)
     library_app.top
 
@@ -125,6 +132,8 @@ IsAskedBy (Some found) (Request.ReplayInvariants file composition) =
 IsAskedBy (Some found) (Request.Monitor file composition) = (found.0 ≡ codes "monitor") × Names found.1 file.now (option_copied composition)
 IsAskedBy (Some found) (Request.Run settings) = (found.0 ≡ codes "run") × AreSettings found.1 settings
 IsAskedBy (Some found) (Request.Check file) = (found.0 ≡ codes "check") × (first_of (codes "FILE") found.1 ≡ Some file.now)
+IsAskedBy (Some found) (Request.Compile file out composition) =
+    (found.0 ≡ codes "compile") × Names found.1 file.now (option_copied composition) × (first_of (codes "OUT") found.1 ≡ Some out.now)
 IsAskedBy (Some found) (Request.Explain code) = (found.0 ≡ codes "explain") × (first_of (codes "CODE") found.1 ≡ Some (spelling code))
 IsAskedBy (Some found) Request.Library = found.0 ≡ codes "library"
 

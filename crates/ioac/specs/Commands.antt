@@ -20,11 +20,11 @@ IsFinished None done told telling teller_failed status = (status ≡ done) × Ke
 IsFinished (Some text) done told telling teller_failed status = IsPut text done told telling teller_failed status
 
 -- the request was served; or why it was not is told
-abbrev pub IsAnswered : (Name → List ℕ → Type 0) → (Name → Type 0) → Request → Option (List ℕ) → Type 0
+abbrev pub IsAnswered : (Name → List ℕ → Type 0) → (Name → Type 0) → (Name → Type 0) → (Name → List ℕ → Type 0) → Type 0 → Request → Option (List ℕ) → Type 0
     → Option (List ℕ) → Option (List ℕ) → Type 0 → Option (List ℕ) → Option (List ℕ) → Type 0 → Status → Type 0
-IsAnswered holds lacks request bytes reader_failed before after writer_failed told telling teller_failed status =
-    ((reports : Option (List ℕ)) × (done : Status) × IsServed holds request bytes before after reports done × IsFinished reports done told telling teller_failed status)
-    ⊎ ((e : Failure) × IsUnserved holds lacks request bytes reader_failed writer_failed before after e × IsReported e told telling teller_failed status)
+IsAnswered holds lacks bars saves kept request bytes reader_failed before after writer_failed told telling teller_failed status =
+    ((reports : Option (List ℕ)) × (done : Status) × IsServed holds saves request bytes before after reports done × IsFinished reports done told telling teller_failed status)
+    ⊎ ((e : Failure) × IsUnserved holds lacks bars saves kept request bytes reader_failed writer_failed before after e × IsReported e told telling teller_failed status)
 
 -- of a parse that gives no request, by what it tells
 abbrev pub usage_status : ErrorKind → Status

@@ -20,6 +20,7 @@ example_text (Example.Source source) = codes "For example, this source:" ++ (gap
 example_text (Example.Replay source list) = input_text source.now (codes "with this list:") list.now
 example_text (Example.ReplayLog source log) = input_text source.now (codes "with this log:") log.now
 example_text (Example.Monitor source log) = input_text source.now (codes "as a monitor of this log:") log.now
+example_text (Example.Object digits) = codes "For example, these bytes, in hexadecimal:" ++ (gap ++ (digits.now ++ 10 ∷ []))
 example_text (Example.Told sentence) = sentence.now ++ 10 ∷ []
 
 abbrev pub explanation_text : Explanation → List ℕ
@@ -33,6 +34,8 @@ IsExplained code before after = (e : Explanation) × (e.code ≡ code) × Append
 -- memory is short, and nothing was written; or the device failed, and a beginning of an explanation was
 abbrev pub IsUnexplained : Code → Type 0 → Option (List ℕ) → Option (List ℕ) → Failure → Type 0
 IsUnexplained code failed before after (Failure.Refused r) = ⊥
+IsUnexplained code failed before after (Failure.Object e) = ⊥
+IsUnexplained code failed before after Failure.SourceWanted = ⊥
 IsUnexplained code failed before after (Failure.List e) =
     IsDeviceErr (failed × ((e : Explanation) × (k : ℕ) × (e.code ≡ code) × Appends before after (take k (explanation_text e)))) e
 IsUnexplained code failed before after Failure.SpecHasInternal = ⊥

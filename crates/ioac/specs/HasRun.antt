@@ -3,7 +3,6 @@ use Rattle.std.specs.Prelude.{◌≤◌, ℕ, List, All, length}
 use Rattle.ioa_value.specs.Actions.{Act, Name}
 use Rattle.ioa_value.specs.Plain.{Val}
 use Rattle.ioa_node.specs.Nodes.{Node}
-use Rattle.ioa_tree.specs.Hosts.{Hosted}
 use Rattle.ioa_compile.specs.Tables.{tabled}
 use Rattle.ioa_run.specs.Alone.{IsInput, most_turns}
 use Rattle.ioa_run.specs.Boards.{Standing}
@@ -12,14 +11,15 @@ use Rattle.ioa_run.specs.Reports.{AreTold}
 use Rattle.ioac.specs.declared.run.Ran.{Ran}
 use Rattle.ioac.specs.declared.settings.Settings.{Settings}
 use Rattle.ioac.specs.Alone.{IsReady}
-use Rattle.ioac.specs.Running.{Runs}
+use Rattle.ioac.specs.Running.{RunsAs}
+use Rattle.ioac.specs.Subjects.{Subject}
 
--- all was read, and the program of these hosts was run: the log is that of a board, and the reports tell of its history
+-- all was read, and the program was run as this subject: the log is that of a board, and the reports tell of its history
 pub record HasRun (holds : Name → List ℕ → Type 0) (s : Settings) (r : Ran) : Type 0 where
-  pub hosts : Hosted
+  pub subject : Subject
   pub script : List Act
-  pub ready : IsReady holds s hosts script
-  pub runs : Runs r.program hosts
+  pub ready : IsReady holds s subject script
+  pub runs : RunsAs r.program subject
   pub turns : s.turns ≤ most_turns
   pub inputs : All (IsInput (tabled r.program)) script
   pub board : Standing (List Val)

@@ -8,6 +8,8 @@ use Rattle.ioac.specs.Failing.{IsDeviceErr}
 -- the device failed, and a beginning of the library's text was written; nothing else is refused
 abbrev pub IsUnlisted : Type 0 → Option (List ℕ) → Option (List ℕ) → Failure → Type 0
 IsUnlisted failed before after (Failure.Refused r) = ⊥
+IsUnlisted failed before after (Failure.Object e) = ⊥
+IsUnlisted failed before after Failure.SourceWanted = ⊥
 IsUnlisted failed before after (Failure.List e) = IsDeviceErr (failed × ((k : ℕ) × Appends before after (take k library_text))) e
 IsUnlisted failed before after Failure.SpecHasInternal = ⊥
 IsUnlisted failed before after (Failure.BadWords n) = ⊥

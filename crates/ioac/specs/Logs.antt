@@ -13,26 +13,27 @@ use Rattle.ioa_system.specs.Logs.{Logged, actions_of, is_fault}
 use Rattle.ioa_log.specs.Breaking.{broken_of}
 use Rattle.ioa_log.specs.Judging.{agrees, judged}
 use Rattle.ioa_log.specs.LogTexts.{ReadsLog}
-use Rattle.ioa_log.specs.Monitoring.{IsSeen, monitored}
+use Rattle.ioa_log.specs.Monitoring.{monitored}
 use Rattle.ioa_log.specs.Replays.{run_text}
 use Rattle.ioac.specs.declared.invariant_replay.Finding.{Finding}
+use Rattle.ioac.specs.Subjects.{Subject, of_hosts, IsOpen, its_types, its_hidden, its_components, its_starts}
 
--- the bytes are a text of this log, and it is of the run that the hosts do
-abbrev pub IsRunLog : Hosted → List ℕ → Logged → Type 0
-IsRunLog h bytes log = ReadsLog h.types bytes log × (judged (hosts_of h) (host_starts h) log ≡ agrees)
+-- the bytes are a text of this log, and it is of the run that the subject does
+abbrev pub IsRunLog : Subject → List ℕ → Logged → Type 0
+IsRunLog s bytes log = ReadsLog (its_types s) bytes log × (judged (its_components s) (its_starts s) log ≡ agrees)
 
--- the text of the hosts' run over the log's actions
-abbrev pub log_run_text : Hosted → Logged → List ℕ
-log_run_text h log = run_text h.types h.hidden (hosts_of h) (host_starts h) (actions_of log)
+-- the text of its run over the log's actions
+abbrev pub log_run_text : Subject → Logged → List ℕ
+log_run_text s log = run_text (its_types s) (its_hidden s) (its_components s) (its_starts s) (actions_of log)
 
 -- the end is the run's, and the run's text is written
-abbrev pub ReplaysLog : Hosted → List ℕ → Ending → Option (List ℕ) → Option (List ℕ) → Type 0
-ReplaysLog h bytes end before after =
-    (log : Logged) × IsRunLog h bytes log × (end ≡ (run (hosts_of h) (actions_of log) (host_starts h)).ending) × Appends before after (log_run_text h log)
+abbrev pub ReplaysLog : Subject → List ℕ → Ending → Option (List ℕ) → Option (List ℕ) → Type 0
+ReplaysLog s bytes end before after =
+    (log : Logged) × IsRunLog s bytes log × (end ≡ (run (its_components s) (actions_of log) (its_starts s)).ending) × Appends before after (log_run_text s log)
 
 -- a beginning of the run's text is written
-abbrev pub BeginsLog : Hosted → List ℕ → Option (List ℕ) → Option (List ℕ) → Type 0
-BeginsLog h bytes before after = (log : Logged) × IsRunLog h bytes log × ((k : ℕ) × Appends before after (take k (log_run_text h log)))
+abbrev pub BeginsLog : Subject → List ℕ → Option (List ℕ) → Option (List ℕ) → Type 0
+BeginsLog s bytes before after = (log : Logged) × IsRunLog s bytes log × ((k : ℕ) × Appends before after (take k (log_run_text s log)))
 
 -- what is found where invariants are asked for: the first that is broken in a state of the run; or none, and how the run ends
 pub data Found : Type 0 where
@@ -55,25 +56,25 @@ broken_line b =
 -- the broken invariant alone; where none is, the run's text
 abbrev pub found_text : Hosted → Logged → Found → List ℕ
 found_text h log (broken b) = broken_line b
-found_text h log (unbroken end) = log_run_text h log
+found_text h log (unbroken end) = log_run_text (of_hosts h) log
 
 -- what is found in the run is the answer, and its text is written
 abbrev pub FindsInLog : Hosted → List ℕ → Found → Option (List ℕ) → Option (List ℕ) → Type 0
 FindsInLog h bytes found before after =
-    (log : Logged) × IsRunLog h bytes log × (found ≡ found_in h log) × Appends before after (found_text h log (found_in h log))
+    (log : Logged) × IsRunLog (of_hosts h) bytes log × (found ≡ found_in h log) × Appends before after (found_text h log (found_in h log))
 
 -- a beginning of it is written
 abbrev pub BeginsFound : Hosted → List ℕ → Option (List ℕ) → Option (List ℕ) → Type 0
 BeginsFound h bytes before after =
-    (log : Logged) × IsRunLog h bytes log × ((k : ℕ) × Appends before after (take k (found_text h log (found_in h log))))
+    (log : Logged) × IsRunLog (of_hosts h) bytes log × ((k : ℕ) × Appends before after (take k (found_text h log (found_in h log))))
 
 -- the actions that a log tells to be performed: all, but the last one where it ends by a fault
 abbrev pub performed_in : Logged → List Act
 performed_in log = if is_fault log.ending then take (length log.entries - 1) (actions_of log) else actions_of log
 
--- why the hosts do not accept what the log tells to be performed; none where they do
-abbrev pub answer_to : Hosted → Logged → Option Ending
-answer_to h log = monitored (hosts_of h) (performed_in log) (host_starts h)
+-- why the subject does not accept what the log tells to be performed; none where it does
+abbrev pub answer_to : Subject → Logged → Option Ending
+answer_to s log = monitored (its_components s) (performed_in log) (its_starts s)
 
 abbrev pub answer_text : Option Ending → List ℕ
 answer_text None = codes "ok"
@@ -83,12 +84,12 @@ abbrev pub answer_line : Option Ending → List ℕ
 answer_line answer = codes "monitor: " ++ (answer_text answer ++ 10 ∷ [])
 
 -- all is seen, the bytes are a text of a log, and the answer to it is written
-abbrev pub Monitors : Hosted → List ℕ → Option Ending → Option (List ℕ) → Option (List ℕ) → Type 0
-Monitors h bytes answer before after =
-    IsSeen h × ((log : Logged) × ReadsLog h.types bytes log × (answer ≡ answer_to h log) × Appends before after (answer_line answer))
+abbrev pub Monitors : Subject → List ℕ → Option Ending → Option (List ℕ) → Option (List ℕ) → Type 0
+Monitors s bytes answer before after =
+    IsOpen s × ((log : Logged) × ReadsLog (its_types s) bytes log × (answer ≡ answer_to s log) × Appends before after (answer_line answer))
 
 -- a beginning of it is written
-abbrev pub BeginsMonitor : Hosted → List ℕ → Option (List ℕ) → Option (List ℕ) → Type 0
-BeginsMonitor h bytes before after =
-    IsSeen h
-    × ((log : Logged) × ReadsLog h.types bytes log × ((k : ℕ) × Appends before after (take k (answer_line (answer_to h log)))))
+abbrev pub BeginsMonitor : Subject → List ℕ → Option (List ℕ) → Option (List ℕ) → Type 0
+BeginsMonitor s bytes before after =
+    IsOpen s
+    × ((log : Logged) × ReadsLog (its_types s) bytes log × ((k : ℕ) × Appends before after (take k (answer_line (answer_to s log)))))

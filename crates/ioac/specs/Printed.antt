@@ -5,6 +5,7 @@ use Rattle.std.specs.String.{string_bytes}
 use Rattle.ioa_arithmetic.specs.Arithmetic.{fault_number}
 use Rattle.ioa_lex.specs.declared.refusal.Refusal.{Refusal}
 use Rattle.ioa_log.specs.declared.failure.LogErr.{LogErr}
+use Rattle.ioa_object.specs.declared.failure.ObjErr.{ObjErr}
 use Rattle.ioac.specs.declared.failure.Failure.{Failure}
 use Rattle.ioac.specs.Codes.{failure_code, spelling}
 
@@ -33,6 +34,16 @@ refusal_details (Refusal.StartFault i fault) =
 refusal_details Refusal.NoComposition = []
 refusal_details Refusal.OutOfMemory = []
 
+abbrev pub object_details : ObjErr → List ℕ
+object_details ObjErr.Magic = []
+object_details ObjErr.Version = []
+object_details ObjErr.Truncated = []
+object_details ObjErr.Trailing = []
+object_details (ObjErr.BadTable byte) = codes " byte " ++ decimal byte
+object_details (ObjErr.BadCode part at) = codes " part " ++ (decimal part ++ (codes " at " ++ decimal at))
+object_details ObjErr.Clash = []
+object_details ObjErr.OutOfMemory = []
+
 abbrev pub log_details : LogErr → List ℕ
 log_details (LogErr.NotJson line) = on_line line
 log_details (LogErr.BadLine line) = on_line line
@@ -45,6 +56,8 @@ log_details LogErr.OutOfMemory = []
 
 abbrev pub failure_details : Failure → List ℕ
 failure_details (Failure.Refused refusal) = refusal_details refusal
+failure_details (Failure.Object e) = object_details e
+failure_details Failure.SourceWanted = []
 failure_details (Failure.List e) = log_details e
 failure_details Failure.SpecHasInternal = []
 failure_details (Failure.BadWords n) = on_line n

@@ -13,12 +13,13 @@ use Rattle.ioac.specs.declared.served.Served.{Served}
 use Rattle.ioac.specs.declared.store.StoreErr.{StoreErr}
 use Rattle.ioac.specs.declared.status.Status.{Status}
 use Rattle.ioac.specs.Checks.{IsCheck, IsCheckFailure, IsUnchecked}
+use Rattle.ioac.specs.Compiling.{IsMade, IsUnmade}
 use Rattle.ioac.specs.Explained.{IsExplained, IsUnexplained}
 use Rattle.ioac.specs.Headline.{IsReplay, IsLogReplay, IsInvariantReplay, IsMonitoring}
 use Rattle.ioac.specs.Libraries.{IsUnlisted}
 use Rattle.ioac.specs.Logs.{Found}
 use Rattle.ioac.specs.Alone.{BeginsRunOf, IsRunServed, IsUnrun}
-use Rattle.ioac.specs.Failing.{IsFailure, IsLogFailure, IsMonitorFailure, IsUnwritten, BeginsReplayOf, BeginsLogOf, BeginsFoundOf, BeginsMonitorOf}
+use Rattle.ioac.specs.Failing.{IsFailure, IsInvariantFailure, IsLogFailure, IsMonitorFailure, IsUnwritten, BeginsReplayOf, BeginsLogOf, BeginsFoundOf, BeginsMonitorOf}
 use Rattle.ioac.specs.Statuses.{answer_status, ending_status, found_status}
 
 -- what is left to be told
@@ -38,54 +39,70 @@ run_failure RunErr.Threads = Failure.Threads
 run_failure RunErr.OutOfMemory = Failure.OutOfMemory
 
 -- the file may hold a text such that the list or the log was replayed, or monitored, in the composition that is asked for, the last
--- one where none is; or that passed the check; or a composition was run; or the code was explained; or the library's text was written.
--- Reports of a run are left to be told
-abbrev pub IsServed : (Name → List ℕ → Type 0) → Request → Option (List ℕ) → Option (List ℕ) → Option (List ℕ) → Option (List ℕ) → Status → Type 0
-IsServed holds (Request.Replay file composition) bytes before after told status =
+-- one where none is; or that passed the check; or its object was put in a file; or a composition was run; or the code was explained; or
+-- the library's text was written. Reports of a run are left to be told
+abbrev pub IsServed : (Name → List ℕ → Type 0) → (Name → List ℕ → Type 0) → Request → Option (List ℕ) → Option (List ℕ) → Option (List ℕ) → Option (List ℕ) → Status → Type 0
+IsServed holds saves (Request.Replay file composition) bytes before after told status =
     (text : List ℕ) × holds file.now text
     × ((end : Ending) × IfSome bytes (λ xs. IsReplay text (option_copied composition) xs end before after) × (status ≡ ending_status end)) × (told ≡ None)
-IsServed holds (Request.ReplayLog file composition) bytes before after told status =
+IsServed holds saves (Request.ReplayLog file composition) bytes before after told status =
     (text : List ℕ) × holds file.now text
     × ((end : Ending) × IfSome bytes (λ xs. IsLogReplay text (option_copied composition) xs end before after) × (status ≡ ending_status end)) × (told ≡ None)
-IsServed holds (Request.ReplayInvariants file composition) bytes before after told status =
+IsServed holds saves (Request.ReplayInvariants file composition) bytes before after told status =
     (text : List ℕ) × holds file.now text
     × ((found : Found) × IfSome bytes (λ xs. IsInvariantReplay text (option_copied composition) xs found before after) × (status ≡ found_status found)) × (told ≡ None)
-IsServed holds (Request.Monitor file composition) bytes before after told status =
+IsServed holds saves (Request.Monitor file composition) bytes before after told status =
     (text : List ℕ) × holds file.now text
     × ((answer : Option Ending) × IfSome bytes (λ xs. IsMonitoring text (option_copied composition) xs answer before after) × (status ≡ answer_status answer)) × (told ≡ None)
-IsServed holds (Request.Run settings) bytes before after told status = IsRunServed holds settings before after told status
-IsServed holds (Request.Check file) bytes before after told status =
+IsServed holds saves (Request.Run settings) bytes before after told status = IsRunServed holds settings before after told status
+IsServed holds saves (Request.Check file) bytes before after told status =
     ((text : List ℕ) × holds file.now text × IsCheck text before after) × (status ≡ Status.Done) × (told ≡ None)
-IsServed holds (Request.Explain code) bytes before after told status = IsExplained code before after × (status ≡ Status.Done) × (told ≡ None)
-IsServed holds Request.Library bytes before after told status = Appends before after library_text × (status ≡ Status.Done) × (told ≡ None)
+IsServed holds saves (Request.Compile file out composition) bytes before after told status =
+    IsMade holds saves file.now out.now (option_copied composition) before after × (status ≡ Status.Done) × (told ≡ None)
+IsServed holds saves (Request.Explain code) bytes before after told status = IsExplained code before after × (status ≡ Status.Done) × (told ≡ None)
+IsServed holds saves Request.Library bytes before after told status = Appends before after library_text × (status ≡ Status.Done) × (told ≡ None)
 
 -- a load of the file may fail, or memory is short, and nothing was written
 abbrev pub IsUnread : Type 0 → Option (List ℕ) → Option (List ℕ) → Failure → Type 0
 IsUnread lacks before after e = (((e ≡ Failure.Io) × lacks) ⊎ (e ≡ Failure.OutOfMemory)) × Keeps before after
 
--- The file is not read, or it may hold a text with which the replay, the monitor or the check fails so; or nothing is run; or the code is
--- not explained; or the library's text is not written. The reader of standard input and the writer failed where these say so.
-abbrev pub IsUnserved : (Name → List ℕ → Type 0) → (Name → Type 0) → Request → Option (List ℕ) → Type 0 → Type 0 → Option (List ℕ) → Option (List ℕ) → Failure → Type 0
-IsUnserved holds lacks (Request.Replay file composition) bytes reader_failed writer_failed before after e =
+-- The file is not read, or it may hold a text with which the replay, the monitor or the check fails so; or no object is made; or nothing is
+-- run; or the code is not explained; or the library's text is not written. The reader of standard input and the writer failed where these say so.
+abbrev pub IsUnserved : (Name → List ℕ → Type 0) → (Name → Type 0) → (Name → Type 0) → (Name → List ℕ → Type 0) → Type 0 → Request → Option (List ℕ) → Type 0 → Type 0 → Option (List ℕ) → Option (List ℕ) → Failure → Type 0
+IsUnserved holds lacks bars saves kept (Request.Replay file composition) bytes reader_failed writer_failed before after e =
     IsUnread (lacks file.now) before after e
     ⊎ ((text : List ℕ) × holds file.now text × IsFailure text (option_copied composition) bytes (reader_failed ⊎ writer_failed) e
     × IsUnwritten (BeginsReplayOf text (option_copied composition) bytes) before after e)
-IsUnserved holds lacks (Request.ReplayLog file composition) bytes reader_failed writer_failed before after e =
+IsUnserved holds lacks bars saves kept (Request.ReplayLog file composition) bytes reader_failed writer_failed before after e =
     IsUnread (lacks file.now) before after e
     ⊎ ((text : List ℕ) × holds file.now text × IsLogFailure text (option_copied composition) bytes (reader_failed ⊎ writer_failed) e
     × IsUnwritten (BeginsLogOf text (option_copied composition) bytes) before after e)
-IsUnserved holds lacks (Request.ReplayInvariants file composition) bytes reader_failed writer_failed before after e =
+IsUnserved holds lacks bars saves kept (Request.ReplayInvariants file composition) bytes reader_failed writer_failed before after e =
     IsUnread (lacks file.now) before after e
-    ⊎ ((text : List ℕ) × holds file.now text × IsLogFailure text (option_copied composition) bytes (reader_failed ⊎ writer_failed) e
+    ⊎ ((text : List ℕ) × holds file.now text × IsInvariantFailure text (option_copied composition) bytes (reader_failed ⊎ writer_failed) e
     × IsUnwritten (BeginsFoundOf text (option_copied composition) bytes) before after e)
-IsUnserved holds lacks (Request.Monitor file composition) bytes reader_failed writer_failed before after e =
+IsUnserved holds lacks bars saves kept (Request.Monitor file composition) bytes reader_failed writer_failed before after e =
     IsUnread (lacks file.now) before after e
     ⊎ ((text : List ℕ) × holds file.now text × IsMonitorFailure text (option_copied composition) bytes (reader_failed ⊎ writer_failed) e
     × IsUnwritten (BeginsMonitorOf text (option_copied composition) bytes) before after e)
-IsUnserved holds lacks (Request.Run settings) bytes reader_failed writer_failed before after e =
+IsUnserved holds lacks bars saves kept (Request.Run settings) bytes reader_failed writer_failed before after e =
     IsUnrun holds lacks settings writer_failed e × IsUnwritten (BeginsRunOf holds settings) before after e
-IsUnserved holds lacks (Request.Check file) bytes reader_failed writer_failed before after e =
+IsUnserved holds lacks bars saves kept (Request.Check file) bytes reader_failed writer_failed before after e =
     IsUnread (lacks file.now) before after e
     ⊎ ((text : List ℕ) × holds file.now text × IsCheckFailure text writer_failed e × IsUnchecked before after e)
-IsUnserved holds lacks (Request.Explain code) bytes reader_failed writer_failed before after e = IsUnexplained code writer_failed before after e
-IsUnserved holds lacks Request.Library bytes reader_failed writer_failed before after e = IsUnlisted writer_failed before after e
+IsUnserved holds lacks bars saves kept (Request.Compile file out composition) bytes reader_failed writer_failed before after e =
+    IsUnmade holds lacks bars saves kept file.now out.now (option_copied composition) writer_failed before after e
+IsUnserved holds lacks bars saves kept (Request.Explain code) bytes reader_failed writer_failed before after e = IsUnexplained code writer_failed before after e
+IsUnserved holds lacks bars saves kept Request.Library bytes reader_failed writer_failed before after e = IsUnlisted writer_failed before after e
+
+-- a file is to be written
+abbrev pub IsSaving : Request → Type 0
+IsSaving (Request.Replay file composition) = ⊥
+IsSaving (Request.ReplayLog file composition) = ⊥
+IsSaving (Request.ReplayInvariants file composition) = ⊥
+IsSaving (Request.Monitor file composition) = ⊥
+IsSaving (Request.Run settings) = ⊥
+IsSaving (Request.Check file) = ⊥
+IsSaving (Request.Compile file out composition) = Unit {0}
+IsSaving (Request.Explain code) = ⊥
+IsSaving Request.Library = ⊥

@@ -3,6 +3,7 @@ use Rattle.std.specs.Prelude.{ℕ, Option, Some, None}
 use Rattle.ioa_lex.specs.declared.refusal.Refusal.{Refusal}
 use Rattle.ioa_tree.specs.Runs.{Ending, done, not_an_action_at, not_enabled_at, fault_at}
 use Rattle.ioa_log.specs.declared.failure.LogErr.{LogErr}
+use Rattle.ioa_object.specs.declared.failure.ObjErr.{ObjErr}
 use Rattle.ioac.specs.declared.failure.Failure.{Failure}
 use Rattle.ioac.specs.declared.status.Status.{Status}
 use Rattle.ioac.specs.Logs.{Found, broken, unbroken}
@@ -53,6 +54,17 @@ refusal_status (Refusal.StartFault i fault) = Status.Refused
 refusal_status Refusal.NoComposition = Status.Refused
 refusal_status Refusal.OutOfMemory = Status.Unable
 
+-- of an object that is refused
+abbrev pub object_status : ObjErr → Status
+object_status ObjErr.Magic = Status.Refused
+object_status ObjErr.Version = Status.Refused
+object_status ObjErr.Truncated = Status.Refused
+object_status ObjErr.Trailing = Status.Refused
+object_status (ObjErr.BadTable byte) = Status.Refused
+object_status (ObjErr.BadCode part at) = Status.Refused
+object_status ObjErr.Clash = Status.Refused
+object_status ObjErr.OutOfMemory = Status.Unable
+
 -- of a list or a log that is refused
 abbrev pub log_status : LogErr → Status
 log_status (LogErr.NotJson line) = Status.ListRefused
@@ -66,6 +78,8 @@ log_status LogErr.OutOfMemory = Status.Unable
 
 abbrev pub failure_status : Failure → Status
 failure_status (Failure.Refused refusal) = refusal_status refusal
+failure_status (Failure.Object e) = object_status e
+failure_status Failure.SourceWanted = Status.BadCommandLine
 failure_status (Failure.List e) = log_status e
 failure_status Failure.SpecHasInternal = Status.ListRefused
 failure_status (Failure.BadWords n) = Status.BadCommandLine

@@ -25,6 +25,13 @@ pub enum Code {
     E15,
     E16,
     E17,
+    O1,
+    O2,
+    O3,
+    O4,
+    O5,
+    O6,
+    O7,
     L1,
     L2,
     L3,
@@ -37,6 +44,7 @@ pub enum Code {
     N2,
     N3,
     Words,
+    Object,
     Memory,
     Io,
 }
@@ -45,7 +53,7 @@ impl Code {
     ghost use Rattle.ioac.specs.declared.code.Code.{Code};
 
     /// Each code, once.
-    pub const ALL: [Code; 31] = [
+    pub const ALL: [Code; 39] = [
         Code::E1,
         Code::E2,
         Code::E3,
@@ -63,6 +71,13 @@ impl Code {
         Code::E15,
         Code::E16,
         Code::E17,
+        Code::O1,
+        Code::O2,
+        Code::O3,
+        Code::O4,
+        Code::O5,
+        Code::O6,
+        Code::O7,
         Code::L1,
         Code::L2,
         Code::L3,
@@ -75,6 +90,7 @@ impl Code {
         Code::N2,
         Code::N3,
         Code::Words,
+        Code::Object,
         Code::Memory,
         Code::Io,
     ];
@@ -101,6 +117,13 @@ impl Code {
             Code::E15 => "E15",
             Code::E16 => "E16",
             Code::E17 => "E17",
+            Code::O1 => "O1",
+            Code::O2 => "O2",
+            Code::O3 => "O3",
+            Code::O4 => "O4",
+            Code::O5 => "O5",
+            Code::O6 => "O6",
+            Code::O7 => "O7",
             Code::L1 => "L1",
             Code::L2 => "L2",
             Code::L3 => "L3",
@@ -113,6 +136,7 @@ impl Code {
             Code::N2 => "N2",
             Code::N3 => "N3",
             Code::Words => "words",
+            Code::Object => "object",
             Code::Memory => "memory",
             Code::Io => "io",
         }

@@ -5,7 +5,7 @@ ghost use Rattle.ioa_log.specs.Failing.{HasFailed};
 ghost use Rattle.ioac.specs.CommandLine.{IsAsked};
 ghost use Rattle.ioac.specs.Commands.{IsAnswered, IsUnasked};
 ghost use Rattle.ioac.specs.Logs.{found_of};
-ghost use Rattle.ioac.specs.Serving.{IsServed, IsUnserved, reports_of};
+ghost use Rattle.ioac.specs.Serving.{IsSaving, IsServed, IsUnserved, reports_of};
 ghost use Rattle.ioac.specs.Statuses.{answer_status, ending_status, found_status, number_of};
 ghost use Rattle.ioac.specs.declared.failure.Failure.{Failure};
 ghost use Rattle.ioac.specs.declared.status.Status.{Status};
@@ -19,6 +19,7 @@ use crate::invariant_replay::{Finding, replay_invariants_text};
 use crate::library::write_library;
 use crate::log_replay::replay_log_text;
 use crate::monitor::monitor_text;
+use crate::object_file::compile_file;
 use crate::replay::replay_text;
 use crate::request::{Request, parse, read_request};
 use crate::run::run_file;
@@ -38,7 +39,8 @@ use std::thread::Threads;
 /// threads of the runtime.
 ///
 /// What is wrong goes to `errors`, and nothing is written then, or, where a device failed, no more than a beginning. The status is that of
-/// `Unable` where `errors` failed, too. Any other status means that no device failed in this call.
+/// `Unable` where `errors` failed, too. Any other status means that no device failed in this call. A file is changed only where it is asked
+/// for: by an object that stands in it whole.
 pub fn command<
     H: Threads + Wait + Sync,
     S: AsStr,
@@ -59,9 +61,10 @@ pub fn command<
         (W.contents output.old) (W.contents output.new) (HasFailed (W.failure_count output.old) (W.failure_count output.new))
         (E.contents errors.old) (E.contents errors.new) (HasFailed (E.failure_count errors.old) (E.failure_count errors.new)) status
         ⊎ ((request : Request) × IsAsked (map S.text words.now) request
-        × IsAnswered (F.holds store.old) (F.lacks store.old) request (R.remaining input.old) (HasFailed (R.failure_count input.old) (R.failure_count input.new))
+        × IsAnswered (F.holds store.old) (F.lacks store.old) (F.bars store.old) (F.saves store.old store.new) (store.new ≡ store.old) request (R.remaining input.old) (HasFailed (R.failure_count input.old) (R.failure_count input.new))
         (W.contents output.old) (W.contents output.new) (HasFailed (W.failure_count output.old) (W.failure_count output.new))
         (E.contents errors.old) (E.contents errors.new) (HasFailed (E.failure_count errors.old) (E.failure_count errors.new)) status)) }
+    ensures kept { ((request : Request) → IsAsked (map S.text words.now) request → IsSaving request → ⊥) → store.new ≡ store.old }
     ensures passed { (result ≡ number_of statuses.Unable → ⊥) → (R.failure_count input.new ≡ R.failure_count input.old) × (W.failure_count output.new ≡ W.failure_count output.old) × (E.failure_count errors.new ≡ E.failure_count errors.old) }
 {
     perform(rt, alloc, words, store, input, output, errors).number()
@@ -88,9 +91,10 @@ fn perform<
         (W.contents output.old) (W.contents output.new) (HasFailed (W.failure_count output.old) (W.failure_count output.new))
         (E.contents errors.old) (E.contents errors.new) (HasFailed (E.failure_count errors.old) (E.failure_count errors.new)) result
         ⊎ ((request : Request) × IsAsked (map S.text words.now) request
-        × IsAnswered (F.holds store.old) (F.lacks store.old) request (R.remaining input.old) (HasFailed (R.failure_count input.old) (R.failure_count input.new))
+        × IsAnswered (F.holds store.old) (F.lacks store.old) (F.bars store.old) (F.saves store.old store.new) (store.new ≡ store.old) request (R.remaining input.old) (HasFailed (R.failure_count input.old) (R.failure_count input.new))
         (W.contents output.old) (W.contents output.new) (HasFailed (W.failure_count output.old) (W.failure_count output.new))
         (E.contents errors.old) (E.contents errors.new) (HasFailed (E.failure_count errors.old) (E.failure_count errors.new)) result) }
+    ensures kept { ((request : Request) → IsAsked (map S.text words.now) request → IsSaving request → ⊥) → store.new ≡ store.old }
     ensures passed { (result ≡ statuses.Unable → ⊥) → (R.failure_count input.new ≡ R.failure_count input.old) × (W.failure_count output.new ≡ W.failure_count output.old) × (E.failure_count errors.new ≡ E.failure_count errors.old) }
 {
     match parse(alloc, words) {
@@ -113,9 +117,10 @@ fn answer<H: Threads + Wait + Sync, F: Store, R: InputDevice, W: OutputDevice, E
     output: &mut W,
     errors: &mut E,
 ) -> Status
-    ensures answers { IsAnswered (F.holds store.old) (F.lacks store.old) asked.now (R.remaining input.old) (HasFailed (R.failure_count input.old) (R.failure_count input.new))
+    ensures answers { IsAnswered (F.holds store.old) (F.lacks store.old) (F.bars store.old) (F.saves store.old store.new) (store.new ≡ store.old) asked.now (R.remaining input.old) (HasFailed (R.failure_count input.old) (R.failure_count input.new))
         (W.contents output.old) (W.contents output.new) (HasFailed (W.failure_count output.old) (W.failure_count output.new))
         (E.contents errors.old) (E.contents errors.new) (HasFailed (E.failure_count errors.old) (E.failure_count errors.new)) result }
+    ensures kept { (IsSaving asked.now → ⊥) → store.new ≡ store.old }
     ensures passed { (result ≡ statuses.Unable → ⊥) → (R.failure_count input.new ≡ R.failure_count input.old) × (W.failure_count output.new ≡ W.failure_count output.old) × (E.failure_count errors.new ≡ E.failure_count errors.old) }
 {
     match serve(rt, alloc, asked, store, input, output) {
@@ -127,8 +132,8 @@ fn answer<H: Threads + Wait + Sync, F: Store, R: InputDevice, W: OutputDevice, E
 /// Does what is asked, and answers the exit status with what is left to tell.
 ///
 /// # Errors
-/// `Io` or `OutOfMemory` where the file is not read, and those of the replay, the run, the monitor or the check of what it holds, or of the
-/// explanation or the library. Nothing was written then, or, where a device failed, no more than a beginning of the text.
+/// `Io` or `OutOfMemory` where the file is not read, and those of the replay, the run, the monitor, the check or the object of what it holds,
+/// or of the explanation or the library. Nothing was written then, or, where a device failed, no more than a beginning of the text.
 fn serve<H: Threads + Wait + Sync, F: Store, R: InputDevice, W: OutputDevice>(
     rt: &H,
     alloc: Global,
@@ -137,10 +142,11 @@ fn serve<H: Threads + Wait + Sync, F: Store, R: InputDevice, W: OutputDevice>(
     input: &mut R,
     output: &mut W,
 ) -> Result<Served, Failure>
-    ensures served { IfOk result (λ s. IsServed (F.holds store.old) asked.now (R.remaining input.old) (W.contents output.old) (W.contents output.new) (reports_of s) s.status) }
-    ensures refused { IfErr result (λ e. IsUnserved (F.holds store.old) (F.lacks store.old) asked.now (R.remaining input.old)
+    ensures served { IfOk result (λ s. IsServed (F.holds store.old) (F.saves store.old store.new) asked.now (R.remaining input.old) (W.contents output.old) (W.contents output.new) (reports_of s) s.status) }
+    ensures refused { IfErr result (λ e. IsUnserved (F.holds store.old) (F.lacks store.old) (F.bars store.old) (F.saves store.old store.new) (store.new ≡ store.old) asked.now (R.remaining input.old)
         (HasFailed (R.failure_count input.old) (R.failure_count input.new)) (HasFailed (W.failure_count output.old) (W.failure_count output.new))
         (W.contents output.old) (W.contents output.new) e) }
+    ensures kept { (IsSaving asked.now → ⊥) → store.new ≡ store.old }
     ensures passed { (IsErrOf result (Failure.List LogErr.Io) → ⊥) → (R.failure_count input.new ≡ R.failure_count input.old) × (W.failure_count output.new ≡ W.failure_count output.old) }
 {
     match asked {
@@ -180,6 +186,14 @@ fn serve<H: Threads + Wait + Sync, F: Store, R: InputDevice, W: OutputDevice>(
         Request::Check { file } => {
             let source = store.load(alloc, file)?;
             check_text(alloc, source.as_slice(), output)?;
+            Ok(silent(Status::Done))
+        }
+        Request::Compile {
+            file,
+            out,
+            composition,
+        } => {
+            compile_file(alloc, file, out, *composition, store, output)?;
             Ok(silent(Status::Done))
         }
         Request::Explain { code } => {

@@ -31,6 +31,8 @@ pub enum Example {
         source: &'static str,
         log: &'static str,
     },
+    /// These bytes as a file, each as two hexadecimal digits.
+    Object(&'static str),
     /// No text that could stand here. The sentence says what does it.
     Told(&'static str),
 }
@@ -55,6 +57,10 @@ impl fmt::Display for Example {
             Example::Monitor { source, log } => write!(
                 f,
                 "For example, this source:\n\n{source}\n\nas a monitor of this log:\n\n{log}\n"
+            ),
+            Example::Object(digits) => write!(
+                f,
+                "For example, these bytes, in hexadecimal:\n\n{digits}\n"
             ),
             Example::Told(sentence) => write!(f, "{sentence}\n"),
         }

@@ -1,5 +1,6 @@
 mod compositions;
 mod logs;
+mod objects;
 mod runs;
 mod scripts;
 mod sources;
@@ -32,6 +33,13 @@ pub fn explanation(code: Code) -> Explanation
         Code::E15 => compositions::E15,
         Code::E16 => compositions::E16,
         Code::E17 => compositions::E17,
+        Code::O1 => objects::O1,
+        Code::O2 => objects::O2,
+        Code::O3 => objects::O3,
+        Code::O4 => objects::O4,
+        Code::O5 => objects::O5,
+        Code::O6 => objects::O6,
+        Code::O7 => objects::O7,
         Code::L1 => logs::L1,
         Code::L2 => runs::L2,
         Code::L3 => logs::L3,
@@ -44,6 +52,7 @@ pub fn explanation(code: Code) -> Explanation
         Code::N2 => scripts::N2,
         Code::N3 => scripts::N3,
         Code::Words => scripts::WORDS,
+        Code::Object => objects::OBJECT,
         Code::Memory => runs::MEMORY,
         Code::Io => runs::IO,
     }

@@ -3,10 +3,12 @@ ghost use Rattle.ioac.specs.Codes as codes;
 ghost use Rattle.ioac.specs.Statuses as statuses;
 
 use crate::code::Code;
+use crate::object_failure::{ObjectDetails, object_code, object_status};
 use crate::refusal::{Details, refusal_code, refusal_status};
 use crate::status::Status;
 use crate::store::StoreErr;
 use ioa_log::LogErr;
+use ioa_object::ObjErr;
 use ioa_run::RunErr;
 use ioa_syntax::Refusal;
 use std::alloc::AllocError;
@@ -17,6 +19,10 @@ use std::fmt;
 pub enum Failure {
     /// The source or its composition is refused.
     Refused(Refusal),
+    /// The object is refused.
+    Object(ObjErr),
+    /// The file is an object, and has to be a source.
+    SourceWanted,
     /// The list or the log is refused, or a device failed, also where there is none.
     List(LogErr),
     /// The composition has internal or hidden actions, and is no monitor.
@@ -29,7 +35,7 @@ pub enum Failure {
     BadInput(usize),
     /// A thread was refused to a run.
     Threads,
-    /// A file was not read.
+    /// A file was not read or not written.
     Io,
     /// A growth of memory was refused.
     OutOfMemory,
@@ -46,6 +52,8 @@ impl Failure {
     {
         match self {
             Failure::Refused(refusal) => refusal_code(refusal),
+            Failure::Object(error) => object_code(*error),
+            Failure::SourceWanted => Code::Object,
             Failure::List(error) => log_code(*error),
             Failure::SpecHasInternal => Code::L7,
             Failure::BadWords(_) => Code::Words,
@@ -63,9 +71,12 @@ impl Failure {
     {
         match self {
             Failure::Refused(refusal) => refusal_status(refusal),
+            Failure::Object(error) => object_status(*error),
             Failure::List(error) => log_status(*error),
             Failure::SpecHasInternal | Failure::BadInput(_) => Status::ListRefused,
-            Failure::BadWords(_) | Failure::TooManyTurns => Status::BadCommandLine,
+            Failure::SourceWanted | Failure::BadWords(_) | Failure::TooManyTurns => {
+                Status::BadCommandLine
+            }
             Failure::Threads | Failure::Io | Failure::OutOfMemory => Status::Unable,
         }
     }
@@ -115,6 +126,10 @@ impl fmt::Display for Failure {
                 let details = Details(refusal);
                 write!(f, "{code}{details}")
             }
+            Failure::Object(error) => {
+                let details = ObjectDetails(*error);
+                write!(f, "{code}{details}")
+            }
             Failure::List(
                 LogErr::NotJson(line)
                 | LogErr::BadLine(line)
@@ -124,6 +139,7 @@ impl fmt::Display for Failure {
             Failure::BadWords(line) => write!(f, "{code} line {line}"),
             Failure::BadInput(index) => write!(f, "{code} index {index}"),
             Failure::List(LogErr::NoEnd | LogErr::AfterEnd | LogErr::Io | LogErr::OutOfMemory)
+            | Failure::SourceWanted
             | Failure::SpecHasInternal
             | Failure::TooManyTurns
             | Failure::Threads
@@ -155,6 +171,17 @@ impl From<Refusal> for Failure {
 
     fn from(refusal: Refusal) -> Failure {
         Failure::Refused(refusal)
+    }
+}
+
+impl From<ObjErr> for Failure {
+    ghost use Rattle.std.specs.Prelude.{◌≡◌};
+    ghost use Rattle.ioac.specs.declared.failure.Failure.TheVariants as failures;
+
+    ghost from_gives = { λ r e. e ≡ failures.Object r };
+
+    fn from(error: ObjErr) -> Failure {
+        Failure::Object(error)
     }
 }
 

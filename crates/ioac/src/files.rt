@@ -3,7 +3,8 @@ ghost use Rattle.std.specs.Prelude.{◌≡◌, IfOk, IfSome, take};
 use crate::store::{Store, StoreErr};
 use ioa_value::LIMITS;
 use std::alloc::Global;
-use std::io::{ErrorKind, Read};
+use std::fs::{File, OpenFile};
+use std::io::{ErrorKind, Read, Write};
 use std::{fs, io, rt};
 
 /// The files that a runtime reaches.
@@ -29,13 +30,49 @@ impl<'a, R: rt::Files> Store for Files<'a, R> {
 
     ghost lacks = { λ _ _. Unit {0} };
 
-    fn load(&mut self, alloc: Global, name: &str) -> Result<Vec<u8>, StoreErr> {
+    ghost bars = { λ _ _. Unit {0} };
+
+    ghost saves = { λ _ _ _ _. Unit {0} };
+
+    fn load(&self, alloc: Global, name: &str) -> Result<Vec<u8>, StoreErr> {
         match fs::open(self.rt, name) {
             // One byte past the limit tells that a source is too long.
             Ok(file) => read_first(alloc, file, LIMITS.text as u64 + 1),
             Err(error) => Err(store_err(&error)),
         }
     }
+
+    fn save(&mut self, alloc: Global, name: &str, bytes: &[u8]) -> Result<(), StoreErr> {
+        let beside = format!(in alloc; "{name}.part")?;
+        match replace(self.rt, beside.as_str(), name, bytes) {
+            Ok(()) => Ok(()),
+            Err(error) => Err(store_err(&error)),
+        }
+    }
+}
+
+/// Puts the bytes in a new file beside another one, whose place it takes once it is whole.
+///
+/// # Errors
+/// The new file's name is taken, what has its place is no file, or the system refuses. The new file is removed, if there is one.
+fn replace<R: rt::Files>(rt: &R, beside: &str, name: &str, bytes: &[u8]) -> io::Result<()> {
+    if let Ok(found) = fs::metadata(rt, name) {
+        if !found.is_file() {
+            return Err(io::Error::from(ErrorKind::InvalidInput));
+        }
+    }
+    let file = File::create_new(rt, beside)?;
+    let placed = fill(file, bytes).and_then(|()| fs::rename(rt, beside, name));
+    if placed.is_err() {
+        let _ = fs::remove_file(rt, beside);
+    }
+    placed
+}
+
+/// Writes the bytes, and waits until the system has stored them.
+fn fill<F: Write + OpenFile + Drop>(mut file: F, bytes: &[u8]) -> io::Result<()> {
+    file.write_all(bytes)?;
+    file.sync_all()
 }
 
 /// The bytes that a reader gives, so many at most.

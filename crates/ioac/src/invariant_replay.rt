@@ -9,11 +9,11 @@ ghost use Rattle.ioa_log.specs.declared.failure.LogErr.{LogErr};
 ghost use Rattle.ioa_log.specs.Breaking.{broken_of};
 ghost use Rattle.ioa_log.specs.Failing.{HasFailed};
 ghost use Rattle.ioa_log.specs.Judging.{IsReplayErr, agrees, diverges, judged, wrong_owner};
-ghost use Rattle.ioac.specs.Failing.{BeginsFoundOf, IsLogFailure, IsUnwritten};
+ghost use Rattle.ioac.specs.Failing.{BeginsFoundOf, IsInvariantFailure, IsUnwritten};
 ghost use Rattle.ioac.specs.Headline.{IsInvariantReplay};
 ghost use Rattle.ioac.specs.Logs.{broken_line, found_in, found_of, found_text};
 
-use crate::compile::compose_text;
+use crate::compile::{compose_text, is_object};
 use crate::failure::Failure;
 use crate::log_replay::run_text;
 use ioa_compose::Composition;
@@ -37,7 +37,8 @@ pub enum Finding {
 /// which it is.
 ///
 /// # Errors
-/// As those of a replay of a log. They are found before a broken invariant.
+/// `SourceWanted` where the bytes are an object, which has no invariants; else as those of a replay of a log. They are found before a
+/// broken invariant.
 pub fn replay_invariants_text<R: InputDevice, W: OutputDevice>(
     alloc: Global,
     text: &[u8],
@@ -47,13 +48,16 @@ pub fn replay_invariants_text<R: InputDevice, W: OutputDevice>(
 ) -> Result<Finding, Failure>
     ensures replays { IfOk result (λ finding. IfSome (R.remaining input.old) (λ bytes.
         IsInvariantReplay text.now (option_copied composition.entry) bytes (found_of finding) (W.contents output.old) (W.contents output.new))) }
-    ensures refused { IfErr result (λ e. IsLogFailure text.now (option_copied composition.entry) (R.remaining input.old)
+    ensures refused { IfErr result (λ e. IsInvariantFailure text.now (option_copied composition.entry) (R.remaining input.old)
         (HasFailed (R.failure_count input.old) (R.failure_count input.new) ⊎ HasFailed (W.failure_count output.old) (W.failure_count output.new)) e) }
     ensures unwritten { IfErr result (λ e. IsUnwritten (BeginsFoundOf text.now (option_copied composition.entry) (R.remaining input.old))
         (W.contents output.old) (W.contents output.new) e) }
     ensures passed { (IsErrOf result (Failure.List LogErr.Io) → ⊥)
         → (R.failure_count input.new ≡ R.failure_count input.old) × (W.failure_count output.new ≡ W.failure_count output.old) }
 {
+    if is_object(text) {
+        return Err(Failure::SourceWanted);
+    }
     let composed = compose_text(alloc, text, composition)?;
     let log = read_log(alloc, composed.types(), input)?;
     let (told, finding) = inspect(alloc, &composed, &log)?;

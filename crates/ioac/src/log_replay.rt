@@ -9,7 +9,7 @@ ghost use Rattle.ioa_log.specs.Replays as replays;
 ghost use Rattle.ioac.specs.Failing.{BeginsLogOf, IsLogFailure, IsUnwritten};
 ghost use Rattle.ioac.specs.Headline.{IsLogReplay};
 
-use crate::compile::compile_text;
+use crate::compile::program_of;
 use crate::failure::Failure;
 use ioa_log::{InputDevice, OutputDevice, push_line, read_log, replay, send_all};
 use ioa_system::{End, Run};
@@ -17,7 +17,7 @@ use ioa_value::{OutOfMemory, Types};
 use std::alloc::Global;
 use std::fmt::Write;
 
-/// Replays a log in a composition of a source, both given as texts: where the log is of the composition's run, writes the
+/// Replays a log in a composition of a source, or in an object, by the bytes of both: where the log is of the composition's run, writes the
 /// external trace and how the log ends, and answers that end.
 ///
 /// # Errors
@@ -39,7 +39,7 @@ pub fn replay_log_text<R: InputDevice, W: OutputDevice>(
     ensures passed { (IsErrOf result (Failure.List LogErr.Io) → ⊥)
         → (R.failure_count input.new ≡ R.failure_count input.old) × (W.failure_count output.new ≡ W.failure_count output.old) }
 {
-    let program = compile_text(alloc, text, composition)?;
+    let program = program_of(alloc, text, composition)?;
     let log = read_log(alloc, program.types(), input)?;
     let run = replay(alloc, &program, &log)?;
     let told = run_text(alloc, program.types(), &run)?;

@@ -2,19 +2,19 @@ ghost use Rattle.std.specs.Prelude.{◌≡◌, ◌⊎◌, IfOk, IfErr, IfSome, I
 ghost use Rattle.std.specs.Option.{option_copied};
 ghost use Rattle.std.specs.String.{string_bytes};
 ghost use Rattle.ioa_value.specs.Actions.{act_of};
-ghost use Rattle.ioa_tree.specs.Hosts.{Hosted, hosts_of, host_starts};
 ghost use Rattle.ioa_system.specs.Answers.{ending_of};
 ghost use Rattle.ioa_system.specs.Logs.{logged};
 ghost use Rattle.ioa_log.specs.declared.failure.LogErr.{LogErr};
 ghost use Rattle.ioa_log.specs.Failing.{HasFailed};
-ghost use Rattle.ioa_log.specs.Monitoring.{IsHiding, IsSeen, monitored};
+ghost use Rattle.ioa_log.specs.Monitoring.{monitored};
 ghost use Rattle.ioac.specs.Failing.{BeginsMonitorOf, IsMonitorFailure, IsUnwritten};
 ghost use Rattle.ioac.specs.Headline.{IsMonitoring};
 ghost use Rattle.ioac.specs.Logs as logs;
 ghost use Rattle.ioac.specs.Logs.{answer_line};
-ghost use Rattle.ioac.specs.Running.{Runs};
+ghost use Rattle.ioac.specs.Running.{RunsAs};
+ghost use Rattle.ioac.specs.Subjects.{IsClosed, IsOpen, Subject, its_components, its_starts};
 
-use crate::compile::compile_text;
+use crate::compile::program_of;
 use crate::failure::Failure;
 use ioa_compile::Program;
 use ioa_log::{InputDevice, MonitorErr, OutputDevice, monitor, read_log, send_all};
@@ -23,7 +23,7 @@ use ioa_value::{Action, OutOfMemory};
 use std::alloc::Global;
 use std::fmt::Write;
 
-/// Monitors a log by a composition of a source, both given as texts: writes whether the composition accepts the actions that the log
+/// Monitors a log by a composition of a source, or by an object, given the bytes of both: writes whether the composition accepts the actions that the log
 /// tells to be performed, and answers why not.
 ///
 /// # Errors
@@ -45,7 +45,7 @@ pub fn monitor_text<R: InputDevice, W: OutputDevice>(
     ensures passed { (IsErrOf result (Failure.List LogErr.Io) → ⊥)
         → (R.failure_count input.new ≡ R.failure_count input.old) × (W.failure_count output.new ≡ W.failure_count output.old) }
 {
-    let program = compile_text(alloc, text, composition)?;
+    let program = program_of(alloc, text, composition)?;
     // It has an answer to no action at all where it may be a monitor.
     answer_to(alloc, &program, &[])?;
     let log = read_log(alloc, program.types(), input)?;
@@ -58,9 +58,9 @@ pub fn monitor_text<R: InputDevice, W: OutputDevice>(
 
 /// Why the program, as a monitor, does not accept the actions, if it does not.
 fn answer_to(alloc: Global, program: &Program, actions: &[Action]) -> Result<Option<End>, Failure>
-    ensures answers { IfOk result (λ answer. (h : Hosted) → Runs program.now h
-        → IsSeen h × (option_map ending_of answer ≡ monitored (hosts_of h) (map act_of actions.now) (host_starts h))) }
-    ensures refused { IfErr result (λ e. (e ≡ Failure.OutOfMemory) ⊎ ((e ≡ Failure.SpecHasInternal) × ((h : Hosted) → Runs program.now h → IsHiding h))) }
+    ensures answers { IfOk result (λ answer. (s : Subject) → RunsAs program.now s
+        → IsOpen s × (option_map ending_of answer ≡ monitored (its_components s) (map act_of actions.now) (its_starts s))) }
+    ensures refused { IfErr result (λ e. (e ≡ Failure.OutOfMemory) ⊎ ((e ≡ Failure.SpecHasInternal) × ((s : Subject) → RunsAs program.now s → IsClosed s))) }
 {
     match monitor(alloc, program, actions) {
         Ok(()) => Ok(None),

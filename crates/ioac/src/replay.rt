@@ -6,21 +6,21 @@ ghost use Rattle.ioa_log.specs.Failing.{HasFailed};
 ghost use Rattle.ioac.specs.Failing.{BeginsReplayOf, IsFailure, IsUnwritten};
 ghost use Rattle.ioac.specs.Headline.{IsReplay};
 
-use crate::compile::compile_text;
+use crate::compile::program_of;
 use crate::failure::Failure;
 use ioa_log::{InputDevice, OutputDevice, replay_list};
 use ioa_system::End;
 use std::alloc::Global;
 
-/// Replays a list of actions in a composition of a source, both given as texts: writes the external trace and how
+/// Replays a list of actions in a composition of a source, or in an object, by the bytes of both: writes the external trace and how
 /// the list ends, and answers that end.
 ///
 /// Whatever the text and the list: where the answer is `Ok`, the text spells one tree, and what was written is the
-/// run of the automata of that tree, by their meaning alone.
+/// run of the automata of that tree, by their meaning alone; or it is an object, and what was written is the run of its program.
 ///
 /// # Errors
 /// `Refused` where the text is no source, the source is not well formed, or it has no composition of the name, or one
-/// that is refused; `List` where a line of the list is no action, or a device failed in this call; or want of memory. Nothing
+/// that is refused; `Object` where the bytes are no object; `List` where a line of the list is no action, or a device failed in this call; or want of memory. Nothing
 /// was written then, or, where a device failed, no more than a beginning of the text.
 pub fn replay_text<R: InputDevice, W: OutputDevice>(
     alloc: Global,
@@ -38,7 +38,7 @@ pub fn replay_text<R: InputDevice, W: OutputDevice>(
     ensures passed { (IsErrOf result (Failure.List LogErr.Io) → ⊥)
         → (R.failure_count input.new ≡ R.failure_count input.old) × (W.failure_count output.new ≡ W.failure_count output.old) }
 {
-    let program = compile_text(alloc, text, composition)?;
+    let program = program_of(alloc, text, composition)?;
     let end = replay_list(alloc, &program, input, output)?;
     Ok(end)
 }

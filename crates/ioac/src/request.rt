@@ -1,7 +1,7 @@
 ghost use Rattle.std.specs.Prelude.{◌≡◌, false, map, codes, IfOk, IfSome, IfNone};
 ghost use Rattle.clap.specs.Words.{FailsBy, app_of, fault_of, found_of, new_app, rows_of, rule_of, subcommand_of, subcommand_rows_of};
 ghost use Rattle.ioac.specs.CommandLine as asked;
-ghost use Rattle.ioac.specs.CommandLine.{IsAskedBy, IsLocal, check_app, code_rule, comp_rule, explain_app, file_rule, invariants_rule, ioac_app, library_app, log_rule, monitor_app, replay_app};
+ghost use Rattle.ioac.specs.CommandLine.{IsAskedBy, IsLocal, check_app, code_rule, comp_rule, compile_app, explain_app, file_rule, invariants_rule, ioac_app, library_app, log_rule, monitor_app, out_rule, replay_app};
 ghost use Rattle.ioac.specs.declared.request.Request.{Request};
 
 use crate::code::Code;
@@ -14,12 +14,12 @@ use std::convert::AsStr;
 /// What a command line asks for.
 #[derive(Drop)]
 pub enum Request<'a> {
-    /// To replay the list on standard input in a composition of a source.
+    /// To replay the list on standard input in a composition of a source, or in an object.
     Replay {
         file: &'a str,
         composition: Option<&'a str>,
     },
-    /// To replay the log on standard input in a composition of a source.
+    /// To replay the log on standard input in a composition of a source, or in an object.
     ReplayLog {
         file: &'a str,
         composition: Option<&'a str>,
@@ -29,16 +29,22 @@ pub enum Request<'a> {
         file: &'a str,
         composition: Option<&'a str>,
     },
-    /// To run a composition of a source.
+    /// To run a composition of a source, or an object.
     Run(Settings<'a>),
-    /// To monitor the log on standard input by a composition of a source.
+    /// To monitor the log on standard input by a composition of a source, or by an object.
     Monitor {
         file: &'a str,
         composition: Option<&'a str>,
     },
-    /// To parse and check a source.
+    /// To parse and check a source, or to read and verify an object.
     Check {
         file: &'a str,
+    },
+    /// To put the object of a composition of a source in the file `out`.
+    Compile {
+        file: &'a str,
+        out: &'a str,
+        composition: Option<&'a str>,
     },
     /// To say what a code means.
     Explain {
@@ -52,7 +58,7 @@ pub enum Request<'a> {
 const VERSION: &str = "0.2.0";
 
 /// The source that a subcommand takes.
-pub fn file_argument<'a>(alloc: Global) -> Arg<'a>
+pub fn source_argument<'a>(alloc: Global) -> Arg<'a>
     ensures rule { rule_of result ≡ file_rule }
     ensures local { result.global ≡ false }
 {
@@ -61,14 +67,34 @@ pub fn file_argument<'a>(alloc: Global) -> Arg<'a>
         .help("A source of I/O automata")
 }
 
+/// The source or the object that a subcommand takes.
+pub fn file_argument<'a>(alloc: Global) -> Arg<'a>
+    ensures rule { rule_of result ≡ file_rule }
+    ensures local { result.global ≡ false }
+{
+    Arg::new(alloc, "FILE")
+        .required(true)
+        .help("A source of I/O automata, or an object of one")
+}
+
+fn out_argument<'a>(alloc: Global) -> Arg<'a>
+    ensures rule { rule_of result ≡ out_rule }
+    ensures local { result.global ≡ false }
+{
+    Arg::new(alloc, "OUT")
+        .required(true)
+        .help("The file to put the object in")
+}
+
 /// The name of a composition.
 pub fn composition_option<'a>(alloc: Global) -> Arg<'a>
     ensures rule { rule_of result ≡ comp_rule }
     ensures local { result.global ≡ false }
 {
-    Arg::new(alloc, "comp").long("comp").value_name("NAME").help(
-        "The composition to take; without it, the source's last one",
-    )
+    Arg::new(alloc, "comp")
+        .long("comp")
+        .value_name("NAME")
+        .help("The composition to take; without it, the last one")
 }
 
 fn log_flag<'a>(alloc: Global) -> Arg<'a>
@@ -107,12 +133,27 @@ fn check_command<'a>(alloc: Global) -> Result<Command<'a>, AllocError>
     ensures local { IfOk result IsLocal }
 {
     Command::new(alloc, "check")
-        .about("Parses and checks a source, and prints ok where it is well formed")
+        .about("Parses and checks a source, or verifies an object, and prints ok where it is fine")
         .after_help(
-            "Compositions are composed by `replay` and `monitor` alone.\n\
-             Exit status: 0 done, 1 source refused, 2 bad command line, 5 memory, the file or a device.",
+            "Compositions of a source are composed by `compile`, `replay`, `run` and `monitor` alone.\n\
+             Exit status: 0 done, 1 source or object refused, 2 bad command line, 5 memory, the file or a device.",
         )
         .arg(file_argument(alloc))
+}
+
+fn compile_command<'a>(alloc: Global) -> Result<Command<'a>, AllocError>
+    ensures app { IfOk result (λ command. app_of command ≡ compile_app) }
+    ensures local { IfOk result IsLocal }
+{
+    Command::new(alloc, "compile")
+        .about("Compiles a composition, puts its object in a file, and prints ok")
+        .after_help(
+            "`check`, `replay`, `run` and `monitor` take the object in the place of a source.\n\
+             Exit status: 0 done, 1 source refused, 2 bad command line or no source, 5 memory, a file or a device.",
+        )
+        .arg(source_argument(alloc))?
+        .arg(out_argument(alloc))?
+        .arg(composition_option(alloc))
 }
 
 fn explain_command<'a>(alloc: Global) -> Result<Command<'a>, AllocError>
@@ -157,7 +198,7 @@ fn described_replay<'a>(alloc: Global) -> Command<'a>
         .after_help(
             "The list has one action a line, as `tick(5)`. Blank lines and lines that begin with % are skipped.\n\
              A log has one JSON object a line, as `{\"act\":\"tick(5)\",\"who\":0}`, and last `{\"end\":\"done after 1\"}`.\n\
-             Exit status: 0 done, 1 source refused, 2 bad command line, 3 ended by a fault,\n\
+             Exit status: 0 done, 1 source or object refused, 2 bad command line, 3 ended by a fault,\n\
              4 list or log refused, invariant broken, or ended not enabled or not an action, 5 memory, the file or a device.",
         )
         .override_usage("ioac replay [--comp <NAME>] [--log [--invariants]] <FILE>")
@@ -173,7 +214,7 @@ fn monitor_command<'a>(alloc: Global) -> Result<Command<'a>, AllocError>
         )
         .after_help(
             "The composition has no internal action, and hides none. It is run on those of the log's actions that its components have.\n\
-             Exit status: 0 accepted, 1 source refused, 2 bad command line,\n\
+             Exit status: 0 accepted, 1 source or object refused, 2 bad command line,\n\
              4 not accepted, log refused, or no monitor, 5 memory, the file or a device.",
         )
         .arg(file_argument(alloc))?
@@ -190,6 +231,7 @@ fn program<'a>(alloc: Global) -> Result<Command<'a>, AllocError>
         .arg_required_else_help(true)
         .disable_help_subcommand(true)
         .subcommand(check_command(alloc)?)?
+        .subcommand(compile_command(alloc)?)?
         .subcommand(replay_command(alloc)?)?
         .subcommand(run_command(alloc)?)?
         .subcommand(monitor_command(alloc)?)?
@@ -252,6 +294,16 @@ pub fn read_request<'a>(matches: &ArgMatches<'a>) -> Option<Request<'a>>
         "check" => {
             let file = found.get_str("FILE")?;
             Some(Request::Check { file })
+        }
+        "compile" => {
+            let file = found.get_str("FILE")?;
+            let out = found.get_str("OUT")?;
+            let picked = found.get_str("comp");
+            Some(Request::Compile {
+                file,
+                out,
+                composition: picked,
+            })
         }
         "explain" => {
             let word = found.get_str("CODE")?;

@@ -16,7 +16,7 @@ ghost use Rattle.ioac.specs.Serving.{reports_of};
 ghost use Rattle.ioac.specs.Traces.{performed, table_reports, table_text};
 
 use crate::command::status_of;
-use crate::compile::compile_text;
+use crate::compile::program_of;
 use crate::failure::Failure;
 use crate::reports::reports_text;
 use crate::script::load_script;
@@ -34,26 +34,26 @@ use std::alloc::{AllocError, Global};
 use std::sync::Wait;
 use std::thread::Threads;
 
-/// Runs a composition of a source, on one thread or on one for each worker, and writes its trace and how it ends, or its log.
+/// Runs a composition of a source, or an object, on one thread or on one for each worker, and writes its trace and how it ends, or its log.
 ///
 /// Whatever the words and the schedule: where the answer is `Ok`, what was written is the trace and the end, or the log, of a legal
-/// history of what the source declares, in which the environment performs its script in order.
+/// history of what the source declares or the object is of, in which the environment performs its script in order.
 ///
 /// # Errors
-/// `Io` where a file is not read; `Refused` where the source or its composition is; `BadWords` where a line of the file of words is no list
-/// of words; `List` where a line of the script is no action; `TooManyTurns`, `BadInput`; `Threads`, unless the run is on one thread; then
+/// `Io` where a file is not read; `Refused` where the source or its composition is, `Object` where the object is; `BadWords` where a line of
+/// the file of words is no list of words; `List` where a line of the script is no action; `TooManyTurns`, `BadInput`; `Threads`, unless the run is on one thread; then
 /// `List` where the device failed; or want of memory. Nothing was written then, or, where the device failed, no more than a beginning of
 /// the text.
 pub fn run_file<H: Threads + Wait + Sync, F: Store, W: OutputDevice>(
     rt: &H,
     alloc: Global,
     settings: &Settings<'_>,
-    store: &mut F,
+    store: &F,
     output: &mut W,
 ) -> Result<Served, Failure>
-    ensures runs { IfOk result (λ served. IsRunServed (F.holds store.old) settings.now (W.contents output.old) (W.contents output.new) (reports_of served) served.status) }
-    ensures refused { IfErr result (λ e. IsUnrun (F.holds store.old) (F.lacks store.old) settings.now (HasFailed (W.failure_count output.old) (W.failure_count output.new)) e) }
-    ensures unwritten { IfErr result (λ e. IsUnwritten (BeginsRunOf (F.holds store.old) settings.now) (W.contents output.old) (W.contents output.new) e) }
+    ensures runs { IfOk result (λ served. IsRunServed (F.holds store.now) settings.now (W.contents output.old) (W.contents output.new) (reports_of served) served.status) }
+    ensures refused { IfErr result (λ e. IsUnrun (F.holds store.now) (F.lacks store.now) settings.now (HasFailed (W.failure_count output.old) (W.failure_count output.new)) e) }
+    ensures unwritten { IfErr result (λ e. IsUnwritten (BeginsRunOf (F.holds store.now) settings.now) (W.contents output.old) (W.contents output.new) e) }
     ensures passed { (IsErrOf result (Failure.List LogErr.Io) → ⊥) → W.failure_count output.new ≡ W.failure_count output.old }
 {
     let ran = run_settings(rt, alloc, settings, store)?;
@@ -79,13 +79,13 @@ fn run_settings<H: Threads + Wait + Sync, F: Store>(
     rt: &H,
     alloc: Global,
     settings: &Settings<'_>,
-    store: &mut F,
+    store: &F,
 ) -> Result<Ran, Failure>
-    ensures ran { IfOk result (λ r. HasRun (F.holds store.old) settings.now r) }
-    ensures refused { IfErr result (λ e. IsUnrun (F.holds store.old) (F.lacks store.old) settings.now ⊥ e) }
+    ensures ran { IfOk result (λ r. HasRun (F.holds store.now) settings.now r) }
+    ensures refused { IfErr result (λ e. IsUnrun (F.holds store.now) (F.lacks store.now) settings.now ⊥ e) }
 {
     let text = store.load(alloc, settings.file)?;
-    let program = compile_text(alloc, text.as_slice(), settings.composition)?;
+    let program = program_of(alloc, text.as_slice(), settings.composition)?;
     let components = program.members().len();
     let words = load_words(alloc, settings.words, components, store)?;
     let script = load_script(alloc, program.types(), settings.inputs, store)?;
@@ -122,7 +122,7 @@ fn run_sources<H: Threads + Wait + Sync>(
     words: WordSources,
     script: &[Action],
 ) -> Result<Outcome, RunErr>
-    requires { count_of words ≡ length program.now.members }
+    requires sources { count_of words ≡ length program.now.members }
     ensures outcome { IfOk result (λ o. IsOutcome program.now (map act_of script.now) settings.now.turns o) }
     ensures refused { Refuses program.now (map act_of script.now) settings.now.turns result }
     ensures threads { IsErrOf result RunErr.Threads → settings.now.alone ≡ false }
@@ -142,7 +142,7 @@ fn run_by<H: Threads + Wait + Sync, W: Words + Send + Drop>(
     words: Vec<W>,
     script: &[Action],
 ) -> Result<Outcome, RunErr>
-    requires { length words.items ≡ length program.now.members }
+    requires sources { length words.items ≡ length program.now.members }
     ensures outcome { IfOk result (λ o. IsOutcome program.now (map act_of script.now) settings.now.turns o) }
     ensures refused { Refuses program.now (map act_of script.now) settings.now.turns result }
     ensures threads { IsErrOf result RunErr.Threads → settings.now.alone ≡ false }

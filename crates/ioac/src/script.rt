@@ -1,6 +1,6 @@
-ghost use Rattle.std.specs.Prelude.{◌≡◌, ℕ, List, IfOk, IfErr, map};
+ghost use Rattle.std.specs.Prelude.{IfOk, IfErr, map};
 ghost use Rattle.std.specs.Option.{option_copied};
-ghost use Rattle.ioa_value.specs.Actions.{Name, act_of};
+ghost use Rattle.ioa_value.specs.Actions.{act_of};
 ghost use Rattle.ioac.specs.Alone.{IsScript, IsScriptless};
 
 use crate::failure::Failure;
@@ -17,10 +17,10 @@ pub fn load_script<F: Store>(
     alloc: Global,
     types: &Types,
     file: Option<&str>,
-    store: &mut F,
+    store: &F,
 ) -> Result<Vec<Action>, Failure>
-    ensures script { IfOk result (λ actions. IsScript (F.holds store.old) types.now (option_copied file.entry) (map act_of actions.items)) }
-    ensures refused { IfErr result (λ e. IsScriptless (F.holds store.old) (F.lacks store.old) types.now (option_copied file.entry) e) }
+    ensures script { IfOk result (λ actions. IsScript (F.holds store.now) types.now (option_copied file.entry) (map act_of actions.items)) }
+    ensures refused { IfErr result (λ e. IsScriptless (F.holds store.now) (F.lacks store.now) types.now (option_copied file.entry) e) }
 {
     let Some(name) = file else {
         return Ok(Vec::new(alloc));

@@ -1,4 +1,4 @@
-ghost use Rattle.std.specs.Prelude.{ℕ, List, IfOk, IsErrOf};
+ghost use Rattle.std.specs.Prelude.{◌≡◌, ℕ, List, IfOk, IfErr, IsErrOf, OnOk};
 ghost use Rattle.ioac.specs.Alone.{IsShort, IsUnreadable};
 ghost use Rattle.ioa_value.specs.Actions.{Name};
 ghost use Rattle.ioac.specs.declared.store.StoreErr.{StoreErr};
@@ -7,10 +7,10 @@ use ioa_value::LIMITS;
 use std::alloc::{AllocError, AllocFailed, Global};
 use thiserror::Error;
 
-/// Why a file was not read.
+/// Why a file was not read or written.
 #[derive(Clone, Copy, Debug, PartialEq, Eq, Error)]
 pub enum StoreErr {
-    /// The file is not there, or cannot be read.
+    /// The file is not there, or cannot be read; or it cannot be written.
     #[error("io")]
     Io,
     /// A growth of memory was refused.
@@ -40,7 +40,7 @@ impl<T: Drop> From<AllocFailed<T>> for StoreErr {
     }
 }
 
-/// The files that the program reads.
+/// The files that the program reads and writes.
 pub trait Store {
     /// A load of the file of this name may give these bytes.
     ghost holds: { Self → Name → List ℕ → Type 0 };
@@ -48,23 +48,31 @@ pub trait Store {
     /// A load of the file of this name may fail.
     ghost lacks: { Self → Name → Type 0 };
 
-    /// The bytes of a file. A load changes nothing of what loads give.
-    fn load(&mut self, alloc: Global, name: &str) -> Result<Vec<u8>, StoreErr>
-        ensures ok { IfOk result (λ bytes. holds self.old name.now bytes.items) }
-        ensures io { IsErrOf result StoreErr.Io → lacks self.old name.now }
-        ensures holding { (file : Name) (bytes : List ℕ) → holds self.new file bytes → holds self.old file bytes }
-        ensures lacking { (file : Name) → lacks self.new file → lacks self.old file };
+    /// A save to the file of this name may fail.
+    ghost bars: { Self → Name → Type 0 };
+
+    /// Between these two these bytes were put in the file of this name, and no other file was changed.
+    ghost saves: { Self → Self → Name → List ℕ → Type 0 };
+
+    /// The bytes of a file.
+    fn load(&self, alloc: Global, name: &str) -> Result<Vec<u8>, StoreErr>
+        ensures ok { IfOk result (λ bytes. holds self.now name.now bytes.items) }
+        ensures io { IsErrOf result StoreErr.Io → lacks self.now name.now };
+
+    /// Puts bytes in a file, whether it was there or not: all of them, or no file is changed.
+    fn save(&mut self, alloc: Global, name: &str, bytes: &[u8]) -> Result<(), StoreErr>
+        ensures ok { OnOk result (saves self.old self.new name.now bytes.now) }
+        ensures io { IsErrOf result StoreErr.Io → bars self.old name.now }
+        ensures kept { IfErr result (λ _. self.new ≡ self.old) };
 }
 
 /// The bytes of a file that is not a source.
 ///
 /// # Errors
 /// `Io` where it is not read, or longer than a source may be; or want of memory.
-pub fn load_short<F: Store>(alloc: Global, name: &str, store: &mut F) -> Result<Vec<u8>, StoreErr>
-    ensures ok { IfOk result (λ bytes. F.holds store.old name.now bytes.items × IsShort bytes.items) }
-    ensures io { IsErrOf result StoreErr.Io → IsUnreadable (F.holds store.old) (F.lacks store.old) name.now }
-    ensures holding { (file : Name) (bytes : List ℕ) → F.holds store.new file bytes → F.holds store.old file bytes }
-    ensures lacking { (file : Name) → F.lacks store.new file → F.lacks store.old file }
+pub fn load_short<F: Store>(alloc: Global, name: &str, store: &F) -> Result<Vec<u8>, StoreErr>
+    ensures ok { IfOk result (λ bytes. F.holds store.now name.now bytes.items × IsShort bytes.items) }
+    ensures io { IsErrOf result StoreErr.Io → IsUnreadable (F.holds store.now) (F.lacks store.now) name.now }
 {
     let bytes = store.load(alloc, name)?;
     if bytes.len() > LIMITS.text {

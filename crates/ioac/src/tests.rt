@@ -15,6 +15,7 @@ mod library;
 mod lines;
 mod lists;
 mod logs;
+mod objects;
 mod operators;
 mod proposals;
 mod reached;

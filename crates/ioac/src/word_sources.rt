@@ -1,5 +1,4 @@
-ghost use Rattle.std.specs.Prelude.{◌≡◌, ℕ, List, IfOk, IfErr};
-ghost use Rattle.ioa_value.specs.Actions.{Name};
+ghost use Rattle.std.specs.Prelude.{IfOk, IfErr};
 ghost use Rattle.ioac.specs.Alone.{AreSources, IsWordless};
 
 use crate::failure::Failure;
@@ -25,12 +24,10 @@ pub fn load_words<F: Store>(
     alloc: Global,
     from: WordsFrom<'_>,
     workers: usize,
-    store: &mut F,
+    store: &F,
 ) -> Result<WordSources, Failure>
-    ensures words { IfOk result (λ sources. AreSources (F.holds store.old) from.entry workers sources) }
-    ensures refused { IfErr result (λ e. IsWordless (F.holds store.old) (F.lacks store.old) from.entry workers e) }
-    ensures holding { (file : Name) (bytes : List ℕ) → F.holds store.new file bytes → F.holds store.old file bytes }
-    ensures lacking { (file : Name) → F.lacks store.new file → F.lacks store.old file }
+    ensures words { IfOk result (λ sources. AreSources (F.holds store.now) from.entry workers sources) }
+    ensures refused { IfErr result (λ e. IsWordless (F.holds store.now) (F.lacks store.now) from.entry workers e) }
 {
     match from {
         WordsFrom::Key(key) => {

@@ -41,9 +41,9 @@ pub const MEMORY: Explanation = Explanation {
 
 pub const IO: Explanation = Explanation {
     code: Code::Io,
-    meaning: "The file cannot be read.",
+    meaning: "The file cannot be read, or the object cannot be put in its file.",
     example: Example::Told(
-        "No source or list gives it. A name that no file has does, or a file that you may not read.",
+        "No source or list gives it. A name that no file has does, a file that you may not read, or a folder in which you may not write.",
     ),
-    mending: "Mend the name of the file, or its rights.",
+    mending: "Mend the name of the file, or its rights. Beside an object OUT no file OUT.part may stand: it would be another run's.",
 };

@@ -5,7 +5,8 @@ pub const ROWS: &str = "\
 % nothing but a comment |  |  | E17^ | 1
  @1048576 |  |  | E17^ | 1
  @1048577 |  |  | E1^ | 1
-\u{7f}IOA |  |  | E2 line 1^ | 1
+\u{7f}IOA |  |  | O3^ | 1
+ \u{7f}IOA |  |  | E2 line 1^ | 1
 automaton A signature internal \u{0} |  |  | E2 line 1^ | 1
 type T = enum { a b } |  |  | E3 line 1^ | 1
 automaton^A^ |  |  | E3 line 3^ | 1

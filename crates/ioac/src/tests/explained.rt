@@ -9,17 +9,25 @@ use std::sync::Wait;
 use std::test::Fail;
 use std::thread::Threads;
 
-/// What gives a code, if texts do: for `E1` this long one.
-fn example<'a>(code: Code, long: &'a str) -> Option<Given<'a>> {
+/// The words, a file and a list that give a code, if there are some: for `E1` this long file.
+fn example(
+    alloc: Global,
+    code: Code,
+    long: &str,
+) -> Result<Option<(&'static str, Vec<u8>, &'static str)>, Fail> {
     let (words, file, list) = match explanation(code).example {
         Example::Source(source) => (REPLAY, source, ""),
         Example::Replay { source, list } => (REPLAY, source, list),
         Example::ReplayLog { source, log } => ("replay f --log", source, log),
         Example::Monitor { source, log } => ("monitor f", source, log),
+        Example::Object(digits) => {
+            let bytes = hex::decode(alloc, digits.as_bytes())?;
+            return Ok(Some(("check f", bytes, "")));
+        }
         Example::Told(_) if code == Code::E1 => (REPLAY, long, ""),
-        Example::Told(_) => return None,
+        Example::Told(_) => return Ok(None),
     };
-    Some(Given { words, file, list })
+    Ok(Some((words, Vec::from_slice(alloc, file.as_bytes())?, list)))
 }
 
 /// Whether it is told first, alone or with details.
@@ -51,12 +59,17 @@ fn examples_give_their_codes(rt: HostRuntime) -> Result<(), Fail> {
     let long = text(rt.alloc(), " @1048577")?;
     let mut count = 0usize;
     for code in Code::ALL {
-        if let Some(given) = example(code, long.as_str()) {
+        if let Some((words, file, list)) = example(rt.alloc(), code, long.as_str())? {
+            let given = Given {
+                words,
+                file: &file,
+                list,
+            };
             assert!(rt; is_given(&rt, rt.alloc(), code, &given)?, "{code}");
             count = count.saturating_add(1);
         }
     }
-    assert_eq!(rt; count, 24);
+    assert_eq!(rt; count, 31);
     Ok(())
 }
 
@@ -68,7 +81,7 @@ fn each_code_is_explained(rt: HostRuntime) -> Result<(), Fail> {
         let output = format!(in rt.alloc(); "{explanation}")?;
         let given = Given {
             words: words.as_str(),
-            file: "",
+            file: b"",
             list: "",
         };
         let wanted = Wanted {

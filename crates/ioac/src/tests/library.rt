@@ -54,7 +54,7 @@ fn the_library_gives_what_is_wanted(rt: HostRuntime) -> Result<(), Fail> {
     expect_rows(&rt, rt.alloc(), ROWS, First::Words(text))?;
     let given = Given {
         words: "library",
-        file: "",
+        file: b"",
         list: "",
     };
     let wanted = Wanted {
@@ -98,7 +98,7 @@ fn is_accepted<H: Threads + Wait + Sync>(
         alloc,
         &Given {
             words: words.as_str(),
-            file,
+            file: file.as_bytes(),
             list: "",
         },
     )?;
@@ -109,7 +109,7 @@ fn is_accepted<H: Threads + Wait + Sync>(
         alloc,
         &Given {
             words: words.as_str(),
-            file,
+            file: file.as_bytes(),
             list,
         },
     )?;
@@ -119,7 +119,7 @@ fn is_accepted<H: Threads + Wait + Sync>(
         alloc,
         &Given {
             words: words.as_str(),
-            file,
+            file: file.as_bytes(),
             list,
         },
     )?;

@@ -11,11 +11,22 @@ replay f | automaton A signature input a transitions input a composition One com
 check g |  |  | io^ | 5
 check |  |  | error: the following required arguments were not provided:^  <FILE>^^Usage: ioac check <FILE>^^For more information, try '--help'.^ | 2
 check f --comp One |  |  | error: unexpected argument '--comp' found^^  tip: to pass '--comp' as a value, use '-- --comp'^^Usage: ioac check <FILE>^^For more information, try '--help'.^ | 2
-check --help |  | Parses and checks a source, and prints ok where it is well formed^^Usage: ioac check <FILE>^^Arguments:^  <FILE>  A source of I/O automata^^Options:^  -h, --help  Print help^^Compositions are composed by `replay` and `monitor` alone.^Exit status: 0 done, 1 source refused, 2 bad command line, 5 memory, the file or a device.^ |  | 0
+check --help |  | Parses and checks a source, or verifies an object, and prints ok where it is fine^^Usage: ioac check <FILE>^^Arguments:^  <FILE>  A source of I/O automata, or an object of one^^Options:^  -h, --help  Print help^^Compositions of a source are composed by `compile`, `replay`, `run` and `monitor` alone.^Exit status: 0 done, 1 source or object refused, 2 bad command line, 5 memory, the file or a device.^ |  | 0
+-- objects
+compile f o | automaton A signature input a transitions input a composition One components A: A | ok^ |  | 0
+compile f o --comp One | automaton A signature input a transitions input a composition One components A: A composition Two components A: A(1) | ok^ |  | 0
+compile f o | automaton A signature input a transitions input a composition One components A: A composition Two components A: A(1) |  | E12 component 0^ | 1
+compile f o --comp Nine | automaton A signature input a transitions input a composition One components A: A |  | E17^ | 1
+compile f o | automaton A signature input a transitions input b |  | E8 line 1^ | 1
+compile f o |  |  | E17^ | 1
+compile f f | automaton A signature input a transitions input a composition One components A: A |  | io^ | 5
+compile g o |  |  | io^ | 5
+compile f |  |  | error: the following required arguments were not provided:^  <OUT>^^Usage: ioac compile <FILE> <OUT>^^For more information, try '--help'.^ | 2
+compile --help |  | Compiles a composition, puts its object in a file, and prints ok^^Usage: ioac compile [OPTIONS] <FILE> <OUT>^^Arguments:^  <FILE>  A source of I/O automata^  <OUT>   The file to put the object in^^Options:^      --comp <NAME>  The composition to take; without it, the last one^  -h, --help         Print help^^`check`, `replay`, `run` and `monitor` take the object in the place of a source.^Exit status: 0 done, 1 source refused, 2 bad command line or no source, 5 memory, a file or a device.^ |  | 0
 -- codes
-explain io |  | io: The file cannot be read.^^No source or list gives it. A name that no file has does, or a file that you may not read.^^Mend the name of the file, or its rights.^ |  | 0
-explain E18 |  |  | error: invalid value 'E18' for '<CODE>'^  [possible values: E1, E2, E3, E4, E5, E6, E7, E8, E9, E10, E11, E12, E13, E14, E15, E16, E17, L1, L2, L3, L4, L5, L6, L7, L8, N1, N2, N3, words, memory, io]^^For more information, try '--help'.^ | 2
-explain e5 |  |  | error: invalid value 'e5' for '<CODE>'^  [possible values: E1, E2, E3, E4, E5, E6, E7, E8, E9, E10, E11, E12, E13, E14, E15, E16, E17, L1, L2, L3, L4, L5, L6, L7, L8, N1, N2, N3, words, memory, io]^^For more information, try '--help'.^ | 2
+explain io |  | io: The file cannot be read, or the object cannot be put in its file.^^No source or list gives it. A name that no file has does, a file that you may not read, or a folder in which you may not write.^^Mend the name of the file, or its rights. Beside an object OUT no file OUT.part may stand: it would be another run's.^ |  | 0
+explain E18 |  |  | error: invalid value 'E18' for '<CODE>'^  [possible values: E1, E2, E3, E4, E5, E6, E7, E8, E9, E10, E11, E12, E13, E14, E15, E16, E17, O1, O2, O3, O4, O5, O6, O7, L1, L2, L3, L4, L5, L6, L7, L8, N1, N2, N3, words, object, memory, io]^^For more information, try '--help'.^ | 2
+explain e5 |  |  | error: invalid value 'e5' for '<CODE>'^  [possible values: E1, E2, E3, E4, E5, E6, E7, E8, E9, E10, E11, E12, E13, E14, E15, E16, E17, O1, O2, O3, O4, O5, O6, O7, L1, L2, L3, L4, L5, L6, L7, L8, N1, N2, N3, words, object, memory, io]^^For more information, try '--help'.^ | 2
 explain |  |  | error: the following required arguments were not provided:^  <CODE>^^Usage: ioac explain <CODE>^^For more information, try '--help'.^ | 2
 explain --help |  | Says what a code means that the program printed, what gives it, and how to mend it^^Usage: ioac explain <CODE>^^Arguments:^  <CODE>  A code that the program printed, as E7^^Options:^  -h, --help  Print help^^Exit status: 0 done, 2 bad command line or no such code, 5 memory or a device.^ |  | 0
 -- the library

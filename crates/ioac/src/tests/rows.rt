@@ -3,7 +3,7 @@
 use crate::tests::shelf::{COUNTER, First, expect_rows};
 use crate::tests::{
     bounds, changes, choices, commands, composed, constants, crashes, declared, invariants, lines,
-    lists, logs, proposals, requests,
+    lists, logs, objects, proposals, requests,
 };
 use std::test::Fail;
 
@@ -13,8 +13,11 @@ const LONG: [(&str, First<'static>); 2] = [
     (lines::ROWS, First::Check),
 ];
 
-const SHORT: [(&str, First<'static>); 22] = [
+const SHORT: [(&str, First<'static>); 25] = [
     (lists::ROWS, First::List(COUNTER)),
+    (lists::ROWS, First::Object(COUNTER)),
+    (proposals::REPLAYS, First::Object(proposals::GAME)),
+    (objects::ROWS, First::Bytes),
     (changes::ROWS, First::Changed(changes::LINES)),
     (choices::ROWS, First::Changed(choices::COUNTER)),
     (declared::CHECKS, First::Request),

@@ -105,7 +105,11 @@ impl<'a> Store for Rack<'a> {
 
     ghost lacks = { λ _ _. Unit {0} };
 
-    fn load(&mut self, alloc: Global, name: &str) -> Result<Vec<u8>, StoreErr> {
+    ghost bars = { λ _ _. Unit {0} };
+
+    ghost saves = { λ _ _ _ _. ⊥ };
+
+    fn load(&self, alloc: Global, name: &str) -> Result<Vec<u8>, StoreErr> {
         let text = match name {
             "f" => self.source,
             "w" => self.words,
@@ -113,6 +117,10 @@ impl<'a> Store for Rack<'a> {
             _ => return Err(StoreErr::Io),
         };
         Ok(Vec::from_slice(alloc, text.as_bytes())?)
+    }
+
+    fn save(&mut self, _alloc: Global, _name: &str, _bytes: &[u8]) -> Result<(), StoreErr> {
+        Err(StoreErr::Io)
     }
 }
 
@@ -146,6 +154,7 @@ fn run_by<H: Threads + Wait + Sync>(
         output: output.into_inner(),
         errors: errors.into_inner(),
         status,
+        saved: None,
     })
 }
 

@@ -28,22 +28,36 @@ pub fn basic(alloc: Global) -> Result<Types, OutOfMemory>
     Declarations::new(alloc)?.finish(alloc)
 }
 
-/// One file in memory, which has the name `f`.
+/// Two files in memory: `f`, which is only read, and `o`, which is there once it was saved.
 #[derive(Drop)]
 pub struct Shelf<'a> {
     pub bytes: &'a [u8],
+    pub saved: Option<Vec<u8>>,
 }
 
 impl<'a> Store for Shelf<'a> {
-    ghost use Rattle.std.specs.Prelude.{◌≡◌, codes};
+    ghost use Rattle.std.specs.Prelude.{◌≡◌, codes, IfNone, IfSome};
 
     ghost holds = { λ shelf name bytes. (name ≡ codes "f") × (bytes ≡ shelf.bytes.now) };
 
     ghost lacks = { λ _ name. name ≡ codes "f" → ⊥ };
 
-    fn load(&mut self, alloc: Global, name: &str) -> Result<Vec<u8>, StoreErr> {
+    ghost bars = { λ _ name. name ≡ codes "o" → ⊥ };
+
+    ghost saves = { λ _ after name bytes. (name ≡ codes "o") × IfNone after.saved ⊥ × IfSome after.saved (λ o. o.items ≡ bytes) };
+
+    fn load(&self, alloc: Global, name: &str) -> Result<Vec<u8>, StoreErr> {
         if name == "f" {
             Ok(Vec::from_slice(alloc, self.bytes)?)
+        } else {
+            Err(StoreErr::Io)
+        }
+    }
+
+    fn save(&mut self, alloc: Global, name: &str, bytes: &[u8]) -> Result<(), StoreErr> {
+        if name == "o" {
+            self.saved = Some(Vec::from_slice(alloc, bytes)?);
+            Ok(())
         } else {
             Err(StoreErr::Io)
         }
@@ -55,7 +69,7 @@ impl<'a> Store for Shelf<'a> {
 #[derive(Clone, Copy)]
 pub struct Given<'a> {
     pub words: &'a str,
-    pub file: &'a str,
+    pub file: &'a [u8],
     pub list: &'a str,
 }
 
@@ -67,15 +81,16 @@ pub struct Wanted<'a> {
     pub status: u8,
 }
 
-/// What a run of the program printed, and its exit status.
+/// What a run of the program printed, its exit status, and what it has saved.
 #[derive(Drop)]
 pub struct Ran {
     pub output: Vec<u8>,
     pub errors: Vec<u8>,
     pub status: u8,
+    pub saved: Option<Vec<u8>>,
 }
 
-/// Runs the program on devices, and answers its exit status.
+/// Runs the program on devices, and answers its exit status, and what it has saved.
 pub fn run_on<H: Threads + Wait + Sync, R: InputDevice, W: OutputDevice, E: OutputDevice>(
     rt: &H,
     alloc: Global,
@@ -83,16 +98,17 @@ pub fn run_on<H: Threads + Wait + Sync, R: InputDevice, W: OutputDevice, E: Outp
     input: &mut R,
     output: &mut W,
     errors: &mut E,
-) -> Result<u8, Fail> {
+) -> Result<(u8, Option<Vec<u8>>), Fail> {
     let mut words = Vec::new(alloc);
     words.push("ioac")?;
     for word in given.words.split_whitespace() {
         words.push(word)?;
     }
     let mut store = Shelf {
-        bytes: given.file.as_bytes(),
+        bytes: given.file,
+        saved: None,
     };
-    Ok(command(
+    let status = command(
         rt,
         alloc,
         words.as_slice(),
@@ -100,7 +116,8 @@ pub fn run_on<H: Threads + Wait + Sync, R: InputDevice, W: OutputDevice, E: Outp
         input,
         output,
         errors,
-    ))
+    );
+    Ok((status, store.saved))
 }
 
 /// Runs the program.
@@ -112,11 +129,12 @@ pub fn run<H: Threads + Wait + Sync>(
     let mut input = Counted::new(given.list.as_bytes());
     let mut output = Counted::new(Vec::new(alloc));
     let mut errors = Counted::new(Vec::new(alloc));
-    let status = run_on(rt, alloc, given, &mut input, &mut output, &mut errors)?;
+    let (status, saved) = run_on(rt, alloc, given, &mut input, &mut output, &mut errors)?;
     Ok(Ran {
         output: output.into_inner(),
         errors: errors.into_inner(),
         status,
+        saved,
     })
 }
 
@@ -138,6 +156,7 @@ pub fn expect<H: Abort + Threads + Wait + Sync>(
         "output in {row}"
     );
     assert!(rt; ran.status == wanted.status, "status in {row}");
+    assert!(rt; ran.saved.is_none() || ran.status == 0, "saved in {row}");
     Ok(())
 }
 
@@ -156,34 +175,70 @@ pub enum First<'a> {
     Check,
     /// The words after the program's name, a file, and standard input.
     All,
+    /// A list, to be replayed on the object of this source.
+    Object(&'a str),
+    /// The words after the program's name, the digits of a file's bytes, and standard input.
+    Bytes,
     /// A part of this file, what stands in its place, and a list: to be replayed on the file that is changed so.
     Changed(&'a str),
 }
 
-// The file of a row that tells what is changed in one, and nothing for another row, or where the part is not in it.
-fn changed(alloc: Global, first: First<'_>, columns: &[String]) -> Result<String, AllocError> {
+// The file of a row that tells what is changed in one, and nothing where the part is not in it.
+fn changed(alloc: Global, file: &str, columns: &[String]) -> Result<Vec<u8>, Fail> {
     let mut changed = String::new(alloc);
-    if let First::Changed(file) = first {
-        if let Some((before, after)) = file.split_once(column(columns, 0)) {
-            let by = column(columns, 1);
-            write!(changed, "{before}{by}{after}")?;
-        }
+    if let Some((before, after)) = file.split_once(column(columns, 0)) {
+        let by = column(columns, 1);
+        write!(changed, "{before}{by}{after}")?;
     }
-    Ok(changed)
+    Ok(changed.into_bytes())
 }
 
-// What the first columns give, with this file where they change one, and how many they are.
-fn given_in<'a>(first: First<'a>, columns: &'a [String], changed: &'a str) -> (Given<'a>, usize) {
+/// The object that the program makes of a source, if it makes one.
+pub fn object<H: Threads + Wait + Sync>(
+    rt: &H,
+    alloc: Global,
+    source: &str,
+) -> Result<Vec<u8>, Fail> {
+    let given = Given {
+        words: "compile f o",
+        file: source.as_bytes(),
+        list: "",
+    };
+    match run(rt, alloc, &given)?.saved {
+        Some(bytes) => Ok(bytes),
+        None => Err("no object".into()),
+    }
+}
+
+// The bytes of a row's file.
+fn file_in<H: Threads + Wait + Sync>(
+    rt: &H,
+    alloc: Global,
+    first: First<'_>,
+    columns: &[String],
+) -> Result<Vec<u8>, Fail> {
+    let text = match first {
+        First::Object(source) => return object(rt, alloc, source),
+        First::Bytes => return Ok(hex::decode(alloc, column(columns, 1))?),
+        First::Changed(file) => return changed(alloc, file, columns),
+        First::List(file) | First::Words(file) => file,
+        First::File | First::Check => column(columns, 0),
+        First::Request | First::All => column(columns, 1),
+    };
+    Ok(Vec::from_slice(alloc, text.as_bytes())?)
+}
+
+// What the first columns give with a file, and how many they are.
+fn given_in<'a>(first: First<'_>, columns: &'a [String], file: &'a [u8]) -> (Given<'a>, usize) {
     let one = column(columns, 0);
-    let two = column(columns, 1);
-    let (words, file, list, count) = match first {
-        First::List(file) => (REPLAY, file, one, 1),
-        First::File => (REPLAY, one, two, 2),
-        First::Words(file) => (one, file, two, 2),
-        First::Request => (one, two, "", 2),
-        First::Check => ("check f", one, "", 1),
-        First::All => (one, two, column(columns, 2), 3),
-        First::Changed(_) => (REPLAY, changed, column(columns, 2), 3),
+    let (words, list, count) = match first {
+        First::List(_) | First::Object(_) => (REPLAY, one, 1),
+        First::File => (REPLAY, column(columns, 1), 2),
+        First::Words(_) => (one, column(columns, 1), 2),
+        First::Request => (one, "", 2),
+        First::Check => ("check f", "", 1),
+        First::All | First::Bytes => (one, column(columns, 2), 3),
+        First::Changed(_) => (REPLAY, column(columns, 2), 3),
     };
     (Given { words, file, list }, count)
 }
@@ -207,8 +262,8 @@ pub fn expect_rows<H: Abort + Threads + Wait + Sync>(
 ) -> Result<(), Fail> {
     for row in rows.lines().filter(|line| is_row(line)) {
         let columns = columns(alloc, row)?;
-        let changed = changed(alloc, first, &columns)?;
-        let (given, count) = given_in(first, &columns, changed.as_str());
+        let file = file_in(rt, alloc, first, &columns)?;
+        let (given, count) = given_in(first, &columns, &file);
         let wanted = wanted_in(&columns, count)?;
         expect(rt, alloc, row, &given, &wanted)?;
     }

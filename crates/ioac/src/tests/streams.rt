@@ -111,12 +111,13 @@ fn replayed<H: Threads + Wait + Sync>(
         left: writes,
     });
     let mut errors = Counted::new(Vec::new(alloc));
-    let status = run_on(rt, alloc, given, &mut input, &mut output, &mut errors)?;
+    let (status, saved) = run_on(rt, alloc, given, &mut input, &mut output, &mut errors)?;
     let failures = input.failures().saturating_add(output.failures());
     let ran = Ran {
         output: output.into_inner().held,
         errors: errors.into_inner(),
         status,
+        saved,
     };
     Ok((ran, failures))
 }
@@ -124,7 +125,11 @@ fn replayed<H: Threads + Wait + Sync>(
 #[test]
 fn fails_with_its_devices(rt: HostRuntime) -> Result<(), Fail> {
     for (words, file, list, printed, status) in GIVEN {
-        let given = Given { words, file, list };
+        let given = Given {
+            words,
+            file: file.as_bytes(),
+            list,
+        };
         expect_failures(&rt, rt.alloc(), &given, printed.as_bytes(), status)?;
     }
     Ok(())
@@ -170,8 +175,9 @@ const SMALL: &str = "automaton A signature input a transitions input a";
 
 /// The words, a file, standard input, and what stands in the end in rooms of these lengths for what is printed and for what is told of
 /// errors. They were zeros.
-const ROOMS: [(&str, &str, &str, &[u8], &[u8]); 10] = [
+const ROOMS: [(&str, &str, &str, &[u8], &[u8]); 11] = [
     ("check f", SMALL, "", b"ok", b"L8\n\0"),
+    ("compile f o", COUNTER, "", b"ok", b"L8\n\0"),
     ("explain E1", SMALL, "", b"E1", b"L8\n\0"),
     ("library", SMALL, "", b"type", b"L8\n\0"),
     ("--version", SMALL, "", b"io", b"L8\n\0"),
@@ -193,7 +199,7 @@ fn fills<H: Threads + Wait + Sync>(
 ) -> Result<bool, Fail> {
     let mut output = vec![in alloc; 0u8; printed.len()]?;
     let mut errors = vec![in alloc; 0u8; told.len()]?;
-    let status = run_on(
+    let (status, _saved) = run_on(
         rt,
         alloc,
         given,
@@ -208,7 +214,11 @@ fn fills<H: Threads + Wait + Sync>(
 #[test]
 fn full_devices_fail(rt: HostRuntime) -> Result<(), Fail> {
     for (words, file, list, printed, told) in ROOMS {
-        let given = Given { words, file, list };
+        let given = Given {
+            words,
+            file: file.as_bytes(),
+            list,
+        };
         assert!(rt; fills(&rt, rt.alloc(), &given, printed, told)?, "{words}");
     }
     Ok(())

@@ -38,3 +38,13 @@ returns-in_err-answer-in-Monitor-clause-refused g c =
     let said = c.in_err-answer-in-Monitor.ensures in
     err_so c.from_residual-in_err-answer-in-Monitor.result e.0 c.in_err-answer-in-Monitor.field-0.0 _ e.1 e.2
     (rw c.in-Monitor.is (inr (text, held, said.refused, said.unwritten)))
+
+pub returns-in_err-compile_file-in-Compile-clause-refused : goal.returns-in_err-compile_file-in-Compile-clause-refused
+returns-in_err-compile_file-in-Compile-clause-refused g c =
+    let e = err_from_is_err_and c.from_residual-in_err-compile_file-in-Compile.result c.from_residual-in_err-compile_file-in-Compile.ensures.1 in
+    err_so c.from_residual-in_err-compile_file-in-Compile.result e.0 c.in_err-compile_file-in-Compile.field-0.0 _ e.1 e.2
+    (rw c.in-Compile.is c.in_err-compile_file-in-Compile.ensures.refused)
+
+pub returns-in_ok-compile_file-in-Compile-clause-served : goal.returns-in_ok-compile_file-in-Compile-clause-served
+returns-in_ok-compile_file-in-Compile-clause-served g c =
+    rw c.in-Compile.is (c.in_ok-compile_file-in-Compile.ensures.makes, c.silent-in-Compile.ensures.status, c.silent-in-Compile.ensures.reports)

@@ -5,7 +5,9 @@ use Rattle.ioa_tree.specs.Hosts.{first_broken_host}
 use Rattle.ioa_system.specs.Logs.{actions_of, logged}
 use Rattle.ioa_log.specs.Breaking.{broken_of}
 use Rattle.ioac.specs.Logs.{found_text}
-use Rattle.ioac.proofs.Logged.{found_broken, found_unbroken, run_told}
+use Rattle.ioac.specs.Subjects.{of_hosts}
+use Rattle.ioac.proofs.Logged.{found_broken, found_unbroken}
+use Rattle.ioac.proofs.Subjects.{host_reaches, run_told}
 use Rattle.ioac.proofs.Refused.{err_as}
 use Rattle.ioac.proofs.invariant_replay.inspect.Goals as goal
 
@@ -48,5 +50,5 @@ returns-clause-text c = λ h s.
     let none : None ≡ first_broken_host h (actions_of log) = ap (option_map broken_of) (sym c.in-None.is) ∙ c.in_ok-inspection.ensures.hosts_first h s in
     let sound = c.in_ok-inspection.ensures.hosts h s in
     c.in_ok-trace-in-None.ensures
-    ∙ run_told h c.types.result.now (actions_of log) c.in_ok-inspection.inspection.run (c.types.ensures.value ∙ s.types) sound.1
+    ∙ run_told (of_hosts h) c.types.result.now (actions_of log) c.in_ok-inspection.inspection.run (c.types.ensures.value ∙ s.types) (host_reaches h _ _ sound.1)
     ∙ ap (found_text h log) (found_unbroken h log c.in_ok-inspection.inspection.run.end none (sym sound.1.reached.ending))

@@ -2,7 +2,7 @@ use Rattle.std.proofs.Common.{ap, sym, ◌∙◌, Some, codes, refl}
 use Rattle.clap.specs.Words.{found_of}
 use Rattle.clap.proofs.WalkLemmas.{first_value-rows}
 use Rattle.ioac.specs.declared.request.Request.{Request}
-use Rattle.ioac.proofs.Asked.{apart, asks, lent, names, uncoded, unfiled, unlogged, unset}
+use Rattle.ioac.proofs.Asked.{apart, asks, lent, names, uncoded, unfiled, unlogged, unplaced, unset}
 use Rattle.ioac.proofs.request.read_request.Goals as goal
 
 pub returns-in_err-file-in-replay-clause-none : goal.returns-in_err-file-in-replay-clause-none
@@ -104,3 +104,25 @@ returns-in-library-clause-some c =
     let found = c.in_ok-name.found.now in
     let here = lent c.args.matches.now found c.in_ok-name.name.now (codes "library") c.in_ok-name.ensures.name c.in_ok-name.ensures.rows c.in-library.is in
     asks c.args.matches.now found (codes "library") Request.Library here refl
+
+pub returns-in_err-file-in-compile-clause-none : goal.returns-in_err-file-in-compile-clause-none
+returns-in_err-file-in-compile-clause-none c =
+    let here = lent c.args.matches.now c.in_ok-name.found.now c.in_ok-name.name.now (codes "compile") c.in_ok-name.ensures.name c.in_ok-name.ensures.rows c.in-compile.is in
+    unfiled c.args.matches.now c.in_ok-name.found.now (codes "compile") _ here (apart (codes "compile") (codes "explain") refl refl) (apart (codes "compile") (codes "library") refl refl)
+    c.in_err-file-in-compile.ensures c.from_residual-in_err-file-in-compile.ensures
+
+pub returns-in_err-out-in-compile-clause-none : goal.returns-in_err-out-in-compile-clause-none
+returns-in_err-out-in-compile-clause-none c =
+    let here = lent c.args.matches.now c.in_ok-name.found.now c.in_ok-name.name.now (codes "compile") c.in_ok-name.ensures.name c.in_ok-name.ensures.rows c.in-compile.is in
+    unplaced c.args.matches.now c.in_ok-name.found.now _ here c.in_err-out-in-compile.ensures c.from_residual-in_err-out-in-compile.ensures
+
+pub returns-in_ok-out-in-compile-clause-some : goal.returns-in_ok-out-in-compile-clause-some
+returns-in_ok-out-in-compile-clause-some c =
+    let found = c.in_ok-name.found.now in
+    let here = lent c.args.matches.now found c.in_ok-name.name.now (codes "compile") c.in_ok-name.ensures.name c.in_ok-name.ensures.rows c.in-compile.is in
+    let composition = c.get_str-picked in
+    asks c.args.matches.now found (codes "compile") (Request.Compile c.in_ok-file-in-compile.file c.in_ok-out-in-compile.out composition.result) here (
+      refl,
+      names found c.in_ok-file-in-compile.file composition.result c.in_ok-file-in-compile.ensures composition.ensures,
+      sym (first_value-rows (found_of found) (codes "OUT")) ∙ sym c.in_ok-out-in-compile.ensures,
+    )

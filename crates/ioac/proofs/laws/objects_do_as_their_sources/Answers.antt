@@ -1,0 +1,11 @@
+use Rattle.ioac.proofs.Carried.{logs_as_source, monitors_as_source, replays_as_source}
+use Rattle.ioac.proofs.laws.objects_do_as_their_sources.Goals as goal
+
+pub returns-clause-lists : goal.returns-clause-lists
+returns-clause-lists c = replays_as_source
+
+pub returns-clause-logs : goal.returns-clause-logs
+returns-clause-logs c = logs_as_source
+
+pub returns-clause-monitors : goal.returns-clause-monitors
+returns-clause-monitors c = monitors_as_source

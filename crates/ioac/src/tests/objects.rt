@@ -1,0 +1,192 @@
+//! Objects: what is told of their bytes, and what is read of them and written.
+
+use crate::laws::objects_do_as_their_sources;
+use crate::tests::reached::program;
+use crate::tests::shelf::{COUNTER, object};
+use ioa_object::{ObjErr, objects_are_their_programs, read_object, write_object};
+use std::alloc::Global;
+use std::process::Abort;
+use std::test::Fail;
+
+/// The words after the program's name, a file's bytes, standard input, what is printed, what is told of errors, and the exit status.
+pub const ROWS: &str = r#"
+-- the smallest object: a composition X, whose component A has the output go, with a precondition that is true
+check f | 7f494f41010000015801000141000001000102676f000001000000010100010000000000000000 |  | ok^ |  | 0
+replay f | 7f494f41010000015801000141000001000102676f000001000000010100010000000000000000 | go^go | go^go^end: done after 2^ |  | 0
+replay f --comp X | 7f494f41010000015801000141000001000102676f000001000000010100010000000000000000 | go^stop | go^end: not an action at 1^ |  | 4
+replay f --log | 7f494f41010000015801000141000001000102676f000001000000010100010000000000000000 | {"act":"go","who":0}^{"end":"done after 1"} | go^end: done after 1^ |  | 0
+replay f --log | 7f494f41010000015801000141000001000102676f000001000000010100010000000000000000 | {"act":"go","who":1}^{"end":"done after 1"} |  | L3 line 1^ | 4
+monitor f | 7f494f41010000015801000141000001000102676f000001000000010100010000000000000000 | {"act":"go","who":0}^{"act":"stop","who":5}^{"end":"done after 2"} | monitor: ok^ |  | 0
+run f --alone --turns 2 | 7f494f41010000015801000141000001000102676f000001000000010100010000000000000000 |  | go^go^end: done after 2^ |  | 0
+run f --alone --turns 1 --reports --log | 7f494f41010000015801000141000001000102676f000001000000010100010000000000000000 |  | {"act":"go","who":0}^{"end":"done after 1"}^ | A: 1 committed, 0 idle, 0 stale^environment: 0 committed, 1 idle, 0 stale^ | 0
+-- it is of another composition, and no source
+run f --alone --comp A | 7f494f41010000015801000141000001000102676f000001000000010100010000000000000000 |  |  | E17^ | 1
+replay f --comp A | 7f494f41010000015801000141000001000102676f000001000000010100010000000000000000 | go |  | E17^ | 1
+monitor f --comp A | 7f494f41010000015801000141000001000102676f000001000000010100010000000000000000 |  |  | E17^ | 1
+compile f o | 7f494f41010000015801000141000001000102676f000001000000010100010000000000000000 |  |  | object^ | 2
+compile f o --comp A | 7f494f41010000015801000141000001000102676f000001000000010100010000000000000000 |  |  | object^ | 2
+replay f --log --invariants | 7f494f41010000015801000141000001000102676f000001000000010100010000000000000000 | {"end":"done after 0"} |  | object^ | 2
+replay f --log --invariants | 7f | {"end":"done after 0"} |  | object^ | 2
+-- cut, and with one byte more
+check f | 7f |  |  | O1^ | 1
+check f | 7f49 |  |  | O1^ | 1
+check f | 7f494f |  |  | O1^ | 1
+check f | 7f494f41 |  |  | O3^ | 1
+check f | 7f494f4101 |  |  | O3^ | 1
+check f | 7f494f410100 |  |  | O3^ | 1
+check f | 7f494f41010000015801000141000001000102676f0000010000000101000100000000000000 |  |  | O3^ | 1
+replay f | 7f494f41010000015801000141000001000102676f0000010000000101000100000000000000 | go |  | O3^ | 1
+replay f | 7f494f41010000015801000141000001000102676f00000100000001010001000000000000000000 | go |  | O4^ | 1
+monitor f | 7f494f41010000015801000141000001000102676f00000100000001010001000000000000000000 |  |  | O4^ | 1
+run f --alone --inputs q | 7f494f41010000015801000141000001000102676f0000010000000101000100000000000000 |  |  | O3^ | 1
+-- one byte is another
+check f | 7f494f61010000015801000141000001000102676f000001000000010100010000000000000000 |  |  | O1^ | 1
+check f | 7f494f41020000015801000141000001000102676f000001000000010100010000000000000000 |  |  | O2^ | 1
+check f | 7f494f41000000015801000141000001000102676f000001000000010100010000000000000000 |  |  | O2^ | 1
+-- The composition's name: its length, and its letter
+check f | 7f494f41010000005801000141000001000102676f000001000000010100010000000000000000 |  |  | O5 byte 7^ | 1
+check f | 7f494f41010000415801000141000001000102676f000001000000010100010000000000000000 |  |  | O5 byte 7^ | 1
+check f | 7f494f41010000013101000141000001000102676f000001000000010100010000000000000000 |  |  | O5 byte 8^ | 1
+-- How many components there are, and how many entries
+check f | 7f494f41010000015800000141000001000102676f000001000000010100010000000000000000 |  |  | O5 byte 9^ | 1
+check f | 7f494f41010000015821000141000001000102676f000001000000010100010000000000000000 |  |  | O5 byte 9^ | 1
+check f | 7f494f41010000015801000141000000000102676f000001000000010100010000000000000000 |  |  | O5 byte 15^ | 1
+check f | 7f494f41010000015801000141000043000102676f000001000000010100010000000000000000 |  |  | O5 byte 15^ | 1
+check f | 7f494f41010000015801000141000001000202676f000001000000010100010000000000000000 |  | ok^ |  | 0
+check f | 7f494f41010000015801000141000001000302676f000001000000010100010000000000000000 |  |  | O5 byte 17^ | 1
+check f | 7f494f41010000015801000141000001000102676f000001000200010100010000000000000000 |  |  | O5 byte 25^ | 1
+check f | 7f494f41010000015801000141000001000102676f000001000000000100010000000000000000 |  | ok^ |  | 0
+check f | 7f494f41010000015801000141000001000102676f000001000000020100010000000000000000 |  |  | O5 byte 27^ | 1
+-- The precondition: how many instructions, the byte of one, its operand
+check f | 7f494f41010000015801000141000001000102676f000001000000010000010000000000000000 |  |  | O6 part 0 at 0^ | 1
+check f | 7f494f41010000015801000141000001000102676f000001000000010100020000000000000000 |  |  | O6 part 0 at 0^ | 1
+check f | 7f494f41010000015801000141000001000102676f000001000000010100090000000000000000 |  |  | O6 part 0 at 0^ | 1
+check f | 7f494f41010000015801000141000001000102676f000001000000010100010100000000000000 |  |  | O6 part 0 at 0^ | 1
+-- Of types: a tag, how many names, fields or items, names twice, a type that is none, a type that is too wide
+check f | 7f494f41010100040154 |  |  | O5 byte 7^ | 1
+check f | 7f494f410101000101540000 |  |  | O5 byte 10^ | 1
+check f | 7f494f410101000201540000 |  |  | O5 byte 10^ | 1
+check f | 7f494f410101000201541100 |  |  | O5 byte 10^ | 1
+check f | 7f494f4101010003015400000100 |  |  | O5 byte 10^ | 1
+check f | 7f494f4101010003015401010100 |  |  | O5 byte 10^ | 1
+check f | 7f494f4101010003015401000200 |  |  | O5 byte 12^ | 1
+check f | 7f494f41010100020154010001610200 |  |  | O5 byte 14^ | 1
+check f | 7f494f4101010001015401000154 |  |  | O5 byte 13^ | 1
+check f | 7f494f410101000103496e7401000161 |  |  | O5 byte 9^ | 1
+check f | 7f494f410102000101540100016101015501000161 |  |  | O5 byte 20^ | 1
+check f | 7f494f4101010002015402000161010001610100 |  |  | O5 byte 17^ | 1
+check f | 7f494f410102000301540001010003015510000200 |  |  | O5 byte 14^ | 1
+check f | 7f494f41010104 |  |  | O5 byte 5^ | 1
+-- The composition is called like a type, or like the name of an enumeration
+check f | 7f494f4101000004426f6f6c |  |  | O5 byte 8^ | 1
+check f | 7f494f41010100010154010001610161 |  |  | O5 byte 15^ | 1
+-- A reserved word
+check f | 7f494f41010000026966 |  |  | O5 byte 8^ | 1
+-- Values of a type that is none, a name that is none, and a sequence over its capacity
+check f | 7f494f4101000001580100014101000200 |  |  | O5 byte 15^ | 1
+check f | 7f494f41010100010154010001610158010001410100020001 |  |  | O5 byte 24^ | 1
+check f | 7f494f4101010003015401000100015801000141010002000200 |  |  | O5 byte 24^ | 1
+check f | 7f494f410100000158010001414200 |  |  | O5 byte 13^ | 1
+-- Entries: two of one name, nine positions, a position's tag; a hidden name that is no output's, and one that stands twice
+check f | 7f494f4101000001580100014100000200000161000000000000000161 |  |  | O5 byte 28^ | 1
+check f | 7f494f41010000015801000141000001000001610900 |  |  | O5 byte 20^ | 1
+check f | 7f494f4101000001580100014100000100000161010002 |  |  | O5 byte 22^ | 1
+check f | 7f494f410100000158010001410000010000016100000000000001000161 |  |  | O5 byte 29^ | 1
+-- Two components of one name; one action that is an output of two
+check f | 7f494f41010000015802000141000001000001610000000000000141 |  |  | O5 byte 27^ | 1
+check f | 7f494f410100000158020001410000010001016100000100000001010001000000000000014200000100010161000001000000010100010000000000000000 |  |  | O7^ | 1
+-- The same with an input in place of the second one, which may take it; and a hidden name twice
+check f | 7f494f41010000015802000141000001000101610000010000000101000100000000000001420000010000016100000000000001000161 |  | ok^ |  | 0
+check f | 7f494f410100000158010001410000010001016100000100000001010001000000000000020001610161 |  |  | O5 byte 41^ | 1
+-- Two ways come to place 3, one with a Bool on the stack and one without; in an effect, part 1 of an input after another
+check f | 7f494f410100000158010001410000010001016100000200000001010005000000000000000400010000060300010100010000 |  |  | O6 part 0 at 3^ | 1
+check f | 7f494f410100000158010001410000020000016100000000000000016200000000010007 |  |  | O6 part 1 at 0^ | 1
+"#;
+
+/// An object of a composition `X`, whose component `A` has the output `go`, with a precondition that is true.
+const SMALLEST: [u8; 39] = [
+    0x7F, 0x49, 0x4F, 0x41, 0x01, 0, 0, 1, 0x58, 1, 0, 1, 0x41, 0, 0, 1, 0, 1, 2, 0x67, 0x6F, 0, 0,
+    1, 0, 0, 0, 1, 1, 0, 1, 0, 0, 0, 0, 0, 0, 0, 0,
+];
+
+/// A source with each form of type, of position and of value, and a component that crashes.
+const STORE: &str = "type Hue = enum { red, green, blue } type S = seq 3 of Int \
+    type P = tuple { hue: Hue, list: S, on: Bool } type Ps = seq 2 of P \
+    automaton Store(n: Int, h: Hue) signature output put(const n, p: P); input take(p: P, const h); internal drop(k: Hue) \
+    states ps: Ps; old: P; h0: Hue := h; m: Int := -n \
+    transitions output put pre len(ps) > 0 /\\ p = head(ps) propose p := head(ps) \
+    eff ps := tail(ps); if p.on then m := m * 2 else m := m mod 3 fi \
+    input take eff if len(ps) < 2 then ps := append(ps, P(h0, append(empty(S), m), ~p.on)) fi; old := p \
+    internal drop pre member(old, ps) \\/ k = green propose k := red eff ps := without(ps, old) \
+    automaton Other signature input put(const 4, p: P); output take(p: P, const red) states x: Bool; stable y: Int \
+    transitions input put eff x := ~x; y := y + 1 \
+    output take pre x => at(p.list, 0) <= 4 propose p := P(blue, empty(S), true) \
+    composition Both components A: Store(4, red); B: Other crash down recover up hidden take";
+
+/// Whether the bytes are the one object of the program that is read of them, if one is.
+fn is_object_read(alloc: Global, bytes: &[u8]) -> Result<Option<bool>, Fail> {
+    match read_object(alloc, bytes) {
+        Ok(program) => {
+            let again = write_object(alloc, &program)?;
+            Ok(Some(again.as_slice() == bytes))
+        }
+        Err(_) => Ok(None),
+    }
+}
+
+/// Each other byte in each place of the smallest object is refused, or gives another object.
+#[test]
+fn each_byte_is_changed(rt: HostRuntime) -> Result<(), Fail> {
+    let alloc = rt.alloc();
+    objects_are_their_programs();
+    objects_do_as_their_sources();
+    let mut bytes = SMALLEST;
+    let mut taken: u32 = 0;
+    for place in 0..SMALLEST.len() {
+        for byte in 0..=255 {
+            bytes[place] = byte;
+            match is_object_read(alloc, &bytes)? {
+                Some(same) => {
+                    assert!(rt; same, "{place} {byte}");
+                    taken = taken.saturating_add(1);
+                }
+                None => assert!(rt; byte != SMALLEST[place]),
+            }
+        }
+        bytes[place] = SMALLEST[place];
+    }
+    assert!(rt; 39 < taken);
+    Ok(())
+}
+
+/// Whether the bytes are an object, and cut anywhere are told to be no object or a cut one.
+fn is_whole(alloc: Global, bytes: &[u8]) -> Result<bool, Fail> {
+    for length in 0..bytes.len() {
+        let wanted = if length < 4 {
+            ObjErr::Magic
+        } else {
+            ObjErr::Truncated
+        };
+        match read_object(alloc, &bytes[..length]) {
+            Err(error) if error == wanted => {}
+            _ => return Ok(false),
+        }
+    }
+    Ok(is_object_read(alloc, bytes)? == Some(true))
+}
+
+#[test]
+fn objects_are_whole(rt: HostRuntime) -> Result<(), Fail> {
+    let alloc = rt.alloc();
+    assert!(rt; is_whole(alloc, &SMALLEST)?);
+    for source in [COUNTER, STORE] {
+        let bytes = object(&rt, alloc, source)?;
+        assert!(rt; is_whole(alloc, &bytes)?);
+        let program = program(alloc, source, None)?;
+        match read_object(alloc, &bytes) {
+            Ok(read) => assert!(rt; read.same(&program)),
+            Err(error) => assert!(rt; false, "{error}"),
+        }
+    }
+    Ok(())
+}

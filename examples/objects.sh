@@ -1,0 +1,85 @@
+#!/bin/sh
+# Compiles the examples, and does with their objects what is done with their sources: examples/objects.sh PROGRAM
+#
+# Each composition of a source that the program accepts is compiled. Where neither the source nor anything else lies, its object has to be
+# verified, to run as the source does by two seeds, and to replay each list and log of the folder as the source does, with the same exit status. An object is not compiled again, and is
+# no other composition's. Of what is refused no file is left, and one that was there stays as it was.
+set -u
+program=$1
+case $program in /*) ;; *) program=$PWD/$program ;; esac
+top=$(cd "$(dirname "$0")" && pwd)
+work=$(mktemp -d) || exit 1
+trap 'rm -rf "$work"' EXIT
+mkdir "$work/alone"
+objects=0
+replays=0
+
+fail() {
+  echo "objects: $1: $2"
+  exit 1
+}
+
+# both WORDS..: the words on the source and on the object, each before the options; what they print and their exit status has to be one
+both() {
+  command=$1
+  list=$2
+  shift 2
+  "$program" "$command" "$source" --comp "$composition" "$@" < "$list" > "$work/printed" 2>&1
+  status=$?
+  (cd "$work/alone" && "$program" "$command" object "$@" < "$list" > "$work/answer" 2>&1)
+  [ $? -eq "$status" ] || fail "$source" "$command $* of $composition has another exit status by the object, for $list"
+  cmp -s "$work/printed" "$work/answer" || fail "$source" "$command $* of $composition is another by the object, for $list"
+  replays=$((replays + 1))
+}
+
+# refused STATUS TEXT WORDS..: the words have this exit status and tell this, and leave the folder as it was
+refused() {
+  status=$1
+  text=$2
+  shift 2
+  ls "$work/alone" > "$work/before"
+  (cd "$work/alone" && "$program" "$@" > "$work/printed" 2> "$work/errors")
+  [ $? -eq "$status" ] || fail "$*" "the exit status is not $status"
+  [ "$(cat "$work/errors")" = "$text" ] || fail "$*" "it tells $(cat "$work/errors") in place of $text"
+  [ -s "$work/printed" ] && fail "$*" "it prints what is refused"
+  ls "$work/alone" | cmp -s "$work/before" - || fail "$*" "it leaves a file"
+}
+
+for source in "$top"/*/*.ioa; do
+  for composition in $(sed -n 's/^ *composition \([A-Za-z0-9_]*\).*/\1/p' "$source"); do
+    "$program" compile "$source" "$work/alone/object" --comp "$composition" > "$work/printed" 2> "$work/errors" || continue
+    [ "$(cat "$work/printed")" = ok ] && [ ! -s "$work/errors" ] || fail "$source" "$composition is not compiled with ok"
+    [ "$("$program" check "$work/alone/object" 2>&1)" = ok ] || fail "$source" "the object of $composition is not verified"
+    [ "$(ls "$work/alone")" = object ] || fail "$source" "$composition leaves other files than its object"
+    objects=$((objects + 1))
+    for digit in 0 1; do
+      both run /dev/null --alone --turns 100 --log --reports --seed "$(printf '%064d' "$digit")"
+    done
+    for list in "$(dirname "$source")"/*.list; do
+      [ -f "$list" ] || continue
+      both replay "$list"
+      both replay "$list" --log
+      both monitor "$list"
+    done
+  done
+done
+[ "$objects" -gt 0 ] && [ "$replays" -gt 0 ] || fail "examples" "there are none"
+
+cd "$work/alone" || exit 1
+"$program" compile "$top/counter/counter.ioa" object > "$work/printed" 2>&1 || fail "counter" "it is not compiled"
+cp object "$work/kept"
+refused 2 object compile object other
+refused 2 object compile object object
+refused 2 object replay object --log --invariants
+refused 1 E17 replay object --comp Two
+refused 1 E17 compile "$top/counter/counter.ioa" object --comp Nine
+refused 5 io compile "$top/counter/none.ioa" object
+refused 5 io compile "$top/counter/counter.ioa" none/object
+refused 5 io compile "$top/counter/counter.ioa" ..
+: > object.part
+refused 5 io compile "$top/counter/counter.ioa" object
+rm object.part
+cmp -s object "$work/kept" || fail "counter" "a refusal changes the object that was there"
+head -c 30 object > cut
+refused 1 O3 check cut
+echo "objects: $objects compiled, $replays answers compared, 0 differ"
