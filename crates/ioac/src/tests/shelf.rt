@@ -204,7 +204,14 @@ pub fn object<H: Threads + Wait + Sync>(
         file: source.as_bytes(),
         list: "",
     };
-    match run(rt, alloc, &given)?.saved {
+    let ran = run(rt, alloc, &given)?;
+    let Ran {
+        output: _,
+        errors: _,
+        status: _,
+        saved,
+    } = ran;
+    match saved {
         Some(bytes) => Ok(bytes),
         None => Err("no object".into()),
     }
