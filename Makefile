@@ -1,7 +1,7 @@
 # Kettlesalmon: the compiler and runtime `ioac`.
 
 PREFIX ?= /usr/local
-PROGRAM := crates/ioac/out/ioac
+PROGRAM := crates/ioac_program/out/ioac_program
 EXAMPLE := examples/counter
 
 .PHONY: all demo test planted examples bench install clean
@@ -10,7 +10,7 @@ EXAMPLE := examples/counter
 all: $(PROGRAM)
 
 $(PROGRAM): crates.txt $(wildcard crates/*/src/*.rt crates/*/src/*/*.rt)
-	cd crates/ioac && rt run -- replay $(CURDIR)/$(EXAMPLE)/counter.ioa < stdin
+	cd crates/ioac_program && rt run -- replay $(CURDIR)/$(EXAMPLE)/counter.ioa < stdin
 
 # Shows the main job on an example. Until `make` has run, the program is tried without its proofs.
 demo:

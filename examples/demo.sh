@@ -48,7 +48,7 @@ tell &
 teller=$!
 trap 'kill "$teller" 2> /dev/null; rm -rf "$work"' EXIT
 trap 'exit 130' HUP INT TERM
-(cd "$top/crates/ioac" && TMPDIR=$work rt try -- replay "$example/counter.ioa" < "$example/counts.list" > "$work/printed" 2> "$work/told")
+(cd "$top/crates/ioac_program" && TMPDIR=$work rt try -- replay "$example/counter.ioa" < "$example/counts.list" > "$work/printed" 2> "$work/told")
 status=$?
 kill "$teller"
 echo "  $(elapsed) s: done" >&2

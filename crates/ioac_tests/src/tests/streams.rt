@@ -1,6 +1,6 @@
-use crate::status::Status;
 use crate::tests::shelf::{COUNTER, Given, REPLAY, Ran, run_on};
 use ioa_log::{Counted, Device};
+use ioac::Status;
 use std::alloc::Global;
 use std::io;
 use std::io::{Read, Write};

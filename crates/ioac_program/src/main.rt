@@ -1,46 +1,12 @@
 //! `ioac`: checks, composes, compiles, runs, replays and monitors I/O automata.
 #![tactic(auto)]
 
-mod check;
-mod code;
-mod command;
-mod compile;
-mod explain;
-mod explanation;
-mod explanations;
-mod failure;
 mod files;
-mod invariant_replay;
-mod laws;
-mod library;
-mod log_replay;
-mod monitor;
-mod numerals;
-mod object_failure;
-mod object_file;
-mod refusal;
-mod replay;
-mod reports;
-mod request;
-mod run;
-mod run_usage;
-mod script;
-mod seed;
-mod served;
-mod settings;
-mod status;
-mod store;
-mod telling;
-#[cfg(test)]
-mod tests;
-mod trace;
-mod usage;
-mod word_sources;
-mod words_file;
 
 use crate::files::Files;
-use crate::telling::told_unread;
 use ioa_log::Counted;
+use ioac::command::command;
+use ioac::told_unread;
 use std::process::ExitCode;
 use std::{env, io};
 
@@ -53,7 +19,7 @@ fn main(rt: HostRuntime) -> ExitCode {
     let mut store = Files::new(&rt);
     let mut input = Counted::new(rt.stdin());
     let mut output = Counted::new(rt.stdout());
-    let status = command::command(
+    let status = command(
         &rt,
         rt.alloc(),
         words.as_slice(),

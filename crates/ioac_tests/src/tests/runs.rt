@@ -1,10 +1,10 @@
 //! Runs: what they print, by their words and their scripts, on one thread and, where that is the same in every schedule, on threads.
 
-use crate::command::command;
-use crate::store::{Store, StoreErr};
 use crate::tests::shelf::{COUNTER, Ran};
 use crate::tests::tables::{column, columns, is_row};
 use ioa_log::Counted;
+use ioac::command::command;
+use ioac::{Store, StoreErr};
 use std::alloc::Global;
 use std::process::Abort;
 use std::sync::Wait;

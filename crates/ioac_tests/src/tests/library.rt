@@ -1,10 +1,10 @@
 //! The library of protocols: its text, lists of actions on its compositions, and runs by chance that its specifications monitor.
 
-use crate::status::Status;
 use crate::tests::reached::{program, told_state};
 use crate::tests::shelf::{First, Given, Wanted, expect, expect_rows, run};
 use ioa_system::run_list;
 use ioa_value::read_list;
+use ioac::Status;
 use std::alloc::Global;
 use std::sync::Wait;
 use std::test::Fail;

@@ -1,11 +1,11 @@
 ghost use Rattle.std.specs.Prelude.{◌≡◌, IfOk};
 ghost use Rattle.ioa_value.specs.Table as tables;
 
-use crate::command::command;
-use crate::store::{Store, StoreErr};
 use crate::tests::tables::{column, columns, is_row};
 use ioa_log::{Counted, InputDevice, OutputDevice};
 use ioa_value::{Declarations, OutOfMemory, Types};
+use ioac::command::command;
+use ioac::{Store, StoreErr};
 use std::alloc::{AllocError, Global};
 use std::process::Abort;
 use std::sync::Wait;

@@ -1,9 +1,8 @@
-use crate::code::Code;
-use crate::explanation::Example;
-use crate::explanations::explanation;
-use crate::status::Status;
 use crate::tests::shelf::{Given, REPLAY, Wanted, expect, run};
 use crate::tests::tables::text;
+use ioac::explanation::Example;
+use ioac::explanations::explanation;
+use ioac::{Code, Status};
 use std::alloc::Global;
 use std::sync::Wait;
 use std::test::Fail;

@@ -1,9 +1,9 @@
 //! Objects: what is told of their bytes, and what is read of them and written.
 
-use crate::laws::objects_do_as_their_sources;
 use crate::tests::reached::program;
 use crate::tests::shelf::{COUNTER, object};
 use ioa_object::{ObjErr, objects_are_their_programs, read_object, write_object};
+use ioac::objects_do_as_their_sources;
 use std::alloc::Global;
 use std::process::Abort;
 use std::test::Fail;

@@ -1,7 +1,9 @@
-ghost use Rattle.std.specs.Prelude.{◌≡◌, IfOk, IfSome, take};
+ghost use Rattle.std.specs.Prelude.{◌≡◌, ◌++◌, false, IfOk, IfSome, OnOk, take};
+ghost use Rattle.std.specs.Io.{StartsWith};
+ghost use Rattle.ioac.specs.Headline.{begins_object};
 
-use crate::store::{Store, StoreErr};
 use ioa_value::LIMITS;
+use ioac::{Store, StoreErr, is_object};
 use std::alloc::Global;
 use std::fs::{File, OpenFile};
 use std::io::{ErrorKind, Read, Write};
@@ -37,7 +39,7 @@ impl<'a, R: rt::Files> Store for Files<'a, R> {
     fn load(&self, alloc: Global, name: &str) -> Result<Vec<u8>, StoreErr> {
         match fs::open(self.rt, name) {
             // One byte past the limit tells that a source is too long.
-            Ok(file) => read_first(alloc, file, LIMITS.text as u64 + 1),
+            Ok(file) => read_file(alloc, file, LIMITS.text as u64 + 1),
             Err(error) => Err(store_err(&error)),
         }
     }
@@ -75,17 +77,31 @@ fn fill<F: Write + OpenFile + Drop>(mut file: F, bytes: &[u8]) -> io::Result<()>
     file.sync_all()
 }
 
-/// The bytes that a reader gives, so many at most.
+/// The bytes of a file: so many of a source at most, and all of an object.
 ///
 /// # Errors
 /// `Io` where a read fails, if it was not just interrupted; or want of memory.
 #[tactic(auto, using(crate::proofs::Sources::first_of))]
-fn read_first<R: Read + Drop>(alloc: Global, reader: R, most: u64) -> Result<Vec<u8>, StoreErr>
-    ensures { IfOk result (λ bytes. IfSome (R.remaining reader) (λ all. bytes.items ≡ take most all)) }
+fn read_file<R: Read + Drop>(alloc: Global, reader: R, most: u64) -> Result<Vec<u8>, StoreErr>
+    ensures { IfOk result (λ bytes. begins_object bytes.items ≡ false → IfSome (R.remaining reader) (λ all. bytes.items ≡ take most all)) }
 {
     let mut bytes = Vec::new(alloc);
-    match reader.take(most).read_to_end(&mut bytes) {
-        Ok(_) => Ok(bytes),
+    let mut first = reader.take(most);
+    read_on(&mut first, &mut bytes)?;
+    if is_object(bytes.as_slice()) {
+        let mut rest = first.into_inner();
+        read_on(&mut rest, &mut bytes)?;
+    }
+    Ok(bytes)
+}
+
+/// Reads to the end.
+fn read_on<R: Read>(reader: &mut R, bytes: &mut Vec<u8>) -> Result<(), StoreErr>
+    ensures whole { OnOk result (IfSome (R.remaining reader.old) (λ all. bytes.new.items ≡ bytes.old.items ++ all)) }
+    ensures begins { StartsWith bytes.new.items bytes.old.items }
+{
+    match reader.read_to_end(bytes) {
+        Ok(_) => Ok(()),
         Err(error) => Err(store_err(&error)),
     }
 }

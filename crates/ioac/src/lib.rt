@@ -1,0 +1,53 @@
+//! What `ioac` does: its command line, and each thing that the words of one ask for.
+#![tactic(auto)]
+
+mod check;
+mod code;
+pub mod command;
+mod compile;
+mod explain;
+pub mod explanation;
+pub mod explanations;
+mod failure;
+mod invariant_replay;
+mod laws;
+mod library;
+mod log_replay;
+mod monitor;
+mod numerals;
+mod object_failure;
+mod object_file;
+mod refusal;
+mod replay;
+mod reports;
+mod request;
+mod run;
+mod run_usage;
+mod script;
+mod seed;
+mod served;
+mod settings;
+mod status;
+mod store;
+mod telling;
+mod trace;
+mod usage;
+mod word_sources;
+mod words_file;
+
+pub use check::check_text;
+pub use code::Code;
+pub use compile::{compile_text, compose_text, is_object, object_of, program_of};
+pub use failure::Failure;
+pub use invariant_replay::{Finding, replay_invariants_text};
+pub use laws::objects_do_as_their_sources;
+pub use library::write_library;
+pub use log_replay::replay_log_text;
+pub use monitor::monitor_text;
+pub use object_file::compile_file;
+pub use replay::replay_text;
+pub use run::run_file;
+pub use settings::{Settings, WordsFrom};
+pub use status::Status;
+pub use store::{Store, StoreErr};
+pub use telling::told_unread;

@@ -1,0 +1,6 @@
+//! The tests of what `ioac` does, over tables of rows, and of the public calls below it.
+//! It has no code, and no crate stands on it.
+#![tactic(auto)]
+
+#[cfg(test)]
+mod tests;
