@@ -10,6 +10,7 @@ mod crashes;
 mod declared;
 mod drawn;
 mod explained;
+mod given;
 mod invariants;
 mod library;
 mod lines;

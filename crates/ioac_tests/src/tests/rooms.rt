@@ -182,6 +182,9 @@ fn walked(
     moves: &[Turn],
 ) -> Result<Outcome, Fail> {
     let mut room = Room::start(alloc, program, script, turns)?;
+    if !room.is_of(program, script, turns) || room.is_of(program, script, 0) {
+        return Err(Fail::from("another room"));
+    }
     for turn in moves {
         if !is_taken(alloc, &mut room, *turn)? {
             return Err(Fail::from("another answer"));
