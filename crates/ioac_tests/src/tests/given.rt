@@ -69,17 +69,28 @@ fn part(
     Ok(verify(alloc, code, &env)?)
 }
 
+/// The precondition and the proposal of an entry of this kind, which an input has not.
+fn choice(
+    alloc: Global,
+    types: &Types,
+    kind: Kind,
+) -> Result<(Option<Verified>, Option<Verified>), Fail> {
+    if kind == Kind::Input {
+        return Ok((None, None));
+    }
+    let pre = part(alloc, types, PartKind::Pre, &[Instr::Const(0)], &[Ty::BOOL])?;
+    let propose = part(alloc, types, PartKind::Propose, &[], &[])?;
+    Ok((Some(pre), Some(propose)))
+}
+
 fn entry(alloc: Global, types: &Types, kind: Kind, name: &str) -> Result<Entry, Fail> {
-    let pre = match kind {
-        Kind::Input => None,
-        _ => Some(part(alloc, types, PartKind::Pre, &[Instr::Const(0)], &[Ty::BOOL])?),
-    };
+    let (pre, propose) = choice(alloc, types, kind)?;
     Ok(Entry {
         kind,
         name: String::from_str(alloc, name)?,
         positions: Vec::new(alloc),
         pre,
-        propose: None,
+        propose,
         effect: part(alloc, types, PartKind::Eff, &[], &[])?,
     })
 }
