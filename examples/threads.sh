@@ -56,4 +56,19 @@ for source in "$top"/*/*.ioa; do
   done
 done
 [ "$runs" -gt 0 ] || fail "examples" "there are none"
+
+# Where the system refuses a thread, the run is refused, and nothing is written. With less and less memory for its stacks, that comes before the program
+# cannot begin at all.
+refused() {
+  for kilobytes in $(seq 400000 -4000 4000); do
+    (ulimit -v "$kilobytes" && "$program" run "$top/links/links.ioa" --comp Sliding --turns 1 > "$work/out" 2> "$work/errors") 2> "$work/shell"
+    status=$?
+    if [ "$(cat "$work/errors")" = N3 ]; then
+      [ "$status" -eq 5 ] && [ ! -s "$work/out" ]
+      return
+    fi
+  done
+  return 1
+}
+refused || fail "examples/links/links.ioa" "no thread is refused, or not so"
 echo "threads: $runs passed, 0 failed"
