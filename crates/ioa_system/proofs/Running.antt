@@ -1,5 +1,5 @@
 -- A running program's states.
-use Rattle.std.proofs.Common.{◌≡◌, ℕ, ◌<◌, List, [], ◌∷◌, length, map, All, refl, sym, ◌∙◌, ap, subst}
+use Rattle.std.proofs.Common.{◌≡◌, ℕ, ◌<◌, List, [], ◌∷◌, ◌++◌, length, drop, take, map, All, refl, sym, ◌∙◌, ap, subst}
 use Rattle.std.proofs.lemmas.List.{length-map}
 use Rattle.std.proofs.lemmas.List.Elements.{All-head, All-tail, All-cons}
 use Rattle.ioa_value.specs.Actions.{Act}
@@ -15,7 +15,7 @@ use Rattle.ioa_system.specs.Drafted.{AreDrafts, ArePlaces, drafted}
 use Rattle.ioa_system.specs.Found.{components_of, numbers_of, AreParticipants, lent}
 use Rattle.ioa_system.specs.Participants.{put_back, renumbered, all_back}
 use Rattle.ioa_system.specs.Systems.{Running, types_of, values_of, slot_types, slots_of}
-use Rattle.ioa_system.proofs.Participating.{put_back-taken, map_put_back, step_taken}
+use Rattle.ioa_system.proofs.Participating.{put_back-taken, map_put_back, step_taken, written_anew}
 use Rattle.ioa_system.proofs.Finding.{no_item, numbers_distinct}
 use Rattle.ioa_system.proofs.Readying.{lent_all, same_length, within_all}
 use Rattle.ioa_system.proofs.Drafting.{Draft, drafted_taken}
@@ -95,3 +95,8 @@ settled p a before after qs m s r e b k types = record {
   kept = kept_values s before after k;
   count = sym (length-map after slots_of) ∙ ap length types ∙ length-map before slots_of;
 }
+
+-- the states of all components, of which a loan is given back with states of the same types
+pub lent_whole : (n : ℕ) (before lent after : List Node) → lent ≡ before → types_of after ≡ types_of lent → n ≡ length before → take n (after ++ drop (length after) before) ≡ after
+lent_whole n before lent after e types l =
+    written_anew n after before (sym (length-map after slots_of) ∙ ap length types ∙ length-map lent slots_of ∙ ap length e) l

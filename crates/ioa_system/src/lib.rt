@@ -9,6 +9,7 @@ mod moves;
 mod participation;
 mod runner;
 mod runs;
+mod stepper;
 mod system;
 
 pub use answer::{End, Moved, Step};
@@ -18,4 +19,5 @@ pub use moves::step_from;
 pub use participation::{Participant, Participation, owner, participants};
 pub use runner::{Runner, Taken};
 pub use runs::{Run, run_list};
+pub use stepper::Stepper;
 pub use system::System;

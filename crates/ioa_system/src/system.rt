@@ -4,22 +4,18 @@ ghost use Rattle.ioa_tree.specs.Runs as runs;
 ghost use Rattle.ioa_tree.specs.Steps as steps;
 ghost use Rattle.ioa_compile.specs.Shown.{member_code};
 ghost use Rattle.ioa_compile.specs.Tables.{start_states, tabled};
-ghost use Rattle.ioa_system.specs.Answers.{IfNext, KeepsUnlessNext, step_of};
-ghost use Rattle.ioa_system.specs.Drafted.{AreDrafts, ArePlaces, drafted};
-ghost use Rattle.ioa_system.specs.Found.{numbers_of};
+ghost use Rattle.ioa_system.specs.Answers.{KeepsUnlessNext, step_of};
 ghost use Rattle.ioa_system.specs.Logs as logs;
-ghost use Rattle.ioa_system.specs.Participants.{all_back, put_back};
 ghost use Rattle.ioa_system.specs.Systems.{slot_types, types_of, values_of};
 
 use crate::answer::Step;
-use crate::moves::moved;
-use crate::participation::{Participant, Participation};
+use crate::participation::Participation;
+use crate::stepper::Stepper;
 use ioa_compile::{Member, Program};
-use ioa_node::{Draft, NodeState, Workspace};
+use ioa_node::NodeState;
 use ioa_value::{Action, OutOfMemory};
 use std::alloc::Global;
 use std::marker::Model;
-use std::mem;
 
 /// What a step answers to an action, the action's worker, and whether it is external.
 #[derive(Clone, Copy)]
@@ -32,15 +28,9 @@ pub(crate) struct Performed {
 /// A running program: the program, and one state for each of its components.
 #[derive(Drop)]
 pub struct System<'a> {
-    alloc: Global,
     program: &'a Program,
     states: Vec<NodeState>,
-    /// Room for the participants of one action, kept from step to step.
-    room: Vec<Participant<'a>>,
-    /// Memory in which the participants' code runs, kept from step to step.
-    workspace: Workspace,
-    /// Room for the participants' new values, kept from step to step.
-    drafts: Vec<Draft>,
+    stepper: Stepper<'a>,
 }
 
 impl<'a> Model for System<'a> {
@@ -72,12 +62,9 @@ impl<'a> System<'a> {
         ensures { result ≡ record { program = program.now; states = values_of states.items } }
     {
         System {
-            alloc,
             program,
             states,
-            room: Vec::new(alloc),
-            workspace: Workspace::new(alloc),
-            drafts: Vec::new(alloc),
+            stepper: Stepper::new(alloc),
         }
     }
 
@@ -92,8 +79,7 @@ impl<'a> System<'a> {
         Ok(self.perform(action)?.step)
     }
 
-    /// Performs the action as `step` does, and says whose work it is and whether it is external. The room for its participants
-    /// is used again.
+    /// Performs the action as `step` does, and says whose work it is and whether it is external.
     pub(crate) fn perform(&mut self, action: &Action) -> Result<Performed, OutOfMemory>
         ensures step { IfOk result (λ r. step_of r.step self.new.states ≡ steps.step (tabled self.old.program) (act_of action.now) self.old.states) }
         ensures kept { IfOk result (λ r. KeepsUnlessNext r.step self.old.states self.new.states) }
@@ -102,12 +88,11 @@ impl<'a> System<'a> {
         ensures program { self.new.program ≡ self.old.program }
         ensures memory { OnErr result (self.new ≡ self.old) }
     {
-        let room = mem::replace(&mut self.room, Vec::new(self.alloc));
-        let participation = Participation::within(room, self.program, action)?;
+        let participation = self.stepper.participation(self.program, action)?;
         let step = self.step_by(&participation)?;
         let worker = participation.worker();
         let external = participation.is_external();
-        self.room = participation.into_room();
+        self.stepper.give_back(participation);
         Ok(Performed {
             step,
             worker,
@@ -123,17 +108,7 @@ impl<'a> System<'a> {
         ensures program { self.new.program ≡ self.old.program }
         ensures memory { OnErr result (self.new ≡ self.old) }
     {
-        let participants = participation.participants();
-        let step = moved(
-            self.alloc,
-            &mut self.workspace,
-            &mut self.drafts,
-            participants,
-            participation.action(),
-            &self.states,
-        )?;
-        settle(participants, &mut self.states, &mut self.drafts, step);
-        Ok(step)
+        self.stepper.step(participation, &mut self.states)
     }
 
     /// The program that runs.
@@ -169,35 +144,4 @@ fn start_of(alloc: Global, members: &[Member]) -> Result<Vec<NodeState>, OutOfMe
         states.push(member.start.try_copy(alloc)?)?;
     }
     Ok(states)
-}
-
-/// Puts the participants' new values in place where the step is performed. Otherwise the states stay as they are.
-fn settle(
-    participants: &[Participant<'_>],
-    states: &mut [NodeState],
-    drafts: &mut [Draft],
-    step: Step,
-)
-    requires places { ArePlaces participants.now states.old }
-    requires drafts { IfNext step (AreDrafts states.old participants.now drafts.old) }
-    ensures step { step_of step (values_of states.new) ≡ all_back (numbers_of participants.now) (values_of states.old) (step_of step (values_of (drafted states.old participants.now drafts.old))) }
-    ensures kept { KeepsUnlessNext step states.old states.new }
-    ensures types { types_of states.new ≡ types_of states.old }
-{
-    match step {
-        Step::Next => install(participants, states, drafts),
-        Step::NotAnAction | Step::NotEnabled | Step::Fault(_, _) => {}
-    }
-}
-
-/// Moves the participants' new values to their components' states.
-fn install(participants: &[Participant<'_>], states: &mut [NodeState], drafts: &mut [Draft])
-    requires places { ArePlaces participants.now states.old }
-    requires drafts { AreDrafts states.old participants.now drafts.old }
-    ensures { states.new ≡ put_back (numbers_of participants.now) (drafted states.old participants.now drafts.old) states.old }
-{
-    for i in 0..participants.len() {
-        let participant = &participants[i];
-        states[participant.component].change(&mut drafts[i]);
-    }
 }

@@ -1,76 +1,58 @@
 use Rattle.std.proofs.Common.{◌≡◌, ◌++◌, List, length, drop, take, ap, subst, sym, ◌∙◌, rules}
-use Rattle.ioa_value.specs.Actions.{Act}
+use Rattle.std.proofs.lemmas.Result.{IfOk-weaker, on_err_weaker}
+use Rattle.ioa_value.specs.Plain.{Val}
 use Rattle.ioa_node.specs.Nodes.{Node}
 use Rattle.ioa_tree.specs.Steps as steps
-use Rattle.ioa_compile.specs.Programs.{Prog}
-use Rattle.ioa_compile.specs.Tables.{IsProgram, tabled}
-use Rattle.ioa_system.specs.declared.participation.Participant.{Participant}
+use Rattle.ioa_compile.specs.Programs.{MemberCode, Prog}
+use Rattle.ioa_compile.specs.Tables.{tabled}
+use Rattle.ioa_system.specs.declared.answer.Step.{Step}
 use Rattle.ioa_system.specs.Answers.{KeepsUnlessNext, step_of}
-use Rattle.ioa_system.specs.Drafted.{ArePlaces, drafted}
-use Rattle.ioa_system.specs.Found.{AreParticipants, AreReady, components_of, lent, numbers_of}
-use Rattle.ioa_system.specs.Participants.{renumbered}
-use Rattle.ioa_system.specs.Systems.{Running, values_of}
-use Rattle.ioa_system.proofs.Participating.{written_anew}
-use Rattle.ioa_system.proofs.Readying.{ready_all}
-use Rattle.ioa_system.proofs.Running.{Runs, Settled, places_found, settled}
+use Rattle.ioa_system.specs.Systems.{Running, slot_types, types_of, values_of}
+use Rattle.ioa_system.proofs.Running.{kept_values, lent_whole, running}
 use Rattle.ioa_system.proofs.system.System.step_by.Goals as goal
-use Rattle.ioa_system.proofs.system.System.step_by.Goals.{After-self, After-settle}
+use Rattle.ioa_system.proofs.system.System.step_by.Goals.{After-step}
 
 -- the participation is of the program that runs
-same_program : (c : After-self) → c.args.participation.now.program ≡ c.self.inside.program.now
+same_program : (c : After-step) → c.args.participation.now.program ≡ c.self.inside.program.now
 same_program c = c.requires ∙ sym (ap (λ (r : Running). r.program) c.self.view_is)
 
-runs : (c : After-self) → Runs c.self.inside.program.now c.args.participation.now.action c.self.inside.states.items c.participants-participants.result.now
-runs c = record {
-  found = subst (λ (p : Prog). AreParticipants c.args.participation.now.action p.members c.participants-participants.result.now) (same_program c) c.participants-participants.ensures.found;
-  types = c.self.invariant;
-}
+old_values : (c : After-step) → values_of c.deref_mut.result.now ≡ c.args.self.now.states
+old_values c = ap values_of c.deref_mut.ensures.value ∙ ap (λ (r : Running). r.states) c.self.view_is
 
-pub moved-requires : goal.moved-requires
-moved-requires c =
-    let at = (goal.at.moved-requires c).After-self in
-    let p : Prog = c.self.inside.program.now in
-    let a : Act = c.args.participation.now.action in
-    let qs : List Participant = c.participants-participants.result.now in
-    let r : Runs p a c.self.inside.states.items qs = runs at in
-    let sound : IsProgram p = subst IsProgram (same_program at) c.participants-participants.ensures.sound in
-    subst (λ (b : Act). AreReady b c.deref.result.now qs) (sym c.action.ensures)
-    (subst (λ (ns : List Node). AreReady a ns qs) (sym c.deref.ensures.value) (ready_all p.types a p.members c.self.inside.states.items qs r.found sound.members r.types))
+whole : (c : After-step) → take c.self.inside.states.len (c.step.new.states ++ drop (length c.step.new.states) c.self.inside.states.items) ≡ c.step.new.states
+whole c = lent_whole c.self.inside.states.len c.self.inside.states.items c.deref_mut.result.now c.step.new.states c.deref_mut.ensures.value c.step.ensures.types (search rules)
 
-pub settle-requires-clause-places : goal.settle-requires-clause-places
-settle-requires-clause-places c =
-    let at = (goal.at.settle-requires-clause-places c).After-self in
-    let qs : List Participant = c.participants-participants.result.now in
-    subst (λ (ns : List Node). ArePlaces qs ns) (sym c.deref_mut.ensures.value)
-    (places_found c.self.inside.program.now c.args.participation.now.action c.self.inside.states.items qs (runs at))
+pub step-requires : goal.step-requires
+step-requires c =
+    ap types_of c.deref_mut.ensures.value ∙ c.self.invariant
+    ∙ ap (λ (p : Prog). slot_types p.members) (sym (c.requires ∙ sym (ap (λ (r : Running). r.program) c.self.view_is)))
 
-after : (c : After-settle) → Settled c.self.inside.program.now c.args.participation.now.action c.self.inside.states.items c.settle.new.states c.in_ok-step.step
-after c =
-    let a : Act = c.args.participation.now.action in
-    let ns : List Node = c.self.inside.states.items in
-    let qs : List Participant = c.participants-participants.result.now in
-    let v = rw c.deref.ensures.value at c.in_ok-step.ensures.value in
-    let w : step_of c.in_ok-step.step (values_of (drafted ns qs c.moved.new.drafts.items)) ≡ renumbered (numbers_of qs) (steps.step (components_of qs) a (lent ns qs)) =
-    v ∙ ap (λ (b : Act). renumbered (numbers_of qs) (steps.step (components_of qs) b (lent ns qs))) c.action.ensures in
-    let s = rw (c.deref_mut.ensures.value, c.deref_mut-2.ensures.value) at c.settle.ensures.step in
-    let k = rw c.deref_mut.ensures.value at c.settle.ensures.kept in
-    let t = rw c.deref_mut.ensures.value at c.settle.ensures.types in
-    settled c.self.inside.program.now a ns c.settle.new.states qs (step_of c.in_ok-step.step (values_of (drafted ns qs c.moved.new.drafts.items))) c.in_ok-step.step (runs ((goal.at.After-settle c).After-self)) w s k t
-
-whole : (c : After-settle) → take c.self.inside.states.len (c.settle.new.states ++ drop (length c.settle.new.states) c.self.inside.states.items) ≡ c.settle.new.states
-whole c = written_anew c.self.inside.states.len c.settle.new.states c.self.inside.states.items (after c).count (search rules)
-
-pub invariant_of-self-2 : goal.invariant_of-self-2
-invariant_of-self-2 c =
-    let at = (goal.at.invariant_of-self-2 c).After-settle in
-    rw (whole at) (after at).types
+pub invariant_of-self : goal.invariant_of-self
+invariant_of-self c =
+    let at = (goal.at.invariant_of-self c).After-step in
+    rw (whole at) (c.step.ensures.types ∙ ap types_of c.deref_mut.ensures.value ∙ c.self.invariant)
 
 pub returns-clause-step : goal.returns-clause-step
 returns-clause-step c =
-    let at = (goal.at.returns-clause-step c).After-settle in
-    rw (whole at) ((after at).answer ∙ ap (λ (r : Running). steps.step (tabled r.program) c.args.participation.now.action r.states) c.self.view_is)
+    let at = (goal.at.returns-clause-step c).After-step in
+    rw (whole at)
+    (IfOk-weaker c.step.result _ (λ (s : Step). step_of s (values_of c.step.new.states) ≡ steps.step (tabled c.args.self.now.program) c.args.participation.now.action c.args.self.now.states)
+    (λ s h. h ∙ ap (λ (p : Prog). steps.step (tabled p) c.args.participation.now.action (values_of c.deref_mut.result.now)) c.requires
+    ∙ ap (λ (ss : List (List Val)). steps.step (tabled c.args.self.now.program) c.args.participation.now.action ss) (old_values at))
+    c.step.ensures.step)
 
 pub returns-clause-kept : goal.returns-clause-kept
 returns-clause-kept c =
-    let at = (goal.at.returns-clause-kept c).After-settle in
-    rw (whole at) (subst (λ (r : Running). KeepsUnlessNext c.in_ok-step.step r.states (values_of c.settle.new.states)) c.self.view_is (after at).kept)
+    let at = (goal.at.returns-clause-kept c).After-step in
+    rw (whole at)
+    (IfOk-weaker c.step.result _ (λ (s : Step). KeepsUnlessNext s c.args.self.now.states (values_of c.step.new.states))
+    (λ s h. subst (λ (ss : List (List Val)). KeepsUnlessNext s ss (values_of c.step.new.states)) (old_values at) (kept_values s c.deref_mut.result.now c.step.new.states h))
+    c.step.ensures.kept)
+
+pub returns-clause-memory : goal.returns-clause-memory
+returns-clause-memory c =
+    let at = (goal.at.returns-clause-memory c).After-step in
+    rw (whole at)
+    (on_err_weaker c.step.result
+    (λ (e : c.step.new.states ≡ c.deref_mut.result.now). ap (λ (ns : List Node). running c.self.inside.program.now (values_of ns)) (e ∙ c.deref_mut.ensures.value) ∙ c.self.view_is)
+    c.step.ensures.memory)

@@ -1,5 +1,5 @@
 use Rattle.ioa_system.proofs.Drafting.{Installs}
-use Rattle.ioa_system.proofs.system.install.Given as goal
+use Rattle.ioa_system.proofs.stepper.install.Given as goal
 
 abbrev pub invariant-loop-i : goal.invariant-loop-i
 invariant-loop-i l = Installs l.fn.states l.fn.drafts l.participants l.i l.states l.drafts

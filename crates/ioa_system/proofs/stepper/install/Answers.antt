@@ -2,7 +2,7 @@ use Rattle.std.proofs.Common.{◌+◌, List, set, sym, subst}
 use Rattle.ioa_node.specs.Nodes.{Node}
 use Rattle.ioa_system.specs.declared.participation.Participant.{Participant}
 use Rattle.ioa_system.proofs.Drafting.{Installs, installs_next, typed_next}
-use Rattle.ioa_system.proofs.system.install.Goals as goal
+use Rattle.ioa_system.proofs.stepper.install.Goals as goal
 
 pub change-requires : goal.change-requires
 change-requires c =

@@ -6,7 +6,7 @@ use Rattle.ioa_system.specs.Found.{numbers_of}
 use Rattle.ioa_system.specs.Participants.{all_back}
 use Rattle.ioa_system.specs.Systems.{values_of}
 use Rattle.ioa_system.proofs.Running.{types_put, values_put}
-use Rattle.ioa_system.proofs.system.settle.Goals as goal
+use Rattle.ioa_system.proofs.stepper.settle.Goals as goal
 
 pub returns-in-Next-clause-step : goal.returns-in-Next-clause-step
 returns-in-Next-clause-step c =
