@@ -10,6 +10,8 @@ pub mod Attempting
 pub mod Turned
 pub mod Counting
 pub mod Tried
+pub mod Attempted
+pub mod TellingAttempts
 pub mod Going
 pub mod Choosing
 pub mod Acting

@@ -46,6 +46,22 @@ allowed_goes (owned i (Err f)) m h = λ e. absurd (cc)
 pub step_goes : {S : Type 0} (ps : List (Component S)) (a : Act) (ss : List S) → list_any (has a) ps ≡ true → step ps a ss ≢ not_an_action
 step_goes ps a ss h = rw h (allowed_goes (asked 0 ps a ss) (effects 0 ps a ss) (effects_go 0 ps a ss))
 
+any_past : {X : Type 0} (t : X → Bool) (x : X) (xs : List X) (b : Bool) → t x ≡ b → (0 < length (filter t xs) → list_any t xs ≡ true) → 0 < length (filter t (x ∷ xs)) → list_any t (x ∷ xs) ≡ true
+any_past t x xs true e more l = rw e refl
+any_past t x xs false e more l = rw e (more (rw e at l))
+
+any_of : {X : Type 0} (t : X → Bool) (xs : List X) → 0 < length (filter t xs) → list_any t xs ≡ true
+any_of t [] l = absurd (omega arith)
+any_of t (x ∷ xs) l = any_past t x xs (t x) refl (any_of t xs) l
+
+none_past : {X : Type 0} (t : X → Bool) (x : X) (xs : List X) (b : Bool) → t x ≡ b → (filter t xs ≡ [] → list_any t xs ≡ false) → filter t (x ∷ xs) ≡ [] → list_any t (x ∷ xs) ≡ false
+none_past t x xs true e more l = let q : x ∷ filter t xs ≡ [] = rw e at l in absurd (cc)
+none_past t x xs false e more l = rw e (more (rw e at l))
+
+none_of : {X : Type 0} (t : X → Bool) (xs : List X) → filter t xs ≡ [] → list_any t xs ≡ false
+none_of t [] e = refl
+none_of t (x ∷ xs) e = none_past t x xs (t x) refl (none_of t xs) e
+
 renumbered_goes : {S : Type 0} (ns : List ℕ) (m : steps.Moved S) → m ≢ not_an_action → renumbered ns m ≢ not_an_action
 renumbered_goes ns (next ts) h e = absurd (cc)
 renumbered_goes ns not_an_action h e = h refl
@@ -73,6 +89,19 @@ some_participant p a qs ts f l =
     let n : length (filter (has a) (tabled p)) ≡ length qs = ap length (sym f.components) ∙ length-map qs component_of in
     renumbered_goes (steps.participants (tabled p) a) (step (filter (has a) (tabled p)) a ts)
     (step_goes (filter (has a) (tabled p)) a ts (any_filter (has a) (tabled p) (omega arith)))
+
+-- and of the step of all components
+pub no_step : (p : Prog) (a : Act) (qs : List Participant) (ss : List (List Val)) → AreParticipants a p.members qs → length qs ≡ 0 → step (tabled p) a ss ≡ not_an_action
+no_step p a (q ∷ qs) ss f e = absurd (omega (arith, e))
+no_step p a [] ss f e =
+    let c : filter (has a) (tabled p) ≡ [] = sym f.components in
+    let none : list_any (has a) (tabled p) ≡ false = none_of (has a) (tabled p) c in
+    rw none refl
+
+pub some_step : (p : Prog) (a : Act) (qs : List Participant) (ss : List (List Val)) → AreParticipants a p.members qs → 0 < length qs → step (tabled p) a ss ≢ not_an_action
+some_step p a qs ss f l =
+    let n : length (filter (has a) (tabled p)) ≡ length qs = ap length (sym f.components) ∙ length-map qs component_of in
+    step_goes (tabled p) a ss (any_of (has a) (tabled p) (omega (arith, n, l)))
 
 -- ---- the plan's result
 

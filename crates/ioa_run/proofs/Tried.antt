@@ -19,14 +19,14 @@ module _ {S : Type 0} (ps : List (Component S)) (w : ℕ) (a : Act) (b : Standin
   abbrev by_owner : Bool → Answer × Standing S
   by_owner own = if own then own_attempt w a b b.failure (step ps a b.states) else (not_own (step ps a b.states), b)
 
-  own_is : w ≡ worker ps a → attempt ps w a b ≡ own_attempt w a b b.failure (step ps a b.states)
+  pub own_is : w ≡ worker ps a → attempt ps w a b ≡ own_attempt w a b b.failure (step ps a b.states)
   own_is e =
       elim (eqb_tells w (worker ps a)) as (λ _. by_owner (w == worker ps a) ≡ own_attempt w a b b.failure (step ps a b.states)) [
         | inl p ↦ ap by_owner p.0
         | inr p ↦ absurd (p.1 e)
       ]
 
-  other_is : w ≢ worker ps a → attempt ps w a b ≡ (not_own (step ps a b.states), b)
+  pub other_is : w ≢ worker ps a → attempt ps w a b ≡ (not_own (step ps a b.states), b)
   other_is d =
       elim (eqb_tells w (worker ps a)) as (λ _. by_owner (w == worker ps a) ≡ (not_own (step ps a b.states), b)) [
         | inl p ↦ absurd (d p.1)
@@ -60,6 +60,24 @@ module _ {S : Type 0} (ps : List (Component S)) (w : ℕ) (a : Act) (b : Standin
   refused_attempt p Answer.Stale q d h = absurd h
   refused_attempt p (Answer.Faulted c f) q d h = absurd h
   refused_attempt p (Answer.Committed n) q d h = absurd h
+
+  -- another worker's action
+  pub foreign_attempt : w ≢ worker ps a → step ps a b.states ≢ not_an_action → attempt ps w a b ≡ (Answer.NotYours, b)
+  foreign_attempt d k = other_is ps w a b d ∙ ap (λ x. (x, b)) (others_answer (step ps a b.states) k)
+
+  -- a worker's own action, or one that no component has, where nothing has faulted
+  own_unless : (m : Moved S) → step ps a b.states ≡ m → w ≢ worker ps a → (step ps a b.states ≢ not_an_action → w ≡ worker ps a) → attempt ps w a b ≡ own_attempt w a b None m
+  own_unless not_an_action e d h = unknown e
+  own_unless not_enabled e d h = absurd (d (h (λ x. let q : not_enabled ≡ not_an_action = sym e ∙ x in cc)))
+  own_unless (next ts) e d h = absurd (d (h (λ x. let q : next ts ≡ not_an_action = sym e ∙ x in cc)))
+  own_unless (fault c f) e d h = absurd (d (h (λ x. let q : fault c f ≡ not_an_action = sym e ∙ x in cc)))
+
+  pub calm_attempt : b.failure ≡ None → (step ps a b.states ≢ not_an_action → w ≡ worker ps a) → attempt ps w a b ≡ own_attempt w a b None (step ps a b.states)
+  calm_attempt calm h =
+      elim (eqb_tells w (worker ps a)) as (λ _. attempt ps w a b ≡ own_attempt w a b None (step ps a b.states)) [
+        | inl p ↦ own_is ps w a b p.1 ∙ ap (λ o. own_attempt w a b o (step ps a b.states)) calm
+        | inr p ↦ own_unless (step ps a b.states) refl p.1 h
+      ]
 
 -- ---- what is planned and committed at once
 

@@ -19,5 +19,6 @@ pub mod Alone
 pub mod Choices
 pub mod Going
 pub mod Turning
+pub mod Attempted
 pub mod Rounds
 pub mod Hosts

@@ -1,51 +1,31 @@
 -- What a turn leaves of a program's room.
-use Rattle.std.specs.Prelude.{◌≡◌, ℕ, List, Bool, true, false, Option, None, Some, length, slice_get, slice_set}
+use Rattle.std.specs.Prelude.{◌≡◌, ℕ, List, Bool, true, false, cond, Option, None, Some, length, slice_get, slice_set}
 use Rattle.ioa_value.specs.Actions.{Act}
 use Rattle.ioa_value.specs.Plain.{Val}
 use Rattle.ioa_tree.specs.Proposing.{Words}
 use Rattle.ioa_compile.specs.Tables.{tabled}
 use Rattle.ioa_run.specs.declared.report.Report.{Report}
 use Rattle.ioa_run.specs.declared.report.Why.{Why}
+use Rattle.ioa_run.specs.declared.answer.Answer.{Answer}
 use Rattle.ioa_run.specs.declared.turn.TurnEnd.{TurnEnd}
-use Rattle.ioa_run.specs.declared.verdict.Verdict.{Verdict}
 use Rattle.ioa_run.specs.Proposers.{proposers, tried}
 use Rattle.ioa_run.specs.Going.{IsTurn, told_in}
 use Rattle.ioa_run.specs.Histories.{count}
-use Rattle.ioa_run.specs.ProgramPlans.{ProgramPlan}
 use Rattle.ioa_run.specs.ProgramRooms.{ProgramRoom, Tells, environment, place}
 use Rattle.ioa_run.specs.Reports.{Changes, left, with_idle}
-use Rattle.ioa_run.specs.RoomCommits.{RoomCommit}
 use Rattle.ioa_run.specs.Turns.{Turns, after, attempt, changed, is_last, meant}
 
 -- ---- one turn
 
-abbrev pub end_of : Verdict → TurnEnd
-end_of Verdict.Stopped = TurnEnd.IsLast
-end_of Verdict.Stale = TurnEnd.GoesOn
-end_of (Verdict.Faulted c f) = TurnEnd.IsLast
-end_of (Verdict.Committed n) = TurnEnd.GoesOn
-end_of (Verdict.Memory q) = TurnEnd.NoMemory
+-- what an attempt that is answered so leaves of its worker
+abbrev pub end_of : Answer → TurnEnd
+end_of x = cond (is_last x) TurnEnd.IsLast TurnEnd.GoesOn
 
 -- whether the worker takes no more turns
 abbrev pub ends : TurnEnd → Bool
 ends TurnEnd.GoesOn = false
 ends TurnEnd.IsLast = true
 ends TurnEnd.NoMemory = true
-
--- who is stopped leaves
-abbrev pub Leaves : Verdict → ℕ → ProgramRoom → ProgramRoom → Type 0
-Leaves Verdict.Stopped w r r' = Tells (left r.turns Why.Stopped) w r r'
-Leaves Verdict.Stale w r r' = r' ≡ r
-Leaves (Verdict.Faulted c f) w r r' = r' ≡ r
-Leaves (Verdict.Committed n) w r r' = r' ≡ r
-Leaves (Verdict.Memory q) w r r' = r' ≡ r
-
-pub record Commits (r : ProgramRoom) (p : ProgramPlan) (e : TurnEnd) (r' : ProgramRoom) : Type 0 where
-  pub verdict : Verdict
-  pub room : ProgramRoom
-  pub commits : RoomCommit r p verdict room
-  pub end : e ≡ end_of verdict
-  pub leaves : Leaves verdict p.who room r'
 
 -- the attempt's answer is told, and its board stands
 pub record Attempts (r : ProgramRoom) (w : ℕ) (a : Act) (last : Bool) (r' : ProgramRoom) : Type 0 where

@@ -16,6 +16,7 @@ use crate::run_err::RunErr;
 use crate::turn::{TurnEnd, act, next_input};
 use ioa_compile::Program;
 use ioa_node::{Words, Workspace};
+use ioa_system::Stepper;
 use ioa_value::{Action, OutOfMemory};
 use std::alloc::Global;
 
@@ -62,9 +63,9 @@ fn none_ended(alloc: Global, components: usize) -> Result<Vec<bool>, OutOfMemory
 }
 
 /// So many rounds of turns.
-fn take_turns<W: Words>(
+fn take_turns<'p, W: Words>(
     alloc: Global,
-    room: &mut Room<'_>,
+    room: &mut Room<'p>,
     inputs: &[Action],
     turns: u64,
     words: &mut [W],
@@ -76,17 +77,17 @@ fn take_turns<W: Words>(
     requires ended { length ended.old ≡ length room.old.program.members + 1 }
     ensures { GoesRounds turns room.old (map W.stream words.old) ended.old room.new (map W.stream words.new) ended.new }
 {
-    let mut workspace = Workspace::new(alloc);
+    let mut stepper = Stepper::new(alloc);
     for _ in 0..turns {
-        round(alloc, &mut workspace, room, inputs, words, ended);
+        round(alloc, &mut stepper, room, inputs, words, ended);
     }
 }
 
 /// A turn of each worker that has not ended: of the components in ascending order, and then of the environment.
-fn round<W: Words>(
+fn round<'p, W: Words>(
     alloc: Global,
-    workspace: &mut Workspace,
-    room: &mut Room<'_>,
+    stepper: &mut Stepper<'p>,
+    room: &mut Room<'p>,
     inputs: &[Action],
     words: &mut [W],
     ended: &mut [bool],
@@ -99,17 +100,17 @@ fn round<W: Words>(
 {
     for who in 0..ended.len() {
         if !ended[who] {
-            let end = turn(alloc, workspace, room, inputs, words, who);
+            let end = turn(alloc, stepper, room, inputs, words, who);
             ended[who] = end.is_last();
         }
     }
 }
 
 /// A worker's turn. Where memory is refused it leaves.
-fn turn<W: Words>(
+fn turn<'p, W: Words>(
     alloc: Global,
-    workspace: &mut Workspace,
-    room: &mut Room<'_>,
+    stepper: &mut Stepper<'p>,
+    room: &mut Room<'p>,
     inputs: &[Action],
     words: &mut [W],
     who: usize,
@@ -121,11 +122,19 @@ fn turn<W: Words>(
     ensures { Takes room.old (map W.stream words.old) who result room.new (map W.stream words.new) }
 {
     let performed = room.reports()[who].committed;
-    let Ok(action) = wish(alloc, workspace, room, inputs, words, who, performed) else {
+    let Ok(action) = wish(
+        alloc,
+        stepper.workspace(),
+        room,
+        inputs,
+        words,
+        who,
+        performed,
+    ) else {
         room.leave(who, Why::Memory);
         return TurnEnd::NoMemory;
     };
-    let end = act(alloc, room, who, action);
+    let end = act(stepper, room, who, action);
     if end.is_refused() {
         room.leave(who, Why::Memory);
     }

@@ -14,6 +14,7 @@ use ioa_node::{NodeState, Words, Workspace, propose_with};
 use ioa_tree::Kind;
 use ioa_value::{Action, OutOfMemory, Position, Value};
 use std::alloc::Global;
+use std::mem;
 
 /// The action that a component of these entries means to perform in this state: one word picks one of its local entries, whose proposal
 /// goes on with the words after it. None where it has no local entry, which takes no word, or the proposal gives none.
@@ -97,13 +98,17 @@ fn propose_by<W: Words>(
     };
     Ok(Some(Action {
         name: entry.name.clone()?,
-        vals: fill(alloc, &entry.positions, &values)?,
+        vals: fill(alloc, &entry.positions, values)?,
     }))
 }
 
-/// Equals of these values, each in its place among the constants.
-fn fill(alloc: Global, positions: &[Position], values: &[Value]) -> Result<Vec<Value>, OutOfMemory>
-    ensures { IfOk result (λ all. map plain all.items ≡ filled (map domain_of positions.now) (map plain values.now)) }
+/// These values, each in its place among equals of the constants.
+fn fill(
+    alloc: Global,
+    positions: &[Position],
+    mut values: Vec<Value>,
+) -> Result<Vec<Value>, OutOfMemory>
+    ensures { IfOk result (λ all. map plain all.items ≡ filled (map domain_of positions.now) (map plain values.items)) }
 {
     let mut all = Vec::with_capacity(alloc, positions.len())?;
     let mut used = 0;
@@ -112,7 +117,7 @@ fn fill(alloc: Global, positions: &[Position], values: &[Value]) -> Result<Vec<V
             Position::Constant(value) => all.push(value.try_copy(alloc)?)?,
             Position::Typed(_) => {
                 if used < values.len() {
-                    all.push(values[used].try_copy(alloc)?)?;
+                    all.push(mem::replace(&mut values[used], Value::Truth(false)))?;
                     used += 1;
                 }
             }

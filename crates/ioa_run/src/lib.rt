@@ -5,6 +5,7 @@
 mod alone;
 mod answer;
 mod assessed;
+mod attempt;
 mod beginning;
 mod board;
 mod choice;

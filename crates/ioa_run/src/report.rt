@@ -1,7 +1,10 @@
 ghost use Rattle.std.specs.Prelude.{◌≡◌, ◌+◌, ◌<◌, ◌^◌, ◌==◌, ℕ};
+ghost use Rattle.ioa_run.specs.Going.{told_in};
 ghost use Rattle.ioa_run.specs.Reports.{blank, counted, judged, left, resumed, unless_done, with_committed, with_idle, with_stale, with_why};
+ghost use Rattle.ioa_run.specs.declared.answer.Answer.TheVariants as answers;
 ghost use Rattle.ioa_run.specs.declared.verdict.Verdict.TheVariants as verdicts;
 
+use crate::answer::Answer;
 use crate::verdict::Verdict;
 
 /// Why a worker takes no more turns.
@@ -100,6 +103,24 @@ impl Report {
             Verdict::Stale => self.with_stale(),
             Verdict::Faulted(_, _) => self.with_why(Why::Faulted),
             Verdict::Stopped | Verdict::Memory(_) => self,
+        }
+    }
+
+    /// The report after an attempt that was answered so, where each worker has so many turns. A worker that is stopped leaves.
+    pub(crate) fn told(self, answer: Answer, turns: u64) -> Report
+        requires { (n : ℕ) → answer ≡ answers.Committed n → self.committed + 1 < 2 ^ 64 }
+        ensures { result ≡ told_in turns answer self }
+    {
+        match answer {
+            Answer::Committed(_) => self.with_committed(),
+            Answer::Faulted(_, _) => self.with_why(Why::Faulted),
+            Answer::Stopped => self.left(Why::Stopped, turns),
+            Answer::Stale => self.with_stale(),
+            Answer::NotAnAction
+            | Answer::NotYours
+            | Answer::NotEnabled
+            | Answer::Planned
+            | Answer::NoPlan => self.with_idle(),
         }
     }
 

@@ -5,14 +5,12 @@ ghost use Rattle.ioa_compile.specs.Tables.{tabled};
 ghost use Rattle.ioa_run.specs.Alone.{IsInput};
 ghost use Rattle.ioa_run.specs.ProgramRooms.{environment, place};
 ghost use Rattle.ioa_run.specs.declared.turn.TurnEnd.TheVariants as turn_ends;
-ghost use Rattle.ioa_run.specs.Turning.{Acts, Commits, ends};
+ghost use Rattle.ioa_run.specs.Attempted.{IsInScript};
+ghost use Rattle.ioa_run.specs.Turning.{Acts, end_of, ends};
 
-use crate::plan::Plan;
-use crate::planned::Planned;
-use crate::report::Why;
+use crate::answer::Answer;
 use crate::room::Room;
-use crate::schedule::plan;
-use crate::verdict::Verdict;
+use ioa_system::Stepper;
 use ioa_value::{Action, OutOfMemory};
 use std::alloc::Global;
 
@@ -49,9 +47,9 @@ impl TurnEnd {
     }
 }
 
-/// The turn of a worker that means to perform this action, or has nothing to commit. A plan is made and committed at once, so none is stale.
+/// The turn of a worker that means to perform this action, or has nothing to commit.
 pub(crate) fn act<'p>(
-    alloc: Global,
+    stepper: &mut Stepper<'p>,
     room: &mut Room<'p>,
     who: usize,
     action: Option<Action>,
@@ -61,7 +59,7 @@ pub(crate) fn act<'p>(
     ensures { Acts room.old who (option_map act_of action) result room.new }
 {
     match action {
-        Some(action) => attempt(alloc, room, who, action),
+        Some(action) => attempt(stepper, room, who, action),
         None => {
             room.idle(who);
             TurnEnd::GoesOn
@@ -69,36 +67,35 @@ pub(crate) fn act<'p>(
     }
 }
 
-/// The same for this action.
-fn attempt<'p>(alloc: Global, room: &mut Room<'p>, who: usize, action: Action) -> TurnEnd
-    requires script { who ≡ environment room.old → Some (act_of action) ≡ slice_get room.old.inputs (place room.old) }
-    requires inputs { All (IsInput (tabled room.old.program)) room.old.inputs }
+/// The same for this action. No plan is made: on one thread nobody commits before it would be.
+fn attempt<'p>(
+    stepper: &mut Stepper<'p>,
+    room: &mut Room<'p>,
+    who: usize,
+    action: Action,
+) -> TurnEnd
+    requires { IsInScript room.old who (act_of action) }
     ensures { Acts room.old who (Some (act_of action)) result room.new }
 {
-    let Ok(planned) = plan(alloc, room.board(), who, action) else {
-        return TurnEnd::NoMemory;
-    };
-    let Planned::Ready(plan) = planned else {
-        room.idle(who);
-        return TurnEnd::GoesOn;
-    };
-    commit(room, who, plan)
+    match room.attempt(stepper, who, action) {
+        Ok(answer) => end_by(answer),
+        Err(_) => TurnEnd::NoMemory,
+    }
 }
 
-/// Commits the worker's plan. A worker that is stopped leaves.
-fn commit<'p>(room: &mut Room<'p>, who: usize, plan: Plan<'p>) -> TurnEnd
-    requires who { who ≡ plan.who }
-    requires program { plan.program ≡ room.old.program }
-    ensures { Commits room.old plan.entry result room.new }
+/// What an attempt that is answered so leaves of its worker.
+fn end_by(answer: Answer) -> TurnEnd
+    ensures { result ≡ end_of answer }
 {
-    match room.commit(who, plan) {
-        Verdict::Committed(_) | Verdict::Stale => TurnEnd::GoesOn,
-        Verdict::Faulted(_, _) => TurnEnd::IsLast,
-        Verdict::Stopped => {
-            room.leave(who, Why::Stopped);
-            TurnEnd::IsLast
-        }
-        Verdict::Memory(_) => TurnEnd::NoMemory,
+    match answer {
+        Answer::Faulted(_, _) | Answer::Stopped => TurnEnd::IsLast,
+        Answer::Committed(_)
+        | Answer::NotAnAction
+        | Answer::NotYours
+        | Answer::NotEnabled
+        | Answer::Planned
+        | Answer::NoPlan
+        | Answer::Stale => TurnEnd::GoesOn,
     }
 }
 

@@ -6,4 +6,4 @@ use Rattle.ioa_run.proofs.choice.fill.Given as goal
 
 abbrev pub invariant-loop-position : goal.invariant-loop-position
 invariant-loop-position l =
-    map plain l.all.items ++ filled (map domain_of (drop l.position-index l.positions)) (map plain (drop l.used l.values)) ≡ filled (map domain_of l.positions) (map plain l.values)
+    map plain l.all.items ++ filled (map domain_of (drop l.position-index l.positions)) (map plain (drop l.used l.values.items)) ≡ filled (map domain_of l.positions) (map plain l.fn.values.items)

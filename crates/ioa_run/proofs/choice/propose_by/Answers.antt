@@ -28,8 +28,7 @@ returns g c =
     let made : Name → List Val → Act = λ n vs. record { name = n; vals = vs } in
     let name : string_bytes c.in_ok-clone.field-0 ≡ string_bytes c.args.entry.now.name = search rules in
     let vals : map plain c.in_ok-fill.field-0.items ≡ filled (map domain_of c.args.entry.now.positions.items) (map plain c.in-Some-2.values.items) =
-    c.in_ok-fill.ensures ∙ ap (λ ps. filled (map domain_of ps) (map plain c.deref-2.result.now)) c.deref.ensures.value
-    ∙ ap (λ vs. filled (map domain_of c.args.entry.now.positions.items) (map plain vs)) c.deref-2.ensures.value in
+    c.in_ok-fill.ensures ∙ ap (λ ps. filled (map domain_of ps) (map plain c.in-Some-2.values.items)) c.deref.ensures.value in
     let action : act_of (record { name = c.in_ok-clone.field-0; vals = c.in_ok-fill.field-0 }) ≡ action_with e (values_in c.in-Some-2.values) =
     ap (λ n. made n (map plain c.in_ok-fill.field-0.items)) name ∙ ap (made (string_bytes c.args.entry.now.name)) vals in
     subst (λ a. Gives e c.args.state.now.values words (Some a) rest) (sym action)
