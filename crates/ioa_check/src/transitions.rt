@@ -1,6 +1,7 @@
 ghost use Rattle.std.specs.Prelude.{◌≡◌, ◌==◌, [], ◌||◌, ◌&&◌, not, map, filter, length, Some, if◌then◌else◌};
 ghost use Rattle.std.specs.List.{list_all, list_any};
 ghost use Rattle.std.specs.Str.{bytes_eq};
+ghost use Rattle.ioa_tree.specs.Tree.{AutomatonTree};
 ghost use Rattle.ioa_tree.specs.View.{automaton_of, entry_of, transition_of, choice_of, proposal_of, name_of};
 ghost use Rattle.ioa_tree.specs.View as view;
 ghost use Rattle.ioa_tree.specs.WellFormed as well_formed;
@@ -169,15 +170,15 @@ fn before_effect_fine(
         (reasons.before_effect (whole known.now) (early known.now) [] a e r) }
 {
     if is_input(transition.kind) {
-        input_fine(transition, automaton)
+        input_fine(transition)
     } else {
         local_fine(known, automaton, entry, transition)
     }
 }
 
 /// Whether an input has neither precondition nor proposals.
-fn input_fine(transition: &Transition, _automaton: &Automaton) -> Result<(), Refusal>
-    ensures { Says result (well_formed.input_fine [] [] [] (automaton_of _automaton.now) (transition_of transition.now)) (tells bad_signature) }
+fn input_fine(transition: &Transition) -> Result<(), Refusal>
+    ensures { (a : AutomatonTree) → Says result (well_formed.input_fine [] [] [] a (transition_of transition.now)) (tells bad_signature) }
 {
     if transition.pre.is_some() || transition.proposals.len() > 0 {
         return Err(Refusal::BadSignature(transition.name.line));
@@ -197,7 +198,7 @@ fn local_fine(
 {
     pre_fine(known, automaton, entry, transition)?;
     proposals_fine(known, automaton, entry, transition)?;
-    all_proposed(known, automaton, entry, transition)
+    all_proposed(known, entry, transition)
 }
 
 fn pre_fine(
@@ -270,13 +271,8 @@ fn choice_fine(known: &Known, automaton: &Automaton, choice: &Choice, ty: Ty) ->
 }
 
 /// Whether each parameter that is neither a Bool nor of an enumeration has a proposal. A constant needs none.
-fn all_proposed(
-    known: &Known,
-    _automaton: &Automaton,
-    entry: &Entry,
-    transition: &Transition,
-) -> Result<(), Refusal>
-    ensures { Says result (well_formed.all_proposed (whole known.now) (early known.now) [] (automaton_of _automaton.now) (entry_of entry.now) (transition_of transition.now)) (tells no_proposal) }
+fn all_proposed(known: &Known, entry: &Entry, transition: &Transition) -> Result<(), Refusal>
+    ensures { (a : AutomatonTree) → Says result (well_formed.all_proposed (whole known.now) (early known.now) [] a (entry_of entry.now) (transition_of transition.now)) (tells no_proposal) }
 {
     for position in &entry.positions {
         if let Position::Typed(field) = position
