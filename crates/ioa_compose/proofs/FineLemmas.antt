@@ -14,7 +14,7 @@ use Rattle.ioa_tree.specs.Instances.{Fit}
 use Rattle.ioa_tree.specs.WellFormed.{automaton_fine, global_names, well_formed}
 use Rattle.ioa_tree.proofs.FineParts.{fine_parts}
 use Rattle.ioa_compose.specs.declared.binding.Binding.{Binding}
-use Rattle.ioa_compose.specs.Bindings.{crash_in, plain_in, instance_in, Binds, AreBound, StartsWell, AllStartable, AllSound, AllApart}
+use Rattle.ioa_compose.specs.Bindings.{crash_in, plain_in, instance_in, Binds, AreBound, StartsWell, AllStartable, AllSound, AllApart, IsOwn, AllOwn}
 use Rattle.ioa_compose.specs.Refusals.{AllBound}
 use Rattle.ioa_compose.specs.Rewriting.{with_signals}
 use Rattle.ioa_compose.proofs.SourceLemmas.{named_fine}
@@ -59,6 +59,13 @@ all-apart s (i ∷ is) [] k = absurd k
 all-apart s (i ∷ is) (b ∷ bs) k =
     All-cons (λ (c : Binding). crash_fine (crash_in c) (automaton_of c.automaton.now) ≡ true) b bs
     (ap (λ o. crash_fine o (automaton_of b.automaton.now)) k.0.crash ∙ k.0.fine) (all-apart s is bs k.1)
+
+-- their own automata are made of those that are declared
+pub all-own : (s : SourceTree) (is : List TreeInstance) (bs : List Binding) → AllBind s is bs → AllOwn bs
+all-own s [] [] k = All-nil IsOwn
+all-own s [] (b ∷ bs) k = absurd k
+all-own s (i ∷ is) [] k = absurd k
+all-own s (i ∷ is) (b ∷ bs) k = All-cons IsOwn b bs k.0.own (all-own s is bs k.1)
 
 -- they are bound to the instances with inputs for crash and recover
 pub all-bound : (s : SourceTree) (types : Table) (is : List TreeInstance) (bs : List Binding) → types ≡ types_of s → AllBind s is bs → AreBound s (map instance_of is) (map (instance_in types) bs)

@@ -1,20 +1,18 @@
 -- Entries with the values of their constants.
-use Rattle.std.proofs.Common.{◌≡◌, ℕ, ◌+◌, ◌<◌, true, List, [], ◌∷◌, ◌++◌, map, take, length, get_or, Option, Some, None, refl, sym, ap, subst, ◌∙◌, zero, suc, slice_get, Vec, Global, append_assoc}
+use Rattle.std.proofs.Common.{◌≡◌, ℕ, ◌+◌, ◌<◌, true, List, [], ◌∷◌, ◌++◌, map, take, length, get_or, Option, Some, None, refl, sym, ap, subst, ◌∙◌, zero, suc, slice_get, Vec, Global}
 use Rattle.std.specs.List.{AllZip}
 use Rattle.std.specs.Option.{is_some}
 use Rattle.std.proofs.lemmas.List.{map-append}
 use Rattle.std.proofs.lemmas.Option.{slice_get_within, slice_get_read}
 use Rattle.ioa_value.proofs.ItemLemmas.{take_item, get_map}
 use Rattle.ioa_compose.specs.declared.clashes.SignedEntry as lent
-use Rattle.ioa_compose.specs.declared.signatures.BoundEntry.{BoundEntry}
 use Rattle.ioa_compose.specs.Clashes.{SignedEntry, signed_of, signature_of}
-use Rattle.ioa_compose.specs.Signatures.{bound_of}
 
 pub there : {X : Type 0} (o : Option X) → is_some o ≡ true → (x : X) × (o ≡ Some x)
 there (Some x) h = (x, refl)
 there None h = absurd (cc)
 
-zip-append : {A B : Type 0} (R : A → B → Type 0) (xs : List A) (ys : List B) (x : A) (y : B) → AllZip R xs ys → R x y → AllZip R (xs ++ x ∷ []) (ys ++ y ∷ [])
+pub zip-append : {A B : Type 0} (R : A → B → Type 0) (xs : List A) (ys : List B) (x : A) (y : B) → AllZip R xs ys → R x y → AllZip R (xs ++ x ∷ []) (ys ++ y ∷ [])
 zip-append R [] [] x y h k = (k, tt)
 zip-append R [] (z ∷ zs) x y h k = absurd h
 zip-append R (w ∷ ws) [] x y h k = absurd h
@@ -36,13 +34,6 @@ pub zip-more : {A B : Type 0} (R : A → B → Type 0) (xs : List A) (k : ℕ) (
 zip-more {A} {B} R xs k x ys new y l e n h r =
     subst (λ (bs : List B). AllZip R (take (k + 1) xs) bs) (sym n)
     (subst (λ (us : List A). AllZip R us (ys ++ y ∷ [])) (sym (take_item xs k x l e)) (zip-append R (take k xs) ys x y h r))
-
--- two more entries
-pub two-pushed : (xs ys zs : List BoundEntry) (e f : BoundEntry) → ys ≡ xs ++ e ∷ [] → zs ≡ ys ++ f ∷ [] → (s t : SignedEntry) → bound_of e ≡ s → bound_of f ≡ t
-    → map bound_of zs ≡ map bound_of xs ++ s ∷ t ∷ []
-two-pushed xs ys zs e f p q s t r w =
-    ap (map bound_of) (q ∙ ap (λ us. us ++ f ∷ []) p ∙ append_assoc xs (e ∷ []) (f ∷ [])) ∙ map-append bound_of xs (e ∷ f ∷ [])
-    ∙ ap (λ u. map bound_of xs ++ u ∷ bound_of f ∷ []) r ∙ ap (λ u. map bound_of xs ++ s ∷ u ∷ []) w
 
 -- item by item
 pub zip-at : {A B : Type 0} (R : A → B → Type 0) (xs : List A) (ys : List B) (k : ℕ) (x : A) → AllZip R xs ys → slice_get xs k ≡ Some x

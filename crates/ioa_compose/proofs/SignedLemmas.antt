@@ -15,10 +15,9 @@ use Rattle.ioa_tree.specs.Components.{Compatible}
 use Rattle.ioa_tree.specs.Instances.{Instance, Fit, entry_has, component_of}
 use Rattle.ioa_tree.specs.View.{automaton_of}
 use Rattle.ioa_tree.specs.Hosts.{crash_fine}
-use Rattle.ioa_tree.specs.WellFormed.{position_fine, formals, entry_fine, distinct, automaton_fine}
+use Rattle.ioa_tree.specs.WellFormed.{position_fine, formals, distinct, automaton_fine}
 use Rattle.ioa_tree.proofs.Domains.{domains_have, domains_are}
-use Rattle.ioa_tree.proofs.FineParts.{fine_parts, entry_parts}
-use Rattle.ioa_tree.proofs.Early.{each_implies}
+use Rattle.ioa_tree.proofs.FineParts.{fine_parts}
 use Rattle.ioa_compose.specs.declared.binding.Binding.{Binding}
 use Rattle.ioa_compose.specs.declared.clashes.Clash.{Clash}
 use Rattle.ioa_compose.specs.declared.clashes.SignedEntry as lent
@@ -29,7 +28,7 @@ use Rattle.ioa_compose.specs.Signatures.{IsSigned, IsSignatureOf, bound_entries}
 use Rattle.ioa_compose.specs.Refusals.{NoneClash, IsFirstEntry, ClashesIn, clashing}
 use Rattle.ioa_compose.proofs.ClashLemmas.{place-once}
 use Rattle.ioa_compose.proofs.CompatibleLemmas.{HaveSameKinds, compatible-like, first-like, clashing-like, none-from, between}
-use Rattle.ioa_compose.proofs.WithSignals.{PositionsFine, more_formals, more_names, more_positions}
+use Rattle.ioa_compose.proofs.WithSignals.{positions_fine, PositionsFine, more_formals, more_names, more_positions}
 use Rattle.ioa_compose.proofs.SignatureLemmas.{zip-at, zip-to, same-item}
 
 -- an instance over these types: entries of different names, with fine positions, and arguments of the formals' types
@@ -103,12 +102,10 @@ module _ (types : Table) where
   one-known b s t p =
       let a = automaton_of b.automaton.now in
       let parts = fine_parts types types s.0 a s.1 in
-      let fine = λ (e : EntryTree). list_all (position_fine types (formals types types [] a)) e.positions in
       record {
         over = refl;
         names = more_names (crash_in b) a p parts.entry_names;
-        positions = more_positions types (crash_in b) a
-            (each_implies (entry_fine types types s.0 a) fine a.entries (λ e h. (entry_parts types types s.0 a e h).positions) parts.entries);
+        positions = more_positions types (crash_in b) a (positions_fine types s.0 a s.1);
         fit = subst (λ fs. Fit types fs (map plain b.arguments.items)) (sym (more_formals (crash_in b) a)) t.fit;
       }
 

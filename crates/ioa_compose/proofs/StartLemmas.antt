@@ -1,18 +1,20 @@
 -- Start values: what well formed start expressions give.
-use Rattle.std.proofs.Common.{◌≡◌, ℕ, zero, suc, ◌<◌, true, List, [], ◌∷◌, map, take, length, get_or, IfOk, Some, Result, Ok, Err, refl, sym, ap, ◌∙◌, arith}
+use Rattle.std.proofs.Common.{◌≡◌, ℕ, zero, suc, ◌<◌, true, List, [], ◌∷◌, ◌++◌, map, take, length, get_or, IfOk, Option, Some, None, Result, Ok, Err, refl, sym, ap, subst, ◌∙◌, append-nil, arith}
 use Rattle.std.specs.List.{AllZip, list_all}
 use Rattle.std.specs.Option.{option_map_or}
 use Rattle.std.proofs.lemmas.Simd.{map-map}
-use Rattle.std.proofs.lemmas.List.{length-map}
+use Rattle.std.proofs.lemmas.List.{length-append, length-map}
+use Rattle.std.proofs.Math.Seq.{get_or-append_seam, take-append_seam}
+use Rattle.ioa_value.specs.Actions.{Name}
 use Rattle.ioa_arithmetic.specs.declared.arithmetic.Fault.{Fault}
 use Rattle.ioa_value.specs.declared.memory.OutOfMemory.{OutOfMemory}
 use Rattle.ioa_value.specs.declared.value.Value.{Value}
-use Rattle.ioa_value.specs.Plain.{plain}
+use Rattle.ioa_value.specs.Plain.{Val, plain}
 use Rattle.ioa_value.specs.Operators.{gives, answer_of}
 use Rattle.ioa_tree.specs.Types.{first_named}
 use Rattle.ioa_tree.specs.declared.tree.Field.{Field}
 use Rattle.ioa_tree.specs.declared.tree.Variable.{Variable}
-use Rattle.ioa_tree.specs.Tree.{Expr, VariableTree, AutomatonTree}
+use Rattle.ioa_tree.specs.Tree.{Expr, CrashTree, VariableTree, AutomatonTree}
 use Rattle.ioa_tree.specs.View.{field_of, variable_of, automaton_of}
 use Rattle.ioa_tree.specs.Compositions.{Member}
 use Rattle.ioa_tree.specs.Meaning.{val, values_of}
@@ -21,8 +23,10 @@ use Rattle.ioa_tree.specs.Instances.{field_names, settled, start_value, start_va
 use Rattle.ioa_tree.specs.WellFormed.{start_fine, is_type}
 use Rattle.ioa_compose.specs.declared.binding.Binding.{Binding}
 use Rattle.ioa_compose.specs.declared.member.Member as held
-use Rattle.ioa_compose.specs.Bindings.{value_in, crash_in, plain_in, instance_in, IsStarted}
+use Rattle.ioa_compose.specs.Bindings.{value_in, crash_in, plain_in, instance_in, instance_with, IsStarted}
 use Rattle.ioa_compose.specs.Held.{member_of}
+use Rattle.ioa_compose.specs.Rewriting.{own_automaton, own_starts, added_arguments, volatile_values, rewritten}
+use Rattle.ioa_compose.specs.Stands.{member_by}
 use Rattle.ioa_compose.specs.Refusals.{NoneFaults}
 use Rattle.ioa_value.proofs.ItemLemmas.{passes_at}
 use Rattle.ioa_compose.proofs.RewrittenNames.{names_of}
@@ -71,3 +75,46 @@ none-faulted types (b ∷ bs) (m ∷ ms) (suc k) z zero n f l at e =
     let same : instance_in types b ≡ n = cc in
     started-sound types b (member_of m) f z.0 (ap start_values same ∙ e)
 none-faulted types (b ∷ bs) (m ∷ ms) (suc k) z (suc j) n f l at e = none-faulted types bs ms k z.1 j n f (omega arith) at e
+
+-- ---- what a component is made of
+
+module _ (types : Table) (name : Name) (a : AutomatonTree) (arguments starts : List Val) where
+  abbrev made : Name → Table → ℕ → AutomatonTree → List Val → List Val → Member
+  made n t k own vs ws = record { name = n; instance = instance_with t own vs; starts = ws; declared = k }
+
+  abbrev so : AutomatonTree → List Val → List Val → Member
+  so own vs ws = made name types (length a.variables) own vs ws
+
+  -- of its own automaton, with the arguments and the start values that it has
+  of_own : (crash : Option CrashTree) (own : AutomatonTree) (vs ws : List Val) → own ≡ own_automaton crash a → vs ≡ arguments ++ added_arguments crash a.variables starts
+      → ws ≡ own_starts crash starts → so own vs ws ≡ member_by crash (record { name = name; instance = instance_with types a arguments; starts = starts; crash = crash })
+  of_own None own vs ws p q r = ap (λ x. so x vs ws) p ∙ ap (λ us. so a us ws) (q ∙ append-nil arguments) ∙ ap (so a arguments) r
+  of_own (Some n) own vs ws p q r =
+      ap (λ x. so x vs ws) p ∙ ap (λ us. so (rewritten n a) us ws) q ∙ ap (so (rewritten n a) (arguments ++ volatile_values a.variables starts)) r
+
+  pub member-made : (crash : Option CrashTree) (n : Name) (t : Table) (k : ℕ) (own : AutomatonTree) (vs ws : List Val) → n ≡ name → t ≡ types → k ≡ length a.variables
+      → own ≡ own_automaton crash a → vs ≡ arguments ++ added_arguments crash a.variables starts → ws ≡ own_starts crash starts
+      → made n t k own vs ws ≡ member_by crash (record { name = name; instance = instance_with types a arguments; starts = starts; crash = crash })
+  member-made crash n t k own vs ws e f g p q r =
+      ap (λ x. made x t k own vs ws) e ∙ ap (λ x. made name x k own vs ws) f ∙ ap (λ x. made name types x own vs ws) g ∙ of_own crash own vs ws p q r
+
+-- ---- bindings that are taken one by one
+
+-- the next one stands behind those that are taken
+pub taken : {X : Type 0} (xs all : List X) (x : X) (rest : List X) → xs ++ x ∷ rest ≡ all → (length xs < length all) × (x ≡ get_or all (length xs) x) × (take (length xs) all ≡ xs)
+taken xs all x rest e = (
+  subst (λ us. length xs < length us) e (let l = length-append xs (x ∷ rest) in omega arith),
+  sym (ap (λ us. get_or us (length xs) x) (sym e) ∙ get_or-append_seam xs x rest x),
+  ap (take (length xs)) (sym e) ∙ take-append_seam xs (x ∷ rest),
+)
+
+-- there are as many members as bindings that are taken
+pub as_many : {A B : Type 0} (R : A → B → Type 0) (xs : List A) (ys : List B) → AllZip R xs ys → length xs ≡ length ys
+as_many R [] [] h = refl
+as_many R [] (y ∷ ys) h = absurd h
+as_many R (x ∷ xs) [] h = absurd h
+as_many R (x ∷ xs) (y ∷ ys) h = ap suc (as_many R xs ys h.1)
+
+pub none_left : {X : Type 0} (xs : List X) → length xs ≡ 0 → xs ≡ []
+none_left [] e = refl
+none_left (x ∷ xs) e = absurd (cc)

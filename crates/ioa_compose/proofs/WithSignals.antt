@@ -1,6 +1,6 @@
 -- An automaton with inputs for crash and recover.
-use Rattle.std.proofs.Common.{◌≡◌, Bool, true, ◌&&◌, List, [], ◌∷◌, ◌++◌, map, Option, Some, None, refl, sym, subst, ◌∙◌}
-use Rattle.std.specs.List.{AllZip, list_all, list_any}
+use Rattle.std.proofs.Common.{◌≡◌, Bool, true, ◌&&◌, List, [], ◌∷◌, map, Option, Some, None, refl, ◌∙◌}
+use Rattle.std.specs.List.{list_all, list_any}
 use Rattle.std.specs.Str.{bytes_eq}
 use Rattle.std.proofs.lemmas.Bool.{and_from}
 use Rattle.std.proofs.lemmas.List.Folds.{list_any-append, list_all-append}
@@ -8,18 +8,17 @@ use Rattle.ioa_value.specs.Actions.{Name}
 use Rattle.ioa_value.specs.Plain.{Val}
 use Rattle.ioa_value.specs.Positions.{Domain, every, single}
 use Rattle.ioa_value.specs.Table.{Table, distinct}
-use Rattle.ioa_tree.specs.declared.tree.Kind.TheVariants.{Input}
 use Rattle.ioa_tree.specs.Tree.{CrashTree, ConstantTree, positive, negative, truth_literal, reference, PositionTree, typed, only, EntryTree, AutomatonTree}
 use Rattle.ioa_tree.specs.Components.{is_output}
 use Rattle.ioa_tree.specs.Compositions.{has_output}
 use Rattle.ioa_tree.specs.Domains.{IsDomainOf, AreDomainsOf}
 use Rattle.ioa_tree.specs.Hosts.{crash_fine}
 use Rattle.ioa_tree.specs.Instances.{Instance, constant_value, start_values}
-use Rattle.ioa_tree.specs.WellFormed.{position_fine, formals}
+use Rattle.ioa_tree.specs.WellFormed.{position_fine, formals, entry_fine, automaton_fine}
+use Rattle.ioa_tree.proofs.Early.{each_implies}
+use Rattle.ioa_tree.proofs.FineParts.{fine_parts, entry_parts}
 use Rattle.ioa_compose.specs.Bindings.{instance_with}
-use Rattle.ioa_compose.specs.Clashes.{SignedEntry}
-use Rattle.ioa_compose.specs.Signatures.{IsSigned, IsSignatureOf}
-use Rattle.ioa_compose.specs.Rewriting.{signal_entry, signals, with_signals}
+use Rattle.ioa_compose.specs.Rewriting.{signals, with_signals, own_automaton}
 use Rattle.ioa_compose.proofs.SpelledNames.{or_false}
 use Rattle.ioa_compose.proofs.RewrittenEntries.{apart_of}
 use Rattle.ioa_compose.proofs.RewrittenFine.{signals_distinct}
@@ -48,13 +47,16 @@ more_names (Some n) a h d = signals_distinct n a (apart_of n a h) d
 abbrev pub PositionsFine : Table → AutomatonTree → Type 0
 PositionsFine types a = list_all (λ e. list_all (position_fine types (formals types types [] a)) e.positions) a.entries ≡ true
 
+pub positions_fine : (types : Table) (g : List Name) (a : AutomatonTree) → automaton_fine types types g a ≡ true → PositionsFine types a
+positions_fine types g a h =
+    each_implies (entry_fine types types g a) (λ e. list_all (position_fine types (formals types types [] a)) e.positions) a.entries
+    (λ e k. (entry_parts types types g a e k).positions) (fine_parts types types g a h).entries
+
 pub more_positions : (types : Table) (o : Option CrashTree) (a : AutomatonTree) → PositionsFine types a → PositionsFine types (with_signals o a)
 more_positions types None a h = h
 more_positions types (Some n) a h =
     let test : EntryTree → Bool = λ e. list_all (position_fine types (formals types types [] a)) e.positions in
     list_all-append test a.entries (signals n) ∙ and_from (list_all test a.entries) (list_all test (signals n)) h refl
-
--- ---- signatures
 
 module _ (types : Table) (n : CrashTree) (a : AutomatonTree) (vs : List Val) where
   abbrev old : Instance
@@ -81,27 +83,21 @@ module _ (types : Table) (n : CrashTree) (a : AutomatonTree) (vs : List Val) whe
   domains_more (p ∷ ps) [] h = absurd h
   domains_more (p ∷ ps) (d ∷ ds) h = (domain_more p d h.0, domains_more ps ds h.1)
 
-  signed_more : (es : List EntryTree) (ss : List SignedEntry) (crash recover : SignedEntry) → AllZip (IsSigned old) es ss
-      → IsSigned new (signal_entry n.crash) crash → IsSigned new (signal_entry n.recover) recover → AllZip (IsSigned new) (es ++ signals n) (ss ++ crash ∷ recover ∷ [])
-  signed_more [] [] crash recover h c r = (c, (r, tt))
-  signed_more [] (s ∷ ss) crash recover h c r = absurd h
-  signed_more (e ∷ es) [] crash recover h c r = absurd h
-  signed_more (e ∷ es) (s ∷ ss) crash recover h c r =
-      (record { kind = h.0.kind; name = h.0.name; domains = domains_more e.positions s.domains h.0.domains }, signed_more es ss crash recover h.1 c r)
+-- positions mean the same
+pub domains_signed : (types : Table) (o : Option CrashTree) (a : AutomatonTree) (vs : List Val) (ps : List PositionTree) (ds : List Domain)
+    → AreDomainsOf (instance_with types a vs) ps ds → AreDomainsOf (instance_with types (with_signals o a) vs) ps ds
+domains_signed types None a vs ps ds h = h
+domains_signed types (Some n) a vs ps ds h = domains_more types n a vs ps ds h
 
--- an input without parameters, as it is told
-abbrev pub told_signal : Name → SignedEntry
-told_signal x = record { kind = Input; name = x; domains = [] }
+-- ---- a component's own automaton
 
--- the signature of what does not crash, and of what does
-pub signed_none : (types : Table) (o : Option CrashTree) (a : AutomatonTree) (vs : List Val) (ss : List SignedEntry) → o ≡ None
-    → AllZip (IsSigned (instance_with types a vs)) a.entries ss → IsSignatureOf (instance_with types (with_signals o a) vs) ss
-signed_none types o a vs ss e h = subst (λ (u : Option CrashTree). IsSignatureOf (instance_with types (with_signals u a) vs) ss) (sym e) h
+-- it has the entries with these inputs
+pub own_entries : (o : Option CrashTree) (a : AutomatonTree) → (own_automaton o a).entries ≡ (with_signals o a).entries
+own_entries None a = refl
+own_entries (Some n) a = refl
 
-pub signed_some : (types : Table) (o : Option CrashTree) (n : CrashTree) (a : AutomatonTree) (vs : List Val) (ss all : List SignedEntry) → o ≡ Some n
-    → all ≡ ss ++ told_signal n.crash ∷ told_signal n.recover ∷ []
-    → AllZip (IsSigned (instance_with types a vs)) a.entries ss → IsSignatureOf (instance_with types (with_signals o a) vs) all
-signed_some types o n a vs ss all e w h =
-    subst (λ (u : Option CrashTree). IsSignatureOf (instance_with types (with_signals u a) vs) all) (sym e)
-    (subst (λ (us : List SignedEntry). IsSignatureOf (instance_with types (with_signals (Some n) a) vs) us) (sym w)
-    (signed_more types n a vs a.entries ss (told_signal n.crash) (told_signal n.recover) h (record { kind = refl; name = refl; domains = tt }) (record { kind = refl; name = refl; domains = tt })))
+-- their positions are fine where those that are declared are
+pub own_positions : (types : Table) (o : Option CrashTree) (a : AutomatonTree) → PositionsFine types a
+    → list_all (λ e. list_all (position_fine types (formals types types [] a)) e.positions) (own_automaton o a).entries ≡ true
+own_positions types None a h = h
+own_positions types (Some n) a h = more_positions types (Some n) a h

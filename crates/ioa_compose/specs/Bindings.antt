@@ -19,7 +19,7 @@ use Rattle.ioa_tree.specs.Meaning.{Env, val}
 use Rattle.ioa_tree.specs.Instances.{Instance, Fit, settled, argument_values, start_values}
 use Rattle.ioa_tree.specs.Compositions.{Member, automata, automaton_named}
 use Rattle.ioa_tree.specs.WellFormed.{Context, distinct, type_of, start_fine, is_type, variable_fields, automaton_fine}
-use Rattle.ioa_compose.specs.Rewriting.{with_signals}
+use Rattle.ioa_compose.specs.Rewriting.{with_signals, own_automaton}
 use Rattle.ioa_compose.specs.Stands.{member_for}
 use Rattle.ioa_compose.specs.declared.binding.Binding.{Binding}
 
@@ -60,6 +60,10 @@ instance_with types a vs = record { types = types; automaton = a; arguments = vs
 abbrev pub crash_in : Binding → Option CrashTree
 crash_in b = option_map (λ c. crash_of c.now) b.crash
 
+-- its own automaton is made of the one that is declared
+abbrev pub IsOwn : Binding → Type 0
+IsOwn b = automaton_of b.own ≡ own_automaton (crash_in b) (automaton_of b.automaton.now)
+
 -- the instance of its automaton
 abbrev pub plain_in : Table → Binding → Instance
 plain_in types b = instance_with types (automaton_of b.automaton.now) (map plain b.arguments.items)
@@ -81,8 +85,8 @@ pub record IsReady (s : SourceTree) (i : InstanceTree) : Type 0 where
   pub automaton : (a : AutomatonTree) × (automaton_named s i.automaton ≡ Some a)
   pub arguments : list_all (closed (types_of s)) i.arguments ≡ true
 
--- the binding is of the tree: the automaton of this name, with arguments that fit its formals, and with names of their own for crash
--- and recover
+-- the binding is of the tree: the automaton of this name, with arguments that fit its formals, with names of their own for crash and
+-- recover, and its own automaton
 pub record Binds (s : SourceTree) (i : InstanceTree) (b : Binding) : Type 0 where
   pub name : name_of b.name.now ≡ i.name
   pub automaton : automaton_named s i.automaton ≡ Some (automaton_of b.automaton.now)
@@ -90,6 +94,7 @@ pub record Binds (s : SourceTree) (i : InstanceTree) (b : Binding) : Type 0 wher
   pub fit : Fit (types_of s) (automaton_of b.automaton.now).formals (map plain b.arguments.items)
   pub crash : crash_in b ≡ i.crash
   pub fine : IsTrue (crash_fine i.crash (automaton_of b.automaton.now))
+  pub own : IsOwn b
 
 -- the instance is that of the tree, with inputs for crash and recover
 pub record IsBound (s : SourceTree) (i : InstanceTree) (n : Instance) : Type 0 where
@@ -153,3 +158,7 @@ AllSound (n ∷ ns) = ((globals : List Name) × (automaton_fine n.types n.types 
 -- crash and recover have names of their own
 abbrev pub AllApart : List Binding → Type 0
 AllApart bs = All (λ b. IsTrue (crash_fine (crash_in b) (automaton_of b.automaton.now))) bs
+
+-- the bindings' own automata are made of those that are declared
+abbrev pub AllOwn : List Binding → Type 0
+AllOwn bs = All IsOwn bs

@@ -89,6 +89,11 @@ rewritten n a = record {
   transitions = map guarded a.transitions ++ crash_transition a.variables n.crash ∷ recover_transition n.recover ∷ [];
 }
 
+-- a component's own automaton: the one that is declared, rewritten where it crashes and recovers
+abbrev pub own_automaton : Option CrashTree → AutomatonTree → AutomatonTree
+own_automaton None a = a
+own_automaton (Some n) a = rewritten n a
+
 -- a transition but for its precondition and its effect
 abbrev pub proposing : TransitionTree → TransitionTree
 proposing t = record t { pre = None; effect = stop }
@@ -117,3 +122,8 @@ crashing n i starts = record {
 -- the start values of the rewritten automaton's variables: the host is up
 abbrev pub crashing_starts : List Val → List Val
 crashing_starts starts = starts ++ truth_value true ∷ []
+
+-- those of a component's own automaton
+abbrev pub own_starts : Option CrashTree → List Val → List Val
+own_starts None starts = starts
+own_starts (Some n) starts = crashing_starts starts

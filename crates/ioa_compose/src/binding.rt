@@ -12,8 +12,11 @@ ghost use Rattle.ioa_tree.specs.Tree.{AutomatonTree};
 ghost use Rattle.ioa_tree.specs.Compositions as spec;
 ghost use Rattle.ioa_compose.specs.Bindings.{IsReady, AllReady, Binds, fit, closed, values_in};
 ghost use Rattle.ioa_compose.specs.Refusals.{IsUnbound, IsRefusedAt, reason_of};
+ghost use Rattle.ioa_compose.specs.Rewriting as rewriting;
 
+use crate::copies::copied_automaton;
 use crate::evaluate::evaluate_all;
+use crate::rewriting::rewritten;
 use crate::scope::Scope;
 use ioa_check::automaton_named;
 use ioa_syntax::Refusal;
@@ -25,7 +28,10 @@ use std::alloc::Global;
 #[derive(Drop)]
 pub(crate) struct Binding<'a> {
     pub(crate) name: &'a Name,
+    /// The automaton that is declared.
     pub(crate) automaton: &'a Automaton,
+    /// The component's own one, which is made here and nowhere else: a copy, or the rewritten automaton of what crashes and recovers.
+    pub(crate) own: Automaton,
     pub(crate) arguments: Vec<Value>,
     pub(crate) crash: Option<&'a Crash>,
 }
@@ -73,13 +79,30 @@ fn bind<'a>(
             if !crashes_apart(&instance.crash, automaton) {
                 return Err(Refusal::CrashName(index));
             }
+            let crash = instance.crash.as_ref();
+            let own = own_automaton(alloc, crash, automaton)?;
             Ok(Binding {
                 name: &instance.name,
                 automaton,
+                own,
                 arguments,
-                crash: instance.crash.as_ref(),
+                crash,
             })
         }
+    }
+}
+
+/// A component's own automaton: a copy of the one that is declared, or the one by which it crashes and recovers.
+fn own_automaton(
+    alloc: Global,
+    crash: Option<&Crash>,
+    automaton: &Automaton,
+) -> Result<Automaton, OutOfMemory>
+    ensures { IfOk result (λ a. automaton_of a ≡ rewriting.own_automaton (option_map (λ c. crash_of c.now) crash.entry) (automaton_of automaton.now)) }
+{
+    match crash {
+        Some(names) => rewritten(alloc, names, automaton),
+        None => copied_automaton(alloc, automaton),
     }
 }
 

@@ -2,7 +2,7 @@
 
 ghost use Rattle.std.specs.Prelude.{map, OnOk, IfErr};
 ghost use Rattle.ioa_value.specs.Table.{AreTypes};
-ghost use Rattle.ioa_compose.specs.Bindings.{plain_in, instance_in, AllSound, AllStartable, AllApart};
+ghost use Rattle.ioa_compose.specs.Bindings.{plain_in, instance_in, AllSound, AllStartable, AllApart, AllOwn};
 ghost use Rattle.ioa_compose.specs.Refusals.{NoneClash, ClashesIn, reason_of};
 
 use crate::binding::Binding;
@@ -20,6 +20,7 @@ pub(crate) fn compatible(alloc: Global, types: &Types, bindings: &[Binding]) -> 
     requires sound { AllSound (map (plain_in types.now) bindings.now) }
     requires startable { AllStartable (map (plain_in types.now) bindings.now) }
     requires apart { AllApart bindings.now }
+    requires own { AllOwn bindings.now }
     ensures ok { OnOk result (NoneClash (map (instance_in types.now) bindings.now)) }
     ensures refused { IfErr result (λ r. ClashesIn (map (instance_in types.now) bindings.now) (reason_of r)) }
 {

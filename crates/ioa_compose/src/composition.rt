@@ -176,7 +176,7 @@ fn composed(
     let bindings = bind_all(alloc, &shared, declarations, &assembly.instances)?;
     compatible(alloc, &shared, &bindings)?;
     let hidden = hidden_outputs(alloc, &bindings, &assembly.hidden)?;
-    let members = start_all(alloc, &shared, &bindings)?;
+    let members = start_all(alloc, &shared, bindings)?;
     let name = String::from_str(alloc, assembly.name.text.as_str())?;
     let invariants = declared_invariants(alloc, declarations)?;
     Ok(Composition {

@@ -1,12 +1,10 @@
-ghost use Rattle.std.specs.Prelude.{◌≡◌, List, [], true, map, IfOk};
+ghost use Rattle.std.specs.Prelude.{◌≡◌, List, true, map, IfOk};
 ghost use Rattle.std.specs.List.{AllZip};
 ghost use Rattle.ioa_value.specs.Actions as actions;
 ghost use Rattle.ioa_value.specs.Table.{AreTypes};
-ghost use Rattle.ioa_tree.specs.declared.tree.Kind.TheVariants.{Input};
-ghost use Rattle.ioa_tree.specs.View.{name_of};
 ghost use Rattle.ioa_tree.specs.Instances.{Fit};
 ghost use Rattle.ioa_tree.specs.WellFormed.{automaton_fine};
-ghost use Rattle.ioa_compose.specs.Bindings.{plain_in, instance_in, AllSound, AllStartable};
+ghost use Rattle.ioa_compose.specs.Bindings.{plain_in, instance_in, AllSound, AllStartable, AllOwn, IsOwn};
 ghost use Rattle.ioa_compose.specs.Clashes.{signature_of};
 ghost use Rattle.ioa_compose.specs.Signatures.{IsSignatureOf, bound_of, bound_entries};
 
@@ -25,15 +23,16 @@ pub(crate) struct BoundEntry<'a> {
     positions: Vec<Position>,
 }
 
-/// The entries of each component, in order, and behind them the inputs by which it crashes and recovers.
+/// The entries of each component's own automaton, in order: behind those that are declared the inputs by which it crashes and recovers.
 pub(crate) fn signatures<'a>(
     alloc: Global,
     types: &Types,
-    bindings: &[Binding<'a>],
+    bindings: &'a [Binding<'_>],
 ) -> Result<Vec<Vec<BoundEntry<'a>>>, OutOfMemory>
     requires declared { AreTypes types.now }
     requires sound { AllSound (map (plain_in types.now) bindings.now) }
     requires startable { AllStartable (map (plain_in types.now) bindings.now) }
+    requires own { AllOwn bindings.now }
     ensures { IfOk result (λ ss. AllZip IsSignatureOf (map (instance_in types.now) bindings.now) (map bound_entries ss.items)) }
 {
     let mut signatures = Vec::with_capacity(alloc, bindings.len())?;
@@ -46,15 +45,16 @@ pub(crate) fn signatures<'a>(
 fn signature<'a>(
     alloc: Global,
     types: &Types,
-    binding: &Binding<'a>,
+    binding: &'a Binding<'_>,
 ) -> Result<Vec<BoundEntry<'a>>, OutOfMemory>
     requires declared { AreTypes types.now }
     requires fit { let n = plain_in types.now binding.now in Fit n.types n.automaton.formals n.arguments }
     requires sound { (globals : List actions.Name) × (automaton_fine types.now types.now globals (plain_in types.now binding.now).automaton ≡ true) }
+    requires own { IsOwn binding.now }
     ensures { IfOk result (λ s. IsSignatureOf (instance_in types.now binding.now) (bound_entries s)) }
 {
-    let mut entries = Vec::with_capacity(alloc, binding.automaton.entries.len())?;
-    for entry in &binding.automaton.entries {
+    let mut entries = Vec::with_capacity(alloc, binding.own.entries.len())?;
+    for entry in &binding.own.entries {
         let positions = positions(alloc, types, binding.automaton, &binding.arguments, entry)?;
         entries.push(BoundEntry {
             kind: entry.kind,
@@ -62,22 +62,7 @@ fn signature<'a>(
             positions,
         })?;
     }
-    if let Some(names) = binding.crash {
-        entries.push(signal(alloc, &names.crash))?;
-        entries.push(signal(alloc, &names.recover))?;
-    }
     Ok(entries)
-}
-
-/// An input without parameters.
-fn signal<'a>(alloc: Global, name: &'a Name) -> BoundEntry<'a>
-    ensures { bound_of result ≡ record { kind = Input; name = name_of name.now; domains = [] } }
-{
-    BoundEntry {
-        kind: Kind::Input,
-        name,
-        positions: Vec::new(alloc),
-    }
 }
 
 /// The entries as they are compared.

@@ -1,5 +1,6 @@
-ghost use Rattle.std.specs.Prelude.{◌≡◌, ◌++◌, [], true, map, length, Some, IfOk, IfErr};
+ghost use Rattle.std.specs.Prelude.{◌≡◌, ◌++◌, [], true, map, length, IfOk, IfErr};
 ghost use Rattle.std.specs.List.{AllZip};
+ghost use Rattle.std.specs.Option.{option_map};
 ghost use Rattle.ioa_value.specs.Plain.{plain};
 ghost use Rattle.ioa_value.specs.Table.{AreTypes};
 ghost use Rattle.ioa_tree.specs.Types as named;
@@ -8,117 +9,134 @@ ghost use Rattle.ioa_tree.specs.Meaning.{values_of};
 ghost use Rattle.ioa_tree.specs.Instances.{Fit, field_names};
 ghost use Rattle.ioa_tree.specs.Instances as instances;
 ghost use Rattle.ioa_tree.specs.WellFormed.{start_fine, is_type};
-ghost use Rattle.ioa_compose.specs.Bindings.{value_in, values_in, plain_in, instance_in, host_in, IsStarted, IsStartable, AllStartable};
+ghost use Rattle.ioa_compose.specs.Bindings.{value_in, values_in, plain_in, instance_in, host_in, IsStarted, IsOwn, IsStartable, AllStartable, AllOwn};
 ghost use Rattle.ioa_compose.specs.Refusals.{FaultsAt, FaultsIn, reason_of};
 ghost use Rattle.ioa_compose.specs.Held.{member_of};
-ghost use Rattle.ioa_compose.specs.Rewriting.{volatile_values};
-ghost use Rattle.ioa_compose.specs.Stands.{member_by, member_for};
+ghost use Rattle.ioa_compose.specs.Rewriting as spec;
+ghost use Rattle.ioa_compose.specs.Rewriting.{added_arguments, volatile_values};
+ghost use Rattle.ioa_compose.specs.Stands.{member_for};
 
 use crate::binding::Binding;
-use crate::copies::copied_automaton;
 use crate::evaluate::evaluate;
 use crate::member::Member;
-use crate::rewriting::rewritten;
 use crate::scope::Scope;
 use ioa_syntax::Refusal;
 use ioa_tree::{Crash, Name, Variable};
-use ioa_value::{Fault, OutOfMemory, Types, Value, copies, first};
+use ioa_value::{Fault, OutOfMemory, Types, Value, first};
 use std::alloc::Global;
 
-/// The components with the start values of their variables, in order. Those that crash and recover are rewritten.
+/// The components with the start values of their variables, in order. Each keeps its own automaton.
 pub(crate) fn start_all(
     alloc: Global,
     types: &Types,
-    bindings: &[Binding],
+    bindings: Vec<Binding<'_>>,
 ) -> Result<Vec<Member>, Refusal>
     requires declared { AreTypes types.now }
-    requires startable { AllStartable (map (plain_in types.now) bindings.now) }
-    ensures started { IfOk result (λ ms. AllZip (λ b m. IsStarted types.now b (member_of m)) bindings.now ms.items) }
-    ensures refused { IfErr result (λ r. FaultsIn (map (instance_in types.now) bindings.now) (reason_of r)) }
+    requires startable { AllStartable (map (plain_in types.now) bindings.items) }
+    requires own { AllOwn bindings.items }
+    ensures started { IfOk result (λ ms. AllZip (λ b m. IsStarted types.now b (member_of m)) bindings.entry.items ms.items) }
+    ensures refused { IfErr result (λ r. FaultsIn (map (instance_in types.now) bindings.entry.items) (reason_of r)) }
 {
     let mut members = Vec::new(alloc);
-    for index in 0..bindings.len() {
-        members.push(start(alloc, types, index, &bindings[index])?)?;
+    for binding in bindings {
+        let member = start(alloc, types, members.len(), binding)?;
+        members.push(member)?;
     }
     Ok(members)
 }
 
-fn start(alloc: Global, types: &Types, index: usize, binding: &Binding) -> Result<Member, Refusal>
+fn start(
+    alloc: Global,
+    types: &Types,
+    index: usize,
+    binding: Binding<'_>,
+) -> Result<Member, Refusal>
     requires declared { AreTypes types.now }
-    requires startable { IsStartable (plain_in types.now binding.now) }
-    ensures started { IfOk result (λ m. IsStarted types.now binding.now (member_of m)) }
-    ensures refused { IfErr result (λ r. FaultsAt index (instance_in types.now binding.now) (reason_of r)) }
+    requires startable { IsStartable (plain_in types.now binding) }
+    requires own { IsOwn binding }
+    ensures started { IfOk result (λ m. IsStarted types.now binding.entry (member_of m)) }
+    ensures refused { IfErr result (λ r. FaultsAt index (instance_in types.now binding.entry) (reason_of r)) }
 {
-    match start_values(alloc, types, binding)? {
+    match start_values(alloc, types, &binding)? {
         Err(fault) => Err(Refusal::StartFault(index, fault)),
         Ok(starts) => Ok(member(alloc, types, binding, starts)?),
     }
 }
 
-/// The component that starts with these values, rewritten where it crashes and recovers.
+/// The component that starts with these values, and up where it crashes and recovers.
 fn member(
     alloc: Global,
     types: &Types,
-    binding: &Binding,
+    binding: Binding<'_>,
     starts: Vec<Value>,
 ) -> Result<Member, OutOfMemory>
-    requires { length starts.items ≡ length binding.now.automaton.now.variables.items }
-    ensures { IfOk result (λ m. member_of m ≡ member_for (host_in types.now binding.now (map plain starts.items))) }
+    requires long { length starts.items ≡ length binding.automaton.now.variables.items }
+    requires own { IsOwn binding }
+    ensures { IfOk result (λ m. member_of m ≡ member_for (host_in types.now binding.entry (map plain starts.items))) }
 {
-    match binding.crash {
-        Some(names) => crashing(alloc, types, binding, names, starts),
-        None => Ok(Member {
-            name: String::from_str(alloc, binding.name.text.as_str())?,
-            types: types.share()?,
-            automaton: copied_automaton(alloc, binding.automaton)?,
-            arguments: copies(alloc, &binding.arguments)?,
-            starts,
-            declared: binding.automaton.variables.len(),
-        }),
-    }
-}
-
-/// The component with the rewritten automaton: it starts up, and added formals have the values to which a crash resets variables.
-fn crashing(
-    alloc: Global,
-    types: &Types,
-    binding: &Binding,
-    names: &Crash,
-    starts: Vec<Value>,
-) -> Result<Member, OutOfMemory>
-    requires { length starts.items ≡ length binding.now.automaton.now.variables.items }
-    ensures { IfOk result (λ m. member_of m ≡ member_by (Some (crash_of names.now)) (host_in types.now binding.now (map plain starts.items))) }
-{
-    let arguments = crashing_arguments(alloc, binding, &starts)?;
-    let mut starts = starts;
-    starts.push(Value::Truth(true))?;
-    Ok(Member {
-        name: String::from_str(alloc, binding.name.text.as_str())?,
-        types: types.share()?,
-        automaton: rewritten(alloc, names, binding.automaton)?,
+    let Binding {
+        name,
+        automaton,
+        own,
         arguments,
-        starts,
-        declared: binding.automaton.variables.len(),
+        crash,
+    } = binding;
+    let arguments = own_arguments(alloc, crash, &automaton.variables, arguments, &starts)?;
+    Ok(Member {
+        name: String::from_str(alloc, name.text.as_str())?,
+        types: types.share()?,
+        automaton: own,
+        arguments,
+        starts: own_starts(crash, starts)?,
+        declared: automaton.variables.len(),
     })
 }
 
-/// The arguments, and behind them the start values of the variables that a crash resets.
-fn crashing_arguments(
+/// The arguments, and behind them, where the component crashes, the start values of the variables that a crash resets.
+fn own_arguments(
     alloc: Global,
-    binding: &Binding,
+    crash: Option<&Crash>,
+    variables: &[Variable],
+    arguments: Vec<Value>,
     starts: &[Value],
 ) -> Result<Vec<Value>, OutOfMemory>
-    requires { length starts.now ≡ length binding.now.automaton.now.variables.items }
-    ensures { IfOk result (λ vs. map plain vs.items ≡ map plain binding.now.arguments.items ++ volatile_values (automaton_of binding.now.automaton.now).variables (map plain starts.now)) }
+    requires { length starts.now ≡ length variables.now }
+    ensures { IfOk result (λ vs. map plain vs.items ≡ map plain arguments.items ++ added_arguments (option_map (λ c. crash_of c.now) crash.entry) (map variable_of variables.now) (map plain starts.now)) }
 {
-    let variables = binding.automaton.variables.as_slice();
-    let mut arguments = copies(alloc, &binding.arguments)?;
+    match crash {
+        Some(_) => with_resets(alloc, variables, arguments, starts),
+        None => Ok(arguments),
+    }
+}
+
+/// The arguments, and behind them the start values of the variables that a crash resets.
+fn with_resets(
+    alloc: Global,
+    variables: &[Variable],
+    arguments: Vec<Value>,
+    starts: &[Value],
+) -> Result<Vec<Value>, OutOfMemory>
+    requires { length starts.now ≡ length variables.now }
+    ensures { IfOk result (λ vs. map plain vs.items ≡ map plain arguments.items ++ volatile_values (map variable_of variables.now) (map plain starts.now)) }
+{
+    let mut arguments = arguments;
     for i in 0..variables.len() {
         if !variables[i].stable {
             arguments.push(starts[i].try_copy(alloc)?)?;
         }
     }
     Ok(arguments)
+}
+
+/// The start values, and behind them that the component is up, where it crashes.
+fn own_starts(crash: Option<&Crash>, starts: Vec<Value>) -> Result<Vec<Value>, OutOfMemory>
+    ensures { IfOk result (λ vs. map plain vs.items ≡ spec.own_starts (option_map (λ c. crash_of c.now) crash.entry) (map plain starts.items)) }
+{
+    let mut starts = starts;
+    if crash.is_some() {
+        starts.push(Value::Truth(true))?;
+    }
+    Ok(starts)
 }
 
 /// The start values of the variables in order, or the first fault.

@@ -34,8 +34,8 @@ returns-then-not-crashes_apart-clause-refused c =
       },
     )
 
-pub returns-else-not-crashes_apart-clause-bound : goal.returns-else-not-crashes_apart-clause-bound
-returns-else-not-crashes_apart-clause-bound c =
+pub returns-in_ok-own-in-Ok-clause-bound : goal.returns-in_ok-own-in-Ok-clause-bound
+returns-in_ok-own-in-Ok-clause-bound c =
     let types = types_of (tree_of c.args.declarations.now) in
     let a = automaton_of c.declared-automaton.result.now in
     record {
@@ -45,6 +45,7 @@ returns-else-not-crashes_apart-clause-bound c =
       fit = fit-Fit types a.formals (map plain c.in-Ok.arguments.items)
           (ap (λ fs. fit types (map field_of fs) (map plain c.in-Ok.arguments.items)) (sym c.deref-in-Ok.ensures.value) ∙ ap (λ vs. fit types (map field_of c.deref-in-Ok.result.now) (map plain vs)) (sym c.deref-in-Ok-2.ensures.value)
           ∙ ap (λ t. fit t (map field_of c.deref-in-Ok.result.now) (map plain c.deref-in-Ok-2.result.now)) (sym c.requires.types) ∙ sym c.fits.ensures ∙ c.if-not-fits.false);
-      crash = crash-lent c.as_ref.result c.args.instance.now.crash c.as_ref.ensures.value;
+      crash = crash-lent c.as_ref-crash.result c.args.instance.now.crash c.as_ref-crash.ensures.value;
       fine = sym c.crashes_apart.ensures ∙ c.if-not-crashes_apart.false;
+      own = c.in_ok-own-in-Ok.ensures;
     }

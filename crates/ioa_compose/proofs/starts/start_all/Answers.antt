@@ -1,23 +1,67 @@
-use Rattle.std.proofs.Common.{rules}
+use Rattle.std.proofs.Common.{◌≡◌, ◌∷◌, [], ◌++◌, List, length, map, sym, ap, subst, ◌∙◌, append_assoc, append-nil, arith, rules}
+use Rattle.std.specs.List.{AllZip}
+use Rattle.std.specs.Vec.Iter.{into_iter_items}
+use Rattle.std.proofs.lemmas.List.Elements.{All-get_or}
 use Rattle.ioa_value.proofs.ItemLemmas.{at_map}
-use Rattle.ioa_compose.specs.Bindings.{instance_in, IsStarted}
+use Rattle.ioa_compose.specs.declared.binding.Binding.{Binding}
+use Rattle.ioa_compose.specs.declared.member.Member as held
+use Rattle.ioa_compose.specs.Bindings.{instance_in, IsOwn, IsStarted}
 use Rattle.ioa_compose.specs.Held.{member_of}
 use Rattle.ioa_compose.proofs.BindingLemmas.{startable-at, faults-in}
-use Rattle.ioa_compose.proofs.SignatureLemmas.{zip-more}
-use Rattle.ioa_compose.proofs.StartLemmas.{none-faulted}
+use Rattle.ioa_compose.proofs.SignatureLemmas.{zip-append}
+use Rattle.ioa_compose.proofs.StartLemmas.{taken, as_many, none_left, none-faulted}
 use Rattle.ioa_compose.proofs.starts.start_all.Goals as goal
 
 pub start-requires-clause-startable : goal.start-requires-clause-startable
-start-requires-clause-startable c = startable-at c.args.types.now c.args.bindings.now _ c.index-bindings-index.result c.requires.startable c.loop-index-test.true c.index-bindings-index.is
+start-requires-clause-startable c =
+    let at = c.loop-binding in
+    let steps : into_iter_items at.binding-iterator ≡ c.in-Some.binding ∷ into_iter_items c.next.new.self = c.in-Some.ensures.steps.0 in
+    let here = ap (λ us. at.yielded ++ us) (sym steps) ∙ at.invariant.parts ∙ c.into_iter-binding-iterator.ensures.into_iter_gives.0 in
+    let t = taken at.yielded c.args.bindings.items c.in-Some.binding (into_iter_items c.next.new.self) here in
+    startable-at c.args.types.now c.args.bindings.items (length at.yielded) c.in-Some.binding c.requires.startable t.0 t.1
 
-pub returns-in_err-start-clause-refused : goal.returns-in_err-start-clause-refused
-returns-in_err-start-clause-refused c =
-    faults-in c.from_residual.result _ c.loop-index.index (instance_in c.args.types.now c.index-bindings-index.result)
-    (at_map (instance_in c.args.types.now) c.args.bindings.now _ c.index-bindings-index.result c.loop-index-test.true c.index-bindings-index.is)
-    (none-faulted c.args.types.now c.args.bindings.now c.loop-index.members.items c.loop-index.index c.loop-index.invariant) (search rules)
+pub start-requires-clause-own : goal.start-requires-clause-own
+start-requires-clause-own c =
+    let at = c.loop-binding in
+    let steps : into_iter_items at.binding-iterator ≡ c.in-Some.binding ∷ into_iter_items c.next.new.self = c.in-Some.ensures.steps.0 in
+    let here = ap (λ us. at.yielded ++ us) (sym steps) ∙ at.invariant.parts ∙ c.into_iter-binding-iterator.ensures.into_iter_gives.0 in
+    let t = taken at.yielded c.args.bindings.items c.in-Some.binding (into_iter_items c.next.new.self) here in
+    subst IsOwn (sym t.1) (All-get_or IsOwn c.args.bindings.items (length at.yielded) c.in-Some.binding t.0 c.requires.own)
 
-pub loop-index-preserved : goal.loop-index-preserved
-loop-index-preserved c =
-    zip-more (λ b m. IsStarted c.args.types.now b (member_of m)) c.args.bindings.now c.loop-index.index c.index-bindings-index.result
-    c.loop-index.members.items _ c.in_ok-start.field-0 c.loop-index-test.true c.index-bindings-index.is c.in_ok-push.ensures.items c.loop-index.invariant
-    c.in_ok-start.ensures.started
+pub returns-in_err-member-clause-refused : goal.returns-in_err-member-clause-refused
+returns-in_err-member-clause-refused c =
+    let at = c.loop-binding in
+    let types = c.args.types.now in
+    let bs = c.args.bindings.items in
+    let steps : into_iter_items at.binding-iterator ≡ c.in-Some.binding ∷ into_iter_items c.next.new.self = c.in-Some.ensures.steps.0 in
+    let here = ap (λ us. at.yielded ++ us) (sym steps) ∙ at.invariant.parts ∙ c.into_iter-binding-iterator.ensures.into_iter_gives.0 in
+    let t = taken at.yielded bs c.in-Some.binding (into_iter_items c.next.new.self) here in
+    let many = as_many (λ b m. IsStarted types b (member_of m)) at.yielded at.members.items at.invariant.started in
+    faults-in c.from_residual.result (map (instance_in types) bs) (length at.yielded) (instance_in types c.in-Some.binding)
+    (at_map (instance_in types) bs (length at.yielded) c.in-Some.binding t.0 t.1)
+    (none-faulted types bs at.members.items (length at.yielded)
+    (subst (λ (us : List Binding). AllZip (λ b m. IsStarted types b (member_of m)) us at.members.items) (sym t.2) at.invariant.started)) (search rules)
+
+pub loop-binding-preserved : goal.loop-binding-preserved
+loop-binding-preserved c =
+    let at = c.loop-binding in
+    let x = c.in-Some.binding in
+    let types = c.args.types.now in
+    let steps : into_iter_items at.binding-iterator ≡ x ∷ into_iter_items c.next.new.self = c.in-Some.ensures.steps.0 in
+    record {
+      parts = append_assoc at.yielded (x ∷ []) _ ∙ ap (λ us. at.yielded ++ us) (sym steps) ∙ at.invariant.parts;
+      started = subst (λ (ms : List held.Member). AllZip (λ b m. IsStarted types b (member_of m)) (at.yielded ++ x ∷ []) ms) (sym c.in_ok-push.ensures.items)
+          (zip-append (λ b m. IsStarted types b (member_of m)) at.yielded at.members.items x c.in_ok-member.member at.invariant.started c.in_ok-member.ensures.started);
+      left = let was = at.invariant.left in
+          let gone = c.in-Some.ensures.steps.1 in
+          let short = ap length steps in
+          omega arith;
+    }
+
+pub returns-clause-started : goal.returns-clause-started
+returns-clause-started c =
+    let at = c.loop-binding in
+    let types = c.args.types.now in
+    let empty : into_iter_items at.binding-iterator ≡ [] = none_left _ (sym at.invariant.left ∙ c.in-None.ensures.steps.0) in
+    let all = sym (append-nil at.yielded) ∙ ap (λ us. at.yielded ++ us) (sym empty) ∙ at.invariant.parts ∙ c.into_iter-binding-iterator.ensures.into_iter_gives.0 in
+    subst (λ (us : List Binding). AllZip (λ b m. IsStarted types b (member_of m)) us at.members.items) all at.invariant.started

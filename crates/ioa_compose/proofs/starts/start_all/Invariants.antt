@@ -1,8 +1,13 @@
-use Rattle.std.proofs.Common.{take}
+use Rattle.std.proofs.Common.{◌≡◌, ◌++◌, length}
 use Rattle.std.specs.List.{AllZip}
+use Rattle.std.specs.Vec.Iter.{into_iter_items, into_iter_len}
 use Rattle.ioa_compose.specs.Bindings.{IsStarted}
 use Rattle.ioa_compose.specs.Held.{member_of}
 use Rattle.ioa_compose.proofs.starts.start_all.Given as goal
 
-abbrev pub invariant-loop-index : goal.invariant-loop-index
-invariant-loop-index l = AllZip (λ b m. IsStarted l.types b (member_of m)) (take l.index l.bindings) l.members.items
+abbrev pub invariant-loop-binding : goal.invariant-loop-binding
+invariant-loop-binding l = record {
+  parts : l.yielded ++ into_iter_items l.binding-iterator ≡ into_iter_items l.initial.binding-iterator;
+  started : AllZip (λ b m. IsStarted l.types b (member_of m)) l.yielded l.members.items;
+  left : into_iter_len l.binding-iterator ≡ length (into_iter_items l.binding-iterator);
+}

@@ -2,12 +2,12 @@ use Rattle.std.proofs.Common.{Vec, Global, ap, ◌∙◌, arith}
 use Rattle.ioa_value.specs.declared.value.Value.{Value}
 use Rattle.ioa_tree.specs.declared.tree.Variable.{Variable}
 use Rattle.ioa_compose.proofs.RewritingLemmas.{value_more, value_same, item_read}
-use Rattle.ioa_compose.proofs.starts.crashing_arguments.Goals as goal
-use Rattle.ioa_compose.proofs.starts.crashing_arguments.Goals.{then-not-variables-i+in_ok-try_copy+in_ok-push, else-not-variables-i}
+use Rattle.ioa_compose.proofs.starts.with_resets.Goals as goal
+use Rattle.ioa_compose.proofs.starts.with_resets.Goals.{then-not-variables-i+in_ok-try_copy+in_ok-push, else-not-variables-i}
 
 pub loop-i-preserved : goal.loop-i-preserved
 loop-i-preserved c =
-    let vs = c.as_slice-variables.result.now in
+    let vs = c.args.variables.now in
     let ws = c.args.starts.now in
     let k = c.loop-i.i in
     let xs = c.loop-i.arguments.items in
