@@ -6,6 +6,9 @@ pub mod OneLog
 pub mod PlainTexts
 pub mod WrittenLogs
 pub mod Replaying
+pub mod RunLogs
+pub mod ReadBack
+pub mod LoggedLists
 pub mod Entries
 pub mod Judged
 pub mod Following

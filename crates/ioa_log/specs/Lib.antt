@@ -10,5 +10,6 @@ pub mod Monitoring
 pub mod LinesRead
 pub mod Telling
 pub mod Readings
+pub mod RunLogs
 pub mod FirstBroken
 pub mod FirstDifference

@@ -13,6 +13,7 @@ mod logs;
 mod monitors;
 mod reading;
 mod replays;
+mod run_logs;
 mod streams;
 
 pub use broken_invariants::{Broken, Inspection, inspect, invariants};
@@ -22,12 +23,14 @@ pub use failure::LogErr;
 pub use judge::replay;
 pub use laws::{
     first_broken_is_least, judged_is_the_run, logs_tell_histories, monitored_is_the_run,
-    no_refusal, one_log, verdict_is_the_first_difference, written_log_is_read,
+    no_refusal, one_log, run_log_is_read, run_logs_agree, verdict_is_the_first_difference,
+    written_log_is_read,
 };
 pub use logs::{first_line, read_log, write_log};
 pub use monitors::{MonitorErr, monitor};
 pub use reading::push_line;
 pub use replays::replay_list;
+pub use run_logs::log_list;
 pub use streams::send_all;
 // What logs are is defined beside the runs that they tell.
 pub use ioa_system::{Log, LogEnd, LogEntry};
