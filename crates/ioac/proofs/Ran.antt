@@ -18,20 +18,20 @@ use Rattle.ioac.specs.declared.failure.Failure.{Failure}
 use Rattle.ioac.specs.declared.run.Ran.{Ran}
 use Rattle.ioac.specs.declared.settings.Settings.{Settings}
 use Rattle.ioac.specs.declared.status.Status.{Status}
-use Rattle.ioac.specs.Alone.{BeginsRunOf, IsReady, IsRunServed, IsUnrun}
+use Rattle.ioac.specs.Alone.{BeginsRunOf, IsExact, IsReady, IsRunServed, IsUnrun}
 use Rattle.ioac.specs.Failing.{IsUnwritten}
 use Rattle.ioac.specs.HasRun.{HasRun}
 use Rattle.ioac.specs.Running.{RunsAs}
 use Rattle.ioac.specs.Statuses.{ending_status}
 use Rattle.ioac.specs.Subjects.{Subject}
 use Rattle.ioac.specs.Traces.{performed, table_reports, table_text}
-use Rattle.ioac.proofs.Hosted.{inputs_same, is_run, performed_within, text_same, told_same}
+use Rattle.ioac.proofs.Hosted.{inputs_same, is_run, log_of, performed_within, text_same, told_same}
 
 -- the program, its log and its reports, of what the run gave
 pub has_run : (holds : Name → List ℕ → Type 0) (s : Settings) (r : Ran) (p : Prog) (o : Outcome) (x : Subject) (script : List Act) → r.program ≡ p → r.log.entries ≡ o.log
     → r.log.end ≡ o.end → r.reports ≡ o.reports → IsReady holds s x script → RunsAs p x → (s.turns ≤ most_turns) × All (IsInput (tabled p)) script
-    → IsOutcome p script s.turns o → HasRun holds s r
-has_run holds s r p o x script of entries end reports ready runs fine (b, log, told) = record {
+    → IsOutcome p script s.turns o → IsExact holds s x script (log_of o.log.items o.end) o.reports.items → HasRun holds s r
+has_run holds s r p o x script of entries end reports ready runs fine (b, log, told) exact = record {
   subject = x;
   script = script;
   ready = ready;
@@ -44,6 +44,9 @@ has_run holds s r p o x script of entries end reports ready runs fine (b, log, t
       (subst (λ (es : Vec LogEntry Global). IsLogOf p b es.items r.log.end o.states.items) (sym entries) (subst (λ e. IsLogOf p b o.log.items e o.states.items) (sym end) log));
   told = subst (λ (q : Prog). AreTold (length q.members) script s.turns b.history b.failure r.reports.items) (sym of)
       (subst (λ (rs : Vec Report Global). AreTold (length p.members) script s.turns b.history b.failure rs.items) (sym reports) told);
+  exact = subst (λ (es : Vec LogEntry Global). IsExact holds s x script (log_of es.items r.log.end) r.reports.items) (sym entries)
+      (subst (λ e. IsExact holds s x script (log_of o.log.items e) r.reports.items) (sym end)
+      (subst (λ (rs : Vec Report Global). IsExact holds s x script (log_of o.log.items o.end) rs.items) (sym reports) exact));
 }
 
 -- what is written of it
@@ -65,6 +68,7 @@ module _ (holds : Name → List ℕ → Type 0) (s : Settings) (r : Ran) (k : Ha
     log = logged r.log;
     reports = r.reports.items;
     run = is_run r.program k.subject k.runs k.board r.log.entries.items r.log.end k.states k.log k.script s.turns r.reports.items k.told;
+    exact = k.exact;
     output = subst (Appends before after) (text_same r.program k.subject k.runs k.board r.log.entries.items r.log.end k.states k.log s.log) output;
     told = told ∙ told_same r.program k.subject k.runs s.reports r.reports.items;
     status = status;
@@ -80,6 +84,7 @@ module _ (holds : Name → List ℕ → Type 0) (s : Settings) (r : Ran) (k : Ha
     log = logged r.log;
     reports = r.reports.items;
     run = is_run r.program k.subject k.runs k.board r.log.entries.items r.log.end k.states k.log k.script s.turns r.reports.items k.told;
+    exact = k.exact;
     taken = output.0;
     begun = subst (λ t. Appends before after (take output.0 t))
         (text_same r.program k.subject k.runs k.board r.log.entries.items r.log.end k.states k.log s.log) output.1;

@@ -1,5 +1,5 @@
 -- What a run of a composition writes and tells, whose workers take turns on one thread or have a thread each, and why there is none.
-use Rattle.std.specs.Prelude.{◌≡◌, ◌<◌, ◌≤◌, ◌⊎◌, ◌++◌, ℕ, Bool, true, false, cond, List, [], Option, Some, None, All, length, map, take}
+use Rattle.std.specs.Prelude.{◌≡◌, ◌<◌, ◌≤◌, ◌⊎◌, ℕ, Bool, true, false, List, [], Option, Some, None, All, length, map, slice_get, take}
 use Rattle.std.specs.Io.KnownBytes.{Appends}
 use Rattle.std.specs.Option.{option_copied}
 use Rattle.ioa_value.specs.declared.limits.TheConstants.{LIMITS}
@@ -7,15 +7,20 @@ use Rattle.ioa_value.specs.Actions.{Act, Name}
 use Rattle.ioa_value.specs.Lists as lists
 use Rattle.ioa_value.specs.Lists.{ReadsList}
 use Rattle.ioa_value.specs.Table.{Table}
+use Rattle.ioa_tree.specs.Proposing.{Words}
 use Rattle.ioa_system.specs.Histories.{TellsHistory}
 use Rattle.ioa_system.specs.Logs.{Logged}
 use Rattle.ioa_log.specs.declared.failure.LogErr.{LogErr}
 use Rattle.ioa_log.specs.LogTexts.{log_text}
 use Rattle.ioa_run.specs.declared.report.Report.{Report}
-use Rattle.ioa_run.specs.Alone.{IsFirstOther, IsInput, most_turns}
+use Rattle.ioa_run.specs.Alone.{IsFirstOther, IsInput, NoMemory, most_turns}
 use Rattle.ioa_run.specs.Boards as boards
+use Rattle.ioa_run.specs.Hosts.{host_proposers}
 use Rattle.ioa_run.specs.Outcomes.{ending, logged}
+use Rattle.ioa_run.specs.Proposers.{proposers}
 use Rattle.ioa_run.specs.Reports.{AreTold}
+use Rattle.ioa_run.specs.Seeds.{words_from}
+use Rattle.ioa_run.specs.Turns.{Proposer, Turns, alone}
 use Rattle.ioac.specs.declared.failure.Failure.{Failure}
 use Rattle.ioac.specs.declared.settings.Settings.{Settings}
 use Rattle.ioac.specs.declared.settings.WordsFrom.{WordsFrom}
@@ -23,12 +28,12 @@ use Rattle.ioac.specs.declared.status.Status.{Status}
 use Rattle.ioac.specs.declared.word_sources.WordSources.{WordSources}
 use Rattle.ioac.specs.Failing.{IsNoObject, IsRefusedFile}
 use Rattle.ioac.specs.Headline.{Gives}
-use Rattle.ioac.specs.Keys.{AreStreams}
+use Rattle.ioac.specs.Keys.{AreStreams, key_words}
 use Rattle.ioac.specs.Logs.{log_run_text}
 use Rattle.ioac.specs.RunReports.{reports_text}
 use Rattle.ioac.specs.Statuses.{ending_status}
-use Rattle.ioac.specs.Subjects.{Subject, its_components, its_names, its_starts, its_types}
-use Rattle.ioac.specs.WordLists.{AreWords, IsBadWords, listed}
+use Rattle.ioac.specs.Subjects.{State, Subject, of_hosts, of_table, its_components, its_names, its_starts, its_types}
+use Rattle.ioac.specs.WordLists.{AreWords, IsBadWords, line_words, listed, words_to_come}
 
 -- ---- what a run is
 
@@ -41,6 +46,22 @@ pub record IsRun (s : Subject) (script : List Act) (turns : ℕ) (log : Logged) 
   pub entries : log.entries ≡ logged history failure
   pub ends : log.ending ≡ ending history failure
   pub told : AreTold (length (its_names s)) script turns history failure reports
+
+-- what the entries that each component performs propose, in their order
+abbrev pub its_proposers : (s : Subject) → List (List (Proposer (State s)))
+its_proposers (of_hosts h) = host_proposers h
+its_proposers (of_table p) = proposers p
+
+-- turns of all workers on one thread, so many rounds of them: in each round the components in order, each by its own words, and then the
+-- environment
+abbrev pub turns_of : (s : Subject) → List Words → List Act → ℕ → Turns (State s)
+turns_of s words script turns = alone (its_components s) (its_proposers s) script turns (its_starts s) words
+
+-- the log and the reports are those of these turns
+pub record IsRoundRobin (s : Subject) (words : List Words) (script : List Act) (turns : ℕ) (log : Logged) (reports : List Report) : Type 0 where
+  pub entries : log.entries ≡ logged (turns_of s words script turns).board.history (turns_of s words script turns).board.failure
+  pub ends : log.ending ≡ ending (turns_of s words script turns).board.history (turns_of s words script turns).board.failure
+  pub told : reports ≡ (turns_of s words script turns).reports
 
 -- what is written of it: the log, or the external trace and how the run ends
 abbrev pub written : Subject → Bool → Logged → List ℕ
@@ -67,6 +88,18 @@ HasWords holds (WordsFrom.Key key) workers = Unit {0}
 HasWords holds (WordsFrom.File file) workers =
     (text : List ℕ) × holds file.now text × IsShort text × ((words : List (List ℕ)) × AreWords workers text words)
 
+-- each of so many workers has its own words, by its number
+pub record HaveOwn (workers : ℕ) (own : ℕ → Words) (words : List Words) : Type 0 where
+  pub count : length words ≡ workers
+  pub each : (i : ℕ) (ws : Words) → slice_get words i ≡ Some ws → (k : ℕ) → ws k ≡ own i k
+
+-- the words of so many workers are from there: of the key, each worker's stream; of a text that the file may hold, each worker's line, and
+-- zeros after it
+abbrev pub AreGiven : (Name → List ℕ → Type 0) → WordsFrom → ℕ → List Words → Type 0
+AreGiven holds (WordsFrom.Key key) workers words = HaveOwn workers (key_words key) words
+AreGiven holds (WordsFrom.File file) workers words =
+    (text : List ℕ) × holds file.now text × IsShort text × ((lists : List (List ℕ)) × AreWords workers text lists) × HaveOwn workers (line_words text) words
+
 -- the script is that of a list that the file may hold; without a file it is empty
 abbrev pub IsScript : (Name → List ℕ → Type 0) → Table → Option Name → List Act → Type 0
 IsScript holds types None script = script ≡ []
@@ -80,6 +113,11 @@ pub record IsReady (holds : Name → List ℕ → Type 0) (s : Settings) (x : Su
 
 -- ---- what comes of it
 
+-- a run that is asked for on one thread is that of the turns that are defined, by words that are given, where memory is refused to no worker
+abbrev pub IsExact : (Name → List ℕ → Type 0) → Settings → Subject → List Act → Logged → List Report → Type 0
+IsExact holds s x script log reports =
+    s.alone ≡ true → NoMemory reports → (words : List Words) × AreGiven holds s.words (length (its_names x)) words × IsRoundRobin x words script s.turns log reports
+
 -- all is read; the turns are not too many, and the script is of inputs; and a run's text is written, and its reports are left to be told
 pub record IsRunServed (holds : Name → List ℕ → Type 0) (s : Settings) (before after : Option (List ℕ)) (telling : Option (List ℕ)) (done : Status) : Type 0 where
   pub subject : Subject
@@ -90,6 +128,7 @@ pub record IsRunServed (holds : Name → List ℕ → Type 0) (s : Settings) (be
   pub log : Logged
   pub reports : List Report
   pub run : IsRun subject script s.turns log reports
+  pub exact : IsExact holds s subject script log reports
   pub output : Appends before after (written subject s.log log)
   pub told : telling ≡ told_of subject s.reports reports
   pub status : done ≡ ending_status log.ending
@@ -104,6 +143,7 @@ pub record BeginsRunOf (holds : Name → List ℕ → Type 0) (s : Settings) (be
   pub log : Logged
   pub reports : List Report
   pub run : IsRun subject script s.turns log reports
+  pub exact : IsExact holds s subject script log reports
   pub taken : ℕ
   pub begun : Appends before after (take taken (written subject s.log log))
 
@@ -132,6 +172,11 @@ AreSources holds (WordsFrom.File file) workers (WordSources.Listed sources) =
 abbrev pub count_of : WordSources → ℕ
 count_of (WordSources.Seeded sources) = length sources.items
 count_of (WordSources.Listed sources) = length sources.items
+
+-- the words that they are to give
+abbrev pub streams_of : WordSources → List Words
+streams_of (WordSources.Seeded sources) = map words_from sources.items
+streams_of (WordSources.Listed sources) = map words_to_come sources.items
 
 -- the file may hold a text of which this line is the first that lists no words
 abbrev pub HasBadWords : (Name → List ℕ → Type 0) → WordsFrom → ℕ → ℕ → Type 0

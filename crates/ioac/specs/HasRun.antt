@@ -8,13 +8,15 @@ use Rattle.ioa_run.specs.Alone.{IsInput, most_turns}
 use Rattle.ioa_run.specs.Boards.{Standing}
 use Rattle.ioa_run.specs.Outcomes.{IsLogOf}
 use Rattle.ioa_run.specs.Reports.{AreTold}
+use Rattle.ioa_system.specs.Logs.{logged}
 use Rattle.ioac.specs.declared.run.Ran.{Ran}
 use Rattle.ioac.specs.declared.settings.Settings.{Settings}
-use Rattle.ioac.specs.Alone.{IsReady}
+use Rattle.ioac.specs.Alone.{IsExact, IsReady}
 use Rattle.ioac.specs.Running.{RunsAs}
 use Rattle.ioac.specs.Subjects.{Subject}
 
--- all was read, and the program was run as this subject: the log is that of a board, and the reports tell of its history
+-- all was read, and the program was run as this subject: the log is that of a board, the reports tell of its history, and on one thread both
+-- are those of the subject's turns
 pub record HasRun (holds : Name → List ℕ → Type 0) (s : Settings) (r : Ran) : Type 0 where
   pub subject : Subject
   pub script : List Act
@@ -26,3 +28,4 @@ pub record HasRun (holds : Name → List ℕ → Type 0) (s : Settings) (r : Ran
   pub states : List Node
   pub log : IsLogOf r.program board r.log.entries.items r.log.end states
   pub told : AreTold (length r.program.members) script s.turns board.history board.failure r.reports.items
+  pub exact : IsExact holds s subject script (logged r.log) r.reports.items

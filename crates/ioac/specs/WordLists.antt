@@ -1,7 +1,7 @@
 -- Words for the workers of a run, as a file lists them: a line for each component, in order.
-use Rattle.std.specs.Prelude.{◌≡◌, ℕ, zero, suc, ◌+◌, ◌-◌, ◌^◌, ◌<◌, ◌==◌, List, [], ◌∷◌, length, Option, Some, None, IsSome, if◌then◌else◌, slice_get}
+use Rattle.std.specs.Prelude.{◌≡◌, ℕ, zero, suc, ◌+◌, ◌-◌, ◌^◌, ◌<◌, ◌==◌, List, [], ◌∷◌, length, Option, Some, None, IsSome, if◌then◌else◌, get_or, slice_get}
 use Rattle.std.specs.List.{onto_first}
-use Rattle.std.specs.Option.{option_map, option_and_then}
+use Rattle.std.specs.Option.{option_map, option_map_or, option_and_then}
 use Rattle.ioa_value.specs.Lists.{first_line, after_line}
 use Rattle.ioac.specs.declared.words_file.ListedWords.{ListedWords}
 use Rattle.ioac.specs.Numerals.{numeral_in}
@@ -42,3 +42,11 @@ pub record IsBadWords (workers : ℕ) (text : List ℕ) (n : ℕ) : Type 0 where
 -- the words that a source lists
 abbrev pub listed : ListedWords → List ℕ
 listed s = s.words.items
+
+-- those of them that are to come, by number from 0, and zeros after them
+abbrev pub words_to_come : ListedWords → ℕ → ℕ
+words_to_come s k = get_or s.words.items (s.taken + k) 0
+
+-- the words of the text's line of this number, by number from 0, and zeros after them; a line that is no list of words has none
+abbrev pub line_words : List ℕ → ℕ → ℕ → ℕ
+line_words text i k = option_map_or (λ ws. get_or ws k 0) (words_in (line_at i text)) 0

@@ -7,9 +7,9 @@ ghost use Rattle.ioa_system.specs.Answers.{ending_of};
 ghost use Rattle.ioa_system.specs.Logs.{logged};
 ghost use Rattle.ioa_log.specs.declared.failure.LogErr.{LogErr};
 ghost use Rattle.ioa_log.specs.Failing.{HasFailed};
-ghost use Rattle.ioa_run.specs.Alone.{IsOutcome, Refuses};
+ghost use Rattle.ioa_run.specs.Alone.{IsAlone, IsOutcome, NoMemory, Refuses};
 ghost use Rattle.ioa_run.specs.declared.run_err.RunErr.{RunErr};
-ghost use Rattle.ioac.specs.Alone.{BeginsRunOf, IsRunServed, IsUnrun, count_of};
+ghost use Rattle.ioac.specs.Alone.{BeginsRunOf, IsRunServed, IsUnrun, count_of, streams_of};
 ghost use Rattle.ioac.specs.Failing.{IsUnwritten};
 ghost use Rattle.ioac.specs.HasRun.{HasRun};
 ghost use Rattle.ioac.specs.Serving.{reports_of};
@@ -37,7 +37,8 @@ use std::thread::Threads;
 /// Runs a composition of a source, or an object, on one thread or on one for each worker, and writes its trace and how it ends, or its log.
 ///
 /// Whatever the words and the schedule: where the answer is `Ok`, what was written is the trace and the end, or the log, of a legal
-/// history of what the source declares or the object is of, in which the environment performs its script in order.
+/// history of what the source declares or the object is of, in which the environment performs its script in order. On one thread, where
+/// memory is refused to no worker, it is the one history in which all workers take turns, round by round, each by its own words.
 ///
 /// # Errors
 /// `Io` where a file is not read; `Refused` where the source or its composition is, `Object` where the object is; `BadWords` where a line of
@@ -124,6 +125,7 @@ fn run_sources<H: Threads + Wait + Sync>(
 ) -> Result<Outcome, RunErr>
     requires sources { count_of words ≡ length program.now.members }
     ensures outcome { IfOk result (λ o. IsOutcome program.now (map act_of script.now) settings.now.turns o) }
+    ensures alone { IfOk result (λ o. settings.now.alone ≡ true → NoMemory o.reports.items → IsAlone program.now (streams_of words) (map act_of script.now) settings.now.turns o) }
     ensures refused { Refuses program.now (map act_of script.now) settings.now.turns result }
     ensures threads { IsErrOf result RunErr.Threads → settings.now.alone ≡ false }
 {
@@ -144,6 +146,7 @@ fn run_by<H: Threads + Wait + Sync, W: Words + Send + Drop>(
 ) -> Result<Outcome, RunErr>
     requires sources { length words.items ≡ length program.now.members }
     ensures outcome { IfOk result (λ o. IsOutcome program.now (map act_of script.now) settings.now.turns o) }
+    ensures alone { IfOk result (λ o. settings.now.alone ≡ true → NoMemory o.reports.items → IsAlone program.now (map W.stream words.items) (map act_of script.now) settings.now.turns o) }
     ensures refused { Refuses program.now (map act_of script.now) settings.now.turns result }
     ensures threads { IsErrOf result RunErr.Threads → settings.now.alone ≡ false }
 {

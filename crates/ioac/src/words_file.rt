@@ -28,9 +28,9 @@ impl ListedWords {
 }
 
 impl Words for ListedWords {
-    ghost use Rattle.std.specs.Prelude.{◌+◌, get_or};
+    ghost use Rattle.ioac.specs.WordLists.{words_to_come};
 
-    ghost stream = { λ s k. get_or s.words.items (s.taken + k) 0 };
+    ghost stream = { words_to_come };
 
     fn next(&mut self) -> u32 {
         if self.taken < self.words.len() {
