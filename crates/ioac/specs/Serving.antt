@@ -95,6 +95,18 @@ IsUnserved holds lacks bars saves kept (Request.Compile file out composition) by
 IsUnserved holds lacks bars saves kept (Request.Explain code) bytes reader_failed writer_failed before after e = IsUnexplained code writer_failed before after e
 IsUnserved holds lacks bars saves kept Request.Library bytes reader_failed writer_failed before after e = IsUnlisted writer_failed before after e
 
+-- a list or a log is to be read
+abbrev pub IsReading : Request → Type 0
+IsReading (Request.Replay file composition) = Unit {0}
+IsReading (Request.ReplayLog file composition) = Unit {0}
+IsReading (Request.ReplayInvariants file composition) = Unit {0}
+IsReading (Request.Monitor file composition) = Unit {0}
+IsReading (Request.Run settings) = ⊥
+IsReading (Request.Check file) = ⊥
+IsReading (Request.Compile file out composition) = ⊥
+IsReading (Request.Explain code) = ⊥
+IsReading Request.Library = ⊥
+
 -- a file is to be written
 abbrev pub IsSaving : Request → Type 0
 IsSaving (Request.Replay file composition) = ⊥

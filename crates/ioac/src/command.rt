@@ -5,7 +5,7 @@ ghost use Rattle.ioa_log.specs.Failing.{HasFailed};
 ghost use Rattle.ioac.specs.CommandLine.{IsAsked};
 ghost use Rattle.ioac.specs.Commands.{IsAnswered, IsUnasked};
 ghost use Rattle.ioac.specs.Logs.{found_of};
-ghost use Rattle.ioac.specs.Serving.{IsSaving, IsServed, IsUnserved, reports_of};
+ghost use Rattle.ioac.specs.Serving.{IsReading, IsSaving, IsServed, IsUnserved, reports_of};
 ghost use Rattle.ioac.specs.Statuses.{answer_status, ending_status, found_status, number_of};
 ghost use Rattle.ioac.specs.declared.failure.Failure.{Failure};
 ghost use Rattle.ioac.specs.declared.status.Status.{Status};
@@ -40,7 +40,7 @@ use std::thread::Threads;
 ///
 /// What is wrong goes to `errors`, and nothing is written then, or, where a device failed, no more than a beginning. The status is that of
 /// `Unable` where `errors` failed, too. Any other status means that no device failed in this call. A file is changed only where it is asked
-/// for: by an object that stands in it whole.
+/// for: by an object that stands in it whole. `input` is read only where a list or a log is asked for.
 pub fn command<
     H: Threads + Wait + Sync,
     S: AsStr,
@@ -65,6 +65,7 @@ pub fn command<
         (W.contents output.old) (W.contents output.new) (HasFailed (W.failure_count output.old) (W.failure_count output.new))
         (E.contents errors.old) (E.contents errors.new) (HasFailed (E.failure_count errors.old) (E.failure_count errors.new)) status)) }
     ensures kept { ((request : Request) → IsAsked (map S.text words.now) request → IsSaving request → ⊥) → store.new ≡ store.old }
+    ensures unread { ((request : Request) → IsAsked (map S.text words.now) request → IsReading request → ⊥) → input.new ≡ input.old }
     ensures passed { (result ≡ number_of statuses.Unable → ⊥) → (R.failure_count input.new ≡ R.failure_count input.old) × (W.failure_count output.new ≡ W.failure_count output.old) × (E.failure_count errors.new ≡ E.failure_count errors.old) }
 {
     perform(rt, alloc, words, store, input, output, errors).number()
@@ -95,6 +96,7 @@ fn perform<
         (W.contents output.old) (W.contents output.new) (HasFailed (W.failure_count output.old) (W.failure_count output.new))
         (E.contents errors.old) (E.contents errors.new) (HasFailed (E.failure_count errors.old) (E.failure_count errors.new)) result) }
     ensures kept { ((request : Request) → IsAsked (map S.text words.now) request → IsSaving request → ⊥) → store.new ≡ store.old }
+    ensures unread { ((request : Request) → IsAsked (map S.text words.now) request → IsReading request → ⊥) → input.new ≡ input.old }
     ensures passed { (result ≡ statuses.Unable → ⊥) → (R.failure_count input.new ≡ R.failure_count input.old) × (W.failure_count output.new ≡ W.failure_count output.old) × (E.failure_count errors.new ≡ E.failure_count errors.old) }
 {
     match parse(alloc, words) {
@@ -121,6 +123,7 @@ fn answer<H: Threads + Wait + Sync, F: Store, R: InputDevice, W: OutputDevice, E
         (W.contents output.old) (W.contents output.new) (HasFailed (W.failure_count output.old) (W.failure_count output.new))
         (E.contents errors.old) (E.contents errors.new) (HasFailed (E.failure_count errors.old) (E.failure_count errors.new)) result }
     ensures kept { (IsSaving asked.now → ⊥) → store.new ≡ store.old }
+    ensures unread { (IsReading asked.now → ⊥) → input.new ≡ input.old }
     ensures passed { (result ≡ statuses.Unable → ⊥) → (R.failure_count input.new ≡ R.failure_count input.old) × (W.failure_count output.new ≡ W.failure_count output.old) × (E.failure_count errors.new ≡ E.failure_count errors.old) }
 {
     match serve(rt, alloc, asked, store, input, output) {
@@ -147,6 +150,7 @@ fn serve<H: Threads + Wait + Sync, F: Store, R: InputDevice, W: OutputDevice>(
         (HasFailed (R.failure_count input.old) (R.failure_count input.new)) (HasFailed (W.failure_count output.old) (W.failure_count output.new))
         (W.contents output.old) (W.contents output.new) e) }
     ensures kept { (IsSaving asked.now → ⊥) → store.new ≡ store.old }
+    ensures unread { (IsReading asked.now → ⊥) → input.new ≡ input.old }
     ensures passed { (IsErrOf result (Failure.List LogErr.Io) → ⊥) → (R.failure_count input.new ≡ R.failure_count input.old) × (W.failure_count output.new ≡ W.failure_count output.old) }
 {
     match asked {
