@@ -32,7 +32,7 @@ module _ (p : Prog) (h : Hosted) (c : Composed) (s : Stands h c) (m : Means p c)
   same_ending : (acts : List Act) → (run (tabled p) acts (start_states p)).ending ≡ (run (hosts_of h) acts (host_starts h)).ending
   same_ending acts = sym (host_run p h c acts s m).ending
 
-  same_text : (acts : List Act) → run_text p.types p.hidden (tabled p) (start_states p) acts ≡ run_text h.types h.hidden (hosts_of h) (host_starts h) acts
+  pub same_text : (acts : List Act) → run_text p.types p.hidden (tabled p) (start_states p) acts ≡ run_text h.types h.hidden (hosts_of h) (host_starts h) acts
   same_text acts =
       let n : ℕ = (run (hosts_of h) acts (host_starts h)).performed in
       let end : Ending = (run (tabled p) acts (start_states p)).ending in
@@ -65,7 +65,7 @@ module _ (p : Prog) (h : Hosted) (c : Composed) (s : Stands h c) (m : Means p c)
     ),
   )
 
-begins : (bytes : List ℕ) (p : Prog) → IsObject bytes p → begins_object bytes ≡ true
+pub begins : (bytes : List ℕ) (p : Prog) → IsObject bytes p → begins_object bytes ≡ true
 begins bytes p is = ap begins_object is.spelled
 
 -- what holds of an object's table, and of the hosts where it holds of their program's table, holds of what the source declares

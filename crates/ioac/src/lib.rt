@@ -40,7 +40,7 @@ pub use code::Code;
 pub use compile::{compile_text, compose_text, is_object, object_of, program_of};
 pub use failure::Failure;
 pub use invariant_replay::{Finding, replay_invariants_text};
-pub use laws::objects_do_as_their_sources;
+pub use laws::{objects_do_as_their_sources, objects_run_as_their_sources, one_composition};
 pub use library::write_library;
 pub use log_replay::replay_log_text;
 pub use monitor::monitor_text;

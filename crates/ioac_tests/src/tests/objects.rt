@@ -3,7 +3,7 @@
 use crate::tests::reached::program;
 use crate::tests::shelf::{COUNTER, object};
 use ioa_object::{ObjErr, objects_are_their_programs, read_object, write_object};
-use ioac::objects_do_as_their_sources;
+use ioac::{objects_do_as_their_sources, objects_run_as_their_sources, one_composition};
 use std::alloc::Global;
 use std::process::Abort;
 use std::test::Fail;
@@ -140,6 +140,8 @@ fn each_byte_is_changed(rt: HostRuntime) -> Result<(), Fail> {
     let alloc = rt.alloc();
     objects_are_their_programs();
     objects_do_as_their_sources();
+    objects_run_as_their_sources();
+    one_composition();
     let mut bytes = SMALLEST;
     let mut taken: u32 = 0;
     for place in 0..SMALLEST.len() {
