@@ -50,6 +50,7 @@ no_file : (word : Text) (rows : List Row) → (word ≡ codes "explain" → ⊥)
 no_file word rows other another none (Request.Replay file composition) h = let z : None ≡ Some file.now = sym none ∙ h.1.0 in cc
 no_file word rows other another none (Request.ReplayLog file composition) h = let z : None ≡ Some file.now = sym none ∙ h.1.0 in cc
 no_file word rows other another none (Request.ReplayInvariants file composition) h = let z : None ≡ Some file.now = sym none ∙ h.1.0 in cc
+no_file word rows other another none (Request.Log file composition) h = let z : None ≡ Some file.now = sym none ∙ h.1.0 in cc
 no_file word rows other another none (Request.Monitor file composition) h = let z : None ≡ Some file.now = sym none ∙ h.1.0 in cc
 no_file word rows other another none (Request.Run s) h = let z : None ≡ Some s.file.now = sym none ∙ h.1.names.0 in cc
 no_file word rows other another none (Request.Check file) h = let z : None ≡ Some file.now = sym none ∙ h.1 in cc
@@ -70,6 +71,7 @@ no_explanation : (rows : List Row) → ((code : Code) → first_of (codes "CODE"
 no_explanation rows none (Request.Replay file composition) h = apart (codes "explain") (codes "replay") refl refl h.0.0
 no_explanation rows none (Request.ReplayLog file composition) h = apart (codes "explain") (codes "replay") refl refl h.0.0
 no_explanation rows none (Request.ReplayInvariants file composition) h = apart (codes "explain") (codes "replay") refl refl h.0.0
+no_explanation rows none (Request.Log file composition) h = apart (codes "explain") (codes "log") refl refl h.0
 no_explanation rows none (Request.Monitor file composition) h = apart (codes "explain") (codes "monitor") refl refl h.0
 no_explanation rows none (Request.Run s) h = apart (codes "explain") (codes "run") refl refl h.0
 no_explanation rows none (Request.Check file) h = apart (codes "explain") (codes "check") refl refl h.0
@@ -89,6 +91,7 @@ no_out : (rows : List Row) → first_of (codes "OUT") rows ≡ None → AsksNoth
 no_out rows none (Request.Replay file composition) h = apart (codes "compile") (codes "replay") refl refl h.0.0
 no_out rows none (Request.ReplayLog file composition) h = apart (codes "compile") (codes "replay") refl refl h.0.0
 no_out rows none (Request.ReplayInvariants file composition) h = apart (codes "compile") (codes "replay") refl refl h.0.0
+no_out rows none (Request.Log file composition) h = apart (codes "compile") (codes "log") refl refl h.0
 no_out rows none (Request.Monitor file composition) h = apart (codes "compile") (codes "monitor") refl refl h.0
 no_out rows none (Request.Run s) h = apart (codes "compile") (codes "run") refl refl h.0
 no_out rows none (Request.Check file) h = apart (codes "compile") (codes "check") refl refl h.0
@@ -107,6 +110,7 @@ no_log : (word : Text) (rows : List Row) → word ≡ codes "replay" → is_set 
 no_log word rows is log invariants (Request.Replay file composition) h = false≢true (sym h.0.2 ∙ invariants)
 no_log word rows is log invariants (Request.ReplayLog file composition) h = false≢true (sym log ∙ h.0.1)
 no_log word rows is log invariants (Request.ReplayInvariants file composition) h = false≢true (sym log ∙ h.0.1)
+no_log word rows is log invariants (Request.Log file composition) h = apart (codes "replay") (codes "log") refl refl (sym is ∙ h.0)
 no_log word rows is log invariants (Request.Monitor file composition) h = apart (codes "replay") (codes "monitor") refl refl (sym is ∙ h.0)
 no_log word rows is log invariants (Request.Run s) h = apart (codes "replay") (codes "run") refl refl (sym is ∙ h.0)
 no_log word rows is log invariants (Request.Check file) h = apart (codes "replay") (codes "check") refl refl (sym is ∙ h.0)
@@ -142,6 +146,7 @@ no_run rows none (Request.Replay file composition) h = apart (codes "run") (code
 no_run rows none (Request.ReplayLog file composition) h = apart (codes "run") (codes "replay") refl refl h.0.0
 no_run rows none (Request.ReplayInvariants file composition) h = apart (codes "run") (codes "replay") refl refl h.0.0
 no_run rows none (Request.Run s) h = none s h.1
+no_run rows none (Request.Log file composition) h = apart (codes "run") (codes "log") refl refl h.0
 no_run rows none (Request.Monitor file composition) h = apart (codes "run") (codes "monitor") refl refl h.0
 no_run rows none (Request.Check file) h = apart (codes "run") (codes "check") refl refl h.0
 no_run rows none (Request.Compile file out composition) h = apart (codes "run") (codes "compile") refl refl h.0

@@ -4,7 +4,7 @@ use Rattle.std.specs.Io.KnownBytes.{Appends}
 use Rattle.std.proofs.lemmas.Bool.{false≢true}
 use Rattle.ioa_value.specs.Actions.{Act, Name}
 use Rattle.ioa_value.specs.Lists.{ReadsList}
-use Rattle.ioa_tree.specs.Compositions.{Composed}
+use Rattle.ioa_tree.specs.Compositions.{Composed, components_of, starts_of}
 use Rattle.ioa_tree.specs.Hosts.{Hosted, hosts_of, host_starts}
 use Rattle.ioa_tree.specs.Runs.{Ending, run, trace}
 use Rattle.ioa_compose.specs.Stands.{Stands}
@@ -18,10 +18,12 @@ use Rattle.ioa_system.proofs.Hosting.{host_run, host_trace}
 use Rattle.ioa_log.specs.Judging.{agrees}
 use Rattle.ioa_log.specs.LogTexts.{ReadsLog}
 use Rattle.ioa_log.specs.Replays.{Replays, replay_text, run_text}
+use Rattle.ioa_log.specs.RunLogs.{WritesRunLog}
 use Rattle.ioa_log.proofs.Hosting.{hosts_judged, hosts_monitored, hosts_seen}
 use Rattle.ioa_log.proofs.Judged.{judged_means}
+use Rattle.ioa_log.proofs.LoggedLists.{hosts_alike, source_alike, writes_alike}
 use Rattle.ioa_log.proofs.Monitored.{hides_means, monitored_means}
-use Rattle.ioac.specs.Carried.{MonitorsAsSource, ReplaysAsSource, ReplaysLogsAsSource}
+use Rattle.ioac.specs.Carried.{LogsListsAsSource, MonitorsAsSource, ReplaysAsSource, ReplaysLogsAsSource}
 use Rattle.ioac.specs.Compiling.{IsCompiled}
 use Rattle.ioac.specs.Headline.{Gives, begins_object}
 use Rattle.ioac.specs.Logs.{Monitors, ReplaysLog, performed_in}
@@ -54,6 +56,12 @@ module _ (p : Prog) (h : Hosted) (c : Composed) (s : Stands h c) (m : Means p c)
     subst (λ (bs : List ℕ). Appends before after bs) (same_text (actions_of log)) text,
   )
 
+  hosts_log : (bytes : List ℕ) (end : Ending) (before after : Option (List ℕ)) → WritesRunLog p.types (tabled p) (start_states p) bytes end before after
+      → WritesRunLog h.types (hosts_of h) (host_starts h) bytes end before after
+  hosts_log bytes end before after k =
+      writes_alike c.types h.types (components_of c) (starts_of c) (hosts_of h) (host_starts h) (hosts_alike h c s) bytes end before after
+      (writes_alike p.types c.types (tabled p) (start_states p) (components_of c) (starts_of c) (source_alike p c m) bytes end before after k)
+
   hosts_monitor : (bytes : List ℕ) (answer : Option Ending) (before after : Option (List ℕ)) → Monitors (of_table p) bytes answer before after → Monitors (of_hosts h) bytes answer before after
   hosts_monitor bytes answer before after (seen, (log, reads, answered, text)) = (
     hosts_seen h c s (hides_means p c m ∙ seen),
@@ -84,6 +92,11 @@ replays_as_source text object name of bytes end before after =
 pub logs_as_source : ReplaysLogsAsSource
 logs_as_source text object name of bytes end before after =
     carried (λ x. ReplaysLog x bytes end before after) text object name of (λ p h c s m k. hosts_replay_log p h c s m bytes end before after k)
+
+pub list_logs_as_source : LogsListsAsSource
+list_logs_as_source text object name of bytes end before after =
+    carried (λ x. WritesRunLog (its_types x) (its_components x) (its_starts x) bytes end before after) text object name of
+    (λ p h c s m k. hosts_log p h c s m bytes end before after k)
 
 pub monitors_as_source : MonitorsAsSource
 monitors_as_source text object name of bytes answer before after =

@@ -18,11 +18,10 @@ use Rattle.ioa_log.specs.declared.failure.LogErr.{LogErr}
 use Rattle.ioa_log.specs.Failing.{IsListErr, IsTextErr}
 use Rattle.ioa_log.specs.Judging.{IsReplayErr, judged, wrong_owner, diverges}
 use Rattle.ioa_log.specs.LogTexts.{GoesOnAt, HasNoEnd, NoEntryAt, NotJsonAt, ReadsLog}
-use Rattle.ioa_log.specs.Replays.{BeginsReplay}
 use Rattle.ioac.specs.declared.failure.Failure.{Failure}
 use Rattle.ioac.specs.Headline.{Declares, Gives, Spells}
-use Rattle.ioac.specs.Failing.{BeginsReplayOf, IsFailure, IsLogFailure, IsMonitorFailure, IsRefusedGiven, IsRefusedSource, IsUnwritten}
-use Rattle.ioac.specs.Subjects.{IsOpen, Subject, its_components, its_hidden, its_starts, its_types}
+use Rattle.ioac.specs.Failing.{Given, IsFailure, IsLogFailure, IsMonitorFailure, IsRefusedGiven, IsRefusedSource, IsUnwritten}
+use Rattle.ioac.specs.Subjects.{IsOpen, Subject, its_components, its_starts, its_types}
 
 -- what checking and composing answer, told of the text
 pub declared : (text : List ℕ) (name : Option Name) (s u : SourceTree) (t : CompositionTree) (h : Hosted) → Spells text s → u ≡ s → WellFormed s
@@ -158,22 +157,22 @@ log_judged text name bytes failed s log LogErr.NoEnd of reads only owner divergi
 log_judged text name bytes failed s log LogErr.AfterEnd of reads only owner diverging = absurd only
 log_judged text name bytes failed s log LogErr.Io of reads only owner diverging = absurd only
 
--- what was written of a list where a device failed
-pub list_unwritten : (text : List ℕ) (name : Option Name) (bytes before after : Option (List ℕ)) (s : Subject) (x : LogErr) {T : Type 0}
+-- what was written for a list where a device failed
+pub list_unwritten : (text : List ℕ) (name : Option Name) (bytes before after : Option (List ℕ)) (begins : Option (List ℕ) → Option (List ℕ) → Subject → List ℕ → Type 0)
+    (s : Subject) (x : LogErr) {T : Type 0}
     → Gives text name s → IsListErr x
     → ((n : ℕ) → IsErrOf {T = T} (Err x) (LogErr.BadLine n) → Keeps before after)
     → (IsErrOf {T = T} (Err x) LogErr.OutOfMemory → Keeps before after)
-    → (IsErrOf {T = T} (Err x) LogErr.Io
-    → Keeps before after ⊎ IfSome bytes (λ xs. BeginsReplay (its_types s) (its_hidden s) (its_components s) (its_starts s) xs before after))
-    → IsUnwritten (BeginsReplayOf text name bytes) before after (Failure.List x)
-list_unwritten text name bytes before after s (LogErr.BadLine n) of only bad memory io = bad n refl
-list_unwritten text name bytes before after s LogErr.OutOfMemory of only bad memory io = memory refl
-list_unwritten text name bytes before after s LogErr.Io of only bad memory io = elim (io refl) [ inl k ↦ inl k | inr k ↦ inr (s, of, k) ]
-list_unwritten text name bytes before after s (LogErr.NotJson n) of only bad memory io = absurd only
-list_unwritten text name bytes before after s (LogErr.WrongOwner n) of only bad memory io = absurd only
-list_unwritten text name bytes before after s (LogErr.Diverges n) of only bad memory io = absurd only
-list_unwritten text name bytes before after s LogErr.NoEnd of only bad memory io = absurd only
-list_unwritten text name bytes before after s LogErr.AfterEnd of only bad memory io = absurd only
+    → (IsErrOf {T = T} (Err x) LogErr.Io → Keeps before after ⊎ IfSome bytes (begins before after s))
+    → IsUnwritten (λ b a. Given text name bytes (begins b a)) before after (Failure.List x)
+list_unwritten text name bytes before after begins s (LogErr.BadLine n) of only bad memory io = bad n refl
+list_unwritten text name bytes before after begins s LogErr.OutOfMemory of only bad memory io = memory refl
+list_unwritten text name bytes before after begins s LogErr.Io of only bad memory io = elim (io refl) [ inl k ↦ inl k | inr k ↦ inr (s, of, k) ]
+list_unwritten text name bytes before after begins s (LogErr.NotJson n) of only bad memory io = absurd only
+list_unwritten text name bytes before after begins s (LogErr.WrongOwner n) of only bad memory io = absurd only
+list_unwritten text name bytes before after begins s (LogErr.Diverges n) of only bad memory io = absurd only
+list_unwritten text name bytes before after begins s LogErr.NoEnd of only bad memory io = absurd only
+list_unwritten text name bytes before after begins s LogErr.AfterEnd of only bad memory io = absurd only
 
 -- nothing was written
 pub kept : (begins : Option (List ℕ) → Option (List ℕ) → Type 0) (before after : Option (List ℕ)) (e : Failure) → Keeps before after → IsUnwritten begins before after e

@@ -16,6 +16,7 @@ use Rattle.ioa_run.specs.Hosts.{BoardsLike, Held}
 use Rattle.ioac.specs.Alone.{IsRoundRobin, IsRun, told_of, written}
 use Rattle.ioac.specs.Compiling.{IsCompiled}
 use Rattle.ioac.specs.Headline.{Declares, Gives, IsReplay, IsLogReplay, IsMonitoring}
+use Rattle.ioac.specs.ListLogs.{IsListLog}
 use Rattle.ioac.specs.Subjects.{Subject, of_table}
 
 -- what a replay of a list by the object writes, a replay by the source's composition writes
@@ -27,6 +28,11 @@ ReplaysAsSource = (text object : List ℕ) (name of : Option Name) (bytes : List
 abbrev pub ReplaysLogsAsSource : Type 0
 ReplaysLogsAsSource = (text object : List ℕ) (name of : Option Name) (bytes : List ℕ) (end : Ending) (before after : Option (List ℕ))
     → IsCompiled text name object → IsLogReplay object of bytes end before after → IsLogReplay text name bytes end before after
+
+-- the same of the log of a list's run
+abbrev pub LogsListsAsSource : Type 0
+LogsListsAsSource = (text object : List ℕ) (name of : Option Name) (bytes : List ℕ) (end : Ending) (before after : Option (List ℕ))
+    → IsCompiled text name object → IsListLog object of bytes end before after → IsListLog text name bytes end before after
 
 -- and of a monitor's answer
 abbrev pub MonitorsAsSource : Type 0

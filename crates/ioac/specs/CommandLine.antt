@@ -73,6 +73,9 @@ library_app = new_app (codes "library")
 abbrev pub replay_app : App
 replay_app = with_rule (with_rule (with_rule (with_rule (new_app (codes "replay")) file_rule) comp_rule) log_rule) invariants_rule
 
+abbrev pub log_app : App
+log_app = with_rule (with_rule (new_app (codes "log")) file_rule) comp_rule
+
 abbrev pub monitor_app : App
 monitor_app = with_rule (with_rule (new_app (codes "monitor")) file_rule) comp_rule
 
@@ -88,7 +91,8 @@ bare_app = on_top (λ top. record top { has_version = true; subcommand_required 
 abbrev pub ioac_app : App
 ioac_app =
     with_subcommand
-    (with_subcommand (with_subcommand (with_subcommand (with_subcommand (with_subcommand (with_subcommand bare_app check_app.top) compile_app.top) replay_app.top) run_app.top)
+    (with_subcommand
+    (with_subcommand (with_subcommand (with_subcommand (with_subcommand (with_subcommand (with_subcommand bare_app check_app.top) compile_app.top) replay_app.top) log_app.top) run_app.top)
     monitor_app.top)
     explain_app.top)
     library_app.top
@@ -129,6 +133,7 @@ IsAskedBy (Some found) (Request.ReplayLog file composition) =
     IsReplayWith true false found × Names found.1 file.now (option_copied composition)
 IsAskedBy (Some found) (Request.ReplayInvariants file composition) =
     IsReplayWith true true found × Names found.1 file.now (option_copied composition)
+IsAskedBy (Some found) (Request.Log file composition) = (found.0 ≡ codes "log") × Names found.1 file.now (option_copied composition)
 IsAskedBy (Some found) (Request.Monitor file composition) = (found.0 ≡ codes "monitor") × Names found.1 file.now (option_copied composition)
 IsAskedBy (Some found) (Request.Run settings) = (found.0 ≡ codes "run") × AreSettings found.1 settings
 IsAskedBy (Some found) (Request.Check file) = (found.0 ≡ codes "check") × (first_of (codes "FILE") found.1 ≡ Some file.now)

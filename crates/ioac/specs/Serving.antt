@@ -17,6 +17,7 @@ use Rattle.ioac.specs.Compiling.{IsMade, IsUnmade}
 use Rattle.ioac.specs.Explained.{IsExplained, IsUnexplained}
 use Rattle.ioac.specs.Headline.{IsReplay, IsLogReplay, IsInvariantReplay, IsMonitoring}
 use Rattle.ioac.specs.Libraries.{IsUnlisted}
+use Rattle.ioac.specs.ListLogs.{BeginsListLogOf, IsListLog}
 use Rattle.ioac.specs.Logs.{Found}
 use Rattle.ioac.specs.Alone.{BeginsRunOf, IsRunServed, IsUnrun}
 use Rattle.ioac.specs.Failing.{IsFailure, IsInvariantFailure, IsLogFailure, IsMonitorFailure, IsUnwritten, BeginsReplayOf, BeginsLogOf, BeginsFoundOf, BeginsMonitorOf}
@@ -38,8 +39,8 @@ run_failure (RunErr.BadInput i) = Failure.BadInput i
 run_failure RunErr.Threads = Failure.Threads
 run_failure RunErr.OutOfMemory = Failure.OutOfMemory
 
--- the file may hold a text such that the list or the log was replayed, or monitored, in the composition that is asked for, the last
--- one where none is; or that passed the check; or its object was put in a file; or a composition was run; or the code was explained; or
+-- the file may hold a text such that the list or the log was replayed, or monitored, or the log of the list's run was written, in the
+-- composition that is asked for, the last one where none is; or that passed the check; or its object was put in a file; or a composition was run; or the code was explained; or
 -- the library's text was written. Reports of a run are left to be told
 abbrev pub IsServed : (Name → List ℕ → Type 0) → (Name → List ℕ → Type 0) → Request → Option (List ℕ) → Option (List ℕ) → Option (List ℕ) → Option (List ℕ) → Status → Type 0
 IsServed holds saves (Request.Replay file composition) bytes before after told status =
@@ -51,6 +52,9 @@ IsServed holds saves (Request.ReplayLog file composition) bytes before after tol
 IsServed holds saves (Request.ReplayInvariants file composition) bytes before after told status =
     (text : List ℕ) × holds file.now text
     × ((found : Found) × IfSome bytes (λ xs. IsInvariantReplay text (option_copied composition) xs found before after) × (status ≡ found_status found)) × (told ≡ None)
+IsServed holds saves (Request.Log file composition) bytes before after told status =
+    (text : List ℕ) × holds file.now text
+    × ((end : Ending) × IfSome bytes (λ xs. IsListLog text (option_copied composition) xs end before after) × (status ≡ ending_status end)) × (told ≡ None)
 IsServed holds saves (Request.Monitor file composition) bytes before after told status =
     (text : List ℕ) × holds file.now text
     × ((answer : Option Ending) × IfSome bytes (λ xs. IsMonitoring text (option_copied composition) xs answer before after) × (status ≡ answer_status answer)) × (told ≡ None)
@@ -66,7 +70,7 @@ IsServed holds saves Request.Library bytes before after told status = Appends be
 abbrev pub IsUnread : Type 0 → Option (List ℕ) → Option (List ℕ) → Failure → Type 0
 IsUnread lacks before after e = (((e ≡ Failure.Io) × lacks) ⊎ (e ≡ Failure.OutOfMemory)) × Keeps before after
 
--- The file is not read, or it may hold a text with which the replay, the monitor or the check fails so; or no object is made; or nothing is
+-- The file is not read, or it may hold a text with which the replay, the log of a list, the monitor or the check fails so; or no object is made; or nothing is
 -- run; or the code is not explained; or the library's text is not written. The reader of standard input and the writer failed where these say so.
 abbrev pub IsUnserved : (Name → List ℕ → Type 0) → (Name → Type 0) → (Name → Type 0) → (Name → List ℕ → Type 0) → Type 0 → Request → Option (List ℕ) → Type 0 → Type 0 → Option (List ℕ) → Option (List ℕ) → Failure → Type 0
 IsUnserved holds lacks bars saves kept (Request.Replay file composition) bytes reader_failed writer_failed before after e =
@@ -81,6 +85,10 @@ IsUnserved holds lacks bars saves kept (Request.ReplayInvariants file compositio
     IsUnread (lacks file.now) before after e
     ⊎ ((text : List ℕ) × holds file.now text × IsInvariantFailure text (option_copied composition) bytes (reader_failed ⊎ writer_failed) e
     × IsUnwritten (BeginsFoundOf text (option_copied composition) bytes) before after e)
+IsUnserved holds lacks bars saves kept (Request.Log file composition) bytes reader_failed writer_failed before after e =
+    IsUnread (lacks file.now) before after e
+    ⊎ ((text : List ℕ) × holds file.now text × IsFailure text (option_copied composition) bytes (reader_failed ⊎ writer_failed) e
+    × IsUnwritten (BeginsListLogOf text (option_copied composition) bytes) before after e)
 IsUnserved holds lacks bars saves kept (Request.Monitor file composition) bytes reader_failed writer_failed before after e =
     IsUnread (lacks file.now) before after e
     ⊎ ((text : List ℕ) × holds file.now text × IsMonitorFailure text (option_copied composition) bytes (reader_failed ⊎ writer_failed) e
@@ -112,6 +120,7 @@ abbrev pub IsSaving : Request → Type 0
 IsSaving (Request.Replay file composition) = ⊥
 IsSaving (Request.ReplayLog file composition) = ⊥
 IsSaving (Request.ReplayInvariants file composition) = ⊥
+IsSaving (Request.Log file composition) = ⊥
 IsSaving (Request.Monitor file composition) = ⊥
 IsSaving (Request.Run settings) = ⊥
 IsSaving (Request.Check file) = ⊥

@@ -17,6 +17,7 @@ use crate::explain::explain;
 use crate::failure::Failure;
 use crate::invariant_replay::{Finding, replay_invariants_text};
 use crate::library::write_library;
+use crate::list_log::log_list_text;
 use crate::log_replay::replay_log_text;
 use crate::monitor::monitor_text;
 use crate::object_file::compile_file;
@@ -135,7 +136,7 @@ fn answer<H: Threads + Wait + Sync, F: Store, R: InputDevice, W: OutputDevice, E
 /// Does what is asked, and answers the exit status with what is left to tell.
 ///
 /// # Errors
-/// `Io` or `OutOfMemory` where the file is not read, and those of the replay, the run, the monitor, the check or the object of what it holds,
+/// `Io` or `OutOfMemory` where the file is not read, and those of the replay, the log, the run, the monitor, the check or the object of what it holds,
 /// or of the explanation or the library. Nothing was written then, or, where a device failed, no more than a beginning of the text.
 fn serve<H: Threads + Wait + Sync, F: Store, R: InputDevice, W: OutputDevice>(
     rt: &H,
@@ -175,6 +176,11 @@ fn serve<H: Threads + Wait + Sync, F: Store, R: InputDevice, W: OutputDevice>(
             )?;
             Ok(silent(status_of_finding(finding)))
         }
+        Request::Log { file, composition } => {
+            let components = store.load(alloc, file)?;
+            let end = log_list_text(alloc, components.as_slice(), *composition, input, output)?;
+            Ok(silent(status_of(end)))
+        }
         Request::Run(settings) => run_file(rt, alloc, settings, store, output),
         Request::Monitor { file, composition } => {
             let specification = store.load(alloc, file)?;
@@ -211,7 +217,7 @@ fn serve<H: Threads + Wait + Sync, F: Store, R: InputDevice, W: OutputDevice>(
     }
 }
 
-/// The exit status of a list or a log that was replayed to this end.
+/// The exit status of a list or a log that was replayed, or of a list whose run was logged, to this end.
 pub fn status_of(end: End) -> Status
     ensures { result ≡ ending_status (ending_of end) }
 {

@@ -1,7 +1,7 @@
 ghost use Rattle.std.specs.Prelude.{◌≡◌, false, map, codes, IfOk, IfSome, IfNone};
 ghost use Rattle.clap.specs.Words.{FailsBy, app_of, fault_of, found_of, new_app, rows_of, rule_of, subcommand_of, subcommand_rows_of};
 ghost use Rattle.ioac.specs.CommandLine as asked;
-ghost use Rattle.ioac.specs.CommandLine.{IsAskedBy, IsLocal, check_app, code_rule, comp_rule, compile_app, explain_app, file_rule, invariants_rule, ioac_app, library_app, log_rule, monitor_app, out_rule, replay_app};
+ghost use Rattle.ioac.specs.CommandLine.{IsAskedBy, IsLocal, check_app, code_rule, comp_rule, compile_app, explain_app, file_rule, invariants_rule, ioac_app, library_app, log_app, log_rule, monitor_app, out_rule, replay_app};
 ghost use Rattle.ioac.specs.declared.request.Request.{Request};
 
 use crate::code::Code;
@@ -26,6 +26,11 @@ pub enum Request<'a> {
     },
     /// To replay the log on standard input in a composition of a source, and to ask for the source's invariants in each of its states.
     ReplayInvariants {
+        file: &'a str,
+        composition: Option<&'a str>,
+    },
+    /// To write the log of the run of the list on standard input in a composition of a source, or in an object.
+    Log {
         file: &'a str,
         composition: Option<&'a str>,
     },
@@ -204,6 +209,22 @@ fn described_replay<'a>(alloc: Global) -> Command<'a>
         .override_usage("ioac replay [--comp <NAME>] [--log [--invariants]] <FILE>")
 }
 
+fn log_command<'a>(alloc: Global) -> Result<Command<'a>, AllocError>
+    ensures app { IfOk result (λ command. app_of command ≡ log_app) }
+    ensures local { IfOk result IsLocal }
+{
+    Command::new(alloc, "log")
+        .about("Performs a list of actions, read on standard input, and prints the log of this run")
+        .after_help(
+            "The log has each action that is performed, with its worker, and last the end. An action that faults is its last entry;\n\
+             where one is not enabled or none, the log ends as done before it. `replay --log` and `monitor` take the log.\n\
+             Exit status: 0 done, 1 source or object refused, 2 bad command line, 3 ended by a fault,\n\
+             4 list refused, or ended not enabled or not an action, 5 memory, the file or a device.",
+        )
+        .arg(file_argument(alloc))?
+        .arg(composition_option(alloc))
+}
+
 fn monitor_command<'a>(alloc: Global) -> Result<Command<'a>, AllocError>
     ensures app { IfOk result (λ command. app_of command ≡ monitor_app) }
     ensures local { IfOk result IsLocal }
@@ -233,6 +254,7 @@ fn program<'a>(alloc: Global) -> Result<Command<'a>, AllocError>
         .subcommand(check_command(alloc)?)?
         .subcommand(compile_command(alloc)?)?
         .subcommand(replay_command(alloc)?)?
+        .subcommand(log_command(alloc)?)?
         .subcommand(run_command(alloc)?)?
         .subcommand(monitor_command(alloc)?)?
         .subcommand(explain_command(alloc)?)?
@@ -278,6 +300,14 @@ pub fn read_request<'a>(matches: &ArgMatches<'a>) -> Option<Request<'a>>
                 (false, true) => None,
                 (false, false) => Some(Request::Replay { file, composition }),
             }
+        }
+        "log" => {
+            let file = found.get_str("FILE")?;
+            let taken = found.get_str("comp");
+            Some(Request::Log {
+                file,
+                composition: taken,
+            })
         }
         "run" => {
             let settings = read_settings(found)?;

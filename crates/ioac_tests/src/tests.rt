@@ -14,6 +14,7 @@ mod given;
 mod invariants;
 mod library;
 mod lines;
+mod list_logs;
 mod lists;
 mod logs;
 mod objects;

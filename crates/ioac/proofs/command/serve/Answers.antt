@@ -30,6 +30,15 @@ returns-in_err-finding-in-ReplayInvariants-clause-refused g c =
     err_so c.from_residual-in_err-finding-in-ReplayInvariants.result e.0 c.in_err-finding-in-ReplayInvariants.field-0.0 _ e.1 e.2
     (rw c.in-ReplayInvariants.is (inr (text, held, said.refused, said.unwritten)))
 
+pub returns-in_err-end-in-Log-clause-refused : goal.returns-in_err-end-in-Log-clause-refused
+returns-in_err-end-in-Log-clause-refused g c =
+    let e = err_from_is_err_and c.from_residual-in_err-end-in-Log.result c.from_residual-in_err-end-in-Log.ensures.1 in
+    let text = c.as_slice-in-Log.result.now in
+    let held = subst (g.F.Store.holds c.args.store.now c.in-Log.file.now) (sym c.as_slice-in-Log.ensures.value) c.in_ok-components-in-Log.ensures.ok in
+    let said = c.in_err-end-in-Log.ensures in
+    err_so c.from_residual-in_err-end-in-Log.result e.0 c.in_err-end-in-Log.field-0.0 _ e.1 e.2
+    (rw c.in-Log.is (inr (text, held, said.refused, said.unwritten)))
+
 pub returns-in_err-answer-in-Monitor-clause-refused : goal.returns-in_err-answer-in-Monitor-clause-refused
 returns-in_err-answer-in-Monitor-clause-refused g c =
     let e = err_from_is_err_and c.from_residual-in_err-answer-in-Monitor.result c.from_residual-in_err-answer-in-Monitor.ensures.1 in

@@ -55,7 +55,8 @@ returns-in_err-end-clause-unwritten g c =
     let before = g.W.Write.contents c.args.output.now in
     let after = g.W.Write.contents c.replay_list.new.output in
     err_so c.from_residual-in_err-end.result e.0 _ _ e.1 e.2
-    (list_unwritten c.args.text.now (option_copied c.args.composition) (g.R.Read.remaining c.args.input.now) before after of.0 x of.1 c.in_err-end.ensures.only
+    (list_unwritten c.args.text.now (option_copied c.args.composition) (g.R.Read.remaining c.args.input.now) before after
+    (λ b a s xs. BeginsReplay (its_types s) (its_hidden s) (its_components s) (its_starts s) xs b a) of.0 x of.1 c.in_err-end.ensures.only
     c.in_err-end.ensures.unwritten c.in_err-end.ensures.memory
     (λ io. of_both c.in_ok-program.program of.0
     (λ s. Keeps before after ⊎ IfSome (g.R.Read.remaining c.args.input.now) (λ xs. BeginsReplay (its_types s) (its_hidden s) (its_components s) (its_starts s) xs before after))

@@ -126,3 +126,16 @@ returns-in_ok-out-in-compile-clause-some c =
       names found c.in_ok-file-in-compile.file composition.result c.in_ok-file-in-compile.ensures composition.ensures,
       sym (first_value-rows (found_of found) (codes "OUT")) ∙ sym c.in_ok-out-in-compile.ensures,
     )
+
+pub returns-in_err-file-in-log-clause-none : goal.returns-in_err-file-in-log-clause-none
+returns-in_err-file-in-log-clause-none c =
+    let here = lent c.args.matches.now c.in_ok-name.found.now c.in_ok-name.name.now (codes "log") c.in_ok-name.ensures.name c.in_ok-name.ensures.rows c.in-log.is in
+    unfiled c.args.matches.now c.in_ok-name.found.now (codes "log") _ here (apart (codes "log") (codes "explain") refl refl) (apart (codes "log") (codes "library") refl refl)
+    c.in_err-file-in-log.ensures c.from_residual-in_err-file-in-log.ensures
+
+pub returns-in_ok-file-in-log-clause-some : goal.returns-in_ok-file-in-log-clause-some
+returns-in_ok-file-in-log-clause-some c =
+    let found = c.in_ok-name.found.now in
+    let here = lent c.args.matches.now found c.in_ok-name.name.now (codes "log") c.in_ok-name.ensures.name c.in_ok-name.ensures.rows c.in-log.is in
+    asks c.args.matches.now found (codes "log") (Request.Log c.in_ok-file-in-log.file c.get_str-taken.result) here
+    (refl, names found c.in_ok-file-in-log.file c.get_str-taken.result c.in_ok-file-in-log.ensures c.get_str-taken.ensures)
