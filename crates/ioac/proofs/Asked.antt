@@ -55,6 +55,7 @@ no_file word rows other another none (Request.Monitor file composition) h = let 
 no_file word rows other another none (Request.Run s) h = let z : None ≡ Some s.file.now = sym none ∙ h.1.names.0 in cc
 no_file word rows other another none (Request.Check file) h = let z : None ≡ Some file.now = sym none ∙ h.1 in cc
 no_file word rows other another none (Request.Compile file out composition) h = let z : None ≡ Some file.now = sym none ∙ h.1.0 in cc
+no_file word rows other another none (Request.Dump file) h = let z : None ≡ Some file.now = sym none ∙ h.1 in cc
 no_file word rows other another none (Request.Explain code) h = other h.0
 no_file word rows other another none Request.Library h = another h
 
@@ -76,6 +77,7 @@ no_explanation rows none (Request.Monitor file composition) h = apart (codes "ex
 no_explanation rows none (Request.Run s) h = apart (codes "explain") (codes "run") refl refl h.0
 no_explanation rows none (Request.Check file) h = apart (codes "explain") (codes "check") refl refl h.0
 no_explanation rows none (Request.Compile file out composition) h = apart (codes "explain") (codes "compile") refl refl h.0
+no_explanation rows none (Request.Dump file) h = apart (codes "explain") (codes "dump") refl refl h.0
 no_explanation rows none (Request.Explain code) h = none code h.1
 no_explanation rows none Request.Library h = apart (codes "explain") (codes "library") refl refl h
 
@@ -96,6 +98,7 @@ no_out rows none (Request.Monitor file composition) h = apart (codes "compile") 
 no_out rows none (Request.Run s) h = apart (codes "compile") (codes "run") refl refl h.0
 no_out rows none (Request.Check file) h = apart (codes "compile") (codes "check") refl refl h.0
 no_out rows none (Request.Compile file out composition) h = let z : None ≡ Some out.now = sym none ∙ h.2 in cc
+no_out rows none (Request.Dump file) h = apart (codes "compile") (codes "dump") refl refl h.0
 no_out rows none (Request.Explain code) h = apart (codes "compile") (codes "explain") refl refl h.0
 no_out rows none Request.Library h = apart (codes "compile") (codes "library") refl refl h
 
@@ -115,6 +118,7 @@ no_log word rows is log invariants (Request.Monitor file composition) h = apart 
 no_log word rows is log invariants (Request.Run s) h = apart (codes "replay") (codes "run") refl refl (sym is ∙ h.0)
 no_log word rows is log invariants (Request.Check file) h = apart (codes "replay") (codes "check") refl refl (sym is ∙ h.0)
 no_log word rows is log invariants (Request.Compile file out composition) h = apart (codes "replay") (codes "compile") refl refl (sym is ∙ h.0)
+no_log word rows is log invariants (Request.Dump file) h = apart (codes "replay") (codes "dump") refl refl (sym is ∙ h.0)
 no_log word rows is log invariants (Request.Explain code) h = apart (codes "replay") (codes "explain") refl refl (sym is ∙ h.0)
 no_log word rows is log invariants Request.Library h = apart (codes "replay") (codes "library") refl refl (sym is ∙ h)
 
@@ -150,6 +154,7 @@ no_run rows none (Request.Log file composition) h = apart (codes "run") (codes "
 no_run rows none (Request.Monitor file composition) h = apart (codes "run") (codes "monitor") refl refl h.0
 no_run rows none (Request.Check file) h = apart (codes "run") (codes "check") refl refl h.0
 no_run rows none (Request.Compile file out composition) h = apart (codes "run") (codes "compile") refl refl h.0
+no_run rows none (Request.Dump file) h = apart (codes "run") (codes "dump") refl refl h.0
 no_run rows none (Request.Explain code) h = apart (codes "run") (codes "explain") refl refl h.0
 no_run rows none Request.Library h = apart (codes "run") (codes "library") refl refl h
 

@@ -64,6 +64,9 @@ check_app = with_rule (new_app (codes "check")) file_rule
 abbrev pub compile_app : App
 compile_app = with_rule (with_rule (with_rule (new_app (codes "compile")) file_rule) out_rule) comp_rule
 
+abbrev pub dump_app : App
+dump_app = with_rule (new_app (codes "dump")) file_rule
+
 abbrev pub explain_app : App
 explain_app = with_rule (new_app (codes "explain")) code_rule
 
@@ -92,7 +95,9 @@ abbrev pub ioac_app : App
 ioac_app =
     with_subcommand
     (with_subcommand
-    (with_subcommand (with_subcommand (with_subcommand (with_subcommand (with_subcommand (with_subcommand bare_app check_app.top) compile_app.top) replay_app.top) log_app.top) run_app.top)
+    (with_subcommand
+    (with_subcommand (with_subcommand (with_subcommand (with_subcommand (with_subcommand (with_subcommand bare_app check_app.top) compile_app.top) dump_app.top) replay_app.top) log_app.top)
+    run_app.top)
     monitor_app.top)
     explain_app.top)
     library_app.top
@@ -139,6 +144,7 @@ IsAskedBy (Some found) (Request.Run settings) = (found.0 ≡ codes "run") × Are
 IsAskedBy (Some found) (Request.Check file) = (found.0 ≡ codes "check") × (first_of (codes "FILE") found.1 ≡ Some file.now)
 IsAskedBy (Some found) (Request.Compile file out composition) =
     (found.0 ≡ codes "compile") × Names found.1 file.now (option_copied composition) × (first_of (codes "OUT") found.1 ≡ Some out.now)
+IsAskedBy (Some found) (Request.Dump file) = (found.0 ≡ codes "dump") × (first_of (codes "FILE") found.1 ≡ Some file.now)
 IsAskedBy (Some found) (Request.Explain code) = (found.0 ≡ codes "explain") × (first_of (codes "CODE") found.1 ≡ Some (spelling code))
 IsAskedBy (Some found) Request.Library = found.0 ≡ codes "library"
 

@@ -14,6 +14,7 @@ use Rattle.ioac.specs.declared.store.StoreErr.{StoreErr}
 use Rattle.ioac.specs.declared.status.Status.{Status}
 use Rattle.ioac.specs.Checks.{IsCheck, IsCheckFailure, IsUnchecked}
 use Rattle.ioac.specs.Compiling.{IsMade, IsUnmade}
+use Rattle.ioac.specs.Dumps.{IsDumped, IsUndumped}
 use Rattle.ioac.specs.Explained.{IsExplained, IsUnexplained}
 use Rattle.ioac.specs.Headline.{IsReplay, IsLogReplay, IsInvariantReplay, IsMonitoring}
 use Rattle.ioac.specs.Libraries.{IsUnlisted}
@@ -40,8 +41,8 @@ run_failure RunErr.Threads = Failure.Threads
 run_failure RunErr.OutOfMemory = Failure.OutOfMemory
 
 -- the file may hold a text such that the list or the log was replayed, or monitored, or the log of the list's run was written, in the
--- composition that is asked for, the last one where none is; or that passed the check; or its object was put in a file; or a composition was run; or the code was explained; or
--- the library's text was written. Reports of a run are left to be told
+-- composition that is asked for, the last one where none is; or that passed the check; or its object was put in a file; or it was dumped; or a
+-- composition was run; or the code was explained; or the library's text was written. Reports of a run are left to be told
 abbrev pub IsServed : (Name → List ℕ → Type 0) → (Name → List ℕ → Type 0) → Request → Option (List ℕ) → Option (List ℕ) → Option (List ℕ) → Option (List ℕ) → Status → Type 0
 IsServed holds saves (Request.Replay file composition) bytes before after told status =
     (text : List ℕ) × holds file.now text
@@ -63,6 +64,8 @@ IsServed holds saves (Request.Check file) bytes before after told status =
     ((text : List ℕ) × holds file.now text × IsCheck text before after) × (status ≡ Status.Done) × (told ≡ None)
 IsServed holds saves (Request.Compile file out composition) bytes before after told status =
     IsMade holds saves file.now out.now (option_copied composition) before after × (status ≡ Status.Done) × (told ≡ None)
+IsServed holds saves (Request.Dump file) bytes before after told status =
+    ((object : List ℕ) × holds file.now object × IsDumped object before after) × (status ≡ Status.Done) × (told ≡ None)
 IsServed holds saves (Request.Explain code) bytes before after told status = IsExplained code before after × (status ≡ Status.Done) × (told ≡ None)
 IsServed holds saves Request.Library bytes before after told status = Appends before after library_text × (status ≡ Status.Done) × (told ≡ None)
 
@@ -70,8 +73,9 @@ IsServed holds saves Request.Library bytes before after told status = Appends be
 abbrev pub IsUnread : Type 0 → Option (List ℕ) → Option (List ℕ) → Failure → Type 0
 IsUnread lacks before after e = (((e ≡ Failure.Io) × lacks) ⊎ (e ≡ Failure.OutOfMemory)) × Keeps before after
 
--- The file is not read, or it may hold a text with which the replay, the log of a list, the monitor or the check fails so; or no object is made; or nothing is
--- run; or the code is not explained; or the library's text is not written. The reader of standard input and the writer failed where these say so.
+-- The file is not read, or it may hold a text with which the replay, the log of a list, the monitor, the check or the dump fails so; or no object is
+-- made; or nothing is run; or the code is not explained; or the library's text is not written. The reader of standard input and the writer failed
+-- where these say so.
 abbrev pub IsUnserved : (Name → List ℕ → Type 0) → (Name → Type 0) → (Name → Type 0) → (Name → List ℕ → Type 0) → Type 0 → Request → Option (List ℕ) → Type 0 → Type 0 → Option (List ℕ) → Option (List ℕ) → Failure → Type 0
 IsUnserved holds lacks bars saves kept (Request.Replay file composition) bytes reader_failed writer_failed before after e =
     IsUnread (lacks file.now) before after e
@@ -100,6 +104,8 @@ IsUnserved holds lacks bars saves kept (Request.Check file) bytes reader_failed 
     ⊎ ((text : List ℕ) × holds file.now text × IsCheckFailure text writer_failed e × IsUnchecked before after e)
 IsUnserved holds lacks bars saves kept (Request.Compile file out composition) bytes reader_failed writer_failed before after e =
     IsUnmade holds lacks bars saves kept file.now out.now (option_copied composition) writer_failed before after e
+IsUnserved holds lacks bars saves kept (Request.Dump file) bytes reader_failed writer_failed before after e =
+    IsUnread (lacks file.now) before after e ⊎ ((object : List ℕ) × holds file.now object × IsUndumped object writer_failed before after e)
 IsUnserved holds lacks bars saves kept (Request.Explain code) bytes reader_failed writer_failed before after e = IsUnexplained code writer_failed before after e
 IsUnserved holds lacks bars saves kept Request.Library bytes reader_failed writer_failed before after e = IsUnlisted writer_failed before after e
 
@@ -108,10 +114,12 @@ abbrev pub IsReading : Request → Type 0
 IsReading (Request.Replay file composition) = Unit {0}
 IsReading (Request.ReplayLog file composition) = Unit {0}
 IsReading (Request.ReplayInvariants file composition) = Unit {0}
+IsReading (Request.Log file composition) = Unit {0}
 IsReading (Request.Monitor file composition) = Unit {0}
 IsReading (Request.Run settings) = ⊥
 IsReading (Request.Check file) = ⊥
 IsReading (Request.Compile file out composition) = ⊥
+IsReading (Request.Dump file) = ⊥
 IsReading (Request.Explain code) = ⊥
 IsReading Request.Library = ⊥
 
@@ -125,5 +133,6 @@ IsSaving (Request.Monitor file composition) = ⊥
 IsSaving (Request.Run settings) = ⊥
 IsSaving (Request.Check file) = ⊥
 IsSaving (Request.Compile file out composition) = Unit {0}
+IsSaving (Request.Dump file) = ⊥
 IsSaving (Request.Explain code) = ⊥
 IsSaving Request.Library = ⊥

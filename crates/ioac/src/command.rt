@@ -13,6 +13,7 @@ ghost use Rattle.ioac.specs.declared.status.Status.TheVariants as statuses;
 ghost use Rattle.ioac.specs.declared.request.Request.{Request};
 
 use crate::check::check_text;
+use crate::dump::dump_object;
 use crate::explain::explain;
 use crate::failure::Failure;
 use crate::invariant_replay::{Finding, replay_invariants_text};
@@ -136,8 +137,8 @@ fn answer<H: Threads + Wait + Sync, F: Store, R: InputDevice, W: OutputDevice, E
 /// Does what is asked, and answers the exit status with what is left to tell.
 ///
 /// # Errors
-/// `Io` or `OutOfMemory` where the file is not read, and those of the replay, the log, the run, the monitor, the check or the object of what it holds,
-/// or of the explanation or the library. Nothing was written then, or, where a device failed, no more than a beginning of the text.
+/// `Io` or `OutOfMemory` where the file is not read, and those of the replay, the log, the run, the monitor, the check, the object or the dump of what it
+/// holds, or of the explanation or the library. Nothing was written then, or, where a device failed, no more than a beginning of the text.
 fn serve<H: Threads + Wait + Sync, F: Store, R: InputDevice, W: OutputDevice>(
     rt: &H,
     alloc: Global,
@@ -204,6 +205,11 @@ fn serve<H: Threads + Wait + Sync, F: Store, R: InputDevice, W: OutputDevice>(
             composition,
         } => {
             compile_file(alloc, file, out, *composition, store, output)?;
+            Ok(silent(Status::Done))
+        }
+        Request::Dump { file } => {
+            let object = store.load(alloc, file)?;
+            dump_object(alloc, object.as_slice(), output)?;
             Ok(silent(Status::Done))
         }
         Request::Explain { code } => {

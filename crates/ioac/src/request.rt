@@ -1,7 +1,7 @@
 ghost use Rattle.std.specs.Prelude.{◌≡◌, false, map, codes, IfOk, IfSome, IfNone};
 ghost use Rattle.clap.specs.Words.{FailsBy, app_of, fault_of, found_of, new_app, rows_of, rule_of, subcommand_of, subcommand_rows_of};
 ghost use Rattle.ioac.specs.CommandLine as asked;
-ghost use Rattle.ioac.specs.CommandLine.{IsAskedBy, IsLocal, check_app, code_rule, comp_rule, compile_app, explain_app, file_rule, invariants_rule, ioac_app, library_app, log_app, log_rule, monitor_app, out_rule, replay_app};
+ghost use Rattle.ioac.specs.CommandLine.{IsAskedBy, IsLocal, check_app, code_rule, comp_rule, compile_app, dump_app, explain_app, file_rule, invariants_rule, ioac_app, library_app, log_app, log_rule, monitor_app, out_rule, replay_app};
 ghost use Rattle.ioac.specs.declared.request.Request.{Request};
 
 use crate::code::Code;
@@ -51,6 +51,10 @@ pub enum Request<'a> {
         out: &'a str,
         composition: Option<&'a str>,
     },
+    /// To write what an object holds.
+    Dump {
+        file: &'a str,
+    },
     /// To say what a code means.
     Explain {
         code: Code,
@@ -80,6 +84,16 @@ pub fn file_argument<'a>(alloc: Global) -> Arg<'a>
     Arg::new(alloc, "FILE")
         .required(true)
         .help("A source of I/O automata, or an object of one")
+}
+
+/// The object that a subcommand takes.
+fn object_argument<'a>(alloc: Global) -> Arg<'a>
+    ensures rule { rule_of result ≡ file_rule }
+    ensures local { result.global ≡ false }
+{
+    Arg::new(alloc, "FILE")
+        .required(true)
+        .help("An object that `compile` made")
 }
 
 fn out_argument<'a>(alloc: Global) -> Arg<'a>
@@ -159,6 +173,19 @@ fn compile_command<'a>(alloc: Global) -> Result<Command<'a>, AllocError>
         .arg(source_argument(alloc))?
         .arg(out_argument(alloc))?
         .arg(composition_option(alloc))
+}
+
+fn dump_command<'a>(alloc: Global) -> Result<Command<'a>, AllocError>
+    ensures app { IfOk result (λ command. app_of command ≡ dump_app) }
+    ensures local { IfOk result IsLocal }
+{
+    Command::new(alloc, "dump")
+        .about("Prints the tables and the code of an object, an item a line")
+        .after_help(
+            "Types, variables, positions and constants have the numbers by which instructions name them.\n\
+             Exit status: 0 done, 1 no object, 2 bad command line, 5 memory, the file or a device.",
+        )
+        .arg(object_argument(alloc))
 }
 
 fn explain_command<'a>(alloc: Global) -> Result<Command<'a>, AllocError>
@@ -253,6 +280,7 @@ fn program<'a>(alloc: Global) -> Result<Command<'a>, AllocError>
         .disable_help_subcommand(true)
         .subcommand(check_command(alloc)?)?
         .subcommand(compile_command(alloc)?)?
+        .subcommand(dump_command(alloc)?)?
         .subcommand(replay_command(alloc)?)?
         .subcommand(log_command(alloc)?)?
         .subcommand(run_command(alloc)?)?
@@ -334,6 +362,10 @@ pub fn read_request<'a>(matches: &ArgMatches<'a>) -> Option<Request<'a>>
                 out,
                 composition: picked,
             })
+        }
+        "dump" => {
+            let file = found.get_str("FILE")?;
+            Some(Request::Dump { file })
         }
         "explain" => {
             let word = found.get_str("CODE")?;

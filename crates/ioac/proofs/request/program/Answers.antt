@@ -2,7 +2,7 @@ use Rattle.std.proofs.Common.{◌≡◌, true, ap, ap₂, ◌∙◌, codes}
 use Rattle.std.proofs.lemmas.Result.{IfOk-weaker}
 use Rattle.clap.specs.Words.{App, app_of, new_app, shape_of, with_subcommand}
 use Rattle.clap.specs.Simple.{Shape, app_of_fields, on_top}
-use Rattle.ioac.specs.CommandLine.{bare_app, check_app, compile_app, explain_app, library_app, log_app, monitor_app, replay_app, run_app}
+use Rattle.ioac.specs.CommandLine.{bare_app, check_app, compile_app, dump_app, explain_app, library_app, log_app, monitor_app, replay_app, run_app}
 use Rattle.ioac.proofs.request.program.Goals as goal
 
 pub returns : goal.returns
@@ -15,6 +15,7 @@ returns c =
     ap app_of_fields c.disable_help_subcommand.ensures ∙ ap (on_top (λ (s : Shape). record s { disable_help_subcommand = true })) helpful in
     let check : shape_of c.in_ok-check_command.field-0 ≡ check_app.top = ap (λ (a : App). a.top) c.in_ok-check_command.ensures.app in
     let compile : shape_of c.in_ok-compile_command.field-0 ≡ compile_app.top = ap (λ (a : App). a.top) c.in_ok-compile_command.ensures.app in
+    let dump : shape_of c.in_ok-dump_command.field-0 ≡ dump_app.top = ap (λ (a : App). a.top) c.in_ok-dump_command.ensures.app in
     let replay : shape_of c.in_ok-replay_command.field-0 ≡ replay_app.top = ap (λ (a : App). a.top) c.in_ok-replay_command.ensures.app in
     let log : shape_of c.in_ok-log_command.field-0 ≡ log_app.top = ap (λ (a : App). a.top) c.in_ok-log_command.ensures.app in
     let run : shape_of c.in_ok-run_command.field-0 ≡ run_app.top = ap (λ (a : App). a.top) c.in_ok-run_command.ensures.app in
@@ -23,9 +24,10 @@ returns c =
     let library : shape_of c.library_command.result ≡ library_app.top = ap (λ (a : App). a.top) c.library_command.ensures.app in
     let one = c.in_ok-subcommand.ensures.shape c.in_ok-check_command.ensures.local ∙ ap₂ with_subcommand bare check in
     let two = c.in_ok-subcommand-2.ensures.shape c.in_ok-compile_command.ensures.local ∙ ap₂ with_subcommand one compile in
-    let three = c.in_ok-subcommand-3.ensures.shape c.in_ok-replay_command.ensures.local ∙ ap₂ with_subcommand two replay in
-    let four = c.in_ok-subcommand-4.ensures.shape c.in_ok-log_command.ensures.local ∙ ap₂ with_subcommand three log in
-    let five = c.in_ok-subcommand-5.ensures.shape c.in_ok-run_command.ensures.local ∙ ap₂ with_subcommand four run in
-    let six = c.in_ok-subcommand-6.ensures.shape c.in_ok-monitor_command.ensures.local ∙ ap₂ with_subcommand five monitor in
-    let seven = c.in_ok-subcommand-7.ensures.shape c.in_ok-explain_command.ensures.local ∙ ap₂ with_subcommand six explain in
-    IfOk-weaker c.subcommand-8.result _ _ (λ command h. h.shape c.library_command.ensures.local ∙ ap₂ with_subcommand seven library) c.subcommand-8.ensures
+    let three = c.in_ok-subcommand-3.ensures.shape c.in_ok-dump_command.ensures.local ∙ ap₂ with_subcommand two dump in
+    let four = c.in_ok-subcommand-4.ensures.shape c.in_ok-replay_command.ensures.local ∙ ap₂ with_subcommand three replay in
+    let five = c.in_ok-subcommand-5.ensures.shape c.in_ok-log_command.ensures.local ∙ ap₂ with_subcommand four log in
+    let six = c.in_ok-subcommand-6.ensures.shape c.in_ok-run_command.ensures.local ∙ ap₂ with_subcommand five run in
+    let seven = c.in_ok-subcommand-7.ensures.shape c.in_ok-monitor_command.ensures.local ∙ ap₂ with_subcommand six monitor in
+    let eight = c.in_ok-subcommand-8.ensures.shape c.in_ok-explain_command.ensures.local ∙ ap₂ with_subcommand seven explain in
+    IfOk-weaker c.subcommand-9.result _ _ (λ command h. h.shape c.library_command.ensures.local ∙ ap₂ with_subcommand eight library) c.subcommand-9.ensures

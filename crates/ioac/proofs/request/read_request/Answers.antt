@@ -139,3 +139,16 @@ returns-in_ok-file-in-log-clause-some c =
     let here = lent c.args.matches.now found c.in_ok-name.name.now (codes "log") c.in_ok-name.ensures.name c.in_ok-name.ensures.rows c.in-log.is in
     asks c.args.matches.now found (codes "log") (Request.Log c.in_ok-file-in-log.file c.get_str-taken.result) here
     (refl, names found c.in_ok-file-in-log.file c.get_str-taken.result c.in_ok-file-in-log.ensures c.get_str-taken.ensures)
+
+pub returns-in_err-file-in-dump-clause-none : goal.returns-in_err-file-in-dump-clause-none
+returns-in_err-file-in-dump-clause-none c =
+    let here = lent c.args.matches.now c.in_ok-name.found.now c.in_ok-name.name.now (codes "dump") c.in_ok-name.ensures.name c.in_ok-name.ensures.rows c.in-dump.is in
+    unfiled c.args.matches.now c.in_ok-name.found.now (codes "dump") _ here (apart (codes "dump") (codes "explain") refl refl) (apart (codes "dump") (codes "library") refl refl)
+    c.in_err-file-in-dump.ensures c.from_residual-in_err-file-in-dump.ensures
+
+pub returns-in_ok-file-in-dump-clause-some : goal.returns-in_ok-file-in-dump-clause-some
+returns-in_ok-file-in-dump-clause-some c =
+    let found = c.in_ok-name.found.now in
+    let here = lent c.args.matches.now found c.in_ok-name.name.now (codes "dump") c.in_ok-name.ensures.name c.in_ok-name.ensures.rows c.in-dump.is in
+    asks c.args.matches.now found (codes "dump") (Request.Dump c.in_ok-file-in-dump.file) here
+    (refl, sym (first_value-rows (found_of found) (codes "FILE")) ∙ sym c.in_ok-file-in-dump.ensures)
