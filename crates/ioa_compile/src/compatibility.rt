@@ -23,7 +23,7 @@ pub fn clash_among(
     types: &Types,
     members: &[Member],
 ) -> Result<Option<Clash>, OutOfMemory>
-    requires declared { AreTypes types.now }
+    requires table { AreTypes types.now }
     requires members { AreMembers types.now (map member_code members.now) }
     ensures exact { IfOk result (λ clash. (clash ≡ None) ↔ Compatible (map table_component (map member_code members.now))) }
     ensures first { IfOk result (λ clash. IfSome clash (IsFirstClash (map member_code members.now))) }

@@ -31,7 +31,7 @@ pub fn compile(alloc: Global, composition: &Composition) -> Result<Program, OutO
 /// The components, compiled, in order.
 fn compile_members(alloc: Global, members: &[MemberTree]) -> Result<Vec<Member>, OutOfMemory>
     requires fine { AllFine component_limits (map member_of members.now) }
-    requires declared { (types : Table) × AreTypes types × AreOver types (map member_of members.now) }
+    requires table { (types : Table) × AreTypes types × AreOver types (map member_of members.now) }
     ensures { IfOk result (λ codes. AllZip DoesSame (map member_of members.now) (map member_code codes.items)) }
 {
     let mut codes = Vec::new(alloc);
@@ -44,7 +44,7 @@ fn compile_members(alloc: Global, members: &[MemberTree]) -> Result<Vec<Member>,
 /// A component, compiled.
 fn compile_member(alloc: Global, member: &MemberTree) -> Result<Member, OutOfMemory>
     requires fine { IsFine component_limits (member_of member.now) }
-    requires declared { AreTypes member.now.types }
+    requires table { AreTypes member.now.types }
     ensures { IfOk result (λ c. DoesSame (member_of member.now) (member_code c)) }
 {
     let slots = variable_types(alloc, &member.types, &member.automaton.variables)?;

@@ -31,7 +31,7 @@ pub(crate) fn compile_entries(
     member: &Member,
     slots: &[Ty],
 ) -> Result<Vec<Entry>, OutOfMemory>
-    requires declared { AreTypes member.now.types }
+    requires table { AreTypes member.now.types }
     requires fine { IsFine component_limits (member_of member.now) }
     requires slots { AreTypesOf member.now.types (variable_fields (automaton_of member.now.automaton)) (map number slots.now) }
     ensures { IfOk result (λ entries. AllZip (IsTranslated (member_of member.now) (map number slots.now)) (automaton_of member.now.automaton).entries (map entry_code entries.items)) }
@@ -50,7 +50,7 @@ fn compile_entry(
     slots: &[Ty],
     entry: &EntryTree,
 ) -> Result<Entry, OutOfMemory>
-    requires declared { AreTypes member.now.types }
+    requires table { AreTypes member.now.types }
     requires fine { IsFine component_limits (member_of member.now) }
     requires slots { AreTypesOf member.now.types (variable_fields (automaton_of member.now.automaton)) (map number slots.now) }
     requires own { IsEntryOf (member_of member.now) (entry_of entry.now) }

@@ -44,7 +44,7 @@ pub(crate) fn bind_all<'a>(
     instances: &'a [Instance],
 ) -> Result<Vec<Binding<'a>>, Refusal>
     requires types { types.now ≡ types_of (tree_of declarations.now) }
-    requires declared { AreTypes types.now }
+    requires table { AreTypes types.now }
     requires ready { AllReady (tree_of declarations.now) (map instance_of instances.now) }
     ensures bound { IfOk result (λ bs. AllZip (λ i b. Binds (tree_of declarations.now) (instance_of i) b) instances.now bs.items) }
     ensures refused { IfErr result (λ r. IsUnbound (tree_of declarations.now) (map instance_of instances.now) (reason_of r)) }
@@ -64,7 +64,7 @@ fn bind<'a>(
     instance: &'a Instance,
 ) -> Result<Binding<'a>, Refusal>
     requires types { types.now ≡ types_of (tree_of declarations.now) }
-    requires declared { AreTypes types.now }
+    requires table { AreTypes types.now }
     requires ready { IsReady (tree_of declarations.now) (instance_of instance.now) }
     ensures bound { IfOk result (λ b. Binds (tree_of declarations.now) (instance_of instance.now) b) }
     ensures refused { IfErr result (λ r. IsRefusedAt (tree_of declarations.now) index (instance_of instance.now) (reason_of r)) }
@@ -149,7 +149,7 @@ fn argument_values(
     types: &Types,
     arguments: &[Expression],
 ) -> Result<Result<Vec<Value>, Fault>, OutOfMemory>
-    requires declared { AreTypes types.now }
+    requires table { AreTypes types.now }
     requires closed { list_all (closed types.now) (map expr_of arguments.now) ≡ true }
     ensures { IfOk result (λ r. values_in r ≡ instances.argument_values types.now (map expr_of arguments.now)) }
 {

@@ -39,7 +39,7 @@ pub fn first_clash(
     types: &Types,
     signatures: &[Vec<SignedEntry>],
 ) -> Result<Option<Clash>, OutOfMemory>
-    requires declared { AreTypes types.now }
+    requires table { AreTypes types.now }
     requires signed { All (IsSignature types.now) (map signature_of signatures.now) }
     ensures exact { IfOk result (λ clash. (clash ≡ None) ↔ Compatible (signed_components types.now (map signature_of signatures.now))) }
     ensures first { IfOk result (λ clash. IfSome clash (IsFirstClash types.now (map signature_of signatures.now))) }

@@ -16,7 +16,7 @@ use std::alloc::Global;
 /// Whether no two of these clash, with inputs for crash and recover. It asks for well formed automata, with arguments of their
 /// formals' types.
 pub(crate) fn compatible(alloc: Global, types: &Types, bindings: &[Binding]) -> Result<(), Refusal>
-    requires declared { AreTypes types.now }
+    requires table { AreTypes types.now }
     requires sound { AllSound (map (plain_in types.now) bindings.now) }
     requires startable { AllStartable (map (plain_in types.now) bindings.now) }
     requires apart { AllApart bindings.now }

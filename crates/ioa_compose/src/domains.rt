@@ -28,7 +28,7 @@ pub fn positions(
     arguments: &[Value],
     entry: &Entry,
 ) -> Result<Vec<Position>, OutOfMemory>
-    requires declared { AreTypes types.now }
+    requires table { AreTypes types.now }
     requires fit { Fit types.now (automaton_of automaton.now).formals (map plain arguments.now) }
     requires fine { list_all (position_fine types.now (formals types.now types.now [] (automaton_of automaton.now))) (entry_of entry.now).positions ≡ true }
     ensures { IfOk result (λ ps. AreDomainsOf (instance_with types.now (automaton_of automaton.now) (map plain arguments.now)) (entry_of entry.now).positions (map domain_of ps.items)) }
@@ -48,7 +48,7 @@ fn known(
     arguments: &[Value],
     position: &Declared,
 ) -> Result<Position, OutOfMemory>
-    requires declared { AreTypes types.now }
+    requires table { AreTypes types.now }
     requires fit { Fit types.now (automaton_of automaton.now).formals (map plain arguments.now) }
     requires fine { position_fine types.now (formals types.now types.now [] (automaton_of automaton.now)) (position_of position.now) ≡ true }
     ensures { IfOk result (λ p. IsDomainOf (instance_with types.now (automaton_of automaton.now) (map plain arguments.now)) (position_of position.now) (domain_of p)) }
@@ -81,7 +81,7 @@ fn constant_value(
     arguments: &[Value],
     written: &Constant,
 ) -> Result<Value, OutOfMemory>
-    requires declared { AreTypes types.now }
+    requires table { AreTypes types.now }
     requires fit { Fit types.now (automaton_of automaton.now).formals (map plain arguments.now) }
     requires fine { constant_fine types.now (formals types.now types.now [] (automaton_of automaton.now)) (constant_of written.now) ≡ true }
     ensures { IfOk result (λ v. instances.constant_value (instance_with types.now (automaton_of automaton.now) (map plain arguments.now)) (constant_of written.now) ≡ Some (plain v)) }

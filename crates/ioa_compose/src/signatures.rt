@@ -29,7 +29,7 @@ pub(crate) fn signatures<'a>(
     types: &Types,
     bindings: &'a [Binding<'_>],
 ) -> Result<Vec<Vec<BoundEntry<'a>>>, OutOfMemory>
-    requires declared { AreTypes types.now }
+    requires table { AreTypes types.now }
     requires sound { AllSound (map (plain_in types.now) bindings.now) }
     requires startable { AllStartable (map (plain_in types.now) bindings.now) }
     requires own { AllOwn bindings.now }
@@ -47,7 +47,7 @@ fn signature<'a>(
     types: &Types,
     binding: &'a Binding<'_>,
 ) -> Result<Vec<BoundEntry<'a>>, OutOfMemory>
-    requires declared { AreTypes types.now }
+    requires table { AreTypes types.now }
     requires fit { let n = plain_in types.now binding.now in Fit n.types n.automaton.formals n.arguments }
     requires sound { (globals : List actions.Name) × (automaton_fine types.now types.now globals (plain_in types.now binding.now).automaton ≡ true) }
     requires own { IsOwn binding.now }

@@ -31,7 +31,7 @@ pub(crate) fn start_all(
     types: &Types,
     bindings: Vec<Binding<'_>>,
 ) -> Result<Vec<Member>, Refusal>
-    requires declared { AreTypes types.now }
+    requires table { AreTypes types.now }
     requires startable { AllStartable (map (plain_in types.now) bindings.items) }
     requires own { AllOwn bindings.items }
     ensures started { IfOk result (λ ms. AllZip (λ b m. IsStarted types.now b (member_of m)) bindings.entry.items ms.items) }
@@ -51,7 +51,7 @@ fn start(
     index: usize,
     binding: Binding<'_>,
 ) -> Result<Member, Refusal>
-    requires declared { AreTypes types.now }
+    requires table { AreTypes types.now }
     requires startable { IsStartable (plain_in types.now binding) }
     requires own { IsOwn binding }
     ensures started { IfOk result (λ m. IsStarted types.now binding.entry (member_of m)) }
@@ -145,7 +145,7 @@ fn start_values(
     types: &Types,
     binding: &Binding,
 ) -> Result<Result<Vec<Value>, Fault>, OutOfMemory>
-    requires declared { AreTypes types.now }
+    requires table { AreTypes types.now }
     requires startable { IsStartable (plain_in types.now binding.now) }
     ensures { IfOk result (λ r. values_in r ≡ instances.start_values (plain_in types.now binding.now)) }
 {
@@ -166,7 +166,7 @@ fn start_value(
     binding: &Binding,
     variable: &Variable,
 ) -> Result<Result<Value, Fault>, OutOfMemory>
-    requires declared { AreTypes types.now }
+    requires table { AreTypes types.now }
     requires fit { Fit types.now (plain_in types.now binding.now).automaton.formals (plain_in types.now binding.now).arguments }
     requires fine { start_fine types.now types.now [] (automaton_of binding.now.automaton.now) (variable_of variable.now) ≡ true }
     requires known { is_type types.now (variable_of variable.now).field ≡ true }
@@ -183,7 +183,7 @@ fn start_value(
 
 /// The first value of the type of this name, which is known.
 fn first_named(alloc: Global, types: &Types, name: &Name) -> Result<Value, OutOfMemory>
-    requires declared { AreTypes types.now }
+    requires table { AreTypes types.now }
     requires known { is_type types.now (record { name = []; ty = name_of name.now }) ≡ true }
     ensures { IfOk result (λ v. plain v ≡ named.first_named types.now (name_of name.now)) }
 {

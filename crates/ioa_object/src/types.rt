@@ -19,7 +19,7 @@ use ioa_value::{Declarations, Declared, Field, Form, LIMITS, Types};
 #[tactic(auto, unfolding(crate::specs::Reading::types_at))]
 pub(crate) fn types(cursor: &mut Cursor<'_>) -> Result<Types, ObjErr>
     ensures read { Reads (λ types. types) (spec.types_at cursor.old) result cursor.new }
-    ensures declared { IfOk result AreTypes }
+    ensures table { IfOk result AreTypes }
 {
     let alloc = cursor.alloc();
     let count = cursor.count(0, LIMITS.types)?;

@@ -63,7 +63,7 @@ fn parts(
     ty: Ty,
     fields: &[Field],
 ) -> Result<Vec<Value>, ObjErr>
-    requires declared { AreTypes types.now }
+    requires table { AreTypes types.now }
     requires own { ty.0 < length types.now }
     requires earlier { All (λ t. t < ty.0) (types_of (map tuple_field fields.now)) }
     ensures { Reads (λ v. map plain v.items) (spec.parts_at (spec.payload_in ty.0 types.now) [] (types_of (map tuple_field fields.now)) cursor.old) result cursor.new }
@@ -84,7 +84,7 @@ fn items(
     most: usize,
     of: Ty,
 ) -> Result<Vec<Value>, ObjErr>
-    requires declared { AreTypes types.now }
+    requires table { AreTypes types.now }
     requires own { ty.0 < length types.now }
     requires earlier { of.0 < ty.0 }
     ensures { Reads (λ v. map plain v.items) (spec.list_at 0 most (λ _. spec.payload_in ty.0 types.now of.0) cursor.old) result cursor.new }

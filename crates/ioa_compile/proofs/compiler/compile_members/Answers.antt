@@ -10,9 +10,9 @@ pub compile_member-requires-clause-fine : goal.compile_member-requires-clause-fi
 compile_member-requires-clause-fine c =
     fine_at c.args.members.now c.loop-member.member-index c.member-item.result c.requires.fine (omega arith) c.member-item.is
 
-pub compile_member-requires-clause-declared : goal.compile_member-requires-clause-declared
-compile_member-requires-clause-declared c =
-    let over = c.requires.declared in
+pub compile_member-requires-clause-table : goal.compile_member-requires-clause-table
+compile_member-requires-clause-table c =
+    let over = c.requires.table in
     declared_at over.0 c.args.members.now c.loop-member.member-index c.member-item.result over.1 over.2 (omega arith) c.member-item.is
 
 pub loop-member-preserved : goal.loop-member-preserved

@@ -7,7 +7,7 @@ use Rattle.ioa_compose.proofs.clashes.first_clash.Goals as goal
 
 found : (c : goal.After-drop-index) → IsFirstClash c.args.types.now (map signature_of c.args.signatures.now) (record { first = c.loop-i.i; second = c.in-Some.hit.other; entry = c.in-Some.hit.entry })
 found c =
-    clashes-first c.args.types.now c.requires.declared (map signature_of c.args.signatures.now) c.requires.signed (length c.args.signatures.now)
+    clashes-first c.args.types.now c.requires.table (map signature_of c.args.signatures.now) c.requires.signed (length c.args.signatures.now)
     (length-map c.args.signatures.now signature_of) (record { first = c.loop-i.i; second = c.in-Some.hit.other; entry = c.in-Some.hit.entry })
     c.loop-i.invariant c.in-Some.ensures.before c.in-Some.ensures.hit
 
@@ -19,6 +19,6 @@ returns-in-Some-clause-first c = found c
 
 pub returns-clause-exact : goal.returns-clause-exact
 returns-clause-exact c =
-    let compatible = none-clash c.args.types.now c.requires.declared (map signature_of c.args.signatures.now) c.requires.signed (length c.args.signatures.now)
+    let compatible = none-clash c.args.types.now c.requires.table (map signature_of c.args.signatures.now) c.requires.signed (length c.args.signatures.now)
     (length-map c.args.signatures.now signature_of) (λ k less. c.loop-i.invariant k (omega arith)) in
     ((λ none. compatible), (λ known. refl))

@@ -12,7 +12,7 @@ first_clash-requires-clause-signed c =
     let bs = c.args.bindings.now in
     let z = signed-lent (map (instance_in types) bs) c.in_ok-held.held.items c.deref.result.now c.in_ok-signatures.signatures.items c.deref-2.result.now
     c.deref-2.ensures.value c.in_ok-signatures.ensures c.deref.ensures.value c.in_ok-held.ensures in
-    all-signatures types c.requires.declared bs (map signature_of c.deref-2.result.now) z c.requires.sound c.requires.startable c.requires.apart
+    all-signatures types c.requires.table bs (map signature_of c.deref-2.result.now) z c.requires.sound c.requires.startable c.requires.apart
 
 pub returns-in-None-clause-ok : goal.returns-in-None-clause-ok
 returns-in-None-clause-ok c =

@@ -38,7 +38,7 @@ module _ (c d1 : Spot) (types : Table) (h1 : types_at c ≡ Ok (types, d1)) wher
       behind_members = behind_name ∙ then_ok (list_at 1 LIMITS.components (component_at types) d2) (λ ms. after_members types x ms.0 ms.1) (ms, d3) h3
 
 pub components-requires : goal.components-requires
-components-requires c = c.in_ok-types.ensures.declared
+components-requires c = c.in_ok-types.ensures.table
 
 pub returns-in_err-types : goal.returns-in_err-types
 returns-in_err-types c =

@@ -28,5 +28,5 @@ returns c =
     ∙ ap (λ t. Ok (t, c.loop.cursor)) (sym c.in_ok-finish.ensures) in
     record {
       read = read;
-      declared = (yielded _ _ c.in_ok-finish.field-0 c.loop.cursor (types_format.yields c.args.cursor.now c.alloc-alloc.ensures.bytes) read).fine;
+      table = (yielded _ _ c.in_ok-finish.field-0 c.loop.cursor (types_format.yields c.args.cursor.now c.alloc-alloc.ensures.bytes) read).fine;
     }

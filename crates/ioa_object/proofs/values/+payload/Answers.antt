@@ -27,14 +27,14 @@ items-returns-in_err-payload t c =
     let item : List Val → Reader Val = λ _. payload_in c.args.ty.0 c.args.types.now c.args.of.0 in
     amid_fails item _ c.from_residual-in_err-payload.result c.in_err-payload.field-0.0 _ c.in_ok-count.count c.loop.counter (map plain c.loop.found.items) c.loop.cursor c.payload.new.cursor
     c.from_residual-in_err-payload.ensures.1 c.loop-test.true c.loop.invariant
-    (fails_on c.in_err-payload.field-0.0 _ _ (λ f q. enough c.args.types.now c.requires.declared c.args.ty.0 (suc c.args.of.0) c.args.of.0 c.requires.earlier (omega arith) c.loop.cursor ∙ q) c.in_err-payload.ensures)
+    (fails_on c.in_err-payload.field-0.0 _ _ (λ f q. enough c.args.types.now c.requires.table c.args.ty.0 (suc c.args.of.0) c.args.of.0 c.requires.earlier (omega arith) c.loop.cursor ∙ q) c.in_err-payload.ensures)
 
 pub items-loop-preserved : goal.items-loop-preserved
 items-loop-preserved t c =
     let item : List Val → Reader Val = λ _. payload_in c.args.ty.0 c.args.types.now c.args.of.0 in
     amid_more item _ c.in_ok-count.count c.loop.counter (map plain c.loop.found.items) (map plain c.push.new.self.items) c.loop.cursor c.payload.new.cursor (plain c.in_ok-payload.field-0)
     c.loop-test.true c.loop.invariant
-    (enough c.args.types.now c.requires.declared c.args.ty.0 (suc c.args.of.0) c.args.of.0 c.requires.earlier (omega arith) c.loop.cursor ∙ c.in_ok-payload.ensures)
+    (enough c.args.types.now c.requires.table c.args.ty.0 (suc c.args.of.0) c.args.of.0 c.requires.earlier (omega arith) c.loop.cursor ∙ c.in_ok-payload.ensures)
     (seen_more plain c.loop.found.items c.push.new.self.items c.in_ok-payload.field-0 c.in_ok-push.ensures.items)
 
 pub items-returns : goal.items-returns
@@ -56,7 +56,7 @@ parts-returns-in_err-payload t c =
     let earlier = field_before c.args.ty.0 fs i d c.loop-i-test.true c.requires.earlier in
     parts_fails (payload_in c.args.ty.0 types) _ c.from_residual.result c.in_err-payload.field-0.0 _ (map plain c.loop-i.found.items) (types_of (map tuple_field fs)) i k c.loop-i.cursor c.payload.new.cursor
     c.from_residual.ensures.1 (type_there fs i d c.loop-i-test.true) c.loop-i.invariant
-    (fails_on c.in_err-payload.field-0.0 _ _ (λ f q. enough types c.requires.declared c.args.ty.0 (suc k) k earlier (omega arith) c.loop-i.cursor ∙ q)
+    (fails_on c.in_err-payload.field-0.0 _ _ (λ f q. enough types c.requires.table c.args.ty.0 (suc k) k earlier (omega arith) c.loop-i.cursor ∙ q)
     c.in_err-payload.ensures)
 
 pub parts-loop-i-preserved : goal.parts-loop-i-preserved
@@ -69,7 +69,7 @@ parts-loop-i-preserved t c =
     let earlier = field_before c.args.ty.0 fs i d c.loop-i-test.true c.requires.earlier in
     parts_more (payload_in c.args.ty.0 types) _ (map plain c.loop-i.found.items) (map plain c.push.new.self.items) (types_of (map tuple_field fs)) i k c.loop-i.cursor c.payload.new.cursor
     (plain c.in_ok-payload.field-0) (type_there fs i d c.loop-i-test.true) c.loop-i.invariant
-    (enough types c.requires.declared c.args.ty.0 (suc k) k earlier (omega arith) c.loop-i.cursor ∙ c.in_ok-payload.ensures)
+    (enough types c.requires.table c.args.ty.0 (suc k) k earlier (omega arith) c.loop-i.cursor ∙ c.in_ok-payload.ensures)
     (seen_more plain c.loop-i.found.items c.push.new.self.items c.in_ok-payload.field-0 c.in_ok-push.ensures.items)
 
 pub parts-returns : goal.parts-returns
