@@ -5,7 +5,7 @@ ghost use Rattle.ioa_tree.specs.View.{name_of, expr_of, position_of};
 ghost use Rattle.ioa_compose.specs.Held.{member_of};
 ghost use Rattle.ioa_compile.specs.Scopes.{scope_in, scope_over, scope_of_proposals, place_of, parameter_from};
 
-use crate::places::{field_place, parameter_place, variable_place};
+use crate::name_places::{field_place, parameter_place, variable_place};
 use ioa_check::expression_type;
 use ioa_compose::Member;
 use ioa_tree::{Entry, Expression, Field, Name, Position, Variable};

@@ -3,7 +3,7 @@ use Rattle.std.proofs.lemmas.Iterator.{YieldsList-from_slice}
 use Rattle.std.proofs.lemmas.Iterator.Search.{position_from_yields_List}
 use Rattle.ioa_tree.specs.View.{name_of, position_of}
 use Rattle.ioa_compile.proofs.Parameters.{is_called, position-parameter}
-use Rattle.ioa_compile.proofs.places.parameter_place.Goals as goal
+use Rattle.ioa_compile.proofs.name_places.parameter_place.Goals as goal
 
 pub returns : goal.returns
 returns c =

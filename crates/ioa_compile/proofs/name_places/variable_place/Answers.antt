@@ -4,7 +4,7 @@ use Rattle.std.proofs.lemmas.Iterator.{YieldsList-from_slice}
 use Rattle.std.proofs.lemmas.Iterator.Search.{position_from_yields_List}
 use Rattle.ioa_tree.specs.View.{name_of, variable_of}
 use Rattle.ioa_value.proofs.PlaceLemmas.{position-place}
-use Rattle.ioa_compile.proofs.places.variable_place.Goals as goal
+use Rattle.ioa_compile.proofs.name_places.variable_place.Goals as goal
 
 pub returns : goal.returns
 returns c =
