@@ -2,6 +2,8 @@
 
 use crate::tests::reached::{program, told_state};
 use crate::tests::shelf::{First, Given, Wanted, expect, expect_rows, run};
+use ioa_compile::Program;
+use ioa_object::write_object;
 use ioa_system::run_list;
 use ioa_value::read_list;
 use ioac::Status;
@@ -136,6 +138,47 @@ fn runs_are_accepted(rt: HostRuntime) -> Result<(), Fail> {
                 "{composition} {way}"
             );
         }
+    }
+    Ok(())
+}
+
+/// How many instructions the code of a program has.
+fn instruction_count(program: &Program) -> usize {
+    let mut count: usize = 0;
+    for member in program.members() {
+        for entry in &member.entries {
+            if let Some(pre) = &entry.pre {
+                count = count.saturating_add(pre.instrs().len());
+            }
+            if let Some(propose) = &entry.propose {
+                count = count.saturating_add(propose.instrs().len());
+            }
+            count = count.saturating_add(entry.effect.instrs().len());
+        }
+    }
+    count
+}
+
+/// The dump of each protocol's object has a line for each instruction.
+#[test]
+fn each_instruction_has_a_line(rt: HostRuntime) -> Result<(), Fail> {
+    let alloc = rt.alloc();
+    for (composition, _) in RUNS {
+        let program = program(alloc, library()?, Some(composition))?;
+        let object = write_object(alloc, &program)?;
+        let given = Given {
+            words: "dump f",
+            file: object.as_slice(),
+            list: "",
+        };
+        let ran = run(&rt, alloc, &given)?;
+        let text = str::from_utf8(ran.output.as_slice())?;
+        let lines = text
+            .lines()
+            .filter(|line| line.starts_with("      "))
+            .count();
+        assert!(rt; 100 < lines, "{composition}");
+        assert!(rt; lines == instruction_count(&program), "{composition}");
     }
     Ok(())
 }

@@ -23,6 +23,11 @@ compile f f | automaton A signature input a transitions input a composition One 
 compile g o |  |  | io^ | 5
 compile f |  |  | error: the following required arguments were not provided:^  <OUT>^^Usage: ioac compile <FILE> <OUT>^^For more information, try '--help'.^ | 2
 compile --help |  | Compiles a composition, puts its object in a file, and prints ok^^Usage: ioac compile [OPTIONS] <FILE> <OUT>^^Arguments:^  <FILE>  A source of I/O automata^  <OUT>   The file to put the object in^^Options:^      --comp <NAME>  The composition to take; without it, the last one^  -h, --help         Print help^^`check`, `replay`, `run` and `monitor` take the object in the place of a source.^Exit status: 0 done, 1 source refused, 2 bad command line or no source, 5 memory, a file or a device.^ |  | 0
+dump f | automaton A signature input a transitions input a composition One components A: A |  | O1^ | 1
+dump f |  |  | O1^ | 1
+dump g |  |  | io^ | 5
+dump |  |  | error: the following required arguments were not provided:^  <FILE>^^Usage: ioac dump <FILE>^^For more information, try '--help'.^ | 2
+dump --help |  | Prints the tables and the code of an object, an item a line^^Usage: ioac dump <FILE>^^Arguments:^  <FILE>  An object that `compile` made^^Options:^  -h, --help  Print help^^Types, variables, positions and constants have the numbers by which instructions name them.^Exit status: 0 done, 1 no object, 2 bad command line, 5 memory, the file or a device.^ |  | 0
 -- codes
 explain io |  | io: The file cannot be read, or the object cannot be put in its file.^^No source or list gives it. A name that no file has does, a file that you may not read, or a folder in which you may not write.^^Mend the name of the file, or its rights. Beside an object OUT no file OUT.part may stand: it would be another run's.^ |  | 0
 explain E18 |  |  | error: invalid value 'E18' for '<CODE>'^  [possible values: E1, E2, E3, E4, E5, E6, E7, E8, E9, E10, E11, E12, E13, E14, E15, E16, E17, O1, O2, O3, O4, O5, O6, O7, L1, L2, L3, L4, L5, L6, L7, L8, N1, N2, N3, words, object, memory, io]^^For more information, try '--help'.^ | 2
