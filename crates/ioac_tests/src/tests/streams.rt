@@ -173,11 +173,16 @@ fn assert_failed(rt: &impl Abort, ran: &Ran, failures: u64) {
 /// A source that is well formed.
 const SMALL: &str = "automaton A signature input a transitions input a";
 
+/// An object of 39 bytes.
+const OBJECT: &str =
+    "\x7fIOA\x01\0\0\x01X\x01\0\x01A\0\0\x01\0\x01\x02go\0\0\x01\0\0\0\x01\x01\0\x01\0\0\0\0\0\0\0\0";
+
 /// The words, a file, standard input, and what stands in the end in rooms of these lengths for what is printed and for what is told of
 /// errors. They were zeros.
-const ROOMS: [(&str, &str, &str, &[u8], &[u8]); 11] = [
+const ROOMS: [(&str, &str, &str, &[u8], &[u8]); 12] = [
     ("check f", SMALL, "", b"ok", b"L8\n\0"),
     ("compile f o", COUNTER, "", b"ok", b"L8\n\0"),
+    ("dump f", OBJECT, "", b"comp", b"L8\n\0"),
     ("explain E1", SMALL, "", b"E1", b"L8\n\0"),
     ("library", SMALL, "", b"type", b"L8\n\0"),
     ("--version", SMALL, "", b"io", b"L8\n\0"),
