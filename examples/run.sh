@@ -7,6 +7,7 @@
 #   NAME.printed   standard output (none: nothing)
 #   NAME.errors    standard error (none: nothing)
 #   NAME.status    the exit status (none: 0)
+# Cases are run in the order of their names, so that one may use the object that an earlier one made; objects are removed at the end.
 #
 # At the end the checkout holds no file that git neither knows nor ignores and that was not there before: before this
 # script, or when the variable FILES was set to what examples/files.sh prints. Without git nothing is compared.
@@ -16,7 +17,7 @@ case $program in /*) ;; *) program=$PWD/$program ;; esac
 top=$(cd "$(dirname "$0")" && pwd)
 before=${FILES-$(sh "$top/files.sh")}
 work=$(mktemp -d) || exit 1
-trap 'rm -rf "$work"' EXIT
+trap 'rm -rf "$work"; rm -f "$top"/*/*.object' EXIT
 passed=0
 
 fail() {
