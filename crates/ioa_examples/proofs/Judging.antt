@@ -10,6 +10,7 @@ use Rattle.ioa_tree.specs.Runs.{Ending, done, not_enabled_at, fault_at}
 use Rattle.ioa_system.specs.Logs.{Logged}
 use Rattle.ioa_log.specs.Judging.{judged, agrees, wrong_owner, diverges}
 use Rattle.ioa_log.specs.Monitoring.{monitored}
+use Rattle.ioa_log.specs.RunLogs.{run_log}
 
 abbrev is_named : Name → Act → Bool
 is_named x a = bytes_eq a.name x
@@ -84,3 +85,21 @@ accepts = refl
 
 refuses : monitored (counter ∷ []) (other ∷ tick 0 ∷ other ∷ tick 0 ∷ []) (0 ∷ []) ≡ Some (not_enabled_at 3)
 refuses = refl
+
+-- the log of a run has what is performed, each with its worker
+logs_its_workers : run_log (counter ∷ []) (0 ∷ []) (tick 0 ∷ tick 1 ∷ reset ∷ []) ≡ log ((0, tick 0) ∷ (0, tick 1) ∷ (1, reset) ∷ []) (done 3)
+logs_its_workers = refl
+
+logs_nothing : run_log (counter ∷ []) (0 ∷ []) [] ≡ log [] (done 0)
+logs_nothing = refl
+
+-- it ends as done before an action that is not enabled, or is none
+logs_before_it : run_log (counter ∷ []) (0 ∷ []) (tick 0 ∷ tick 0 ∷ reset ∷ []) ≡ log ((0, tick 0) ∷ []) (done 1)
+logs_before_it = refl
+
+logs_before_none : run_log (counter ∷ []) (0 ∷ []) (tick 0 ∷ reset ∷ other ∷ tick 0 ∷ []) ≡ log ((0, tick 0) ∷ (1, reset) ∷ []) (done 2)
+logs_before_none = refl
+
+-- the action that faults is its last entry
+logs_the_fault : run_log (counter ∷ []) (0 ∷ []) (tick 0 ∷ tick 1 ∷ tick 2 ∷ reset ∷ []) ≡ log ((0, tick 0) ∷ (0, tick 1) ∷ (0, tick 2) ∷ []) (fault_at 0 Overflow 2)
+logs_the_fault = refl
