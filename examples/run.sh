@@ -44,6 +44,7 @@ for words in "$top"/*/*.words; do
 done
 [ "$passed" -gt 0 ] || fail "examples" "there are none"
 printf '%s\n' "$before" > "$work/before"
+rm -f "$top"/*/*.object
 left=$(sh "$top/files.sh" | grep -vxF -f "$work/before")
 [ -z "$left" ] || fail "files" "the run left $(echo "$left" | tr '\n' ' ')"
 echo "examples: $passed passed, 0 failed"
