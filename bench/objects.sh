@@ -47,7 +47,7 @@ seconds() {
 # told NAME FILE SECONDS
 told() { awk -v name="$1" -v bytes="$(wc -c < "$2")" -v s="$3" 'BEGIN { printf "%s, %d bytes: %.3f s, %.2f s a megabyte\n", name, bytes, s, s / bytes * 1000000 }'; }
 
-for bytes in 107000 1048000; do
+for bytes in 107000 1035000; do
   source_of "$bytes" > "$work/source.ioa"
   written=$(seconds /dev/null compile "$work/source.ioa" "$work/object")
   told "check of a source" "$work/source.ioa" "$(seconds /dev/null check "$work/source.ioa")"
