@@ -20,8 +20,8 @@ use Rattle.ioa_tree.specs.Compositions.{automaton_named}
 use Rattle.ioa_tree.specs.View.{automaton_of, assembly_of, invariant_of, declaration_of, tree_of}
 use Rattle.ioa_tree.specs.WellFormed.{type_fine, automaton_fine, composition_fine, invariant_fine, declaration_fine, declarations_fine, is_type_declaration, is_automaton_of}
 use Rattle.ioa_tree.proofs.Declared.{declared-append, types_begin}
-use Rattle.ioa_check.specs.declared.known.Known.{Known}
-use Rattle.ioa_check.specs.Known.{whole, early}
+use Rattle.ioa_check.specs.declared.known_types.KnownTypes.{KnownTypes}
+use Rattle.ioa_check.specs.KnownTypes.{whole, early}
 use Rattle.ioa_check.specs.Reasons.{Reasons, in_form, in_types, in_automaton, in_composition, in_invariant, in_declaration, in_declarations}
 use Rattle.ioa_check.specs.Types.{types_fine}
 use Rattle.ioa_check.specs.Verdicts.{Says}
@@ -104,7 +104,7 @@ automaton_found {A} f o s x h = same o ∙ ap is_some h ∙ automaton_there s x
 -- ---- one declaration after another
 
 -- what is known of the declarations before number i, where those of types are fine
-pub record Reached (t : Table) (g : List Name) (ds : List Declaration) (i : ℕ) (k : Known) : Type 0 where
+pub record Reached (t : Table) (g : List Name) (ds : List Declaration) (i : ℕ) (k : KnownTypes) : Type 0 where
   pub table : whole k ≡ t
   pub count : k.count ≡ length (types_of (tree_of (take i ds)))
   pub few : k.count ≤ i + 2
@@ -115,7 +115,7 @@ take_length : {A : Type 0} (xs ys : List A) → take (length xs) (xs ++ ys) ≡ 
 take_length [] ys = refl
 take_length (x ∷ xs) ys = ap (λ zs. x ∷ zs) (take_length xs ys)
 
-module _ (t : Table) (g : List Name) (ds : List Declaration) (i : ℕ) (k : Known) (r : Reached t g ds i k) (of : t ≡ types_of (tree_of ds)) where
+module _ (t : Table) (g : List Name) (ds : List Declaration) (i : ℕ) (k : KnownTypes) (r : Reached t g ds i k) (of : t ≡ types_of (tree_of ds)) where
   -- the types that are known are those that are declared before
   pub early_is : early k ≡ types_of (tree_of (take i ds))
   early_is =
@@ -154,7 +154,7 @@ module _ (t : Table) (g : List Name) (ds : List Declaration) (i : ℕ) (k : Know
         ∙ sym (ap (λ b. b && declarations_fine t g (tree_of (take i ds) ++ declaration_of d ∷ []) (tree_of (drop (i + 1) ds))) h) ∙ here
 
     -- after a type
-    pub reached_type : (e : TypeTree) → declaration_of d ≡ declared_type e → (m : Known) → whole m ≡ whole k → m.count ≡ k.count + 1 → Reached t g ds (i + 1) m
+    pub reached_type : (e : TypeTree) → declaration_of d ≡ declared_type e → (m : KnownTypes) → whole m ≡ whole k → m.count ≡ k.count + 1 → Reached t g ds (i + 1) m
     reached_type e shown m table count =
         let before = tree_of (take i ds) in
         let p = and_parts (type_fine (types_of before) e) _ (ap (λ x. types_fine (types_of before) (x ∷ tree_of (drop (i + 1) ds))) (sym shown) ∙ types_here) in
@@ -241,10 +241,10 @@ module _ (t : Table) (g : List Name) (ds : List Declaration) (i : ℕ) (k : Know
         shown-says q (invariant (invariant_of v)) (ap declaration_of shown)
         (tables-say q (λ x y. invariant_fine x y (tree_of (take i ds)) (invariant_of v)) (λ x y. in_invariant x y (tree_of (take i ds)) (invariant_of v)) h)
 
-pub reached_start : (t : Table) (g : List Name) (ds : List Declaration) (k : Known) → whole k ≡ t → k.count ≡ 2 → types_fine basic (tree_of ds) ≡ true
+pub reached_start : (t : Table) (g : List Name) (ds : List Declaration) (k : KnownTypes) → whole k ≡ t → k.count ≡ 2 → types_fine basic (tree_of ds) ≡ true
     → Reached t g ds 0 k
 reached_start t g ds k table count fine = record { table = table; count = count; few = omega (arith, count); fine = fine; same = refl }
 
-pub reached_end : (t : Table) (g : List Name) (ds : List Declaration) (i : ℕ) (k : Known) → Reached t g ds i k → length ds ≤ i
+pub reached_end : (t : Table) (g : List Name) (ds : List Declaration) (i : ℕ) (k : KnownTypes) → Reached t g ds i k → length ds ≤ i
     → declarations_fine t g [] (tree_of ds) ≡ true
 reached_end t g ds i k r l = sym r.same ∙ ap (λ xs. declarations_fine t g (tree_of (take i ds)) (tree_of xs)) (drop_all i ds l)

@@ -11,7 +11,7 @@ use Rattle.ioa_check.specs.declared.scope.Scope.{Scope}
 use Rattle.ioa_check.specs.Scopes.{context}
 use Rattle.ioa_check.specs.Fields.{parameters, type_under}
 use Rattle.ioa_tree.specs.View.{variable_of}
-use Rattle.ioa_check.specs.Known.{early}
+use Rattle.ioa_check.specs.KnownTypes.{early}
 use Rattle.ioa_check.proofs.ViewLemmas.{fields-of_variables}
 use Rattle.ioa_value.proofs.ItemLemmas.{drop_item}
 

@@ -3,7 +3,7 @@ pub mod Reasons
 pub mod Verdicts
 pub mod Globals
 pub mod Fields
-pub mod Known
+pub mod KnownTypes
 pub mod Scopes
 pub mod Sizes
 pub mod Types

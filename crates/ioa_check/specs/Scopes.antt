@@ -5,7 +5,7 @@ use Rattle.ioa_tree.specs.Tree.{FieldTree, PositionTree}
 use Rattle.ioa_tree.specs.View.{field_of, variable_of, position_of}
 use Rattle.ioa_tree.specs.WellFormed.{Context, context_of, position_fields}
 use Rattle.ioa_check.specs.declared.scope.Scope.{Scope}
-use Rattle.ioa_check.specs.Known.{early}
+use Rattle.ioa_check.specs.KnownTypes.{early}
 
 -- of variables, formals and the parameters among positions
 abbrev pub context_in : Table → List FieldTree → List FieldTree → List PositionTree → Context

@@ -4,7 +4,7 @@ ghost use Rattle.ioa_tree.specs.Compositions as compositions;
 ghost use Rattle.ioa_tree.specs.View.{automaton_of, entry_of, variable_of, name_of, tree_of};
 ghost use Rattle.ioa_tree.specs.WellFormed as well_formed;
 ghost use Rattle.ioa_check.specs.Globals.{texts};
-ghost use Rattle.ioa_check.specs.Known.{whole, early};
+ghost use Rattle.ioa_check.specs.KnownTypes.{whole, early};
 ghost use Rattle.ioa_check.specs.Codes.{duplicate_name, tells};
 ghost use Rattle.ioa_check.specs.Reasons as reasons;
 ghost use Rattle.ioa_check.specs.Verdicts.{Says};
@@ -12,7 +12,7 @@ ghost use Rattle.ioa_check.specs.Verdicts.{Says};
 use crate::expressions::expect_type;
 use crate::fields::types_known;
 use crate::globals::apart_from_globals;
-use crate::known::Known;
+use crate::known_types::KnownTypes;
 use crate::names::{apart, distinct, same_name};
 use crate::positions::{parameters_apart, parameters_distinct, positions_fine};
 use crate::scope::Scope;
@@ -37,7 +37,7 @@ pub fn automaton_named<'a>(declarations: &'a [Declaration], name: &Name) -> Opti
 
 /// Whether an automaton is well formed beside these global names.
 pub(crate) fn automaton_fine(
-    known: &Known,
+    known: &KnownTypes,
     automaton: &Automaton,
     globals: &IndexSet<&str>,
 ) -> Result<(), Refusal>
@@ -53,7 +53,7 @@ pub(crate) fn automaton_fine(
 /// Whether formals and variables have names of their own and known types.
 #[tactic(auto, using(crate::proofs::ViewLemmas::views))]
 fn fields_fine(
-    known: &Known,
+    known: &KnownTypes,
     automaton: &Automaton,
     globals: &IndexSet<&str>,
 ) -> Result<(), Refusal>
@@ -83,7 +83,7 @@ fn names_apart(automaton: &Automaton, globals: &IndexSet<&str>) -> Result<(), Re
 }
 
 /// Whether each start expression has its variable's type.
-fn starts_fine(known: &Known, automaton: &Automaton) -> Result<(), Refusal>
+fn starts_fine(known: &KnownTypes, automaton: &Automaton) -> Result<(), Refusal>
     ensures { let a = automaton_of automaton.now in Says result (list_all (well_formed.start_fine (whole known.now) (early known.now) [] a) a.variables) (reasons.in_any (reasons.in_start (whole known.now) (early known.now) [] a) a.variables) }
 {
     for variable in &automaton.variables {
@@ -92,7 +92,7 @@ fn starts_fine(known: &Known, automaton: &Automaton) -> Result<(), Refusal>
     Ok(())
 }
 
-fn start_fine(known: &Known, automaton: &Automaton, variable: &Variable) -> Result<(), Refusal>
+fn start_fine(known: &KnownTypes, automaton: &Automaton, variable: &Variable) -> Result<(), Refusal>
     ensures { let a = automaton_of automaton.now in let v = variable_of variable.now in Says result (well_formed.start_fine (whole known.now) (early known.now) [] a v) (reasons.in_start (whole known.now) (early known.now) [] a v) }
 {
     match &variable.start {
@@ -110,7 +110,7 @@ fn start_fine(known: &Known, automaton: &Automaton, variable: &Variable) -> Resu
 /// Whether entries have names of their own, and parameters and constants that are fine.
 #[tactic(auto, using(crate::proofs::ViewLemmas::views))]
 fn entries_fine(
-    known: &Known,
+    known: &KnownTypes,
     automaton: &Automaton,
     globals: &IndexSet<&str>,
 ) -> Result<(), Refusal>
@@ -121,7 +121,7 @@ fn entries_fine(
 }
 
 fn each_entry_fine(
-    known: &Known,
+    known: &KnownTypes,
     automaton: &Automaton,
     globals: &IndexSet<&str>,
 ) -> Result<(), Refusal>
@@ -135,7 +135,7 @@ fn each_entry_fine(
 
 /// Whether parameters have names of their own and known types, and constants name no variable and no parameter.
 fn entry_fine(
-    known: &Known,
+    known: &KnownTypes,
     automaton: &Automaton,
     entry: &Entry,
     globals: &IndexSet<&str>,

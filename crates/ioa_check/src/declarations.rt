@@ -7,7 +7,7 @@ ghost use Rattle.ioa_tree.specs.View.{assembly_of, instance_of, tree_of, name_of
 ghost use Rattle.ioa_tree.specs.Types.{types_of};
 ghost use Rattle.ioa_tree.specs.WellFormed as well_formed;
 ghost use Rattle.ioa_check.specs.Globals.{texts};
-ghost use Rattle.ioa_check.specs.Known.{whole, early};
+ghost use Rattle.ioa_check.specs.KnownTypes.{whole, early};
 ghost use Rattle.ioa_check.specs.Reasons as reasons;
 ghost use Rattle.ioa_check.specs.Types.{types_fine};
 ghost use Rattle.ioa_check.specs.Verdicts.{Says, SaysOrMemory};
@@ -16,7 +16,7 @@ use crate::automata::{automaton_fine, automaton_named};
 use crate::expressions::type_of;
 use crate::globals::global_names;
 use crate::invariants::invariant_fine;
-use crate::known::Known;
+use crate::known_types::KnownTypes;
 use crate::limits::source_within;
 use crate::names::distinct;
 use crate::scope::Scope;
@@ -53,7 +53,7 @@ fn declarations_fine(
         Says result (well_formed.declarations_fine types.now (texts globals.now) [] s) (reasons.in_declarations types.now (texts globals.now) [] s) }
 {
     // Bool and Int are known from the start.
-    let mut known = Known { types, count: 2 };
+    let mut known = KnownTypes { types, count: 2 };
     for i in 0..declarations.len() {
         match &declarations[i] {
             Declaration::Type(_) => known.count += 1,
@@ -72,7 +72,7 @@ fn declarations_fine(
 /// Whether a composition's components have names of their own and are well formed, and no hidden name stands twice.
 #[tactic(auto, using(crate::proofs::ViewLemmas::views))]
 fn composition_fine(
-    known: &Known,
+    known: &KnownTypes,
     before: &[Declaration],
     composition: &Assembly,
 ) -> Result<(), Refusal>
@@ -84,7 +84,7 @@ fn composition_fine(
 }
 
 fn each_instance_fine(
-    known: &Known,
+    known: &KnownTypes,
     before: &[Declaration],
     composition: &Assembly,
 ) -> Result<(), Refusal>
@@ -97,7 +97,11 @@ fn each_instance_fine(
 }
 
 /// Whether a component is of an automaton declared before, and each argument has a type.
-fn instance_fine(known: &Known, before: &[Declaration], instance: &Instance) -> Result<(), Refusal>
+fn instance_fine(
+    known: &KnownTypes,
+    before: &[Declaration],
+    instance: &Instance,
+) -> Result<(), Refusal>
     ensures { let i = instance_of instance.now in Says result (well_formed.instance_fine (whole known.now) (early known.now) (tree_of before.now) i) (reasons.in_instance (whole known.now) (early known.now) (tree_of before.now) i) }
 {
     if !has_automaton(before, &instance.automaton) {
@@ -112,7 +116,7 @@ fn has_automaton(declarations: &[Declaration], name: &Name) -> bool
     automaton_named(declarations, name).is_some()
 }
 
-fn arguments_fine(known: &Known, arguments: &[Expression]) -> Result<(), Refusal>
+fn arguments_fine(known: &KnownTypes, arguments: &[Expression]) -> Result<(), Refusal>
     ensures { let es = map expr_of arguments.now in Says result (list_all (λ e. option_map_or (λ ty. true) (well_formed.type_of (whole known.now) (early known.now) [] e) false) es) (reasons.in_any (reasons.in_expression (whole known.now) (early known.now) []) es) }
 {
     for argument in arguments {
@@ -122,7 +126,7 @@ fn arguments_fine(known: &Known, arguments: &[Expression]) -> Result<(), Refusal
 }
 
 /// Whether an argument has a type.
-fn argument_fine(known: &Known, argument: &Expression) -> Result<(), Refusal>
+fn argument_fine(known: &KnownTypes, argument: &Expression) -> Result<(), Refusal>
     ensures { let e = expr_of argument.now in Says result (option_map_or (λ ty. true) (well_formed.type_of (whole known.now) (early known.now) [] e) false) (reasons.in_expression (whole known.now) (early known.now) [] e) }
 {
     type_of(&Scope::empty(known), argument)?;

@@ -6,14 +6,14 @@ ghost use Rattle.ioa_tree.specs.Types.{sequence_named};
 ghost use Rattle.ioa_tree.specs.View.{expr_of, exprs_of, name_of, field_of, position_of, variable_of};
 ghost use Rattle.ioa_tree.specs.Tree.{number, make};
 ghost use Rattle.ioa_tree.specs.WellFormed as well_formed;
-ghost use Rattle.ioa_check.specs.Known.{whole, early};
+ghost use Rattle.ioa_check.specs.KnownTypes.{whole, early};
 ghost use Rattle.ioa_check.specs.Scopes.{context, context_in};
 ghost use Rattle.ioa_check.specs.Codes.{type_mismatch, tells};
 ghost use Rattle.ioa_check.specs.Reasons as reasons;
 ghost use Rattle.ioa_check.specs.Tuples.{are_fields, in_fields_made};
 ghost use Rattle.ioa_check.specs.Verdicts.{Says, Finds};
 
-use crate::known::Known;
+use crate::known_types::KnownTypes;
 use crate::scope::Scope;
 use crate::tuples::{is_field, selected_type, tuple_named};
 use ioa_syntax::Refusal;
@@ -31,7 +31,7 @@ pub fn expression_type(
     ensures { option_map number_of_type result ≡ well_formed.type_of types.now types.now (context_in types.now (map (λ v. v.field) (map variable_of variables.now)) (map field_of formals.now) (map position_of positions.now)) (expr_of expression.now) }
 {
     let scope = Scope {
-        known: Known::of_all(types),
+        known: KnownTypes::of_all(types),
         variables,
         formals,
         positions,
@@ -131,7 +131,7 @@ pub(crate) fn number_type(n: u64, line: u32) -> Result<Ty, Refusal>
 }
 
 /// The sequence type of this name.
-fn empty_type(known: &Known, name: &Name) -> Result<Ty, Refusal>
+fn empty_type(known: &KnownTypes, name: &Name) -> Result<Ty, Refusal>
     ensures { Finds result (sequence_named (early known.now) (name_of name.now)) (reasons.in_empty (early known.now) (name_of name.now)) }
 {
     let Some(ty) = known.named(name) else {

@@ -10,10 +10,10 @@ ghost use Rattle.ioa_value.specs.Table.{AreTypes};
 ghost use Rattle.ioa_tree.specs.WellFormed.{type_in, context_of, is_type};
 ghost use Rattle.ioa_check.specs.Fields.{type_under};
 ghost use Rattle.ioa_check.specs.Codes.{unknown_name, tells};
-ghost use Rattle.ioa_check.specs.Known.{early};
+ghost use Rattle.ioa_check.specs.KnownTypes.{early};
 ghost use Rattle.ioa_check.specs.Verdicts.{Says};
 
-use crate::known::Known;
+use crate::known_types::KnownTypes;
 use crate::names::same_name;
 use ioa_syntax::Refusal;
 use ioa_tree::{Field, Name, Variable};
@@ -57,7 +57,7 @@ pub fn type_named(types: &Types, name: &Name) -> Option<Ty>
 }
 
 /// The type of the first of the items that has this name and a type.
-pub(crate) fn find_type<T: Typed>(known: &Known, items: &[T], name: &Name) -> Option<Ty>
+pub(crate) fn find_type<T: Typed>(known: &KnownTypes, items: &[T], name: &Name) -> Option<Ty>
     ensures { option_map number result ≡ type_in (context_of (early known.now) (map T.tree items.now)) (name_of name.now) }
 {
     for item in items {
@@ -69,7 +69,7 @@ pub(crate) fn find_type<T: Typed>(known: &Known, items: &[T], name: &Name) -> Op
 }
 
 /// The type of a field, where it has this name.
-pub(crate) fn type_under(known: &Known, field: &Field, name: &Name) -> Option<Ty>
+pub(crate) fn type_under(known: &KnownTypes, field: &Field, name: &Name) -> Option<Ty>
     ensures { option_map number result ≡ type_under (early known.now) (view.field_of field.now) (name_of name.now) }
 {
     if same_name(&field.name, name) {
@@ -80,7 +80,7 @@ pub(crate) fn type_under(known: &Known, field: &Field, name: &Name) -> Option<Ty
 }
 
 /// Whether each item's type is declared before.
-pub(crate) fn types_known<T: Typed>(known: &Known, items: &[T]) -> Result<(), Refusal>
+pub(crate) fn types_known<T: Typed>(known: &KnownTypes, items: &[T]) -> Result<(), Refusal>
     ensures { Says result (list_all (is_type (early known.now)) (map T.tree items.now)) (tells unknown_name) }
 {
     for item in items {
@@ -90,7 +90,7 @@ pub(crate) fn types_known<T: Typed>(known: &Known, items: &[T]) -> Result<(), Re
 }
 
 /// Whether the type of a field is declared before. A line is that of the type's name.
-pub(crate) fn type_known(known: &Known, field: &Field) -> Result<(), Refusal>
+pub(crate) fn type_known(known: &KnownTypes, field: &Field) -> Result<(), Refusal>
     ensures { Says result (is_type (early known.now) (view.field_of field.now)) (tells unknown_name) }
 {
     let ty = &field.ty;

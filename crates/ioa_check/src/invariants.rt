@@ -1,12 +1,12 @@
 ghost use Rattle.ioa_tree.specs.View.{invariant_of, tree_of};
 ghost use Rattle.ioa_tree.specs.WellFormed as well_formed;
-ghost use Rattle.ioa_check.specs.Known.{whole, early};
+ghost use Rattle.ioa_check.specs.KnownTypes.{whole, early};
 ghost use Rattle.ioa_check.specs.Reasons as reasons;
 ghost use Rattle.ioa_check.specs.Verdicts.{Says};
 
 use crate::automata::automaton_named;
 use crate::expressions::expect_type;
-use crate::known::Known;
+use crate::known_types::KnownTypes;
 use crate::scope::Scope;
 use ioa_syntax::Refusal;
 use ioa_tree::{Declaration, Invariant};
@@ -15,7 +15,7 @@ use ioa_value::Ty;
 /// Whether an invariant is of an automaton declared before, and a truth value over its variables and formals. A line is
 /// that of the automaton's name, if it is not declared before.
 pub(crate) fn invariant_fine(
-    known: &Known,
+    known: &KnownTypes,
     before: &[Declaration],
     invariant: &Invariant,
 ) -> Result<(), Refusal>

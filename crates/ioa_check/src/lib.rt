@@ -8,7 +8,7 @@ mod expressions;
 mod fields;
 mod globals;
 mod invariants;
-mod known;
+mod known_types;
 mod limits;
 mod names;
 mod positions;

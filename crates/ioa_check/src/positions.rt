@@ -12,7 +12,7 @@ ghost use Rattle.ioa_tree.specs.WellFormed.{type_in, context_of};
 ghost use Rattle.ioa_check.specs.Codes.{duplicate_name, type_mismatch, too_many, tells};
 ghost use Rattle.ioa_check.specs.Fields.{parameters};
 ghost use Rattle.ioa_check.specs.Globals.{texts};
-ghost use Rattle.ioa_check.specs.Known.{early};
+ghost use Rattle.ioa_check.specs.KnownTypes.{early};
 ghost use Rattle.ioa_check.specs.Reasons as reasons;
 ghost use Rattle.ioa_check.specs.Scopes.{context};
 ghost use Rattle.ioa_check.specs.Verdicts.{Says};
@@ -20,7 +20,7 @@ ghost use Rattle.ioa_check.specs.Verdicts.{Says};
 use crate::expressions::number_type;
 use crate::fields::{type_known, type_under};
 use crate::globals::is_global;
-use crate::known::Known;
+use crate::known_types::KnownTypes;
 use crate::names::{find_name, same_name};
 use crate::scope::Scope;
 use indexmap::IndexSet;
@@ -29,7 +29,7 @@ use ioa_tree::{Automaton, Constant, Name, Position};
 use ioa_value::{LIMITS, Ty};
 
 /// The type of the first of the parameters that has this name and a type.
-pub(crate) fn find_parameter(known: &Known, positions: &[Position], name: &Name) -> Option<Ty>
+pub(crate) fn find_parameter(known: &KnownTypes, positions: &[Position], name: &Name) -> Option<Ty>
     ensures { option_map number result ≡ type_in (context_of (early known.now) (parameters positions.now)) (name_of name.now) }
 {
     for position in positions {

@@ -6,11 +6,11 @@ ghost use Rattle.ioa_tree.specs.WellFormed as well_formed;
 ghost use Rattle.ioa_tree.specs.WellFormed.{type_in};
 ghost use Rattle.ioa_tree.specs.Meaning.{or_else};
 ghost use Rattle.ioa_tree.specs.Types.{constant_type};
-ghost use Rattle.ioa_check.specs.Known.{whole, early};
+ghost use Rattle.ioa_check.specs.KnownTypes.{whole, early};
 ghost use Rattle.ioa_check.specs.Scopes.{context};
 
 use crate::fields::find_type;
-use crate::known::Known;
+use crate::known_types::KnownTypes;
 use crate::positions::find_parameter;
 use ioa_tree::{Automaton, Entry, Field, Name, Position, Variable};
 use ioa_value::Ty;
@@ -19,7 +19,7 @@ use ioa_value::Ty;
 /// enumerations.
 #[derive(Clone, Copy)]
 pub(crate) struct Scope<'a> {
-    pub(crate) known: Known<'a>,
+    pub(crate) known: KnownTypes<'a>,
     pub(crate) variables: &'a [Variable],
     pub(crate) formals: &'a [Field],
     pub(crate) positions: &'a [Position],
@@ -27,7 +27,7 @@ pub(crate) struct Scope<'a> {
 
 impl<'a> Scope<'a> {
     /// No name at all: the scope of an argument.
-    pub(crate) fn empty(known: &Known<'a>) -> Scope<'a>
+    pub(crate) fn empty(known: &KnownTypes<'a>) -> Scope<'a>
         ensures known { result.known ≡ known.now }
         ensures names { context result ≡ [] }
     {
@@ -40,7 +40,7 @@ impl<'a> Scope<'a> {
     }
 
     /// The formals: the scope of a start expression.
-    pub(crate) fn of_starts(known: &Known<'a>, automaton: &'a Automaton) -> Scope<'a>
+    pub(crate) fn of_starts(known: &KnownTypes<'a>, automaton: &'a Automaton) -> Scope<'a>
         ensures known { result.known ≡ known.now }
         ensures names { context result ≡ well_formed.formals (whole known.now) (early known.now) [] (automaton_of automaton.now) }
     {
@@ -53,7 +53,7 @@ impl<'a> Scope<'a> {
     }
 
     /// Variables and formals: the scope of a proposal or an invariant.
-    pub(crate) fn of_proposals(known: &Known<'a>, automaton: &'a Automaton) -> Scope<'a>
+    pub(crate) fn of_proposals(known: &KnownTypes<'a>, automaton: &'a Automaton) -> Scope<'a>
         ensures known { result.known ≡ known.now }
         ensures names { context result ≡ well_formed.held (whole known.now) (early known.now) [] (automaton_of automaton.now) }
     {
@@ -67,7 +67,7 @@ impl<'a> Scope<'a> {
 
     /// Variables, formals and the entry's parameters: the scope of a precondition or an effect.
     pub(crate) fn of_entry(
-        known: &Known<'a>,
+        known: &KnownTypes<'a>,
         automaton: &'a Automaton,
         entry: &'a Entry,
     ) -> Scope<'a>

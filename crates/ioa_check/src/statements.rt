@@ -2,14 +2,14 @@ ghost use Rattle.std.specs.Prelude.{◌≡◌, ◌&&◌, []};
 ghost use Rattle.ioa_tree.specs.Tree.{assign};
 ghost use Rattle.ioa_tree.specs.View.{automaton_of, entry_of, name_of, expr_of, stmt_of, stmts_of, arms_of};
 ghost use Rattle.ioa_tree.specs.WellFormed as well_formed;
-ghost use Rattle.ioa_check.specs.Known.{whole, early};
+ghost use Rattle.ioa_check.specs.KnownTypes.{whole, early};
 ghost use Rattle.ioa_check.specs.Reasons as reasons;
 ghost use Rattle.ioa_check.specs.Reasons.{◌or◌};
 ghost use Rattle.ioa_check.specs.Verdicts.{Says};
 
 use crate::expressions::expect_type;
 use crate::fields::find_type;
-use crate::known::Known;
+use crate::known_types::KnownTypes;
 use crate::scope::Scope;
 use ioa_syntax::Refusal;
 use ioa_tree::{Arm, Automaton, Entry, Expression, Name, Statement};
@@ -18,7 +18,7 @@ use ioa_value::Ty;
 /// Whether each statement is well formed, also those within arms.
 #[cycle(statements)]
 pub(crate) fn statements_fine(
-    known: &Known,
+    known: &KnownTypes,
     automaton: &Automaton,
     entry: &Entry,
     statements: &[Statement],
@@ -33,7 +33,7 @@ pub(crate) fn statements_fine(
 
 #[cycle(statements)]
 fn statement_fine(
-    known: &Known,
+    known: &KnownTypes,
     automaton: &Automaton,
     entry: &Entry,
     statement: &Statement,
@@ -52,7 +52,7 @@ fn statement_fine(
 /// Whether each arm is well formed.
 #[cycle(statements)]
 fn arms_fine(
-    known: &Known,
+    known: &KnownTypes,
     automaton: &Automaton,
     entry: &Entry,
     arms: &[Arm],
@@ -67,7 +67,12 @@ fn arms_fine(
 
 /// Whether the condition is a truth value, and the statements after it are well formed.
 #[cycle(statements)]
-fn arm_fine(known: &Known, automaton: &Automaton, entry: &Entry, arm: &Arm) -> Result<(), Refusal>
+fn arm_fine(
+    known: &KnownTypes,
+    automaton: &Automaton,
+    entry: &Entry,
+    arm: &Arm,
+) -> Result<(), Refusal>
     ensures { let a = automaton_of automaton.now in let e = entry_of entry.now in let c = expr_of arm.now.condition in let ss = stmts_of arm.now.statements.items in
         Says result (well_formed.has_ty (whole known.now) (early known.now) (well_formed.scope (whole known.now) (early known.now) [] a e) c 0 && well_formed.stmts_fine (whole known.now) (early known.now) [] a e ss) (reasons.in_condition (whole known.now) (early known.now) [] a e c or reasons.in_stmts (whole known.now) (early known.now) [] a e ss) }
 {
@@ -78,7 +83,7 @@ fn arm_fine(known: &Known, automaton: &Automaton, entry: &Entry, arm: &Arm) -> R
 /// Whether an assignment is to a variable, and of its type.
 #[tactic(auto, using(crate::proofs::ViewLemmas::views))]
 fn assignment_fine(
-    known: &Known,
+    known: &KnownTypes,
     automaton: &Automaton,
     entry: &Entry,
     name: &Name,
@@ -94,7 +99,7 @@ fn assignment_fine(
 
 /// Whether a condition is a truth value.
 pub(crate) fn condition_fine(
-    known: &Known,
+    known: &KnownTypes,
     automaton: &Automaton,
     entry: &Entry,
     condition: &Expression,

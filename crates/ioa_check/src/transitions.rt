@@ -6,12 +6,12 @@ ghost use Rattle.ioa_tree.specs.View.{automaton_of, entry_of, transition_of, cho
 ghost use Rattle.ioa_tree.specs.View as view;
 ghost use Rattle.ioa_tree.specs.WellFormed as well_formed;
 ghost use Rattle.ioa_check.specs.Codes.{bad_signature, no_proposal, tells};
-ghost use Rattle.ioa_check.specs.Known.{whole, early};
+ghost use Rattle.ioa_check.specs.KnownTypes.{whole, early};
 ghost use Rattle.ioa_check.specs.Reasons as reasons;
 ghost use Rattle.ioa_check.specs.Verdicts.{Says};
 
 use crate::expressions::expect_type;
-use crate::known::Known;
+use crate::known_types::KnownTypes;
 use crate::names::{distinct, find_name, same_name};
 use crate::positions::find_parameter;
 use crate::scope::Scope;
@@ -106,7 +106,7 @@ fn is_input(kind: Kind) -> bool
 }
 
 /// Whether the transitions of each entry are well formed.
-pub(crate) fn transitions_fine(known: &Known, automaton: &Automaton) -> Result<(), Refusal>
+pub(crate) fn transitions_fine(known: &KnownTypes, automaton: &Automaton) -> Result<(), Refusal>
     ensures { let a = automaton_of automaton.now in Says result (list_all (λ e. list_all (λ r. not (well_formed.matches (whole known.now) (early known.now) [] a e r) || well_formed.transition_fine (whole known.now) (early known.now) [] a e r) a.transitions) a.entries) (reasons.in_transitions (whole known.now) (early known.now) [] a) }
 {
     for entry in &automaton.entries {
@@ -116,7 +116,7 @@ pub(crate) fn transitions_fine(known: &Known, automaton: &Automaton) -> Result<(
 }
 
 fn transitions_of_entry_fine(
-    known: &Known,
+    known: &KnownTypes,
     automaton: &Automaton,
     entry: &Entry,
 ) -> Result<(), Refusal>
@@ -131,7 +131,7 @@ fn transitions_of_entry_fine(
 
 /// Whether a transition is well formed, where it is one of this entry.
 fn pair_fine(
-    known: &Known,
+    known: &KnownTypes,
     automaton: &Automaton,
     entry: &Entry,
     transition: &Transition,
@@ -147,7 +147,7 @@ fn pair_fine(
 }
 
 fn transition_fine(
-    known: &Known,
+    known: &KnownTypes,
     automaton: &Automaton,
     entry: &Entry,
     transition: &Transition,
@@ -160,7 +160,7 @@ fn transition_fine(
 
 /// Whether an input has neither precondition nor proposals, and those of an output or internal transition are well formed.
 fn before_effect_fine(
-    known: &Known,
+    known: &KnownTypes,
     automaton: &Automaton,
     entry: &Entry,
     transition: &Transition,
@@ -188,7 +188,7 @@ fn input_fine(transition: &Transition) -> Result<(), Refusal>
 
 /// Whether precondition and proposals of an output or internal transition are well formed.
 fn local_fine(
-    known: &Known,
+    known: &KnownTypes,
     automaton: &Automaton,
     entry: &Entry,
     transition: &Transition,
@@ -202,7 +202,7 @@ fn local_fine(
 }
 
 fn pre_fine(
-    known: &Known,
+    known: &KnownTypes,
     automaton: &Automaton,
     entry: &Entry,
     transition: &Transition,
@@ -217,7 +217,7 @@ fn pre_fine(
 
 #[tactic(auto, using(crate::proofs::ViewLemmas::views))]
 fn proposals_fine(
-    known: &Known,
+    known: &KnownTypes,
     automaton: &Automaton,
     entry: &Entry,
     transition: &Transition,
@@ -229,7 +229,7 @@ fn proposals_fine(
 }
 
 fn each_proposal_fine(
-    known: &Known,
+    known: &KnownTypes,
     automaton: &Automaton,
     entry: &Entry,
     transition: &Transition,
@@ -245,7 +245,7 @@ fn each_proposal_fine(
 /// Whether a proposal is for a parameter of the entry, and of its type.
 #[tactic(auto, using(crate::proofs::ViewLemmas::views))]
 fn proposal_fine(
-    known: &Known,
+    known: &KnownTypes,
     automaton: &Automaton,
     entry: &Entry,
     proposal: &Proposal,
@@ -259,7 +259,12 @@ fn proposal_fine(
 }
 
 /// Whether a proposal gives a value of this type. `any` gives an Int, and asks for one.
-fn choice_fine(known: &Known, automaton: &Automaton, choice: &Choice, ty: Ty) -> Result<(), Refusal>
+fn choice_fine(
+    known: &KnownTypes,
+    automaton: &Automaton,
+    choice: &Choice,
+    ty: Ty,
+) -> Result<(), Refusal>
     ensures { let a = automaton_of automaton.now in let c = choice_of choice.now in Says result (well_formed.choice_fine (whole known.now) (early known.now) [] a c ty.0) (reasons.in_choice (whole known.now) (early known.now) [] a c (Some ty.0)) }
 {
     let scope = Scope::of_proposals(known, automaton);
@@ -271,7 +276,7 @@ fn choice_fine(known: &Known, automaton: &Automaton, choice: &Choice, ty: Ty) ->
 }
 
 /// Whether each parameter that is neither a Bool nor of an enumeration has a proposal. A constant needs none.
-fn all_proposed(known: &Known, entry: &Entry, transition: &Transition) -> Result<(), Refusal>
+fn all_proposed(known: &KnownTypes, entry: &Entry, transition: &Transition) -> Result<(), Refusal>
     ensures { (a : AutomatonTree) → Says result (well_formed.all_proposed (whole known.now) (early known.now) [] a (entry_of entry.now) (transition_of transition.now)) (tells no_proposal) }
 {
     for position in &entry.positions {
@@ -286,7 +291,7 @@ fn all_proposed(known: &Known, entry: &Entry, transition: &Transition) -> Result
 
 /// Whether a parameter's values are tried by their numbers, or it has a proposal.
 #[tactic(auto, using(crate::proofs::ViewLemmas::views))]
-fn is_proposed(known: &Known, field: &Field, transition: &Transition) -> bool
+fn is_proposed(known: &KnownTypes, field: &Field, transition: &Transition) -> bool
     ensures { let f = view.field_of field.now in
         result ≡ (well_formed.is_tried (early known.now) f || well_formed.contains (map (λ p. p.name) (transition_of transition.now).proposals) f.name) }
 {
@@ -294,7 +299,7 @@ fn is_proposed(known: &Known, field: &Field, transition: &Transition) -> bool
 }
 
 /// Whether a parameter is a Bool or of an enumeration.
-fn is_tried(known: &Known, field: &Field) -> bool
+fn is_tried(known: &KnownTypes, field: &Field) -> bool
     ensures { result ≡ well_formed.is_tried (early known.now) (view.field_of field.now) }
 {
     match known.named(&field.ty) {

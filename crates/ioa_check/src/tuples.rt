@@ -7,18 +7,18 @@ ghost use Rattle.ioa_value.specs.Plain.{number};
 ghost use Rattle.ioa_value.specs.Table.{field_types};
 ghost use Rattle.ioa_tree.specs.View.{name_of};
 ghost use Rattle.ioa_tree.specs.WellFormed as well_formed;
-ghost use Rattle.ioa_check.specs.Known.{whole, early};
+ghost use Rattle.ioa_check.specs.KnownTypes.{whole, early};
 ghost use Rattle.ioa_check.specs.Reasons as reasons;
 ghost use Rattle.ioa_check.specs.Tuples.{tuple_named, in_tuple_name};
 ghost use Rattle.ioa_check.specs.Verdicts.{Finds};
 
-use crate::known::Known;
+use crate::known_types::KnownTypes;
 use ioa_syntax::Refusal;
 use ioa_tree::Name;
 use ioa_value::{Form, Op, Ty, Types, op_type};
 
 /// The tuple type of this name.
-pub(crate) fn tuple_named(known: &Known, name: &Name) -> Result<Ty, Refusal>
+pub(crate) fn tuple_named(known: &KnownTypes, name: &Name) -> Result<Ty, Refusal>
     ensures { Finds result (tuple_named (whole known.now) (early known.now) (name_of name.now)) (in_tuple_name (whole known.now) (early known.now) (name_of name.now)) }
 {
     let Some(ty) = known.named(name) else {

@@ -3,7 +3,7 @@ use Rattle.std.specs.List.{list_all}
 use Rattle.ioa_tree.specs.View.{automaton_of, entry_of}
 use Rattle.ioa_tree.specs.WellFormed as well_formed
 use Rattle.ioa_check.specs.Globals.{texts}
-use Rattle.ioa_check.specs.Known.{whole, early}
+use Rattle.ioa_check.specs.KnownTypes.{whole, early}
 use Rattle.ioa_check.proofs.automata.each_entry_fine.Given as goal
 
 abbrev pub invariant-loop-entry : goal.invariant-loop-entry

@@ -1,7 +1,7 @@
 use Rattle.std.proofs.Common.{ap}
 use Rattle.ioa_tree.specs.View.{automaton_of}
 use Rattle.ioa_check.specs.Globals.{texts}
-use Rattle.ioa_check.specs.Known.{whole, early}
+use Rattle.ioa_check.specs.KnownTypes.{whole, early}
 use Rattle.ioa_check.proofs.FineLemmas.{entry-says}
 use Rattle.ioa_check.proofs.automata.entry_fine.Goals as goal
 

@@ -3,7 +3,7 @@ use Rattle.std.specs.List.{list_all}
 use Rattle.std.specs.Option.{option_map_or}
 use Rattle.ioa_tree.specs.View.{expr_of}
 use Rattle.ioa_tree.specs.WellFormed as well_formed
-use Rattle.ioa_check.specs.Known.{whole, early}
+use Rattle.ioa_check.specs.KnownTypes.{whole, early}
 use Rattle.ioa_check.proofs.declarations.arguments_fine.Given as goal
 
 abbrev pub invariant-loop-argument : goal.invariant-loop-argument

@@ -1,5 +1,5 @@
 use Rattle.ioa_tree.specs.View.{tree_of}
-use Rattle.ioa_check.specs.Known.{whole, early}
+use Rattle.ioa_check.specs.KnownTypes.{whole, early}
 use Rattle.ioa_check.proofs.FineLemmas.{composition-says}
 use Rattle.ioa_check.proofs.declarations.composition_fine.Goals as goal
 

@@ -2,7 +2,7 @@ use Rattle.std.proofs.Common.{◌+◌, refl, sym, ap, subst, Ok}
 use Rattle.ioa_tree.specs.View.{type_declaration_of, declaration_of}
 use Rattle.ioa_tree.specs.WellFormed.{is_type_declaration}
 use Rattle.ioa_check.specs.Globals.{texts}
-use Rattle.ioa_check.specs.Known.{whole}
+use Rattle.ioa_check.specs.KnownTypes.{whole}
 use Rattle.ioa_check.proofs.DeclarationLemmas.{Reached, reached_start, reached_type, reached_other, reached_end, says-of_declarations, automaton-says, composition-says, invariant-says}
 use Rattle.ioa_check.proofs.declarations.declarations_fine.Goals as goal
 use Rattle.ioa_check.proofs.declarations.declarations_fine.Goals.{in-Type, in-Automaton+in_ok-automaton_fine-in-Automaton, in-Composition+in_ok-composition_fine-in-Composition, in-Invariant+in_ok-invariant_fine-in-Invariant}

@@ -4,7 +4,7 @@ use Rattle.std.specs.Option.{is_none}
 use Rattle.ioa_value.specs.Operators.{is_that}
 use Rattle.ioa_value.specs.Table.{field_types}
 use Rattle.ioa_tree.specs.View.{exprs_of, name_of}
-use Rattle.ioa_check.specs.Known.{whole, early}
+use Rattle.ioa_check.specs.KnownTypes.{whole, early}
 use Rattle.ioa_check.specs.Scopes.{context}
 use Rattle.ioa_check.proofs.TupleLemmas.{field-fails, uneven-fields, agree-turn, tuple-fails, fields-fail, made-finds}
 use Rattle.ioa_check.proofs.expressions.+typing.Goals as goal

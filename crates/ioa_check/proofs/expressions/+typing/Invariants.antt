@@ -1,7 +1,7 @@
 use Rattle.std.proofs.Common.{◌≡◌, ◌≤◌, true, drop, length, is_none}
 use Rattle.ioa_value.specs.Table.{field_types}
 use Rattle.ioa_tree.specs.View.{exprs_of}
-use Rattle.ioa_check.specs.Known.{whole, early}
+use Rattle.ioa_check.specs.KnownTypes.{whole, early}
 use Rattle.ioa_check.specs.Scopes.{context}
 use Rattle.ioa_check.proofs.TupleLemmas.{agree}
 use Rattle.ioa_check.proofs.expressions.+typing.Given as goal

@@ -1,5 +1,5 @@
 use Rattle.std.proofs.Common.{rules}
-use Rattle.ioa_check.specs.Known.{early}
+use Rattle.ioa_check.specs.KnownTypes.{early}
 use Rattle.ioa_check.proofs.ScopeLemmas.{types-go-on}
 use Rattle.ioa_check.proofs.fields.find_type.Goals as goal
 

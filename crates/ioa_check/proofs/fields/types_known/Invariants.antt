@@ -1,7 +1,7 @@
 use Rattle.std.proofs.Common.{◌≡◌, map, drop}
 use Rattle.std.specs.List.{list_all}
 use Rattle.ioa_tree.specs.WellFormed as well_formed
-use Rattle.ioa_check.specs.Known.{early}
+use Rattle.ioa_check.specs.KnownTypes.{early}
 use Rattle.ioa_check.proofs.fields.types_known.Given as goal
 
 abbrev pub invariant-loop-item : goal.invariant-loop-item

@@ -2,7 +2,7 @@ use Rattle.std.proofs.Common.{◌≡◌, drop}
 use Rattle.ioa_tree.specs.View.{name_of}
 use Rattle.ioa_tree.specs.WellFormed.{type_in, context_of}
 use Rattle.ioa_check.specs.Fields.{parameters}
-use Rattle.ioa_check.specs.Known.{early}
+use Rattle.ioa_check.specs.KnownTypes.{early}
 use Rattle.ioa_check.proofs.positions.find_parameter.Given as goal
 
 abbrev pub invariant-loop-position : goal.invariant-loop-position

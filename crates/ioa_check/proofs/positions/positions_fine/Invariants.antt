@@ -2,7 +2,7 @@ use Rattle.std.proofs.Common.{◌≡◌, map, drop}
 use Rattle.std.specs.List.{list_all}
 use Rattle.ioa_tree.specs.View.{position_of}
 use Rattle.ioa_tree.specs.WellFormed as well_formed
-use Rattle.ioa_check.specs.Known.{early}
+use Rattle.ioa_check.specs.KnownTypes.{early}
 use Rattle.ioa_check.specs.Scopes.{context}
 use Rattle.ioa_check.proofs.positions.positions_fine.Given as goal
 

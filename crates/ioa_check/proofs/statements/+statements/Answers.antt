@@ -3,7 +3,7 @@ use Rattle.ioa_tree.specs.View.{arm_of, stmt_of, automaton_of, entry_of}
 use Rattle.ioa_tree.specs.WellFormed.{stmt_fine}
 use Rattle.ioa_value.proofs.ItemLemmas.{all_done}
 use Rattle.ioa_check.specs.Reasons.{in_stmt}
-use Rattle.ioa_check.specs.Known.{whole, early}
+use Rattle.ioa_check.specs.KnownTypes.{whole, early}
 use Rattle.ioa_check.proofs.SayLemmas.{says-in-list}
 use Rattle.ioa_check.proofs.StatementLemmas.{is_arm_fine, in_arm, each_statement, each_arm, statements-say, arms-say, arms-passed, others-say}
 use Rattle.ioa_check.proofs.statements.+statements.Goals as goal

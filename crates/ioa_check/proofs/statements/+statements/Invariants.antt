@@ -2,7 +2,7 @@ use Rattle.std.proofs.Common.{◌≡◌, [], map, drop}
 use Rattle.std.specs.List.{list_all}
 use Rattle.ioa_tree.specs.View.{arm_of, automaton_of, entry_of, stmt_of}
 use Rattle.ioa_tree.specs.WellFormed as well_formed
-use Rattle.ioa_check.specs.Known.{whole, early}
+use Rattle.ioa_check.specs.KnownTypes.{whole, early}
 use Rattle.ioa_check.proofs.StatementLemmas.{is_arm_fine}
 use Rattle.ioa_check.proofs.statements.+statements.Given as goal
 

@@ -4,7 +4,7 @@ use Rattle.ioa_tree.specs.Tree.{FieldTree}
 use Rattle.ioa_tree.specs.View.{transition_of}
 use Rattle.ioa_tree.specs.WellFormed as well_formed
 use Rattle.ioa_check.specs.Fields.{parameters}
-use Rattle.ioa_check.specs.Known.{early}
+use Rattle.ioa_check.specs.KnownTypes.{early}
 use Rattle.ioa_check.proofs.transitions.all_proposed.Given as goal
 
 abbrev pub invariant-loop-position : goal.invariant-loop-position

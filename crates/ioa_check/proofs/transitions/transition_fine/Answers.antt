@@ -1,6 +1,6 @@
 use Rattle.std.proofs.lemmas.Bool.{or_right}
 use Rattle.ioa_tree.specs.View.{automaton_of, entry_of}
-use Rattle.ioa_check.specs.Known.{whole, early}
+use Rattle.ioa_check.specs.KnownTypes.{whole, early}
 use Rattle.ioa_check.proofs.SayLemmas.{says-first, says-more}
 use Rattle.ioa_check.proofs.StatementLemmas.{same-statements-say}
 use Rattle.ioa_check.proofs.transitions.transition_fine.Goals as goal

@@ -2,7 +2,7 @@ use Rattle.std.proofs.Common.{◌≡◌, ◌||◌, not, [], map, drop}
 use Rattle.std.specs.List.{list_all}
 use Rattle.ioa_tree.specs.View.{automaton_of, entry_of}
 use Rattle.ioa_tree.specs.WellFormed as well_formed
-use Rattle.ioa_check.specs.Known.{whole, early}
+use Rattle.ioa_check.specs.KnownTypes.{whole, early}
 use Rattle.ioa_check.proofs.transitions.transitions_fine.Given as goal
 
 abbrev pub invariant-loop-entry : goal.invariant-loop-entry

@@ -1,5 +1,5 @@
 use Rattle.ioa_check.proofs.KnownLemmas.{constant-early, constant-late, constant-none}
-use Rattle.ioa_check.proofs.known.Known.constant.Goals as goal
+use Rattle.ioa_check.proofs.known_types.KnownTypes.constant.Goals as goal
 
 pub returns-in-Some : goal.returns-in-Some
 returns-in-Some c =

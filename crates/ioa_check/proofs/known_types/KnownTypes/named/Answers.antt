@@ -1,5 +1,5 @@
 use Rattle.ioa_check.proofs.KnownLemmas.{named-early, named-late, named-none}
-use Rattle.ioa_check.proofs.known.Known.named.Goals as goal
+use Rattle.ioa_check.proofs.known_types.KnownTypes.named.Goals as goal
 
 pub returns-in-Some : goal.returns-in-Some
 returns-in-Some c = named-early c.args.self.now.count c.args.self.now.types.now _ _ c.named.result c.in-Some.ty c.in-Some.is c.named.ensures.place

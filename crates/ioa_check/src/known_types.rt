@@ -5,25 +5,25 @@ ghost use Rattle.ioa_value.specs.Shapes.{shape};
 ghost use Rattle.ioa_value.specs.Table as table;
 ghost use Rattle.ioa_tree.specs.Types.{constant_type};
 ghost use Rattle.ioa_tree.specs.View.{name_of};
-ghost use Rattle.ioa_check.specs.Known.{whole, early};
+ghost use Rattle.ioa_check.specs.KnownTypes.{whole, early};
 
 use ioa_tree::Name;
 use ioa_value::{Form, Ty, Types};
 
 /// The types of a source, of which a part of it may name the first so many: those declared before it.
 #[derive(Clone, Copy)]
-pub(crate) struct Known<'a> {
+pub(crate) struct KnownTypes<'a> {
     pub(crate) types: &'a Types,
     pub(crate) count: usize,
 }
 
-impl<'a> Known<'a> {
+impl<'a> KnownTypes<'a> {
     /// All of these types.
-    pub(crate) fn of_all(types: &'a Types) -> Known<'a>
+    pub(crate) fn of_all(types: &'a Types) -> KnownTypes<'a>
         ensures whole { whole result ≡ types.now }
         ensures early { early result ≡ types.now }
     {
-        Known {
+        KnownTypes {
             types,
             count: types.len(),
         }
