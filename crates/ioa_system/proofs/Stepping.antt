@@ -16,7 +16,7 @@ use Rattle.ioa_compile.specs.Shown.{entry_code}
 use Rattle.ioa_compile.specs.Tables.{AreEntries, entry_of}
 use Rattle.ioa_system.specs.declared.answer.Step.{Step}
 use Rattle.ioa_system.specs.declared.participation.Participant.{Participant}
-use Rattle.ioa_system.specs.declared.moves.Consent.{Consent}
+use Rattle.ioa_system.specs.declared.steps.Consent.{Consent}
 use Rattle.ioa_system.specs.Answers.{step_of}
 use Rattle.ioa_system.specs.Drafted.{AreDrafts, IsTyped, drafted}
 use Rattle.ioa_system.specs.Found.{member_of, component_of, components_of, consented, numbers_of, state_of, lent, IsLent, AreReady}

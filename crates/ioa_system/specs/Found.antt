@@ -11,7 +11,7 @@ use Rattle.ioa_compile.specs.Shown.{entry_code, member_code}
 use Rattle.ioa_compile.specs.Tables.{AreEntries, entry_of, table_component}
 use Rattle.ioa_system.specs.declared.participation.Participant.{Participant}
 use Rattle.ioa_system.specs.Systems.{Slots, slots_of}
-use Rattle.ioa_system.specs.declared.moves.Consent.{Consent}
+use Rattle.ioa_system.specs.declared.steps.Consent.{Consent}
 
 abbrev pub member_of : Participant → MemberCode
 member_of q = member_code q.member.now

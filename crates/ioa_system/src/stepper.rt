@@ -9,8 +9,8 @@ ghost use Rattle.ioa_system.specs.Participants.{all_back, put_back};
 ghost use Rattle.ioa_system.specs.Systems.{slot_types, types_of, values_of};
 
 use crate::answer::Step;
-use crate::moves::moved;
 use crate::participation::{Participant, Participation};
+use crate::steps::moved;
 use ioa_compile::Program;
 use ioa_node::{Draft, NodeState, Workspace};
 use ioa_value::{Action, OutOfMemory};

@@ -1,5 +1,5 @@
 use Rattle.std.proofs.Common.{◌-◌, length}
-use Rattle.ioa_system.proofs.moves.make_room.Given as goal
+use Rattle.ioa_system.proofs.steps.make_room.Given as goal
 
 abbrev pub decreases-loop-alloc : goal.decreases-loop-alloc
 decreases-loop-alloc l = l.count - length l.drafts.items

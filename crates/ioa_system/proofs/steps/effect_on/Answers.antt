@@ -6,7 +6,7 @@ use Rattle.ioa_value.specs.Typing.{HaveTypes}
 use Rattle.ioa_compile.specs.Shown.{entry_code, member_code}
 use Rattle.ioa_system.specs.Systems.{slots_of}
 use Rattle.ioa_system.proofs.Matching.{Acts, acts}
-use Rattle.ioa_system.proofs.moves.effect_on.Goals as goal
+use Rattle.ioa_system.proofs.steps.effect_on.Goals as goal
 
 acted : (c : goal.After-deref) → Acts (act_of c.args.action.now) (slots_of c.args.state.now) c.args.entry.now.effect
 acted c =

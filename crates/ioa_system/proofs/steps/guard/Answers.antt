@@ -6,7 +6,7 @@ use Rattle.ioa_value.specs.Typing.{HaveTypes}
 use Rattle.ioa_compile.specs.Shown.{entry_code, member_code}
 use Rattle.ioa_system.specs.Systems.{slots_of}
 use Rattle.ioa_system.proofs.Matching.{Asks, asks}
-use Rattle.ioa_system.proofs.moves.guard.Goals as goal
+use Rattle.ioa_system.proofs.steps.guard.Goals as goal
 
 asked : (c : goal.After-deref) → Asks (act_of c.args.action.now) (slots_of c.args.state.now) c.in-Some.code
 asked c =

@@ -3,7 +3,7 @@ use Rattle.ioa_system.specs.Answers.{IfNext}
 use Rattle.ioa_system.specs.Drafted.{AreDrafts}
 use Rattle.ioa_system.specs.Systems.{types_of}
 use Rattle.ioa_system.proofs.Drafting.{drafted_lent}
-use Rattle.ioa_system.proofs.moves.answer.Goals as goal
+use Rattle.ioa_system.proofs.steps.answer.Goals as goal
 
 pub returns-in_ok-changed-in-Next-clause-types : goal.returns-in_ok-changed-in-Next-clause-types
 returns-in_ok-changed-in-Next-clause-types c =

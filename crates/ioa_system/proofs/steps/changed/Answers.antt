@@ -6,8 +6,8 @@ use Rattle.ioa_system.specs.Drafted.{IsTyped}
 use Rattle.ioa_system.specs.Found.{IsLent, state_of}
 use Rattle.ioa_system.proofs.Drafting.{Draft, copies_next, copy_typed}
 use Rattle.ioa_system.proofs.Stepping.{state_is}
-use Rattle.ioa_system.proofs.moves.changed.Goals as goal
-use Rattle.ioa_system.proofs.moves.changed.Goals.{In_ok-state}
+use Rattle.ioa_system.proofs.steps.changed.Goals as goal
+use Rattle.ioa_system.proofs.steps.changed.Goals.{In_ok-state}
 
 -- the copy equals the participant's state
 copied : (c : In_ok-state) → c.in_ok-state.state ≡ state_of c.args.states.now c.index-participants-i.result

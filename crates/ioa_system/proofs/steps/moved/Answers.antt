@@ -4,8 +4,8 @@ use Rattle.ioa_system.specs.Drafted.{drafted}
 use Rattle.ioa_system.specs.Systems.{values_of}
 use Rattle.ioa_system.proofs.Participating.{written_anew}
 use Rattle.ioa_system.proofs.Stepping.{Answers, answers, told}
-use Rattle.ioa_system.proofs.moves.moved.Goals as goal
-use Rattle.ioa_system.proofs.moves.moved.Goals.{In_ok-asked, After-effects}
+use Rattle.ioa_system.proofs.steps.moved.Goals as goal
+use Rattle.ioa_system.proofs.steps.moved.Goals.{In_ok-asked, After-effects}
 
 answered : (c : In_ok-asked) → Answers (act_of c.args.action.now) c.args.states.now c.args.participants.now c.in_ok-asked.field-0
 answered c =

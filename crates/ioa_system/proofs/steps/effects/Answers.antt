@@ -9,7 +9,7 @@ use Rattle.ioa_system.specs.Drafted.{IsTyped}
 use Rattle.ioa_system.specs.Found.{component_of, state_of}
 use Rattle.ioa_system.proofs.Stepping.{AtTurn, at_turn, state_is, acts_next}
 use Rattle.ioa_system.proofs.Drafting.{Draft}
-use Rattle.ioa_system.proofs.moves.effects.Goals as goal
+use Rattle.ioa_system.proofs.steps.effects.Goals as goal
 
 pub loop-i-preserved : goal.loop-i-preserved
 loop-i-preserved c =
