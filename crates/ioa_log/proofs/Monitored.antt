@@ -17,8 +17,8 @@ use Rattle.ioa_compile.specs.Correspondence.{CorrespondsAt}
 use Rattle.ioa_compile.specs.Matching.{MatchesEntry, MatchesMember}
 use Rattle.ioa_compile.specs.Means.{Means}
 use Rattle.ioa_compile.proofs.Paired.{paired_any}
-use Rattle.ioa_system.specs.declared.answer.Step.{Step}
-use Rattle.ioa_system.specs.Answers.{KeepsUnlessNext, step_of}
+use Rattle.ioa_system.specs.declared.outcomes.Step.{Step}
+use Rattle.ioa_system.specs.Outcomes.{KeepsUnlessNext, step_of}
 use Rattle.ioa_log.specs.declared.monitors.MonitorErr.{MonitorErr}
 use Rattle.ioa_log.specs.Monitoring.{IsRefusal, after_action, monitored_from, monitored, is_internal, hides, hides_in}
 use Rattle.ioa_log.proofs.Entries.{any_like, is_action, step_acts}

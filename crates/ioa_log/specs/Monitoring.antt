@@ -12,7 +12,7 @@ use Rattle.ioa_tree.specs.declared.tree.Kind.{Kind}
 use Rattle.ioa_tree.specs.declared.tree.Kind.TheVariants.{Input, Output, Internal}
 use Rattle.ioa_compose.specs.Stands.{has_kind}
 use Rattle.ioa_compile.specs.Programs.{Prog}
-use Rattle.ioa_system.specs.declared.answer.Step.{Step}
+use Rattle.ioa_system.specs.declared.outcomes.Step.{Step}
 use Rattle.ioa_log.specs.declared.monitors.MonitorErr.{MonitorErr}
 
 -- why the action of this index is not accepted, or what comes of the later ones

@@ -6,7 +6,7 @@ use Rattle.ioa_value.specs.Lists.{ReadsLines, ReadsList, first_line}
 use Rattle.ioa_tree.specs.Runs.{run}
 use Rattle.ioa_compile.specs.Programs.{Prog}
 use Rattle.ioa_compile.specs.Tables.{start_states, tabled}
-use Rattle.ioa_system.specs.Answers.{ending_of}
+use Rattle.ioa_system.specs.Outcomes.{ending_of}
 use Rattle.ioa_system.specs.Progress.{Progress, IsRunOver}
 use Rattle.ioa_log.specs.declared.reading.Reading.{Reading}
 use Rattle.ioa_log.specs.declared.reading.Replayed.{Replayed}

@@ -10,9 +10,9 @@ use Rattle.ioa_tree.specs.Steps as steps
 use Rattle.ioa_tree.specs.Steps.{next, not_an_action, not_enabled, fault, Asked, free, owned, with_state, then_rest, effect_on, effects, allowed, asked, step}
 use Rattle.ioa_compile.specs.Programs.{Prog}
 use Rattle.ioa_compile.specs.Tables.{tabled}
-use Rattle.ioa_system.specs.declared.answer.Moved.{Moved}
+use Rattle.ioa_system.specs.declared.outcomes.Moved.{Moved}
 use Rattle.ioa_system.specs.declared.participation.Participant.{Participant}
-use Rattle.ioa_system.specs.Answers.{moved_of}
+use Rattle.ioa_system.specs.Outcomes.{moved_of}
 use Rattle.ioa_system.specs.Found.{AreParticipants, component_of, components_of}
 use Rattle.ioa_system.specs.Participants.{renumbered, step_from}
 use Rattle.std.specs.Global.{Vec}

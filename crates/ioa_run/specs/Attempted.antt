@@ -6,8 +6,8 @@ use Rattle.ioa_node.specs.Nodes.{Node}
 use Rattle.ioa_tree.specs.Steps.{not_an_action, step}
 use Rattle.ioa_compile.specs.Programs.{Prog}
 use Rattle.ioa_compile.specs.Tables.{tabled}
-use Rattle.ioa_system.specs.declared.answer.Step.{Step}
-use Rattle.ioa_system.specs.Answers.{KeepsUnlessNext, step_of}
+use Rattle.ioa_system.specs.declared.outcomes.Step.{Step}
+use Rattle.ioa_system.specs.Outcomes.{KeepsUnlessNext, step_of}
 use Rattle.ioa_system.specs.Logs.{log_entry, worker}
 use Rattle.ioa_system.specs.declared.log.LogEntry.{LogEntry}
 use Rattle.ioa_system.specs.Systems.{values_of}

@@ -8,8 +8,8 @@ use Rattle.ioa_tree.specs.Steps.{participants}
 use Rattle.ioa_compile.specs.Programs.{Prog}
 use Rattle.ioa_compile.specs.Coded.{coded_prog}
 use Rattle.ioa_compile.specs.Tables.{tabled}
-use Rattle.ioa_system.specs.declared.answer.Moved.{Moved}
-use Rattle.ioa_system.specs.Answers.{AreOfTypes, moved_of}
+use Rattle.ioa_system.specs.declared.outcomes.Moved.{Moved}
+use Rattle.ioa_system.specs.Outcomes.{AreOfTypes, moved_of}
 use Rattle.ioa_system.specs.Logs.{worker}
 use Rattle.ioa_system.specs.Participants.{step_from, taken}
 use Rattle.ioa_system.specs.Systems.{slot_types, types_of}

@@ -9,8 +9,8 @@ use Rattle.ioa_tree.specs.Steps.{Moved, next, step}
 use Rattle.ioa_compile.specs.Programs.{MemberCode, Prog}
 use Rattle.ioa_compile.specs.Tables.{tabled}
 use Rattle.ioa_system.specs.declared.participation.Participant.{Participant}
-use Rattle.ioa_system.specs.declared.answer.Step.{Step}
-use Rattle.ioa_system.specs.Answers.{KeepsUnlessNext, step_of}
+use Rattle.ioa_system.specs.declared.outcomes.Step.{Step}
+use Rattle.ioa_system.specs.Outcomes.{KeepsUnlessNext, step_of}
 use Rattle.ioa_system.specs.Drafted.{AreDrafts, ArePlaces, drafted}
 use Rattle.ioa_system.specs.Found.{components_of, numbers_of, AreParticipants, lent}
 use Rattle.ioa_system.specs.Participants.{put_back, renumbered, all_back}

@@ -14,10 +14,10 @@ use Rattle.ioa_tree.specs.Components.{has, owns, is_local}
 use Rattle.ioa_tree.specs.Steps.{Moved, next, fault, Asked, free, owned, asked, with_state, then_rest, effects, allowed, step}
 use Rattle.ioa_compile.specs.Shown.{entry_code}
 use Rattle.ioa_compile.specs.Tables.{AreEntries, entry_of}
-use Rattle.ioa_system.specs.declared.answer.Step.{Step}
+use Rattle.ioa_system.specs.declared.outcomes.Step.{Step}
 use Rattle.ioa_system.specs.declared.participation.Participant.{Participant}
 use Rattle.ioa_system.specs.declared.steps.Consent.{Consent}
-use Rattle.ioa_system.specs.Answers.{step_of}
+use Rattle.ioa_system.specs.Outcomes.{step_of}
 use Rattle.ioa_system.specs.Drafted.{AreDrafts, IsTyped, drafted}
 use Rattle.ioa_system.specs.Found.{member_of, component_of, components_of, consented, numbers_of, state_of, lent, IsLent, AreReady}
 use Rattle.ioa_system.specs.Participants.{renumbered}

@@ -14,9 +14,9 @@ use Rattle.ioa_compile.specs.Programs.{Prog}
 use Rattle.ioa_compile.specs.Tables.{tabled, start_states}
 use Rattle.ioa_compile.specs.Correspondence.{CorrespondsAt}
 use Rattle.ioa_compile.specs.Means.{Means}
-use Rattle.ioa_system.specs.declared.answer.End.{End}
+use Rattle.ioa_system.specs.declared.outcomes.End.{End}
 use Rattle.ioa_system.specs.declared.runs.Run.{Run}
-use Rattle.ioa_system.specs.Answers.{ending_of, performed_by}
+use Rattle.ioa_system.specs.Outcomes.{ending_of, performed_by}
 use Rattle.ioa_system.specs.Progress.{Progress, reached_by, worker_after, IsRunOver}
 use Rattle.ioa_system.specs.Records.{IsTableRun, IsSourceRun}
 

@@ -1,7 +1,7 @@
 pub mod Systems
 pub mod ProgramActions
 pub mod Participants
-pub mod Answers
+pub mod Outcomes
 pub mod Endings
 pub mod Found
 pub mod Drafted

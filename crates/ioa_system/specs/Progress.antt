@@ -8,9 +8,9 @@ use Rattle.ioa_tree.specs.Runs.{Reached, run, trace}
 use Rattle.ioa_compile.specs.Programs.{Prog}
 use Rattle.ioa_compile.specs.Coded.{coded_prog}
 use Rattle.ioa_compile.specs.Tables.{tabled, start_states}
-use Rattle.ioa_system.specs.declared.answer.End.{End}
-use Rattle.ioa_system.specs.contracts.answer.End as ends
-use Rattle.ioa_system.specs.Answers.{ending_of, performed_by}
+use Rattle.ioa_system.specs.declared.outcomes.End.{End}
+use Rattle.ioa_system.specs.contracts.outcomes.End as ends
+use Rattle.ioa_system.specs.Outcomes.{ending_of, performed_by}
 use Rattle.ioa_system.specs.Logs.{worker}
 
 -- the program, the states that stand, and the end as it would be with no further action

@@ -11,7 +11,7 @@ use Rattle.ioa_compile.specs.Programs.{Prog}
 use Rattle.ioa_compile.specs.Tables.{tabled, start_states}
 use Rattle.ioa_compile.specs.Correspondence.{CorrespondsAt}
 use Rattle.ioa_system.specs.declared.runs.Run.{Run}
-use Rattle.ioa_system.specs.Answers.{ending_of}
+use Rattle.ioa_system.specs.Outcomes.{ending_of}
 use Rattle.ioa_system.specs.Systems.{slot_types, types_of, values_of}
 
 abbrev pub reached_of : Run → Reached (List Val)

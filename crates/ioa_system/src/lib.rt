@@ -1,10 +1,10 @@
 //! Steps of a program's components, and runs over lists of actions.
 #![tactic(auto)]
 
-mod answer;
 mod entries;
 mod laws;
 mod log;
+mod outcomes;
 mod participation;
 mod runner;
 mod runs;
@@ -12,9 +12,9 @@ mod stepper;
 mod steps;
 mod system;
 
-pub use answer::{End, Moved, Step};
 pub use laws::{runs_are_the_hosts, steps_are_the_hosts, steps_are_the_sources};
 pub use log::{Log, LogEnd, LogEntry};
+pub use outcomes::{End, Moved, Step};
 pub use participation::{Participant, Participation, owner, participants};
 pub use runner::{Runner, Taken};
 pub use runs::{Run, run_list};

@@ -5,7 +5,7 @@ ghost use Rattle.ioa_system.specs.Progress.{IsRunOver, next_worker};
 ghost use Rattle.ioa_system.specs.Records.{IsTableRun};
 ghost use Rattle.ioa_system.specs.Systems.{slot_types, types_of, values_of};
 
-use crate::answer::End;
+use crate::outcomes::End;
 use crate::runs::Run;
 use crate::system::System;
 use ioa_compile::Program;

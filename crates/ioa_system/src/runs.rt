@@ -6,7 +6,7 @@ ghost use Rattle.ioa_compose.specs.Stands.{Stands};
 ghost use Rattle.ioa_compile.specs.Means.{Means};
 ghost use Rattle.ioa_system.specs.Records.{IsTableRun, IsSourceRun, IsHostRun};
 
-use crate::answer::End;
+use crate::outcomes::End;
 use crate::runner::Runner;
 use ioa_compile::Program;
 use ioa_node::NodeState;

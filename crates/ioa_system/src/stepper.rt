@@ -2,13 +2,13 @@ ghost use Rattle.std.specs.Prelude.{◌≡◌, IfOk, OnErr};
 ghost use Rattle.ioa_value.specs.Actions.{act_of};
 ghost use Rattle.ioa_tree.specs.Steps as steps;
 ghost use Rattle.ioa_compile.specs.Tables.{tabled};
-ghost use Rattle.ioa_system.specs.Answers.{IfNext, KeepsUnlessNext, step_of};
+ghost use Rattle.ioa_system.specs.Outcomes.{IfNext, KeepsUnlessNext, step_of};
 ghost use Rattle.ioa_system.specs.Drafted.{AreDrafts, ArePlaces, drafted};
 ghost use Rattle.ioa_system.specs.Found.{numbers_of};
 ghost use Rattle.ioa_system.specs.Participants.{all_back, put_back};
 ghost use Rattle.ioa_system.specs.Systems.{slot_types, types_of, values_of};
 
-use crate::answer::Step;
+use crate::outcomes::Step;
 use crate::participation::{Participant, Participation};
 use crate::steps::moved;
 use ioa_compile::Program;

@@ -7,13 +7,13 @@ ghost use Rattle.ioa_tree.specs.Steps as steps;
 ghost use Rattle.ioa_compile.specs.Shown.{entry_code, member_code};
 ghost use Rattle.ioa_compile.specs.Tables as tables;
 ghost use Rattle.ioa_compile.specs.Tables.{AreEntries, table_component, tabled};
-ghost use Rattle.ioa_system.specs.Answers.{AreOfTypes, IfNext, moved_of, step_of};
+ghost use Rattle.ioa_system.specs.Outcomes.{AreOfTypes, IfNext, moved_of, step_of};
 ghost use Rattle.ioa_system.specs.Found.{AreReady, IsLent, components_of, consented, lent, lent_types, numbers_of, placed};
 ghost use Rattle.ioa_system.specs.Drafted.{AreDrafts, IsTyped, drafted};
 ghost use Rattle.ioa_system.specs.Participants as spec;
 ghost use Rattle.ioa_system.specs.Systems.{slot_types, slots_of, types_of, values_of};
 
-use crate::answer::{Moved, Step};
+use crate::outcomes::{Moved, Step};
 use crate::participation::{Participant, Participation, is_local};
 use ioa_compile::{Entry, Member, Program};
 use ioa_node::{Draft, NodeState, Workspace, draft_effect, enabled_with};

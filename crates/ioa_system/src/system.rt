@@ -4,11 +4,11 @@ ghost use Rattle.ioa_tree.specs.Runs as runs;
 ghost use Rattle.ioa_tree.specs.Steps as steps;
 ghost use Rattle.ioa_compile.specs.Shown.{member_code};
 ghost use Rattle.ioa_compile.specs.Tables.{start_states, tabled};
-ghost use Rattle.ioa_system.specs.Answers.{KeepsUnlessNext, step_of};
+ghost use Rattle.ioa_system.specs.Outcomes.{KeepsUnlessNext, step_of};
 ghost use Rattle.ioa_system.specs.Logs as logs;
 ghost use Rattle.ioa_system.specs.Systems.{slot_types, types_of, values_of};
 
-use crate::answer::Step;
+use crate::outcomes::Step;
 use crate::participation::Participation;
 use crate::stepper::Stepper;
 use ioa_compile::{Member, Program};

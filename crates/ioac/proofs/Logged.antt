@@ -10,12 +10,12 @@ use Rattle.ioa_value.specs.Actions.{Act, act_of}
 use Rattle.ioa_value.specs.Plain.{Val}
 use Rattle.ioa_tree.specs.Hosts.{Hosted, hosts_of, host_starts, first_broken_host}
 use Rattle.ioa_tree.specs.Runs.{Ending, Reached, after, not_an_action_at, run}
-use Rattle.ioa_system.specs.declared.answer.End.{End}
-use Rattle.ioa_system.specs.declared.answer.Step.{Step}
+use Rattle.ioa_system.specs.declared.outcomes.End.{End}
+use Rattle.ioa_system.specs.declared.outcomes.Step.{Step}
 use Rattle.ioa_system.specs.declared.log.Log.{Log}
 use Rattle.ioa_system.specs.declared.log.LogEnd.{LogEnd}
 use Rattle.ioa_system.specs.declared.log.LogEntry.{LogEntry}
-use Rattle.ioa_system.specs.Answers.{ending_of, step_of}
+use Rattle.ioa_system.specs.Outcomes.{ending_of, step_of}
 use Rattle.ioa_system.specs.Logs.{Logged, actions_of, is_fault, log_end, log_entry, logged}
 use Rattle.ioa_log.specs.declared.broken_invariants.Broken.{Broken}
 use Rattle.ioa_log.specs.Breaking.{broken_of}

@@ -10,7 +10,7 @@ use Rattle.ioa_compile.specs.Means.{Means}
 use Rattle.ioa_compile.specs.Programs.{Prog}
 use Rattle.ioa_compile.specs.Tables.{start_states, tabled}
 use Rattle.ioa_system.specs.declared.runs.Run.{Run}
-use Rattle.ioa_system.specs.Answers.{ending_of}
+use Rattle.ioa_system.specs.Outcomes.{ending_of}
 use Rattle.ioa_system.specs.Logs.{Logged, actions_of}
 use Rattle.ioa_system.specs.Records.{IsHostRun, IsTableRun, trace_of}
 use Rattle.ioa_log.specs.Judging.{agrees, judged}

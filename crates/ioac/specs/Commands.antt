@@ -63,7 +63,7 @@ IsUsage Status.BadCommandLine before after writer_failed told telling teller_fai
 IsUsage Status.Unable before after writer_failed told telling teller_failed status = Keeps before after × IsShort told telling teller_failed status
 IsUsage Status.Refused before after writer_failed told telling teller_failed status = ⊥
 IsUsage Status.Faulted before after writer_failed told telling teller_failed status = ⊥
-IsUsage Status.ListRefused before after writer_failed told telling teller_failed status = ⊥
+IsUsage Status.NotAccepted before after writer_failed told telling teller_failed status = ⊥
 
 -- Nothing is served. The words have a fault, or ask for help or the version, or memory was short while they were read; or they have
 -- no fault and ask for nothing, as for a code that is none, for the invariants of a list, or for a run with turns that are no number.

@@ -7,7 +7,7 @@ use Rattle.ioa_value.specs.Actions.{Act}
 use Rattle.ioa_tree.specs.Hosts.{Hosted, hosts_of, host_starts, first_broken_host}
 use Rattle.ioa_tree.specs.Invariants.{Broken}
 use Rattle.ioa_tree.specs.Runs.{Ending, run}
-use Rattle.ioa_system.specs.Answers.{ending_of}
+use Rattle.ioa_system.specs.Outcomes.{ending_of}
 use Rattle.ioa_system.specs.Endings.{ending_text}
 use Rattle.ioa_system.specs.Logs.{Logged, actions_of, is_fault}
 use Rattle.ioa_log.specs.Breaking.{broken_of}

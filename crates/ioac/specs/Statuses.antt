@@ -13,25 +13,25 @@ number_of Status.Done = 0
 number_of Status.Refused = 1
 number_of Status.BadCommandLine = 2
 number_of Status.Faulted = 3
-number_of Status.ListRefused = 4
+number_of Status.NotAccepted = 4
 number_of Status.Unable = 5
 
 -- of a list or a log that was replayed to this end
 abbrev pub ending_status : Ending → Status
 ending_status (done n) = Status.Done
-ending_status (not_an_action_at i) = Status.ListRefused
-ending_status (not_enabled_at i) = Status.ListRefused
+ending_status (not_an_action_at i) = Status.NotAccepted
+ending_status (not_enabled_at i) = Status.NotAccepted
 ending_status (fault_at c f i) = Status.Faulted
 
 -- of a log in which this is found
 abbrev pub found_status : Found → Status
-found_status (broken b) = Status.ListRefused
+found_status (broken b) = Status.NotAccepted
 found_status (unbroken end) = ending_status end
 
 -- of a monitor that gives this answer
 abbrev pub answer_status : Option Ending → Status
 answer_status None = Status.Done
-answer_status (Some end) = Status.ListRefused
+answer_status (Some end) = Status.NotAccepted
 
 -- of a source that is refused
 abbrev pub refusal_status : Refusal → Status
@@ -67,12 +67,12 @@ object_status ObjErr.OutOfMemory = Status.Unable
 
 -- of a list or a log that is refused
 abbrev pub log_status : LogErr → Status
-log_status (LogErr.NotJson line) = Status.ListRefused
-log_status (LogErr.BadLine line) = Status.ListRefused
-log_status (LogErr.WrongOwner line) = Status.ListRefused
-log_status (LogErr.Diverges line) = Status.ListRefused
-log_status LogErr.NoEnd = Status.ListRefused
-log_status LogErr.AfterEnd = Status.ListRefused
+log_status (LogErr.NotJson line) = Status.NotAccepted
+log_status (LogErr.BadLine line) = Status.NotAccepted
+log_status (LogErr.WrongOwner line) = Status.NotAccepted
+log_status (LogErr.Diverges line) = Status.NotAccepted
+log_status LogErr.NoEnd = Status.NotAccepted
+log_status LogErr.AfterEnd = Status.NotAccepted
 log_status LogErr.Io = Status.Unable
 log_status LogErr.OutOfMemory = Status.Unable
 
@@ -81,10 +81,10 @@ failure_status (Failure.Refused refusal) = refusal_status refusal
 failure_status (Failure.Object e) = object_status e
 failure_status Failure.SourceWanted = Status.BadCommandLine
 failure_status (Failure.List e) = log_status e
-failure_status Failure.SpecHasInternal = Status.ListRefused
+failure_status Failure.SpecHasInternal = Status.NotAccepted
 failure_status (Failure.BadWords n) = Status.BadCommandLine
 failure_status Failure.TooManyTurns = Status.BadCommandLine
-failure_status (Failure.BadInput i) = Status.ListRefused
+failure_status (Failure.BadInput i) = Status.NotAccepted
 failure_status Failure.Threads = Status.Unable
 failure_status Failure.Io = Status.Unable
 failure_status Failure.OutOfMemory = Status.Unable

@@ -1,5 +1,5 @@
 ghost use Rattle.std.specs.Prelude.{◌≡◌, ◌⊎◌, map, option_map, IfOk, IfErr, IsSome, IsErrOf};
-ghost use Rattle.ioa_system.specs.Answers.{ending_of};
+ghost use Rattle.ioa_system.specs.Outcomes.{ending_of};
 ghost use Rattle.ioa_log.specs.declared.failure.LogErr.{LogErr};
 ghost use Rattle.ioa_log.specs.Failing.{HasFailed};
 ghost use Rattle.ioac.specs.CommandLine.{IsAsked};
@@ -229,7 +229,7 @@ pub fn status_of(end: End) -> Status
 {
     match end {
         End::Done(_) => Status::Done,
-        End::NotAnAction(_) | End::NotEnabled(_) => Status::ListRefused,
+        End::NotAnAction(_) | End::NotEnabled(_) => Status::NotAccepted,
         End::Fault(_, _, _) => Status::Faulted,
     }
 }
@@ -239,7 +239,7 @@ fn status_of_finding(finding: Finding) -> Status
     ensures { result ≡ found_status (found_of finding) }
 {
     match finding {
-        Finding::Broken(_) => Status::ListRefused,
+        Finding::Broken(_) => Status::NotAccepted,
         Finding::Unbroken(end) => status_of(end),
     }
 }
@@ -250,6 +250,6 @@ fn status_of_answer(answer: Option<End>) -> Status
 {
     match answer {
         None => Status::Done,
-        Some(_) => Status::ListRefused,
+        Some(_) => Status::NotAccepted,
     }
 }

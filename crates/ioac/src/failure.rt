@@ -73,7 +73,7 @@ impl Failure {
             Failure::Refused(refusal) => refusal_status(refusal),
             Failure::Object(error) => object_status(*error),
             Failure::List(error) => log_status(*error),
-            Failure::SpecHasInternal | Failure::BadInput(_) => Status::ListRefused,
+            Failure::SpecHasInternal | Failure::BadInput(_) => Status::NotAccepted,
             Failure::SourceWanted | Failure::BadWords(_) | Failure::TooManyTurns => {
                 Status::BadCommandLine
             }
@@ -108,7 +108,7 @@ fn log_status(error: LogErr) -> Status
         | LogErr::WrongOwner(_)
         | LogErr::Diverges(_)
         | LogErr::NoEnd
-        | LogErr::AfterEnd => Status::ListRefused,
+        | LogErr::AfterEnd => Status::NotAccepted,
         LogErr::Io | LogErr::OutOfMemory => Status::Unable,
     }
 }

@@ -1,6 +1,6 @@
 ghost use Rattle.std.specs.Prelude.{◌≡◌, ◌⊎◌, IfOk, IfErr, IfSome, IsErrOf};
 ghost use Rattle.std.specs.Option.{option_copied};
-ghost use Rattle.ioa_system.specs.Answers.{ending_of};
+ghost use Rattle.ioa_system.specs.Outcomes.{ending_of};
 ghost use Rattle.ioa_log.specs.declared.failure.LogErr.{LogErr};
 ghost use Rattle.ioa_log.specs.Failing.{HasFailed};
 ghost use Rattle.ioac.specs.Failing.{IsFailure, IsUnwritten};

@@ -10,8 +10,8 @@ pub enum Status {
     BadCommandLine = 2,
     /// The list or the log ended by a fault.
     Faulted = 3,
-    /// The list, the log or the monitor is refused, or the monitor refuses, or the list ended not enabled or not an action.
-    ListRefused = 4,
+    /// The list, the log or the script is not accepted, or the monitor does not accept, or the list ended not enabled or not an action.
+    NotAccepted = 4,
     /// Memory was short, a thread was refused, a device failed, or a file could not be read.
     Unable = 5,
 }

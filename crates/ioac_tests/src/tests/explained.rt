@@ -46,7 +46,7 @@ fn is_given<H: Threads + Wait + Sync>(
 ) -> Result<bool, Fail> {
     let ran = run(rt, alloc, given)?;
     let status = if code.spelling().starts_with("L") {
-        Status::ListRefused
+        Status::NotAccepted
     } else {
         Status::Refused
     };

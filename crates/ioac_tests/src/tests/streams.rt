@@ -89,7 +89,7 @@ const GIVEN: [(&str, &str, &str, &str, Status); 4] = [
         BOUNDED,
         LOG,
         "invariant 0 of component 0 broken after 2\n",
-        Status::ListRefused,
+        Status::NotAccepted,
     ),
 ];
 

@@ -6,7 +6,7 @@ use Rattle.ioa_value.specs.Actions.{Act, act_of}
 use Rattle.ioa_tree.specs.Runs.{Ending}
 use Rattle.ioa_compile.specs.Programs.{Prog}
 use Rattle.ioa_compile.specs.Tables.{tabled, start_states}
-use Rattle.ioa_system.specs.declared.answer.Step.{Step}
+use Rattle.ioa_system.specs.declared.outcomes.Step.{Step}
 use Rattle.ioa_system.proofs.Finding.{read_map}
 use Rattle.ioa_log.specs.Monitoring.{IsRefusedAt, monitored, monitored_from}
 use Rattle.ioa_log.proofs.Monitored.{by_answer, monitored_next}

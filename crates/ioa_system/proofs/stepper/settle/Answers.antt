@@ -1,6 +1,6 @@
 use Rattle.std.proofs.Common.{ap, ◌∙◌, sym, subst}
-use Rattle.ioa_system.specs.declared.answer.Step.{Step}
-use Rattle.ioa_system.specs.Answers.{IfNext, step_of}
+use Rattle.ioa_system.specs.declared.outcomes.Step.{Step}
+use Rattle.ioa_system.specs.Outcomes.{IfNext, step_of}
 use Rattle.ioa_system.specs.Drafted.{AreDrafts, drafted}
 use Rattle.ioa_system.specs.Found.{numbers_of}
 use Rattle.ioa_system.specs.Participants.{all_back}

@@ -1,5 +1,5 @@
 use Rattle.std.proofs.Common.{ap, ◌∙◌, subst}
-use Rattle.ioa_system.specs.Answers.{IfNext}
+use Rattle.ioa_system.specs.Outcomes.{IfNext}
 use Rattle.ioa_system.specs.Drafted.{AreDrafts}
 use Rattle.ioa_system.specs.Systems.{types_of}
 use Rattle.ioa_system.proofs.Drafting.{drafted_lent}

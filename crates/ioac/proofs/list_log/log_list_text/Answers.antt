@@ -3,7 +3,7 @@ use Rattle.std.proofs.Common.{◌⊎◌, ◌∙◌, IfSome}
 use Rattle.std.specs.Io.KnownBytes.{Keeps}
 use Rattle.std.proofs.lemmas.Option.{IfSome_then}
 use Rattle.std.proofs.lemmas.Result.{err_from_is_err_and}
-use Rattle.ioa_system.specs.Answers.{ending_of}
+use Rattle.ioa_system.specs.Outcomes.{ending_of}
 use Rattle.ioa_log.specs.Failing.{HasFailed}
 use Rattle.ioa_log.specs.RunLogs.{BeginsRunLog, WritesRunLog}
 use Rattle.ioac.specs.ListLogs.{BeginsListLogOf}

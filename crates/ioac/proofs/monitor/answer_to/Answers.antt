@@ -1,6 +1,6 @@
 use Rattle.std.proofs.Common.{◌≡◌, ◌∙◌, None, inr, map, option_map, refl, sym}
 use Rattle.ioa_value.specs.Actions.{act_of}
-use Rattle.ioa_system.specs.Answers.{ending_of}
+use Rattle.ioa_system.specs.Outcomes.{ending_of}
 use Rattle.ioa_log.specs.Monitoring.{monitored}
 use Rattle.ioac.specs.Subjects.{IsClosed, IsOpen, its_components, its_starts}
 use Rattle.ioac.proofs.Logged.{told_at}

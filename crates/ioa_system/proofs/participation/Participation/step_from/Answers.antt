@@ -6,7 +6,7 @@ use Rattle.ioa_tree.specs.Steps as steps
 use Rattle.ioa_compile.specs.Programs.{Prog}
 use Rattle.ioa_compile.specs.Tables.{tabled}
 use Rattle.ioa_system.specs.declared.participation.Participant.{Participant}
-use Rattle.ioa_system.specs.Answers.{AreOfTypes, moved_of, step_of}
+use Rattle.ioa_system.specs.Outcomes.{AreOfTypes, moved_of, step_of}
 use Rattle.ioa_system.specs.Drafted.{drafted}
 use Rattle.ioa_system.specs.Found.{AreReady, components_of, lent, numbers_of, placed}
 use Rattle.ioa_system.specs.Participants.{renumbered, step_from}

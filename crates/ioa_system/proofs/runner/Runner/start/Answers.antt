@@ -1,5 +1,5 @@
 use Rattle.std.proofs.Common.{ap}
-use Rattle.ioa_system.specs.declared.answer.End.{End}
+use Rattle.ioa_system.specs.declared.outcomes.End.{End}
 use Rattle.ioa_system.specs.Systems.{Running}
 use Rattle.ioa_system.proofs.Tracing.{over_begin}
 use Rattle.ioa_system.proofs.runner.Runner.start.Goals as goal

@@ -4,9 +4,9 @@ use Rattle.ioa_value.specs.Plain.{Val}
 use Rattle.ioa_tree.specs.Steps.{next, step}
 use Rattle.ioa_compile.specs.Programs.{Prog}
 use Rattle.ioa_compile.specs.Tables.{tabled}
-use Rattle.ioa_system.specs.declared.answer.End.{End}
-use Rattle.ioa_system.specs.declared.answer.Step.{Step}
-use Rattle.ioa_system.specs.Answers.{step_of}
+use Rattle.ioa_system.specs.declared.outcomes.End.{End}
+use Rattle.ioa_system.specs.declared.outcomes.Step.{Step}
+use Rattle.ioa_system.specs.Outcomes.{step_of}
 use Rattle.ioa_system.specs.Logs.{worker}
 use Rattle.ioa_system.specs.Progress.{Progress, IsRunOver, next_worker, worker_after}
 use Rattle.ioa_system.proofs.Tracing.{none_after, over_ended, over_refused, over_next}

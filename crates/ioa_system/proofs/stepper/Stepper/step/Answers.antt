@@ -4,7 +4,7 @@ use Rattle.ioa_node.specs.Nodes.{Node}
 use Rattle.ioa_tree.specs.Steps as steps
 use Rattle.ioa_compile.specs.Programs.{Prog}
 use Rattle.ioa_system.specs.declared.participation.Participant.{Participant}
-use Rattle.ioa_system.specs.Answers.{step_of}
+use Rattle.ioa_system.specs.Outcomes.{step_of}
 use Rattle.ioa_system.specs.Drafted.{drafted}
 use Rattle.ioa_system.specs.Found.{AreReady, components_of, lent, numbers_of}
 use Rattle.ioa_system.specs.Participants.{all_back, renumbered}

@@ -5,8 +5,8 @@ use Rattle.ioa_node.specs.Nodes.{Node}
 use Rattle.ioa_tree.specs.Steps as steps
 use Rattle.ioa_compile.specs.Programs.{Prog}
 use Rattle.ioa_compile.specs.Tables.{tabled}
-use Rattle.ioa_system.specs.declared.answer.Step.{Step}
-use Rattle.ioa_system.specs.Answers.{KeepsUnlessNext, step_of}
+use Rattle.ioa_system.specs.declared.outcomes.Step.{Step}
+use Rattle.ioa_system.specs.Outcomes.{KeepsUnlessNext, step_of}
 use Rattle.ioa_system.specs.Systems.{Running, slot_types, types_of, values_of}
 use Rattle.ioa_system.proofs.Running.{kept_values, lent_whole, running}
 use Rattle.ioa_system.proofs.system.System.step_by.Goals as goal

@@ -1,8 +1,8 @@
 ghost use Rattle.std.specs.Prelude.{◌≡◌, List, Some, IfSome, IfNone};
 ghost use Rattle.ioa_value.specs.Plain.{Val};
 ghost use Rattle.ioa_tree.specs.Runs.{Reached, after};
-ghost use Rattle.ioa_system.specs.declared.answer.Step.TheVariants as variants;
-ghost use Rattle.ioa_system.specs.Answers.{KeepsUnlessNext, ending_of, performed_by, step_of};
+ghost use Rattle.ioa_system.specs.declared.outcomes.Step.TheVariants as variants;
+ghost use Rattle.ioa_system.specs.Outcomes.{KeepsUnlessNext, ending_of, performed_by, step_of};
 ghost use Rattle.ioa_system.specs.Endings.{ending_text};
 
 use ioa_node::NodeState;

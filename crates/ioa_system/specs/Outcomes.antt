@@ -4,9 +4,9 @@ use Rattle.ioa_value.specs.Plain.{Val}
 use Rattle.ioa_tree.specs.Steps as steps
 use Rattle.ioa_tree.specs.Steps.{next, not_an_action, not_enabled, fault}
 use Rattle.ioa_tree.specs.Runs.{Ending, done, not_an_action_at, not_enabled_at, fault_at}
-use Rattle.ioa_system.specs.declared.answer.Moved.{Moved}
-use Rattle.ioa_system.specs.declared.answer.Step.{Step}
-use Rattle.ioa_system.specs.declared.answer.End.{End}
+use Rattle.ioa_system.specs.declared.outcomes.Moved.{Moved}
+use Rattle.ioa_system.specs.declared.outcomes.Step.{Step}
+use Rattle.ioa_system.specs.declared.outcomes.End.{End}
 use Rattle.ioa_system.specs.Systems.{Slots, types_of, values_of}
 
 abbrev pub moved_of : Moved → steps.Moved (List Val)
