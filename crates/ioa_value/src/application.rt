@@ -1,5 +1,6 @@
 ghost use Rattle.std.specs.Prelude.{◌≡◌, ◌-◌, ◌∷◌, [], ℤ, Bool, true, false, map, length, take, drop, IfOk, IsOk};
 ghost use Rattle.ioa_value.specs.Plain.{plain, Val, num, truth};
+ghost use Rattle.ioa_value.specs.Table.{Table};
 ghost use Rattle.ioa_value.specs.Operators as spec;
 ghost use Rattle.ioa_value.specs.Operators.{operate, arity, Takes, Stands, answer_of, of_number};
 
@@ -26,7 +27,7 @@ pub fn apply(
     ensures memory { spec.grows op ≡ false → IsOk result }
 {
     if !grows(op) {
-        return Ok(computed(types, op, operands));
+        return Ok(computed(op, operands));
     }
     let mut stack = copies(alloc, operands)?;
     moved(alloc, types, op, &mut stack)
@@ -68,16 +69,16 @@ fn taken_off(
         return moved(alloc, types, op, stack);
     }
     let below = stack.len() - op.arity(types);
-    let outcome = computed(types, op, &stack[below..]);
+    let outcome = computed(op, &stack[below..]);
     stack.truncate(below);
     Ok(outcome)
 }
 
-// The value or fault of an operator whose value takes no memory.
-fn computed(_types: &Types, op: Op, operands: &[Value]) -> Result<Value, Fault>
-    requires takes { Takes _types.now op (map plain operands.now) }
+// The value or fault of an operator whose value takes no memory, over any types.
+fn computed(op: Op, operands: &[Value]) -> Result<Value, Fault>
+    requires takes { (types : Table) × Takes types op (map plain operands.now) }
     requires small { spec.grows op ≡ false }
-    ensures { answer_of result ≡ operate _types.now op (map plain operands.now) }
+    ensures { (types : Table) → answer_of result ≡ operate types op (map plain operands.now) }
 {
     match op {
         Op::Neg => number(negate(one_number(operands))),

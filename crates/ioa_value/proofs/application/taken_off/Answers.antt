@@ -8,11 +8,11 @@ computed-outcome-requires-clause-takes c =
     let stack = c.args.stack.now.items in
     let n = arity c.args.types.now c.args.op in
     let k : c.len.result - c.arity.result ≡ length stack - n = omega (arith, c.args.stack.now.ok.0, c.len.ensures, c.arity.ensures) in
-    subst (Takes c.args.types.now c.args.op) (sym (top_of stack c.deref.result.now (c.len.result - c.arity.result) n c.deref.ensures.value k)) c.requires
+    (c.args.types.now, subst (Takes c.args.types.now c.args.op) (sym (top_of stack c.deref.result.now (c.len.result - c.arity.result) n c.deref.ensures.value k)) c.requires)
 
 pub returns : goal.returns
 returns c =
     let stack = c.args.stack.now.items in
     let n = arity c.args.types.now c.args.op in
     let k : c.len.result - c.arity.result ≡ length stack - n = omega (arith, c.args.stack.now.ok.0, c.len.ensures, c.arity.ensures) in
-    (c.computed-outcome.ensures ∙ ap (operate c.args.types.now c.args.op) (top_of stack c.deref.result.now (c.len.result - c.arity.result) n c.deref.ensures.value k), below_of stack c.truncate.new.self.items (c.len.result - c.arity.result) n c.truncate.ensures.items k)
+    (c.computed-outcome.ensures c.args.types.now ∙ ap (operate c.args.types.now c.args.op) (top_of stack c.deref.result.now (c.len.result - c.arity.result) n c.deref.ensures.value k), below_of stack c.truncate.new.self.items (c.len.result - c.arity.result) n c.truncate.ensures.items k)
