@@ -24,6 +24,7 @@ pub mod ActionLemmas
 pub mod WrittenLemmas
 pub mod OnceLemmas
 pub mod SkippedLemmas
+pub mod LineLemmas
 pub mod ListLemmas
 pub mod ListOnceLemmas
 pub mod WholeLemmas

@@ -7,6 +7,7 @@ mod declarations;
 mod initial;
 mod laws;
 mod limits;
+mod lines;
 mod listing;
 mod memory;
 mod names;
@@ -35,6 +36,7 @@ pub use laws::{
     operators_are_typed, positions_meet, same_is_equal, written_is_read,
 };
 pub use limits::{LIMITS, Limits};
+pub use lines::{ended_line, first_line};
 pub use listing::{is_skipped, read_list};
 pub use memory::OutOfMemory;
 pub use names::is_name;

@@ -3,6 +3,7 @@ ghost use Rattle.ioa_value.specs.Actions.{Act, act_of};
 ghost use Rattle.ioa_value.specs.Lists as spec;
 
 use crate::action::Action;
+use crate::lines::first_line;
 use crate::memory::OutOfMemory;
 use crate::reading::read_action;
 use crate::tokens::is_blank_text;
@@ -26,13 +27,13 @@ pub fn read_list(
     let mut count = 0;
     let mut rest = text;
     while !rest.is_empty() {
-        let line = first_line(rest);
+        let (line, after) = first_line(rest);
+        rest = after;
         count += 1;
-        rest = line.rest;
-        if is_skipped(line.text) {
+        if is_skipped(line) {
             continue;
         }
-        let Some(action) = read_action(alloc, types, line.text)? else {
+        let Some(action) = read_action(alloc, types, line)? else {
             return Ok(Err(count));
         };
         list.push(action)?;
@@ -53,30 +54,5 @@ fn begins_comment(line: &[u8]) -> bool
     match line.first() {
         Some(b) => *b == b'%',
         None => false,
-    }
-}
-
-/// A line, and the text after its LF.
-#[derive(Clone, Copy)]
-struct Line<'a> {
-    text: &'a [u8],
-    rest: &'a [u8],
-}
-
-fn first_line(text: &[u8]) -> Line<'_>
-    ensures line { result.text.now ≡ spec.first_line text.now }
-    ensures rest { result.rest.now ≡ spec.after_line text.now }
-{
-    let mut at = 0;
-    while at < text.len() && text[at] != b'\n' {
-        at += 1;
-    }
-    let line = &text[..at];
-    if at < text.len() {
-        at += 1;
-    }
-    Line {
-        text: line,
-        rest: &text[at..],
     }
 }
