@@ -32,3 +32,4 @@ pub mod NumberLemmas
 pub mod PlaceLemmas
 pub mod TypingLemmas
 pub mod OperandLemmas
+pub mod LentLemmas

@@ -1,14 +1,10 @@
 -- When values in rows are the same.
-use Rattle.std.proofs.Common.{◌≡◌, ℕ, ℤ, pos, negsuc, ap₂, suc, List, [], ◌∷◌, map, get_or, length, Bool, true, false, ◌&&◌, ◌==◌, refl, sym, ap, ◌∙◌, arith}
+use Rattle.std.proofs.Common.{◌≡◌, ℕ, ℤ, pos, negsuc, ap₂, suc, List, [], ◌∷◌, length, Bool, true, false, ◌&&◌, ◌==◌, refl, sym, ap, ◌∙◌, arith}
 use Rattle.std.proofs.lemmas.Bool.{and_parts}
 use Rattle.std.proofs.lemmas.Bool.Decides.{nat_tests}
 use Rattle.ioa_value.specs.declared.value.Value.{Value}
-use Rattle.ioa_value.specs.declared.operator.Class.TheVariants.{Equality}
-use Rattle.ioa_value.specs.Plain.{Val, Vals, truth, num, name, tuple, items, none, more, plain, plain_all}
-use Rattle.ioa_value.specs.Typing.{own}
+use Rattle.ioa_value.specs.Plain.{Val, Vals, truth, num, name, tuple, items, none, more, plain_all}
 use Rattle.ioa_value.specs.Same.{same, same_truth, same_number, same_all}
-use Rattle.ioa_value.specs.Operators.{Answer, on_alike, TakesBy}
-use Rattle.ioa_value.specs.Table.{Table}
 
 pub equal : (s t : ℕ) → s ≡ t → (s == t) ≡ true
 equal s t e = grind (arith, nat_tests)
@@ -35,18 +31,6 @@ uneven [] [] e = absurd (e refl)
 uneven [] (y ∷ ys) e = refl
 uneven (x ∷ xs) [] e = refl
 uneven (x ∷ xs) (y ∷ ys) e = both_false _ _ (uneven xs ys (λ q. e (ap suc q)))
-
--- what is given of two operands of one type
-pub on_alike_is : (f : Val → Val → Answer) (types : Table) (xs : List Value) (a b : Value) → TakesBy types Equality (map plain xs) → a ≡ get_or xs 0 a → b ≡ get_or xs 1 b → f (plain a) (plain b) ≡ on_alike f (map plain xs)
-on_alike_is f types [] a b t g h = let e : [] ≡ t.0 ∷ t.1 ∷ [] = t.3 in absurd (cc)
-on_alike_is f types (x ∷ []) a b t g h = let e : plain x ∷ [] ≡ t.0 ∷ t.1 ∷ [] = t.3 in absurd (cc)
-on_alike_is f types (x ∷ y ∷ z ∷ zs) a b t g h =
-    let e : plain x ∷ plain y ∷ map plain (z ∷ zs) ≡ t.0 ∷ t.1 ∷ [] = t.3 in absurd (cc)
-on_alike_is f types (x ∷ y ∷ []) a b t g h =
-    let e : plain x ∷ plain y ∷ [] ≡ t.0 ∷ t.1 ∷ [] = t.3 in
-    let k : own t.0 ≡ own t.1 = t.2 in
-    let k' : (own (plain x) == own (plain y)) ≡ true = equal _ _ (cc) in
-    rw k' (ap (λ v. f (plain v) (plain b)) g ∙ ap (λ v. f (plain x) (plain v)) h)
 
 -- ---- values that are the same are equal, and a value is the same as itself
 

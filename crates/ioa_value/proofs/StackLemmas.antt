@@ -1,5 +1,5 @@
 -- Operands on top of a stack, and what is below them.
-use Rattle.std.proofs.Common.{◌≡◌, ℕ, zero, suc, ◌<◌, ◌-◌, ◌+◌, List, [], ◌∷◌, ◌++◌, length, map, take, drop, get_or, None, cond, IfOk, Result, Ok, Err, refl, sym, ap, ap₂, ◌∙◌, arith}
+use Rattle.std.proofs.Common.{◌≡◌, ℕ, zero, suc, ◌<◌, ◌-◌, ◌+◌, List, [], ◌∷◌, ◌++◌, length, map, take, drop, None, cond, IfOk, Result, Ok, Err, refl, sym, ap, ap₂, ◌∙◌, arith}
 use Rattle.std.proofs.lemmas.List.{length-map, length-drop, length-append, take-append-drop}
 use Rattle.std.proofs.Math.Seq.{take-length}
 use Rattle.std.specs.List.{take-map, drop-map}
@@ -8,10 +8,10 @@ use Rattle.ioa_value.specs.declared.operator.Op.{Op}
 use Rattle.ioa_value.specs.declared.operator.Op.TheVariants.{Make}
 use Rattle.ioa_value.specs.declared.value.Ty.{Ty}
 use Rattle.ioa_value.specs.declared.value.Value.{Value}
-use Rattle.ioa_value.specs.Plain.{Val, Vals, items, tuple, vals, count, plain, plain_all}
+use Rattle.ioa_value.specs.Plain.{Val, Vals, tuple, vals, count, plain, plain_all}
 use Rattle.ioa_value.specs.Table.{Table, field_types}
-use Rattle.ioa_value.specs.Operators.{Answer, gives, nothing, with_items, on_sequence, on_item_and_sequence, operate, arity, IsSequence}
-use Rattle.ioa_value.proofs.PlainLemmas.{vals-plain, listed-plain, count-plain_all}
+use Rattle.ioa_value.specs.Operators.{Answer, gives, nothing, operate, arity}
+use Rattle.ioa_value.proofs.PlainLemmas.{vals-plain, count-plain_all}
 use Rattle.ioa_value.proofs.SameLemmas.{equal}
 
 -- the list, up to its last item, which two spellings of it share
@@ -89,24 +89,6 @@ top_of stack d k n e f =
 
 pub below_of : (stack new : List Value) (k n : ℕ) → new ≡ take k stack → k ≡ length stack - n → map plain new ≡ take (length stack - n) (map plain stack)
 below_of stack new k n e f = ap (map plain) e ∙ sym (take-map plain k stack) ∙ ap (λ m. take m (map plain stack)) f
-
--- ---- operands that are read
-
-pub sequence_is : (f : ℕ → List Val → Answer) (xs : List Value) (v : Value) (its : List Value) (s : ℕ) → IsSequence (map plain xs) → v ≡ get_or xs 0 v → plain v ≡ items s (plain_all its) → f s (map plain its) ≡ on_sequence f (map plain xs)
-sequence_is f [] v its s t g h = let e : [] ≡ items t.0 t.1 ∷ [] = t.2 in absurd (cc)
-sequence_is f (x ∷ y ∷ ys) v its s t g h = let e : plain x ∷ map plain (y ∷ ys) ≡ items t.0 t.1 ∷ [] = t.2 in absurd (cc)
-sequence_is f (x ∷ []) v its s t g h =
-    ap (f s) (sym (listed-plain its)) ∙ ap (with_items f) (sym h ∙ ap plain g)
-
-pub member_is : (f : Val → List Val → Answer) (xs : List Value) (a b : Value) (its : List Value) (s : ℕ) → ((x : Val) × (t : ℕ) × (ys : Vals) × (map plain xs ≡ x ∷ items t ys ∷ [])) → a ≡ get_or xs 0 a → b ≡ get_or xs 1 b → plain b ≡ items s (plain_all its) → f (plain a) (map plain its) ≡ on_item_and_sequence f (map plain xs)
-member_is f [] a b its s t g h k = let e : [] ≡ t.0 ∷ items t.1 t.2 ∷ [] = t.3 in absurd (cc)
-member_is f (x ∷ []) a b its s t g h k = let e : plain x ∷ [] ≡ t.0 ∷ items t.1 t.2 ∷ [] = t.3 in absurd (cc)
-member_is f (x ∷ y ∷ z ∷ zs) a b its s t g h k =
-    let e : plain x ∷ plain y ∷ map plain (z ∷ zs) ≡ t.0 ∷ items t.1 t.2 ∷ [] = t.3 in absurd (cc)
-member_is f (x ∷ y ∷ []) a b its s t g h k =
-    ap (f (plain a)) (sym (listed-plain its))
-    ∙ ap (with_items (λ s' l. f (plain a) l)) (sym k ∙ ap plain h)
-    ∙ ap (λ v. with_items (λ s' l. f (plain v) l) (plain y)) g
 
 -- ---- tuples
 

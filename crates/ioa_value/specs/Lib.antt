@@ -8,6 +8,7 @@ pub mod Same
 pub mod Positions
 pub mod Sequences
 pub mod Operators
+pub mod Operands
 pub mod Actions
 pub mod Coded
 pub mod Spelling

@@ -1,10 +1,13 @@
-ghost use Rattle.std.specs.Prelude.{◌≡◌, ◌-◌, ◌∷◌, [], ℤ, Bool, true, false, map, length, take, drop, IfOk, IsOk};
-ghost use Rattle.ioa_value.specs.Plain.{plain, Val, num, truth};
+ghost use Rattle.std.specs.Prelude.{◌≡◌, ◌-◌, ◌∷◌, [], true, false, map, length, take, drop, IfOk, IsOk};
+ghost use Rattle.ioa_value.specs.Plain.{plain};
 ghost use Rattle.ioa_value.specs.Table.{Table};
 ghost use Rattle.ioa_value.specs.Operators as spec;
-ghost use Rattle.ioa_value.specs.Operators.{operate, arity, Takes, Stands, answer_of, of_number};
+ghost use Rattle.ioa_value.specs.Operators.{operate, arity, Takes, Stands, answer_of, of_number, gives};
+ghost use Rattle.ioa_value.specs.Operands.{operands_of};
+ghost use Rattle.ioa_value.specs.declared.operator.Op.TheVariants as operators;
 
 use crate::memory::OutOfMemory;
+use crate::operands::{Operands, both, lent, one_number, one_truth, only, two_numbers};
 use crate::operator::{Op, grows};
 use crate::sequences::{append, at, head, init, items_of, last, place_of, tail, taken, without};
 use crate::stack::{pop, pop_fields, pop_number, pop_sequence};
@@ -27,7 +30,7 @@ pub fn apply(
     ensures memory { spec.grows op ≡ false → IsOk result }
 {
     if !grows(op) {
-        return Ok(computed(op, operands));
+        return Ok(computed(op, lent(operands)));
     }
     let mut stack = copies(alloc, operands)?;
     moved(alloc, types, op, &mut stack)
@@ -69,16 +72,16 @@ fn taken_off(
         return moved(alloc, types, op, stack);
     }
     let below = stack.len() - op.arity(types);
-    let outcome = computed(op, &stack[below..]);
+    let outcome = computed(op, lent(&stack[below..]));
     stack.truncate(below);
     Ok(outcome)
 }
 
-// The value or fault of an operator whose value takes no memory, over any types.
-fn computed(op: Op, operands: &[Value]) -> Result<Value, Fault>
-    requires takes { (types : Table) × Takes types op (map plain operands.now) }
+/// The value or fault of an operator whose value takes no memory, over any types. It asks that the operands are the operator's.
+pub fn computed(op: Op, operands: Operands<'_>) -> Result<Value, Fault>
+    requires takes { (types : Table) × Takes types op (operands_of operands) }
     requires small { spec.grows op ≡ false }
-    ensures { (types : Table) → answer_of result ≡ operate types op (map plain operands.now) }
+    ensures { (types : Table) → answer_of result ≡ operate types op (operands_of operands.entry) }
 {
     match op {
         Op::Neg => number(negate(one_number(operands))),
@@ -119,10 +122,19 @@ fn computed(op: Op, operands: &[Value]) -> Result<Value, Fault>
             Ok(Value::Truth(a >= b))
         }
         Op::Not => Ok(Value::Truth(!one_truth(operands))),
-        Op::Eq => Ok(Value::Truth(same(&operands[0], &operands[1]))),
-        Op::Ne => Ok(Value::Truth(!same(&operands[0], &operands[1]))),
-        Op::Len => Ok(Value::Num(items_of(&operands[0]).len() as i64)),
-        Op::Member => Ok(Value::Truth(place_of(&operands[0], items_of(&operands[1])).is_some())),
+        Op::Eq => {
+            let (a, b) = both(operands);
+            Ok(Value::Truth(same(a, b)))
+        }
+        Op::Ne => {
+            let (a, b) = both(operands);
+            Ok(Value::Truth(!same(a, b)))
+        }
+        Op::Len => Ok(Value::Num(items_of(only(operands)).len() as i64)),
+        Op::Member => {
+            let (item, sequence) = both(operands);
+            Ok(Value::Truth(place_of(item, items_of(sequence)).is_some()))
+        }
         Op::Head
         | Op::Tail
         | Op::Last
@@ -206,36 +218,13 @@ fn number(outcome: Result<i64, Fault>) -> Result<Value, Fault>
     }
 }
 
-fn one_number(operands: &[Value]) -> i64
-    requires { (x : ℤ) × (map plain operands.now ≡ num x ∷ []) }
-    ensures { map plain operands.now ≡ num result ∷ [] }
+/// The field in this place of a tuple, which is lent. It asks that the tuple has one there.
+pub fn field(tuple: &Value, place: u16) -> &Value
+    requires { (types : Table) × Takes types (operators.Field place) (plain tuple.now ∷ []) }
+    ensures { (types : Table) → gives (plain result.now) ≡ operate types (operators.Field place) (plain tuple.now ∷ []) }
 {
-    number_of(&operands[0])
-}
-
-fn two_numbers(operands: &[Value]) -> (i64, i64)
-    requires { (x : ℤ) × (y : ℤ) × (map plain operands.now ≡ num x ∷ num y ∷ []) }
-    ensures { map plain operands.now ≡ num result.0 ∷ num result.1 ∷ [] }
-{
-    (number_of(&operands[0]), number_of(&operands[1]))
-}
-
-fn one_truth(operands: &[Value]) -> bool
-    requires { (b : Bool) × (map plain operands.now ≡ truth b ∷ []) }
-    ensures { map plain operands.now ≡ truth result ∷ [] }
-{
-    match &operands[0] {
-        Value::Truth(b) => *b,
-        _ => unreachable!(),
-    }
-}
-
-fn number_of(value: &Value) -> i64
-    requires { (x : ℤ) × (plain value.now ≡ num x) }
-    ensures { plain value.now ≡ num result }
-{
-    match value {
-        Value::Num(n) => *n,
+    match tuple {
+        Value::Tuple(_, fields) => &fields[place as usize],
         _ => unreachable!(),
     }
 }

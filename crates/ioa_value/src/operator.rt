@@ -104,7 +104,7 @@ pub(crate) fn class_of(op: Op) -> Class
 }
 
 /// Whether the operator's value may take memory of its own: a number or a truth value takes none.
-pub(crate) fn grows(op: Op) -> bool
+pub fn grows(op: Op) -> bool
     ensures { result ≡ spec.grows op }
 {
     match class_of(op) {
