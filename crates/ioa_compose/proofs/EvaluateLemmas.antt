@@ -29,6 +29,8 @@ use Rattle.ioa_value.proofs.OperatorTyping.{op_takes}
 use Rattle.ioa_value.proofs.TypingLemmas.{is_truth, own_type}
 use Rattle.ioa_tree.proofs.Starts.{some_there}
 use Rattle.ioa_compose.specs.Bindings.{typed, start_of}
+use Rattle.ioa_compose.specs.declared.given.Given.{Given}
+use Rattle.ioa_compose.specs.Givens.{given, answer_in}
 use Rattle.ioa_compose.specs.Operands.{Asks, AreOperands, AreFields, HasField}
 
 -- the expression has a type
@@ -227,3 +229,13 @@ module _ (types : Table) (declared : AreTypes types) (c : Context) (env : Env) (
       let is = value_typed types t.0 v (val types x env) q (val_typed types declared c env x t.0 suits t.1) in
       let u = type_there (λ j. op_type types (Field j) (t.0 ∷ [])) (field_place types t.0 n) h.0 t.2 in
       (u.0, ap (λ a. field_place types a n) (own_type types v t.0 is) ∙ u.1, op_takes types declared (Field u.0) (v ∷ []) (t.0 ∷ []) h.0 (is, tt) u.2)
+
+-- ---- what is given, lent or not
+
+abbrev pub given_in : Result Given Fault → Result Val Fault
+given_in (Ok g) = Ok (given g)
+given_in (Err f) = Err f
+
+pub settled-given : (r : Result Given Fault) → given_in r ≡ settled (answer_in r)
+settled-given (Ok g) = refl
+settled-given (Err f) = refl

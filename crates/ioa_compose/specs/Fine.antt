@@ -1,5 +1,5 @@
 -- What each component of a composition keeps.
-use Rattle.std.specs.Prelude.{◌≡◌, ◌<◌, ◌≤◌, ℕ, ◌+◌, not, All, IsTrue, List, [], ◌∷◌, Ok, map, drop, length}
+use Rattle.std.specs.Prelude.{◌≡◌, ◌<◌, ◌≤◌, ℕ, not, All, IsTrue, List, [], ◌∷◌, Ok, map, drop, length}
 use Rattle.std.specs.List.{list_all}
 use Rattle.std.specs.Str.{bytes_eq}
 use Rattle.ioa_value.specs.Actions.{Name}

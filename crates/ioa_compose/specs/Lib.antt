@@ -6,6 +6,7 @@ pub mod Signatures
 pub mod Index
 pub mod Refusals
 pub mod Operands
+pub mod Givens
 pub mod Scopes
 pub mod Questions
 pub mod Rewriting

@@ -1,4 +1,4 @@
-ghost use Rattle.std.specs.Prelude.{◌≡◌, ◌<◌, ◌^◌, ℕ, pos, true, Some, map, IfOk, IfSome, IfNone};
+ghost use Rattle.std.specs.Prelude.{◌≡◌, ◌<◌, ◌^◌, ◌∷◌, [], ℕ, pos, true, Some, map, IfOk, IfSome, IfNone};
 ghost use Rattle.std.specs.List.{list_all};
 ghost use Rattle.ioa_value.specs.Plain.{plain, truth};
 ghost use Rattle.ioa_value.specs.Operators.{Answer, answer_of, gives, operate, Takes};
@@ -13,16 +13,19 @@ ghost use Rattle.ioa_tree.specs.WellFormed.{type_of};
 ghost use Rattle.ioa_compose.specs.Bindings.{typed, start_of, values_in};
 ghost use Rattle.ioa_compose.specs.Scopes.{context, environment};
 ghost use Rattle.ioa_compose.specs.Operands.{Asks, AreOperands, AreFields, HasField};
+ghost use Rattle.ioa_compose.specs.Givens.{given, answer_in};
 
 use crate::constants::{constant, empty};
+use crate::given::{Given, owned};
 use crate::scope::Scope;
 use ioa_tree::{Expression, Infix, Name};
-use ioa_value::{Fault, Op, OutOfMemory, Types, Value, apply_last};
+use ioa_value::{
+    Fault, Op, Operands, OutOfMemory, Types, Value, apply_last, computed, field, grows,
+};
 use std::alloc::Global;
 
-/// The value of a well typed expression, or its fault. A name that is neither a variable's nor a formal's is an enumeration's.
-#[cycle(evaluate)]
-pub(crate) fn evaluate(
+/// The value of a well typed expression, or its fault.
+pub(crate) fn value_of(
     alloc: Global,
     scope: &Scope<'_>,
     expression: &Expression,
@@ -32,19 +35,39 @@ pub(crate) fn evaluate(
     requires typed { (ty : ℕ) × (type_of scope.now.types.now scope.now.types.now (context scope.now) (expr_of expression.now) ≡ Some ty) }
     ensures { IfOk result (λ r. answer_of r ≡ val scope.now.types.now (expr_of expression.now) (environment scope.now)) }
 {
+    match evaluate(alloc, scope, expression)? {
+        Ok(value) => Ok(Ok(value.into_value(alloc)?)),
+        Err(fault) => Ok(Err(fault)),
+    }
+}
+
+/// What a well typed expression gives, or its fault. A name that is neither a variable's nor a formal's is an enumeration's.
+///
+/// What names stand for is lent. It is copied where an operator takes its operands along.
+#[cycle(evaluate)]
+pub(crate) fn evaluate<'a>(
+    alloc: Global,
+    scope: &Scope<'a>,
+    expression: &Expression,
+) -> Result<Result<Given<'a>, Fault>, OutOfMemory>
+    requires types { AreTypes scope.now.types.now }
+    requires suits { Suits scope.now.types.now (context scope.now) (environment scope.now) }
+    requires typed { (ty : ℕ) × (type_of scope.now.types.now scope.now.types.now (context scope.now) (expr_of expression.now) ≡ Some ty) }
+    ensures { IfOk result (λ r. answer_in r ≡ val scope.now.types.now (expr_of expression.now) (environment scope.now)) }
+{
     let types = scope.types;
     match expression {
-        Expression::Number(n, _) => Ok(Ok(Value::Num(number(*n)))),
-        Expression::Truth(b, _) => Ok(Ok(Value::Truth(*b))),
+        Expression::Number(n, _) => Ok(Ok(Given::Own(Value::Num(number(*n))))),
+        Expression::Truth(b, _) => Ok(Ok(Given::Own(Value::Truth(*b)))),
         Expression::Name(name) => match scope.value(name.text.as_str()) {
-            Some(value) => Ok(Ok(value.try_copy(alloc)?)),
-            None => Ok(Ok(constant(types, name))),
+            Some(value) => Ok(Ok(Given::Lent(value))),
+            None => Ok(Ok(Given::Own(constant(types, name)))),
         },
-        Expression::Empty(name, _) => Ok(Ok(empty(alloc, types, name))),
+        Expression::Empty(name, _) => Ok(Ok(Given::Own(empty(alloc, types, name)))),
         Expression::Parentheses(inner, _) => evaluate(alloc, scope, inner),
         Expression::Prefix(operator, operand, _) => {
             match evaluate(alloc, scope, operand)? {
-                Ok(value) => applied(alloc, types, *operator, Vec::from_array(alloc, [value])?),
+                Ok(value) => of_one(alloc, types, *operator, value),
                 Err(fault) => Ok(Err(fault)),
             }
         }
@@ -53,8 +76,8 @@ pub(crate) fn evaluate(
                 Ok(value) => value,
                 Err(fault) => return Ok(Err(fault)),
             };
-            if let Some(truth) = decided(*operator, &first) {
-                return Ok(Ok(Value::Truth(truth)));
+            if let Some(truth) = decided(*operator, first.value()) {
+                return Ok(Ok(Given::Own(Value::Truth(truth))));
             }
             let second = match evaluate(alloc, scope, right)? {
                 Ok(value) => value,
@@ -92,7 +115,10 @@ pub(crate) fn evaluate_all(
     let mut found = Vec::new(alloc);
     for expression in expressions {
         match evaluate(alloc, scope, expression)? {
-            Ok(value) => found.push(value)?,
+            Ok(value) => {
+                let own = value.into_value(alloc)?;
+                found.push(own)?;
+            }
             Err(fault) => return Ok(Err(fault)),
         }
     }
@@ -112,37 +138,77 @@ fn decided(operator: Infix, first: &Value) -> Option<bool>
     }
 }
 
-/// The value of two operands, or its fault, where the second is asked for.
-fn joined(
+/// What two operands give, or their fault, where the second is asked for.
+fn joined<'a>(
     alloc: Global,
     types: &Types,
     operator: Infix,
-    first: Value,
-    second: Value,
-) -> Result<Result<Value, Fault>, OutOfMemory>
+    first: Given<'a>,
+    second: Given<'a>,
+) -> Result<Result<Given<'a>, Fault>, OutOfMemory>
     requires types { AreTypes types.now }
-    requires operands { AreOperands types.now operator (plain first) (plain second) }
-    requires asked { Asks operator (plain first) }
-    ensures { IfOk result (λ r. answer_of r ≡ combined types.now operator (plain first) (gives (plain second))) }
+    requires operands { AreOperands types.now operator (given first) (given second) }
+    requires asked { Asks operator (given first) }
+    ensures { IfOk result (λ r. answer_in r ≡ combined types.now operator (given first.entry) (gives (given second.entry))) }
 {
     match operator {
-        Infix::Operator(operator) => {
-            let operands = Vec::from_array(alloc, [first, second])?;
-            applied(alloc, types, operator, operands)
-        }
+        Infix::Operator(operator) => of_two(alloc, types, operator, first, second),
         Infix::And | Infix::Or | Infix::Implies => Ok(Ok(second)),
     }
 }
 
+/// What an operator gives of one operand, or its fault.
+fn of_one<'a>(
+    alloc: Global,
+    types: &Types,
+    operator: Op,
+    operand: Given<'a>,
+) -> Result<Result<Given<'a>, Fault>, OutOfMemory>
+    requires { Takes types.now operator (given operand ∷ []) }
+    ensures { IfOk result (λ r. answer_in r ≡ operate types.now operator (given operand.entry ∷ [])) }
+{
+    if !grows(operator) {
+        let operands = Operands::One(operand.value());
+        return Ok(owned(computed(operator, operands)));
+    }
+    let operand = operand.into_value(alloc)?;
+    applied(alloc, types, operator, Vec::from_array(alloc, [operand])?)
+}
+
+/// What an operator gives of two operands, or its fault.
+fn of_two<'a>(
+    alloc: Global,
+    types: &Types,
+    operator: Op,
+    first: Given<'a>,
+    second: Given<'a>,
+) -> Result<Result<Given<'a>, Fault>, OutOfMemory>
+    requires { Takes types.now operator (given first ∷ given second ∷ []) }
+    ensures { IfOk result (λ r. answer_in r ≡ operate types.now operator (given first.entry ∷ given second.entry ∷ [])) }
+{
+    if !grows(operator) {
+        let operands = Operands::Two(first.value(), second.value());
+        return Ok(owned(computed(operator, operands)));
+    }
+    let first = first.into_value(alloc)?;
+    let second = second.into_value(alloc)?;
+    applied(
+        alloc,
+        types,
+        operator,
+        Vec::from_array(alloc, [first, second])?,
+    )
+}
+
 /// The tuple of the type of this name, of these fields.
-fn made(
+fn made<'a>(
     alloc: Global,
     types: &Types,
     name: &Name,
     fields: Vec<Value>,
-) -> Result<Result<Value, Fault>, OutOfMemory>
+) -> Result<Result<Given<'a>, Fault>, OutOfMemory>
     requires { AreFields types.now (name_of name.now) (map plain fields.items) }
-    ensures { IfOk result (λ r. answer_of r ≡ meaning.made types.now (name_of name.now) (map plain fields.items)) }
+    ensures { IfOk result (λ r. answer_in r ≡ meaning.made types.now (name_of name.now) (map plain fields.items)) }
 {
     match types.named(name.text.as_str()) {
         Some(ty) => applied(alloc, types, Op::Make(ty), fields),
@@ -151,18 +217,23 @@ fn made(
 }
 
 /// The field of this name of a tuple.
-fn selected(
+fn selected<'a>(
     alloc: Global,
     types: &Types,
     name: &Name,
-    tuple: Value,
-) -> Result<Result<Value, Fault>, OutOfMemory>
-    requires { HasField types.now (name_of name.now) (plain tuple) }
-    ensures { IfOk result (λ r. answer_of r ≡ meaning.selected types.now (name_of name.now) (plain tuple)) }
+    tuple: Given<'a>,
+) -> Result<Result<Given<'a>, Fault>, OutOfMemory>
+    requires { HasField types.now (name_of name.now) (given tuple) }
+    ensures { IfOk result (λ r. answer_in r ≡ meaning.selected types.now (name_of name.now) (given tuple.entry)) }
 {
-    let place = place_in(types, &tuple, name);
-    let operands = Vec::from_array(alloc, [tuple])?;
-    applied(alloc, types, Op::Field(place), operands)
+    let place = place_in(types, tuple.value(), name);
+    match tuple {
+        Given::Lent(tuple) => Ok(Ok(Given::Lent(field(tuple, place)))),
+        Given::Own(tuple) => {
+            let operands = Vec::from_array(alloc, [tuple])?;
+            applied(alloc, types, Op::Field(place), operands)
+        }
+    }
 }
 
 /// The place of the field of this name in a tuple.
@@ -180,19 +251,19 @@ fn place_in(types: &Types, tuple: &Value, name: &Name) -> u16
 }
 
 /// The operator's value or fault. The operands move into it.
-fn applied(
+fn applied<'a>(
     alloc: Global,
     types: &Types,
     operator: Op,
     operands: Vec<Value>,
-) -> Result<Result<Value, Fault>, OutOfMemory>
+) -> Result<Result<Given<'a>, Fault>, OutOfMemory>
     requires { Takes types.now operator (map plain operands.items) }
-    ensures { IfOk result (λ r. answer_of r ≡ operate types.now operator (map plain operands.items)) }
+    ensures { IfOk result (λ r. answer_in r ≡ operate types.now operator (map plain operands.items)) }
 {
     let mut stack = operands;
     match apply_last(alloc, types, operator, &mut stack)? {
         Ok(()) => match stack.pop() {
-            Some(value) => Ok(Ok(value)),
+            Some(value) => Ok(Ok(Given::Own(value))),
             None => unreachable!(),
         },
         Err(fault) => Ok(Err(fault)),

@@ -1,15 +1,17 @@
 ghost use Rattle.std.specs.Prelude.{◌≡◌, IfOk, map};
-ghost use Rattle.ioa_value.specs.Operators.{answer_of};
+ghost use Rattle.ioa_value.specs.Operators.{gives};
 ghost use Rattle.ioa_value.specs.Plain.{plain};
 ghost use Rattle.ioa_tree.specs.View.{tree_of, invariant_of, expr_of};
 ghost use Rattle.ioa_tree.specs.Compositions as spec;
 ghost use Rattle.ioa_tree.specs.Instances.{state_of};
 ghost use Rattle.ioa_tree.specs.Invariants as meaning;
+ghost use Rattle.ioa_compose.specs.Givens.{answer_in};
 ghost use Rattle.ioa_compose.specs.Held.{member_of};
 ghost use Rattle.ioa_compose.specs.Questions.{IsAnswerable, first_of};
 
 use crate::copies::copied_invariant;
 use crate::evaluate::evaluate;
+use crate::given::Given;
 use crate::member::Member;
 use crate::scope::Scope;
 use ioa_tree::{Declaration, Expression, Invariant};
@@ -46,13 +48,22 @@ pub(crate) fn is_kept(
     Ok(is_true(evaluate(alloc, &scope, condition)?))
 }
 
-/// Whether it is the truth value true. A fault is not.
-fn is_true(answer: Result<Value, Fault>) -> bool
-    ensures { result ≡ meaning.is_true (answer_of answer) }
+/// Whether the value true is given. A fault is not.
+fn is_true(answer: Result<Given<'_>, Fault>) -> bool
+    ensures { result ≡ meaning.is_true (answer_in answer.entry) }
 {
     match answer {
-        Ok(Value::Truth(b)) => b,
-        Ok(Value::Num(_) | Value::Name(_, _) | Value::Tuple(_, _) | Value::Items(_, _)) => false,
+        Ok(given) => is_truth(given.value()),
         Err(_) => false,
+    }
+}
+
+/// Whether it is the truth value true.
+fn is_truth(value: &Value) -> bool
+    ensures { result ≡ meaning.is_true (gives (plain value.now)) }
+{
+    match value {
+        Value::Truth(b) => *b,
+        Value::Num(_) | Value::Name(_, _) | Value::Tuple(_, _) | Value::Items(_, _) => false,
     }
 }

@@ -9,6 +9,7 @@ mod constants;
 mod copies;
 mod domains;
 mod evaluate;
+mod given;
 mod hidden;
 mod index;
 mod invariants;

@@ -17,7 +17,7 @@ ghost use Rattle.ioa_compose.specs.Rewriting.{added_arguments, volatile_values};
 ghost use Rattle.ioa_compose.specs.Stands.{member_for};
 
 use crate::binding::Binding;
-use crate::evaluate::evaluate;
+use crate::evaluate::value_of;
 use crate::member::Member;
 use crate::scope::Scope;
 use ioa_syntax::Refusal;
@@ -175,7 +175,7 @@ fn start_value(
     match &variable.start {
         Some(expression) => {
             let scope = Scope::of_starts(types, &binding.automaton.formals, &binding.arguments);
-            evaluate(alloc, &scope, expression)
+            value_of(alloc, &scope, expression)
         }
         None => Ok(Ok(first_named(alloc, types, &variable.field.ty)?)),
     }

@@ -1,6 +1,5 @@
-use Rattle.std.proofs.Common.{◌≡◌, IfOk, [], ◌∷◌, drop, ◌+◌, refl, ap, sym, ◌∙◌, arith, map, subst}
+use Rattle.std.proofs.Common.{◌≡◌, IfOk, Ok, [], ◌∷◌, drop, ◌+◌, refl, ap, sym, ◌∙◌, arith, map, subst}
 use Rattle.ioa_value.specs.Plain.{plain}
-use Rattle.ioa_value.specs.Operators.{answer_of, Takes}
 use Rattle.std.proofs.lemmas.List.{map-append}
 use Rattle.ioa_value.proofs.ItemLemmas.{passes_at}
 use Rattle.ioa_tree.specs.Tree.{named, prefix, binary, empty, select}
@@ -9,11 +8,12 @@ use Rattle.ioa_tree.specs.Meaning.{val}
 use Rattle.ioa_tree.specs.Instances.{all_values, settled}
 use Rattle.ioa_tree.specs.WellFormed.{nodes}
 use Rattle.ioa_tree.proofs.Starts.{some_there}
-use Rattle.ioa_compose.specs.Bindings.{typed, start_of, value_in, values_in}
+use Rattle.ioa_compose.specs.Bindings.{typed, start_of, values_in}
+use Rattle.ioa_compose.specs.Givens.{answer_in}
+use Rattle.ioa_compose.specs.Operands.{Asks}
 use Rattle.ioa_compose.specs.Scopes.{context, environment}
-use Rattle.ioa_compose.proofs.StartLemmas.{settled-answer}
 use Rattle.ioa_compose.proofs.ValueLemmas.{prepended, values-go-on, values-stop}
-use Rattle.ioa_compose.proofs.EvaluateLemmas.{operand_typed, left_typed, right_typed, operand_taken, operands_typed, fault_stays, name_known, empty_known, make_shown, parts_typed, tuple_typed, nodes_at, make_answer, fields_taken, field_there, HasSome}
+use Rattle.ioa_compose.proofs.EvaluateLemmas.{operand_typed, left_typed, right_typed, operand_taken, operands_typed, fault_stays, name_known, empty_known, make_shown, parts_typed, tuple_typed, nodes_at, make_answer, fields_taken, field_there, given_in, settled-given, HasSome}
 use Rattle.ioa_compose.proofs.evaluate.+evaluate.Goals as goal
 
 pub evaluate-constant-requires : goal.evaluate-constant-requires
@@ -60,29 +60,31 @@ evaluate-evaluate-requires-in-Prefix t c =
     let same = ap (λ e. nodes (expr_of e)) c.deref-in-Prefix.ensures in
     (omega arith, (c.requires.types, (c.requires.suits, subst (λ e. HasSome c.args.scope.now.types.now ctx (expr_of e)) (sym c.deref-in-Prefix.ensures) h)))
 
-pub evaluate-applied-requires : goal.evaluate-applied-requires
-evaluate-applied-requires t c =
+pub evaluate-of_one-requires : goal.evaluate-of_one-requires
+evaluate-of_one-requires t c =
     let env = environment c.args.scope.now in
     let shown : expr_of c.args.expression.now ≡ prefix c.in-Prefix.operator (expr_of c.in-Prefix.operand.value) = ap expr_of c.in-Prefix.is in
-    let value = ap answer_of (sym c.in-Ok.is) ∙ c.in_ok-value-in-Prefix.ensures ∙ ap (λ e. val c.args.scope.now.types.now (expr_of e) env) c.deref-in-Prefix.ensures in
-    subst (λ ops. Takes c.args.scope.now.types.now c.in-Prefix.operator (map plain ops)) (sym c.in_ok-from_array-in-Ok.ensures.items)
-    (operand_taken c.args.scope.now.types.now (context c.args.scope.now) env _ _ _ _ c.requires.types c.requires.suits shown c.requires.typed value)
+    let value = ap answer_in (sym c.in-Ok.is) ∙ c.in_ok-value-in-Prefix.ensures ∙ ap (λ e. val c.args.scope.now.types.now (expr_of e) env) c.deref-in-Prefix.ensures in
+    operand_taken c.args.scope.now.types.now (context c.args.scope.now) env _ _ _ _ c.requires.types c.requires.suits shown c.requires.typed value
 
 pub evaluate-joined-requires-clause-operands : goal.evaluate-joined-requires-clause-operands
 evaluate-joined-requires-clause-operands t c =
     let env = environment c.args.scope.now in
     let shown : expr_of c.args.expression.now ≡ binary (expr_of c.in-Binary.left.value) c.in-Binary.operator (expr_of c.in-Binary.right.value) = ap expr_of c.in-Binary.is in
-    let first = ap answer_of (sym c.in-Ok-2.is) ∙ c.in_ok-value-in-Binary.ensures ∙ ap (λ e. val c.args.scope.now.types.now (expr_of e) env) c.deref-in-Binary.ensures in
-    let second = ap answer_of (sym c.in-Ok-3.is) ∙ c.in_ok-value-in-Binary-2.ensures ∙ ap (λ e. val c.args.scope.now.types.now (expr_of e) env) c.deref-in-Binary-2.ensures in
+    let first = ap answer_in (sym c.in-Ok-2.is) ∙ c.in_ok-value-in-Binary.ensures ∙ ap (λ e. val c.args.scope.now.types.now (expr_of e) env) c.deref-in-Binary.ensures in
+    let second = ap answer_in (sym c.in-Ok-3.is) ∙ c.in_ok-value-in-Binary-2.ensures ∙ ap (λ e. val c.args.scope.now.types.now (expr_of e) env) c.deref-in-Binary-2.ensures in
     operands_typed c.args.scope.now.types.now (context c.args.scope.now) env _ _ _ _ _ _ c.requires.types c.requires.suits shown c.requires.typed first second
+
+pub evaluate-joined-requires-clause-asked : goal.evaluate-joined-requires-clause-asked
+evaluate-joined-requires-clause-asked t c = subst (Asks c.in-Binary.operator) c.value-in-Binary.ensures c.in_default.ensures.asked
 
 pub evaluate-returns-in-Err-3 : goal.evaluate-returns-in-Err-3
 evaluate-returns-in-Err-3 t c =
     let env = environment c.args.scope.now in
     let shown : expr_of c.args.expression.now ≡ binary (expr_of c.in-Binary.left.value) c.in-Binary.operator (expr_of c.in-Binary.right.value) = ap expr_of c.in-Binary.is in
-    let first = ap answer_of (sym c.in-Ok-2.is) ∙ c.in_ok-value-in-Binary.ensures ∙ ap (λ e. val c.args.scope.now.types.now (expr_of e) env) c.deref-in-Binary.ensures in
-    let second = ap answer_of (sym c.in-Err-3.is) ∙ c.in_ok-value-in-Binary-2.ensures ∙ ap (λ e. val c.args.scope.now.types.now (expr_of e) env) c.deref-in-Binary-2.ensures in
-    fault_stays c.args.scope.now.types.now c.requires.types (context c.args.scope.now) env _ _ _ _ _ _ c.requires.suits shown c.requires.typed first c.in_default.ensures.asked second
+    let first = ap answer_in (sym c.in-Ok-2.is) ∙ c.in_ok-value-in-Binary.ensures ∙ ap (λ e. val c.args.scope.now.types.now (expr_of e) env) c.deref-in-Binary.ensures in
+    let second = ap answer_in (sym c.in-Err-3.is) ∙ c.in_ok-value-in-Binary-2.ensures ∙ ap (λ e. val c.args.scope.now.types.now (expr_of e) env) c.deref-in-Binary-2.ensures in
+    fault_stays c.args.scope.now.types.now c.requires.types (context c.args.scope.now) env _ _ _ _ _ _ c.requires.suits shown c.requires.typed first (subst (Asks c.in-Binary.operator) c.value-in-Binary.ensures c.in_default.ensures.asked) second
 
 pub evaluate-evaluate_all-requires : goal.evaluate-evaluate_all-requires
 evaluate-evaluate_all-requires t c =
@@ -98,7 +100,7 @@ evaluate-made-requires t c =
 pub evaluate-returns-in-Ok-4 : goal.evaluate-returns-in-Ok-4
 evaluate-returns-in-Ok-4 t c =
     let shown = make_shown _ _ _ c.deref-in-Make.result.now c.in-Make.is c.deref-in-Make.ensures.value in
-    subst (λ a. IfOk c.made.result (λ r. answer_of r ≡ a))
+    subst (λ a. IfOk c.made.result (λ r. answer_in r ≡ a))
     (make_answer c.args.scope.now.types.now c.requires.types _ _ c.requires.suits _ _ _ _ shown c.requires.typed (ap values_in (sym c.in-Ok-4.is) ∙ c.in_ok-parts-in-Make.ensures)) c.made.ensures
 
 pub evaluate-returns-in-Err-4 : goal.evaluate-returns-in-Err-4
@@ -119,7 +121,7 @@ pub evaluate-selected-requires : goal.evaluate-selected-requires
 evaluate-selected-requires t c =
     let env = environment c.args.scope.now in
     let shown : expr_of c.args.expression.now ≡ select (expr_of c.in-Select.tuple.value) (name_of c.in-Select.name) = ap expr_of c.in-Select.is in
-    let value = ap answer_of (sym c.in-Ok-5.is) ∙ c.in_ok-tuple-in-Select.ensures ∙ ap (λ e. val c.args.scope.now.types.now (expr_of e) env) c.deref-in-Select.ensures in
+    let value = ap answer_in (sym c.in-Ok-5.is) ∙ c.in_ok-tuple-in-Select.ensures ∙ ap (λ e. val c.args.scope.now.types.now (expr_of e) env) c.deref-in-Select.ensures in
     field_there c.args.scope.now.types.now c.requires.types _ _ c.requires.suits _ _ _ _ shown c.requires.typed value
 
 -- ---- expressions in order
@@ -135,12 +137,12 @@ pub evaluate_all-returns-in-Err : goal.evaluate_all-returns-in-Err
 evaluate_all-returns-in-Err t c =
     let start = start_of c.args.scope.now.types.now (environment c.args.scope.now) in
     values-stop start expr_of c.args.expressions.now _ c.expression-item.result (map plain c.loop-expression.found.items) c.in-Err.fault c.loop-expression-test.true c.expression-item.is c.loop-expression.invariant
-    (sym (ap settled c.in_ok-value.ensures) ∙ sym (settled-answer c.in_ok-value.field-0) ∙ ap value_in c.in-Err.is)
+    (sym (ap settled c.in_ok-value.ensures) ∙ sym (settled-given c.in_ok-value.field-0) ∙ ap given_in c.in-Err.is)
 
 pub evaluate_all-loop-expression-preserved : goal.evaluate_all-loop-expression-preserved
 evaluate_all-loop-expression-preserved t c =
     let start = start_of c.args.scope.now.types.now (environment c.args.scope.now) in
     let more = map expr_of (drop (c.loop-expression.expression-index + 1) c.args.expressions.now) in
-    ap (λ vs. prepended vs (all_values start more)) (ap (map plain) c.in_ok-push-in-Ok.ensures.items ∙ map-append plain c.loop-expression.found.items (c.in-Ok.value ∷ []))
-    ∙ values-go-on start expr_of c.args.expressions.now c.args.expressions.now _ c.expression-item.result (map plain c.loop-expression.found.items) (plain c.in-Ok.value) refl c.loop-expression-test.true c.expression-item.is c.loop-expression.invariant
-    (sym (ap settled c.in_ok-value.ensures) ∙ sym (settled-answer c.in_ok-value.field-0) ∙ ap value_in c.in-Ok.is)
+    ap (λ vs. prepended vs (all_values start more)) (ap (map plain) c.in_ok-push-in-Ok.ensures.items ∙ map-append plain c.loop-expression.found.items (c.in_ok-own-in-Ok.own ∷ []))
+    ∙ values-go-on start expr_of c.args.expressions.now c.args.expressions.now _ c.expression-item.result (map plain c.loop-expression.found.items) (plain c.in_ok-own-in-Ok.own) refl c.loop-expression-test.true c.expression-item.is c.loop-expression.invariant
+    (sym (ap settled c.in_ok-value.ensures) ∙ sym (settled-given c.in_ok-value.field-0) ∙ ap given_in c.in-Ok.is ∙ ap (λ v. Ok v) (sym c.in_ok-own-in-Ok.ensures))

@@ -9,8 +9,8 @@ use Rattle.ioa_compose.specs.Scopes.{context, environment}
 use Rattle.ioa_compose.proofs.StartLemmas.{started-at}
 use Rattle.ioa_compose.proofs.starts.start_value.Goals as goal
 
-pub evaluate-requires-clause-typed : goal.evaluate-requires-clause-typed
-evaluate-requires-clause-typed c =
+pub value_of-requires-clause-typed : goal.value_of-requires-clause-typed
+value_of-requires-clause-typed c =
     let types = c.args.types.now in
     let scope = c.of_starts-scope.result in
     let e = expr_of c.in-Some.expression in
@@ -24,6 +24,6 @@ pub returns-in-Some : goal.returns-in-Some
 returns-in-Some c =
     let scope = c.of_starts-scope.result in
     let e = expr_of c.in-Some.expression in
-    let evaluated = subst (λ u. IfOk c.evaluate.result (λ r. answer_of r ≡ val u e (environment scope))) c.of_starts-scope.ensures.types c.evaluate.ensures in
-    started-at c.args.types.now c.evaluate.result e (variable_of c.args.variable.now) _ _ _ _ c.deref.ensures.value c.deref-in-Some.ensures.value (ap (option_map expr_of) c.in-Some.is)
-    (subst (λ env. IfOk c.evaluate.result (λ r. answer_of r ≡ val c.args.types.now e env)) c.of_starts-scope.ensures.values evaluated)
+    let evaluated = subst (λ u. IfOk c.value_of.result (λ r. answer_of r ≡ val u e (environment scope))) c.of_starts-scope.ensures.types c.value_of.ensures in
+    started-at c.args.types.now c.value_of.result e (variable_of c.args.variable.now) _ _ _ _ c.deref.ensures.value c.deref-in-Some.ensures.value (ap (option_map expr_of) c.in-Some.is)
+    (subst (λ env. IfOk c.value_of.result (λ r. answer_of r ≡ val c.args.types.now e env)) c.of_starts-scope.ensures.values evaluated)
