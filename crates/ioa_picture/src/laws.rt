@@ -1,0 +1,19 @@
+//! What follows from the definitions alone. The functions do nothing: what they say is in their contracts.
+
+ghost use Rattle.ioa_picture.specs.Edges.{GivenArePassed, TakersTake};
+ghost use Rattle.ioa_picture.specs.Labels.{ActionsAreLabels, EndsAreLabels, NamesAreLabels};
+
+/// The edges of a graph are the actions that pass between components: an output has an edge to just those components that take an action of
+/// its name which its own component performs, and an input none from the environment just where a component performs such an action that it takes.
+pub fn edges_are_actions()
+    ensures outputs { TakersTake }
+    ensures inputs { GivenArePassed }
+{}
+
+/// No label of a picture needs an escape: names, actions and ends are spelled without any sign that has a meaning in the form of a chart or, in
+/// quotes, in that of a graph.
+pub fn labels_need_no_escape()
+    ensures names { NamesAreLabels }
+    ensures actions { ActionsAreLabels }
+    ensures ends { EndsAreLabels }
+{}
