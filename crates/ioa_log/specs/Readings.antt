@@ -3,11 +3,15 @@ use Rattle.std.specs.Prelude.{◌≡◌, ℕ, List, [], ◌∷◌, ◌++◌, All
 use Rattle.std.specs.String.{string_bytes}
 use Rattle.ioa_value.specs.Actions.{Act}
 use Rattle.ioa_value.specs.Lists.{ReadsLines, ReadsList, first_line}
+use Rattle.ioa_tree.specs.Hosts.{Hosted, hosts_of, host_starts}
+use Rattle.ioa_tree.specs.Likes.{AllRelated}
 use Rattle.ioa_tree.specs.Runs.{run}
+use Rattle.ioa_compose.specs.Stands.{HoldsAt}
 use Rattle.ioa_compile.specs.Programs.{Prog}
 use Rattle.ioa_compile.specs.Tables.{start_states, tabled}
 use Rattle.ioa_system.specs.Outcomes.{ending_of}
 use Rattle.ioa_system.specs.Progress.{Progress, IsRunOver}
+use Rattle.ioa_system.specs.Systems.{slot_types, types_of, values_of}
 use Rattle.ioa_log.specs.declared.reading.Reading.{Reading}
 use Rattle.ioa_log.specs.declared.reading.Replayed.{Replayed}
 use Rattle.ioa_log.specs.Replays.{lines_of, run_text}
@@ -47,9 +51,19 @@ pub record HasSeen (p : Prog) (seen : List ℕ) (r : Reading) : Type 0 where
   pub bytes : seen ≡ ended lines ++ r.line.items
   pub read : HasRead p lines r
 
--- the bytes are a list text, and these are its run's end and text
+-- the bytes are a list text, and these are its run's end and text, and the states that the run reaches, of the types of the program's slots
 pub record IsReplayed (p : Prog) (seen : List ℕ) (r : Replayed) : Type 0 where
   pub acts : List Act
   pub reads : ReadsList p.types seen acts
   pub ending : ending_of r.end ≡ (run (tabled p) acts (start_states p)).ending
   pub text : string_bytes r.text ≡ run_text p.types p.hidden (tabled p) (start_states p) acts
+  pub states : values_of r.states.items ≡ (run (tabled p) acts (start_states p)).states
+  pub types : types_of r.states.items ≡ slot_types p.members
+
+-- the same of hosts: the end and the text of their run over the list, and slots that hold the states that they reach
+pub record IsHostReplayed (h : Hosted) (seen : List ℕ) (r : Replayed) : Type 0 where
+  pub acts : List Act
+  pub reads : ReadsList h.types seen acts
+  pub ending : ending_of r.end ≡ (run (hosts_of h) acts (host_starts h)).ending
+  pub text : string_bytes r.text ≡ run_text h.types h.hidden (hosts_of h) (host_starts h) acts
+  pub states : AllRelated (HoldsAt h.hosts) 0 (run (hosts_of h) acts (host_starts h)).states (values_of r.states.items)

@@ -28,8 +28,8 @@ pub use laws::{
 };
 pub use logs::{first_line, read_log, write_log};
 pub use monitors::{MonitorErr, monitor};
-pub use reading::push_line;
-pub use replays::replay_list;
+pub use reading::{Replayed, push_line};
+pub use replays::{perform_list, replay_list};
 pub use run_logs::log_list;
 pub use streams::send_all;
 // What logs are is defined beside the runs that they tell.
