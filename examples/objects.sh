@@ -2,7 +2,7 @@
 # Compiles the examples, and does with their objects what is done with their sources: examples/objects.sh PROGRAM
 #
 # Each composition of a source that the program accepts is compiled. Where neither the source nor anything else lies, its object has to be
-# verified, to run as the source does by two seeds, and to replay each list and log of the folder as the source does, with the same exit status. An object is not compiled again, and is
+# verified, to have the source's graph, to run as the source does by two seeds, and to replay each list and log of the folder, and to draw it, as the source does, with the same exit status. An object is not compiled again, and is
 # no other composition's. Of what is refused no file is left, and one that was there stays as it was.
 set -u
 program=$1
@@ -52,6 +52,7 @@ for source in "$top"/*/*.ioa; do
     [ "$("$program" check "$work/alone/object" 2>&1)" = ok ] || fail "$source" "the object of $composition is not verified"
     [ "$(ls "$work/alone")" = object ] || fail "$source" "$composition leaves other files than its object"
     objects=$((objects + 1))
+    both graph /dev/null
     for digit in 0 1; do
       both run /dev/null --alone --turns 100 --log --reports --seed "$(printf '%064d' "$digit")"
     done
@@ -60,6 +61,7 @@ for source in "$top"/*/*.ioa; do
       both replay "$list"
       both replay "$list" --log
       both monitor "$list"
+      both chart "$list"
     done
   done
 done

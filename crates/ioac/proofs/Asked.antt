@@ -52,6 +52,8 @@ no_file word rows other another none (Request.ReplayLog file composition) h = le
 no_file word rows other another none (Request.ReplayInvariants file composition) h = let z : None ≡ Some file.now = sym none ∙ h.1.0 in cc
 no_file word rows other another none (Request.Log file composition) h = let z : None ≡ Some file.now = sym none ∙ h.1.0 in cc
 no_file word rows other another none (Request.Monitor file composition) h = let z : None ≡ Some file.now = sym none ∙ h.1.0 in cc
+no_file word rows other another none (Request.Chart file composition) h = let z : None ≡ Some file.now = sym none ∙ h.1.0 in cc
+no_file word rows other another none (Request.Graph file composition) h = let z : None ≡ Some file.now = sym none ∙ h.1.0 in cc
 no_file word rows other another none (Request.Run s) h = let z : None ≡ Some s.file.now = sym none ∙ h.1.names.0 in cc
 no_file word rows other another none (Request.Check file) h = let z : None ≡ Some file.now = sym none ∙ h.1 in cc
 no_file word rows other another none (Request.Compile file out composition) h = let z : None ≡ Some file.now = sym none ∙ h.1.0 in cc
@@ -74,6 +76,8 @@ no_explanation rows none (Request.ReplayLog file composition) h = apart (codes "
 no_explanation rows none (Request.ReplayInvariants file composition) h = apart (codes "explain") (codes "replay") refl refl h.0.0
 no_explanation rows none (Request.Log file composition) h = apart (codes "explain") (codes "log") refl refl h.0
 no_explanation rows none (Request.Monitor file composition) h = apart (codes "explain") (codes "monitor") refl refl h.0
+no_explanation rows none (Request.Chart file composition) h = apart (codes "explain") (codes "chart") refl refl h.0
+no_explanation rows none (Request.Graph file composition) h = apart (codes "explain") (codes "graph") refl refl h.0
 no_explanation rows none (Request.Run s) h = apart (codes "explain") (codes "run") refl refl h.0
 no_explanation rows none (Request.Check file) h = apart (codes "explain") (codes "check") refl refl h.0
 no_explanation rows none (Request.Compile file out composition) h = apart (codes "explain") (codes "compile") refl refl h.0
@@ -95,6 +99,8 @@ no_out rows none (Request.ReplayLog file composition) h = apart (codes "compile"
 no_out rows none (Request.ReplayInvariants file composition) h = apart (codes "compile") (codes "replay") refl refl h.0.0
 no_out rows none (Request.Log file composition) h = apart (codes "compile") (codes "log") refl refl h.0
 no_out rows none (Request.Monitor file composition) h = apart (codes "compile") (codes "monitor") refl refl h.0
+no_out rows none (Request.Chart file composition) h = apart (codes "compile") (codes "chart") refl refl h.0
+no_out rows none (Request.Graph file composition) h = apart (codes "compile") (codes "graph") refl refl h.0
 no_out rows none (Request.Run s) h = apart (codes "compile") (codes "run") refl refl h.0
 no_out rows none (Request.Check file) h = apart (codes "compile") (codes "check") refl refl h.0
 no_out rows none (Request.Compile file out composition) h = let z : None ≡ Some out.now = sym none ∙ h.2 in cc
@@ -115,6 +121,8 @@ no_log word rows is log invariants (Request.ReplayLog file composition) h = fals
 no_log word rows is log invariants (Request.ReplayInvariants file composition) h = false≢true (sym log ∙ h.0.1)
 no_log word rows is log invariants (Request.Log file composition) h = apart (codes "replay") (codes "log") refl refl (sym is ∙ h.0)
 no_log word rows is log invariants (Request.Monitor file composition) h = apart (codes "replay") (codes "monitor") refl refl (sym is ∙ h.0)
+no_log word rows is log invariants (Request.Chart file composition) h = apart (codes "replay") (codes "chart") refl refl (sym is ∙ h.0)
+no_log word rows is log invariants (Request.Graph file composition) h = apart (codes "replay") (codes "graph") refl refl (sym is ∙ h.0)
 no_log word rows is log invariants (Request.Run s) h = apart (codes "replay") (codes "run") refl refl (sym is ∙ h.0)
 no_log word rows is log invariants (Request.Check file) h = apart (codes "replay") (codes "check") refl refl (sym is ∙ h.0)
 no_log word rows is log invariants (Request.Compile file out composition) h = apart (codes "replay") (codes "compile") refl refl (sym is ∙ h.0)
@@ -152,6 +160,8 @@ no_run rows none (Request.ReplayInvariants file composition) h = apart (codes "r
 no_run rows none (Request.Run s) h = none s h.1
 no_run rows none (Request.Log file composition) h = apart (codes "run") (codes "log") refl refl h.0
 no_run rows none (Request.Monitor file composition) h = apart (codes "run") (codes "monitor") refl refl h.0
+no_run rows none (Request.Chart file composition) h = apart (codes "run") (codes "chart") refl refl h.0
+no_run rows none (Request.Graph file composition) h = apart (codes "run") (codes "graph") refl refl h.0
 no_run rows none (Request.Check file) h = apart (codes "run") (codes "check") refl refl h.0
 no_run rows none (Request.Compile file out composition) h = apart (codes "run") (codes "compile") refl refl h.0
 no_run rows none (Request.Dump file) h = apart (codes "run") (codes "dump") refl refl h.0

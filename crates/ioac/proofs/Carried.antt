@@ -23,11 +23,14 @@ use Rattle.ioa_log.proofs.Hosting.{hosts_judged, hosts_monitored, hosts_seen}
 use Rattle.ioa_log.proofs.Judged.{judged_means}
 use Rattle.ioa_log.proofs.LoggedLists.{hosts_alike, source_alike, writes_alike}
 use Rattle.ioa_log.proofs.Monitored.{hides_means, monitored_means}
-use Rattle.ioac.specs.Carried.{LogsListsAsSource, MonitorsAsSource, ReplaysAsSource, ReplaysLogsAsSource}
+use Rattle.ioa_picture.specs.Graphs.{graph}
+use Rattle.ioac.specs.Carried.{ChartsAsSource, GraphsAsSource, LogsListsAsSource, MonitorsAsSource, ReplaysAsSource, ReplaysLogsAsSource}
 use Rattle.ioac.specs.Compiling.{IsCompiled}
 use Rattle.ioac.specs.Headline.{Gives, begins_object}
 use Rattle.ioac.specs.Logs.{Monitors, ReplaysLog, performed_in}
+use Rattle.ioac.specs.Pictures.{ChartsLog}
 use Rattle.ioac.specs.Subjects.{Subject, of_hosts, its_components, its_hidden, its_starts, its_types, of_table}
+use Rattle.ioac.proofs.Pictured.{charted_as}
 
 -- what the table does, the hosts do
 module _ (p : Prog) (h : Hosted) (c : Composed) (s : Stands h c) (m : Means p c) where
@@ -61,6 +64,14 @@ module _ (p : Prog) (h : Hosted) (c : Composed) (s : Stands h c) (m : Means p c)
   hosts_log bytes end before after k =
       writes_alike c.types h.types (components_of c) (starts_of c) (hosts_of h) (host_starts h) (hosts_alike h c s) bytes end before after
       (writes_alike p.types c.types (tabled p) (start_states p) (components_of c) (starts_of c) (source_alike p c m) bytes end before after k)
+
+  hosts_chart : (bytes : List ℕ) (end : Ending) (before after : Option (List ℕ)) → ChartsLog (of_table p) bytes end before after → ChartsLog (of_hosts h) bytes end before after
+  hosts_chart bytes end before after (log, (reads, agree), ends, text) = (
+    log,
+    (subst (λ ts. ReadsLog ts bytes log) (m.types ∙ s.types) reads, hosts_judged h c s log agrees (judged_means p c log m ∙ agree)),
+    ends ∙ same_ending (actions_of log),
+    subst (λ (bs : List ℕ). Appends before after bs) (charted_as p (of_hosts h) log (c, s, m)) text,
+  )
 
   hosts_monitor : (bytes : List ℕ) (answer : Option Ending) (before after : Option (List ℕ)) → Monitors (of_table p) bytes answer before after → Monitors (of_hosts h) bytes answer before after
   hosts_monitor bytes answer before after (seen, (log, reads, answered, text)) = (
@@ -97,6 +108,15 @@ pub list_logs_as_source : LogsListsAsSource
 list_logs_as_source text object name of bytes end before after =
     carried (λ x. WritesRunLog (its_types x) (its_components x) (its_starts x) bytes end before after) text object name of
     (λ p h c s m k. hosts_log p h c s m bytes end before after k)
+
+pub charts_as_source : ChartsAsSource
+charts_as_source text object name of bytes end before after =
+    carried (λ x. ChartsLog x bytes end before after) text object name of (λ p h c s m k. hosts_chart p h c s m bytes end before after k)
+
+pub graphs_as_source : GraphsAsSource
+graphs_as_source text object name of before after (h, gives, (p, runs, is)) (q, (of_hosts k, given, other), drawn) = absurd (false≢true (sym given.0 ∙ begins object p is))
+graphs_as_source text object name of before after (h, gives, (p, runs, is)) (q, (of_table k, given, same), drawn) =
+    (p, (of_hosts h, gives, runs), subst (λ x. Appends before after (graph x)) (same ∙ one_program object k p given.object is) drawn)
 
 pub monitors_as_source : MonitorsAsSource
 monitors_as_source text object name of bytes answer before after =

@@ -72,7 +72,7 @@ performed_within p b es end ns l =
     omega (arith, performed_is end b.history b.failure l.ends, no_longer b.history b.failure, ap length l.entries, length-map es log_entry)
 
 module _ (p : Prog) (x : Subject) (runs : RunsAs p x) where
-  names_same : map (λ (m : MemberCode). m.name) p.members ≡ its_names x
+  pub names_same : map (λ (m : MemberCode). m.name) p.members ≡ its_names x
   names_same = of_both p x (λ y. map (λ (m : MemberCode). m.name) p.members ≡ its_names y) runs refl (λ h c s m. named h.hosts c.members p.members s.members m.tables)
 
   pub count_same : length p.members ≡ length (its_names x)
@@ -86,7 +86,7 @@ module _ (p : Prog) (x : Subject) (runs : RunsAs p x) where
   owner_same : (a : Act) → owner (tabled p) a ≡ owner (its_components x) a
   owner_same a = of_both p x (λ y. owner (tabled p) a ≡ owner (its_components y) a) runs refl (λ h c s m. host_owner p h c a s m)
 
-  participants_same : (a : Act) → participants (tabled p) a ≡ participants (its_components x) a
+  pub participants_same : (a : Act) → participants (tabled p) a ≡ participants (its_components x) a
   participants_same a = of_both p x (λ y. participants (tabled p) a ≡ participants (its_components y) a) runs refl (λ h c s m. host_participants p h c a s m)
 
   ending_same : (acts : List Act) → (run (its_components x) acts (its_starts x)).ending ≡ (run (tabled p) acts (start_states p)).ending

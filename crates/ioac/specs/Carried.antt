@@ -17,6 +17,7 @@ use Rattle.ioac.specs.Alone.{IsRoundRobin, IsRun, told_of, written}
 use Rattle.ioac.specs.Compiling.{IsCompiled}
 use Rattle.ioac.specs.Headline.{Declares, Gives, IsReplay, IsLogReplay, IsMonitoring}
 use Rattle.ioac.specs.ListLogs.{IsListLog}
+use Rattle.ioac.specs.Pictures.{IsGraphed, IsLogChart}
 use Rattle.ioac.specs.Subjects.{Subject, of_table}
 
 -- what a replay of a list by the object writes, a replay by the source's composition writes
@@ -33,6 +34,16 @@ ReplaysLogsAsSource = (text object : List ℕ) (name of : Option Name) (bytes : 
 abbrev pub LogsListsAsSource : Type 0
 LogsListsAsSource = (text object : List ℕ) (name of : Option Name) (bytes : List ℕ) (end : Ending) (before after : Option (List ℕ))
     → IsCompiled text name object → IsListLog object of bytes end before after → IsListLog text name bytes end before after
+
+-- of the chart of a log
+abbrev pub ChartsAsSource : Type 0
+ChartsAsSource = (text object : List ℕ) (name of : Option Name) (bytes : List ℕ) (end : Ending) (before after : Option (List ℕ))
+    → IsCompiled text name object → IsLogChart object of bytes end before after → IsLogChart text name bytes end before after
+
+-- of a graph
+abbrev pub GraphsAsSource : Type 0
+GraphsAsSource = (text object : List ℕ) (name of : Option Name) (before after : Option (List ℕ))
+    → IsCompiled text name object → IsGraphed object of before after → IsGraphed text name before after
 
 -- and of a monitor's answer
 abbrev pub MonitorsAsSource : Type 0

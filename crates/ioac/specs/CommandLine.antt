@@ -82,6 +82,12 @@ log_app = with_rule (with_rule (new_app (codes "log")) file_rule) comp_rule
 abbrev pub monitor_app : App
 monitor_app = with_rule (with_rule (new_app (codes "monitor")) file_rule) comp_rule
 
+abbrev pub chart_app : App
+chart_app = with_rule (with_rule (new_app (codes "chart")) file_rule) comp_rule
+
+abbrev pub graph_app : App
+graph_app = with_rule (with_rule (new_app (codes "graph")) file_rule) comp_rule
+
 abbrev pub run_app : App
 run_app =
     with_rule (with_rule (with_rule (with_rule (with_rule (with_rule (with_rule (with_rule (with_rule (new_app (codes "run")) file_rule) comp_rule) alone_rule) turns_rule)
@@ -96,9 +102,13 @@ ioac_app =
     with_subcommand
     (with_subcommand
     (with_subcommand
+    (with_subcommand
+    (with_subcommand
     (with_subcommand (with_subcommand (with_subcommand (with_subcommand (with_subcommand (with_subcommand bare_app check_app.top) compile_app.top) dump_app.top) replay_app.top) log_app.top)
     run_app.top)
     monitor_app.top)
+    chart_app.top)
+    graph_app.top)
     explain_app.top)
     library_app.top
 
@@ -140,6 +150,8 @@ IsAskedBy (Some found) (Request.ReplayInvariants file composition) =
     IsReplayWith true true found × Names found.1 file.now (option_copied composition)
 IsAskedBy (Some found) (Request.Log file composition) = (found.0 ≡ codes "log") × Names found.1 file.now (option_copied composition)
 IsAskedBy (Some found) (Request.Monitor file composition) = (found.0 ≡ codes "monitor") × Names found.1 file.now (option_copied composition)
+IsAskedBy (Some found) (Request.Chart file composition) = (found.0 ≡ codes "chart") × Names found.1 file.now (option_copied composition)
+IsAskedBy (Some found) (Request.Graph file composition) = (found.0 ≡ codes "graph") × Names found.1 file.now (option_copied composition)
 IsAskedBy (Some found) (Request.Run settings) = (found.0 ≡ codes "run") × AreSettings found.1 settings
 IsAskedBy (Some found) (Request.Check file) = (found.0 ≡ codes "check") × (first_of (codes "FILE") found.1 ≡ Some file.now)
 IsAskedBy (Some found) (Request.Compile file out composition) =

@@ -20,6 +20,7 @@ use Rattle.ioac.specs.Headline.{IsReplay, IsLogReplay, IsInvariantReplay, IsMoni
 use Rattle.ioac.specs.Libraries.{IsUnlisted}
 use Rattle.ioac.specs.ListLogs.{BeginsListLogOf, IsListLog}
 use Rattle.ioac.specs.Logs.{Found}
+use Rattle.ioac.specs.Pictures.{BeginsChartOf, IsGraphed, IsLogChart, IsUngraphed}
 use Rattle.ioac.specs.Alone.{BeginsRunOf, IsRunServed, IsUnrun}
 use Rattle.ioac.specs.Failing.{IsFailure, IsInvariantFailure, IsLogFailure, IsMonitorFailure, IsUnwritten, BeginsReplayOf, BeginsLogOf, BeginsFoundOf, BeginsMonitorOf}
 use Rattle.ioac.specs.Statuses.{answer_status, ending_status, found_status}
@@ -41,8 +42,8 @@ run_failure RunErr.Threads = Failure.Threads
 run_failure RunErr.OutOfMemory = Failure.OutOfMemory
 
 -- the file may hold a text such that the list or the log was replayed, or monitored, or the log of the list's run was written, in the
--- composition that is asked for, the last one where none is; or that passed the check; or its object was put in a file; or it was dumped; or a
--- composition was run; or the code was explained; or the library's text was written. Reports of a run are left to be told
+-- composition that is asked for, the last one where none is; or the log or the composition was drawn; or that passed the check; or its object was put
+-- in a file; or it was dumped; or a composition was run; or the code was explained; or the library's text was written. Reports of a run are left to be told
 abbrev pub IsServed : (Name → List ℕ → Type 0) → (Name → List ℕ → Type 0) → Request → Option (List ℕ) → Option (List ℕ) → Option (List ℕ) → Option (List ℕ) → Status → Type 0
 IsServed holds saves (Request.Replay file composition) bytes before after told status =
     (text : List ℕ) × holds file.now text
@@ -59,6 +60,11 @@ IsServed holds saves (Request.Log file composition) bytes before after told stat
 IsServed holds saves (Request.Monitor file composition) bytes before after told status =
     (text : List ℕ) × holds file.now text
     × ((answer : Option Ending) × IfSome bytes (λ xs. IsMonitoring text (option_copied composition) xs answer before after) × (status ≡ answer_status answer)) × (told ≡ None)
+IsServed holds saves (Request.Chart file composition) bytes before after told status =
+    (text : List ℕ) × holds file.now text
+    × ((end : Ending) × IfSome bytes (λ xs. IsLogChart text (option_copied composition) xs end before after) × (status ≡ ending_status end)) × (told ≡ None)
+IsServed holds saves (Request.Graph file composition) bytes before after told status =
+    ((text : List ℕ) × holds file.now text × IsGraphed text (option_copied composition) before after) × (status ≡ Status.Done) × (told ≡ None)
 IsServed holds saves (Request.Run settings) bytes before after told status = IsRunServed holds settings before after told status
 IsServed holds saves (Request.Check file) bytes before after told status =
     ((text : List ℕ) × holds file.now text × IsCheck text before after) × (status ≡ Status.Done) × (told ≡ None)
@@ -73,7 +79,7 @@ IsServed holds saves Request.Library bytes before after told status = Appends be
 abbrev pub IsUnread : Type 0 → Option (List ℕ) → Option (List ℕ) → Failure → Type 0
 IsUnread lacks before after e = (((e ≡ Failure.Io) × lacks) ⊎ (e ≡ Failure.OutOfMemory)) × Keeps before after
 
--- The file is not read, or it may hold a text with which the replay, the log of a list, the monitor, the check or the dump fails so; or no object is
+-- The file is not read, or it may hold a text with which the replay, the log of a list, the monitor, the chart, the graph, the check or the dump fails so; or no object is
 -- made; or nothing is run; or the code is not explained; or the library's text is not written. The reader of standard input and the writer failed
 -- where these say so.
 abbrev pub IsUnserved : (Name → List ℕ → Type 0) → (Name → Type 0) → (Name → Type 0) → (Name → List ℕ → Type 0) → Type 0 → Request → Option (List ℕ) → Type 0 → Type 0 → Option (List ℕ) → Option (List ℕ) → Failure → Type 0
@@ -97,6 +103,13 @@ IsUnserved holds lacks bars saves kept (Request.Monitor file composition) bytes 
     IsUnread (lacks file.now) before after e
     ⊎ ((text : List ℕ) × holds file.now text × IsMonitorFailure text (option_copied composition) bytes (reader_failed ⊎ writer_failed) e
     × IsUnwritten (BeginsMonitorOf text (option_copied composition) bytes) before after e)
+IsUnserved holds lacks bars saves kept (Request.Chart file composition) bytes reader_failed writer_failed before after e =
+    IsUnread (lacks file.now) before after e
+    ⊎ ((text : List ℕ) × holds file.now text × IsLogFailure text (option_copied composition) bytes (reader_failed ⊎ writer_failed) e
+    × IsUnwritten (BeginsChartOf text (option_copied composition) bytes) before after e)
+IsUnserved holds lacks bars saves kept (Request.Graph file composition) bytes reader_failed writer_failed before after e =
+    IsUnread (lacks file.now) before after e
+    ⊎ ((text : List ℕ) × holds file.now text × IsUngraphed text (option_copied composition) writer_failed before after e)
 IsUnserved holds lacks bars saves kept (Request.Run settings) bytes reader_failed writer_failed before after e =
     IsUnrun holds lacks settings writer_failed e × IsUnwritten (BeginsRunOf holds settings) before after e
 IsUnserved holds lacks bars saves kept (Request.Check file) bytes reader_failed writer_failed before after e =
@@ -116,6 +129,8 @@ IsReading (Request.ReplayLog file composition) = Unit {0}
 IsReading (Request.ReplayInvariants file composition) = Unit {0}
 IsReading (Request.Log file composition) = Unit {0}
 IsReading (Request.Monitor file composition) = Unit {0}
+IsReading (Request.Chart file composition) = Unit {0}
+IsReading (Request.Graph file composition) = ⊥
 IsReading (Request.Run settings) = ⊥
 IsReading (Request.Check file) = ⊥
 IsReading (Request.Compile file out composition) = ⊥
@@ -130,6 +145,8 @@ IsSaving (Request.ReplayLog file composition) = ⊥
 IsSaving (Request.ReplayInvariants file composition) = ⊥
 IsSaving (Request.Log file composition) = ⊥
 IsSaving (Request.Monitor file composition) = ⊥
+IsSaving (Request.Chart file composition) = ⊥
+IsSaving (Request.Graph file composition) = ⊥
 IsSaving (Request.Run settings) = ⊥
 IsSaving (Request.Check file) = ⊥
 IsSaving (Request.Compile file out composition) = Unit {0}

@@ -13,12 +13,14 @@ ghost use Rattle.ioac.specs.declared.status.Status.TheVariants as statuses;
 ghost use Rattle.ioac.specs.declared.request.Request.{Request};
 
 use crate::check::check_text;
+use crate::composition_graph::graph_text;
 use crate::dump::dump_object;
 use crate::explain::explain;
 use crate::failure::Failure;
 use crate::invariant_replay::{Finding, replay_invariants_text};
 use crate::library::write_library;
 use crate::list_log::log_list_text;
+use crate::log_chart::chart_log_text;
 use crate::log_replay::replay_log_text;
 use crate::monitor::monitor_text;
 use crate::object_file::compile_file;
@@ -137,8 +139,8 @@ fn answer<H: Threads + Wait + Sync, F: Store, R: InputDevice, W: OutputDevice, E
 /// Does what is asked, and answers the exit status with what is left to tell.
 ///
 /// # Errors
-/// `Io` or `OutOfMemory` where the file is not read, and those of the replay, the log, the run, the monitor, the check, the object or the dump of what it
-/// holds, or of the explanation or the library. Nothing was written then, or, where a device failed, no more than a beginning of the text.
+/// `Io` or `OutOfMemory` where the file is not read, and those of the replay, the log, the run, the monitor, the chart, the graph, the check, the object or the dump of
+/// what it holds, or of the explanation or the library. Nothing was written then, or, where a device failed, no more than a beginning of the text.
 fn serve<H: Threads + Wait + Sync, F: Store, R: InputDevice, W: OutputDevice>(
     rt: &H,
     alloc: Global,
@@ -194,6 +196,16 @@ fn serve<H: Threads + Wait + Sync, F: Store, R: InputDevice, W: OutputDevice>(
             )?;
             Ok(silent(status_of_answer(answer)))
         }
+        Request::Chart { file, composition } => {
+            let charted = store.load(alloc, file)?;
+            let end = chart_log_text(alloc, charted.as_slice(), *composition, input, output)?;
+            Ok(silent(status_of(end)))
+        }
+        Request::Graph { file, composition } => {
+            let graphed = store.load(alloc, file)?;
+            graph_text(alloc, graphed.as_slice(), *composition, output)?;
+            Ok(silent(Status::Done))
+        }
         Request::Check { file } => {
             let source = store.load(alloc, file)?;
             check_text(alloc, source.as_slice(), output)?;
@@ -223,7 +235,7 @@ fn serve<H: Threads + Wait + Sync, F: Store, R: InputDevice, W: OutputDevice>(
     }
 }
 
-/// The exit status of a list or a log that was replayed, or of a list whose run was logged, to this end.
+/// The exit status of a list or a log that was replayed, of a list whose run was logged, or of a log that was drawn, to this end.
 pub fn status_of(end: End) -> Status
     ensures { result ≡ ending_status (ending_of end) }
 {

@@ -1,13 +1,16 @@
 //! What follows from the definitions alone. The functions do nothing: what they say is in their contracts.
 
-ghost use Rattle.ioac.specs.Carried.{HistoriesAsSource, LogsListsAsSource, MonitorsAsSource, OneComposition, ReplaysAsSource, ReplaysLogsAsSource, RunsAsSource, TakesTurnsAsSource};
+ghost use Rattle.ioac.specs.Carried.{ChartsAsSource, GraphsAsSource, HistoriesAsSource, LogsListsAsSource, MonitorsAsSource, OneComposition, ReplaysAsSource, ReplaysLogsAsSource, RunsAsSource, TakesTurnsAsSource};
 
 /// From the bytes of an object to the trace: the program that is read of an object is the one that was compiled, so what is written by an
-/// object that was compiled of a source is what the source's hosts do. So it is of each list, of each log, of the log of a list's run, and of a monitor's answer.
+/// object that was compiled of a source is what the source's hosts do. So it is of each list, of each log, of the log of a list's run, of the chart of
+/// a log, of the graph, and of a monitor's answer.
 pub fn objects_do_as_their_sources()
     ensures lists { ReplaysAsSource }
     ensures logs { ReplaysLogsAsSource }
     ensures list_logs { LogsListsAsSource }
+    ensures charts { ChartsAsSource }
+    ensures graphs { GraphsAsSource }
     ensures monitors { MonitorsAsSource }
 {}
 

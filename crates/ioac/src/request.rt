@@ -1,7 +1,7 @@
 ghost use Rattle.std.specs.Prelude.{◌≡◌, false, map, codes, IfOk, IfSome, IfNone};
 ghost use Rattle.clap.specs.Words.{FailsBy, app_of, fault_of, found_of, new_app, rows_of, rule_of, subcommand_of, subcommand_rows_of};
 ghost use Rattle.ioac.specs.CommandLine as asked;
-ghost use Rattle.ioac.specs.CommandLine.{IsAskedBy, IsLocal, check_app, code_rule, comp_rule, compile_app, dump_app, explain_app, file_rule, invariants_rule, ioac_app, library_app, log_app, log_rule, monitor_app, out_rule, replay_app};
+ghost use Rattle.ioac.specs.CommandLine.{IsAskedBy, IsLocal, chart_app, check_app, code_rule, comp_rule, compile_app, dump_app, explain_app, file_rule, graph_app, invariants_rule, ioac_app, library_app, log_app, log_rule, monitor_app, out_rule, replay_app};
 ghost use Rattle.ioac.specs.declared.request.Request.{Request};
 
 use crate::code::Code;
@@ -38,6 +38,16 @@ pub enum Request<'a> {
     Run(Settings<'a>),
     /// To monitor the log on standard input by a composition of a source, or by an object.
     Monitor {
+        file: &'a str,
+        composition: Option<&'a str>,
+    },
+    /// To draw the log on standard input, as a chart of what a composition of a source, or an object, does.
+    Chart {
+        file: &'a str,
+        composition: Option<&'a str>,
+    },
+    /// To draw a composition of a source, or an object, as a graph.
+    Graph {
         file: &'a str,
         composition: Option<&'a str>,
     },
@@ -269,6 +279,39 @@ fn monitor_command<'a>(alloc: Global) -> Result<Command<'a>, AllocError>
         .arg(composition_option(alloc))
 }
 
+fn chart_command<'a>(alloc: Global) -> Result<Command<'a>, AllocError>
+    ensures app { IfOk result (λ command. app_of command ≡ chart_app) }
+    ensures local { IfOk result IsLocal }
+{
+    Command::new(alloc, "chart")
+        .about("Reads a log on standard input, and prints a sequence diagram of it for Mermaid")
+        .after_help(
+            "The log has to be of the composition's run. Each action is an arrow from the component that owns it, or from the environment,\n\
+             to each other component that has it; where there is none, it is a note over its owner. A fault is a note, too.\n\
+             Exit status: 0 done, 1 source or object refused, 2 bad command line, 3 ended by a fault,\n\
+             4 log refused, 5 memory, the file or a device.",
+        )
+        .arg(file_argument(alloc))?
+        .arg(composition_option(alloc))
+}
+
+fn graph_command<'a>(alloc: Global) -> Result<Command<'a>, AllocError>
+    ensures app { IfOk result (λ command. app_of command ≡ graph_app) }
+    ensures local { IfOk result IsLocal }
+{
+    Command::new(alloc, "graph")
+        .about(
+            "Prints a graph of a composition for Graphviz: its components, and the actions that they share",
+        )
+        .after_help(
+            "An output is an edge to each component that takes it, or to the environment where none does, dashed where its name is hidden;\n\
+             an input that no component gives is an edge from the environment. Internal names stand in their component.\n\
+             Exit status: 0 done, 1 source or object refused, 2 bad command line, 5 memory, the file or a device.",
+        )
+        .arg(file_argument(alloc))?
+        .arg(composition_option(alloc))
+}
+
 fn program<'a>(alloc: Global) -> Result<Command<'a>, AllocError>
     ensures { IfOk result (λ command. app_of command ≡ ioac_app) }
 {
@@ -285,6 +328,8 @@ fn program<'a>(alloc: Global) -> Result<Command<'a>, AllocError>
         .subcommand(log_command(alloc)?)?
         .subcommand(run_command(alloc)?)?
         .subcommand(monitor_command(alloc)?)?
+        .subcommand(chart_command(alloc)?)?
+        .subcommand(graph_command(alloc)?)?
         .subcommand(explain_command(alloc)?)?
         .subcommand(library_command(alloc))
 }
@@ -347,6 +392,22 @@ pub fn read_request<'a>(matches: &ArgMatches<'a>) -> Option<Request<'a>>
             Some(Request::Monitor {
                 file,
                 composition: named,
+            })
+        }
+        "chart" => {
+            let file = found.get_str("FILE")?;
+            let told = found.get_str("comp");
+            Some(Request::Chart {
+                file,
+                composition: told,
+            })
+        }
+        "graph" => {
+            let file = found.get_str("FILE")?;
+            let drawn = found.get_str("comp");
+            Some(Request::Graph {
+                file,
+                composition: drawn,
             })
         }
         "check" => {

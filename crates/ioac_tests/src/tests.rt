@@ -19,6 +19,7 @@ mod lists;
 mod logs;
 mod objects;
 mod operators;
+mod pictures;
 mod proposals;
 mod reached;
 mod requests;

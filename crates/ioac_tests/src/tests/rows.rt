@@ -3,7 +3,7 @@
 use crate::tests::shelf::{COUNTER, First, expect_rows};
 use crate::tests::{
     bounds, changes, choices, commands, composed, constants, crashes, declared, invariants, lines,
-    list_logs, lists, logs, objects, proposals, requests,
+    list_logs, lists, logs, objects, pictures, proposals, requests,
 };
 use std::test::Fail;
 
@@ -13,7 +13,7 @@ const LONG: [(&str, First<'static>); 2] = [
     (lines::ROWS, First::Check),
 ];
 
-const SHORT: [(&str, First<'static>); 27] = [
+const SHORT: [(&str, First<'static>); 29] = [
     (lists::ROWS, First::List(COUNTER)),
     (lists::ROWS, First::Object(COUNTER)),
     (proposals::REPLAYS, First::Object(proposals::GAME)),
@@ -37,6 +37,8 @@ const SHORT: [(&str, First<'static>); 27] = [
     (logs::MONITORS, First::All),
     (list_logs::ROWS, First::Words(COUNTER)),
     (list_logs::COMPOSED, First::All),
+    (pictures::ROWS, First::Words(COUNTER)),
+    (pictures::COMPOSED, First::All),
     (proposals::CHECKS, First::Check),
     (proposals::REPLAYS, First::List(proposals::GAME)),
     (requests::ROWS, First::Request),

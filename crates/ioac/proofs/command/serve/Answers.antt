@@ -48,6 +48,15 @@ returns-in_err-answer-in-Monitor-clause-refused g c =
     err_so c.from_residual-in_err-answer-in-Monitor.result e.0 c.in_err-answer-in-Monitor.field-0.0 _ e.1 e.2
     (rw c.in-Monitor.is (inr (text, held, said.refused, said.unwritten)))
 
+pub returns-in_err-end-in-Chart-clause-refused : goal.returns-in_err-end-in-Chart-clause-refused
+returns-in_err-end-in-Chart-clause-refused g c =
+    let e = err_from_is_err_and c.from_residual-in_err-end-in-Chart.result c.from_residual-in_err-end-in-Chart.ensures.1 in
+    let text = c.as_slice-in-Chart.result.now in
+    let held = subst (g.F.Store.holds c.args.store.now c.in-Chart.file.now) (sym c.as_slice-in-Chart.ensures.value) c.in_ok-charted-in-Chart.ensures.ok in
+    let said = c.in_err-end-in-Chart.ensures in
+    err_so c.from_residual-in_err-end-in-Chart.result e.0 c.in_err-end-in-Chart.field-0.0 _ e.1 e.2
+    (rw c.in-Chart.is (inr (text, held, said.refused, said.unwritten)))
+
 pub returns-in_err-compile_file-in-Compile-clause-refused : goal.returns-in_err-compile_file-in-Compile-clause-refused
 returns-in_err-compile_file-in-Compile-clause-refused g c =
     let e = err_from_is_err_and c.from_residual-in_err-compile_file-in-Compile.result c.from_residual-in_err-compile_file-in-Compile.ensures.1 in

@@ -2,7 +2,7 @@ use Rattle.std.proofs.Common.{◌≡◌, true, ap, ap₂, ◌∙◌, codes}
 use Rattle.std.proofs.lemmas.Result.{IfOk-weaker}
 use Rattle.clap.specs.Words.{App, app_of, new_app, shape_of, with_subcommand}
 use Rattle.clap.specs.Simple.{Shape, app_of_fields, on_top}
-use Rattle.ioac.specs.CommandLine.{bare_app, check_app, compile_app, dump_app, explain_app, library_app, log_app, monitor_app, replay_app, run_app}
+use Rattle.ioac.specs.CommandLine.{bare_app, chart_app, check_app, compile_app, dump_app, explain_app, graph_app, library_app, log_app, monitor_app, replay_app, run_app}
 use Rattle.ioac.proofs.request.program.Goals as goal
 
 pub returns : goal.returns
@@ -20,6 +20,8 @@ returns c =
     let log : shape_of c.in_ok-log_command.field-0 ≡ log_app.top = ap (λ (a : App). a.top) c.in_ok-log_command.ensures.app in
     let run : shape_of c.in_ok-run_command.field-0 ≡ run_app.top = ap (λ (a : App). a.top) c.in_ok-run_command.ensures.app in
     let monitor : shape_of c.in_ok-monitor_command.field-0 ≡ monitor_app.top = ap (λ (a : App). a.top) c.in_ok-monitor_command.ensures.app in
+    let chart : shape_of c.in_ok-chart_command.field-0 ≡ chart_app.top = ap (λ (a : App). a.top) c.in_ok-chart_command.ensures.app in
+    let graph : shape_of c.in_ok-graph_command.field-0 ≡ graph_app.top = ap (λ (a : App). a.top) c.in_ok-graph_command.ensures.app in
     let explain : shape_of c.in_ok-explain_command.field-0 ≡ explain_app.top = ap (λ (a : App). a.top) c.in_ok-explain_command.ensures.app in
     let library : shape_of c.library_command.result ≡ library_app.top = ap (λ (a : App). a.top) c.library_command.ensures.app in
     let one = c.in_ok-subcommand.ensures.shape c.in_ok-check_command.ensures.local ∙ ap₂ with_subcommand bare check in
@@ -29,5 +31,7 @@ returns c =
     let five = c.in_ok-subcommand-5.ensures.shape c.in_ok-log_command.ensures.local ∙ ap₂ with_subcommand four log in
     let six = c.in_ok-subcommand-6.ensures.shape c.in_ok-run_command.ensures.local ∙ ap₂ with_subcommand five run in
     let seven = c.in_ok-subcommand-7.ensures.shape c.in_ok-monitor_command.ensures.local ∙ ap₂ with_subcommand six monitor in
-    let eight = c.in_ok-subcommand-8.ensures.shape c.in_ok-explain_command.ensures.local ∙ ap₂ with_subcommand seven explain in
-    IfOk-weaker c.subcommand-9.result _ _ (λ command h. h.shape c.library_command.ensures.local ∙ ap₂ with_subcommand eight library) c.subcommand-9.ensures
+    let eight = c.in_ok-subcommand-8.ensures.shape c.in_ok-chart_command.ensures.local ∙ ap₂ with_subcommand seven chart in
+    let nine = c.in_ok-subcommand-9.ensures.shape c.in_ok-graph_command.ensures.local ∙ ap₂ with_subcommand eight graph in
+    let ten = c.in_ok-subcommand-10.ensures.shape c.in_ok-explain_command.ensures.local ∙ ap₂ with_subcommand nine explain in
+    IfOk-weaker c.subcommand-11.result _ _ (λ command h. h.shape c.library_command.ensures.local ∙ ap₂ with_subcommand ten library) c.subcommand-11.ensures

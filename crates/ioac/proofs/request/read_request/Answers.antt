@@ -152,3 +152,29 @@ returns-in_ok-file-in-dump-clause-some c =
     let here = lent c.args.matches.now found c.in_ok-name.name.now (codes "dump") c.in_ok-name.ensures.name c.in_ok-name.ensures.rows c.in-dump.is in
     asks c.args.matches.now found (codes "dump") (Request.Dump c.in_ok-file-in-dump.file) here
     (refl, sym (first_value-rows (found_of found) (codes "FILE")) ∙ sym c.in_ok-file-in-dump.ensures)
+
+pub returns-in_err-file-in-chart-clause-none : goal.returns-in_err-file-in-chart-clause-none
+returns-in_err-file-in-chart-clause-none c =
+    let here = lent c.args.matches.now c.in_ok-name.found.now c.in_ok-name.name.now (codes "chart") c.in_ok-name.ensures.name c.in_ok-name.ensures.rows c.in-chart.is in
+    unfiled c.args.matches.now c.in_ok-name.found.now (codes "chart") _ here (apart (codes "chart") (codes "explain") refl refl) (apart (codes "chart") (codes "library") refl refl)
+    c.in_err-file-in-chart.ensures c.from_residual-in_err-file-in-chart.ensures
+
+pub returns-in_ok-file-in-chart-clause-some : goal.returns-in_ok-file-in-chart-clause-some
+returns-in_ok-file-in-chart-clause-some c =
+    let found = c.in_ok-name.found.now in
+    let here = lent c.args.matches.now found c.in_ok-name.name.now (codes "chart") c.in_ok-name.ensures.name c.in_ok-name.ensures.rows c.in-chart.is in
+    asks c.args.matches.now found (codes "chart") (Request.Chart c.in_ok-file-in-chart.file c.get_str-told.result) here
+    (refl, names found c.in_ok-file-in-chart.file c.get_str-told.result c.in_ok-file-in-chart.ensures c.get_str-told.ensures)
+
+pub returns-in_err-file-in-graph-clause-none : goal.returns-in_err-file-in-graph-clause-none
+returns-in_err-file-in-graph-clause-none c =
+    let here = lent c.args.matches.now c.in_ok-name.found.now c.in_ok-name.name.now (codes "graph") c.in_ok-name.ensures.name c.in_ok-name.ensures.rows c.in-graph.is in
+    unfiled c.args.matches.now c.in_ok-name.found.now (codes "graph") _ here (apart (codes "graph") (codes "explain") refl refl) (apart (codes "graph") (codes "library") refl refl)
+    c.in_err-file-in-graph.ensures c.from_residual-in_err-file-in-graph.ensures
+
+pub returns-in_ok-file-in-graph-clause-some : goal.returns-in_ok-file-in-graph-clause-some
+returns-in_ok-file-in-graph-clause-some c =
+    let found = c.in_ok-name.found.now in
+    let here = lent c.args.matches.now found c.in_ok-name.name.now (codes "graph") c.in_ok-name.ensures.name c.in_ok-name.ensures.rows c.in-graph.is in
+    asks c.args.matches.now found (codes "graph") (Request.Graph c.in_ok-file-in-graph.file c.get_str-drawn.result) here
+    (refl, names found c.in_ok-file-in-graph.file c.get_str-drawn.result c.in_ok-file-in-graph.ensures c.get_str-drawn.ensures)
