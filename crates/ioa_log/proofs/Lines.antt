@@ -1,13 +1,11 @@
 -- A list text, line by line.
-use Rattle.std.proofs.Common.{◌≡◌, ℕ, ◌+◌, ◌-◌, ◌<◌, ◌≤◌, Bool, true, false, ◌==◌, List, [], ◌∷◌, ◌++◌, length, get_or, take, drop, All, min, append_assoc, refl, sym, ◌∙◌, ap, subst, arith, length-append, length-drop, length-take, Option, None, Some, Err, IfSome, inl, inr}
+use Rattle.std.proofs.Common.{◌≡◌, ℕ, ◌+◌, ◌<◌, ◌≤◌, Bool, true, false, ◌==◌, List, [], ◌∷◌, ◌++◌, length, take, All, min, append_assoc, refl, sym, ◌∙◌, ap, subst, arith, length-append, length-take, Option, None, Some, Err, IfSome, inl, inr}
 use Rattle.std.specs.Result.{IsErrOf}
 use Rattle.std.specs.String.{string_bytes}
 use Rattle.std.specs.Io.KnownBytes.{Consumes}
-use Rattle.std.proofs.Math.Seq.{take-add}
-use Rattle.std.proofs.lemmas.List.{append-nil, drop_more, take-append-drop, take_more, get_or-drop, take_all}
+use Rattle.std.proofs.lemmas.List.{append-nil}
 use Rattle.std.proofs.lemmas.List.Elements.{All-nil, All-head, All-tail, All-cons, All-append}
 use Rattle.std.proofs.lemmas.Bool.{false≢true}
-use Rattle.std.proofs.lemmas.Bool.Decides.{nat_tests}
 use Rattle.std.proofs.KnownBytes.{Consumes-trans}
 use Rattle.ioa_value.specs.Actions.{Act}
 use Rattle.ioa_value.specs.Table.{Table}
@@ -51,42 +49,13 @@ joined : (xs ys : List ℕ) → IsLineText xs → IsLineText ys → IsLineText (
 joined [] ys h k = k
 joined (c ∷ cs) ys h k = let s = starts c cs h in rw (s.0, joined cs ys s.1 k) refl
 
--- ---- a part of a piece, from one place to another
-
-abbrev pub part : List ℕ → ℕ → ℕ → List ℕ
-part xs from at = take (at - from) (drop from xs)
-
-pub no_part : (xs : List ℕ) (at : ℕ) → IsLineText (part xs at at)
-no_part xs at = let none : at - at ≡ 0 = omega arith in rw none refl
-
-pub part_more : (xs : List ℕ) (from at b : ℕ) → from ≤ at → at < length xs → get_or xs at 0 ≡ b → (b == 10) ≡ false → IsLineText (part xs from at) → IsLineText (part xs from (at + 1))
-part_more xs from at b l k e f h =
-    let more : (at + 1) - from ≡ (at - from) + 1 = omega arith in
-    let in_rest : at - from < length (drop from xs) = omega (arith, length-drop from xs) in
-    let place : from + (at - from) ≡ at = omega arith in
-    let byte : get_or (drop from xs) (at - from) 0 ≡ b = get_or-drop from xs (at - from) 0 ∙ ap (λ i. get_or xs i 0) place ∙ e in
-    let last : IsLineText (b ∷ []) = rw f refl in
-    let longer : part xs from (at + 1) ≡ part xs from at ++ b ∷ [] = ap (λ n. take n (drop from xs)) more ∙ take_more (drop from xs) (at - from) 0 in_rest ∙ ap (λ x. part xs from at ++ x ∷ []) byte in
-    subst IsLineText (sym longer) (joined (part xs from at) (b ∷ []) h last)
-
-pub up_to : (seen xs : List ℕ) (from at : ℕ) → from ≤ at → (seen ++ take from xs) ++ part xs from at ≡ seen ++ take at xs
-up_to seen xs from at l =
-    let place : from + (at - from) ≡ at = omega arith in
-    append_assoc seen (take from xs) (part xs from at) ∙ ap (λ z. seen ++ z) (sym (take-add from (at - from) xs) ∙ ap (λ n. take n xs) place)
-
--- ---- a byte of a piece
-
-pub byte_at : (seen xs more : List ℕ) (i b : ℕ) → i < length xs → get_or xs i 0 ≡ b → seen ++ (xs ++ more) ≡ (seen ++ take i xs) ++ b ∷ (drop (i + 1) xs ++ more)
-byte_at seen xs more i b l e =
-    let d : drop i xs ≡ b ∷ drop (i + 1) xs = drop_more xs i 0 l ∙ ap (λ x. x ∷ drop (i + 1) xs) e in
-    let w : xs ≡ take i xs ++ (b ∷ drop (i + 1) xs) = sym (take-append-drop i xs) ∙ ap (λ z. take i xs ++ z) d in
-    ap (λ z. seen ++ (z ++ more)) w ∙ ap (λ z. seen ++ z) (append_assoc (take i xs) (b ∷ drop (i + 1) xs) more) ∙ sym (append_assoc seen (take i xs) (b ∷ (drop (i + 1) xs ++ more)))
-
-pub no_feed : (b : ℕ) → (b ≡ 10 → ⊥) → (b == 10) ≡ false
-no_feed b h = grind (arith, nat_tests)
-
-pub one_byte : (seen xs : List ℕ) (i b : ℕ) → i < length xs → get_or xs i 0 ≡ b → (seen ++ take i xs) ++ b ∷ [] ≡ seen ++ take (i + 1) xs
-one_byte seen xs i b l e = append_assoc seen (take i xs) (b ∷ []) ∙ ap (λ z. seen ++ z) (ap (λ x. take i xs ++ x ∷ []) (sym e) ∙ sym (take_more xs i 0 l))
+first_whole : (xs : List ℕ) → IsLineText (first_line xs)
+first_whole [] = refl
+first_whole (b ∷ bs) = by (b == 10) refl (first_whole bs)
+  where
+    by : (c : Bool) → (b == 10) ≡ c → IsLineText (first_line bs) → IsLineText (first_line (b ∷ bs))
+    by true e h = rw e refl
+    by false e h = rw (e, e) (ap (λ l. b ∷ l) h)
 
 -- ---- what has come
 
@@ -135,47 +104,49 @@ bad_here p seen bs rest r n h t refuses =
       k.0,
     )
 
--- a piece is fed up to a place: what came before the line that stands there is seen, and the line has no LF yet
-pub record Fed (start now : Reading) (xs : List ℕ) (from at : ℕ) : Type 0 where
-  pub within : from ≤ at
-  pub line : IsLineText (part xs from at)
-  pub seen : (p : Prog) (seen : List ℕ) → HasSeen p seen start → HasSeen p (seen ++ take from xs) now
+-- the bytes of a piece before the rest are seen
+pub record Fed (start now : Reading) (xs rest : List ℕ) : Type 0 where
+  pub before : List ℕ
+  pub bytes : xs ≡ before ++ rest
+  pub seen : (p : Prog) (seen : List ℕ) → HasSeen p seen start → HasSeen p (seen ++ before) now
 
 -- what is read stays so
 abbrev pub Keeps : Reading → Reading → Type 0
 Keeps r now = (p : Prog) (ls : List (List ℕ)) → HasRead p ls r → HasRead p ls now
 
-pub fed_none : (r : Reading) (xs : List ℕ) → Fed r r xs 0 0
-fed_none r xs = record { within = omega arith; line = refl; seen = λ p seen h. subst (λ bs. HasSeen p bs r) (sym (append-nil seen)) h }
+pub fed_none : (r : Reading) (xs : List ℕ) → Fed r r xs xs
+fed_none r xs = record { before = []; bytes = refl; seen = λ p seen h. subst (λ bs. HasSeen p bs r) (sym (append-nil seen)) h }
 
-module _ (start r : Reading) (xs : List ℕ) (from at : ℕ) (f : Fed start r xs from at) where
-  pub fed_part : (mid : Reading) → mid.line.items ≡ r.line.items ++ part xs from at → Keeps r mid
-      → (p : Prog) (seen : List ℕ) → HasSeen p seen start → HasSeen p (seen ++ take at xs) mid
-  fed_part mid l keeps p seen h =
-      subst (λ bs. HasSeen p bs mid) (up_to seen xs from at f.within) (seen_part p (seen ++ take from xs) r mid (part xs from at) (f.seen p seen h) f.line l (keeps p))
+module _ (start r : Reading) (xs rest : List ℕ) (f : Fed start r xs rest) where
+  -- a line of the rest, and what comes after it
+  module _ (line after : List ℕ) (is : line ≡ first_line rest) (parts : rest ≡ line ++ 10 ∷ after) where
+    whole : IsLineText line
+    whole = subst IsLineText (sym is) (first_whole rest)
 
-  pub fed_line : (now : Reading) → at < length xs → get_or xs at 0 ≡ 10 → now.line.items ≡ []
-      → ((p : Prog) (ls : List (List ℕ)) → HasRead p ls r → HasRead p (ls ++ (r.line.items ++ part xs from at) ∷ []) now) → Fed start now xs (at + 1) (at + 1)
-  fed_line now lt e none reads = record {
-    within = omega arith;
-    line = no_part xs (at + 1);
-    seen = λ p seen h. subst (λ bs. HasSeen p bs now) (ap (λ z. z ++ 10 ∷ []) (up_to seen xs from at f.within) ∙ one_byte seen xs at 10 lt e)
-        (seen_line p (seen ++ take from xs) (part xs from at) r now (f.seen p seen h) f.line none (reads p));
-  }
+    cut : xs ≡ f.before ++ (line ++ 10 ∷ after)
+    cut = f.bytes ∙ ap (λ z. f.before ++ z) parts
 
-  pub bad_fed : (p : Prog) (seen more : List ℕ) (n : ℕ) → at < length xs → get_or xs at 0 ≡ 10 → HasSeen p seen start → Refuses p r (part xs from at) n → BadLine p.types (seen ++ (xs ++ more)) n
-  bad_fed p seen more n lt e h refuses =
-      let rest : List ℕ = drop (at + 1) xs ++ more in
-      subst (λ bs. BadLine p.types bs n) (sym (byte_at seen xs more at 10 lt e ∙ ap (λ z. z ++ 10 ∷ rest) (sym (up_to seen xs from at f.within))))
-      (bad_here p (seen ++ take from xs) (part xs from at) rest r n (f.seen p seen h) f.line refuses)
+    pub fed_line : (now : Reading) → now.line.items ≡ [] → ((p : Prog) (ls : List (List ℕ)) → HasRead p ls r → HasRead p (ls ++ (r.line.items ++ line) ∷ []) now) → Fed start now xs after
+    fed_line now none reads = record {
+      before = f.before ++ (line ++ 10 ∷ []);
+      bytes = cut ∙ ap (λ z. f.before ++ z) (sym (append_assoc line (10 ∷ []) after)) ∙ sym (append_assoc f.before (line ++ 10 ∷ []) after);
+      seen = λ p seen h. subst (λ bs. HasSeen p bs now)
+          (ap (λ z. z ++ 10 ∷ []) (append_assoc seen f.before line) ∙ append_assoc seen (f.before ++ line) (10 ∷ []) ∙ ap (λ z. seen ++ z) (append_assoc f.before line (10 ∷ [])))
+          (seen_line p (seen ++ f.before) line r now (f.seen p seen h) whole none (reads p));
+    }
 
-  pub fed_byte : at < length xs → (b : ℕ) → get_or xs at 0 ≡ b → (b ≡ 10 → ⊥) → Fed start r xs from (at + 1)
-  fed_byte lt b e n = record { within = let w = f.within in omega arith; line = part_more xs from at b f.within lt e (no_feed b n) f.line; seen = f.seen }
+    pub bad_fed : (p : Prog) (seen more : List ℕ) (n : ℕ) → HasSeen p seen start → Refuses p r line n → BadLine p.types (seen ++ (xs ++ more)) n
+    bad_fed p seen more n h refuses =
+        let text : ((seen ++ f.before) ++ line) ++ 10 ∷ (after ++ more) ≡ seen ++ (xs ++ more) =
+        append_assoc (seen ++ f.before) line (10 ∷ (after ++ more)) ∙ append_assoc seen f.before (line ++ 10 ∷ (after ++ more))
+        ∙ ap (λ z. seen ++ z) (ap (λ z. f.before ++ z) (sym (append_assoc line (10 ∷ after) more)) ∙ sym (append_assoc f.before (line ++ 10 ∷ after) more) ∙ ap (λ z. z ++ more) (sym cut)) in
+        subst (λ bs. BadLine p.types bs n) text (bad_here p (seen ++ f.before) line (after ++ more) r n (f.seen p seen h) whole refuses)
 
-pub fed_whole : (start r now : Reading) (xs : List ℕ) (from : ℕ) → Fed start r xs from (length xs) → now.line.items ≡ r.line.items ++ part xs from (length xs) → Keeps r now
-    → (p : Prog) (seen : List ℕ) → HasSeen p seen start → HasSeen p (seen ++ xs) now
-fed_whole start r now xs from f l keeps p seen h =
-    subst (λ bs. HasSeen p (seen ++ bs) now) (take_all (length xs) xs (omega arith)) (fed_part start r xs from (length xs) f now l keeps p seen h)
+  -- the rest, where it has no LF
+  pub fed_whole : (now : Reading) → rest ≡ first_line rest → now.line.items ≡ r.line.items ++ rest → Keeps r now → (p : Prog) (seen : List ℕ) → HasSeen p seen start → HasSeen p (seen ++ xs) now
+  fed_whole now none l keeps p seen h =
+      subst (λ bs. HasSeen p bs now) (append_assoc seen f.before rest ∙ ap (λ z. seen ++ z) (sym f.bytes))
+      (seen_part p (seen ++ f.before) r now rest (f.seen p seen h) (sym none) l (keeps p))
 
 -- the lines, where the last has no LF
 last : (p : Prog) (seen : List ℕ) (r : Reading) (h : HasSeen p seen r) → 0 < length r.line.items → lines seen ≡ h.lines ++ r.line.items ∷ []

@@ -26,7 +26,7 @@ pub use laws::{
     no_refusal, one_log, run_log_is_read, run_logs_agree, verdict_is_the_first_difference,
     written_log_is_read,
 };
-pub use logs::{first_line, read_log, write_log};
+pub use logs::{read_log, write_log};
 pub use monitors::{MonitorErr, monitor};
 pub use reading::{Replayed, push_line};
 pub use replays::{perform_list, replay_list};

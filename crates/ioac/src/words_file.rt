@@ -4,9 +4,8 @@ ghost use Rattle.ioac.specs.Fields.{after_field, first_field};
 ghost use Rattle.ioac.specs.WordLists.{AreWords, IsBadWords, listed, words_in};
 
 use crate::numerals::numeral;
-use ioa_log::first_line;
 use ioa_node::Words;
-use ioa_value::OutOfMemory;
+use ioa_value::{OutOfMemory, first_line};
 use std::alloc::Global;
 
 /// Words that are listed, and zeros after them.

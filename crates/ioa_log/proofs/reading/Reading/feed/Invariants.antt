@@ -1,9 +1,12 @@
-use Rattle.std.proofs.Common.{◌+◌, ◌≤◌}
+use Rattle.std.proofs.Common.{◌+◌, ◌≤◌, length}
 use Rattle.ioa_log.proofs.Lines.{Fed}
 use Rattle.ioa_log.proofs.reading.Reading.feed.Given as goal
 
-abbrev pub invariant-loop-at : goal.invariant-loop-at
-invariant-loop-at l = record {
-  fed : Fed l.fn.self l.self l.piece l.from l.at;
-  counted : l.self.count ≤ l.fn.self.count + l.at;
+abbrev pub invariant-loop-line : goal.invariant-loop-line
+invariant-loop-line l = record {
+  fed : Fed l.fn.self l.self l.piece l.rest;
+  counted : l.self.count + length l.rest ≤ l.fn.self.count + length l.piece;
 }
+
+abbrev pub decreases-loop-line : goal.decreases-loop-line
+decreases-loop-line l = length l.rest
