@@ -1,5 +1,5 @@
 -- Lists whose items are related place by place.
-use Rattle.std.proofs.Common.{◌≡◌, ℕ, ◌+◌, ◌<◌, ◌≤◌, Bool, ◌&&◌, ◌||◌, List, [], ◌∷◌, ◌++◌, length, map, take, get_or, refl, sym, ap, ◌∙◌, subst}
+use Rattle.std.proofs.Common.{◌≡◌, ℕ, zero, suc, arith, ◌+◌, ◌<◌, ◌≤◌, Bool, ◌&&◌, ◌||◌, List, [], ◌∷◌, ◌++◌, length, map, take, get_or, refl, sym, ap, ◌∙◌, subst}
 use Rattle.std.specs.List.{AllZip, list_all, list_any}
 use Rattle.std.proofs.lemmas.List.{take_more, take_all, map-append}
 use Rattle.std.proofs.lemmas.Slice.Zip.{all_zipped_more}
@@ -14,6 +14,13 @@ paired_next R f g xs i x ys zs y lt x-is zs-is r all =
 
 pub paired_all : {A X Y : Type 0} (R : X → Y → Type 0) (f : A → X) (xs : List A) (i : ℕ) (ys : List Y) → length xs ≤ i → AllZip R (map f (take i xs)) ys → AllZip R (map f xs) ys
 paired_all R f xs i ys le all = subst (λ l. AllZip R (map f l) ys) (take_all i xs le) all
+
+-- items in one place are related
+pub paired_read : {A B X Y : Type 0} (R : X → Y → Type 0) (f : A → X) (g : B → Y) (xs : List A) (ys : List B) (i : ℕ) (x : A) (y : B) → AllZip R (map f xs) (map g ys) → i < length xs → x ≡ get_or xs i x → y ≡ get_or ys i y → R (f x) (g y)
+paired_read R f g [] ys i x y all lt x-is y-is = absurd (omega arith)
+paired_read R f g (w ∷ ws) [] i x y all lt x-is y-is = absurd all
+paired_read R f g (w ∷ ws) (v ∷ vs) zero x y all lt x-is y-is = subst (λ a. R (f a) (g y)) (sym x-is) (subst (λ b. R (f w) (g b)) (sym y-is) all.0)
+paired_read R f g (w ∷ ws) (v ∷ vs) (suc i) x y all lt x-is y-is = paired_read R f g ws vs i x y all.1 (omega arith) x-is y-is
 
 -- views that agree on related items
 pub paired_map : {X Y Z : Type 0} (R : X → Y → Type 0) (f : X → Z) (g : Y → Z) → ((x : X) (y : Y) → R x y → g y ≡ f x) → (xs : List X) (ys : List Y) → AllZip R xs ys → map g ys ≡ map f xs

@@ -3,7 +3,7 @@ ghost use Rattle.std.specs.List.{AllZip};
 ghost use Rattle.std.specs.String.{string_bytes};
 ghost use Rattle.ioa_value.specs.Table.{Table, AreTypes};
 ghost use Rattle.ioa_compose.specs.Fine.{IsFine, AllFine, AreOver, component_limits};
-ghost use Rattle.ioa_compose.specs.Held.{composed_of, member_of};
+ghost use Rattle.ioa_compose.specs.Held.{composed_of, member_of, HoldsPositions, AllHoldPositions};
 ghost use Rattle.ioa_compile.specs.Means.{Means};
 ghost use Rattle.ioa_compile.specs.Shown.{member_code};
 ghost use Rattle.ioa_compile.specs.Translated.{DoesSame};
@@ -31,6 +31,7 @@ pub fn compile(alloc: Global, composition: &Composition) -> Result<Program, OutO
 /// The components, compiled, in order.
 fn compile_members(alloc: Global, members: &[MemberTree]) -> Result<Vec<Member>, OutOfMemory>
     requires fine { AllFine component_limits (map member_of members.now) }
+    requires positions { AllHoldPositions members.now }
     requires table { (types : Table) × AreTypes types × AreOver types (map member_of members.now) }
     ensures { IfOk result (λ codes. AllZip DoesSame (map member_of members.now) (map member_code codes.items)) }
 {
@@ -44,6 +45,7 @@ fn compile_members(alloc: Global, members: &[MemberTree]) -> Result<Vec<Member>,
 /// A component, compiled.
 fn compile_member(alloc: Global, member: &MemberTree) -> Result<Member, OutOfMemory>
     requires fine { IsFine component_limits (member_of member.now) }
+    requires positions { HoldsPositions member.now }
     requires table { AreTypes member.now.types }
     ensures { IfOk result (λ c. DoesSame (member_of member.now) (member_code c)) }
 {

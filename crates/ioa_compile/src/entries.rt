@@ -2,14 +2,16 @@ ghost use Rattle.std.specs.Prelude.{◌≡◌, ◌∷◌, [], map, Some, None, I
 ghost use Rattle.std.specs.List.{AllZip};
 ghost use Rattle.std.specs.Option.{option_map};
 ghost use Rattle.ioa_value.specs.Plain.{plain, number};
+ghost use Rattle.ioa_value.specs.Positions.{domain_of};
 ghost use Rattle.ioa_value.specs.Table.{AreTypes};
 ghost use Rattle.ioa_value.specs.Typing.{OwnTypes};
 ghost use Rattle.ioa_code.specs.Valid.{Valid};
 ghost use Rattle.ioa_code.specs.Parts.{part, IsVerified};
 ghost use Rattle.ioa_tree.specs.View.{entry_of, transition_of, automaton_of};
+ghost use Rattle.ioa_tree.specs.Domains.{AreDomainsOf};
 ghost use Rattle.ioa_tree.specs.Instances.{transition_for};
 ghost use Rattle.ioa_tree.specs.WellFormed.{variable_fields};
-ghost use Rattle.ioa_compose.specs.Held.{member_of};
+ghost use Rattle.ioa_compose.specs.Held.{member_of, HoldsPositions};
 ghost use Rattle.ioa_compose.specs.Fine.{IsFine, component_limits};
 ghost use Rattle.ioa_compile.specs.Shown.{entry_code};
 ghost use Rattle.ioa_compile.specs.Matching.{AreTypesOf};
@@ -20,9 +22,9 @@ use crate::table::Entry;
 use crate::transition::transition_code;
 use crate::types::{parameter_types, position_types};
 use ioa_code::{Code, CodeErr, Env, PartKind, Verified, verify};
-use ioa_compose::{Member, positions};
+use ioa_compose::Member;
 use ioa_tree::{Automaton, Entry as EntryTree, Transition};
-use ioa_value::{OutOfMemory, Ty, Types};
+use ioa_value::{OutOfMemory, Position, Ty, Types};
 use std::alloc::Global;
 
 /// The entries of a component's table, over variables of these types.
@@ -33,41 +35,45 @@ pub(crate) fn compile_entries(
 ) -> Result<Vec<Entry>, OutOfMemory>
     requires table { AreTypes member.now.types }
     requires fine { IsFine component_limits (member_of member.now) }
+    requires positions { HoldsPositions member.now }
     requires slots { AreTypesOf member.now.types (variable_fields (automaton_of member.now.automaton)) (map number slots.now) }
     ensures { IfOk result (λ entries. AllZip (IsTranslated (member_of member.now) (map number slots.now)) (automaton_of member.now.automaton).entries (map entry_code entries.items)) }
 {
     let mut entries = Vec::new(alloc);
-    for entry in &member.automaton.entries {
-        entries.push(compile_entry(alloc, member, slots, entry)?)?;
+    for k in 0..member.automaton.entries.len() {
+        let entry = &member.automaton.entries[k];
+        let positions = &member.positions[k];
+        entries.push(compile_entry(alloc, member, slots, entry, positions)?)?;
     }
     Ok(entries)
 }
 
-/// An entry of a component's table: its positions, and the code of its transition.
+/// An entry of a component's table: its positions, which the component holds, and the code of its transition.
 fn compile_entry(
     alloc: Global,
     member: &Member,
     slots: &[Ty],
     entry: &EntryTree,
+    positions: &[Position],
 ) -> Result<Entry, OutOfMemory>
     requires table { AreTypes member.now.types }
     requires fine { IsFine component_limits (member_of member.now) }
     requires slots { AreTypesOf member.now.types (variable_fields (automaton_of member.now.automaton)) (map number slots.now) }
     requires own { IsEntryOf (member_of member.now) (entry_of entry.now) }
+    requires positions { AreDomainsOf (member_of member.now).instance (entry_of entry.now).positions (map domain_of positions.now) }
     ensures { IfOk result (λ e. IsTranslated (member_of member.now) (map number slots.now) (entry_of entry.now) (entry_code e)) }
 {
     let transition = transition_of(&member.automaton, entry);
     let types = &member.types;
-    let positions = positions(alloc, types, &member.automaton, &member.arguments, entry)?;
-    let arguments = position_types(alloc, &positions)?;
-    let parameters = parameter_types(alloc, &positions)?;
+    let arguments = position_types(alloc, positions)?;
+    let parameters = parameter_types(alloc, positions)?;
     let scope = Scope::of(member, entry);
     let held = Scope::of_proposals(member);
     let code = transition_code(alloc, &scope, &held, entry, transition)?;
     Ok(Entry {
         kind: entry.kind,
         name: entry.name.text.clone()?,
-        positions,
+        positions: copied(alloc, positions)?,
         pre: local_part(
             alloc,
             types,
@@ -96,6 +102,17 @@ fn compile_entry(
             &[],
         )?,
     })
+}
+
+/// Positions that equal these.
+fn copied(alloc: Global, positions: &[Position]) -> Result<Vec<Position>, OutOfMemory>
+    ensures { IfOk result (λ copies. map domain_of copies.items ≡ map domain_of positions.now) }
+{
+    let mut copies = Vec::with_capacity(alloc, positions.len())?;
+    for position in positions {
+        copies.push(position.try_copy(alloc)?)?;
+    }
+    Ok(copies)
 }
 
 /// The transition of an entry.

@@ -33,6 +33,7 @@ use Rattle.ioa_compose.specs.Stands.{member_for, composed_for, signalled, Stands
 use Rattle.ioa_compose.proofs.CompatibleLemmas.{compatible-from}
 use Rattle.ioa_compose.proofs.FineLemmas.{AllBind, all-bound}
 use Rattle.ioa_compose.proofs.HostLemmas.{same_names, same_outputs, typed_for, hosts_may, conditions_spelled, hosts_fine, hosts_over, hosts_types, hosts_called, hosts_named, hosts_stand}
+use Rattle.ioa_compose.proofs.PositionLemmas.{host_of_started}
 use Rattle.ioa_compose.proofs.InvariantLemmas.{invariants-few, hosts-typed}
 use Rattle.ioa_compose.proofs.RefusalLemmas.{unbound-refused, clash-refused, hiding-refused, start-refused}
 use Rattle.ioa_compose.proofs.QuestionLemmas.{all_found}
@@ -121,19 +122,7 @@ hosts-from s types (i ∷ is) (b ∷ bs) (m ∷ ms) e z u =
     let p = host_in types b u.0.0 in
     record {
       hosts = p ∷ rest.hosts;
-      are = (
-        record {
-          name = z.0.name;
-          types = e;
-          automaton = z.0.automaton;
-          arguments = z.0.arguments;
-          fit = z.0.fit;
-          starts = u.0.1;
-          crash = z.0.crash;
-          fine = z.0.fine;
-        },
-        rest.are,
-      );
+      are = (host_of_started s types i b (member_of m) e z.0 u.0, rest.are);
       members = ap (λ (n : Member). n ∷ map member_for rest.hosts) (sym u.0.2) ∙ ap (λ (ns : List Member). member_of m ∷ ns) rest.members;
       instances = ap (λ (ns : List Instance). plain_in types b ∷ ns) rest.instances;
       signals = ap (λ (ns : List Instance). instance_in types b ∷ ns) rest.signals;

@@ -1,23 +1,25 @@
 -- What the bindings of a well formed source keep.
-use Rattle.std.proofs.Common.{◌≡◌, ℕ, true, List, [], ◌∷◌, map, take, sym, ap, subst, ◌∙◌}
-use Rattle.std.specs.List.{AllZip}
+use Rattle.std.proofs.Common.{◌≡◌, ℕ, true, List, [], ◌∷◌, map, take, Option, Some, sym, ap, subst, ◌∙◌}
+use Rattle.std.specs.List.{AllZip, list_all}
 use Rattle.std.proofs.lemmas.List.{take-map}
 use Rattle.std.proofs.lemmas.List.Elements.{All-nil, All-cons}
 use Rattle.ioa_value.specs.Actions.{Name}
 use Rattle.ioa_value.specs.Table.{Table}
 use Rattle.ioa_tree.specs.declared.tree.Instance.{Instance as TreeInstance}
-use Rattle.ioa_tree.specs.Tree.{AutomatonTree, SourceTree}
+use Rattle.ioa_tree.specs.Tree.{AutomatonTree, CrashTree, SourceTree}
 use Rattle.ioa_tree.specs.View.{instance_of, automaton_of}
 use Rattle.ioa_tree.specs.Types.{types_of}
+use Rattle.ioa_tree.specs.Compositions.{automaton_named}
 use Rattle.ioa_tree.specs.Hosts.{crash_fine}
 use Rattle.ioa_tree.specs.Instances.{Fit}
-use Rattle.ioa_tree.specs.WellFormed.{automaton_fine, global_names, well_formed}
+use Rattle.ioa_tree.specs.WellFormed.{position_fine, formals, automaton_fine, global_names, well_formed}
 use Rattle.ioa_tree.proofs.FineParts.{fine_parts}
 use Rattle.ioa_compose.specs.declared.binding.Binding.{Binding}
-use Rattle.ioa_compose.specs.Bindings.{crash_in, plain_in, instance_in, Binds, AreBound, StartsWell, AllStartable, AllSound, AllApart, IsOwn, AllOwn}
+use Rattle.ioa_compose.specs.Bindings.{crash_in, plain_in, instance_in, Binds, AreBound, StartsWell, AllStartable, AllSound, AllApart, IsOwn, AllOwn, HasPositions, AllPositioned}
 use Rattle.ioa_compose.specs.Refusals.{AllBound}
-use Rattle.ioa_compose.specs.Rewriting.{with_signals}
+use Rattle.ioa_compose.specs.Rewriting.{with_signals, own_automaton}
 use Rattle.ioa_compose.proofs.SourceLemmas.{named_fine}
+use Rattle.ioa_compose.proofs.WithSignals.{positions_fine, own_positions}
 
 -- bindings to instances in order
 abbrev pub AllBind : SourceTree → List TreeInstance → List Binding → Type 0
@@ -31,6 +33,14 @@ module _ (s : SourceTree) (types : Table) (h : well_formed s ≡ true) (same : t
   bound-fine i b k =
       subst (λ t. automaton_fine t t (global_names s) (automaton_of b.automaton.now) ≡ true) (sym same)
       (named_fine s (instance_of i).automaton (automaton_of b.automaton.now) h k.automaton)
+
+  -- the positions of its own entries are fine
+  pub own-fine : (x : Name) (a own : AutomatonTree) (crash : Option CrashTree) → automaton_named s x ≡ Some a → own ≡ own_automaton crash a
+      → list_all (λ e. list_all (position_fine types (formals types types [] a)) e.positions) own.entries ≡ true
+  own-fine x a own crash named made =
+      let fine = subst (λ t. automaton_fine t t (global_names s) a ≡ true) (sym same) (named_fine s x a h named) in
+      ap (λ (t : AutomatonTree). list_all (λ e. list_all (position_fine types (formals types types [] a)) e.positions) t.entries) made
+      ∙ own_positions types crash a (positions_fine types (global_names s) a fine)
 
   pub all-sound : (is : List TreeInstance) (bs : List Binding) → AllBind s is bs → AllSound (map (plain_in types) bs)
   all-sound [] [] k = tt
@@ -59,6 +69,14 @@ all-apart s (i ∷ is) [] k = absurd k
 all-apart s (i ∷ is) (b ∷ bs) k =
     All-cons (λ (c : Binding). crash_fine (crash_in c) (automaton_of c.automaton.now) ≡ true) b bs
     (ap (λ o. crash_fine o (automaton_of b.automaton.now)) k.0.crash ∙ k.0.fine) (all-apart s is bs k.1)
+
+-- their positions are those of their entries
+pub all-positioned : (s : SourceTree) (types : Table) (is : List TreeInstance) (bs : List Binding) → types ≡ types_of s → AllBind s is bs → AllPositioned types bs
+all-positioned s types [] [] e k = All-nil (HasPositions types)
+all-positioned s types [] (b ∷ bs) e k = absurd k
+all-positioned s types (i ∷ is) [] e k = absurd k
+all-positioned s types (i ∷ is) (b ∷ bs) e k =
+    All-cons (HasPositions types) b bs (subst (λ t. HasPositions t b) (sym e) k.0.positions) (all-positioned s types is bs e k.1)
 
 -- their own automata are made of those that are declared
 pub all-own : (s : SourceTree) (is : List TreeInstance) (bs : List Binding) → AllBind s is bs → AllOwn bs

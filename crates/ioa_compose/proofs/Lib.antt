@@ -36,3 +36,4 @@ pub mod WithSignals
 pub mod FirstVariables
 pub mod SignalLemmas
 pub mod HostLemmas
+pub mod PositionLemmas

@@ -28,7 +28,7 @@ use Rattle.ioa_compose.specs.Crashes.{MayCrash}
 use Rattle.ioa_compose.proofs.SpelledNames.{not_both, other_way, found_among}
 use Rattle.ioa_compose.proofs.RewrittenNames.{names, formals_same}
 
-all_flat_at : (p : PositionTree) (ps : List PositionTree) → list_all spelled (flat_map names_of_position (p ∷ ps)) ≡ true
+pub all_flat_at : (p : PositionTree) (ps : List PositionTree) → list_all spelled (flat_map names_of_position (p ∷ ps)) ≡ true
     → (list_all spelled (names_of_position p) ≡ true) × (list_all spelled (flat_map names_of_position ps) ≡ true)
 all_flat_at p ps h = all_both spelled (names_of_position p) (flat_map names_of_position ps) h
 
@@ -196,7 +196,7 @@ module _ (n : CrashTree) (i : Instance) (starts : List Val) (h : MayCrash n i st
 
   -- ---- entries
 
-  constant_same : (c : ConstantTree) → list_all spelled (names_of_constant c) ≡ true → constant_value (crashing n i starts) c ≡ constant_value i c
+  pub constant_same : (c : ConstantTree) → list_all spelled (names_of_constant c) ≡ true → constant_value (crashing n i starts) c ≡ constant_value i c
   constant_same (positive k) s = refl
   constant_same (negative k) s = refl
   constant_same (truth_literal b) s = refl

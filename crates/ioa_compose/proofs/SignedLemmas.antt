@@ -7,10 +7,10 @@ use Rattle.std.proofs.lemmas.Bool.{and_parts}
 use Rattle.std.proofs.lemmas.List.Elements.{All-nil, All-cons, All-head, All-tail}
 use Rattle.ioa_value.specs.Actions.{Name, Act}
 use Rattle.ioa_value.specs.Plain.{plain}
-use Rattle.ioa_value.specs.Positions.{all_take, IsDomain}
+use Rattle.ioa_value.specs.Positions.{Domain, all_take, IsDomain}
 use Rattle.ioa_value.specs.Table.{Table, AreTypes}
 use Rattle.ioa_value.proofs.ItemLemmas.{get_map, image_at}
-use Rattle.ioa_tree.specs.Tree.{EntryTree}
+use Rattle.ioa_tree.specs.Tree.{EntryTree, AutomatonTree}
 use Rattle.ioa_tree.specs.Components.{Compatible}
 use Rattle.ioa_tree.specs.Instances.{Instance, Fit, entry_has, component_of}
 use Rattle.ioa_tree.specs.View.{automaton_of}
@@ -21,14 +21,13 @@ use Rattle.ioa_tree.proofs.FineParts.{fine_parts}
 use Rattle.ioa_compose.specs.declared.binding.Binding.{Binding}
 use Rattle.ioa_compose.specs.declared.clashes.Clash.{Clash}
 use Rattle.ioa_compose.specs.declared.clashes.SignedEntry as lent
-use Rattle.ioa_compose.specs.declared.signatures.BoundEntry.{BoundEntry}
-use Rattle.ioa_compose.specs.Bindings.{crash_in, plain_in, instance_in, IsStartable, AllSound, AllStartable, AllApart}
+use Rattle.ioa_compose.specs.Bindings.{crash_in, plain_in, instance_in, IsStartable, AllSound, AllStartable, AllApart, IsOwn, AllOwn, HasPositions, AllPositioned}
 use Rattle.ioa_compose.specs.Clashes.{AreClashing, SignedEntry, signature_of, signed_has, signed_component, signed_components, IsSignature, IsFirstClash}
-use Rattle.ioa_compose.specs.Signatures.{IsSigned, IsSignatureOf, bound_entries}
+use Rattle.ioa_compose.specs.Signatures.{domains_in, ArePositionsOf, IsSigned, IsSignatureOf, signed_entries, signature_in}
 use Rattle.ioa_compose.specs.Refusals.{NoneClash, IsFirstEntry, ClashesIn, clashing}
 use Rattle.ioa_compose.proofs.ClashLemmas.{place-once}
 use Rattle.ioa_compose.proofs.CompatibleLemmas.{HaveSameKinds, compatible-like, first-like, clashing-like, none-from, between}
-use Rattle.ioa_compose.proofs.WithSignals.{positions_fine, PositionsFine, more_formals, more_names, more_positions}
+use Rattle.ioa_compose.proofs.WithSignals.{positions_fine, PositionsFine, more_formals, more_names, more_positions, all_signed, own_entries}
 use Rattle.ioa_compose.proofs.SignatureLemmas.{zip-at, zip-to, same-item}
 
 -- an instance over these types: entries of different names, with fine positions, and arguments of the formals' types
@@ -42,10 +41,34 @@ record IsKnown (types : Table) (m : Instance) : Type 0 where
 abbrev fine-in : Instance → EntryTree → Bool
 fine-in m e = list_all (position_fine m.types (formals m.types m.types [] m.automaton)) e.positions
 
+-- entries with their positions are told so
+signed-each : (i : Instance) (es : List EntryTree) (dss : List (List Domain)) → ArePositionsOf i es dss → AllZip (IsSigned i) es (signed_entries es dss)
+signed-each i [] [] h = tt
+signed-each i [] (ds ∷ dss) h = absurd h
+signed-each i (e ∷ es) [] h = absurd h
+signed-each i (e ∷ es) (ds ∷ dss) h = (record { kind = refl; name = refl; domains = h.0 }, signed-each i es dss h.1)
+
+-- so are those of a component's own automaton
+signed-own : (types : Table) (b : Binding) → IsOwn b → HasPositions types b → IsSignatureOf (instance_in types b) (signature_in b)
+signed-own types b own h =
+    let a = automaton_of b.automaton.now in
+    let es = (automaton_of b.own).entries in
+    let dss = map domains_in b.positions.items in
+    subst (λ us. AllZip (IsSigned (instance_in types b)) us (signature_in b)) (ap (λ (t : AutomatonTree). t.entries) own ∙ own_entries (crash_in b) a)
+    (signed-each (instance_in types b) es dss (all_signed types (crash_in b) a (map plain b.arguments.items) es dss h))
+
+all-signed : (types : Table) (bs : List Binding) → AllOwn bs → AllPositioned types bs → AllZip IsSignatureOf (map (instance_in types) bs) (map signature_in bs)
+all-signed types [] own h = tt
+all-signed types (b ∷ bs) own h = (
+  signed-own types b (All-head IsOwn b bs own) (All-head (HasPositions types) b bs h),
+  all-signed types bs (All-tail IsOwn b bs own) (All-tail (HasPositions types) b bs h),
+)
+
 -- what is lent is what is held
-pub signed-lent : (is : List Instance) (bound read : List (Vec BoundEntry Global)) (vs us : List (Vec lent.SignedEntry Global)) → us ≡ vs
-    → map signature_of vs ≡ map bound_entries read → read ≡ bound → AllZip IsSignatureOf is (map bound_entries bound) → AllZip IsSignatureOf is (map signature_of us)
-signed-lent is bound read vs us p q r z = subst (AllZip IsSignatureOf is) (sym (ap (map signature_of) p ∙ q ∙ ap (map bound_entries) r)) z
+pub signed-lent : (types : Table) (bs : List Binding) (vs us : List (Vec lent.SignedEntry Global)) → us ≡ vs → map signature_of vs ≡ map signature_in bs
+    → AllOwn bs → AllPositioned types bs → AllZip IsSignatureOf (map (instance_in types) bs) (map signature_of us)
+signed-lent types bs vs us p q own h =
+    subst (AllZip IsSignatureOf (map (instance_in types) bs)) (sym (ap (map signature_of) p ∙ q)) (all-signed types bs own h)
 
 module _ (types : Table) where
   signed-has : (m : Instance) (e : EntryTree) (s : SignedEntry) (act : Act) → m.types ≡ types → IsSigned m e s → entry_has m act e ≡ signed_has types act s

@@ -19,6 +19,7 @@ use Rattle.ioa_tree.proofs.Early.{each_implies}
 use Rattle.ioa_tree.proofs.FineParts.{fine_parts, entry_parts}
 use Rattle.ioa_compose.specs.Bindings.{instance_with}
 use Rattle.ioa_compose.specs.Rewriting.{signals, with_signals, own_automaton}
+use Rattle.ioa_compose.specs.Signatures.{ArePositionsOf}
 use Rattle.ioa_compose.proofs.SpelledNames.{or_false}
 use Rattle.ioa_compose.proofs.RewrittenEntries.{apart_of}
 use Rattle.ioa_compose.proofs.RewrittenFine.{signals_distinct}
@@ -84,10 +85,18 @@ module _ (types : Table) (n : CrashTree) (a : AutomatonTree) (vs : List Val) whe
   domains_more (p ∷ ps) (d ∷ ds) h = (domain_more p d h.0, domains_more ps ds h.1)
 
 -- positions mean the same
-pub domains_signed : (types : Table) (o : Option CrashTree) (a : AutomatonTree) (vs : List Val) (ps : List PositionTree) (ds : List Domain)
+domains_signed : (types : Table) (o : Option CrashTree) (a : AutomatonTree) (vs : List Val) (ps : List PositionTree) (ds : List Domain)
     → AreDomainsOf (instance_with types a vs) ps ds → AreDomainsOf (instance_with types (with_signals o a) vs) ps ds
 domains_signed types None a vs ps ds h = h
 domains_signed types (Some n) a vs ps ds h = domains_more types n a vs ps ds h
+
+-- so do those of each entry
+pub all_signed : (types : Table) (o : Option CrashTree) (a : AutomatonTree) (vs : List Val) (es : List EntryTree) (dss : List (List Domain))
+    → ArePositionsOf (instance_with types a vs) es dss → ArePositionsOf (instance_with types (with_signals o a) vs) es dss
+all_signed types o a vs [] [] h = tt
+all_signed types o a vs [] (ds ∷ dss) h = absurd h
+all_signed types o a vs (e ∷ es) [] h = absurd h
+all_signed types o a vs (e ∷ es) (ds ∷ dss) h = (domains_signed types o a vs e.positions ds h.0, all_signed types o a vs es dss h.1)
 
 -- ---- a component's own automaton
 

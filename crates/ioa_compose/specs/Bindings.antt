@@ -20,6 +20,7 @@ use Rattle.ioa_tree.specs.Instances.{Instance, Fit, settled, argument_values, st
 use Rattle.ioa_tree.specs.Compositions.{Member, automata, automaton_named}
 use Rattle.ioa_tree.specs.WellFormed.{Context, distinct, type_of, start_fine, is_type, variable_fields, automaton_fine}
 use Rattle.ioa_compose.specs.Rewriting.{with_signals, own_automaton}
+use Rattle.ioa_compose.specs.Signatures.{domains_in, ArePositionsOf}
 use Rattle.ioa_compose.specs.Stands.{member_for}
 use Rattle.ioa_compose.specs.declared.binding.Binding.{Binding}
 
@@ -68,6 +69,10 @@ IsOwn b = automaton_of b.own ≡ own_automaton (crash_in b) (automaton_of b.auto
 abbrev pub plain_in : Table → Binding → Instance
 plain_in types b = instance_with types (automaton_of b.automaton.now) (map plain b.arguments.items)
 
+-- its positions are those of its own automaton's entries
+abbrev pub HasPositions : Table → Binding → Type 0
+HasPositions types b = ArePositionsOf (plain_in types b) (automaton_of b.own).entries (map domains_in b.positions.items)
+
 -- the instance with inputs for crash and recover
 abbrev pub instance_in : Table → Binding → Instance
 instance_in types b = instance_with types (with_signals (crash_in b) (automaton_of b.automaton.now)) (map plain b.arguments.items)
@@ -86,7 +91,7 @@ pub record IsReady (s : SourceTree) (i : InstanceTree) : Type 0 where
   pub arguments : list_all (closed (types_of s)) i.arguments ≡ true
 
 -- the binding is of the tree: the automaton of this name, with arguments that fit its formals, with names of their own for crash and
--- recover, and its own automaton
+-- recover, its own automaton, and the positions of its entries
 pub record Binds (s : SourceTree) (i : InstanceTree) (b : Binding) : Type 0 where
   pub name : name_of b.name.now ≡ i.name
   pub automaton : automaton_named s i.automaton ≡ Some (automaton_of b.automaton.now)
@@ -95,6 +100,7 @@ pub record Binds (s : SourceTree) (i : InstanceTree) (b : Binding) : Type 0 wher
   pub crash : crash_in b ≡ i.crash
   pub fine : IsTrue (crash_fine i.crash (automaton_of b.automaton.now))
   pub own : IsOwn b
+  pub positions : HasPositions (types_of s) b
 
 -- the instance is that of the tree, with inputs for crash and recover
 pub record IsBound (s : SourceTree) (i : InstanceTree) (n : Instance) : Type 0 where
@@ -162,3 +168,7 @@ AllApart bs = All (λ b. IsTrue (crash_fine (crash_in b) (automaton_of b.automat
 -- the bindings' own automata are made of those that are declared
 abbrev pub AllOwn : List Binding → Type 0
 AllOwn bs = All IsOwn bs
+
+-- their positions are those of their entries
+abbrev pub AllPositioned : Table → List Binding → Type 0
+AllPositioned types bs = All (HasPositions types) bs

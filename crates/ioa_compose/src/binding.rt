@@ -10,18 +10,20 @@ ghost use Rattle.ioa_tree.specs.Hosts.{crash_fine};
 ghost use Rattle.ioa_tree.specs.Instances as instances;
 ghost use Rattle.ioa_tree.specs.Tree.{AutomatonTree};
 ghost use Rattle.ioa_tree.specs.Compositions as spec;
+ghost use Rattle.ioa_tree.specs.WellFormed.{WellFormed};
 ghost use Rattle.ioa_compose.specs.Bindings.{IsReady, AllReady, Binds, fit, closed, values_in};
 ghost use Rattle.ioa_compose.specs.Refusals.{IsUnbound, IsRefusedAt, reason_of};
 ghost use Rattle.ioa_compose.specs.Rewriting as rewriting;
 
 use crate::copies::copied_automaton;
+use crate::domains::all_positions;
 use crate::evaluate::evaluate_all;
 use crate::rewriting::rewritten;
 use crate::scope::Scope;
 use ioa_check::automaton_named;
 use ioa_syntax::Refusal;
 use ioa_tree::{Automaton, Crash, Declaration, Expression, Field, Instance, Name};
-use ioa_value::{Fault, OutOfMemory, Types, Value, has_type};
+use ioa_value::{Fault, OutOfMemory, Position, Types, Value, has_type};
 use std::alloc::Global;
 
 /// A component's automaton with the values of its formals, and the names by which it crashes and recovers.
@@ -32,6 +34,8 @@ pub(crate) struct Binding<'a> {
     pub(crate) automaton: &'a Automaton,
     /// The component's own one, which is made here and nowhere else: a copy, or the rewritten automaton of what crashes and recovers.
     pub(crate) own: Automaton,
+    /// The positions of its own automaton's entries, a list for each. Their constants are evaluated here and nowhere else.
+    pub(crate) positions: Vec<Vec<Position>>,
     pub(crate) arguments: Vec<Value>,
     pub(crate) crash: Option<&'a Crash>,
 }
@@ -45,6 +49,7 @@ pub(crate) fn bind_all<'a>(
 ) -> Result<Vec<Binding<'a>>, Refusal>
     requires types { types.now ≡ types_of (tree_of declarations.now) }
     requires table { AreTypes types.now }
+    requires well_formed { WellFormed (tree_of declarations.now) }
     requires ready { AllReady (tree_of declarations.now) (map instance_of instances.now) }
     ensures bound { IfOk result (λ bs. AllZip (λ i b. Binds (tree_of declarations.now) (instance_of i) b) instances.now bs.items) }
     ensures refused { IfErr result (λ r. IsUnbound (tree_of declarations.now) (map instance_of instances.now) (reason_of r)) }
@@ -65,6 +70,7 @@ fn bind<'a>(
 ) -> Result<Binding<'a>, Refusal>
     requires types { types.now ≡ types_of (tree_of declarations.now) }
     requires table { AreTypes types.now }
+    requires well_formed { WellFormed (tree_of declarations.now) }
     requires ready { IsReady (tree_of declarations.now) (instance_of instance.now) }
     ensures bound { IfOk result (λ b. Binds (tree_of declarations.now) (instance_of instance.now) b) }
     ensures refused { IfErr result (λ r. IsRefusedAt (tree_of declarations.now) index (instance_of instance.now) (reason_of r)) }
@@ -81,10 +87,12 @@ fn bind<'a>(
             }
             let crash = instance.crash.as_ref();
             let own = own_automaton(alloc, crash, automaton)?;
+            let positions = all_positions(alloc, types, automaton, &arguments, &own.entries)?;
             Ok(Binding {
                 name: &instance.name,
                 automaton,
                 own,
+                positions,
                 arguments,
                 crash,
             })

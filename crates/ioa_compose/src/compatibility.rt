@@ -2,13 +2,13 @@
 
 ghost use Rattle.std.specs.Prelude.{map, OnOk, IfErr};
 ghost use Rattle.ioa_value.specs.Table.{AreTypes};
-ghost use Rattle.ioa_compose.specs.Bindings.{plain_in, instance_in, AllSound, AllStartable, AllApart, AllOwn};
+ghost use Rattle.ioa_compose.specs.Bindings.{plain_in, instance_in, AllSound, AllStartable, AllApart, AllOwn, AllPositioned};
 ghost use Rattle.ioa_compose.specs.Refusals.{NoneClash, ClashesIn, reason_of};
 
 use crate::binding::Binding;
 use crate::clashes::{entry_at, first_clash};
 use crate::index::Place;
-use crate::signatures::{lent, signatures};
+use crate::signatures::signatures;
 use ioa_syntax::Refusal;
 use ioa_value::Types;
 use std::alloc::Global;
@@ -21,11 +21,11 @@ pub(crate) fn compatible(alloc: Global, types: &Types, bindings: &[Binding]) -> 
     requires startable { AllStartable (map (plain_in types.now) bindings.now) }
     requires apart { AllApart bindings.now }
     requires own { AllOwn bindings.now }
+    requires positions { AllPositioned types.now bindings.now }
     ensures ok { OnOk result (NoneClash (map (instance_in types.now) bindings.now)) }
     ensures refused { IfErr result (λ r. ClashesIn (map (instance_in types.now) bindings.now) (reason_of r)) }
 {
-    let held = signatures(alloc, types, bindings)?;
-    let signatures = lent(alloc, &held)?;
+    let signatures = signatures(alloc, bindings)?;
     match first_clash(alloc, types, &signatures)? {
         None => Ok(()),
         Some(clash) => {

@@ -17,7 +17,7 @@ ghost use Rattle.ioa_tree.specs.Compositions.{picked};
 ghost use Rattle.ioa_tree.specs.Hosts.{Hosted, IsHosted};
 ghost use Rattle.ioa_compose.specs.Stands.{Stands};
 ghost use Rattle.ioa_compose.specs.Fine.{IsSound};
-ghost use Rattle.ioa_compose.specs.Held.{composed_of};
+ghost use Rattle.ioa_compose.specs.Held.{composed_of, AllHoldPositions};
 ghost use Rattle.ioa_compose.specs.Questions.{OfThese, IsQuestion};
 
 use crate::binding::bind_all;
@@ -47,8 +47,7 @@ pub struct Composition {
 impl Model for Composition {
     ghost use Rattle.std.specs.Prelude.{map};
     ghost use Rattle.std.specs.String.{string_bytes};
-    ghost use Rattle.ioa_compose.specs.Held.{Held, held_code, composed_of};
-    ghost use Rattle.ioa_compose.specs.Fine.{IsSound};
+    ghost use Rattle.ioa_compose.specs.Held.{Held, held_code, IsKept};
 
     ghost Value = { Held };
 
@@ -56,7 +55,7 @@ impl Model for Composition {
 
     ghost view = { λ c. record { types = c.types; name = string_bytes c.name; members = c.members.items; hidden = map string_bytes c.hidden.items; invariants = c.invariants.items } };
 
-    ghost invariant = { λ c. IsSound (composed_of (record { types = c.types; name = string_bytes c.name; members = c.members.items; hidden = map string_bytes c.hidden.items; invariants = c.invariants.items })) };
+    ghost invariant = { λ c. IsKept (record { types = c.types; name = string_bytes c.name; members = c.members.items; hidden = map string_bytes c.hidden.items; invariants = c.invariants.items }) };
 }
 
 impl Composition {
@@ -72,6 +71,7 @@ impl Composition {
     pub fn members(&self) -> &[Member]
         ensures value { result.now ≡ self.now.members }
         ensures sound { IsSound (composed_of self.now) }
+        ensures positions { AllHoldPositions self.now.members }
     {
         self.members.as_slice()
     }

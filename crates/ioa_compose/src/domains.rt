@@ -11,6 +11,7 @@ ghost use Rattle.ioa_tree.specs.Instances as instances;
 ghost use Rattle.ioa_tree.specs.Instances.{Fit};
 ghost use Rattle.ioa_tree.specs.WellFormed.{constant_fine, position_fine, formals};
 ghost use Rattle.ioa_compose.specs.Bindings.{instance_with};
+ghost use Rattle.ioa_compose.specs.Signatures.{domains_in, ArePositionsOf};
 
 use crate::constants::constant;
 use crate::evaluate::number;
@@ -20,8 +21,28 @@ use ioa_tree::{Automaton, Constant, Entry, Name};
 use ioa_value::{OutOfMemory, Position, Ty, Types, Value};
 use std::alloc::Global;
 
+/// The positions of each of these entries of an automaton whose formals have these values, in order.
+pub(crate) fn all_positions(
+    alloc: Global,
+    types: &Types,
+    automaton: &Automaton,
+    arguments: &[Value],
+    entries: &[Entry],
+) -> Result<Vec<Vec<Position>>, OutOfMemory>
+    requires table { AreTypes types.now }
+    requires fit { Fit types.now (automaton_of automaton.now).formals (map plain arguments.now) }
+    requires fine { list_all (λ e. list_all (position_fine types.now (formals types.now types.now [] (automaton_of automaton.now))) e.positions) (map entry_of entries.now) ≡ true }
+    ensures { IfOk result (λ pss. ArePositionsOf (instance_with types.now (automaton_of automaton.now) (map plain arguments.now)) (map entry_of entries.now) (map domains_in pss.items)) }
+{
+    let mut all = Vec::with_capacity(alloc, entries.len())?;
+    for entry in entries {
+        all.push(positions(alloc, types, automaton, arguments, entry)?)?;
+    }
+    Ok(all)
+}
+
 /// The positions of an entry of an automaton whose formals have these values: each constant with its value.
-pub fn positions(
+fn positions(
     alloc: Global,
     types: &Types,
     automaton: &Automaton,

@@ -25,7 +25,6 @@ mod starts;
 pub use clashes::{Clash, SignedEntry, first_clash};
 pub use composition::{Composition, compose};
 pub use constants::{constant, empty};
-pub use domains::positions;
 pub use ioa_syntax::Refusal;
 pub use laws::{
     hosts_stand, rewriting_means_crash, rewriting_stands, rewriting_stays_fine, signals_decide,

@@ -1,5 +1,5 @@
 use ioa_tree::Automaton;
-use ioa_value::{Types, Value};
+use ioa_value::{Position, Types, Value};
 
 /// A component of a composition: the composition's types, an automaton with the values of its formals, and the start values
 /// of its variables. The first `declared` of these are the source's own. A component that crashes and recovers has another one
@@ -9,6 +9,8 @@ pub struct Member {
     pub name: String,
     pub types: Types,
     pub automaton: Automaton,
+    /// The positions of the automaton's entries, a list for each, with the values of their constants.
+    pub positions: Vec<Vec<Position>>,
     pub arguments: Vec<Value>,
     pub starts: Vec<Value>,
     pub declared: usize,

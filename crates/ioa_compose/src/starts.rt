@@ -11,7 +11,7 @@ ghost use Rattle.ioa_tree.specs.Instances as instances;
 ghost use Rattle.ioa_tree.specs.WellFormed.{start_fine, is_type};
 ghost use Rattle.ioa_compose.specs.Bindings.{value_in, values_in, plain_in, instance_in, host_in, IsStarted, IsOwn, IsStartable, AllStartable, AllOwn};
 ghost use Rattle.ioa_compose.specs.Refusals.{FaultsAt, FaultsIn, reason_of};
-ghost use Rattle.ioa_compose.specs.Held.{member_of};
+ghost use Rattle.ioa_compose.specs.Held.{member_of, KeepsPositions};
 ghost use Rattle.ioa_compose.specs.Rewriting as spec;
 ghost use Rattle.ioa_compose.specs.Rewriting.{added_arguments, volatile_values};
 ghost use Rattle.ioa_compose.specs.Stands.{member_for};
@@ -25,7 +25,7 @@ use ioa_tree::{Crash, Name, Variable};
 use ioa_value::{Fault, OutOfMemory, Types, Value, first};
 use std::alloc::Global;
 
-/// The components with the start values of their variables, in order. Each keeps its own automaton.
+/// The components with the start values of their variables, in order. Each keeps its own automaton, and the positions of its entries.
 pub(crate) fn start_all(
     alloc: Global,
     types: &Types,
@@ -35,6 +35,7 @@ pub(crate) fn start_all(
     requires startable { AllStartable (map (plain_in types.now) bindings.items) }
     requires own { AllOwn bindings.items }
     ensures started { IfOk result (λ ms. AllZip (λ b m. IsStarted types.now b (member_of m)) bindings.entry.items ms.items) }
+    ensures positions { IfOk result (λ ms. AllZip KeepsPositions bindings.entry.items ms.items) }
     ensures refused { IfErr result (λ r. FaultsIn (map (instance_in types.now) bindings.entry.items) (reason_of r)) }
 {
     let mut members = Vec::new(alloc);
@@ -55,6 +56,7 @@ fn start(
     requires startable { IsStartable (plain_in types.now binding) }
     requires own { IsOwn binding }
     ensures started { IfOk result (λ m. IsStarted types.now binding.entry (member_of m)) }
+    ensures positions { IfOk result (λ m. KeepsPositions binding.entry m) }
     ensures refused { IfErr result (λ r. FaultsAt index (instance_in types.now binding.entry) (reason_of r)) }
 {
     match start_values(alloc, types, &binding)? {
@@ -72,12 +74,14 @@ fn member(
 ) -> Result<Member, OutOfMemory>
     requires long { length starts.items ≡ length binding.automaton.now.variables.items }
     requires own { IsOwn binding }
-    ensures { IfOk result (λ m. member_of m ≡ member_for (host_in types.now binding.entry (map plain starts.items))) }
+    ensures value { IfOk result (λ m. member_of m ≡ member_for (host_in types.now binding.entry (map plain starts.items))) }
+    ensures positions { IfOk result (λ m. KeepsPositions binding.entry m) }
 {
     let Binding {
         name,
         automaton,
         own,
+        positions,
         arguments,
         crash,
     } = binding;
@@ -86,6 +90,7 @@ fn member(
         name: String::from_str(alloc, name.text.as_str())?,
         types: types.share()?,
         automaton: own,
+        positions,
         arguments,
         starts: own_starts(crash, starts)?,
         declared: automaton.variables.len(),

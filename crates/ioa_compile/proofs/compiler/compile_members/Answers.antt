@@ -1,5 +1,6 @@
-use Rattle.std.proofs.Common.{arith}
-use Rattle.ioa_compose.specs.Held.{member_of}
+use Rattle.std.proofs.Common.{arith, sym, subst}
+use Rattle.std.proofs.lemmas.List.Elements.{All-get_or}
+use Rattle.ioa_compose.specs.Held.{member_of, HoldsPositions}
 use Rattle.ioa_compose.proofs.MemberLemmas.{fine_at, declared_at}
 use Rattle.ioa_compile.specs.Shown.{member_code}
 use Rattle.ioa_compile.specs.Translated.{DoesSame}
@@ -14,6 +15,11 @@ pub compile_member-requires-clause-table : goal.compile_member-requires-clause-t
 compile_member-requires-clause-table c =
     let over = c.requires.table in
     declared_at over.0 c.args.members.now c.loop-member.member-index c.member-item.result over.1 over.2 (omega arith) c.member-item.is
+
+pub compile_member-requires-clause-positions : goal.compile_member-requires-clause-positions
+compile_member-requires-clause-positions c =
+    subst HoldsPositions (sym c.member-item.is)
+    (All-get_or HoldsPositions c.args.members.now c.loop-member.member-index c.member-item.result c.loop-member-test.true c.requires.positions)
 
 pub loop-member-preserved : goal.loop-member-preserved
 loop-member-preserved c =

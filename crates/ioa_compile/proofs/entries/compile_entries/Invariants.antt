@@ -7,6 +7,6 @@ use Rattle.ioa_compile.specs.Shown.{entry_code}
 use Rattle.ioa_compile.specs.Translated.{IsTranslated}
 use Rattle.ioa_compile.proofs.entries.compile_entries.Given as goal
 
-abbrev pub invariant-loop-entry : goal.invariant-loop-entry
-invariant-loop-entry l =
-    AllZip (IsTranslated (member_of l.member) (map number l.slots)) (map entry_of (take l.entry-index l.member.automaton.entries.items)) (map entry_code l.entries.items)
+abbrev pub invariant-loop-k : goal.invariant-loop-k
+invariant-loop-k l =
+    AllZip (IsTranslated (member_of l.member) (map number l.slots)) (map entry_of (take l.k l.member.automaton.entries.items)) (map entry_code l.entries.items)

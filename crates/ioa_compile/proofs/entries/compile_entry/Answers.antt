@@ -2,10 +2,9 @@ use Rattle.std.proofs.Common.{◌≡◌, false, arith, List, [], ◌∷◌, map,
 use Rattle.std.specs.Option.{option_map}
 use Rattle.ioa_value.specs.declared.positions.Position.{Position}
 use Rattle.ioa_value.specs.declared.value.Ty.{Ty}
-use Rattle.ioa_value.specs.declared.value.Value.{Value}
 use Rattle.ioa_code.specs.declared.instr.Code.{Code}
 use Rattle.ioa_code.specs.declared.instr.PartKind.TheVariants.{Pre, Propose, Eff}
-use Rattle.ioa_value.specs.Plain.{plain, number}
+use Rattle.ioa_value.specs.Plain.{number}
 use Rattle.ioa_value.specs.Positions.{domain_of}
 use Rattle.ioa_code.specs.Parts.{part, listing}
 use Rattle.ioa_code.specs.Valid.{Valid}
@@ -16,7 +15,6 @@ use Rattle.ioa_tree.specs.Tree.{EntryTree, TransitionTree}
 use Rattle.ioa_tree.specs.View.{entry_of, transition_of, automaton_of}
 use Rattle.ioa_tree.specs.WellFormed.{variable_fields, is_input}
 use Rattle.ioa_compose.specs.declared.member.Member as held
-use Rattle.ioa_compose.specs.Bindings.{instance_with}
 use Rattle.ioa_compose.specs.Fine.{IsFine, component_limits}
 use Rattle.ioa_compose.specs.Held.{member_of}
 use Rattle.ioa_compile.specs.Shown.{entry_code}
@@ -32,21 +30,12 @@ use Rattle.ioa_compile.proofs.Validity.{guard_valid, proposals_valid, effect_val
 use Rattle.ioa_compile.proofs.Assembled.{on_local, translated}
 use Rattle.ioa_compile.proofs.entries.compile_entry.Goals as goal
 
--- the domains that are found over the formals' values are those of the member's entry
-found : (m : held.Member) (entry : tree.Entry) (values : List Value) → values ≡ m.arguments.items → (ps : List Position)
-    → AreDomainsOf (instance_with m.types (automaton_of m.automaton) (map plain values)) (entry_of entry).positions (map domain_of ps)
-    → AreDomainsOf (member_of m).instance (entry_of entry).positions (map domain_of ps)
-found m entry values same ps h =
-    subst (λ l. AreDomainsOf (instance_with m.types (automaton_of m.automaton) (map plain l)) (entry_of entry).positions (map domain_of ps)) same h
-
--- what is known once they are found, and the types of what stands in them
+-- what is known of the entry and its positions, and the types of what stands in them
 settled : (m : held.Member) (entry : tree.Entry) (slots : List Ty) → IsFine component_limits (member_of m) → IsEntryOf (member_of m) (entry_of entry)
-    → AreTypesOf m.types (variable_fields (automaton_of m.automaton)) (map number slots) → (values : List Value) → values ≡ m.arguments.items → (ps : List Position)
-    → AreDomainsOf (instance_with m.types (automaton_of m.automaton) (map plain values)) (entry_of entry).positions (map domain_of ps)
-    → (seen : List Position) → seen ≡ ps → (args : List Ty) → map number args ≡ position_types (map domain_of seen) → Setting (member_of m) (entry_of entry) (map number slots) (map number args)
-settled m entry slots is_fine own variables values values_are ps h seen seen_are args types_are =
-    setting (member_of m) (entry_of entry) is_fine own (map number slots) (map number args) (map domain_of ps) variables (found m entry values values_are ps h)
-    (types_are ∙ ap (λ l. position_types (map domain_of l)) seen_are)
+    → AreTypesOf m.types (variable_fields (automaton_of m.automaton)) (map number slots) → (ps : List Position) → AreDomainsOf (member_of m).instance (entry_of entry).positions (map domain_of ps)
+    → (args : List Ty) → map number args ≡ position_types (map domain_of ps) → Setting (member_of m) (entry_of entry) (map number slots) (map number args)
+settled m entry slots is_fine own variables ps h args types_are =
+    setting (member_of m) (entry_of entry) is_fine own (map number slots) (map number args) (map domain_of ps) variables h types_are
 
 -- the code that is made over the transition's scopes
 made : (s h : Scope) (m : Member) (e : EntryTree) (t : TransitionTree) (guard proposals : Option Code) (effect : Code) → s ≡ scope_of m e → h ≡ scope_of_proposals m → IsTransition e s h t (option_map (listing s.types) guard) (option_map (listing s.types) proposals) (listing s.types effect)
@@ -59,22 +48,18 @@ pub transition_of-transition-requires : goal.transition_of-transition-requires
 transition_of-transition-requires c =
     is_some_of_found (member_of c.args.member.now) (entry_of c.args.entry.now) c.requires.fine c.requires.own
 
-pub positions-requires-clause-fine : goal.positions-requires-clause-fine
-positions-requires-clause-fine c =
-    (fine.entry_of (member_of c.args.member.now) (entry_of c.args.entry.now) c.requires.fine c.requires.own).positions
-
 pub transition_code-requires-clause-scope : goal.transition_code-requires-clause-scope
 transition_code-requires-clause-scope c =
-    let all = settled c.args.member.now c.args.entry.now c.args.slots.now c.requires.fine c.requires.own c.requires.slots c.deref.result.now c.deref.ensures.value
-    c.in_ok-positions.positions.items c.in_ok-positions.ensures c.deref-2.result.now c.deref-2.ensures.value c.in_ok-arguments.arguments.items c.in_ok-arguments.ensures in
+    let all = settled c.args.member.now c.args.entry.now c.args.slots.now c.requires.fine c.requires.own c.requires.slots
+    c.args.positions.now c.requires.positions c.in_ok-arguments.arguments.items c.in_ok-arguments.ensures in
     subst IsScope (sym c.of-scope.ensures) (is_scope (member_of c.args.member.now) (entry_of c.args.entry.now) _ _ all)
 
 pub transition_code-requires-clause-held : goal.transition_code-requires-clause-held
 transition_code-requires-clause-held c =
     let m = member_of c.args.member.now in
     let e = entry_of c.args.entry.now in
-    let all = settled c.args.member.now c.args.entry.now c.args.slots.now c.requires.fine c.requires.own c.requires.slots c.deref.result.now c.deref.ensures.value
-    c.in_ok-positions.positions.items c.in_ok-positions.ensures c.deref-2.result.now c.deref-2.ensures.value c.in_ok-arguments.arguments.items c.in_ok-arguments.ensures in
+    let all = settled c.args.member.now c.args.entry.now c.args.slots.now c.requires.fine c.requires.own c.requires.slots
+    c.args.positions.now c.requires.positions c.in_ok-arguments.arguments.items c.in_ok-arguments.ensures in
     subst IsScope (sym c.of_proposals-held.ensures) (is_scope m bare _ _ (bare_setting m e _ _ all))
 
 pub transition_code-requires-clause-types : goal.transition_code-requires-clause-types
@@ -84,8 +69,8 @@ pub transition_code-requires-clause-proposals : goal.transition_code-requires-cl
 transition_code-requires-clause-proposals c =
     let m = member_of c.args.member.now in
     let e = entry_of c.args.entry.now in
-    let all = settled c.args.member.now c.args.entry.now c.args.slots.now c.requires.fine c.requires.own c.requires.slots c.deref.result.now c.deref.ensures.value
-    c.in_ok-positions.positions.items c.in_ok-positions.ensures c.deref-2.result.now c.deref-2.ensures.value c.in_ok-arguments.arguments.items c.in_ok-arguments.ensures in
+    let all = settled c.args.member.now c.args.entry.now c.args.slots.now c.requires.fine c.requires.own c.requires.slots
+    c.args.positions.now c.requires.positions c.in_ok-arguments.arguments.items c.in_ok-arguments.ensures in
     let t = transition_of c.transition_of-transition.result.now in
     let known = known_proposals m e _ _ all t (fine_of m e c.requires.fine c.requires.own t c.transition_of-transition.ensures) in
     subst (λ s. AreKnownProposals s t.proposals e.positions) (sym c.of_proposals-held.ensures) known
@@ -106,8 +91,8 @@ pub transition_code-requires-clause-guard : goal.transition_code-requires-clause
 transition_code-requires-clause-guard c =
     let m = member_of c.args.member.now in
     let e = entry_of c.args.entry.now in
-    let all = settled c.args.member.now c.args.entry.now c.args.slots.now c.requires.fine c.requires.own c.requires.slots c.deref.result.now c.deref.ensures.value
-    c.in_ok-positions.positions.items c.in_ok-positions.ensures c.deref-2.result.now c.deref-2.ensures.value c.in_ok-arguments.arguments.items c.in_ok-arguments.ensures in
+    let all = settled c.args.member.now c.args.entry.now c.args.slots.now c.requires.fine c.requires.own c.requires.slots
+    c.args.positions.now c.requires.positions c.in_ok-arguments.arguments.items c.in_ok-arguments.ensures in
     let t = transition_of c.transition_of-transition.result.now in
     let is_fine = fine_of m e c.requires.fine c.requires.own t c.transition_of-transition.ensures in
     let known = known_guard m e _ _ all t.pre (guard_typed m.instance.types all.globals m.instance.automaton e t is_fine) in
@@ -117,8 +102,8 @@ pub transition_code-requires-clause-effect : goal.transition_code-requires-claus
 transition_code-requires-clause-effect c =
     let m = member_of c.args.member.now in
     let e = entry_of c.args.entry.now in
-    let all = settled c.args.member.now c.args.entry.now c.args.slots.now c.requires.fine c.requires.own c.requires.slots c.deref.result.now c.deref.ensures.value
-    c.in_ok-positions.positions.items c.in_ok-positions.ensures c.deref-2.result.now c.deref-2.ensures.value c.in_ok-arguments.arguments.items c.in_ok-arguments.ensures in
+    let all = settled c.args.member.now c.args.entry.now c.args.slots.now c.requires.fine c.requires.own c.requires.slots
+    c.args.positions.now c.requires.positions c.in_ok-arguments.arguments.items c.in_ok-arguments.ensures in
     let t = transition_of c.transition_of-transition.result.now in
     let is_fine = fine_of m e c.requires.fine c.requires.own t c.transition_of-transition.ensures in
     let known = known_stmts m e _ _ all t.effect (effect_typed m.instance.types all.globals m.instance.automaton e t is_fine) in
@@ -137,8 +122,8 @@ local_part-requires-clause-valid c =
     let m = member_of c.args.member.now in
     let e = entry_of c.args.entry.now in
     let args = c.in_ok-arguments.arguments.items in
-    let all = settled c.args.member.now c.args.entry.now c.args.slots.now c.requires.fine c.requires.own c.requires.slots c.deref.result.now c.deref.ensures.value
-    c.in_ok-positions.positions.items c.in_ok-positions.ensures c.deref-2.result.now c.deref-2.ensures.value args c.in_ok-arguments.ensures in
+    let all = settled c.args.member.now c.args.entry.now c.args.slots.now c.requires.fine c.requires.own c.requires.slots
+    c.args.positions.now c.requires.positions args c.in_ok-arguments.ensures in
     let declared = m.instance.types in
     let t = transition_of c.transition_of-transition.result.now in
     let is_fine = fine_of m e c.requires.fine c.requires.own t c.transition_of-transition.ensures in
@@ -146,38 +131,37 @@ local_part-requires-clause-valid c =
     let bools : List Ty = record { 0 = 0 } ∷ [] in
     let code = made c.of-scope.result c.of_proposals-held.result m e t c.in_ok-code.code.guard c.in_ok-code.code.proposals c.in_ok-code.code.effect c.of-scope.ensures c.of_proposals-held.ensures c.in_ok-code.ensures in
     let result = on_local declared (λ code. Valid (part declared code Pre c.args.slots.now args bools)) (λ code. IsGuard code (scope_of m e) t.pre) e.kind c.in_ok-code.code.guard code.pre (λ code local h. guard_valid m e _ _ all (listing declared code) refl t.pre typed h) in
-    subst (λ l. IfSome c.in_ok-code.code.guard (λ code. Valid (part declared code Pre c.args.slots.now l bools))) (sym c.deref-4.ensures.value) result
+    subst (λ l. IfSome c.in_ok-code.code.guard (λ code. Valid (part declared code Pre c.args.slots.now l bools))) (sym c.deref.ensures.value) result
 
 pub local_part-requires-2-clause-valid : goal.local_part-requires-2-clause-valid
 local_part-requires-2-clause-valid c =
     let m = member_of c.args.member.now in
     let e = entry_of c.args.entry.now in
-    let ps = c.in_ok-positions.positions.items in
-    let all = settled c.args.member.now c.args.entry.now c.args.slots.now c.requires.fine c.requires.own c.requires.slots c.deref.result.now c.deref.ensures.value
-    c.in_ok-positions.positions.items c.in_ok-positions.ensures c.deref-2.result.now c.deref-2.ensures.value c.in_ok-arguments.arguments.items c.in_ok-arguments.ensures in
+    let ps = c.args.positions.now in
+    let all = settled c.args.member.now c.args.entry.now c.args.slots.now c.requires.fine c.requires.own c.requires.slots
+    c.args.positions.now c.requires.positions c.in_ok-arguments.arguments.items c.in_ok-arguments.ensures in
     let declared = m.instance.types in
     let t = transition_of c.transition_of-transition.result.now in
     let is_fine = fine_of m e c.requires.fine c.requires.own t c.transition_of-transition.ensures in
     let none : List Ty = [] in
     let parameters = c.in_ok-parameters.parameters.items in
     let ds = map domain_of ps in
-    let domains = found c.args.member.now c.args.entry.now c.deref.result.now c.deref.ensures.value ps c.in_ok-positions.ensures in
-    let types_are : map number parameters ≡ parameter_types ds = c.in_ok-parameters.ensures ∙ ap (λ l. parameter_types (map domain_of l)) c.deref-3.ensures.value in
+    let types_are : map number parameters ≡ parameter_types ds = c.in_ok-parameters.ensures in
     let code = made c.of-scope.result c.of_proposals-held.result m e t c.in_ok-code.code.guard c.in_ok-code.code.proposals c.in_ok-code.code.effect c.of-scope.ensures c.of_proposals-held.ensures c.in_ok-code.ensures in
     let result = on_local declared (λ code. Valid (part declared code Propose c.args.slots.now none parameters)) (λ code. IsProposing code (scope_of_proposals m) t.proposals e.positions) e.kind c.in_ok-code.code.proposals code.propose
     (λ code local h.
     let its_kind : is_input t.kind ≡ false = ap is_input (sym (kind_of m e c.requires.fine c.requires.own t c.transition_of-transition.ensures)) ∙ local in
     subst (λ l. Valid (record { code = listing declared code; kind = Propose; slots = map number c.args.slots.now; args = []; result = l })) (sym types_are)
-    (proposals_valid m e _ _ all (listing declared code) refl t.proposals e.positions ds domains (proposals_typed declared all.globals m.instance.automaton e t all.entry its_kind is_fine) h)) in
-    subst (λ l. IfSome c.in_ok-code.code.proposals (λ code. Valid (part declared code Propose c.args.slots.now none l))) (sym c.deref-5.ensures.value) result
+    (proposals_valid m e _ _ all (listing declared code) refl t.proposals e.positions ds c.requires.positions (proposals_typed declared all.globals m.instance.automaton e t all.entry its_kind is_fine) h)) in
+    subst (λ l. IfSome c.in_ok-code.code.proposals (λ code. Valid (part declared code Propose c.args.slots.now none l))) (sym c.deref-2.ensures.value) result
 
 pub verified-requires-clause-valid : goal.verified-requires-clause-valid
 verified-requires-clause-valid c =
     let m = member_of c.args.member.now in
     let e = entry_of c.args.entry.now in
     let args = c.in_ok-arguments.arguments.items in
-    let all = settled c.args.member.now c.args.entry.now c.args.slots.now c.requires.fine c.requires.own c.requires.slots c.deref.result.now c.deref.ensures.value
-    c.in_ok-positions.positions.items c.in_ok-positions.ensures c.deref-2.result.now c.deref-2.ensures.value args c.in_ok-arguments.ensures in
+    let all = settled c.args.member.now c.args.entry.now c.args.slots.now c.requires.fine c.requires.own c.requires.slots
+    c.args.positions.now c.requires.positions args c.in_ok-arguments.ensures in
     let declared = m.instance.types in
     let t = transition_of c.transition_of-transition.result.now in
     let is_fine = fine_of m e c.requires.fine c.requires.own t c.transition_of-transition.ensures in
@@ -185,7 +169,7 @@ verified-requires-clause-valid c =
     let none : List Ty = [] in
     let code = made c.of-scope.result c.of_proposals-held.result m e t c.in_ok-code.code.guard c.in_ok-code.code.proposals c.in_ok-code.code.effect c.of-scope.ensures c.of_proposals-held.ensures c.in_ok-code.ensures in
     let result = effect_valid m e _ _ all (listing declared c.in_ok-code.code.effect) refl t.effect typed code.effect in
-    subst (λ l. Valid (part declared c.in_ok-code.code.effect Eff c.args.slots.now l none)) (sym c.deref-6.ensures.value) result
+    subst (λ l. Valid (part declared c.in_ok-code.code.effect Eff c.args.slots.now l none)) (sym c.deref-3.ensures.value) result
 
 pub returns : goal.returns
 returns c =
@@ -193,21 +177,22 @@ returns c =
     let e = entry_of c.args.entry.now in
     let slots = c.args.slots.now in
     let args = c.in_ok-arguments.arguments.items in
-    let ps = c.in_ok-positions.positions.items in
-    let domains = found c.args.member.now c.args.entry.now c.deref.result.now c.deref.ensures.value ps c.in_ok-positions.ensures in
-    let types_are = c.in_ok-arguments.ensures ∙ ap (λ l. position_types (map domain_of l)) c.deref-2.ensures.value in
+    let ps = c.in_ok-copied.field-0.items in
+    let same : map domain_of c.args.positions.now ≡ map domain_of ps = sym c.in_ok-copied.ensures in
+    let domains = subst (AreDomainsOf m.instance e.positions) same c.requires.positions in
+    let types_are = c.in_ok-arguments.ensures ∙ ap position_types same in
     let bools : List Ty = record { 0 = 0 } ∷ [] in
     let none : List Ty = [] in
     let declared = m.instance.types in
     let t = transition_of c.transition_of-transition.result.now in
-    let new = entry_code record { kind = c.args.entry.now.kind; name = c.in_ok-clone.field-0; positions = c.in_ok-positions.positions; pre = c.in_ok-local_part.field-0; propose = c.in_ok-local_part-2.field-0; effect = c.in_ok-verified.field-0 } in
+    let new = entry_code record { kind = c.args.entry.now.kind; name = c.in_ok-clone.field-0; positions = c.in_ok-copied.field-0; pre = c.in_ok-local_part.field-0; propose = c.in_ok-local_part-2.field-0; effect = c.in_ok-verified.field-0 } in
     let name : new.name ≡ e.name = search rules in
     let code = made c.of-scope.result c.of_proposals-held.result m e t c.in_ok-code.code.guard c.in_ok-code.code.proposals c.in_ok-code.code.effect c.of-scope.ensures c.of_proposals-held.ensures c.in_ok-code.ensures in
     let parameters = c.in_ok-parameters.parameters.items in
-    let parameters_are : map number parameters ≡ parameter_types (map domain_of ps) = c.in_ok-parameters.ensures ∙ ap (λ l. parameter_types (map domain_of l)) c.deref-3.ensures.value in
+    let parameters_are : map number parameters ≡ parameter_types (map domain_of ps) = c.in_ok-parameters.ensures ∙ ap parameter_types same in
     translated declared slots args parameters bools refl m refl e new t c.in_ok-code.code.guard c.in_ok-code.code.proposals c.in_ok-code.code.effect refl name domains (sym types_are) (sym parameters_are)
     c.transition_of-transition.ensures code
-    (c.in_ok-local_part.ensures.value ∙ ap (λ l. option_map (λ code. part declared code Pre slots l bools) c.in_ok-code.code.guard) c.deref-4.ensures.value)
-    (c.in_ok-local_part-2.ensures.value ∙ ap (λ l. option_map (λ code. part declared code Propose slots none l) c.in_ok-code.code.proposals) c.deref-5.ensures.value)
-    (c.in_ok-verified.ensures.value ∙ ap (λ l. part declared c.in_ok-code.code.effect Eff slots l none) c.deref-6.ensures.value)
+    (c.in_ok-local_part.ensures.value ∙ ap (λ l. option_map (λ code. part declared code Pre slots l bools) c.in_ok-code.code.guard) c.deref.ensures.value)
+    (c.in_ok-local_part-2.ensures.value ∙ ap (λ l. option_map (λ code. part declared code Propose slots none l) c.in_ok-code.code.proposals) c.deref-2.ensures.value)
+    (c.in_ok-verified.ensures.value ∙ ap (λ l. part declared c.in_ok-code.code.effect Eff slots l none) c.deref-3.ensures.value)
     c.in_ok-local_part.ensures.sound c.in_ok-local_part-2.ensures.sound c.in_ok-verified.ensures.sound

@@ -1,9 +1,10 @@
 use Rattle.std.proofs.Common.{map, refl, sym, subst, ◌∙◌, rules}
 use Rattle.ioa_tree.specs.View.{tree_of}
 use Rattle.ioa_value.specs.Table.{AreTypes}
-use Rattle.ioa_compose.specs.Bindings.{plain_in, AllStartable, AllSound, AllApart, AllOwn}
-use Rattle.ioa_compose.proofs.FineLemmas.{all-startable, all-sound, all-apart, all-own}
+use Rattle.ioa_compose.specs.Bindings.{plain_in, AllStartable, AllSound, AllApart, AllOwn, AllPositioned}
+use Rattle.ioa_compose.proofs.FineLemmas.{all-startable, all-sound, all-apart, all-own, all-positioned}
 use Rattle.ioa_compose.proofs.ComposeLemmas.{parts-of, parts-sound, parts-hosts, parts-hosted, parts-stand, unbound-refuses, clash-refuses, hiding-refuses, start-refuses}
+use Rattle.ioa_compose.proofs.PositionLemmas.{all_hold}
 use Rattle.ioa_compose.proofs.composition.composed.Goals as goal
 
 pub returns-in_err-bindings-clause-refused : goal.returns-in_err-bindings-clause-refused
@@ -22,6 +23,11 @@ compatible-requires-clause-startable c =
 pub compatible-requires-clause-apart : goal.compatible-requires-clause-apart
 compatible-requires-clause-apart c =
     subst AllApart (sym c.deref-2.ensures.value) (all-apart (tree_of c.args.declarations.now) c.deref.result.now _ c.in_ok-bindings.ensures.bound)
+
+pub compatible-requires-clause-positions : goal.compatible-requires-clause-positions
+compatible-requires-clause-positions c =
+    subst (AllPositioned c.in_ok-shared.shared) (sym c.deref-2.ensures.value)
+    (all-positioned (tree_of c.args.declarations.now) c.in_ok-shared.shared c.deref.result.now _ (c.in_ok-shared.ensures.same ∙ c.requires.types) c.in_ok-bindings.ensures.bound)
 
 pub compatible-requires-clause-own : goal.compatible-requires-clause-own
 compatible-requires-clause-own c =
@@ -58,9 +64,13 @@ invariant_of-result c =
     let parts = parts-of s c.in_ok-shared.shared c.args.assembly.now c.deref.result.now c.in_ok-bindings.bindings.items same c.in_ok-bindings.ensures.bound c.deref.ensures.value
     _ c.in_ok-compatible.ensures.ok c.deref-2.ensures.value _ _ (c.in_ok-hidden.ensures.outputs c.in_ok-shared.shared) c.deref-3.ensures.value c.deref-4.ensures.value
     c.in_ok-members.members.items _ _ _ refl c.in_ok-hidden.ensures.names c.in_ok-members.ensures.started c.in_ok-invariants.ensures in
-    parts-sound s c.in_ok-shared.shared c.args.assembly.now c.in_ok-bindings.bindings.items c.in_ok-members.members.items _ _ parts _ same
-    (c.in_ok-name.ensures.ok ∙ c.as_str.ensures.value)
-    (subst AreTypes same (subst AreTypes (sym c.in_ok-shared.ensures.same) c.in_ok-shared.ensures.types)) c.requires.well_formed c.requires.legal c.requires.composable
+    record {
+      sound = parts-sound s c.in_ok-shared.shared c.args.assembly.now c.in_ok-bindings.bindings.items c.in_ok-members.members.items _ _ parts _ same
+          (c.in_ok-name.ensures.ok ∙ c.as_str.ensures.value)
+          (subst AreTypes same (subst AreTypes (sym c.in_ok-shared.ensures.same) c.in_ok-shared.ensures.types)) c.requires.well_formed c.requires.legal c.requires.composable;
+      positions = all_hold s c.in_ok-shared.shared c.requires.well_formed c.requires.legal same c.deref.result.now c.in_ok-bindings.bindings.items c.in_ok-members.members.items
+          c.in_ok-bindings.ensures.bound c.in_ok-members.ensures.started c.in_ok-members.ensures.positions;
+    }
 
 pub returns-clause-composed : goal.returns-clause-composed
 returns-clause-composed c =

@@ -1,53 +1,52 @@
-use Rattle.std.proofs.Common.{◌≡◌, ◌≤◌, List, [], true, length, map, refl, sym, ap, subst, ◌∙◌}
-use Rattle.std.specs.List.{AllZip, list_all}
-use Rattle.std.proofs.lemmas.List.{take_all}
-use Rattle.ioa_value.specs.Plain.{plain}
-use Rattle.ioa_value.proofs.ItemLemmas.{passes_at}
+use Rattle.std.proofs.Common.{◌≡◌, map, take, length, ap, ◌∙◌, arith}
+use Rattle.std.proofs.lemmas.List.{length-map, take_all}
+use Rattle.std.proofs.lemmas.Slice.Zip.{AllZip-long}
 use Rattle.ioa_value.specs.Positions.{domain_of}
-use Rattle.ioa_tree.specs.declared.tree.Entry.{Entry}
-use Rattle.ioa_tree.specs.Tree.{EntryTree, AutomatonTree}
-use Rattle.ioa_tree.specs.View.{automaton_of, entry_of}
+use Rattle.ioa_value.specs.Table.{Table}
+use Rattle.ioa_tree.specs.Tree.{EntryTree}
+use Rattle.ioa_tree.specs.View.{name_of, automaton_of, entry_of}
 use Rattle.ioa_tree.specs.Domains.{AreDomainsOf}
-use Rattle.ioa_tree.specs.WellFormed.{position_fine, formals}
-use Rattle.ioa_compose.specs.Bindings.{instance_with, crash_in, instance_in}
-use Rattle.ioa_compose.specs.Signatures.{IsSigned, bound_of}
-use Rattle.ioa_compose.proofs.SignatureLemmas.{zip-push}
-use Rattle.ioa_compose.proofs.WithSignals.{domains_signed, own_entries, own_positions, positions_fine}
+use Rattle.ioa_compose.specs.declared.binding.Binding.{Binding}
+use Rattle.ioa_compose.specs.Bindings.{plain_in, HasPositions}
+use Rattle.ioa_compose.specs.Signatures.{domains_in, signed_entries}
+use Rattle.ioa_compose.proofs.SignatureLemmas.{signed-push}
 use Rattle.ioa_compose.proofs.signatures.signature.Goals as goal
 
-pub positions-requires-clause-fine : goal.positions-requires-clause-fine
-positions-requires-clause-fine c =
-    let types = c.args.types.now in
-    let b = c.args.binding.now in
-    let a = automaton_of b.automaton.now in
-    let fine = λ (e : EntryTree). list_all (position_fine types (formals types types [] a)) e.positions in
-    let all = ap (λ (t : AutomatonTree). list_all fine t.entries) c.requires.own ∙ own_positions types (crash_in b) a (positions_fine types c.requires.sound.0 a c.requires.sound.1) in
-    passes_at fine entry_of c.deref-entry-items.result.now _ c.entry-item.result
-    (subst (λ (es : List Entry). list_all fine (map entry_of es) ≡ true) (sym c.deref-entry-items.ensures.value) all) c.loop-entry-test.true c.entry-item.is
+-- there are as many lists of positions as entries
+as_many : (types : Table) (b : Binding) → HasPositions types b → length b.positions.items ≡ length b.own.entries.items
+as_many types b h =
+    let entries = length-map b.own.entries.items entry_of in
+    let positions = length-map b.positions.items domains_in in
+    let long = AllZip-long (λ (e : EntryTree) ds. AreDomainsOf (plain_in types b) e.positions ds) (automaton_of b.own).entries (map domains_in b.positions.items) h in
+    omega (arith, entries, positions, long)
 
-pub loop-entry-preserved : goal.loop-entry-preserved
-loop-entry-preserved c =
-    let types = c.args.types.now in
+pub index-requires : goal.index-requires
+index-requires c =
+    let many = as_many c.requires.0 c.args.binding.now c.requires.1 in
+    let less = c.loop-k-test.true in
+    let end = c.len-k-end.ensures in
+    omega (arith, many, less, end)
+
+pub loop-k-preserved : goal.loop-k-preserved
+loop-k-preserved c =
     let b = c.args.binding.now in
-    let a = automaton_of b.automaton.now in
-    zip-push (IsSigned (instance_in types b)) entry_of bound_of b.own.entries.items c.deref-entry-items.result.now c.loop-entry.entry-index
-    c.entry-item.result
-    c.loop-entry.entries.items _ _ c.deref-entry-items.ensures.value c.loop-entry-test.true c.entry-item.is c.in_ok-push.ensures.items c.loop-entry.invariant
-    (record {
-      kind = refl;
-      name = refl;
-      domains = domains_signed types (crash_in b) a (map plain b.arguments.items) (entry_of c.entry-item.result).positions _
-          (subst (λ vs. AreDomainsOf (instance_with types a (map plain vs)) (entry_of c.entry-item.result).positions
-          (map domain_of c.in_ok-positions.positions.items)) c.deref.ensures.value c.in_ok-positions.ensures);
-    })
+    let x = c.index-entry.result.now in
+    let many = as_many c.requires.0 b c.requires.1 in
+    let less = c.loop-k-test.true in
+    let end = c.len-k-end.ensures in
+    signed-push b.own.entries.items b.positions.items c.loop-k.k x c.index.result.now c.loop-k.signature.items c.push.new.self.items _
+    (omega (arith, less, end)) (omega (arith, many, less, end)) c.index-entry.ensures c.index.ensures c.in_ok-push.ensures.items
+    (ap (λ t. record { kind = x.kind; name = t; domains = map domain_of c.deref.result.now }) c.as_str.ensures.value
+    ∙ ap (λ ps. record { kind = x.kind; name = name_of x.name; domains = map domain_of ps }) c.deref.ensures.value) c.loop-k.invariant
 
 pub returns : goal.returns
 returns c =
-    let types = c.args.types.now in
     let b = c.args.binding.now in
-    let told = c.loop-entry.entries.items in
-    let past = subst (λ (es : List Entry). length es ≤ c.loop-entry.entry-index) c.deref-entry-items.ensures.value c.loop-entry-test.false in
-    let all = subst (λ (es : List Entry). AllZip (IsSigned (instance_in types b)) (map entry_of es) (map bound_of told))
-    (take_all c.loop-entry.entry-index b.own.entries.items past) c.loop-entry.invariant in
-    subst (λ (es : List EntryTree). AllZip (IsSigned (instance_in types b)) es (map bound_of told))
-    (ap (λ (t : AutomatonTree). t.entries) c.requires.own ∙ own_entries (crash_in b) (automaton_of b.automaton.now)) all
+    let xs = b.own.entries.items in
+    let pss = b.positions.items in
+    let k = c.loop-k.k in
+    let many = as_many c.requires.0 b c.requires.1 in
+    let past = c.loop-k-test.false in
+    let end = c.len-k-end.ensures in
+    c.loop-k.invariant ∙ ap (λ es. signed_entries (map entry_of es) (map domains_in (take k pss))) (take_all k xs (omega (arith, past, end)))
+    ∙ ap (λ ps. signed_entries (map entry_of xs) (map domains_in ps)) (take_all k pss (omega (arith, many, past, end)))

@@ -1,8 +1,7 @@
-use Rattle.std.proofs.Common.{map, take}
-use Rattle.std.specs.List.{AllZip}
-use Rattle.ioa_compose.specs.Bindings.{instance_in}
-use Rattle.ioa_compose.specs.Signatures.{IsSignatureOf, bound_entries}
+use Rattle.std.proofs.Common.{◌≡◌, map, take}
+use Rattle.ioa_compose.specs.Clashes.{signature_of}
+use Rattle.ioa_compose.specs.Signatures.{signature_in}
 use Rattle.ioa_compose.proofs.signatures.signatures.Given as goal
 
 abbrev pub invariant-loop-binding : goal.invariant-loop-binding
-invariant-loop-binding l = AllZip IsSignatureOf (map (instance_in l.types) (take l.binding-index l.bindings)) (map bound_entries l.signatures.items)
+invariant-loop-binding l = map signature_of l.signatures.items ≡ map signature_in (take l.binding-index l.bindings)

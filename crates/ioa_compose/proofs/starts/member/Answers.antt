@@ -7,8 +7,8 @@ use Rattle.ioa_compose.specs.Rewriting.{added_arguments}
 use Rattle.ioa_compose.proofs.StartLemmas.{member-made}
 use Rattle.ioa_compose.proofs.starts.member.Goals as goal
 
-pub returns : goal.returns
-returns c =
+pub returns-clause-value : goal.returns-clause-value
+returns-clause-value c =
     let b = c.args.binding in
     let a = automaton_of b.automaton.now in
     let given = map plain b.arguments.items in

@@ -6,7 +6,7 @@ use Rattle.ioa_value.proofs.ItemLemmas.{at_map}
 use Rattle.ioa_compose.specs.declared.binding.Binding.{Binding}
 use Rattle.ioa_compose.specs.declared.member.Member as held
 use Rattle.ioa_compose.specs.Bindings.{instance_in, IsOwn, IsStarted}
-use Rattle.ioa_compose.specs.Held.{member_of}
+use Rattle.ioa_compose.specs.Held.{member_of, KeepsPositions}
 use Rattle.ioa_compose.proofs.BindingLemmas.{startable-at, faults-in}
 use Rattle.ioa_compose.proofs.SignatureLemmas.{zip-append}
 use Rattle.ioa_compose.proofs.StartLemmas.{taken, as_many, none_left, none-faulted}
@@ -52,6 +52,8 @@ loop-binding-preserved c =
       parts = append_assoc at.yielded (x ∷ []) _ ∙ ap (λ us. at.yielded ++ us) (sym steps) ∙ at.invariant.parts;
       started = subst (λ (ms : List held.Member). AllZip (λ b m. IsStarted types b (member_of m)) (at.yielded ++ x ∷ []) ms) (sym c.in_ok-push.ensures.items)
           (zip-append (λ b m. IsStarted types b (member_of m)) at.yielded at.members.items x c.in_ok-member.member at.invariant.started c.in_ok-member.ensures.started);
+      kept = subst (AllZip KeepsPositions (at.yielded ++ x ∷ [])) (sym c.in_ok-push.ensures.items)
+          (zip-append KeepsPositions at.yielded at.members.items x c.in_ok-member.member at.invariant.kept c.in_ok-member.ensures.positions);
       left = let was = at.invariant.left in
           let gone = c.in-Some.ensures.steps.1 in
           let short = ap length steps in
@@ -65,3 +67,10 @@ returns-clause-started c =
     let empty : into_iter_items at.binding-iterator ≡ [] = none_left _ (sym at.invariant.left ∙ c.in-None.ensures.steps.0) in
     let all = sym (append-nil at.yielded) ∙ ap (λ us. at.yielded ++ us) (sym empty) ∙ at.invariant.parts ∙ c.into_iter-binding-iterator.ensures.into_iter_gives.0 in
     subst (λ (us : List Binding). AllZip (λ b m. IsStarted types b (member_of m)) us at.members.items) all at.invariant.started
+
+pub returns-clause-positions : goal.returns-clause-positions
+returns-clause-positions c =
+    let at = c.loop-binding in
+    let empty : into_iter_items at.binding-iterator ≡ [] = none_left _ (sym at.invariant.left ∙ c.in-None.ensures.steps.0) in
+    let all = sym (append-nil at.yielded) ∙ ap (λ us. at.yielded ++ us) (sym empty) ∙ at.invariant.parts ∙ c.into_iter-binding-iterator.ensures.into_iter_gives.0 in
+    subst (λ (us : List Binding). AllZip KeepsPositions us at.members.items) all at.invariant.kept
