@@ -20,26 +20,27 @@ module _ {A : Type 0} (lines : ℕ → A → List ℕ) where
       ap (λ l. lines n y ++ l) (numbered_take (n + 1) ys i x e) ∙ sym (append_assoc (lines n y) (numbered lines (n + 1) (take i ys)) (lines (n + 1 + i) x))
       ∙ ap (λ k. (lines n y ++ numbered lines (n + 1) (take i ys)) ++ lines k x) next
 
-  line_at : (xs : List A) (i : ℕ) (x : A) (start old new : List ℕ) → slice_get xs i ≡ Some x
-      → old ≡ start ++ numbered lines 0 (take i xs) → new ≡ old ++ lines i x → new ≡ start ++ numbered lines 0 (take (i + 1) xs)
-  line_at xs i x start old new at so_far more =
+  -- the lines of one item more, which has this number
+  pub line_at : (n : ℕ) (xs : List A) (i : ℕ) (x : A) (k : ℕ) (start old new : List ℕ) → slice_get xs i ≡ Some x → k ≡ n + i
+      → old ≡ start ++ numbered lines n (take i xs) → new ≡ old ++ lines k x → new ≡ start ++ numbered lines n (take (i + 1) xs)
+  line_at n xs i x k start old new at is so_far more =
       let next : suc i ≡ i + 1 = omega arith in
-      let from_zero : i ≡ 0 + i = omega arith in
-      more ∙ ap (λ l. l ++ lines i x) so_far ∙ append_assoc start (numbered lines 0 (take i xs)) (lines i x)
-      ∙ ap (λ k. start ++ (numbered lines 0 (take i xs) ++ lines k x)) from_zero
-      ∙ ap (λ l. start ++ l) (sym (numbered_take 0 xs i x at))
-      ∙ ap (λ j. start ++ numbered lines 0 (take j xs)) next
+      more ∙ ap (λ l. l ++ lines k x) so_far ∙ append_assoc start (numbered lines n (take i xs)) (lines k x)
+      ∙ ap (λ j. start ++ (numbered lines n (take i xs) ++ lines j x)) is
+      ∙ ap (λ l. start ++ l) (sym (numbered_take n xs i x at))
+      ∙ ap (λ j. start ++ numbered lines n (take j xs)) next
 
-  -- the lines of one item more: of that at a loop's turn, which is seen through a view
+  -- the same of the item at a loop's turn, which is seen through a view
   pub line_more : {X : Type 0} (v : X → A) (xs : List X) (i : ℕ) (x : X) (start old new : List ℕ) → i < length xs → x ≡ get_or xs i x
       → old ≡ start ++ numbered lines 0 (take i (map v xs)) → new ≡ old ++ lines i (v x) → new ≡ start ++ numbered lines 0 (take (i + 1) (map v xs))
-  line_more v xs i x start old new less is so_far more = line_at (map v xs) i (v x) start old new (at_map v xs i x less is) so_far more
+  line_more v xs i x start old new less is so_far more =
+      line_at 0 (map v xs) i (v x) i start old new (at_map v xs i x less is) (omega arith) so_far more
 
   -- the same through two views
   pub line_more_through : {X Y : Type 0} (f : Y → A) (v : X → Y) (xs : List X) (i : ℕ) (x : X) (start old new : List ℕ) → i < length xs → x ≡ get_or xs i x
       → old ≡ start ++ numbered lines 0 (take i (map f (map v xs))) → new ≡ old ++ lines i (f (v x)) → new ≡ start ++ numbered lines 0 (take (i + 1) (map f (map v xs)))
   line_more_through f v xs i x start old new less is so_far more =
-      line_at (map f (map v xs)) i (f (v x)) start old new (image_at f (map v xs) i (v x) (at_map v xs i x less is)) so_far more
+      line_at 0 (map f (map v xs)) i (f (v x)) i start old new (image_at f (map v xs) i (v x) (at_map v xs i x less is)) (omega arith) so_far more
 
 module _ {A : Type 0} (holds : A → Bool) where
   first_number : (b : Bool) (n : ℕ) (rest : List ℕ) → cond b (n ∷ rest) rest ≡ cond b (n ∷ []) [] ++ rest

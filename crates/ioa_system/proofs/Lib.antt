@@ -7,3 +7,4 @@ pub mod Stepping
 pub mod Running
 pub mod Tracing
 pub mod Hosting
+pub mod PrintedBytes

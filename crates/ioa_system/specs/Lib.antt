@@ -3,6 +3,7 @@ pub mod ProgramActions
 pub mod Participants
 pub mod Outcomes
 pub mod Endings
+pub mod PrintedBytes
 pub mod Found
 pub mod Drafted
 pub mod Progress
