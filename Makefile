@@ -4,7 +4,7 @@ PREFIX ?= /usr/local
 PROGRAM := crates/ioac_program/out/ioac_program
 EXAMPLE := examples/counter
 
-.PHONY: all demo test planted examples bench install clean
+.PHONY: all demo test planted examples pictures bench install clean
 
 # Proves and builds the program.
 all: $(PROGRAM)
@@ -29,6 +29,10 @@ planted:
 # The examples on the program that stands.
 examples: all
 	@sh examples/run.sh $(PROGRAM)
+
+# Makes the pictures of the pages anew. Needs Graphviz.
+pictures: all
+	@tools/pages $(PROGRAM) --pictures
 
 # Figures: how time and memory grow with the list, with the source, with the components, and with the code that is verified; how fast
 # the protocols of the library run; how fast objects are read and written; and what threads gain. Last, some thousand runs on threads are replayed.
