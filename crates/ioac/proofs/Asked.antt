@@ -1,21 +1,21 @@
 -- What the matches of a command line ask for.
-use Rattle.std.proofs.Common.{◌≡◌, List, Option, Some, None, IfNone, refl, sym, ◌∙◌, ap, ap₂, subst, codes, option_map, true, false}
+use Rattle.std.proofs.Common.{◌≡◌, Bool, List, Option, Some, None, IfSome, IfNone, refl, sym, ◌∙◌, ap, ap₂, subst, codes, option_map, true, false}
 use Rattle.std.specs.Option.{option_copied, option_map_or}
 use Rattle.std.specs.Str.{bytes_eq}
 use Rattle.std.proofs.lemmas.Bool.{false≢true}
 use Rattle.std.specs.Box.{box_value}
 use Rattle.std.specs.Borrow.{Bor}
-use Rattle.clap.specs.Words.{Row, Text, first_of, first_value, found_of, rows_of, subcommand_name_of, subcommand_rows, subcommand_rows_of}
+use Rattle.clap.specs.Words.{Row, Text, all_of, first_of, first_value, found_of, rows_of, subcommand_name_of, subcommand_rows, subcommand_rows_of}
 use Rattle.clap.specs.declared.parser.matches.ArgMatches.{ArgMatches}
 use Rattle.clap.specs.declared.parser.matches.ArgMatches.TheViews.{out-ArgMatches, out-SubCommand}
 use Rattle.clap.proofs.WalkLemmas.{first_value-rows}
 use Rattle.ioac.specs.declared.request.Request.{Request}
 use Rattle.ioac.specs.declared.settings.Settings.{Settings}
-use Rattle.ioac.specs.declared.code.Code.{Code}
-use Rattle.ioac.specs.Codes.{spelling}
+use Rattle.ioac.specs.declared.topic.Topic.{Topic}
+use Rattle.ioac.specs.Pasted.{IsPasted}
 use Rattle.ioac.specs.CommandLine.{AreSettings, IsAskedBy, Names, is_set}
 use Rattle.ioac.specs.Settings.{source_in, source_of, turns_in}
-use Rattle.ioac.specs.Telling.{bad_request_text, bad_settings_text, missing_log_text, unasked_text}
+use Rattle.ioac.specs.Telling.{asks_both, bad_request_text, bad_settings_text, missing_log_text, unasked_text}
 
 name_in : (m : ArgMatches) → subcommand_name_of m ≡ option_map (λ p. p.0) (subcommand_rows_of m)
 name_in m =
@@ -44,104 +44,117 @@ apart a b differs same e = false≢true (sym differs ∙ ap (λ (t : Text). byte
 abbrev pub AsksNothing : Option (Text × List Row) → Type 0
 AsksNothing o = (asked : Request) → IsAskedBy o asked → ⊥
 
+-- there is none, and what holds then
+pub none_so : {T : Type 0} (r : Option T) (P : Type 0) → r ≡ None → P → IfNone r P
+none_so r P is p = subst (λ o. IfNone o P) (sym is) p
+
+-- what is read of the subcommand, said of the matches that lend it
+pub read_some : (m found : ArgMatches) (name word : Text) (r : Option Request) → Some name ≡ subcommand_name_of m
+    → Some (rows_of (found_of found)) ≡ option_map (λ p. p.1) (subcommand_rows_of m) → name ≡ word
+    → IfSome r (λ asked. IsAskedBy (Some (word, rows_of (found_of found))) asked) → IfSome r (λ asked. IsAskedBy (subcommand_rows_of m) asked)
+read_some m found name word r e f is h = subst (λ o. IfSome r (λ asked. IsAskedBy o asked)) (sym (lent m found name word e f is)) h
+
+pub read_none : (m found : ArgMatches) (name word : Text) (r : Option Request) → Some name ≡ subcommand_name_of m
+    → Some (rows_of (found_of found)) ≡ option_map (λ p. p.1) (subcommand_rows_of m) → name ≡ word
+    → IfNone r (AsksNothing (Some (word, rows_of (found_of found)))) → IfNone r (AsksNothing (subcommand_rows_of m))
+read_none m found name word r e f is h = subst (λ o. IfNone r (AsksNothing o)) (sym (lent m found name word e f is)) h
+
 -- where the file is missing
-no_file : (word : Text) (rows : List Row) → (word ≡ codes "explain" → ⊥) → (word ≡ codes "library" → ⊥) → first_of (codes "FILE") rows ≡ None
+pub no_file : (word : Text) (rows : List Row) → (word ≡ codes "explain" → ⊥) → (word ≡ codes "library" → ⊥) → first_of (codes "FILE") rows ≡ None
     → AsksNothing (Some (word, rows))
 no_file word rows other another none (Request.Replay file composition) h = let z : None ≡ Some file.now = sym none ∙ h.1.0 in cc
+no_file word rows other another none (Request.ReplayStates file composition) h = let z : None ≡ Some file.now = sym none ∙ h.1.0 in cc
 no_file word rows other another none (Request.ReplayLog file composition) h = let z : None ≡ Some file.now = sym none ∙ h.1.0 in cc
+no_file word rows other another none (Request.ReplayLogStates file composition) h = let z : None ≡ Some file.now = sym none ∙ h.1.0 in cc
 no_file word rows other another none (Request.ReplayInvariants file composition) h = let z : None ≡ Some file.now = sym none ∙ h.1.0 in cc
 no_file word rows other another none (Request.Log file composition) h = let z : None ≡ Some file.now = sym none ∙ h.1.0 in cc
 no_file word rows other another none (Request.Monitor file composition) h = let z : None ≡ Some file.now = sym none ∙ h.1.0 in cc
 no_file word rows other another none (Request.Chart file composition) h = let z : None ≡ Some file.now = sym none ∙ h.1.0 in cc
 no_file word rows other another none (Request.Graph file composition) h = let z : None ≡ Some file.now = sym none ∙ h.1.0 in cc
 no_file word rows other another none (Request.Run s) h = let z : None ≡ Some s.file.now = sym none ∙ h.1.names.0 in cc
-no_file word rows other another none (Request.Check file) h = let z : None ≡ Some file.now = sym none ∙ h.1 in cc
+no_file word rows other another none (Request.Check file compositions) h = let z : None ≡ Some file.now = sym none ∙ h.1 in cc
 no_file word rows other another none (Request.Compile file out composition) h = let z : None ≡ Some file.now = sym none ∙ h.1.0 in cc
 no_file word rows other another none (Request.Dump file) h = let z : None ≡ Some file.now = sym none ∙ h.1 in cc
-no_file word rows other another none (Request.Explain code) h = other h.0
+no_file word rows other another none (Request.Explain topic) h = other h.0
 no_file word rows other another none Request.Library h = another h
 
-pub unfiled : (m found : ArgMatches) (word : Text) (r : Option Request) → subcommand_rows_of m ≡ Some (word, rows_of (found_of found))
-    → (word ≡ codes "explain" → ⊥) → (word ≡ codes "library" → ⊥) → None ≡ first_value (found_of found) (codes "FILE") → r ≡ None
-    → IfNone r (AsksNothing (subcommand_rows_of m))
-unfiled m found word r here other another none is =
-    let missing : first_of (codes "FILE") (rows_of (found_of found)) ≡ None = sym (first_value-rows (found_of found) (codes "FILE")) ∙ sym none in
-    subst (λ o. IfNone o (AsksNothing (subcommand_rows_of m))) (sym is)
-    (subst AsksNothing (sym here) (no_file word (rows_of (found_of found)) other another missing))
-
--- where there is no such code
-no_explanation : (rows : List Row) → ((code : Code) → first_of (codes "CODE") rows ≡ Some (spelling code) → ⊥) → AsksNothing (Some (codes "explain", rows))
+-- where there is nothing to explain
+pub no_explanation : (rows : List Row) → ((topic : Topic) (words : List Text) → all_of (codes "TEXT") rows ≡ Some words → IsPasted words topic → ⊥)
+    → AsksNothing (Some (codes "explain", rows))
 no_explanation rows none (Request.Replay file composition) h = apart (codes "explain") (codes "replay") refl refl h.0.0
+no_explanation rows none (Request.ReplayStates file composition) h = apart (codes "explain") (codes "replay") refl refl h.0.0
 no_explanation rows none (Request.ReplayLog file composition) h = apart (codes "explain") (codes "replay") refl refl h.0.0
+no_explanation rows none (Request.ReplayLogStates file composition) h = apart (codes "explain") (codes "replay") refl refl h.0.0
 no_explanation rows none (Request.ReplayInvariants file composition) h = apart (codes "explain") (codes "replay") refl refl h.0.0
 no_explanation rows none (Request.Log file composition) h = apart (codes "explain") (codes "log") refl refl h.0
 no_explanation rows none (Request.Monitor file composition) h = apart (codes "explain") (codes "monitor") refl refl h.0
 no_explanation rows none (Request.Chart file composition) h = apart (codes "explain") (codes "chart") refl refl h.0
 no_explanation rows none (Request.Graph file composition) h = apart (codes "explain") (codes "graph") refl refl h.0
 no_explanation rows none (Request.Run s) h = apart (codes "explain") (codes "run") refl refl h.0
-no_explanation rows none (Request.Check file) h = apart (codes "explain") (codes "check") refl refl h.0
+no_explanation rows none (Request.Check file compositions) h = apart (codes "explain") (codes "check") refl refl h.0
 no_explanation rows none (Request.Compile file out composition) h = apart (codes "explain") (codes "compile") refl refl h.0
 no_explanation rows none (Request.Dump file) h = apart (codes "explain") (codes "dump") refl refl h.0
-no_explanation rows none (Request.Explain code) h = none code h.1
+no_explanation rows none (Request.Explain topic) h = none topic h.1.0 h.1.1 h.1.2
 no_explanation rows none Request.Library h = apart (codes "explain") (codes "library") refl refl h
 
-pub uncoded : (m found : ArgMatches) (r : Option Request) (o : Option Text) → subcommand_rows_of m ≡ Some (codes "explain", rows_of (found_of found))
-    → o ≡ first_value (found_of found) (codes "CODE") → ((code : Code) → o ≡ Some (spelling code) → ⊥) → r ≡ None → IfNone r (AsksNothing (subcommand_rows_of m))
-uncoded m found r o here given none is =
-    let first : first_of (codes "CODE") (rows_of (found_of found)) ≡ o = sym (first_value-rows (found_of found) (codes "CODE")) ∙ sym given in
-    subst (λ o. IfNone o (AsksNothing (subcommand_rows_of m))) (sym is)
-    (subst AsksNothing (sym here) (no_explanation (rows_of (found_of found)) (λ code h. none code (sym first ∙ h))))
-
 -- where no file is named for an object
-no_out : (rows : List Row) → first_of (codes "OUT") rows ≡ None → AsksNothing (Some (codes "compile", rows))
+pub no_out : (rows : List Row) → first_of (codes "OUT") rows ≡ None → AsksNothing (Some (codes "compile", rows))
 no_out rows none (Request.Replay file composition) h = apart (codes "compile") (codes "replay") refl refl h.0.0
+no_out rows none (Request.ReplayStates file composition) h = apart (codes "compile") (codes "replay") refl refl h.0.0
 no_out rows none (Request.ReplayLog file composition) h = apart (codes "compile") (codes "replay") refl refl h.0.0
+no_out rows none (Request.ReplayLogStates file composition) h = apart (codes "compile") (codes "replay") refl refl h.0.0
 no_out rows none (Request.ReplayInvariants file composition) h = apart (codes "compile") (codes "replay") refl refl h.0.0
 no_out rows none (Request.Log file composition) h = apart (codes "compile") (codes "log") refl refl h.0
 no_out rows none (Request.Monitor file composition) h = apart (codes "compile") (codes "monitor") refl refl h.0
 no_out rows none (Request.Chart file composition) h = apart (codes "compile") (codes "chart") refl refl h.0
 no_out rows none (Request.Graph file composition) h = apart (codes "compile") (codes "graph") refl refl h.0
 no_out rows none (Request.Run s) h = apart (codes "compile") (codes "run") refl refl h.0
-no_out rows none (Request.Check file) h = apart (codes "compile") (codes "check") refl refl h.0
+no_out rows none (Request.Check file compositions) h = apart (codes "compile") (codes "check") refl refl h.0
 no_out rows none (Request.Compile file out composition) h = let z : None ≡ Some out.now = sym none ∙ h.2 in cc
 no_out rows none (Request.Dump file) h = apart (codes "compile") (codes "dump") refl refl h.0
-no_out rows none (Request.Explain code) h = apart (codes "compile") (codes "explain") refl refl h.0
+no_out rows none (Request.Explain topic) h = apart (codes "compile") (codes "explain") refl refl h.0
 no_out rows none Request.Library h = apart (codes "compile") (codes "library") refl refl h
 
-pub unplaced : (m found : ArgMatches) (r : Option Request) → subcommand_rows_of m ≡ Some (codes "compile", rows_of (found_of found))
-    → None ≡ first_value (found_of found) (codes "OUT") → r ≡ None → IfNone r (AsksNothing (subcommand_rows_of m))
-unplaced m found r here none is =
-    let missing : first_of (codes "OUT") (rows_of (found_of found)) ≡ None = sym (first_value-rows (found_of found) (codes "OUT")) ∙ sym none in
-    subst (λ o. IfNone o (AsksNothing (subcommand_rows_of m))) (sym is) (subst AsksNothing (sym here) (no_out (rows_of (found_of found)) missing))
-
 -- where the invariants of a list are asked for
-no_log : (word : Text) (rows : List Row) → word ≡ codes "replay" → is_set (codes "log") rows ≡ false → is_set (codes "invariants") rows ≡ true → AsksNothing (Some (word, rows))
+pub no_log : (word : Text) (rows : List Row) → word ≡ codes "replay" → is_set (codes "log") rows ≡ false → is_set (codes "invariants") rows ≡ true → AsksNothing (Some (word, rows))
 no_log word rows is log invariants (Request.Replay file composition) h = false≢true (sym h.0.2 ∙ invariants)
+no_log word rows is log invariants (Request.ReplayStates file composition) h = false≢true (sym h.0.2 ∙ invariants)
 no_log word rows is log invariants (Request.ReplayLog file composition) h = false≢true (sym log ∙ h.0.1)
+no_log word rows is log invariants (Request.ReplayLogStates file composition) h = false≢true (sym log ∙ h.0.1)
 no_log word rows is log invariants (Request.ReplayInvariants file composition) h = false≢true (sym log ∙ h.0.1)
 no_log word rows is log invariants (Request.Log file composition) h = apart (codes "replay") (codes "log") refl refl (sym is ∙ h.0)
 no_log word rows is log invariants (Request.Monitor file composition) h = apart (codes "replay") (codes "monitor") refl refl (sym is ∙ h.0)
 no_log word rows is log invariants (Request.Chart file composition) h = apart (codes "replay") (codes "chart") refl refl (sym is ∙ h.0)
 no_log word rows is log invariants (Request.Graph file composition) h = apart (codes "replay") (codes "graph") refl refl (sym is ∙ h.0)
 no_log word rows is log invariants (Request.Run s) h = apart (codes "replay") (codes "run") refl refl (sym is ∙ h.0)
-no_log word rows is log invariants (Request.Check file) h = apart (codes "replay") (codes "check") refl refl (sym is ∙ h.0)
+no_log word rows is log invariants (Request.Check file compositions) h = apart (codes "replay") (codes "check") refl refl (sym is ∙ h.0)
 no_log word rows is log invariants (Request.Compile file out composition) h = apart (codes "replay") (codes "compile") refl refl (sym is ∙ h.0)
 no_log word rows is log invariants (Request.Dump file) h = apart (codes "replay") (codes "dump") refl refl (sym is ∙ h.0)
-no_log word rows is log invariants (Request.Explain code) h = apart (codes "replay") (codes "explain") refl refl (sym is ∙ h.0)
+no_log word rows is log invariants (Request.Explain topic) h = apart (codes "replay") (codes "explain") refl refl (sym is ∙ h.0)
 no_log word rows is log invariants Request.Library h = apart (codes "replay") (codes "library") refl refl (sym is ∙ h)
 
-pub unlogged : (m found : ArgMatches) → subcommand_rows_of m ≡ Some (codes "replay", rows_of (found_of found)) → is_set (codes "log") (rows_of (found_of found)) ≡ false
-    → is_set (codes "invariants") (rows_of (found_of found)) ≡ true → AsksNothing (subcommand_rows_of m)
-unlogged m found here log invariants = subst AsksNothing (sym here) (no_log (codes "replay") (rows_of (found_of found)) refl log invariants)
+-- where invariants and states are asked for
+pub no_both : (word : Text) (rows : List Row) → word ≡ codes "replay" → is_set (codes "invariants") rows ≡ true → is_set (codes "states") rows ≡ true → AsksNothing (Some (word, rows))
+no_both word rows is invariants states (Request.Replay file composition) h = false≢true (sym h.0.2 ∙ invariants)
+no_both word rows is invariants states (Request.ReplayStates file composition) h = false≢true (sym h.0.2 ∙ invariants)
+no_both word rows is invariants states (Request.ReplayLog file composition) h = false≢true (sym h.0.2 ∙ invariants)
+no_both word rows is invariants states (Request.ReplayLogStates file composition) h = false≢true (sym h.0.2 ∙ invariants)
+no_both word rows is invariants states (Request.ReplayInvariants file composition) h = false≢true (sym h.0.3 ∙ states)
+no_both word rows is invariants states (Request.Log file composition) h = apart (codes "replay") (codes "log") refl refl (sym is ∙ h.0)
+no_both word rows is invariants states (Request.Monitor file composition) h = apart (codes "replay") (codes "monitor") refl refl (sym is ∙ h.0)
+no_both word rows is invariants states (Request.Chart file composition) h = apart (codes "replay") (codes "chart") refl refl (sym is ∙ h.0)
+no_both word rows is invariants states (Request.Graph file composition) h = apart (codes "replay") (codes "graph") refl refl (sym is ∙ h.0)
+no_both word rows is invariants states (Request.Run s) h = apart (codes "replay") (codes "run") refl refl (sym is ∙ h.0)
+no_both word rows is invariants states (Request.Check file compositions) h = apart (codes "replay") (codes "check") refl refl (sym is ∙ h.0)
+no_both word rows is invariants states (Request.Compile file out composition) h = apart (codes "replay") (codes "compile") refl refl (sym is ∙ h.0)
+no_both word rows is invariants states (Request.Dump file) h = apart (codes "replay") (codes "dump") refl refl (sym is ∙ h.0)
+no_both word rows is invariants states (Request.Explain code) h = apart (codes "replay") (codes "explain") refl refl (sym is ∙ h.0)
+no_both word rows is invariants states Request.Library h = apart (codes "replay") (codes "library") refl refl (sym is ∙ h)
 
 -- the file and the composition that are named
 pub names : (found : ArgMatches) (file : Bor Text) (composition : Option (Bor Text)) → Some file.now ≡ first_value (found_of found) (codes "FILE")
     → option_copied composition ≡ first_value (found_of found) (codes "comp") → Names (rows_of (found_of found)) file.now (option_copied composition)
 names found file composition f c = (sym (first_value-rows (found_of found) (codes "FILE")) ∙ sym f, sym (first_value-rows (found_of found) (codes "comp")) ∙ sym c)
-
-pub asks : (m found : ArgMatches) (word : Text) (request : Request) → subcommand_rows_of m ≡ Some (word, rows_of (found_of found))
-    → IsAskedBy (Some (word, rows_of (found_of found))) request → IsAskedBy (subcommand_rows_of m) request
-asks m found word request here h = subst (λ x. IsAskedBy x request) (sym here) h
 
 -- a flag, as it is lent
 pub set_as : (found : ArgMatches) (flag : Text) (o : Option Text) → o ≡ first_value (found_of found) flag
@@ -153,25 +166,22 @@ set_as found flag o e =
 abbrev AreNone : List Row → Type 0
 AreNone rows = (s : Settings) → AreSettings rows s → ⊥
 
-no_run : (rows : List Row) → AreNone rows → AsksNothing (Some (codes "run", rows))
+pub no_run : (rows : List Row) → AreNone rows → AsksNothing (Some (codes "run", rows))
 no_run rows none (Request.Replay file composition) h = apart (codes "run") (codes "replay") refl refl h.0.0
+no_run rows none (Request.ReplayStates file composition) h = apart (codes "run") (codes "replay") refl refl h.0.0
 no_run rows none (Request.ReplayLog file composition) h = apart (codes "run") (codes "replay") refl refl h.0.0
+no_run rows none (Request.ReplayLogStates file composition) h = apart (codes "run") (codes "replay") refl refl h.0.0
 no_run rows none (Request.ReplayInvariants file composition) h = apart (codes "run") (codes "replay") refl refl h.0.0
 no_run rows none (Request.Run s) h = none s h.1
 no_run rows none (Request.Log file composition) h = apart (codes "run") (codes "log") refl refl h.0
 no_run rows none (Request.Monitor file composition) h = apart (codes "run") (codes "monitor") refl refl h.0
 no_run rows none (Request.Chart file composition) h = apart (codes "run") (codes "chart") refl refl h.0
 no_run rows none (Request.Graph file composition) h = apart (codes "run") (codes "graph") refl refl h.0
-no_run rows none (Request.Check file) h = apart (codes "run") (codes "check") refl refl h.0
+no_run rows none (Request.Check file compositions) h = apart (codes "run") (codes "check") refl refl h.0
 no_run rows none (Request.Compile file out composition) h = apart (codes "run") (codes "compile") refl refl h.0
 no_run rows none (Request.Dump file) h = apart (codes "run") (codes "dump") refl refl h.0
-no_run rows none (Request.Explain code) h = apart (codes "run") (codes "explain") refl refl h.0
+no_run rows none (Request.Explain topic) h = apart (codes "run") (codes "explain") refl refl h.0
 no_run rows none Request.Library h = apart (codes "run") (codes "library") refl refl h
-
-pub unset : (m found : ArgMatches) (r : Option Request) → subcommand_rows_of m ≡ Some (codes "run", rows_of (found_of found))
-    → ((s : Settings) → AreSettings (rows_of (found_of found)) s → ⊥) → r ≡ None → IfNone r (AsksNothing (subcommand_rows_of m))
-unset m found r here none is =
-    subst (λ o. IfNone o (AsksNothing (subcommand_rows_of m))) (sym is) (subst AsksNothing (sym here) (no_run (rows_of (found_of found)) none))
 
 -- settings without a file, without turns, or without a source of words
 pub unfiled_run : (found : ArgMatches) (r : Option Settings) → None ≡ first_value (found_of found) (codes "FILE") → r ≡ None
@@ -214,14 +224,15 @@ told_run m found name turns seed file e f is t s w =
     let chosen : unasked_text (Some (name, rows)) ≡ bad_settings_text (first_of (codes "turns") rows) (first_of (codes "seed") rows) (first_of (codes "words") rows) = rw is refl in
     values ∙ sym chosen ∙ ap unasked_text (sym here)
 
-pub told_other : (m found : ArgMatches) (name : Text) (code : Option Text) → Some name ≡ subcommand_name_of m
+pub told_other : (m found : ArgMatches) (name : Text) (code : Option Text) (both : Bool) → Some name ≡ subcommand_name_of m
     → Some (rows_of (found_of found)) ≡ option_map (λ p. p.1) (subcommand_rows_of m) → bytes_eq name (codes "run") ≡ false
-    → code ≡ first_value (found_of found) (codes "CODE") → bad_request_text code ≡ unasked_text (subcommand_rows_of m)
-told_other m found name code e f is w =
+    → code ≡ first_value (found_of found) (codes "TEXT") → both ≡ asks_both (rows_of (found_of found))
+    → bad_request_text code both ≡ unasked_text (subcommand_rows_of m)
+told_other m found name code both e f is w b =
     let rows = rows_of (found_of found) in
     let here = lent m found name name e f refl in
-    let chosen : unasked_text (Some (name, rows)) ≡ bad_request_text (first_of (codes "CODE") rows) = rw is refl in
-    ap bad_request_text (sym (given found (codes "CODE") code w)) ∙ sym chosen ∙ ap unasked_text (sym here)
+    let chosen : unasked_text (Some (name, rows)) ≡ bad_request_text (first_of (codes "TEXT") rows) (asks_both rows) = rw is refl in
+    ap₂ bad_request_text (sym (given found (codes "TEXT") code w)) b ∙ sym chosen ∙ ap unasked_text (sym here)
 
 pub told_none : (m : ArgMatches) → None ≡ option_map (λ p. p.1) (subcommand_rows_of m) → missing_log_text ≡ unasked_text (subcommand_rows_of m)
 told_none m rows = go (subcommand_rows_of m) rows

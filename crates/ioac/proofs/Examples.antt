@@ -1,11 +1,15 @@
 -- What some command lines ask for, computed from the definition of the command line.
-use Rattle.std.proofs.Common.{◌≡◌, Bool, true, false, List, [], ◌∷◌, Option, Some, None, refl, sym, ◌∙◌, codes, option_map}
-use Rattle.clap.specs.Words.{Text, fault_of, first_of, subcommand_of}
+use Rattle.std.proofs.Common.{◌≡◌, Bool, true, false, List, [], ◌∷◌, Option, Some, None, inl, inr, refl, sym, ◌∙◌, codes, option_map}
+use Rattle.clap.specs.Words.{Text, fault_of, all_of, first_of, subcommand_of}
 use Rattle.clap.specs.declared.error.kind.ErrorKind.{ErrorKind}
 use Rattle.clap.specs.declared.error.kind.ErrorKind.TheVariants as kinds
 use Rattle.clap.proofs.OnLiterals.{clap_on_literals}
+use Rattle.ioa_arithmetic.specs.declared.arithmetic.Fault.{Fault}
+use Rattle.ioac.specs.declared.code.Code.{Code}
 use Rattle.ioac.specs.declared.request.Request.{Request}
+use Rattle.ioac.specs.declared.topic.Topic.{Topic}
 use Rattle.ioac.specs.CommandLine.{IsAsked, ioac_app, is_set}
+use Rattle.ioac.specs.Pasted.{IsPasted}
 
 -- the command, its file and its composition
 asked : List Text → Option (Text × Option Text × Option Text)
@@ -57,6 +61,11 @@ help : fault_of ioac_app (codes "ioac" ∷ codes "--help" ∷ []) ≡ kinds.Disp
 unfolding clap_on_literals
 help = refl
 
+-- it gives help, or refuses what is no command
+help_of_a_command : fault_of ioac_app (codes "ioac" ∷ codes "help" ∷ codes "replay" ∷ []) ≡ kinds.DisplayHelp ∷ kinds.InvalidSubcommand ∷ []
+unfolding clap_on_literals
+help_of_a_command = refl
+
 no_file : fault_of ioac_app (codes "ioac" ∷ codes "replay" ∷ []) ≡ kinds.MissingRequiredArgument ∷ []
 unfolding clap_on_literals
 no_file = refl
@@ -68,6 +77,18 @@ no_fault = refl
 checked : asked (codes "ioac" ∷ codes "check" ∷ codes "f" ∷ []) ≡ Some (codes "check", Some (codes "f"), None)
 unfolding asked clap_on_literals
 checked = refl
+
+-- the command, and whether each composition is composed
+composed : List Text → Option (Text × Bool)
+composed words = option_map (λ p. (p.0, is_set (codes "compositions") p.1)) (subcommand_of ioac_app words)
+
+checked_alone : composed (codes "ioac" ∷ codes "check" ∷ codes "f" ∷ []) ≡ Some (codes "check", false)
+unfolding composed clap_on_literals
+checked_alone = refl
+
+checked_with_compositions : composed (codes "ioac" ∷ codes "check" ∷ codes "--compositions" ∷ codes "f" ∷ []) ≡ Some (codes "check", true)
+unfolding composed clap_on_literals
+checked_with_compositions = refl
 
 -- the command, and the file for its object
 placed : List Text → Option (Text × Option Text)
@@ -81,13 +102,28 @@ no_out : fault_of ioac_app (codes "ioac" ∷ codes "compile" ∷ codes "f" ∷ [
 unfolding clap_on_literals
 no_out = refl
 
--- the command and its code
-coded : List Text → Option (Text × Option Text)
-coded words = option_map (λ p. (p.0, first_of (codes "CODE") p.1)) (subcommand_of ioac_app words)
+-- the command and the words that are to be explained
+pasted : List Text → Option (Text × Option (List Text))
+pasted words = option_map (λ p. (p.0, all_of (codes "TEXT") p.1)) (subcommand_of ioac_app words)
 
-explained : coded (codes "ioac" ∷ codes "explain" ∷ codes "E7" ∷ []) ≡ Some (codes "explain", Some (codes "E7"))
-unfolding coded clap_on_literals
+explained : pasted (codes "ioac" ∷ codes "explain" ∷ codes "E7" ∷ []) ≡ Some (codes "explain", Some (codes "E7" ∷ []))
+unfolding pasted clap_on_literals
 explained = refl
+
+explained_in_words : pasted (codes "ioac" ∷ codes "explain" ∷ codes "E7" ∷ codes "line" ∷ codes "3" ∷ [])
+    ≡ Some (codes "explain", Some (codes "E7" ∷ codes "line" ∷ codes "3" ∷ []))
+unfolding pasted clap_on_literals
+explained_in_words = refl
+
+-- what they ask for
+a_code : IsPasted (codes "e7" ∷ codes "line" ∷ codes "3" ∷ []) (Topic.Code Code.E7)
+a_code = ((codes "e7", Some (codes "line")), refl, inl (Code.E7, refl, refl))
+
+a_fault : IsPasted (codes "end:" ∷ codes "fault" ∷ codes "3" ∷ codes "in" ∷ []) (Topic.Fault Fault.Empty)
+a_fault = ((codes "fault", Some (codes "3")), refl, inr refl)
+
+an_end : IsPasted (codes "monitor: not enabled at 11" ∷ []) Topic.NotEnabled
+an_end = ((codes "not", Some (codes "enabled")), refl, inr refl)
 
 version : fault_of ioac_app (codes "ioac" ∷ codes "--version" ∷ []) ≡ kinds.DisplayVersion ∷ []
 unfolding clap_on_literals

@@ -46,7 +46,7 @@ uncomposed text name s u x found same well missing refused = inr (inr (inr (s, f
     go None e = inl (e, missing (subst (λ v. picked v name ≡ None) (sym same) e))
     go (Some t) e = inr (t, e, subst (λ v. compositions.IsRefused v t x) same (refused t (subst (λ v. picked v name ≡ Some t) (sym same) e)))
 
-same_refusal : {T : Type 0} (x y : Refusal) → IsErrOf {T = T} (Err x) y → x ≡ y
+pub same_refusal : {T : Type 0} (x y : Refusal) → IsErrOf {T = T} (Err x) y → x ≡ y
 same_refusal x y h = cc
 
 -- the same of what composing answers

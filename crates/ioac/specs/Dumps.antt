@@ -1,5 +1,5 @@
 -- What a dump of an object writes: the tables and the code of its program as lines of text, for people.
-use Rattle.std.specs.Prelude.{ℕ, ◌+◌, List, [], ◌∷◌, ◌++◌, Option, Some, None, codes, slice_get, take}
+use Rattle.std.specs.Prelude.{ℕ, List, [], ◌∷◌, ◌++◌, Option, Some, None, codes, slice_get, take}
 use Rattle.std.specs.Fmt.{decimal}
 use Rattle.std.specs.List.{flat_map}
 use Rattle.std.specs.Option.{option_map_or}
@@ -21,13 +21,9 @@ use Rattle.ioa_compile.specs.Programs.{EntryCode, MemberCode, Prog}
 use Rattle.ioa_object.specs.Objects.{IsObject}
 use Rattle.ioa_object.specs.Refusals as objects
 use Rattle.ioa_object.specs.Spelling.{declared}
+use Rattle.ioa_picture.specs.Lines.{numbered}
 use Rattle.ioac.specs.declared.failure.Failure.{Failure}
 use Rattle.ioac.specs.Failing.{IsDeviceErr}
-
--- lines of each of some items, which are numbered, from n on
-abbrev pub numbered : {A : Type 0} → (ℕ → A → List ℕ) → ℕ → List A → List ℕ
-numbered lines n [] = []
-numbered lines n (x ∷ xs) = lines n x ++ numbered lines (n + 1) xs
 
 -- ---- types
 

@@ -1,12 +1,24 @@
--- What is written to explain a code. What the words of an explanation say is not told here.
+-- What is written to explain a topic. What the words of an explanation say is not told here.
 use Rattle.std.specs.Prelude.{ℕ, ◌≡◌, ◌++◌, ◌∷◌, [], List, Option, take, codes}
+use Rattle.std.specs.Fmt.{decimal}
 use Rattle.std.specs.Io.KnownBytes.{Appends, Keeps}
-use Rattle.ioac.specs.declared.code.Code.{Code}
+use Rattle.ioa_arithmetic.specs.Arithmetic.{fault_number}
 use Rattle.ioac.specs.declared.explanation.Example.{Example}
 use Rattle.ioac.specs.declared.explanation.Explanation.{Explanation}
 use Rattle.ioac.specs.declared.failure.Failure.{Failure}
+use Rattle.ioac.specs.declared.topic.Topic.{Topic}
 use Rattle.ioac.specs.Codes.{spelling}
 use Rattle.ioac.specs.Failing.{IsDeviceErr}
+
+-- as it is printed, without what follows
+abbrev pub title : Topic → List ℕ
+title (Topic.Code c) = spelling c
+title (Topic.Fault f) = codes "fault " ++ decimal (fault_number f)
+title Topic.Done = codes "done"
+title Topic.NotAnAction = codes "not an action"
+title Topic.NotEnabled = codes "not enabled"
+title Topic.Broken = codes "invariant broken"
+title Topic.Fine = codes "ok"
 
 -- the end of a line, and an empty line
 abbrev pub gap : List ℕ
@@ -25,23 +37,23 @@ example_text (Example.Told sentence) = sentence.now ++ 10 ∷ []
 
 abbrev pub explanation_text : Explanation → List ℕ
 explanation_text e =
-    spelling e.code ++ (codes ": " ++ (e.meaning.now ++ (gap ++ (example_text e.example ++ (10 ∷ e.mending.now ++ 10 ∷ [])))))
+    title e.topic ++ (codes ": " ++ (e.meaning.now ++ (gap ++ (example_text e.example ++ (10 ∷ e.mending.now ++ 10 ∷ [])))))
 
--- the code is explained in some words
-abbrev pub IsExplained : Code → Option (List ℕ) → Option (List ℕ) → Type 0
-IsExplained code before after = (e : Explanation) × (e.code ≡ code) × Appends before after (explanation_text e)
+-- the topic is explained in some words
+abbrev pub IsExplained : Topic → Option (List ℕ) → Option (List ℕ) → Type 0
+IsExplained topic before after = (e : Explanation) × (e.topic ≡ topic) × Appends before after (explanation_text e)
 
 -- memory is short, and nothing was written; or the device failed, and a beginning of an explanation was
-abbrev pub IsUnexplained : Code → Type 0 → Option (List ℕ) → Option (List ℕ) → Failure → Type 0
-IsUnexplained code failed before after (Failure.Refused r) = ⊥
-IsUnexplained code failed before after (Failure.Object e) = ⊥
-IsUnexplained code failed before after Failure.SourceWanted = ⊥
-IsUnexplained code failed before after (Failure.List e) =
-    IsDeviceErr (failed × ((e : Explanation) × (k : ℕ) × (e.code ≡ code) × Appends before after (take k (explanation_text e)))) e
-IsUnexplained code failed before after Failure.SpecHasInternal = ⊥
-IsUnexplained code failed before after (Failure.BadWords n) = ⊥
-IsUnexplained code failed before after Failure.TooManyTurns = ⊥
-IsUnexplained code failed before after (Failure.BadInput i) = ⊥
-IsUnexplained code failed before after Failure.Threads = ⊥
-IsUnexplained code failed before after Failure.Io = ⊥
-IsUnexplained code failed before after Failure.OutOfMemory = Keeps before after
+abbrev pub IsUnexplained : Topic → Type 0 → Option (List ℕ) → Option (List ℕ) → Failure → Type 0
+IsUnexplained topic failed before after (Failure.Refused r) = ⊥
+IsUnexplained topic failed before after (Failure.Object e) = ⊥
+IsUnexplained topic failed before after Failure.SourceWanted = ⊥
+IsUnexplained topic failed before after (Failure.List e) =
+    IsDeviceErr (failed × ((e : Explanation) × (k : ℕ) × (e.topic ≡ topic) × Appends before after (take k (explanation_text e)))) e
+IsUnexplained topic failed before after Failure.SpecHasInternal = ⊥
+IsUnexplained topic failed before after (Failure.BadWords n) = ⊥
+IsUnexplained topic failed before after Failure.TooManyTurns = ⊥
+IsUnexplained topic failed before after (Failure.BadInput i) = ⊥
+IsUnexplained topic failed before after Failure.Threads = ⊥
+IsUnexplained topic failed before after Failure.Io = ⊥
+IsUnexplained topic failed before after Failure.OutOfMemory = Keeps before after

@@ -24,6 +24,7 @@ use Rattle.ioa_log.specs.Replays.{BeginsReplay}
 use Rattle.ioac.specs.declared.failure.Failure.{Failure}
 use Rattle.ioac.specs.Headline.{Spells, Gives, begins_object}
 use Rattle.ioac.specs.Logs.{BeginsLog, BeginsFound, BeginsMonitor}
+use Rattle.ioac.specs.States.{BeginsLogStates, BeginsStates}
 use Rattle.ioac.specs.Subjects.{Subject, of_hosts, IsOpen, IsClosed, its_types, its_hidden, its_components, its_starts}
 
 -- a device failed; no list and no log is read
@@ -41,11 +42,14 @@ IsDeviceErr failed LogErr.OutOfMemory = ⊥
 abbrev pub IsIllFormed : List ℕ → Refusal → Type 0
 IsIllFormed text r = (s : SourceTree) × Spells text s × (WellFormed s → ⊥) × IsTrue (in_source s r)
 
+-- the source has no composition of the name, or one that is refused
+abbrev pub IsRefusedNamed : SourceTree → Option Name → Refusal → Type 0
+IsRefusedNamed s name r =
+    ((picked s name ≡ None) × (r ≡ refusals.NoComposition)) ⊎ ((t : CompositionTree) × (picked s name ≡ Some t) × compositions.IsRefused s t r)
+
 -- the text spells a well-formed tree, which has no composition of the name, or one that is refused
 abbrev pub IsUncomposed : List ℕ → Option Name → Refusal → Type 0
-IsUncomposed text name r =
-    (s : SourceTree) × Spells text s × WellFormed s
-    × (((picked s name ≡ None) × (r ≡ refusals.NoComposition)) ⊎ ((t : CompositionTree) × (picked s name ≡ Some t) × compositions.IsRefused s t r))
+IsUncomposed text name r = (s : SourceTree) × Spells text s × WellFormed s × IsRefusedNamed s name r
 
 abbrev pub IsRefusedSource : List ℕ → Option Name → Refusal → Type 0
 IsRefusedSource text name r =
@@ -131,10 +135,15 @@ IsLogFailure text name bytes failed Failure.Threads = ⊥
 IsLogFailure text name bytes failed Failure.Io = ⊥
 IsLogFailure text name bytes failed Failure.OutOfMemory = Unit {0}
 
--- the same where invariants are asked for, which a source has; or the file is an object
+-- the same where invariants or states are asked for, of which a source alone tells; or the file is an object
 abbrev pub IsInvariantFailure : List ℕ → Option Name → Option (List ℕ) → Type 0 → Failure → Type 0
 IsInvariantFailure text name bytes failed e =
     ((begins_object text ≡ false) × IsLogFailure text name bytes failed e) ⊎ ((begins_object text ≡ true) × (e ≡ Failure.SourceWanted))
+
+-- so of a list where states are asked for
+abbrev pub IsStatesFailure : List ℕ → Option Name → Option (List ℕ) → Type 0 → Failure → Type 0
+IsStatesFailure text name bytes failed e =
+    ((begins_object text ≡ false) × IsFailure text name bytes failed e) ⊎ ((begins_object text ≡ true) × (e ≡ Failure.SourceWanted))
 
 -- The file is refused; or not all that is done is seen; or the bytes are no log, by this line; or a device failed, after
 -- the file was accepted.
@@ -168,6 +177,12 @@ BeginsLogOf text name bytes before after = Given text name bytes (λ s xs. Begin
 
 abbrev pub BeginsFoundOf : List ℕ → Option Name → Option (List ℕ) → Option (List ℕ) → Option (List ℕ) → Type 0
 BeginsFoundOf text name bytes before after = (h : Hosted) × Gives text name (of_hosts h) × IfSome bytes (λ xs. BeginsFound h xs before after)
+
+abbrev pub BeginsStatesOf : List ℕ → Option Name → Option (List ℕ) → Option (List ℕ) → Option (List ℕ) → Type 0
+BeginsStatesOf text name bytes before after = (h : Hosted) × Gives text name (of_hosts h) × IfSome bytes (λ xs. BeginsStates h xs before after)
+
+abbrev pub BeginsLogStatesOf : List ℕ → Option Name → Option (List ℕ) → Option (List ℕ) → Option (List ℕ) → Type 0
+BeginsLogStatesOf text name bytes before after = (h : Hosted) × Gives text name (of_hosts h) × IfSome bytes (λ xs. BeginsLogStates h xs before after)
 
 abbrev pub BeginsMonitorOf : List ℕ → Option Name → Option (List ℕ) → Option (List ℕ) → Option (List ℕ) → Type 0
 BeginsMonitorOf text name bytes before after = Given text name bytes (λ s xs. BeginsMonitor s xs before after)

@@ -1,5 +1,5 @@
 -- What is told on standard error. Of a device it is said what it holds before and after, and whether it failed.
-use Rattle.std.specs.Prelude.{◌≡◌, ℕ, ◌⊎◌, ◌++◌, ◌∷◌, [], if◌then◌else◌, is_some, List, Option, Some, None, take, codes}
+use Rattle.std.specs.Prelude.{◌≡◌, ℕ, ◌⊎◌, ◌++◌, ◌∷◌, [], ◌&&◌, Bool, true, false, if◌then◌else◌, is_some, List, Option, Some, None, take, codes}
 use Rattle.std.specs.Io.KnownBytes.{Appends}
 use Rattle.std.specs.List.{join_by}
 use Rattle.std.specs.Str.{bytes_eq}
@@ -7,6 +7,7 @@ use Rattle.clap.specs.Words.{Row, Text, first_of}
 use Rattle.ioac.specs.declared.failure.Failure.{Failure}
 use Rattle.ioac.specs.declared.status.Status.{Status}
 use Rattle.ioac.specs.Codes.{all_codes, spelling}
+use Rattle.ioac.specs.CommandLine.{is_set}
 use Rattle.ioac.specs.Printed.{failure_text}
 use Rattle.ioac.specs.Settings.{turns_in}
 use Rattle.ioac.specs.Statuses.{failure_status}
@@ -44,15 +45,20 @@ unreadable_text = codes "error: the command line is not UTF-8" ++ try_help
 abbrev pub known_codes : List ℕ
 known_codes = join_by spelling (codes ", ") all_codes
 
--- of a word that is none of those that are listed
+-- of a word that is none of the codes that are listed, and no beginning of what is printed otherwise
 abbrev pub unknown_code_text : Text → List ℕ → List ℕ
 unknown_code_text word listed =
-    codes "error: invalid value '" ++ (word ++ (codes "' for '<CODE>'\n  [possible values: " ++ (listed ++ (codes "]" ++ try_help))))
+    codes "error: invalid value '" ++ (word ++ (codes "' for '<TEXT>...'\n  [possible values: "
+    ++ (listed ++ (codes ", fault 1 to fault 5, done, not an action, not enabled, invariant, ok]" ++ try_help))))
 
 -- of invariants that are asked for without a log
 abbrev pub missing_log_text : List ℕ
 missing_log_text =
     codes "error: the following required arguments were not provided:\n  --log\n\nUsage: ioac replay --log --invariants <FILE>" ++ try_help
+
+-- of invariants and states that are asked for together
+abbrev pub two_questions_text : List ℕ
+two_questions_text = codes "error: the argument '--invariants' cannot be used with '--states'" ++ try_help
 
 -- of a value that an option does not take
 abbrev pub invalid_value_text : Text → List ℕ → List ℕ
@@ -74,14 +80,23 @@ bad_settings_text None seed file = bad_source_text seed file
 bad_settings_text (Some word) seed file =
     if is_some (turns_in (Some word)) then bad_source_text seed file else invalid_value_text word (codes "--turns <N>")
 
--- of a code that is none; or without one, of invariants of a list
-abbrev pub bad_request_text : Option Text → List ℕ
-bad_request_text None = missing_log_text
-bad_request_text (Some word) = unknown_code_text word known_codes
+-- invariants and states are asked for
+abbrev pub asks_both : List Row → Bool
+asks_both rows = is_set (codes "invariants") rows && is_set (codes "states") rows
+
+-- of a replay that is asked for both, or of a list for invariants
+abbrev pub bad_replay_text : Bool → List ℕ
+bad_replay_text true = two_questions_text
+bad_replay_text false = missing_log_text
+
+-- of what there is no explanation of; or without a word, of a replay
+abbrev pub bad_request_text : Option Text → Bool → List ℕ
+bad_request_text None both = bad_replay_text both
+bad_request_text (Some word) both = unknown_code_text word known_codes
 
 -- of a command line without a fault that asks for nothing, by its subcommand and the values of this
 abbrev pub unasked_text : Option (Text × List Row) → List ℕ
 unasked_text None = missing_log_text
 unasked_text (Some found) =
     if bytes_eq found.0 (codes "run") then bad_settings_text (first_of (codes "turns") found.1) (first_of (codes "seed") found.1) (first_of (codes "words") found.1)
-    else bad_request_text (first_of (codes "CODE") found.1)
+    else bad_request_text (first_of (codes "TEXT") found.1) (asks_both found.1)

@@ -1,7 +1,8 @@
-ghost use Rattle.std.specs.Prelude.{◌≡◌, IfSome, IfNone, find, option_map};
-ghost use Rattle.std.specs.Str.{bytes_eq};
+ghost use Rattle.std.specs.Prelude.{◌≡◌, true, IfSome, IfNone, find, option_map};
 ghost use Rattle.ioac.specs.Codes.{spelling};
+ghost use Rattle.ioac.specs.Pasted.{reads};
 
+use crate::pasted::reads;
 use std::convert::AsStr;
 use std::fmt;
 
@@ -142,20 +143,22 @@ impl Code {
         }
     }
 
-    /// The code that is spelled so, if there is one.
-    pub fn find(word: &str) -> Option<Code>
-        ensures some { IfSome result (λ code. word.now ≡ spelling code) }
-        ensures none { IfNone result ((code : Code) → word.now ≡ spelling code → ⊥) }
+    /// The code that is spelled so, in capitals or not, if there is one.
+    pub fn find(word: &[u8]) -> Option<Code>
+        ensures some { IfSome result (λ code. reads (spelling code) word.now ≡ true) }
+        ensures none { IfNone result ((code : Code) → reads (spelling code) word.now ≡ true → ⊥) }
     {
         first_spelled(Code::ALL.as_slice(), word).copied()
     }
 }
 
-/// The first of the codes that is spelled so.
-fn first_spelled<'a>(codes: &'a [Code], word: &str) -> Option<&'a Code>
-    ensures { option_map (λ c. c.now) result ≡ find (λ c. bytes_eq (spelling c) word.now) codes.now }
+/// The first of the codes that is spelled so, in capitals or not.
+fn first_spelled<'a>(codes: &'a [Code], word: &[u8]) -> Option<&'a Code>
+    ensures { option_map (λ c. c.now) result ≡ find (λ c. reads (spelling c) word.now) codes.now }
 {
-    codes.iter().find(|code| code.spelling() == word)
+    codes
+        .iter()
+        .find(|code| reads(code.spelling().as_bytes(), word))
 }
 
 impl AsStr for Code {

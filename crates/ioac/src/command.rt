@@ -24,10 +24,12 @@ use crate::log_chart::chart_log_text;
 use crate::log_replay::replay_log_text;
 use crate::monitor::monitor_text;
 use crate::object_file::compile_file;
+use crate::reading::read_request;
 use crate::replay::replay_text;
-use crate::request::{Request, parse, read_request};
+use crate::request::{Request, parse};
 use crate::run::run_file;
 use crate::served::{Served, finish, silent};
+use crate::states_replay::{replay_log_states_text, replay_states_text};
 use crate::status::Status;
 use crate::store::Store;
 use crate::telling::reported;
@@ -163,9 +165,19 @@ fn serve<H: Threads + Wait + Sync, F: Store, R: InputDevice, W: OutputDevice>(
             let end = replay_text(alloc, text.as_slice(), *composition, input, output)?;
             Ok(silent(status_of(end)))
         }
+        Request::ReplayStates { file, composition } => {
+            let named = store.load(alloc, file)?;
+            let end = replay_states_text(alloc, named.as_slice(), *composition, input, output)?;
+            Ok(silent(status_of(end)))
+        }
         Request::ReplayLog { file, composition } => {
             let automata = store.load(alloc, file)?;
             let end = replay_log_text(alloc, automata.as_slice(), *composition, input, output)?;
+            Ok(silent(status_of(end)))
+        }
+        Request::ReplayLogStates { file, composition } => {
+            let shown = store.load(alloc, file)?;
+            let end = replay_log_states_text(alloc, shown.as_slice(), *composition, input, output)?;
             Ok(silent(status_of(end)))
         }
         Request::ReplayInvariants { file, composition } => {
@@ -206,9 +218,9 @@ fn serve<H: Threads + Wait + Sync, F: Store, R: InputDevice, W: OutputDevice>(
             graph_text(alloc, graphed.as_slice(), *composition, output)?;
             Ok(silent(Status::Done))
         }
-        Request::Check { file } => {
+        Request::Check { file, compositions } => {
             let source = store.load(alloc, file)?;
-            check_text(alloc, source.as_slice(), output)?;
+            check_text(alloc, source.as_slice(), *compositions, output)?;
             Ok(silent(Status::Done))
         }
         Request::Compile {
@@ -224,8 +236,8 @@ fn serve<H: Threads + Wait + Sync, F: Store, R: InputDevice, W: OutputDevice>(
             dump_object(alloc, object.as_slice(), output)?;
             Ok(silent(Status::Done))
         }
-        Request::Explain { code } => {
-            explain(alloc, *code, output)?;
+        Request::Explain { topic } => {
+            explain(alloc, *topic, output)?;
             Ok(silent(Status::Done))
         }
         Request::Library => {

@@ -3,7 +3,7 @@
 mod code;
 mod components;
 mod types;
-mod values;
+pub mod values;
 
 ghost use Rattle.std.specs.Prelude.{◌≡◌, ◌++◌, IfOk, IfErr, IsErrOf, OnOk, map};
 ghost use Rattle.std.specs.List.{flat_map};

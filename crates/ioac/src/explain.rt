@@ -3,24 +3,24 @@ ghost use Rattle.ioa_log.specs.declared.failure.LogErr.{LogErr};
 ghost use Rattle.ioa_log.specs.Failing.{HasFailed};
 ghost use Rattle.ioac.specs.Explained.{IsExplained, IsUnexplained};
 
-use crate::code::Code;
 use crate::explanations::explanation;
 use crate::failure::Failure;
+use crate::topic::Topic;
 use ioa_log::{OutputDevice, send_all};
 use std::alloc::Global;
 
-/// Writes what a code means, what gives it, and what to do then.
+/// Writes what a topic means, what gives it, and what to do then.
 ///
 /// # Errors
 /// `List` where the device failed in this call, and then a beginning of the text was written; or want of memory, and then
 /// nothing was.
-pub fn explain<W: OutputDevice>(alloc: Global, code: Code, output: &mut W) -> Result<(), Failure>
-    ensures explains { OnOk result (IsExplained code (W.contents output.old) (W.contents output.new)) }
-    ensures refused { IfErr result (λ e. IsUnexplained code (HasFailed (W.failure_count output.old) (W.failure_count output.new))
+pub fn explain<W: OutputDevice>(alloc: Global, topic: Topic, output: &mut W) -> Result<(), Failure>
+    ensures explains { OnOk result (IsExplained topic (W.contents output.old) (W.contents output.new)) }
+    ensures refused { IfErr result (λ e. IsUnexplained topic (HasFailed (W.failure_count output.old) (W.failure_count output.new))
         (W.contents output.old) (W.contents output.new) e) }
     ensures passed { (IsErrOf result (Failure.List LogErr.Io) → ⊥) → W.failure_count output.new ≡ W.failure_count output.old }
 {
-    let explanation = explanation(code);
+    let explanation = explanation(topic);
     let text = format!(in alloc; "{explanation}")?;
     send_all(output, text.as_bytes())?;
     Ok(())

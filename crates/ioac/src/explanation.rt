@@ -1,17 +1,17 @@
-use crate::code::Code;
+use crate::topic::Topic;
 use std::fmt;
 
-/// What a code means, in words for someone who writes a first protocol.
+/// What is said of a topic, in words for someone who writes a first protocol.
 #[derive(Clone, Copy, Debug)]
 pub struct Explanation {
-    pub code: Code,
+    pub topic: Topic,
     pub meaning: &'static str,
     pub example: Example,
     /// What to do then.
     pub mending: &'static str,
 }
 
-/// What makes the program print a code.
+/// What makes the program print it.
 #[derive(Clone, Copy, Debug)]
 pub enum Example {
     /// This source, whatever the list.
@@ -75,11 +75,11 @@ impl fmt::Display for Explanation {
 
     fn fmt<W: fmt::Write>(&self, f: &mut fmt::Formatter<W>) -> fmt::Result {
         let Explanation {
-            code,
+            topic,
             meaning,
             example,
             mending,
         } = self;
-        write!(f, "{code}: {meaning}\n\n{example}\n{mending}\n")
+        write!(f, "{topic}: {meaning}\n\n{example}\n{mending}\n")
     }
 }

@@ -1,4 +1,6 @@
 mod compositions;
+mod ends;
+mod faults;
 mod logs;
 mod objects;
 mod runs;
@@ -7,13 +9,42 @@ mod sources;
 mod texts;
 
 ghost use Rattle.std.specs.Prelude.{◌≡◌};
+ghost use Rattle.ioac.specs.declared.topic.Topic.{Topic};
 
 use crate::code::Code;
 use crate::explanation::Explanation;
+use crate::topic::Topic;
+use ioa_value::Fault;
 
-/// What a code means.
-pub fn explanation(code: Code) -> Explanation
-    ensures { result.code ≡ code }
+/// What is said of a topic.
+pub fn explanation(topic: Topic) -> Explanation
+    ensures { result.topic ≡ topic }
+{
+    match topic {
+        Topic::Code(code) => of_code(code),
+        Topic::Fault(fault) => of_fault(fault),
+        Topic::Done => ends::DONE,
+        Topic::NotAnAction => ends::NOT_AN_ACTION,
+        Topic::NotEnabled => ends::NOT_ENABLED,
+        Topic::Broken => ends::BROKEN,
+        Topic::Fine => ends::FINE,
+    }
+}
+
+fn of_fault(fault: Fault) -> Explanation
+    ensures { result.topic ≡ Topic.Fault fault }
+{
+    match fault {
+        Fault::Overflow => faults::OVERFLOW,
+        Fault::ZeroDivisor => faults::ZERO_DIVISOR,
+        Fault::Empty => faults::EMPTY,
+        Fault::OutOfRange => faults::OUT_OF_RANGE,
+        Fault::Full => faults::FULL,
+    }
+}
+
+fn of_code(code: Code) -> Explanation
+    ensures { result.topic ≡ Topic.Code code }
 {
     match code {
         Code::E1 => texts::E1,

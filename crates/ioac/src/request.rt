@@ -1,12 +1,10 @@
-ghost use Rattle.std.specs.Prelude.{◌≡◌, false, map, codes, IfOk, IfSome, IfNone};
-ghost use Rattle.clap.specs.Words.{FailsBy, app_of, fault_of, found_of, new_app, rows_of, rule_of, subcommand_of, subcommand_rows_of};
-ghost use Rattle.ioac.specs.CommandLine as asked;
-ghost use Rattle.ioac.specs.CommandLine.{IsAskedBy, IsLocal, chart_app, check_app, code_rule, comp_rule, compile_app, dump_app, explain_app, file_rule, graph_app, invariants_rule, ioac_app, library_app, log_app, log_rule, monitor_app, out_rule, replay_app};
-ghost use Rattle.ioac.specs.declared.request.Request.{Request};
+ghost use Rattle.std.specs.Prelude.{◌≡◌, false, map, codes, IfOk};
+ghost use Rattle.clap.specs.Words.{FailsBy, app_of, fault_of, new_app, rule_of, subcommand_of, subcommand_rows_of};
+ghost use Rattle.ioac.specs.CommandLine.{IsLocal, chart_app, check_app, comp_rule, compile_app, compositions_rule, dump_app, explain_app, file_rule, graph_app, invariants_rule, ioac_app, library_app, log_app, log_rule, monitor_app, out_rule, replay_app, states_rule, text_rule};
 
-use crate::code::Code;
 use crate::run_usage::run_command;
-use crate::settings::{Settings, read_settings};
+use crate::settings::Settings;
+use crate::topic::Topic;
 use clap::{Arg, ArgAction, ArgMatches, Command, Error};
 use std::alloc::{AllocError, Global};
 use std::convert::AsStr;
@@ -19,8 +17,18 @@ pub enum Request<'a> {
         file: &'a str,
         composition: Option<&'a str>,
     },
+    /// To replay the list on standard input in a composition of a source, and to write the states in which it ends.
+    ReplayStates {
+        file: &'a str,
+        composition: Option<&'a str>,
+    },
     /// To replay the log on standard input in a composition of a source, or in an object.
     ReplayLog {
+        file: &'a str,
+        composition: Option<&'a str>,
+    },
+    /// To replay the log on standard input in a composition of a source, and to write the states in which it ends.
+    ReplayLogStates {
         file: &'a str,
         composition: Option<&'a str>,
     },
@@ -51,9 +59,10 @@ pub enum Request<'a> {
         file: &'a str,
         composition: Option<&'a str>,
     },
-    /// To parse and check a source, or to read and verify an object.
+    /// To parse and check a source, or to read and verify an object; and to compose each composition of a source, where that is asked for.
     Check {
         file: &'a str,
+        compositions: bool,
     },
     /// To put the object of a composition of a source in the file `out`.
     Compile {
@@ -65,9 +74,9 @@ pub enum Request<'a> {
     Dump {
         file: &'a str,
     },
-    /// To say what a code means.
+    /// To say what a topic means.
     Explain {
-        code: Code,
+        topic: Topic,
     },
     /// To write the library's source.
     Library,
@@ -148,13 +157,37 @@ fn invariants_flag<'a>(alloc: Global) -> Arg<'a>
         )
 }
 
-fn code_argument<'a>(alloc: Global) -> Arg<'a>
-    ensures rule { rule_of result ≡ code_rule }
+fn compositions_flag<'a>(alloc: Global) -> Arg<'a>
+    ensures rule { rule_of result ≡ compositions_rule }
     ensures local { result.global ≡ false }
 {
-    Arg::new(alloc, "CODE")
-        .required(true)
-        .help("A code that the program printed, as E7")
+    Arg::new(alloc, "compositions")
+        .long("compositions")
+        .action(ArgAction::SetTrue)
+        .help(
+            "Each composition of a source is composed, too, and the first that is refused is told",
+        )
+}
+
+fn states_flag<'a>(alloc: Global) -> Arg<'a>
+    ensures rule { rule_of result ≡ states_rule }
+    ensures local { result.global ≡ false }
+{
+    Arg::new(alloc, "states")
+        .long("states")
+        .action(ArgAction::SetTrue)
+        .help(
+            "Of a source: each variable follows with its value in the state that is reached last; not with --invariants",
+        )
+}
+
+fn text_argument<'a>(alloc: Global) -> Arg<'a>
+    ensures rule { rule_of result ≡ text_rule }
+    ensures local { result.global ≡ false }
+{
+    Arg::new(alloc, "TEXT").required(true).num_args(1..).help(
+        "What the program printed: a code, as E7, a fault, as fault 3, or an end, as not enabled at 4",
+    )
 }
 
 fn check_command<'a>(alloc: Global) -> Result<Command<'a>, AllocError>
@@ -164,10 +197,12 @@ fn check_command<'a>(alloc: Global) -> Result<Command<'a>, AllocError>
     Command::new(alloc, "check")
         .about("Parses and checks a source, or verifies an object, and prints ok where it is fine")
         .after_help(
-            "Compositions of a source are composed by `compile`, `replay`, `run` and `monitor` alone.\n\
+            "Without --compositions, compositions of a source are composed by the other commands alone.\n\
+             Example: ioac check --compositions protocol.ioa\n\
              Exit status: 0 done, 1 source or object refused, 2 bad command line, 5 memory, the file or a device.",
         )
-        .arg(file_argument(alloc))
+        .arg(file_argument(alloc))?
+        .arg(compositions_flag(alloc))
 }
 
 fn compile_command<'a>(alloc: Global) -> Result<Command<'a>, AllocError>
@@ -178,6 +213,7 @@ fn compile_command<'a>(alloc: Global) -> Result<Command<'a>, AllocError>
         .about("Compiles a composition, puts its object in a file, and prints ok")
         .after_help(
             "`check`, `replay`, `run` and `monitor` take the object in the place of a source.\n\
+             Example: ioac compile protocol.ioa protocol.object\n\
              Exit status: 0 done, 1 source refused, 2 bad command line or no source, 5 memory, a file or a device.",
         )
         .arg(source_argument(alloc))?
@@ -193,6 +229,7 @@ fn dump_command<'a>(alloc: Global) -> Result<Command<'a>, AllocError>
         .about("Prints the tables and the code of an object, an item a line")
         .after_help(
             "Types, variables, positions and constants have the numbers by which instructions name them.\n\
+             Example: ioac dump protocol.object\n\
              Exit status: 0 done, 1 no object, 2 bad command line, 5 memory, the file or a device.",
         )
         .arg(object_argument(alloc))
@@ -203,11 +240,13 @@ fn explain_command<'a>(alloc: Global) -> Result<Command<'a>, AllocError>
     ensures local { IfOk result IsLocal }
 {
     Command::new(alloc, "explain")
-        .about("Says what a code means that the program printed, what gives it, and how to mend it")
+        .about("Says what a text means that the program printed, what gives it, and how to mend it")
         .after_help(
-            "Exit status: 0 done, 2 bad command line or no such code, 5 memory or a device.",
+            "The first words tell, in capitals or not; more may stand behind them, and `end:` or `monitor:` before.\n\
+             Example: ioac explain fault 3 in component 0 at 2\n\
+             Exit status: 0 done, 2 bad command line or nothing to explain, 5 memory or a device.",
         )
-        .arg(code_argument(alloc))
+        .arg(text_argument(alloc))
 }
 
 fn library_command<'a>(alloc: Global) -> Command<'a>
@@ -216,7 +255,10 @@ fn library_command<'a>(alloc: Global) -> Command<'a>
 {
     Command::new(alloc, "library")
         .about("Prints the library of link protocols, a source to check, run and replay")
-        .after_help("Exit status: 0 done, 2 bad command line, 5 memory or a device.")
+        .after_help(
+            "Example: ioac library > links.ioa\n\
+             Exit status: 0 done, 2 bad command line, 5 memory or a device.",
+        )
 }
 
 fn replay_command<'a>(alloc: Global) -> Result<Command<'a>, AllocError>
@@ -227,7 +269,8 @@ fn replay_command<'a>(alloc: Global) -> Result<Command<'a>, AllocError>
         .arg(file_argument(alloc))?
         .arg(composition_option(alloc))?
         .arg(log_flag(alloc))?
-        .arg(invariants_flag(alloc))
+        .arg(invariants_flag(alloc))?
+        .arg(states_flag(alloc))
 }
 
 /// The subcommand without its arguments. Its usage is written out, since invariants are asked of a log alone.
@@ -240,10 +283,11 @@ fn described_replay<'a>(alloc: Global) -> Command<'a>
         .after_help(
             "The list has one action a line, as `tick(5)`. Blank lines and lines that begin with % are skipped.\n\
              A log has one JSON object a line, as `{\"act\":\"tick(5)\",\"who\":0}`, and last `{\"end\":\"done after 1\"}`.\n\
+             Example: ioac replay protocol.ioa < actions.txt\n\
              Exit status: 0 done, 1 source or object refused, 2 bad command line, 3 ended by a fault,\n\
              4 list or log refused, invariant broken, or ended not enabled or not an action, 5 memory, the file or a device.",
         )
-        .override_usage("ioac replay [--comp <NAME>] [--log [--invariants]] <FILE>")
+        .override_usage("ioac replay [--comp <NAME>] [--log [--invariants]] [--states] <FILE>")
 }
 
 fn log_command<'a>(alloc: Global) -> Result<Command<'a>, AllocError>
@@ -255,6 +299,7 @@ fn log_command<'a>(alloc: Global) -> Result<Command<'a>, AllocError>
         .after_help(
             "The log has each action that is performed, with its worker, and last the end. An action that faults is its last entry;\n\
              where one is not enabled or none, the log ends as done before it. `replay --log` and `monitor` take the log.\n\
+             Example: ioac log protocol.ioa < actions.txt > run.log\n\
              Exit status: 0 done, 1 source or object refused, 2 bad command line, 3 ended by a fault,\n\
              4 list refused, or ended not enabled or not an action, 5 memory, the file or a device.",
         )
@@ -272,6 +317,7 @@ fn monitor_command<'a>(alloc: Global) -> Result<Command<'a>, AllocError>
         )
         .after_help(
             "The composition has no internal action, and hides none. It is run on those of the log's actions that its components have.\n\
+             Example: ioac monitor specification.ioa < run.log\n\
              Exit status: 0 accepted, 1 source or object refused, 2 bad command line,\n\
              4 not accepted, log refused, or no monitor, 5 memory, the file or a device.",
         )
@@ -288,6 +334,7 @@ fn chart_command<'a>(alloc: Global) -> Result<Command<'a>, AllocError>
         .after_help(
             "The log has to be of the composition's run. Each action is an arrow from the component that owns it, or from the environment,\n\
              to each other component that has it; where there is none, it is a note over its owner. A fault is a note, too.\n\
+             Example: ioac chart protocol.ioa < run.log\n\
              Exit status: 0 done, 1 source or object refused, 2 bad command line, 3 ended by a fault,\n\
              4 log refused, 5 memory, the file or a device.",
         )
@@ -306,6 +353,7 @@ fn graph_command<'a>(alloc: Global) -> Result<Command<'a>, AllocError>
         .after_help(
             "An output is an edge to each component that takes it, or to the environment where none does, dashed where its name is hidden;\n\
              an input that no component gives is an edge from the environment. Internal names stand in their component.\n\
+             Example: ioac graph protocol.ioa > protocol.dot\n\
              Exit status: 0 done, 1 source or object refused, 2 bad command line, 5 memory, the file or a device.",
         )
         .arg(file_argument(alloc))?
@@ -320,7 +368,6 @@ fn program<'a>(alloc: Global) -> Result<Command<'a>, AllocError>
         .version(VERSION)
         .subcommand_required(true)
         .arg_required_else_help(true)
-        .disable_help_subcommand(true)
         .subcommand(check_command(alloc)?)?
         .subcommand(compile_command(alloc)?)?
         .subcommand(dump_command(alloc)?)?
@@ -343,97 +390,4 @@ pub fn parse<'a, S: AsStr>(alloc: Global, words: &'a [S]) -> Result<ArgMatches<'
     ensures faults { FailsBy (fault_of ioac_app (map S.text words.entry.now)) result }
 {
     program(alloc)?.try_get_matches_from(words)
-}
-
-/// Whether a flag stands.
-pub fn is_set(found: &ArgMatches<'_>, flag: &str) -> bool
-    ensures { result ≡ asked.is_set flag.now (rows_of (found_of found.now)) }
-{
-    match found.get_str(flag) {
-        Some(value) => value == "true",
-        None => false,
-    }
-}
-
-/// The request of a command line without a fault. None where a word is missing, which a parse rules out, where there is no such code,
-/// where the invariants of a list
-/// are asked for, or where the settings of a run are none.
-pub fn read_request<'a>(matches: &ArgMatches<'a>) -> Option<Request<'a>>
-    ensures some { IfSome result (λ asked. IsAskedBy (subcommand_rows_of matches.now) asked) }
-    ensures none { IfNone result ((asked : Request) → IsAskedBy (subcommand_rows_of matches.now) asked → ⊥) }
-{
-    let (name, found) = matches.subcommand()?;
-    match name {
-        "replay" => {
-            let file = found.get_str("FILE")?;
-            let composition = found.get_str("comp");
-            match (is_set(found, "log"), is_set(found, "invariants")) {
-                (true, true) => Some(Request::ReplayInvariants { file, composition }),
-                (true, false) => Some(Request::ReplayLog { file, composition }),
-                (false, true) => None,
-                (false, false) => Some(Request::Replay { file, composition }),
-            }
-        }
-        "log" => {
-            let file = found.get_str("FILE")?;
-            let taken = found.get_str("comp");
-            Some(Request::Log {
-                file,
-                composition: taken,
-            })
-        }
-        "run" => {
-            let settings = read_settings(found)?;
-            Some(Request::Run(settings))
-        }
-        "monitor" => {
-            let file = found.get_str("FILE")?;
-            let named = found.get_str("comp");
-            Some(Request::Monitor {
-                file,
-                composition: named,
-            })
-        }
-        "chart" => {
-            let file = found.get_str("FILE")?;
-            let told = found.get_str("comp");
-            Some(Request::Chart {
-                file,
-                composition: told,
-            })
-        }
-        "graph" => {
-            let file = found.get_str("FILE")?;
-            let drawn = found.get_str("comp");
-            Some(Request::Graph {
-                file,
-                composition: drawn,
-            })
-        }
-        "check" => {
-            let file = found.get_str("FILE")?;
-            Some(Request::Check { file })
-        }
-        "compile" => {
-            let file = found.get_str("FILE")?;
-            let out = found.get_str("OUT")?;
-            let picked = found.get_str("comp");
-            Some(Request::Compile {
-                file,
-                out,
-                composition: picked,
-            })
-        }
-        "dump" => {
-            let file = found.get_str("FILE")?;
-            Some(Request::Dump { file })
-        }
-        "explain" => {
-            let word = found.get_str("CODE")?;
-            let code = Code::find(word)?;
-            Some(Request::Explain { code })
-        }
-        "library" => Some(Request::Library),
-        _ => None,
-    }
 }

@@ -104,6 +104,7 @@ fn described_run<'a>(alloc: Global) -> Command<'a>
             "Each component is a worker, which proposes actions by its words and performs those that are enabled.\n\
              The environment performs the inputs of LFILE in order, one action a line, as `reset`.\n\
              WFILE has the words of the first component on its first line, in decimal, as `9 17 4`; then they are 0.\n\
+             Example: ioac run --alone --turns 20 protocol.ioa\n\
              Exit status: 0 done, 1 source or object refused, 2 bad command line, words or turns, 3 ended by a fault,\n\
              4 inputs refused, 5 memory, a thread, a file or a device.",
         )

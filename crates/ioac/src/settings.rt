@@ -6,7 +6,7 @@ ghost use Rattle.ioac.specs.Settings as spec;
 ghost use Rattle.ioac.specs.declared.settings.Settings.{Settings};
 
 use crate::numerals::numeral;
-use crate::request::is_set;
+use crate::reading::is_set;
 use crate::seed::read_key;
 use clap::ArgMatches;
 

@@ -1,7 +1,7 @@
 ghost use Rattle.std.specs.Prelude.{◌≡◌, ◌<◌, length, IfOk};
 ghost use Rattle.std.specs.Option.{option_copied};
 ghost use Rattle.std.specs.String.{string_bytes};
-ghost use Rattle.clap.specs.Words.{kind_of, subcommand_rows_of};
+ghost use Rattle.clap.specs.Words.{found_of, kind_of, rows_of, subcommand_rows_of};
 ghost use Rattle.ioa_log.specs.Failing.{HasFailed};
 ghost use Rattle.ioac.specs.Commands.{IsShown, IsUsage, usage_status};
 ghost use Rattle.ioac.specs.Telling as telling;
@@ -10,6 +10,7 @@ ghost use Rattle.ioac.specs.declared.status.Status.TheVariants as statuses;
 
 use crate::code::Code;
 use crate::failure::Failure;
+use crate::reading::is_set;
 use crate::settings::read_turns;
 use crate::status::Status;
 use crate::telling::{put, put_short, reported};
@@ -70,8 +71,8 @@ fn shown<W: OutputDevice, E: OutputDevice>(
     }
 }
 
-/// Tells of a command line that has no fault and asks for nothing, and answers the exit status. It asks for a code that is none, for the
-/// invariants of a list, or for a run whose settings are none.
+/// Tells of a command line that has no fault and asks for nothing, and answers the exit status. It asks for what there is no explanation of, for the
+/// invariants of a list, for invariants and states, or for a run whose settings are none.
 pub fn told_unasked<E: OutputDevice>(
     alloc: Global,
     matches: &ArgMatches<'_>,
@@ -103,7 +104,16 @@ fn unasked_text(alloc: Global, matches: &ArgMatches<'_>) -> Result<String, Alloc
             found.get_str("words"),
         );
     }
-    bad_request_text(alloc, found.get_str("CODE"))
+    bad_request_text(alloc, found.get_str("TEXT"), asks_both(found))
+}
+
+/// Whether a replay is asked for invariants and for states.
+fn asks_both(found: &ArgMatches<'_>) -> bool
+    ensures { result ≡ telling.asks_both (rows_of (found_of found.now)) }
+{
+    let invariants = is_set(found, "invariants");
+    let states = is_set(found, "states");
+    invariants && states
 }
 
 /// What is wrong with the words for a run: with those for its turns, or else with the source of its workers' words.
@@ -137,12 +147,13 @@ fn bad_source_text(
     }
 }
 
-/// What is wrong with the word for a code; or without a word, that invariants are those of a log.
-fn bad_request_text(alloc: Global, code: Option<&str>) -> Result<String, AllocError>
-    ensures { IfOk result (λ text. string_bytes text ≡ telling.bad_request_text (option_copied code.entry)) }
+/// What is wrong with the word for a code; or without a word, with what a replay is asked for.
+fn bad_request_text(alloc: Global, code: Option<&str>, both: bool) -> Result<String, AllocError>
+    ensures { IfOk result (λ text. string_bytes text ≡ telling.bad_request_text (option_copied code.entry) both) }
 {
     match code {
         Some(word) => unknown_code_text(alloc, word),
+        None if both => two_questions_text(alloc),
         None => missing_log_text(alloc),
     }
 }
@@ -179,7 +190,7 @@ fn refused_word(alloc: Global, word: &str, listed: &str) -> Result<String, Alloc
     ensures { IfOk result (λ text. string_bytes text ≡ telling.unknown_code_text word.now listed.now) }
 {
     format!(in alloc;
-        "error: invalid value '{word}' for '<CODE>'\n  [possible values: {listed}]\n\nFor more information, try '--help'.\n"
+        "error: invalid value '{word}' for '<TEXT>...'\n  [possible values: {listed}, fault 1 to fault 5, done, not an action, not enabled, invariant, ok]\n\nFor more information, try '--help'.\n"
     )
 }
 
@@ -188,6 +199,16 @@ fn known_codes(alloc: Global) -> Result<String, AllocError>
     ensures { IfOk result (λ text. string_bytes text ≡ telling.known_codes) }
 {
     Code::ALL.as_slice().join(alloc, ", ")
+}
+
+/// That invariants and states are not asked for together, in the same manner.
+fn two_questions_text(alloc: Global) -> Result<String, AllocError>
+    ensures { IfOk result (λ text. string_bytes text ≡ telling.two_questions_text) }
+{
+    String::from_str(
+        alloc,
+        "error: the argument '--invariants' cannot be used with '--states'\n\nFor more information, try '--help'.\n",
+    )
 }
 
 /// That invariants are those of a log, in the same manner.

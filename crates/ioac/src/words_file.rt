@@ -97,7 +97,7 @@ fn word(field: &[u8]) -> Option<u32>
 }
 
 /// What stands before the first space, and what after it, where there is one.
-fn first_field(text: &[u8]) -> (&[u8], Option<&[u8]>)
+pub fn first_field(text: &[u8]) -> (&[u8], Option<&[u8]>)
     ensures field { result.0.now ≡ first_field text.now }
     ensures after { option_map (λ b. b.now) result.1 ≡ after_field text.now }
 {

@@ -3,6 +3,7 @@ ghost use Rattle.std.specs.List.{flat_map};
 ghost use Rattle.std.specs.String.{string_bytes};
 ghost use Rattle.ioa_value.specs.Positions.{domain_of};
 ghost use Rattle.ioa_compile.specs.Shown.{entry_code, member_code};
+ghost use Rattle.ioa_picture.specs.Lines.{numbered};
 ghost use Rattle.ioac.specs.Dumps as spec;
 
 use crate::dump::code::{put_local, put_part};
@@ -21,7 +22,7 @@ pub fn put_members(
     types: &Types,
     members: &[Member],
 ) -> Result<(), OutOfMemory>
-    ensures { OnOk result (string_bytes text.new ≡ string_bytes text.old ++ spec.numbered (spec.component_lines types.now) 0 (map member_code members.now)) }
+    ensures { OnOk result (string_bytes text.new ≡ string_bytes text.old ++ numbered (spec.component_lines types.now) 0 (map member_code members.now)) }
 {
     for i in 0..members.len() {
         put_member(alloc, text, types, i, &members[i])?;
@@ -102,7 +103,7 @@ fn put_positions(
     types: &Types,
     positions: &[Position],
 ) -> Result<(), OutOfMemory>
-    ensures { OnOk result (string_bytes text.new ≡ string_bytes text.old ++ spec.numbered (spec.position_line types.now) 0 (map domain_of positions.now)) }
+    ensures { OnOk result (string_bytes text.new ≡ string_bytes text.old ++ numbered (spec.position_line types.now) 0 (map domain_of positions.now)) }
 {
     for i in 0..positions.len() {
         put_position(alloc, text, types, i, &positions[i])?;

@@ -2,6 +2,7 @@ ghost use Rattle.std.specs.Prelude.{◌≡◌, ◌++◌, ℕ, OnOk, map};
 ghost use Rattle.std.specs.String.{string_bytes};
 ghost use Rattle.ioa_value.specs.Shapes.{declaration as declaration_of, shape, tuple_field};
 ghost use Rattle.ioa_object.specs.Spelling.{declared as declared_in};
+ghost use Rattle.ioa_picture.specs.Lines.{numbered};
 ghost use Rattle.ioac.specs.Dumps as spec;
 
 use crate::dump::values::type_name;
@@ -10,7 +11,7 @@ use std::fmt::Write;
 
 /// The declared types.
 pub fn put_types(text: &mut String, types: &Types) -> Result<(), OutOfMemory>
-    ensures { OnOk result (string_bytes text.new ≡ string_bytes text.old ++ spec.numbered (spec.type_lines types.now) 2 (declared_in types.now)) }
+    ensures { OnOk result (string_bytes text.new ≡ string_bytes text.old ++ numbered (spec.type_lines types.now) 2 (declared_in types.now)) }
 {
     for number in 2..types.len() {
         match types.declared(Ty(number as u16)) {
@@ -59,7 +60,7 @@ fn put_form(text: &mut String, types: &Types, form: &Form) -> Result<(), OutOfMe
 
 /// The names of an enumeration.
 fn put_names(text: &mut String, names: &[String]) -> Result<(), OutOfMemory>
-    ensures { OnOk result (string_bytes text.new ≡ string_bytes text.old ++ spec.numbered spec.name_line 0 (map string_bytes names.now)) }
+    ensures { OnOk result (string_bytes text.new ≡ string_bytes text.old ++ numbered spec.name_line 0 (map string_bytes names.now)) }
 {
     for i in 0..names.len() {
         let name = names[i].as_str();
@@ -70,7 +71,7 @@ fn put_names(text: &mut String, names: &[String]) -> Result<(), OutOfMemory>
 
 /// The fields of a tuple.
 fn put_fields(text: &mut String, types: &Types, fields: &[Field]) -> Result<(), OutOfMemory>
-    ensures { OnOk result (string_bytes text.new ≡ string_bytes text.old ++ spec.numbered (spec.field_line types.now) 0 (map tuple_field fields.now)) }
+    ensures { OnOk result (string_bytes text.new ≡ string_bytes text.old ++ numbered (spec.field_line types.now) 0 (map tuple_field fields.now)) }
 {
     for i in 0..fields.len() {
         put_field(text, types, i, &fields[i])?;

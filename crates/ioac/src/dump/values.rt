@@ -3,6 +3,7 @@ ghost use Rattle.std.specs.String.{string_bytes};
 ghost use Rattle.ioa_value.specs.Plain.{number, plain};
 ghost use Rattle.ioa_value.specs.Table as tables;
 ghost use Rattle.ioa_value.specs.Written.{written_values};
+ghost use Rattle.ioa_picture.specs.Lines.{numbered};
 ghost use Rattle.ioac.specs.Dumps as spec;
 
 use ioa_value::{Action, OutOfMemory, Ty, Types, Value, print_action};
@@ -37,7 +38,7 @@ pub fn put_values(
     label: &str,
     values: &[Value],
 ) -> Result<(), OutOfMemory>
-    ensures { OnOk result (string_bytes text.new ≡ string_bytes text.old ++ spec.numbered (spec.value_line label.now types.now) 0 (map plain values.now)) }
+    ensures { OnOk result (string_bytes text.new ≡ string_bytes text.old ++ numbered (spec.value_line label.now types.now) 0 (map plain values.now)) }
 {
     for i in 0..values.len() {
         put_value(alloc, text, types, label, i, &values[i])?;
@@ -82,7 +83,7 @@ pub fn brief_value(alloc: Global, types: &Types, value: &Value) -> Result<String
 }
 
 /// A value in parentheses: what is printed of an action with this value behind its name.
-fn in_parentheses(alloc: Global, types: &Types, value: &Value) -> Result<String, OutOfMemory>
+pub fn in_parentheses(alloc: Global, types: &Types, value: &Value) -> Result<String, OutOfMemory>
     ensures { IfOk result (λ text. string_bytes text ≡ written_values types.now (plain value.now ∷ [])) }
 {
     let mut vals = Vec::new(alloc);

@@ -2,9 +2,10 @@
 
 use crate::code::Code;
 use crate::explanation::{Example, Explanation};
+use crate::topic::Topic;
 
 pub const E12: Explanation = Explanation {
-    code: Code::E12,
+    topic: Topic::Code(Code::E12),
     meaning: "The arguments of a component are not those of its automaton's formals, in number or type. Components count\n\
         from 0.",
     example: Example::Source(
@@ -18,7 +19,7 @@ pub const E12: Explanation = Explanation {
 };
 
 pub const E13: Explanation = Explanation {
-    code: Code::E13,
+    topic: Topic::Code(Code::E13),
     meaning: "A component crashes and recovers by one name, or one of the two is the name of an entry of its automaton.\n\
         Components count from 0.",
     example: Example::Source(
@@ -33,7 +34,7 @@ pub const E13: Explanation = Explanation {
 };
 
 pub const E14: Explanation = Explanation {
-    code: Code::E14,
+    topic: Topic::Code(Code::E14),
     meaning: "Two components are not compatible: both have one output, or one has an action as internal that the other has\n\
         too.",
     example: Example::Source(
@@ -47,7 +48,7 @@ pub const E14: Explanation = Explanation {
 };
 
 pub const E15: Explanation = Explanation {
-    code: Code::E15,
+    topic: Topic::Code(Code::E15),
     meaning: "A hidden name is the name of no component's output: inputs cannot be hidden, and internal actions are not seen\n\
         anyway.",
     example: Example::Source(
@@ -61,7 +62,7 @@ pub const E15: Explanation = Explanation {
 };
 
 pub const E16: Explanation = Explanation {
-    code: Code::E16,
+    topic: Topic::Code(Code::E16),
     meaning: "A component cannot start: one of its arguments, or a start expression, faults. Components count from 0. Fault 1\n\
         is a number that does not fit into 64 bits.",
     example: Example::Source(
@@ -75,7 +76,7 @@ pub const E16: Explanation = Explanation {
 };
 
 pub const E17: Explanation = Explanation {
-    code: Code::E17,
+    topic: Topic::Code(Code::E17),
     meaning: "The source has no composition of the name that was asked for, or none at all, so there is nothing to run.",
     example: Example::Source(
         "automaton Door\n\

@@ -2,6 +2,7 @@
 
 use crate::code::Code;
 use crate::explanation::{Example, Explanation};
+use crate::topic::Topic;
 
 /// A counter from 0.
 const COUNTER: &str = "automaton Counter\n\
@@ -11,7 +12,7 @@ const COUNTER: &str = "automaton Counter\n\
     composition One components A: Counter";
 
 pub const L1: Explanation = Explanation {
-    code: Code::L1,
+    topic: Topic::Code(Code::L1),
     meaning: "This line of the log is no JSON text, and the lines above it are entries. Each line of a log is one JSON object.",
     example: Example::ReplayLog {
         source: COUNTER,
@@ -24,7 +25,7 @@ pub const L1: Explanation = Explanation {
 };
 
 pub const L3: Explanation = Explanation {
-    code: Code::L3,
+    topic: Topic::Code(Code::L3),
     meaning: "This line of the log has another worker than its action. The worker of an action is the number of the component that\n\
         owns it; of an input of the composition, the number of components. Components count from 0.",
     example: Example::ReplayLog {
@@ -36,7 +37,7 @@ pub const L3: Explanation = Explanation {
 };
 
 pub const L4: Explanation = Explanation {
-    code: Code::L4,
+    topic: Topic::Code(Code::L4),
     meaning: "This line of the log is the first that is not as the composition does it: its action is none of the composition's, is not\n\
         enabled or faults; or the end is another.",
     example: Example::ReplayLog {
@@ -49,7 +50,7 @@ pub const L4: Explanation = Explanation {
 };
 
 pub const L5: Explanation = Explanation {
-    code: Code::L5,
+    topic: Topic::Code(Code::L5),
     meaning: "All lines of the log are entries, and its end is missing.",
     example: Example::ReplayLog {
         source: COUNTER,
@@ -59,7 +60,7 @@ pub const L5: Explanation = Explanation {
 };
 
 pub const L6: Explanation = Explanation {
-    code: Code::L6,
+    topic: Topic::Code(Code::L6),
     meaning: "A line stands after the log's end.",
     example: Example::ReplayLog {
         source: COUNTER,
@@ -71,7 +72,7 @@ pub const L6: Explanation = Explanation {
 };
 
 pub const L7: Explanation = Explanation {
-    code: Code::L7,
+    topic: Topic::Code(Code::L7),
     meaning: "The composition cannot be a monitor: an entry of one of its components is internal, or it hides a name. A log cannot show\n\
         what a specification does unseen.",
     example: Example::Monitor {

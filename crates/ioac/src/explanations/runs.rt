@@ -2,9 +2,10 @@
 
 use crate::code::Code;
 use crate::explanation::{Example, Explanation};
+use crate::topic::Topic;
 
 pub const L2: Explanation = Explanation {
-    code: Code::L2,
+    topic: Topic::Code(Code::L2),
     meaning: "This line of the list is no action. An action is a name and, for one value or more, the values in parentheses. Or this\n\
         line of the log is neither an entry nor the end, as an entry is an object with `act`, such an action, and `who`, a number,\n\
         and no other key.",
@@ -22,7 +23,7 @@ pub const L2: Explanation = Explanation {
 };
 
 pub const L8: Explanation = Explanation {
-    code: Code::L8,
+    topic: Topic::Code(Code::L8),
     meaning: "Reading the list or the log, or writing the answer, failed. A beginning of the answer may have been written.",
     example: Example::Told(
         "No source or list gives it. A full disk does, or a pipe whose reader has gone.",
@@ -31,7 +32,7 @@ pub const L8: Explanation = Explanation {
 };
 
 pub const MEMORY: Explanation = Explanation {
-    code: Code::Memory,
+    topic: Topic::Code(Code::Memory),
     meaning: "There was not enough memory.",
     example: Example::Told(
         "No source or list gives it by itself. A list that is too long for the machine's memory does.",
@@ -40,7 +41,7 @@ pub const MEMORY: Explanation = Explanation {
 };
 
 pub const IO: Explanation = Explanation {
-    code: Code::Io,
+    topic: Topic::Code(Code::Io),
     meaning: "The file cannot be read, or the object cannot be put in its file.",
     example: Example::Told(
         "No source or list gives it. A name that no file has does, a file that you may not read, or a folder in which you may not write.",

@@ -2,16 +2,17 @@
 
 use crate::code::Code;
 use crate::explanation::{Example, Explanation};
+use crate::topic::Topic;
 
 pub const N1: Explanation = Explanation {
-    code: Code::N1,
+    topic: Topic::Code(Code::N1),
     meaning: "A worker may have 100,000 turns at most. Nothing was run.",
     example: Example::Told("`run --alone --turns 100001` gives it, whatever the source."),
     mending: "Ask for fewer turns.",
 };
 
 pub const N2: Explanation = Explanation {
-    code: Code::N2,
+    topic: Topic::Code(Code::N2),
     meaning: "The environment performs inputs alone: actions that a component takes and that no component has as an output or an\n\
         internal action. The script's action of this index is none, and is the first such. Actions count from 0, lines that are\n\
         skipped are not counted. Nothing was run.",
@@ -22,7 +23,7 @@ pub const N2: Explanation = Explanation {
 };
 
 pub const N3: Explanation = Explanation {
-    code: Code::N3,
+    topic: Topic::Code(Code::N3),
     meaning: "A run takes a thread for each component and one for the environment, and the system refused one of them. The other threads were\n\
         stopped, and nothing was written.",
     example: Example::Told(
@@ -32,7 +33,7 @@ pub const N3: Explanation = Explanation {
 };
 
 pub const WORDS: Explanation = Explanation {
-    code: Code::Words,
+    topic: Topic::Code(Code::Words),
     meaning: "This line of the file of words is no list of words. A word is a decimal number up to 4294967295, of digits alone, and one\n\
         space stands between two words. The first line has the words of the first component, and so on; a line that is empty or\n\
         missing has none. Nothing was run.",

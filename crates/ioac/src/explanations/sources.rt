@@ -2,9 +2,10 @@
 
 use crate::code::Code;
 use crate::explanation::{Example, Explanation};
+use crate::topic::Topic;
 
 pub const E5: Explanation = Explanation {
-    code: Code::E5,
+    topic: Topic::Code(Code::E5),
     meaning: "A name is declared twice, or has two entries or two proposals, or is hidden twice. Within an automaton its\n\
         formals, its variables and the parameters of an entry differ from each other, and from the names of types, automata\n\
         and compositions.",
@@ -18,7 +19,7 @@ pub const E5: Explanation = Explanation {
 };
 
 pub const E6: Explanation = Explanation {
-    code: Code::E6,
+    topic: Topic::Code(Code::E6),
     meaning: "A name is not known here: it is declared nowhere, or only later, or it may not stand in this place; or a tuple\n\
         has no field of this name. Only variables are assigned to; start expressions, arguments and constants of positions\n\
         read no variable.",
@@ -32,7 +33,7 @@ pub const E6: Explanation = Explanation {
 };
 
 pub const E7: Explanation = Explanation {
-    code: Code::E7,
+    topic: Topic::Code(Code::E7),
     meaning: "An expression has another type than its place wants: a Bool where an Int belongs, or the other way round. A\n\
         precondition, the condition of a choice and an invariant are Bools. A tuple wants a value for each of its fields,\n\
         each of the field's type; only tuples have fields.",
@@ -46,7 +47,7 @@ pub const E7: Explanation = Explanation {
 };
 
 pub const E8: Explanation = Explanation {
-    code: Code::E8,
+    topic: Topic::Code(Code::E8),
     meaning: "Entries of the signature and transitions do not match: each entry has exactly one transition of its kind and\n\
         name. An input is always enabled, so it has neither `pre` nor `propose`.",
     example: Example::Source(
@@ -60,7 +61,7 @@ pub const E8: Explanation = Explanation {
 };
 
 pub const E9: Explanation = Explanation {
-    code: Code::E9,
+    topic: Topic::Code(Code::E9),
     meaning: "An output or internal action has a parameter for which no value is proposed. A runner would not know which\n\
         value to try; only parameters of Bool or of an enumeration need no proposal.",
     example: Example::Source(
@@ -73,7 +74,7 @@ pub const E9: Explanation = Explanation {
 };
 
 pub const E10: Explanation = Explanation {
-    code: Code::E10,
+    topic: Topic::Code(Code::E10),
     meaning: "A limit is passed: 1,024 types, 256 names of an enumeration, 16 fields of a tuple, a capacity from 1 to 256,\n\
         256 automata and compositions, 256 invariants, 32 components, 64 hidden names, 64 variables or entries of an\n\
         automaton, 8 formals, 8 positions of an entry, 4,096 nodes in a precondition, a transition's proposals, or an effect.",
@@ -86,7 +87,7 @@ pub const E10: Explanation = Explanation {
 };
 
 pub const E11: Explanation = Explanation {
-    code: Code::E11,
+    topic: Topic::Code(Code::E11),
     meaning: "A type's values are too large: they would take more than 4,096 words. A truth value, a number and a name of an\n\
         enumeration take one, a tuple those of its fields, a sequence one and its capacity times an item's.",
     example: Example::Source(

@@ -12,6 +12,15 @@ returns-in_err-end-in-Replay-clause-refused g c =
     err_so c.from_residual-in_err-end-in-Replay.result e.0 c.in_err-end-in-Replay.field-0.0 _ e.1 e.2
     (rw c.in-Replay.is (inr (text, held, said.refused, said.unwritten)))
 
+pub returns-in_err-end-in-ReplayStates-clause-refused : goal.returns-in_err-end-in-ReplayStates-clause-refused
+returns-in_err-end-in-ReplayStates-clause-refused g c =
+    let e = err_from_is_err_and c.from_residual-in_err-end-in-ReplayStates.result c.from_residual-in_err-end-in-ReplayStates.ensures.1 in
+    let text = c.as_slice-in-ReplayStates.result.now in
+    let held = subst (g.F.Store.holds c.args.store.now c.in-ReplayStates.file.now) (sym c.as_slice-in-ReplayStates.ensures.value) c.in_ok-named-in-ReplayStates.ensures.ok in
+    let said = c.in_err-end-in-ReplayStates.ensures in
+    err_so c.from_residual-in_err-end-in-ReplayStates.result e.0 c.in_err-end-in-ReplayStates.field-0.0 _ e.1 e.2
+    (rw c.in-ReplayStates.is (inr (text, held, said.refused, said.unwritten)))
+
 pub returns-in_err-end-in-ReplayLog-clause-refused : goal.returns-in_err-end-in-ReplayLog-clause-refused
 returns-in_err-end-in-ReplayLog-clause-refused g c =
     let e = err_from_is_err_and c.from_residual-in_err-end-in-ReplayLog.result c.from_residual-in_err-end-in-ReplayLog.ensures.1 in
@@ -20,6 +29,15 @@ returns-in_err-end-in-ReplayLog-clause-refused g c =
     let said = c.in_err-end-in-ReplayLog.ensures in
     err_so c.from_residual-in_err-end-in-ReplayLog.result e.0 c.in_err-end-in-ReplayLog.field-0.0 _ e.1 e.2
     (rw c.in-ReplayLog.is (inr (text, held, said.refused, said.unwritten)))
+
+pub returns-in_err-end-in-ReplayLogStates-clause-refused : goal.returns-in_err-end-in-ReplayLogStates-clause-refused
+returns-in_err-end-in-ReplayLogStates-clause-refused g c =
+    let e = err_from_is_err_and c.from_residual-in_err-end-in-ReplayLogStates.result c.from_residual-in_err-end-in-ReplayLogStates.ensures.1 in
+    let text = c.as_slice-in-ReplayLogStates.result.now in
+    let held = subst (g.F.Store.holds c.args.store.now c.in-ReplayLogStates.file.now) (sym c.as_slice-in-ReplayLogStates.ensures.value) c.in_ok-shown-in-ReplayLogStates.ensures.ok in
+    let said = c.in_err-end-in-ReplayLogStates.ensures in
+    err_so c.from_residual-in_err-end-in-ReplayLogStates.result e.0 c.in_err-end-in-ReplayLogStates.field-0.0 _ e.1 e.2
+    (rw c.in-ReplayLogStates.is (inr (text, held, said.refused, said.unwritten)))
 
 pub returns-in_err-finding-in-ReplayInvariants-clause-refused : goal.returns-in_err-finding-in-ReplayInvariants-clause-refused
 returns-in_err-finding-in-ReplayInvariants-clause-refused g c =

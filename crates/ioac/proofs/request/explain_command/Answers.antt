@@ -7,4 +7,4 @@ use Rattle.ioac.proofs.request.explain_command.Goals as goal
 pub returns-clause-app : goal.returns-clause-app
 returns-clause-app c =
     let bare : app_of c.after_help.result ≡ new_app (codes "explain") = ap app_of_fields c.after_help.ensures ∙ ap app_of_fields c.about.ensures ∙ c.new.ensures.app in
-    IfOk-weaker c.arg.result _ _ (λ command h. h.shape c.code_argument.ensures.local ∙ ap₂ with_rule bare c.code_argument.ensures.rule) c.arg.ensures
+    IfOk-weaker c.arg.result _ _ (λ command h. h.shape c.text_argument.ensures.local ∙ ap₂ with_rule bare c.text_argument.ensures.rule) c.arg.ensures

@@ -10,9 +10,8 @@ returns c =
     let named : app_of c.about.result ≡ new_app (codes "ioac") = ap app_of_fields c.about.ensures ∙ c.new.ensures.app in
     let versioned = ap app_of_fields c.version.ensures ∙ ap (on_top (λ (s : Shape). record s { has_version = true })) named in
     let required = ap app_of_fields c.subcommand_required.ensures ∙ ap (on_top (λ (s : Shape). record s { subcommand_required = true })) versioned in
-    let helpful = ap app_of_fields c.arg_required_else_help.ensures ∙ ap (on_top (λ (s : Shape). record s { arg_required_else_help = true })) required in
-    let bare : app_of c.disable_help_subcommand.result ≡ bare_app =
-    ap app_of_fields c.disable_help_subcommand.ensures ∙ ap (on_top (λ (s : Shape). record s { disable_help_subcommand = true })) helpful in
+    let bare : app_of c.arg_required_else_help.result ≡ bare_app =
+    ap app_of_fields c.arg_required_else_help.ensures ∙ ap (on_top (λ (s : Shape). record s { arg_required_else_help = true })) required in
     let check : shape_of c.in_ok-check_command.field-0 ≡ check_app.top = ap (λ (a : App). a.top) c.in_ok-check_command.ensures.app in
     let compile : shape_of c.in_ok-compile_command.field-0 ≡ compile_app.top = ap (λ (a : App). a.top) c.in_ok-compile_command.ensures.app in
     let dump : shape_of c.in_ok-dump_command.field-0 ≡ dump_app.top = ap (λ (a : App). a.top) c.in_ok-dump_command.ensures.app in

@@ -1,7 +1,7 @@
 use Rattle.std.proofs.Common.{string_bytes, arith}
 use Rattle.std.proofs.lemmas.Option.{slice_get-get_or}
 use Rattle.ioac.specs.Dumps.{instruction_line}
-use Rattle.ioac.proofs.Numbered.{line_at}
+use Rattle.ioa_picture.proofs.Numbered.{line_at}
 use Rattle.ioac.proofs.dump.code.put_part.Goals as goal
 
 pub loop-place-preserved : goal.loop-place-preserved

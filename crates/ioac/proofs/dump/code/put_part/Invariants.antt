@@ -1,5 +1,6 @@
 use Rattle.std.proofs.Common.{◌≡◌, ◌++◌, take, string_bytes}
-use Rattle.ioac.specs.Dumps.{numbered, instruction_line}
+use Rattle.ioac.specs.Dumps.{instruction_line}
+use Rattle.ioa_picture.specs.Lines.{numbered}
 use Rattle.ioac.proofs.dump.code.put_part.Given as goal
 
 -- the lines of the instructions so far

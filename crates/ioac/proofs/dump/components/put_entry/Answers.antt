@@ -1,7 +1,9 @@
 use Rattle.std.proofs.Common.{◌≡◌, ◌++◌, ℕ, List, OnOk, codes, map, string_bytes, ap, ap₂, subst, ◌∙◌}
 use Rattle.ioa_value.specs.Positions.{domain_of}
-use Rattle.ioac.specs.Dumps.{kind_word, local_lines, numbered, part_lines, position_line, value_line}
-use Rattle.ioac.proofs.Numbered.{behind, behind_line}
+use Rattle.ioac.specs.Dumps.{kind_word, local_lines, part_lines, position_line, value_line}
+use Rattle.ioa_picture.specs.Lines.{numbered}
+use Rattle.ioa_picture.proofs.Numbered.{behind}
+use Rattle.ioac.proofs.Numbered.{behind_line}
 use Rattle.ioac.proofs.dump.components.put_entry.Goals as goal
 
 pub returns : goal.returns

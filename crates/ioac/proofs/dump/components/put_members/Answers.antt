@@ -1,7 +1,7 @@
 use Rattle.std.proofs.Common.{string_bytes}
 use Rattle.ioa_compile.specs.Shown.{member_code}
 use Rattle.ioac.specs.Dumps.{component_lines}
-use Rattle.ioac.proofs.Numbered.{line_more}
+use Rattle.ioa_picture.proofs.Numbered.{line_more}
 use Rattle.ioac.proofs.dump.components.put_members.Goals as goal
 
 pub loop-i-preserved : goal.loop-i-preserved

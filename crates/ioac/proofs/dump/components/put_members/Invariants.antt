@@ -1,6 +1,7 @@
 use Rattle.std.proofs.Common.{◌≡◌, ◌++◌, map, take, string_bytes}
 use Rattle.ioa_compile.specs.Shown.{member_code}
-use Rattle.ioac.specs.Dumps.{numbered, component_lines}
+use Rattle.ioac.specs.Dumps.{component_lines}
+use Rattle.ioa_picture.specs.Lines.{numbered}
 use Rattle.ioac.proofs.dump.components.put_members.Given as goal
 
 -- the lines of the components so far

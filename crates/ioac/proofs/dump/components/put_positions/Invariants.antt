@@ -1,6 +1,7 @@
 use Rattle.std.proofs.Common.{◌≡◌, ◌++◌, map, take, string_bytes}
 use Rattle.ioa_value.specs.Positions.{domain_of}
-use Rattle.ioac.specs.Dumps.{numbered, position_line}
+use Rattle.ioac.specs.Dumps.{position_line}
+use Rattle.ioa_picture.specs.Lines.{numbered}
 use Rattle.ioac.proofs.dump.components.put_positions.Given as goal
 
 -- the lines of the positions so far

@@ -1,7 +1,7 @@
 use Rattle.std.proofs.Common.{string_bytes}
 use Rattle.ioa_value.specs.Shapes.{tuple_field}
 use Rattle.ioac.specs.Dumps.{field_line}
-use Rattle.ioac.proofs.Numbered.{line_more}
+use Rattle.ioa_picture.proofs.Numbered.{line_more}
 use Rattle.ioac.proofs.dump.types.put_fields.Goals as goal
 
 pub loop-i-preserved : goal.loop-i-preserved

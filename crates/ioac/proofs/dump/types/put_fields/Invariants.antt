@@ -1,6 +1,7 @@
 use Rattle.std.proofs.Common.{◌≡◌, ◌++◌, map, take, string_bytes}
 use Rattle.ioa_value.specs.Shapes.{tuple_field}
-use Rattle.ioac.specs.Dumps.{numbered, field_line}
+use Rattle.ioac.specs.Dumps.{field_line}
+use Rattle.ioa_picture.specs.Lines.{numbered}
 use Rattle.ioac.proofs.dump.types.put_fields.Given as goal
 
 -- the lines of the fields so far

@@ -1,7 +1,8 @@
 use Rattle.std.proofs.Common.{◌≡◌, ◌++◌, ℕ, List, OnOk, append_assoc, codes, map, string_bytes, ap, subst, sym, ◌∙◌}
 use Rattle.std.specs.Fmt.{decimal}
 use Rattle.ioa_value.specs.Shapes.{shape}
-use Rattle.ioac.specs.Dumps.{form_lines, name_line, numbered}
+use Rattle.ioac.specs.Dumps.{form_lines, name_line}
+use Rattle.ioa_picture.specs.Lines.{numbered}
 use Rattle.ioac.proofs.dump.types.put_form.Goals as goal
 
 pub returns-in_ok-push_str-in-Names : goal.returns-in_ok-push_str-in-Names

@@ -1,6 +1,6 @@
 use Rattle.std.proofs.Common.{◌++◌, string_bytes, ap, ◌∙◌}
 use Rattle.ioac.specs.Dumps.{name_line}
-use Rattle.ioac.proofs.Numbered.{line_more}
+use Rattle.ioa_picture.proofs.Numbered.{line_more}
 use Rattle.ioac.proofs.dump.types.put_names.Goals as goal
 
 pub loop-i-preserved : goal.loop-i-preserved

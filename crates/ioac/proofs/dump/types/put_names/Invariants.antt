@@ -1,5 +1,6 @@
 use Rattle.std.proofs.Common.{◌≡◌, ◌++◌, map, take, string_bytes}
-use Rattle.ioac.specs.Dumps.{numbered, name_line}
+use Rattle.ioac.specs.Dumps.{name_line}
+use Rattle.ioa_picture.specs.Lines.{numbered}
 use Rattle.ioac.proofs.dump.types.put_names.Given as goal
 
 -- the lines of the names so far

@@ -1,6 +1,7 @@
 use Rattle.std.proofs.Common.{◌≡◌, ◌++◌, ◌-◌, take, string_bytes}
 use Rattle.ioa_object.specs.Spelling.{declared}
-use Rattle.ioac.specs.Dumps.{numbered, type_lines}
+use Rattle.ioac.specs.Dumps.{type_lines}
+use Rattle.ioa_picture.specs.Lines.{numbered}
 use Rattle.ioac.proofs.dump.types.put_types.Given as goal
 
 -- the lines of the types so far

@@ -1,7 +1,7 @@
 use Rattle.std.proofs.Common.{string_bytes}
 use Rattle.ioa_value.specs.Plain.{plain}
 use Rattle.ioac.specs.Dumps.{value_line}
-use Rattle.ioac.proofs.Numbered.{line_more}
+use Rattle.ioa_picture.proofs.Numbered.{line_more}
 use Rattle.ioac.proofs.dump.values.put_values.Goals as goal
 
 pub loop-i-preserved : goal.loop-i-preserved

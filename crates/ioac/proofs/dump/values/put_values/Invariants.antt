@@ -1,6 +1,7 @@
 use Rattle.std.proofs.Common.{◌≡◌, ◌++◌, map, take, string_bytes}
 use Rattle.ioa_value.specs.Plain.{plain}
-use Rattle.ioac.specs.Dumps.{numbered, value_line}
+use Rattle.ioac.specs.Dumps.{value_line}
+use Rattle.ioa_picture.specs.Lines.{numbered}
 use Rattle.ioac.proofs.dump.values.put_values.Given as goal
 
 -- the lines of the values so far
