@@ -28,6 +28,7 @@ mod rows;
 mod runs;
 mod schedules;
 mod shelf;
+mod states;
 mod streams;
 mod tables;
 mod threads;

@@ -5,17 +5,19 @@ ghost use Rattle.ioa_compile.specs.Tables.{tabled};
 ghost use Rattle.ioa_system.specs.Participants.{taken};
 ghost use Rattle.ioa_system.specs.Systems.{slot_types, types_of};
 
+use crate::tests::proposals::parsed;
 use crate::tests::reached::{action, program};
 use crate::tests::shelf::{COUNTER, basic};
 use crate::tests::tables::{column, columns, is_row};
+use ioa_compile::Program;
 use ioa_node::{NodeState, state_values};
-use ioa_syntax::{Refusal, parse, print};
+use ioa_syntax::print;
 use ioa_system::{Moved, Step, System, participants, run_list, step_from};
 use ioa_value::{
     Action, OutOfMemory, Ty, Types, Value, first, has_type, print_action, read_action, same,
 };
 use std::alloc::Global;
-use std::test::Fail;
+use std::process::Abort;
 
 /// A text, and the action that it spells, as it is printed.
 const ACTIONS: [(&str, Option<&str>); 17] = [
@@ -58,14 +60,17 @@ fn is_printed_so(
     }
 }
 
-#[test]
-fn reads_and_prints_actions(rt: HostRuntime) -> Result<(), Fail> {
-    let types = basic(rt.alloc())?;
-    for (text, wanted) in ACTIONS {
-        let is_so = is_printed_so(rt.alloc(), &types, text, wanted)?;
+fn expect_printed(rt: &impl Abort, alloc: Global, rows: &[(&str, Option<&str>)]) {
+    let types = basic(alloc).expect(rt, "memory");
+    for (text, wanted) in rows {
+        let is_so = is_printed_so(alloc, &types, text, *wanted).expect(rt, "memory");
         assert!(rt; is_so, "{text}");
     }
-    Ok(())
+}
+
+#[test]
+fn reads_and_prints_actions(rt: HostRuntime) {
+    expect_printed(&rt, rt.alloc(), &ACTIONS);
 }
 
 /// A source, and its text as it is printed: after each token a space, or the end of the line.
@@ -89,35 +94,55 @@ composition C components X: A; Y: B(1, true) crash down recover up; Z: A crash d
 invariant of A: x < 1 | invariant of A : x < 1^
 ";
 
-// Whether the source is printed so, and the text is of an equal source, which is no source of nothing.
-fn is_printed(alloc: Global, source: &str, text: &str) -> Result<bool, Refusal> {
-    let parsed = parse(alloc, source.as_bytes())?;
-    let printed = print(alloc, &parsed)?;
-    let again = parse(alloc, printed.as_slice())?;
-    let nothing = parse(alloc, b"")?;
-    Ok(printed.as_slice() == text.as_bytes() && parsed.same(&again) && !parsed.same(&nothing))
+// The source is printed so, and the text is of an equal source, which is no source of nothing.
+fn expect_source(rt: &impl Abort, alloc: Global, source: &str, text: &str) {
+    let source = parsed(rt, alloc, source.as_bytes());
+    let printed = print(alloc, &source).expect(rt, "memory");
+    assert!(rt; printed.as_slice() == text.as_bytes(), "{text}");
+    assert!(rt;
+        source.same(&parsed(rt, alloc, printed.as_slice())),
+        "{text}"
+    );
+    assert!(rt; !source.same(&parsed(rt, alloc, b"")), "{text}");
 }
 
 #[test]
-fn prints_what_is_parsed(rt: HostRuntime) -> Result<(), Fail> {
-    for row in PRINTED.lines().filter(|line| is_row(line)) {
-        let columns = columns(rt.alloc(), row)?;
-        let is_so = is_printed(rt.alloc(), column(&columns, 0), column(&columns, 1))?;
-        assert!(rt; is_so, "{row}");
+fn prints_what_is_parsed(rt: HostRuntime) {
+    for row in PRINTED.lines() {
+        if is_row(row) {
+            let columns = columns(&rt, rt.alloc(), row);
+            expect_source(&rt, rt.alloc(), column(&columns, 0), column(&columns, 1));
+        }
     }
-    Ok(())
+}
+
+/// The first number, and the first truth value.
+fn first_values(alloc: Global) -> Result<(Value, Value), OutOfMemory> {
+    let types = basic(alloc)?;
+    let zero = first(alloc, &types, Ty::INT)?;
+    let no = first(alloc, &types, Ty::BOOL)?;
+    Ok((zero, no))
+}
+
+// The value is the one that is wanted, of this type, and not of the other.
+fn expect_value(rt: &impl Abort, alloc: Global, value: &Value, wanted: &Value, ty: Ty, other: Ty) {
+    let types = basic(alloc).expect(rt, "memory");
+    assert!(rt; same(value, wanted));
+    assert!(rt; has_type(&types, value, ty) && !has_type(&types, value, other));
 }
 
 #[test]
-fn types_have_first_values(rt: HostRuntime) -> Result<(), Fail> {
-    let types = basic(rt.alloc())?;
-    let zero = first(rt.alloc(), &types, Ty::INT)?;
-    assert!(rt; same(&zero, &Value::Num(0)));
-    assert!(rt; has_type(&types, &zero, Ty::INT) && !has_type(&types, &zero, Ty::BOOL));
-    let no = first(rt.alloc(), &types, Ty::BOOL)?;
-    assert!(rt; same(&no, &Value::Truth(false)));
-    assert!(rt; has_type(&types, &no, Ty::BOOL) && !has_type(&types, &no, Ty::INT));
-    Ok(())
+fn types_have_first_values(rt: HostRuntime) {
+    let (zero, no) = first_values(rt.alloc()).expect(&rt, "memory");
+    expect_value(&rt, rt.alloc(), &zero, &Value::Num(0), Ty::INT, Ty::BOOL);
+    expect_value(
+        &rt,
+        rt.alloc(),
+        &no,
+        &Value::Truth(false),
+        Ty::BOOL,
+        Ty::INT,
+    );
 }
 
 // Equals of the states of the action's participants, in order.
@@ -169,39 +194,54 @@ const STEPS: [(&str, Step, i64); 6] = [
     ("tick(7)", Step::NotEnabled, 5),
 ];
 
-fn is_step_so(
+fn expect_step(
+    rt: &impl Abort,
     alloc: Global,
     system: &mut System<'_>,
     action: &Action,
     wanted: &Step,
     count: i64,
-) -> Result<bool, OutOfMemory> {
-    let on_copies = step_on_copies(alloc, system, action)?;
-    let answer = system.step(action)?;
-    let found = number_in(alloc, system)?;
-    Ok(on_copies == *wanted && answer == *wanted && found == Some(count))
+) {
+    let on_copies = step_on_copies(alloc, system, action).expect(rt, "memory");
+    assert!(rt; on_copies == *wanted);
+    assert!(rt; system.step(action).expect(rt, "memory") == *wanted);
+    let number = number_in(alloc, system).expect(rt, "memory");
+    assert!(rt; number == Some(count), "{count}");
 }
 
-#[test]
-fn steps_a_program(rt: HostRuntime) -> Result<(), Fail> {
-    let program = program(rt.alloc(), COUNTER, Some("One"))?;
-    let mut system = System::start(rt.alloc(), &program)?;
-    for (text, wanted, count) in &STEPS {
-        let action = action(rt.alloc(), program.types(), *text)?;
-        let is_so = is_step_so(rt.alloc(), &mut system, &action, wanted, *count)?;
-        assert!(rt; is_so, "{text}");
+fn expect_steps(rt: &impl Abort, alloc: Global, rows: &[(&str, Step, i64)]) {
+    let program = program(rt, alloc, COUNTER, Some("One"));
+    let mut system = System::start(alloc, &program).expect(rt, "memory");
+    for (text, wanted, count) in rows {
+        let action = action(rt, alloc, program.types(), text);
+        expect_step(rt, alloc, &mut system, &action, wanted, *count);
     }
-    Ok(())
 }
 
 #[test]
-fn a_system_goes_on_from_states(rt: HostRuntime) -> Result<(), Fail> {
-    let program = program(rt.alloc(), COUNTER, Some("One"))?;
-    let first = action(rt.alloc(), program.types(), "tick(5)")?;
-    let run = run_list(rt.alloc(), &program, &[first])?;
-    let mut system = System::of(rt.alloc(), &program, run.states);
-    let second = action(rt.alloc(), program.types(), "tick(6)")?;
-    assert!(rt; system.step(&second)? == Step::Next);
-    assert!(rt; number_in(rt.alloc(), &system)? == Some(7));
-    Ok(())
+fn steps_a_program(rt: HostRuntime) {
+    expect_steps(&rt, rt.alloc(), &STEPS);
+}
+
+/// What the next step answers from the states that these actions reach, and the number then.
+fn going_on(
+    alloc: Global,
+    program: &Program,
+    actions: &[Action],
+    next: &Action,
+) -> Result<(Step, Option<i64>), OutOfMemory> {
+    let run = run_list(alloc, program, actions)?;
+    let mut system = System::of(alloc, program, run.states);
+    let answer = system.step(next)?;
+    Ok((answer, number_in(alloc, &system)?))
+}
+
+#[test]
+fn a_system_goes_on_from_states(rt: HostRuntime) {
+    let program = program(&rt, rt.alloc(), COUNTER, Some("One"));
+    let first = action(&rt, rt.alloc(), program.types(), "tick(5)");
+    let second = action(&rt, rt.alloc(), program.types(), "tick(6)");
+    let (answer, number) = going_on(rt.alloc(), &program, &[first], &second).expect(&rt, "memory");
+    assert!(rt; answer == Step::Next);
+    assert!(rt; number == Some(7));
 }

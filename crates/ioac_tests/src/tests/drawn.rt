@@ -11,7 +11,7 @@ use ioa_node::{NodeState, Words, Workspace, propose, propose_with};
 use ioa_run::Seeded;
 use ioa_value::{Action, Value, print_action, same_all};
 use std::alloc::Global;
-use std::test::Fail;
+use std::process::Abort;
 
 const ZERO: [u8; 32] = [0; 32];
 
@@ -34,7 +34,7 @@ const SEEDS: [([u8; 32], u64, usize, [u32; 4]); 4] = [
 ];
 
 #[test]
-fn seeds_give_words(rt: HostRuntime) -> Result<(), Fail> {
+fn seeds_give_words(rt: HostRuntime) {
     for (key, stream, passed, wanted) in SEEDS {
         let mut words = Seeded::new(key, stream);
         for _ in 0..passed {
@@ -44,7 +44,6 @@ fn seeds_give_words(rt: HostRuntime) -> Result<(), Fail> {
             assert_eq!(rt; words.next(), word);
         }
     }
-    Ok(())
 }
 
 /// Words that are given, and then 0 for ever.
@@ -78,24 +77,40 @@ states s: Int := 3 transitions output all propose x := s + n, d := any(n) intern
 internal fault propose e := 1 div (s - 3) internal least propose e := any(0 - 1)
 composition One components A: Draw(6); B: Draw(7)";
 
-/// A source, the number of a component and the place of its entry, words, what is proposed, and how many words are left.
-const DRAWS: [(&str, usize, usize, &[u32], Option<&str>, usize); 9] = [
-    (GAME, 0, 0, &[17, 4], Some("roll(5)"), 1),
-    (GAME, 0, 0, &[4294967295], Some("roll(3)"), 0),
-    (GAME, 1, 1, &[1, 2], Some("tell(0)"), 2),
-    (DRAW, 0, 0, &[17, 3, 5, 9], Some("all(5, true, blue, 9)"), 1),
+/// The number of a component, and the place of an entry in it.
+type Place = (usize, usize);
+
+/// A source, the place of an entry, words, what is proposed, and how many words are left.
+type Draw = (
+    &'static str,
+    Place,
+    &'static [u32],
+    Option<&'static str>,
+    usize,
+);
+
+const DRAWS: [Draw; 9] = [
+    (GAME, (0, 0), &[17, 4], Some("roll(5)"), 1),
+    (GAME, (0, 0), &[4294967295], Some("roll(3)"), 0),
+    (GAME, (1, 1), &[1, 2], Some("tell(0)"), 2),
     (
         DRAW,
+        (0, 0),
+        &[17, 3, 5, 9],
+        Some("all(5, true, blue, 9)"),
         1,
-        0,
+    ),
+    (
+        DRAW,
+        (1, 0),
         &[17, 4, 3, 9],
         Some("all(3, false, red, 10)"),
         1,
     ),
-    (DRAW, 0, 1, &[1, 2, 3], None, 2),
-    (DRAW, 1, 1, &[1, 2, 3], Some("none(true, 0, true)"), 0),
-    (DRAW, 0, 2, &[1, 2, 3], None, 2),
-    (DRAW, 0, 3, &[1, 2, 3], None, 3),
+    (DRAW, (0, 1), &[1, 2, 3], None, 2),
+    (DRAW, (1, 1), &[1, 2, 3], Some("none(true, 0, true)"), 0),
+    (DRAW, (0, 2), &[1, 2, 3], None, 2),
+    (DRAW, (0, 3), &[1, 2, 3], None, 3),
 ];
 
 /// The code that proposes, of the entry in this place of the component of this number, with the state in which the component starts.
@@ -110,24 +125,21 @@ fn proposing(program: &Program, number: usize, place: usize) -> Option<(&Verifie
 
 /// The values that are proposed, and how many of the words are left.
 fn drawn(
+    rt: &impl Abort,
     alloc: Global,
     workspace: &mut Workspace,
     program: &Program,
-    number: usize,
-    place: usize,
+    place: Place,
     words: &[u32],
-) -> Result<(Option<Vec<Value>>, usize), Fail> {
-    let Some((code, state)) = proposing(program, number, place) else {
-        return Err(Fail::from("no proposals"));
-    };
+) -> (Option<Vec<Value>>, usize) {
+    let (code, state) = proposing(program, place.0, place.1).expect(rt, "a proposal");
     let mut given = Given { words };
-    let values = propose(alloc, code, state, &mut given)?;
+    let values = propose(alloc, code, state, &mut given).expect(rt, "memory");
     let mut again = Given { words };
-    let same = propose_with(alloc, workspace, code, state, &mut again)?;
-    if !are_same(&values, &same) || given.words.len() != again.words.len() {
-        return Err(Fail::from("another proposal"));
-    }
-    Ok((values, given.words.len()))
+    let same = propose_with(alloc, workspace, code, state, &mut again).expect(rt, "memory");
+    assert!(rt; are_same(&values, &same));
+    assert!(rt; given.words.len() == again.words.len());
+    (values, given.words.len())
 }
 
 fn are_same(these: &Option<Vec<Value>>, those: &Option<Vec<Value>>) -> bool {
@@ -140,36 +152,41 @@ fn are_same(these: &Option<Vec<Value>>, those: &Option<Vec<Value>>) -> bool {
 
 /// The values, as those of the entry's action.
 fn told_values(
+    rt: &impl Abort,
     alloc: Global,
     program: &Program,
-    number: usize,
-    place: usize,
+    place: Place,
     vals: Vec<Value>,
-) -> Result<String, Fail> {
-    let entries = program.members().get(number).map(|member| &member.entries);
-    let entry = entries.and_then(|entries| entries.get(place));
-    let name = entry.map(|entry| &entry.name).ok_or("no entry")?;
-    let action = Action {
-        name: name.clone()?,
-        vals,
-    };
-    Ok(print_action(alloc, program.types(), &action)?)
+) -> String {
+    let member = program.members().get(place.0).expect(rt, "a component");
+    let entry = member.entries.get(place.1).expect(rt, "an entry");
+    let name = entry.name.clone().expect(rt, "memory");
+    let action = Action { name, vals };
+    print_action(alloc, program.types(), &action).expect(rt, "memory")
+}
+
+fn expect_draw(rt: &impl Abort, alloc: Global, workspace: &mut Workspace, draw: &Draw) {
+    let (source, place, words, wanted, left) = *draw;
+    let program = program(rt, alloc, source, None);
+    let (values, rest) = drawn(rt, alloc, workspace, &program, place, words);
+    assert_eq!(rt; rest, left);
+    match values {
+        Some(values) => {
+            let told = told_values(rt, alloc, &program, place, values);
+            assert!(rt; wanted == Some(told.as_str()), "{told}");
+        }
+        None => assert!(rt; wanted.is_none(), "{source}"),
+    }
+}
+
+fn expect_draws(rt: &impl Abort, alloc: Global, draws: &[Draw]) {
+    let mut workspace = Workspace::new(alloc);
+    for draw in draws {
+        expect_draw(rt, alloc, &mut workspace, draw);
+    }
 }
 
 #[test]
-fn words_decide_what_is_proposed(rt: HostRuntime) -> Result<(), Fail> {
-    let mut workspace = Workspace::new(rt.alloc());
-    for (source, number, place, words, wanted, left) in DRAWS {
-        let program = program(rt.alloc(), source, None)?;
-        let (values, rest) = drawn(rt.alloc(), &mut workspace, &program, number, place, words)?;
-        assert_eq!(rt; rest, left);
-        match values {
-            Some(values) => {
-                let told = told_values(rt.alloc(), &program, number, place, values)?;
-                assert!(rt; wanted == Some(told.as_str()), "{told}");
-            }
-            None => assert!(rt; wanted.is_none(), "{source}"),
-        }
-    }
-    Ok(())
+fn words_decide_what_is_proposed(rt: HostRuntime) {
+    expect_draws(&rt, rt.alloc(), &DRAWS);
 }

@@ -1,32 +1,35 @@
 use crate::tests::shelf::{Given, REPLAY, Wanted, expect, run};
 use crate::tests::tables::text;
+use ioa_value::Fault;
 use ioac::explanation::Example;
 use ioac::explanations::explanation;
-use ioac::{Code, Status};
+use ioac::{Code, Status, Topic};
 use std::alloc::Global;
+use std::process::Abort;
 use std::sync::Wait;
-use std::test::Fail;
 use std::thread::Threads;
 
 /// The words, a file and a list that give a code, if there are some: for `E1` this long file.
 fn example(
+    rt: &impl Abort,
     alloc: Global,
     code: Code,
     long: &str,
-) -> Result<Option<(&'static str, Vec<u8>, &'static str)>, Fail> {
-    let (words, file, list) = match explanation(code).example {
+) -> Option<(&'static str, Vec<u8>, &'static str)> {
+    let (words, file, list) = match explanation(Topic::Code(code)).example {
         Example::Source(source) => (REPLAY, source, ""),
         Example::Replay { source, list } => (REPLAY, source, list),
         Example::ReplayLog { source, log } => ("replay f --log", source, log),
         Example::Monitor { source, log } => ("monitor f", source, log),
         Example::Object(digits) => {
-            let bytes = hex::decode(alloc, digits.as_bytes())?;
-            return Ok(Some(("check f", bytes, "")));
+            let bytes = hex::decode(alloc, digits.as_bytes()).expect(rt, "digits");
+            return Some(("check f", bytes, ""));
         }
         Example::Told(_) if code == Code::E1 => (REPLAY, long, ""),
-        Example::Told(_) => return Ok(None),
+        Example::Told(_) => return None,
     };
-    Ok(Some((words, Vec::from_slice(alloc, file.as_bytes())?, list)))
+    let file = Vec::from_slice(alloc, file.as_bytes()).expect(rt, "memory");
+    Some((words, file, list))
 }
 
 /// Whether it is told first, alone or with details.
@@ -38,57 +41,162 @@ fn tells(errors: &[u8], code: Code) -> bool {
 }
 
 /// Whether the program tells this code of what it is given, and nothing else.
-fn is_given<H: Threads + Wait + Sync>(
+fn is_given<H: Abort + Threads + Wait + Sync>(
     rt: &H,
     alloc: Global,
     code: Code,
     given: &Given<'_>,
-) -> Result<bool, Fail> {
-    let ran = run(rt, alloc, given)?;
+) -> bool {
+    let ran = run(rt, alloc, given);
     let status = if code.spelling().starts_with("L") {
         Status::NotAccepted
     } else {
         Status::Refused
     };
-    Ok(tells(ran.errors.as_slice(), code) && ran.output.is_empty() && ran.status == status.number())
+    tells(ran.errors.as_slice(), code) && ran.output.is_empty() && ran.status == status.number()
 }
 
 #[test]
-fn examples_give_their_codes(rt: HostRuntime) -> Result<(), Fail> {
-    let long = text(rt.alloc(), " @1048577")?;
+fn examples_give_their_codes(rt: HostRuntime) {
+    let long = text(&rt, rt.alloc(), " @1048577");
     let mut count = 0usize;
     for code in Code::ALL {
-        if let Some((words, file, list)) = example(rt.alloc(), code, long.as_str())? {
+        if let Some((words, file, list)) = example(&rt, rt.alloc(), code, long.as_str()) {
             let given = Given {
                 words,
                 file: &file,
                 list,
             };
-            assert!(rt; is_given(&rt, rt.alloc(), code, &given)?, "{code}");
+            assert!(rt; is_given(&rt, rt.alloc(), code, &given), "{code}");
             count = count.saturating_add(1);
         }
     }
     assert_eq!(rt; count, 31);
-    Ok(())
+}
+
+/// Runs `explain` with these words, which has to print what is said of this topic.
+fn expect_topic<H: Abort + Threads + Wait + Sync>(
+    rt: &H,
+    alloc: Global,
+    words: &str,
+    topic: Topic,
+) {
+    let explanation = explanation(topic);
+    let output = format!(in alloc; "{explanation}").expect(rt, "memory");
+    let given = Given {
+        words,
+        file: b"",
+        list: "",
+    };
+    let wanted = Wanted {
+        output: output.as_str(),
+        errors: "",
+        status: Status::Done.number(),
+    };
+    expect(rt, alloc, words, &given, &wanted);
 }
 
 #[test]
-fn each_code_is_explained(rt: HostRuntime) -> Result<(), Fail> {
+fn each_code_is_explained(rt: HostRuntime) {
     for code in Code::ALL {
-        let words = format!(in rt.alloc(); "explain {code}")?;
-        let explanation = explanation(code);
-        let output = format!(in rt.alloc(); "{explanation}")?;
-        let given = Given {
-            words: words.as_str(),
-            file: b"",
-            list: "",
-        };
-        let wanted = Wanted {
-            output: output.as_str(),
-            errors: "",
-            status: Status::Done.number(),
-        };
-        expect(&rt, rt.alloc(), words.as_str(), &given, &wanted)?;
+        let words = format!(in rt.alloc(); "explain {code}").expect(&rt, "memory");
+        expect_topic(&rt, rt.alloc(), words.as_str(), Topic::Code(code));
     }
-    Ok(())
+}
+
+/// What the program prints, and the topic of each.
+const PRINTED: [(&str, Topic); 15] = [
+    ("explain e7", Topic::Code(Code::E7)),
+    ("explain E7 line 3", Topic::Code(Code::E7)),
+    (
+        "explain e14 components 0 and 1 on open",
+        Topic::Code(Code::E14),
+    ),
+    ("explain E16 component 0 fault 1", Topic::Code(Code::E16)),
+    ("explain WORDS line 2", Topic::Code(Code::Words)),
+    ("explain Memory", Topic::Code(Code::Memory)),
+    ("explain fault 1", Topic::Fault(Fault::Overflow)),
+    ("explain Fault 2", Topic::Fault(Fault::ZeroDivisor)),
+    (
+        "explain end: fault 3 in component 0 at 2",
+        Topic::Fault(Fault::Empty),
+    ),
+    ("explain done after 5", Topic::Done),
+    ("explain End: Not an action at 2", Topic::NotAnAction),
+    ("explain not enabled at 4", Topic::NotEnabled),
+    ("explain monitor: not enabled at 11", Topic::NotEnabled),
+    (
+        "explain invariant 0 of component 1 broken after 3",
+        Topic::Broken,
+    ),
+    ("explain monitor: ok", Topic::Fine),
+];
+
+#[test]
+fn what_is_printed_is_explained(rt: HostRuntime) {
+    for (words, topic) in PRINTED {
+        expect_topic(&rt, rt.alloc(), words, topic);
+    }
+}
+
+/// What is explained by an example without a code: the words that run the example, and the last line that they print.
+const ENDS: [(Topic, &str, &str); 9] = [
+    (
+        Topic::Fault(Fault::Overflow),
+        REPLAY,
+        "end: fault 1 in component 0 at 0\n",
+    ),
+    (
+        Topic::Fault(Fault::ZeroDivisor),
+        REPLAY,
+        "end: fault 2 in component 0 at 0\n",
+    ),
+    (
+        Topic::Fault(Fault::Empty),
+        REPLAY,
+        "end: fault 3 in component 0 at 0\n",
+    ),
+    (
+        Topic::Fault(Fault::OutOfRange),
+        REPLAY,
+        "end: fault 4 in component 0 at 0\n",
+    ),
+    (
+        Topic::Fault(Fault::Full),
+        REPLAY,
+        "end: fault 5 in component 0 at 1\n",
+    ),
+    (Topic::Done, REPLAY, "end: done after 1\n"),
+    (Topic::NotAnAction, REPLAY, "end: not an action at 1\n"),
+    (Topic::NotEnabled, REPLAY, "end: not enabled at 1\n"),
+    (
+        Topic::Broken,
+        "replay f --log --invariants",
+        "invariant 0 of component 0 broken after 2\n",
+    ),
+];
+
+/// The source and the input of an example that has both.
+fn source_and_input(example: Example) -> Option<(&'static str, &'static str)> {
+    match example {
+        Example::Replay { source, list } => Some((source, list)),
+        Example::ReplayLog { source, log } | Example::Monitor { source, log } => Some((
+            source, log,
+        )),
+        Example::Source(_) | Example::Object(_) | Example::Told(_) => None,
+    }
+}
+
+#[test]
+fn examples_of_ends_end_so(rt: HostRuntime) {
+    for (topic, words, last) in ENDS {
+        let (source, list) = source_and_input(explanation(topic).example).expect(&rt, "an input");
+        let given = Given {
+            words,
+            file: source.as_bytes(),
+            list,
+        };
+        let ran = run(&rt, rt.alloc(), &given);
+        assert!(rt; ran.output.as_slice().ends_with(last.as_bytes()), "{topic}");
+    }
 }

@@ -7,13 +7,15 @@ use ioa_node::from_values;
 use ioa_tree::Kind;
 use ioa_value::{Ty, Types, Value};
 use std::alloc::Global;
-use std::test::Fail;
+use std::process::Abort;
 
 /// A component's name, and its entry's kind and name.
 type Given = (&'static str, Kind, &'static str);
 
 /// Components, hidden names, and why they are no program, if they are none.
-const ROWS: [(&[Given], &[&str], Option<TableErr>); 9] = [
+type Row = (&'static [Given], &'static [&'static str], Option<TableErr>);
+
+const ROWS: [Row; 9] = [
     (&[("A", Kind::Output, "go")], &[], None),
     (&[("A", Kind::Internal, "go")], &[], None),
     (
@@ -47,18 +49,16 @@ const ROWS: [(&[Given], &[&str], Option<TableErr>); 9] = [
 
 /// Code of this kind over no variables and no positions, with the constant true.
 fn part(
+    rt: &impl Abort,
     alloc: Global,
     types: &Types,
     kind: PartKind,
     instrs: &[Instr],
     end: &[Ty],
-) -> Result<Verified, Fail> {
+) -> Verified {
     let mut consts = Vec::new(alloc);
-    consts.push(Value::Truth(true))?;
-    let code = Code {
-        instrs: instrs.to_vec(alloc)?,
-        consts,
-    };
+    consts.push(Value::Truth(true)).expect(rt, "memory");
+    let instrs = instrs.to_vec(alloc).expect(rt, "memory");
     let env = Env {
         types,
         kind,
@@ -66,72 +66,94 @@ fn part(
         arguments: &[],
         result: end,
     };
-    Ok(verify(alloc, code, &env)?)
+    verify(alloc, Code { instrs, consts }, &env).expect(rt, "valid code")
 }
 
 /// The precondition and the proposal of an entry of this kind, which an input has not.
 fn choice(
+    rt: &impl Abort,
     alloc: Global,
     types: &Types,
     kind: Kind,
-) -> Result<(Option<Verified>, Option<Verified>), Fail> {
+) -> (Option<Verified>, Option<Verified>) {
     if kind == Kind::Input {
-        return Ok((None, None));
+        return (None, None);
     }
-    let pre = part(alloc, types, PartKind::Pre, &[Instr::Const(0)], &[Ty::BOOL])?;
-    let propose = part(alloc, types, PartKind::Propose, &[], &[])?;
-    Ok((Some(pre), Some(propose)))
+    let pre = part(
+        rt,
+        alloc,
+        types,
+        PartKind::Pre,
+        &[Instr::Const(0)],
+        &[Ty::BOOL],
+    );
+    let propose = part(rt, alloc, types, PartKind::Propose, &[], &[]);
+    (Some(pre), Some(propose))
 }
 
-fn entry(alloc: Global, types: &Types, kind: Kind, name: &str) -> Result<Entry, Fail> {
-    let (pre, propose) = choice(alloc, types, kind)?;
-    Ok(Entry {
+fn entry(rt: &impl Abort, alloc: Global, types: &Types, kind: Kind, name: &str) -> Entry {
+    let (pre, propose) = choice(rt, alloc, types, kind);
+    Entry {
         kind,
-        name: String::from_str(alloc, name)?,
+        name: String::from_str(alloc, name).expect(rt, "memory"),
         positions: Vec::new(alloc),
         pre,
         propose,
-        effect: part(alloc, types, PartKind::Eff, &[], &[])?,
-    })
+        effect: part(rt, alloc, types, PartKind::Eff, &[], &[]),
+    }
 }
 
-fn member(alloc: Global, types: &Types, given: Given) -> Result<Member, Fail> {
+fn member(rt: &impl Abort, alloc: Global, types: &Types, given: Given) -> Member {
     let mut entries = Vec::new(alloc);
-    entries.push(entry(alloc, types, given.1, given.2)?)?;
-    Ok(Member {
-        name: String::from_str(alloc, given.0)?,
-        start: from_values(alloc, types, &[], &[])?,
+    let entry = entry(rt, alloc, types, given.1, given.2);
+    entries.push(entry).expect(rt, "memory");
+    Member {
+        name: String::from_str(alloc, given.0).expect(rt, "memory"),
+        start: from_values(alloc, types, &[], &[]).expect(rt, "memory"),
         entries,
-    })
+    }
+}
+
+/// These components.
+fn members(rt: &impl Abort, alloc: Global, types: &Types, given: &[Given]) -> Vec<Member> {
+    let mut members = Vec::new(alloc);
+    for component in given {
+        let member = member(rt, alloc, types, *component);
+        members.push(member).expect(rt, "memory");
+    }
+    members
+}
+
+/// These names.
+fn hidden(rt: &impl Abort, alloc: Global, names: &[&str]) -> Vec<String> {
+    let mut hidden = Vec::new(alloc);
+    for name in names {
+        let name = String::from_str(alloc, *name).expect(rt, "memory");
+        hidden.push(name).expect(rt, "memory");
+    }
+    hidden
 }
 
 /// Why these components are no program, if they are none.
-fn refusal(alloc: Global, given: &[Given], names: &[&str]) -> Result<Option<TableErr>, Fail> {
-    let types = basic(alloc)?;
-    let mut members = Vec::new(alloc);
-    for component in given {
-        members.push(member(alloc, &types, *component)?)?;
-    }
-    let mut hidden = Vec::new(alloc);
-    for name in names {
-        hidden.push(String::from_str(alloc, *name)?)?;
-    }
+fn refusal(rt: &impl Abort, alloc: Global, given: &[Given], names: &[&str]) -> Option<TableErr> {
+    let types = basic(alloc).expect(rt, "memory");
+    let members = members(rt, alloc, &types, given);
     let tables = Tables {
         types,
-        name: String::from_str(alloc, "X")?,
+        name: String::from_str(alloc, "X").expect(rt, "memory"),
         members,
-        hidden,
+        hidden: hidden(rt, alloc, names),
     };
-    match Program::from_tables(alloc, tables) {
-        Ok(_) => Ok(None),
-        Err(error) => Ok(Some(error)),
+    Program::from_tables(alloc, tables).err()
+}
+
+fn expect_refusals(rt: &impl Abort, alloc: Global, rows: &[Row]) {
+    for (given, hidden, wanted) in rows {
+        assert!(rt; refusal(rt, alloc, given, hidden) == *wanted);
     }
 }
 
 #[test]
-fn right_tables_are_programs(rt: HostRuntime) -> Result<(), Fail> {
-    for (given, hidden, wanted) in ROWS {
-        assert!(rt; refusal(rt.alloc(), given, hidden)? == wanted);
-    }
-    Ok(())
+fn right_tables_are_programs(rt: HostRuntime) {
+    expect_refusals(&rt, rt.alloc(), &ROWS);
 }

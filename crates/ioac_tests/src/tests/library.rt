@@ -1,15 +1,13 @@
 //! The library of protocols: its text, lists of actions on its compositions, and runs by chance that its specifications monitor.
 
-use crate::tests::reached::{program, told_state};
+use crate::tests::reached::{program, run_of, told_state};
 use crate::tests::shelf::{First, Given, Wanted, expect, expect_rows, run};
-use ioa_compile::Program;
+use ioa_compile::{Entry, Program};
 use ioa_object::write_object;
-use ioa_system::run_list;
-use ioa_value::read_list;
 use ioac::Status;
 use std::alloc::Global;
+use std::process::Abort;
 use std::sync::Wait;
-use std::test::Fail;
 use std::thread::Threads;
 
 /// The words after the program's name, a list or a log for the library, what is printed, what is told of errors, and the exit status.
@@ -46,14 +44,14 @@ const RUNS: [(&str, &str); 4] = [
 ];
 
 /// The library.
-fn library() -> Result<&'static str, Fail> {
-    Ok(str::from_utf8(ioa_links::text())?)
+fn library(rt: &impl Abort) -> &'static str {
+    str::from_utf8(ioa_links::text()).expect(rt, "a text")
 }
 
 #[test]
-fn the_library_gives_what_is_wanted(rt: HostRuntime) -> Result<(), Fail> {
-    let text = library()?;
-    expect_rows(&rt, rt.alloc(), ROWS, First::Words(text))?;
+fn the_library_gives_what_is_wanted(rt: HostRuntime) {
+    let text = library(&rt);
+    expect_rows(&rt, rt.alloc(), ROWS, First::Words(text));
     let given = Given {
         words: "library",
         file: b"",
@@ -64,82 +62,71 @@ fn the_library_gives_what_is_wanted(rt: HostRuntime) -> Result<(), Fail> {
         errors: "",
         status: Status::Done.number(),
     };
-    expect(&rt, rt.alloc(), "library", &given, &wanted)
+    expect(&rt, rt.alloc(), "library", &given, &wanted);
 }
 
-/// What the sender's variables are after these actions of the sliding window.
-fn slid(alloc: Global) -> Result<String, Fail> {
-    let program = program(alloc, library()?, Some("Sliding"))?;
-    let actions = read_list(alloc, program.types(), SLID.as_bytes())?
-        .ok()
-        .ok_or("no list")?;
-    let run = run_list(alloc, &program, &actions)?;
-    let sender = run.states.first().ok_or("no sender")?;
-    Ok(told_state(alloc, program.types(), sender)?)
-}
-
+/// The sender's variables are these after the actions of the sliding window.
 #[test]
-fn the_window_moves(rt: HostRuntime) -> Result<(), Fail> {
-    let told = slid(rt.alloc())?;
+fn the_window_moves(rt: HostRuntime) {
+    let program = program(&rt, rt.alloc(), library(&rt), Some("Sliding"));
+    let run = run_of(&rt, rt.alloc(), &program, SLID);
+    let sender = run.states.first().expect(&rt, "a sender");
+    let told = told_state(rt.alloc(), program.types(), sender).expect(&rt, "memory");
     assert!(rt; told.as_str() == ", state(Ints[8], 2, 1)", "{told}");
-    Ok(())
 }
 
-/// Runs a composition on one thread or on several, and answers whether its log is replayed, and whether its specification accepts it.
-fn is_accepted<H: Threads + Wait + Sync>(
+/// Runs the program on the library, by these words and this input; it is done.
+fn done<H: Abort + Threads + Wait + Sync>(
+    rt: &H,
+    alloc: Global,
+    words: &str,
+    list: &str,
+) -> Vec<u8> {
+    let given = Given {
+        words,
+        file: library(rt).as_bytes(),
+        list,
+    };
+    let ran = run(rt, alloc, &given);
+    assert!(rt; ran.status == 0, "{words}");
+    ran.output
+}
+
+/// Runs a composition on one thread or on several; its log is replayed, and its specification accepts it.
+fn expect_accepted<H: Abort + Threads + Wait + Sync>(
     rt: &H,
     alloc: Global,
     composition: &str,
     specification: &str,
     way: &str,
-) -> Result<bool, Fail> {
-    let file = library()?;
-    let words = format!(in alloc; "run f --comp {composition} {way} --turns 200 --log")?;
-    let ran = run(
-        rt,
-        alloc,
-        &Given {
-            words: words.as_str(),
-            file: file.as_bytes(),
-            list: "",
-        },
-    )?;
-    let list = str::from_utf8(ran.output.as_slice())?;
-    let words = format!(in alloc; "replay f --comp {composition} --log")?;
-    let replayed = run(
-        rt,
-        alloc,
-        &Given {
-            words: words.as_str(),
-            file: file.as_bytes(),
-            list,
-        },
-    )?;
-    let words = format!(in alloc; "monitor f --comp {specification}")?;
-    let monitored = run(
-        rt,
-        alloc,
-        &Given {
-            words: words.as_str(),
-            file: file.as_bytes(),
-            list,
-        },
-    )?;
-    let is_done = ran.status == 0 && replayed.status == 0 && monitored.status == 0;
-    Ok(is_done && monitored.output.as_slice() == b"monitor: ok\n".as_slice())
+) {
+    let words = format!(in alloc; "run f --comp {composition} {way} --turns 200 --log");
+    let log = done(rt, alloc, words.expect(rt, "memory").as_str(), "");
+    let list = str::from_utf8(log.as_slice()).expect(rt, "a text");
+    let words = format!(in alloc; "replay f --comp {composition} --log");
+    done(rt, alloc, words.expect(rt, "memory").as_str(), list);
+    let words = format!(in alloc; "monitor f --comp {specification}");
+    let monitored = done(rt, alloc, words.expect(rt, "memory").as_str(), list);
+    assert!(rt;
+        monitored.as_slice() == b"monitor: ok\n".as_slice(),
+        "{composition} {way}"
+    );
 }
 
 #[test]
-fn runs_are_accepted(rt: HostRuntime) -> Result<(), Fail> {
+fn runs_are_accepted(rt: HostRuntime) {
     for (composition, specification) in RUNS {
-        for way in ["--alone", ""] {
-            assert!(rt;
-                is_accepted(&rt, rt.alloc(), composition, specification, way)?,
-                "{composition} {way}"
-            );
-        }
+        expect_accepted(&rt, rt.alloc(), composition, specification, "--alone");
+        expect_accepted(&rt, rt.alloc(), composition, specification, "");
     }
-    Ok(())
+}
+
+/// How many instructions the code of an entry has.
+fn instructions_in(entry: &Entry) -> usize {
+    let pre = entry.pre.as_ref().map_or(0, |part| part.instrs().len());
+    let propose = entry.propose.as_ref().map_or(0, |part| part.instrs().len());
+    pre.saturating_add(propose)
+        .saturating_add(entry.effect.instrs().len())
 }
 
 /// How many instructions the code of a program has.
@@ -147,38 +134,38 @@ fn instruction_count(program: &Program) -> usize {
     let mut count: usize = 0;
     for member in program.members() {
         for entry in &member.entries {
-            if let Some(pre) = &entry.pre {
-                count = count.saturating_add(pre.instrs().len());
-            }
-            if let Some(propose) = &entry.propose {
-                count = count.saturating_add(propose.instrs().len());
-            }
-            count = count.saturating_add(entry.effect.instrs().len());
+            count = count.saturating_add(instructions_in(entry));
         }
     }
     count
 }
 
+/// How many lines with an instruction the dump of the program's object has.
+fn dumped_count<H: Abort + Threads + Wait + Sync>(
+    rt: &H,
+    alloc: Global,
+    program: &Program,
+) -> usize {
+    let object = write_object(alloc, program).expect(rt, "memory");
+    let given = Given {
+        words: "dump f",
+        file: object.as_slice(),
+        list: "",
+    };
+    let ran = run(rt, alloc, &given);
+    let text = str::from_utf8(ran.output.as_slice()).expect(rt, "a text");
+    text.lines()
+        .filter(|line| line.starts_with("      "))
+        .count()
+}
+
 /// The dump of each protocol's object has a line for each instruction.
 #[test]
-fn each_instruction_has_a_line(rt: HostRuntime) -> Result<(), Fail> {
-    let alloc = rt.alloc();
+fn each_instruction_has_a_line(rt: HostRuntime) {
     for (composition, _) in RUNS {
-        let program = program(alloc, library()?, Some(composition))?;
-        let object = write_object(alloc, &program)?;
-        let given = Given {
-            words: "dump f",
-            file: object.as_slice(),
-            list: "",
-        };
-        let ran = run(&rt, alloc, &given)?;
-        let text = str::from_utf8(ran.output.as_slice())?;
-        let lines = text
-            .lines()
-            .filter(|line| line.starts_with("      "))
-            .count();
+        let program = program(&rt, rt.alloc(), library(&rt), Some(composition));
+        let lines = dumped_count(&rt, rt.alloc(), &program);
         assert!(rt; 100 < lines, "{composition}");
         assert!(rt; lines == instruction_count(&program), "{composition}");
     }
-    Ok(())
 }

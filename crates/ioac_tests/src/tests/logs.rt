@@ -2,7 +2,8 @@
 
 use crate::tests::shelf::basic;
 use ioa_log::{Counted, read_log, write_log};
-use std::test::Fail;
+use std::alloc::Global;
+use std::process::Abort;
 
 /// The words after the program's name, a log of the counter, what is printed, what is told of errors, and the exit status.
 pub const REPLAYS: &str = r#"
@@ -88,9 +89,9 @@ replay f | {"act":"tick(5)","who":0}^{"end":"done after 1"}^ |  | L2 line 1^ | 4
 replay g --log | x |  | io^ | 5
 replay f --log --comp Nine | x |  | E17^ | 1
 -- words
-replay f --log g |  |  | error: unexpected argument 'g' found^^Usage: ioac replay [--comp <NAME>] [--log [--invariants]] <FILE>^^For more information, try '--help'.^ | 2
-replay f --log --log |  |  | error: the argument '--log' cannot be used multiple times^^Usage: ioac replay [--comp <NAME>] [--log [--invariants]] <FILE>^^For more information, try '--help'.^ | 2
-replay --log |  |  | error: the following required arguments were not provided:^  <FILE>^^Usage: ioac replay [--comp <NAME>] [--log [--invariants]] <FILE>^^For more information, try '--help'.^ | 2
+replay f --log g |  |  | error: unexpected argument 'g' found^^Usage: ioac replay [--comp <NAME>] [--log [--invariants]] [--states] <FILE>^^For more information, try '--help'.^ | 2
+replay f --log --log |  |  | error: the argument '--log' cannot be used multiple times^^Usage: ioac replay [--comp <NAME>] [--log [--invariants]] [--states] <FILE>^^For more information, try '--help'.^ | 2
+replay --log |  |  | error: the following required arguments were not provided:^  <FILE>^^Usage: ioac replay [--comp <NAME>] [--log [--invariants]] [--states] <FILE>^^For more information, try '--help'.^ | 2
 "#;
 
 /// Logs with CR and tabs, which are blanks of JSON, and of actions.
@@ -153,7 +154,7 @@ monitor f --comp Nine | automaton A signature internal go transitions internal g
 monitor |  |  |  | error: the following required arguments were not provided:^  <FILE>^^Usage: ioac monitor <FILE>^^For more information, try '--help'.^ | 2
 monitor f --log |  |  |  | error: unexpected argument '--log' found^^  tip: to pass '--log' as a value, use '-- --log'^^Usage: ioac monitor <FILE>^^For more information, try '--help'.^ | 2
 check f --log |  |  |  | error: unexpected argument '--log' found^^  tip: to pass '--log' as a value, use '-- --log'^^Usage: ioac check <FILE>^^For more information, try '--help'.^ | 2
-monitor --help |  |  | Reads a log on standard input, and prints whether a composition accepts its actions^^Usage: ioac monitor [OPTIONS] <FILE>^^Arguments:^  <FILE>  A source of I/O automata, or an object of one^^Options:^      --comp <NAME>  The composition to take; without it, the last one^  -h, --help         Print help^^The composition has no internal action, and hides none. It is run on those of the log's actions that its components have.^Exit status: 0 accepted, 1 source or object refused, 2 bad command line,^4 not accepted, log refused, or no monitor, 5 memory, the file or a device.^ |  | 0
+monitor --help |  |  | Reads a log on standard input, and prints whether a composition accepts its actions^^Usage: ioac monitor [OPTIONS] <FILE>^^Arguments:^  <FILE>  A source of I/O automata, or an object of one^^Options:^      --comp <NAME>  The composition to take; without it, the last one^  -h, --help         Print help^^The composition has no internal action, and hides none. It is run on those of the log's actions that its components have.^Example: ioac monitor specification.ioa < run.log^Exit status: 0 accepted, 1 source or object refused, 2 bad command line,^4 not accepted, log refused, or no monitor, 5 memory, the file or a device.^ |  | 0
 "#;
 
 /// A text of a log, and the text as it is written.
@@ -173,15 +174,20 @@ const WRITTEN: [(&str, &str); 4] = [
     ),
 ];
 
+// The log as it is written.
+fn written(rt: &impl Abort, alloc: Global, text: &str) -> Vec<u8> {
+    let types = basic(alloc).expect(rt, "memory");
+    let mut input = Counted::new(text.as_bytes());
+    let log = read_log(alloc, &types, &mut input).expect(rt, "a log");
+    let mut output = Counted::new(Vec::new(alloc));
+    write_log(alloc, &types, &log, &mut output).expect(rt, "memory");
+    output.into_inner()
+}
+
 #[test]
-fn writes_logs(rt: HostRuntime) -> Result<(), Fail> {
-    let types = basic(rt.alloc())?;
+fn writes_logs(rt: HostRuntime) {
     for (text, wanted) in WRITTEN {
-        let log = read_log(rt.alloc(), &types, &mut Counted::new(text.as_bytes()))?;
-        let mut output = Counted::new(Vec::new(rt.alloc()));
-        write_log(rt.alloc(), &types, &log, &mut output)?;
-        let written = output.into_inner();
+        let written = written(&rt, rt.alloc(), text);
         assert!(rt; written.as_slice() == wanted.as_bytes(), "{text}");
     }
-    Ok(())
 }

@@ -6,12 +6,12 @@ use ioa_object::{ObjErr, objects_are_their_programs, read_object, write_object};
 use ioac::{objects_do_as_their_sources, objects_run_as_their_sources, one_composition};
 use std::alloc::Global;
 use std::process::Abort;
-use std::test::Fail;
 
 /// The words after the program's name, a file's bytes, standard input, what is printed, what is told of errors, and the exit status.
 pub const ROWS: &str = r#"
 -- the smallest object: a composition X, whose component A has the output go, with a precondition that is true
 check f | 7f494f41010000015801000141000001000102676f000001000000010100010000000000000000 |  | ok^ |  | 0
+check f --compositions | 7f494f41010000015801000141000001000102676f000001000000010100010000000000000000 |  | ok^ |  | 0
 replay f | 7f494f41010000015801000141000001000102676f000001000000010100010000000000000000 | go^go | go^go^end: done after 2^ |  | 0
 replay f --comp X | 7f494f41010000015801000141000001000102676f000001000000010100010000000000000000 | go^stop | go^end: not an action at 1^ |  | 4
 replay f --log | 7f494f41010000015801000141000001000102676f000001000000010100010000000000000000 | {"act":"go","who":0}^{"end":"done after 1"} | go^end: done after 1^ |  | 0
@@ -37,6 +37,8 @@ compile f o | 7f494f41010000015801000141000001000102676f000001000000010100010000
 compile f o --comp A | 7f494f41010000015801000141000001000102676f000001000000010100010000000000000000 |  |  | object^ | 2
 replay f --log --invariants | 7f494f41010000015801000141000001000102676f000001000000010100010000000000000000 | {"end":"done after 0"} |  | object^ | 2
 replay f --log --invariants | 7f | {"end":"done after 0"} |  | object^ | 2
+replay f --states | 7f494f41010000015801000141000001000102676f000001000000010100010000000000000000 |  |  | object^ | 2
+replay f --log --states | 7f | {"end":"done after 0"} |  | object^ | 2
 -- cut, and with one byte more
 check f | 7f |  |  | O1^ | 1
 check f | 7f49 |  |  | O1^ | 1
@@ -143,45 +145,59 @@ const STORE: &str = "type Hue = enum { red, green, blue } type S = seq 3 of Int 
     composition Both components A: Store(4, red); B: Other crash down recover up hidden take";
 
 /// Whether the bytes are the one object of the program that is read of them, if one is.
-fn is_object_read(alloc: Global, bytes: &[u8]) -> Result<Option<bool>, Fail> {
+fn is_object_read(rt: &impl Abort, alloc: Global, bytes: &[u8]) -> Option<bool> {
     match read_object(alloc, bytes) {
         Ok(program) => {
-            let again = write_object(alloc, &program)?;
-            Ok(Some(again.as_slice() == bytes))
+            let again = write_object(alloc, &program).expect(rt, "memory");
+            Some(again.as_slice() == bytes)
         }
-        Err(_) => Ok(None),
+        Err(_) => None,
+    }
+}
+
+/// The smallest object with this byte in this place is refused, or is another object. Whether it is an object.
+fn is_taken(rt: &impl Abort, alloc: Global, place: usize, byte: u8) -> bool {
+    let mut bytes = SMALLEST;
+    if let Some(changed) = bytes.get_mut(place) {
+        *changed = byte;
+    }
+    match is_object_read(rt, alloc, &bytes) {
+        Some(same) => {
+            assert!(rt; same, "{place} {byte}");
+            true
+        }
+        None => {
+            assert!(rt; bytes != SMALLEST);
+            false
+        }
     }
 }
 
 /// Each other byte in each place of the smallest object is refused, or gives another object.
 #[test]
-fn each_byte_is_changed(rt: HostRuntime) -> Result<(), Fail> {
-    let alloc = rt.alloc();
+fn each_byte_is_changed(rt: HostRuntime) {
+    let mut taken: u32 = 0;
+    for place in 0..SMALLEST.len() {
+        for byte in 0..=255 {
+            if is_taken(&rt, rt.alloc(), place, byte) {
+                taken = taken.saturating_add(1);
+            }
+        }
+    }
+    assert!(rt; 39 < taken);
+}
+
+/// The laws of objects are calls.
+#[test]
+fn laws_are_called(_rt: HostRuntime) {
     objects_are_their_programs();
     objects_do_as_their_sources();
     objects_run_as_their_sources();
     one_composition();
-    let mut bytes = SMALLEST;
-    let mut taken: u32 = 0;
-    for place in 0..SMALLEST.len() {
-        for byte in 0..=255 {
-            bytes[place] = byte;
-            match is_object_read(alloc, &bytes)? {
-                Some(same) => {
-                    assert!(rt; same, "{place} {byte}");
-                    taken = taken.saturating_add(1);
-                }
-                None => assert!(rt; byte != SMALLEST[place]),
-            }
-        }
-        bytes[place] = SMALLEST[place];
-    }
-    assert!(rt; 39 < taken);
-    Ok(())
 }
 
-/// Whether the bytes are an object, and cut anywhere are told to be no object or a cut one.
-fn is_whole(alloc: Global, bytes: &[u8]) -> Result<bool, Fail> {
+/// Whether no part of the bytes that ends before them is an object, but is told to be none or a cut one.
+fn is_cut(alloc: Global, bytes: &[u8]) -> bool {
     for length in 0..bytes.len() {
         let wanted = if length < 4 {
             ObjErr::Magic
@@ -190,24 +206,25 @@ fn is_whole(alloc: Global, bytes: &[u8]) -> Result<bool, Fail> {
         };
         match read_object(alloc, &bytes[..length]) {
             Err(error) if error == wanted => {}
-            _ => return Ok(false),
+            _ => return false,
         }
     }
-    Ok(is_object_read(alloc, bytes)? == Some(true))
+    true
+}
+
+/// The bytes are an object, and cut anywhere are told to be no object or a cut one.
+fn expect_whole(rt: &impl Abort, alloc: Global, bytes: &[u8]) {
+    assert!(rt; is_cut(alloc, bytes));
+    assert!(rt; is_object_read(rt, alloc, bytes) == Some(true));
 }
 
 #[test]
-fn objects_are_whole(rt: HostRuntime) -> Result<(), Fail> {
-    let alloc = rt.alloc();
-    assert!(rt; is_whole(alloc, &SMALLEST)?);
+fn objects_are_whole(rt: HostRuntime) {
+    expect_whole(&rt, rt.alloc(), &SMALLEST);
     for source in [COUNTER, STORE] {
-        let bytes = object(&rt, alloc, source)?;
-        assert!(rt; is_whole(alloc, &bytes)?);
-        let program = program(alloc, source, None)?;
-        match read_object(alloc, &bytes) {
-            Ok(read) => assert!(rt; read.same(&program)),
-            Err(error) => assert!(rt; false, "{error}"),
-        }
+        let bytes = object(&rt, rt.alloc(), source);
+        expect_whole(&rt, rt.alloc(), &bytes);
+        let read = read_object(rt.alloc(), &bytes).expect(&rt, "an object");
+        assert!(rt; read.same(&program(&rt, rt.alloc(), source, None)));
     }
-    Ok(())
 }

@@ -4,108 +4,182 @@ ghost use Rattle.std.specs.Prelude.{◌≡◌, true, map};
 ghost use Rattle.ioa_value.specs.Operators.{Takes};
 ghost use Rattle.ioa_value.specs.Plain.{plain};
 
+use crate::tests::proposals::parsed;
+use crate::tests::reached::action;
+use crate::tests::tables::{column, columns};
 use ioa_check::check;
-use ioa_syntax::parse;
-use ioa_value::{Action, Op, Ty, Types, Value, apply, print_action, read_action};
+use ioa_value::{Action, Fault, Op, OutOfMemory, Ty, Types, Value, apply, print_action};
 use std::alloc::Global;
-use std::test::Fail;
+use std::process::Abort;
 
 const DECLARED: &str = "type S = seq 3 of Int type T = tuple { a: Int, b: Int }";
 
 /// The type of pairs that is declared so, after Bool, Int and the sequences.
 const PAIR: Ty = Ty(3);
 
-/// An operator, an action that has its operands, and what it gives: its value, as an action's without a name, or its fault.
-const ROWS: [(Op, &str, &str); 61] = [
-    (Op::Add, "on(2, 3)", "(5)"),
+/// Operators that give numbers, each with rows: an action that has its operands, and what it gives: its value, as an action's without a name, or its fault.
+const NUMBERS: [(Op, &str); 6] = [
     (
         Op::Add,
-        "on(9223372036854775807, 0)",
-        "(9223372036854775807)",
-    ),
-    (
-        Op::Add,
-        "on(9223372036854775807, -9223372036854775808)",
-        "(-1)",
-    ),
-    (Op::Add, "on(9223372036854775807, 1)", "fault 1"),
-    (Op::Add, "on(-9223372036854775808, -1)", "fault 1"),
-    (Op::Sub, "on(2, 3)", "(-1)"),
-    (
-        Op::Sub,
-        "on(-1, 9223372036854775807)",
-        "(-9223372036854775808)",
+        "\
+on(2, 3) | (5)
+on(9223372036854775807, 0) | (9223372036854775807)
+on(9223372036854775807, -9223372036854775808) | (-1)
+on(9223372036854775807, 1) | fault 1
+on(-9223372036854775808, -1) | fault 1",
     ),
     (
         Op::Sub,
-        "on(-1, -9223372036854775808)",
-        "(9223372036854775807)",
+        "\
+on(2, 3) | (-1)
+on(-1, 9223372036854775807) | (-9223372036854775808)
+on(-1, -9223372036854775808) | (9223372036854775807)
+on(-9223372036854775808, 1) | fault 1
+on(0, -9223372036854775808) | fault 1",
     ),
-    (Op::Sub, "on(-9223372036854775808, 1)", "fault 1"),
-    (Op::Sub, "on(0, -9223372036854775808)", "fault 1"),
-    (Op::Mul, "on(-7, 6)", "(-42)"),
-    (Op::Mul, "on(-9223372036854775808, -1)", "fault 1"),
-    (Op::Div, "on(-7, 2)", "(-4)"),
-    (Op::Div, "on(-7, -2)", "(4)"),
-    (Op::Div, "on(7, -2)", "(-3)"),
-    (Op::Div, "on(-9223372036854775808, -1)", "fault 1"),
-    (Op::Div, "on(3, 0)", "fault 2"),
-    (Op::Mod, "on(-7, 2)", "(1)"),
-    (Op::Mod, "on(-7, -2)", "(1)"),
-    (Op::Mod, "on(-9223372036854775808, -1)", "(0)"),
-    (Op::Mod, "on(3, 0)", "fault 2"),
-    (Op::Lt, "on(2, 2)", "(false)"),
-    (Op::Le, "on(2, 2)", "(true)"),
-    (Op::Gt, "on(3, 2)", "(true)"),
+    (
+        Op::Mul,
+        "\
+on(-7, 6) | (-42)
+on(-9223372036854775808, -1) | fault 1",
+    ),
+    (
+        Op::Div,
+        "\
+on(-7, 2) | (-4)
+on(-7, -2) | (4)
+on(7, -2) | (-3)
+on(-9223372036854775808, -1) | fault 1
+on(3, 0) | fault 2",
+    ),
+    (
+        Op::Mod,
+        "\
+on(-7, 2) | (1)
+on(-7, -2) | (1)
+on(-9223372036854775808, -1) | (0)
+on(3, 0) | fault 2",
+    ),
+    (
+        Op::Neg,
+        "\
+on(7) | (-7)
+on(-9223372036854775808) | fault 1",
+    ),
+];
+
+/// The same of operators that give truth values.
+const TRUTHS: [(Op, &str); 7] = [
+    (
+        Op::Lt,
+        "\
+on(2, 2) | (false)",
+    ),
+    (
+        Op::Le,
+        "\
+on(2, 2) | (true)",
+    ),
+    (
+        Op::Gt,
+        "\
+on(3, 2) | (true)",
+    ),
     (
         Op::Ge,
-        "on(-9223372036854775808, 9223372036854775807)",
-        "(false)",
-    ),
-    (Op::Eq, "on(2, 2)", "(true)"),
-    (Op::Eq, "on(2, 3)", "(false)"),
-    (
-        Op::Eq,
-        "on(-9223372036854775808, -9223372036854775808)",
-        "(true)",
+        "\
+on(-9223372036854775808, 9223372036854775807) | (false)",
     ),
     (
         Op::Eq,
-        "on(-9223372036854775808, 9223372036854775807)",
-        "(false)",
+        "\
+on(2, 2) | (true)
+on(2, 3) | (false)
+on(-9223372036854775808, -9223372036854775808) | (true)
+on(-9223372036854775808, 9223372036854775807) | (false)",
     ),
-    (Op::Ne, "on(2, 3)", "(true)"),
-    (Op::Neg, "on(7)", "(-7)"),
-    (Op::Neg, "on(-9223372036854775808)", "fault 1"),
-    (Op::Not, "on(false)", "(true)"),
-    (Op::Len, "on(S[])", "(0)"),
-    (Op::Len, "on(S[5, 6])", "(2)"),
-    (Op::Head, "on(S[5, 6])", "(5)"),
-    (Op::Head, "on(S[])", "fault 3"),
-    (Op::Tail, "on(S[5, 6, 7])", "(S[6, 7])"),
-    (Op::Tail, "on(S[5])", "(S[])"),
-    (Op::Tail, "on(S[])", "fault 3"),
-    (Op::Last, "on(S[5, 6])", "(6)"),
-    (Op::Last, "on(S[])", "fault 3"),
-    (Op::Init, "on(S[5, 6, 7])", "(S[5, 6])"),
-    (Op::Init, "on(S[5])", "(S[])"),
-    (Op::Init, "on(S[])", "fault 3"),
-    (Op::Append, "on(S[], 5)", "(S[5])"),
-    (Op::Append, "on(S[5, 6], 7)", "(S[5, 6, 7])"),
-    (Op::Append, "on(S[5, 6, 7], 8)", "fault 5"),
-    (Op::At, "on(S[5, 6], 0)", "(5)"),
-    (Op::At, "on(S[5, 6], 1)", "(6)"),
-    (Op::At, "on(S[5, 6], 2)", "fault 4"),
-    (Op::At, "on(S[5, 6], -1)", "fault 4"),
-    (Op::At, "on(S[], 0)", "fault 4"),
-    (Op::Member, "on(6, S[5, 6])", "(true)"),
-    (Op::Member, "on(7, S[5, 6])", "(false)"),
-    (Op::Member, "on(0, S[])", "(false)"),
-    (Op::Without, "on(S[5, 6, 5], 5)", "(S[6, 5])"),
-    (Op::Without, "on(S[5, 6], 7)", "(S[5, 6])"),
-    (Op::Without, "on(S[], 5)", "(S[])"),
-    (Op::Without, "on(S[5], 5)", "(S[])"),
-    (Op::Make(PAIR), "on(5, 6)", "(T(5, 6))"),
+    (
+        Op::Ne,
+        "\
+on(2, 3) | (true)",
+    ),
+    (
+        Op::Not,
+        "\
+on(false) | (true)",
+    ),
+];
+
+/// The same of operators on sequences, and of one that makes a tuple.
+const VALUES: [(Op, &str); 10] = [
+    (
+        Op::Len,
+        "\
+on(S[]) | (0)
+on(S[5, 6]) | (2)",
+    ),
+    (
+        Op::Head,
+        "\
+on(S[5, 6]) | (5)
+on(S[]) | fault 3",
+    ),
+    (
+        Op::Tail,
+        "\
+on(S[5, 6, 7]) | (S[6, 7])
+on(S[5]) | (S[])
+on(S[]) | fault 3",
+    ),
+    (
+        Op::Last,
+        "\
+on(S[5, 6]) | (6)
+on(S[]) | fault 3",
+    ),
+    (
+        Op::Init,
+        "\
+on(S[5, 6, 7]) | (S[5, 6])
+on(S[5]) | (S[])
+on(S[]) | fault 3",
+    ),
+    (
+        Op::Append,
+        "\
+on(S[], 5) | (S[5])
+on(S[5, 6], 7) | (S[5, 6, 7])
+on(S[5, 6, 7], 8) | fault 5",
+    ),
+    (
+        Op::At,
+        "\
+on(S[5, 6], 0) | (5)
+on(S[5, 6], 1) | (6)
+on(S[5, 6], 2) | fault 4
+on(S[5, 6], -1) | fault 4
+on(S[], 0) | fault 4",
+    ),
+    (
+        Op::Member,
+        "\
+on(6, S[5, 6]) | (true)
+on(7, S[5, 6]) | (false)
+on(0, S[]) | (false)",
+    ),
+    (
+        Op::Without,
+        "\
+on(S[5, 6, 5], 5) | (S[6, 5])
+on(S[5, 6], 7) | (S[5, 6])
+on(S[], 5) | (S[])
+on(S[5], 5) | (S[])",
+    ),
+    (
+        Op::Make(PAIR),
+        "\
+on(5, 6) | (T(5, 6))",
+    ),
 ];
 
 /// Whether these are operands of the operator, and numbers where it takes values of any type.
@@ -138,20 +212,16 @@ fn takes(types: &Types, op: Op, operands: &[Value]) -> bool
     }
 }
 
-/// What an operator gives of the values of the action.
-fn given(alloc: Global, types: &Types, op: Op, operands: &str) -> Result<String, Fail> {
-    let action = read_action(alloc, types, operands.as_bytes())?.ok_or("no action")?;
-    if !takes(types, op, &action.vals) {
-        return Err(Fail::from("other operands"));
-    }
-    match apply(alloc, types, op, &action.vals)? {
+/// The value, as an action's without a name, or the fault.
+fn told(alloc: Global, types: &Types, given: Result<Value, Fault>) -> Result<String, OutOfMemory> {
+    match given {
         Ok(value) => {
             let mut nameless = Action {
                 name: String::new(alloc),
                 vals: Vec::new(alloc),
             };
             nameless.vals.push(value)?;
-            Ok(print_action(alloc, types, &nameless)?)
+            print_action(alloc, types, &nameless)
         }
         Err(fault) => {
             let number = fault.number();
@@ -160,12 +230,46 @@ fn given(alloc: Global, types: &Types, op: Op, operands: &str) -> Result<String,
     }
 }
 
-#[test]
-fn operators_give_values_and_faults(rt: HostRuntime) -> Result<(), Fail> {
-    let checked = check(rt.alloc(), parse(rt.alloc(), DECLARED.as_bytes())?)?;
-    for (op, operands, wanted) in ROWS {
-        let given = given(rt.alloc(), checked.types(), op, operands)?;
-        assert!(rt; given.as_str() == wanted, "{op:?} {operands} gives {given}");
+/// What an operator gives of the values of the action.
+fn given(rt: &impl Abort, alloc: Global, types: &Types, op: Op, operands: &str) -> String {
+    let action = action(rt, alloc, types, operands);
+    if !takes(types, op, &action.vals) {
+        return String::new(alloc);
     }
-    Ok(())
+    let given = apply(alloc, types, op, &action.vals).expect(rt, "memory");
+    told(alloc, types, given).expect(rt, "memory")
+}
+
+fn expect_rows(rt: &impl Abort, alloc: Global, types: &Types, op: Op, rows: &str) {
+    for row in rows.lines() {
+        let columns = columns(rt, alloc, row);
+        let given = given(rt, alloc, types, op, column(&columns, 0));
+        assert!(rt;
+            given.as_str() == column(&columns, 1),
+            "{op:?} {row} gives {given}"
+        );
+    }
+}
+
+fn expect_values(rt: &impl Abort, alloc: Global, tables: &[(Op, &str)]) {
+    let source = parsed(rt, alloc, DECLARED.as_bytes());
+    let checked = check(alloc, source).expect(rt, "a checked source");
+    for (op, rows) in tables {
+        expect_rows(rt, alloc, checked.types(), *op, rows);
+    }
+}
+
+#[test]
+fn operators_give_numbers_and_faults(rt: HostRuntime) {
+    expect_values(&rt, rt.alloc(), &NUMBERS);
+}
+
+#[test]
+fn operators_give_truth_values(rt: HostRuntime) {
+    expect_values(&rt, rt.alloc(), &TRUTHS);
+}
+
+#[test]
+fn operators_give_values_and_faults(rt: HostRuntime) {
+    expect_values(&rt, rt.alloc(), &VALUES);
 }

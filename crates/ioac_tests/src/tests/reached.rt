@@ -1,15 +1,13 @@
 //! Programs in memory: the states that lists of actions reach, and who performs an action.
 
 use crate::tests::shelf::COUNTER;
-use ioa_check::check;
-use ioa_compile::{Program, compile};
-use ioa_compose::compose;
+use ioa_compile::Program;
 use ioa_node::{NodeState, state_values};
-use ioa_syntax::{Refusal, parse};
-use ioa_system::{End, Participation, owner, participants, run_list};
+use ioa_system::{End, Participation, Run, owner, participants, run_list};
 use ioa_value::{Action, Fault, OutOfMemory, Types, print_action, read_action, read_list};
+use ioac::compile_text;
 use std::alloc::Global;
-use std::test::Fail;
+use std::process::Abort;
 
 /// A step in which two inputs fault.
 pub const TWO: &str = "
@@ -94,10 +92,8 @@ const RUNS: [(&str, &str, &str); 10] = [
 ];
 
 /// The program of a source's composition of this name, or of its last one.
-pub fn program(alloc: Global, source: &str, composition: Option<&str>) -> Result<Program, Refusal> {
-    let checked = check(alloc, parse(alloc, source.as_bytes())?)?;
-    let composition = compose(alloc, &checked, composition)?;
-    Ok(compile(alloc, &composition)?)
+pub fn program(rt: &impl Abort, alloc: Global, source: &str, composition: Option<&str>) -> Program {
+    compile_text(alloc, source.as_bytes(), composition).expect(rt, "a program")
 }
 
 /// The values of a state, told as those of an action.
@@ -109,29 +105,51 @@ pub fn told_state(alloc: Global, types: &Types, state: &NodeState) -> Result<Str
     print_action(alloc, types, &values)
 }
 
-fn reached(alloc: Global, source: &str, list: &str) -> Result<String, Fail> {
-    let program = program(alloc, source, None)?;
-    let actions = read_list(alloc, program.types(), list.as_bytes())?
-        .ok()
-        .ok_or("no list")?;
-    let run = run_list(alloc, &program, &actions)?;
-    let end = run.end;
-    let performed = run.performed;
-    let shown = run.trace.len();
-    let mut text = format!(in alloc; "{end}, {performed} performed, {shown} shown")?;
-    for state in run.states.as_slice() {
-        text.push_str(told_state(alloc, program.types(), state)?.as_str())?;
+/// The values of these states.
+pub fn told_states(
+    alloc: Global,
+    types: &Types,
+    states: &[NodeState],
+) -> Result<String, OutOfMemory> {
+    let mut text = String::new(alloc);
+    for state in states {
+        text.push_str(told_state(alloc, types, state)?.as_str())?;
     }
     Ok(text)
 }
 
-#[test]
-fn runs_reach_their_states(rt: HostRuntime) -> Result<(), Fail> {
-    for (source, list, wanted) in RUNS {
-        let told = reached(rt.alloc(), source, list)?;
-        assert!(rt; told.as_str() == wanted, "{told}");
+/// The run of the list that is spelled so.
+pub fn run_of(rt: &impl Abort, alloc: Global, program: &Program, list: &str) -> Run {
+    let read = read_list(alloc, program.types(), list.as_bytes()).expect(rt, "memory");
+    let actions = read.ok().expect(rt, "a list");
+    run_list(alloc, program, &actions).expect(rt, "memory")
+}
+
+fn reached(rt: &impl Abort, alloc: Global, source: &str, list: &str) -> String {
+    let program = program(rt, alloc, source, None);
+    let run = run_of(rt, alloc, &program, list);
+    let states = told_states(alloc, program.types(), &run.states).expect(rt, "memory");
+    let Run {
+        performed,
+        end,
+        trace,
+        states: _,
+    } = &run;
+    let shown = trace.len();
+    let told = format!(in alloc; "{end}, {performed} performed, {shown} shown{states}");
+    told.expect(rt, "memory")
+}
+
+fn expect_runs(rt: &impl Abort, alloc: Global, rows: &[(&str, &str, &str)]) {
+    for (source, list, wanted) in rows {
+        let told = reached(rt, alloc, source, list);
+        assert!(rt; told.as_str() == *wanted, "{told}");
     }
-    Ok(())
+}
+
+#[test]
+fn runs_reach_their_states(rt: HostRuntime) {
+    expect_runs(&rt, rt.alloc(), &RUNS);
 }
 
 /// An end, and how many actions are performed before it.
@@ -143,11 +161,10 @@ const ENDS: [(End, usize); 4] = [
 ];
 
 #[test]
-fn ends_count_actions(rt: HostRuntime) -> Result<(), Fail> {
+fn ends_count_actions(rt: HostRuntime) {
     for (end, count) in ENDS {
         assert!(rt; end.performed() == count, "{end}");
     }
-    Ok(())
 }
 
 /// Who performs an action: its owner, how many components have it, and whether it is external.
@@ -165,24 +182,28 @@ const OWNERS: [(&str, &str, Performers); 7] = [
 ];
 
 /// The action that is spelled so.
-pub fn action(alloc: Global, types: &Types, text: &str) -> Result<Action, Fail> {
-    let read = read_action(alloc, types, text.as_bytes())?;
-    Ok(read.ok_or("no action")?)
+pub fn action(rt: &impl Abort, alloc: Global, types: &Types, text: &str) -> Action {
+    let read = read_action(alloc, types, text.as_bytes()).expect(rt, "memory");
+    read.expect(rt, "an action")
 }
 
-fn performers(alloc: Global, source: &str, text: &str) -> Result<Performers, Fail> {
-    let program = program(alloc, source, None)?;
-    let action = action(alloc, program.types(), text)?;
-    let count = participants(alloc, &program, &action)?.len();
-    let is_external = Participation::of(alloc, &program, &action)?.is_external();
-    Ok((owner(&program, &action), count, is_external))
+fn performers(rt: &impl Abort, alloc: Global, source: &str, text: &str) -> Performers {
+    let program = program(rt, alloc, source, None);
+    let action = action(rt, alloc, program.types(), text);
+    let participants = participants(alloc, &program, &action).expect(rt, "memory");
+    let participation = Participation::of(alloc, &program, &action).expect(rt, "memory");
+    let owner = owner(&program, &action);
+    (owner, participants.len(), participation.is_external())
+}
+
+fn expect_owners(rt: &impl Abort, alloc: Global, rows: &[(&str, &str, Performers)]) {
+    for (source, text, wanted) in rows {
+        let found = performers(rt, alloc, source, text);
+        assert!(rt; found == *wanted, "{text}");
+    }
 }
 
 #[test]
-fn actions_have_owners(rt: HostRuntime) -> Result<(), Fail> {
-    for (source, text, wanted) in OWNERS {
-        let found = performers(rt.alloc(), source, text)?;
-        assert!(rt; found == wanted, "{text}");
-    }
-    Ok(())
+fn actions_have_owners(rt: HostRuntime) {
+    expect_owners(&rt, rt.alloc(), &OWNERS);
 }

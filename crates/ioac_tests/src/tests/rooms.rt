@@ -1,8 +1,8 @@
 //! Rooms: what is counted of each worker's turns, and what a run gives.
 
-ghost use Rattle.std.specs.Prelude.{◌≡◌, IfOk};
+ghost use Rattle.std.specs.Prelude.{◌≡◌, IfOk, IfSome};
 
-use crate::tests::reached::{TWO, action, program, told_state};
+use crate::tests::reached::{TWO, action, program, told_states};
 use crate::tests::schedules::told_entries;
 use crate::tests::shelf::COUNTER;
 use ioa_compile::Program;
@@ -10,7 +10,7 @@ use ioa_run::{Answer, Outcome, Plan, Planned, Report, Room, Verdict, Why};
 use ioa_system::participants;
 use ioa_value::{Action, Fault, OutOfMemory, Types};
 use std::alloc::Global;
-use std::test::Fail;
+use std::process::Abort;
 
 /// What a worker does: it plans an action and commits it, plans one and is overtaken by another worker's before it commits it, has
 /// nothing to commit, or leaves.
@@ -90,7 +90,16 @@ const FAULTED: &[Report] = &[
 
 /// A source, the script, how many turns each worker has, what is done, and what the run gives: what was performed, the states and the
 /// end, and the reports.
-const WALKS: [(&str, &[&str], u64, &[Turn], &str, &[Report]); 2] = [
+type Walk = (
+    &'static str,
+    &'static [&'static str],
+    u64,
+    &'static [Turn],
+    &'static str,
+    &'static [Report],
+);
+
+const WALKS: [Walk; 2] = [
     (
         COUNTER,
         &["reset"],
@@ -109,121 +118,129 @@ const WALKS: [(&str, &[&str], u64, &[Turn], &str, &[Report]); 2] = [
     ),
 ];
 
-/// The worker's plan for the action by the states as they are now.
-fn planned<'p>(alloc: Global, room: &Room<'p>, who: usize, text: &str) -> Result<Plan<'p>, Fail>
-    ensures { IfOk result (λ plan. (plan.program ≡ room.now.program) × (plan.who ≡ who)) }
+/// The worker's plan for the action by the states as they are now, if it has one.
+fn planned<'p>(
+    alloc: Global,
+    room: &Room<'p>,
+    who: usize,
+    action: Action,
+) -> Result<Option<Plan<'p>>, OutOfMemory>
+    ensures { IfOk result (λ o. IfSome o (λ plan. (plan.program ≡ room.now.program) × (plan.who ≡ who))) }
 {
     let board = room.board();
     let program = board.program();
-    let action = action(alloc, program.types(), text)?;
     let numbers = participants(alloc, program, &action)?;
     let copied = board.copy(&numbers)?;
     match Plan::make(alloc, program, who, action, copied)? {
-        Planned::Ready(plan) => Ok(plan),
-        _ => Err(Fail::from("no plan")),
+        Planned::Ready(plan) => Ok(Some(plan)),
+        _ => Ok(None),
     }
 }
 
-fn answer(verdict: Verdict<'_>) -> Result<Answer, OutOfMemory> {
+/// The same of the action that is spelled so, for which there is a plan.
+fn plan<'p>(rt: &impl Abort, alloc: Global, room: &Room<'p>, who: usize, text: &str) -> Plan<'p>
+    ensures { (result.program ≡ room.now.program) × (result.who ≡ who) }
+{
+    let action = action(rt, alloc, room.board().program().types(), text);
+    let planned = planned(alloc, room, who, action).expect(rt, "memory");
+    planned.expect(rt, "a plan")
+}
+
+fn answer(rt: &impl Abort, verdict: Verdict<'_>) -> Answer {
     match verdict {
-        Verdict::Stopped => Ok(Answer::Stopped),
-        Verdict::Stale => Ok(Answer::Stale),
-        Verdict::Faulted(component, fault) => Ok(Answer::Faulted(component, fault)),
-        Verdict::Committed(index) => Ok(Answer::Committed(index)),
-        Verdict::Memory(_) => Err(OutOfMemory),
+        Verdict::Stopped => Answer::Stopped,
+        Verdict::Stale => Answer::Stale,
+        Verdict::Faulted(component, fault) => Answer::Faulted(component, fault),
+        Verdict::Committed(index) => Answer::Committed(index),
+        Verdict::Memory(_) => panic!(rt; "memory"),
     }
 }
 
-fn act(alloc: Global, room: &mut Room<'_>, who: usize, text: &str) -> Result<Answer, Fail>
+fn act(rt: &impl Abort, alloc: Global, room: &mut Room<'_>, who: usize, text: &str) -> Answer
     ensures { room.new.program ≡ room.old.program }
 {
-    let plan = planned(alloc, room, who, text)?;
-    Ok(answer(room.commit(who, plan))?)
+    let plan = plan(rt, alloc, room, who, text);
+    answer(rt, room.commit(who, plan))
 }
 
 /// The first worker commits a plan that it made before the other one acted.
 fn act_late(
+    rt: &impl Abort,
     alloc: Global,
     room: &mut Room<'_>,
     who: usize,
     text: &str,
     other: usize,
     before: &str,
-) -> Result<Answer, Fail> {
-    let plan = planned(alloc, room, who, text)?;
-    act(alloc, room, other, before)?;
-    Ok(answer(room.commit(who, plan))?)
+) -> Answer {
+    let plan = plan(rt, alloc, room, who, text);
+    act(rt, alloc, room, other, before);
+    answer(rt, room.commit(who, plan))
 }
 
-/// Takes the turn. Whether it is answered so.
-fn is_taken(alloc: Global, room: &mut Room<'_>, turn: Turn) -> Result<bool, Fail> {
+/// Takes the turn, which is answered so.
+fn take(rt: &impl Abort, alloc: Global, room: &mut Room<'_>, turn: Turn) {
     match turn {
-        Turn::Act(who, text, wanted) => Ok(act(alloc, room, who, text)? == wanted),
+        Turn::Act(who, text, wanted) => {
+            assert!(rt; act(rt, alloc, room, who, text) == wanted, "{text}");
+        }
         Turn::Late(who, text, other, before, wanted) => {
-            Ok(act_late(alloc, room, who, text, other, before)? == wanted)
+            let answer = act_late(rt, alloc, room, who, text, other, before);
+            assert!(rt; answer == wanted, "{text}");
         }
-        Turn::Idle(who) => {
-            room.idle(who);
-            Ok(true)
-        }
-        Turn::Leave(who, why) => {
-            room.leave(who, why);
-            Ok(true)
-        }
+        Turn::Idle(who) => room.idle(who),
+        Turn::Leave(who, why) => room.leave(who, why),
     }
 }
 
 /// What the run gives whose turns are these.
 fn walked(
+    rt: &impl Abort,
     alloc: Global,
     program: &Program,
     script: &[Action],
     turns: u64,
     moves: &[Turn],
-) -> Result<Outcome, Fail> {
-    let mut room = Room::start(alloc, program, script, turns)?;
-    if !room.is_of(program, script, turns) || room.is_of(program, script, 0) {
-        return Err(Fail::from("another room"));
-    }
+) -> Outcome {
+    let mut room = Room::start(alloc, program, script, turns).expect(rt, "memory");
+    assert!(rt; room.is_of(program, script, turns));
+    assert!(rt; !room.is_of(program, script, 0));
     for turn in moves {
-        if !is_taken(alloc, &mut room, *turn)? {
-            return Err(Fail::from("another answer"));
-        }
+        take(rt, alloc, &mut room, *turn);
     }
-    Ok(room.finish())
+    room.finish()
 }
 
-pub fn script(alloc: Global, types: &Types, texts: &[&str]) -> Result<Vec<Action>, Fail> {
+pub fn script(rt: &impl Abort, alloc: Global, types: &Types, texts: &[&str]) -> Vec<Action> {
     let mut actions = Vec::new(alloc);
     for text in texts {
-        actions.push(action(alloc, types, text)?)?;
+        let action = action(rt, alloc, types, text);
+        actions.push(action).expect(rt, "memory");
     }
-    Ok(actions)
+    actions
 }
 
 /// What was performed, the states, and the end.
-pub fn told_outcome(
-    alloc: Global,
-    types: &Types,
-    outcome: &Outcome,
-) -> Result<String, OutOfMemory> {
-    let mut text = told_entries(alloc, types, &outcome.log)?;
-    for state in &outcome.states {
-        text.push_str(told_state(alloc, types, state)?.as_str())?;
-    }
-    write!(text, ", {}", outcome.end.end())?;
-    Ok(text)
+pub fn told_outcome(rt: &impl Abort, alloc: Global, types: &Types, outcome: &Outcome) -> String {
+    let entries = told_entries(alloc, types, &outcome.log).expect(rt, "memory");
+    let states = told_states(alloc, types, &outcome.states).expect(rt, "memory");
+    let end = outcome.end.end();
+    format!(in alloc; "{entries}{states}, {end}").expect(rt, "memory")
+}
+
+fn expect_walk(rt: &impl Abort, alloc: Global, walk: &Walk) {
+    let (source, texts, turns, moves, wanted, reports) = *walk;
+    let program = program(rt, alloc, source, None);
+    let script = script(rt, alloc, program.types(), texts);
+    let outcome = walked(rt, alloc, &program, &script, turns, moves);
+    let told = told_outcome(rt, alloc, program.types(), &outcome);
+    assert!(rt; told.as_str() == wanted, "{told}");
+    assert!(rt; outcome.reports.as_slice() == reports, "{source}");
 }
 
 #[test]
-fn rooms_count_turns(rt: HostRuntime) -> Result<(), Fail> {
-    for (source, texts, turns, moves, wanted, reports) in WALKS {
-        let program = program(rt.alloc(), source, None)?;
-        let script = script(rt.alloc(), program.types(), texts)?;
-        let outcome = walked(rt.alloc(), &program, &script, turns, moves)?;
-        let told = told_outcome(rt.alloc(), program.types(), &outcome)?;
-        assert!(rt; told.as_str() == wanted, "{told}");
-        assert!(rt; outcome.reports.as_slice() == reports, "{source}");
+fn rooms_count_turns(rt: HostRuntime) {
+    for walk in &WALKS {
+        expect_walk(&rt, rt.alloc(), walk);
     }
-    Ok(())
 }

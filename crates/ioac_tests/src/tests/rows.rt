@@ -3,9 +3,12 @@
 use crate::tests::shelf::{COUNTER, First, expect_rows};
 use crate::tests::{
     bounds, changes, choices, commands, composed, constants, crashes, declared, invariants, lines,
-    list_logs, lists, logs, objects, pictures, proposals, requests,
+    list_logs, lists, logs, objects, pictures, proposals, requests, states,
 };
-use std::test::Fail;
+use std::alloc::Global;
+use std::process::Abort;
+use std::sync::Wait;
+use std::thread::Threads;
 
 /// Those with sources and lists as long as they may be, and longer.
 const LONG: [(&str, First<'static>); 2] = [
@@ -13,7 +16,7 @@ const LONG: [(&str, First<'static>); 2] = [
     (lines::ROWS, First::Check),
 ];
 
-const SHORT: [(&str, First<'static>); 29] = [
+const SHORT: [(&str, First<'static>); 30] = [
     (lists::ROWS, First::List(COUNTER)),
     (lists::ROWS, First::Object(COUNTER)),
     (proposals::REPLAYS, First::Object(proposals::GAME)),
@@ -42,21 +45,27 @@ const SHORT: [(&str, First<'static>); 29] = [
     (proposals::CHECKS, First::Check),
     (proposals::REPLAYS, First::List(proposals::GAME)),
     (requests::ROWS, First::Request),
+    (states::ROWS, First::All),
     (commands::ROWS, First::Words(commands::TWO)),
 ];
 
-#[test]
-fn short_texts_give_what_is_wanted(rt: HostRuntime) -> Result<(), Fail> {
-    for (rows, first) in SHORT {
-        expect_rows(&rt, rt.alloc(), rows, first)?;
+/// Runs the program on the rows of each table.
+fn expect_tables<H: Abort + Threads + Wait + Sync>(
+    rt: &H,
+    alloc: Global,
+    tables: &[(&str, First<'_>)],
+) {
+    for (rows, first) in tables {
+        expect_rows(rt, alloc, rows, *first);
     }
-    Ok(())
 }
 
 #[test]
-fn long_texts_give_what_is_wanted(rt: HostRuntime) -> Result<(), Fail> {
-    for (rows, first) in LONG {
-        expect_rows(&rt, rt.alloc(), rows, first)?;
-    }
-    Ok(())
+fn short_texts_give_what_is_wanted(rt: HostRuntime) {
+    expect_tables(&rt, rt.alloc(), &SHORT);
+}
+
+#[test]
+fn long_texts_give_what_is_wanted(rt: HostRuntime) {
+    expect_tables(&rt, rt.alloc(), &LONG);
 }

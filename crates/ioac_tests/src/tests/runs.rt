@@ -1,6 +1,6 @@
 //! Runs: what they print, by their words and their scripts, on one thread and, where that is the same in every schedule, on threads.
 
-use crate::tests::shelf::{COUNTER, Ran};
+use crate::tests::shelf::{COUNTER, Ran, expect_answer, wanted_in, words};
 use crate::tests::tables::{column, columns, is_row};
 use ioa_log::Counted;
 use ioac::command::command;
@@ -8,7 +8,6 @@ use ioac::{Store, StoreErr};
 use std::alloc::Global;
 use std::process::Abort;
 use std::sync::Wait;
-use std::test::Fail;
 use std::thread::Threads;
 
 /// A component that rolls, twice at most, and one that adds and tells.
@@ -125,19 +124,14 @@ impl<'a> Store for Rack<'a> {
 }
 
 /// Runs the program by these words after `run f`.
-fn run_by<H: Threads + Wait + Sync>(
+fn run_by<H: Abort + Threads + Wait + Sync>(
     rt: &H,
     alloc: Global,
     options: &str,
     rack: &mut Rack<'_>,
-) -> Result<Ran, Fail> {
-    let mut words = Vec::new(alloc);
-    words.push("ioac")?;
-    words.push("run")?;
-    words.push("f")?;
-    for option in options.split_whitespace() {
-        words.push(option)?;
-    }
+) -> Ran {
+    let line = format!(in alloc; "run f {options}").expect(rt, "memory");
+    let words = words(rt, alloc, line.as_str());
     let mut input = Counted::new(b"".as_slice());
     let mut output = Counted::new(Vec::new(alloc));
     let mut errors = Counted::new(Vec::new(alloc));
@@ -150,69 +144,62 @@ fn run_by<H: Threads + Wait + Sync>(
         &mut output,
         &mut errors,
     );
-    Ok(Ran {
+    Ran {
         output: output.into_inner(),
         errors: errors.into_inner(),
         status,
         saved: None,
-    })
+    }
+}
+
+/// Runs the row of a table on this source.
+fn expect_run<H: Abort + Threads + Wait + Sync>(rt: &H, alloc: Global, row: &str, source: &str) {
+    let columns = columns(rt, alloc, row);
+    let mut rack = Rack {
+        source,
+        words: column(&columns, 1),
+        script: column(&columns, 2),
+    };
+    let ran = run_by(rt, alloc, column(&columns, 0), &mut rack);
+    let wanted = wanted_in(rt, &columns, 3);
+    expect_answer(rt, row, &ran, &wanted);
 }
 
 /// Runs each row of a table on this source.
-fn expect_runs<H: Abort + Threads + Wait + Sync>(
-    rt: &H,
-    alloc: Global,
-    rows: &str,
-    source: &str,
-) -> Result<(), Fail> {
-    for row in rows.lines().filter(|line| is_row(line)) {
-        let columns = columns(alloc, row)?;
-        let mut rack = Rack {
-            source,
-            words: column(&columns, 1),
-            script: column(&columns, 2),
-        };
-        let ran = run_by(rt, alloc, column(&columns, 0), &mut rack)?;
-        assert!(rt;
-            ran.errors.as_slice() == column(&columns, 4).as_bytes(),
-            "errors in {row}"
-        );
-        assert!(rt;
-            ran.output.as_slice() == column(&columns, 3).as_bytes(),
-            "output in {row}"
-        );
-        assert!(rt;
-            ran.status == column(&columns, 5).parse::<u8>()?,
-            "status in {row}"
-        );
+fn expect_runs<H: Abort + Threads + Wait + Sync>(rt: &H, alloc: Global, rows: &str, source: &str) {
+    for row in rows.lines() {
+        if is_row(row) {
+            expect_run(rt, alloc, row, source);
+        }
     }
-    Ok(())
 }
 
 #[test]
-fn runs_print_what_is_wanted(rt: HostRuntime) -> Result<(), Fail> {
-    expect_runs(&rt, rt.alloc(), GAMES, GAME)?;
-    expect_runs(&rt, rt.alloc(), COUNTS, COUNTER)?;
-    expect_runs(&rt, rt.alloc(), FAULTS, FAULTY)?;
-    Ok(())
+fn runs_print_what_is_wanted(rt: HostRuntime) {
+    expect_runs(&rt, rt.alloc(), GAMES, GAME);
+    expect_runs(&rt, rt.alloc(), COUNTS, COUNTER);
+    expect_runs(&rt, rt.alloc(), FAULTS, FAULTY);
 }
 
-#[test]
-fn a_run_without_a_seed_has_one_of_zeros(rt: HostRuntime) -> Result<(), Fail> {
+/// What a run of the game prints by these words.
+fn printed<H: Abort + Threads + Wait + Sync>(rt: &H, alloc: Global, options: &str) -> Vec<u8> {
     let mut rack = Rack {
         source: GAME,
         words: "",
         script: "",
     };
+    let ran = run_by(rt, alloc, options, &mut rack);
+    assert_eq!(rt; ran.status, 0);
+    ran.output
+}
+
+#[test]
+fn a_run_without_a_seed_has_one_of_zeros(rt: HostRuntime) {
     let zeros =
         "--alone --turns 50 --log --seed 0000000000000000000000000000000000000000000000000000000000000000";
     let ones =
         "--alone --turns 50 --log --seed 1111111111111111111111111111111111111111111111111111111111111111";
-    let without = run_by(&rt, rt.alloc(), "--alone --turns 50 --log", &mut rack)?;
-    let with_zeros = run_by(&rt, rt.alloc(), zeros, &mut rack)?;
-    let with_ones = run_by(&rt, rt.alloc(), ones, &mut rack)?;
-    assert_eq!(rt; without.status, 0);
-    assert!(rt; without.output.as_slice() == with_zeros.output.as_slice());
-    assert!(rt; without.output.as_slice() != with_ones.output.as_slice());
-    Ok(())
+    let without = printed(&rt, rt.alloc(), "--alone --turns 50 --log");
+    assert!(rt; without.as_slice() == printed(&rt, rt.alloc(), zeros).as_slice());
+    assert!(rt; without.as_slice() != printed(&rt, rt.alloc(), ones).as_slice());
 }

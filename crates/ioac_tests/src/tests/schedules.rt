@@ -1,13 +1,13 @@
 //! Schedules: what workers are answered that copy and commit, and what then stands.
 
-use crate::tests::reached::{PUTS, TWO, action, program, told_state};
+use crate::tests::reached::{PUTS, TWO, action, program, told_states};
 use crate::tests::shelf::COUNTER;
 use ioa_compile::Program;
-use ioa_run::{Answer, Board, Core, Event, play};
+use ioa_run::{Answer, Board, Core, Event, Recorded, play};
 use ioa_system::LogEntry;
 use ioa_value::{Fault, OutOfMemory, Types, print_action};
 use std::alloc::Global;
-use std::test::Fail;
+use std::process::Abort;
 
 /// A worker, the action that it copies, or none where it commits, and what it is answered.
 type Turn = (usize, Option<&'static str>, Answer);
@@ -68,7 +68,9 @@ const STOPPED: &[Turn] = &[
 ];
 
 /// A source, turns, and what then stands: what was performed, the states, and the fault.
-const PLAYS: [(&str, &[Turn], &str); 5] = [
+type Play = (&'static str, &'static [Turn], &'static str);
+
+const PLAYS: [Play; 5] = [
     (COUNTER, &[], ", state(5)"),
     (PUTS, OVERTAKEN, "0 put(0), state(1), state(0), state(1)"),
     (
@@ -84,12 +86,12 @@ const PLAYS: [(&str, &[Turn], &str); 5] = [
     ),
 ];
 
-fn event(alloc: Global, types: &Types, turn: &Turn) -> Result<Event, Fail> {
+fn event(rt: &impl Abort, alloc: Global, types: &Types, turn: &Turn) -> Event {
     let (who, text, _) = turn;
-    Ok(match text {
-        Some(text) => Event::Copy(*who, action(alloc, types, text)?),
+    match text {
+        Some(text) => Event::Copy(*who, action(rt, alloc, types, text)),
         None => Event::Commit(*who),
-    })
+    }
 }
 
 /// A worker and its action.
@@ -114,49 +116,64 @@ pub fn told_entries(
     Ok(text)
 }
 
-fn told_board(alloc: Global, board: &Board<'_>) -> Result<String, OutOfMemory> {
-    let types = board.program().types();
-    let mut text = told_entries(alloc, types, board.history())?;
-    for state in board.states() {
-        text.push_str(told_state(alloc, types, state)?.as_str())?;
+/// The fault that is recorded, if one is.
+fn told_record(
+    alloc: Global,
+    types: &Types,
+    recorded: Option<&Recorded>,
+) -> Result<String, OutOfMemory> {
+    match recorded {
+        Some(recorded) => {
+            let entry = told_entry(alloc, types, &recorded.entry)?;
+            let fault = recorded.fault.number();
+            let component = recorded.component;
+            Ok(format!(in alloc; ", {entry} has fault {fault} in component {component}")?)
+        }
+        None => Ok(String::new(alloc)),
     }
-    if let Some(recorded) = board.recorded() {
-        let entry = told_entry(alloc, types, &recorded.entry)?;
-        let fault = recorded.fault.number();
-        let component = recorded.component;
-        write!(text, ", {entry} has fault {fault} in component {component}")?;
-    }
-    Ok(text)
 }
 
-/// What stands after the turns, where they are answered so.
-fn stands_after(alloc: Global, program: &Program, turns: &[Turn]) -> Result<String, Fail> {
-    let mut core = Core::start(alloc, program)?;
+fn told_board(rt: &impl Abort, alloc: Global, board: &Board<'_>) -> String {
+    let types = board.program().types();
+    let entries = told_entries(alloc, types, board.history()).expect(rt, "memory");
+    let states = told_states(alloc, types, board.states()).expect(rt, "memory");
+    let record = told_record(alloc, types, board.recorded()).expect(rt, "memory");
+    format!(in alloc; "{entries}{states}{record}").expect(rt, "memory")
+}
+
+/// The turns, which are answered so one by one, and what then stands.
+fn taken(rt: &impl Abort, alloc: Global, program: &Program, turns: &[Turn]) -> String {
+    let mut core = Core::start(alloc, program).expect(rt, "memory");
+    for turn in turns {
+        let event = event(rt, alloc, program.types(), turn);
+        assert!(rt; core.event(event).expect(rt, "memory") == turn.2);
+    }
+    told_board(rt, alloc, core.board())
+}
+
+/// The turns, which are answered so all together, and what then stands.
+fn played(rt: &impl Abort, alloc: Global, program: &Program, turns: &[Turn]) -> String {
     let mut events = Vec::new(alloc);
     for turn in turns {
-        let answer = core.event(event(alloc, program.types(), turn)?)?;
-        if answer != turn.2 {
-            return Err(Fail::from("another answer"));
-        }
-        events.push(event(alloc, program.types(), turn)?)?;
+        let event = event(rt, alloc, program.types(), turn);
+        events.push(event).expect(rt, "memory");
     }
-    let (played, answers) = play(alloc, program, &events)?;
-    if !answers.iter().eq(turns.iter().map(|turn| &turn.2)) {
-        return Err(Fail::from("other answers"));
+    let (played, answers) = play(alloc, program, &events).expect(rt, "memory");
+    assert!(rt; answers.iter().eq(turns.iter().map(|turn| &turn.2)));
+    told_board(rt, alloc, played.board())
+}
+
+fn expect_plays(rt: &impl Abort, alloc: Global, plays: &[Play]) {
+    for (source, turns, wanted) in plays {
+        let program = program(rt, alloc, source, None);
+        let told = taken(rt, alloc, &program, turns);
+        assert!(rt; told.as_str() == *wanted, "{told}");
+        let told = played(rt, alloc, &program, turns);
+        assert!(rt; told.as_str() == *wanted, "{told}");
     }
-    let text = told_board(alloc, core.board())?;
-    if told_board(alloc, played.board())?.as_str() != text.as_str() {
-        return Err(Fail::from("another board"));
-    }
-    Ok(text)
 }
 
 #[test]
-fn schedules_are_answered(rt: HostRuntime) -> Result<(), Fail> {
-    for (source, turns, wanted) in PLAYS {
-        let program = program(rt.alloc(), source, None)?;
-        let told = stands_after(rt.alloc(), &program, turns)?;
-        assert!(rt; told.as_str() == wanted, "{told}");
-    }
-    Ok(())
+fn schedules_are_answered(rt: HostRuntime) {
+    expect_plays(&rt, rt.alloc(), &PLAYS);
 }

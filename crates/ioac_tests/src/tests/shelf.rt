@@ -9,7 +9,6 @@ use ioac::{Store, StoreErr};
 use std::alloc::{AllocError, Global};
 use std::process::Abort;
 use std::sync::Wait;
-use std::test::Fail;
 use std::thread::Threads;
 
 /// The counter that most tests replay.
@@ -90,20 +89,26 @@ pub struct Ran {
     pub saved: Option<Vec<u8>>,
 }
 
+/// The program's name, and the words of this text, which are parted by spaces.
+pub fn words<'a>(rt: &impl Abort, alloc: Global, text: &'a str) -> Vec<&'a str> {
+    let mut words = Vec::new(alloc);
+    words.push("ioac").expect(rt, "memory");
+    for word in text.split_whitespace() {
+        words.push(word).expect(rt, "memory");
+    }
+    words
+}
+
 /// Runs the program on devices, and answers its exit status, and what it has saved.
-pub fn run_on<H: Threads + Wait + Sync, R: InputDevice, W: OutputDevice, E: OutputDevice>(
+pub fn run_on<H: Abort + Threads + Wait + Sync, R: InputDevice, W: OutputDevice, E: OutputDevice>(
     rt: &H,
     alloc: Global,
     given: &Given<'_>,
     input: &mut R,
     output: &mut W,
     errors: &mut E,
-) -> Result<(u8, Option<Vec<u8>>), Fail> {
-    let mut words = Vec::new(alloc);
-    words.push("ioac")?;
-    for word in given.words.split_whitespace() {
-        words.push(word)?;
-    }
+) -> (u8, Option<Vec<u8>>) {
+    let words = words(rt, alloc, given.words);
     let mut store = Shelf {
         bytes: given.file,
         saved: None,
@@ -117,25 +122,21 @@ pub fn run_on<H: Threads + Wait + Sync, R: InputDevice, W: OutputDevice, E: Outp
         output,
         errors,
     );
-    Ok((status, store.saved))
+    (status, store.saved)
 }
 
 /// Runs the program.
-pub fn run<H: Threads + Wait + Sync>(
-    rt: &H,
-    alloc: Global,
-    given: &Given<'_>,
-) -> Result<Ran, Fail> {
+pub fn run<H: Abort + Threads + Wait + Sync>(rt: &H, alloc: Global, given: &Given<'_>) -> Ran {
     let mut input = Counted::new(given.list.as_bytes());
     let mut output = Counted::new(Vec::new(alloc));
     let mut errors = Counted::new(Vec::new(alloc));
-    let (status, saved) = run_on(rt, alloc, given, &mut input, &mut output, &mut errors)?;
-    Ok(Ran {
+    let (status, saved) = run_on(rt, alloc, given, &mut input, &mut output, &mut errors);
+    Ran {
         output: output.into_inner(),
         errors: errors.into_inner(),
         status,
         saved,
-    })
+    }
 }
 
 /// Runs the program and compares what it prints. It tells the row that fails.
@@ -145,8 +146,14 @@ pub fn expect<H: Abort + Threads + Wait + Sync>(
     row: &str,
     given: &Given<'_>,
     wanted: &Wanted<'_>,
-) -> Result<(), Fail> {
-    let ran = run(rt, alloc, given)?;
+) {
+    let ran = run(rt, alloc, given);
+    expect_answer(rt, row, &ran, wanted);
+    assert!(rt; ran.saved.is_none() || ran.status == 0, "saved in {row}");
+}
+
+/// Compares what the program printed with what is wanted. It tells the row that fails.
+pub fn expect_answer(rt: &impl Abort, row: &str, ran: &Ran, wanted: &Wanted<'_>) {
     assert!(rt;
         ran.errors.as_slice() == wanted.errors.as_bytes(),
         "errors in {row}"
@@ -156,8 +163,6 @@ pub fn expect<H: Abort + Threads + Wait + Sync>(
         "output in {row}"
     );
     assert!(rt; ran.status == wanted.status, "status in {row}");
-    assert!(rt; ran.saved.is_none() || ran.status == 0, "saved in {row}");
-    Ok(())
 }
 
 /// What the first columns of a table are.
@@ -184,55 +189,41 @@ pub enum First<'a> {
 }
 
 // The file of a row that tells what is changed in one, and nothing where the part is not in it.
-fn changed(alloc: Global, file: &str, columns: &[String]) -> Result<Vec<u8>, Fail> {
-    let mut changed = String::new(alloc);
-    if let Some((before, after)) = file.split_once(column(columns, 0)) {
-        let by = column(columns, 1);
-        write!(changed, "{before}{by}{after}")?;
-    }
-    Ok(changed.into_bytes())
+fn changed(rt: &impl Abort, alloc: Global, file: &str, columns: &[String]) -> Vec<u8> {
+    let Some((before, after)) = file.split_once(column(columns, 0)) else {
+        return Vec::new(alloc);
+    };
+    let by = column(columns, 1);
+    let changed = format!(in alloc; "{before}{by}{after}");
+    changed.expect(rt, "memory").into_bytes()
 }
 
-/// The object that the program makes of a source, if it makes one.
-pub fn object<H: Threads + Wait + Sync>(
-    rt: &H,
-    alloc: Global,
-    source: &str,
-) -> Result<Vec<u8>, Fail> {
+/// The object that the program makes of a source.
+pub fn object<H: Abort + Threads + Wait + Sync>(rt: &H, alloc: Global, source: &str) -> Vec<u8> {
     let given = Given {
         words: "compile f o",
         file: source.as_bytes(),
         list: "",
     };
-    let ran = run(rt, alloc, &given)?;
-    let Ran {
-        output: _,
-        errors: _,
-        status: _,
-        saved,
-    } = ran;
-    match saved {
-        Some(bytes) => Ok(bytes),
-        None => Err("no object".into()),
-    }
+    run(rt, alloc, &given).saved.expect(rt, "an object")
 }
 
 // The bytes of a row's file.
-fn file_in<H: Threads + Wait + Sync>(
+fn file_in<H: Abort + Threads + Wait + Sync>(
     rt: &H,
     alloc: Global,
     first: First<'_>,
     columns: &[String],
-) -> Result<Vec<u8>, Fail> {
+) -> Vec<u8> {
     let text = match first {
         First::Object(source) => return object(rt, alloc, source),
-        First::Bytes => return Ok(hex::decode(alloc, column(columns, 1))?),
-        First::Changed(file) => return changed(alloc, file, columns),
+        First::Bytes => return hex::decode(alloc, column(columns, 1)).expect(rt, "digits"),
+        First::Changed(file) => return changed(rt, alloc, file, columns),
         First::List(file) | First::Words(file) => file,
         First::File | First::Check => column(columns, 0),
         First::Request | First::All => column(columns, 1),
     };
-    Ok(Vec::from_slice(alloc, text.as_bytes())?)
+    Vec::from_slice(alloc, text.as_bytes()).expect(rt, "memory")
 }
 
 // What the first columns give with a file, and how many they are.
@@ -250,13 +241,28 @@ fn given_in<'a>(first: First<'_>, columns: &'a [String], file: &'a [u8]) -> (Giv
     (Given { words, file, list }, count)
 }
 
-// What has to be printed, told of errors, and answered as exit status: the columns from this number on.
-fn wanted_in(columns: &[String], number: usize) -> Result<Wanted<'_>, Fail> {
-    Ok(Wanted {
+/// What has to be printed, told of errors, and answered as exit status: the columns from this number on.
+pub fn wanted_in<'a>(rt: &impl Abort, columns: &'a [String], number: usize) -> Wanted<'a> {
+    let status = column(columns, number.saturating_add(2));
+    Wanted {
         output: column(columns, number),
         errors: column(columns, number.saturating_add(1)),
-        status: column(columns, number.saturating_add(2)).parse::<u8>()?,
-    })
+        status: status.parse::<u8>().expect(rt, "a status"),
+    }
+}
+
+// Runs the program on this row, and compares what it prints.
+fn expect_row<H: Abort + Threads + Wait + Sync>(
+    rt: &H,
+    alloc: Global,
+    row: &str,
+    first: First<'_>,
+) {
+    let columns = columns(rt, alloc, row);
+    let file = file_in(rt, alloc, first, &columns);
+    let (given, count) = given_in(first, &columns, &file);
+    let wanted = wanted_in(rt, &columns, count);
+    expect(rt, alloc, row, &given, &wanted);
 }
 
 /// Runs the program on each row of a table and compares what it prints: after the first columns come what is printed, what is
@@ -266,13 +272,10 @@ pub fn expect_rows<H: Abort + Threads + Wait + Sync>(
     alloc: Global,
     rows: &str,
     first: First<'_>,
-) -> Result<(), Fail> {
-    for row in rows.lines().filter(|line| is_row(line)) {
-        let columns = columns(alloc, row)?;
-        let file = file_in(rt, alloc, first, &columns)?;
-        let (given, count) = given_in(first, &columns, &file);
-        let wanted = wanted_in(&columns, count)?;
-        expect(rt, alloc, row, &given, &wanted)?;
+) {
+    for row in rows.lines() {
+        if is_row(row) {
+            expect_row(rt, alloc, row, first);
+        }
     }
-    Ok(())
 }

@@ -6,7 +6,6 @@ use std::io;
 use std::io::{Read, Write};
 use std::process::Abort;
 use std::sync::Wait;
-use std::test::Fail;
 use std::thread::Threads;
 
 /// Takes one byte a call, and fails after so many calls.
@@ -73,9 +72,20 @@ const BOUNDED: &str = "automaton Counter signature output tick(k: Int); input re
 /// What is printed of the list, and of its log.
 const PRINTED: &str = "tick(5)\ntick(6)\nreset\nend: done after 3\n";
 
+/// The same with the state in which it ends.
+const REACHED: &str = "tick(5)\ntick(6)\nreset\nend: done after 3\nA.c = 5\n";
+
 /// The words, a file, and what stands on standard input; what is printed, and the exit status.
-const GIVEN: [(&str, &str, &str, &str, Status); 4] = [
+const GIVEN: [(&str, &str, &str, &str, Status); 6] = [
     (REPLAY, COUNTER, LIST, PRINTED, Status::Done),
+    ("replay f --states", COUNTER, LIST, REACHED, Status::Done),
+    (
+        "replay f --log --states",
+        COUNTER,
+        LOG,
+        REACHED,
+        Status::Done,
+    ),
     ("replay f --log", COUNTER, LOG, PRINTED, Status::Done),
     (
         "replay f --log --invariants",
@@ -95,13 +105,13 @@ const GIVEN: [(&str, &str, &str, &str, Status); 4] = [
 
 /// Replays what is given on a device that fails after so many calls, and the answer is printed on one that takes so many;
 /// with how many calls failed.
-fn replayed<H: Threads + Wait + Sync>(
+fn replayed<H: Abort + Threads + Wait + Sync>(
     rt: &H,
     alloc: Global,
     given: &Given<'_>,
     reads: u64,
     writes: u64,
-) -> Result<(Ran, u64), Fail> {
+) -> (Ran, u64) {
     let mut input = Counted::new(Dripping {
         bytes: given.list.as_bytes(),
         left: reads,
@@ -111,7 +121,7 @@ fn replayed<H: Threads + Wait + Sync>(
         left: writes,
     });
     let mut errors = Counted::new(Vec::new(alloc));
-    let (status, saved) = run_on(rt, alloc, given, &mut input, &mut output, &mut errors)?;
+    let (status, saved) = run_on(rt, alloc, given, &mut input, &mut output, &mut errors);
     let failures = input.failures().saturating_add(output.failures());
     let ran = Ran {
         output: output.into_inner().held,
@@ -119,49 +129,63 @@ fn replayed<H: Threads + Wait + Sync>(
         status,
         saved,
     };
-    Ok((ran, failures))
+    (ran, failures)
 }
 
 #[test]
-fn fails_with_its_devices(rt: HostRuntime) -> Result<(), Fail> {
+fn fails_with_its_devices(rt: HostRuntime) {
     for (words, file, list, printed, status) in GIVEN {
         let given = Given {
             words,
             file: file.as_bytes(),
             list,
         };
-        expect_failures(&rt, rt.alloc(), &given, printed.as_bytes(), status)?;
+        expect_failures(&rt, rt.alloc(), &given, printed.as_bytes());
+        expect_success(&rt, rt.alloc(), &given, printed.as_bytes(), status);
     }
-    Ok(())
 }
 
-/// Replays on devices that fail at each call in turn, and on one that does not. The end is one more read.
+/// How many reads the input takes on a device that gives one byte a call: the end is one more read.
+fn reads_of(given: &Given<'_>) -> u64 {
+    (given.list.len() as u64).saturating_add(1)
+}
+
+/// Replays on devices that fail at each call in turn.
 fn expect_failures<H: Abort + Threads + Wait + Sync>(
     rt: &H,
     alloc: Global,
     given: &Given<'_>,
     printed: &[u8],
-    status: Status,
-) -> Result<(), Fail> {
-    let all = (given.list.len() as u64).saturating_add(1);
+) {
+    let all = reads_of(given);
     let calls = printed.len() as u64;
     for reads in 0..all {
-        let (ran, failures) = replayed(rt, alloc, given, reads, calls)?;
+        let (ran, failures) = replayed(rt, alloc, given, reads, calls);
         assert_failed(rt, &ran, failures);
         assert!(rt; ran.output.is_empty());
     }
     for writes in 0..calls {
-        let (ran, failures) = replayed(rt, alloc, given, all, writes)?;
+        let (ran, failures) = replayed(rt, alloc, given, all, writes);
         assert_failed(rt, &ran, failures);
         assert_eq!(rt; ran.output.len() as u64, writes);
         assert!(rt; printed.starts_with(ran.output.as_slice()));
     }
-    let (ran, failures) = replayed(rt, alloc, given, all, calls)?;
+}
+
+/// Replays on devices that do not fail.
+fn expect_success<H: Abort + Threads + Wait + Sync>(
+    rt: &H,
+    alloc: Global,
+    given: &Given<'_>,
+    printed: &[u8],
+    status: Status,
+) {
+    let calls = printed.len() as u64;
+    let (ran, failures) = replayed(rt, alloc, given, reads_of(given), calls);
     assert_eq!(rt; ran.status, status.number());
     assert_eq!(rt; failures, 0);
     assert!(rt; ran.output.as_slice() == printed);
     assert!(rt; ran.errors.is_empty());
-    Ok(())
 }
 
 fn assert_failed(rt: &impl Abort, ran: &Ran, failures: u64) {
@@ -195,15 +219,15 @@ const ROOMS: [(&str, &str, &str, &[u8], &[u8]); 12] = [
 ];
 
 /// Whether the program fails where no more than this can be written.
-fn fills<H: Threads + Wait + Sync>(
+fn fills<H: Abort + Threads + Wait + Sync>(
     rt: &H,
     alloc: Global,
     given: &Given<'_>,
     printed: &[u8],
     told: &[u8],
-) -> Result<bool, Fail> {
-    let mut output = vec![in alloc; 0u8; printed.len()]?;
-    let mut errors = vec![in alloc; 0u8; told.len()]?;
+) -> bool {
+    let mut output = vec![in alloc; 0u8; printed.len()].expect(rt, "memory");
+    let mut errors = vec![in alloc; 0u8; told.len()].expect(rt, "memory");
     let (status, _saved) = run_on(
         rt,
         alloc,
@@ -211,20 +235,19 @@ fn fills<H: Threads + Wait + Sync>(
         &mut Counted::new(given.list.as_bytes()),
         &mut Counted::new(output.as_mut_slice()),
         &mut Counted::new(errors.as_mut_slice()),
-    )?;
+    );
     let is_full = output.as_slice() == printed && errors.as_slice() == told;
-    Ok(is_full && status == Status::Unable.number())
+    is_full && status == Status::Unable.number()
 }
 
 #[test]
-fn full_devices_fail(rt: HostRuntime) -> Result<(), Fail> {
+fn full_devices_fail(rt: HostRuntime) {
     for (words, file, list, printed, told) in ROOMS {
         let given = Given {
             words,
             file: file.as_bytes(),
             list,
         };
-        assert!(rt; fills(&rt, rt.alloc(), &given, printed, told)?, "{words}");
+        assert!(rt; fills(&rt, rt.alloc(), &given, printed, told), "{words}");
     }
-    Ok(())
 }

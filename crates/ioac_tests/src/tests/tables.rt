@@ -5,7 +5,7 @@
 //! in it is the number of its turn, from 0. `^` is LF.
 
 use std::alloc::{AllocError, Global};
-use std::test::Fail;
+use std::process::Abort;
 
 /// Whether a line of a table is a row.
 pub fn is_row(line: &str) -> bool {
@@ -13,12 +13,13 @@ pub fn is_row(line: &str) -> bool {
 }
 
 /// The columns of a row, as they are meant.
-pub fn columns(alloc: Global, row: &str) -> Result<Vec<String>, Fail> {
+pub fn columns(rt: &impl Abort, alloc: Global, row: &str) -> Vec<String> {
     let mut columns = Vec::new(alloc);
     for column in row.split(" | ") {
-        columns.push(text(alloc, column)?)?;
+        let text = text(rt, alloc, column);
+        columns.push(text).expect(rt, "memory");
     }
-    Ok(columns)
+    columns
 }
 
 /// The column of this number; it is empty where the row has fewer.
@@ -30,19 +31,20 @@ pub fn column(columns: &[String], number: usize) -> &str {
 }
 
 /// The text in these pieces.
-pub fn text(alloc: Global, pieces: &str) -> Result<String, Fail> {
+pub fn text(rt: &impl Abort, alloc: Global, pieces: &str) -> String {
     let mut text = String::new(alloc);
     for piece in pieces.split("&") {
-        match piece.split_once("@") {
-            Some((part, times)) => {
-                for turn in 0..times.parse::<usize>()? {
-                    push_turn(&mut text, part, turn)?;
-                }
-            }
-            None => push_turn(&mut text, piece, 0)?,
+        let (part, times) = piece.split_once("@").unwrap_or((piece, "1"));
+        for turn in 0..number(rt, times) {
+            push_turn(&mut text, part, turn).expect(rt, "memory");
         }
     }
-    Ok(text)
+    text
+}
+
+/// The number that is written so.
+pub fn number(rt: &impl Abort, digits: &str) -> usize {
+    digits.parse::<usize>().expect(rt, "a number")
 }
 
 fn push_turn(text: &mut String, part: &str, turn: usize) -> Result<(), AllocError> {

@@ -12,8 +12,8 @@ use ioa_node::Words;
 use ioa_run::{Gate, Outcome, Point, Report, Why, run_alone, run_threads};
 use ioa_system::Log;
 use std::alloc::{AllocError, Global};
+use std::process::Abort;
 use std::sync::{Condvar, Mutex, Wait};
-use std::test::Fail;
 use std::thread::Threads;
 use std::time::{Clock, Duration};
 
@@ -300,53 +300,57 @@ fn sources<'a, R>(
 }
 
 /// What the run on threads gives, unless somebody is held too long.
-fn ran<R: Threads + Wait + Clock + Sync>(
+fn ran<R: Abort + Threads + Wait + Clock + Sync>(
     rt: &R,
     alloc: Global,
     program: &Program,
     case: &Case,
-) -> Result<Outcome, Fail> {
-    let script = script(alloc, program.types(), case.script)?;
+) -> Outcome {
+    let script = script(rt, alloc, program.types(), case.script);
     let course = Course::new(rt, alloc, case.holds);
-    let words = sources(alloc, case, &course, program.members().len())?;
-    let outcome = run_threads(rt, alloc, program, case.turns, words, &script, &course)?;
-    if !course.is_kept() {
-        return Err(Fail::from("a worker was not held, or too long"));
-    }
-    Ok(outcome)
+    let words = sources(alloc, case, &course, program.members().len());
+    let words = words.expect(rt, "memory");
+    let outcome = run_threads(rt, alloc, program, case.turns, words, &script, &course).expect(
+        rt, "memory",
+    );
+    assert!(rt; course.is_kept(), "a worker was not held, or too long");
+    outcome
 }
 
 /// What the run on one thread gives.
-fn ran_alone<R: Wait + Clock>(
+fn ran_alone<R: Abort + Wait + Clock>(
     rt: &R,
     alloc: Global,
     program: &Program,
     case: &Case,
-) -> Result<Outcome, Fail> {
-    let script = script(alloc, program.types(), case.script)?;
+) -> Outcome {
+    let script = script(rt, alloc, program.types(), case.script);
     let course = Course::new(rt, alloc, case.holds);
-    let words = sources(alloc, case, &course, program.members().len())?;
-    Ok(run_alone(alloc, program, case.turns, words, &script)?)
+    let words = sources(alloc, case, &course, program.members().len());
+    let words = words.expect(rt, "memory");
+    run_alone(alloc, program, case.turns, words, &script).expect(rt, "memory")
 }
 
-fn told_reports(alloc: Global, reports: &[Report]) -> Result<String, AllocError> {
+fn told_report(alloc: Global, report: &Report) -> Result<String, AllocError> {
+    let Report {
+        committed,
+        idle,
+        stale,
+        why,
+    } = report;
+    format!(in alloc; "{committed} committed, {idle} idle, {stale} stale, {why:?}")
+}
+
+fn told_reports(rt: &impl Abort, alloc: Global, reports: &[Report]) -> String {
     let mut text = String::new(alloc);
     for report in reports {
-        let Report {
-            committed,
-            idle,
-            stale,
-            why,
-        } = report;
+        let told = told_report(alloc, report).expect(rt, "memory");
         if !text.is_empty() {
-            text.push_str("; ")?;
+            text.push_str("; ").expect(rt, "memory");
         }
-        write!(
-            text,
-            "{committed} committed, {idle} idle, {stale} stale, {why:?}"
-        )?;
+        text.push_str(told.as_str()).expect(rt, "memory");
     }
-    Ok(text)
+    text
 }
 
 /// Whether the worker of this number did what its report counts, and has taken all turns if it says so.
@@ -369,75 +373,69 @@ fn are_counted(outcome: &Outcome, turns: u64) -> bool {
 }
 
 /// Whether the text is one of those that are wanted, if there are some.
-fn is_wanted(alloc: Global, wanted: &[&str], told: &str) -> Result<bool, Fail> {
+fn is_wanted(rt: &impl Abort, alloc: Global, wanted: &[&str], told: &str) -> bool {
     for pieces in wanted {
-        if text(alloc, pieces)?.as_str() == told {
-            return Ok(true);
+        if text(rt, alloc, pieces).as_str() == told {
+            return true;
         }
     }
-    Ok(wanted.is_empty())
+    wanted.is_empty()
 }
 
 /// Compares what a run gives with what is wanted, and replays its log.
 fn expect_outcome(
+    rt: &impl Abort,
     alloc: Global,
     program: &Program,
     case: &Case,
     outcome: Outcome,
-) -> Result<(), Fail> {
-    let log = told_outcome(alloc, program.types(), &outcome)?;
-    if !is_wanted(alloc, case.logs, log.as_str())? {
-        return Err(Fail::from(log));
-    }
-    let reports = told_reports(alloc, &outcome.reports)?;
-    if !is_wanted(alloc, case.reports, reports.as_str())? || !are_counted(&outcome, case.turns) {
-        return Err(Fail::from(reports));
-    }
+) {
+    let log = told_outcome(rt, alloc, program.types(), &outcome);
+    assert!(rt; is_wanted(rt, alloc, case.logs, log.as_str()), "{log}");
+    let reports = told_reports(rt, alloc, &outcome.reports);
+    assert!(rt;
+        is_wanted(rt, alloc, case.reports, reports.as_str()),
+        "{reports}"
+    );
+    assert!(rt; are_counted(&outcome, case.turns), "{reports}");
     let log = Log {
         entries: outcome.log,
         end: outcome.end,
     };
-    replay(alloc, program, &log)?;
-    Ok(())
+    replay(alloc, program, &log).expect(rt, "a log of the program");
 }
 
 /// Runs on threads, and compares what the run gives with what is wanted.
-fn expect_case<R: Threads + Wait + Clock + Sync>(
-    rt: &R,
-    alloc: Global,
-    case: &Case,
-) -> Result<(), Fail> {
-    let program = program(alloc, case.source, None)?;
-    let outcome = ran(rt, alloc, &program, case)?;
-    expect_outcome(alloc, &program, case, outcome)
+fn expect_case<R: Abort + Threads + Wait + Clock + Sync>(rt: &R, alloc: Global, case: &Case) {
+    let program = program(rt, alloc, case.source, None);
+    let outcome = ran(rt, alloc, &program, case);
+    expect_outcome(rt, alloc, &program, case, outcome);
 }
 
 #[test]
-fn threads_give_what_is_wanted(rt: HostRuntime) -> Result<(), Fail> {
-    for case in CASES {
-        expect_case(&rt, rt.alloc(), &case)?;
+fn threads_give_what_is_wanted(rt: HostRuntime) {
+    for case in &CASES {
+        expect_case(&rt, rt.alloc(), case);
     }
-    Ok(())
 }
 
 #[test]
-fn two_workers_overlap(rt: HostRuntime) -> Result<(), Fail> {
-    expect_case(&rt, rt.alloc(), &OVERLAP)
+fn two_workers_overlap(rt: HostRuntime) {
+    expect_case(&rt, rt.alloc(), &OVERLAP);
 }
 
 #[test]
-fn words_unlocked(rt: HostRuntime) -> Result<(), Fail> {
+fn words_unlocked(rt: HostRuntime) {
     for holds in UNLOCKED {
-        expect_case(&rt, rt.alloc(), &unlocked(holds))?;
+        expect_case(&rt, rt.alloc(), &unlocked(holds));
     }
-    Ok(())
 }
 
 #[test]
-fn one_worker_exact(rt: HostRuntime) -> Result<(), Fail> {
-    let program = program(rt.alloc(), KEPT.source, None)?;
-    let outcome = ran(&rt, rt.alloc(), &program, &KEPT)?;
-    expect_outcome(rt.alloc(), &program, &KEPT, outcome)?;
-    let outcome = ran_alone(&rt, rt.alloc(), &program, &KEPT)?;
-    expect_outcome(rt.alloc(), &program, &KEPT, outcome)
+fn one_worker_exact(rt: HostRuntime) {
+    let program = program(&rt, rt.alloc(), KEPT.source, None);
+    let outcome = ran(&rt, rt.alloc(), &program, &KEPT);
+    expect_outcome(&rt, rt.alloc(), &program, &KEPT, outcome);
+    let outcome = ran_alone(&rt, rt.alloc(), &program, &KEPT);
+    expect_outcome(&rt, rt.alloc(), &program, &KEPT, outcome);
 }

@@ -1,6 +1,6 @@
-use ioa_lex::{Kind, Refusal, Terminal, lex};
-use std::alloc::Global;
-use std::test::Fail;
+use ioa_lex::{Kind, Refusal, Terminal, Token, lex};
+use std::alloc::{AllocError, Global};
+use std::process::Abort;
 
 const WORDS: [(&str, Terminal); 47] = [
     ("type", Terminal::Type),
@@ -100,12 +100,25 @@ fn is_terminal(alloc: Global, text: &str, terminal: Terminal) -> Result<bool, Re
     })
 }
 
-#[test]
-fn words_and_signs_are_tokens(rt: HostRuntime) -> Result<(), Fail> {
-    for (text, terminal) in WORDS.iter().chain(SIGNS.iter()) {
-        let is_so = is_terminal(rt.alloc(), *text, *terminal)?;
+fn expect_terminals(rt: &impl Abort, alloc: Global, rows: &[(&str, Terminal)]) {
+    for (text, terminal) in rows {
+        let is_so = is_terminal(alloc, text, *terminal).expect(rt, "tokens");
         assert!(rt; is_so, "{text}");
     }
+}
+
+#[test]
+fn words_are_tokens(rt: HostRuntime) {
+    expect_terminals(&rt, rt.alloc(), &WORDS);
+}
+
+#[test]
+fn signs_are_tokens(rt: HostRuntime) {
+    expect_terminals(&rt, rt.alloc(), &SIGNS);
+}
+
+#[test]
+fn other_texts_are_no_tokens(rt: HostRuntime) {
     for (text, line) in REFUSED {
         let found = lex(rt.alloc(), text.as_bytes());
         assert!(rt;
@@ -113,30 +126,29 @@ fn words_and_signs_are_tokens(rt: HostRuntime) -> Result<(), Fail> {
             "{text}"
         );
     }
-    Ok(())
 }
 
-/// The tokens of a text, each on a line, with its own line.
-fn told(alloc: Global, text: &str) -> Result<String, Fail> {
-    let mut told = String::new(alloc);
-    for token in lex(alloc, text.as_bytes())?.as_slice() {
-        let line = token.line;
-        match &token.kind {
-            Kind::Name(name) => write!(told, "{line} name {name}\n")?,
-            Kind::Number(number) => write!(told, "{line} number {number}\n")?,
-            Kind::Terminal(terminal) => {
-                let sign = terminal.text();
-                write!(told, "{line} {sign}\n")?;
-            }
+/// A token, on a line, with its own line.
+fn told_token(alloc: Global, token: &Token) -> Result<String, AllocError> {
+    let line = token.line;
+    match &token.kind {
+        Kind::Name(name) => format!(in alloc; "{line} name {name}\n"),
+        Kind::Number(number) => format!(in alloc; "{line} number {number}\n"),
+        Kind::Terminal(terminal) => {
+            let sign = terminal.text();
+            format!(in alloc; "{line} {sign}\n")
         }
     }
-    Ok(told)
 }
 
 #[test]
-fn the_longest_token_is_taken(rt: HostRuntime) -> Result<(), Fail> {
-    let told = told(rt.alloc(), "inputs 007x:==% = +\n\tinput")?;
+fn the_longest_token_is_taken(rt: HostRuntime) {
+    let tokens = lex(rt.alloc(), b"inputs 007x:==% = +\n\tinput").expect(&rt, "tokens");
     let wanted = "1 name inputs\n1 number 7\n1 name x\n1 :=\n1 =\n2 input\n";
+    let mut told = String::new(rt.alloc());
+    for token in &tokens {
+        let token = told_token(rt.alloc(), token).expect(&rt, "memory");
+        told.push_str(token.as_str()).expect(&rt, "memory");
+    }
     assert!(rt; told.as_str() == wanted, "{told}");
-    Ok(())
 }

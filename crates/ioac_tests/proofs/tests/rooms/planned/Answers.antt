@@ -10,5 +10,5 @@ pub copy-requires : goal.copy-requires
 copy-requires c =
     let p : Prog = c.board-board.result.now.program in
     subst (λ ns. All (λ m. m < length p.members) ns)
-    (sym (c.deref.ensures.value ∙ c.in_ok-numbers.ensures ∙ ap (λ (q : Prog). participants (tabled q) (act_of c.in_ok-action.action)) c.program-program.ensures))
-    (numbers_within p (act_of c.in_ok-action.action) (length p.members) refl)
+    (sym (c.deref.ensures.value ∙ c.in_ok-numbers.ensures ∙ ap (λ (q : Prog). participants (tabled q) (act_of c.args.action)) c.program-program.ensures))
+    (numbers_within p (act_of c.args.action) (length p.members) refl)
