@@ -29,12 +29,14 @@ elapsed() {
   echo $(($(date +%s) - begun))
 }
 
-# Tells what is being done, when it changes and each ten seconds, until it is stopped.
+# Tells what is being done, when it changes and each ten seconds, until it is stopped. The code is put away before the program has ended, so what
+# was told of compiling stays told.
 tell() {
   told=
+  now=
   seconds=0
   while :; do
-    now=$(doing)
+    [ "$now" = "compiling them" ] || now=$(doing)
     if [ "$now" != "$told" ] || [ $((seconds % 10)) -eq 0 ]; then
       echo "  $(elapsed) s: $now" >&2
       told=$now
