@@ -1,0 +1,4 @@
+pub mod Mentions
+pub mod Free
+pub mod Comments
+pub mod Shown

@@ -1,0 +1,159 @@
+//! Parameters of which no precondition says anything.
+
+ghost use Rattle.std.specs.Prelude.{◌≡◌, ◌&&◌, ◌++◌, [], IfOk, OnOk, map};
+ghost use Rattle.std.specs.Option.{option_map};
+ghost use Rattle.std.specs.Str.{bytes_eq};
+ghost use Rattle.ioa_tree.specs.Tree.{AutomatonTree, typed};
+ghost use Rattle.ioa_tree.specs.View.{entry_of, field_of, expr_of, name_of, position_of, transition_of};
+ghost use Rattle.ioa_tree.specs.WellFormed as well_formed;
+ghost use Rattle.ioa_warnings.specs.Free as spec;
+ghost use Rattle.ioa_warnings.specs.Shown.{free_of};
+
+use crate::names::mentions;
+use ioa_tree::{
+    Automaton, Declaration, Entry, Expression, Field, Kind, Name, Position, Transition,
+};
+use ioa_value::OutOfMemory;
+use std::alloc::Global;
+
+/// A parameter of an output or an internal action of which the precondition says nothing: the action is enabled with any value of it.
+#[derive(Clone, Copy)]
+pub struct FreeParameter<'a> {
+    pub parameter: &'a str,
+    pub action: &'a str,
+    /// The line of the transition.
+    pub line: u32,
+}
+
+/// The free parameters of a source's outputs and internal actions, in its order.
+///
+/// # Errors
+/// `OutOfMemory`.
+pub fn free_parameters<'a>(
+    alloc: Global,
+    declarations: &'a [Declaration],
+) -> Result<Vec<FreeParameter<'a>>, OutOfMemory>
+    ensures { IfOk result (λ found. map free_of found.items ≡ spec.free_parameters declarations.now) }
+{
+    let mut found = Vec::new(alloc);
+    for declaration in declarations {
+        add_of_declaration(&mut found, declaration)?;
+    }
+    Ok(found)
+}
+
+/// Adds those of a declaration.
+fn add_of_declaration<'a>(
+    found: &mut Vec<FreeParameter<'a>>,
+    declaration: &'a Declaration,
+) -> Result<(), OutOfMemory>
+    ensures { OnOk result (map free_of found.new.items ≡ map free_of found.old.items ++ spec.free_of_declaration declaration.now) }
+{
+    match declaration {
+        Declaration::Automaton(automaton) => add_of_automaton(found, automaton),
+        Declaration::Type(_) | Declaration::Composition(_) | Declaration::Invariant(_) => Ok(()),
+    }
+}
+
+/// Adds those of an automaton.
+fn add_of_automaton<'a>(
+    found: &mut Vec<FreeParameter<'a>>,
+    automaton: &'a Automaton,
+) -> Result<(), OutOfMemory>
+    ensures { OnOk result (map free_of found.new.items ≡ map free_of found.old.items ++ spec.free_of_automaton automaton.now) }
+{
+    for entry in &automaton.entries {
+        add_of_entry(found, automaton, entry)?;
+    }
+    Ok(())
+}
+
+/// Adds those of an entry. An input has none.
+fn add_of_entry<'a>(
+    found: &mut Vec<FreeParameter<'a>>,
+    automaton: &'a Automaton,
+    entry: &'a Entry,
+) -> Result<(), OutOfMemory>
+    ensures { OnOk result (map free_of found.new.items ≡ map free_of found.old.items ++ spec.free_of_entry automaton.now (entry_of entry.now)) }
+{
+    if is_input(entry.kind) {
+        return Ok(());
+    }
+    for transition in &automaton.transitions {
+        add_in(found, entry, transition)?;
+    }
+    Ok(())
+}
+
+/// Adds those of an entry in a transition, where it is one of the entry.
+fn add_in<'a>(
+    found: &mut Vec<FreeParameter<'a>>,
+    entry: &'a Entry,
+    transition: &'a Transition,
+) -> Result<(), OutOfMemory>
+    ensures { (a : AutomatonTree) → OnOk result (map free_of found.new.items ≡ map free_of found.old.items ++ spec.free_in a (entry_of entry.now) transition.now) }
+{
+    if !matches(entry, transition) {
+        return Ok(());
+    }
+    for position in &entry.positions {
+        add_at(found, transition, position)?;
+    }
+    Ok(())
+}
+
+/// Adds the parameter of a position, if it is one and is free.
+fn add_at<'a>(
+    found: &mut Vec<FreeParameter<'a>>,
+    transition: &'a Transition,
+    position: &'a Position,
+) -> Result<(), OutOfMemory>
+    ensures { OnOk result (map free_of found.new.items ≡ map free_of found.old.items ++ spec.free_at transition.now.name.line (transition_of transition.now) (position_of position.now)) }
+{
+    match position {
+        Position::Typed(field) => add_parameter(found, transition, field),
+        Position::Constant(_) => Ok(()),
+    }
+}
+
+/// Adds a parameter, if it is free.
+fn add_parameter<'a>(
+    found: &mut Vec<FreeParameter<'a>>,
+    transition: &'a Transition,
+    field: &'a Field,
+) -> Result<(), OutOfMemory>
+    ensures { OnOk result (map free_of found.new.items ≡ map free_of found.old.items ++ spec.free_at transition.now.name.line (transition_of transition.now) (typed (field_of field.now))) }
+{
+    if !is_free(&transition.pre, &field.name) {
+        return Ok(());
+    }
+    found.push(FreeParameter {
+        parameter: field.name.text.as_str(),
+        action: transition.name.text.as_str(),
+        line: transition.name.line,
+    })?;
+    Ok(())
+}
+
+/// Whether a precondition says nothing of this name. An omitted one says nothing.
+fn is_free(pre: &Option<Expression>, name: &Name) -> bool
+    ensures { result ≡ spec.is_free (option_map expr_of pre.now) (name_of name.now) }
+{
+    match pre {
+        Some(condition) => !mentions(condition, name.text.as_str()),
+        None => true,
+    }
+}
+
+/// Whether entry and transition are of one kind and one name.
+fn matches(entry: &Entry, transition: &Transition) -> bool
+    ensures { result ≡ (well_formed.same_kind entry.now.kind transition.now.kind && bytes_eq (name_of entry.now.name) (name_of transition.now.name)) }
+{
+    entry.kind == transition.kind && entry.name.text.as_str() == transition.name.text.as_str()
+}
+
+fn is_input(kind: Kind) -> bool
+    ensures { result ≡ well_formed.is_input kind }
+{
+    matches!(kind, Kind::Input)
+}

@@ -1,0 +1,10 @@
+//! What is likely a mistake in a source that is fine.
+#![tactic(auto)]
+
+mod comments;
+mod free;
+mod names;
+
+pub use comments::comments_in_statements;
+pub use free::{FreeParameter, free_parameters};
+pub use names::mentions;
