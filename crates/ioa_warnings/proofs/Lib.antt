@@ -1,1 +1,3 @@
 pub mod CutLines
+pub mod Unmentioned
+pub mod Examples

@@ -1,4 +1,5 @@
 pub mod Mentions
 pub mod Free
-pub mod Comments
 pub mod Shown
+pub mod Enabled
+pub mod Comments

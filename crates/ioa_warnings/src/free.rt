@@ -4,9 +4,10 @@ ghost use Rattle.std.specs.Prelude.{◌≡◌, ◌&&◌, ◌++◌, [], IfOk, OnO
 ghost use Rattle.std.specs.Option.{option_map};
 ghost use Rattle.std.specs.Str.{bytes_eq};
 ghost use Rattle.ioa_tree.specs.Tree.{AutomatonTree, typed};
-ghost use Rattle.ioa_tree.specs.View.{entry_of, field_of, expr_of, name_of, position_of, transition_of};
+ghost use Rattle.ioa_tree.specs.View.{automaton_of, entry_of, expr_of, field_of, name_of, position_of};
 ghost use Rattle.ioa_tree.specs.WellFormed as well_formed;
 ghost use Rattle.ioa_warnings.specs.Free as spec;
+ghost use Rattle.ioa_warnings.specs.Free.{lined};
 ghost use Rattle.ioa_warnings.specs.Shown.{free_of};
 
 use crate::names::mentions;
@@ -60,7 +61,7 @@ fn add_of_automaton<'a>(
     found: &mut Vec<FreeParameter<'a>>,
     automaton: &'a Automaton,
 ) -> Result<(), OutOfMemory>
-    ensures { OnOk result (map free_of found.new.items ≡ map free_of found.old.items ++ spec.free_of_automaton automaton.now) }
+    ensures { OnOk result (map free_of found.new.items ≡ map free_of found.old.items ++ spec.free_of_automaton (automaton_of automaton.now) (map lined automaton.now.transitions.items)) }
 {
     for entry in &automaton.entries {
         add_of_entry(found, automaton, entry)?;
@@ -74,7 +75,7 @@ fn add_of_entry<'a>(
     automaton: &'a Automaton,
     entry: &'a Entry,
 ) -> Result<(), OutOfMemory>
-    ensures { OnOk result (map free_of found.new.items ≡ map free_of found.old.items ++ spec.free_of_entry automaton.now (entry_of entry.now)) }
+    ensures { OnOk result (map free_of found.new.items ≡ map free_of found.old.items ++ spec.free_of_entry (automaton_of automaton.now) (map lined automaton.now.transitions.items) (entry_of entry.now)) }
 {
     if is_input(entry.kind) {
         return Ok(());
@@ -91,7 +92,7 @@ fn add_in<'a>(
     entry: &'a Entry,
     transition: &'a Transition,
 ) -> Result<(), OutOfMemory>
-    ensures { (a : AutomatonTree) → OnOk result (map free_of found.new.items ≡ map free_of found.old.items ++ spec.free_in a (entry_of entry.now) transition.now) }
+    ensures { (a : AutomatonTree) → OnOk result (map free_of found.new.items ≡ map free_of found.old.items ++ spec.free_in a (entry_of entry.now) (lined transition.now)) }
 {
     if !matches(entry, transition) {
         return Ok(());
@@ -108,7 +109,7 @@ fn add_at<'a>(
     transition: &'a Transition,
     position: &'a Position,
 ) -> Result<(), OutOfMemory>
-    ensures { OnOk result (map free_of found.new.items ≡ map free_of found.old.items ++ spec.free_at transition.now.name.line (transition_of transition.now) (position_of position.now)) }
+    ensures { OnOk result (map free_of found.new.items ≡ map free_of found.old.items ++ spec.free_at (lined transition.now) (position_of position.now)) }
 {
     match position {
         Position::Typed(field) => add_parameter(found, transition, field),
@@ -122,7 +123,7 @@ fn add_parameter<'a>(
     transition: &'a Transition,
     field: &'a Field,
 ) -> Result<(), OutOfMemory>
-    ensures { OnOk result (map free_of found.new.items ≡ map free_of found.old.items ++ spec.free_at transition.now.name.line (transition_of transition.now) (typed (field_of field.now))) }
+    ensures { OnOk result (map free_of found.new.items ≡ map free_of found.old.items ++ spec.free_at (lined transition.now) (typed (field_of field.now))) }
 {
     if !is_free(&transition.pre, &field.name) {
         return Ok(());

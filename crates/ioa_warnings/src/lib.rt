@@ -3,8 +3,10 @@
 
 mod comments;
 mod free;
+mod laws;
 mod names;
 
 pub use comments::comments_in_statements;
 pub use free::{FreeParameter, free_parameters};
+pub use laws::free_is_enabled;
 pub use names::mentions;

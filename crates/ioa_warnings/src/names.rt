@@ -8,6 +8,7 @@ use ioa_tree::Expression;
 
 /// Whether an expression asks for the value of this name. The names of types and fields are not asked for a value.
 #[cycle(mentions)]
+#[tactic(auto, using(ioa_tree::proofs::ExpressionRows::expr_made))]
 pub fn mentions(expression: &Expression, name: &str) -> bool
     ensures { result ≡ spec.mentions name.now (expr_of expression.now) }
 {

@@ -1,7 +1,7 @@
 use Rattle.std.proofs.Common.{◌≡◌, ◌++◌, map, take}
 use Rattle.std.specs.List.{flat_map}
-use Rattle.ioa_tree.specs.View.{position_of, transition_of}
-use Rattle.ioa_warnings.specs.Free.{free_at}
+use Rattle.ioa_tree.specs.View.{position_of}
+use Rattle.ioa_warnings.specs.Free.{free_at, lined}
 use Rattle.ioa_warnings.specs.Shown.{free_of}
 use Rattle.ioa_warnings.proofs.free.add_in.Given as goal
 
@@ -10,4 +10,4 @@ abbrev pub invariant-loop-position : goal.invariant-loop-position
 invariant-loop-position l =
     map free_of l.found.items
     ≡ map free_of l.initial.found.items
-    ++ flat_map (free_at l.transition.name.line (transition_of l.transition)) (map position_of (take l.position-index l.entry.positions.items))
+    ++ flat_map (free_at (lined l.transition)) (map position_of (take l.position-index l.entry.positions.items))
