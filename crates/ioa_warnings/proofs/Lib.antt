@@ -1,3 +1,4 @@
 pub mod CutLines
 pub mod Unmentioned
+pub mod BrokenOff
 pub mod Examples

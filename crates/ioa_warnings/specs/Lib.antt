@@ -3,3 +3,4 @@ pub mod Free
 pub mod Shown
 pub mod Enabled
 pub mod Comments
+pub mod Statements

@@ -8,5 +8,5 @@ mod names;
 
 pub use comments::comments_in_statements;
 pub use free::{FreeParameter, free_parameters};
-pub use laws::free_is_enabled;
+pub use laws::{cut_is_broken_off, free_is_enabled};
 pub use names::mentions;
