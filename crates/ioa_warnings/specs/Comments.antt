@@ -1,4 +1,4 @@
--- Comments that begin within a statement: `%` is no remainder there, as a reader may think, and what follows it is skipped.
+-- Comments that begin within a statement. There `%` may have been meant for the remainder, which is `mod`: what follows is skipped.
 use Rattle.std.specs.Prelude.{ℕ, ◌+◌, ◌==◌, Bool, false, not, ◌||◌, ◌&&◌, if◌then◌else◌, List, [], ◌∷◌, Option, Some, None}
 use Rattle.std.specs.Option.{option_map, option_map_or, option_or}
 use Rattle.ioa_value.specs.Lists.{lines}
@@ -24,12 +24,12 @@ abbrev pub last_byte : List ℕ → Option ℕ
 last_byte [] = None
 last_byte (b ∷ bs) = option_or (last_byte bs) (if is_blank b then None else Some b)
 
--- behind `;` there is no statement that goes on, and behind `=` no expression yet
+-- behind `;` no statement goes on, and behind `=` its value is yet to come
 abbrev pub goes_on : Option ℕ → Bool
 goes_on None = false
 goes_on (Some b) = not (b == 59 || b == 61)
 
--- what a line has before its comment assigns, and could go on
+-- what stands before a comment has begun a statement, which could go on
 abbrev pub is_within_statement : List ℕ → Bool
 is_within_statement front = assigns front && goes_on (last_byte front)
 

@@ -16,7 +16,8 @@ Assigns text = (target : List ℕ) × (value : List ℕ) × (text ≡ target ++ 
 abbrev pub EndsWith : List ℕ → ℕ → Type 0
 EndsWith text last = (before : List ℕ) × (blanks : List ℕ) × (text ≡ before ++ last ∷ blanks) × (is_blank last ≡ false) × IsBlank blanks
 
--- a comment begins behind `:=`, where no `;` has ended the statement, and part of its value has been written
+-- `:=` stands before a line's comment, and the last byte there is neither `;`, which would end the statement, nor `=`, behind which its
+-- value is yet to come
 pub record IsBrokenOff (line : List ℕ) : Type 0 where
   pub front : List ℕ
   pub before : StandsBefore front line

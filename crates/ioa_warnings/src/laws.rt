@@ -8,8 +8,8 @@ pub fn free_is_enabled()
     ensures { FreeIsEnabled }
 {}
 
-/// The lines that are told are those on which a comment begins behind `:=`, where no `;` has ended the statement, and part of its
-/// value has been written.
+/// The lines that are told are those that have `:=` before their comment, and there end neither with `;`, which would end the
+/// statement, nor with `=`, behind which its value is yet to come.
 pub fn cut_is_broken_off()
     ensures { CutIsBrokenOff }
 {}
