@@ -1,1 +1,5 @@
 pub mod LineNumbers
+pub mod Counting
+pub mod Ending
+pub mod StateLines
+pub mod Telling

@@ -1,1 +1,5 @@
 pub mod Lines
+pub mod States
+pub mod Counts
+pub mod Ends
+pub mod Accounts

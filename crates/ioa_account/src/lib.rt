@@ -1,8 +1,16 @@
 //! What is told of runs for people: states by the source's names, why a run ends where it does, in which line, and how much was asked.
 #![tactic(auto)]
 
+mod counts;
+mod ends;
 mod laws;
 mod lines;
+mod states;
+mod values;
 
-pub use laws::actions_have_lines;
+pub use counts::{asked_invariants, known_actions};
+pub use ends::{Account, account_of};
+pub use laws::{actions_have_lines, ends_are_found};
 pub use lines::{line_at, line_of_action};
+pub use states::{put_component, put_states};
+pub use values::in_parentheses;

@@ -1,0 +1,42 @@
+-- What is told of hosts is what is told of the composition that stands for them.
+use Rattle.std.proofs.Common.{◌≡◌, ℕ, zero, suc, List, [], ◌∷◌, Option, Some, None, Result, Ok, Err, IfOk, map, slice_get, refl, sym, ap, ◌∙◌}
+use Rattle.std.specs.List.{AllZip}
+use Rattle.std.specs.Option.{option_map, option_map_or}
+use Rattle.std.specs.String.{string_bytes}
+use Rattle.std.proofs.lemmas.Option.{slice_get-map}
+use Rattle.ioa_value.specs.Actions.{Act}
+use Rattle.ioa_value.proofs.ItemLemmas.{image_at}
+use Rattle.ioa_tree.specs.Compositions.{Composed, Member}
+use Rattle.ioa_tree.specs.Hosts.{Host, Hosted, hosts_of}
+use Rattle.ioa_compose.specs.declared.member.Member as held
+use Rattle.ioa_compose.specs.Held.{member_of}
+use Rattle.ioa_compose.specs.Stands.{IsMadeOf, Stands}
+use Rattle.ioa_compile.specs.Means.{Means}
+use Rattle.ioa_compile.specs.Programs.{Prog}
+use Rattle.ioa_compile.specs.Tables.{tabled}
+use Rattle.ioa_system.proofs.Hosting.{host_participants}
+use Rattle.ioa_account.specs.Accounts.{name_at}
+use Rattle.ioa_account.specs.Counts.{known_actions}
+use Rattle.ioa_account.proofs.Counting.{known_alike}
+
+-- the name of the component of this number
+names_alike : (ps : List Host) (ms : List Member) (i : ℕ) → AllZip IsMadeOf ps ms → option_map_or (λ (m : Member). m.name) (slice_get ms i) [] ≡ name_at ps i
+names_alike [] [] i made = refl
+names_alike [] (m ∷ ms) i made = absurd made
+names_alike (p ∷ ps) [] i made = absurd made
+names_alike (p ∷ ps) (m ∷ ms) zero made = made.0.name
+names_alike (p ∷ ps) (m ∷ ms) (suc i) made = names_alike ps ms i made.1
+
+pub named : (xs : List held.Member) (i : ℕ) (x : held.Member) (ps : List Host) → slice_get xs i ≡ Some x → AllZip IsMadeOf ps (map member_of xs) → string_bytes x.name ≡ name_at ps i
+named xs i x ps at made = sym (ap (λ (o : Option Member). option_map_or (λ (m : Member). m.name) o []) (image_at member_of xs i x at)) ∙ names_alike ps (map member_of xs) i made
+
+pub unnamed : (xs : List held.Member) (i : ℕ) (ps : List Host) → slice_get xs i ≡ None → AllZip IsMadeOf ps (map member_of xs) → [] ≡ name_at ps i
+unnamed xs i ps at made =
+    sym (ap (λ (o : Option Member). option_map_or (λ (m : Member). m.name) o []) (slice_get-map member_of xs i ∙ ap (option_map member_of) at)) ∙ names_alike ps (map member_of xs) i made
+
+-- ---- actions that are known
+
+pub known_hosts : {E : Type 0} (p : Prog) (acts : List Act) (r : Result ℕ E) → IfOk r (λ n. n ≡ known_actions (tabled p) acts)
+    → IfOk r (λ n. (h : Hosted) (c : Composed) → Stands h c → Means p c → n ≡ known_actions (hosts_of h) acts)
+known_hosts p acts (Ok n) e = λ h c stands means. e ∙ known_alike (tabled p) (hosts_of h) acts (λ a. host_participants p h c a stands means)
+known_hosts p acts (Err e) k = tt

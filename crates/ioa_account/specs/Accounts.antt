@@ -1,0 +1,50 @@
+-- Why a run ends before all its actions are performed, in the words that people are told.
+use Rattle.std.specs.Prelude.{◌≡◌, ◌++◌, ℕ, List, [], Option, Some, None, codes, slice_get, string_bytes}
+use Rattle.std.specs.Fmt.{decimal}
+use Rattle.std.specs.Option.{option_map_or}
+use Rattle.ioa_arithmetic.specs.Arithmetic.{fault_number}
+use Rattle.ioa_value.specs.Actions.{Act, Name}
+use Rattle.ioa_value.specs.Table.{Table}
+use Rattle.ioa_value.specs.Written.{written_action}
+use Rattle.ioa_tree.specs.Hosts.{Host, HostState, Hosted, hosts_of, host_starts}
+use Rattle.ioa_tree.specs.Meaning.{Env}
+use Rattle.ioa_tree.specs.Runs.{Ending, Reached, done, not_an_action_at, not_enabled_at, fault_at, run}
+use Rattle.ioa_account.specs.declared.ends.Account.{Account}
+use Rattle.ioa_account.specs.Ends.{component_in, index_in}
+use Rattle.ioa_account.specs.States.{component_lines}
+
+-- the text of the action of this index
+abbrev pub action_text : Table → List Act → ℕ → List ℕ
+action_text types acts i = option_map_or (written_action types) (slice_get acts i) []
+
+-- why, by the name of that component
+abbrev pub why : Table → List Act → Name → Ending → List ℕ
+why types acts x (done n) = []
+why types acts x (not_an_action_at i) = codes "no component has " ++ action_text types acts i
+why types acts x (not_enabled_at i) = codes "the precondition of " ++ (action_text types acts i ++ (codes " in " ++ (x ++ codes " is false")))
+why types acts x (fault_at c f i) = codes "fault " ++ (decimal (fault_number f) ++ (codes " of " ++ (action_text types acts i ++ (codes " in " ++ x))))
+
+-- the component's name
+abbrev pub name_at : List Host → ℕ → Name
+name_at ps i = option_map_or (λ (p : Host). p.name) (slice_get ps i) []
+
+abbrev pub name_of : List Host → Option ℕ → Name
+name_of ps None = []
+name_of ps (Some i) = name_at ps i
+
+-- the component's lines in these states
+abbrev pub lines_of : Table → List Host → List (HostState Env) → Option ℕ → List ℕ
+lines_of types ps hs None = []
+lines_of types ps hs (Some i) = component_lines types ps hs i
+
+-- the account tells why the hosts' run over these actions, which reaches this, ends
+pub record Tells (h : Hosted) (acts : List Act) (r : Reached (HostState Env)) (a : Account) : Type 0 where
+  pub index : index_in r.ending ≡ Some a.index
+  pub component : a.component ≡ component_in (hosts_of h) acts r.ending
+  pub why : string_bytes a.why ≡ why h.types acts (name_of h.hosts a.component) r.ending
+  pub states : string_bytes a.states ≡ lines_of h.types h.hosts r.states a.component
+
+-- there is one just where the run ends before all its actions are performed
+abbrev pub IsAccount : Hosted → List Act → Option Account → Type 0
+IsAccount h acts None = index_in (run (hosts_of h) acts (host_starts h)).ending ≡ None
+IsAccount h acts (Some a) = Tells h acts (run (hosts_of h) acts (host_starts h)) a

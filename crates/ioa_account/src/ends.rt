@@ -1,0 +1,229 @@
+//! Why a run ends.
+
+ghost use Rattle.std.specs.Prelude.{◌≡◌, ◌++◌, IfOk, List, Some, codes, map};
+ghost use Rattle.std.specs.String.{string_bytes};
+ghost use Rattle.ioa_value.specs.Actions.{act_of};
+ghost use Rattle.ioa_tree.specs.Compositions.{Composed};
+ghost use Rattle.ioa_tree.specs.Hosts.{HostState, Hosted, host_starts, hosts_of};
+ghost use Rattle.ioa_tree.specs.Likes.{AllRelated};
+ghost use Rattle.ioa_tree.specs.Meaning.{Env};
+ghost use Rattle.ioa_tree.specs.Runs.{run};
+ghost use Rattle.ioa_compose.specs.Held.{composed_of};
+ghost use Rattle.ioa_compose.specs.Stands.{HoldsAt, Stands};
+ghost use Rattle.ioa_compile.specs.Means.{Means};
+ghost use Rattle.ioa_system.specs.Outcomes.{ending_of};
+ghost use Rattle.ioa_system.specs.Records.{IsHostRun};
+ghost use Rattle.ioa_system.specs.Systems.{values_of};
+ghost use Rattle.ioa_account.specs.Accounts as spec;
+ghost use Rattle.ioa_account.specs.Ends.{component_in, index_in, owner_at};
+ghost use Rattle.ioa_account.specs.Accounts.{IsAccount, Tells};
+
+use crate::states::put_component;
+use ioa_compile::Program;
+use ioa_compose::Composition;
+use ioa_node::NodeState;
+use ioa_system::{End, Run, owner, run_list};
+use ioa_tree::Transition;
+use ioa_value::{Action, OutOfMemory, Types, print_action};
+use std::alloc::Global;
+
+/// Why a run ends before all its actions are performed.
+#[derive(Drop)]
+pub struct Account {
+    /// The index of the action that is not performed, from 0.
+    pub index: usize,
+    /// What is told of it, in a few words.
+    pub why: String,
+    /// The number of the component that stops the run: the owner of an action that is not enabled, or the one that faults. None
+    /// where no component has the action.
+    pub component: Option<usize>,
+    /// The line of the source in which that component's transition for the action begins: the one of the action's name. 0 where there
+    /// is none. It is for people, and no contract says more of it.
+    pub line: u32,
+    /// The variables of that component, a line each, in the state before the action.
+    pub states: String,
+}
+
+/// Why the program's run over the actions ends before all are performed; none where it does not.
+pub fn account_of(
+    alloc: Global,
+    composition: &Composition,
+    program: &Program,
+    actions: &[Action],
+) -> Result<Option<Account>, OutOfMemory>
+    requires { Means program.now (composed_of composition.now) }
+    ensures { IfOk result (λ told. (h : Hosted) → Stands h (composed_of composition.now) → IsAccount h (map act_of actions.now) told) }
+{
+    let run = run_list(alloc, program, actions)?;
+    let Some(index) = index_of(run.end) else {
+        return Ok(None);
+    };
+    let told = tell(alloc, composition, program, actions, &run, index)?;
+    Ok(Some(told))
+}
+
+/// The index of the action that is not performed.
+fn index_of(end: End) -> Option<usize>
+    ensures { result ≡ index_in (ending_of end) }
+{
+    match end {
+        End::Done(_) => None,
+        End::NotAnAction(index) | End::NotEnabled(index) | End::Fault(_, _, index) => Some(index),
+    }
+}
+
+/// Why the run ends, in which the action of this index is not performed.
+fn tell(
+    alloc: Global,
+    composition: &Composition,
+    program: &Program,
+    actions: &[Action],
+    reached: &Run,
+    index: usize,
+) -> Result<Account, OutOfMemory>
+    requires means { Means program.now (composed_of composition.now) }
+    requires index { index_in (ending_of reached.now.end) ≡ Some index }
+    ensures { IfOk result (λ told. (h : Hosted) → Stands h (composed_of composition.now) → IsHostRun h (map act_of actions.now) reached.now
+        → Tells h (map act_of actions.now) (run (hosts_of h) (map act_of actions.now) (host_starts h)) told) }
+{
+    let component = component_of(program, actions, reached.end);
+    let name = name_of(composition, component);
+    let why = why(alloc, composition.types(), actions, name, reached.end)?;
+    let states = lines_of(alloc, composition, component, &reached.states)?;
+    Ok(Account {
+        index,
+        why,
+        component,
+        line: line_of(composition, actions, index, component),
+        states,
+    })
+}
+
+/// The number of the component that stops the run.
+fn component_of(program: &Program, actions: &[Action], end: End) -> Option<usize>
+    ensures { (h : Hosted) (c : Composed) → Stands h c → Means program.now c → result ≡ component_in (hosts_of h) (map act_of actions.now) (ending_of end) }
+{
+    match end {
+        End::Done(_) | End::NotAnAction(_) => None,
+        End::NotEnabled(index) => owner_at(program, actions, index),
+        End::Fault(component, _, _) => Some(component),
+    }
+}
+
+/// The number of the component that has the action of this index as output or internal.
+fn owner_at(program: &Program, actions: &[Action], index: usize) -> Option<usize>
+    ensures { (h : Hosted) (c : Composed) → Stands h c → Means program.now c → result ≡ owner_at (hosts_of h) (map act_of actions.now) index }
+{
+    match actions.get(index) {
+        Some(action) => owner(program, action),
+        None => None,
+    }
+}
+
+/// The component's name.
+fn name_of<'a>(composition: &'a Composition, component: Option<usize>) -> &'a str
+    ensures { (h : Hosted) → Stands h (composed_of composition.now) → result.now ≡ spec.name_of h.hosts component }
+{
+    match component {
+        Some(number) => name_at(composition, number),
+        None => "",
+    }
+}
+
+/// The name of the component of this number.
+fn name_at<'a>(composition: &'a Composition, number: usize) -> &'a str
+    ensures { (h : Hosted) → Stands h (composed_of composition.now) → result.now ≡ spec.name_at h.hosts number }
+{
+    match composition.members().get(number) {
+        Some(member) => member.name.as_str(),
+        None => "",
+    }
+}
+
+/// Why, by the name of that component.
+fn why(
+    alloc: Global,
+    types: &Types,
+    actions: &[Action],
+    component: &str,
+    end: End,
+) -> Result<String, OutOfMemory>
+    ensures { IfOk result (λ text. string_bytes text ≡ spec.why types.now (map act_of actions.now) component.now (ending_of end)) }
+{
+    match end {
+        End::Done(_) => Ok(String::new(alloc)),
+        End::NotAnAction(index) => {
+            let action = action_text(alloc, types, actions, index)?;
+            Ok(format!(in alloc; "no component has {action}")?)
+        }
+        End::NotEnabled(index) => {
+            let action = action_text(alloc, types, actions, index)?;
+            Ok(format!(in alloc; "the precondition of {action} in {component} is false")?)
+        }
+        End::Fault(_, fault, index) => {
+            let action = action_text(alloc, types, actions, index)?;
+            let number = fault.number();
+            Ok(format!(in alloc; "fault {number} of {action} in {component}")?)
+        }
+    }
+}
+
+/// The text of the action of this index.
+fn action_text(
+    alloc: Global,
+    types: &Types,
+    actions: &[Action],
+    index: usize,
+) -> Result<String, OutOfMemory>
+    ensures { IfOk result (λ text. string_bytes text ≡ spec.action_text types.now (map act_of actions.now) index) }
+{
+    match actions.get(index) {
+        Some(action) => print_action(alloc, types, action),
+        None => Ok(String::new(alloc)),
+    }
+}
+
+/// The lines of the component in these states.
+fn lines_of(
+    alloc: Global,
+    composition: &Composition,
+    component: Option<usize>,
+    states: &[NodeState],
+) -> Result<String, OutOfMemory>
+    ensures { IfOk result (λ text. (h : Hosted) (hs : List (HostState Env)) → Stands h (composed_of composition.now) → AllRelated (HoldsAt h.hosts) 0 hs (values_of states.now)
+        → string_bytes text ≡ spec.lines_of h.types h.hosts hs component) }
+{
+    let mut text = String::new(alloc);
+    if let Some(number) = component {
+        put_component(alloc, &mut text, composition, number, states)?;
+    }
+    Ok(text)
+}
+
+/// The line in which the component's transition for the action of this index begins; 0 where there is none.
+fn line_of(
+    composition: &Composition,
+    actions: &[Action],
+    index: usize,
+    component: Option<usize>,
+) -> u32 {
+    let Some(number) = component else {
+        return 0;
+    };
+    match (composition.members().get(number), actions.get(index)) {
+        (Some(member), Some(action)) => {
+            transition_line(&member.automaton.transitions, action.name.as_str())
+        }
+        _ => 0,
+    }
+}
+
+/// The line of the first transition of this name. An automaton has one for each entry, and its entries' names differ.
+fn transition_line(transitions: &[Transition], name: &str) -> u32 {
+    for transition in transitions {
+        if transition.name.text.as_str() == name {
+            return transition.name.line;
+        }
+    }
+    0
+}
