@@ -1,3 +1,4 @@
+mod Examples
 pub mod LineNumbers
 pub mod Counting
 pub mod Ending

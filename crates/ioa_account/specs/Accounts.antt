@@ -1,14 +1,17 @@
 -- Why a run ends before all its actions are performed, in the words that people are told.
-use Rattle.std.specs.Prelude.{◌≡◌, ◌++◌, ℕ, List, [], Option, Some, None, codes, slice_get, string_bytes}
+use Rattle.std.specs.Prelude.{◌≡◌, ◌++◌, ℕ, List, [], Option, Some, None, codes, find, IfSome, slice_get, string_bytes}
 use Rattle.std.specs.Fmt.{decimal}
 use Rattle.std.specs.Option.{option_map_or}
+use Rattle.std.specs.Str.{bytes_eq}
 use Rattle.ioa_arithmetic.specs.Arithmetic.{fault_number}
 use Rattle.ioa_value.specs.Actions.{Act, Name}
 use Rattle.ioa_value.specs.Table.{Table}
 use Rattle.ioa_value.specs.Written.{written_action}
 use Rattle.ioa_tree.specs.Hosts.{Host, HostState, Hosted, hosts_of, host_starts}
 use Rattle.ioa_tree.specs.Meaning.{Env}
+use Rattle.ioa_tree.specs.declared.tree.Transition.{Transition}
 use Rattle.ioa_tree.specs.Runs.{Ending, Reached, done, not_an_action_at, not_enabled_at, fault_at, run}
+use Rattle.ioa_compose.specs.declared.member.Member.{Member}
 use Rattle.ioa_account.specs.declared.ends.Account.{Account}
 use Rattle.ioa_account.specs.Ends.{component_in, index_in}
 use Rattle.ioa_account.specs.States.{component_lines}
@@ -48,3 +51,22 @@ pub record Tells (h : Hosted) (acts : List Act) (r : Reached (HostState Env)) (a
 abbrev pub IsAccount : Hosted → List Act → Option Account → Type 0
 IsAccount h acts None = index_in (run (hosts_of h) acts (host_starts h)).ending ≡ None
 IsAccount h acts (Some a) = Tells h acts (run (hosts_of h) acts (host_starts h)) a
+
+-- ---- lines, which the trees do not keep
+
+-- the line of the first of these transitions that has the name
+abbrev pub transition_line : List Transition → Name → ℕ
+transition_line ts x = option_map_or (λ (t : Transition). t.name.line) (find (λ (t : Transition). bytes_eq (string_bytes t.name.text) x) ts) 0
+
+-- the same of the transitions of the component of this number
+abbrev pub line_at : List Member → Name → ℕ → ℕ
+line_at ms x i = option_map_or (λ (m : Member). transition_line m.automaton.transitions.items x) (slice_get ms i) 0
+
+-- the line in which the component's transition of the action of this index begins; 0 where there is none
+abbrev pub line_of : List Member → List Act → ℕ → Option ℕ → ℕ
+line_of ms acts i None = 0
+line_of ms acts i (Some c) = option_map_or (λ (a : Act). line_at ms a.name c) (slice_get acts i) 0
+
+-- the account tells this line
+abbrev pub TellsLine : List Member → List Act → Option Account → Type 0
+TellsLine ms acts told = IfSome told (λ a. a.line ≡ line_of ms acts a.index a.component)

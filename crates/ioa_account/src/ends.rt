@@ -16,7 +16,7 @@ ghost use Rattle.ioa_system.specs.Records.{IsHostRun};
 ghost use Rattle.ioa_system.specs.Systems.{values_of};
 ghost use Rattle.ioa_account.specs.Accounts as spec;
 ghost use Rattle.ioa_account.specs.Ends.{component_in, index_in, owner_at};
-ghost use Rattle.ioa_account.specs.Accounts.{IsAccount, Tells};
+ghost use Rattle.ioa_account.specs.Accounts.{IsAccount, Tells, TellsLine};
 
 use crate::states::put_component;
 use ioa_compile::Program;
@@ -37,8 +37,8 @@ pub struct Account {
     /// The number of the component that stops the run: the owner of an action that is not enabled, or the one that faults. None
     /// where no component has the action.
     pub component: Option<usize>,
-    /// The line of the source in which that component's transition for the action begins: the one of the action's name. 0 where there
-    /// is none. It is for people, and no contract says more of it.
+    /// The line of the source in which that component's transition of the action begins: the one of the action's name. 0 where there
+    /// is none.
     pub line: u32,
     /// The variables of that component, a line each, in the state before the action.
     pub states: String,
@@ -52,7 +52,8 @@ pub fn account_of(
     actions: &[Action],
 ) -> Result<Option<Account>, OutOfMemory>
     requires { Means program.now (composed_of composition.now) }
-    ensures { IfOk result (λ told. (h : Hosted) → Stands h (composed_of composition.now) → IsAccount h (map act_of actions.now) told) }
+    ensures told { IfOk result (λ told. (h : Hosted) → Stands h (composed_of composition.now) → IsAccount h (map act_of actions.now) told) }
+    ensures line { IfOk result (λ told. TellsLine composition.now.members (map act_of actions.now) told) }
 {
     let run = run_list(alloc, program, actions)?;
     let Some(index) = index_of(run.end) else {
@@ -83,8 +84,9 @@ fn tell(
 ) -> Result<Account, OutOfMemory>
     requires means { Means program.now (composed_of composition.now) }
     requires index { index_in (ending_of reached.now.end) ≡ Some index }
-    ensures { IfOk result (λ told. (h : Hosted) → Stands h (composed_of composition.now) → IsHostRun h (map act_of actions.now) reached.now
+    ensures told { IfOk result (λ told. (h : Hosted) → Stands h (composed_of composition.now) → IsHostRun h (map act_of actions.now) reached.now
         → Tells h (map act_of actions.now) (run (hosts_of h) (map act_of actions.now) (host_starts h)) told) }
+    ensures line { IfOk result (λ told. told.line ≡ spec.line_of composition.now.members (map act_of actions.now) told.index told.component) }
 {
     let component = component_of(program, actions, reached.end);
     let name = name_of(composition, component);
@@ -200,26 +202,38 @@ fn lines_of(
     Ok(text)
 }
 
-/// The line in which the component's transition for the action of this index begins; 0 where there is none.
+/// The line in which the component's transition of the action of this index begins; 0 where there is none.
 fn line_of(
     composition: &Composition,
     actions: &[Action],
     index: usize,
     component: Option<usize>,
-) -> u32 {
+) -> u32
+    ensures { result ≡ spec.line_of composition.now.members (map act_of actions.now) index component }
+{
     let Some(number) = component else {
         return 0;
     };
-    match (composition.members().get(number), actions.get(index)) {
-        (Some(member), Some(action)) => {
-            transition_line(&member.automaton.transitions, action.name.as_str())
-        }
-        _ => 0,
+    match actions.get(index) {
+        Some(action) => line_at(composition, action.name.as_str(), number),
+        None => 0,
+    }
+}
+
+/// The line in which the transition of this name begins in the component of this number.
+fn line_at(composition: &Composition, name: &str, number: usize) -> u32
+    ensures { result ≡ spec.line_at composition.now.members name.now number }
+{
+    match composition.members().get(number) {
+        Some(member) => transition_line(&member.automaton.transitions, name),
+        None => 0,
     }
 }
 
 /// The line of the first transition of this name. An automaton has one for each entry, and its entries' names differ.
-fn transition_line(transitions: &[Transition], name: &str) -> u32 {
+fn transition_line(transitions: &[Transition], name: &str) -> u32
+    ensures { result ≡ spec.transition_line transitions.now name.now }
+{
     for transition in transitions {
         if transition.name.text.as_str() == name {
             return transition.name.line;

@@ -11,8 +11,8 @@ use Rattle.ioa_account.specs.Accounts.{name_of, why}
 use Rattle.ioa_account.specs.Ends.{component_in, index_in}
 use Rattle.ioa_account.proofs.ends.tell.Goals as goal
 
-pub returns : goal.returns
-returns c = λ h stands said.
+pub returns-clause-told : goal.returns-clause-told
+returns-clause-told c = λ h stands said.
     let acts = map act_of c.args.actions.now in
     let r = run (hosts_of h) acts (host_starts h) in
     let end = ending_of c.args.reached.now.end in

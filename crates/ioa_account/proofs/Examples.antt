@@ -1,0 +1,54 @@
+-- The answers of the definitions, of small texts.
+use Rattle.std.proofs.Common.{◌≡◌, ℕ, List, [], ◌∷◌, Some, None, codes, refl}
+use Rattle.std.specs.Fmt.{digits}
+use Rattle.ioa_arithmetic.specs.declared.arithmetic.Fault.TheVariants.{ZeroDivisor}
+use Rattle.ioa_value.specs.Actions.{Act}
+use Rattle.ioa_value.specs.Written.{written_action}
+use Rattle.ioa_tree.specs.Runs.{not_an_action_at, not_enabled_at, fault_at}
+use Rattle.ioa_account.specs.Accounts.{why}
+use Rattle.ioa_account.specs.Lines.{line_at, line_of_action}
+
+-- a blank line, a comment, an action, a line of blanks, and another action
+list : List ℕ
+list = codes "\n% two steps\nstep\n  \nstep\n"
+
+first_action : line_of_action list 0 ≡ Some 3
+unfolding list
+first_action = refl
+
+second_action : line_of_action list 1 ≡ Some 5
+unfolding list
+second_action = refl
+
+no_third_action : line_of_action list 2 ≡ None
+unfolding list
+no_third_action = refl
+
+comment : line_at list 2 ≡ Some (codes "% two steps")
+unfolding list
+comment = refl
+
+no_line_is_the_0th : line_at list 0 ≡ None
+unfolding list
+no_line_is_the_0th = refl
+
+no_line_behind : line_at list 6 ≡ None
+unfolding list
+no_line_behind = refl
+
+-- ---- why runs end
+
+steps : List Act
+steps = record { name = codes "step"; vals = [] } ∷ []
+
+unknown : why [] steps (codes "Left") (not_an_action_at 0) ≡ codes "no component has step"
+unfolding steps written_action
+unknown = refl
+
+blocked : why [] steps (codes "Left") (not_enabled_at 0) ≡ codes "the precondition of step in Left is false"
+unfolding steps written_action
+blocked = refl
+
+faulted : why [] steps (codes "Left") (fault_at 0 ZeroDivisor 0) ≡ codes "fault 2 of step in Left"
+unfolding steps written_action digits
+faulted = refl
