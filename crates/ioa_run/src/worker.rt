@@ -1,6 +1,8 @@
-ghost use Rattle.std.specs.Prelude.{◌≡◌, IfOk};
+ghost use Rattle.std.specs.Prelude.{◌≡◌, ◌<◌, ◌∷◌, [], All, IfOk, IfSome, length, true};
 ghost use Rattle.ioa_value.specs.Actions.{act_of};
-ghost use Rattle.ioa_run.specs.Planning.{Assesses, IfReady, IsOf};
+ghost use Rattle.ioa_system.specs.Participants.{taken};
+ghost use Rattle.ioa_system.specs.Systems.{slot_types, types_of};
+ghost use Rattle.ioa_run.specs.Planning.{Assesses, IfReady, IsOf, IsOwn};
 
 use crate::assessed::Assessed;
 use crate::choice::choose;
@@ -25,6 +27,13 @@ pub(crate) enum Source<W> {
     Words(W),
     /// The environment's: the script.
     Script,
+}
+
+/// What a worker means to do, and of a component the copy of its own state by which it means it.
+#[derive(Drop)]
+pub(crate) struct Meant {
+    pub action: Action,
+    pub own: Option<Vec<NodeState>>,
 }
 
 /// A worker of a run on threads, on its own thread.
@@ -66,7 +75,7 @@ impl<'a, 'p, R: Wait, T: Terms, G: Gate> Worker<'a, 'p, R, T, G> {
         source: &mut Source<W>,
     ) -> Result<Option<Point>, OutOfMemory> {
         match self.wish(workspace, source)? {
-            Some(action) => self.attempt(action),
+            Some(meant) => self.attempt(meant),
             None => Ok(Some(self.idle())),
         }
     }
@@ -76,10 +85,23 @@ impl<'a, 'p, R: Wait, T: Terms, G: Gate> Worker<'a, 'p, R, T, G> {
         &self,
         workspace: &mut Workspace,
         source: &mut Source<W>,
-    ) -> Result<Option<Action>, OutOfMemory> {
+    ) -> Result<Option<Meant>, OutOfMemory>
+        ensures { IfOk result (λ r. IfSome r (λ m. IfSome m.own (λ states. IsOwn T.program self.now.who states.items))) }
+    {
         match source {
             Source::Words(words) => self.choice(workspace, words),
-            Source::Script => { next_input(self.alloc, self.crew.inputs, self.crew.place(self.rt)) }
+            Source::Script => self.next_of_script(),
+        }
+    }
+
+    /// The next action of the script, or nothing behind its end.
+    fn next_of_script(&self) -> Result<Option<Meant>, OutOfMemory>
+        ensures { IfOk result (λ r. IfSome r (λ m. IfSome m.own (λ states. IsOwn T.program self.now.who states.items))) }
+    {
+        let place = self.crew.place(self.rt);
+        match next_input(self.alloc, self.crew.inputs, place)? {
+            Some(action) => Ok(Some(Meant { action, own: None })),
+            None => Ok(None),
         }
     }
 
@@ -88,7 +110,9 @@ impl<'a, 'p, R: Wait, T: Terms, G: Gate> Worker<'a, 'p, R, T, G> {
         &self,
         workspace: &mut Workspace,
         words: &mut W,
-    ) -> Result<Option<Action>, OutOfMemory> {
+    ) -> Result<Option<Meant>, OutOfMemory>
+        ensures { IfOk result (λ r. IfSome r (λ m. IfSome m.own (λ states. IsOwn T.program self.now.who states.items))) }
+    {
         let members = self.crew.program.members();
         if self.who >= members.len() {
             return Ok(None);
@@ -101,35 +125,66 @@ impl<'a, 'p, R: Wait, T: Terms, G: Gate> Worker<'a, 'p, R, T, G> {
             &own[0],
             words,
         )?;
-        Ok(action)
+        match action {
+            Some(action) => Ok(Some(Meant {
+                action,
+                own: Some(own),
+            })),
+            None => Ok(None),
+        }
     }
 
     /// Plans the action and commits the plan, with the gate between.
-    fn attempt(&self, action: Action) -> Result<Option<Point>, OutOfMemory> {
-        let Planned::Ready(plan) = self.plan(action)? else {
+    fn attempt(&self, meant: Meant) -> Result<Option<Point>, OutOfMemory>
+        requires { IfSome meant.own (λ states. IsOwn T.program self.now.who states.items) }
+    {
+        let Planned::Ready(plan) = self.plan(meant)? else {
             return Ok(Some(self.idle()));
         };
         self.gate.reach(self.who, Point::Planned);
         self.commit(plan)
     }
 
-    /// The worker's plan for the action, by copies of its participants' states.
-    fn plan(&self, action: Action) -> Result<Planned<'p>, OutOfMemory>
+    /// The worker's plan for what it means to do, by copies of the participants' states.
+    fn plan(&self, meant: Meant) -> Result<Planned<'p>, OutOfMemory>
+        requires { IfSome meant.own (λ states. IsOwn T.program self.now.who states.items) }
         ensures { IfOk result (IfReady (IsOf T.program self.now.who)) }
     {
-        let (copied, assessed) = self.assess(&action)?;
+        let Meant { action, own } = meant;
+        let (copied, assessed) = self.assess(&action, own)?;
         Ok(plan_by(self.crew.program, self.who, action, copied, assessed))
     }
 
     /// Copies of the participants' states, and whether the worker can plan the action by these. The action is looked up once.
-    fn assess(&self, action: &Action) -> Result<(Vec<NodeState>, Assessed), OutOfMemory>
+    fn assess(
+        &self,
+        action: &Action,
+        own: Option<Vec<NodeState>>,
+    ) -> Result<(Vec<NodeState>, Assessed), OutOfMemory>
+        requires { IfSome own (λ states. IsOwn T.program self.now.who states.items) }
         ensures { IfOk result (λ r. Assesses T.program self.now.who (act_of action.now) r.0.items r.1) }
     {
         let participation = Participation::of(self.alloc, self.crew.program, action)?;
         let numbers = participation.numbers(self.alloc)?;
-        let copied = self.crew.copy(self.rt, &numbers)?;
+        let copied = self.copied(&numbers, own)?;
         let assessed = assess(self.alloc, &participation, self.who, numbers, &copied)?;
         Ok((copied, assessed))
+    }
+
+    /// Copies of the states of the components of these numbers, all as they are at one moment: the copy of the worker's own state, where that is all.
+    fn copied(
+        &self,
+        numbers: &[usize],
+        own: Option<Vec<NodeState>>,
+    ) -> Result<Vec<NodeState>, OutOfMemory>
+        requires numbers { All (λ n. n < length T.program.members) numbers.now }
+        requires own { IfSome own (λ states. IsOwn T.program self.now.who states.items) }
+        ensures { IfOk result (λ states. types_of states.items ≡ taken numbers.now (slot_types T.program.members)) }
+    {
+        match own {
+            Some(states) if is_just(numbers, self.who) => Ok(states),
+            _ => self.crew.copy(self.rt, numbers),
+        }
     }
 
     /// Commits the plan. A worker that is stopped leaves.
@@ -155,4 +210,11 @@ impl<'a, 'p, R: Wait, T: Terms, G: Gate> Worker<'a, 'p, R, T, G> {
         self.crew.idle(self.rt, self.who);
         Point::Idle
     }
+}
+
+/// Whether this is the only one of the numbers.
+fn is_just(numbers: &[usize], number: usize) -> bool
+    ensures { result ≡ true → numbers.now ≡ number ∷ [] }
+{
+    numbers.len() == 1 && numbers[0] == number
 }
