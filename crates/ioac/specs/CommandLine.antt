@@ -68,40 +68,45 @@ inputs_rule = record (new_rule (codes "inputs")) { long = Some (codes "inputs");
 abbrev pub reports_rule : Rule
 reports_rule = record (new_rule (codes "reports")) { long = Some (codes "reports"); action = Some ArgAction.SetTrue }
 
+-- `--explain`
+abbrev pub explain_rule : Rule
+explain_rule = record (new_rule (codes "explain")) { long = Some (codes "explain"); action = Some ArgAction.SetTrue }
+
 abbrev pub check_app : App
-check_app = with_rule (with_rule (new_app (codes "check")) file_rule) compositions_rule
+check_app = with_rule (with_rule (with_rule (new_app (codes "check")) file_rule) compositions_rule) explain_rule
 
 abbrev pub compile_app : App
-compile_app = with_rule (with_rule (with_rule (new_app (codes "compile")) file_rule) out_rule) comp_rule
+compile_app = with_rule (with_rule (with_rule (with_rule (new_app (codes "compile")) file_rule) out_rule) comp_rule) explain_rule
 
 abbrev pub dump_app : App
-dump_app = with_rule (new_app (codes "dump")) file_rule
+dump_app = with_rule (with_rule (new_app (codes "dump")) file_rule) explain_rule
 
 abbrev pub explain_app : App
-explain_app = with_rule (new_app (codes "explain")) text_rule
+explain_app = with_rule (with_rule (new_app (codes "explain")) text_rule) explain_rule
 
 abbrev pub library_app : App
-library_app = new_app (codes "library")
+library_app = with_rule (new_app (codes "library")) explain_rule
 
 abbrev pub replay_app : App
-replay_app = with_rule (with_rule (with_rule (with_rule (with_rule (new_app (codes "replay")) file_rule) comp_rule) log_rule) invariants_rule) states_rule
+replay_app =
+    with_rule (with_rule (with_rule (with_rule (with_rule (with_rule (new_app (codes "replay")) file_rule) comp_rule) log_rule) invariants_rule) states_rule) explain_rule
 
 abbrev pub log_app : App
-log_app = with_rule (with_rule (new_app (codes "log")) file_rule) comp_rule
+log_app = with_rule (with_rule (with_rule (new_app (codes "log")) file_rule) comp_rule) explain_rule
 
 abbrev pub monitor_app : App
-monitor_app = with_rule (with_rule (new_app (codes "monitor")) file_rule) comp_rule
+monitor_app = with_rule (with_rule (with_rule (new_app (codes "monitor")) file_rule) comp_rule) explain_rule
 
 abbrev pub chart_app : App
-chart_app = with_rule (with_rule (new_app (codes "chart")) file_rule) comp_rule
+chart_app = with_rule (with_rule (with_rule (new_app (codes "chart")) file_rule) comp_rule) explain_rule
 
 abbrev pub graph_app : App
-graph_app = with_rule (with_rule (new_app (codes "graph")) file_rule) comp_rule
+graph_app = with_rule (with_rule (with_rule (new_app (codes "graph")) file_rule) comp_rule) explain_rule
 
 abbrev pub run_app : App
 run_app =
-    with_rule (with_rule (with_rule (with_rule (with_rule (with_rule (with_rule (with_rule (with_rule (new_app (codes "run")) file_rule) comp_rule) alone_rule) turns_rule)
-    seed_rule) words_rule) inputs_rule) log_rule) reports_rule
+    with_rule (with_rule (with_rule (with_rule (with_rule (with_rule (with_rule (with_rule (with_rule (with_rule (new_app (codes "run")) file_rule) comp_rule) alone_rule)
+    turns_rule) seed_rule) words_rule) inputs_rule) log_rule) reports_rule) explain_rule
 
 -- a subcommand has to stand; where no word stands, help is given; there is a version, and a subcommand `help` of the crate that parses
 abbrev pub bare_app : App
@@ -129,6 +134,11 @@ IsLocal command = (out-Command command).has_globals ≡ false
 -- a flag stands
 abbrev pub is_set : Text → List Row → Bool
 is_set flag rows = option_map_or (λ value. bytes_eq value (codes "true")) (first_of flag rows) false
+
+-- what comes of a subcommand with its values is to be explained
+abbrev pub is_explained : Option (Text × List Row) → Bool
+is_explained None = false
+is_explained (Some found) = is_set (codes "explain") found.1
 
 -- it is a replay, of a log or not, asked for invariants or not, and for states or not
 abbrev pub IsReplayWith : Bool → Bool → Bool → Text × List Row → Type 0

@@ -1,11 +1,12 @@
 -- What a run of the program comes to: what is asked, what is written, what is told, and the exit status. Of each device it is said what it
 -- holds before and after, and whether it failed.
-use Rattle.std.specs.Prelude.{◌≡◌, ℕ, ◌⊎◌, ◌<◌, List, length, Option, Some, None}
+use Rattle.std.specs.Prelude.{◌≡◌, ℕ, ◌⊎◌, ◌<◌, Bool, true, false, List, length, Option, Some, None}
 use Rattle.std.specs.Io.KnownBytes.{Appends, Keeps}
 use Rattle.clap.specs.Words.{IsAmong, Text, fault_of, subcommand_of}
 use Rattle.clap.specs.declared.error.kind.ErrorKind.{ErrorKind}
 use Rattle.clap.specs.declared.error.kind.ErrorKind.TheVariants as kinds
 use Rattle.ioa_log.specs.declared.failure.LogErr.{LogErr}
+use Rattle.ioa_log.specs.Failing.{HasFailed}
 use Rattle.ioa_value.specs.Actions.{Name}
 use Rattle.ioac.specs.declared.failure.Failure.{Failure}
 use Rattle.ioac.specs.declared.request.Request.{Request}
@@ -25,6 +26,14 @@ abbrev pub IsAnswered : (Name → List ℕ → Type 0) → (Name → Type 0) →
 IsAnswered holds lacks bars saves kept request bytes reader_failed before after writer_failed told telling teller_failed status =
     ((reports : Option (List ℕ)) × (done : Status) × IsServed holds saves request bytes before after reports done × IsFinished reports done told telling teller_failed status)
     ⊎ ((e : Failure) × IsUnserved holds lacks bars saves kept request bytes reader_failed writer_failed before after e × IsReported e told telling teller_failed status)
+
+-- It is answered so, by what is told, how many calls of that device failed so far, and the status. Where an explanation is asked for, it follows what
+-- is told, in words for people, of which nothing is said here; the status is still that of the answer, or the device failed then, too.
+abbrev pub IsAnsweredAs : Bool → (Option (List ℕ) → ℕ → Status → Type 0) → Option (List ℕ) → ℕ → Status → Type 0
+IsAnsweredAs false answers telling failures status = answers telling failures status
+IsAnsweredAs true answers telling failures status =
+    (told : Option (List ℕ)) × (before : ℕ) × (answered : Status) × answers told before answered
+    × ((text : List ℕ) × IsPut text answered told telling (HasFailed before failures) status)
 
 -- of a parse that gives no request, by what it tells
 abbrev pub usage_status : ErrorKind → Status

@@ -10,7 +10,7 @@ use Rattle.ioac.specs.declared.topic.Topic.{Topic}
 use Rattle.ioac.specs.Codes.{spelling}
 use Rattle.ioac.specs.Failing.{IsDeviceErr}
 
--- as it is printed, without what follows
+-- as it is printed, without what follows; of a broken invariant, whose numbers stand between, the words alone
 abbrev pub title : Topic → List ℕ
 title (Topic.Code c) = spelling c
 title (Topic.Fault f) = codes "fault " ++ decimal (fault_number f)

@@ -1,11 +1,13 @@
-ghost use Rattle.std.specs.Prelude.{◌≡◌, ◌⊎◌, map, option_map, IfOk, IfErr, IsSome, IsErrOf};
+ghost use Rattle.std.specs.Prelude.{◌≡◌, ◌⊎◌, true, map, option_map, IfOk, IfErr, IsSome, IsErrOf};
+ghost use Rattle.clap.specs.Words.{subcommand_of};
 ghost use Rattle.ioa_system.specs.Outcomes.{ending_of};
 ghost use Rattle.ioa_log.specs.declared.failure.LogErr.{LogErr};
 ghost use Rattle.ioa_log.specs.Failing.{HasFailed};
-ghost use Rattle.ioac.specs.CommandLine.{IsAsked};
-ghost use Rattle.ioac.specs.Commands.{IsAnswered, IsUnasked};
+ghost use Rattle.ioac.specs.CommandLine.{IsAsked, ioac_app, is_explained};
+ghost use Rattle.ioac.specs.Commands.{IsAnswered, IsAnsweredAs, IsFinished, IsUnasked};
 ghost use Rattle.ioac.specs.Logs.{found_of};
 ghost use Rattle.ioac.specs.Serving.{IsReading, IsSaving, IsServed, IsUnserved, reports_of};
+ghost use Rattle.ioac.specs.Telling.{IsReported};
 ghost use Rattle.ioac.specs.Statuses.{answer_status, ending_status, found_status, number_of};
 ghost use Rattle.ioac.specs.declared.failure.Failure.{Failure};
 ghost use Rattle.ioac.specs.declared.status.Status.{Status};
@@ -17,6 +19,7 @@ use crate::composition_graph::graph_text;
 use crate::dump::dump_object;
 use crate::explain::explain;
 use crate::failure::Failure;
+use crate::hearing::Heard;
 use crate::invariant_replay::{Finding, replay_invariants_text};
 use crate::library::write_library;
 use crate::list_log::log_list_text;
@@ -24,7 +27,8 @@ use crate::log_chart::chart_log_text;
 use crate::log_replay::replay_log_text;
 use crate::monitor::monitor_text;
 use crate::object_file::compile_file;
-use crate::reading::read_request;
+use crate::reading::{is_explained, read_request};
+use crate::remarks::remarks_or_none;
 use crate::replay::replay_text;
 use crate::request::{Request, parse};
 use crate::run::run_file;
@@ -32,7 +36,7 @@ use crate::served::{Served, finish, silent};
 use crate::states_replay::{replay_log_states_text, replay_states_text};
 use crate::status::Status;
 use crate::store::Store;
-use crate::telling::reported;
+use crate::telling::{put, reported};
 use crate::usage::{told, told_unasked};
 use ioa_log::{InputDevice, OutputDevice};
 use ioa_system::End;
@@ -59,7 +63,7 @@ pub fn command<
     alloc: Global,
     words: &[S],
     store: &mut F,
-    input: &mut R,
+    input: &mut Heard<R>,
     output: &mut W,
     errors: &mut E,
 ) -> u8
@@ -67,12 +71,15 @@ pub fn command<
         (W.contents output.old) (W.contents output.new) (HasFailed (W.failure_count output.old) (W.failure_count output.new))
         (E.contents errors.old) (E.contents errors.new) (HasFailed (E.failure_count errors.old) (E.failure_count errors.new)) status
         ⊎ ((request : Request) × IsAsked (map S.text words.now) request
-        × IsAnswered (F.holds store.old) (F.lacks store.old) (F.bars store.old) (F.saves store.old store.new) (store.new ≡ store.old) request (R.remaining input.old) (HasFailed (R.failure_count input.old) (R.failure_count input.new))
+        × IsAnsweredAs (is_explained (subcommand_of ioac_app (map S.text words.now)))
+        (λ told failures answered. IsAnswered (F.holds store.old) (F.lacks store.old) (F.bars store.old) (F.saves store.old store.new) (store.new ≡ store.old) request
+        (R.remaining input.old.inner) (HasFailed (R.failure_count input.old.inner) (R.failure_count input.new.inner))
         (W.contents output.old) (W.contents output.new) (HasFailed (W.failure_count output.old) (W.failure_count output.new))
-        (E.contents errors.old) (E.contents errors.new) (HasFailed (E.failure_count errors.old) (E.failure_count errors.new)) status)) }
+        (E.contents errors.old) told (HasFailed (E.failure_count errors.old) failures) answered)
+        (E.contents errors.new) (E.failure_count errors.new) status)) }
     ensures kept { ((request : Request) → IsAsked (map S.text words.now) request → IsSaving request → ⊥) → store.new ≡ store.old }
-    ensures unread { ((request : Request) → IsAsked (map S.text words.now) request → IsReading request → ⊥) → input.new ≡ input.old }
-    ensures passed { (result ≡ number_of statuses.Unable → ⊥) → (R.failure_count input.new ≡ R.failure_count input.old) × (W.failure_count output.new ≡ W.failure_count output.old) × (E.failure_count errors.new ≡ E.failure_count errors.old) }
+    ensures unread { ((request : Request) → IsAsked (map S.text words.now) request → IsReading request → ⊥) → input.new.inner ≡ input.old.inner }
+    ensures passed { (result ≡ number_of statuses.Unable → ⊥) → (R.failure_count input.new.inner ≡ R.failure_count input.old.inner) × (W.failure_count output.new ≡ W.failure_count output.old) × (E.failure_count errors.new ≡ E.failure_count errors.old) }
 {
     perform(rt, alloc, words, store, input, output, errors).number()
 }
@@ -90,7 +97,7 @@ fn perform<
     alloc: Global,
     words: &[S],
     store: &mut F,
-    input: &mut R,
+    input: &mut Heard<R>,
     output: &mut W,
     errors: &mut E,
 ) -> Status
@@ -98,24 +105,89 @@ fn perform<
         (W.contents output.old) (W.contents output.new) (HasFailed (W.failure_count output.old) (W.failure_count output.new))
         (E.contents errors.old) (E.contents errors.new) (HasFailed (E.failure_count errors.old) (E.failure_count errors.new)) result
         ⊎ ((request : Request) × IsAsked (map S.text words.now) request
-        × IsAnswered (F.holds store.old) (F.lacks store.old) (F.bars store.old) (F.saves store.old store.new) (store.new ≡ store.old) request (R.remaining input.old) (HasFailed (R.failure_count input.old) (R.failure_count input.new))
+        × IsAnsweredAs (is_explained (subcommand_of ioac_app (map S.text words.now)))
+        (λ told failures answered. IsAnswered (F.holds store.old) (F.lacks store.old) (F.bars store.old) (F.saves store.old store.new) (store.new ≡ store.old) request
+        (R.remaining input.old.inner) (HasFailed (R.failure_count input.old.inner) (R.failure_count input.new.inner))
         (W.contents output.old) (W.contents output.new) (HasFailed (W.failure_count output.old) (W.failure_count output.new))
-        (E.contents errors.old) (E.contents errors.new) (HasFailed (E.failure_count errors.old) (E.failure_count errors.new)) result) }
+        (E.contents errors.old) told (HasFailed (E.failure_count errors.old) failures) answered)
+        (E.contents errors.new) (E.failure_count errors.new) result) }
     ensures kept { ((request : Request) → IsAsked (map S.text words.now) request → IsSaving request → ⊥) → store.new ≡ store.old }
-    ensures unread { ((request : Request) → IsAsked (map S.text words.now) request → IsReading request → ⊥) → input.new ≡ input.old }
-    ensures passed { (result ≡ statuses.Unable → ⊥) → (R.failure_count input.new ≡ R.failure_count input.old) × (W.failure_count output.new ≡ W.failure_count output.old) × (E.failure_count errors.new ≡ E.failure_count errors.old) }
+    ensures unread { ((request : Request) → IsAsked (map S.text words.now) request → IsReading request → ⊥) → input.new.inner ≡ input.old.inner }
+    ensures passed { (result ≡ statuses.Unable → ⊥) → (R.failure_count input.new.inner ≡ R.failure_count input.old.inner) × (W.failure_count output.new ≡ W.failure_count output.old) × (E.failure_count errors.new ≡ E.failure_count errors.old) }
 {
     match parse(alloc, words) {
         Ok(matches) => match read_request(&matches) {
-            Some(asked) => answer(rt, alloc, &asked, store, input, output, errors),
+            Some(asked) => {
+                let explains = is_explained(&matches);
+                answer_as(rt, alloc, &asked, explains, store, input, output, errors)
+            }
             None => told_unasked(alloc, &matches, errors),
         },
         Err(error) => told(alloc, &error, output, errors),
     }
 }
 
+/// Does what is asked, and tells why not; and behind it, where `explains` says so, what there is to say of it, for people. Where memory is short for that,
+/// it is left out.
+fn answer_as<H: Threads + Wait + Sync, F: Store, R: InputDevice, W: OutputDevice, E: OutputDevice>(
+    rt: &H,
+    alloc: Global,
+    asked: &Request<'_>,
+    explains: bool,
+    store: &mut F,
+    input: &mut Heard<R>,
+    output: &mut W,
+    errors: &mut E,
+) -> Status
+    ensures answers { IsAnsweredAs explains
+        (λ told failures answered. IsAnswered (F.holds store.old) (F.lacks store.old) (F.bars store.old) (F.saves store.old store.new) (store.new ≡ store.old) asked.now
+        (R.remaining input.old.inner) (HasFailed (R.failure_count input.old.inner) (R.failure_count input.new.inner))
+        (W.contents output.old) (W.contents output.new) (HasFailed (W.failure_count output.old) (W.failure_count output.new))
+        (E.contents errors.old) told (HasFailed (E.failure_count errors.old) failures) answered)
+        (E.contents errors.new) (E.failure_count errors.new) result }
+    ensures kept { (IsSaving asked.now → ⊥) → store.new ≡ store.old }
+    ensures unread { (IsReading asked.now → ⊥) → input.new.inner ≡ input.old.inner }
+    ensures passed { (result ≡ statuses.Unable → ⊥) → (R.failure_count input.new.inner ≡ R.failure_count input.old.inner) × (W.failure_count output.new ≡ W.failure_count output.old) × (E.failure_count errors.new ≡ E.failure_count errors.old) }
+{
+    if explains {
+        return answer_and_explain(rt, alloc, asked, store, input, output, errors);
+    }
+    answer(rt, alloc, asked, store, input, output, errors)
+}
+
+/// Does what is asked, and tells why not, and then what there is to say of it.
+fn answer_and_explain<
+    H: Threads + Wait + Sync,
+    F: Store,
+    R: InputDevice,
+    W: OutputDevice,
+    E: OutputDevice,
+>(
+    rt: &H,
+    alloc: Global,
+    asked: &Request<'_>,
+    store: &mut F,
+    input: &mut Heard<R>,
+    output: &mut W,
+    errors: &mut E,
+) -> Status
+    ensures answers { IsAnsweredAs true
+        (λ told failures answered. IsAnswered (F.holds store.old) (F.lacks store.old) (F.bars store.old) (F.saves store.old store.new) (store.new ≡ store.old) asked.now
+        (R.remaining input.old.inner) (HasFailed (R.failure_count input.old.inner) (R.failure_count input.new.inner))
+        (W.contents output.old) (W.contents output.new) (HasFailed (W.failure_count output.old) (W.failure_count output.new))
+        (E.contents errors.old) told (HasFailed (E.failure_count errors.old) failures) answered)
+        (E.contents errors.new) (E.failure_count errors.new) result }
+    ensures kept { (IsSaving asked.now → ⊥) → store.new ≡ store.old }
+    ensures unread { (IsReading asked.now → ⊥) → input.new.inner ≡ input.old.inner }
+    ensures passed { (result ≡ statuses.Unable → ⊥) → (R.failure_count input.new.inner ≡ R.failure_count input.old.inner) × (W.failure_count output.new ≡ W.failure_count output.old) × (E.failure_count errors.new ≡ E.failure_count errors.old) }
+{
+    input.keep(alloc);
+    let (served, answered) = serve_and_tell(rt, alloc, asked, store, input, output, errors);
+    let text = remarks_or_none(alloc, asked, &served, store, input.kept());
+    put(text.as_str(), answered, errors)
+}
+
 /// Does what is asked, and tells why not.
-#[tactic(auto, using(crate::proofs::Reported::no_device_failed))]
 fn answer<H: Threads + Wait + Sync, F: Store, R: InputDevice, W: OutputDevice, E: OutputDevice>(
     rt: &H,
     alloc: Global,
@@ -132,9 +204,54 @@ fn answer<H: Threads + Wait + Sync, F: Store, R: InputDevice, W: OutputDevice, E
     ensures unread { (IsReading asked.now → ⊥) → input.new ≡ input.old }
     ensures passed { (result ≡ statuses.Unable → ⊥) → (R.failure_count input.new ≡ R.failure_count input.old) × (W.failure_count output.new ≡ W.failure_count output.old) × (E.failure_count errors.new ≡ E.failure_count errors.old) }
 {
-    match serve(rt, alloc, asked, store, input, output) {
-        Ok(served) => finish(&served, errors),
-        Err(failure) => reported(alloc, &failure, errors),
+    let (_served, status) = serve_and_tell(rt, alloc, asked, store, input, output, errors);
+    status
+}
+
+/// Does what is asked, and tells why not: answers what came of it, and the exit status.
+#[tactic(auto, using(crate::proofs::Reported::no_device_failed))]
+fn serve_and_tell<
+    H: Threads + Wait + Sync,
+    F: Store,
+    R: InputDevice,
+    W: OutputDevice,
+    E: OutputDevice,
+>(
+    rt: &H,
+    alloc: Global,
+    asked: &Request<'_>,
+    store: &mut F,
+    input: &mut R,
+    output: &mut W,
+    errors: &mut E,
+) -> (Result<Served, Failure>, Status)
+    ensures answers { IsAnswered (F.holds store.old) (F.lacks store.old) (F.bars store.old) (F.saves store.old store.new) (store.new ≡ store.old) asked.now (R.remaining input.old) (HasFailed (R.failure_count input.old) (R.failure_count input.new))
+        (W.contents output.old) (W.contents output.new) (HasFailed (W.failure_count output.old) (W.failure_count output.new))
+        (E.contents errors.old) (E.contents errors.new) (HasFailed (E.failure_count errors.old) (E.failure_count errors.new)) result.1 }
+    ensures kept { (IsSaving asked.now → ⊥) → store.new ≡ store.old }
+    ensures unread { (IsReading asked.now → ⊥) → input.new ≡ input.old }
+    ensures passed { (result.1 ≡ statuses.Unable → ⊥) → (R.failure_count input.new ≡ R.failure_count input.old) × (W.failure_count output.new ≡ W.failure_count output.old) × (E.failure_count errors.new ≡ E.failure_count errors.old) }
+{
+    let served = serve(rt, alloc, asked, store, input, output);
+    let status = settle(alloc, &served, errors);
+    (served, status)
+}
+
+/// Tells what is left to tell of what was served, or why it was not, and answers the exit status.
+fn settle<E: OutputDevice>(
+    alloc: Global,
+    served: &Result<Served, Failure>,
+    errors: &mut E,
+) -> Status
+    ensures finishes { IfOk served.now (λ s. IsFinished (reports_of s) s.status
+        (E.contents errors.old) (E.contents errors.new) (HasFailed (E.failure_count errors.old) (E.failure_count errors.new)) result) }
+    ensures reports { IfErr served.now (λ e. IsReported e
+        (E.contents errors.old) (E.contents errors.new) (HasFailed (E.failure_count errors.old) (E.failure_count errors.new)) result) }
+    ensures passed { (result ≡ statuses.Unable → ⊥) → E.failure_count errors.new ≡ E.failure_count errors.old }
+{
+    match served {
+        Ok(served) => finish(served, errors),
+        Err(failure) => reported(alloc, failure, errors),
     }
 }
 

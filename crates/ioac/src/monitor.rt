@@ -71,7 +71,7 @@ fn answer_to(alloc: Global, program: &Program, actions: &[Action]) -> Result<Opt
 }
 
 /// The actions that a log tells to be performed: the last one of a log that ends by a fault is not.
-fn performed_in(alloc: Global, log: Log) -> Result<Vec<Action>, OutOfMemory>
+pub fn performed_in(alloc: Global, log: Log) -> Result<Vec<Action>, OutOfMemory>
     ensures { IfOk result (λ actions. map act_of actions.items ≡ logs.performed_in (logged log)) }
 {
     let mut actions = actions_in(alloc, log.entries)?;
@@ -84,7 +84,7 @@ fn performed_in(alloc: Global, log: Log) -> Result<Vec<Action>, OutOfMemory>
     Ok(actions)
 }
 
-fn actions_in(alloc: Global, entries: Vec<LogEntry>) -> Result<Vec<Action>, OutOfMemory>
+pub fn actions_in(alloc: Global, entries: Vec<LogEntry>) -> Result<Vec<Action>, OutOfMemory>
     ensures { IfOk result (λ actions. map act_of actions.items ≡ map (λ e. act_of e.action) entries.items) }
 {
     let mut actions = Vec::new(alloc);

@@ -45,6 +45,16 @@ pub fn is_set(found: &ArgMatches<'_>, flag: &str) -> bool
     }
 }
 
+/// Whether what comes of it is to be explained.
+pub fn is_explained(matches: &ArgMatches<'_>) -> bool
+    ensures { result ≡ asked.is_explained (subcommand_rows_of matches.now) }
+{
+    match matches.subcommand() {
+        Some((_, found)) => is_set(found, "explain"),
+        None => false,
+    }
+}
+
 /// The file and the composition that a subcommand's values name. None where they name no file.
 fn read_names<'a>(found: &ArgMatches<'a>) -> Option<(&'a str, Option<&'a str>)>
     ensures some { IfSome result (λ named. Names (rows_of (found_of found.now)) named.0.now (option_copied named.1)) }

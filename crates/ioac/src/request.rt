@@ -1,6 +1,6 @@
 ghost use Rattle.std.specs.Prelude.{◌≡◌, false, map, codes, IfOk};
 ghost use Rattle.clap.specs.Words.{FailsBy, app_of, fault_of, new_app, rule_of, subcommand_of, subcommand_rows_of};
-ghost use Rattle.ioac.specs.CommandLine.{IsLocal, chart_app, check_app, comp_rule, compile_app, compositions_rule, dump_app, explain_app, file_rule, graph_app, invariants_rule, ioac_app, library_app, log_app, log_rule, monitor_app, out_rule, replay_app, states_rule, text_rule};
+ghost use Rattle.ioac.specs.CommandLine.{IsLocal, chart_app, check_app, comp_rule, compile_app, compositions_rule, dump_app, explain_app, explain_rule, file_rule, graph_app, invariants_rule, ioac_app, library_app, log_app, log_rule, monitor_app, out_rule, replay_app, states_rule, text_rule};
 
 use crate::run_usage::run_command;
 use crate::settings::Settings;
@@ -190,6 +190,17 @@ fn text_argument<'a>(alloc: Global) -> Arg<'a>
     )
 }
 
+/// What asks for more than is printed.
+pub fn explain_flag<'a>(alloc: Global) -> Arg<'a>
+    ensures rule { rule_of result ≡ explain_rule }
+    ensures local { result.global ≡ false }
+{
+    Arg::new(alloc, "explain")
+        .long("explain")
+        .action(ArgAction::SetTrue)
+        .help("Says more of the outcome on standard error: which line, why, and in which state")
+}
+
 fn check_command<'a>(alloc: Global) -> Result<Command<'a>, AllocError>
     ensures app { IfOk result (λ command. app_of command ≡ check_app) }
     ensures local { IfOk result IsLocal }
@@ -202,7 +213,8 @@ fn check_command<'a>(alloc: Global) -> Result<Command<'a>, AllocError>
              Exit status: 0 done, 1 source or object refused, 2 bad command line, 5 memory, the file or a device.",
         )
         .arg(file_argument(alloc))?
-        .arg(compositions_flag(alloc))
+        .arg(compositions_flag(alloc))?
+        .arg(explain_flag(alloc))
 }
 
 fn compile_command<'a>(alloc: Global) -> Result<Command<'a>, AllocError>
@@ -218,7 +230,8 @@ fn compile_command<'a>(alloc: Global) -> Result<Command<'a>, AllocError>
         )
         .arg(source_argument(alloc))?
         .arg(out_argument(alloc))?
-        .arg(composition_option(alloc))
+        .arg(composition_option(alloc))?
+        .arg(explain_flag(alloc))
 }
 
 fn dump_command<'a>(alloc: Global) -> Result<Command<'a>, AllocError>
@@ -232,7 +245,8 @@ fn dump_command<'a>(alloc: Global) -> Result<Command<'a>, AllocError>
              Example: ioac dump protocol.object\n\
              Exit status: 0 done, 1 no object, 2 bad command line, 5 memory, the file or a device.",
         )
-        .arg(object_argument(alloc))
+        .arg(object_argument(alloc))?
+        .arg(explain_flag(alloc))
 }
 
 fn explain_command<'a>(alloc: Global) -> Result<Command<'a>, AllocError>
@@ -246,12 +260,13 @@ fn explain_command<'a>(alloc: Global) -> Result<Command<'a>, AllocError>
              Example: ioac explain fault 3 in component 0 at 2\n\
              Exit status: 0 done, 2 bad command line or nothing to explain, 5 memory or a device.",
         )
-        .arg(text_argument(alloc))
+        .arg(text_argument(alloc))?
+        .arg(explain_flag(alloc))
 }
 
-fn library_command<'a>(alloc: Global) -> Command<'a>
-    ensures app { app_of result ≡ library_app }
-    ensures local { IsLocal result }
+fn library_command<'a>(alloc: Global) -> Result<Command<'a>, AllocError>
+    ensures app { IfOk result (λ command. app_of command ≡ library_app) }
+    ensures local { IfOk result IsLocal }
 {
     Command::new(alloc, "library")
         .about("Prints the library of link protocols, a source to check, run and replay")
@@ -259,6 +274,7 @@ fn library_command<'a>(alloc: Global) -> Command<'a>
             "Example: ioac library > links.ioa\n\
              Exit status: 0 done, 2 bad command line, 5 memory or a device.",
         )
+        .arg(explain_flag(alloc))
 }
 
 fn replay_command<'a>(alloc: Global) -> Result<Command<'a>, AllocError>
@@ -270,7 +286,8 @@ fn replay_command<'a>(alloc: Global) -> Result<Command<'a>, AllocError>
         .arg(composition_option(alloc))?
         .arg(log_flag(alloc))?
         .arg(invariants_flag(alloc))?
-        .arg(states_flag(alloc))
+        .arg(states_flag(alloc))?
+        .arg(explain_flag(alloc))
 }
 
 /// The subcommand without its arguments. Its usage is written out, since invariants are asked of a log alone.
@@ -287,7 +304,9 @@ fn described_replay<'a>(alloc: Global) -> Command<'a>
              Exit status: 0 done, 1 source or object refused, 2 bad command line, 3 ended by a fault,\n\
              4 list or log refused, invariant broken, or ended not enabled or not an action, 5 memory, the file or a device.",
         )
-        .override_usage("ioac replay [--comp <NAME>] [--log [--invariants]] [--states] <FILE>")
+        .override_usage(
+            "ioac replay [--comp <NAME>] [--log [--invariants]] [--states] [--explain] <FILE>",
+        )
 }
 
 fn log_command<'a>(alloc: Global) -> Result<Command<'a>, AllocError>
@@ -304,7 +323,8 @@ fn log_command<'a>(alloc: Global) -> Result<Command<'a>, AllocError>
              4 list refused, or ended not enabled or not an action, 5 memory, the file or a device.",
         )
         .arg(file_argument(alloc))?
-        .arg(composition_option(alloc))
+        .arg(composition_option(alloc))?
+        .arg(explain_flag(alloc))
 }
 
 fn monitor_command<'a>(alloc: Global) -> Result<Command<'a>, AllocError>
@@ -322,7 +342,8 @@ fn monitor_command<'a>(alloc: Global) -> Result<Command<'a>, AllocError>
              4 not accepted, log refused, or no monitor, 5 memory, the file or a device.",
         )
         .arg(file_argument(alloc))?
-        .arg(composition_option(alloc))
+        .arg(composition_option(alloc))?
+        .arg(explain_flag(alloc))
 }
 
 fn chart_command<'a>(alloc: Global) -> Result<Command<'a>, AllocError>
@@ -339,7 +360,8 @@ fn chart_command<'a>(alloc: Global) -> Result<Command<'a>, AllocError>
              4 log refused, 5 memory, the file or a device.",
         )
         .arg(file_argument(alloc))?
-        .arg(composition_option(alloc))
+        .arg(composition_option(alloc))?
+        .arg(explain_flag(alloc))
 }
 
 fn graph_command<'a>(alloc: Global) -> Result<Command<'a>, AllocError>
@@ -357,7 +379,8 @@ fn graph_command<'a>(alloc: Global) -> Result<Command<'a>, AllocError>
              Exit status: 0 done, 1 source or object refused, 2 bad command line, 5 memory, the file or a device.",
         )
         .arg(file_argument(alloc))?
-        .arg(composition_option(alloc))
+        .arg(composition_option(alloc))?
+        .arg(explain_flag(alloc))
 }
 
 fn program<'a>(alloc: Global) -> Result<Command<'a>, AllocError>
@@ -378,7 +401,7 @@ fn program<'a>(alloc: Global) -> Result<Command<'a>, AllocError>
         .subcommand(chart_command(alloc)?)?
         .subcommand(graph_command(alloc)?)?
         .subcommand(explain_command(alloc)?)?
-        .subcommand(library_command(alloc))
+        .subcommand(library_command(alloc)?)
 }
 
 /// Reads a command line, whose first word is the program's.

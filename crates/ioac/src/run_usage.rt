@@ -4,7 +4,7 @@ ghost use Rattle.std.specs.Prelude.{◌≡◌, false, codes, IfOk};
 ghost use Rattle.clap.specs.Words.{app_of, new_app, rule_of};
 ghost use Rattle.ioac.specs.CommandLine.{IsLocal, alone_rule, inputs_rule, log_rule, reports_rule, run_app, seed_rule, turns_rule, words_rule};
 
-use crate::request::{composition_option, file_argument};
+use crate::request::{composition_option, explain_flag, file_argument};
 use clap::{Arg, ArgAction, Command};
 use std::alloc::{AllocError, Global};
 
@@ -90,7 +90,8 @@ pub fn run_command<'a>(alloc: Global) -> Result<Command<'a>, AllocError>
         .arg(words_option(alloc))?
         .arg(inputs_option(alloc))?
         .arg(log_flag(alloc))?
-        .arg(reports_flag(alloc))
+        .arg(reports_flag(alloc))?
+        .arg(explain_flag(alloc))
 }
 
 /// The subcommand without its arguments. Its usage is written out, since a seed and a file of words are not given together.
@@ -109,6 +110,6 @@ fn described_run<'a>(alloc: Global) -> Command<'a>
              4 inputs refused, 5 memory, a thread, a file or a device.",
         )
         .override_usage(
-            "ioac run [--comp <NAME>] [--alone] [--turns <N>] [--seed <HEX>|--words <WFILE>] [--inputs <LFILE>] [--log] [--reports] <FILE>",
+            "ioac run [--comp <NAME>] [--alone] [--turns <N>] [--seed <HEX>|--words <WFILE>] [--inputs <LFILE>] [--log] [--reports] [--explain] <FILE>",
         )
 }

@@ -18,7 +18,7 @@ ghost use Rattle.ioac.specs.States.{Reaches, states_text};
 use crate::compile::{compose_text, is_object};
 use crate::failure::Failure;
 use crate::log_replay::run_text;
-use crate::states::put_states;
+use ioa_account::put_states;
 use ioa_compile::compile;
 use ioa_compose::Composition;
 use ioa_log::{InputDevice, LogErr, OutputDevice, perform_list, read_log, replay, send_all};

@@ -64,6 +64,9 @@ pub trait Store {
         ensures ok { OnOk result (saves self.old self.new name.now bytes.now) }
         ensures io { IsErrOf result StoreErr.Io → bars self.old name.now }
         ensures kept { IfErr result (λ _. self.new ≡ self.old) };
+
+    /// What is wrong with a file that cannot be read, in words for people. None where nothing is.
+    fn complaint(&self, alloc: Global, name: &str) -> Result<Option<String>, StoreErr>;
 }
 
 /// The bytes of a file that is not a source.

@@ -147,11 +147,11 @@ fn bad_source_text(
     }
 }
 
-/// What is wrong with the word for a code; or without a word, with what a replay is asked for.
-fn bad_request_text(alloc: Global, code: Option<&str>, both: bool) -> Result<String, AllocError>
-    ensures { IfOk result (λ text. string_bytes text ≡ telling.bad_request_text (option_copied code.entry) both) }
+/// What is wrong with the first word of what there is no explanation of; or without a word, with what a replay is asked for.
+fn bad_request_text(alloc: Global, first: Option<&str>, both: bool) -> Result<String, AllocError>
+    ensures { IfOk result (λ text. string_bytes text ≡ telling.bad_request_text (option_copied first.entry) both) }
 {
-    match code {
+    match first {
         Some(word) => unknown_code_text(alloc, word),
         None if both => two_questions_text(alloc),
         None => missing_log_text(alloc),

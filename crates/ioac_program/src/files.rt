@@ -51,6 +51,20 @@ impl<'a, R: rt::Files> Store for Files<'a, R> {
             Err(error) => Err(store_err(&error)),
         }
     }
+
+    fn complaint(&self, alloc: Global, name: &str) -> Result<Option<String>, StoreErr> {
+        match first_read(self.rt, name) {
+            Ok(_) => Ok(None),
+            Err(error) => Ok(Some(format!(in alloc; "{error}")?)),
+        }
+    }
+}
+
+/// How many bytes one read of a file gives, of one that is asked for. A folder can be opened, and not read.
+fn first_read<R: rt::Files>(rt: &R, name: &str) -> io::Result<usize> {
+    let mut file = fs::open(rt, name)?;
+    let mut byte = [0; 1];
+    file.read(&mut byte)
 }
 
 /// Puts the bytes in a new file beside another one, whose place it takes once it is whole.

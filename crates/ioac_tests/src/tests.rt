@@ -22,6 +22,7 @@ mod operators;
 mod pictures;
 mod proposals;
 mod reached;
+mod remarked;
 mod requests;
 mod rooms;
 mod rows;

@@ -1,12 +1,12 @@
-ghost use Rattle.std.specs.Prelude.{◌≡◌, ◌++◌, ◌∷◌, [], ℕ, IfOk, OnOk, map};
+ghost use Rattle.std.specs.Prelude.{◌≡◌, ◌++◌, ℕ, IfOk, OnOk, map};
 ghost use Rattle.std.specs.String.{string_bytes};
 ghost use Rattle.ioa_value.specs.Plain.{number, plain};
 ghost use Rattle.ioa_value.specs.Table as tables;
-ghost use Rattle.ioa_value.specs.Written.{written_values};
 ghost use Rattle.ioa_picture.specs.Lines.{numbered};
 ghost use Rattle.ioac.specs.Dumps as spec;
 
-use ioa_value::{Action, OutOfMemory, Ty, Types, Value, print_action};
+use ioa_account::in_parentheses;
+use ioa_value::{OutOfMemory, Ty, Types, Value};
 use std::alloc::Global;
 use std::fmt::Write;
 
@@ -80,17 +80,4 @@ pub fn brief_value(alloc: Global, types: &Types, value: &Value) -> Result<String
             Ok(String::from_str(alloc, type_name(types, *ty))?)
         }
     }
-}
-
-/// A value in parentheses: what is printed of an action with this value behind its name.
-pub fn in_parentheses(alloc: Global, types: &Types, value: &Value) -> Result<String, OutOfMemory>
-    ensures { IfOk result (λ text. string_bytes text ≡ written_values types.now (plain value.now ∷ [])) }
-{
-    let mut vals = Vec::new(alloc);
-    vals.push(value.try_copy(alloc)?)?;
-    let nameless = Action {
-        name: String::new(alloc),
-        vals,
-    };
-    print_action(alloc, types, &nameless)
 }

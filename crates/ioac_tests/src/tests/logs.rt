@@ -89,9 +89,9 @@ replay f | {"act":"tick(5)","who":0}^{"end":"done after 1"}^ |  | L2 line 1^ | 4
 replay g --log | x |  | io^ | 5
 replay f --log --comp Nine | x |  | E17^ | 1
 -- words
-replay f --log g |  |  | error: unexpected argument 'g' found^^Usage: ioac replay [--comp <NAME>] [--log [--invariants]] [--states] <FILE>^^For more information, try '--help'.^ | 2
-replay f --log --log |  |  | error: the argument '--log' cannot be used multiple times^^Usage: ioac replay [--comp <NAME>] [--log [--invariants]] [--states] <FILE>^^For more information, try '--help'.^ | 2
-replay --log |  |  | error: the following required arguments were not provided:^  <FILE>^^Usage: ioac replay [--comp <NAME>] [--log [--invariants]] [--states] <FILE>^^For more information, try '--help'.^ | 2
+replay f --log g |  |  | error: unexpected argument 'g' found^^Usage: ioac replay [--comp <NAME>] [--log [--invariants]] [--states] [--explain] <FILE>^^For more information, try '--help'.^ | 2
+replay f --log --log |  |  | error: the argument '--log' cannot be used multiple times^^Usage: ioac replay [--comp <NAME>] [--log [--invariants]] [--states] [--explain] <FILE>^^For more information, try '--help'.^ | 2
+replay --log |  |  | error: the following required arguments were not provided:^  <FILE>^^Usage: ioac replay [--comp <NAME>] [--log [--invariants]] [--states] [--explain] <FILE>^^For more information, try '--help'.^ | 2
 "#;
 
 /// Logs with CR and tabs, which are blanks of JSON, and of actions.
@@ -154,7 +154,7 @@ monitor f --comp Nine | automaton A signature internal go transitions internal g
 monitor |  |  |  | error: the following required arguments were not provided:^  <FILE>^^Usage: ioac monitor <FILE>^^For more information, try '--help'.^ | 2
 monitor f --log |  |  |  | error: unexpected argument '--log' found^^  tip: to pass '--log' as a value, use '-- --log'^^Usage: ioac monitor <FILE>^^For more information, try '--help'.^ | 2
 check f --log |  |  |  | error: unexpected argument '--log' found^^  tip: to pass '--log' as a value, use '-- --log'^^Usage: ioac check <FILE>^^For more information, try '--help'.^ | 2
-monitor --help |  |  | Reads a log on standard input, and prints whether a composition accepts its actions^^Usage: ioac monitor [OPTIONS] <FILE>^^Arguments:^  <FILE>  A source of I/O automata, or an object of one^^Options:^      --comp <NAME>  The composition to take; without it, the last one^  -h, --help         Print help^^The composition has no internal action, and hides none. It is run on those of the log's actions that its components have.^Example: ioac monitor specification.ioa < run.log^Exit status: 0 accepted, 1 source or object refused, 2 bad command line,^4 not accepted, log refused, or no monitor, 5 memory, the file or a device.^ |  | 0
+monitor --help |  |  | Reads a log on standard input, and prints whether a composition accepts its actions^^Usage: ioac monitor [OPTIONS] <FILE>^^Arguments:^  <FILE>  A source of I/O automata, or an object of one^^Options:^      --comp <NAME>  The composition to take; without it, the last one^      --explain      Says more of the outcome on standard error: which line, why, and in which state^  -h, --help         Print help^^The composition has no internal action, and hides none. It is run on those of the log's actions that its components have.^Example: ioac monitor specification.ioa < run.log^Exit status: 0 accepted, 1 source or object refused, 2 bad command line,^4 not accepted, log refused, or no monitor, 5 memory, the file or a device.^ |  | 0
 "#;
 
 /// A text of a log, and the text as it is written.

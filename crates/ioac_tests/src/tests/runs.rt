@@ -4,7 +4,7 @@ use crate::tests::shelf::{COUNTER, Ran, expect_answer, wanted_in, words};
 use crate::tests::tables::{column, columns, is_row};
 use ioa_log::Counted;
 use ioac::command::command;
-use ioac::{Store, StoreErr};
+use ioac::{Heard, Store, StoreErr};
 use std::alloc::Global;
 use std::process::Abort;
 use std::sync::Wait;
@@ -121,6 +121,10 @@ impl<'a> Store for Rack<'a> {
     fn save(&mut self, _alloc: Global, _name: &str, _bytes: &[u8]) -> Result<(), StoreErr> {
         Err(StoreErr::Io)
     }
+
+    fn complaint(&self, _alloc: Global, _name: &str) -> Result<Option<String>, StoreErr> {
+        Ok(None)
+    }
 }
 
 /// Runs the program by these words after `run f`.
@@ -132,7 +136,7 @@ fn run_by<H: Abort + Threads + Wait + Sync>(
 ) -> Ran {
     let line = format!(in alloc; "run f {options}").expect(rt, "memory");
     let words = words(rt, alloc, line.as_str());
-    let mut input = Counted::new(b"".as_slice());
+    let mut input = Heard::new(Counted::new(b"".as_slice()));
     let mut output = Counted::new(Vec::new(alloc));
     let mut errors = Counted::new(Vec::new(alloc));
     let status = command(

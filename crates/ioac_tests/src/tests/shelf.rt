@@ -5,7 +5,7 @@ use crate::tests::tables::{column, columns, is_row};
 use ioa_log::{Counted, InputDevice, OutputDevice};
 use ioa_value::{Declarations, OutOfMemory, Types};
 use ioac::command::command;
-use ioac::{Store, StoreErr};
+use ioac::{Heard, Store, StoreErr};
 use std::alloc::{AllocError, Global};
 use std::process::Abort;
 use std::sync::Wait;
@@ -61,6 +61,14 @@ impl<'a> Store for Shelf<'a> {
             Err(StoreErr::Io)
         }
     }
+
+    fn complaint(&self, alloc: Global, name: &str) -> Result<Option<String>, StoreErr> {
+        if name == "f" {
+            Ok(None)
+        } else {
+            Ok(Some(String::from_str(alloc, "there is none")?))
+        }
+    }
 }
 
 /// What a run of the program is given: the words of its command line after the program's name, parted by spaces, the file
@@ -104,7 +112,7 @@ pub fn run_on<H: Abort + Threads + Wait + Sync, R: InputDevice, W: OutputDevice,
     rt: &H,
     alloc: Global,
     given: &Given<'_>,
-    input: &mut R,
+    input: &mut Heard<R>,
     output: &mut W,
     errors: &mut E,
 ) -> (u8, Option<Vec<u8>>) {
@@ -127,7 +135,7 @@ pub fn run_on<H: Abort + Threads + Wait + Sync, R: InputDevice, W: OutputDevice,
 
 /// Runs the program.
 pub fn run<H: Abort + Threads + Wait + Sync>(rt: &H, alloc: Global, given: &Given<'_>) -> Ran {
-    let mut input = Counted::new(given.list.as_bytes());
+    let mut input = Heard::new(Counted::new(given.list.as_bytes()));
     let mut output = Counted::new(Vec::new(alloc));
     let mut errors = Counted::new(Vec::new(alloc));
     let (status, saved) = run_on(rt, alloc, given, &mut input, &mut output, &mut errors);

@@ -1,6 +1,6 @@
 use crate::tests::shelf::{COUNTER, Given, REPLAY, Ran, run_on};
 use ioa_log::{Counted, Device};
-use ioac::Status;
+use ioac::{Heard, Status};
 use std::alloc::Global;
 use std::io;
 use std::io::{Read, Write};
@@ -112,10 +112,10 @@ fn replayed<H: Abort + Threads + Wait + Sync>(
     reads: u64,
     writes: u64,
 ) -> (Ran, u64) {
-    let mut input = Counted::new(Dripping {
+    let mut input = Heard::new(Counted::new(Dripping {
         bytes: given.list.as_bytes(),
         left: reads,
-    });
+    }));
     let mut output = Counted::new(Slow {
         held: Vec::new(alloc),
         left: writes,
@@ -232,7 +232,7 @@ fn fills<H: Abort + Threads + Wait + Sync>(
         rt,
         alloc,
         given,
-        &mut Counted::new(given.list.as_bytes()),
+        &mut Heard::new(Counted::new(given.list.as_bytes())),
         &mut Counted::new(output.as_mut_slice()),
         &mut Counted::new(errors.as_mut_slice()),
     );

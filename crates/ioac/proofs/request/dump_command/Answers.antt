@@ -7,4 +7,5 @@ use Rattle.ioac.proofs.request.dump_command.Goals as goal
 pub returns-clause-app : goal.returns-clause-app
 returns-clause-app c =
     let bare : app_of c.after_help.result ≡ new_app (codes "dump") = ap app_of_fields c.after_help.ensures ∙ ap app_of_fields c.about.ensures ∙ c.new.ensures.app in
-    IfOk-weaker c.arg.result _ _ (λ command h. h.shape c.object_argument.ensures.local ∙ ap₂ with_rule bare c.object_argument.ensures.rule) c.arg.ensures
+    let with_file = c.in_ok-arg.ensures.shape c.object_argument.ensures.local ∙ ap₂ with_rule bare c.object_argument.ensures.rule in
+    IfOk-weaker c.arg-2.result _ _ (λ command h. h.shape c.explain_flag.ensures.local ∙ ap₂ with_rule with_file c.explain_flag.ensures.rule) c.arg-2.ensures

@@ -22,7 +22,7 @@ returns c =
     let chart : shape_of c.in_ok-chart_command.field-0 ≡ chart_app.top = ap (λ (a : App). a.top) c.in_ok-chart_command.ensures.app in
     let graph : shape_of c.in_ok-graph_command.field-0 ≡ graph_app.top = ap (λ (a : App). a.top) c.in_ok-graph_command.ensures.app in
     let explain : shape_of c.in_ok-explain_command.field-0 ≡ explain_app.top = ap (λ (a : App). a.top) c.in_ok-explain_command.ensures.app in
-    let library : shape_of c.library_command.result ≡ library_app.top = ap (λ (a : App). a.top) c.library_command.ensures.app in
+    let library : shape_of c.in_ok-library_command.field-0 ≡ library_app.top = ap (λ (a : App). a.top) c.in_ok-library_command.ensures.app in
     let one = c.in_ok-subcommand.ensures.shape c.in_ok-check_command.ensures.local ∙ ap₂ with_subcommand bare check in
     let two = c.in_ok-subcommand-2.ensures.shape c.in_ok-compile_command.ensures.local ∙ ap₂ with_subcommand one compile in
     let three = c.in_ok-subcommand-3.ensures.shape c.in_ok-dump_command.ensures.local ∙ ap₂ with_subcommand two dump in
@@ -33,4 +33,4 @@ returns c =
     let eight = c.in_ok-subcommand-8.ensures.shape c.in_ok-chart_command.ensures.local ∙ ap₂ with_subcommand seven chart in
     let nine = c.in_ok-subcommand-9.ensures.shape c.in_ok-graph_command.ensures.local ∙ ap₂ with_subcommand eight graph in
     let ten = c.in_ok-subcommand-10.ensures.shape c.in_ok-explain_command.ensures.local ∙ ap₂ with_subcommand nine explain in
-    IfOk-weaker c.subcommand-11.result _ _ (λ command h. h.shape c.library_command.ensures.local ∙ ap₂ with_subcommand ten library) c.subcommand-11.ensures
+    IfOk-weaker c.subcommand-11.result _ _ (λ command h. h.shape c.in_ok-library_command.ensures.local ∙ ap₂ with_subcommand ten library) c.subcommand-11.ensures

@@ -9,7 +9,8 @@ returns-clause-app c =
     let with_composition = c.in_ok-arg-2.ensures.shape c.composition_option.ensures.local ∙ ap₂ with_rule with_file c.composition_option.ensures.rule in
     let with_log = c.in_ok-arg-3.ensures.shape c.log_flag.ensures.local ∙ ap₂ with_rule with_composition c.log_flag.ensures.rule in
     let with_invariants = c.in_ok-arg-4.ensures.shape c.invariants_flag.ensures.local ∙ ap₂ with_rule with_log c.invariants_flag.ensures.rule in
-    IfOk-weaker c.arg-5.result _ _ (λ command h. h.shape c.states_flag.ensures.local ∙ ap₂ with_rule with_invariants c.states_flag.ensures.rule) c.arg-5.ensures
+    let with_states = c.in_ok-arg-5.ensures.shape c.states_flag.ensures.local ∙ ap₂ with_rule with_invariants c.states_flag.ensures.rule in
+    IfOk-weaker c.arg-6.result _ _ (λ command h. h.shape c.explain_flag.ensures.local ∙ ap₂ with_rule with_states c.explain_flag.ensures.rule) c.arg-6.ensures
 
 neither : (a b : Bool) → a ≡ false → b ≡ false → (a || b) ≡ false
 neither a b x y = rw x (rw y refl)
@@ -20,4 +21,5 @@ returns-clause-local c =
     let with_composition = c.in_ok-arg-2.ensures.globals ∙ neither _ _ with_file c.composition_option.ensures.local in
     let with_log = c.in_ok-arg-3.ensures.globals ∙ neither _ _ with_composition c.log_flag.ensures.local in
     let with_invariants = c.in_ok-arg-4.ensures.globals ∙ neither _ _ with_log c.invariants_flag.ensures.local in
-    IfOk-weaker c.arg-5.result _ _ (λ command h. h.globals ∙ neither _ _ with_invariants c.states_flag.ensures.local) c.arg-5.ensures
+    let with_states = c.in_ok-arg-5.ensures.globals ∙ neither _ _ with_invariants c.states_flag.ensures.local in
+    IfOk-weaker c.arg-6.result _ _ (λ command h. h.globals ∙ neither _ _ with_states c.explain_flag.ensures.local) c.arg-6.ensures

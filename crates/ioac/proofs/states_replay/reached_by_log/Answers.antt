@@ -7,7 +7,7 @@ use Rattle.ioa_compose.specs.Held.{composed_of}
 use Rattle.ioa_compose.specs.Stands.{HoldsAt}
 use Rattle.ioa_system.specs.Logs.{actions_of, logged}
 use Rattle.ioa_system.specs.Systems.{values_of}
-use Rattle.ioac.specs.States.{state_lines}
+use Rattle.ioa_account.specs.States.{state_lines}
 use Rattle.ioac.specs.Subjects.{of_hosts}
 use Rattle.ioac.proofs.Refused.{err_as}
 use Rattle.ioac.proofs.Subjects.{host_reaches, run_told}

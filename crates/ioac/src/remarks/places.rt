@@ -1,0 +1,136 @@
+//! Which files a request names, and where what a failure tells of stands.
+
+use crate::failure::Failure;
+use crate::request::Request;
+use crate::settings::WordsFrom;
+use ioa_log::LogErr;
+use ioa_syntax::Refusal;
+
+/// Where what a failure tells of stands. Lines count from 1.
+#[derive(Clone, Copy)]
+pub enum Place {
+    /// On this line of the source.
+    Source(usize),
+    /// At the component of this number, from 0.
+    Component(usize),
+    /// On this line of the list or the log, also of a run's script.
+    Input(usize),
+    /// At the action of this index of a run's script, from 0.
+    Action(usize),
+    /// On this line of a run's file of words.
+    Words(usize),
+    Nowhere,
+}
+
+/// Where what a failure tells of stands.
+pub fn place_of(failure: &Failure) -> Place {
+    match failure {
+        Failure::Refused(refusal) => place_of_refusal(refusal),
+        Failure::List(
+            LogErr::NotJson(line)
+            | LogErr::BadLine(line)
+            | LogErr::WrongOwner(line)
+            | LogErr::Diverges(line),
+        ) => Place::Input(*line as usize),
+        Failure::BadInput(index) => Place::Action(*index),
+        Failure::BadWords(line) => Place::Words(*line),
+        Failure::List(LogErr::NoEnd | LogErr::AfterEnd | LogErr::Io | LogErr::OutOfMemory)
+        | Failure::Object(_)
+        | Failure::SourceWanted
+        | Failure::SpecHasInternal
+        | Failure::TooManyTurns
+        | Failure::Threads
+        | Failure::Io
+        | Failure::OutOfMemory => Place::Nowhere,
+    }
+}
+
+fn place_of_refusal(refusal: &Refusal) -> Place {
+    match refusal {
+        Refusal::BadByte(line)
+        | Refusal::Syntax(line)
+        | Refusal::TooDeep(line)
+        | Refusal::DuplicateName(line)
+        | Refusal::UnknownName(line)
+        | Refusal::TypeMismatch(line)
+        | Refusal::BadSignature(line)
+        | Refusal::NoProposal(line)
+        | Refusal::TooMany(line)
+        | Refusal::TooWide(line) => Place::Source(*line as usize),
+        Refusal::ArgMismatch(component)
+        | Refusal::CrashName(component)
+        | Refusal::StartFault(component, _) => Place::Component(*component),
+        Refusal::Clash(_, second, _) => Place::Component(*second),
+        Refusal::TextTooLong
+        | Refusal::HiddenUnknown(_)
+        | Refusal::NoComposition
+        | Refusal::OutOfMemory => Place::Nowhere,
+    }
+}
+
+/// The source or the object that a request names, and the composition.
+pub fn source_of<'a>(asked: &Request<'a>) -> Option<(&'a str, Option<&'a str>)> {
+    match asked {
+        Request::Replay { file, composition }
+        | Request::ReplayStates { file, composition }
+        | Request::ReplayLog { file, composition }
+        | Request::ReplayLogStates { file, composition }
+        | Request::ReplayInvariants { file, composition }
+        | Request::Log { file, composition }
+        | Request::Monitor { file, composition }
+        | Request::Chart { file, composition }
+        | Request::Graph { file, composition }
+        | Request::Compile {
+            file,
+            composition,
+            ..
+        } => Some((*file, *composition)),
+        Request::Run(settings) => Some((settings.file, settings.composition)),
+        Request::Check { file, .. } | Request::Dump { file } => Some((*file, None)),
+        Request::Explain { .. } | Request::Library => None,
+    }
+}
+
+/// The files that a request reads: the source or the object, a run's file of words and its script.
+pub fn files_of<'a>(asked: &Request<'a>) -> [Option<&'a str>; 3] {
+    let file = match source_of(asked) {
+        Some((name, _)) => Some(name),
+        None => None,
+    };
+    [file, words_of(asked), inputs_of(asked)]
+}
+
+/// A run's file of words.
+pub fn words_of<'a>(asked: &Request<'a>) -> Option<&'a str> {
+    match asked {
+        Request::Run(settings) => match settings.words {
+            WordsFrom::File(name) => Some(name),
+            WordsFrom::Key(_) => None,
+        },
+        _ => None,
+    }
+}
+
+/// A run's script.
+pub fn inputs_of<'a>(asked: &Request<'a>) -> Option<&'a str> {
+    match asked {
+        Request::Run(settings) => settings.inputs,
+        _ => None,
+    }
+}
+
+/// The file that a request writes.
+pub fn out_of<'a>(asked: &Request<'a>) -> Option<&'a str> {
+    match asked {
+        Request::Compile { out, .. } => Some(*out),
+        _ => None,
+    }
+}
+
+/// What stands on standard input.
+pub fn input_name(asked: &Request<'_>) -> &'static str {
+    match asked {
+        Request::Replay { .. } | Request::ReplayStates { .. } | Request::Log { .. } => "list",
+        _ => "log",
+    }
+}

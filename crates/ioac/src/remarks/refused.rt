@@ -1,0 +1,129 @@
+//! What there is to say of a refusal: where what it tells of stands, and what its code means.
+
+use crate::explanations::explanation;
+use crate::failure::Failure;
+use crate::remarks::ended;
+use crate::remarks::places::{Place, input_name, inputs_of, place_of, source_of, words_of};
+use crate::remarks::quoted::put_line;
+use crate::remarks::sources::component_line;
+use crate::request::Request;
+use crate::store::{Store, StoreErr};
+use crate::topic::Topic;
+use ioa_account::line_of_action;
+use ioa_log::LogErr;
+use ioa_value::OutOfMemory;
+use std::alloc::Global;
+use std::fmt::Write;
+
+/// Puts behind the text what there is to say of a failure.
+pub fn put<F: Store>(
+    alloc: Global,
+    text: &mut String,
+    asked: &Request<'_>,
+    failure: &Failure,
+    store: &F,
+    input: &[u8],
+) -> Result<(), OutOfMemory> {
+    put_place(alloc, text, asked, failure, store, input)?;
+    if let Failure::List(LogErr::Diverges(_)) = failure {
+        ended::put_difference(alloc, text, asked, store, input)?;
+    }
+    let explained = explanation(Topic::Code(failure.code()));
+    write!(text, "\n{explained}")?;
+    Ok(())
+}
+
+/// Puts the line of the source, of the list or the log, or of a run's files that a failure tells of.
+fn put_place<F: Store>(
+    alloc: Global,
+    text: &mut String,
+    asked: &Request<'_>,
+    failure: &Failure,
+    store: &F,
+    input: &[u8],
+) -> Result<(), OutOfMemory> {
+    match place_of(failure) {
+        Place::Nowhere => Ok(()),
+        Place::Source(line) => put_source_line(alloc, text, asked, line, store),
+        Place::Component(number) => put_component(alloc, text, asked, number, store),
+        Place::Words(line) => put_file_line(alloc, text, words_of(asked), line, store),
+        Place::Action(index) => put_script_action(alloc, text, asked, index, store),
+        Place::Input(line) => match inputs_of(asked) {
+            Some(name) => put_file_line(alloc, text, Some(name), line, store),
+            None => put_line(alloc, text, input_name(asked), input, line),
+        },
+    }
+}
+
+fn put_source_line<F: Store>(
+    alloc: Global,
+    text: &mut String,
+    asked: &Request<'_>,
+    line: usize,
+    store: &F,
+) -> Result<(), OutOfMemory> {
+    match source_of(asked) {
+        Some((name, _)) => put_file_line(alloc, text, Some(name), line, store),
+        None => Ok(()),
+    }
+}
+
+/// Puts a line of a file. Nothing, where it cannot be read now.
+fn put_file_line<F: Store>(
+    alloc: Global,
+    text: &mut String,
+    file: Option<&str>,
+    line: usize,
+    store: &F,
+) -> Result<(), OutOfMemory> {
+    let Some(name) = file else {
+        return Ok(());
+    };
+    let bytes = loaded(alloc, name, store)?;
+    put_line(alloc, text, name, bytes.as_slice(), line)
+}
+
+/// The bytes of a file. None at all, where it cannot be read now.
+pub fn loaded<F: Store>(alloc: Global, name: &str, store: &F) -> Result<Vec<u8>, OutOfMemory> {
+    match store.load(alloc, name) {
+        Ok(bytes) => Ok(bytes),
+        Err(StoreErr::Io) => Ok(Vec::new(alloc)),
+        Err(StoreErr::OutOfMemory) => Err(OutOfMemory),
+    }
+}
+
+/// Puts the line on which the composition names the component of this number.
+fn put_component<F: Store>(
+    alloc: Global,
+    text: &mut String,
+    asked: &Request<'_>,
+    number: usize,
+    store: &F,
+) -> Result<(), OutOfMemory> {
+    let Some((name, composition)) = source_of(asked) else {
+        return Ok(());
+    };
+    let source = loaded(alloc, name, store)?;
+    match component_line(alloc, source.as_slice(), composition, number)? {
+        Some(line) => put_line(alloc, text, name, source.as_slice(), line),
+        None => Ok(()),
+    }
+}
+
+/// Puts the line of a run's script with the action of this index.
+fn put_script_action<F: Store>(
+    alloc: Global,
+    text: &mut String,
+    asked: &Request<'_>,
+    index: usize,
+    store: &F,
+) -> Result<(), OutOfMemory> {
+    let Some(name) = inputs_of(asked) else {
+        return Ok(());
+    };
+    let script = loaded(alloc, name, store)?;
+    match line_of_action(script.as_slice(), index) {
+        Some(line) => put_line(alloc, text, name, script.as_slice(), line),
+        None => Ok(()),
+    }
+}

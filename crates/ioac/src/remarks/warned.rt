@@ -1,0 +1,51 @@
+//! What is likely a mistake in a source, also where it is accepted.
+
+use ioa_syntax::{Refusal, parse};
+use ioa_value::OutOfMemory;
+use ioa_warnings::{FreeParameter, comments_in_statements, free_parameters};
+use std::alloc::Global;
+use std::fmt::Write;
+
+/// Puts the warnings of a source behind the text. Of what is no source there are none but those of its lines.
+pub fn put(alloc: Global, text: &mut String, file: &str, source: &[u8]) -> Result<(), OutOfMemory> {
+    put_comments(alloc, text, file, source)?;
+    match parse(alloc, source) {
+        Ok(parsed) => {
+            let found = free_parameters(alloc, parsed.declarations())?;
+            put_free(text, file, &found)
+        }
+        Err(Refusal::OutOfMemory) => Err(OutOfMemory),
+        Err(_) => Ok(()),
+    }
+}
+
+fn put_comments(
+    alloc: Global,
+    text: &mut String,
+    file: &str,
+    source: &[u8],
+) -> Result<(), OutOfMemory> {
+    let lines = comments_in_statements(alloc, source)?;
+    for line in lines {
+        writeln!(
+            text,
+            "warning: {file}, line {line}: a comment begins within a statement; a remainder is written `mod`"
+        )?;
+    }
+    Ok(())
+}
+
+fn put_free(text: &mut String, file: &str, found: &[FreeParameter<'_>]) -> Result<(), OutOfMemory> {
+    for free in found {
+        let FreeParameter {
+            parameter,
+            action,
+            line,
+        } = free;
+        writeln!(
+            text,
+            "warning: {file}, line {line}: no precondition names {parameter}, so {action} is enabled with any value of it"
+        )?;
+    }
+    Ok(())
+}
