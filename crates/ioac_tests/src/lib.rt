@@ -1,4 +1,4 @@
-//! The tests of what `ioac` does, over tables of rows, and of the public calls below it.
+//! The tests of what `ioac` does, over tables of rows.
 //! It has no code, and no crate stands on it.
 #![tactic(auto)]
 

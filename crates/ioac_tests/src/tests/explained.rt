@@ -1,5 +1,5 @@
 use crate::tests::shelf::{Given, REPLAY, Wanted, expect, run};
-use crate::tests::tables::text;
+use ioa_rows::text;
 use ioa_value::Fault;
 use ioac::explanation::Example;
 use ioac::explanations::explanation;
@@ -58,7 +58,7 @@ fn is_given<H: Abort + Threads + Wait + Sync>(
 
 #[test]
 fn examples_give_their_codes(rt: HostRuntime) {
-    let long = text(&rt, rt.alloc(), " @1048577");
+    let long = text(rt.alloc(), " @1048577").expect(&rt, "pieces");
     let mut count = 0usize;
     for code in Code::ALL {
         if let Some((words, file, list)) = example(&rt, rt.alloc(), code, long.as_str()) {

@@ -1,10 +1,9 @@
 //! The library of protocols: its text, lists of actions on its compositions, and runs by chance that its specifications monitor.
 
-use crate::tests::reached::{program, run_of, told_state};
 use crate::tests::shelf::{First, Given, Wanted, expect, expect_rows, run};
 use ioa_compile::{Entry, Program};
 use ioa_object::write_object;
-use ioac::Status;
+use ioac::{Status, compile_text};
 use std::alloc::Global;
 use std::process::Abort;
 use std::sync::Wait;
@@ -30,10 +29,6 @@ replay f --comp Handshake | send_msg(3)^begin^send(0, Pkt(needid, 1, 0, 0))^recv
 replay f --comp Handshake --log | {"act":"send_msg(3)","who":0}^{"act":"begin","who":0}^{"act":"send(0, Pkt(needid, 1, 0, 0))","who":0}^{"act":"recv(0, Pkt(needid, 1, 0, 0))","who":1}^{"act":"send(1, Pkt(accept, 1, 1, 0))","who":3}^{"act":"recv(1, Pkt(accept, 1, 1, 0))","who":2}^{"act":"send(0, Pkt(data, 0, 1, 3))","who":0}^{"act":"recv(0, Pkt(data, 0, 1, 3))","who":1}^{"act":"receive_msg(3)","who":3}^{"act":"send(1, Pkt(ack, 0, 1, 0))","who":3}^{"act":"recv(1, Pkt(ack, 0, 1, 0))","who":2}^{"act":"send(0, Pkt(cleanup, 0, 1, 0))","who":0}^{"act":"recv(0, Pkt(cleanup, 0, 1, 0))","who":1}^{"end":"done after 13"}^ | send_msg(3)^receive_msg(3)^end: done after 13^ |  | 0
 monitor f --comp AtMostOnce | {"act":"send_msg(3)","who":0}^{"act":"begin","who":0}^{"act":"send(0, Pkt(needid, 1, 0, 0))","who":0}^{"act":"recv(0, Pkt(needid, 1, 0, 0))","who":1}^{"act":"send(1, Pkt(accept, 1, 1, 0))","who":3}^{"act":"recv(1, Pkt(accept, 1, 1, 0))","who":2}^{"act":"send(0, Pkt(data, 0, 1, 3))","who":0}^{"act":"recv(0, Pkt(data, 0, 1, 3))","who":1}^{"act":"receive_msg(3)","who":3}^{"act":"send(1, Pkt(ack, 0, 1, 0))","who":3}^{"act":"recv(1, Pkt(ack, 0, 1, 0))","who":2}^{"act":"send(0, Pkt(cleanup, 0, 1, 0))","who":0}^{"act":"recv(0, Pkt(cleanup, 0, 1, 0))","who":1}^{"end":"done after 13"}^ | monitor: ok^ |  | 0
 "#;
-
-/// A list after which the first of two messages is acknowledged.
-const SLID: &str =
-    "send_msg(7)\nsend_msg(8)\nsend(0, Pkt(data, 1, 0, 7))\nsend(0, Pkt(data, 2, 0, 8))\nrecv(0, Pkt(data, 1, 0, 7))\ndrop(0)\nrecv(0, Pkt(data, 2, 0, 8))\nreceive_msg(7)\nreceive_msg(8)\nsend(1, Pkt(ack, 2, 0, 0))\nrecv(1, Pkt(ack, 2, 0, 0))";
 
 /// The compositions that run, and their specifications.
 const RUNS: [(&str, &str); 4] = [
@@ -63,16 +58,6 @@ fn the_library_gives_what_is_wanted(rt: HostRuntime) {
         status: Status::Done.number(),
     };
     expect(&rt, rt.alloc(), "library", &given, &wanted);
-}
-
-/// The sender's variables are these after the actions of the sliding window.
-#[test]
-fn the_window_moves(rt: HostRuntime) {
-    let program = program(&rt, rt.alloc(), library(&rt), Some("Sliding"));
-    let run = run_of(&rt, rt.alloc(), &program, SLID);
-    let sender = run.states.first().expect(&rt, "a sender");
-    let told = told_state(rt.alloc(), program.types(), sender).expect(&rt, "memory");
-    assert!(rt; told.as_str() == ", state(Ints[8], 2, 1)", "{told}");
 }
 
 /// Runs the program on the library, by these words and this input; it is done.
@@ -163,7 +148,9 @@ fn dumped_count<H: Abort + Threads + Wait + Sync>(
 #[test]
 fn each_instruction_has_a_line(rt: HostRuntime) {
     for (composition, _) in RUNS {
-        let program = program(&rt, rt.alloc(), library(&rt), Some(composition));
+        let source = library(&rt).as_bytes();
+        let program = compile_text(rt.alloc(), source, Some(composition));
+        let program = program.expect(&rt, "a program");
         let lines = dumped_count(&rt, rt.alloc(), &program);
         assert!(rt; 100 < lines, "{composition}");
         assert!(rt; lines == instruction_count(&program), "{composition}");

@@ -1,10 +1,5 @@
 //! Logs that are replayed, and logs that are monitored.
 
-use crate::tests::shelf::basic;
-use ioa_log::{Counted, read_log, write_log};
-use std::alloc::Global;
-use std::process::Abort;
-
 /// The words after the program's name, a log of the counter, what is printed, what is told of errors, and the exit status.
 pub const REPLAYS: &str = r#"
 replay f --log | {"act":"tick(5)","who":0}^{"act":"tick(6)","who":0}^{"act":"reset","who":1}^{"end":"done after 3"}^ | tick(5)^tick(6)^reset^end: done after 3^ |  | 0
@@ -156,38 +151,3 @@ monitor f --log |  |  |  | error: unexpected argument '--log' found^^  tip: to p
 check f --log |  |  |  | error: unexpected argument '--log' found^^  tip: to pass '--log' as a value, use '-- --log'^^Usage: ioac check <FILE>^^For more information, try '--help'.^ | 2
 monitor --help |  |  | Reads a log on standard input, and prints whether a composition accepts its actions^^Usage: ioac monitor [OPTIONS] <FILE>^^Arguments:^  <FILE>  A source of I/O automata, or an object of one^^Options:^      --comp <NAME>  The composition to take; without it, the last one^      --explain      Says more of the outcome on standard error: which line, why, and in which state^  -h, --help         Print help^^The composition has no internal action, and hides none. It is run on those of the log's actions that its components have.^Example: ioac monitor specification.ioa < run.log^Exit status: 0 accepted, 1 source or object refused, 2 bad command line,^4 not accepted, log refused, or no monitor, 5 memory, the file or a device.^ |  | 0
 "#;
-
-/// A text of a log, and the text as it is written.
-const WRITTEN: [(&str, &str); 4] = [
-    ("{\"end\":\"done after 0\"}", "{\"end\":\"done after 0\"}\n"),
-    (
-        "{\"act\":\"tick(5)\",\"who\":0}\n{\"act\":\"reset\",\"who\":1}\n{\"end\":\"done after 2\"}\n",
-        "{\"act\":\"tick(5)\",\"who\":0}\n{\"act\":\"reset\",\"who\":1}\n{\"end\":\"done after 2\"}\n",
-    ),
-    (
-        " { \"who\" : 12, \"act\" : \"put( -007,true )\" }\n{\"end\":\"done after 1\"}",
-        "{\"act\":\"put(-7, true)\",\"who\":12}\n{\"end\":\"done after 1\"}\n",
-    ),
-    (
-        "{\"act\":\"up\",\"who\":0}\n{\"end\":\"fault 1 in component 2 at 0\"}\n",
-        "{\"act\":\"up\",\"who\":0}\n{\"end\":\"fault 1 in component 2 at 0\"}\n",
-    ),
-];
-
-// The log as it is written.
-fn written(rt: &impl Abort, alloc: Global, text: &str) -> Vec<u8> {
-    let types = basic(alloc).expect(rt, "memory");
-    let mut input = Counted::new(text.as_bytes());
-    let log = read_log(alloc, &types, &mut input).expect(rt, "a log");
-    let mut output = Counted::new(Vec::new(alloc));
-    write_log(alloc, &types, &log, &mut output).expect(rt, "memory");
-    output.into_inner()
-}
-
-#[test]
-fn writes_logs(rt: HostRuntime) {
-    for (text, wanted) in WRITTEN {
-        let written = written(&rt, rt.alloc(), text);
-        assert!(rt; written.as_slice() == wanted.as_bytes(), "{text}");
-    }
-}

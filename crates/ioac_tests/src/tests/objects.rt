@@ -1,9 +1,10 @@
 //! Objects: what is told of their bytes, and what is read of them and written.
 
-use crate::tests::reached::program;
 use crate::tests::shelf::{COUNTER, object};
 use ioa_object::{ObjErr, objects_are_their_programs, read_object, write_object};
-use ioac::{objects_do_as_their_sources, objects_run_as_their_sources, one_composition};
+use ioac::{
+    compile_text, objects_do_as_their_sources, objects_run_as_their_sources, one_composition,
+};
 use std::alloc::Global;
 use std::process::Abort;
 
@@ -225,6 +226,7 @@ fn objects_are_whole(rt: HostRuntime) {
         let bytes = object(&rt, rt.alloc(), source);
         expect_whole(&rt, rt.alloc(), &bytes);
         let read = read_object(rt.alloc(), &bytes).expect(&rt, "an object");
-        assert!(rt; read.same(&program(&rt, rt.alloc(), source, None)));
+        let program = compile_text(rt.alloc(), source.as_bytes(), None);
+        assert!(rt; read.same(&program.expect(&rt, "a program")));
     }
 }

@@ -1,9 +1,6 @@
 //! Proposals of any number below one: which sources have them, and how they are printed.
 
-use crate::tests::tables::{column, columns, is_row};
-use ioa_syntax::{Source, parse, print};
-use std::alloc::Global;
-use std::process::Abort;
+pub use ioa_rows::GAME;
 
 /// A source to check, what is printed, what is told of errors, and the exit status.
 pub const CHECKS: &str = "\
@@ -75,43 +72,3 @@ roll(6)^roll(-1)^tell(5) | roll(6)^roll(-1)^tell(5)^end: done after 3^ |  | 0
 roll(1)^down^up^roll(1)^tell(2) | roll(1)^down^up^roll(1)^tell(2)^end: done after 5^ |  | 0
 roll(1)^roll(1)^roll(1) | roll(1)^roll(1)^end: not enabled at 2^ |  | 4
 ";
-
-/// A die that is rolled twice between crashes, and one who sums up.
-pub const GAME: &str = "\
-automaton Dice(n: Int) signature output roll(d: Int) states stable k: Int \
-transitions output roll pre k < 2 propose d := any(n) eff k := k + 1 \
-automaton Keep signature input roll(d: Int); output tell(s: Int); internal clear states sum: Int \
-transitions input roll eff sum := sum + d output tell pre s = sum propose s := sum internal clear pre sum > 0 eff sum := 0 \
-composition Game components D: Dice(6) crash down recover up; K: Keep";
-
-/// A source, how it is printed, and another one.
-const PRINTED: &str = "\
-automaton A signature output r(d: Int) transitions output r propose d:=any(1) | automaton A^signature^output r ( d : Int )^transitions^output r^propose d := any ( 1 )^ | automaton A signature output r(d: Int) transitions output r propose d := 1
-automaton A signature output r(d: Int) transitions output r propose d:=any((1)),e:=any(1+n) eff x:=1 | automaton A^signature^output r ( d : Int )^transitions^output r^propose d := any ( ( 1 ) )^, e := any ( 1 + n )^eff x := 1^ | automaton A signature output r(d: Int) transitions output r propose d := any((1)), e := 1 + n eff x := 1
-";
-
-/// The source of this text.
-pub fn parsed(rt: &impl Abort, alloc: Global, text: &[u8]) -> Source {
-    parse(alloc, text).expect(rt, "a source")
-}
-
-// The source is printed so, and the text is of an equal source, which the other one is not.
-fn expect_source(rt: &impl Abort, alloc: Global, source: &str, text: &str, other: &str) {
-    let source = parsed(rt, alloc, source.as_bytes());
-    let printed = print(alloc, &source).expect(rt, "memory");
-    assert!(rt; printed.as_slice() == text.as_bytes(), "{text}");
-    let again = parsed(rt, alloc, printed.as_slice());
-    assert!(rt; source.same(&again), "{text}");
-    assert!(rt; !again.same(&parsed(rt, alloc, other.as_bytes())), "{text}");
-}
-
-#[test]
-fn prints_any(rt: HostRuntime) {
-    for row in PRINTED.lines() {
-        if is_row(row) {
-            let row = columns(&rt, rt.alloc(), row);
-            let (source, text, other) = (column(&row, 0), column(&row, 1), column(&row, 2));
-            expect_source(&rt, rt.alloc(), source, text, other);
-        }
-    }
-}

@@ -1,5 +1,5 @@
 use crate::tests::shelf::{Given, Ran, run};
-use crate::tests::tables::{column, columns, is_row};
+use ioa_rows::{column, columns, is_row};
 use std::alloc::Global;
 use std::process::Abort;
 use std::sync::Wait;
@@ -73,7 +73,7 @@ fn told<H: Abort + Threads + Wait + Sync>(
 }
 
 fn expect_remark<H: Abort + Threads + Wait + Sync>(rt: &H, alloc: Global, row: &str) {
-    let columns = columns(rt, alloc, row);
+    let columns = columns(alloc, row).expect(rt, "columns");
     let words = column(&columns, 0);
     let without = ran(rt, alloc, words, &columns);
     let flagged = format!(in alloc; "{words} --explain").expect(rt, "memory");

@@ -1,8 +1,8 @@
 //! Runs: what they print, by their words and their scripts, on one thread and, where that is the same in every schedule, on threads.
 
 use crate::tests::shelf::{COUNTER, Ran, expect_answer, wanted_in, words};
-use crate::tests::tables::{column, columns, is_row};
 use ioa_log::Counted;
+use ioa_rows::{column, columns, is_row};
 use ioac::command::command;
 use ioac::{Heard, Store, StoreErr};
 use std::alloc::Global;
@@ -158,7 +158,7 @@ fn run_by<H: Abort + Threads + Wait + Sync>(
 
 /// Runs the row of a table on this source.
 fn expect_run<H: Abort + Threads + Wait + Sync>(rt: &H, alloc: Global, row: &str, source: &str) {
-    let columns = columns(rt, alloc, row);
+    let columns = columns(alloc, row).expect(rt, "a row");
     let mut rack = Rack {
         source,
         words: column(&columns, 1),

@@ -1,9 +1,6 @@
-ghost use Rattle.std.specs.Prelude.{◌≡◌, IfOk};
-ghost use Rattle.ioa_value.specs.Table as tables;
-
-use crate::tests::tables::{column, columns, is_row};
 use ioa_log::{Counted, InputDevice, OutputDevice};
-use ioa_value::{Declarations, OutOfMemory, Types};
+pub use ioa_rows::COUNTER;
+use ioa_rows::{column, columns, is_row};
 use ioac::command::command;
 use ioac::{Heard, Store, StoreErr};
 use std::alloc::{AllocError, Global};
@@ -11,21 +8,8 @@ use std::process::Abort;
 use std::sync::Wait;
 use std::thread::Threads;
 
-/// The counter that most tests replay.
-pub const COUNTER: &str =
-    "automaton Counter(start: Int) signature output tick(k: Int); input reset \
-    states c: Int := start transitions output tick pre k = c propose k := c eff c := c + 1 \
-    input reset eff c := start composition One components A: Counter(5)";
-
 /// The words, after the program's name, that most tests give.
 pub const REPLAY: &str = "replay f";
-
-/// Bool and Int alone.
-pub fn basic(alloc: Global) -> Result<Types, OutOfMemory>
-    ensures { IfOk result (λ t. t ≡ tables.basic) }
-{
-    Declarations::new(alloc)?.finish(alloc)
-}
 
 /// Two files in memory: `f`, which is only read, and `o`, which is there once it was saved.
 #[derive(Drop)]
@@ -266,7 +250,7 @@ fn expect_row<H: Abort + Threads + Wait + Sync>(
     row: &str,
     first: First<'_>,
 ) {
-    let columns = columns(rt, alloc, row);
+    let columns = columns(alloc, row).expect(rt, "a row");
     let file = file_in(rt, alloc, first, &columns);
     let (given, count) = given_in(first, &columns, &file);
     let wanted = wanted_in(rt, &columns, count);

@@ -4,10 +4,9 @@ ghost use Rattle.std.specs.Prelude.{◌≡◌, true, map};
 ghost use Rattle.ioa_value.specs.Operators.{Takes};
 ghost use Rattle.ioa_value.specs.Plain.{plain};
 
-use crate::tests::proposals::parsed;
-use crate::tests::reached::action;
-use crate::tests::tables::{column, columns};
+use crate::tests::made::{action, parsed};
 use ioa_check::check;
+use ioa_rows::{column, columns};
 use ioa_value::{Action, Fault, Op, OutOfMemory, Ty, Types, Value, apply, print_action};
 use std::alloc::Global;
 use std::process::Abort;
@@ -242,7 +241,7 @@ fn given(rt: &impl Abort, alloc: Global, types: &Types, op: Op, operands: &str) 
 
 fn expect_rows(rt: &impl Abort, alloc: Global, types: &Types, op: Op, rows: &str) {
     for row in rows.lines() {
-        let columns = columns(rt, alloc, row);
+        let columns = columns(alloc, row).expect(rt, "a row");
         let given = given(rt, alloc, types, op, column(&columns, 0));
         assert!(rt;
             given.as_str() == column(&columns, 1),

@@ -2,10 +2,11 @@
 
 ghost use Rattle.std.specs.Prelude.{◌≡◌, IfOk, IfSome};
 
-use crate::tests::reached::{TWO, action, program, told_states};
+use crate::tests::made::{action, program};
+use crate::tests::reached::{TWO, told_states};
 use crate::tests::schedules::told_entries;
-use crate::tests::shelf::COUNTER;
 use ioa_compile::Program;
+use ioa_rows::COUNTER;
 use ioa_run::{Answer, Outcome, Plan, Planned, Report, Room, Verdict, Why};
 use ioa_system::participants;
 use ioa_value::{Action, Fault, OutOfMemory, Types};

@@ -5,8 +5,8 @@ use Rattle.std.proofs.lemmas.Option.{slice_get-map, slice_get-get_or}
 use Rattle.ioa_code.specs.declared.instr.PartKind.TheVariants.{Propose}
 use Rattle.ioa_compile.specs.Shown.{entry_code, member_code}
 use Rattle.ioa_compile.specs.Tables.{IsPart, parameter_types}
-use Rattle.ioac_tests.proofs.Drawn.{proposing}
-use Rattle.ioac_tests.proofs.tests.drawn.proposing.Goals as goal
+use Rattle.ioa_tests.proofs.Drawn.{proposing}
+use Rattle.ioa_tests.proofs.tests.drawn.proposing.Goals as goal
 
 pub returns : goal.returns
 returns c =

@@ -11,9 +11,9 @@ use Rattle.ioa_tree.specs.Steps.{participants}
 use Rattle.ioa_compile.specs.Tables.{tabled}
 use Rattle.ioa_system.specs.Participants.{taken}
 use Rattle.ioa_system.specs.Systems.{slot_types, slots_of, types_of}
-use Rattle.ioac_tests.proofs.Lent.{found_more}
-use Rattle.ioac_tests.proofs.tests.calls.lent.Goals.{in-Some+in_ok-try_copy+in_ok-push, in_default}
-use Rattle.ioac_tests.proofs.tests.calls.lent.Goals as goal
+use Rattle.ioa_tests.proofs.Lent.{found_more}
+use Rattle.ioa_tests.proofs.tests.calls.lent.Goals.{in-Some+in_ok-try_copy+in_ok-push, in_default}
+use Rattle.ioa_tests.proofs.tests.calls.lent.Goals as goal
 
 pub loop-i-preserved : goal.loop-i-preserved
 loop-i-preserved c = elim c.match-get.branch [

@@ -4,7 +4,7 @@ use Rattle.ioa_tree.specs.Steps.{participants}
 use Rattle.ioa_compile.specs.Programs.{Prog}
 use Rattle.ioa_compile.specs.Tables.{tabled}
 use Rattle.ioa_run.proofs.Performing.{numbers_within}
-use Rattle.ioac_tests.proofs.tests.rooms.planned.Goals as goal
+use Rattle.ioa_tests.proofs.tests.rooms.planned.Goals as goal
 
 pub copy-requires : goal.copy-requires
 copy-requires c =

@@ -3,11 +3,11 @@
 ghost use Rattle.std.specs.Prelude.{◌≡◌, [], IfSome};
 ghost use Rattle.ioa_code.specs.declared.instr.PartKind.TheVariants as kinds;
 
-use crate::tests::proposals::GAME;
-use crate::tests::reached::program;
+use crate::tests::made::program;
 use ioa_code::Verified;
 use ioa_compile::Program;
 use ioa_node::{NodeState, Words, Workspace, propose, propose_with};
+use ioa_rows::GAME;
 use ioa_run::Seeded;
 use ioa_value::{Action, Value, print_action, same_all};
 use std::alloc::Global;

@@ -1,5 +1,5 @@
 use Rattle.std.proofs.Common.{◌≡◌, length}
-use Rattle.ioac_tests.proofs.tests.threads.sources.Given as goal
+use Rattle.ioa_tests.proofs.tests.threads.sources.Given as goal
 
 -- each of the components so far has a source
 abbrev pub invariant-loop-who : goal.invariant-loop-who

@@ -5,12 +5,10 @@ ghost use Rattle.ioa_compile.specs.Tables.{tabled};
 ghost use Rattle.ioa_system.specs.Participants.{taken};
 ghost use Rattle.ioa_system.specs.Systems.{slot_types, types_of};
 
-use crate::tests::proposals::parsed;
-use crate::tests::reached::{action, program};
-use crate::tests::shelf::{COUNTER, basic};
-use crate::tests::tables::{column, columns, is_row};
+use crate::tests::made::{action, basic, parsed, program};
 use ioa_compile::Program;
 use ioa_node::{NodeState, state_values};
+use ioa_rows::{COUNTER, column, columns, is_row};
 use ioa_syntax::print;
 use ioa_system::{Moved, Step, System, participants, run_list, step_from};
 use ioa_value::{
@@ -110,7 +108,7 @@ fn expect_source(rt: &impl Abort, alloc: Global, source: &str, text: &str) {
 fn prints_what_is_parsed(rt: HostRuntime) {
     for row in PRINTED.lines() {
         if is_row(row) {
-            let columns = columns(&rt, rt.alloc(), row);
+            let columns = columns(rt.alloc(), row).expect(&rt, "a row");
             expect_source(&rt, rt.alloc(), column(&columns, 0), column(&columns, 1));
         }
     }

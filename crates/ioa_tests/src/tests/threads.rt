@@ -2,13 +2,13 @@
 
 ghost use Rattle.std.specs.Prelude.{◌≡◌, IfOk, length};
 
-use crate::tests::reached::{PUTS, TWO, program};
+use crate::tests::made::program;
+use crate::tests::reached::{PUTS, TWO};
 use crate::tests::rooms::{script, told_outcome};
-use crate::tests::shelf::COUNTER;
-use crate::tests::tables::text;
 use ioa_compile::Program;
 use ioa_log::replay;
 use ioa_node::Words;
+use ioa_rows::{COUNTER, text};
 use ioa_run::{Gate, Outcome, Point, Report, Why, run_alone, run_threads};
 use ioa_system::Log;
 use std::alloc::{AllocError, Global};
@@ -375,7 +375,8 @@ fn are_counted(outcome: &Outcome, turns: u64) -> bool {
 /// Whether the text is one of those that are wanted, if there are some.
 fn is_wanted(rt: &impl Abort, alloc: Global, wanted: &[&str], told: &str) -> bool {
     for pieces in wanted {
-        if text(rt, alloc, pieces).as_str() == told {
+        let text = text(alloc, pieces).expect(rt, "pieces");
+        if text.as_str() == told {
             return true;
         }
     }

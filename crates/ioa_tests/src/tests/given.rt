@@ -1,6 +1,6 @@
 //! Programs that are made of given tables, each component with one entry without positions, which is enabled at any time and does nothing.
 
-use crate::tests::shelf::basic;
+use crate::tests::made::basic;
 use ioa_code::{Code, Env, Instr, PartKind, Verified, verify};
 use ioa_compile::{Entry, Member, Program, TableErr, Tables};
 use ioa_node::from_values;

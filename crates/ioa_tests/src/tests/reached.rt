@@ -1,11 +1,11 @@
 //! Programs in memory: the states that lists of actions reach, and who performs an action.
 
-use crate::tests::shelf::COUNTER;
+use crate::tests::made::{action, program};
 use ioa_compile::Program;
 use ioa_node::{NodeState, state_values};
+use ioa_rows::COUNTER;
 use ioa_system::{End, Participation, Run, owner, participants, run_list};
-use ioa_value::{Action, Fault, OutOfMemory, Types, print_action, read_action, read_list};
-use ioac::compile_text;
+use ioa_value::{Action, Fault, OutOfMemory, Types, print_action, read_list};
 use std::alloc::Global;
 use std::process::Abort;
 
@@ -91,11 +91,6 @@ const RUNS: [(&str, &str, &str); 10] = [
     ),
 ];
 
-/// The program of a source's composition of this name, or of its last one.
-pub fn program(rt: &impl Abort, alloc: Global, source: &str, composition: Option<&str>) -> Program {
-    compile_text(alloc, source.as_bytes(), composition).expect(rt, "a program")
-}
-
 /// The values of a state, told as those of an action.
 pub fn told_state(alloc: Global, types: &Types, state: &NodeState) -> Result<String, OutOfMemory> {
     let values = Action {
@@ -180,12 +175,6 @@ const OWNERS: [(&str, &str, Performers); 7] = [
     (PUTS, "put(2)", (None, 1, true)),
     (PUTS, "put(true)", (None, 0, true)),
 ];
-
-/// The action that is spelled so.
-pub fn action(rt: &impl Abort, alloc: Global, types: &Types, text: &str) -> Action {
-    let read = read_action(alloc, types, text.as_bytes()).expect(rt, "memory");
-    read.expect(rt, "an action")
-}
 
 fn performers(rt: &impl Abort, alloc: Global, source: &str, text: &str) -> Performers {
     let program = program(rt, alloc, source, None);

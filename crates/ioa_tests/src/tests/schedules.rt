@@ -1,8 +1,9 @@
 //! Schedules: what workers are answered that copy and commit, and what then stands.
 
-use crate::tests::reached::{PUTS, TWO, action, program, told_states};
-use crate::tests::shelf::COUNTER;
+use crate::tests::made::{action, program};
+use crate::tests::reached::{PUTS, TWO, told_states};
 use ioa_compile::Program;
+use ioa_rows::COUNTER;
 use ioa_run::{Answer, Board, Core, Event, Recorded, play};
 use ioa_system::LogEntry;
 use ioa_value::{Fault, OutOfMemory, Types, print_action};

@@ -1,0 +1,14 @@
+mod calls;
+mod code;
+mod drawn;
+mod given;
+mod library;
+mod logs;
+mod made;
+mod operators;
+mod proposals;
+mod reached;
+mod rooms;
+mod schedules;
+mod threads;
+mod tokens;

@@ -1,0 +1,38 @@
+//! What tests make of texts.
+
+ghost use Rattle.std.specs.Prelude.{◌≡◌, IfOk};
+ghost use Rattle.ioa_value.specs.Table as tables;
+
+use ioa_check::check;
+use ioa_compile::{Program, compile};
+use ioa_compose::compose;
+use ioa_syntax::{Source, parse};
+use ioa_value::{Action, Declarations, OutOfMemory, Types, read_action};
+use std::alloc::Global;
+use std::process::Abort;
+
+/// Bool and Int alone.
+pub fn basic(alloc: Global) -> Result<Types, OutOfMemory>
+    ensures { IfOk result (λ t. t ≡ tables.basic) }
+{
+    Declarations::new(alloc)?.finish(alloc)
+}
+
+/// The action that is spelled so.
+pub fn action(rt: &impl Abort, alloc: Global, types: &Types, text: &str) -> Action {
+    let read = read_action(alloc, types, text.as_bytes()).expect(rt, "memory");
+    read.expect(rt, "an action")
+}
+
+/// The source of this text.
+pub fn parsed(rt: &impl Abort, alloc: Global, text: &[u8]) -> Source {
+    parse(alloc, text).expect(rt, "a source")
+}
+
+/// The program of a source's composition of this name, or of its last one.
+pub fn program(rt: &impl Abort, alloc: Global, source: &str, composition: Option<&str>) -> Program {
+    let source = parsed(rt, alloc, source.as_bytes());
+    let checked = check(alloc, source).expect(rt, "a checked source");
+    let composed = compose(alloc, &checked, composition).expect(rt, "a composition");
+    compile(alloc, &composed).expect(rt, "memory")
+}
