@@ -50,7 +50,7 @@ explain line 3 |  |  | error: invalid value 'line' for '<TEXT>...'^  [possible v
 explain |  |  | error: the following required arguments were not provided:^  <TEXT>...^^Usage: ioac explain <TEXT>...^^For more information, try '--help'.^ | 2
 explain --help |  | Says what a text means that the program printed, what gives it, and how to mend it^^Usage: ioac explain [OPTIONS] <TEXT>...^^Arguments:^  <TEXT>...  What the program printed: a code, as E7, a fault, as fault 3, or an end, as not enabled at 4^^Options:^      --explain  Says more of the outcome on standard error: which line, why, and in which state^  -h, --help     Print help^^The first words tell, in capitals or not; more may stand behind them, and `end:` or `monitor:` before.^Example: ioac explain fault 3 in component 0 at 2^Exit status: 0 done, 2 bad command line or nothing to explain, 5 memory or a device.^ |  | 0
 -- the library
-library x |  |  | error: unexpected argument 'x' found^^Usage: ioac library^^For more information, try '--help'.^ | 2
+library x |  |  | error: unexpected argument 'x' found^^Usage: ioac library [OPTIONS]^^For more information, try '--help'.^ | 2
 library --help |  | Prints the library of link protocols, a source to check, run and replay^^Usage: ioac library [OPTIONS]^^Options:^      --explain  Says more of the outcome on standard error: which line, why, and in which state^  -h, --help     Print help^^Example: ioac library > links.ioa^Exit status: 0 done, 2 bad command line, 5 memory or a device.^ |  | 0
 -- the version
 --version |  | ioac 0.2.0^ |  | 0
