@@ -1,10 +1,10 @@
 -- What was served, or not, and what is told of it.
 use Rattle.std.proofs.Common.{◌≡◌, ◌∙◌, ◌⊎◌, ℕ, List, Option, Result, Ok, Err, IfOk, inl, inr}
 use Rattle.std.specs.Prelude.{IfErr}
-use Rattle.ioac.specs.declared.failure.Failure.{Failure}
-use Rattle.ioac.specs.declared.served.Served.{Served}
-use Rattle.ioac.specs.declared.status.Status.{Status}
-use Rattle.ioac.specs.Serving.{reports_of}
+use Rattle.ioa_serving.specs.declared.failure.Failure.{Failure}
+use Rattle.ioa_serving.specs.declared.served.Served.{Served}
+use Rattle.ioa_serving.specs.declared.status.Status.{Status}
+use Rattle.ioa_serving.specs.Serving.{reports_of}
 use Rattle.ioac.specs.Telling.{IsPut}
 
 -- one of both is so

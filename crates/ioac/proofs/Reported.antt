@@ -1,9 +1,9 @@
 -- What the exit status tells of a failure that is told.
 use Rattle.std.proofs.Common.{◌≡◌, ◌⊎◌, ℕ, List, Option, inl, inr, sym, ap, ◌∙◌}
 use Rattle.ioa_log.specs.declared.failure.LogErr.{LogErr}
-use Rattle.ioac.specs.declared.failure.Failure.{Failure}
-use Rattle.ioac.specs.declared.status.Status.{Status}
-use Rattle.ioac.specs.Statuses.{failure_status}
+use Rattle.ioa_serving.specs.declared.failure.Failure.{Failure}
+use Rattle.ioa_serving.specs.declared.status.Status.{Status}
+use Rattle.ioa_serving.specs.Statuses.{failure_status}
 use Rattle.ioac.specs.Telling.{IsReported}
 
 -- it is the failure's own, or that of a device that failed, too

@@ -1,10 +1,10 @@
 -- What the words of a command line ask for, by what is read of them.
-use Rattle.std.proofs.Common.{◌≡◌, ℕ, List, Option, Some, None, inr, refl, sym, subst}
+use Rattle.std.proofs.Common.{◌≡◌, ℕ, List, Option, inr, sym, subst}
 use Rattle.std.specs.Io.KnownBytes.{Keeps}
 use Rattle.clap.specs.Words.{Row, Text, subcommand_of}
-use Rattle.ioac.specs.declared.status.Status.{Status}
-use Rattle.ioac.specs.declared.request.Request.{Request}
-use Rattle.ioac.specs.CommandLine.{HasNoFault, IsAsked, IsAskedBy, ioac_app}
+use Rattle.ioa_serving.specs.declared.status.Status.{Status}
+use Rattle.ioa_request.specs.declared.request.Request.{Request}
+use Rattle.ioa_request.specs.CommandLine.{HasNoFault, IsAsked, IsAskedBy, ioac_app}
 use Rattle.ioac.specs.Commands.{IsUnasked}
 use Rattle.ioac.specs.Telling.{IsTold, unasked_text}
 
@@ -20,8 +20,3 @@ is_unasked words rows before after writer_failed told telling teller_failed stat
       keeps,
       subst (λ o. IsTold (unasked_text o) Status.BadCommandLine told telling teller_failed status) same tells,
     )
-
--- what a device holds is what it holds
-pub keeps_same : (o : Option (List ℕ)) → Keeps o o
-keeps_same None = tt
-keeps_same (Some xs) = refl

@@ -8,11 +8,11 @@ use Rattle.clap.specs.declared.error.kind.ErrorKind.TheVariants as kinds
 use Rattle.ioa_log.specs.declared.failure.LogErr.{LogErr}
 use Rattle.ioa_log.specs.Failing.{HasFailed}
 use Rattle.ioa_value.specs.Actions.{Name}
-use Rattle.ioac.specs.declared.failure.Failure.{Failure}
-use Rattle.ioac.specs.declared.request.Request.{Request}
-use Rattle.ioac.specs.declared.status.Status.{Status}
-use Rattle.ioac.specs.CommandLine.{ioac_app, HasNoFault, IsAsked}
-use Rattle.ioac.specs.Serving.{IsServed, IsUnserved}
+use Rattle.ioa_serving.specs.declared.failure.Failure.{Failure}
+use Rattle.ioa_request.specs.declared.request.Request.{Request}
+use Rattle.ioa_serving.specs.declared.status.Status.{Status}
+use Rattle.ioa_request.specs.CommandLine.{ioac_app, HasNoFault, IsAsked}
+use Rattle.ioa_serving.specs.Serving.{IsServed, IsUnserved}
 use Rattle.ioac.specs.Telling.{IsCut, IsPut, IsReported, IsShort, IsTold, unasked_text}
 
 -- what is served leaves nothing to tell, or this text, whose device may fail

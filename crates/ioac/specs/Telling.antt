@@ -4,13 +4,13 @@ use Rattle.std.specs.Io.KnownBytes.{Appends}
 use Rattle.std.specs.List.{join_by}
 use Rattle.std.specs.Str.{bytes_eq}
 use Rattle.clap.specs.Words.{Row, Text, first_of}
-use Rattle.ioac.specs.declared.failure.Failure.{Failure}
-use Rattle.ioac.specs.declared.status.Status.{Status}
-use Rattle.ioac.specs.Codes.{all_codes, spelling}
-use Rattle.ioac.specs.CommandLine.{is_set}
-use Rattle.ioac.specs.Printed.{failure_text}
-use Rattle.ioac.specs.Settings.{turns_in}
-use Rattle.ioac.specs.Statuses.{failure_status}
+use Rattle.ioa_serving.specs.declared.failure.Failure.{Failure}
+use Rattle.ioa_serving.specs.declared.status.Status.{Status}
+use Rattle.ioa_request.specs.Codes.{all_codes, spelling}
+use Rattle.ioa_request.specs.CommandLine.{is_set}
+use Rattle.ioa_serving.specs.Printed.{failure_text}
+use Rattle.ioa_request.specs.Settings.{turns_in}
+use Rattle.ioa_serving.specs.Statuses.{failure_status}
 
 -- the device failed, and has taken no more than a beginning of the text
 abbrev pub IsCut : List ℕ → Option (List ℕ) → Option (List ℕ) → Type 0 → Type 0

@@ -3,42 +3,30 @@ ghost use Rattle.clap.specs.Words.{subcommand_of};
 ghost use Rattle.ioa_system.specs.Outcomes.{ending_of};
 ghost use Rattle.ioa_log.specs.declared.failure.LogErr.{LogErr};
 ghost use Rattle.ioa_log.specs.Failing.{HasFailed};
-ghost use Rattle.ioac.specs.CommandLine.{IsAsked, ioac_app, is_explained};
+ghost use Rattle.ioa_request.specs.CommandLine.{IsAsked, ioac_app, is_explained};
 ghost use Rattle.ioac.specs.Commands.{IsAnswered, IsAnsweredAs, IsFinished, IsUnasked};
-ghost use Rattle.ioac.specs.Logs.{found_of};
-ghost use Rattle.ioac.specs.Serving.{IsReading, IsSaving, IsServed, IsUnserved, reports_of};
+ghost use Rattle.ioa_serving.specs.Logs.{found_of};
+ghost use Rattle.ioa_serving.specs.Serving.{IsReading, IsSaving, IsServed, IsUnserved, reports_of};
 ghost use Rattle.ioac.specs.Telling.{IsReported};
-ghost use Rattle.ioac.specs.Statuses.{answer_status, ending_status, found_status, number_of};
-ghost use Rattle.ioac.specs.declared.failure.Failure.{Failure};
-ghost use Rattle.ioac.specs.declared.status.Status.{Status};
-ghost use Rattle.ioac.specs.declared.status.Status.TheVariants as statuses;
-ghost use Rattle.ioac.specs.declared.request.Request.{Request};
+ghost use Rattle.ioa_serving.specs.Statuses.{answer_status, ending_status, found_status, number_of};
+ghost use Rattle.ioa_serving.specs.declared.failure.Failure.{Failure};
+ghost use Rattle.ioa_serving.specs.declared.status.Status.{Status};
+ghost use Rattle.ioa_serving.specs.declared.status.Status.TheVariants as statuses;
+ghost use Rattle.ioa_request.specs.declared.request.Request.{Request};
 
-use crate::check::check_text;
-use crate::composition_graph::graph_text;
-use crate::dump::dump_object;
-use crate::explain::explain;
-use crate::failure::Failure;
 use crate::hearing::Heard;
-use crate::invariant_replay::{Finding, replay_invariants_text};
-use crate::library::write_library;
-use crate::list_log::log_list_text;
-use crate::log_chart::chart_log_text;
-use crate::log_replay::replay_log_text;
-use crate::monitor::monitor_text;
-use crate::object_file::compile_file;
-use crate::reading::{is_explained, read_request};
 use crate::remarks::remarks_or_none;
-use crate::replay::replay_text;
-use crate::request::{Request, parse};
-use crate::run::run_file;
-use crate::served::{Served, finish, silent};
-use crate::states_replay::{replay_log_states_text, replay_states_text};
-use crate::status::Status;
-use crate::store::Store;
+use crate::served::finish;
 use crate::telling::{put, reported};
 use crate::usage::{told, told_unasked};
 use ioa_log::{InputDevice, OutputDevice};
+use ioa_request::{Request, is_explained, parse, read_request};
+use ioa_serving::explain::explain;
+use ioa_serving::{
+    Failure, Finding, Served, Status, Store, chart_log_text, check_text, compile_file, dump_object,
+    graph_text, log_list_text, monitor_text, replay_invariants_text, replay_log_states_text,
+    replay_log_text, replay_states_text, replay_text, run_file, silent, status_of, write_library,
+};
 use ioa_system::End;
 use std::alloc::Global;
 use std::convert::AsStr;
@@ -361,17 +349,6 @@ fn serve<H: Threads + Wait + Sync, F: Store, R: InputDevice, W: OutputDevice>(
             write_library(output)?;
             Ok(silent(Status::Done))
         }
-    }
-}
-
-/// The exit status of a list or a log that was replayed, of a list whose run was logged, or of a log that was drawn, to this end.
-pub fn status_of(end: End) -> Status
-    ensures { result ≡ ending_status (ending_of end) }
-{
-    match end {
-        End::Done(_) => Status::Done,
-        End::NotAnAction(_) | End::NotEnabled(_) => Status::NotAccepted,
-        End::Fault(_, _, _) => Status::Faulted,
     }
 }
 

@@ -1,70 +1,20 @@
-//! What `ioac` does: its command line, and each thing that the words of one ask for.
+//! What `ioac` does: its command line, and what it tells of each thing that the words of one ask for.
 #![tactic(auto)]
 
-mod check;
-mod code;
 pub mod command;
-mod compile;
-mod composition_graph;
-mod dump;
-mod explain;
-pub mod explanation;
-pub mod explanations;
-mod failure;
 mod hearing;
-mod invariant_replay;
-mod laws;
-mod library;
-mod list_log;
-mod log_chart;
-mod log_replay;
-mod monitor;
-mod numerals;
-mod object_failure;
-mod object_file;
-mod pasted;
-mod reading;
-mod refusal;
 mod remarks;
-mod replay;
-mod reports;
-mod request;
-mod run;
-mod run_usage;
-mod script;
-mod seed;
 mod served;
-mod settings;
-mod states_replay;
-mod status;
-mod store;
 mod telling;
-mod topic;
-mod trace;
 mod usage;
-mod word_sources;
-mod words_file;
 
-pub use check::check_text;
-pub use code::Code;
-pub use compile::{compile_text, compose_text, is_object, object_of, program_of};
-pub use composition_graph::graph_text;
-pub use dump::dump_object;
-pub use failure::Failure;
 pub use hearing::Heard;
-pub use invariant_replay::{Finding, replay_invariants_text};
-pub use laws::{objects_do_as_their_sources, objects_run_as_their_sources, one_composition};
-pub use library::write_library;
-pub use list_log::log_list_text;
-pub use log_chart::chart_log_text;
-pub use log_replay::replay_log_text;
-pub use monitor::monitor_text;
-pub use object_file::compile_file;
-pub use replay::replay_text;
-pub use run::run_file;
-pub use settings::{Settings, WordsFrom};
-pub use states_replay::{replay_log_states_text, replay_states_text};
-pub use status::Status;
-pub use store::{Store, StoreErr};
+pub use ioa_request::{Code, Settings, Topic, WordsFrom, explanation, explanations};
+pub use ioa_serving::{
+    Failure, Finding, Status, Store, StoreErr, chart_log_text, check_text, compile_file,
+    compile_text, compose_text, dump_object, graph_text, is_object, log_list_text, monitor_text,
+    object_of, objects_do_as_their_sources, objects_run_as_their_sources, one_composition,
+    program_of, replay_invariants_text, replay_log_states_text, replay_log_text,
+    replay_states_text, replay_text, run_file, write_library,
+};
 pub use telling::told_unread;
-pub use topic::Topic;

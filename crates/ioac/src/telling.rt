@@ -2,13 +2,12 @@ ghost use Rattle.std.specs.Prelude.{◌≡◌, ◌≢◌, ◌++◌, ◌∷◌, [
 ghost use Rattle.std.specs.IoError.{error_kind};
 ghost use Rattle.std.specs.String.{string_bytes};
 ghost use Rattle.ioa_log.specs.Failing.{HasFailed};
-ghost use Rattle.ioac.specs.Printed.{failure_text};
+ghost use Rattle.ioa_serving.specs.Printed.{failure_text};
 ghost use Rattle.ioac.specs.Telling.{IsPut, IsReported, IsShort, unreadable_text};
-ghost use Rattle.ioac.specs.declared.status.Status.TheVariants as statuses;
+ghost use Rattle.ioa_serving.specs.declared.status.Status.TheVariants as statuses;
 
-use crate::failure::Failure;
-use crate::status::Status;
 use ioa_log::{OutputDevice, send_all};
+use ioa_serving::{Failure, Status};
 use std::alloc::{AllocError, Global};
 use std::io;
 use std::io::ErrorKind;

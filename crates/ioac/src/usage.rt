@@ -6,17 +6,14 @@ ghost use Rattle.ioa_log.specs.Failing.{HasFailed};
 ghost use Rattle.ioac.specs.Commands.{IsShown, IsUsage, usage_status};
 ghost use Rattle.ioac.specs.Telling as telling;
 ghost use Rattle.ioac.specs.Telling.{IsTold};
-ghost use Rattle.ioac.specs.declared.status.Status.TheVariants as statuses;
+ghost use Rattle.ioa_serving.specs.declared.status.Status.TheVariants as statuses;
 
-use crate::code::Code;
-use crate::failure::Failure;
-use crate::reading::is_set;
-use crate::settings::read_turns;
-use crate::status::Status;
 use crate::telling::{put, put_short, reported};
 use clap::ArgMatches;
 use clap::error::ErrorKind;
 use ioa_log::{OutputDevice, send_all};
+use ioa_request::{Code, is_set, read_turns};
+use ioa_serving::{Failure, Status};
 use std::alloc::{AllocError, Global};
 
 /// Tells what is wrong with a command line, or writes the help or the version that it asks for, and answers the exit status.
@@ -89,7 +86,7 @@ pub fn told_unasked<E: OutputDevice>(
 }
 
 /// What is wrong with what a command line asks for.
-#[tactic(auto, using(crate::proofs::Asked::told_run, crate::proofs::Asked::told_other, crate::proofs::Asked::told_none))]
+#[tactic(auto, using(crate::proofs::ToldUnasked::told_run, crate::proofs::ToldUnasked::told_other, crate::proofs::ToldUnasked::told_none))]
 fn unasked_text(alloc: Global, matches: &ArgMatches<'_>) -> Result<String, AllocError>
     ensures { IfOk result (λ text. string_bytes text ≡ telling.unasked_text (subcommand_rows_of matches.now)) }
 {

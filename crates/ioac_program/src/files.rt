@@ -1,6 +1,6 @@
 ghost use Rattle.std.specs.Prelude.{◌≡◌, ◌++◌, false, IfOk, IfSome, OnOk, take};
 ghost use Rattle.std.specs.Io.{StartsWith};
-ghost use Rattle.ioac.specs.Headline.{begins_object};
+ghost use Rattle.ioa_serving.specs.Headline.{begins_object};
 
 use ioa_value::LIMITS;
 use ioac::{Store, StoreErr, is_object};

@@ -1,11 +1,11 @@
 //! How much was asked: how many of a log's actions a monitor has, and how many invariants were asked in how many states.
 
-use crate::monitor::performed_in;
 use crate::remarks::ended::{Told, account_by_run, logged, put_account, put_log_end};
 use crate::remarks::quoted::put_line;
 use ioa_account::{asked_invariants, known_actions, put_component};
 use ioa_compile::{Program, compile};
 use ioa_log::{Broken, Inspection, LogErr, MonitorErr, inspect, monitor};
+use ioa_serving::performed_in;
 use ioa_system::{participants, run_list};
 use ioa_value::{Action, OutOfMemory};
 use std::alloc::Global;

@@ -1,18 +1,15 @@
 //! What there is to say of how a list, a log or a run ended: of the action that was not performed, and of the states before it.
 
-use crate::compile::{compose_text, is_object};
-use crate::monitor::actions_in;
 use crate::remarks::counted;
 use crate::remarks::places::source_of;
 use crate::remarks::quoted::{put_line, put_transition};
 use crate::remarks::refused::loaded;
-use crate::request::Request;
-use crate::status::Status;
-use crate::store::Store;
 use ioa_account::{Account, account_of, line_of_action};
 use ioa_compile::compile;
 use ioa_compose::Composition;
 use ioa_log::{Counted, LogErr, read_log};
+use ioa_request::Request;
+use ioa_serving::{Status, Store, actions_in, compose_text, is_object};
 use ioa_syntax::Refusal;
 use ioa_system::Log;
 use ioa_value::{Action, OutOfMemory, read_list};

@@ -1,8 +1,8 @@
 //! Which file could not be read or written, and what is wrong with it.
 
 use crate::remarks::places::{files_of, out_of};
-use crate::request::Request;
-use crate::store::{Store, StoreErr};
+use ioa_request::Request;
+use ioa_serving::{Store, StoreErr};
 use ioa_value::{LIMITS, OutOfMemory};
 use std::alloc::Global;
 use std::fmt::Write;

@@ -1,9 +1,8 @@
 //! Which files a request names, and where what a failure tells of stands.
 
-use crate::failure::Failure;
-use crate::request::Request;
-use crate::settings::WordsFrom;
 use ioa_log::LogErr;
+use ioa_request::{Request, WordsFrom};
+use ioa_serving::Failure;
 use ioa_syntax::Refusal;
 
 /// Where what a failure tells of stands. Lines count from 1.

@@ -1,16 +1,14 @@
 //! What there is to say of a refusal: where what it tells of stands, and what its code means.
 
-use crate::explanations::explanation;
-use crate::failure::Failure;
 use crate::remarks::ended;
 use crate::remarks::places::{Place, input_name, inputs_of, place_of, source_of, words_of};
 use crate::remarks::quoted::put_line;
 use crate::remarks::sources::component_line;
-use crate::request::Request;
-use crate::store::{Store, StoreErr};
-use crate::topic::Topic;
 use ioa_account::line_of_action;
 use ioa_log::LogErr;
+use ioa_request::explanations::explanation;
+use ioa_request::{Request, Topic};
+use ioa_serving::{Failure, Store, StoreErr};
 use ioa_value::OutOfMemory;
 use std::alloc::Global;
 use std::fmt::Write;

@@ -1,5 +1,5 @@
 use Rattle.std.proofs.Common.{ap, ◌∙◌}
-use Rattle.ioac.specs.Statuses.{number_of}
+use Rattle.ioa_serving.specs.Statuses.{number_of}
 use Rattle.ioac.proofs.command.command.Goals as goal
 
 pub returns-clause-passed : goal.returns-clause-passed

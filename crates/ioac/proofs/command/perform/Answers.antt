@@ -1,7 +1,8 @@
 use Rattle.std.proofs.Common.{map, inl}
 use Rattle.clap.specs.Words.{subcommand_rows_of}
 use Rattle.ioa_log.specs.Failing.{HasFailed}
-use Rattle.ioac.proofs.Unasked.{is_unasked, keeps_same}
+use Rattle.ioac.proofs.Unasked.{is_unasked}
+use Rattle.ioa_serving.proofs.Kept.{keeps_same}
 use Rattle.ioac.proofs.command.perform.Goals as goal
 
 pub returns-in-Ok-clause-performs : goal.returns-in-Ok-clause-performs

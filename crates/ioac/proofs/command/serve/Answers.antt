@@ -1,6 +1,6 @@
 use Rattle.std.proofs.Common.{inr, subst, sym}
 use Rattle.std.proofs.lemmas.Result.{err_from_is_err_and}
-use Rattle.ioac.proofs.Refused.{err_so}
+use Rattle.ioa_serving.proofs.Refused.{err_so}
 use Rattle.ioac.proofs.command.serve.Goals as goal
 
 pub returns-in_err-end-in-Replay-clause-refused : goal.returns-in_err-end-in-Replay-clause-refused

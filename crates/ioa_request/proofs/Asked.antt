@@ -1,0 +1,209 @@
+-- What the matches of a command line ask for.
+use Rattle.std.proofs.Common.{◌≡◌, List, Option, Some, None, IfSome, IfNone, refl, sym, ◌∙◌, ap, ap₂, subst, codes, option_map, true, false}
+use Rattle.std.specs.Option.{option_copied, option_map_or}
+use Rattle.std.specs.Str.{bytes_eq}
+use Rattle.std.proofs.lemmas.Bool.{false≢true}
+use Rattle.std.specs.Box.{box_value}
+use Rattle.std.specs.Borrow.{Bor}
+use Rattle.clap.specs.Words.{Row, Text, all_of, first_of, first_value, found_of, rows_of, subcommand_name_of, subcommand_rows, subcommand_rows_of}
+use Rattle.clap.specs.declared.parser.matches.ArgMatches.{ArgMatches}
+use Rattle.clap.specs.declared.parser.matches.ArgMatches.TheViews.{out-ArgMatches, out-SubCommand}
+use Rattle.clap.proofs.WalkLemmas.{first_value-rows}
+use Rattle.ioa_request.specs.declared.request.Request.{Request}
+use Rattle.ioa_request.specs.declared.settings.Settings.{Settings}
+use Rattle.ioa_request.specs.declared.topic.Topic.{Topic}
+use Rattle.ioa_request.specs.Pasted.{IsPasted}
+use Rattle.ioa_request.specs.CommandLine.{AreSettings, IsAskedBy, Names, is_set}
+use Rattle.ioa_request.specs.Settings.{source_in, source_of, turns_in}
+
+name_in : (m : ArgMatches) → subcommand_name_of m ≡ option_map (λ p. p.0) (subcommand_rows_of m)
+name_in m =
+    elim (out-ArgMatches m).subcommand as (λ o. option_map (λ b. (out-SubCommand (box_value b)).name.now) o ≡ option_map (λ p. p.0) (subcommand_rows o)) [
+      | None ↦ refl
+      | Some b ↦ refl
+    ]
+
+-- the subcommand of this name with its values, as the matches lend it
+pub lent : (m found : ArgMatches) (name word : Text) → Some name ≡ subcommand_name_of m
+    → Some (rows_of (found_of found)) ≡ option_map (λ p. p.1) (subcommand_rows_of m) → name ≡ word → subcommand_rows_of m ≡ Some (word, rows_of (found_of found))
+lent m found name word e f is = go (subcommand_rows_of m) (e ∙ name_in m) f
+  where
+    go : (o : Option (Text × List Row)) → Some name ≡ option_map (λ p. p.0) o → Some (rows_of (found_of found)) ≡ option_map (λ p. p.1) o → o ≡ Some (word, rows_of (found_of found))
+    go None h k = cc
+    go (Some p) h k =
+        let a : word ≡ p.0 = cc in
+        let b : rows_of (found_of found) ≡ p.1 = cc in
+        ap (λ (n : Text). Some (n, p.1)) (sym a) ∙ ap (λ (rs : List Row). Some (word, rs)) (sym b)
+
+-- two words, as they compute
+pub apart : (a b : Text) → bytes_eq a b ≡ false → bytes_eq b b ≡ true → a ≡ b → ⊥
+apart a b differs same e = false≢true (sym differs ∙ ap (λ (t : Text). bytes_eq t b) e ∙ same)
+
+-- nothing is asked for by a subcommand with these values
+abbrev pub AsksNothing : Option (Text × List Row) → Type 0
+AsksNothing o = (asked : Request) → IsAskedBy o asked → ⊥
+
+-- there is none, and what holds then
+pub none_so : {T : Type 0} (r : Option T) (P : Type 0) → r ≡ None → P → IfNone r P
+none_so r P is p = subst (λ o. IfNone o P) (sym is) p
+
+-- what is read of the subcommand, said of the matches that lend it
+pub read_some : (m found : ArgMatches) (name word : Text) (r : Option Request) → Some name ≡ subcommand_name_of m
+    → Some (rows_of (found_of found)) ≡ option_map (λ p. p.1) (subcommand_rows_of m) → name ≡ word
+    → IfSome r (λ asked. IsAskedBy (Some (word, rows_of (found_of found))) asked) → IfSome r (λ asked. IsAskedBy (subcommand_rows_of m) asked)
+read_some m found name word r e f is h = subst (λ o. IfSome r (λ asked. IsAskedBy o asked)) (sym (lent m found name word e f is)) h
+
+pub read_none : (m found : ArgMatches) (name word : Text) (r : Option Request) → Some name ≡ subcommand_name_of m
+    → Some (rows_of (found_of found)) ≡ option_map (λ p. p.1) (subcommand_rows_of m) → name ≡ word
+    → IfNone r (AsksNothing (Some (word, rows_of (found_of found)))) → IfNone r (AsksNothing (subcommand_rows_of m))
+read_none m found name word r e f is h = subst (λ o. IfNone r (AsksNothing o)) (sym (lent m found name word e f is)) h
+
+-- where the file is missing
+pub no_file : (word : Text) (rows : List Row) → (word ≡ codes "explain" → ⊥) → (word ≡ codes "library" → ⊥) → first_of (codes "FILE") rows ≡ None
+    → AsksNothing (Some (word, rows))
+no_file word rows other another none (Request.Replay file composition) h = let z : None ≡ Some file.now = sym none ∙ h.1.0 in cc
+no_file word rows other another none (Request.ReplayStates file composition) h = let z : None ≡ Some file.now = sym none ∙ h.1.0 in cc
+no_file word rows other another none (Request.ReplayLog file composition) h = let z : None ≡ Some file.now = sym none ∙ h.1.0 in cc
+no_file word rows other another none (Request.ReplayLogStates file composition) h = let z : None ≡ Some file.now = sym none ∙ h.1.0 in cc
+no_file word rows other another none (Request.ReplayInvariants file composition) h = let z : None ≡ Some file.now = sym none ∙ h.1.0 in cc
+no_file word rows other another none (Request.Log file composition) h = let z : None ≡ Some file.now = sym none ∙ h.1.0 in cc
+no_file word rows other another none (Request.Monitor file composition) h = let z : None ≡ Some file.now = sym none ∙ h.1.0 in cc
+no_file word rows other another none (Request.Chart file composition) h = let z : None ≡ Some file.now = sym none ∙ h.1.0 in cc
+no_file word rows other another none (Request.Graph file composition) h = let z : None ≡ Some file.now = sym none ∙ h.1.0 in cc
+no_file word rows other another none (Request.Run s) h = let z : None ≡ Some s.file.now = sym none ∙ h.1.names.0 in cc
+no_file word rows other another none (Request.Check file compositions) h = let z : None ≡ Some file.now = sym none ∙ h.1 in cc
+no_file word rows other another none (Request.Compile file out composition) h = let z : None ≡ Some file.now = sym none ∙ h.1.0 in cc
+no_file word rows other another none (Request.Dump file) h = let z : None ≡ Some file.now = sym none ∙ h.1 in cc
+no_file word rows other another none (Request.Explain topic) h = other h.0
+no_file word rows other another none Request.Library h = another h
+
+-- where there is nothing to explain
+pub no_explanation : (rows : List Row) → ((topic : Topic) (words : List Text) → all_of (codes "TEXT") rows ≡ Some words → IsPasted words topic → ⊥)
+    → AsksNothing (Some (codes "explain", rows))
+no_explanation rows none (Request.Replay file composition) h = apart (codes "explain") (codes "replay") refl refl h.0.0
+no_explanation rows none (Request.ReplayStates file composition) h = apart (codes "explain") (codes "replay") refl refl h.0.0
+no_explanation rows none (Request.ReplayLog file composition) h = apart (codes "explain") (codes "replay") refl refl h.0.0
+no_explanation rows none (Request.ReplayLogStates file composition) h = apart (codes "explain") (codes "replay") refl refl h.0.0
+no_explanation rows none (Request.ReplayInvariants file composition) h = apart (codes "explain") (codes "replay") refl refl h.0.0
+no_explanation rows none (Request.Log file composition) h = apart (codes "explain") (codes "log") refl refl h.0
+no_explanation rows none (Request.Monitor file composition) h = apart (codes "explain") (codes "monitor") refl refl h.0
+no_explanation rows none (Request.Chart file composition) h = apart (codes "explain") (codes "chart") refl refl h.0
+no_explanation rows none (Request.Graph file composition) h = apart (codes "explain") (codes "graph") refl refl h.0
+no_explanation rows none (Request.Run s) h = apart (codes "explain") (codes "run") refl refl h.0
+no_explanation rows none (Request.Check file compositions) h = apart (codes "explain") (codes "check") refl refl h.0
+no_explanation rows none (Request.Compile file out composition) h = apart (codes "explain") (codes "compile") refl refl h.0
+no_explanation rows none (Request.Dump file) h = apart (codes "explain") (codes "dump") refl refl h.0
+no_explanation rows none (Request.Explain topic) h = none topic h.1.0 h.1.1 h.1.2
+no_explanation rows none Request.Library h = apart (codes "explain") (codes "library") refl refl h
+
+-- where no file is named for an object
+pub no_out : (rows : List Row) → first_of (codes "OUT") rows ≡ None → AsksNothing (Some (codes "compile", rows))
+no_out rows none (Request.Replay file composition) h = apart (codes "compile") (codes "replay") refl refl h.0.0
+no_out rows none (Request.ReplayStates file composition) h = apart (codes "compile") (codes "replay") refl refl h.0.0
+no_out rows none (Request.ReplayLog file composition) h = apart (codes "compile") (codes "replay") refl refl h.0.0
+no_out rows none (Request.ReplayLogStates file composition) h = apart (codes "compile") (codes "replay") refl refl h.0.0
+no_out rows none (Request.ReplayInvariants file composition) h = apart (codes "compile") (codes "replay") refl refl h.0.0
+no_out rows none (Request.Log file composition) h = apart (codes "compile") (codes "log") refl refl h.0
+no_out rows none (Request.Monitor file composition) h = apart (codes "compile") (codes "monitor") refl refl h.0
+no_out rows none (Request.Chart file composition) h = apart (codes "compile") (codes "chart") refl refl h.0
+no_out rows none (Request.Graph file composition) h = apart (codes "compile") (codes "graph") refl refl h.0
+no_out rows none (Request.Run s) h = apart (codes "compile") (codes "run") refl refl h.0
+no_out rows none (Request.Check file compositions) h = apart (codes "compile") (codes "check") refl refl h.0
+no_out rows none (Request.Compile file out composition) h = let z : None ≡ Some out.now = sym none ∙ h.2 in cc
+no_out rows none (Request.Dump file) h = apart (codes "compile") (codes "dump") refl refl h.0
+no_out rows none (Request.Explain topic) h = apart (codes "compile") (codes "explain") refl refl h.0
+no_out rows none Request.Library h = apart (codes "compile") (codes "library") refl refl h
+
+-- where the invariants of a list are asked for
+pub no_log : (word : Text) (rows : List Row) → word ≡ codes "replay" → is_set (codes "log") rows ≡ false → is_set (codes "invariants") rows ≡ true → AsksNothing (Some (word, rows))
+no_log word rows is log invariants (Request.Replay file composition) h = false≢true (sym h.0.2 ∙ invariants)
+no_log word rows is log invariants (Request.ReplayStates file composition) h = false≢true (sym h.0.2 ∙ invariants)
+no_log word rows is log invariants (Request.ReplayLog file composition) h = false≢true (sym log ∙ h.0.1)
+no_log word rows is log invariants (Request.ReplayLogStates file composition) h = false≢true (sym log ∙ h.0.1)
+no_log word rows is log invariants (Request.ReplayInvariants file composition) h = false≢true (sym log ∙ h.0.1)
+no_log word rows is log invariants (Request.Log file composition) h = apart (codes "replay") (codes "log") refl refl (sym is ∙ h.0)
+no_log word rows is log invariants (Request.Monitor file composition) h = apart (codes "replay") (codes "monitor") refl refl (sym is ∙ h.0)
+no_log word rows is log invariants (Request.Chart file composition) h = apart (codes "replay") (codes "chart") refl refl (sym is ∙ h.0)
+no_log word rows is log invariants (Request.Graph file composition) h = apart (codes "replay") (codes "graph") refl refl (sym is ∙ h.0)
+no_log word rows is log invariants (Request.Run s) h = apart (codes "replay") (codes "run") refl refl (sym is ∙ h.0)
+no_log word rows is log invariants (Request.Check file compositions) h = apart (codes "replay") (codes "check") refl refl (sym is ∙ h.0)
+no_log word rows is log invariants (Request.Compile file out composition) h = apart (codes "replay") (codes "compile") refl refl (sym is ∙ h.0)
+no_log word rows is log invariants (Request.Dump file) h = apart (codes "replay") (codes "dump") refl refl (sym is ∙ h.0)
+no_log word rows is log invariants (Request.Explain topic) h = apart (codes "replay") (codes "explain") refl refl (sym is ∙ h.0)
+no_log word rows is log invariants Request.Library h = apart (codes "replay") (codes "library") refl refl (sym is ∙ h)
+
+-- where invariants and states are asked for
+pub no_both : (word : Text) (rows : List Row) → word ≡ codes "replay" → is_set (codes "invariants") rows ≡ true → is_set (codes "states") rows ≡ true → AsksNothing (Some (word, rows))
+no_both word rows is invariants states (Request.Replay file composition) h = false≢true (sym h.0.2 ∙ invariants)
+no_both word rows is invariants states (Request.ReplayStates file composition) h = false≢true (sym h.0.2 ∙ invariants)
+no_both word rows is invariants states (Request.ReplayLog file composition) h = false≢true (sym h.0.2 ∙ invariants)
+no_both word rows is invariants states (Request.ReplayLogStates file composition) h = false≢true (sym h.0.2 ∙ invariants)
+no_both word rows is invariants states (Request.ReplayInvariants file composition) h = false≢true (sym h.0.3 ∙ states)
+no_both word rows is invariants states (Request.Log file composition) h = apart (codes "replay") (codes "log") refl refl (sym is ∙ h.0)
+no_both word rows is invariants states (Request.Monitor file composition) h = apart (codes "replay") (codes "monitor") refl refl (sym is ∙ h.0)
+no_both word rows is invariants states (Request.Chart file composition) h = apart (codes "replay") (codes "chart") refl refl (sym is ∙ h.0)
+no_both word rows is invariants states (Request.Graph file composition) h = apart (codes "replay") (codes "graph") refl refl (sym is ∙ h.0)
+no_both word rows is invariants states (Request.Run s) h = apart (codes "replay") (codes "run") refl refl (sym is ∙ h.0)
+no_both word rows is invariants states (Request.Check file compositions) h = apart (codes "replay") (codes "check") refl refl (sym is ∙ h.0)
+no_both word rows is invariants states (Request.Compile file out composition) h = apart (codes "replay") (codes "compile") refl refl (sym is ∙ h.0)
+no_both word rows is invariants states (Request.Dump file) h = apart (codes "replay") (codes "dump") refl refl (sym is ∙ h.0)
+no_both word rows is invariants states (Request.Explain code) h = apart (codes "replay") (codes "explain") refl refl (sym is ∙ h.0)
+no_both word rows is invariants states Request.Library h = apart (codes "replay") (codes "library") refl refl (sym is ∙ h)
+
+-- the file and the composition that are named
+pub names : (found : ArgMatches) (file : Bor Text) (composition : Option (Bor Text)) → Some file.now ≡ first_value (found_of found) (codes "FILE")
+    → option_copied composition ≡ first_value (found_of found) (codes "comp") → Names (rows_of (found_of found)) file.now (option_copied composition)
+names found file composition f c = (sym (first_value-rows (found_of found) (codes "FILE")) ∙ sym f, sym (first_value-rows (found_of found) (codes "comp")) ∙ sym c)
+
+-- a flag, as it is lent
+pub set_as : (found : ArgMatches) (flag : Text) (o : Option Text) → o ≡ first_value (found_of found) flag
+    → is_set flag (rows_of (found_of found)) ≡ option_map_or (λ value. bytes_eq value (codes "true")) o false
+set_as found flag o e =
+    ap (λ (p : Option Text). option_map_or (λ value. bytes_eq value (codes "true")) p false) (sym (first_value-rows (found_of found) flag) ∙ sym e)
+
+-- where the settings of a run are none
+abbrev AreNone : List Row → Type 0
+AreNone rows = (s : Settings) → AreSettings rows s → ⊥
+
+pub no_run : (rows : List Row) → AreNone rows → AsksNothing (Some (codes "run", rows))
+no_run rows none (Request.Replay file composition) h = apart (codes "run") (codes "replay") refl refl h.0.0
+no_run rows none (Request.ReplayStates file composition) h = apart (codes "run") (codes "replay") refl refl h.0.0
+no_run rows none (Request.ReplayLog file composition) h = apart (codes "run") (codes "replay") refl refl h.0.0
+no_run rows none (Request.ReplayLogStates file composition) h = apart (codes "run") (codes "replay") refl refl h.0.0
+no_run rows none (Request.ReplayInvariants file composition) h = apart (codes "run") (codes "replay") refl refl h.0.0
+no_run rows none (Request.Run s) h = none s h.1
+no_run rows none (Request.Log file composition) h = apart (codes "run") (codes "log") refl refl h.0
+no_run rows none (Request.Monitor file composition) h = apart (codes "run") (codes "monitor") refl refl h.0
+no_run rows none (Request.Chart file composition) h = apart (codes "run") (codes "chart") refl refl h.0
+no_run rows none (Request.Graph file composition) h = apart (codes "run") (codes "graph") refl refl h.0
+no_run rows none (Request.Check file compositions) h = apart (codes "run") (codes "check") refl refl h.0
+no_run rows none (Request.Compile file out composition) h = apart (codes "run") (codes "compile") refl refl h.0
+no_run rows none (Request.Dump file) h = apart (codes "run") (codes "dump") refl refl h.0
+no_run rows none (Request.Explain topic) h = apart (codes "run") (codes "explain") refl refl h.0
+no_run rows none Request.Library h = apart (codes "run") (codes "library") refl refl h
+
+-- settings without a file, without turns, or without a source of words
+pub unfiled_run : (found : ArgMatches) (r : Option Settings) → None ≡ first_value (found_of found) (codes "FILE") → r ≡ None
+    → IfNone r ((s : Settings) → AreSettings (rows_of (found_of found)) s → ⊥)
+unfiled_run found r none is =
+    subst (λ o. IfNone o ((s : Settings) → AreSettings (rows_of (found_of found)) s → ⊥)) (sym is)
+    (λ s h. let z : None ≡ Some s.file.now = none ∙ first_value-rows (found_of found) (codes "FILE") ∙ h.names.0 in cc)
+
+pub unturned : (found : ArgMatches) (word : Option Text) (r : Option Settings) → word ≡ first_value (found_of found) (codes "turns") → None ≡ turns_in word → r ≡ None
+    → IfNone r ((s : Settings) → AreSettings (rows_of (found_of found)) s → ⊥)
+unturned found word r given none is =
+    subst (λ o. IfNone o ((s : Settings) → AreSettings (rows_of (found_of found)) s → ⊥)) (sym is)
+    (λ s h. let z : None ≡ Some s.turns = none ∙ ap turns_in (given ∙ first_value-rows (found_of found) (codes "turns")) ∙ h.turns in cc)
+
+pub unworded : (found : ArgMatches) (seed file : Option Text) (r : Option Settings) → seed ≡ first_value (found_of found) (codes "seed")
+    → file ≡ first_value (found_of found) (codes "words") → None ≡ source_in seed file → r ≡ None
+    → IfNone r ((s : Settings) → AreSettings (rows_of (found_of found)) s → ⊥)
+unworded found seed file r a b none is =
+    subst (λ o. IfNone o ((s : Settings) → AreSettings (rows_of (found_of found)) s → ⊥)) (sym is)
+    (λ s h.
+    let z : None ≡ Some (source_of s.words) =
+    none ∙ ap₂ source_in (a ∙ first_value-rows (found_of found) (codes "seed")) (b ∙ first_value-rows (found_of found) (codes "words")) ∙ h.words in cc)
+
+-- an option, as it is lent
+pub given : (found : ArgMatches) (name : Text) (o : Option Text) → o ≡ first_value (found_of found) name → first_of name (rows_of (found_of found)) ≡ o
+given found name o e = sym (first_value-rows (found_of found) name) ∙ sym e

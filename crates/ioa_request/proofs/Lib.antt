@@ -1,0 +1,6 @@
+mod Examples
+pub mod Asked
+pub mod Numbers
+pub mod Parted
+pub mod Spelled
+pub mod ToldWords

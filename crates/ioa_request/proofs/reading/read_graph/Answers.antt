@@ -1,0 +1,13 @@
+use Rattle.std.proofs.Common.{codes, refl}
+use Rattle.clap.specs.Words.{found_of, rows_of}
+use Rattle.ioa_request.proofs.Asked.{apart, no_file, none_so}
+use Rattle.ioa_request.proofs.reading.read_graph.Goals as goal
+
+pub returns-clause-some : goal.returns-clause-some
+returns-clause-some c = (refl, c.in_ok-file.ensures.some)
+
+pub returns-in_err-file-clause-none : goal.returns-in_err-file-clause-none
+returns-in_err-file-clause-none c =
+    none_so _ _ c.from_residual.ensures
+    (no_file (codes "graph") (rows_of (found_of c.args.found.now)) (apart (codes "graph") (codes "explain") refl refl) (apart (codes "graph") (codes "library") refl refl)
+    c.in_err-file.ensures.none)

@@ -1,0 +1,196 @@
+-- The command line that the program reads, in the words of the crate that parses it, and what it asks for.
+use Rattle.std.specs.Prelude.{◌≡◌, Bool, true, false, List, [], Option, Some, None, codes}
+use Rattle.std.specs.Option.{option_copied, option_map_or}
+use Rattle.std.specs.Str.{bytes_eq}
+use Rattle.clap.specs.Lexer.{usize_max}
+use Rattle.clap.specs.Words.{App, Row, Rule, Text, all_of, fault_of, first_of, new_app, new_rule, subcommand_of, with_rule, with_subcommand}
+use Rattle.clap.specs.Simple.{on_top}
+use Rattle.clap.specs.declared.builder.action.ArgAction.{ArgAction}
+use Rattle.clap.specs.declared.builder.command.Command.{Command}
+use Rattle.clap.specs.declared.builder.command.Command.TheViews.{out-Command}
+use Rattle.ioa_request.specs.declared.request.Request.{Request}
+use Rattle.ioa_request.specs.declared.settings.Settings.{Settings}
+use Rattle.ioa_request.specs.Pasted.{IsPasted}
+use Rattle.ioa_request.specs.Settings.{source_in, source_of, turns_in}
+
+-- words that have to stand
+abbrev pub file_rule : Rule
+file_rule = record (new_rule (codes "FILE")) { required = true }
+
+abbrev pub out_rule : Rule
+out_rule = record (new_rule (codes "OUT")) { required = true }
+
+-- a word that has to stand, and those behind it
+abbrev pub text_rule : Rule
+text_rule = record (new_rule (codes "TEXT")) { required = true; range = Some (record { start_inclusive = 1; end_inclusive = usize_max }) }
+
+-- `--comp NAME`
+abbrev pub comp_rule : Rule
+comp_rule = record (new_rule (codes "comp")) { long = Some (codes "comp"); value_names = 1 }
+
+-- `--log`
+abbrev pub log_rule : Rule
+log_rule = record (new_rule (codes "log")) { long = Some (codes "log"); action = Some ArgAction.SetTrue }
+
+-- `--invariants`
+abbrev pub invariants_rule : Rule
+invariants_rule = record (new_rule (codes "invariants")) { long = Some (codes "invariants"); action = Some ArgAction.SetTrue }
+
+-- `--compositions`
+abbrev pub compositions_rule : Rule
+compositions_rule = record (new_rule (codes "compositions")) { long = Some (codes "compositions"); action = Some ArgAction.SetTrue }
+
+-- `--states`
+abbrev pub states_rule : Rule
+states_rule = record (new_rule (codes "states")) { long = Some (codes "states"); action = Some ArgAction.SetTrue }
+
+-- `--alone`
+abbrev pub alone_rule : Rule
+alone_rule = record (new_rule (codes "alone")) { long = Some (codes "alone"); action = Some ArgAction.SetTrue }
+
+-- `--turns N`
+abbrev pub turns_rule : Rule
+turns_rule = record (new_rule (codes "turns")) { long = Some (codes "turns"); value_names = 1 }
+
+-- `--seed HEX`
+abbrev pub seed_rule : Rule
+seed_rule = record (new_rule (codes "seed")) { long = Some (codes "seed"); value_names = 1 }
+
+-- `--words WFILE`
+abbrev pub words_rule : Rule
+words_rule = record (new_rule (codes "words")) { long = Some (codes "words"); value_names = 1 }
+
+-- `--inputs LFILE`
+abbrev pub inputs_rule : Rule
+inputs_rule = record (new_rule (codes "inputs")) { long = Some (codes "inputs"); value_names = 1 }
+
+-- `--reports`
+abbrev pub reports_rule : Rule
+reports_rule = record (new_rule (codes "reports")) { long = Some (codes "reports"); action = Some ArgAction.SetTrue }
+
+-- `--explain`
+abbrev pub explain_rule : Rule
+explain_rule = record (new_rule (codes "explain")) { long = Some (codes "explain"); action = Some ArgAction.SetTrue }
+
+abbrev pub check_app : App
+check_app = with_rule (with_rule (with_rule (new_app (codes "check")) file_rule) compositions_rule) explain_rule
+
+abbrev pub compile_app : App
+compile_app = with_rule (with_rule (with_rule (with_rule (new_app (codes "compile")) file_rule) out_rule) comp_rule) explain_rule
+
+abbrev pub dump_app : App
+dump_app = with_rule (with_rule (new_app (codes "dump")) file_rule) explain_rule
+
+abbrev pub explain_app : App
+explain_app = with_rule (with_rule (new_app (codes "explain")) text_rule) explain_rule
+
+abbrev pub library_app : App
+library_app = with_rule (new_app (codes "library")) explain_rule
+
+abbrev pub replay_app : App
+replay_app =
+    with_rule (with_rule (with_rule (with_rule (with_rule (with_rule (new_app (codes "replay")) file_rule) comp_rule) log_rule) invariants_rule) states_rule) explain_rule
+
+abbrev pub log_app : App
+log_app = with_rule (with_rule (with_rule (new_app (codes "log")) file_rule) comp_rule) explain_rule
+
+abbrev pub monitor_app : App
+monitor_app = with_rule (with_rule (with_rule (new_app (codes "monitor")) file_rule) comp_rule) explain_rule
+
+abbrev pub chart_app : App
+chart_app = with_rule (with_rule (with_rule (new_app (codes "chart")) file_rule) comp_rule) explain_rule
+
+abbrev pub graph_app : App
+graph_app = with_rule (with_rule (with_rule (new_app (codes "graph")) file_rule) comp_rule) explain_rule
+
+abbrev pub run_app : App
+run_app =
+    with_rule (with_rule (with_rule (with_rule (with_rule (with_rule (with_rule (with_rule (with_rule (with_rule (new_app (codes "run")) file_rule) comp_rule) alone_rule)
+    turns_rule) seed_rule) words_rule) inputs_rule) log_rule) reports_rule) explain_rule
+
+-- a subcommand has to stand; where no word stands, help is given; there is a version, and a subcommand `help` of the crate that parses
+abbrev pub bare_app : App
+bare_app = on_top (λ top. record top { has_version = true; subcommand_required = true; arg_required_else_help = true }) (new_app (codes "ioac"))
+
+abbrev pub ioac_app : App
+ioac_app =
+    with_subcommand
+    (with_subcommand
+    (with_subcommand
+    (with_subcommand
+    (with_subcommand
+    (with_subcommand (with_subcommand (with_subcommand (with_subcommand (with_subcommand (with_subcommand bare_app check_app.top) compile_app.top) dump_app.top) replay_app.top) log_app.top)
+    run_app.top)
+    monitor_app.top)
+    chart_app.top)
+    graph_app.top)
+    explain_app.top)
+    library_app.top
+
+-- no argument is one of the subcommands too
+abbrev pub IsLocal : Command → Type 0
+IsLocal command = (out-Command command).has_globals ≡ false
+
+-- a flag stands
+abbrev pub is_set : Text → List Row → Bool
+is_set flag rows = option_map_or (λ value. bytes_eq value (codes "true")) (first_of flag rows) false
+
+-- what comes of a subcommand with its values is to be explained
+abbrev pub is_explained : Option (Text × List Row) → Bool
+is_explained None = false
+is_explained (Some found) = is_set (codes "explain") found.1
+
+-- it is a replay, of a log or not, asked for invariants or not, and for states or not
+abbrev pub IsReplayWith : Bool → Bool → Bool → Text × List Row → Type 0
+IsReplayWith log invariants states found =
+    (found.0 ≡ codes "replay") × (is_set (codes "log") found.1 ≡ log) × (is_set (codes "invariants") found.1 ≡ invariants) × (is_set (codes "states") found.1 ≡ states)
+
+-- the file and the composition that a subcommand's values name
+abbrev pub Names : List Row → Text → Option Text → Type 0
+Names rows file composition = (first_of (codes "FILE") rows ≡ Some file) × (first_of (codes "comp") rows ≡ composition)
+
+-- a run of these settings is what a subcommand's values ask for
+pub record AreSettings (rows : List Row) (s : Settings) : Type 0 where
+  pub names : Names rows s.file.now (option_copied s.composition)
+  pub alone : is_set (codes "alone") rows ≡ s.alone
+  pub turns : turns_in (first_of (codes "turns") rows) ≡ Some s.turns
+  pub words : source_in (first_of (codes "seed") rows) (first_of (codes "words") rows) ≡ Some (source_of s.words)
+  pub inputs : first_of (codes "inputs") rows ≡ option_copied s.inputs
+  pub log : is_set (codes "log") rows ≡ s.log
+  pub reports : is_set (codes "reports") rows ≡ s.reports
+
+-- a subcommand with its values, if there is one, asks for this; a replay of a list cannot be asked for invariants, and no replay for
+-- invariants and states
+abbrev pub IsAskedBy : Option (Text × List Row) → Request → Type 0
+IsAskedBy None request = ⊥
+IsAskedBy (Some found) (Request.Replay file composition) =
+    IsReplayWith false false false found × Names found.1 file.now (option_copied composition)
+IsAskedBy (Some found) (Request.ReplayStates file composition) =
+    IsReplayWith false false true found × Names found.1 file.now (option_copied composition)
+IsAskedBy (Some found) (Request.ReplayLog file composition) =
+    IsReplayWith true false false found × Names found.1 file.now (option_copied composition)
+IsAskedBy (Some found) (Request.ReplayLogStates file composition) =
+    IsReplayWith true false true found × Names found.1 file.now (option_copied composition)
+IsAskedBy (Some found) (Request.ReplayInvariants file composition) =
+    IsReplayWith true true false found × Names found.1 file.now (option_copied composition)
+IsAskedBy (Some found) (Request.Log file composition) = (found.0 ≡ codes "log") × Names found.1 file.now (option_copied composition)
+IsAskedBy (Some found) (Request.Monitor file composition) = (found.0 ≡ codes "monitor") × Names found.1 file.now (option_copied composition)
+IsAskedBy (Some found) (Request.Chart file composition) = (found.0 ≡ codes "chart") × Names found.1 file.now (option_copied composition)
+IsAskedBy (Some found) (Request.Graph file composition) = (found.0 ≡ codes "graph") × Names found.1 file.now (option_copied composition)
+IsAskedBy (Some found) (Request.Run settings) = (found.0 ≡ codes "run") × AreSettings found.1 settings
+IsAskedBy (Some found) (Request.Check file compositions) =
+    (found.0 ≡ codes "check") × (first_of (codes "FILE") found.1 ≡ Some file.now) × (is_set (codes "compositions") found.1 ≡ compositions)
+IsAskedBy (Some found) (Request.Compile file out composition) =
+    (found.0 ≡ codes "compile") × Names found.1 file.now (option_copied composition) × (first_of (codes "OUT") found.1 ≡ Some out.now)
+IsAskedBy (Some found) (Request.Dump file) = (found.0 ≡ codes "dump") × (first_of (codes "FILE") found.1 ≡ Some file.now)
+IsAskedBy (Some found) (Request.Explain topic) =
+    (found.0 ≡ codes "explain") × ((words : List Text) × (all_of (codes "TEXT") found.1 ≡ Some words) × IsPasted words topic)
+IsAskedBy (Some found) Request.Library = found.0 ≡ codes "library"
+
+-- the words of a command line, the program's own first, have no fault: the program reads each of them, and they ask for no help or version
+abbrev pub HasNoFault : List Text → Type 0
+HasNoFault words = fault_of ioac_app words ≡ []
+
+-- they ask for this
+abbrev pub IsAsked : List Text → Request → Type 0
+IsAsked words request = HasNoFault words × IsAskedBy (subcommand_of ioac_app words) request

@@ -1,0 +1,165 @@
+//! How the matches of a command line are read as a request.
+
+ghost use Rattle.std.specs.Prelude.{◌≡◌, None, Some, codes, IfSome, IfNone};
+ghost use Rattle.std.specs.Option.{option_copied};
+ghost use Rattle.clap.specs.Words.{first_of, found_of, rows_of, subcommand_rows_of};
+ghost use Rattle.ioa_request.specs.CommandLine as asked;
+ghost use Rattle.ioa_request.specs.CommandLine.{IsAskedBy, Names};
+ghost use Rattle.ioa_request.specs.declared.request.Request.{Request};
+
+use crate::pasted::pasted;
+use crate::request::Request;
+use crate::settings::read_settings;
+use clap::ArgMatches;
+
+/// The request of a command line without a fault. None where a word is missing, which a parse rules out, where there is nothing to explain,
+/// where the invariants of a list are asked for, or invariants and states, or where the settings of a run are none.
+pub fn read_request<'a>(matches: &ArgMatches<'a>) -> Option<Request<'a>>
+    ensures some { IfSome result (λ asked. IsAskedBy (subcommand_rows_of matches.now) asked) }
+    ensures none { IfNone result ((asked : Request) → IsAskedBy (subcommand_rows_of matches.now) asked → ⊥) }
+{
+    let (name, found) = matches.subcommand()?;
+    match name {
+        "replay" => read_replay(found),
+        "log" => read_log(found),
+        "run" => read_run(found),
+        "monitor" => read_monitor(found),
+        "chart" => read_chart(found),
+        "graph" => read_graph(found),
+        "check" => read_check(found),
+        "compile" => read_compile(found),
+        "dump" => read_dump(found),
+        "explain" => read_explain(found),
+        "library" => Some(Request::Library),
+        _ => None,
+    }
+}
+
+/// Whether a flag stands.
+pub fn is_set(found: &ArgMatches<'_>, flag: &str) -> bool
+    ensures { result ≡ asked.is_set flag.now (rows_of (found_of found.now)) }
+{
+    match found.get_str(flag) {
+        Some(value) => value == "true",
+        None => false,
+    }
+}
+
+/// Whether what comes of it is to be explained.
+pub fn is_explained(matches: &ArgMatches<'_>) -> bool
+    ensures { result ≡ asked.is_explained (subcommand_rows_of matches.now) }
+{
+    match matches.subcommand() {
+        Some((_, found)) => is_set(found, "explain"),
+        None => false,
+    }
+}
+
+/// The file and the composition that a subcommand's values name. None where they name no file.
+fn read_names<'a>(found: &ArgMatches<'a>) -> Option<(&'a str, Option<&'a str>)>
+    ensures some { IfSome result (λ named. Names (rows_of (found_of found.now)) named.0.now (option_copied named.1)) }
+    ensures none { IfNone result (first_of (codes "FILE") (rows_of (found_of found.now)) ≡ None) }
+{
+    let file = found.get_str("FILE")?;
+    let composition = found.get_str("comp");
+    Some((file, composition))
+}
+
+fn read_replay<'a>(found: &ArgMatches<'a>) -> Option<Request<'a>>
+    ensures some { IfSome result (λ asked. IsAskedBy (Some (codes "replay", rows_of (found_of found.now))) asked) }
+    ensures none { IfNone result ((asked : Request) → IsAskedBy (Some (codes "replay", rows_of (found_of found.now))) asked → ⊥) }
+{
+    let (file, composition) = read_names(found)?;
+    match (
+        is_set(found, "log"),
+        is_set(found, "invariants"),
+        is_set(found, "states"),
+    ) {
+        (false, false, false) => Some(Request::Replay { file, composition }),
+        (false, false, true) => Some(Request::ReplayStates { file, composition }),
+        (true, false, false) => Some(Request::ReplayLog { file, composition }),
+        (true, false, true) => Some(Request::ReplayLogStates { file, composition }),
+        (true, true, false) => Some(Request::ReplayInvariants { file, composition }),
+        (true, true, true) => None,
+        (false, true, _) => None,
+    }
+}
+
+fn read_log<'a>(found: &ArgMatches<'a>) -> Option<Request<'a>>
+    ensures some { IfSome result (λ asked. IsAskedBy (Some (codes "log", rows_of (found_of found.now))) asked) }
+    ensures none { IfNone result ((asked : Request) → IsAskedBy (Some (codes "log", rows_of (found_of found.now))) asked → ⊥) }
+{
+    let (file, composition) = read_names(found)?;
+    Some(Request::Log { file, composition })
+}
+
+fn read_run<'a>(found: &ArgMatches<'a>) -> Option<Request<'a>>
+    ensures some { IfSome result (λ asked. IsAskedBy (Some (codes "run", rows_of (found_of found.now))) asked) }
+    ensures none { IfNone result ((asked : Request) → IsAskedBy (Some (codes "run", rows_of (found_of found.now))) asked → ⊥) }
+{
+    let settings = read_settings(found)?;
+    Some(Request::Run(settings))
+}
+
+fn read_monitor<'a>(found: &ArgMatches<'a>) -> Option<Request<'a>>
+    ensures some { IfSome result (λ asked. IsAskedBy (Some (codes "monitor", rows_of (found_of found.now))) asked) }
+    ensures none { IfNone result ((asked : Request) → IsAskedBy (Some (codes "monitor", rows_of (found_of found.now))) asked → ⊥) }
+{
+    let (file, composition) = read_names(found)?;
+    Some(Request::Monitor { file, composition })
+}
+
+fn read_chart<'a>(found: &ArgMatches<'a>) -> Option<Request<'a>>
+    ensures some { IfSome result (λ asked. IsAskedBy (Some (codes "chart", rows_of (found_of found.now))) asked) }
+    ensures none { IfNone result ((asked : Request) → IsAskedBy (Some (codes "chart", rows_of (found_of found.now))) asked → ⊥) }
+{
+    let (file, composition) = read_names(found)?;
+    Some(Request::Chart { file, composition })
+}
+
+fn read_graph<'a>(found: &ArgMatches<'a>) -> Option<Request<'a>>
+    ensures some { IfSome result (λ asked. IsAskedBy (Some (codes "graph", rows_of (found_of found.now))) asked) }
+    ensures none { IfNone result ((asked : Request) → IsAskedBy (Some (codes "graph", rows_of (found_of found.now))) asked → ⊥) }
+{
+    let (file, composition) = read_names(found)?;
+    Some(Request::Graph { file, composition })
+}
+
+fn read_check<'a>(found: &ArgMatches<'a>) -> Option<Request<'a>>
+    ensures some { IfSome result (λ asked. IsAskedBy (Some (codes "check", rows_of (found_of found.now))) asked) }
+    ensures none { IfNone result ((asked : Request) → IsAskedBy (Some (codes "check", rows_of (found_of found.now))) asked → ⊥) }
+{
+    let file = found.get_str("FILE")?;
+    let compositions = is_set(found, "compositions");
+    Some(Request::Check { file, compositions })
+}
+
+fn read_compile<'a>(found: &ArgMatches<'a>) -> Option<Request<'a>>
+    ensures some { IfSome result (λ asked. IsAskedBy (Some (codes "compile", rows_of (found_of found.now))) asked) }
+    ensures none { IfNone result ((asked : Request) → IsAskedBy (Some (codes "compile", rows_of (found_of found.now))) asked → ⊥) }
+{
+    let (file, composition) = read_names(found)?;
+    let out = found.get_str("OUT")?;
+    Some(Request::Compile {
+        file,
+        out,
+        composition,
+    })
+}
+
+fn read_dump<'a>(found: &ArgMatches<'a>) -> Option<Request<'a>>
+    ensures some { IfSome result (λ asked. IsAskedBy (Some (codes "dump", rows_of (found_of found.now))) asked) }
+    ensures none { IfNone result ((asked : Request) → IsAskedBy (Some (codes "dump", rows_of (found_of found.now))) asked → ⊥) }
+{
+    let file = found.get_str("FILE")?;
+    Some(Request::Dump { file })
+}
+
+fn read_explain<'a>(found: &ArgMatches<'a>) -> Option<Request<'a>>
+    ensures some { IfSome result (λ asked. IsAskedBy (Some (codes "explain", rows_of (found_of found.now))) asked) }
+    ensures none { IfNone result ((asked : Request) → IsAskedBy (Some (codes "explain", rows_of (found_of found.now))) asked → ⊥) }
+{
+    let words = found.get_strs("TEXT")?;
+    let topic = pasted(words)?;
+    Some(Request::Explain { topic })
+}

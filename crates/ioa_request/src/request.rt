@@ -1,0 +1,416 @@
+ghost use Rattle.std.specs.Prelude.{◌≡◌, false, map, codes, IfOk};
+ghost use Rattle.clap.specs.Words.{FailsBy, app_of, fault_of, new_app, rule_of, subcommand_of, subcommand_rows_of};
+ghost use Rattle.ioa_request.specs.CommandLine.{IsLocal, chart_app, check_app, comp_rule, compile_app, compositions_rule, dump_app, explain_app, explain_rule, file_rule, graph_app, invariants_rule, ioac_app, library_app, log_app, log_rule, monitor_app, out_rule, replay_app, states_rule, text_rule};
+
+use crate::run_usage::run_command;
+use crate::settings::Settings;
+use crate::topic::Topic;
+use clap::{Arg, ArgAction, ArgMatches, Command, Error};
+use std::alloc::{AllocError, Global};
+use std::convert::AsStr;
+
+/// What a command line asks for.
+#[derive(Drop)]
+pub enum Request<'a> {
+    /// To replay the list on standard input in a composition of a source, or in an object.
+    Replay {
+        file: &'a str,
+        composition: Option<&'a str>,
+    },
+    /// To replay the list on standard input in a composition of a source, and to write the states in which it ends.
+    ReplayStates {
+        file: &'a str,
+        composition: Option<&'a str>,
+    },
+    /// To replay the log on standard input in a composition of a source, or in an object.
+    ReplayLog {
+        file: &'a str,
+        composition: Option<&'a str>,
+    },
+    /// To replay the log on standard input in a composition of a source, and to write the states in which it ends.
+    ReplayLogStates {
+        file: &'a str,
+        composition: Option<&'a str>,
+    },
+    /// To replay the log on standard input in a composition of a source, and to ask for the source's invariants in each of its states.
+    ReplayInvariants {
+        file: &'a str,
+        composition: Option<&'a str>,
+    },
+    /// To write the log of the run of the list on standard input in a composition of a source, or in an object.
+    Log {
+        file: &'a str,
+        composition: Option<&'a str>,
+    },
+    /// To run a composition of a source, or an object.
+    Run(Settings<'a>),
+    /// To monitor the log on standard input by a composition of a source, or by an object.
+    Monitor {
+        file: &'a str,
+        composition: Option<&'a str>,
+    },
+    /// To draw the log on standard input, as a chart of what a composition of a source, or an object, does.
+    Chart {
+        file: &'a str,
+        composition: Option<&'a str>,
+    },
+    /// To draw a composition of a source, or an object, as a graph.
+    Graph {
+        file: &'a str,
+        composition: Option<&'a str>,
+    },
+    /// To parse and check a source, or to read and verify an object; and to compose each composition of a source, where that is asked for.
+    Check {
+        file: &'a str,
+        compositions: bool,
+    },
+    /// To put the object of a composition of a source in the file `out`.
+    Compile {
+        file: &'a str,
+        out: &'a str,
+        composition: Option<&'a str>,
+    },
+    /// To write what an object holds.
+    Dump {
+        file: &'a str,
+    },
+    /// To say what a topic means.
+    Explain {
+        topic: Topic,
+    },
+    /// To write the library's source.
+    Library,
+}
+
+/// The version that `--version` prints.
+const VERSION: &str = "0.2.0";
+
+/// The source that a subcommand takes.
+pub fn source_argument<'a>(alloc: Global) -> Arg<'a>
+    ensures rule { rule_of result ≡ file_rule }
+    ensures local { result.global ≡ false }
+{
+    Arg::new(alloc, "FILE")
+        .required(true)
+        .help("A source of I/O automata")
+}
+
+/// The source or the object that a subcommand takes.
+pub fn file_argument<'a>(alloc: Global) -> Arg<'a>
+    ensures rule { rule_of result ≡ file_rule }
+    ensures local { result.global ≡ false }
+{
+    Arg::new(alloc, "FILE")
+        .required(true)
+        .help("A source of I/O automata, or an object of one")
+}
+
+/// The object that a subcommand takes.
+fn object_argument<'a>(alloc: Global) -> Arg<'a>
+    ensures rule { rule_of result ≡ file_rule }
+    ensures local { result.global ≡ false }
+{
+    Arg::new(alloc, "FILE")
+        .required(true)
+        .help("An object that `compile` made")
+}
+
+fn out_argument<'a>(alloc: Global) -> Arg<'a>
+    ensures rule { rule_of result ≡ out_rule }
+    ensures local { result.global ≡ false }
+{
+    Arg::new(alloc, "OUT")
+        .required(true)
+        .help("The file to put the object in")
+}
+
+/// The name of a composition.
+pub fn composition_option<'a>(alloc: Global) -> Arg<'a>
+    ensures rule { rule_of result ≡ comp_rule }
+    ensures local { result.global ≡ false }
+{
+    Arg::new(alloc, "comp")
+        .long("comp")
+        .value_name("NAME")
+        .help("The composition to take; without it, the last one")
+}
+
+fn log_flag<'a>(alloc: Global) -> Arg<'a>
+    ensures rule { rule_of result ≡ log_rule }
+    ensures local { result.global ≡ false }
+{
+    Arg::new(alloc, "log")
+        .long("log")
+        .action(ArgAction::SetTrue)
+        .help("Standard input is a log, which has to be of the composition's run")
+}
+
+fn invariants_flag<'a>(alloc: Global) -> Arg<'a>
+    ensures rule { rule_of result ≡ invariants_rule }
+    ensures local { result.global ≡ false }
+{
+    Arg::new(alloc, "invariants")
+        .long("invariants")
+        .action(ArgAction::SetTrue)
+        .help(
+            "With --log: the first invariant that the log's states break is printed in place of all else",
+        )
+}
+
+fn compositions_flag<'a>(alloc: Global) -> Arg<'a>
+    ensures rule { rule_of result ≡ compositions_rule }
+    ensures local { result.global ≡ false }
+{
+    Arg::new(alloc, "compositions")
+        .long("compositions")
+        .action(ArgAction::SetTrue)
+        .help(
+            "Each composition of a source is composed, too, and the first that is refused is told",
+        )
+}
+
+fn states_flag<'a>(alloc: Global) -> Arg<'a>
+    ensures rule { rule_of result ≡ states_rule }
+    ensures local { result.global ≡ false }
+{
+    Arg::new(alloc, "states")
+        .long("states")
+        .action(ArgAction::SetTrue)
+        .help(
+            "Of a source: each variable follows with its value in the state that is reached last; not with --invariants",
+        )
+}
+
+fn text_argument<'a>(alloc: Global) -> Arg<'a>
+    ensures rule { rule_of result ≡ text_rule }
+    ensures local { result.global ≡ false }
+{
+    Arg::new(alloc, "TEXT").required(true).num_args(1..).help(
+        "What the program printed: a code, as E7, a fault, as fault 3, or an end, as not enabled at 4",
+    )
+}
+
+/// What asks for more than is printed.
+pub fn explain_flag<'a>(alloc: Global) -> Arg<'a>
+    ensures rule { rule_of result ≡ explain_rule }
+    ensures local { result.global ≡ false }
+{
+    Arg::new(alloc, "explain")
+        .long("explain")
+        .action(ArgAction::SetTrue)
+        .help("Says more of the outcome on standard error: which line, why, and in which state")
+}
+
+fn check_command<'a>(alloc: Global) -> Result<Command<'a>, AllocError>
+    ensures app { IfOk result (λ command. app_of command ≡ check_app) }
+    ensures local { IfOk result IsLocal }
+{
+    Command::new(alloc, "check")
+        .about("Parses and checks a source, or verifies an object, and prints ok where it is fine")
+        .after_help(
+            "Without --compositions, compositions of a source are composed by the other commands alone.\n\
+             Example: ioac check --compositions protocol.ioa\n\
+             Exit status: 0 done, 1 source or object refused, 2 bad command line, 5 memory, the file or a device.",
+        )
+        .arg(file_argument(alloc))?
+        .arg(compositions_flag(alloc))?
+        .arg(explain_flag(alloc))
+}
+
+fn compile_command<'a>(alloc: Global) -> Result<Command<'a>, AllocError>
+    ensures app { IfOk result (λ command. app_of command ≡ compile_app) }
+    ensures local { IfOk result IsLocal }
+{
+    Command::new(alloc, "compile")
+        .about("Compiles a composition, puts its object in a file, and prints ok")
+        .after_help(
+            "`check`, `replay`, `run` and `monitor` take the object in the place of a source.\n\
+             Example: ioac compile protocol.ioa protocol.object\n\
+             Exit status: 0 done, 1 source refused, 2 bad command line or no source, 5 memory, a file or a device.",
+        )
+        .arg(source_argument(alloc))?
+        .arg(out_argument(alloc))?
+        .arg(composition_option(alloc))?
+        .arg(explain_flag(alloc))
+}
+
+fn dump_command<'a>(alloc: Global) -> Result<Command<'a>, AllocError>
+    ensures app { IfOk result (λ command. app_of command ≡ dump_app) }
+    ensures local { IfOk result IsLocal }
+{
+    Command::new(alloc, "dump")
+        .about("Prints the tables and the code of an object, an item a line")
+        .after_help(
+            "Types, variables, positions and constants have the numbers by which instructions name them.\n\
+             Example: ioac dump protocol.object\n\
+             Exit status: 0 done, 1 no object, 2 bad command line, 5 memory, the file or a device.",
+        )
+        .arg(object_argument(alloc))?
+        .arg(explain_flag(alloc))
+}
+
+fn explain_command<'a>(alloc: Global) -> Result<Command<'a>, AllocError>
+    ensures app { IfOk result (λ command. app_of command ≡ explain_app) }
+    ensures local { IfOk result IsLocal }
+{
+    Command::new(alloc, "explain")
+        .about("Says what a text means that the program printed, what gives it, and how to mend it")
+        .after_help(
+            "The first words tell, in capitals or not; more may stand behind them, and `end:` or `monitor:` before.\n\
+             Example: ioac explain fault 3 in component 0 at 2\n\
+             Exit status: 0 done, 2 bad command line or nothing to explain, 5 memory or a device.",
+        )
+        .arg(text_argument(alloc))?
+        .arg(explain_flag(alloc))
+}
+
+fn library_command<'a>(alloc: Global) -> Result<Command<'a>, AllocError>
+    ensures app { IfOk result (λ command. app_of command ≡ library_app) }
+    ensures local { IfOk result IsLocal }
+{
+    Command::new(alloc, "library")
+        .about("Prints the library of link protocols, a source to check, run and replay")
+        .after_help(
+            "Example: ioac library > links.ioa\n\
+             Exit status: 0 done, 2 bad command line, 5 memory or a device.",
+        )
+        .arg(explain_flag(alloc))
+}
+
+fn replay_command<'a>(alloc: Global) -> Result<Command<'a>, AllocError>
+    ensures app { IfOk result (λ command. app_of command ≡ replay_app) }
+    ensures local { IfOk result IsLocal }
+{
+    described_replay(alloc)
+        .arg(file_argument(alloc))?
+        .arg(composition_option(alloc))?
+        .arg(log_flag(alloc))?
+        .arg(invariants_flag(alloc))?
+        .arg(states_flag(alloc))?
+        .arg(explain_flag(alloc))
+}
+
+/// The subcommand without its arguments. Its usage is written out, since invariants are asked of a log alone.
+fn described_replay<'a>(alloc: Global) -> Command<'a>
+    ensures app { app_of result ≡ new_app (codes "replay") }
+    ensures local { IsLocal result }
+{
+    Command::new(alloc, "replay")
+        .about("Performs a list of actions, read on standard input, and prints its external trace")
+        .after_help(
+            "The list has one action a line, as `tick(5)`. Blank lines and lines that begin with % are skipped.\n\
+             A log has one JSON object a line, as `{\"act\":\"tick(5)\",\"who\":0}`, and last `{\"end\":\"done after 1\"}`.\n\
+             Example: ioac replay protocol.ioa < actions.txt\n\
+             Exit status: 0 done, 1 source or object refused, 2 bad command line, 3 ended by a fault,\n\
+             4 list or log refused, invariant broken, or ended not enabled or not an action, 5 memory, the file or a device.",
+        )
+        .override_usage(
+            "ioac replay [--comp <NAME>] [--log [--invariants]] [--states] [--explain] <FILE>",
+        )
+}
+
+fn log_command<'a>(alloc: Global) -> Result<Command<'a>, AllocError>
+    ensures app { IfOk result (λ command. app_of command ≡ log_app) }
+    ensures local { IfOk result IsLocal }
+{
+    Command::new(alloc, "log")
+        .about("Performs a list of actions, read on standard input, and prints the log of this run")
+        .after_help(
+            "The log has each action that is performed, with its worker, and last the end. An action that faults is its last entry;\n\
+             where one is not enabled or none, the log ends as done before it. `replay --log` and `monitor` take the log.\n\
+             Example: ioac log protocol.ioa < actions.txt > run.log\n\
+             Exit status: 0 done, 1 source or object refused, 2 bad command line, 3 ended by a fault,\n\
+             4 list refused, or ended not enabled or not an action, 5 memory, the file or a device.",
+        )
+        .arg(file_argument(alloc))?
+        .arg(composition_option(alloc))?
+        .arg(explain_flag(alloc))
+}
+
+fn monitor_command<'a>(alloc: Global) -> Result<Command<'a>, AllocError>
+    ensures app { IfOk result (λ command. app_of command ≡ monitor_app) }
+    ensures local { IfOk result IsLocal }
+{
+    Command::new(alloc, "monitor")
+        .about(
+            "Reads a log on standard input, and prints whether a composition accepts its actions",
+        )
+        .after_help(
+            "The composition has no internal action, and hides none. It is run on those of the log's actions that its components have.\n\
+             Example: ioac monitor specification.ioa < run.log\n\
+             Exit status: 0 accepted, 1 source or object refused, 2 bad command line,\n\
+             4 not accepted, log refused, or no monitor, 5 memory, the file or a device.",
+        )
+        .arg(file_argument(alloc))?
+        .arg(composition_option(alloc))?
+        .arg(explain_flag(alloc))
+}
+
+fn chart_command<'a>(alloc: Global) -> Result<Command<'a>, AllocError>
+    ensures app { IfOk result (λ command. app_of command ≡ chart_app) }
+    ensures local { IfOk result IsLocal }
+{
+    Command::new(alloc, "chart")
+        .about("Reads a log on standard input, and prints a sequence diagram of it for Mermaid")
+        .after_help(
+            "The log has to be of the composition's run. Each action is an arrow from the component that owns it, or from the environment,\n\
+             to each other component that has it; where there is none, it is a note over its owner. A fault is a note, too.\n\
+             Example: ioac chart protocol.ioa < run.log\n\
+             Exit status: 0 done, 1 source or object refused, 2 bad command line, 3 ended by a fault,\n\
+             4 log refused, 5 memory, the file or a device.",
+        )
+        .arg(file_argument(alloc))?
+        .arg(composition_option(alloc))?
+        .arg(explain_flag(alloc))
+}
+
+fn graph_command<'a>(alloc: Global) -> Result<Command<'a>, AllocError>
+    ensures app { IfOk result (λ command. app_of command ≡ graph_app) }
+    ensures local { IfOk result IsLocal }
+{
+    Command::new(alloc, "graph")
+        .about(
+            "Prints a graph of a composition for Graphviz: its components, and the actions that they share",
+        )
+        .after_help(
+            "An output is an edge to each component that takes it, or to the environment where none does, dashed where its name is hidden;\n\
+             an input that no component gives is an edge from the environment. Internal names stand in their component.\n\
+             Example: ioac graph protocol.ioa > protocol.dot\n\
+             Exit status: 0 done, 1 source or object refused, 2 bad command line, 5 memory, the file or a device.",
+        )
+        .arg(file_argument(alloc))?
+        .arg(composition_option(alloc))?
+        .arg(explain_flag(alloc))
+}
+
+fn program<'a>(alloc: Global) -> Result<Command<'a>, AllocError>
+    ensures { IfOk result (λ command. app_of command ≡ ioac_app) }
+{
+    Command::new(alloc, "ioac")
+        .about("Compiles I/O automata, runs them, and replays lists of their actions")
+        .version(VERSION)
+        .subcommand_required(true)
+        .arg_required_else_help(true)
+        .subcommand(check_command(alloc)?)?
+        .subcommand(compile_command(alloc)?)?
+        .subcommand(dump_command(alloc)?)?
+        .subcommand(replay_command(alloc)?)?
+        .subcommand(log_command(alloc)?)?
+        .subcommand(run_command(alloc)?)?
+        .subcommand(monitor_command(alloc)?)?
+        .subcommand(chart_command(alloc)?)?
+        .subcommand(graph_command(alloc)?)?
+        .subcommand(explain_command(alloc)?)?
+        .subcommand(library_command(alloc)?)
+}
+
+/// Reads a command line, whose first word is the program's.
+///
+/// # Errors
+/// The words have a fault, or ask for help or the version; or want of memory.
+pub fn parse<'a, S: AsStr>(alloc: Global, words: &'a [S]) -> Result<ArgMatches<'a>, Error>
+    ensures found { IfOk result (λ matches. subcommand_rows_of matches ≡ subcommand_of ioac_app (map S.text words.entry.now)) }
+    ensures faults { FailsBy (fault_of ioac_app (map S.text words.entry.now)) result }
+{
+    program(alloc)?.try_get_matches_from(words)
+}

@@ -1,0 +1,115 @@
+//! The command line of `run`.
+
+ghost use Rattle.std.specs.Prelude.{◌≡◌, false, codes, IfOk};
+ghost use Rattle.clap.specs.Words.{app_of, new_app, rule_of};
+ghost use Rattle.ioa_request.specs.CommandLine.{IsLocal, alone_rule, inputs_rule, log_rule, reports_rule, run_app, seed_rule, turns_rule, words_rule};
+
+use crate::request::{composition_option, explain_flag, file_argument};
+use clap::{Arg, ArgAction, Command};
+use std::alloc::{AllocError, Global};
+
+fn alone_flag<'a>(alloc: Global) -> Arg<'a>
+    ensures rule { rule_of result ≡ alone_rule }
+    ensures local { result.global ≡ false }
+{
+    Arg::new(alloc, "alone")
+        .long("alone")
+        .action(ArgAction::SetTrue)
+        .help("The workers take turns on one thread, in their order; without it, each has a thread")
+}
+
+fn turns_option<'a>(alloc: Global) -> Arg<'a>
+    ensures rule { rule_of result ≡ turns_rule }
+    ensures local { result.global ≡ false }
+{
+    Arg::new(alloc, "turns").long("turns").value_name("N").help(
+        "How many turns each worker has, up to 100000; without it, 1000",
+    )
+}
+
+fn seed_option<'a>(alloc: Global) -> Arg<'a>
+    ensures rule { rule_of result ≡ seed_rule }
+    ensures local { result.global ≡ false }
+{
+    Arg::new(alloc, "seed").long("seed").value_name("HEX").help(
+        "The key of the workers' random words, 64 hexadecimal digits; without it, zeros",
+    )
+}
+
+fn words_option<'a>(alloc: Global) -> Arg<'a>
+    ensures rule { rule_of result ≡ words_rule }
+    ensures local { result.global ≡ false }
+{
+    Arg::new(alloc, "words")
+        .long("words")
+        .value_name("WFILE")
+        .help("In place of a seed: a file with a line of words for each component")
+}
+
+fn inputs_option<'a>(alloc: Global) -> Arg<'a>
+    ensures rule { rule_of result ≡ inputs_rule }
+    ensures local { result.global ≡ false }
+{
+    Arg::new(alloc, "inputs")
+        .long("inputs")
+        .value_name("LFILE")
+        .help("A file with the list of inputs that the environment performs")
+}
+
+fn log_flag<'a>(alloc: Global) -> Arg<'a>
+    ensures rule { rule_of result ≡ log_rule }
+    ensures local { result.global ≡ false }
+{
+    Arg::new(alloc, "log")
+        .long("log")
+        .action(ArgAction::SetTrue)
+        .help("The log is printed in place of the trace")
+}
+
+fn reports_flag<'a>(alloc: Global) -> Arg<'a>
+    ensures rule { rule_of result ≡ reports_rule }
+    ensures local { result.global ≡ false }
+{
+    Arg::new(alloc, "reports")
+        .long("reports")
+        .action(ArgAction::SetTrue)
+        .help("What became of each worker's turns is told on standard error")
+}
+
+/// The subcommand `run`.
+pub fn run_command<'a>(alloc: Global) -> Result<Command<'a>, AllocError>
+    ensures app { IfOk result (λ command. app_of command ≡ run_app) }
+    ensures local { IfOk result IsLocal }
+{
+    described_run(alloc)
+        .arg(file_argument(alloc))?
+        .arg(composition_option(alloc))?
+        .arg(alone_flag(alloc))?
+        .arg(turns_option(alloc))?
+        .arg(seed_option(alloc))?
+        .arg(words_option(alloc))?
+        .arg(inputs_option(alloc))?
+        .arg(log_flag(alloc))?
+        .arg(reports_flag(alloc))?
+        .arg(explain_flag(alloc))
+}
+
+/// The subcommand without its arguments. Its usage is written out, since a seed and a file of words are not given together.
+fn described_run<'a>(alloc: Global) -> Command<'a>
+    ensures app { app_of result ≡ new_app (codes "run") }
+    ensures local { IsLocal result }
+{
+    Command::new(alloc, "run")
+        .about("Runs a composition, and prints its external trace")
+        .after_help(
+            "Each component is a worker, which proposes actions by its words and performs those that are enabled.\n\
+             The environment performs the inputs of LFILE in order, one action a line, as `reset`.\n\
+             WFILE has the words of the first component on its first line, in decimal, as `9 17 4`; then they are 0.\n\
+             Example: ioac run --alone --turns 20 protocol.ioa\n\
+             Exit status: 0 done, 1 source or object refused, 2 bad command line, words or turns, 3 ended by a fault,\n\
+             4 inputs refused, 5 memory, a thread, a file or a device.",
+        )
+        .override_usage(
+            "ioac run [--comp <NAME>] [--alone] [--turns <N>] [--seed <HEX>|--words <WFILE>] [--inputs <LFILE>] [--log] [--reports] [--explain] <FILE>",
+        )
+}

@@ -1,0 +1,123 @@
+-- An object that is compiled of a source does as the source: its program is the one that was compiled.
+use Rattle.std.proofs.Common.{◌≡◌, ℕ, List, Option, true, refl, sym, ap, ◌∙◌, subst}
+use Rattle.std.specs.Io.KnownBytes.{Appends}
+use Rattle.std.proofs.lemmas.Bool.{false≢true}
+use Rattle.ioa_value.specs.Actions.{Act, Name}
+use Rattle.ioa_value.specs.Lists.{ReadsList}
+use Rattle.ioa_tree.specs.Compositions.{Composed, components_of, starts_of}
+use Rattle.ioa_tree.specs.Hosts.{Hosted, hosts_of, host_starts}
+use Rattle.ioa_tree.specs.Runs.{Ending, run, trace}
+use Rattle.ioa_compose.specs.Stands.{Stands}
+use Rattle.ioa_compile.specs.Means.{Means}
+use Rattle.ioa_compile.specs.Programs.{Prog}
+use Rattle.ioa_compile.specs.Tables.{start_states, tabled}
+use Rattle.ioa_object.specs.Objects.{IsObject}
+use Rattle.ioa_object.proofs.ObjectLaws.{one_program}
+use Rattle.ioa_system.specs.Logs.{actions_of}
+use Rattle.ioa_system.proofs.Hosting.{host_run, host_trace}
+use Rattle.ioa_log.specs.Judging.{agrees}
+use Rattle.ioa_log.specs.LogTexts.{ReadsLog}
+use Rattle.ioa_log.specs.Replays.{Replays, replay_text, run_text}
+use Rattle.ioa_log.specs.RunLogs.{WritesRunLog}
+use Rattle.ioa_log.proofs.Hosting.{hosts_judged, hosts_monitored, hosts_seen}
+use Rattle.ioa_log.proofs.Judged.{judged_means}
+use Rattle.ioa_log.proofs.LoggedLists.{hosts_alike, source_alike, writes_alike}
+use Rattle.ioa_log.proofs.Monitored.{hides_means, monitored_means}
+use Rattle.ioa_picture.specs.Graphs.{graph}
+use Rattle.ioa_serving.specs.Carried.{ChartsAsSource, GraphsAsSource, LogsListsAsSource, MonitorsAsSource, ReplaysAsSource, ReplaysLogsAsSource}
+use Rattle.ioa_serving.specs.Compiling.{IsCompiled}
+use Rattle.ioa_serving.specs.Headline.{Gives, begins_object}
+use Rattle.ioa_serving.specs.Logs.{Monitors, ReplaysLog, performed_in}
+use Rattle.ioa_serving.specs.Pictures.{ChartsLog}
+use Rattle.ioa_serving.specs.Subjects.{Subject, of_hosts, its_components, its_hidden, its_starts, its_types, of_table}
+use Rattle.ioa_serving.proofs.Pictured.{charted_as}
+
+-- what the table does, the hosts do
+module _ (p : Prog) (h : Hosted) (c : Composed) (s : Stands h c) (m : Means p c) where
+  same_ending : (acts : List Act) → (run (tabled p) acts (start_states p)).ending ≡ (run (hosts_of h) acts (host_starts h)).ending
+  same_ending acts = sym (host_run p h c acts s m).ending
+
+  pub same_text : (acts : List Act) → run_text p.types p.hidden (tabled p) (start_states p) acts ≡ run_text h.types h.hidden (hosts_of h) (host_starts h) acts
+  same_text acts =
+      let n : ℕ = (run (hosts_of h) acts (host_starts h)).performed in
+      let end : Ending = (run (tabled p) acts (start_states p)).ending in
+      ap (λ ts. replay_text ts (trace p.hidden (tabled p) acts (run (tabled p) acts (start_states p)).performed) end) (m.types ∙ s.types)
+      ∙ ap (λ k. replay_text h.types (trace p.hidden (tabled p) acts k) end) (sym (host_run p h c acts s m).performed)
+      ∙ ap (λ xs. replay_text h.types xs end) (host_trace p h c acts n s m)
+      ∙ ap (replay_text h.types (trace h.hidden (hosts_of h) acts n)) (same_ending acts)
+
+  hosts_replay : (bytes : List ℕ) (end : Ending) (before after : Option (List ℕ)) → Replays p.types p.hidden (tabled p) (start_states p) bytes end before after
+      → Replays h.types h.hidden (hosts_of h) (host_starts h) bytes end before after
+  hosts_replay bytes end before after (acts, reads, ends, text) =
+      (acts, subst (λ ts. ReadsList ts bytes acts) (m.types ∙ s.types) reads, ends ∙ same_ending acts, subst (λ (bs : List ℕ). Appends before after bs) (same_text acts) text)
+
+  hosts_replay_log : (bytes : List ℕ) (end : Ending) (before after : Option (List ℕ)) → ReplaysLog (of_table p) bytes end before after → ReplaysLog (of_hosts h) bytes end before after
+  hosts_replay_log bytes end before after (log, (reads, agree), ends, text) = (
+    log,
+    (subst (λ ts. ReadsLog ts bytes log) (m.types ∙ s.types) reads, hosts_judged h c s log agrees (judged_means p c log m ∙ agree)),
+    ends ∙ same_ending (actions_of log),
+    subst (λ (bs : List ℕ). Appends before after bs) (same_text (actions_of log)) text,
+  )
+
+  hosts_log : (bytes : List ℕ) (end : Ending) (before after : Option (List ℕ)) → WritesRunLog p.types (tabled p) (start_states p) bytes end before after
+      → WritesRunLog h.types (hosts_of h) (host_starts h) bytes end before after
+  hosts_log bytes end before after k =
+      writes_alike c.types h.types (components_of c) (starts_of c) (hosts_of h) (host_starts h) (hosts_alike h c s) bytes end before after
+      (writes_alike p.types c.types (tabled p) (start_states p) (components_of c) (starts_of c) (source_alike p c m) bytes end before after k)
+
+  hosts_chart : (bytes : List ℕ) (end : Ending) (before after : Option (List ℕ)) → ChartsLog (of_table p) bytes end before after → ChartsLog (of_hosts h) bytes end before after
+  hosts_chart bytes end before after (log, (reads, agree), ends, text) = (
+    log,
+    (subst (λ ts. ReadsLog ts bytes log) (m.types ∙ s.types) reads, hosts_judged h c s log agrees (judged_means p c log m ∙ agree)),
+    ends ∙ same_ending (actions_of log),
+    subst (λ (bs : List ℕ). Appends before after bs) (charted_as p (of_hosts h) log (c, s, m)) text,
+  )
+
+  hosts_monitor : (bytes : List ℕ) (answer : Option Ending) (before after : Option (List ℕ)) → Monitors (of_table p) bytes answer before after → Monitors (of_hosts h) bytes answer before after
+  hosts_monitor bytes answer before after (seen, (log, reads, answered, text)) = (
+    hosts_seen h c s (hides_means p c m ∙ seen),
+    (
+      log,
+      subst (λ ts. ReadsLog ts bytes log) (m.types ∙ s.types) reads,
+      answered ∙ sym (monitored_means p c (performed_in log) m) ∙ hosts_monitored h c s (performed_in log),
+      text,
+    ),
+  )
+
+pub begins : (bytes : List ℕ) (p : Prog) → IsObject bytes p → begins_object bytes ≡ true
+begins bytes p is = ap begins_object is.spelled
+
+-- what holds of an object's table, and of the hosts where it holds of their program's table, holds of what the source declares
+carried : (P : Subject → Type 0) (text bytes : List ℕ) (name of : Option Name)
+    → ((p : Prog) (h : Hosted) (c : Composed) → Stands h c → Means p c → P (of_table p) → P (of_hosts h))
+    → IsCompiled text name bytes → (s : Subject) × Gives bytes of s × P s → (s : Subject) × Gives text name s × P s
+carried P text bytes name of over (h, gives, (p, runs, is)) (of_hosts k, given, holds) = absurd (false≢true (sym given.0 ∙ begins bytes p is))
+carried P text bytes name of over (h, gives, (p, runs, is)) (of_table q, given, holds) =
+    (of_hosts h, gives, over p h runs.0 runs.1 runs.2 (subst (λ x. P (of_table x)) (one_program bytes q p given.object is) holds))
+
+pub replays_as_source : ReplaysAsSource
+replays_as_source text object name of bytes end before after =
+    carried (λ x. Replays (its_types x) (its_hidden x) (its_components x) (its_starts x) bytes end before after) text object name of
+    (λ p h c s m k. hosts_replay p h c s m bytes end before after k)
+
+pub logs_as_source : ReplaysLogsAsSource
+logs_as_source text object name of bytes end before after =
+    carried (λ x. ReplaysLog x bytes end before after) text object name of (λ p h c s m k. hosts_replay_log p h c s m bytes end before after k)
+
+pub list_logs_as_source : LogsListsAsSource
+list_logs_as_source text object name of bytes end before after =
+    carried (λ x. WritesRunLog (its_types x) (its_components x) (its_starts x) bytes end before after) text object name of
+    (λ p h c s m k. hosts_log p h c s m bytes end before after k)
+
+pub charts_as_source : ChartsAsSource
+charts_as_source text object name of bytes end before after =
+    carried (λ x. ChartsLog x bytes end before after) text object name of (λ p h c s m k. hosts_chart p h c s m bytes end before after k)
+
+pub graphs_as_source : GraphsAsSource
+graphs_as_source text object name of before after (h, gives, (p, runs, is)) (q, (of_hosts k, given, other), drawn) = absurd (false≢true (sym given.0 ∙ begins object p is))
+graphs_as_source text object name of before after (h, gives, (p, runs, is)) (q, (of_table k, given, same), drawn) =
+    (p, (of_hosts h, gives, runs), subst (λ x. Appends before after (graph x)) (same ∙ one_program object k p given.object is) drawn)
+
+pub monitors_as_source : MonitorsAsSource
+monitors_as_source text object name of bytes answer before after =
+    carried (λ x. Monitors x bytes answer before after) text object name of (λ p h c s m k. hosts_monitor p h c s m bytes answer before after k)

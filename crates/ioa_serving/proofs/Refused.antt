@@ -1,0 +1,220 @@
+-- From the clauses of the layers to why a replay or a monitor does not come to an end.
+use Rattle.std.proofs.Common.{◌≡◌, ◌⊎◌, ℕ, inl, inr, List, Option, Some, None, Result, Ok, Err, IfErr, IfSome, refl, sym, ap, ◌∙◌, subst}
+use Rattle.std.specs.Result.{IsErrOf}
+use Rattle.std.proofs.lemmas.Option.{IfSome_then}
+use Rattle.std.specs.Io.KnownBytes.{Keeps}
+use Rattle.ioa_value.specs.Actions.{Name}
+use Rattle.ioa_value.specs.Lists as lists
+use Rattle.ioa_value.specs.Table.{Table}
+use Rattle.ioa_lex.specs.declared.refusal.Refusal.{Refusal}
+use Rattle.ioa_lex.specs.declared.refusal.Refusal.TheVariants as refusals
+use Rattle.ioa_tree.specs.Tree.{SourceTree, CompositionTree}
+use Rattle.ioa_tree.specs.WellFormed.{WellFormed}
+use Rattle.ioa_tree.specs.Compositions.{picked}
+use Rattle.ioa_tree.specs.Hosts.{Hosted, IsHosted}
+use Rattle.ioa_compose.specs.Refusals as compositions
+use Rattle.ioa_system.specs.Logs.{Logged}
+use Rattle.ioa_log.specs.declared.failure.LogErr.{LogErr}
+use Rattle.ioa_log.specs.Failing.{IsListErr, IsTextErr}
+use Rattle.ioa_log.specs.Judging.{IsReplayErr, judged, wrong_owner, diverges}
+use Rattle.ioa_log.specs.LogTexts.{GoesOnAt, HasNoEnd, NoEntryAt, NotJsonAt, ReadsLog}
+use Rattle.ioa_serving.specs.declared.failure.Failure.{Failure}
+use Rattle.ioa_serving.specs.Headline.{Declares, Gives, Spells}
+use Rattle.ioa_serving.specs.Failing.{Given, IsFailure, IsLogFailure, IsMonitorFailure, IsRefusedGiven, IsRefusedSource, IsUnwritten}
+use Rattle.ioa_serving.specs.Subjects.{IsOpen, Subject, its_components, its_starts, its_types}
+
+-- what checking and composing answer, told of the text
+pub declared : (text : List ℕ) (name : Option Name) (s u : SourceTree) (t : CompositionTree) (h : Hosted) → Spells text s → u ≡ s → WellFormed s
+    → picked u name ≡ Some t → IsHosted u t h → Declares text name h
+declared text name s u t h found same well picks hosted = record {
+  source = s;
+  tree = t;
+  spells = found;
+  well_formed = well;
+  picks = subst (λ v. picked v name ≡ Some t) same picks;
+  is_hosted = subst (λ v. IsHosted v t h) same hosted;
+}
+
+uncomposed : (text : List ℕ) (name : Option Name) (s u : SourceTree) (x : Refusal) → Spells text s → u ≡ s → WellFormed s
+    → (picked u name ≡ None → x ≡ refusals.NoComposition)
+    → ((t : CompositionTree) → picked u name ≡ Some t → compositions.IsRefused u t x)
+    → IsRefusedSource text name x
+uncomposed text name s u x found same well missing refused = inr (inr (inr (s, found, well, go (picked s name) refl)))
+  where
+    go : (o : Option CompositionTree) → picked s name ≡ o
+        → ((picked s name ≡ None) × (x ≡ refusals.NoComposition)) ⊎ ((t : CompositionTree) × (picked s name ≡ Some t) × compositions.IsRefused s t x)
+    go None e = inl (e, missing (subst (λ v. picked v name ≡ None) (sym same) e))
+    go (Some t) e = inr (t, e, subst (λ v. compositions.IsRefused v t x) same (refused t (subst (λ v. picked v name ≡ Some t) (sym same) e)))
+
+pub same_refusal : {T : Type 0} (x y : Refusal) → IsErrOf {T = T} (Err x) y → x ≡ y
+same_refusal x y h = cc
+
+-- the same of what composing answers
+pub all_uncomposed : {T : Type 0} (r : Result T Refusal) (text : List ℕ) (name : Option Name) (s u : SourceTree) → Spells text s → u ≡ s → WellFormed s
+    → (picked u name ≡ None → IsErrOf r refusals.NoComposition)
+    → ((t : CompositionTree) → picked u name ≡ Some t → IfErr r (compositions.IsRefused u t))
+    → IfErr r (IsRefusedSource text name)
+all_uncomposed (Ok c) text name s u found same well missing refused = tt
+all_uncomposed {T} (Err x) text name s u found same well missing refused =
+    uncomposed text name s u x found same well (λ n. same_refusal {T = T} x refusals.NoComposition (missing n)) refused
+
+-- an error that a `?` hands on, made another's
+pub err_so : {T E : Type 0} (r : Result T E) (y z : E) (P : E → Type 0) → r ≡ Err y → y ≡ z → P z → IfErr r P
+err_so r y z P is of h = subst (λ q. IfErr q P) (sym is) (subst P (sym of) h)
+
+-- the same, asked of the result
+pub err_as : {T U E : Type 0} (r : Result T E) (y x z : E) → r ≡ Err y → y ≡ x → IsErrOf r z → IsErrOf {T = U} (Err x) z
+err_as (Ok t) y x z is of h = cc
+err_as (Err w) y x z is of h =
+    let a : w ≡ y = cc in
+    let b : w ≡ z = cc in
+    ap Err (sym of ∙ sym a ∙ b)
+
+-- a list that is refused, or a device that failed
+pub list_failed : (text : List ℕ) (name : Option Name) (bytes : Option (List ℕ)) (failed : Type 0) (s : Subject) (types : Table) (x : LogErr) {T : Type 0}
+    → Gives text name s → types ≡ its_types s → IsListErr x
+    → ((n : ℕ) → IsErrOf {T = T} (Err x) (LogErr.BadLine n) → IfSome bytes (λ xs. lists.BadLine types xs n))
+    → (IsErrOf {T = T} (Err x) LogErr.Io → failed)
+    → IsFailure text name bytes failed (Failure.List x)
+list_failed text name bytes failed s types (LogErr.BadLine n) of same only bad io = (s, of, subst (λ ts. IfSome bytes (λ xs. lists.BadLine ts xs n)) same (bad n refl))
+list_failed text name bytes failed s types LogErr.Io of same only bad io = (s, of, io refl)
+list_failed text name bytes failed s types LogErr.OutOfMemory of same only bad io = tt
+list_failed text name bytes failed s types (LogErr.NotJson n) of same only bad io = absurd only
+list_failed text name bytes failed s types (LogErr.WrongOwner n) of same only bad io = absurd only
+list_failed text name bytes failed s types (LogErr.Diverges n) of same only bad io = absurd only
+list_failed text name bytes failed s types LogErr.NoEnd of same only bad io = absurd only
+list_failed text name bytes failed s types LogErr.AfterEnd of same only bad io = absurd only
+
+-- why a log is not read
+abbrev pub IsUnread : Table → Option (List ℕ) → Type 0 → LogErr → Type 0
+IsUnread types bytes failed (LogErr.NotJson n) = IfSome bytes (λ xs. NotJsonAt types xs n)
+IsUnread types bytes failed (LogErr.BadLine n) = IfSome bytes (λ xs. NoEntryAt types xs n)
+IsUnread types bytes failed (LogErr.WrongOwner n) = ⊥
+IsUnread types bytes failed (LogErr.Diverges n) = ⊥
+IsUnread types bytes failed LogErr.NoEnd = IfSome bytes (HasNoEnd types)
+IsUnread types bytes failed LogErr.AfterEnd = IfSome bytes (λ xs. (n : ℕ) × GoesOnAt types xs n)
+IsUnread types bytes failed LogErr.Io = failed
+IsUnread types bytes failed LogErr.OutOfMemory = Unit {0}
+
+pub unread : (types : Table) (bytes : Option (List ℕ)) (failed : Type 0) (x : LogErr) {T : Type 0} → IsTextErr x
+    → ((n : ℕ) → IsErrOf {T = T} (Err x) (LogErr.NotJson n) → IfSome bytes (λ xs. NotJsonAt types xs n))
+    → ((n : ℕ) → IsErrOf {T = T} (Err x) (LogErr.BadLine n) → IfSome bytes (λ xs. NoEntryAt types xs n))
+    → (IsErrOf {T = T} (Err x) LogErr.AfterEnd → IfSome bytes (λ xs. (n : ℕ) × GoesOnAt types xs n))
+    → (IsErrOf {T = T} (Err x) LogErr.NoEnd → IfSome bytes (HasNoEnd types))
+    → (IsErrOf {T = T} (Err x) LogErr.Io → failed)
+    → IsUnread types bytes failed x
+unread types bytes failed (LogErr.NotJson n) only not_json bad after no_end io = not_json n refl
+unread types bytes failed (LogErr.BadLine n) only not_json bad after no_end io = bad n refl
+unread types bytes failed LogErr.NoEnd only not_json bad after no_end io = no_end refl
+unread types bytes failed LogErr.AfterEnd only not_json bad after no_end io = after refl
+unread types bytes failed LogErr.Io only not_json bad after no_end io = io refl
+unread types bytes failed LogErr.OutOfMemory only not_json bad after no_end io = tt
+unread types bytes failed (LogErr.WrongOwner n) only not_json bad after no_end io = absurd only
+unread types bytes failed (LogErr.Diverges n) only not_json bad after no_end io = absurd only
+
+pub log_unread : (text : List ℕ) (name : Option Name) (bytes : Option (List ℕ)) (failed : Type 0) (s : Subject) (types : Table) (x : LogErr)
+    → Gives text name s → types ≡ its_types s → IsUnread types bytes failed x → IsLogFailure text name bytes failed (Failure.List x)
+log_unread text name bytes failed s types x of same u = go x (subst (λ ts. IsUnread ts bytes failed x) same u)
+  where
+    go : (x : LogErr) → IsUnread (its_types s) bytes failed x → IsLogFailure text name bytes failed (Failure.List x)
+    go (LogErr.NotJson n) u = (s, of, u)
+    go (LogErr.BadLine n) u = (s, of, u)
+    go LogErr.NoEnd u = (s, of, u)
+    go LogErr.AfterEnd u = (s, of, u)
+    go LogErr.Io u = (s, of, u)
+    go LogErr.OutOfMemory u = tt
+    go (LogErr.WrongOwner n) u = absurd u
+    go (LogErr.Diverges n) u = absurd u
+
+pub monitor_unread : (text : List ℕ) (name : Option Name) (bytes : Option (List ℕ)) (failed : Type 0) (s : Subject) (types : Table) (x : LogErr)
+    → Gives text name s → types ≡ its_types s → IsOpen s → IsUnread types bytes failed x → IsMonitorFailure text name bytes failed (Failure.List x)
+monitor_unread text name bytes failed s types x of same seen u = go x (subst (λ ts. IsUnread ts bytes failed x) same u)
+  where
+    go : (x : LogErr) → IsUnread (its_types s) bytes failed x → IsMonitorFailure text name bytes failed (Failure.List x)
+    go (LogErr.NotJson n) u = (s, of, seen, u)
+    go (LogErr.BadLine n) u = (s, of, seen, u)
+    go LogErr.NoEnd u = (s, of, seen, u)
+    go LogErr.AfterEnd u = (s, of, seen, u)
+    go LogErr.Io u = (s, of, seen, u)
+    go LogErr.OutOfMemory u = tt
+    go (LogErr.WrongOwner n) u = absurd u
+    go (LogErr.Diverges n) u = absurd u
+
+-- a log that is not the run's
+pub log_judged : (text : List ℕ) (name : Option Name) (bytes : Option (List ℕ)) (failed : Type 0) (s : Subject) (log : Logged) (x : LogErr) {T : Type 0}
+    → Gives text name s → IfSome bytes (λ xs. ReadsLog (its_types s) xs log) → IsReplayErr x
+    → ((n : ℕ) → IsErrOf {T = T} (Err x) (LogErr.WrongOwner n) → judged (its_components s) (its_starts s) log ≡ wrong_owner n)
+    → ((n : ℕ) → IsErrOf {T = T} (Err x) (LogErr.Diverges n) → judged (its_components s) (its_starts s) log ≡ diverges n)
+    → IsLogFailure text name bytes failed (Failure.List x)
+log_judged text name bytes failed s log (LogErr.WrongOwner n) of reads only owner diverging =
+    (s, of, IfSome_then bytes reads (λ xs r. (log, r, owner n refl)))
+log_judged text name bytes failed s log (LogErr.Diverges n) of reads only owner diverging =
+    (s, of, IfSome_then bytes reads (λ xs r. (log, r, diverging n refl)))
+log_judged text name bytes failed s log LogErr.OutOfMemory of reads only owner diverging = tt
+log_judged text name bytes failed s log (LogErr.NotJson n) of reads only owner diverging = absurd only
+log_judged text name bytes failed s log (LogErr.BadLine n) of reads only owner diverging = absurd only
+log_judged text name bytes failed s log LogErr.NoEnd of reads only owner diverging = absurd only
+log_judged text name bytes failed s log LogErr.AfterEnd of reads only owner diverging = absurd only
+log_judged text name bytes failed s log LogErr.Io of reads only owner diverging = absurd only
+
+-- what was written for a list where a device failed
+pub list_unwritten : (text : List ℕ) (name : Option Name) (bytes before after : Option (List ℕ)) (begins : Option (List ℕ) → Option (List ℕ) → Subject → List ℕ → Type 0)
+    (s : Subject) (x : LogErr) {T : Type 0}
+    → Gives text name s → IsListErr x
+    → ((n : ℕ) → IsErrOf {T = T} (Err x) (LogErr.BadLine n) → Keeps before after)
+    → (IsErrOf {T = T} (Err x) LogErr.OutOfMemory → Keeps before after)
+    → (IsErrOf {T = T} (Err x) LogErr.Io → Keeps before after ⊎ IfSome bytes (begins before after s))
+    → IsUnwritten (λ b a. Given text name bytes (begins b a)) before after (Failure.List x)
+list_unwritten text name bytes before after begins s (LogErr.BadLine n) of only bad memory io = bad n refl
+list_unwritten text name bytes before after begins s LogErr.OutOfMemory of only bad memory io = memory refl
+list_unwritten text name bytes before after begins s LogErr.Io of only bad memory io = elim (io refl) [ inl k ↦ inl k | inr k ↦ inr (s, of, k) ]
+list_unwritten text name bytes before after begins s (LogErr.NotJson n) of only bad memory io = absurd only
+list_unwritten text name bytes before after begins s (LogErr.WrongOwner n) of only bad memory io = absurd only
+list_unwritten text name bytes before after begins s (LogErr.Diverges n) of only bad memory io = absurd only
+list_unwritten text name bytes before after begins s LogErr.NoEnd of only bad memory io = absurd only
+list_unwritten text name bytes before after begins s LogErr.AfterEnd of only bad memory io = absurd only
+
+-- nothing was written
+pub kept : (begins : Option (List ℕ) → Option (List ℕ) → Type 0) (before after : Option (List ℕ)) (e : Failure) → Keeps before after → IsUnwritten begins before after e
+kept begins before after (Failure.List LogErr.Io) k = inl k
+kept begins before after _ k = k
+
+-- a file that gives nothing is why
+pub list_ungiven : (text : List ℕ) (name : Option Name) (bytes : Option (List ℕ)) (failed : Type 0) (e : Failure) → IsRefusedGiven text name e → IsFailure text name bytes failed e
+list_ungiven text name bytes failed (Failure.Refused r) k = k
+list_ungiven text name bytes failed (Failure.Object e) k = k
+list_ungiven text name bytes failed Failure.SourceWanted k = absurd k
+list_ungiven text name bytes failed (Failure.List e) k = absurd k
+list_ungiven text name bytes failed Failure.SpecHasInternal k = absurd k
+list_ungiven text name bytes failed (Failure.BadWords n) k = absurd k
+list_ungiven text name bytes failed Failure.TooManyTurns k = absurd k
+list_ungiven text name bytes failed (Failure.BadInput i) k = absurd k
+list_ungiven text name bytes failed Failure.Threads k = absurd k
+list_ungiven text name bytes failed Failure.Io k = absurd k
+list_ungiven text name bytes failed Failure.OutOfMemory k = absurd k
+
+pub log_ungiven : (text : List ℕ) (name : Option Name) (bytes : Option (List ℕ)) (failed : Type 0) (e : Failure) → IsRefusedGiven text name e → IsLogFailure text name bytes failed e
+log_ungiven text name bytes failed (Failure.Refused r) k = k
+log_ungiven text name bytes failed (Failure.Object e) k = k
+log_ungiven text name bytes failed Failure.SourceWanted k = absurd k
+log_ungiven text name bytes failed (Failure.List e) k = absurd k
+log_ungiven text name bytes failed Failure.SpecHasInternal k = absurd k
+log_ungiven text name bytes failed (Failure.BadWords n) k = absurd k
+log_ungiven text name bytes failed Failure.TooManyTurns k = absurd k
+log_ungiven text name bytes failed (Failure.BadInput i) k = absurd k
+log_ungiven text name bytes failed Failure.Threads k = absurd k
+log_ungiven text name bytes failed Failure.Io k = absurd k
+log_ungiven text name bytes failed Failure.OutOfMemory k = absurd k
+
+pub monitor_ungiven : (text : List ℕ) (name : Option Name) (bytes : Option (List ℕ)) (failed : Type 0) (e : Failure) → IsRefusedGiven text name e → IsMonitorFailure text name bytes failed e
+monitor_ungiven text name bytes failed (Failure.Refused r) k = k
+monitor_ungiven text name bytes failed (Failure.Object e) k = k
+monitor_ungiven text name bytes failed Failure.SourceWanted k = absurd k
+monitor_ungiven text name bytes failed (Failure.List e) k = absurd k
+monitor_ungiven text name bytes failed Failure.SpecHasInternal k = absurd k
+monitor_ungiven text name bytes failed (Failure.BadWords n) k = absurd k
+monitor_ungiven text name bytes failed Failure.TooManyTurns k = absurd k
+monitor_ungiven text name bytes failed (Failure.BadInput i) k = absurd k
+monitor_ungiven text name bytes failed Failure.Threads k = absurd k
+monitor_ungiven text name bytes failed Failure.Io k = absurd k
+monitor_ungiven text name bytes failed Failure.OutOfMemory k = absurd k

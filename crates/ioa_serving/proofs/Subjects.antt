@@ -1,0 +1,56 @@
+-- What holds of a program's own table and of the hosts for which its composition stands holds of what the program runs as.
+use Rattle.std.proofs.Common.{◌≡◌, List, refl, sym, ap, ap₂, ◌∙◌, subst}
+use Rattle.ioa_value.specs.Actions.{Act}
+use Rattle.ioa_value.specs.Table.{Table}
+use Rattle.ioa_tree.specs.Compositions.{Composed}
+use Rattle.ioa_tree.specs.Hosts.{Hosted, hosts_of, host_starts}
+use Rattle.ioa_tree.specs.Runs.{run, trace}
+use Rattle.ioa_compose.specs.Stands.{Stands}
+use Rattle.ioa_compile.specs.Means.{Means}
+use Rattle.ioa_compile.specs.Programs.{Prog}
+use Rattle.ioa_compile.specs.Tables.{start_states, tabled}
+use Rattle.ioa_system.specs.declared.runs.Run.{Run}
+use Rattle.ioa_system.specs.Outcomes.{ending_of}
+use Rattle.ioa_system.specs.Logs.{Logged, actions_of}
+use Rattle.ioa_system.specs.Records.{IsHostRun, IsTableRun, trace_of}
+use Rattle.ioa_log.specs.Judging.{agrees, judged}
+use Rattle.ioa_log.specs.Replays.{replay_text, run_text}
+use Rattle.ioa_serving.specs.Running.{RunsAs}
+use Rattle.ioa_serving.specs.Subjects.{Subject, of_hosts, of_table, its_components, its_hidden, its_starts, its_types}
+
+pub of_both : (p : Prog) (s : Subject) (P : Subject → Type 0) → RunsAs p s → P (of_table p) → ((h : Hosted) (c : Composed) → Stands h c → Means p c → P (of_hosts h)) → P s
+of_both p (of_hosts h) P of own other = other h of.0 of.1 of.2
+of_both p (of_table q) P same own other = subst (λ x. P (of_table x)) same own
+
+pub types_as : (p : Prog) (s : Subject) → RunsAs p s → p.types ≡ its_types s
+types_as p s of = of_both p s (λ x. p.types ≡ its_types x) of refl (λ h c stands means. means.types ∙ stands.types)
+
+-- as many actions are performed as the subject performs, for the same end, with its trace
+pub record Reaches (s : Subject) (acts : List Act) (r : Run) : Type 0 where
+  pub performed : r.performed ≡ (run (its_components s) acts (its_starts s)).performed
+  pub ending : ending_of r.end ≡ (run (its_components s) acts (its_starts s)).ending
+  pub trace : trace_of r ≡ trace (its_hidden s) (its_components s) acts r.performed
+
+pub host_reaches : (h : Hosted) (acts : List Act) (r : Run) → IsHostRun h acts r → Reaches (of_hosts h) acts r
+host_reaches h acts r k = record { performed = sym k.reached.performed; ending = sym k.reached.ending; trace = k.trace }
+
+table_reaches : (p : Prog) (acts : List Act) (r : Run) → IsTableRun p acts r → Reaches (of_table p) acts r
+table_reaches p acts r k = record { performed = ap (λ x. x.performed) k.reached; ending = ap (λ x. x.ending) k.reached; trace = k.trace }
+
+-- the run of a log that agrees
+abbrev pub IsSound : Subject → Logged → Run → Type 0
+IsSound s log r = (judged (its_components s) (its_starts s) log ≡ agrees) × Reaches s (actions_of log) r
+
+pub sound_as : (p : Prog) (s : Subject) (log : Logged) (r : Run) → RunsAs p s → (judged (tabled p) (start_states p) log ≡ agrees) × IsTableRun p (actions_of log) r
+    → ((h : Hosted) (c : Composed) → Stands h c → Means p c → (judged (hosts_of h) (host_starts h) log ≡ agrees) × IsHostRun h (actions_of log) r)
+    → IsSound s log r
+sound_as p s log r of own other =
+    of_both p s (λ x. IsSound x log r) of (own.0, table_reaches p (actions_of log) r own.1)
+    (λ h c stands means. let k = other h c stands means in (k.0, host_reaches h (actions_of log) r k.1))
+
+-- the text of a run is the text of the subject's run
+pub run_told : (s : Subject) (types : Table) (acts : List Act) (r : Run) → types ≡ its_types s → Reaches s acts r
+    → replay_text types (trace_of r) (ending_of r.end) ≡ run_text (its_types s) (its_hidden s) (its_components s) (its_starts s) acts
+run_told s types acts r same k =
+    ap (λ ts. replay_text ts (trace_of r) (ending_of r.end)) same
+    ∙ ap₂ (λ xs end. replay_text (its_types s) xs end) (k.trace ∙ ap (trace (its_hidden s) (its_components s) acts) k.performed) k.ending

@@ -1,0 +1,257 @@
+-- What a run of a composition writes and tells, whose workers take turns on one thread or have a thread each, and why there is none.
+use Rattle.std.specs.Prelude.{◌≡◌, ◌<◌, ◌≤◌, ◌⊎◌, ℕ, Bool, true, false, List, [], Option, Some, None, All, length, map, slice_get, take}
+use Rattle.std.specs.Io.KnownBytes.{Appends}
+use Rattle.std.specs.Option.{option_copied}
+use Rattle.ioa_value.specs.declared.limits.TheConstants.{LIMITS}
+use Rattle.ioa_value.specs.Actions.{Act, Name}
+use Rattle.ioa_value.specs.Lists as lists
+use Rattle.ioa_value.specs.Lists.{ReadsList}
+use Rattle.ioa_value.specs.Table.{Table}
+use Rattle.ioa_tree.specs.Proposing.{Words}
+use Rattle.ioa_system.specs.Histories.{TellsHistory}
+use Rattle.ioa_system.specs.Logs.{Logged}
+use Rattle.ioa_log.specs.declared.failure.LogErr.{LogErr}
+use Rattle.ioa_log.specs.LogTexts.{log_text}
+use Rattle.ioa_run.specs.declared.report.Report.{Report}
+use Rattle.ioa_run.specs.Alone.{IsFirstOther, IsInput, NoMemory, most_turns}
+use Rattle.ioa_run.specs.Boards as boards
+use Rattle.ioa_run.specs.Hosts.{host_proposers}
+use Rattle.ioa_run.specs.Outcomes.{ending, logged}
+use Rattle.ioa_run.specs.Proposers.{proposers}
+use Rattle.ioa_run.specs.Reports.{AreTold}
+use Rattle.ioa_run.specs.Seeds.{words_from}
+use Rattle.ioa_run.specs.Turns.{Proposer, Turns, alone}
+use Rattle.ioa_serving.specs.declared.failure.Failure.{Failure}
+use Rattle.ioa_request.specs.declared.settings.Settings.{Settings}
+use Rattle.ioa_request.specs.declared.settings.WordsFrom.{WordsFrom}
+use Rattle.ioa_serving.specs.declared.status.Status.{Status}
+use Rattle.ioa_serving.specs.declared.word_sources.WordSources.{WordSources}
+use Rattle.ioa_serving.specs.Failing.{IsNoObject, IsRefusedFile}
+use Rattle.ioa_serving.specs.Headline.{Gives}
+use Rattle.ioa_serving.specs.Streams.{AreStreams, key_words}
+use Rattle.ioa_serving.specs.Logs.{log_run_text}
+use Rattle.ioa_serving.specs.RunReports.{reports_text}
+use Rattle.ioa_serving.specs.Statuses.{ending_status}
+use Rattle.ioa_serving.specs.Subjects.{State, Subject, of_hosts, of_table, its_components, its_names, its_starts, its_types}
+use Rattle.ioa_serving.specs.WordLists.{AreWords, IsBadWords, line_words, listed, words_to_come}
+
+-- ---- what a run is
+
+-- The log tells a legal history of the subject, and the fault by which it ends, if it does. Of this the reports tell: each counts what its
+-- worker performed, and the environment performed the script's first actions, in order.
+pub record IsRun (s : Subject) (script : List Act) (turns : ℕ) (log : Logged) (reports : List Report) : Type 0 where
+  pub legal : TellsHistory (its_components s) (its_starts s) log
+  pub history : List (ℕ × Act)
+  pub failure : Option boards.Failure
+  pub entries : log.entries ≡ logged history failure
+  pub ends : log.ending ≡ ending history failure
+  pub told : AreTold (length (its_names s)) script turns history failure reports
+
+-- what the entries that each component performs propose, in their order
+abbrev pub its_proposers : (s : Subject) → List (List (Proposer (State s)))
+its_proposers (of_hosts h) = host_proposers h
+its_proposers (of_table p) = proposers p
+
+-- turns of all workers on one thread, so many rounds of them: in each round the components in order, each by its own words, and then the
+-- environment
+abbrev pub turns_of : (s : Subject) → List Words → List Act → ℕ → Turns (State s)
+turns_of s words script turns = alone (its_components s) (its_proposers s) script turns (its_starts s) words
+
+-- the log and the reports are those of these turns
+pub record IsRoundRobin (s : Subject) (words : List Words) (script : List Act) (turns : ℕ) (log : Logged) (reports : List Report) : Type 0 where
+  pub entries : log.entries ≡ logged (turns_of s words script turns).board.history (turns_of s words script turns).board.failure
+  pub ends : log.ending ≡ ending (turns_of s words script turns).board.history (turns_of s words script turns).board.failure
+  pub told : reports ≡ (turns_of s words script turns).reports
+
+-- what is written of it: the log, or the external trace and how the run ends
+abbrev pub written : Subject → Bool → Logged → List ℕ
+written s true log = log_text (its_types s) log
+written s false log = log_run_text s log
+
+abbrev pub told_of : Subject → Bool → List Report → Option (List ℕ)
+told_of s true reports = Some (reports_text (its_names s) reports)
+told_of s false reports = None
+
+-- ---- what it is given
+
+-- the file may hold a source that declares these hosts, or the object of this program
+abbrev pub MayGive : (Name → List ℕ → Type 0) → Settings → Subject → Type 0
+MayGive holds s x = (text : List ℕ) × holds s.file.now text × Gives text (option_copied s.composition) x
+
+-- a file that is not a source is no longer than this
+abbrev pub IsShort : List ℕ → Type 0
+IsShort text = length text ≤ LIMITS.text
+
+-- where the words of so many workers are listed, the file may hold a text that lists them
+abbrev pub HasWords : (Name → List ℕ → Type 0) → WordsFrom → ℕ → Type 0
+HasWords holds (WordsFrom.Key key) workers = Unit {0}
+HasWords holds (WordsFrom.File file) workers =
+    (text : List ℕ) × holds file.now text × IsShort text × ((words : List (List ℕ)) × AreWords workers text words)
+
+-- each of so many workers has its own words, by its number
+pub record HaveOwn (workers : ℕ) (own : ℕ → Words) (words : List Words) : Type 0 where
+  pub count : length words ≡ workers
+  pub each : (i : ℕ) (ws : Words) → slice_get words i ≡ Some ws → (k : ℕ) → ws k ≡ own i k
+
+-- the words of so many workers are from there: of the key, each worker's stream; of a text that the file may hold, each worker's line, and
+-- zeros after it
+abbrev pub AreGiven : (Name → List ℕ → Type 0) → WordsFrom → ℕ → List Words → Type 0
+AreGiven holds (WordsFrom.Key key) workers words = HaveOwn workers (key_words key) words
+AreGiven holds (WordsFrom.File file) workers words =
+    (text : List ℕ) × holds file.now text × IsShort text × ((lists : List (List ℕ)) × AreWords workers text lists) × HaveOwn workers (line_words text) words
+
+-- the script is that of a list that the file may hold; without a file it is empty
+abbrev pub IsScript : (Name → List ℕ → Type 0) → Table → Option Name → List Act → Type 0
+IsScript holds types None script = script ≡ []
+IsScript holds types (Some file) script = (text : List ℕ) × holds file text × IsShort text × ReadsList types text script
+
+-- all that is read for a run of this subject with this script
+pub record IsReady (holds : Name → List ℕ → Type 0) (s : Settings) (x : Subject) (script : List Act) : Type 0 where
+  pub gives : MayGive holds s x
+  pub words : HasWords holds s.words (length (its_names x))
+  pub inputs : IsScript holds (its_types x) (option_copied s.inputs) script
+
+-- ---- what comes of it
+
+-- a run that is asked for on one thread is that of the turns that are defined, by words that are given, where memory is refused to no worker
+abbrev pub IsExact : (Name → List ℕ → Type 0) → Settings → Subject → List Act → Logged → List Report → Type 0
+IsExact holds s x script log reports =
+    s.alone ≡ true → NoMemory reports → (words : List Words) × AreGiven holds s.words (length (its_names x)) words × IsRoundRobin x words script s.turns log reports
+
+-- all is read; the turns are not too many, and the script is of inputs; and a run's text is written, and its reports are left to be told
+pub record IsRunServed (holds : Name → List ℕ → Type 0) (s : Settings) (before after : Option (List ℕ)) (telling : Option (List ℕ)) (done : Status) : Type 0 where
+  pub subject : Subject
+  pub script : List Act
+  pub ready : IsReady holds s subject script
+  pub turns : s.turns ≤ most_turns
+  pub inputs : All (IsInput (its_components subject)) script
+  pub log : Logged
+  pub reports : List Report
+  pub run : IsRun subject script s.turns log reports
+  pub exact : IsExact holds s subject script log reports
+  pub output : Appends before after (written subject s.log log)
+  pub told : telling ≡ told_of subject s.reports reports
+  pub status : done ≡ ending_status log.ending
+
+-- a beginning of a run's text is written
+pub record BeginsRunOf (holds : Name → List ℕ → Type 0) (s : Settings) (before after : Option (List ℕ)) : Type 0 where
+  pub subject : Subject
+  pub script : List Act
+  pub ready : IsReady holds s subject script
+  pub turns : s.turns ≤ most_turns
+  pub inputs : All (IsInput (its_components subject)) script
+  pub log : Logged
+  pub reports : List Report
+  pub run : IsRun subject script s.turns log reports
+  pub exact : IsExact holds s subject script log reports
+  pub taken : ℕ
+  pub begun : Appends before after (take taken (written subject s.log log))
+
+-- ---- why there is none
+
+-- a load of the file may fail, or give a text that is too long for a file that is not a source
+abbrev pub IsUnreadable : (Name → List ℕ → Type 0) → (Name → Type 0) → Name → Type 0
+IsUnreadable holds lacks file = lacks file ⊎ ((text : List ℕ) × holds file text × (IsShort text → ⊥))
+
+abbrev pub LacksWords : (Name → List ℕ → Type 0) → (Name → Type 0) → WordsFrom → Type 0
+LacksWords holds lacks (WordsFrom.Key key) = ⊥
+LacksWords holds lacks (WordsFrom.File file) = IsUnreadable holds lacks file.now
+
+abbrev pub LacksScript : (Name → List ℕ → Type 0) → (Name → Type 0) → Option Name → Type 0
+LacksScript holds lacks None = ⊥
+LacksScript holds lacks (Some file) = IsUnreadable holds lacks file
+
+-- the words are from there: of the key, each worker's stream; of the file, each worker's line, from its first word
+abbrev pub AreSources : (Name → List ℕ → Type 0) → WordsFrom → ℕ → WordSources → Type 0
+AreSources holds (WordsFrom.Key key) workers (WordSources.Seeded sources) = AreStreams key workers sources.items
+AreSources holds (WordsFrom.Key key) workers (WordSources.Listed sources) = ⊥
+AreSources holds (WordsFrom.File file) workers (WordSources.Seeded sources) = ⊥
+AreSources holds (WordsFrom.File file) workers (WordSources.Listed sources) =
+    (text : List ℕ) × holds file.now text × IsShort text × AreWords workers text (map listed sources.items) × All (λ s. s.taken ≡ 0) sources.items
+
+abbrev pub count_of : WordSources → ℕ
+count_of (WordSources.Seeded sources) = length sources.items
+count_of (WordSources.Listed sources) = length sources.items
+
+-- the words that they are to give
+abbrev pub streams_of : WordSources → List Words
+streams_of (WordSources.Seeded sources) = map words_from sources.items
+streams_of (WordSources.Listed sources) = map words_to_come sources.items
+
+-- the file may hold a text of which this line is the first that lists no words
+abbrev pub HasBadWords : (Name → List ℕ → Type 0) → WordsFrom → ℕ → ℕ → Type 0
+HasBadWords holds (WordsFrom.Key key) workers n = ⊥
+HasBadWords holds (WordsFrom.File file) workers n = (text : List ℕ) × holds file.now text × IsShort text × IsBadWords workers text n
+
+-- the file may hold a text of which this line is the first that is no action
+abbrev pub HasBadLine : (Name → List ℕ → Type 0) → Table → Option Name → ℕ → Type 0
+HasBadLine holds types None n = ⊥
+HasBadLine holds types (Some file) n = (text : List ℕ) × holds file text × IsShort text × lists.BadLine types text n
+
+-- why there are no words, and why there is no script
+abbrev pub IsWordless : (Name → List ℕ → Type 0) → (Name → Type 0) → WordsFrom → ℕ → Failure → Type 0
+IsWordless holds lacks from workers (Failure.BadWords n) = HasBadWords holds from workers n
+IsWordless holds lacks from workers Failure.Io = LacksWords holds lacks from
+IsWordless holds lacks from workers Failure.OutOfMemory = Unit {0}
+IsWordless holds lacks from workers (Failure.Refused r) = ⊥
+IsWordless holds lacks from workers (Failure.Object e) = ⊥
+IsWordless holds lacks from workers Failure.SourceWanted = ⊥
+IsWordless holds lacks from workers (Failure.List e) = ⊥
+IsWordless holds lacks from workers Failure.SpecHasInternal = ⊥
+IsWordless holds lacks from workers Failure.TooManyTurns = ⊥
+IsWordless holds lacks from workers (Failure.BadInput i) = ⊥
+IsWordless holds lacks from workers Failure.Threads = ⊥
+
+abbrev pub IsScriptless : (Name → List ℕ → Type 0) → (Name → Type 0) → Table → Option Name → Failure → Type 0
+IsScriptless holds lacks types file (Failure.List (LogErr.BadLine n)) = HasBadLine holds types file n
+IsScriptless holds lacks types file Failure.Io = LacksScript holds lacks file
+IsScriptless holds lacks types file Failure.OutOfMemory = Unit {0}
+IsScriptless holds lacks types file (Failure.List (LogErr.NotJson n)) = ⊥
+IsScriptless holds lacks types file (Failure.List (LogErr.WrongOwner n)) = ⊥
+IsScriptless holds lacks types file (Failure.List (LogErr.Diverges n)) = ⊥
+IsScriptless holds lacks types file (Failure.List LogErr.NoEnd) = ⊥
+IsScriptless holds lacks types file (Failure.List LogErr.AfterEnd) = ⊥
+IsScriptless holds lacks types file (Failure.List LogErr.Io) = ⊥
+IsScriptless holds lacks types file (Failure.List LogErr.OutOfMemory) = ⊥
+IsScriptless holds lacks types file (Failure.Refused r) = ⊥
+IsScriptless holds lacks types file (Failure.Object e) = ⊥
+IsScriptless holds lacks types file Failure.SourceWanted = ⊥
+IsScriptless holds lacks types file (Failure.BadWords n) = ⊥
+IsScriptless holds lacks types file Failure.SpecHasInternal = ⊥
+IsScriptless holds lacks types file Failure.TooManyTurns = ⊥
+IsScriptless holds lacks types file (Failure.BadInput i) = ⊥
+IsScriptless holds lacks types file Failure.Threads = ⊥
+
+-- a file is not read: the first one; or where that gives a subject, the words'; or where all have words, the script's
+abbrev pub IsUnloaded : (Name → List ℕ → Type 0) → (Name → Type 0) → Settings → Type 0
+IsUnloaded holds lacks s =
+    lacks s.file.now
+    ⊎ ((x : Subject) × MayGive holds s x
+    × (LacksWords holds lacks s.words ⊎ (HasWords holds s.words (length (its_names x)) × LacksScript holds lacks (option_copied s.inputs))))
+
+-- Each reason comes only where those before it do not hold: a file is not read; the source or its composition, or the object, is refused; a line of
+-- words is none; a line of the script is no action; there are too many turns; an action of the script is no input; a thread is refused, of which a run
+-- on one thread takes none. Or the device failed, after all were past. Memory may be short at any time.
+abbrev pub IsUnrun : (Name → List ℕ → Type 0) → (Name → Type 0) → Settings → Type 0 → Failure → Type 0
+IsUnrun holds lacks s failed (Failure.Refused r) = (text : List ℕ) × holds s.file.now text × IsRefusedFile text (option_copied s.composition) r
+IsUnrun holds lacks s failed (Failure.Object e) = (text : List ℕ) × holds s.file.now text × IsNoObject text e
+IsUnrun holds lacks s failed Failure.SourceWanted = ⊥
+IsUnrun holds lacks s failed (Failure.BadWords n) = (x : Subject) × MayGive holds s x × HasBadWords holds s.words (length (its_names x)) n
+IsUnrun holds lacks s failed (Failure.List (LogErr.BadLine n)) =
+    (x : Subject) × MayGive holds s x × HasWords holds s.words (length (its_names x)) × HasBadLine holds (its_types x) (option_copied s.inputs) n
+IsUnrun holds lacks s failed Failure.TooManyTurns = (x : Subject) × (script : List Act) × IsReady holds s x script × (most_turns < s.turns)
+IsUnrun holds lacks s failed (Failure.BadInput i) =
+    (x : Subject) × (script : List Act) × IsReady holds s x script × (s.turns ≤ most_turns) × IsFirstOther (its_components x) script i
+IsUnrun holds lacks s failed Failure.Threads =
+    (x : Subject) × (script : List Act) × IsReady holds s x script × (s.turns ≤ most_turns) × All (IsInput (its_components x)) script × (s.alone ≡ false)
+IsUnrun holds lacks s failed (Failure.List LogErr.Io) =
+    (x : Subject) × (script : List Act) × IsReady holds s x script × (s.turns ≤ most_turns) × All (IsInput (its_components x)) script × failed
+IsUnrun holds lacks s failed Failure.Io = IsUnloaded holds lacks s
+IsUnrun holds lacks s failed Failure.OutOfMemory = Unit {0}
+IsUnrun holds lacks s failed (Failure.List LogErr.OutOfMemory) = Unit {0}
+IsUnrun holds lacks s failed (Failure.List (LogErr.NotJson n)) = ⊥
+IsUnrun holds lacks s failed (Failure.List (LogErr.WrongOwner n)) = ⊥
+IsUnrun holds lacks s failed (Failure.List (LogErr.Diverges n)) = ⊥
+IsUnrun holds lacks s failed (Failure.List LogErr.NoEnd) = ⊥
+IsUnrun holds lacks s failed (Failure.List LogErr.AfterEnd) = ⊥
+IsUnrun holds lacks s failed Failure.SpecHasInternal = ⊥

@@ -1,0 +1,92 @@
+-- What is so of an object that is compiled of a source: it does as the source.
+use Rattle.std.specs.Prelude.{◌≡◌, ◌↔◌, ℕ, Bool, List, Option}
+use Rattle.std.specs.Io.KnownBytes.{Appends}
+use Rattle.ioa_value.specs.Actions.{Act, Name}
+use Rattle.ioa_value.specs.Plain.{Val}
+use Rattle.ioa_tree.specs.Hosts.{HostState, Hosted, hosts_of, host_starts}
+use Rattle.ioa_tree.specs.Meaning.{Env}
+use Rattle.ioa_tree.specs.Proposing.{Words}
+use Rattle.ioa_tree.specs.Runs.{Ending}
+use Rattle.ioa_compile.specs.Programs.{Prog}
+use Rattle.ioa_compile.specs.Tables.{start_states, tabled}
+use Rattle.ioa_system.specs.Logs.{Logged}
+use Rattle.ioa_run.specs.declared.report.Report.{Report}
+use Rattle.ioa_run.specs.Boards.{IsSound, Standing}
+use Rattle.ioa_run.specs.Hosts.{BoardsLike, Held}
+use Rattle.ioa_serving.specs.Alone.{IsRoundRobin, IsRun, told_of, written}
+use Rattle.ioa_serving.specs.Compiling.{IsCompiled}
+use Rattle.ioa_serving.specs.Headline.{Declares, Gives, IsReplay, IsLogReplay, IsMonitoring}
+use Rattle.ioa_serving.specs.ListLogs.{IsListLog}
+use Rattle.ioa_serving.specs.Pictures.{IsGraphed, IsLogChart}
+use Rattle.ioa_serving.specs.Subjects.{Subject, of_table}
+
+-- what a replay of a list by the object writes, a replay by the source's composition writes
+abbrev pub ReplaysAsSource : Type 0
+ReplaysAsSource = (text object : List ℕ) (name of : Option Name) (bytes : List ℕ) (end : Ending) (before after : Option (List ℕ))
+    → IsCompiled text name object → IsReplay object of bytes end before after → IsReplay text name bytes end before after
+
+-- the same of a log
+abbrev pub ReplaysLogsAsSource : Type 0
+ReplaysLogsAsSource = (text object : List ℕ) (name of : Option Name) (bytes : List ℕ) (end : Ending) (before after : Option (List ℕ))
+    → IsCompiled text name object → IsLogReplay object of bytes end before after → IsLogReplay text name bytes end before after
+
+-- the same of the log of a list's run
+abbrev pub LogsListsAsSource : Type 0
+LogsListsAsSource = (text object : List ℕ) (name of : Option Name) (bytes : List ℕ) (end : Ending) (before after : Option (List ℕ))
+    → IsCompiled text name object → IsListLog object of bytes end before after → IsListLog text name bytes end before after
+
+-- of the chart of a log
+abbrev pub ChartsAsSource : Type 0
+ChartsAsSource = (text object : List ℕ) (name of : Option Name) (bytes : List ℕ) (end : Ending) (before after : Option (List ℕ))
+    → IsCompiled text name object → IsLogChart object of bytes end before after → IsLogChart text name bytes end before after
+
+-- of a graph
+abbrev pub GraphsAsSource : Type 0
+GraphsAsSource = (text object : List ℕ) (name of : Option Name) (before after : Option (List ℕ))
+    → IsCompiled text name object → IsGraphed object of before after → IsGraphed text name before after
+
+-- and of a monitor's answer
+abbrev pub MonitorsAsSource : Type 0
+MonitorsAsSource = (text object : List ℕ) (name of : Option Name) (bytes : List ℕ) (answer : Option Ending) (before after : Option (List ℕ))
+    → IsCompiled text name object → IsMonitoring object of bytes answer before after → IsMonitoring text name bytes answer before after
+
+-- ---- runs
+
+-- a text declares the hosts of one composition of this name
+abbrev pub OneComposition : Type 0
+OneComposition = (text : List ℕ) (name : Option Name) (h k : Hosted) → Declares text name h → Declares text name k → h ≡ k
+
+-- A history of the object's own table is one of the source's hosts, with the same workers and the same fault, and the slots hold the states to
+-- which it leads them; and the other way.
+abbrev pub HistoriesAsSource : Type 0
+HistoriesAsSource = (text object : List ℕ) (name of : Option Name) (p : Prog) (h : Hosted) → IsCompiled text name object → Gives object of (of_table p) → Declares text name h
+    → ((b : Standing (List Val)) → IsSound (tabled p) (start_states p) b → (d : Standing (HostState Env)) × IsSound (hosts_of h) (host_starts h) d × BoardsLike (Held h p) d b)
+    × ((d : Standing (HostState Env)) → IsSound (hosts_of h) (host_starts h) d → (b : Standing (List Val)) × IsSound (tabled p) (start_states p) b × BoardsLike (Held h p) d b)
+
+-- a run of the subject has this log and these reports, of which this is written and told
+pub record ComesTo (s : Subject) (script : List Act) (turns : ℕ) (log : Logged) (reports : List Report) (as_log told : Bool) (before after telling : Option (List ℕ)) : Type 0 where
+  pub run : IsRun s script turns log reports
+  pub output : Appends before after (written s as_log log)
+  pub tells : telling ≡ told_of s told reports
+
+-- so of what the file gives
+abbrev pub IsRunOf : List ℕ → Option Name → List Act → ℕ → Logged → List Report → Bool → Bool → Option (List ℕ) → Option (List ℕ) → Option (List ℕ) → Type 0
+IsRunOf text name script turns log reports as_log told before after telling =
+    (s : Subject) × Gives text name s × ComesTo s script turns log reports as_log told before after telling
+
+-- What a run by the object may come to, a run by the source's composition may come to, and the other way: the same log with the same end, the
+-- same reports, and the same text of both, whatever the words and the schedule.
+abbrev pub RunsAsSource : Type 0
+RunsAsSource = (text object : List ℕ) (name of : Option Name) (p : Prog) (script : List Act) (turns : ℕ) (log : Logged) (reports : List Report) (as_log told : Bool)
+    (before after telling : Option (List ℕ)) → IsCompiled text name object → Gives object of (of_table p)
+    → IsRunOf object of script turns log reports as_log told before after telling ↔ IsRunOf text name script turns log reports as_log told before after telling
+
+-- the log and the reports are those of turns of what the file gives, by these words
+abbrev pub AreTurnsOf : List ℕ → Option Name → List Words → List Act → ℕ → Logged → List Report → Type 0
+AreTurnsOf text name words script turns log reports = (s : Subject) × Gives text name s × IsRoundRobin s words script turns log reports
+
+-- by the same words the turns of both are the same: the same log and the same reports
+abbrev pub TakesTurnsAsSource : Type 0
+TakesTurnsAsSource = (text object : List ℕ) (name of : Option Name) (p : Prog) (words : List Words) (script : List Act) (turns : ℕ) (log : Logged) (reports : List Report)
+    → IsCompiled text name object → Gives object of (of_table p)
+    → AreTurnsOf object of words script turns log reports ↔ AreTurnsOf text name words script turns log reports

@@ -1,0 +1,31 @@
+-- What was run: the program's run, before anything is written.
+use Rattle.std.specs.Prelude.{◌≤◌, ℕ, List, All, length}
+use Rattle.ioa_value.specs.Actions.{Act, Name}
+use Rattle.ioa_value.specs.Plain.{Val}
+use Rattle.ioa_node.specs.Nodes.{Node}
+use Rattle.ioa_compile.specs.Tables.{tabled}
+use Rattle.ioa_run.specs.Alone.{IsInput, most_turns}
+use Rattle.ioa_run.specs.Boards.{Standing}
+use Rattle.ioa_run.specs.Outcomes.{IsLogOf}
+use Rattle.ioa_run.specs.Reports.{AreTold}
+use Rattle.ioa_system.specs.Logs.{logged}
+use Rattle.ioa_serving.specs.declared.run.Ran.{Ran}
+use Rattle.ioa_request.specs.declared.settings.Settings.{Settings}
+use Rattle.ioa_serving.specs.Alone.{IsExact, IsReady}
+use Rattle.ioa_serving.specs.Running.{RunsAs}
+use Rattle.ioa_serving.specs.Subjects.{Subject}
+
+-- all was read, and the program was run as this subject: the log is that of a board, the reports tell of its history, and on one thread both
+-- are those of the subject's turns
+pub record HasRun (holds : Name → List ℕ → Type 0) (s : Settings) (r : Ran) : Type 0 where
+  pub subject : Subject
+  pub script : List Act
+  pub ready : IsReady holds s subject script
+  pub runs : RunsAs r.program subject
+  pub turns : s.turns ≤ most_turns
+  pub inputs : All (IsInput (tabled r.program)) script
+  pub board : Standing (List Val)
+  pub states : List Node
+  pub log : IsLogOf r.program board r.log.entries.items r.log.end states
+  pub told : AreTold (length r.program.members) script s.turns board.history board.failure r.reports.items
+  pub exact : IsExact holds s subject script (logged r.log) r.reports.items

@@ -1,0 +1,62 @@
+-- What the charts of logs and the graphs are in a composition of a source or in an object, from the bytes that are read to the bytes that are
+-- written.
+use Rattle.std.specs.Prelude.{◌≡◌, ℕ, List, Option, take}
+use Rattle.std.specs.Io.KnownBytes.{Appends, Keeps}
+use Rattle.ioa_value.specs.Actions.{Name}
+use Rattle.ioa_tree.specs.Runs.{Ending, run}
+use Rattle.ioa_compile.specs.Programs.{Prog}
+use Rattle.ioa_system.specs.Logs.{Logged, actions_of}
+use Rattle.ioa_picture.specs.Charts.{chart}
+use Rattle.ioa_picture.specs.Graphs.{graph}
+use Rattle.ioa_serving.specs.declared.failure.Failure.{Failure}
+use Rattle.ioa_serving.specs.Failing.{Given, IsDeviceErr, IsNoObject, IsRefusedFile}
+use Rattle.ioa_serving.specs.Headline.{Gives}
+use Rattle.ioa_serving.specs.Logs.{IsRunLog}
+use Rattle.ioa_serving.specs.Running.{RunsAs}
+use Rattle.ioa_serving.specs.Subjects.{Subject, its_components, its_names, its_starts, its_types}
+
+-- the chart of a log by the subject's components and their names
+abbrev pub chart_by : Subject → Logged → List ℕ
+chart_by s log = chart (its_types s) (its_names s) (its_components s) log
+
+-- the end is the run's, and the log's chart is written
+abbrev pub ChartsLog : Subject → List ℕ → Ending → Option (List ℕ) → Option (List ℕ) → Type 0
+ChartsLog s bytes end before after =
+    (log : Logged) × IsRunLog s bytes log × (end ≡ (run (its_components s) (actions_of log) (its_starts s)).ending) × Appends before after (chart_by s log)
+
+-- The bytes are a log of the run that the hosts or the program do, and what is written is its chart.
+abbrev pub IsLogChart : List ℕ → Option Name → List ℕ → Ending → Option (List ℕ) → Option (List ℕ) → Type 0
+IsLogChart text name bytes end before after = (s : Subject) × Gives text name s × ChartsLog s bytes end before after
+
+-- what is written begins this chart
+abbrev pub BeginsChart : Subject → List ℕ → Option (List ℕ) → Option (List ℕ) → Type 0
+BeginsChart s bytes before after = (log : Logged) × IsRunLog s bytes log × ((k : ℕ) × Appends before after (take k (chart_by s log)))
+
+abbrev pub BeginsChartOf : List ℕ → Option Name → Option (List ℕ) → Option (List ℕ) → Option (List ℕ) → Type 0
+BeginsChartOf text name bytes before after = Given text name bytes (λ s xs. BeginsChart s xs before after)
+
+-- the program does what the file gives
+abbrev pub IsProgramOf : List ℕ → Option Name → Prog → Type 0
+IsProgramOf text name p = (s : Subject) × Gives text name s × RunsAs p s
+
+-- the graph of a program that does what the file gives is written
+abbrev pub IsGraphed : List ℕ → Option Name → Option (List ℕ) → Option (List ℕ) → Type 0
+IsGraphed text name before after = (p : Prog) × IsProgramOf text name p × Appends before after (graph p)
+
+-- a beginning of it is
+abbrev pub BeginsGraph : List ℕ → Option Name → Option (List ℕ) → Option (List ℕ) → Type 0
+BeginsGraph text name before after = (p : Prog) × (k : ℕ) × IsProgramOf text name p × Appends before after (take k (graph p))
+
+-- the file is refused, and nothing was written; or the device failed, and a beginning of the graph was. Memory may be short at any time
+abbrev pub IsUngraphed : List ℕ → Option Name → Type 0 → Option (List ℕ) → Option (List ℕ) → Failure → Type 0
+IsUngraphed text name failed before after (Failure.Refused r) = IsRefusedFile text name r × Keeps before after
+IsUngraphed text name failed before after (Failure.Object e) = IsNoObject text e × Keeps before after
+IsUngraphed text name failed before after Failure.SourceWanted = ⊥
+IsUngraphed text name failed before after (Failure.List e) = IsDeviceErr (failed × BeginsGraph text name before after) e
+IsUngraphed text name failed before after Failure.SpecHasInternal = ⊥
+IsUngraphed text name failed before after (Failure.BadWords n) = ⊥
+IsUngraphed text name failed before after Failure.TooManyTurns = ⊥
+IsUngraphed text name failed before after (Failure.BadInput i) = ⊥
+IsUngraphed text name failed before after Failure.Threads = ⊥
+IsUngraphed text name failed before after Failure.Io = ⊥
+IsUngraphed text name failed before after Failure.OutOfMemory = Keeps before after

@@ -1,0 +1,29 @@
+//! What follows from the definitions alone. The functions do nothing: what they say is in their contracts.
+
+ghost use Rattle.ioa_serving.specs.Carried.{ChartsAsSource, GraphsAsSource, HistoriesAsSource, LogsListsAsSource, MonitorsAsSource, OneComposition, ReplaysAsSource, ReplaysLogsAsSource, RunsAsSource, TakesTurnsAsSource};
+
+/// From the bytes of an object to the trace: the program that is read of an object is the one that was compiled, so what is written by an
+/// object that was compiled of a source is what the source's hosts do. So it is of each list, of each log, of the log of a list's run, of the chart of
+/// a log, of the graph, and of a monitor's answer.
+pub fn objects_do_as_their_sources()
+    ensures lists { ReplaysAsSource }
+    ensures logs { ReplaysLogsAsSource }
+    ensures list_logs { LogsListsAsSource }
+    ensures charts { ChartsAsSource }
+    ensures graphs { GraphsAsSource }
+    ensures monitors { MonitorsAsSource }
+{}
+
+/// A text declares one composition of each name: its hosts, with their automata, arguments and start values.
+pub fn one_composition()
+    ensures { OneComposition }
+{}
+
+/// Runs by an object that was compiled of a source are those of the source's composition: the same histories, with the same fault, and in slots
+/// that hold the hosts' states; the same logs, ends, reports and texts of these, also where memory is refused to a worker; and on one thread, by
+/// the same words, the same turns.
+pub fn objects_run_as_their_sources()
+    ensures histories { HistoriesAsSource }
+    ensures runs { RunsAsSource }
+    ensures turns { TakesTurnsAsSource }
+{}

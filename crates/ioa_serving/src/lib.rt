@@ -1,0 +1,51 @@
+//! Serves each thing that the words of a command line ask for: from what files hold to what is written, and why not.
+#![tactic(auto)]
+
+mod check;
+mod compile;
+mod composition_graph;
+mod dump;
+pub mod explain;
+mod failure;
+mod invariant_replay;
+mod laws;
+mod library;
+mod list_log;
+mod log_chart;
+mod log_replay;
+mod monitor;
+mod object_failure;
+mod object_file;
+mod refusal;
+mod replay;
+mod reports;
+mod run;
+mod script;
+mod seed;
+mod served;
+mod states_replay;
+mod status;
+mod store;
+mod trace;
+mod word_sources;
+mod words_file;
+
+pub use check::check_text;
+pub use compile::{compile_text, compose_text, is_object, object_of, program_of};
+pub use composition_graph::graph_text;
+pub use dump::dump_object;
+pub use failure::Failure;
+pub use invariant_replay::{Finding, replay_invariants_text};
+pub use laws::{objects_do_as_their_sources, objects_run_as_their_sources, one_composition};
+pub use library::write_library;
+pub use list_log::log_list_text;
+pub use log_chart::chart_log_text;
+pub use log_replay::replay_log_text;
+pub use monitor::{actions_in, monitor_text, performed_in};
+pub use object_file::compile_file;
+pub use replay::replay_text;
+pub use run::run_file;
+pub use served::{Served, silent};
+pub use states_replay::{replay_log_states_text, replay_states_text};
+pub use status::{Status, status_of};
+pub use store::{Store, StoreErr};

@@ -1,0 +1,23 @@
+ghost use Rattle.std.specs.Prelude.{◌≡◌, OnOk, IfErr, IsErrOf};
+ghost use Rattle.ioa_links.specs.Library.{library_text};
+ghost use Rattle.ioa_log.specs.declared.failure.LogErr.{LogErr};
+ghost use Rattle.ioa_log.specs.Failing.{HasFailed};
+ghost use Rattle.ioa_serving.specs.Libraries.{IsUnlisted};
+ghost use Rattle.std.specs.Io.KnownBytes.{Appends};
+
+use crate::failure::Failure;
+use ioa_log::{OutputDevice, send_all};
+
+/// Writes the library's source.
+///
+/// # Errors
+/// `List` where the device failed in this call, and then a beginning of the text was written.
+pub fn write_library<W: OutputDevice>(output: &mut W) -> Result<(), Failure>
+    ensures writes { OnOk result (Appends (W.contents output.old) (W.contents output.new) library_text) }
+    ensures refused { IfErr result (λ e. IsUnlisted (HasFailed (W.failure_count output.old) (W.failure_count output.new))
+        (W.contents output.old) (W.contents output.new) e) }
+    ensures passed { (IsErrOf result (Failure.List LogErr.Io) → ⊥) → W.failure_count output.new ≡ W.failure_count output.old }
+{
+    send_all(output, ioa_links::text())?;
+    Ok(())
+}

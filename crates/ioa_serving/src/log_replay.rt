@@ -1,0 +1,61 @@
+ghost use Rattle.std.specs.Prelude.{◌≡◌, ◌⊎◌, IfOk, IfErr, IfSome, IsErrOf};
+ghost use Rattle.std.specs.Option.{option_copied};
+ghost use Rattle.std.specs.String.{string_bytes};
+ghost use Rattle.ioa_system.specs.Outcomes.{ending_of};
+ghost use Rattle.ioa_system.specs.Records.{trace_of};
+ghost use Rattle.ioa_log.specs.declared.failure.LogErr.{LogErr};
+ghost use Rattle.ioa_log.specs.Failing.{HasFailed};
+ghost use Rattle.ioa_log.specs.Replays as replays;
+ghost use Rattle.ioa_serving.specs.Failing.{BeginsLogOf, IsLogFailure, IsUnwritten};
+ghost use Rattle.ioa_serving.specs.Headline.{IsLogReplay};
+
+use crate::compile::program_of;
+use crate::failure::Failure;
+use ioa_log::{InputDevice, OutputDevice, push_line, read_log, replay, send_all};
+use ioa_system::{End, Run};
+use ioa_value::{OutOfMemory, Types};
+use std::alloc::Global;
+use std::fmt::Write;
+
+/// Replays a log in a composition of a source, or in an object, by the bytes of both: where the log is of the composition's run, writes the
+/// external trace and how the log ends, and answers that end.
+///
+/// # Errors
+/// As those of a replay of a list; and `List` where the bytes are no log, or a log of another run: of another worker, or of what the
+/// composition does not do.
+pub fn replay_log_text<R: InputDevice, W: OutputDevice>(
+    alloc: Global,
+    text: &[u8],
+    composition: Option<&str>,
+    input: &mut R,
+    output: &mut W,
+) -> Result<End, Failure>
+    ensures replays { IfOk result (λ end. IfSome (R.remaining input.old) (λ bytes.
+        IsLogReplay text.now (option_copied composition.entry) bytes (ending_of end) (W.contents output.old) (W.contents output.new))) }
+    ensures refused { IfErr result (λ e. IsLogFailure text.now (option_copied composition.entry) (R.remaining input.old)
+        (HasFailed (R.failure_count input.old) (R.failure_count input.new) ⊎ HasFailed (W.failure_count output.old) (W.failure_count output.new)) e) }
+    ensures unwritten { IfErr result (λ e. IsUnwritten (BeginsLogOf text.now (option_copied composition.entry) (R.remaining input.old))
+        (W.contents output.old) (W.contents output.new) e) }
+    ensures passed { (IsErrOf result (Failure.List LogErr.Io) → ⊥)
+        → (R.failure_count input.new ≡ R.failure_count input.old) × (W.failure_count output.new ≡ W.failure_count output.old) }
+{
+    let program = program_of(alloc, text, composition)?;
+    let log = read_log(alloc, program.types(), input)?;
+    let run = replay(alloc, &program, &log)?;
+    let told = run_text(alloc, program.types(), &run)?;
+    send_all(output, told.as_bytes())?;
+    Ok(run.end)
+}
+
+/// A run's trace, one action a line, and then a line with its end.
+pub fn run_text(alloc: Global, types: &Types, run: &Run) -> Result<String, OutOfMemory>
+    ensures { IfOk result (λ text. string_bytes text ≡ replays.replay_text types.now (trace_of run.now) (ending_of run.now.end)) }
+{
+    let mut text = String::new(alloc);
+    for action in run.trace.as_slice() {
+        push_line(&mut text, types, action)?;
+    }
+    let end = run.end;
+    writeln!(text, "end: {end}")?;
+    Ok(text)
+}

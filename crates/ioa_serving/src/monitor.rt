@@ -1,0 +1,107 @@
+ghost use Rattle.std.specs.Prelude.{◌≡◌, ◌⊎◌, IfOk, IfErr, IfSome, IsErrOf, map, option_map};
+ghost use Rattle.std.specs.Option.{option_copied};
+ghost use Rattle.std.specs.String.{string_bytes};
+ghost use Rattle.ioa_value.specs.Actions.{act_of};
+ghost use Rattle.ioa_system.specs.Outcomes.{ending_of};
+ghost use Rattle.ioa_system.specs.Logs.{logged};
+ghost use Rattle.ioa_log.specs.declared.failure.LogErr.{LogErr};
+ghost use Rattle.ioa_log.specs.Failing.{HasFailed};
+ghost use Rattle.ioa_log.specs.Monitoring.{monitored};
+ghost use Rattle.ioa_serving.specs.Failing.{BeginsMonitorOf, IsMonitorFailure, IsUnwritten};
+ghost use Rattle.ioa_serving.specs.Headline.{IsMonitoring};
+ghost use Rattle.ioa_serving.specs.Logs as logs;
+ghost use Rattle.ioa_serving.specs.Logs.{answer_line};
+ghost use Rattle.ioa_serving.specs.Running.{RunsAs};
+ghost use Rattle.ioa_serving.specs.Subjects.{IsClosed, IsOpen, Subject, its_components, its_starts};
+
+use crate::compile::program_of;
+use crate::failure::Failure;
+use ioa_compile::Program;
+use ioa_log::{InputDevice, MonitorErr, OutputDevice, monitor, read_log, send_all};
+use ioa_system::{End, Log, LogEnd, LogEntry};
+use ioa_value::{Action, OutOfMemory};
+use std::alloc::Global;
+use std::fmt::Write;
+
+/// Monitors a log by a composition of a source, or by an object, given the bytes of both: writes whether the composition accepts the actions that the log
+/// tells to be performed, and answers why not.
+///
+/// # Errors
+/// As those of a replay of a log, but whose run the log is does not matter; and `SpecHasInternal` where not all that the composition
+/// does is seen. That is found before the log is read.
+pub fn monitor_text<R: InputDevice, W: OutputDevice>(
+    alloc: Global,
+    text: &[u8],
+    composition: Option<&str>,
+    input: &mut R,
+    output: &mut W,
+) -> Result<Option<End>, Failure>
+    ensures monitors { IfOk result (λ answer. IfSome (R.remaining input.old) (λ bytes.
+        IsMonitoring text.now (option_copied composition.entry) bytes (option_map ending_of answer) (W.contents output.old) (W.contents output.new))) }
+    ensures refused { IfErr result (λ e. IsMonitorFailure text.now (option_copied composition.entry) (R.remaining input.old)
+        (HasFailed (R.failure_count input.old) (R.failure_count input.new) ⊎ HasFailed (W.failure_count output.old) (W.failure_count output.new)) e) }
+    ensures unwritten { IfErr result (λ e. IsUnwritten (BeginsMonitorOf text.now (option_copied composition.entry) (R.remaining input.old))
+        (W.contents output.old) (W.contents output.new) e) }
+    ensures passed { (IsErrOf result (Failure.List LogErr.Io) → ⊥)
+        → (R.failure_count input.new ≡ R.failure_count input.old) × (W.failure_count output.new ≡ W.failure_count output.old) }
+{
+    let program = program_of(alloc, text, composition)?;
+    // It has an answer to no action at all where it may be a monitor.
+    answer_to(alloc, &program, &[])?;
+    let log = read_log(alloc, program.types(), input)?;
+    let actions = performed_in(alloc, log)?;
+    let answer = answer_to(alloc, &program, &actions)?;
+    let line = answer_text(alloc, answer)?;
+    send_all(output, line.as_bytes())?;
+    Ok(answer)
+}
+
+/// Why the program, as a monitor, does not accept the actions, if it does not.
+fn answer_to(alloc: Global, program: &Program, actions: &[Action]) -> Result<Option<End>, Failure>
+    ensures answers { IfOk result (λ answer. (s : Subject) → RunsAs program.now s
+        → IsOpen s × (option_map ending_of answer ≡ monitored (its_components s) (map act_of actions.now) (its_starts s))) }
+    ensures refused { IfErr result (λ e. (e ≡ Failure.OutOfMemory) ⊎ ((e ≡ Failure.SpecHasInternal) × ((s : Subject) → RunsAs program.now s → IsClosed s))) }
+{
+    match monitor(alloc, program, actions) {
+        Ok(()) => Ok(None),
+        Err(MonitorErr::SpecHasInternal) => Err(Failure::SpecHasInternal),
+        Err(MonitorErr::At { index, answer }) => Ok(answer.end_at(index)),
+        Err(MonitorErr::OutOfMemory) => Err(Failure::OutOfMemory),
+    }
+}
+
+/// The actions that a log tells to be performed: the last one of a log that ends by a fault is not.
+pub fn performed_in(alloc: Global, log: Log) -> Result<Vec<Action>, OutOfMemory>
+    ensures { IfOk result (λ actions. map act_of actions.items ≡ logs.performed_in (logged log)) }
+{
+    let mut actions = actions_in(alloc, log.entries)?;
+    match log.end {
+        LogEnd::Done(_) => {}
+        LogEnd::Fault(_, _, _) => {
+            actions.pop();
+        }
+    }
+    Ok(actions)
+}
+
+pub fn actions_in(alloc: Global, entries: Vec<LogEntry>) -> Result<Vec<Action>, OutOfMemory>
+    ensures { IfOk result (λ actions. map act_of actions.items ≡ map (λ e. act_of e.action) entries.items) }
+{
+    let mut actions = Vec::new(alloc);
+    for entry in entries {
+        actions.push(entry.action)?;
+    }
+    Ok(actions)
+}
+
+/// A line with the answer of a monitor.
+fn answer_text(alloc: Global, answer: Option<End>) -> Result<String, OutOfMemory>
+    ensures { IfOk result (λ text. string_bytes text ≡ answer_line (option_map ending_of answer)) }
+{
+    let mut text = String::new(alloc);
+    match answer {
+        None => writeln!(text, "monitor: ok")?,
+        Some(end) => writeln!(text, "monitor: {end}")?,
+    }
+    Ok(text)
+}

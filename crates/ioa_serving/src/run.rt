@@ -1,0 +1,199 @@
+ghost use Rattle.std.specs.Prelude.{◌≡◌, ◌≤◌, ◌⊎◌, ℕ, List, true, false, IfOk, IfErr, IsErrOf, OnOk, length, map, take};
+ghost use Rattle.std.specs.Io.KnownBytes.{Appends, Keeps};
+ghost use Rattle.std.specs.Option.{option_map};
+ghost use Rattle.std.specs.String.{string_bytes};
+ghost use Rattle.ioa_value.specs.Actions.{act_of};
+ghost use Rattle.ioa_system.specs.Outcomes.{ending_of};
+ghost use Rattle.ioa_system.specs.Logs.{logged};
+ghost use Rattle.ioa_log.specs.declared.failure.LogErr.{LogErr};
+ghost use Rattle.ioa_log.specs.Failing.{HasFailed};
+ghost use Rattle.ioa_run.specs.Alone.{IsAlone, IsOutcome, NoMemory, Refuses};
+ghost use Rattle.ioa_run.specs.declared.run_err.RunErr.{RunErr};
+ghost use Rattle.ioa_serving.specs.Alone.{BeginsRunOf, IsRunServed, IsUnrun, count_of, streams_of};
+ghost use Rattle.ioa_serving.specs.Failing.{IsUnwritten};
+ghost use Rattle.ioa_serving.specs.HasRun.{HasRun};
+ghost use Rattle.ioa_serving.specs.Serving.{reports_of};
+ghost use Rattle.ioa_serving.specs.Traces.{performed, table_reports, table_text};
+
+use crate::compile::program_of;
+use crate::failure::Failure;
+use crate::reports::reports_text;
+use crate::script::load_script;
+use crate::served::Served;
+use crate::status::status_of;
+use crate::store::Store;
+use crate::trace::trace_text;
+use crate::word_sources::{WordSources, load_words};
+use ioa_compile::Program;
+use ioa_log::{Log, LogErr, OutputDevice, send_all, write_log};
+use ioa_node::Words;
+use ioa_request::Settings;
+use ioa_run::{OpenGate, Outcome, Report, RunErr, run_alone, run_threads};
+use ioa_value::Action;
+use std::alloc::{AllocError, Global};
+use std::sync::Wait;
+use std::thread::Threads;
+
+/// Runs a composition of a source, or an object, on one thread or on one for each worker, and writes its trace and how it ends, or its log.
+///
+/// Whatever the words and the schedule: where the answer is `Ok`, what was written is the trace and the end, or the log, of a legal
+/// history of what the source declares or the object is of, in which the environment performs its script in order. On one thread, where
+/// memory is refused to no worker, it is the one history in which all workers take turns, round by round, each by its own words.
+///
+/// # Errors
+/// `Io` where a file is not read; `Refused` where the source or its composition is, `Object` where the object is; `BadWords` where a line of
+/// the file of words is no list of words; `List` where a line of the script is no action; `TooManyTurns`, `BadInput`; `Threads`, unless the run is on one thread; then
+/// `List` where the device failed; or want of memory. Nothing was written then, or, where the device failed, no more than a beginning of
+/// the text.
+pub fn run_file<H: Threads + Wait + Sync, F: Store, W: OutputDevice>(
+    rt: &H,
+    alloc: Global,
+    settings: &Settings<'_>,
+    store: &F,
+    output: &mut W,
+) -> Result<Served, Failure>
+    ensures runs { IfOk result (λ served. IsRunServed (F.holds store.now) settings.now (W.contents output.old) (W.contents output.new) (reports_of served) served.status) }
+    ensures refused { IfErr result (λ e. IsUnrun (F.holds store.now) (F.lacks store.now) settings.now (HasFailed (W.failure_count output.old) (W.failure_count output.new)) e) }
+    ensures unwritten { IfErr result (λ e. IsUnwritten (BeginsRunOf (F.holds store.now) settings.now) (W.contents output.old) (W.contents output.new) e) }
+    ensures passed { (IsErrOf result (Failure.List LogErr.Io) → ⊥) → W.failure_count output.new ≡ W.failure_count output.old }
+{
+    let ran = run_settings(rt, alloc, settings, store)?;
+    let told = told_reports(alloc, settings, &ran)?;
+    let status = status_of(ran.log.end.end());
+    write_run(alloc, &ran.program, &ran.log, settings.log, output)?;
+    Ok(Served {
+        status,
+        reports: told,
+    })
+}
+
+/// A program that was run: its log, and a report for each component and then for the environment.
+#[derive(Drop)]
+pub struct Ran {
+    pub program: Program,
+    pub log: Log,
+    pub reports: Vec<Report>,
+}
+
+/// Reads what a run is given, and runs it. Nothing is written.
+fn run_settings<H: Threads + Wait + Sync, F: Store>(
+    rt: &H,
+    alloc: Global,
+    settings: &Settings<'_>,
+    store: &F,
+) -> Result<Ran, Failure>
+    ensures ran { IfOk result (λ r. HasRun (F.holds store.now) settings.now r) }
+    ensures refused { IfErr result (λ e. IsUnrun (F.holds store.now) (F.lacks store.now) settings.now ⊥ e) }
+{
+    let text = store.load(alloc, settings.file)?;
+    let program = program_of(alloc, text.as_slice(), settings.composition)?;
+    let components = program.members().len();
+    let words = load_words(alloc, settings.words, components, store)?;
+    let script = load_script(alloc, program.types(), settings.inputs, store)?;
+    let outcome = run_sources(rt, alloc, &program, settings, words, script.as_slice())?;
+    Ok(ran_of(program, outcome))
+}
+
+/// The run without the states to which it leads.
+fn ran_of(program: Program, outcome: Outcome) -> Ran
+    ensures program { result.program ≡ program }
+    ensures entries { result.log.entries ≡ outcome.log }
+    ensures end { result.log.end ≡ outcome.end }
+    ensures reports { result.reports ≡ outcome.reports }
+{
+    let Outcome {
+        log,
+        states: _,
+        end,
+        reports,
+    } = outcome;
+    Ran {
+        program,
+        log: Log { entries: log, end },
+        reports,
+    }
+}
+
+/// Runs the program by these words, one source for each component.
+fn run_sources<H: Threads + Wait + Sync>(
+    rt: &H,
+    alloc: Global,
+    program: &Program,
+    settings: &Settings<'_>,
+    words: WordSources,
+    script: &[Action],
+) -> Result<Outcome, RunErr>
+    requires sources { count_of words ≡ length program.now.members }
+    ensures outcome { IfOk result (λ o. IsOutcome program.now (map act_of script.now) settings.now.turns o) }
+    ensures alone { IfOk result (λ o. settings.now.alone ≡ true → NoMemory o.reports.items → IsAlone program.now (streams_of words) (map act_of script.now) settings.now.turns o) }
+    ensures refused { Refuses program.now (map act_of script.now) settings.now.turns result }
+    ensures threads { IsErrOf result RunErr.Threads → settings.now.alone ≡ false }
+{
+    match words {
+        WordSources::Seeded(sources) => run_by(rt, alloc, program, settings, sources, script),
+        WordSources::Listed(sources) => run_by(rt, alloc, program, settings, sources, script),
+    }
+}
+
+/// The same, of sources of one kind: on one thread, where that is asked for, or on one for each worker.
+fn run_by<H: Threads + Wait + Sync, W: Words + Send + Drop>(
+    rt: &H,
+    alloc: Global,
+    program: &Program,
+    settings: &Settings<'_>,
+    words: Vec<W>,
+    script: &[Action],
+) -> Result<Outcome, RunErr>
+    requires sources { length words.items ≡ length program.now.members }
+    ensures outcome { IfOk result (λ o. IsOutcome program.now (map act_of script.now) settings.now.turns o) }
+    ensures alone { IfOk result (λ o. settings.now.alone ≡ true → NoMemory o.reports.items → IsAlone program.now (map W.stream words.items) (map act_of script.now) settings.now.turns o) }
+    ensures refused { Refuses program.now (map act_of script.now) settings.now.turns result }
+    ensures threads { IsErrOf result RunErr.Threads → settings.now.alone ≡ false }
+{
+    let turns = settings.turns;
+    if settings.alone {
+        return run_alone(alloc, program, turns, words, script);
+    }
+    run_threads(rt, alloc, program, turns, words, script, &OpenGate)
+}
+
+/// The text of the reports, where they are to be told.
+fn told_reports(
+    alloc: Global,
+    settings: &Settings<'_>,
+    ran: &Ran,
+) -> Result<Option<String>, AllocError>
+    ensures { IfOk result (λ told. option_map string_bytes told ≡ table_reports ran.now.program settings.now.reports ran.now.reports.items) }
+{
+    if settings.reports {
+        let text = reports_text(alloc, &ran.program, &ran.reports)?;
+        return Ok(Some(text));
+    }
+    Ok(None)
+}
+
+/// Writes the log of a run or, unless that is asked for, its trace and its end.
+///
+/// # Errors
+/// `Io` where the writer failed in this call: it has taken a beginning of the text. `OutOfMemory`: nothing was written.
+fn write_run<W: OutputDevice>(
+    alloc: Global,
+    program: &Program,
+    log: &Log,
+    as_log: bool,
+    output: &mut W,
+) -> Result<(), LogErr>
+    requires { performed log.now.end ≤ length log.now.entries.items }
+    ensures ok { OnOk result (Appends (W.contents output.old) (W.contents output.new) (table_text program.now as_log (logged log.now) (performed log.now.end))) }
+    ensures io { IsErrOf result LogErr.Io → HasFailed (W.failure_count output.old) (W.failure_count output.new) }
+    ensures passed { (IsErrOf result LogErr.Io → ⊥) → W.failure_count output.new ≡ W.failure_count output.old }
+    ensures begun { IsErrOf result LogErr.Io → (k : ℕ) × Appends (W.contents output.old) (W.contents output.new) (take k (table_text program.now as_log (logged log.now) (performed log.now.end))) }
+    ensures memory { IsErrOf result LogErr.OutOfMemory → Keeps (W.contents output.old) (W.contents output.new) }
+    ensures only { IfErr result (λ e. (e ≡ LogErr.Io) ⊎ (e ≡ LogErr.OutOfMemory)) }
+{
+    if as_log {
+        return write_log(alloc, program.types(), log, output);
+    }
+    let text = trace_text(alloc, program, log)?;
+    send_all(output, text.as_bytes())
+}

@@ -1,0 +1,130 @@
+ghost use Rattle.std.specs.Prelude.{◌≡◌, ◌⊎◌, ℕ, IfOk, IfErr, IfSome, IsErrOf};
+ghost use Rattle.std.specs.Option.{option_copied};
+ghost use Rattle.std.specs.String.{string_bytes};
+ghost use Rattle.ioa_value.specs.Lists.{BadLine};
+ghost use Rattle.ioa_tree.specs.Hosts.{Hosted, hosts_of, host_starts};
+ghost use Rattle.ioa_tree.specs.Runs.{run};
+ghost use Rattle.ioa_compose.specs.Held.{composed_of};
+ghost use Rattle.ioa_compose.specs.Stands.{Stands};
+ghost use Rattle.ioa_system.specs.Logs.{actions_of, logged};
+ghost use Rattle.ioa_system.specs.Outcomes.{ending_of};
+ghost use Rattle.ioa_log.specs.declared.failure.LogErr.{LogErr};
+ghost use Rattle.ioa_log.specs.Failing.{HasFailed, IsListErr};
+ghost use Rattle.ioa_log.specs.Judging.{IsReplayErr, agrees, diverges, judged, wrong_owner};
+ghost use Rattle.ioa_serving.specs.Failing.{BeginsLogStatesOf, BeginsStatesOf, IsInvariantFailure, IsStatesFailure, IsUnwritten};
+ghost use Rattle.ioa_serving.specs.Headline.{IsLogStatesReplay, IsStatesReplay};
+ghost use Rattle.ioa_serving.specs.States.{Reaches, states_text};
+
+use crate::compile::{compose_text, is_object};
+use crate::failure::Failure;
+use crate::log_replay::run_text;
+use ioa_account::put_states;
+use ioa_compile::compile;
+use ioa_compose::Composition;
+use ioa_log::{InputDevice, LogErr, OutputDevice, perform_list, read_log, replay, send_all};
+use ioa_system::{End, Log};
+use std::alloc::Global;
+
+/// Replays a list of actions in a composition of a source, by the bytes of both: writes what a replay of the list does, and then each
+/// component's variables in the state in which the list ends, and answers that end. Where an action faults, it is the state before it.
+///
+/// # Errors
+/// `SourceWanted` where the bytes are an object, which has no names of variables; else as those of a replay of a list.
+pub fn replay_states_text<R: InputDevice, W: OutputDevice>(
+    alloc: Global,
+    text: &[u8],
+    composition: Option<&str>,
+    input: &mut R,
+    output: &mut W,
+) -> Result<End, Failure>
+    ensures replays { IfOk result (λ end. IfSome (R.remaining input.old) (λ bytes.
+        IsStatesReplay text.now (option_copied composition.entry) bytes (ending_of end) (W.contents output.old) (W.contents output.new))) }
+    ensures refused { IfErr result (λ e. IsStatesFailure text.now (option_copied composition.entry) (R.remaining input.old)
+        (HasFailed (R.failure_count input.old) (R.failure_count input.new) ⊎ HasFailed (W.failure_count output.old) (W.failure_count output.new)) e) }
+    ensures unwritten { IfErr result (λ e. IsUnwritten (BeginsStatesOf text.now (option_copied composition.entry) (R.remaining input.old))
+        (W.contents output.old) (W.contents output.new) e) }
+    ensures passed { (IsErrOf result (Failure.List LogErr.Io) → ⊥)
+        → (R.failure_count input.new ≡ R.failure_count input.old) × (W.failure_count output.new ≡ W.failure_count output.old) }
+{
+    if is_object(text) {
+        return Err(Failure::SourceWanted);
+    }
+    let composed = compose_text(alloc, text, composition)?;
+    let (told, end) = reached(alloc, &composed, input)?;
+    send_all(output, told.as_bytes())?;
+    Ok(end)
+}
+
+/// Replays a log in a composition of a source, by the bytes of both: where the log is of the composition's run, writes what a replay of
+/// the log does, and then each component's variables in the state in which the log ends, and answers that end.
+///
+/// # Errors
+/// `SourceWanted` where the bytes are an object, which has no names of variables; else as those of a replay of a log.
+pub fn replay_log_states_text<R: InputDevice, W: OutputDevice>(
+    alloc: Global,
+    text: &[u8],
+    composition: Option<&str>,
+    input: &mut R,
+    output: &mut W,
+) -> Result<End, Failure>
+    ensures replays { IfOk result (λ end. IfSome (R.remaining input.old) (λ bytes.
+        IsLogStatesReplay text.now (option_copied composition.entry) bytes (ending_of end) (W.contents output.old) (W.contents output.new))) }
+    ensures refused { IfErr result (λ e. IsInvariantFailure text.now (option_copied composition.entry) (R.remaining input.old)
+        (HasFailed (R.failure_count input.old) (R.failure_count input.new) ⊎ HasFailed (W.failure_count output.old) (W.failure_count output.new)) e) }
+    ensures unwritten { IfErr result (λ e. IsUnwritten (BeginsLogStatesOf text.now (option_copied composition.entry) (R.remaining input.old))
+        (W.contents output.old) (W.contents output.new) e) }
+    ensures passed { (IsErrOf result (Failure.List LogErr.Io) → ⊥)
+        → (R.failure_count input.new ≡ R.failure_count input.old) × (W.failure_count output.new ≡ W.failure_count output.old) }
+{
+    if is_object(text) {
+        return Err(Failure::SourceWanted);
+    }
+    let composed = compose_text(alloc, text, composition)?;
+    let log = read_log(alloc, composed.types(), input)?;
+    let (told, end) = reached_by_log(alloc, &composed, &log)?;
+    send_all(output, told.as_bytes())?;
+    Ok(end)
+}
+
+/// The end of the run of the list, by the hosts that the composition stands for, and the text that tells it with the states.
+fn reached<R: InputDevice>(
+    alloc: Global,
+    composition: &Composition,
+    input: &mut R,
+) -> Result<(String, End), LogErr>
+    ensures reaches { IfOk result (λ told. (h : Hosted) → Stands h (composed_of composition.now)
+        → IfSome (R.remaining input.old) (λ bytes. Reaches h bytes (ending_of told.1) (string_bytes told.0))) }
+    ensures bad { (n : ℕ) → IsErrOf result (LogErr.BadLine n) → IfSome (R.remaining input.old) (λ bytes. BadLine composition.now.types bytes n) }
+    ensures io { IsErrOf result LogErr.Io → HasFailed (R.failure_count input.old) (R.failure_count input.new) }
+    ensures passed { (IsErrOf result LogErr.Io → ⊥) → R.failure_count input.new ≡ R.failure_count input.old }
+    ensures only { IfErr result IsListErr }
+{
+    let program = compile(alloc, composition)?;
+    let replayed = perform_list(alloc, &program, input)?;
+    let mut told = replayed.text;
+    put_states(alloc, &mut told, composition, &replayed.states)?;
+    Ok((told, replayed.end))
+}
+
+/// The same of a log that is of the hosts' run.
+fn reached_by_log(
+    alloc: Global,
+    composition: &Composition,
+    log: &Log,
+) -> Result<(String, End), LogErr>
+    ensures judged { IfOk result (λ _. (h : Hosted) → Stands h (composed_of composition.now) → judged (hosts_of h) (host_starts h) (logged log.now) ≡ agrees) }
+    ensures ending { IfOk result (λ told. (h : Hosted) → Stands h (composed_of composition.now)
+        → ending_of told.1 ≡ (run (hosts_of h) (actions_of (logged log.now)) (host_starts h)).ending) }
+    ensures text { IfOk result (λ told. (h : Hosted) → Stands h (composed_of composition.now) → string_bytes told.0 ≡ states_text h (actions_of (logged log.now))) }
+    ensures owner { (n : ℕ) → IsErrOf result (LogErr.WrongOwner n) → (h : Hosted) → Stands h (composed_of composition.now)
+        → judged (hosts_of h) (host_starts h) (logged log.now) ≡ wrong_owner n }
+    ensures diverges { (n : ℕ) → IsErrOf result (LogErr.Diverges n) → (h : Hosted) → Stands h (composed_of composition.now)
+        → judged (hosts_of h) (host_starts h) (logged log.now) ≡ diverges n }
+    ensures only { IfErr result IsReplayErr }
+{
+    let program = compile(alloc, composition)?;
+    let run = replay(alloc, &program, log)?;
+    let mut told = run_text(alloc, composition.types(), &run)?;
+    put_states(alloc, &mut told, composition, &run.states)?;
+    Ok((told, run.end))
+}

@@ -1,8 +1,0 @@
-use Rattle.std.proofs.Common.{◌≡◌, map, take}
-use Rattle.std.specs.String.{string_bytes}
-use Rattle.ioac.specs.RunReports as spec
-use Rattle.ioac.proofs.reports.reports_text.Given as goal
-
--- the lines of the reports so far
-abbrev pub invariant-loop-i : goal.invariant-loop-i
-invariant-loop-i l = string_bytes l.text ≡ spec.reports_text (map (λ m. m.name) l.program.members) (take l.i l.reports)
