@@ -12,7 +12,7 @@ use Rattle.ioa_tree.specs.Proposing.{Words, Tried, tries, idle}
 use Rattle.ioa_run.specs.declared.answer.Answer.{Answer}
 use Rattle.ioa_run.specs.declared.report.Report.{Report}
 use Rattle.ioa_run.specs.declared.report.Why.{Why}
-use Rattle.ioa_run.specs.Going.{AreGoing, IsRefused, dismissed}
+use Rattle.ioa_run.specs.Going.{AreCounted, AreGoing, Counts, IsRefused, dismissed}
 use Rattle.ioa_run.specs.Reports.{blank, counted, left, one_more, unless_done, unless_faulted, with_idle, with_why}
 use Rattle.ioa_run.specs.Turns.{Proposer, Turns, attempt, first_turns, has_ended, is_last, meant, rounds, told, turn, turned, turns_of_first, with_done}
 use Rattle.ioa_run.proofs.Turned.{At, at_changed, has_not, here, length_changed, same_items, there}
@@ -37,18 +37,10 @@ told_counted Answer.Planned r n f l e = idle_counted r n l e
 told_counted Answer.NoPlan r n f l e = idle_counted r n l e
 told_counted Answer.Stale r n f l e = stale_counted r n l e
 
--- in the round after n rounds, the first k workers have had their turns
-pub record Counts (n k v : ℕ) (q : Report) : Type 0 where
-  pub had : v < k → counted q ≡ n + 1
-  pub before : k ≤ v → counted q ≡ n
-
-abbrev pub AreCounted : {S : Type 0} → ℕ → ℕ → Turns S → Type 0
-AreCounted n k t = (v : ℕ) (q : Report) → slice_get t.ended v ≡ Some false → slice_get t.reports v ≡ Some q → Counts n k v q
-
 one_turn : (n k : ℕ) (q : Report) → counted q ≡ n + 1 → Counts n (k + 1) k q
 one_turn n k q e = record { had = λ _. e; before = λ l. absurd (omega (arith, l)) }
 
-no_turn : (n k v : ℕ) (q : Report) → v ≢ k → Counts n k v q → Counts n (k + 1) v q
+pub no_turn : (n k v : ℕ) (q : Report) → v ≢ k → Counts n k v q → Counts n (k + 1) v q
 no_turn n k v q d c = record {
   had = λ l. elim (eqb_tells v k) as (λ _. counted q ≡ n + 1) [
     | inl p ↦ absurd (d p.1)
@@ -64,7 +56,7 @@ no_turn n k v q d c = record {
     less (suc a) (suc b) l d = let m : a < b = less a b (omega (arith, l)) (λ e. d (ap suc e)) in omega (arith, m)
 
 module _ {S : Type 0} (ps : List (Component S)) where
-  counted_turned : (n k : ℕ) (m : Tried Act) (t : Turns S) → n + 1 < 18446744073709551616 → slice_get t.ended k ≡ Some false → AreCounted n k t → AreCounted n (k + 1) (turned ps k m t)
+  pub counted_turned : (n k : ℕ) (m : Tried Act) (t : Turns S) → n + 1 < 18446744073709551616 → slice_get t.ended k ≡ Some false → AreCounted n k t → AreCounted n (k + 1) (turned ps k m t)
   counted_turned n k (idle taken) t l o h v q e g =
       elim (at_changed with_idle k v t.reports q g) as (λ _. Counts n (k + 1) v q) [
         | here x p i j ↦
@@ -137,7 +129,7 @@ module _ {S : Type 0} (ps : List (Component S)) (entries : List (List (Proposer 
 
 -- ---- the start
 
-got_replicated : {X : Type 0} (n v : ℕ) (x y : X) → slice_get (replicate n x) v ≡ Some y → y ≡ x
+pub got_replicated : {X : Type 0} (n v : ℕ) (x y : X) → slice_get (replicate n x) v ≡ Some y → y ≡ x
 got_replicated zero v x y e = absurd (cc)
 got_replicated (suc n) zero x y e = cc
 got_replicated (suc n) (suc v) x y e = got_replicated n v x y e

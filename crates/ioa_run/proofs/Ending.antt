@@ -3,7 +3,7 @@ use Rattle.std.proofs.Common.{◌≡◌, ◌≢◌, ℕ, zero, suc, ◌+◌, ◌
 use Rattle.std.specs.Prelude.{slice_get, unwrap_or}
 use Rattle.std.specs.Option.{option_map}
 use Rattle.std.proofs.lemmas.Bool.Decides.{eqb_tells}
-use Rattle.std.proofs.lemmas.List.{length-map}
+use Rattle.std.proofs.lemmas.List.{length-map, length-replicate}
 use Rattle.std.proofs.lemmas.Option.{get_or_from_slice_get, slice_get_within}
 use Rattle.ioa_value.specs.Actions.{Act}
 use Rattle.ioa_value.specs.Plain.{Val}
@@ -17,15 +17,16 @@ use Rattle.ioa_run.specs.declared.report.Report.{Report}
 use Rattle.ioa_run.specs.declared.report.Why.{Why}
 use Rattle.ioa_run.specs.Alone.{IsAlone, IsFirstOther, IsInput, NoMemory, alone_in}
 use Rattle.ioa_run.specs.Boards.{Standing}
-use Rattle.ioa_run.specs.Going.{Follows, dismissed}
-use Rattle.ioa_run.specs.Outcomes.{IsLogOf}
-use Rattle.ioa_run.specs.ProgramRooms.{ProgramRoom, Tells, start_room}
+use Rattle.ioa_run.specs.Going.{AreSettled, Follows, dismissed}
+use Rattle.ioa_run.specs.Outcomes.{HaveEnded, IsLogOf, ending}
+use Rattle.ioa_run.specs.ProgramRooms.{IsRoom, ProgramRoom, Tells, start_room}
 use Rattle.ioa_run.specs.Proposers.{proposers, proposers_of}
 use Rattle.ioa_run.specs.Reports.{blank, left}
 use Rattle.ioa_run.specs.Rounds.{Dismisses, GoesRounds}
 use Rattle.ioa_run.specs.Turning.{standing_at}
 use Rattle.ioa_run.specs.Turns.{Turns, first_turns, rounds}
 use Rattle.ioa_run.proofs.Going.{run_followed}
+use Rattle.ioa_run.proofs.Settled.{settled_end, settled_first}
 
 -- ---- inputs
 
@@ -149,3 +150,30 @@ ended_alone p ws inputs turns wu eu u v es o l s g d log k none =
       log = subst (λ (b : Standing (List Val)). IsLogOf p b o.log.items o.end o.states.items) board (subst (λ (q : Prog). IsLogOf q v.board o.log.items o.end o.states.items) program log);
       reports = both.1;
     }
+
+-- who has ended on one thread has a reason that its report tells
+pub ends_alone : (p : Prog) (ws : List Words) (inputs : List Act) (turns : ℕ) (wu : List Words) (eu : List Bool) (u v : ProgramRoom) (es : List Bool) (o : Outcome) → turns ≤ 100000
+    → es ≡ (first_turns (start_states p) ws (length (proposers p))).ended
+    → GoesRounds turns (start_room p inputs turns) ws es u wu eu → Dismisses u eu v
+    → IsLogOf v.program v.board o.log.items o.end o.states.items → o.reports.items ≡ v.reports → IsRoom v → HaveEnded turns o.end o.reports.items
+ends_alone p ws inputs turns wu eu u v es o l s g d log k told =
+    let start : Turns (List Val) = first_turns (start_states p) ws (length (proposers p)) in
+    let many : length (proposers p) ≡ length p.members = length-map p.members proposers_of in
+    let begun : standing_at (start_room p inputs turns) ws es ≡ start =
+    ap (standing_at (start_room p inputs turns) ws) s
+    ∙ ap (λ (n : ℕ). record { board = start.board; reports = replicate (n + 1) blank; words = ws; ended = start.ended }) (sym many) in
+    let few : 0 + turns ≤ 100000 = omega (arith, l) in
+    let settled : AreSettled turns 0 (standing_at u wu eu) =
+    subst (λ n. AreSettled n 0 (standing_at u wu eu)) (omega arith)
+    (g.settled 0 few (subst (λ (t : Turns (List Val)). AreSettled 0 0 t) (sym begun) (settled_first (start_states p) ws (length (proposers p))))) in
+    let turns_are : u.turns ≡ turns = ap (λ (q : ProgramRoom). q.turns) g.rest in
+    let program : v.program ≡ p = ap (λ (q : ProgramRoom). q.program) d.rest ∙ ap (λ (q : ProgramRoom). q.program) g.rest in
+    let board : v.board ≡ u.board = ap (λ (q : ProgramRoom). q.board) d.rest in
+    let workers : length v.reports ≡ length p.members + 1 = told.workers ∙ ap (λ (q : Prog). length q.members + 1) program in
+    let first : length es ≡ length (proposers p) + 1 = ap length s ∙ length-replicate (length (proposers p) + 1) false in
+    let kept : length eu ≡ length es = g.follows.ended in
+    let reports : length o.reports.items ≡ length v.reports = ap length k in
+    let all : length o.reports.items ≤ length eu = omega (arith, reports, workers, first, many, kept) in
+    settled_end turns (standing_at u wu eu) o.reports.items v.board.history o.end settled all
+    (λ w. ap (λ rs. slice_get rs w) k ∙ d.reports w ∙ ap (λ n. option_map (dismissed n eu w) (slice_get u.reports w)) turns_are)
+    (log.ends ∙ ap (λ (b : Standing (List Val)). ending v.board.history b.failure) board)

@@ -10,17 +10,17 @@ use Rattle.ioa_run.specs.declared.answer.Answer.{Answer}
 use Rattle.ioa_run.specs.declared.report.Report.{Report}
 use Rattle.ioa_run.specs.declared.report.Why.{Why}
 use Rattle.ioa_run.specs.Boards.{Standing}
-use Rattle.ioa_run.specs.Going.{AreGoing, Follows, IsRefused, IsTurn, dismissed, told_in}
+use Rattle.ioa_run.specs.Going.{AreCounted, AreGoing, Follows, IsRefused, IsTurn, dismissed, told_in}
 use Rattle.ioa_run.specs.Reports.{Changes, blank, left, unless_faulted, with_idle, with_why}
 use Rattle.ioa_run.specs.Turns.{Proposer, Turns, after, alone, attempt, changed, first_turns, is_last, meant, round, rounds, told, turn, turned, turns_of_first, with_done}
 use Rattle.ioa_run.proofs.Attempting.{set_there}
 use Rattle.ioa_run.proofs.Scheduling.{set_got}
-use Rattle.ioa_run.proofs.Counting.{AreCounted, counted_rounds, dismissed_is, first_counted, first_going, none_refused, refused_dismissed}
+use Rattle.ioa_run.proofs.Counting.{counted_rounds, dismissed_is, first_counted, first_going, none_refused, refused_dismissed}
 use Rattle.ioa_run.proofs.Turned.{changed_alike, changed_set, changes_is, going_first, going_rounds, length_changed}
 
 -- ---- one turn
 
-other_there : {X : Type 0} (xs : List X) (w v : ℕ) (x : X) → v ≢ w → slice_get (slice_set xs w x) v ≡ slice_get xs v
+pub other_there : {X : Type 0} (xs : List X) (w v : ℕ) (x : X) → v ≢ w → slice_get (slice_set xs w x) v ≡ slice_get xs v
 other_there [] w v x d = refl
 other_there (y ∷ ys) zero zero x d = absurd (d refl)
 other_there (y ∷ ys) zero (suc v) x d = refl

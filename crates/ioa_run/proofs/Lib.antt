@@ -13,6 +13,7 @@ pub mod Tried
 pub mod Attempted
 pub mod TellingAttempts
 pub mod Going
+pub mod Settled
 pub mod Choosing
 pub mod Acting
 pub mod Wishing

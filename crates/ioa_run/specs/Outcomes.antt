@@ -1,5 +1,5 @@
 -- What a run gives.
-use Rattle.std.specs.Prelude.{◌≡◌, ◌++◌, ◌∷◌, ℕ, List, [], Option, None, Some, length, map}
+use Rattle.std.specs.Prelude.{◌≡◌, ◌++◌, ◌∷◌, ℕ, List, [], All, Option, None, Some, length, map}
 use Rattle.ioa_value.specs.Actions.{Act}
 use Rattle.ioa_value.specs.Plain.{Val}
 use Rattle.ioa_tree.specs.Runs.{Ending, done, fault_at, run}
@@ -12,6 +12,9 @@ use Rattle.ioa_system.specs.declared.log.LogEntry.{LogEntry}
 use Rattle.ioa_node.specs.Nodes.{Node}
 use Rattle.ioa_run.specs.Boards.{Failure, IsSound, Standing}
 use Rattle.ioa_run.specs.Histories.{acts_of}
+use Rattle.ioa_run.specs.Reports.{counted}
+use Rattle.ioa_run.specs.declared.report.Report.{Report}
+use Rattle.ioa_run.specs.declared.report.Why.{Why}
 
 -- the history, and last the action that faulted
 abbrev pub logged : List (ℕ × Act) → Option Failure → List (ℕ × Act)
@@ -30,3 +33,24 @@ pub record IsLogOf (p : Prog) (b : Standing (List Val)) (log : List LogEntry) (e
   pub states : values_of ns ≡ b.states
   pub sound : IsSound (tabled p) (start_states p) b
   pub runs : run (tabled p) (acts_of (logged b.history b.failure)) (start_states p) ≡ record { performed = length b.history; states = b.states; ending = ending b.history b.failure }
+
+-- the last of the log is an action that faulted
+abbrev pub IsFault : LogEnd → Type 0
+IsFault (LogEnd.Done n) = ⊥
+IsFault (LogEnd.Fault c f i) = Unit {0}
+
+-- why a worker takes no more turns, so many of which are counted: they are all that each has; or its action faulted, and the log ends by
+-- that fault; or it was stopped, by the fault of another's action, by which the log ends; or memory was refused to it
+abbrev pub IsReason : ℕ → LogEnd → ℕ → Why → Type 0
+IsReason turns end n Why.TurnsDone = n ≡ turns
+IsReason turns end n Why.Faulted = IsFault end
+IsReason turns end n Why.Stopped = IsFault end
+IsReason turns end n Why.Memory = Unit {0}
+
+-- the worker of this report has ended, where each has so many turns and the log ends so
+abbrev pub HasEnded : ℕ → LogEnd → Report → Type 0
+HasEnded turns end r = IsReason turns end (counted r) r.why
+
+-- all workers have
+abbrev pub HaveEnded : ℕ → LogEnd → List Report → Type 0
+HaveEnded turns end rs = All (HasEnded turns end) rs

@@ -1,11 +1,13 @@
-ghost use Rattle.std.specs.Prelude.{◌≡◌, ◌+◌, ◌<◌, ◌^◌, ◌==◌, ℕ};
+ghost use Rattle.std.specs.Prelude.{◌≡◌, ◌↔◌, ◌+◌, ◌<◌, ◌^◌, ◌==◌, ℕ, IsTrue};
 ghost use Rattle.ioa_run.specs.Going.{told_in};
+ghost use Rattle.ioa_run.specs.Outcomes.{HasEnded, HaveEnded};
 ghost use Rattle.ioa_run.specs.Reports.{blank, counted, judged, left, resumed, unless_done, with_committed, with_idle, with_stale, with_why};
 ghost use Rattle.ioa_run.specs.declared.answer.Answer.TheVariants as answers;
 ghost use Rattle.ioa_run.specs.declared.verdict.Verdict.TheVariants as verdicts;
 
 use crate::answer::Answer;
 use crate::verdict::Verdict;
+use ioa_system::LogEnd;
 
 /// Why a worker takes no more turns.
 #[derive(Clone, Copy, Debug, PartialEq, Eq)]
@@ -150,6 +152,18 @@ impl Report {
         }
     }
 
+    /// Whether the worker has ended, where each has so many turns and the log ends so: all its turns are counted, or its action faulted, or
+    /// another's did and stopped it, or memory was refused to it. Who is stopped without a fault has said nothing.
+    pub(crate) fn has_ended(self, turns: u64, end: LogEnd) -> bool
+        ensures { IsTrue result ↔ HasEnded turns end self }
+    {
+        match self.why {
+            Why::TurnsDone => self.counted() == u128::from(turns),
+            Why::Faulted | Why::Stopped => matches!(end, LogEnd::Fault(_, _, _)),
+            Why::Memory => true,
+        }
+    }
+
     /// How many turns are counted.
     fn counted(self) -> u128
         ensures { result ≡ counted self }
@@ -168,4 +182,16 @@ impl Why {
             Why::Faulted | Why::Stopped | Why::Memory => self,
         }
     }
+}
+
+/// Whether all workers have ended, where each has so many turns and the log ends so.
+pub(crate) fn have_ended(reports: &[Report], turns: u64, end: LogEnd) -> bool
+    ensures { IsTrue result ↔ HaveEnded turns end reports.now }
+{
+    for report in reports {
+        if !report.has_ended(turns, end) {
+            return false;
+        }
+    }
+    true
 }

@@ -10,8 +10,8 @@ pub enum RunErr {
     /// The action of this number, from 0, is the first of the script that is no input of the composition.
     #[error("action {0} of the script is no input")]
     BadInput(usize),
-    /// A thread was refused.
-    #[error("a thread was refused")]
+    /// A thread was refused, or ended without a word.
+    #[error("a thread was refused, or ended without a word")]
     Threads,
     /// Memory was refused before the start.
     #[error("memory")]

@@ -1,14 +1,17 @@
-ghost use Rattle.std.specs.Prelude.{◌≡◌, ◌≤◌, All, IfOk, length, map};
+ghost use Rattle.std.specs.Prelude.{◌≡◌, ◌≤◌, All, IfErr, IfOk, length, map};
 ghost use denote.Param.Send.{IsSend, IsSync};
 ghost use Rattle.ioa_value.specs.Actions.{act_of};
 ghost use Rattle.ioa_compile.specs.Tables.{tabled};
+ghost use Rattle.ioa_run.specs.declared.run_err.RunErr.TheVariants as errors;
 ghost use Rattle.ioa_run.specs.Alone.{IsInput, IsOutcome, Refuses, most_turns};
+ghost use Rattle.ioa_run.specs.Outcomes.{HaveEnded};
 
 use crate::beginning::check;
 use crate::crew::Crew;
 use crate::gate::Gate;
 use crate::outcome::Outcome;
 use crate::own_room::Terms;
+use crate::report::have_ended;
 use crate::run_err::RunErr;
 use crate::worker::{Source, Worker};
 use ioa_compile::Program;
@@ -27,9 +30,11 @@ use std::thread::Threads;
 /// or where it would commit after another's; the others go on. Memory that is refused to a worker in its turn ends that worker alone, and
 /// its report says so.
 ///
+/// Of each worker that is answered of all turns are counted, or its action faulted, or another's did, or memory was refused to it.
+///
 /// It answers `TooManyTurns` where each worker would have more than 100,000 turns; then `BadInput` with the first action that is no input
-/// of the composition; `Threads` where a thread was refused, once the others are stopped and have ended; and `OutOfMemory` where memory was
-/// refused before the start.
+/// of the composition; `Threads` where a thread was refused, once the others are stopped and have ended, or where one has ended without a
+/// word, which none of these threads does; and `OutOfMemory` where memory was refused before the start.
 pub fn run_threads<R: Threads + Wait + Sync, W: Words + Send + Drop, G: Gate + Sync>(
     rt: &R,
     alloc: Global,
@@ -41,6 +46,7 @@ pub fn run_threads<R: Threads + Wait + Sync, W: Words + Send + Drop, G: Gate + S
 ) -> Result<Outcome, RunErr>
     requires sources { length words.items ≡ length program.now.members }
     ensures outcome { IfOk result (λ o. IsOutcome program.now (map act_of inputs.now) turns o) }
+    ensures ended { IfOk result (λ o. HaveEnded turns o.end o.reports.items) }
     ensures refused { Refuses program.now (map act_of inputs.now) turns result }
 {
     check(alloc, program, turns, inputs)?;
@@ -63,13 +69,29 @@ fn run_on<T: Terms + Send, R: Threads + Wait + Sync, W: Words + Send + Drop, G: 
     requires few { T.turns ≤ most_turns }
     requires fine { All (IsInput (tabled T.program)) T.inputs }
     ensures outcome { IfOk result (λ o. IsOutcome T.program T.inputs T.turns o) }
+    ensures ended { IfOk result (λ o. HaveEnded T.turns o.end o.reports.items) }
     ensures refused { Refuses T.program T.inputs T.turns result }
 {
     let crew: Crew<'_, T> = Crew::start(alloc, program, inputs, turns)?;
     if !work_all(rt, alloc, &crew, words, gate) {
         return Err(RunErr::Threads);
     }
-    Ok(crew.finish())
+    unless_silent(crew.finish(), turns)
+}
+
+/// What a run with so many turns for each worker gave, unless a worker has ended without a word. A worker's thread says why it takes no more
+/// turns in every way out but that of a cancelled run (`Worker::work`), which gives nothing: so none of them is silent. Since of the room
+/// under the lock nothing is known but what its type says, this is asked of the reports.
+fn unless_silent(outcome: Outcome, turns: u64) -> Result<Outcome, RunErr>
+    ensures same { IfOk result (λ o. o ≡ outcome) }
+    ensures ended { IfOk result (λ o. HaveEnded turns o.end o.reports.items) }
+    ensures silent { IfErr result (λ e. (e ≡ errors.Threads) × (HaveEnded turns outcome.end outcome.reports.items → ⊥)) }
+{
+    if have_ended(&outcome.reports, turns, outcome.end) {
+        Ok(outcome)
+    } else {
+        Err(RunErr::Threads)
+    }
 }
 
 /// Starts a thread for each worker of the crew, and waits until all have ended. Where a thread is refused, those that were started take no

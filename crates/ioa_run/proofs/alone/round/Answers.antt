@@ -1,7 +1,7 @@
-use Rattle.std.proofs.Common.{◌<◌, ◌∙◌, ◌+◌, suc, true, false, ap, length, map, rules, arith}
+use Rattle.std.proofs.Common.{◌≤◌, ◌<◌, ◌∙◌, ◌+◌, suc, true, false, ap, length, map, rules, arith}
 use Rattle.std.specs.Prelude.{slice_set}
 use Rattle.ioa_run.specs.Turning.{ends}
-use Rattle.ioa_run.proofs.Taking.{first_ended, first_more, first_same, read_there}
+use Rattle.ioa_run.proofs.Taking.{first_ended, first_more, first_same, read_there, round_taken}
 use Rattle.ioa_run.proofs.alone.round.Given.{Over}
 use Rattle.ioa_run.proofs.alone.round.Goals as goal
 use Rattle.ioa_run.proofs.alone.round.Goals.{Joined-not-ended-who, then-not-ended-who, else-not-ended-who}
@@ -25,3 +25,10 @@ loop-who-preserved g c =
           (first_ended c.loop-who.who c.args.room.now c.loop-who.room (map stream c.args.words.now) (map stream c.loop-who.words) c.args.ended.now c.loop-who.ended c.loop-who.invariant
           (read_there c.loop-who.ended c.loop-who.who false true (within g c) w.if-not-ended-who.false))
     ]
+
+pub returns : goal.returns
+returns g c =
+    let least : length c.args.ended.now ≤ c.loop-who.who = search rules in
+    let most : c.loop-who.who ≤ length c.args.ended.now = search rules in
+    round_taken c.loop-who.who c.args.room.now c.loop-who.room (map g.W.Words.stream c.args.words.now) (map g.W.Words.stream c.loop-who.words) c.args.ended.now c.loop-who.ended
+    (omega (arith, least, most, c.requires.ended)) c.requires.ended c.loop-who.invariant
