@@ -1,5 +1,5 @@
 -- On one thread, who takes more turns has had all till now, and who takes none has a cause.
-use Rattle.std.proofs.Common.{◌≡◌, ◌≢◌, ℕ, suc, ◌+◌, ◌<◌, ◌≤◌, ◌==◌, List, length, All, Bool, true, false, cond, replicate, Option, None, Some, refl, sym, ◌∙◌, ap, subst, arith, inl, inr, if◌then◌else◌}
+use Rattle.std.proofs.Common.{◌≡◌, ◌≢◌, ℕ, ◌+◌, ◌<◌, ◌≤◌, ◌==◌, List, length, All, Bool, true, false, cond, Option, None, Some, refl, sym, ◌∙◌, ap, subst, arith, inl, inr, if◌then◌else◌}
 use Rattle.std.specs.Prelude.{IsSome, is_some, slice_get, slice_set, unwrap_or}
 use Rattle.std.specs.Option.{option_map}
 use Rattle.std.proofs.lemmas.Bool.Decides.{eqb_tells}
@@ -15,7 +15,7 @@ use Rattle.ioa_run.specs.declared.answer.Answer.{Answer}
 use Rattle.ioa_run.specs.declared.report.Report.{Report}
 use Rattle.ioa_run.specs.declared.report.Why.{Why}
 use Rattle.ioa_run.specs.Boards.{Failure, Standing}
-use Rattle.ioa_run.specs.Going.{AreCounted, AreGoing, AreSettled, Counts, HaveCauses, IsCause, IsTurn, dismissed}
+use Rattle.ioa_run.specs.Going.{AreSettled, HaveCauses, IsCause, IsTurn, dismissed}
 use Rattle.ioa_run.specs.Outcomes.{HasEnded, HaveEnded, IsFault, IsReason, ending}
 use Rattle.ioa_run.specs.Reports.{Changes, counted, left, with_idle, with_why}
 use Rattle.ioa_run.specs.Turns.{Proposer, Turns, attempt, first_turns, is_last, meant, not_own, own_attempt, told, turned}

@@ -54,8 +54,8 @@ pub record IsFirstOther {S : Type 0} (ps : List (Component S)) (inputs : List Ac
 abbrev pub most_turns : ℕ
 most_turns = 100000
 
--- too many turns first, then the first action that is no input; a thread is refused of a run that may begin alone; where memory is wanting
--- before the start no input need have been looked at
+-- too many turns first, then the first action that is no input; a thread is refused, or ends without a word, of a run that may begin alone;
+-- where memory is wanting before the start no input need have been looked at
 abbrev pub Refuses : Prog → List Act → ℕ → Result Outcome RunErr → Type 0
 Refuses p inputs turns (Ok o) = (turns ≤ most_turns) × All (IsInput (tabled p)) inputs
 Refuses p inputs turns (Err RunErr.TooManyTurns) = most_turns < turns

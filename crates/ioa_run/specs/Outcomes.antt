@@ -40,7 +40,8 @@ IsFault (LogEnd.Done n) = ⊥
 IsFault (LogEnd.Fault c f i) = Unit {0}
 
 -- why a worker takes no more turns, so many of which are counted: they are all that each has; or its action faulted, and the log ends by
--- that fault; or it was stopped, by the fault of another's action, by which the log ends; or memory was refused to it
+-- that fault; or it was stopped, and the log ends by the fault that stopped it, which is another's, since who faulted is told so; or memory
+-- was refused to it
 abbrev pub IsReason : ℕ → LogEnd → ℕ → Why → Type 0
 IsReason turns end n Why.TurnsDone = n ≡ turns
 IsReason turns end n Why.Faulted = IsFault end
