@@ -54,7 +54,7 @@ some_participant i (p ∷ ps) a = some_or_not (has a p) i (participants_from (i 
 pub is_known : {S : Type 0} (ps : List (Component S)) (a : Act) (found : List ℕ) (none : Bool) → found ≡ participants ps a → none ≡ (length found == 0) → not none ≡ list_any (has a) ps
 is_known ps a found none e empty = ap not empty ∙ ap (λ ns. not (length ns == 0)) e ∙ some_participant 0 ps a
 
-known_first : {S T : Type 0} (ps : List (Component S)) (qs : List (Component T)) (a : Act) → participants ps a ≡ participants qs a → list_any (has a) ps ≡ list_any (has a) qs
+pub known_first : {S T : Type 0} (ps : List (Component S)) (qs : List (Component T)) (a : Act) → participants ps a ≡ participants qs a → list_any (has a) ps ≡ list_any (has a) qs
 known_first ps qs a same = sym (some_participant 0 ps a) ∙ ap (λ ns. not (length ns == 0)) same ∙ some_participant 0 qs a
 
 -- the same where the same components take part in each action

@@ -1,5 +1,5 @@
 -- The answers of the definitions, of small texts.
-use Rattle.std.proofs.Common.{◌≡◌, ℕ, List, [], ◌∷◌, Some, None, codes, refl}
+use Rattle.std.proofs.Common.{◌≡◌, ℕ, List, [], ◌∷◌, Some, None, true, false, codes, refl}
 use Rattle.std.specs.Fmt.{digits}
 use Rattle.ioa_arithmetic.specs.declared.arithmetic.Fault.TheVariants.{ZeroDivisor}
 use Rattle.ioa_value.specs.Actions.{Act}
@@ -7,6 +7,8 @@ use Rattle.ioa_value.specs.Written.{written_action}
 use Rattle.ioa_tree.specs.Runs.{not_an_action_at, not_enabled_at, fault_at}
 use Rattle.ioa_account.specs.Accounts.{why}
 use Rattle.ioa_account.specs.Lines.{line_at, line_of_action}
+use Rattle.ioa_account.specs.Quoted.{end_of, goes_on}
+use Rattle.ioa_account.specs.Remarks.{asked_text, known_text}
 
 -- a blank line, a comment, an action, a line of blanks, and another action
 list : List ℕ
@@ -52,3 +54,34 @@ blocked = refl
 faulted : why [] steps (codes "Left") (fault_at 0 ZeroDivisor 0) ≡ codes "fault 2 of step in Left"
 unfolding steps written_action digits
 faulted = refl
+
+-- ---- how much was asked
+
+known : known_text 2 5 ≡ codes "the specification has 2 of 5 actions of the log\n"
+unfolding digits
+known = refl
+
+none_known : known_text 0 5 ≡ codes "the specification has 0 of 5 actions of the log: nothing was specified\n"
+unfolding digits
+none_known = refl
+
+asked : asked_text 1 4 ≡ codes "invariants asked: 1 in each of 4 states\n"
+unfolding digits
+asked = refl
+
+-- ---- lines of a transition
+
+precondition_goes_on : goes_on (codes "    pre x = 1") ≡ true
+precondition_goes_on = refl
+
+transition_begins : goes_on (codes "    input ack") ≡ false
+transition_begins = refl
+
+blank_ends : goes_on (codes "  ") ≡ false
+blank_ends = refl
+
+whole_line : end_of 160 ≡ codes "\n"
+whole_line = refl
+
+cut_line : end_of 161 ≡ codes " ..\n"
+cut_line = refl

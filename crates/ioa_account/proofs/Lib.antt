@@ -4,3 +4,5 @@ pub mod Counting
 pub mod Ending
 pub mod StateLines
 pub mod Telling
+pub mod Quoting
+pub mod Remarking

@@ -1,6 +1,7 @@
 -- Lines by their numbers, and the lines that hold actions.
 use Rattle.std.proofs.Common.{◌≡◌, ℕ, zero, suc, ◌+◌, ◌<◌, Bool, true, false, List, [], ◌∷◌, length, Option, Some, None, refl, sym, ap, subst, ◌∙◌, arith, inl, inr}
-use Rattle.std.specs.Prelude.{slice_get}
+use Rattle.std.specs.Prelude.{◌-◌, ◌≤◌, drop, slice_get}
+use Rattle.std.proofs.lemmas.List.{drop-drop}
 use Rattle.ioa_value.specs.Actions.{Act}
 use Rattle.ioa_value.specs.Lists.{ReadsLines, after_line, first_line, is_skipped, lines}
 use Rattle.ioa_value.specs.Reads.{Reads}
@@ -11,28 +12,33 @@ use Rattle.ioa_account.specs.Lines.{ActionsHaveLines, line_holding}
 
 -- ---- past the first line
 
--- the rest of a text has the lines behind so many
-abbrev pub IsBehind : List ℕ → ℕ → List ℕ → Type 0
-IsBehind text n rest = (j : ℕ) → slice_get (lines rest) j ≡ slice_get (lines text) (n + j)
+-- behind the first of the lines that are left, there is one less
+pub behind_more : (ls : List (List ℕ)) (rest after : List ℕ) (n : ℕ) → 0 < length rest → after ≡ after_line rest → lines rest ≡ drop n ls → lines after ≡ drop (n + 1) ls
+behind_more ls rest after n long e behind = ap lines e ∙ ap (drop 1) (sym (cut_lines rest long) ∙ behind) ∙ drop-drop 1 n ls
 
-pub behind_none : (text : List ℕ) → IsBehind text 0 text
-behind_none text j = let same : j ≡ 0 + j = omega arith in ap (slice_get (lines text)) same
+drop-nil : (n : ℕ) → drop {A = List ℕ} n [] ≡ []
+drop-nil zero = refl
+drop-nil (suc n) = refl
 
-pub behind_more : (text rest after : List ℕ) (n : ℕ) → 0 < length rest → after ≡ after_line rest → IsBehind text n rest → IsBehind text (n + 1) after
-behind_more text rest after n long e behind j =
-    let next : n + suc j ≡ n + 1 + j = omega arith in
-    ap (λ r. slice_get (lines r) j) e
-    ∙ ap (λ ls. slice_get ls (suc j)) (sym (cut_lines rest long))
-    ∙ behind (suc j) ∙ ap (slice_get (lines text)) next
+-- where none is left, none stands behind more
+pub behind_all : (ls : List (List ℕ)) (rest : List ℕ) (n m : ℕ) → n ≤ m → rest ≡ [] → lines rest ≡ drop n ls → lines rest ≡ drop m ls
+behind_all ls rest n m few e behind =
+    let none : drop n ls ≡ [] = sym behind ∙ ap lines e in
+    let sum : n + (m - n) ≡ m = omega arith in
+    ap lines e ∙ sym (ap (drop (m - n)) none ∙ drop-nil (m - n)) ∙ drop-drop (m - n) n ls ∙ ap (λ k. drop k ls) sum
 
--- the line behind so many is the first of the rest, or there is none
-pub behind_first : (text rest line : List ℕ) (n m : ℕ) → n ≡ m → 0 < length rest → line ≡ first_line rest → IsBehind text n rest → Some line ≡ slice_get (lines text) m
-behind_first text rest line n m same long e behind =
-    let here : n + 0 ≡ m = omega arith in
-    ap Some e ∙ ap (λ ls. slice_get ls 0) (sym (cut_lines rest long)) ∙ behind 0 ∙ ap (slice_get (lines text)) here
+-- the line behind so many is the first of those that are left, or there is none
+first_left : (ls : List (List ℕ)) (n : ℕ) → slice_get (drop n ls) 0 ≡ slice_get ls n
+first_left ls zero = refl
+first_left [] (suc n) = refl
+first_left (l ∷ ls) (suc n) = first_left ls n
 
-pub behind_all : (text rest : List ℕ) (n m k : ℕ) → n + k ≡ m → rest ≡ [] → IsBehind text n rest → None ≡ slice_get (lines text) m
-behind_all text rest n m k same e behind = ap (λ r. slice_get (lines r) k) (sym e) ∙ behind k ∙ ap (slice_get (lines text)) same
+pub line_left : (ls : List (List ℕ)) (rest line : List ℕ) (n : ℕ) → 0 < length rest → line ≡ first_line rest → lines rest ≡ drop n ls → Some line ≡ slice_get ls n
+line_left ls rest line n long e behind =
+    ap Some e ∙ ap (λ xs. slice_get xs 0) (sym (cut_lines rest long)) ∙ ap (λ xs. slice_get xs 0) behind ∙ first_left ls n
+
+pub none_left : (ls : List (List ℕ)) (rest : List ℕ) (n : ℕ) → rest ≡ [] → lines rest ≡ drop n ls → None ≡ slice_get ls n
+none_left ls rest n e behind = ap (λ r. slice_get (lines r) 0) (sym e) ∙ ap (λ xs. slice_get xs 0) behind ∙ first_left ls n
 
 -- ---- the line that holds an action
 

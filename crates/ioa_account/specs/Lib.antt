@@ -3,3 +3,5 @@ pub mod States
 pub mod Counts
 pub mod Ends
 pub mod Accounts
+pub mod Quoted
+pub mod Remarks

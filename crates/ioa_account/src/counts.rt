@@ -49,7 +49,11 @@ fn known_to_table(
 }
 
 /// Whether some component has the action.
-fn is_known(alloc: Global, program: &Program, action: &Action) -> Result<bool, OutOfMemory>
+pub(crate) fn is_known(
+    alloc: Global,
+    program: &Program,
+    action: &Action,
+) -> Result<bool, OutOfMemory>
     ensures { IfOk result (λ known. known ≡ list_any (has (act_of action.now)) (tabled program.now)) }
 {
     let found = participants(alloc, program, action)?;

@@ -1,6 +1,6 @@
 //! Lines of texts by their numbers, from 1.
 
-ghost use Rattle.std.specs.Prelude.{◌≡◌, slice_get};
+ghost use Rattle.std.specs.Prelude.{◌≡◌, drop, slice_get};
 ghost use Rattle.std.specs.Option.{option_copied};
 ghost use Rattle.ioa_value.specs.Lists.{lines};
 ghost use Rattle.ioa_account.specs.Lines as spec;
@@ -21,17 +21,25 @@ pub fn line_at(text: &[u8], number: usize) -> Option<&[u8]>
 fn line_behind(text: &[u8], before: usize) -> Option<&[u8]>
     ensures { option_copied result ≡ slice_get (lines text.now) before }
 {
-    let mut rest = text;
-    for _ in 0..before {
-        if rest.is_empty() {
-            return None;
-        }
-        rest = first_line(rest).1;
-    }
+    let rest = behind(text, before);
     if rest.is_empty() {
         return None;
     }
     Some(first_line(rest).0)
+}
+
+/// What stands behind so many lines; nothing, where there are no more.
+pub(crate) fn behind(text: &[u8], count: usize) -> &[u8]
+    ensures { lines result.now ≡ drop count (lines text.now) }
+{
+    let mut rest = text;
+    for _ in 0..count {
+        if rest.is_empty() {
+            return rest;
+        }
+        rest = first_line(rest).1;
+    }
+    rest
 }
 
 /// The number, from 1, of the line of a list's text that holds the action of this index, from 0. The lines that are not skipped hold

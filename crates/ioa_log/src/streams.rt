@@ -83,6 +83,7 @@ pub fn send_all<W: OutputDevice>(output: &mut W, text: &[u8]) -> Result<(), LogE
     ensures ok { OnOk result (Appends (W.contents output.old) (W.contents output.new) text.now) }
     ensures io { IfErr result (λ e. (e ≡ LogErr.Io) × HasFailed (W.failure_count output.old) (W.failure_count output.new)) }
     ensures passed { OnOk result (W.failure_count output.new ≡ W.failure_count output.old) }
+    ensures counts { W.failure_count output.old ≤ W.failure_count output.new }
     ensures begun { OnErr result ((k : ℕ) × Appends (W.contents output.old) (W.contents output.new) (take k text.now)) }
 {
     let mut at = 0;

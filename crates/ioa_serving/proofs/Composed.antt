@@ -1,5 +1,5 @@
 -- The compositions of a source, one after another.
-use Rattle.std.proofs.Common.{◌≡◌, ◌∙◌, ◌<◌, ◌≤◌, ◌+◌, ◌++◌, ◌∷◌, [], All, Bool, List, Option, Some, None, Result, Ok, Err, true, ℕ, IfErr, OnOk, ap, drop, drop-cons, get_or, inl, inr, length, map, refl, suc, sym, subst, take}
+use Rattle.std.proofs.Common.{◌≡◌, ◌∙◌, ◌<◌, ◌≤◌, ◌+◌, ◌++◌, ◌∷◌, [], All, Bool, List, Option, Some, None, Result, Ok, Err, true, ℕ, IfErr, OnOk, ap, drop, drop-cons, get_or, inl, inr, length, refl, suc, sym, subst, take}
 use Rattle.std.proofs.lemmas.List.{map-append, take-append-drop, take_all, take_more}
 use Rattle.std.proofs.lemmas.List.Elements.{All-append}
 use Rattle.ioa_lex.specs.declared.refusal.Refusal.{Refusal}

@@ -1,16 +1,15 @@
 -- What a program's run on one thread is, told of what the program runs as.
-use Rattle.std.proofs.Common.{◌≡◌, ◌≤◌, ◌<◌, ◌+◌, ℕ, Bool, true, false, List, [], ◌∷◌, ◌++◌, All, map, length, Option, Some, None, slice_get, refl, sym, ap, ap₂, ◌∙◌, subst, arith, length-append}
+use Rattle.std.proofs.Common.{◌≡◌, ◌≤◌, ℕ, Bool, true, false, List, [], ◌∷◌, All, map, length, Option, Some, None, refl, sym, ap, ap₂, ◌∙◌, subst, arith, length-append}
 use Rattle.std.specs.Prelude.{unwrap_or}
 use Rattle.std.specs.List.{AllZip}
 use Rattle.std.proofs.lemmas.List.{length-map}
 use Rattle.std.proofs.lemmas.List.Elements.{All-append, All-cons, All-nil}
 use Rattle.ioa_value.specs.Actions.{Act, Name}
 use Rattle.ioa_value.specs.Plain.{Val}
-use Rattle.ioa_value.specs.Table.{Table}
 use Rattle.ioa_node.specs.Nodes.{Node}
 use Rattle.ioa_tree.specs.Compositions.{Member}
 use Rattle.ioa_tree.specs.Hosts.{Host}
-use Rattle.ioa_tree.specs.Runs.{Ending, done, fault_at, run, trace}
+use Rattle.ioa_tree.specs.Runs.{done, fault_at, run, trace}
 use Rattle.ioa_tree.specs.Steps.{owner, participants}
 use Rattle.ioa_compose.specs.Stands.{IsMadeOf}
 use Rattle.ioa_compile.specs.Matching.{MatchesMember}
@@ -18,7 +17,6 @@ use Rattle.ioa_compile.specs.Programs.{MemberCode, Prog}
 use Rattle.ioa_compile.specs.Tables.{start_states, tabled}
 use Rattle.ioa_system.specs.declared.log.LogEnd.{LogEnd}
 use Rattle.ioa_system.specs.declared.log.LogEntry.{LogEntry}
-use Rattle.ioa_system.specs.Histories.{TellsHistory}
 use Rattle.ioa_system.specs.Logs.{Logged, actions_of, log_end, log_entry, worker}
 use Rattle.ioa_system.proofs.Hosting.{host_owner, host_participants, host_run, host_trace}
 use Rattle.ioa_log.specs.LogTexts.{log_text}

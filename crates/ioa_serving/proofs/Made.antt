@@ -1,5 +1,5 @@
 -- Why no object is made, from the clauses of the parts.
-use Rattle.std.proofs.Common.{◌≡◌, ℕ, List, Option, Err, inr, refl}
+use Rattle.std.proofs.Common.{ℕ, List, Option, Err, inr, refl}
 use Rattle.std.specs.Io.KnownBytes.{Keeps}
 use Rattle.std.specs.Result.{IsErrOf}
 use Rattle.ioa_value.specs.Actions.{Name}

@@ -1,5 +1,5 @@
 -- Whether the name that is asked for is that of an object's composition.
-use Rattle.std.proofs.Common.{◌≡◌, List, ℕ, Bool, true, false, not, Option, Some, None, IfSome, refl, sym, ap, ◌∙◌}
+use Rattle.std.proofs.Common.{◌≡◌, List, ℕ, Bool, true, false, not, Option, Some, None, IfSome, refl, sym, ◌∙◌}
 use Rattle.std.specs.Option.{option_map_or}
 use Rattle.std.specs.Str.{bytes_eq}
 use Rattle.std.proofs.lemmas.Bool.{false≢true}

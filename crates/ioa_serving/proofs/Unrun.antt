@@ -1,5 +1,5 @@
 -- From the clauses of the parts to why nothing is run.
-use Rattle.std.proofs.Common.{◌≡◌, ◌∙◌, ℕ, List, Option, Some, None, Err, false, inl, inr, length, map, refl, subst, sym}
+use Rattle.std.proofs.Common.{◌≡◌, ◌∙◌, ℕ, List, Option, Err, false, inl, inr, length, map, refl, subst, sym}
 use Rattle.std.specs.Option.{option_copied}
 use Rattle.std.specs.Result.{IsErrOf}
 use Rattle.std.proofs.lemmas.List.{length-map}

@@ -1,6 +1,6 @@
 -- What replays of lists, replays of logs and monitors are in a composition of a source or in an object, from the bytes that are read to the
 -- bytes that are written.
-use Rattle.std.specs.Prelude.{◌≡◌, ◌==◌, ℕ, Bool, true, false, List, [], ◌∷◌, Option, Some, IfSome}
+use Rattle.std.specs.Prelude.{◌≡◌, ◌==◌, ℕ, Bool, false, List, [], ◌∷◌, Option, Some, IfSome}
 use Rattle.ioa_value.specs.Actions.{Name}
 use Rattle.ioa_lex.specs.Tokens.{Tok}
 use Rattle.ioa_lex.specs.Lexing.{Lexes}

@@ -41,7 +41,7 @@ pub use library::write_library;
 pub use list_log::log_list_text;
 pub use log_chart::chart_log_text;
 pub use log_replay::replay_log_text;
-pub use monitor::{actions_in, monitor_text, performed_in};
+pub use monitor::{monitor_text, performed_in};
 pub use object_file::compile_file;
 pub use replay::replay_text;
 pub use run::run_file;

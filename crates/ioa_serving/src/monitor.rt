@@ -16,9 +16,10 @@ ghost use Rattle.ioa_serving.specs.Subjects.{IsClosed, IsOpen, Subject, its_comp
 
 use crate::compile::program_of;
 use crate::failure::Failure;
+use ioa_account::actions_in;
 use ioa_compile::Program;
 use ioa_log::{InputDevice, MonitorErr, OutputDevice, monitor, read_log, send_all};
-use ioa_system::{End, Log, LogEnd, LogEntry};
+use ioa_system::{End, Log, LogEnd};
 use ioa_value::{Action, OutOfMemory};
 use std::alloc::Global;
 use std::fmt::Write;
@@ -80,16 +81,6 @@ pub fn performed_in(alloc: Global, log: Log) -> Result<Vec<Action>, OutOfMemory>
         LogEnd::Fault(_, _, _) => {
             actions.pop();
         }
-    }
-    Ok(actions)
-}
-
-pub fn actions_in(alloc: Global, entries: Vec<LogEntry>) -> Result<Vec<Action>, OutOfMemory>
-    ensures { IfOk result (λ actions. map act_of actions.items ≡ map (λ e. act_of e.action) entries.items) }
-{
-    let mut actions = Vec::new(alloc);
-    for entry in entries {
-        actions.push(entry.action)?;
     }
     Ok(actions)
 }

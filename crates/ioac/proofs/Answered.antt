@@ -7,12 +7,40 @@ use Rattle.ioa_serving.specs.declared.status.Status.{Status}
 use Rattle.ioa_serving.specs.Serving.{reports_of}
 use Rattle.ioac.specs.Telling.{IsPut}
 
+-- what follows of a call and of the next one, each where it passed, or each where it failed
+pub both_ok : {A E : Type 0} (P Q : A → Type 0) (r : Result A E) → IfOk r P → IfOk r Q → IfOk r (λ x. P x × Q x)
+both_ok P Q (Ok x) p q = (p, q)
+both_ok P Q (Err e) p q = tt
+
+pub both_err : {A E : Type 0} (P Q : E → Type 0) (r : Result A E) → IfErr r P → IfErr r Q → IfErr r (λ e. P e × Q e)
+both_err P Q (Ok x) p q = tt
+both_err P Q (Err e) p q = (p, q)
+
+-- what follows of what a call passed, or of why it failed
+pub if_ok : {A E : Type 0} (P Q : A → Type 0) (r : Result A E) → ((x : A) → P x → Q x) → IfOk r P → IfOk r Q
+if_ok P Q (Ok x) f p = f x p
+if_ok P Q (Err e) f p = tt
+
+pub if_err : {A E : Type 0} (P Q : E → Type 0) (r : Result A E) → ((e : E) → P e → Q e) → IfErr r P → IfErr r Q
+if_err P Q (Ok x) f p = tt
+if_err P Q (Err e) f p = f e p
+
 -- one of both is so
 pub answered : (r : Result Served Failure) (served finished : Option (List ℕ) → Status → Type 0) (unserved reported : Failure → Type 0)
-    → IfOk r (λ s. served (reports_of s) s.status) → IfErr r unserved → IfOk r (λ s. finished (reports_of s) s.status) → IfErr r reported
+    → IfOk r (λ s. served (reports_of s) s.status × finished (reports_of s) s.status) → IfErr r (λ e. unserved e × reported e)
     → ((reports : Option (List ℕ)) × (done : Status) × served reports done × finished reports done) ⊎ ((e : Failure) × unserved e × reported e)
-answered (Ok s) served finished unserved reported serves fails finishes reports = inl (reports_of s, s.status, serves, finishes)
-answered (Err e) served finished unserved reported serves fails finishes reports = inr (e, fails, reports)
+answered (Ok s) served finished unserved reported serves fails = inl (reports_of s, s.status, serves.0, serves.1)
+answered (Err e) served finished unserved reported serves fails = inr (e, fails.0, fails.1)
+
+-- and what there is to say of it follows
+pub followed : (r : Result Served Failure) (served finished : Option (List ℕ) → Status → Type 0) (unserved reported : Failure → Type 0) (remarks : Status → List ℕ → Type 0)
+    (differs : Failure → List ℕ → Type 0) (puts : List ℕ → Type 0) (text : List ℕ)
+    → IfOk r (λ s. served (reports_of s) s.status × finished (reports_of s) s.status) → IfErr r (λ e. unserved e × reported e)
+    → IfOk r (λ s. remarks s.status text) → IfErr r (λ e. differs e text) → puts text
+    → ((reports : Option (List ℕ)) × (done : Status) × served reports done × finished reports done × ((t : List ℕ) × remarks done t × puts t))
+    ⊎ ((e : Failure) × unserved e × reported e × ((t : List ℕ) × differs e t × puts t))
+followed (Ok s) served finished unserved reported remarks differs puts text serves fails tells none put = inl (reports_of s, s.status, serves.0, serves.1, (text, tells, put))
+followed (Err e) served finished unserved reported remarks differs puts text serves fails none tells put = inr (e, fails.0, fails.1, (text, tells, put))
 
 -- where the text is told, the status is the one that was wanted
 pub told_through : (text : List ℕ) (wanted : Status) (before after : Option (List ℕ)) (failed : Type 0) (status : Status) → IsPut text wanted before after failed status

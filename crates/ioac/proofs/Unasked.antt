@@ -4,7 +4,7 @@ use Rattle.std.specs.Io.KnownBytes.{Keeps}
 use Rattle.clap.specs.Words.{Row, Text, subcommand_of}
 use Rattle.ioa_serving.specs.declared.status.Status.{Status}
 use Rattle.ioa_request.specs.declared.request.Request.{Request}
-use Rattle.ioa_request.specs.CommandLine.{HasNoFault, IsAsked, IsAskedBy, ioac_app}
+use Rattle.ioa_request.specs.CommandLine.{HasNoFault, IsAskedBy, ioac_app}
 use Rattle.ioac.specs.Commands.{IsUnasked}
 use Rattle.ioac.specs.Telling.{IsTold, unasked_text}
 

@@ -1,6 +1,6 @@
 -- What a run of the program comes to: what is asked, what is written, what is told, and the exit status. Of each device it is said what it
 -- holds before and after, and whether it failed.
-use Rattle.std.specs.Prelude.{◌≡◌, ℕ, ◌⊎◌, ◌<◌, Bool, true, false, List, length, Option, Some, None}
+use Rattle.std.specs.Prelude.{◌≡◌, ℕ, ◌⊎◌, ◌<◌, ◌≤◌, Bool, true, false, List, [], length, Option, Some, None}
 use Rattle.std.specs.Io.KnownBytes.{Appends, Keeps}
 use Rattle.clap.specs.Words.{IsAmong, Text, fault_of, subcommand_of}
 use Rattle.clap.specs.declared.error.kind.ErrorKind.{ErrorKind}
@@ -12,6 +12,7 @@ use Rattle.ioa_serving.specs.declared.failure.Failure.{Failure}
 use Rattle.ioa_request.specs.declared.request.Request.{Request}
 use Rattle.ioa_serving.specs.declared.status.Status.{Status}
 use Rattle.ioa_request.specs.CommandLine.{ioac_app, HasNoFault, IsAsked}
+use Rattle.ioac.specs.Remarks.{IsDifference, IsRemark}
 use Rattle.ioa_serving.specs.Serving.{IsServed, IsUnserved}
 use Rattle.ioac.specs.Telling.{IsCut, IsPut, IsReported, IsShort, IsTold, unasked_text}
 
@@ -27,13 +28,35 @@ IsAnswered holds lacks bars saves kept request bytes reader_failed before after 
     ((reports : Option (List ℕ)) × (done : Status) × IsServed holds saves request bytes before after reports done × IsFinished reports done told telling teller_failed status)
     ⊎ ((e : Failure) × IsUnserved holds lacks bars saves kept request bytes reader_failed writer_failed before after e × IsReported e told telling teller_failed status)
 
--- It is answered so, by what is told, how many calls of that device failed so far, and the status. Where an explanation is asked for, it follows what
--- is told, in words for people, of which nothing is said here; the status is still that of the answer, or the device failed then, too.
-abbrev pub IsAnsweredAs : Bool → (Option (List ℕ) → ℕ → Status → Type 0) → Option (List ℕ) → ℕ → Status → Type 0
-IsAnsweredAs false answers telling failures status = answers telling failures status
-IsAnsweredAs true answers telling failures status =
-    (told : Option (List ℕ)) × (before : ℕ) × (answered : Status) × answers told before answered
-    × ((text : List ℕ) × IsPut text answered told telling (HasFailed before failures) status)
+-- where memory is short for what there is to say, it is left out
+abbrev pub MayRemark : (List ℕ → List ℕ → Type 0) → List ℕ → Type 0
+MayRemark remarks text = (text ≡ []) ⊎ ((heard : List ℕ) × remarks heard text)
+
+-- what there is to say of a request that was served to this status; of one that was not, where a log is of another run
+abbrev pub IsServedRemark : (Name → List ℕ → Type 0) → (Name → Type 0) → Request → Status → List ℕ → Type 0
+IsServedRemark holds lacks request done text = MayRemark (λ heard. IsRemark holds lacks request heard done) text
+
+abbrev pub IsUnservedRemark : (Name → List ℕ → Type 0) → (Name → Type 0) → Request → Failure → List ℕ → Type 0
+IsUnservedRemark holds lacks request e text = (n : ℕ) → e ≡ Failure.List (LogErr.Diverges n) → MayRemark (λ heard. IsDifference holds lacks request heard) text
+
+-- such words follow what is told, and the status is still that of the answer; or the device failed then
+abbrev pub IsFollowed : (List ℕ → Type 0) → Status → Option (List ℕ) → Option (List ℕ) → Type 0 → Status → Type 0
+IsFollowed remarks answered told telling teller_failed status = (text : List ℕ) × remarks text × IsPut text answered told telling teller_failed status
+
+-- It is answered so, where the device of what is told holds this before and after, and so many of its calls failed. Where an explanation is asked for, it
+-- follows what is told without: of the files, as they are held then, and of what was heard of standard input.
+abbrev pub IsAnsweredAs : Bool → (Name → List ℕ → Type 0) → (Name → Type 0) → (Name → Type 0) → (Name → List ℕ → Type 0) → Type 0 → (Name → List ℕ → Type 0) → (Name → Type 0)
+    → Request → Option (List ℕ) → Type 0 → Option (List ℕ) → Option (List ℕ) → Type 0 → Option (List ℕ) → ℕ → Option (List ℕ) → ℕ → Status → Type 0
+IsAnsweredAs false holds lacks bars saves kept held lacked request bytes reader_failed before after writer_failed told count telling failures status =
+    IsAnswered holds lacks bars saves kept request bytes reader_failed before after writer_failed told telling (HasFailed count failures) status
+IsAnsweredAs true holds lacks bars saves kept held lacked request bytes reader_failed before after writer_failed told count telling failures status =
+    (said : Option (List ℕ)) × (so_far : ℕ) × (answered : Status) × (so_far ≤ failures)
+    × (((reports : Option (List ℕ)) × (done : Status) × IsServed holds saves request bytes before after reports done
+    × IsFinished reports done told said (HasFailed count so_far) answered
+    × IsFollowed (IsServedRemark held lacked request done) answered said telling (HasFailed so_far failures) status)
+    ⊎ ((e : Failure) × IsUnserved holds lacks bars saves kept request bytes reader_failed writer_failed before after e
+    × IsReported e told said (HasFailed count so_far) answered
+    × IsFollowed (IsUnservedRemark held lacked request e) answered said telling (HasFailed so_far failures) status))
 
 -- of a parse that gives no request, by what it tells
 abbrev pub usage_status : ErrorKind → Status

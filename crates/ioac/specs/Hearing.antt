@@ -1,5 +1,5 @@
 -- What a reader keeps of what it gives.
-use Rattle.std.specs.Prelude.{◌≡◌, ◌⊎◌, ◌++◌, ℕ, List, Option, Some, None}
+use Rattle.std.specs.Prelude.{◌≡◌, ◌⊎◌, ◌++◌, ℕ, List, Option, None}
 use Rattle.std.specs.Option.{option_map}
 use Rattle.ioac.specs.declared.hearing.Heard.{Heard}
 

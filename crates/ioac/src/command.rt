@@ -59,12 +59,11 @@ pub fn command<
         (W.contents output.old) (W.contents output.new) (HasFailed (W.failure_count output.old) (W.failure_count output.new))
         (E.contents errors.old) (E.contents errors.new) (HasFailed (E.failure_count errors.old) (E.failure_count errors.new)) status
         ⊎ ((request : Request) × IsAsked (map S.text words.now) request
-        × IsAnsweredAs (is_explained (subcommand_of ioac_app (map S.text words.now)))
-        (λ told failures answered. IsAnswered (F.holds store.old) (F.lacks store.old) (F.bars store.old) (F.saves store.old store.new) (store.new ≡ store.old) request
+        × IsAnsweredAs (is_explained (subcommand_of ioac_app (map S.text words.now))) (F.holds store.old) (F.lacks store.old) (F.bars store.old) (F.saves store.old store.new) (store.new ≡ store.old)
+        (F.holds store.new) (F.lacks store.new) request
         (R.remaining input.old.inner) (HasFailed (R.failure_count input.old.inner) (R.failure_count input.new.inner))
         (W.contents output.old) (W.contents output.new) (HasFailed (W.failure_count output.old) (W.failure_count output.new))
-        (E.contents errors.old) told (HasFailed (E.failure_count errors.old) failures) answered)
-        (E.contents errors.new) (E.failure_count errors.new) status)) }
+        (E.contents errors.old) (E.failure_count errors.old) (E.contents errors.new) (E.failure_count errors.new) status)) }
     ensures kept { ((request : Request) → IsAsked (map S.text words.now) request → IsSaving request → ⊥) → store.new ≡ store.old }
     ensures unread { ((request : Request) → IsAsked (map S.text words.now) request → IsReading request → ⊥) → input.new.inner ≡ input.old.inner }
     ensures passed { (result ≡ number_of statuses.Unable → ⊥) → (R.failure_count input.new.inner ≡ R.failure_count input.old.inner) × (W.failure_count output.new ≡ W.failure_count output.old) × (E.failure_count errors.new ≡ E.failure_count errors.old) }
@@ -93,12 +92,11 @@ fn perform<
         (W.contents output.old) (W.contents output.new) (HasFailed (W.failure_count output.old) (W.failure_count output.new))
         (E.contents errors.old) (E.contents errors.new) (HasFailed (E.failure_count errors.old) (E.failure_count errors.new)) result
         ⊎ ((request : Request) × IsAsked (map S.text words.now) request
-        × IsAnsweredAs (is_explained (subcommand_of ioac_app (map S.text words.now)))
-        (λ told failures answered. IsAnswered (F.holds store.old) (F.lacks store.old) (F.bars store.old) (F.saves store.old store.new) (store.new ≡ store.old) request
+        × IsAnsweredAs (is_explained (subcommand_of ioac_app (map S.text words.now))) (F.holds store.old) (F.lacks store.old) (F.bars store.old) (F.saves store.old store.new) (store.new ≡ store.old)
+        (F.holds store.new) (F.lacks store.new) request
         (R.remaining input.old.inner) (HasFailed (R.failure_count input.old.inner) (R.failure_count input.new.inner))
         (W.contents output.old) (W.contents output.new) (HasFailed (W.failure_count output.old) (W.failure_count output.new))
-        (E.contents errors.old) told (HasFailed (E.failure_count errors.old) failures) answered)
-        (E.contents errors.new) (E.failure_count errors.new) result) }
+        (E.contents errors.old) (E.failure_count errors.old) (E.contents errors.new) (E.failure_count errors.new) result) }
     ensures kept { ((request : Request) → IsAsked (map S.text words.now) request → IsSaving request → ⊥) → store.new ≡ store.old }
     ensures unread { ((request : Request) → IsAsked (map S.text words.now) request → IsReading request → ⊥) → input.new.inner ≡ input.old.inner }
     ensures passed { (result ≡ statuses.Unable → ⊥) → (R.failure_count input.new.inner ≡ R.failure_count input.old.inner) × (W.failure_count output.new ≡ W.failure_count output.old) × (E.failure_count errors.new ≡ E.failure_count errors.old) }
@@ -127,12 +125,11 @@ fn answer_as<H: Threads + Wait + Sync, F: Store, R: InputDevice, W: OutputDevice
     output: &mut W,
     errors: &mut E,
 ) -> Status
-    ensures answers { IsAnsweredAs explains
-        (λ told failures answered. IsAnswered (F.holds store.old) (F.lacks store.old) (F.bars store.old) (F.saves store.old store.new) (store.new ≡ store.old) asked.now
+    ensures answers { IsAnsweredAs explains (F.holds store.old) (F.lacks store.old) (F.bars store.old) (F.saves store.old store.new) (store.new ≡ store.old)
+        (F.holds store.new) (F.lacks store.new) asked.now
         (R.remaining input.old.inner) (HasFailed (R.failure_count input.old.inner) (R.failure_count input.new.inner))
         (W.contents output.old) (W.contents output.new) (HasFailed (W.failure_count output.old) (W.failure_count output.new))
-        (E.contents errors.old) told (HasFailed (E.failure_count errors.old) failures) answered)
-        (E.contents errors.new) (E.failure_count errors.new) result }
+        (E.contents errors.old) (E.failure_count errors.old) (E.contents errors.new) (E.failure_count errors.new) result }
     ensures kept { (IsSaving asked.now → ⊥) → store.new ≡ store.old }
     ensures unread { (IsReading asked.now → ⊥) → input.new.inner ≡ input.old.inner }
     ensures passed { (result ≡ statuses.Unable → ⊥) → (R.failure_count input.new.inner ≡ R.failure_count input.old.inner) × (W.failure_count output.new ≡ W.failure_count output.old) × (E.failure_count errors.new ≡ E.failure_count errors.old) }
@@ -159,12 +156,11 @@ fn answer_and_explain<
     output: &mut W,
     errors: &mut E,
 ) -> Status
-    ensures answers { IsAnsweredAs true
-        (λ told failures answered. IsAnswered (F.holds store.old) (F.lacks store.old) (F.bars store.old) (F.saves store.old store.new) (store.new ≡ store.old) asked.now
+    ensures answers { IsAnsweredAs true (F.holds store.old) (F.lacks store.old) (F.bars store.old) (F.saves store.old store.new) (store.new ≡ store.old)
+        (F.holds store.new) (F.lacks store.new) asked.now
         (R.remaining input.old.inner) (HasFailed (R.failure_count input.old.inner) (R.failure_count input.new.inner))
         (W.contents output.old) (W.contents output.new) (HasFailed (W.failure_count output.old) (W.failure_count output.new))
-        (E.contents errors.old) told (HasFailed (E.failure_count errors.old) failures) answered)
-        (E.contents errors.new) (E.failure_count errors.new) result }
+        (E.contents errors.old) (E.failure_count errors.old) (E.contents errors.new) (E.failure_count errors.new) result }
     ensures kept { (IsSaving asked.now → ⊥) → store.new ≡ store.old }
     ensures unread { (IsReading asked.now → ⊥) → input.new.inner ≡ input.old.inner }
     ensures passed { (result ≡ statuses.Unable → ⊥) → (R.failure_count input.new.inner ≡ R.failure_count input.old.inner) × (W.failure_count output.new ≡ W.failure_count output.old) × (E.failure_count errors.new ≡ E.failure_count errors.old) }
@@ -213,9 +209,12 @@ fn serve_and_tell<
     output: &mut W,
     errors: &mut E,
 ) -> (Result<Served, Failure>, Status)
-    ensures answers { IsAnswered (F.holds store.old) (F.lacks store.old) (F.bars store.old) (F.saves store.old store.new) (store.new ≡ store.old) asked.now (R.remaining input.old) (HasFailed (R.failure_count input.old) (R.failure_count input.new))
-        (W.contents output.old) (W.contents output.new) (HasFailed (W.failure_count output.old) (W.failure_count output.new))
-        (E.contents errors.old) (E.contents errors.new) (HasFailed (E.failure_count errors.old) (E.failure_count errors.new)) result.1 }
+    ensures served { IfOk result.0 (λ s. IsServed (F.holds store.old) (F.saves store.old store.new) asked.now (R.remaining input.old) (W.contents output.old) (W.contents output.new) (reports_of s) s.status
+        × IsFinished (reports_of s) s.status (E.contents errors.old) (E.contents errors.new) (HasFailed (E.failure_count errors.old) (E.failure_count errors.new)) result.1) }
+    ensures unserved { IfErr result.0 (λ e. IsUnserved (F.holds store.old) (F.lacks store.old) (F.bars store.old) (F.saves store.old store.new) (store.new ≡ store.old) asked.now (R.remaining input.old)
+        (HasFailed (R.failure_count input.old) (R.failure_count input.new)) (HasFailed (W.failure_count output.old) (W.failure_count output.new))
+        (W.contents output.old) (W.contents output.new) e
+        × IsReported e (E.contents errors.old) (E.contents errors.new) (HasFailed (E.failure_count errors.old) (E.failure_count errors.new)) result.1) }
     ensures kept { (IsSaving asked.now → ⊥) → store.new ≡ store.old }
     ensures unread { (IsReading asked.now → ⊥) → input.new ≡ input.old }
     ensures passed { (result.1 ≡ statuses.Unable → ⊥) → (R.failure_count input.new ≡ R.failure_count input.old) × (W.failure_count output.new ≡ W.failure_count output.old) × (E.failure_count errors.new ≡ E.failure_count errors.old) }

@@ -1,4 +1,4 @@
-ghost use Rattle.std.specs.Prelude.{◌≡◌, ◌≢◌, ◌++◌, ◌∷◌, [], IfOk};
+ghost use Rattle.std.specs.Prelude.{◌≡◌, ◌≢◌, ◌≤◌, ◌++◌, ◌∷◌, [], IfOk};
 ghost use Rattle.std.specs.IoError.{error_kind};
 ghost use Rattle.std.specs.String.{string_bytes};
 ghost use Rattle.ioa_log.specs.Failing.{HasFailed};
@@ -16,6 +16,7 @@ use std::io::ErrorKind;
 pub fn put<E: OutputDevice>(text: &str, wanted: Status, errors: &mut E) -> Status
     ensures puts { IsPut text.now wanted (E.contents errors.old) (E.contents errors.new) (HasFailed (E.failure_count errors.old) (E.failure_count errors.new)) result }
     ensures passed { (result ≡ statuses.Unable → ⊥) → E.failure_count errors.new ≡ E.failure_count errors.old }
+    ensures counts { E.failure_count errors.old ≤ E.failure_count errors.new }
 {
     match send_all(errors, text.as_bytes()) {
         Ok(()) => wanted,

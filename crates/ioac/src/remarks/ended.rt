@@ -1,39 +1,48 @@
 //! What there is to say of how a list, a log or a run ended: of the action that was not performed, and of the states before it.
 
-use crate::remarks::counted;
+ghost use Rattle.std.specs.Prelude.{◌≡◌, ◌++◌, IfOk, IfSome, None, OnOk};
+ghost use Rattle.std.specs.Option.{option_copied};
+ghost use Rattle.std.specs.String.{string_bytes};
+ghost use Rattle.ioa_system.specs.Logs.{actions_of, logged};
+ghost use Rattle.ioa_log.specs.LogTexts.{ReadsLog};
+ghost use Rattle.ioa_account.specs.Remarks.{TellsDifference, TellsInspected, TellsMonitored};
+ghost use Rattle.ioa_serving.specs.Logs.{performed_in};
+ghost use Rattle.ioac.specs.Remarks as spec;
+ghost use Rattle.ioac.specs.Remarks.{IsComposed, IsLoaded, IsNoLog, OfHosts, OfLog, Tells, TellsEnded, TellsListEnd, TellsLogEnd};
+
 use crate::remarks::places::source_of;
-use crate::remarks::quoted::{put_line, put_transition};
-use crate::remarks::refused::loaded;
-use ioa_account::{Account, account_of, line_of_action};
-use ioa_compile::compile;
+use ioa_account::{
+    Told, actions_in, put_difference, put_inspected, put_list_end, put_log_end, put_monitored,
+};
 use ioa_compose::Composition;
 use ioa_log::{Counted, LogErr, read_log};
 use ioa_request::Request;
-use ioa_serving::{Status, Store, actions_in, compose_text, is_object};
+use ioa_serving::{Status, Store, StoreErr, compose_text, is_object, performed_in};
 use ioa_syntax::Refusal;
 use ioa_system::Log;
-use ioa_value::{Action, OutOfMemory, read_list};
+use ioa_value::{OutOfMemory, Types, read_list};
 use std::alloc::Global;
-use std::fmt::Write;
 
-/// A composition, the file and the bytes of the source that declares it, and a list or a log.
+/// What came of a request that had something to read.
 #[derive(Clone, Copy)]
-pub struct Told<'a> {
-    pub file: &'a str,
-    pub source: &'a [u8],
-    pub composition: &'a Composition,
-    pub input: &'a [u8],
+pub enum Ended {
+    /// It was served, to this exit status.
+    Served(Status),
+    /// The log is not of the composition's run.
+    Diverged,
 }
 
-/// Puts behind the text what there is to say of a request that was served, to this exit status. Of an object nothing is said: it has no names.
+/// Puts behind the text what there is to say of a request that ended so. Of an object nothing is said: it has no names.
 pub fn put<F: Store>(
     alloc: Global,
     text: &mut String,
     asked: &Request<'_>,
-    status: Status,
+    ended: Ended,
     store: &F,
     input: &[u8],
-) -> Result<(), OutOfMemory> {
+) -> Result<(), OutOfMemory>
+    ensures { OnOk result (TellsEnded (F.holds store.now) (F.lacks store.now) asked.now (spec.source_of asked.now) ended input.now (string_bytes text.old) (string_bytes text.new)) }
+{
     let Some((file, name)) = source_of(asked) else {
         return Ok(());
     };
@@ -47,7 +56,18 @@ pub fn put<F: Store>(
         composition: &composition,
         input,
     };
-    put_told(alloc, text, asked, status, &told)
+    put_told(alloc, text, asked, ended, &told)
+}
+
+/// The bytes of a file. None at all, where it cannot be read now.
+pub fn loaded<F: Store>(alloc: Global, name: &str, store: &F) -> Result<Vec<u8>, OutOfMemory>
+    ensures { IfOk result (λ bytes. IsLoaded (F.holds store.now) (F.lacks store.now) name.now bytes.items) }
+{
+    match store.load(alloc, name) {
+        Ok(bytes) => Ok(bytes),
+        Err(StoreErr::Io) => Ok(Vec::new(alloc)),
+        Err(StoreErr::OutOfMemory) => Err(OutOfMemory),
+    }
 }
 
 /// The composition of this name, where the bytes are a source that has it.
@@ -55,7 +75,9 @@ fn composed(
     alloc: Global,
     source: &[u8],
     name: Option<&str>,
-) -> Result<Option<Composition>, OutOfMemory> {
+) -> Result<Option<Composition>, OutOfMemory>
+    ensures { IfOk result (λ c. IsComposed source.now (option_copied name.entry) c) }
+{
     if is_object(source) {
         return Ok(None);
     }
@@ -70,114 +92,125 @@ fn put_told(
     alloc: Global,
     text: &mut String,
     asked: &Request<'_>,
+    ended: Ended,
+    told: &Told<'_>,
+) -> Result<(), OutOfMemory>
+    ensures { OnOk result (Tells asked.now ended told.now (string_bytes text.old) (string_bytes text.new)) }
+{
+    match ended {
+        Ended::Served(status) => put_served(alloc, text, asked, status, told),
+        Ended::Diverged => put_log_difference(alloc, text, told),
+    }
+}
+
+/// Puts what there is to say of a request that was served.
+fn put_served(
+    alloc: Global,
+    text: &mut String,
+    asked: &Request<'_>,
     status: Status,
     told: &Told<'_>,
-) -> Result<(), OutOfMemory> {
+) -> Result<(), OutOfMemory>
+    ensures { OnOk result (Tells asked.now (Ended.Served status) told.now (string_bytes text.old) (string_bytes text.new)) }
+{
     match asked {
-        Request::Replay { .. } | Request::ReplayStates { .. } | Request::Log { .. } => {
-            put_list_end(alloc, text, told)
-        }
-        Request::ReplayLog { .. } | Request::ReplayLogStates { .. } | Request::Chart { .. } => {
-            put_log_end(alloc, text, told)
-        }
-        Request::ReplayInvariants { .. } => counted::put_invariants(alloc, text, told),
-        Request::Monitor { .. } => counted::put_monitor(alloc, text, told),
+        Request::Replay { .. } => put_end_of_list(alloc, text, told),
+        Request::ReplayStates { .. } => put_end_of_list(alloc, text, told),
+        Request::Log { .. } => put_end_of_list(alloc, text, told),
+        Request::ReplayLog { .. } => put_end_of_log(alloc, text, told),
+        Request::ReplayLogStates { .. } => put_end_of_log(alloc, text, told),
+        Request::Chart { .. } => put_end_of_log(alloc, text, told),
+        Request::ReplayInvariants { .. } => put_invariants(alloc, text, told),
+        Request::Monitor { .. } => put_monitor(alloc, text, told),
         Request::Run(settings) => put_run_end(text, settings.log, status),
-        Request::Graph { .. }
-        | Request::Check { .. }
-        | Request::Compile { .. }
-        | Request::Dump { .. }
-        | Request::Explain { .. }
-        | Request::Library => Ok(()),
+        Request::Graph { .. } => Ok(()),
+        Request::Check { .. } => Ok(()),
+        Request::Compile { .. } => Ok(()),
+        Request::Dump { .. } => Ok(()),
+        Request::Explain { .. } => Ok(()),
+        Request::Library => Ok(()),
     }
 }
 
 /// Puts the action of a list that was not performed, and why.
-fn put_list_end(alloc: Global, text: &mut String, told: &Told<'_>) -> Result<(), OutOfMemory> {
-    let Ok(actions) = read_list(alloc, told.composition.types(), told.input)? else {
-        return Ok(());
-    };
-    let Some(found) = account_by_run(alloc, told.composition, actions.as_slice())? else {
-        return Ok(());
-    };
-    if let Some(line) = line_of_action(told.input, found.index) {
-        put_line(alloc, text, "list", told.input, line)?;
+fn put_end_of_list(alloc: Global, text: &mut String, told: &Told<'_>) -> Result<(), OutOfMemory>
+    ensures { OnOk result (TellsListEnd told.now (string_bytes text.old) (string_bytes text.new)) }
+{
+    match read_list(alloc, told.composition.types(), told.input)? {
+        Ok(actions) => put_list_end(alloc, text, told, actions.as_slice()),
+        Err(_) => Ok(()),
     }
-    put_account(alloc, text, told, &found)
 }
 
 /// Puts the action of a log that was not performed, and why.
-pub fn put_log_end(alloc: Global, text: &mut String, told: &Told<'_>) -> Result<(), OutOfMemory> {
-    match account_of_log(alloc, told)? {
-        Some(found) => put_entry(alloc, text, told, &found),
+fn put_end_of_log(alloc: Global, text: &mut String, told: &Told<'_>) -> Result<(), OutOfMemory>
+    ensures { OnOk result (TellsLogEnd told.now (string_bytes text.old) (string_bytes text.new)) }
+{
+    match heard_log(alloc, told.composition.types(), told.input)? {
+        Some(log) => {
+            let actions = actions_in(alloc, log.entries)?;
+            put_log_end(alloc, text, told, &actions)
+        }
         None => Ok(()),
     }
 }
 
-/// Puts the log's line with the action, and why it was not performed.
-fn put_entry(
-    alloc: Global,
-    text: &mut String,
-    told: &Told<'_>,
-    found: &Account,
-) -> Result<(), OutOfMemory> {
-    put_line(
-        alloc,
-        text,
-        "log",
-        told.input,
-        found.index.saturating_add(1),
-    )?;
-    put_account(alloc, text, told, found)
+/// Puts why a log is not of the composition's run, by the run of its actions.
+fn put_log_difference(alloc: Global, text: &mut String, told: &Told<'_>) -> Result<(), OutOfMemory>
+    ensures { OnOk result (OfLog told.now (λ log. TellsDifference told.now (actions_of log)) (string_bytes text.old) (string_bytes text.new)) }
+{
+    match heard_log(alloc, told.composition.types(), told.input)? {
+        Some(log) => {
+            let actions = actions_in(alloc, log.entries)?;
+            put_difference(alloc, text, told, &actions)
+        }
+        None => Ok(()),
+    }
 }
 
-/// Why the run of the log's actions ends where it does.
-fn account_of_log(alloc: Global, told: &Told<'_>) -> Result<Option<Account>, OutOfMemory> {
-    let Some(log) = logged(alloc, told)? else {
-        return Ok(None);
-    };
-    let actions = actions_in(alloc, log.entries)?;
-    account_by_run(alloc, told.composition, actions.as_slice())
+/// Puts how many invariants were asked in how many of the log's states, and what came of it.
+fn put_invariants(alloc: Global, text: &mut String, told: &Told<'_>) -> Result<(), OutOfMemory>
+    ensures { OnOk result (OfLog told.now (λ log. OfHosts told.now (λ h. TellsInspected told.now h log)) (string_bytes text.old) (string_bytes text.new)) }
+{
+    match heard_log(alloc, told.composition.types(), told.input)? {
+        Some(log) => put_inspected(alloc, text, told, log),
+        None => Ok(()),
+    }
 }
 
-/// Why the composition's run of these actions ends where it does; none where it performs all.
-pub fn account_by_run(
-    alloc: Global,
-    composition: &Composition,
-    actions: &[Action],
-) -> Result<Option<Account>, OutOfMemory> {
-    let program = compile(alloc, composition)?;
-    account_of(alloc, composition, &program, actions)
+/// Puts how many of the log's actions the specification has, and what came of them.
+fn put_monitor(alloc: Global, text: &mut String, told: &Told<'_>) -> Result<(), OutOfMemory>
+    ensures { OnOk result (OfLog told.now (λ log. OfHosts told.now (λ h. TellsMonitored told.now h (performed_in log))) (string_bytes text.old) (string_bytes text.new)) }
+{
+    match heard_log(alloc, told.composition.types(), told.input)? {
+        Some(log) => put_monitored(alloc, text, told, performed_in(alloc, log)?),
+        None => Ok(()),
+    }
 }
 
-/// The log, where the bytes are one.
-pub fn logged(alloc: Global, told: &Told<'_>) -> Result<Option<Log>, OutOfMemory> {
-    let mut device = Counted::new(told.input);
-    match read_log(alloc, told.composition.types(), &mut device) {
+/// The log that the bytes are, if they are one. They are at hand, so that no device fails.
+fn heard_log(alloc: Global, types: &Types, bytes: &[u8]) -> Result<Option<Log>, OutOfMemory>
+    ensures log { IfOk result (λ heard. IfSome heard (λ log. ReadsLog types.now bytes.now (logged log))) }
+    ensures none { IfOk result (λ heard. heard ≡ None → IsNoLog types.now bytes.now) }
+{
+    let mut device = Counted::new(bytes);
+    match read_log(alloc, types, &mut device) {
         Ok(log) => Ok(Some(log)),
         Err(LogErr::OutOfMemory) => Err(OutOfMemory),
-        Err(_) => Ok(None),
+        Err(LogErr::Io) => Err(OutOfMemory),
+        Err(LogErr::NotJson(_)) => Ok(None),
+        Err(LogErr::BadLine(_)) => Ok(None),
+        Err(LogErr::NoEnd) => Ok(None),
+        Err(LogErr::AfterEnd) => Ok(None),
+        Err(LogErr::WrongOwner(_)) => Ok(None),
+        Err(LogErr::Diverges(_)) => Ok(None),
     }
-}
-
-/// Puts why an action was not performed: the sentence, the transition that is to be looked at, and the variables of its component.
-pub fn put_account(
-    alloc: Global,
-    text: &mut String,
-    told: &Told<'_>,
-    found: &Account,
-) -> Result<(), OutOfMemory> {
-    let why = found.why.as_str();
-    writeln!(text, "{why}")?;
-    if found.line > 0 {
-        put_transition(alloc, text, told.file, told.source, found.line as usize)?;
-    }
-    text.push_str(found.states.as_str())?;
-    Ok(())
 }
 
 /// Puts how the fault of a run can be looked at.
-fn put_run_end(text: &mut String, is_log: bool, status: Status) -> Result<(), OutOfMemory> {
+fn put_run_end(text: &mut String, is_log: bool, status: Status) -> Result<(), OutOfMemory>
+    ensures { OnOk result (string_bytes text.new ≡ string_bytes text.old ++ spec.run_text is_log status) }
+{
     if status != Status::Faulted {
         return Ok(());
     }
@@ -187,34 +220,4 @@ fn put_run_end(text: &mut String, is_log: bool, status: Status) -> Result<(), Ou
         "with `--log` the run's log is printed, of which `ioac replay --log --explain` tells more\n"
     })?;
     Ok(())
-}
-
-/// Puts why a log is not of the composition's run, by the run of its actions.
-pub fn put_difference<F: Store>(
-    alloc: Global,
-    text: &mut String,
-    asked: &Request<'_>,
-    store: &F,
-    input: &[u8],
-) -> Result<(), OutOfMemory> {
-    let Some((file, name)) = source_of(asked) else {
-        return Ok(());
-    };
-    let source = loaded(alloc, file, store)?;
-    let Some(composition) = composed(alloc, source.as_slice(), name)? else {
-        return Ok(());
-    };
-    let told = Told {
-        file,
-        source: source.as_slice(),
-        composition: &composition,
-        input,
-    };
-    match account_of_log(alloc, &told)? {
-        Some(found) => put_account(alloc, text, &told, &found),
-        None => {
-            text.push_str("all actions of the log are performed\n")?;
-            Ok(())
-        }
-    }
 }

@@ -1,5 +1,8 @@
 //! Which files a request names, and where what a failure tells of stands.
 
+ghost use Rattle.std.specs.Prelude.{◌≡◌};
+ghost use Rattle.ioac.specs.Remarks as spec;
+
 use ioa_log::LogErr;
 use ioa_request::{Request, WordsFrom};
 use ioa_serving::Failure;
@@ -68,25 +71,29 @@ fn place_of_refusal(refusal: &Refusal) -> Place {
 }
 
 /// The source or the object that a request names, and the composition.
-pub fn source_of<'a>(asked: &Request<'a>) -> Option<(&'a str, Option<&'a str>)> {
+pub fn source_of<'a>(asked: &Request<'a>) -> Option<(&'a str, Option<&'a str>)>
+    ensures { spec.named_by result ≡ spec.source_of asked.now }
+{
     match asked {
-        Request::Replay { file, composition }
-        | Request::ReplayStates { file, composition }
-        | Request::ReplayLog { file, composition }
-        | Request::ReplayLogStates { file, composition }
-        | Request::ReplayInvariants { file, composition }
-        | Request::Log { file, composition }
-        | Request::Monitor { file, composition }
-        | Request::Chart { file, composition }
-        | Request::Graph { file, composition }
-        | Request::Compile {
+        Request::Replay { file, composition } => Some((*file, *composition)),
+        Request::ReplayStates { file, composition } => Some((*file, *composition)),
+        Request::ReplayLog { file, composition } => Some((*file, *composition)),
+        Request::ReplayLogStates { file, composition } => Some((*file, *composition)),
+        Request::ReplayInvariants { file, composition } => Some((*file, *composition)),
+        Request::Log { file, composition } => Some((*file, *composition)),
+        Request::Monitor { file, composition } => Some((*file, *composition)),
+        Request::Chart { file, composition } => Some((*file, *composition)),
+        Request::Graph { file, composition } => Some((*file, *composition)),
+        Request::Compile {
             file,
             composition,
             ..
         } => Some((*file, *composition)),
         Request::Run(settings) => Some((settings.file, settings.composition)),
-        Request::Check { file, .. } | Request::Dump { file } => Some((*file, None)),
-        Request::Explain { .. } | Request::Library => None,
+        Request::Check { file, .. } => Some((*file, None)),
+        Request::Dump { file } => Some((*file, None)),
+        Request::Explain { .. } => None,
+        Request::Library => None,
     }
 }
 

@@ -1,14 +1,20 @@
 //! What there is to say of a refusal: where what it tells of stands, and what its code means.
 
+ghost use Rattle.std.specs.Prelude.{◌≡◌, ◌++◌, ℕ, List, OnOk};
+ghost use Rattle.std.specs.String.{string_bytes};
+ghost use Rattle.ioa_log.specs.declared.failure.LogErr as errors;
+ghost use Rattle.ioa_serving.specs.declared.failure.Failure as failures;
+ghost use Rattle.ioac.specs.Remarks.{IsDifference};
+
 use crate::remarks::ended;
+use crate::remarks::ended::{Ended, loaded};
 use crate::remarks::places::{Place, input_name, inputs_of, place_of, source_of, words_of};
-use crate::remarks::quoted::put_line;
 use crate::remarks::sources::component_line;
-use ioa_account::line_of_action;
+use ioa_account::{line_of_action, put_line};
 use ioa_log::LogErr;
 use ioa_request::explanations::explanation;
 use ioa_request::{Request, Topic};
-use ioa_serving::{Failure, Store, StoreErr};
+use ioa_serving::{Failure, Store};
 use ioa_value::OutOfMemory;
 use std::alloc::Global;
 use std::fmt::Write;
@@ -21,10 +27,13 @@ pub fn put<F: Store>(
     failure: &Failure,
     store: &F,
     input: &[u8],
-) -> Result<(), OutOfMemory> {
+) -> Result<(), OutOfMemory>
+    ensures { (n : ℕ) → failure.now ≡ failures.Failure.List (errors.LogErr.Diverges n)
+        → OnOk result (IsDifference (F.holds store.now) (F.lacks store.now) asked.now input.now (string_bytes text.new)) }
+{
     put_place(alloc, text, asked, failure, store, input)?;
     if let Failure::List(LogErr::Diverges(_)) = failure {
-        ended::put_difference(alloc, text, asked, store, input)?;
+        ended::put(alloc, text, asked, Ended::Diverged, store, input)?;
     }
     let explained = explanation(Topic::Code(failure.code()));
     write!(text, "\n{explained}")?;
@@ -79,15 +88,6 @@ fn put_file_line<F: Store>(
     };
     let bytes = loaded(alloc, name, store)?;
     put_line(alloc, text, name, bytes.as_slice(), line)
-}
-
-/// The bytes of a file. None at all, where it cannot be read now.
-pub fn loaded<F: Store>(alloc: Global, name: &str, store: &F) -> Result<Vec<u8>, OutOfMemory> {
-    match store.load(alloc, name) {
-        Ok(bytes) => Ok(bytes),
-        Err(StoreErr::Io) => Ok(Vec::new(alloc)),
-        Err(StoreErr::OutOfMemory) => Err(OutOfMemory),
-    }
 }
 
 /// Puts the line on which the composition names the component of this number.

@@ -1,4 +1,4 @@
-use Rattle.std.proofs.Common.{◌≡◌, ◌∙◌, None, inr, map, option_map, refl, sym}
+use Rattle.std.proofs.Common.{◌≡◌, None, inr, map, option_map, refl, sym}
 use Rattle.ioa_value.specs.Actions.{act_of}
 use Rattle.ioa_system.specs.Outcomes.{ending_of}
 use Rattle.ioa_log.specs.Monitoring.{monitored}

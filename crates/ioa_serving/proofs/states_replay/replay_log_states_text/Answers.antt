@@ -1,13 +1,12 @@
-use Rattle.std.proofs.Common.{◌≡◌, ℕ, inl, inr, ◌∙◌, ap, refl, subst, sym, IfSome, take}
+use Rattle.std.proofs.Common.{ℕ, inl, inr, ◌∙◌, ap, refl, subst, sym, IfSome, take}
 use Rattle.std.specs.Io.KnownBytes.{Appends}
 use Rattle.std.specs.Option.{option_copied}
 use Rattle.std.proofs.lemmas.Option.{IfSome_then}
 use Rattle.std.proofs.lemmas.Result.{err_from_is_err_and}
-use Rattle.ioa_system.specs.Logs.{actions_of, logged}
+use Rattle.ioa_system.specs.Logs.{logged}
 use Rattle.ioa_log.specs.declared.failure.LogErr.{LogErr}
 use Rattle.ioa_log.specs.LogTexts.{ReadsLog}
 use Rattle.ioa_serving.specs.declared.failure.Failure.{Failure}
-use Rattle.ioa_serving.specs.States.{states_text}
 use Rattle.ioa_serving.specs.Subjects.{of_hosts}
 use Rattle.ioa_serving.proofs.Refused.{err_so, log_judged, log_unread, unread}
 use Rattle.ioa_serving.proofs.states_replay.replay_log_states_text.Goals as goal

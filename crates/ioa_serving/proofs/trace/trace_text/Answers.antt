@@ -1,4 +1,4 @@
-use Rattle.std.proofs.Common.{◌≡◌, ◌≤◌, ◌+◌, ◌++◌, ◌∷◌, [], Bool, cond, codes, filter, map, take, take_all, length, ap, ap₂, ◌∙◌, sym, rules}
+use Rattle.std.proofs.Common.{◌≡◌, ◌≤◌, ◌+◌, ◌++◌, ◌∷◌, [], cond, codes, filter, map, take, take_all, length, ap, ap₂, ◌∙◌, sym, rules}
 use Rattle.std.specs.String.{string_bytes}
 use Rattle.std.proofs.lemmas.List.{map_more}
 use Rattle.ioa_value.specs.Actions.{Act, act_of}

@@ -1,4 +1,4 @@
-use Rattle.std.proofs.Common.{◌≡◌, ◌+◌, ◌<◌, ◌++◌, ◌∷◌, [], All, ap, sym, ◌∙◌, Some, None, subst, rules, arith, map, length, length-append, slice_get}
+use Rattle.std.proofs.Common.{◌≡◌, ◌+◌, ◌<◌, ◌++◌, ◌∷◌, [], All, ap, sym, ◌∙◌, Some, subst, rules, arith, map, length, length-append, slice_get}
 use Rattle.std.proofs.lemmas.List.{length-map, map-append}
 use Rattle.std.proofs.lemmas.List.Elements.{All-append, All-cons, All-nil}
 use Rattle.ioa_serving.specs.declared.words_file.ListedWords.{ListedWords}

@@ -1,15 +1,28 @@
-use Rattle.std.proofs.Common.{ap, sym, ◌∙◌}
-use Rattle.ioac.proofs.Answered.{told_through}
+use Rattle.std.proofs.Common.{ap, subst, sym, string_bytes, ◌∙◌}
+use Rattle.ioa_log.specs.Failing.{HasFailed}
+use Rattle.ioac.specs.Commands.{IsServedRemark, IsUnservedRemark}
+use Rattle.ioac.specs.Telling.{IsPut}
+use Rattle.ioac.proofs.Answered.{followed, told_through}
 use Rattle.ioac.proofs.command.answer_and_explain.Goals as goal
 
 pub returns-clause-answers : goal.returns-clause-answers
-returns-clause-answers g c = (
-  g.E.Write.contents c.serve_and_tell-served.new.errors,
-  g.E.Device.failure_count c.serve_and_tell-served.new.errors,
-  c.serve_and_tell-served.result.1,
-  rw (sym c.keep.ensures.inner) c.serve_and_tell-served.ensures.answers,
-  (c.as_str.result.now, c.put.ensures.puts),
-)
+returns-clause-answers g c =
+    let store = c.serve_and_tell-served.new.store in
+    let said = g.E.Write.contents c.serve_and_tell-served.new.errors in
+    let telling = g.E.Write.contents c.put.new.errors in
+    let so_far = g.E.Device.failure_count c.serve_and_tell-served.new.errors in
+    let failed = HasFailed so_far (g.E.Device.failure_count c.put.new.errors) in
+    let answered = c.serve_and_tell-served.result.1 in (
+      said,
+      so_far,
+      answered,
+      c.put.ensures.counts,
+      followed c.serve_and_tell-served.result.0 _ _ _ _ (IsServedRemark (g.F.Store.holds store) (g.F.Store.lacks store) c.args.asked.now)
+          (IsUnservedRemark (g.F.Store.holds store) (g.F.Store.lacks store) c.args.asked.now) (λ text. IsPut text answered said telling failed c.put.result)
+          (string_bytes c.remarks_or_none-text.result) (rw (sym c.keep.ensures.inner) c.serve_and_tell-served.ensures.served)
+          (rw (sym c.keep.ensures.inner) c.serve_and_tell-served.ensures.unserved) c.remarks_or_none-text.ensures.served c.remarks_or_none-text.ensures.unserved
+          (subst (λ text. IsPut text answered said telling failed c.put.result) c.as_str.ensures.value c.put.ensures.puts),
+    )
 
 pub returns-clause-passed : goal.returns-clause-passed
 returns-clause-passed g c = λ whole.

@@ -1,8 +1,8 @@
 use Rattle.std.proofs.Common.{ap, ◌∙◌, sym, map-id}
 use Rattle.std.proofs.lemmas.Iterator.Adapters.{YieldsList-from_vec}
 use Rattle.std.proofs.lemmas.Iterator.Consumers.{YieldsList-end}
-use Rattle.ioa_serving.proofs.Logged.{entered}
-use Rattle.ioa_serving.proofs.monitor.actions_in.Goals as goal
+use Rattle.ioa_account.proofs.Remarking.{entered}
+use Rattle.ioa_account.proofs.remarks.actions_in.Goals as goal
 
 pub returns : goal.returns
 returns c =

@@ -1,0 +1,307 @@
+//! What is told of how a run ends, and of how much was asked of it.
+
+ghost use Rattle.std.specs.Prelude.{◌≡◌, ◌+◌, ◌++◌, IfOk, OnOk, map, take};
+ghost use Rattle.std.specs.String.{string_bytes};
+ghost use Rattle.ioa_value.specs.Actions.{act_of};
+ghost use Rattle.ioa_tree.specs.Hosts.{Hosted, host_starts, hosts_of};
+ghost use Rattle.ioa_tree.specs.Runs.{run};
+ghost use Rattle.ioa_compose.specs.Held.{composed_of};
+ghost use Rattle.ioa_compose.specs.Stands.{Stands};
+ghost use Rattle.ioa_compile.specs.Means.{Means};
+ghost use Rattle.ioa_compile.specs.Tables.{tabled};
+ghost use Rattle.ioa_system.specs.Logs.{logged};
+ghost use Rattle.ioa_account.specs.Remarks as spec;
+ghost use Rattle.ioa_account.specs.States.{component_lines};
+ghost use Rattle.ioa_account.specs.Remarks.{IsAccountOf, TellsDifference, TellsEnd, TellsInspected, TellsMonitored};
+
+use crate::counts::{asked_invariants, is_known, known_actions};
+use crate::ends::{Account, account_of};
+use crate::lines::line_of_action;
+use crate::quoted::{put_line, put_transition};
+use crate::states::put_component;
+use ioa_compile::{Program, compile};
+use ioa_compose::Composition;
+use ioa_log::{Broken, LogErr, MonitorErr, inspect, monitor};
+use ioa_system::{Log, LogEntry, run_list};
+use ioa_value::{Action, OutOfMemory};
+use std::alloc::Global;
+use std::fmt::Write;
+
+/// A composition, the name and the bytes of the file that declares it, and a list or a log.
+#[derive(Clone, Copy)]
+pub struct Told<'a> {
+    pub file: &'a str,
+    pub source: &'a [u8],
+    pub composition: &'a Composition,
+    pub input: &'a [u8],
+}
+
+/// Puts behind the text why the run of a list's actions ends before all are performed: the line with the action, a sentence, the transition
+/// as it stands in the source, and the variables of its component. Nothing, where all are performed.
+pub fn put_list_end(
+    alloc: Global,
+    text: &mut String,
+    told: &Told<'_>,
+    actions: &[Action],
+) -> Result<(), OutOfMemory>
+    ensures { OnOk result (TellsEnd told.now (spec.list_line told.now) (map act_of actions.now) (string_bytes text.old) (string_bytes text.new)) }
+{
+    match account_by_run(alloc, told.composition, actions)? {
+        Some(found) => {
+            put_list_line(alloc, text, told, found.index)?;
+            put_account(alloc, text, told, &found)
+        }
+        None => Ok(()),
+    }
+}
+
+/// The same of a log's actions.
+pub fn put_log_end(
+    alloc: Global,
+    text: &mut String,
+    told: &Told<'_>,
+    actions: &[Action],
+) -> Result<(), OutOfMemory>
+    ensures { OnOk result (TellsEnd told.now (spec.log_line told.now) (map act_of actions.now) (string_bytes text.old) (string_bytes text.new)) }
+{
+    match account_by_run(alloc, told.composition, actions)? {
+        Some(found) => {
+            put_log_line(alloc, text, told, found.index)?;
+            put_account(alloc, text, told, &found)
+        }
+        None => Ok(()),
+    }
+}
+
+/// Puts behind the text, of the actions of a log that is not of the composition's run, why the run over them ends, or that they are all performed.
+pub fn put_difference(
+    alloc: Global,
+    text: &mut String,
+    told: &Told<'_>,
+    actions: &[Action],
+) -> Result<(), OutOfMemory>
+    ensures { OnOk result (TellsDifference told.now (map act_of actions.now) (string_bytes text.old) (string_bytes text.new)) }
+{
+    match account_by_run(alloc, told.composition, actions)? {
+        Some(found) => put_account(alloc, text, told, &found),
+        None => {
+            text.push_str("all actions of the log are performed\n")?;
+            Ok(())
+        }
+    }
+}
+
+/// Puts behind the text how many of a log's actions the specification has, and, where it does not perform one of these, which and why.
+pub fn put_monitored(
+    alloc: Global,
+    text: &mut String,
+    told: &Told<'_>,
+    actions: Vec<Action>,
+) -> Result<(), OutOfMemory>
+    ensures { OnOk result ((h : Hosted) → Stands h (composed_of told.now.composition.now)
+        → TellsMonitored told.now h (map act_of actions.items) (string_bytes text.old) (string_bytes text.new)) }
+{
+    let program = compile(alloc, told.composition)?;
+    let count = known_actions(alloc, &program, &actions)?;
+    put_known(text, count, actions.len())?;
+    match monitor(alloc, &program, &actions) {
+        Ok(()) => Ok(()),
+        Err(MonitorErr::SpecHasInternal) => Ok(()),
+        Err(MonitorErr::OutOfMemory) => Err(OutOfMemory),
+        Err(MonitorErr::At { index, answer: _ }) => {
+            put_log_line(alloc, text, told, index)?;
+            put_refused(alloc, text, told, &program, actions)
+        }
+    }
+}
+
+/// Puts behind the text how many invariants were asked in how many of a log's states; and of the first that is broken the variables of its component, or
+/// else how the log ends. Of a log that is not of the composition's run nothing is told.
+pub fn put_inspected(
+    alloc: Global,
+    text: &mut String,
+    told: &Told<'_>,
+    log: Log,
+) -> Result<(), OutOfMemory>
+    ensures { OnOk result ((h : Hosted) → Stands h (composed_of told.now.composition.now)
+        → TellsInspected told.now h (logged log) (string_bytes text.old) (string_bytes text.new)) }
+{
+    match inspect(alloc, told.composition, &log) {
+        Err(LogErr::OutOfMemory) => Err(OutOfMemory),
+        Err(_) => Ok(()),
+        Ok(inspection) => {
+            let actions = actions_in(alloc, log.entries)?;
+            let asked = asked_invariants(told.composition);
+            match inspection.broken {
+                Some(broken) => {
+                    put_asked(text, asked, number_of(broken.state)?)?;
+                    put_broken(alloc, text, told, &actions, broken)
+                }
+                None => {
+                    put_asked(text, asked, number_of(inspection.run.performed)?)?;
+                    put_log_end(alloc, text, told, &actions)
+                }
+            }
+        }
+    }
+}
+
+/// Why the composition's run of these actions ends before all are performed; none where it performs all.
+fn account_by_run(
+    alloc: Global,
+    composition: &Composition,
+    actions: &[Action],
+) -> Result<Option<Account>, OutOfMemory>
+    ensures { IfOk result (λ found. IsAccountOf composition.now (map act_of actions.now) found) }
+{
+    let program = compile(alloc, composition)?;
+    account_of(alloc, composition, &program, actions)
+}
+
+/// Puts why an action was not performed: the sentence, the transition that is to be looked at, and the variables of its component.
+fn put_account(
+    alloc: Global,
+    text: &mut String,
+    told: &Told<'_>,
+    found: &Account,
+) -> Result<(), OutOfMemory>
+    ensures { OnOk result (string_bytes text.new ≡ string_bytes text.old ++ spec.account_text told.now found.now) }
+{
+    text.push_str(found.why.as_str())?;
+    text.push_str("\n")?;
+    put_transition(alloc, text, told.file, told.source, found.line as usize)?;
+    text.push_str(found.states.as_str())?;
+    Ok(())
+}
+
+/// Puts the list's line with the action of this index.
+fn put_list_line(
+    alloc: Global,
+    text: &mut String,
+    told: &Told<'_>,
+    index: usize,
+) -> Result<(), OutOfMemory>
+    ensures { OnOk result (string_bytes text.new ≡ string_bytes text.old ++ spec.list_line told.now index) }
+{
+    match line_of_action(told.input, index) {
+        Some(number) => put_line(alloc, text, "list", told.input, number),
+        None => Ok(()),
+    }
+}
+
+/// Puts the log's line with the action of this index: each line before the last has one.
+fn put_log_line(
+    alloc: Global,
+    text: &mut String,
+    told: &Told<'_>,
+    index: usize,
+) -> Result<(), OutOfMemory>
+    ensures { OnOk result (string_bytes text.new ≡ string_bytes text.old ++ spec.log_line told.now index) }
+{
+    put_line(alloc, text, "log", told.input, number_of(index)?)
+}
+
+/// The number, from 1, of what has this index, from 0. So many things are not held in memory that there is none.
+fn number_of(index: usize) -> Result<usize, OutOfMemory>
+    ensures { IfOk result (λ number. number ≡ index + 1) }
+{
+    match index.checked_add(1) {
+        Some(number) => Ok(number),
+        None => Err(OutOfMemory),
+    }
+}
+
+/// Puts how many of so many actions the specification has.
+fn put_known(text: &mut String, count: usize, all: usize) -> Result<(), OutOfMemory>
+    ensures { OnOk result (string_bytes text.new ≡ string_bytes text.old ++ spec.known_text count all) }
+{
+    if count == 0 {
+        writeln!(
+            text,
+            "the specification has 0 of {all} actions of the log: nothing was specified"
+        )?;
+    } else {
+        writeln!(
+            text,
+            "the specification has {count} of {all} actions of the log"
+        )?;
+    }
+    Ok(())
+}
+
+/// Puts why the specification does not perform the first of those actions that it has and does not perform.
+fn put_refused(
+    alloc: Global,
+    text: &mut String,
+    told: &Told<'_>,
+    program: &Program,
+    actions: Vec<Action>,
+) -> Result<(), OutOfMemory>
+    requires { Means program.now (composed_of told.now.composition.now) }
+    ensures { OnOk result ((h : Hosted) → Stands h (composed_of told.now.composition.now)
+        → TellsEnd told.now spec.no_line (spec.known_among (hosts_of h) (map act_of actions.items)) (string_bytes text.old) (string_bytes text.new)) }
+{
+    let known = those_known(alloc, program, actions)?;
+    match account_of(alloc, told.composition, program, &known)? {
+        Some(found) => put_account(alloc, text, told, &found),
+        None => Ok(()),
+    }
+}
+
+/// Those of the actions that a component has.
+fn those_known(
+    alloc: Global,
+    program: &Program,
+    actions: Vec<Action>,
+) -> Result<Vec<Action>, OutOfMemory>
+    ensures { IfOk result (λ known. map act_of known.items ≡ spec.known_among (tabled program.now) (map act_of actions.items)) }
+{
+    let mut known = Vec::new(alloc);
+    for action in actions {
+        if is_known(alloc, program, &action)? {
+            known.push(action)?;
+        }
+    }
+    Ok(known)
+}
+
+/// Puts how many invariants were asked, and in how many states.
+fn put_asked(text: &mut String, count: usize, states: usize) -> Result<(), OutOfMemory>
+    ensures { OnOk result (string_bytes text.new ≡ string_bytes text.old ++ spec.asked_text count states) }
+{
+    if count == 0 {
+        text.push_str("no invariant is declared of a component's automaton: nothing was asked\n")?;
+    } else {
+        writeln!(text, "invariants asked: {count} in each of {states} states")?;
+    }
+    Ok(())
+}
+
+/// Puts the variables of the component that breaks an invariant, in the state in which it does.
+fn put_broken(
+    alloc: Global,
+    text: &mut String,
+    told: &Told<'_>,
+    actions: &[Action],
+    broken: Broken,
+) -> Result<(), OutOfMemory>
+    ensures { OnOk result ((h : Hosted) → Stands h (composed_of told.now.composition.now)
+        → string_bytes text.new ≡ string_bytes text.old
+        ++ component_lines h.types h.hosts (run (hosts_of h) (take broken.state (map act_of actions.now)) (host_starts h)).states broken.component) }
+{
+    let program = compile(alloc, told.composition)?;
+    let before = broken.state.min(actions.len());
+    let run = run_list(alloc, &program, &actions[..before])?;
+    put_component(alloc, text, told.composition, broken.component, &run.states)
+}
+
+/// The actions of a log's entries.
+pub fn actions_in(alloc: Global, entries: Vec<LogEntry>) -> Result<Vec<Action>, OutOfMemory>
+    ensures { IfOk result (λ actions. map act_of actions.items ≡ map (λ e. act_of e.action) entries.items) }
+{
+    let mut actions = Vec::new(alloc);
+    for entry in entries {
+        actions.push(entry.action)?;
+    }
+    Ok(actions)
+}

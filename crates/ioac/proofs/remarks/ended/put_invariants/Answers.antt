@@ -1,0 +1,7 @@
+use Rattle.ioa_account.specs.Remarks.{TellsInspected}
+use Rattle.ioac.specs.Remarks.{OfHosts}
+use Rattle.ioac.proofs.ToldLogs.{none_heard}
+use Rattle.ioac.proofs.remarks.ended.put_invariants.Goals as goal
+
+pub returns-in-None : goal.returns-in-None
+returns-in-None c = none_heard c.args.told.now c.types.result.now c.in_ok-log.field-0 (λ log. OfHosts c.args.told.now (λ h. TellsInspected c.args.told.now h log)) _ c.types.ensures.value c.in-None.is c.in_ok-log.ensures.none

@@ -1,0 +1,151 @@
+-- What is told, where an explanation is asked for, of a request that was served: by what the files may hold now, and by what was heard of standard input.
+use Rattle.std.specs.Prelude.{◌≡◌, ◌≢◌, ◌⊎◌, ◌++◌, ℕ, Bool, true, if◌then◌else◌, List, [], Option, Some, None, codes}
+use Rattle.std.specs.Borrow.{Bor}
+use Rattle.std.specs.Option.{option_copied, option_map}
+use Rattle.ioa_value.specs.Actions.{Act, Name}
+use Rattle.ioa_value.specs.Lists.{BadLine, ReadsList}
+use Rattle.ioa_value.specs.Table.{Table}
+use Rattle.ioa_lex.specs.declared.refusal.Refusal.{Refusal}
+use Rattle.ioa_tree.specs.Hosts.{Hosted}
+use Rattle.ioa_compose.specs.declared.composition.Composition.{Composition}
+use Rattle.ioa_compose.specs.Held.{composed_of}
+use Rattle.ioa_compose.specs.Stands.{Stands}
+use Rattle.ioa_system.specs.Logs.{Logged, actions_of}
+use Rattle.ioa_log.specs.LogTexts.{GoesOnAt, HasNoEnd, NoEntryAt, NotJsonAt, ReadsLog}
+use Rattle.ioa_account.specs.declared.remarks.Told.{Told}
+use Rattle.ioa_account.specs.Remarks.{TellsDifference, TellsEnd, TellsInspected, TellsMonitored, list_line, log_line}
+use Rattle.ioac.specs.declared.remarks.ended.Ended.{Ended}
+use Rattle.ioa_request.specs.declared.request.Request.{Request}
+use Rattle.ioa_serving.specs.declared.status.Status.{Status}
+use Rattle.ioa_serving.specs.Failing.{IsRefusedSource}
+use Rattle.ioa_serving.specs.Headline.{Declares, begins_object}
+use Rattle.ioa_serving.specs.Logs.{performed_in}
+
+-- ---- the source that is looked at once more
+
+-- what names and compositions these are
+abbrev pub named_by : Option (Bor (List ℕ) × Option (Bor (List ℕ))) → Option (Name × Option Name)
+named_by o = option_map (λ p. (p.0.now, option_copied p.1)) o
+
+-- the source or the object that a request names, and the composition
+abbrev pub source_of : Request → Option (Name × Option Name)
+source_of (Request.Replay file composition) = Some (file.now, option_copied composition)
+source_of (Request.ReplayStates file composition) = Some (file.now, option_copied composition)
+source_of (Request.ReplayLog file composition) = Some (file.now, option_copied composition)
+source_of (Request.ReplayLogStates file composition) = Some (file.now, option_copied composition)
+source_of (Request.ReplayInvariants file composition) = Some (file.now, option_copied composition)
+source_of (Request.Log file composition) = Some (file.now, option_copied composition)
+source_of (Request.Monitor file composition) = Some (file.now, option_copied composition)
+source_of (Request.Chart file composition) = Some (file.now, option_copied composition)
+source_of (Request.Graph file composition) = Some (file.now, option_copied composition)
+source_of (Request.Run settings) = Some (settings.file.now, option_copied settings.composition)
+source_of (Request.Check file compositions) = Some (file.now, None)
+source_of (Request.Compile file out composition) = Some (file.now, option_copied composition)
+source_of (Request.Dump file) = Some (file.now, None)
+source_of (Request.Explain topic) = None
+source_of Request.Library = None
+
+-- a load of the file may give these bytes; where it may fail, there are none
+abbrev pub IsLoaded : (Name → List ℕ → Type 0) → (Name → Type 0) → Name → List ℕ → Type 0
+IsLoaded holds lacks file bytes = holds file bytes ⊎ (lacks file × (bytes ≡ []))
+
+-- the composition that the bytes declare as a source; none, where they are an object or are refused
+abbrev pub IsComposed : List ℕ → Option Name → Option Composition → Type 0
+IsComposed source name None = (begins_object source ≡ true) ⊎ ((r : Refusal) × (r ≢ Refusal.OutOfMemory) × IsRefusedSource source name r)
+IsComposed source name (Some c) = (h : Hosted) × Declares source name h × Stands h (composed_of c)
+
+-- ---- what was heard
+
+-- the bytes are no log
+abbrev pub IsNoLog : Table → List ℕ → Type 0
+IsNoLog types bytes = ((n : ℕ) × (NotJsonAt types bytes n ⊎ (NoEntryAt types bytes n ⊎ GoesOnAt types bytes n))) ⊎ HasNoEnd types bytes
+
+-- of the list, or of the log, that the bytes are this is told; of other bytes nothing
+abbrev pub OfList : Told → (List Act → List ℕ → List ℕ → Type 0) → List ℕ → List ℕ → Type 0
+OfList t tells before after =
+    ((acts : List Act) × ReadsList t.composition.now.types t.input.now acts × tells acts before after)
+    ⊎ (((n : ℕ) × BadLine t.composition.now.types t.input.now n) × (after ≡ before))
+
+abbrev pub OfLog : Told → (Logged → List ℕ → List ℕ → Type 0) → List ℕ → List ℕ → Type 0
+OfLog t tells before after =
+    ((log : Logged) × ReadsLog t.composition.now.types t.input.now log × tells log before after)
+    ⊎ (IsNoLog t.composition.now.types t.input.now × (after ≡ before))
+
+-- of each hosts that the composition stands for
+abbrev pub OfHosts : Told → (Hosted → List ℕ → List ℕ → Type 0) → List ℕ → List ℕ → Type 0
+OfHosts t tells before after = (h : Hosted) → Stands h (composed_of t.composition.now) → tells h before after
+
+abbrev pub TellsListEnd : Told → List ℕ → List ℕ → Type 0
+TellsListEnd t before after = OfList t (TellsEnd t (list_line t)) before after
+
+abbrev pub TellsLogEnd : Told → List ℕ → List ℕ → Type 0
+TellsLogEnd t before after = OfLog t (λ log. TellsEnd t (log_line t) (actions_of log)) before after
+
+-- how the fault of a run is looked at
+abbrev pub run_text : Bool → Status → List ℕ
+run_text is_log Status.Faulted =
+    if is_log then codes "`ioac replay --log --explain` tells more, with this log on standard input\n"
+    else codes "with `--log` the run's log is printed, of which `ioac replay --log --explain` tells more\n"
+run_text is_log Status.Done = []
+run_text is_log Status.NotAccepted = []
+run_text is_log Status.Refused = []
+run_text is_log Status.BadCommandLine = []
+run_text is_log Status.Unable = []
+
+-- what is told of a request that was served to this status, or whose log is of another run
+abbrev pub Tells : Request → Ended → Told → List ℕ → List ℕ → Type 0
+Tells request Ended.Diverged t before after = OfLog t (λ log. TellsDifference t (actions_of log)) before after
+Tells (Request.Replay file composition) (Ended.Served status) t before after = TellsListEnd t before after
+Tells (Request.ReplayStates file composition) (Ended.Served status) t before after = TellsListEnd t before after
+Tells (Request.Log file composition) (Ended.Served status) t before after = TellsListEnd t before after
+Tells (Request.ReplayLog file composition) (Ended.Served status) t before after = TellsLogEnd t before after
+Tells (Request.ReplayLogStates file composition) (Ended.Served status) t before after = TellsLogEnd t before after
+Tells (Request.Chart file composition) (Ended.Served status) t before after = TellsLogEnd t before after
+Tells (Request.ReplayInvariants file composition) (Ended.Served status) t before after = OfLog t (λ log. OfHosts t (λ h. TellsInspected t h log)) before after
+Tells (Request.Monitor file composition) (Ended.Served status) t before after = OfLog t (λ log. OfHosts t (λ h. TellsMonitored t h (performed_in log))) before after
+Tells (Request.Run settings) (Ended.Served status) t before after = after ≡ before ++ run_text settings.log status
+Tells (Request.Graph file composition) (Ended.Served status) t before after = after ≡ before
+Tells (Request.Check file compositions) (Ended.Served status) t before after = after ≡ before
+Tells (Request.Compile file out composition) (Ended.Served status) t before after = after ≡ before
+Tells (Request.Dump file) (Ended.Served status) t before after = after ≡ before
+Tells (Request.Explain topic) (Ended.Served status) t before after = after ≡ before
+Tells Request.Library (Ended.Served status) t before after = after ≡ before
+
+-- It is told of the composition that the file declares, by its name and bytes. Of an object, which has no names, and of a refused source nothing is told.
+abbrev pub TellsIn : Request → Ended → Name → List ℕ → List ℕ → Option Composition → List ℕ → List ℕ → Type 0
+TellsIn request ended file source input None before after = after ≡ before
+TellsIn request ended file source input (Some c) before after =
+    (t : Told) × (t.file.now ≡ file) × (t.source.now ≡ source) × (t.input.now ≡ input) × (t.composition.now ≡ c) × Tells request ended t before after
+
+abbrev pub TellsEnded : (Name → List ℕ → Type 0) → (Name → Type 0) → Request → Option (Name × Option Name) → Ended → List ℕ → List ℕ → List ℕ → Type 0
+TellsEnded holds lacks request None ended input before after = after ≡ before
+TellsEnded holds lacks request (Some from) ended input before after =
+    (source : List ℕ) × (c : Option Composition) × IsLoaded holds lacks from.0 source × IsComposed source from.1 c × TellsIn request ended from.0 source input c before after
+
+-- a source is to be checked, of which there may be warnings
+abbrev pub IsChecking : Request → Type 0
+IsChecking (Request.Check file compositions) = Unit {0}
+IsChecking (Request.Replay file composition) = ⊥
+IsChecking (Request.ReplayStates file composition) = ⊥
+IsChecking (Request.ReplayLog file composition) = ⊥
+IsChecking (Request.ReplayLogStates file composition) = ⊥
+IsChecking (Request.ReplayInvariants file composition) = ⊥
+IsChecking (Request.Log file composition) = ⊥
+IsChecking (Request.Monitor file composition) = ⊥
+IsChecking (Request.Chart file composition) = ⊥
+IsChecking (Request.Graph file composition) = ⊥
+IsChecking (Request.Run settings) = ⊥
+IsChecking (Request.Compile file out composition) = ⊥
+IsChecking (Request.Dump file) = ⊥
+IsChecking (Request.Explain topic) = ⊥
+IsChecking Request.Library = ⊥
+
+-- what is told of a request that was served to this status, behind the warnings
+abbrev pub IsRemark : (Name → List ℕ → Type 0) → (Name → Type 0) → Request → List ℕ → Status → List ℕ → Type 0
+IsRemark holds lacks request input status text =
+    (warnings : List ℕ) × ((IsChecking request → ⊥) → warnings ≡ []) × TellsEnded holds lacks request (source_of request) (Ended.Served status) input warnings text
+
+-- of a log that is of another run, where what is told before and behind are words for people
+abbrev pub IsDifference : (Name → List ℕ → Type 0) → (Name → Type 0) → Request → List ℕ → List ℕ → Type 0
+IsDifference holds lacks request input text =
+    (before : List ℕ) × (told : List ℕ) × (rest : List ℕ) × TellsEnded holds lacks request (source_of request) Ended.Diverged input before told × (text ≡ told ++ rest)
