@@ -2,7 +2,9 @@
 use Rattle.std.proofs.Common.{◌≡◌, inl, inr, length, ℕ, ◌++◌, true, false, cond, List, [], ◌∷◌, Option, None, Result, Ok, Err, OnOk, map, refl, sym, ap, ap₂, subst, ◌∙◌, append-nil}
 use Rattle.std.specs.List.{list_any}
 use Rattle.std.proofs.lemmas.List.Elements.{filter-append}
+use Rattle.std.proofs.lemmas.Simd.{map-map}
 use Rattle.ioa_value.specs.Actions.{Act, act_of}
+use Rattle.ioa_value.specs.declared.action.Action.{Action}
 use Rattle.ioa_tree.specs.Components.{Component, has}
 use Rattle.ioa_tree.specs.Compositions.{Composed}
 use Rattle.ioa_tree.specs.Hosts.{Hosted, first_broken_host, host_instances, host_starts, hosts_of}
@@ -14,8 +16,9 @@ use Rattle.ioa_compile.specs.Means.{Means}
 use Rattle.ioa_compile.specs.Programs.{Prog}
 use Rattle.ioa_compile.specs.Tables.{tabled}
 use Rattle.ioa_system.specs.declared.outcomes.Step.{Step}
+use Rattle.ioa_system.specs.declared.log.Log.{Log}
 use Rattle.ioa_system.specs.declared.log.LogEntry.{LogEntry}
-use Rattle.ioa_system.specs.Logs.{Logged, actions_of}
+use Rattle.ioa_system.specs.Logs.{Logged, actions_of, log_entry, logged}
 use Rattle.ioa_system.proofs.Hosting.{host_participants}
 use Rattle.ioa_log.specs.Monitoring.{IsHiding, IsRefusedAt, monitored}
 use Rattle.ioa_account.specs.Counts.{asked_invariants, known_actions}
@@ -31,6 +34,13 @@ on_ok (Err e) f p = tt
 -- the actions of a log's entries
 abbrev pub entered : List LogEntry → List Act
 entered es = map (λ e. act_of e.action) es
+
+pub entered_are : (l : Log) → actions_of (logged l) ≡ entered l.entries.items
+entered_are l = map-map (λ e. e.1) log_entry l.entries.items
+
+-- a list that is equal to theirs has them, too
+pub acts_of_log : (l : Log) (xs ys : List Action) → xs ≡ ys → map act_of ys ≡ entered l.entries.items → map act_of xs ≡ actions_of (logged l)
+acts_of_log l xs ys same e = ap (map act_of) same ∙ e ∙ sym (entered_are l)
 
 -- ---- actions that are known
 

@@ -4,7 +4,6 @@ use Rattle.std.specs.Option.{option_map, option_map_or, option_to_list}
 use Rattle.std.proofs.Math.Seq.{take-append_seam}
 use Rattle.std.proofs.lemmas.Bool.{false≢true}
 use Rattle.std.proofs.lemmas.List.{length-map, take-map}
-use Rattle.std.proofs.lemmas.Simd.{map-map}
 use Rattle.ioa_value.specs.declared.action.Action.{Action}
 use Rattle.ioa_value.specs.Actions.{Act, act_of}
 use Rattle.ioa_value.specs.Plain.{Val}
@@ -14,12 +13,12 @@ use Rattle.ioa_system.specs.declared.outcomes.End.{End}
 use Rattle.ioa_system.specs.declared.outcomes.Step.{Step}
 use Rattle.ioa_system.specs.declared.log.Log.{Log}
 use Rattle.ioa_system.specs.declared.log.LogEnd.{LogEnd}
-use Rattle.ioa_system.specs.declared.log.LogEntry.{LogEntry}
 use Rattle.ioa_system.specs.Outcomes.{ending_of, step_of}
-use Rattle.ioa_system.specs.Logs.{Logged, actions_of, is_fault, log_end, log_entry, logged}
+use Rattle.ioa_system.specs.Logs.{Logged, actions_of, is_fault, log_end, logged}
 use Rattle.ioa_log.specs.declared.broken_invariants.Broken.{Broken}
 use Rattle.ioa_log.specs.Breaking.{broken_of}
 use Rattle.ioa_log.specs.Monitoring.{IsRefusedAt}
+use Rattle.ioa_account.proofs.Remarking.{entered, entered_are}
 use Rattle.ioa_serving.specs.declared.invariant_replay.Finding.{Finding}
 use Rattle.ioa_serving.specs.Logs.{broken, found_in, found_of, performed_in, unbroken}
 
@@ -40,13 +39,6 @@ pub found_unbroken : (h : Hosted) (log : Logged) (end : End) → None ≡ first_
     → ending_of end ≡ (run (hosts_of h) (actions_of log) (host_starts h)).ending → found_of (Finding.Unbroken end) ≡ found_in h log
 found_unbroken h log end first ends =
     ap unbroken ends ∙ ap (λ o. option_map_or broken o (unbroken (run (hosts_of h) (actions_of log) (host_starts h)).ending)) first
-
--- the actions of a log's entries
-abbrev pub entered : List LogEntry → List Act
-entered es = map (λ e. act_of e.action) es
-
-pub entered_are : (l : Log) → actions_of (logged l) ≡ entered l.entries.items
-entered_are l = map-map (λ e. e.1) log_entry l.entries.items
 
 -- what is performed of a log with this end
 abbrev pub performed_by : LogEnd → List Act → List Act

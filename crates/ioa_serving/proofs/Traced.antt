@@ -9,7 +9,7 @@ use Rattle.ioa_system.specs.declared.log.LogEntry.{LogEntry}
 use Rattle.ioa_system.specs.Logs.{actions_of, logged}
 use Rattle.ioa_log.specs.Replays.{lines_of}
 use Rattle.ioa_run.specs.declared.report.Report.{Report}
-use Rattle.ioa_serving.proofs.Logged.{entered_are}
+use Rattle.ioa_account.proofs.Remarking.{entered_are}
 use Rattle.ioa_serving.specs.RunReports.{name_at, report_line, reports_text}
 
 -- one action more, where it is among those that are told

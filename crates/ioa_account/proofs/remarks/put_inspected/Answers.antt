@@ -1,14 +1,13 @@
 use Rattle.std.proofs.Common.{◌≡◌, ◌+◌, ◌++◌, Some, None, map, take, string_bytes, ap, sym, subst, ◌∙◌}
 use Rattle.std.specs.Option.{option_map}
-use Rattle.std.proofs.lemmas.Simd.{map-map}
 use Rattle.ioa_value.specs.Actions.{act_of}
 use Rattle.ioa_tree.specs.Hosts.{host_starts, hosts_of}
 use Rattle.ioa_tree.specs.Runs.{run}
-use Rattle.ioa_system.specs.Logs.{actions_of, log_entry, logged}
+use Rattle.ioa_system.specs.Logs.{actions_of, logged}
 use Rattle.ioa_log.specs.Breaking.{broken_of}
 use Rattle.ioa_account.specs.States.{component_lines}
 use Rattle.ioa_account.specs.Remarks.{TellsEnd, log_line}
-use Rattle.ioa_account.proofs.Remarking.{inspected, on_ok}
+use Rattle.ioa_account.proofs.Remarking.{acts_of_log, inspected, on_ok}
 use Rattle.ioa_account.proofs.remarks.put_inspected.Goals as goal
 
 pub returns-in-Some : goal.returns-in-Some
@@ -16,7 +15,7 @@ returns-in-Some c =
     let log = c.args.log in
     let b = c.in-Some.broken in
     let acts : map act_of c.deref.result.now ≡ actions_of (logged log) =
-    ap (map act_of) c.deref.ensures.value ∙ c.in_ok-actions-in-Ok.ensures ∙ sym (map-map (λ e. e.1) log_entry log.entries.items) in
+    acts_of_log log c.deref.result.now c.in_ok-actions-in-Ok.actions.items c.deref.ensures.value c.in_ok-actions-in-Ok.ensures in
     on_ok c.put_broken.result
     (λ puts h stands.
     inspected c.args.told.now h (logged log) (Some (broken_of b)) _ _ _ c.asked_invariants-asked.result c.in_ok-number_of-in-Some.field-0
@@ -29,7 +28,7 @@ pub returns : goal.returns
 returns c =
     let log = c.args.log in
     let acts : map act_of c.deref-in-None.result.now ≡ actions_of (logged log) =
-    ap (map act_of) c.deref-in-None.ensures.value ∙ c.in_ok-actions-in-Ok.ensures ∙ sym (map-map (λ e. e.1) log_entry log.entries.items) in
+    acts_of_log log c.deref-in-None.result.now c.in_ok-actions-in-Ok.actions.items c.deref-in-None.ensures.value c.in_ok-actions-in-Ok.ensures in
     on_ok c.put_log_end.result
     (λ tells h stands.
     inspected c.args.told.now h (logged log) None _ _ _ c.asked_invariants-asked.result c.in_ok-number_of-in-None.field-0

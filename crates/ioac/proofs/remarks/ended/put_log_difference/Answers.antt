@@ -1,8 +1,8 @@
 use Rattle.std.proofs.Common.{string_bytes, inl, subst}
 use Rattle.ioa_system.specs.Logs.{actions_of, logged}
 use Rattle.ioa_account.specs.Remarks.{TellsDifference}
-use Rattle.ioa_account.proofs.Remarking.{on_ok}
-use Rattle.ioac.proofs.ToldLogs.{acts_of_log, heard_so, none_heard}
+use Rattle.ioa_account.proofs.Remarking.{acts_of_log, on_ok}
+use Rattle.ioac.proofs.ToldLogs.{heard_so, none_heard}
 use Rattle.ioac.proofs.remarks.ended.put_log_difference.Goals as goal
 
 pub returns-in_ok-actions-in-Some : goal.returns-in_ok-actions-in-Some
