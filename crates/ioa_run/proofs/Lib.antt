@@ -15,6 +15,7 @@ pub mod TellingAttempts
 pub mod Going
 pub mod Settled
 pub mod Choosing
+pub mod Filling
 pub mod Acting
 pub mod Wishing
 pub mod Taking

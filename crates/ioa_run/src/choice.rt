@@ -1,8 +1,9 @@
-ghost use Rattle.std.specs.Prelude.{◌≡◌, IfOk, IfSome, length, map};
+ghost use Rattle.std.specs.Prelude.{◌≡◌, List, IfOk, IfSome, length, map};
+ghost use Rattle.std.specs.Bool.{OnTrue};
 ghost use Rattle.std.specs.Option.{option_map};
 ghost use Rattle.std.specs.Prelude.{slice_get};
 ghost use Rattle.ioa_value.specs.Actions.{act_of};
-ghost use Rattle.ioa_value.specs.Plain.{plain};
+ghost use Rattle.ioa_value.specs.Plain.{Val, plain};
 ghost use Rattle.ioa_value.specs.Positions.{domain_of};
 ghost use Rattle.ioa_tree.specs.Components as components;
 ghost use Rattle.ioa_compile.specs.Shown.{entry_code, member_code};
@@ -102,7 +103,7 @@ fn propose_by<W: Words>(
     }))
 }
 
-/// These values, each in its place among equals of the constants.
+/// These values, each in its place among equals of the constants. Where all positions are theirs, they stand in their places already.
 fn fill(
     alloc: Global,
     positions: &[Position],
@@ -110,6 +111,9 @@ fn fill(
 ) -> Result<Vec<Value>, OutOfMemory>
     ensures { IfOk result (λ all. map plain all.items ≡ filled (map domain_of positions.now) (map plain values.items)) }
 {
+    if are_all(positions, values.len()) {
+        return Ok(values);
+    }
     let mut all = Vec::with_capacity(alloc, positions.len())?;
     let mut used = 0;
     for position in positions {
@@ -124,4 +128,20 @@ fn fill(
         }
     }
     Ok(all)
+}
+
+/// Whether so many values are those of all positions, of which none is a constant.
+fn are_all(positions: &[Position], count: usize) -> bool
+    ensures { OnTrue result ((vs : List Val) → length vs ≡ count → filled (map domain_of positions.now) vs ≡ vs) }
+{
+    if positions.len() != count {
+        return false;
+    }
+    for position in positions {
+        match position {
+            Position::Constant(_) => return false,
+            Position::Typed(_) => {}
+        }
+    }
+    true
 }
