@@ -9,7 +9,7 @@ ghost use Rattle.ioa_serving.specs.Traces.{performed, traced_text};
 
 use ioa_compile::Program;
 use ioa_log::push_line;
-use ioa_system::{Log, LogEnd, Participation};
+use ioa_system::{Log, LogEnd, is_external};
 use ioa_value::{Action, OutOfMemory};
 use std::alloc::Global;
 use std::fmt::Write;
@@ -21,7 +21,7 @@ pub fn trace_text(alloc: Global, program: &Program, log: &Log) -> Result<String,
 {
     let mut text = String::new(alloc);
     for entry in &log.entries[..performed(log.end)] {
-        push_external(alloc, &mut text, program, &entry.action)?;
+        push_external(&mut text, program, &entry.action)?;
     }
     let end = log.end.end();
     writeln!(text, "end: {end}")?;
@@ -39,17 +39,11 @@ fn performed(end: LogEnd) -> usize
 }
 
 /// Puts a line with the action at the text's end, where it is external.
-fn push_external(
-    alloc: Global,
-    text: &mut String,
-    program: &Program,
-    action: &Action,
-) -> Result<(), OutOfMemory>
+fn push_external(text: &mut String, program: &Program, action: &Action) -> Result<(), OutOfMemory>
     ensures { OnOk result (string_bytes text.new ≡ string_bytes text.old
         ++ (if is_external program.now.hidden (tabled program.now) (act_of action.now) then written_action program.now.types (act_of action.now) ++ 10 ∷ [] else [])) }
 {
-    let participation = Participation::of(alloc, program, action)?;
-    if participation.is_external() {
+    if is_external(program, action) {
         push_line(text, program.types(), action)?;
     }
     Ok(())

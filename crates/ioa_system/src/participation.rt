@@ -166,6 +166,22 @@ pub fn owner(program: &Program, action: &Action) -> Option<usize>
     None
 }
 
+/// Whether the action is external: it has no owner, or is its owner's output and is not hidden. It takes no memory.
+pub fn is_external(program: &Program, action: &Action) -> bool
+    ensures { result ≡ runs.is_external program.now.hidden (tabled program.now) (act_of action.now) }
+{
+    let members = program.members();
+    for member in members {
+        match entry_of(member, action) {
+            Some(entry) if is_local(entry.kind) => {
+                return is_shown(program.hidden(), entry.kind, action);
+            }
+            _ => {}
+        }
+    }
+    true
+}
+
 /// The numbers of the components that have the action, in ascending order.
 pub fn participants(
     alloc: Global,

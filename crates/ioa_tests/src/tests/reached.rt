@@ -4,7 +4,7 @@ use crate::tests::made::{action, program};
 use ioa_compile::Program;
 use ioa_node::{NodeState, state_values};
 use ioa_rows::COUNTER;
-use ioa_system::{End, Participation, Run, owner, participants, run_list};
+use ioa_system::{End, Participation, Run, is_external, owner, participants, run_list};
 use ioa_value::{Action, Fault, OutOfMemory, Types, print_action, read_list};
 use std::alloc::Global;
 use std::process::Abort;
@@ -182,7 +182,9 @@ fn performers(rt: &impl Abort, alloc: Global, source: &str, text: &str) -> Perfo
     let participants = participants(alloc, &program, &action).expect(rt, "memory");
     let participation = Participation::of(alloc, &program, &action).expect(rt, "memory");
     let owner = owner(&program, &action);
-    (owner, participants.len(), participation.is_external())
+    let external = participation.is_external();
+    assert!(rt; is_external(&program, &action) == external, "{text}");
+    (owner, participants.len(), external)
 }
 
 fn expect_owners(rt: &impl Abort, alloc: Global, rows: &[(&str, &str, Performers)]) {
