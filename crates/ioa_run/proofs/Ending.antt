@@ -12,6 +12,7 @@ use Rattle.ioa_tree.specs.Components.{Component}
 use Rattle.ioa_tree.specs.Proposing.{Words}
 use Rattle.ioa_compile.specs.Programs.{Prog}
 use Rattle.ioa_compile.specs.Tables.{start_states, tabled}
+use Rattle.ioa_system.specs.Logs.{log_end}
 use Rattle.ioa_run.specs.declared.outcome.Outcome.{Outcome}
 use Rattle.ioa_run.specs.declared.report.Report.{Report}
 use Rattle.ioa_run.specs.declared.report.Why.{Why}
@@ -155,7 +156,7 @@ ended_alone p ws inputs turns wu eu u v es o l s g d log k none =
 pub ends_alone : (p : Prog) (ws : List Words) (inputs : List Act) (turns : ℕ) (wu : List Words) (eu : List Bool) (u v : ProgramRoom) (es : List Bool) (o : Outcome) → turns ≤ 100000
     → es ≡ (first_turns (start_states p) ws (length (proposers p))).ended
     → GoesRounds turns (start_room p inputs turns) ws es u wu eu → Dismisses u eu v
-    → IsLogOf v.program v.board o.log.items o.end o.states.items → o.reports.items ≡ v.reports → IsRoom v → HaveEnded turns o.end o.reports.items
+    → IsLogOf v.program v.board o.log.items o.end o.states.items → o.reports.items ≡ v.reports → IsRoom v → HaveEnded turns (log_end o.end) o.reports.items
 ends_alone p ws inputs turns wu eu u v es o l s g d log k told =
     let start : Turns (List Val) = first_turns (start_states p) ws (length (proposers p)) in
     let many : length (proposers p) ≡ length p.members = length-map p.members proposers_of in
@@ -174,6 +175,6 @@ ends_alone p ws inputs turns wu eu u v es o l s g d log k told =
     let kept : length eu ≡ length es = g.follows.ended in
     let reports : length o.reports.items ≡ length v.reports = ap length k in
     let all : length o.reports.items ≤ length eu = omega (arith, reports, workers, first, many, kept) in
-    settled_end turns (standing_at u wu eu) o.reports.items v.board.history o.end settled all
+    settled_end turns (standing_at u wu eu) o.reports.items v.board.history (log_end o.end) settled all
     (λ w. ap (λ rs. slice_get rs w) k ∙ d.reports w ∙ ap (λ n. option_map (dismissed n eu w) (slice_get u.reports w)) turns_are)
     (log.ends ∙ ap (λ (b : Standing (List Val)). ending v.board.history b.failure) board)

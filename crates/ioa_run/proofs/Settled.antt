@@ -8,9 +8,9 @@ use Rattle.ioa_value.specs.Actions.{Act}
 use Rattle.ioa_value.proofs.ItemLemmas.{item_there}
 use Rattle.ioa_tree.specs.Components.{Component}
 use Rattle.ioa_tree.specs.Proposing.{Words, Tried, tries, idle}
+use Rattle.ioa_tree.specs.Runs.{Ending, done, not_an_action_at, not_enabled_at, fault_at}
 use Rattle.ioa_tree.specs.Steps.{Moved, next, not_an_action, not_enabled, fault, step}
-use Rattle.ioa_system.specs.Logs.{log_end, worker}
-use Rattle.ioa_system.specs.declared.log.LogEnd.{LogEnd}
+use Rattle.ioa_system.specs.Logs.{worker}
 use Rattle.ioa_run.specs.declared.answer.Answer.{Answer}
 use Rattle.ioa_run.specs.declared.report.Report.{Report}
 use Rattle.ioa_run.specs.declared.report.Why.{Why}
@@ -172,12 +172,16 @@ settled_first ss ws n = record {
 
 -- ---- the end
 
-recorded_ends : (h : List (ℕ × Act)) (end : LogEnd) (f : Option Failure) → log_end end ≡ ending h f → IsSome f → IsFault end
-recorded_ends h (LogEnd.Done n) None e s = absurd (cc)
-recorded_ends h (LogEnd.Done n) (Some r) e s = absurd (cc)
-recorded_ends h (LogEnd.Fault c x i) f e s = tt
+recorded_ends : (h : List (ℕ × Act)) (end : Ending) (f : Option Failure) → end ≡ ending h f → IsSome f → IsFault end
+recorded_ends h (done n) None e s = absurd (cc)
+recorded_ends h (done n) (Some r) e s = absurd (cc)
+recorded_ends h (not_an_action_at n) None e s = absurd (cc)
+recorded_ends h (not_an_action_at n) (Some r) e s = absurd (cc)
+recorded_ends h (not_enabled_at n) None e s = absurd (cc)
+recorded_ends h (not_enabled_at n) (Some r) e s = absurd (cc)
+recorded_ends h (fault_at c x i) f e s = tt
 
-cause_is_reason : (turns n : ℕ) (h : List (ℕ × Act)) (f : Option Failure) (end : LogEnd) (y : Why) → log_end end ≡ ending h f → IsCause f y → IsReason turns end n y
+cause_is_reason : (turns n : ℕ) (h : List (ℕ × Act)) (f : Option Failure) (end : Ending) (y : Why) → end ≡ ending h f → IsCause f y → IsReason turns end n y
 cause_is_reason turns n h f end Why.TurnsDone e k = absurd k
 cause_is_reason turns n h f end Why.Faulted e k = recorded_ends h end f e k
 cause_is_reason turns n h f end Why.Stopped e k = recorded_ends h end f e k
@@ -187,15 +191,15 @@ all_got : {X : Type 0} (P : X → Type 0) (xs : List X) → ((w : ℕ) (x : X) �
 all_got P xs h k d m = let found = item_there xs k m in subst P (sym (get_or_from_slice_get xs k found.0 d found.1)) (h k found.0 found.1)
 
 -- who has not ended is told that its turns are done
-module _ {S : Type 0} (turns : ℕ) (t : Turns S) (rs : List Report) (h : List (ℕ × Act)) (end : LogEnd) (s : AreSettled turns 0 t) (all : length rs ≤ length t.ended)
-    (d : (w : ℕ) → slice_get rs w ≡ option_map (dismissed turns t.ended w) (slice_get t.reports w)) (ends : log_end end ≡ ending h t.board.failure) where
+module _ {S : Type 0} (turns : ℕ) (t : Turns S) (rs : List Report) (h : List (ℕ × Act)) (end : Ending) (s : AreSettled turns 0 t) (all : length rs ≤ length t.ended)
+    (d : (w : ℕ) → slice_get rs w ≡ option_map (dismissed turns t.ended w) (slice_get t.reports w)) (ends : end ≡ ending h t.board.failure) where
   ended_dismissed : (w : ℕ) (r q : Report) (o : Option Bool) → w < length t.ended → slice_get t.ended w ≡ o → slice_get t.reports w ≡ Some r → cond (unwrap_or o true) r (left turns Why.TurnsDone r) ≡ q → HasEnded turns end q
   ended_dismissed w r q None m e g i = absurd (let k = item_there t.ended w m in let z : None ≡ Some k.0 = sym e ∙ k.1 in cc)
   ended_dismissed w r q (Some true) m e g i = subst (HasEnded turns end) i (cause_is_reason turns (counted r) h t.board.failure end r.why ends (s.gone w r e g))
   ended_dismissed w r q (Some false) m e g i =
       let all_had : counted r ≡ turns = (s.taken w r e g).before (omega arith) in
-      let done : left turns Why.TurnsDone r ≡ with_why Why.TurnsDone r = left_done turns r (s.going w r e g) all_had in
-      subst (HasEnded turns end) (sym done ∙ i) all_had
+      let had : left turns Why.TurnsDone r ≡ with_why Why.TurnsDone r = left_done turns r (s.going w r e g) all_had in
+      subst (HasEnded turns end) (sym had ∙ i) all_had
 
   ended_at : (w : ℕ) (q : Report) (o : Option Report) → w < length t.ended → slice_get t.reports w ≡ o → option_map (dismissed turns t.ended w) o ≡ Some q → HasEnded turns end q
   ended_at w q None m e i = absurd (cc)

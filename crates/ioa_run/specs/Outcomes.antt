@@ -2,7 +2,7 @@
 use Rattle.std.specs.Prelude.{◌≡◌, ◌++◌, ◌∷◌, ℕ, List, [], All, Option, None, Some, length, map}
 use Rattle.ioa_value.specs.Actions.{Act}
 use Rattle.ioa_value.specs.Plain.{Val}
-use Rattle.ioa_tree.specs.Runs.{Ending, done, fault_at, run}
+use Rattle.ioa_tree.specs.Runs.{Ending, done, not_an_action_at, not_enabled_at, fault_at, run}
 use Rattle.ioa_compile.specs.Programs.{Prog}
 use Rattle.ioa_compile.specs.Tables.{start_states, tabled}
 use Rattle.ioa_system.specs.Logs.{log_end, log_entry}
@@ -35,23 +35,25 @@ pub record IsLogOf (p : Prog) (b : Standing (List Val)) (log : List LogEntry) (e
   pub runs : run (tabled p) (acts_of (logged b.history b.failure)) (start_states p) ≡ record { performed = length b.history; states = b.states; ending = ending b.history b.failure }
 
 -- the last of the log is an action that faulted
-abbrev pub IsFault : LogEnd → Type 0
-IsFault (LogEnd.Done n) = ⊥
-IsFault (LogEnd.Fault c f i) = Unit {0}
+abbrev pub IsFault : Ending → Type 0
+IsFault (done n) = ⊥
+IsFault (not_an_action_at n) = ⊥
+IsFault (not_enabled_at n) = ⊥
+IsFault (fault_at c f i) = Unit {0}
 
 -- why a worker takes no more turns, so many of which are counted: they are all that each has; or its action faulted, and the log ends by
 -- that fault; or it was stopped, and the log ends by the fault that stopped it, which is another's, since who faulted is told so; or memory
 -- was refused to it
-abbrev pub IsReason : ℕ → LogEnd → ℕ → Why → Type 0
+abbrev pub IsReason : ℕ → Ending → ℕ → Why → Type 0
 IsReason turns end n Why.TurnsDone = n ≡ turns
 IsReason turns end n Why.Faulted = IsFault end
 IsReason turns end n Why.Stopped = IsFault end
 IsReason turns end n Why.Memory = Unit {0}
 
 -- the worker of this report has ended, where each has so many turns and the log ends so
-abbrev pub HasEnded : ℕ → LogEnd → Report → Type 0
+abbrev pub HasEnded : ℕ → Ending → Report → Type 0
 HasEnded turns end r = IsReason turns end (counted r) r.why
 
 -- all workers have
-abbrev pub HaveEnded : ℕ → LogEnd → List Report → Type 0
+abbrev pub HaveEnded : ℕ → Ending → List Report → Type 0
 HaveEnded turns end rs = All (HasEnded turns end) rs

@@ -2,6 +2,7 @@ ghost use Rattle.std.specs.Prelude.{◌≡◌, ◌+◌, ◌<◌, All, IfOk, IsEr
 ghost use Rattle.std.specs.Option.{option_map};
 ghost use Rattle.ioa_value.specs.Actions.{act_of};
 ghost use Rattle.ioa_compile.specs.Tables.{tabled};
+ghost use Rattle.ioa_system.specs.Logs.{log_end};
 ghost use Rattle.ioa_run.specs.Alone.{IsAlone, IsInput, IsOutcome, NoMemory, Refuses};
 ghost use Rattle.ioa_run.specs.declared.run_err.RunErr.{RunErr};
 ghost use Rattle.ioa_run.specs.Outcomes.{HaveEnded};
@@ -39,7 +40,7 @@ pub fn run_alone<W: Words + Drop>(
 ) -> Result<Outcome, RunErr>
     requires sources { length words.items ≡ length program.now.members }
     ensures outcome { IfOk result (λ o. IsOutcome program.now (map act_of inputs.now) turns o) }
-    ensures ended { IfOk result (λ o. HaveEnded turns o.end o.reports.items) }
+    ensures ended { IfOk result (λ o. HaveEnded turns (log_end o.end) o.reports.items) }
     ensures alone { IfOk result (λ o. NoMemory o.reports.items → IsAlone program.now (map W.stream words.items) (map act_of inputs.now) turns o) }
     ensures refused { Refuses program.now (map act_of inputs.now) turns result }
     ensures threads { IsErrOf result RunErr.Threads → ⊥ }

@@ -1,5 +1,6 @@
 ghost use Rattle.std.specs.Prelude.{◌≡◌, ◌↔◌, ◌+◌, ◌<◌, ◌^◌, ◌==◌, ℕ, IsTrue};
 ghost use Rattle.ioa_run.specs.Going.{told_in};
+ghost use Rattle.ioa_system.specs.Logs.{log_end};
 ghost use Rattle.ioa_run.specs.Outcomes.{HasEnded, HaveEnded};
 ghost use Rattle.ioa_run.specs.Reports.{blank, counted, judged, left, resumed, unless_done, with_committed, with_idle, with_stale, with_why};
 ghost use Rattle.ioa_run.specs.declared.answer.Answer.TheVariants as answers;
@@ -155,7 +156,7 @@ impl Report {
     /// Whether the worker has ended, where each has so many turns and the log ends so: all its turns are counted, or its action faulted, or
     /// another's did and stopped it, or memory was refused to it. Who is stopped without a fault has said nothing.
     pub(crate) fn has_ended(self, turns: u64, end: LogEnd) -> bool
-        ensures { IsTrue result ↔ HasEnded turns end self }
+        ensures { IsTrue result ↔ HasEnded turns (log_end end) self }
     {
         match self.why {
             Why::TurnsDone => self.counted() == u128::from(turns),
@@ -186,7 +187,7 @@ impl Why {
 
 /// Whether all workers have ended, where each has so many turns and the log ends so.
 pub(crate) fn have_ended(reports: &[Report], turns: u64, end: LogEnd) -> bool
-    ensures { IsTrue result ↔ HaveEnded turns end reports.now }
+    ensures { IsTrue result ↔ HaveEnded turns (log_end end) reports.now }
 {
     for report in reports {
         if !report.has_ended(turns, end) {

@@ -2,6 +2,7 @@ ghost use Rattle.std.specs.Prelude.{◌≡◌, ◌≤◌, All, IfErr, IfOk, leng
 ghost use denote.Param.Send.{IsSend, IsSync};
 ghost use Rattle.ioa_value.specs.Actions.{act_of};
 ghost use Rattle.ioa_compile.specs.Tables.{tabled};
+ghost use Rattle.ioa_system.specs.Logs.{log_end};
 ghost use Rattle.ioa_run.specs.declared.run_err.RunErr.TheVariants as errors;
 ghost use Rattle.ioa_run.specs.Alone.{IsInput, IsOutcome, Refuses, most_turns};
 ghost use Rattle.ioa_run.specs.Outcomes.{HaveEnded};
@@ -44,7 +45,7 @@ pub fn run_threads<R: Threads + Wait + Sync, W: Words + Send + Drop, G: Gate + S
 ) -> Result<Outcome, RunErr>
     requires sources { length words.items ≡ length program.now.members }
     ensures outcome { IfOk result (λ o. IsOutcome program.now (map act_of inputs.now) turns o) }
-    ensures ended { IfOk result (λ o. HaveEnded turns o.end o.reports.items) }
+    ensures ended { IfOk result (λ o. HaveEnded turns (log_end o.end) o.reports.items) }
     ensures refused { Refuses program.now (map act_of inputs.now) turns result }
 {
     check(alloc, program, turns, inputs)?;
@@ -67,7 +68,7 @@ fn run_on<T: Terms + Send, R: Threads + Wait + Sync, W: Words + Send + Drop, G: 
     requires few { T.turns ≤ most_turns }
     requires fine { All (IsInput (tabled T.program)) T.inputs }
     ensures outcome { IfOk result (λ o. IsOutcome T.program T.inputs T.turns o) }
-    ensures ended { IfOk result (λ o. HaveEnded T.turns o.end o.reports.items) }
+    ensures ended { IfOk result (λ o. HaveEnded T.turns (log_end o.end) o.reports.items) }
     ensures refused { Refuses T.program T.inputs T.turns result }
 {
     let crew: Crew<'_, T> = Crew::start(alloc, program, inputs, turns)?;
@@ -82,8 +83,8 @@ fn run_on<T: Terms + Send, R: Threads + Wait + Sync, W: Words + Send + Drop, G: 
 /// under the lock nothing is known but what its type says, this is asked of the reports.
 fn unless_silent(outcome: Outcome, turns: u64) -> Result<Outcome, RunErr>
     ensures same { IfOk result (λ o. o ≡ outcome) }
-    ensures ended { IfOk result (λ o. HaveEnded turns o.end o.reports.items) }
-    ensures silent { IfErr result (λ e. (e ≡ errors.Threads) × (HaveEnded turns outcome.end outcome.reports.items → ⊥)) }
+    ensures ended { IfOk result (λ o. HaveEnded turns (log_end o.end) o.reports.items) }
+    ensures silent { IfErr result (λ e. (e ≡ errors.Threads) × (HaveEnded turns (log_end outcome.end) outcome.reports.items → ⊥)) }
 {
     if have_ended(&outcome.reports, turns, outcome.end) {
         Ok(outcome)

@@ -64,6 +64,7 @@ module _ (p : Prog) (h : Hosted) (c : Composed) (s : Stands h c) (m : Means p c)
     entries = k.entries;
     ends = k.ends;
     told = subst (λ n. AreTold n script turns k.history k.failure reports) same_count k.told;
+    ended = k.ended;
   }
 
   table_run : (script : List Act) (turns : ℕ) (log : Logged) (reports : List Report) → IsRun (of_hosts h) script turns log reports → IsRun (of_table p) script turns log reports
@@ -74,6 +75,7 @@ module _ (p : Prog) (h : Hosted) (c : Composed) (s : Stands h c) (m : Means p c)
     entries = k.entries;
     ends = k.ends;
     told = subst (λ n. AreTold n script turns k.history k.failure reports) (sym same_count) k.told;
+    ended = k.ended;
   }
 
   comes_alike : (script : List Act) (turns : ℕ) (log : Logged) (reports : List Report) (as_log told : Bool) (before after telling : Option (List ℕ))

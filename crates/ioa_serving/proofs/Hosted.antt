@@ -29,7 +29,7 @@ use Rattle.ioa_run.specs.Alone.{IsFirstOther, IsInput}
 use Rattle.ioa_run.specs.Boards.{Failure, IsFailureFrom, Standing}
 use Rattle.ioa_run.specs.Histories.{acts_of}
 use Rattle.ioa_run.proofs.Performing.{legal_workers}
-use Rattle.ioa_run.specs.Outcomes.{IsLogOf, ending, logged}
+use Rattle.ioa_run.specs.Outcomes.{HaveEnded, IsLogOf, ending, logged}
 use Rattle.ioa_run.specs.Reports.{AreTold}
 use Rattle.ioa_serving.specs.Alone.{IsRun, told_of, written}
 use Rattle.ioa_serving.specs.RunReports.{reports_text}
@@ -147,14 +147,16 @@ module _ (p : Prog) (x : Subject) (runs : RunsAs p x) where
       workers = subst (All (λ (e : ℕ × Act). e.0 ≡ worker (its_components x) e.1)) (sym l.entries) (λ k d lt. all_workers k d lt ∙ worker_same _);
     }
 
-    pub is_run : (script : List Act) (turns : ℕ) (rs : List Report) → AreTold (length p.members) script turns b.history b.failure rs → IsRun x script turns (log_of es end) rs
-    is_run script turns rs told = record {
+    pub is_run : (script : List Act) (turns : ℕ) (rs : List Report) → AreTold (length p.members) script turns b.history b.failure rs → HaveEnded turns (log_end end) rs
+        → IsRun x script turns (log_of es end) rs
+    is_run script turns rs told ended = record {
       legal = (agrees_to_history (its_components x) (its_starts x) (log_of es end)).0 ((agrees_to_tell (its_components x) (its_starts x) (log_of es end)).1 subject_tells);
       history = b.history;
       failure = b.failure;
       entries = l.entries;
       ends = l.ends;
       told = subst (λ n. AreTold n script turns b.history b.failure rs) count_same told;
+      ended = ended;
     }
 
     traced_same : traced_text p (log_of es end) (performed end) ≡ run_text (its_types x) (its_hidden x) (its_components x) (its_starts x) (actions_of (log_of es end))

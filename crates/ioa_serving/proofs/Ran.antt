@@ -12,7 +12,7 @@ use Rattle.ioa_log.specs.declared.failure.LogErr.{LogErr}
 use Rattle.ioa_run.specs.declared.outcome.Outcome.{Outcome}
 use Rattle.ioa_run.specs.declared.report.Report.{Report}
 use Rattle.ioa_run.specs.Alone.{IsInput, IsOutcome, most_turns}
-use Rattle.ioa_run.specs.Outcomes.{IsLogOf}
+use Rattle.ioa_run.specs.Outcomes.{HaveEnded, IsLogOf}
 use Rattle.ioa_run.specs.Reports.{AreTold}
 use Rattle.ioa_serving.specs.declared.failure.Failure.{Failure}
 use Rattle.ioa_serving.specs.declared.run.Ran.{Ran}
@@ -30,8 +30,8 @@ use Rattle.ioa_serving.proofs.Hosted.{inputs_same, is_run, log_of, performed_wit
 -- the program, its log and its reports, of what the run gave
 pub has_run : (holds : Name → List ℕ → Type 0) (s : Settings) (r : Ran) (p : Prog) (o : Outcome) (x : Subject) (script : List Act) → r.program ≡ p → r.log.entries ≡ o.log
     → r.log.end ≡ o.end → r.reports ≡ o.reports → IsReady holds s x script → RunsAs p x → (s.turns ≤ most_turns) × All (IsInput (tabled p)) script
-    → IsOutcome p script s.turns o → IsExact holds s x script (log_of o.log.items o.end) o.reports.items → HasRun holds s r
-has_run holds s r p o x script of entries end reports ready runs fine (b, log, told) exact = record {
+    → IsOutcome p script s.turns o → HaveEnded s.turns (log_end o.end) o.reports.items → IsExact holds s x script (log_of o.log.items o.end) o.reports.items → HasRun holds s r
+has_run holds s r p o x script of entries end reports ready runs fine (b, log, told) ended exact = record {
   subject = x;
   script = script;
   ready = ready;
@@ -44,6 +44,7 @@ has_run holds s r p o x script of entries end reports ready runs fine (b, log, t
       (subst (λ (es : Vec LogEntry Global). IsLogOf p b es.items r.log.end o.states.items) (sym entries) (subst (λ e. IsLogOf p b o.log.items e o.states.items) (sym end) log));
   told = subst (λ (q : Prog). AreTold (length q.members) script s.turns b.history b.failure r.reports.items) (sym of)
       (subst (λ (rs : Vec Report Global). AreTold (length p.members) script s.turns b.history b.failure rs.items) (sym reports) told);
+  ended = subst (λ e. HaveEnded s.turns (log_end e) r.reports.items) (sym end) (subst (λ (rs : Vec Report Global). HaveEnded s.turns (log_end o.end) rs.items) (sym reports) ended);
   exact = subst (λ (es : Vec LogEntry Global). IsExact holds s x script (log_of es.items r.log.end) r.reports.items) (sym entries)
       (subst (λ e. IsExact holds s x script (log_of o.log.items e) r.reports.items) (sym end)
       (subst (λ (rs : Vec Report Global). IsExact holds s x script (log_of o.log.items o.end) rs.items) (sym reports) exact));
@@ -67,7 +68,7 @@ module _ (holds : Name → List ℕ → Type 0) (s : Settings) (r : Ran) (k : Ha
     inputs = inputs_same r.program k.subject k.runs k.script k.inputs;
     log = logged r.log;
     reports = r.reports.items;
-    run = is_run r.program k.subject k.runs k.board r.log.entries.items r.log.end k.states k.log k.script s.turns r.reports.items k.told;
+    run = is_run r.program k.subject k.runs k.board r.log.entries.items r.log.end k.states k.log k.script s.turns r.reports.items k.told k.ended;
     exact = k.exact;
     output = subst (Appends before after) (text_same r.program k.subject k.runs k.board r.log.entries.items r.log.end k.states k.log s.log) output;
     told = told ∙ told_same r.program k.subject k.runs s.reports r.reports.items;
@@ -83,7 +84,7 @@ module _ (holds : Name → List ℕ → Type 0) (s : Settings) (r : Ran) (k : Ha
     inputs = inputs_same r.program k.subject k.runs k.script k.inputs;
     log = logged r.log;
     reports = r.reports.items;
-    run = is_run r.program k.subject k.runs k.board r.log.entries.items r.log.end k.states k.log k.script s.turns r.reports.items k.told;
+    run = is_run r.program k.subject k.runs k.board r.log.entries.items r.log.end k.states k.log k.script s.turns r.reports.items k.told k.ended;
     exact = k.exact;
     taken = output.0;
     begun = subst (λ t. Appends before after (take output.0 t))

@@ -16,7 +16,7 @@ use Rattle.ioa_run.specs.declared.report.Report.{Report}
 use Rattle.ioa_run.specs.Alone.{IsFirstOther, IsInput, NoMemory, most_turns}
 use Rattle.ioa_run.specs.Boards as boards
 use Rattle.ioa_run.specs.Hosts.{host_proposers}
-use Rattle.ioa_run.specs.Outcomes.{ending, logged}
+use Rattle.ioa_run.specs.Outcomes.{HaveEnded, ending, logged}
 use Rattle.ioa_run.specs.Proposers.{proposers}
 use Rattle.ioa_run.specs.Reports.{AreTold}
 use Rattle.ioa_run.specs.Seeds.{words_from}
@@ -38,7 +38,8 @@ use Rattle.ioa_serving.specs.WordLists.{AreWords, IsBadWords, line_words, listed
 -- ---- what a run is
 
 -- The log tells a legal history of the subject, and the fault by which it ends, if it does. Of this the reports tell: each counts what its
--- worker performed, and the environment performed the script's first actions, in order.
+-- worker performed, and the environment performed the script's first actions, in order. All turns of each worker are counted, unless its
+-- action faulted or another's did, which then ends the log, or memory was refused to it.
 pub record IsRun (s : Subject) (script : List Act) (turns : ℕ) (log : Logged) (reports : List Report) : Type 0 where
   pub legal : TellsHistory (its_components s) (its_starts s) log
   pub history : List (ℕ × Act)
@@ -46,6 +47,7 @@ pub record IsRun (s : Subject) (script : List Act) (turns : ℕ) (log : Logged) 
   pub entries : log.entries ≡ logged history failure
   pub ends : log.ending ≡ ending history failure
   pub told : AreTold (length (its_names s)) script turns history failure reports
+  pub ended : HaveEnded turns log.ending reports
 
 -- what the entries that each component performs propose, in their order
 abbrev pub its_proposers : (s : Subject) → List (List (Proposer (State s)))

@@ -4,10 +4,11 @@ ghost use Rattle.std.specs.Option.{option_map};
 ghost use Rattle.std.specs.String.{string_bytes};
 ghost use Rattle.ioa_value.specs.Actions.{act_of};
 ghost use Rattle.ioa_system.specs.Outcomes.{ending_of};
-ghost use Rattle.ioa_system.specs.Logs.{logged};
+ghost use Rattle.ioa_system.specs.Logs.{log_end, logged};
 ghost use Rattle.ioa_log.specs.declared.failure.LogErr.{LogErr};
 ghost use Rattle.ioa_log.specs.Failing.{HasFailed};
 ghost use Rattle.ioa_run.specs.Alone.{IsAlone, IsOutcome, NoMemory, Refuses};
+ghost use Rattle.ioa_run.specs.Outcomes.{HaveEnded};
 ghost use Rattle.ioa_run.specs.declared.run_err.RunErr.{RunErr};
 ghost use Rattle.ioa_serving.specs.Alone.{BeginsRunOf, IsRunServed, IsUnrun, count_of, streams_of};
 ghost use Rattle.ioa_serving.specs.Failing.{IsUnwritten};
@@ -125,6 +126,7 @@ fn run_sources<H: Threads + Wait + Sync>(
 ) -> Result<Outcome, RunErr>
     requires sources { count_of words ≡ length program.now.members }
     ensures outcome { IfOk result (λ o. IsOutcome program.now (map act_of script.now) settings.now.turns o) }
+    ensures ended { IfOk result (λ o. HaveEnded settings.now.turns (log_end o.end) o.reports.items) }
     ensures alone { IfOk result (λ o. settings.now.alone ≡ true → NoMemory o.reports.items → IsAlone program.now (streams_of words) (map act_of script.now) settings.now.turns o) }
     ensures refused { Refuses program.now (map act_of script.now) settings.now.turns result }
     ensures threads { IsErrOf result RunErr.Threads → settings.now.alone ≡ false }
@@ -146,6 +148,7 @@ fn run_by<H: Threads + Wait + Sync, W: Words + Send + Drop>(
 ) -> Result<Outcome, RunErr>
     requires sources { length words.items ≡ length program.now.members }
     ensures outcome { IfOk result (λ o. IsOutcome program.now (map act_of script.now) settings.now.turns o) }
+    ensures ended { IfOk result (λ o. HaveEnded settings.now.turns (log_end o.end) o.reports.items) }
     ensures alone { IfOk result (λ o. settings.now.alone ≡ true → NoMemory o.reports.items → IsAlone program.now (map W.stream words.items) (map act_of script.now) settings.now.turns o) }
     ensures refused { Refuses program.now (map act_of script.now) settings.now.turns result }
     ensures threads { IsErrOf result RunErr.Threads → settings.now.alone ≡ false }

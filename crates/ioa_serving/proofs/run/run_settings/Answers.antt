@@ -86,5 +86,6 @@ returns-clause-ran g c =
     let list = subst (λ xs. IsScript (g.F.Store.holds c.args.store.now) (its_types of.0) (option_copied c.args.settings.now.inputs) (map act_of xs)) (sym c.as_slice-2.ensures.value) script in
     has_run (g.F.Store.holds c.args.store.now) c.args.settings.now c.ran_of.result p c.in_ok-outcome.outcome of.0 (map act_of c.as_slice-2.result.now) c.ran_of.ensures.program c.ran_of.ensures.entries c.ran_of.ensures.end
     c.ran_of.ensures.reports (record { gives = (c.as_slice.result.now, held, of.1); words = words; inputs = list }) of.2 c.in_ok-outcome.ensures.refused c.in_ok-outcome.ensures.outcome
+    c.in_ok-outcome.ensures.ended
     (exactly (g.F.Store.holds c.args.store.now) c.args.settings.now p of.0 (map act_of c.as_slice-2.result.now) c.in_ok-outcome.outcome c.in_ok-words.words (length c.members-components.result.now)
     c.members-components.ensures.sound of.2 (count ∙ count_same p of.0 of.2) c.in_ok-words.ensures.words c.in_ok-outcome.ensures.alone)
