@@ -198,8 +198,8 @@ module _ {S : Type 0} (turns : ℕ) (t : Turns S) (rs : List Report) (h : List (
   ended_dismissed w r q (Some true) m e g i = subst (HasEnded turns end) i (cause_is_reason turns (counted r) h t.board.failure end r.why ends (s.gone w r e g))
   ended_dismissed w r q (Some false) m e g i =
       let all_had : counted r ≡ turns = (s.taken w r e g).before (omega arith) in
-      let had : left turns Why.TurnsDone r ≡ with_why Why.TurnsDone r = left_done turns r (s.going w r e g) all_had in
-      subst (HasEnded turns end) (sym had ∙ i) all_had
+      let is_done : left turns Why.TurnsDone r ≡ with_why Why.TurnsDone r = left_done turns r (s.going w r e g) all_had in
+      subst (HasEnded turns end) (sym is_done ∙ i) all_had
 
   ended_at : (w : ℕ) (q : Report) (o : Option Report) → w < length t.ended → slice_get t.reports w ≡ o → option_map (dismissed turns t.ended w) o ≡ Some q → HasEnded turns end q
   ended_at w q None m e i = absurd (cc)
