@@ -4,10 +4,10 @@ ghost use Rattle.ioa_tree.specs.Types.{types_of};
 ghost use Rattle.ioa_tree.specs.View.{tree_of};
 ghost use Rattle.ioa_tree.specs.WellFormed.{WellFormed};
 ghost use Rattle.ioa_syntax.specs.Source.{IsSource};
-ghost use Rattle.ioa_check.specs.Reasons.{in_source};
+ghost use Rattle.ioa_rules.specs.Reasons.{in_source};
 ghost use Rattle.ioa_lex.specs.declared.refusal.Refusal.TheVariants.{OutOfMemory};
 
-use crate::declarations::source_fine;
+use ioa_rules::source_fine;
 use ioa_syntax::{Refusal, Source};
 use ioa_tree::Declaration;
 use ioa_value::Types;

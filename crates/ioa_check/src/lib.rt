@@ -1,25 +1,7 @@
-//! Names, types and limits: which sources are well formed.
+//! Sources that are well formed.
 #![tactic(auto)]
 
-mod automata;
 mod checked;
-mod declarations;
-mod expressions;
-mod fields;
-mod globals;
-mod invariants;
-mod known_types;
-mod limits;
-mod names;
-mod positions;
-mod scope;
-mod statements;
-mod transitions;
-mod tuples;
-mod types;
 
-pub use automata::automaton_named;
 pub use checked::{Checked, check};
-pub use expressions::expression_type;
-pub use fields::type_named;
 pub use ioa_syntax::Refusal;

@@ -6,8 +6,8 @@ ghost use Rattle.ioa_compose.specs.Held.{member_of};
 ghost use Rattle.ioa_compile.specs.Scopes.{scope_in, scope_over, scope_of_proposals, place_of, parameter_from};
 
 use crate::name_places::{field_place, parameter_place, variable_place};
-use ioa_check::expression_type;
 use ioa_compose::Member;
+use ioa_rules::expression_type;
 use ioa_tree::{Entry, Expression, Field, Name, Position, Variable};
 use ioa_value::{Types, Value};
 use std::marker::Model;
@@ -35,7 +35,7 @@ impl<'a> Model for Scope<'a> {
     ghost use Rattle.ioa_value.specs.Plain.{plain};
     ghost use Rattle.ioa_tree.specs.View.{field_of, position_of, variable_of};
     ghost use Rattle.ioa_tree.specs.Instances.{field_names};
-    ghost use Rattle.ioa_check.specs.Scopes.{context_in};
+    ghost use Rattle.ioa_rules.specs.Scopes.{context_in};
 
     ghost view = { λ s. record {
       types = s.types.now;

@@ -13,7 +13,7 @@ use Rattle.ioa_tree.specs.Instances.{Fit}
 use Rattle.ioa_tree.specs.WellFormed.{is_input, nodes, stmts_nodes, pre_within, proposals_within, effect_within, transition_within, entry_within, automaton_within}
 use Rattle.ioa_tree.proofs.FineParts.{at_most, within_parts}
 use Rattle.ioa_tree.proofs.Early.{each_implies}
-use Rattle.ioa_grammar.proofs.Climb.{le_holds}
+use Rattle.ioa_tree.proofs.Compared.{le_holds}
 use Rattle.ioa_compose.specs.Fine.{component_limits}
 use Rattle.ioa_compose.specs.Rewriting.{up_variable, volatile, volatile_values, start_formal, only_up, if_up, guarded, signals, resets, crash_transition, recover_transition, rewritten}
 use Rattle.ioa_compose.proofs.RewrittenTypes.{fields_of, bool_named}

@@ -14,7 +14,7 @@ use Rattle.ioa_tree.specs.Instances.{Fit, field_names}
 use Rattle.ioa_tree.specs.WellFormed.{Context, type_in, context_of}
 use Rattle.ioa_tree.specs.Answers.{Stands, Suits}
 use Rattle.ioa_tree.proofs.Starts.{suits_of_fit}
-use Rattle.ioa_check.proofs.ScopeLemmas.{type_in-append}
+use Rattle.ioa_rules.proofs.ScopeLemmas.{type_in-append}
 use Rattle.ioa_compose.specs.declared.scope.Scope.{Scope}
 use Rattle.ioa_compose.specs.Scopes.{environment}
 

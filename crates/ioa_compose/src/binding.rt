@@ -20,7 +20,7 @@ use crate::domains::all_positions;
 use crate::evaluate::evaluate_all;
 use crate::rewriting::rewritten;
 use crate::scope::Scope;
-use ioa_check::automaton_named;
+use ioa_rules::automaton_named;
 use ioa_syntax::Refusal;
 use ioa_tree::{Automaton, Crash, Declaration, Expression, Field, Instance, Name};
 use ioa_value::{Fault, OutOfMemory, Position, Types, Value, has_type};

@@ -11,9 +11,9 @@ use Rattle.ioa_tree.specs.Tree.{Expr, number, truth, named, prefix, binary, empt
 use Rattle.ioa_tree.specs.WellFormed.{well_formed}
 use Rattle.ioa_examples.proofs.SmallSources.{field, tick_entry, reset_entry, count_variable, tick_proposal, tick_transition, reset_transition, counter, one, source, with_formals, with_entries, with_variables, with_transitions, with_pre, with_proposals, with_effect, plain_variable, variables_from}
 use Rattle.ioa_examples.proofs.DeclaredTypes.{of_type, type, kind, packet, three, cell, comparing, starting, one_type, nested, fields_from, sender}
-use Rattle.ioa_check.specs.Codes as codes_of
-use Rattle.ioa_check.specs.Codes.{code_of}
-use Rattle.ioa_check.specs.Reasons.{in_source}
+use Rattle.ioa_rules.specs.Codes as codes_of
+use Rattle.ioa_rules.specs.Codes.{code_of}
+use Rattle.ioa_rules.specs.Reasons.{in_source}
 
 abbrev refusals : List Refusal
 refusals = DuplicateName 1 ∷ UnknownName 1 ∷ TypeMismatch 1 ∷ BadSignature 1 ∷ NoProposal 1 ∷ TooMany 1 ∷ TooWide 1 ∷ []

@@ -1,20 +1,17 @@
 -- One operator more, or one field.
 use Rattle.std.proofs.Common.{◌≡◌, ℕ, suc, ◌+◌, ◌-◌, ◌<◌, ◌≤◌, List, refl, ap, sym, ◌∙◌, arith, Some, Ok, Err, true, nat_le}
-use Rattle.std.proofs.lemmas.Bool.Decides.{nat_tests}
 use Rattle.ioa_lex.specs.Tokens.{Tok}
 use Rattle.ioa_tree.specs.declared.tree.Infix.{Infix}
 use Rattle.ioa_value.specs.declared.terminal.Terminal.TheVariants as terminals
 use Rattle.ioa_value.specs.Actions.{Name}
 use Rattle.ioa_tree.specs.Tree.{Expr, binary, select}
 use Rattle.ioa_tree.specs.Depth.{depth_of}
+use Rattle.ioa_tree.proofs.Compared.{le_holds}
 use Rattle.ioa_grammar.specs.Operators.{right_of, after_of}
 use Rattle.ioa_grammar.specs.declared.fault.Fault.{Fault}
 use Rattle.ioa_grammar.specs.declared.fault.ReadError.{ReadError}
 use Rattle.ioa_grammar.specs.declared.fault.ReadError.TheVariants as errors
 use Rattle.ioa_grammar.specs.Reading.{climb, expr, first, operator_at, rest, sees, after, a_name, fields_from, Reader, Fails, ◌>>=◌}
-
-pub le_holds : (a b : ℕ) → a ≤ b → nat_le a b ≡ true
-le_holds a b h = grind (arith, nat_tests)
 
 pub climb_takes : (depth : ℕ) (e : ℕ → Reader Expr) (n least below : ℕ) (o : Infix) (left right : Expr) (ts left_over : List Tok) →
     operator_at least below ts ≡ Some o → depth_of left ≤ depth → e (right_of o) (rest ts) ≡ Ok (right, left_over) →

@@ -1,6 +1,5 @@
 -- An expression that is spelled is read.
-use Rattle.std.proofs.Common.{◌≡◌, ℕ, zero, suc, ◌+◌, ◌<◌, ◌≤◌, inl, inr, List, ◌∷◌, ◌++◌, length, refl, ap, ◌∙◌, arith, Option, Some, None, Ok, Err, true, false, IsTrue, nat_le, nat_lt, append_assoc}
-use Rattle.std.proofs.lemmas.Bool.Decides.{nat_tests}
+use Rattle.std.proofs.Common.{◌≡◌, ℕ, zero, suc, ◌+◌, ◌<◌, ◌≤◌, inl, inr, List, ◌∷◌, ◌++◌, length, refl, ap, ◌∙◌, arith, Option, Some, None, Ok, Err, true, false, IsTrue, nat_le, append_assoc}
 use Rattle.ioa_lex.specs.Tokens.{Tok}
 use Rattle.ioa_value.specs.declared.operator.Op.{Op}
 use Rattle.ioa_tree.specs.declared.tree.Infix.{Infix}
@@ -12,7 +11,8 @@ use Rattle.ioa_grammar.specs.Operators.{stands_before, stands_between, level_of,
 use Rattle.ioa_grammar.specs.Grammar.{SpellsExpr}
 use Rattle.ioa_grammar.specs.Reading.{climb, expr, rest, first, operand, operator_at, operator_in, prefix_at, terminal_at, allowed, Outcome, Reader, ◌>>=◌, built}
 use Rattle.ioa_grammar.proofs.Binding.{word_found, prefix_found, fits_left, level_bounds}
-use Rattle.ioa_grammar.proofs.Climb.{climb_takes, le_holds}
+use Rattle.ioa_grammar.proofs.Climb.{climb_takes}
+use Rattle.ioa_tree.proofs.Compared.{le_holds, le_fails, lt_holds}
 use Rattle.ioa_grammar.proofs.Endings.{mark, EndsAt, Ends, ends_weaker, ends_operand, ends_mark}
 use Rattle.ioa_grammar.proofs.Spelled.{prefix_split, binary_split, depth_positive}
 use Rattle.ioa_grammar.proofs.Operands.{operand_plain}
@@ -46,12 +46,6 @@ most_of (binary l o r) k ts (inr s) = tightest
 most_of (empty n) k ts s = tightest
 most_of (make n es) k ts s = tightest
 most_of (select t n) k ts s = tightest
-
-pub le_fails : (a b : ℕ) → b < a → nat_le a b ≡ false
-le_fails a b h = grind (arith, nat_tests)
-
-pub lt_holds : (a b : ℕ) → a < b → nat_lt a b ≡ true
-lt_holds a b h = grind (arith, nat_tests)
 
 pub mark_is : (o : Infix) (ts : List Tok) → IsTrue (stands_between o) → operator_in (terminal_at (mark o ∷ ts)) ≡ Some o
 unfolding terminal_at

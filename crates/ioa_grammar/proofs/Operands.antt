@@ -16,7 +16,7 @@ use Rattle.ioa_grammar.proofs.Outcomes.{bind_ok, bind_err, ok_pair, AtMost, at_m
 use Rattle.ioa_grammar.proofs.Exact.{Found, ExactFor}
 use Rattle.ioa_grammar.proofs.Singles.{sees_word, seen, seen_some, sees_alike, after_seen, after_unseen, name_exact}
 use Rattle.ioa_grammar.proofs.Binding.{level_bounds}
-use Rattle.ioa_grammar.proofs.Climb.{le_holds}
+use Rattle.ioa_tree.proofs.Compared.{le_holds}
 use Rattle.ioa_grammar.proofs.Endings.{Ends}
 use Rattle.ioa_grammar.proofs.Spelled.{spelled_deep, depth_positive}
 use Rattle.ioa_grammar.proofs.Primaries.{Opens, Unopened, primary_exact, opens_spells, opens_plain, number_opens, truth_opens, named_opens, parens_opens, empty_opens, make_opens, one_opens, two_opens}

@@ -5,7 +5,7 @@ use Rattle.std.specs.Str.{bytes_eq}
 use Rattle.std.proofs.lemmas.Simd.{map-map}
 use denote.Ref.{Bor}
 use Rattle.ioa_value.specs.Table.{contains}
-use Rattle.ioa_check.proofs.NameLemmas.{contains-texts}
+use Rattle.ioa_rules.proofs.NameLemmas.{contains-texts}
 
 other : (a b : Bool) → a ≡ not b → b ≡ not a
 other true true h = h

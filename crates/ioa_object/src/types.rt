@@ -7,7 +7,7 @@ ghost use Rattle.ioa_value.specs.Table.{AreTypes, all_names, contains, names_in}
 ghost use Rattle.ioa_value.specs.declared.limits.TheConstants.{LIMITS as most};
 ghost use Rattle.ioa_object.specs.Reading as spec;
 ghost use Rattle.ioa_object.specs.Reading.{Reads};
-ghost use Rattle.ioa_check.specs.Globals.{texts};
+ghost use Rattle.ioa_rules.specs.Globals.{texts};
 
 use crate::cursor::Cursor;
 use crate::failure::ObjErr;

@@ -8,6 +8,12 @@ use Rattle.ioa_picture.specs.Lines.{numbered, numbers}
 pub behind : (start old front rest : List ℕ) → old ≡ start ++ front → old ++ rest ≡ start ++ (front ++ rest)
 behind start old front rest e = ap (λ l. l ++ rest) e ∙ append_assoc start front rest
 
+-- what is written behind a line of four pieces and its end
+pub behind_line : (a b c d end rest : List ℕ) → (a ++ (b ++ (c ++ (d ++ end)))) ++ rest ≡ a ++ (b ++ (c ++ (d ++ (end ++ rest))))
+behind_line a b c d end rest =
+    append_assoc a (b ++ (c ++ (d ++ end))) rest
+    ∙ ap (λ l. a ++ l) (append_assoc b (c ++ (d ++ end)) rest ∙ ap (λ l. b ++ l) (append_assoc c (d ++ end) rest ∙ ap (λ l. c ++ l) (append_assoc d end rest)))
+
 module _ {A : Type 0} (lines : ℕ → A → List ℕ) where
   numbered_take : (n : ℕ) (xs : List A) (i : ℕ) (x : A) → slice_get xs i ≡ Some x → numbered lines n (take (suc i) xs) ≡ numbered lines n (take i xs) ++ lines (n + i) x
   numbered_take n [] i x e = absurd (cc)

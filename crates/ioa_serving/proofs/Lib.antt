@@ -9,7 +9,6 @@ pub mod ListedLines
 pub mod Logged
 pub mod Made
 pub mod Named
-pub mod Numbered
 pub mod Pictured
 pub mod Ran
 pub mod Refused

@@ -10,7 +10,7 @@ use Rattle.ioa_syntax.specs.Source as texts
 use Rattle.ioa_tree.specs.WellFormed.{WellFormed}
 use Rattle.ioa_tree.specs.Compositions.{picked}
 use Rattle.ioa_tree.specs.Hosts.{Hosted}
-use Rattle.ioa_check.specs.Reasons.{in_source}
+use Rattle.ioa_rules.specs.Reasons.{in_source}
 use Rattle.ioa_compose.specs.Refusals as compositions
 use Rattle.ioa_compile.specs.Programs.{Prog}
 use Rattle.ioa_object.specs.Objects.{IsObject}

@@ -1,6 +1,7 @@
 pub mod ExpressionRows
 pub mod StatementRows
 pub mod PartNames
+pub mod Compared
 pub mod Pairs
 pub mod Simulation
 pub mod Agreement

@@ -49,4 +49,4 @@ pub use terminal::Terminal;
 pub use types::{Declared, Field, Form, Types};
 pub use typing::has_type;
 pub use value::{Ty, Value, copies, same, same_all};
-pub use writing::{print_action, push_action};
+pub use writing::{print_action, push_action, push_value};

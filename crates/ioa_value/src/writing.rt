@@ -41,8 +41,9 @@ fn push_values(types: &Types, text: &mut String, values: &[Value]) -> Result<(),
     Ok(())
 }
 
+/// The one spelling of a value, put behind a text.
 #[cycle(writing)]
-fn push_value(types: &Types, text: &mut String, value: &Value) -> Result<(), OutOfMemory>
+pub fn push_value(types: &Types, text: &mut String, value: &Value) -> Result<(), OutOfMemory>
     ensures { OnOk result (string_bytes text.new ≡ string_bytes text.old ++ written_value types.now (plain value.now)) }
 {
     match value {

@@ -4,7 +4,7 @@ use Rattle.ioa_value.specs.Actions.{Name}
 use Rattle.ioa_value.specs.Table.{contains}
 use Rattle.ioa_value.specs.declared.limits.TheConstants.{LIMITS as most}
 use Rattle.ioa_object.specs.Reading.{Reader, name_at}
-use Rattle.ioa_check.specs.Globals.{texts}
+use Rattle.ioa_rules.specs.Globals.{texts}
 use Rattle.ioa_object.proofs.Readers.{fails_on, seen_more, amid_fails, amid_more, amid_done, list_begun, list_fails}
 use Rattle.ioa_object.proofs.types.constants.Goals as goal
 

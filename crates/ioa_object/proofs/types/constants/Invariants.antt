@@ -3,7 +3,7 @@ use Rattle.std.specs.String.{string_bytes}
 use Rattle.ioa_value.specs.Table.{contains}
 use Rattle.ioa_value.specs.declared.limits.TheConstants.{LIMITS as most}
 use Rattle.ioa_object.specs.Reading.{list_at, items_at, name_at}
-use Rattle.ioa_check.specs.Globals.{texts}
+use Rattle.ioa_rules.specs.Globals.{texts}
 use Rattle.ioa_object.proofs.types.constants.Given as goal
 
 abbrev pub invariant-loop : goal.invariant-loop

@@ -2,7 +2,7 @@ use Rattle.std.proofs.Common.{◌≡◌, [], ◌++◌, sym, ap, ◌∙◌, appen
 use Rattle.std.proofs.lemmas.Result.{IfOk-weaker}
 use Rattle.ioa_value.specs.Shapes.{shape}
 use Rattle.ioa_value.specs.Table.{names_in}
-use Rattle.ioa_check.specs.Globals.{texts}
+use Rattle.ioa_rules.specs.Globals.{texts}
 use Rattle.ioa_object.proofs.types.form.Goals as goal
 
 pub returns-in_default-clause-names : goal.returns-in_default-clause-names

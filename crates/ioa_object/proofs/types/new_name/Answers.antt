@@ -1,6 +1,6 @@
 use Rattle.std.proofs.Common.{not, ap, refl, ◌∙◌}
 use Rattle.ioa_value.specs.Table.{contains}
-use Rattle.ioa_check.specs.Globals.{texts}
+use Rattle.ioa_rules.specs.Globals.{texts}
 use Rattle.ioa_object.proofs.Names.{was_taken}
 use Rattle.ioa_object.proofs.Readers.{name_free, name_taken}
 use Rattle.ioa_object.proofs.types.new_name.Goals as goal

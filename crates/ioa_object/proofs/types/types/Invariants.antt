@@ -1,7 +1,7 @@
 use Rattle.std.proofs.Common.{◌≡◌, ◌+◌, ◌-◌, ◌≤◌, length}
 use Rattle.ioa_value.specs.Table.{all_names}
 use Rattle.ioa_object.specs.Reading.{types_at, items_at, declaration_at}
-use Rattle.ioa_check.specs.Globals.{texts}
+use Rattle.ioa_rules.specs.Globals.{texts}
 use Rattle.ioa_object.proofs.types.types.Given as goal
 
 abbrev pub invariant-loop : goal.invariant-loop

@@ -1,6 +1,0 @@
-use Rattle.ioa_check.specs.Globals.{texts}
-use Rattle.ioa_check.proofs.DeclarationLemmas.{Reached}
-use Rattle.ioa_check.proofs.declarations.declarations_fine.Given as goal
-
-abbrev pub invariant-loop-i : goal.invariant-loop-i
-invariant-loop-i l = Reached l.types (texts l.globals) l.declarations l.i l.known

@@ -1,7 +1,0 @@
-use Rattle.std.proofs.Common.{◌≡◌, map, drop}
-use Rattle.ioa_tree.specs.WellFormed as well_formed
-use Rattle.ioa_check.proofs.names.apart.Given as goal
-
-abbrev pub invariant-loop-item : goal.invariant-loop-item
-invariant-loop-item g l =
-    well_formed.apart (map g.T.Named.called (drop l.item-index l.items)) (map g.U.Named.called l.others) ≡ well_formed.apart (map g.T.Named.called l.items) (map g.U.Named.called l.others)

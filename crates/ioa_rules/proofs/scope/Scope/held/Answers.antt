@@ -1,0 +1,11 @@
+use Rattle.ioa_rules.proofs.ScopeLemmas.{lookup-variable, lookup-formal, lookup-parameter}
+use Rattle.ioa_rules.proofs.scope.Scope.held.Goals as goal
+
+pub returns-in-Some : goal.returns-in-Some
+returns-in-Some c = lookup-variable c.args.self.now _ _ c.in-Some.ensures
+
+pub returns-in-Some-find_type : goal.returns-in-Some-find_type
+returns-in-Some-find_type c = lookup-formal c.args.self.now _ _ c.in_default.ensures c.in-Some-find_type.ensures
+
+pub returns : goal.returns
+returns c = lookup-parameter c.args.self.now _ _ c.in_default.ensures c.in_default-find_type.ensures c.find_parameter.ensures

@@ -1,0 +1,12 @@
+use Rattle.ioa_tree.specs.View.{entry_of}
+use Rattle.ioa_value.proofs.ItemLemmas.{all_goes_on}
+use Rattle.ioa_rules.proofs.SayLemmas.{says-in-list}
+use Rattle.ioa_rules.proofs.transitions.transitions_fine.Goals as goal
+
+pub returns-in_err-transitions_of_entry_fine : goal.returns-in_err-transitions_of_entry_fine
+returns-in_err-transitions_of_entry_fine c =
+    says-in-list _ c.from_residual.result _ _ _ entry_of _ _ _ c.entry-item.result c.deref-entry-items.ensures.value c.loop-entry-test.true c.entry-item.is c.loop-entry.invariant c.in_err-transitions_of_entry_fine.was c.from_residual.ensures.1 c.transitions_of_entry_fine.ensures
+
+pub loop-entry-preserved : goal.loop-entry-preserved
+loop-entry-preserved c =
+    all_goes_on _ entry_of _ _ _ c.entry-item.result _ c.deref-entry-items.ensures.value c.loop-entry-test.true c.entry-item.is c.loop-entry.invariant c.in_ok-transitions_of_entry_fine.ensures
