@@ -12,7 +12,6 @@ use Rattle.std.proofs.lemmas.Slice.Eq.{bytes_eq-Decides}
 use Rattle.ioa_value.specs.Actions.{Name}
 use Rattle.ioa_value.specs.Plain.{Val, truth}
 use Rattle.ioa_value.specs.Table.{Table, contains, distinct}
-use Rattle.ioa_value.specs.Written.{written_value, written_values}
 use Rattle.ioa_value.specs.declared.limits.Limits.{Limits}
 use Rattle.ioa_value.proofs.ItemLemmas.{get_append, image_at}
 use Rattle.ioa_value.proofs.NameLemmas.{distinct-append, item_inside}
@@ -235,9 +234,3 @@ component_told (Ok x) types c vss number old new same sound e = λ h hs stands h
     ∙ ap (λ l. old ++ l)
     (component_shows h.types component_limits h.hosts h.hosts c.members c.members 0 hs vss number (from_start h.hosts) (from_start c.members) stands.members sound.members holds)
 component_told (Err e) types c vss number old new same sound k = tt
-
--- ---- a value in parentheses
-
-pub value_alone : (types : Table) (v : Val) (text bare : List ℕ) → text ≡ written_values types (v ∷ []) → ((inner : List ℕ) → text ≡ codes "(" ++ (inner ++ codes ")") → bare ≡ inner)
-    → bare ≡ written_value types v
-value_alone types v text bare spelled alone = alone (written_value types v ++ []) spelled ∙ append-nil (written_value types v)

@@ -197,7 +197,7 @@ fn lines_of(
 {
     let mut text = String::new(alloc);
     if let Some(number) = component {
-        put_component(alloc, &mut text, composition, number, states)?;
+        put_component(&mut text, composition, number, states)?;
     }
     Ok(text)
 }

@@ -8,7 +8,6 @@ mod lines;
 mod quoted;
 mod remarks;
 mod states;
-mod values;
 
 pub use counts::{asked_invariants, known_actions};
 pub use ends::{Account, account_of};
@@ -19,4 +18,3 @@ pub use remarks::{
     Told, actions_in, put_difference, put_inspected, put_list_end, put_log_end, put_monitored,
 };
 pub use states::{put_component, put_states};
-pub use values::in_parentheses;

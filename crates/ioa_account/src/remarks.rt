@@ -292,7 +292,7 @@ fn put_broken(
     let program = compile(alloc, told.composition)?;
     let before = broken.state.min(actions.len());
     let run = run_list(alloc, &program, &actions[..before])?;
-    put_component(alloc, text, told.composition, broken.component, &run.states)
+    put_component(text, told.composition, broken.component, &run.states)
 }
 
 /// The actions of a log's entries.

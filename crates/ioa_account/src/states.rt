@@ -1,4 +1,4 @@
-ghost use Rattle.std.specs.Prelude.{◌≡◌, ◌++◌, ℕ, List, OnOk, codes, map, slice_get};
+ghost use Rattle.std.specs.Prelude.{◌≡◌, ◌++◌, List, OnOk, map};
 ghost use Rattle.std.specs.String.{string_bytes};
 ghost use Rattle.ioa_value.specs.Plain.{plain};
 ghost use Rattle.ioa_tree.specs.Hosts.{HostState, Hosted};
@@ -10,17 +10,14 @@ ghost use Rattle.ioa_system.specs.Systems.{values_of};
 ghost use Rattle.ioa_picture.specs.Lines.{numbered};
 ghost use Rattle.ioa_account.specs.States as spec;
 
-use crate::values::in_parentheses;
 use ioa_compose::{Composition, Member};
 use ioa_node::NodeState;
-use ioa_value::{OutOfMemory, Types, Value};
-use std::alloc::Global;
+use ioa_value::{OutOfMemory, Types, Value, push_value};
 use std::fmt::Write;
 
 /// Puts the states of the composition's components behind the text: each variable with its value on a line, and of a component that
 /// crashes and recovers last whether it is up.
 pub fn put_states(
-    alloc: Global,
     text: &mut String,
     composition: &Composition,
     states: &[NodeState],
@@ -28,18 +25,11 @@ pub fn put_states(
     ensures { OnOk result ((h : Hosted) (hs : List (HostState Env)) → Stands h (composed_of composition.now) → AllRelated (HoldsAt h.hosts) 0 hs (values_of states.now)
         → string_bytes text.new ≡ string_bytes text.old ++ spec.state_lines h.types h.hosts hs) }
 {
-    put_slots(
-        alloc,
-        text,
-        composition.types(),
-        composition.members(),
-        states,
-    )
+    put_slots(text, composition.types(), composition.members(), states)
 }
 
 /// Puts the lines of one component alone, the one of this number, behind the text; nothing where there is none.
 pub fn put_component(
-    alloc: Global,
     text: &mut String,
     composition: &Composition,
     number: usize,
@@ -49,7 +39,6 @@ pub fn put_component(
         → string_bytes text.new ≡ string_bytes text.old ++ spec.component_lines h.types h.hosts hs number) }
 {
     put_slots_at(
-        alloc,
         text,
         composition.types(),
         composition.members(),
@@ -60,7 +49,6 @@ pub fn put_component(
 
 /// The same, said of the states' slots.
 fn put_slots_at(
-    alloc: Global,
     text: &mut String,
     types: &Types,
     members: &[Member],
@@ -70,14 +58,13 @@ fn put_slots_at(
     ensures { OnOk result (string_bytes text.new ≡ string_bytes text.old ++ spec.slots_at types.now (map member_of members.now) (values_of states.now) number) }
 {
     match states.get(number) {
-        Some(state) => put_state(alloc, text, types, members, number, state.values()),
+        Some(state) => put_state(text, types, members, number, state.values()),
         None => Ok(()),
     }
 }
 
 /// All states, said of their slots.
 fn put_slots(
-    alloc: Global,
     text: &mut String,
     types: &Types,
     members: &[Member],
@@ -86,14 +73,13 @@ fn put_slots(
     ensures { OnOk result (string_bytes text.new ≡ string_bytes text.old ++ numbered (spec.slots_in types.now (map member_of members.now)) 0 (values_of states.now)) }
 {
     for i in 0..states.len() {
-        put_state(alloc, text, types, members, i, states[i].values())?;
+        put_state(text, types, members, i, states[i].values())?;
     }
     Ok(())
 }
 
 /// The slots of the component of this number, where there is one.
 fn put_state(
-    alloc: Global,
     text: &mut String,
     types: &Types,
     members: &[Member],
@@ -103,14 +89,13 @@ fn put_state(
     ensures { OnOk result (string_bytes text.new ≡ string_bytes text.old ++ spec.slots_in types.now (map member_of members.now) number (map plain values.now)) }
 {
     match members.get(number) {
-        Some(member) => put_values(alloc, text, types, member, values),
+        Some(member) => put_values(text, types, member, values),
         None => Ok(()),
     }
 }
 
 /// The slots of a component.
 fn put_values(
-    alloc: Global,
     text: &mut String,
     types: &Types,
     member: &Member,
@@ -120,7 +105,7 @@ fn put_values(
 {
     for i in 0..values.len() {
         let name = slot_name(member, i);
-        put_value(alloc, text, types, member.name.as_str(), name, &values[i])?;
+        put_value(text, types, member.name.as_str(), name, &values[i])?;
     }
     Ok(())
 }
@@ -137,7 +122,6 @@ fn slot_name<'a>(member: &'a Member, slot: usize) -> &'a str
 
 /// A line with a component's variable and its value.
 fn put_value(
-    alloc: Global,
     text: &mut String,
     types: &Types,
     component: &str,
@@ -146,21 +130,8 @@ fn put_value(
 ) -> Result<(), OutOfMemory>
     ensures { OnOk result (string_bytes text.new ≡ string_bytes text.old ++ spec.value_line types.now component.now name.now (plain value.now)) }
 {
-    let spelled = in_parentheses(alloc, types, value)?;
-    let bare = unwrapped(spelled.as_str());
-    writeln!(text, "{component}.{name} = {bare}")?;
+    write!(text, "{component}.{name} = ")?;
+    push_value(types, text, value)?;
+    text.push_str("\n")?;
     Ok(())
-}
-
-/// What stands in parentheses.
-fn unwrapped(text: &str) -> &str
-    ensures { (inner : List ℕ) → text.now ≡ codes "(" ++ (inner ++ codes ")") → result.now ≡ inner }
-{
-    let Some(opened) = text.strip_prefix('(') else {
-        return text;
-    };
-    match opened.strip_suffix(')') {
-        Some(inner) => inner,
-        None => opened,
-    }
 }

@@ -102,7 +102,7 @@ fn reached<R: InputDevice>(
     let program = compile(alloc, composition)?;
     let replayed = perform_list(alloc, &program, input)?;
     let mut told = replayed.text;
-    put_states(alloc, &mut told, composition, &replayed.states)?;
+    put_states(&mut told, composition, &replayed.states)?;
     Ok((told, replayed.end))
 }
 
@@ -125,6 +125,6 @@ fn reached_by_log(
     let program = compile(alloc, composition)?;
     let run = replay(alloc, &program, log)?;
     let mut told = run_text(alloc, composition.types(), &run)?;
-    put_states(alloc, &mut told, composition, &run.states)?;
+    put_states(&mut told, composition, &run.states)?;
     Ok((told, run.end))
 }
