@@ -27,8 +27,12 @@ use ioa_tree::{Assembly, Declaration, Expression, Instance, Name};
 use ioa_value::Types;
 use std::alloc::Global;
 
-/// The types of the source, if it is well formed. Limits come first: what follows takes time by the sizes that they bound.
-/// Then come the global names, then the declarations of types, which all others need, and then these.
+/// The types of the source, if it is well formed. It asks that the names are legal. Limits come first: what follows takes time by the
+/// sizes that they bound. Then come the global names, then the declarations of types, which all others need, and then these.
+///
+/// # Errors
+/// `DuplicateName`, `UnknownName`, `TypeMismatch`, `BadSignature`, `NoProposal`, `TooMany` and `TooWide`, each only where a rule of its own
+/// is broken somewhere in the source. `OutOfMemory`.
 pub fn source_fine(alloc: Global, declarations: &[Declaration]) -> Result<Types, Refusal>
     requires { LegalNames (tree_of declarations.now) }
     ensures fine { SaysOrMemory result (well_formed.well_formed (tree_of declarations.now)) (reasons.in_source (tree_of declarations.now)) }
