@@ -1,33 +1,24 @@
-ghost use Rattle.std.specs.Prelude.{◌≡◌, ◌⊎◌, true, map, option_map, IfOk, IfErr, IsSome, IsErrOf};
+ghost use Rattle.std.specs.Prelude.{◌≡◌, ◌⊎◌, true, map, IfOk, IfErr};
 ghost use Rattle.clap.specs.Words.{subcommand_of};
-ghost use Rattle.ioa_system.specs.Outcomes.{ending_of};
-ghost use Rattle.ioa_log.specs.declared.failure.LogErr.{LogErr};
 ghost use Rattle.ioa_log.specs.Failing.{HasFailed};
 ghost use Rattle.ioa_request.specs.CommandLine.{IsAsked, ioac_app, is_explained};
 ghost use Rattle.ioac.specs.Commands.{IsAnswered, IsAnsweredAs, IsFinished, IsUnasked};
-ghost use Rattle.ioa_serving.specs.Logs.{found_of};
 ghost use Rattle.ioa_serving.specs.Serving.{IsReading, IsSaving, IsServed, IsUnserved, reports_of};
 ghost use Rattle.ioac.specs.Telling.{IsReported};
-ghost use Rattle.ioa_serving.specs.Statuses.{answer_status, ending_status, found_status, number_of};
-ghost use Rattle.ioa_serving.specs.declared.failure.Failure.{Failure};
+ghost use Rattle.ioa_serving.specs.Statuses.{number_of};
 ghost use Rattle.ioa_serving.specs.declared.status.Status.{Status};
 ghost use Rattle.ioa_serving.specs.declared.status.Status.TheVariants as statuses;
 ghost use Rattle.ioa_request.specs.declared.request.Request.{Request};
 
 use crate::hearing::Heard;
 use crate::remarks::remarks_or_none;
+use crate::requests::serve;
 use crate::served::finish;
 use crate::telling::{put, reported};
 use crate::usage::{told, told_unasked};
 use ioa_log::{InputDevice, OutputDevice};
 use ioa_request::{Request, is_explained, parse, read_request};
-use ioa_serving::explain::explain;
-use ioa_serving::{
-    Failure, Finding, Served, Status, Store, chart_log_text, check_text, compile_file, dump_object,
-    graph_text, log_list_text, monitor_text, replay_invariants_text, replay_log_states_text,
-    replay_log_text, replay_states_text, replay_text, run_file, silent, status_of, write_library,
-};
-use ioa_system::End;
+use ioa_serving::{Failure, Served, Status, Store};
 use std::alloc::Global;
 use std::convert::AsStr;
 use std::sync::Wait;
@@ -239,134 +230,5 @@ fn settle<E: OutputDevice>(
     match served {
         Ok(served) => finish(served, errors),
         Err(failure) => reported(alloc, failure, errors),
-    }
-}
-
-/// Does what is asked, and answers the exit status with what is left to tell.
-///
-/// # Errors
-/// `Io` or `OutOfMemory` where the file is not read, and those of the replay, the log, the run, the monitor, the chart, the graph, the check, the object or the dump of
-/// what it holds, or of the explanation or the library. Nothing was written then, or, where a device failed, no more than a beginning of the text.
-fn serve<H: Threads + Wait + Sync, F: Store, R: InputDevice, W: OutputDevice>(
-    rt: &H,
-    alloc: Global,
-    asked: &Request<'_>,
-    store: &mut F,
-    input: &mut R,
-    output: &mut W,
-) -> Result<Served, Failure>
-    ensures served { IfOk result (λ s. IsServed (F.holds store.old) (F.saves store.old store.new) asked.now (R.remaining input.old) (W.contents output.old) (W.contents output.new) (reports_of s) s.status) }
-    ensures refused { IfErr result (λ e. IsUnserved (F.holds store.old) (F.lacks store.old) (F.bars store.old) (F.saves store.old store.new) (store.new ≡ store.old) asked.now (R.remaining input.old)
-        (HasFailed (R.failure_count input.old) (R.failure_count input.new)) (HasFailed (W.failure_count output.old) (W.failure_count output.new))
-        (W.contents output.old) (W.contents output.new) e) }
-    ensures kept { (IsSaving asked.now → ⊥) → store.new ≡ store.old }
-    ensures unread { (IsReading asked.now → ⊥) → input.new ≡ input.old }
-    ensures passed { (IsErrOf result (Failure.List LogErr.Io) → ⊥) → (R.failure_count input.new ≡ R.failure_count input.old) × (W.failure_count output.new ≡ W.failure_count output.old) }
-{
-    match asked {
-        Request::Replay { file, composition } => {
-            let text = store.load(alloc, file)?;
-            let end = replay_text(alloc, text.as_slice(), *composition, input, output)?;
-            Ok(silent(status_of(end)))
-        }
-        Request::ReplayStates { file, composition } => {
-            let named = store.load(alloc, file)?;
-            let end = replay_states_text(alloc, named.as_slice(), *composition, input, output)?;
-            Ok(silent(status_of(end)))
-        }
-        Request::ReplayLog { file, composition } => {
-            let automata = store.load(alloc, file)?;
-            let end = replay_log_text(alloc, automata.as_slice(), *composition, input, output)?;
-            Ok(silent(status_of(end)))
-        }
-        Request::ReplayLogStates { file, composition } => {
-            let shown = store.load(alloc, file)?;
-            let end = replay_log_states_text(alloc, shown.as_slice(), *composition, input, output)?;
-            Ok(silent(status_of(end)))
-        }
-        Request::ReplayInvariants { file, composition } => {
-            let declared = store.load(alloc, file)?;
-            let finding = replay_invariants_text(
-                alloc,
-                declared.as_slice(),
-                *composition,
-                input,
-                output,
-            )?;
-            Ok(silent(status_of_finding(finding)))
-        }
-        Request::Log { file, composition } => {
-            let components = store.load(alloc, file)?;
-            let end = log_list_text(alloc, components.as_slice(), *composition, input, output)?;
-            Ok(silent(status_of(end)))
-        }
-        Request::Run(settings) => run_file(rt, alloc, settings, store, output),
-        Request::Monitor { file, composition } => {
-            let specification = store.load(alloc, file)?;
-            let answer = monitor_text(
-                alloc,
-                specification.as_slice(),
-                *composition,
-                input,
-                output,
-            )?;
-            Ok(silent(status_of_answer(answer)))
-        }
-        Request::Chart { file, composition } => {
-            let charted = store.load(alloc, file)?;
-            let end = chart_log_text(alloc, charted.as_slice(), *composition, input, output)?;
-            Ok(silent(status_of(end)))
-        }
-        Request::Graph { file, composition } => {
-            let graphed = store.load(alloc, file)?;
-            graph_text(alloc, graphed.as_slice(), *composition, output)?;
-            Ok(silent(Status::Done))
-        }
-        Request::Check { file, compositions } => {
-            let source = store.load(alloc, file)?;
-            check_text(alloc, source.as_slice(), *compositions, output)?;
-            Ok(silent(Status::Done))
-        }
-        Request::Compile {
-            file,
-            out,
-            composition,
-        } => {
-            compile_file(alloc, file, out, *composition, store, output)?;
-            Ok(silent(Status::Done))
-        }
-        Request::Dump { file } => {
-            let object = store.load(alloc, file)?;
-            dump_object(alloc, object.as_slice(), output)?;
-            Ok(silent(Status::Done))
-        }
-        Request::Explain { topic } => {
-            explain(alloc, *topic, output)?;
-            Ok(silent(Status::Done))
-        }
-        Request::Library => {
-            write_library(output)?;
-            Ok(silent(Status::Done))
-        }
-    }
-}
-
-/// The exit status of a log in which this is found.
-fn status_of_finding(finding: Finding) -> Status
-    ensures { result ≡ found_status (found_of finding) }
-{
-    match finding {
-        Finding::Broken(_) => Status::NotAccepted,
-        Finding::Unbroken(end) => status_of(end),
-    }
-}
-
-/// The exit status of a monitor that gives this answer.
-fn status_of_answer(answer: Option<End>) -> Status
-    ensures { result ≡ answer_status (option_map ending_of answer) }
-{
-    match answer {
-        None => Status::Done,
-        Some(_) => Status::NotAccepted,
     }
 }

@@ -4,6 +4,7 @@
 pub mod command;
 mod hearing;
 mod remarks;
+mod requests;
 mod served;
 mod telling;
 mod usage;

@@ -1,0 +1,10 @@
+use Rattle.ioac.proofs.requests.serve.Goals as goal
+
+pub returns-in-Monitor-clause-refused : goal.returns-in-Monitor-clause-refused
+returns-in-Monitor-clause-refused g c = rw c.in-Monitor.is c.monitor.ensures.refused
+
+pub returns-in-Compile-clause-served : goal.returns-in-Compile-clause-served
+returns-in-Compile-clause-served g c = rw c.in-Compile.is c.compile.ensures.served
+
+pub returns-in-Compile-clause-refused : goal.returns-in-Compile-clause-refused
+returns-in-Compile-clause-refused g c = rw c.in-Compile.is c.compile.ensures.refused

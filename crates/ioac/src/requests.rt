@@ -1,0 +1,365 @@
+//! The requests, one by one: what is asked of which file.
+
+ghost use Rattle.std.specs.Prelude.{◌≡◌, None, IfOk, IfErr, IsErrOf, option_map};
+ghost use Rattle.ioa_system.specs.Outcomes.{ending_of};
+ghost use Rattle.ioa_log.specs.declared.failure.LogErr.{LogErr};
+ghost use Rattle.ioa_log.specs.Failing.{HasFailed};
+ghost use Rattle.ioa_request.specs.declared.request.Request.TheVariants as requests;
+ghost use Rattle.ioa_serving.specs.Logs.{found_of};
+ghost use Rattle.ioa_serving.specs.Serving.{IsReading, IsSaving, IsServed, IsUnserved, reports_of};
+ghost use Rattle.ioa_serving.specs.Statuses.{answer_status, ending_status, found_status};
+ghost use Rattle.ioa_serving.specs.declared.failure.Failure.{Failure};
+ghost use Rattle.ioac.specs.Requests.{Fails, Serves};
+
+use ioa_log::{InputDevice, OutputDevice};
+use ioa_request::{Request, Topic};
+use ioa_serving::explain::explain;
+use ioa_serving::{
+    Failure, Finding, Served, Status, Store, chart_log_text, check_text, compile_file, dump_object,
+    graph_text, log_list_text, monitor_text, replay_invariants_text, replay_log_states_text,
+    replay_log_text, replay_states_text, replay_text, run_file, silent, status_of, write_library,
+};
+use ioa_system::End;
+use std::alloc::Global;
+use std::sync::Wait;
+use std::thread::Threads;
+
+/// Does what is asked, and answers the exit status with what is left to tell.
+///
+/// # Errors
+/// `Io` or `OutOfMemory` where the file is not read, and those of the replay, the log, the run, the monitor, the chart, the graph, the check, the object or the dump of
+/// what it holds, or of the explanation or the library. Nothing was written then, or, where a device failed, no more than a beginning of the text.
+pub(crate) fn serve<H: Threads + Wait + Sync, F: Store, R: InputDevice, W: OutputDevice>(
+    rt: &H,
+    alloc: Global,
+    asked: &Request<'_>,
+    store: &mut F,
+    input: &mut R,
+    output: &mut W,
+) -> Result<Served, Failure>
+    ensures served { IfOk result (λ s. IsServed (F.holds store.old) (F.saves store.old store.new) asked.now (R.remaining input.old) (W.contents output.old) (W.contents output.new) (reports_of s) s.status) }
+    ensures refused { IfErr result (λ e. IsUnserved (F.holds store.old) (F.lacks store.old) (F.bars store.old) (F.saves store.old store.new) (store.new ≡ store.old) asked.now (R.remaining input.old)
+        (HasFailed (R.failure_count input.old) (R.failure_count input.new)) (HasFailed (W.failure_count output.old) (W.failure_count output.new))
+        (W.contents output.old) (W.contents output.new) e) }
+    ensures kept { (IsSaving asked.now → ⊥) → store.new ≡ store.old }
+    ensures unread { (IsReading asked.now → ⊥) → input.new ≡ input.old }
+    ensures passed { (IsErrOf result (Failure.List LogErr.Io) → ⊥) → (R.failure_count input.new ≡ R.failure_count input.old) × (W.failure_count output.new ≡ W.failure_count output.old) }
+{
+    match asked {
+        Request::Replay { file, composition } => {
+            replay(alloc, file, *composition, store, input, output)
+        }
+        Request::ReplayStates { file, composition } => {
+            replay_states(alloc, file, *composition, store, input, output)
+        }
+        Request::ReplayLog { file, composition } => {
+            replay_log(alloc, file, *composition, store, input, output)
+        }
+        Request::ReplayLogStates { file, composition } => {
+            replay_log_states(alloc, file, *composition, store, input, output)
+        }
+        Request::ReplayInvariants { file, composition } => {
+            replay_invariants(alloc, file, *composition, store, input, output)
+        }
+        Request::Log { file, composition } => log(alloc, file, *composition, store, input, output),
+        Request::Run(settings) => run_file(rt, alloc, settings, store, output),
+        Request::Monitor { file, composition } => {
+            monitor(alloc, file, *composition, store, input, output)
+        }
+        Request::Chart { file, composition } => {
+            chart(alloc, file, *composition, store, input, output)
+        }
+        Request::Graph { file, composition } => graph(alloc, file, *composition, store, output),
+        Request::Check { file, compositions } => check(alloc, file, *compositions, store, output),
+        Request::Compile {
+            file,
+            out,
+            composition,
+        } => compile(alloc, file, out, *composition, store, output),
+        Request::Dump { file } => dump(alloc, file, store, output),
+        Request::Explain { topic } => explain_topic(alloc, *topic, output),
+        Request::Library => library(output),
+    }
+}
+
+/// Replays the list on standard input on what the file gives.
+fn replay<F: Store, R: InputDevice, W: OutputDevice>(
+    alloc: Global,
+    file: &str,
+    composition: Option<&str>,
+    store: &F,
+    input: &mut R,
+    output: &mut W,
+) -> Result<Served, Failure>
+    ensures served { IfOk result (λ s. Serves (F.holds store.now) (requests.Replay file.entry composition.entry) (R.remaining input.old) (W.contents output.old) (W.contents output.new) s) }
+    ensures refused { IfErr result (λ e. Fails (F.holds store.now) (F.lacks store.now) (requests.Replay file.entry composition.entry) (R.remaining input.old)
+        (HasFailed (R.failure_count input.old) (R.failure_count input.new)) (HasFailed (W.failure_count output.old) (W.failure_count output.new))
+        (W.contents output.old) (W.contents output.new) e) }
+    ensures passed { (IsErrOf result (Failure.List LogErr.Io) → ⊥) → (R.failure_count input.new ≡ R.failure_count input.old) × (W.failure_count output.new ≡ W.failure_count output.old) }
+{
+    let text = store.load(alloc, file)?;
+    let end = replay_text(alloc, text.as_slice(), composition, input, output)?;
+    Ok(silent(status_of(end)))
+}
+
+/// Replays the list on standard input, and writes the states in which it ends.
+fn replay_states<F: Store, R: InputDevice, W: OutputDevice>(
+    alloc: Global,
+    file: &str,
+    composition: Option<&str>,
+    store: &F,
+    input: &mut R,
+    output: &mut W,
+) -> Result<Served, Failure>
+    ensures served { IfOk result (λ s. Serves (F.holds store.now) (requests.ReplayStates file.entry composition.entry) (R.remaining input.old) (W.contents output.old) (W.contents output.new) s) }
+    ensures refused { IfErr result (λ e. Fails (F.holds store.now) (F.lacks store.now) (requests.ReplayStates file.entry composition.entry) (R.remaining input.old)
+        (HasFailed (R.failure_count input.old) (R.failure_count input.new)) (HasFailed (W.failure_count output.old) (W.failure_count output.new))
+        (W.contents output.old) (W.contents output.new) e) }
+    ensures passed { (IsErrOf result (Failure.List LogErr.Io) → ⊥) → (R.failure_count input.new ≡ R.failure_count input.old) × (W.failure_count output.new ≡ W.failure_count output.old) }
+{
+    let text = store.load(alloc, file)?;
+    let end = replay_states_text(alloc, text.as_slice(), composition, input, output)?;
+    Ok(silent(status_of(end)))
+}
+
+/// Replays the log on standard input.
+fn replay_log<F: Store, R: InputDevice, W: OutputDevice>(
+    alloc: Global,
+    file: &str,
+    composition: Option<&str>,
+    store: &F,
+    input: &mut R,
+    output: &mut W,
+) -> Result<Served, Failure>
+    ensures served { IfOk result (λ s. Serves (F.holds store.now) (requests.ReplayLog file.entry composition.entry) (R.remaining input.old) (W.contents output.old) (W.contents output.new) s) }
+    ensures refused { IfErr result (λ e. Fails (F.holds store.now) (F.lacks store.now) (requests.ReplayLog file.entry composition.entry) (R.remaining input.old)
+        (HasFailed (R.failure_count input.old) (R.failure_count input.new)) (HasFailed (W.failure_count output.old) (W.failure_count output.new))
+        (W.contents output.old) (W.contents output.new) e) }
+    ensures passed { (IsErrOf result (Failure.List LogErr.Io) → ⊥) → (R.failure_count input.new ≡ R.failure_count input.old) × (W.failure_count output.new ≡ W.failure_count output.old) }
+{
+    let text = store.load(alloc, file)?;
+    let end = replay_log_text(alloc, text.as_slice(), composition, input, output)?;
+    Ok(silent(status_of(end)))
+}
+
+/// Replays the log on standard input, and writes the states in which it ends.
+fn replay_log_states<F: Store, R: InputDevice, W: OutputDevice>(
+    alloc: Global,
+    file: &str,
+    composition: Option<&str>,
+    store: &F,
+    input: &mut R,
+    output: &mut W,
+) -> Result<Served, Failure>
+    ensures served { IfOk result (λ s. Serves (F.holds store.now) (requests.ReplayLogStates file.entry composition.entry) (R.remaining input.old) (W.contents output.old) (W.contents output.new) s) }
+    ensures refused { IfErr result (λ e. Fails (F.holds store.now) (F.lacks store.now) (requests.ReplayLogStates file.entry composition.entry) (R.remaining input.old)
+        (HasFailed (R.failure_count input.old) (R.failure_count input.new)) (HasFailed (W.failure_count output.old) (W.failure_count output.new))
+        (W.contents output.old) (W.contents output.new) e) }
+    ensures passed { (IsErrOf result (Failure.List LogErr.Io) → ⊥) → (R.failure_count input.new ≡ R.failure_count input.old) × (W.failure_count output.new ≡ W.failure_count output.old) }
+{
+    let text = store.load(alloc, file)?;
+    let end = replay_log_states_text(alloc, text.as_slice(), composition, input, output)?;
+    Ok(silent(status_of(end)))
+}
+
+/// Replays the log on standard input, and asks for the invariants in each of its states.
+fn replay_invariants<F: Store, R: InputDevice, W: OutputDevice>(
+    alloc: Global,
+    file: &str,
+    composition: Option<&str>,
+    store: &F,
+    input: &mut R,
+    output: &mut W,
+) -> Result<Served, Failure>
+    ensures served { IfOk result (λ s. Serves (F.holds store.now) (requests.ReplayInvariants file.entry composition.entry) (R.remaining input.old) (W.contents output.old) (W.contents output.new) s) }
+    ensures refused { IfErr result (λ e. Fails (F.holds store.now) (F.lacks store.now) (requests.ReplayInvariants file.entry composition.entry) (R.remaining input.old)
+        (HasFailed (R.failure_count input.old) (R.failure_count input.new)) (HasFailed (W.failure_count output.old) (W.failure_count output.new))
+        (W.contents output.old) (W.contents output.new) e) }
+    ensures passed { (IsErrOf result (Failure.List LogErr.Io) → ⊥) → (R.failure_count input.new ≡ R.failure_count input.old) × (W.failure_count output.new ≡ W.failure_count output.old) }
+{
+    let text = store.load(alloc, file)?;
+    let finding = replay_invariants_text(alloc, text.as_slice(), composition, input, output)?;
+    Ok(silent(status_of_finding(finding)))
+}
+
+/// Writes the log of the run of the list on standard input.
+fn log<F: Store, R: InputDevice, W: OutputDevice>(
+    alloc: Global,
+    file: &str,
+    composition: Option<&str>,
+    store: &F,
+    input: &mut R,
+    output: &mut W,
+) -> Result<Served, Failure>
+    ensures served { IfOk result (λ s. Serves (F.holds store.now) (requests.Log file.entry composition.entry) (R.remaining input.old) (W.contents output.old) (W.contents output.new) s) }
+    ensures refused { IfErr result (λ e. Fails (F.holds store.now) (F.lacks store.now) (requests.Log file.entry composition.entry) (R.remaining input.old)
+        (HasFailed (R.failure_count input.old) (R.failure_count input.new)) (HasFailed (W.failure_count output.old) (W.failure_count output.new))
+        (W.contents output.old) (W.contents output.new) e) }
+    ensures passed { (IsErrOf result (Failure.List LogErr.Io) → ⊥) → (R.failure_count input.new ≡ R.failure_count input.old) × (W.failure_count output.new ≡ W.failure_count output.old) }
+{
+    let text = store.load(alloc, file)?;
+    let end = log_list_text(alloc, text.as_slice(), composition, input, output)?;
+    Ok(silent(status_of(end)))
+}
+
+/// Monitors the log on standard input.
+fn monitor<F: Store, R: InputDevice, W: OutputDevice>(
+    alloc: Global,
+    file: &str,
+    composition: Option<&str>,
+    store: &F,
+    input: &mut R,
+    output: &mut W,
+) -> Result<Served, Failure>
+    ensures served { IfOk result (λ s. Serves (F.holds store.now) (requests.Monitor file.entry composition.entry) (R.remaining input.old) (W.contents output.old) (W.contents output.new) s) }
+    ensures refused { IfErr result (λ e. Fails (F.holds store.now) (F.lacks store.now) (requests.Monitor file.entry composition.entry) (R.remaining input.old)
+        (HasFailed (R.failure_count input.old) (R.failure_count input.new)) (HasFailed (W.failure_count output.old) (W.failure_count output.new))
+        (W.contents output.old) (W.contents output.new) e) }
+    ensures passed { (IsErrOf result (Failure.List LogErr.Io) → ⊥) → (R.failure_count input.new ≡ R.failure_count input.old) × (W.failure_count output.new ≡ W.failure_count output.old) }
+{
+    let text = store.load(alloc, file)?;
+    let answer = monitor_text(alloc, text.as_slice(), composition, input, output)?;
+    Ok(silent(status_of_answer(answer)))
+}
+
+/// Draws the log on standard input.
+fn chart<F: Store, R: InputDevice, W: OutputDevice>(
+    alloc: Global,
+    file: &str,
+    composition: Option<&str>,
+    store: &F,
+    input: &mut R,
+    output: &mut W,
+) -> Result<Served, Failure>
+    ensures served { IfOk result (λ s. Serves (F.holds store.now) (requests.Chart file.entry composition.entry) (R.remaining input.old) (W.contents output.old) (W.contents output.new) s) }
+    ensures refused { IfErr result (λ e. Fails (F.holds store.now) (F.lacks store.now) (requests.Chart file.entry composition.entry) (R.remaining input.old)
+        (HasFailed (R.failure_count input.old) (R.failure_count input.new)) (HasFailed (W.failure_count output.old) (W.failure_count output.new))
+        (W.contents output.old) (W.contents output.new) e) }
+    ensures passed { (IsErrOf result (Failure.List LogErr.Io) → ⊥) → (R.failure_count input.new ≡ R.failure_count input.old) × (W.failure_count output.new ≡ W.failure_count output.old) }
+{
+    let text = store.load(alloc, file)?;
+    let end = chart_log_text(alloc, text.as_slice(), composition, input, output)?;
+    Ok(silent(status_of(end)))
+}
+
+/// Draws what the file gives as a graph.
+fn graph<F: Store, W: OutputDevice>(
+    alloc: Global,
+    file: &str,
+    composition: Option<&str>,
+    store: &F,
+    output: &mut W,
+) -> Result<Served, Failure>
+    ensures served { IfOk result (λ s. Serves (F.holds store.now) (requests.Graph file.entry composition.entry) None (W.contents output.old) (W.contents output.new) s) }
+    ensures refused { IfErr result (λ e. Fails (F.holds store.now) (F.lacks store.now) (requests.Graph file.entry composition.entry) None
+        ⊥ (HasFailed (W.failure_count output.old) (W.failure_count output.new))
+        (W.contents output.old) (W.contents output.new) e) }
+    ensures passed { (IsErrOf result (Failure.List LogErr.Io) → ⊥) → W.failure_count output.new ≡ W.failure_count output.old }
+{
+    let text = store.load(alloc, file)?;
+    graph_text(alloc, text.as_slice(), composition, output)?;
+    Ok(silent(Status::Done))
+}
+
+/// Checks the file, and its compositions where they are asked for.
+fn check<F: Store, W: OutputDevice>(
+    alloc: Global,
+    file: &str,
+    compositions: bool,
+    store: &F,
+    output: &mut W,
+) -> Result<Served, Failure>
+    ensures served { IfOk result (λ s. Serves (F.holds store.now) (requests.Check file.entry compositions) None (W.contents output.old) (W.contents output.new) s) }
+    ensures refused { IfErr result (λ e. Fails (F.holds store.now) (F.lacks store.now) (requests.Check file.entry compositions) None
+        ⊥ (HasFailed (W.failure_count output.old) (W.failure_count output.new))
+        (W.contents output.old) (W.contents output.new) e) }
+    ensures passed { (IsErrOf result (Failure.List LogErr.Io) → ⊥) → W.failure_count output.new ≡ W.failure_count output.old }
+{
+    let text = store.load(alloc, file)?;
+    check_text(alloc, text.as_slice(), compositions, output)?;
+    Ok(silent(Status::Done))
+}
+
+/// Writes what the object in the file holds.
+fn dump<F: Store, W: OutputDevice>(
+    alloc: Global,
+    file: &str,
+    store: &F,
+    output: &mut W,
+) -> Result<Served, Failure>
+    ensures served { IfOk result (λ s. Serves (F.holds store.now) (requests.Dump file.entry) None (W.contents output.old) (W.contents output.new) s) }
+    ensures refused { IfErr result (λ e. Fails (F.holds store.now) (F.lacks store.now) (requests.Dump file.entry) None
+        ⊥ (HasFailed (W.failure_count output.old) (W.failure_count output.new))
+        (W.contents output.old) (W.contents output.new) e) }
+    ensures passed { (IsErrOf result (Failure.List LogErr.Io) → ⊥) → W.failure_count output.new ≡ W.failure_count output.old }
+{
+    let object = store.load(alloc, file)?;
+    dump_object(alloc, object.as_slice(), output)?;
+    Ok(silent(Status::Done))
+}
+
+/// Puts the object of what the file declares in the file `out`.
+fn compile<F: Store, W: OutputDevice>(
+    alloc: Global,
+    file: &str,
+    out: &str,
+    composition: Option<&str>,
+    store: &mut F,
+    output: &mut W,
+) -> Result<Served, Failure>
+    ensures served { IfOk result (λ s. IsServed (F.holds store.old) (F.saves store.old store.new) (requests.Compile file.entry out.entry composition.entry) None
+        (W.contents output.old) (W.contents output.new) (reports_of s) s.status) }
+    ensures refused { IfErr result (λ e. IsUnserved (F.holds store.old) (F.lacks store.old) (F.bars store.old) (F.saves store.old store.new) (store.new ≡ store.old)
+        (requests.Compile file.entry out.entry composition.entry) None ⊥ (HasFailed (W.failure_count output.old) (W.failure_count output.new))
+        (W.contents output.old) (W.contents output.new) e) }
+    ensures passed { (IsErrOf result (Failure.List LogErr.Io) → ⊥) → W.failure_count output.new ≡ W.failure_count output.old }
+{
+    compile_file(alloc, file, out, composition, store, output)?;
+    Ok(silent(Status::Done))
+}
+
+/// Writes what a topic means.
+fn explain_topic<W: OutputDevice>(
+    alloc: Global,
+    topic: Topic,
+    output: &mut W,
+) -> Result<Served, Failure>
+    ensures served { IfOk result (λ s. Serves (λ _ _. ⊥) (requests.Explain topic) None (W.contents output.old) (W.contents output.new) s) }
+    ensures refused { IfErr result (λ e. Fails (λ _ _. ⊥) (λ _. ⊥) (requests.Explain topic) None
+        ⊥ (HasFailed (W.failure_count output.old) (W.failure_count output.new)) (W.contents output.old) (W.contents output.new) e) }
+    ensures passed { (IsErrOf result (Failure.List LogErr.Io) → ⊥) → W.failure_count output.new ≡ W.failure_count output.old }
+{
+    explain(alloc, topic, output)?;
+    Ok(silent(Status::Done))
+}
+
+/// Writes the library's source.
+fn library<W: OutputDevice>(output: &mut W) -> Result<Served, Failure>
+    ensures served { IfOk result (λ s. Serves (λ _ _. ⊥) requests.Library None (W.contents output.old) (W.contents output.new) s) }
+    ensures refused { IfErr result (λ e. Fails (λ _ _. ⊥) (λ _. ⊥) requests.Library None
+        ⊥ (HasFailed (W.failure_count output.old) (W.failure_count output.new)) (W.contents output.old) (W.contents output.new) e) }
+    ensures passed { (IsErrOf result (Failure.List LogErr.Io) → ⊥) → W.failure_count output.new ≡ W.failure_count output.old }
+{
+    write_library(output)?;
+    Ok(silent(Status::Done))
+}
+
+/// The exit status of a log in which this is found.
+fn status_of_finding(finding: Finding) -> Status
+    ensures { result ≡ found_status (found_of finding) }
+{
+    match finding {
+        Finding::Broken(_) => Status::NotAccepted,
+        Finding::Unbroken(end) => status_of(end),
+    }
+}
+
+/// The exit status of a monitor that gives this answer.
+fn status_of_answer(answer: Option<End>) -> Status
+    ensures { result ≡ answer_status (option_map ending_of answer) }
+{
+    match answer {
+        None => Status::Done,
+        Some(_) => Status::NotAccepted,
+    }
+}
