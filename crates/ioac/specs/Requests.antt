@@ -1,4 +1,5 @@
--- What comes of a request that changes no file: `IsServed` and `IsUnserved`, where nothing is saved.
+-- What comes of a request that changes no file: `IsServed` and `IsUnserved`, where nothing is saved. Of one that does not read standard input
+-- the bytes there are None, and no reader failed.
 use Rattle.std.specs.Prelude.{ℕ, List, Option}
 use Rattle.ioa_value.specs.Actions.{Name}
 use Rattle.ioa_request.specs.declared.request.Request.{Request}

@@ -1,12 +1,7 @@
-use Rattle.std.proofs.Common.{inr, subst, sym}
-use Rattle.std.proofs.lemmas.Result.{err_from_is_err_and}
-use Rattle.ioa_serving.proofs.Refused.{err_so}
+use Rattle.ioac.proofs.TextFailures.{text_failed}
 use Rattle.ioac.proofs.requests.monitor.Goals as goal
 
 pub returns-in_err-answer-clause-refused : goal.returns-in_err-answer-clause-refused
 returns-in_err-answer-clause-refused g c =
-    let e = err_from_is_err_and c.from_residual-in_err-answer.result c.from_residual-in_err-answer.ensures.1 in
-    let held = subst (g.F.Store.holds c.args.store.now c.args.file.now) (sym c.as_slice.ensures.value) c.in_ok-text.ensures.ok in
-    let said = c.in_err-answer.ensures in
-    err_so c.from_residual-in_err-answer.result e.0 c.in_err-answer.field-0.0 _ e.1 e.2
-    (inr (c.as_slice.result.now, held, said.refused, said.unwritten))
+    text_failed (g.F.Store.holds c.args.store.now c.args.file.now) _ _ _ c.from_residual-in_err-answer.result c.in_err-answer.field-0.0 _ c.as_slice.result.now
+    c.from_residual-in_err-answer.ensures.1 c.as_slice.ensures.value c.in_ok-text.ensures.ok c.in_err-answer.ensures.refused c.in_err-answer.ensures.unwritten
