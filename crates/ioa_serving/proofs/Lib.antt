@@ -2,6 +2,7 @@ pub mod Carried
 pub mod CarriedRuns
 pub mod Composed
 pub mod Declared
+pub mod Delivering
 pub mod Given
 pub mod Hosted
 pub mod Kept

@@ -2,6 +2,7 @@ pub mod Alone
 pub mod Carried
 pub mod Checks
 pub mod Compiling
+pub mod Delivering
 pub mod Dumps
 pub mod Explaining
 pub mod Failing

@@ -1,6 +1,7 @@
 //! What follows from the definitions alone. The functions do nothing: what they say is in their contracts.
 
 ghost use Rattle.ioa_serving.specs.Carried.{ChartsAsSource, GraphsAsSource, HistoriesAsSource, LogsListsAsSource, MonitorsAsSource, OneComposition, ReplaysAsSource, ReplaysLogsAsSource, RunsAsSource, TakesTurnsAsSource};
+ghost use Rattle.ioa_serving.specs.Delivering.{HistoriesDeliver, ObjectsDeliver};
 
 /// From the bytes of an object to the trace: the program that is read of an object is the one that was compiled, so what is written by an
 /// object that was compiled of a source is what the source's hosts do. So it is of each list, of each log, of the log of a list's run, of the chart of
@@ -12,6 +13,14 @@ pub fn objects_do_as_their_sources()
     ensures charts { ChartsAsSource }
     ensures graphs { GraphsAsSource }
     ensures monitors { MonitorsAsSource }
+{}
+
+/// In every history of the compiled form of Stenning's protocol, by its source or by an object, whatever the schedule, the words and the script,
+/// with channels that lose, duplicate and reorder and hosts that crash and recover, the delivered messages are a beginning of the sent ones.
+/// Nothing is said of whether a message is delivered.
+pub fn stenning_delivers()
+    ensures histories { HistoriesDeliver }
+    ensures objects { ObjectsDeliver }
 {}
 
 /// A text declares one composition of each name: its hosts, with their automata, arguments and start values.

@@ -36,7 +36,9 @@ pub use composition_graph::graph_text;
 pub use dump::dump_object;
 pub use failure::Failure;
 pub use invariant_replay::{Finding, replay_invariants_text};
-pub use laws::{objects_do_as_their_sources, objects_run_as_their_sources, one_composition};
+pub use laws::{
+    objects_do_as_their_sources, objects_run_as_their_sources, one_composition, stenning_delivers,
+};
 pub use library::write_library;
 pub use list_log::log_list_text;
 pub use log_chart::chart_log_text;

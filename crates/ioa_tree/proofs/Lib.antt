@@ -21,3 +21,4 @@ pub mod Positions
 pub mod Domains
 pub mod WidthLemmas
 pub mod SourceTypes
+pub mod OneHosted

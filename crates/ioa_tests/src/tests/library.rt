@@ -1,7 +1,14 @@
 //! The library of protocols: a list of actions on one of its compositions.
 
-use crate::tests::made::program;
+ghost use Rattle.std.specs.Prelude.{◌≤ℤ◌, pos};
+
+use crate::tests::made::{parsed, program};
 use crate::tests::reached::{run_of, told_state};
+use ioa_check::check;
+use ioa_compose::compose;
+use ioa_tree::Same;
+use std::alloc::Global;
+use std::process::Abort;
 
 /// A list after which the first of two messages is acknowledged.
 const SLID: &str =
@@ -16,4 +23,40 @@ fn the_window_moves(rt: HostRuntime) {
     let sender = run.states.first().expect(&rt, "a sender");
     let told = told_state(rt.alloc(), program.types(), sender).expect(&rt, "memory");
     assert!(rt; told.as_str() == ", state(Ints[8], 2, 1)", "{told}");
+}
+
+/// The declarations of Stenning's protocol are some of the library's, in its order.
+#[test]
+fn the_protocol_is_the_librarys(rt: HostRuntime) {
+    let library = parsed(&rt, rt.alloc(), ioa_links::text());
+    let protocol = ioa_links::stenning_tree(rt.alloc(), 4).expect(&rt, "memory");
+    let mut left = protocol.declarations();
+    assert!(rt; left.len() == 10);
+    for held in library.declarations() {
+        if let [first, rest @ ..] = left
+            && first.same(held)
+        {
+            left = rest;
+        }
+    }
+    assert!(rt; left.is_empty());
+}
+
+/// The protocol is accepted, whatever its number of crashes.
+#[test]
+fn the_protocol_composes(rt: HostRuntime) {
+    composes(&rt, rt.alloc(), 0);
+    composes(&rt, rt.alloc(), 4);
+    composes(&rt, rt.alloc(), 1_000);
+    composes(&rt, rt.alloc(), i64::MAX);
+}
+
+/// Sees that the protocol with so many crashes is accepted.
+fn composes(rt: &impl Abort, alloc: Global, crashes: i64)
+    requires { pos 0 ≤ℤ crashes }
+{
+    let protocol = ioa_links::stenning_tree(alloc, crashes).expect(rt, "memory");
+    let checked = check(alloc, protocol).expect(rt, "a checked source");
+    let composed = compose(alloc, &checked, Some("Stenning")).expect(rt, "a composition");
+    assert!(rt; composed.members().len() == 6);
 }

@@ -60,16 +60,17 @@ fn the_library_gives_what_is_wanted(rt: HostRuntime) {
     expect(&rt, rt.alloc(), "library", &given, &wanted);
 }
 
-/// Runs the program on the library, by these words and this input; it is done.
+/// Runs the program on a source, by these words and this input; it is done.
 fn done<H: Abort + Threads + Wait + Sync>(
     rt: &H,
     alloc: Global,
+    source: &[u8],
     words: &str,
     list: &str,
 ) -> Vec<u8> {
     let given = Given {
         words,
-        file: library(rt).as_bytes(),
+        file: source,
         list,
     };
     let ran = run(rt, alloc, &given);
@@ -77,33 +78,50 @@ fn done<H: Abort + Threads + Wait + Sync>(
     ran.output
 }
 
-/// Runs a composition on one thread or on several; its log is replayed, and its specification accepts it.
+/// Runs a composition of a source on one thread or on several; its log is replayed, and its specification, of the library, accepts it.
 fn expect_accepted<H: Abort + Threads + Wait + Sync>(
     rt: &H,
     alloc: Global,
+    source: &[u8],
     composition: &str,
     specification: &str,
     way: &str,
 ) {
     let words = format!(in alloc; "run f --comp {composition} {way} --turns 200 --log");
-    let log = done(rt, alloc, words.expect(rt, "memory").as_str(), "");
+    let log = done(rt, alloc, source, words.expect(rt, "memory").as_str(), "");
     let list = str::from_utf8(log.as_slice()).expect(rt, "a text");
     let words = format!(in alloc; "replay f --comp {composition} --log");
-    done(rt, alloc, words.expect(rt, "memory").as_str(), list);
+    done(rt, alloc, source, words.expect(rt, "memory").as_str(), list);
     let words = format!(in alloc; "monitor f --comp {specification}");
-    let monitored = done(rt, alloc, words.expect(rt, "memory").as_str(), list);
+    let text = library(rt).as_bytes();
+    let monitored = done(rt, alloc, text, words.expect(rt, "memory").as_str(), list);
     assert!(rt;
         monitored.as_slice() == b"monitor: ok\n".as_slice(),
         "{composition} {way}"
     );
 }
 
+/// The same on one thread, and on several.
+fn expect_accepted_both_ways<H: Abort + Threads + Wait + Sync>(
+    rt: &H,
+    alloc: Global,
+    source: &[u8],
+    composition: &str,
+    specification: &str,
+) {
+    expect_accepted(rt, alloc, source, composition, specification, "--alone");
+    expect_accepted(rt, alloc, source, composition, specification, "");
+}
+
 #[test]
 fn runs_are_accepted(rt: HostRuntime) {
+    let text = library(&rt).as_bytes();
     for (composition, specification) in RUNS {
-        expect_accepted(&rt, rt.alloc(), composition, specification, "--alone");
-        expect_accepted(&rt, rt.alloc(), composition, specification, "");
+        expect_accepted_both_ways(&rt, rt.alloc(), text, composition, specification);
     }
+    let protocol = ioa_links::stenning_tree(rt.alloc(), 1_000).expect(&rt, "memory");
+    let text = ioa_syntax::print(rt.alloc(), &protocol).expect(&rt, "memory");
+    expect_accepted_both_ways(&rt, rt.alloc(), text.as_slice(), "Stenning", "ReliableFifo");
 }
 
 /// How many instructions the code of an entry has.

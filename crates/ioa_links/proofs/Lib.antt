@@ -1,0 +1,26 @@
+pub mod Rules
+pub mod Tables
+pub mod Bridges
+pub mod Inversion
+pub mod Kept
+pub mod Six
+pub mod Moves
+pub mod Views
+pub mod Steps
+pub mod Each
+pub mod Invariant
+pub mod Delivers
+pub mod Packets
+pub mod Bridge
+pub mod States
+mod Examples
+pub mod Positions
+pub mod SenderTree
+pub mod ReceiverTree
+pub mod ChannelTree
+pub mod CounterTrees
+pub mod TreeDelivers
+pub mod Apart
+pub mod Stands
+pub mod Words
+pub mod Texts
