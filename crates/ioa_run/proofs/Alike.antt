@@ -16,7 +16,9 @@ use Rattle.ioa_run.specs.declared.answer.Answer.{Answer}
 use Rattle.ioa_run.specs.declared.report.Report.{Report}
 use Rattle.ioa_run.specs.Boards.{Failure, IsFailureFrom, IsSound, Standing}
 use Rattle.ioa_run.specs.Hosts.{BoardsLike, TurnsLike}
+use Rattle.ioa_run.specs.Played.{alone_events, attempt_events, first_events, rounds_events, tried_events, turn_events}
 use Rattle.ioa_run.specs.Reports.{blank, with_idle}
+use Rattle.ioa_run.specs.Schedules.{Event}
 use Rattle.ioa_run.specs.Turns.{Proposer, Turns, after, all_done, alone, attempt, changed, chosen, first_turns, has_ended, is_last, meant, next_choice, next_input, not_own, own_attempt, rounds, told, turn, turned, turns_of_first, with_done}
 
 pub related_length : {S T : Type 0} (R : ℕ → S → T → Type 0) (i : ℕ) (xs : List S) (ys : List T) → AllRelated R i xs ys → length xs ≡ length ys
@@ -145,6 +147,10 @@ module _ {S T : Type 0} (R : ℕ → S → T → Type 0) where
 
     -- ---- turns
 
+    tried_events_like : (w : ℕ) (x : Tried Act) (b : Standing S) (d : Standing T) → BoardsLike R b d → tried_events ps w x b ≡ tried_events qs w x d
+    tried_events_like w (idle taken) b d l = refl
+    tried_events_like w (tries a taken) b d l = ap (attempt_events w a) (attempt_like w a b d l).0
+
     turned_like : (w : ℕ) (x : Tried Act) (t : Turns S) (u : Turns T) → TurnsLike R t u → TurnsLike R (turned ps w x t) (turned qs w x u)
     turned_like w (idle taken) t u l =
         record { board = l.board; reports = ap (changed with_idle w) l.reports; words = ap (changed (after taken) w) l.words; ended = l.ended }
@@ -208,6 +214,38 @@ module _ {S T : Type 0} (R : ℕ → S → T → Type 0) where
         words = refl;
         ended = ap (λ m. replicate (m + 1) false) e;
       }
+
+      -- ---- the events of turns
+
+      turn_events_like : (w : ℕ) (t : Turns S) (u : Turns T) → TurnsLike R t u → turn_events ps entries inputs w t ≡ turn_events qs others inputs w u
+      turn_events_like w t u l =
+          let ended : has_ended t w ≡ has_ended u w = ap (λ (bs : List Bool). unwrap_or (slice_get bs w) true) l.ended in
+          ap (λ (c : Bool). cond c [] (tried_events ps w (meant ps entries inputs w t) t.board)) ended
+          ∙ ap (cond (has_ended u w) []) (tried_events_like w (meant ps entries inputs w t) t.board u.board l.board
+          ∙ ap (λ (x : Tried Act). tried_events qs w x u.board) (meant_like w t u l))
+
+      first_events_like : (n : ℕ) (t : Turns S) (u : Turns T) → TurnsLike R t u → first_events ps entries inputs n t ≡ first_events qs others inputs n u
+      first_events_like zero t u l = refl
+      first_events_like (suc n) t u l =
+          let t' : Turns S = turns_of_first ps entries inputs n t in
+          let u' : Turns T = turns_of_first qs others inputs n u in
+          ap (λ (es : List (Event × Answer)). es ++ turn_events ps entries inputs n t') (first_events_like n t u l)
+          ∙ ap (λ (es : List (Event × Answer)). first_events qs others inputs n u ++ es) (turn_events_like n t' u' (first_like n t u l))
+
+      rounds_events_like : (n : ℕ) (t : Turns S) (u : Turns T) → TurnsLike R t u → rounds_events ps entries inputs n t ≡ rounds_events qs others inputs n u
+      rounds_events_like zero t u l = refl
+      rounds_events_like (suc n) t u l =
+          let t' : Turns S = rounds ps entries inputs n t in
+          let u' : Turns T = rounds qs others inputs n u in
+          ap (λ (es : List (Event × Answer)). es ++ first_events ps entries inputs (length entries + 1) t') (rounds_events_like n t u l)
+          ∙ ap (λ (es : List (Event × Answer)). rounds_events qs others inputs n u ++ es)
+          (first_events_like (length entries + 1) t' u' (rounds_like n t u l) ∙ ap (λ k. first_events qs others inputs (k + 1) u') many)
+
+      -- so are those of runs on one thread
+      pub events_like : (turns : ℕ) (ss : List S) (ts : List T) (words : List Words) → AllRelated R 0 ss ts
+          → alone_events ps entries inputs turns ss words ≡ alone_events qs others inputs turns ts words
+      events_like turns ss ts words r =
+          rounds_events_like turns (first_turns ss words (length entries)) (first_turns ts words (length others)) (start_like (length entries) (length others) ss ts words many r)
 
       -- runs on one thread are alike
       pub alone_like : (turns : ℕ) (ss : List S) (ts : List T) (words : List Words) → AllRelated R 0 ss ts

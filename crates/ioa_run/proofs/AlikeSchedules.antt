@@ -150,6 +150,35 @@ module _ {S T : Type 0} (R : ℕ → S → T → Type 0) where
   disabled_on : (m : Moved S) (n : Moved T) → MovesLike R 0 m n → m ≡ not_enabled → n ≡ not_enabled
   disabled_on m n l e = subst (λ k. MovesLike R 0 k n) e l
 
+-- ---- copies
+
+module _ {S T : Type 0} (R : ℕ → S → T → Type 0) (ps : List (Component S)) (qs : List (Component T))
+    (steps : (a : Act) (ss : List S) (ts : List T) → AllRelated R 0 ss ts → MovesLike R 0 (step ps a ss) (step qs a ts))
+    (workers : (a : Act) → worker ps a ≡ worker qs a) where
+  planned_like : (w own : ℕ) (m : Moved S) (n : Moved T) (p : Intent S) (q : Intent T) (x : Answer) (o : Option (Intent T)) → MovesLike R 0 m n → IntentsLike R ps qs p q
+      → Plans w own n q x o → (k : Option (Intent S)) × Plans w own m p x k × PlansLike R ps qs k o
+  planned_like w own m n p q Answer.NotAnAction o l i h = (None, (no_action_back R m n l h.0, refl), subst (PlansLike R ps qs None) (sym h.1) tt)
+  planned_like w own m n p q Answer.NotYours o l i h = (None, ((λ e. h.0 (no_action_on R m n l e)), h.1, refl), subst (PlansLike R ps qs None) (sym h.2) tt)
+  planned_like w own m n p q Answer.NotEnabled o l i h = (None, (h.0, disabled_back R m n l h.1, refl), subst (PlansLike R ps qs None) (sym h.2) tt)
+  planned_like w own m n p q Answer.Planned o l i h =
+      (Some p, (h.0, (λ e. h.1 (no_action_on R m n l e)), (λ e. h.2 (disabled_on R m n l e)), refl), subst (PlansLike R ps qs (Some p)) (sym h.3) i)
+  planned_like w own m n p q _ o l i h = absurd h
+
+  -- what those on the right are answered to a copy, those on the left are
+  pub copy_like : (w : ℕ) (a : Act) (s : Schedule S) (u : Schedule T) (x : Answer) (o : Option (Intent T)) → SchedulesLike R ps qs s u
+      → Plans w (worker qs a) (step qs a u.board.states) (intent qs a u.board.states) x o
+      → (t : Schedule S) × Answers ps (copy w a) s x t × SchedulesLike R ps qs t (with_plan u w o)
+  copy_like w a s u x o l h =
+      let i : IntentsLike R ps qs (intent ps a s.board.states) (intent qs a u.board.states) =
+      record { action = a; states = s.board.states; others = u.board.states; related = l.board.states; left = refl; right = refl } in
+      let own = subst (λ v. Plans w v (step qs a u.board.states) (intent qs a u.board.states) x o) (sym (workers a)) h in
+      let k = planned_like w (worker ps a) (step ps a s.board.states) (step qs a u.board.states) (intent ps a s.board.states) (intent qs a u.board.states) x o
+      (steps a s.board.states u.board.states l.board.states) i own in (
+        with_plan s w k.0,
+        (k.0, k.1, refl),
+        record { board = l.board; plans = set_like (PlansLike R ps qs) w s.plans u.plans k.0 o k.2 l.plans },
+      )
+
 -- ---- events
 
 is_some_back : (f g : Option Failure) → f ≡ g → IsSome g → IsSome f

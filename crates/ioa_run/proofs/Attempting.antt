@@ -10,7 +10,7 @@ use Rattle.ioa_run.specs.declared.answer.Answer.{Answer}
 use Rattle.ioa_run.specs.Attempts.{AttemptsAnswer, IsAttempt, IsCommitted}
 use Rattle.ioa_run.specs.Boards.{Commits, Failure, Intent, Standing}
 use Rattle.ioa_run.specs.Schedules.{Schedule, Spends, intent, plan_of, with_plan}
-use Rattle.ioa_run.specs.Turns.{not_own, own_attempt}
+use Rattle.ioa_run.specs.Turns.{attempt, not_own, own_attempt}
 
 pub set_there : {X : Type 0} (xs : List X) (i : ℕ) (x : X) → i < length xs → slice_get (slice_set xs i x) i ≡ Some x
 set_there [] i x l = absurd (omega (arith, l))
@@ -62,9 +62,13 @@ IsSo ps w a s own =
     IsAttempt ps w a s (if own then own_attempt w a s.board s.board.failure (step ps a s.board.states) else (not_own (step ps a s.board.states), s.board)).0
     (if own then own_attempt w a s.board s.board.failure (step ps a s.board.states) else (not_own (step ps a s.board.states), s.board)).1
 
-pub attempts_answer : AttemptsAnswer
-attempts_answer ps w a s within =
+pub attempt_answers : {S : Type 0} (ps : List (Component S)) (w : ℕ) (a : Act) (s : Schedule S) → w < length s.plans
+    → IsAttempt ps w a s (attempt ps w a s.board).0 (attempt ps w a s.board).1
+attempt_answers ps w a s within =
     elim (eqb_tells w (worker ps a)) as (λ _. IsSo ps w a s (w == worker ps a)) [
       | inl p ↦ subst (IsSo ps w a s) (sym p.0) (own_attempts ps w a s p.1 within (step ps a s.board.states) s.board.failure refl refl)
       | inr p ↦ subst (IsSo ps w a s) (sym p.0) (others_attempt ps w a s p.1 (step ps a s.board.states) refl)
     ]
+
+pub attempts_answer : AttemptsAnswer
+attempts_answer ps w a s within = attempt_answers ps w a s within

@@ -51,18 +51,21 @@ use Rattle.ioa_system.proofs.Hosting.{host_owner, host_participants, host_start_
 use Rattle.ioa_run.specs.Alone.{alone_in}
 use Rattle.ioa_run.specs.Boards.{Failure, IsFailureFrom, IsSound, Standing}
 use Rattle.ioa_run.specs.Histories.{acts_of}
-use Rattle.ioa_run.specs.Hosts.{AreApart, BoardsLike, Held, HostAlone, HostHistory, HostOutcome, HostSchedule, HostTurns, HostsApart, IsHostLog, ProgramHistory, ProgramSchedule, SchedulesLike, TurnsLike, by_entry, filled_in, host_proposers, host_proposers_of, hosts_alone}
+use Rattle.ioa_run.specs.Hosts.{AreApart, BoardsLike, Held, HostAlone, HostCopy, HostEvents, HostHistory, HostOutcome, HostSchedule, HostTurns, HostsApart, IsHostLog, ProgramHistory, ProgramSchedule, SchedulesLike, TurnsLike, by_entry, filled_in, host_proposers, host_proposers_of, hosts_alone, hosts_events}
 use Rattle.ioa_run.specs.Outcomes.{IsLogOf, ending, logged}
+use Rattle.ioa_run.specs.Planning.{answer_of, intent_of}
+use Rattle.ioa_run.specs.Played.{events_in}
 use Rattle.ioa_run.specs.Proposers.{by_code, filled, proposers, proposers_of}
 use Rattle.ioa_run.specs.Reports.{AreTold}
 use Rattle.ioa_run.specs.Schedules.{Event, Plays, Schedule, start_schedule}
 use Rattle.ioa_run.specs.Turns.{Proposer, after}
 use Rattle.ioa_run.specs.declared.answer.Answer.{Answer}
-use Rattle.ioa_run.proofs.Alike.{Both, OneLike, ProposeLike, alone_like, related_length, sound_back, sound_on}
-use Rattle.ioa_run.proofs.AlikeSchedules.{schedules_back, schedules_on}
+use Rattle.ioa_run.proofs.Alike.{Both, OneLike, ProposeLike, alone_like, events_like, related_length, sound_back, sound_on}
+use Rattle.ioa_run.proofs.AlikeSchedules.{copy_like, schedules_back, schedules_on}
 use Rattle.ioa_run.proofs.Finishing.{faulted_last}
 use Rattle.ioa_run.proofs.HostProposals.{by_alike, filled_alike}
 use Rattle.ioa_run.proofs.Performing.{legal_run}
+use Rattle.ioa_run.proofs.Scheduling.{planned_now}
 
 some_same : {X : Type 0} (o : Option X) (x y : X) → o ≡ Some x → o ≡ Some y → x ≡ y
 some_same o x y e f = let g : Some x ≡ Some y = sym e ∙ f in cc
@@ -382,6 +385,12 @@ module _ (p : Prog) (h : Hosted) (c : Composed) (stands : Stands h c) (means : M
       (length-map h.hosts host_proposers_of ∙ as_many ∙ sym (length-map p.members proposers_of))
       (propose p h c program stands means) turns (host_starts h) (start_states p) words starts
 
+  events_alike : IsProgram p → (words : List Words) (inputs : List Act) (turns : ℕ) → hosts_events h words inputs turns ≡ events_in p words inputs turns
+  events_alike program words inputs turns =
+      events_like (Held h p) (hosts_of h) (tabled p) steps workers (host_proposers h) (proposers p) inputs
+      (length-map h.hosts host_proposers_of ∙ as_many ∙ sym (length-map p.members proposers_of))
+      (propose p h c program stands means) turns (host_starts h) (start_states p) words starts
+
   history_back : (b : Standing (List Val)) → IsSound (tabled p) (start_states p) b → (d : Standing (HostState Env)) × IsSound (hosts_of h) (host_starts h) d × BoardsLike (Held h p) d b
   history_back b s = sound_back (Held h p) (hosts_of h) (tabled p) steps workers (host_starts h) (start_states p) b starts s
 
@@ -444,6 +453,14 @@ host_alone p h c words inputs turns o program stands means a =
       log = host_log p h c (alone_in p words inputs turns).board (hosts_alone h words inputs turns).board o.log.items o.end o.states.items stands means l.board a.log;
       reports = a.reports ∙ sym l.reports;
     }
+
+pub host_events : HostEvents
+host_events p h c words inputs turns program stands means = events_alike p h c stands means program words inputs turns
+
+pub host_copy : HostCopy
+host_copy p h c w a s u r stands means l like made =
+    copy_like (Held h p) (hosts_of h) (tabled p) (steps p h c stands means) (workers p h c stands means) w a s u (answer_of r) (intent_of r) like
+    (planned_now (record { program = p; board = u.board }) w a r l made).plans
 
 pub host_history : HostHistory
 host_history p h c b stands means s = history_back p h c stands means b s

@@ -24,4 +24,5 @@ pub mod Alike
 pub mod AlikeSchedules
 pub mod HostProposals
 pub mod Hosting
+pub mod Played
 pub mod Sharing

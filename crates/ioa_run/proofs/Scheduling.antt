@@ -19,7 +19,7 @@ use Rattle.ioa_run.specs.Boards.{Commits, Intent, now_of}
 use Rattle.ioa_run.specs.Planning.{IfReady, IsOf, Makes, answer_of, intent_of, plan_in}
 use Rattle.ioa_run.specs.ProgramBoards.{ProgramBoard, start_board}
 use Rattle.ioa_run.specs.ProgramPlans.{ProgramPlan}
-use Rattle.ioa_run.specs.ProgramSchedules.{ArePlans, IsPlay, PlansNow, ProgramSchedule, intents, settled_of, start_program}
+use Rattle.ioa_run.specs.ProgramSchedules.{ArePlans, CopyAnswers, IsPlay, PlansNow, ProgramSchedule, intents, settled_of, start_program}
 use Rattle.ioa_run.specs.Schedules.{Answers, Event, Plans, Plays, Schedule, Spends, copy, intent, plan_of, start_schedule}
 use Rattle.ioa_run.specs.Verdicts.{Commit, Decides, GivesBack}
 
@@ -118,6 +118,9 @@ planned_now b w a r l h =
       plans = subst P (sym (step_taken ps a ss k)) (plans_back w (worker ps a) (participants ps a) ss (step_from ps a (now_of ps a ss)) (intent ps a ss) (answer_of r) (intent_of r) h.plans);
       ready = h.ready;
     }
+
+pub copy_answers : CopyAnswers
+copy_answers p w a s r l h = (intent_of r, (planned_now (record { program = p; board = s.board }) w a r l h).plans, refl)
 
 pub intent_in : (r : Planned) → option_map (λ (p : ProgramPlan). p.intent) (plan_in r) ≡ intent_of r
 intent_in (Planned.Ready p) = refl

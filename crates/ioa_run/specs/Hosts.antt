@@ -26,14 +26,17 @@ use Rattle.ioa_system.specs.Systems.{values_of}
 use Rattle.ioa_system.specs.declared.log.LogEnd.{LogEnd}
 use Rattle.ioa_system.specs.declared.log.LogEntry.{LogEntry}
 use Rattle.ioa_run.specs.Alone.{IsAlone, IsOutcome, alone_in}
-use Rattle.ioa_run.specs.Boards.{Intent, IsSound, Standing}
+use Rattle.ioa_run.specs.Boards.{Intent, IsSound, Standing, now_of}
 use Rattle.ioa_run.specs.Histories.{acts_of}
 use Rattle.ioa_run.specs.Outcomes.{ending, logged}
+use Rattle.ioa_run.specs.Planning.{Makes, answer_of, intent_of}
+use Rattle.ioa_run.specs.Played.{PlaysAs, alone_events, events_in, played}
 use Rattle.ioa_run.specs.Reports.{AreTold}
-use Rattle.ioa_run.specs.Schedules.{Event, Plays, Schedule, intent, start_schedule}
+use Rattle.ioa_run.specs.Schedules.{Answers, Event, Plays, Schedule, copy, intent, start_schedule, with_plan}
 use Rattle.ioa_run.specs.Turns.{Proposer, Turns, alone}
 use Rattle.ioa_run.specs.declared.answer.Answer.{Answer}
 use Rattle.ioa_run.specs.declared.outcome.Outcome.{Outcome}
+use Rattle.ioa_run.specs.declared.planned.Planned.{Planned}
 
 -- ---- what hosts propose
 
@@ -62,6 +65,10 @@ host_proposers h = map host_proposers_of h.hosts
 -- the run of the hosts on one thread
 abbrev pub hosts_alone : Hosted → List Words → List Act → ℕ → Turns (HostState Env)
 hosts_alone h words inputs turns = alone (hosts_of h) (host_proposers h) inputs turns (host_starts h) words
+
+-- its events, each with its answer
+abbrev pub hosts_events : Hosted → List Words → List Act → ℕ → List (Event × Answer)
+hosts_events h words inputs turns = alone_events (hosts_of h) (host_proposers h) inputs turns (host_starts h) words
 
 -- ---- boards and turns of which the states are related
 
@@ -177,3 +184,23 @@ ProgramSchedule =
     (p : Prog) (h : Hosted) (c : Composed) (es : List Event) (xs : List Answer) (s : Schedule (HostState Env)) → AreApart h → Stands h c → Means p c
     → Plays (hosts_of h) es (start_schedule (host_starts h)) xs s
     → (u : Schedule (List Val)) × Plays (tabled p) es (start_schedule (start_states p)) xs u × SchedulesLike (Held h p) (hosts_of h) (tabled p) s u
+
+-- the hosts' run on one thread is a play of the schedule machine, which comes to the board of the run
+abbrev pub HostPlays : Type 0
+HostPlays =
+    (h : Hosted) (words : List Words) (inputs : List Act) (turns : ℕ)
+    → PlaysAs (hosts_of h) (hosts_events h words inputs turns) (start_schedule (host_starts h)) (played (host_starts h) (hosts_alone h words inputs turns).board)
+
+-- of the same events with the same answers as the program's
+abbrev pub HostEvents : Type 0
+HostEvents =
+    (p : Prog) (h : Hosted) (c : Composed) (words : List Words) (inputs : List Act) (turns : ℕ) → IsProgram p → Stands h c → Means p c
+    → hosts_events h words inputs turns ≡ events_in p words inputs turns
+
+-- what planning by a copy of the program's slots answers a worker is what the hosts' machine answers to its copy, and the plans are of the same
+-- action in related states
+abbrev pub HostCopy : Type 0
+HostCopy =
+    (p : Prog) (h : Hosted) (c : Composed) (w : ℕ) (a : Act) (s : Schedule (HostState Env)) (u : Schedule (List Val)) (r : Planned) → Stands h c → Means p c
+    → length u.board.states ≡ length p.members → SchedulesLike (Held h p) (hosts_of h) (tabled p) s u → Makes p w a (now_of (tabled p) a u.board.states) r
+    → (t : Schedule (HostState Env)) × Answers (hosts_of h) (copy w a) s (answer_of r) t × SchedulesLike (Held h p) (hosts_of h) (tabled p) t (with_plan u w (intent_of r))

@@ -6,6 +6,7 @@ pub mod ProgramBoards
 pub mod ProgramPlans
 pub mod Planning
 pub mod Verdicts
+pub mod Points
 pub mod ProgramSchedules
 pub mod Seeds
 pub mod Reports
@@ -21,4 +22,5 @@ pub mod Going
 pub mod Turning
 pub mod Attempted
 pub mod Rounds
+pub mod Played
 pub mod Hosts

@@ -1,5 +1,5 @@
 -- What making a plan answers.
-use Rattle.std.specs.Prelude.{◌≡◌, ◌≢◌, ℕ, List, [], ◌∷◌, Option, None, Some}
+use Rattle.std.specs.Prelude.{◌≡◌, ◌≢◌, ℕ, List, Option, None, Some}
 use Rattle.ioa_value.specs.Actions.{Act}
 use Rattle.ioa_value.specs.Plain.{Val}
 use Rattle.ioa_node.specs.Nodes.{Node}
@@ -7,8 +7,8 @@ use Rattle.ioa_tree.specs.Steps.{not_an_action, not_enabled}
 use Rattle.ioa_compile.specs.Programs.{Prog}
 use Rattle.ioa_compile.specs.Tables.{tabled}
 use Rattle.ioa_system.specs.Logs.{worker}
-use Rattle.ioa_system.specs.Participants.{step_from, taken}
-use Rattle.ioa_system.specs.Systems.{slot_types, types_of, values_of}
+use Rattle.ioa_system.specs.Participants.{step_from}
+use Rattle.ioa_system.specs.Systems.{values_of}
 use Rattle.ioa_run.specs.declared.answer.Answer.{Answer}
 use Rattle.ioa_run.specs.declared.assessed.Assessed.{Assessed}
 use Rattle.ioa_run.specs.declared.planned.Planned.{Planned}
@@ -38,10 +38,6 @@ IfReady P Planned.NotYours = Unit {0}
 pub record IsOf (p : Prog) (w : ℕ) (plan : ProgramPlan) : Type 0 where
   pub program : plan.program ≡ p
   pub who : plan.who ≡ w
-
--- they are a copy of the worker's own state alone
-abbrev pub IsOwn : Prog → ℕ → List Node → Type 0
-IsOwn p w copied = types_of copied ≡ taken (w ∷ []) (slot_types p.members)
 
 -- what a worker is answered that plans the action by these states of the participants
 pub record Makes (p : Prog) (w : ℕ) (a : Act) (copied : List (List Val)) (r : Planned) : Type 0 where

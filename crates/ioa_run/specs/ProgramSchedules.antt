@@ -14,12 +14,12 @@ use Rattle.ioa_run.specs.declared.verdict.Verdict.{Verdict}
 use Rattle.ioa_run.specs.declared.event.Event.{Event}
 use Rattle.ioa_run.specs.Coded.{coded_schedule}
 use Rattle.ioa_run.specs.declared.planned.Planned.{Planned}
-use Rattle.ioa_run.specs.Planning.{IfReady, IsOf, answer_of, intent_of, plan_in}
+use Rattle.ioa_run.specs.Planning.{IfReady, IsOf, Makes, answer_of, intent_of, plan_in}
 use Rattle.ioa_run.specs.ProgramBoards.{ProgramBoard}
 use Rattle.ioa_run.specs.ProgramPlans.{ProgramPlan}
-use Rattle.ioa_run.specs.Boards.{Intent}
+use Rattle.ioa_run.specs.Boards.{Intent, now_of}
 use Rattle.ioa_run.specs.Schedules as machine
-use Rattle.ioa_run.specs.Schedules.{Plans, Plays, Schedule, intent, start_schedule}
+use Rattle.ioa_run.specs.Schedules.{Answers, Plans, Plays, Schedule, intent, start_schedule, with_plan}
 
 pub record ProgramSchedule : Type 0 where
   pub program : Prog
@@ -73,3 +73,12 @@ Settles v r = r ≡ settled_of v
 pub record IsPlay (p : Prog) (es : List machine.Event) (s : ProgramSchedule) (as' : List Answer) : Type 0 where
   pub program : s.program ≡ p
   pub plays : Plays (tabled p) es (start_schedule (start_states p)) as' s.schedule
+
+-- ---- law
+
+-- what planning an action by a copy of its participants' states as they are now answers a worker is what the machine answers to its copy, and
+-- the worker then has that plan or none
+abbrev pub CopyAnswers : Type 0
+CopyAnswers =
+    (p : Prog) (w : ℕ) (a : Act) (s : Schedule (List Val)) (r : Planned) → length s.board.states ≡ length p.members → Makes p w a (now_of (tabled p) a s.board.states) r
+    → Answers (tabled p) (machine.copy w a) s (answer_of r) (with_plan s w (intent_of r))

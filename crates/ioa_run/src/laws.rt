@@ -1,7 +1,9 @@
 //! Laws of schedules. The functions do nothing: what they say is in their contracts.
 
 ghost use Rattle.ioa_run.specs.Attempts.{AttemptsAnswer};
-ghost use Rattle.ioa_run.specs.Hosts.{HostAlone, HostHistory, HostOutcome, HostSchedule, HostTurns, HostsApart, ProgramHistory, ProgramSchedule};
+ghost use Rattle.ioa_run.specs.Hosts.{HostAlone, HostCopy, HostEvents, HostHistory, HostOutcome, HostPlays, HostSchedule, HostTurns, HostsApart, ProgramHistory, ProgramSchedule};
+ghost use Rattle.ioa_run.specs.Played.{AlonePlays, NeverStale};
+ghost use Rattle.ioa_run.specs.ProgramSchedules.{CopyAnswers};
 ghost use Rattle.ioa_run.specs.Schedules.{OnePlay};
 
 /// The schedule machine answers events in one way, and they lead to one schedule.
@@ -12,6 +14,24 @@ pub fn one_play()
 /// A turn's attempt is what the schedule machine answers to a copy and, where that is planned, to the commit at once after it.
 pub fn attempts_answer()
     ensures { AttemptsAnswer }
+{}
+
+/// Planning an action by a copy of its participants' states (`Board::copy`, `Plan::make`) is the schedule machine's copy at the moment at which they
+/// are copied: the answer is the same, and the worker then has that plan or none. So it is for the hosts for which the composition stands that the
+/// program means, whose slots the states are.
+pub fn copies_answer()
+    ensures program { CopyAnswers }
+    ensures hosts { HostCopy }
+{}
+
+/// The whole run on one thread is a play of the schedule machine: in each turn in which a worker means to do something it copies and, where it can
+/// plan the action, commits at once. The machine answers each event so, no plan is stale, and what then stands is the run's, with no plan left. The
+/// run of the hosts for which the composition stands that the program means is such a play, too, of the same events with the same answers.
+pub fn runs_alone_are_plays()
+    ensures program { AlonePlays }
+    ensures stale { NeverStale }
+    ensures hosts { HostPlays }
+    ensures events { HostEvents }
 {}
 
 /// A program's run on one thread is that of the hosts for which the composition stands that the program means: each host takes its turns by

@@ -1,8 +1,8 @@
-ghost use Rattle.std.specs.Prelude.{◌≡◌, ◌<◌, ◌∷◌, [], All, IfOk, IfSome, length, true};
+ghost use Rattle.std.specs.Prelude.{◌≡◌, IfOk, IfSome};
 ghost use Rattle.ioa_value.specs.Actions.{act_of};
-ghost use Rattle.ioa_system.specs.Participants.{taken};
-ghost use Rattle.ioa_system.specs.Systems.{slot_types, types_of};
-ghost use Rattle.ioa_run.specs.Planning.{Assesses, IfReady, IsOf, IsOwn};
+ghost use Rattle.ioa_run.specs.declared.gate.Point.TheVariants as points;
+ghost use Rattle.ioa_run.specs.Planning.{Assesses, IfReady, IsOf};
+ghost use Rattle.ioa_run.specs.Points.{EndsAt, IsEnd};
 
 use crate::assessed::Assessed;
 use crate::choice::choose;
@@ -27,13 +27,6 @@ pub(crate) enum Source<W> {
     Words(W),
     /// The environment's: the script.
     Script,
-}
-
-/// What a worker means to do, and of a component the copy of its own state by which it means it.
-#[derive(Drop)]
-pub(crate) struct Meant {
-    pub action: Action,
-    pub own: Option<Vec<NodeState>>,
 }
 
 /// A worker of a run on threads, on its own thread.
@@ -73,9 +66,11 @@ impl<'a, 'p, R: Wait, T: Terms, G: Gate> Worker<'a, 'p, R, T, G> {
         &self,
         workspace: &mut Workspace,
         source: &mut Source<W>,
-    ) -> Result<Option<Point>, OutOfMemory> {
+    ) -> Result<Option<Point>, OutOfMemory>
+        ensures { IfOk result (λ r. IfSome r IsEnd) }
+    {
         match self.wish(workspace, source)? {
-            Some(meant) => self.attempt(meant),
+            Some(action) => self.attempt(action),
             None => Ok(Some(self.idle())),
         }
     }
@@ -85,9 +80,7 @@ impl<'a, 'p, R: Wait, T: Terms, G: Gate> Worker<'a, 'p, R, T, G> {
         &self,
         workspace: &mut Workspace,
         source: &mut Source<W>,
-    ) -> Result<Option<Meant>, OutOfMemory>
-        ensures { IfOk result (λ r. IfSome r (λ m. IfSome m.own (λ states. IsOwn T.program self.now.who states.items))) }
-    {
+    ) -> Result<Option<Action>, OutOfMemory> {
         match source {
             Source::Words(words) => self.choice(workspace, words),
             Source::Script => self.next_of_script(),
@@ -95,14 +88,9 @@ impl<'a, 'p, R: Wait, T: Terms, G: Gate> Worker<'a, 'p, R, T, G> {
     }
 
     /// The next action of the script, or nothing behind its end.
-    fn next_of_script(&self) -> Result<Option<Meant>, OutOfMemory>
-        ensures { IfOk result (λ r. IfSome r (λ m. IfSome m.own (λ states. IsOwn T.program self.now.who states.items))) }
-    {
+    fn next_of_script(&self) -> Result<Option<Action>, OutOfMemory> {
         let place = self.crew.place(self.rt);
-        match next_input(self.alloc, self.crew.inputs, place)? {
-            Some(action) => Ok(Some(Meant { action, own: None })),
-            None => Ok(None),
-        }
+        next_input(self.alloc, self.crew.inputs, place)
     }
 
     /// What a component means to do by a copy of its own state; a number past the components' means nothing.
@@ -110,89 +98,65 @@ impl<'a, 'p, R: Wait, T: Terms, G: Gate> Worker<'a, 'p, R, T, G> {
         &self,
         workspace: &mut Workspace,
         words: &mut W,
-    ) -> Result<Option<Meant>, OutOfMemory>
-        ensures { IfOk result (λ r. IfSome r (λ m. IfSome m.own (λ states. IsOwn T.program self.now.who states.items))) }
-    {
+    ) -> Result<Option<Action>, OutOfMemory> {
         let members = self.crew.program.members();
         if self.who >= members.len() {
             return Ok(None);
         }
         let own = self.crew.copy(self.rt, &[self.who])?;
-        let action = choose(
+        choose(
             self.alloc,
             workspace,
             &members[self.who].entries,
             &own[0],
             words,
-        )?;
-        match action {
-            Some(action) => Ok(Some(Meant {
-                action,
-                own: Some(own),
-            })),
-            None => Ok(None),
-        }
+        )
     }
 
     /// Plans the action and commits the plan, with the gate between.
-    fn attempt(&self, meant: Meant) -> Result<Option<Point>, OutOfMemory>
-        requires { IfSome meant.own (λ states. IsOwn T.program self.now.who states.items) }
+    fn attempt(&self, action: Action) -> Result<Option<Point>, OutOfMemory>
+        ensures { IfOk result (λ r. IfSome r IsEnd) }
     {
-        let Planned::Ready(plan) = self.plan(meant)? else {
+        let Planned::Ready(plan) = self.plan(action)? else {
             return Ok(Some(self.idle()));
         };
         self.gate.reach(self.who, Point::Planned);
         self.commit(plan)
     }
 
-    /// The worker's plan for what it means to do, by copies of the participants' states.
-    fn plan(&self, meant: Meant) -> Result<Planned<'p>, OutOfMemory>
-        requires { IfSome meant.own (λ states. IsOwn T.program self.now.who states.items) }
+    /// The worker's plan for the action, by copies of the participants' states as they are now: others may have committed since it was chosen.
+    fn plan(&self, action: Action) -> Result<Planned<'p>, OutOfMemory>
         ensures { IfOk result (IfReady (IsOf T.program self.now.who)) }
     {
-        let Meant { action, own } = meant;
-        let (copied, assessed) = self.assess(&action, own)?;
+        let (copied, assessed) = self.assess(&action)?;
         Ok(plan_by(self.crew.program, self.who, action, copied, assessed))
     }
 
     /// Copies of the participants' states, and whether the worker can plan the action by these. The action is looked up once.
-    fn assess(
-        &self,
-        action: &Action,
-        own: Option<Vec<NodeState>>,
-    ) -> Result<(Vec<NodeState>, Assessed), OutOfMemory>
-        requires { IfSome own (λ states. IsOwn T.program self.now.who states.items) }
+    fn assess(&self, action: &Action) -> Result<(Vec<NodeState>, Assessed), OutOfMemory>
         ensures { IfOk result (λ r. Assesses T.program self.now.who (act_of action.now) r.0.items r.1) }
     {
         let participation = Participation::of(self.alloc, self.crew.program, action)?;
         let numbers = participation.numbers(self.alloc)?;
-        let copied = self.copied(&numbers, own)?;
+        let copied = self.crew.copy(self.rt, &numbers)?;
         let assessed = assess(self.alloc, &participation, self.who, numbers, &copied)?;
         Ok((copied, assessed))
     }
 
-    /// Copies of the states of the components of these numbers, all as they are at one moment: the copy of the worker's own state, where that is all.
-    fn copied(
-        &self,
-        numbers: &[usize],
-        own: Option<Vec<NodeState>>,
-    ) -> Result<Vec<NodeState>, OutOfMemory>
-        requires numbers { All (λ n. n < length T.program.members) numbers.now }
-        requires own { IfSome own (λ states. IsOwn T.program self.now.who states.items) }
-        ensures { IfOk result (λ states. types_of states.items ≡ taken numbers.now (slot_types T.program.members)) }
-    {
-        match own {
-            Some(states) if is_just(numbers, self.who) => Ok(states),
-            _ => self.crew.copy(self.rt, numbers),
-        }
-    }
-
-    /// Commits the plan. A worker that is stopped leaves.
+    /// Commits the plan, and where the turn then ends.
     fn commit(&self, plan: Plan<'p>) -> Result<Option<Point>, OutOfMemory>
         requires who { self.now.who ≡ plan.who }
         requires program { plan.program ≡ T.program }
+        ensures { IfOk result (λ r. IfSome r IsEnd) }
     {
-        let verdict = self.crew.commit(self.rt, self.who, plan);
+        self.end_by(self.crew.commit(self.rt, self.who, plan))
+    }
+
+    /// Where a turn ends whose commit is answered so. A worker that is stopped leaves.
+    fn end_by(&self, verdict: Verdict<'p>) -> Result<Option<Point>, OutOfMemory>
+        ensures at { EndsAt verdict.entry result }
+        ensures end { IfOk result (λ r. IfSome r IsEnd) }
+    {
         match verdict {
             Verdict::Committed(_) => Ok(Some(Point::Committed)),
             Verdict::Stale => Ok(Some(Point::Stale)),
@@ -205,16 +169,12 @@ impl<'a, 'p, R: Wait, T: Terms, G: Gate> Worker<'a, 'p, R, T, G> {
         }
     }
 
-    /// Counts a turn in which there is nothing to commit.
-    fn idle(&self) -> Point {
+    /// Counts a turn in which there is nothing to commit, and ends it.
+    fn idle(&self) -> Point
+        ensures at { result ≡ points.Idle }
+        ensures end { IsEnd result }
+    {
         self.crew.idle(self.rt, self.who);
         Point::Idle
     }
-}
-
-/// Whether this is the only one of the numbers.
-fn is_just(numbers: &[usize], number: usize) -> bool
-    ensures { result ≡ true → numbers.now ≡ number ∷ [] }
-{
-    numbers.len() == 1 && numbers[0] == number
 }

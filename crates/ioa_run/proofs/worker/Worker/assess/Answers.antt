@@ -7,8 +7,8 @@ use Rattle.ioa_system.specs.ProgramActions.{ProgramAction}
 use Rattle.ioa_run.proofs.Performing.{numbers_within}
 use Rattle.ioa_run.proofs.worker.Worker.assess.Goals as goal
 
-pub copied-requires-clause-numbers : goal.copied-requires-clause-numbers
-copied-requires-clause-numbers g c =
+pub copy-requires : goal.copy-requires
+copy-requires g c =
     let p : Prog = g.T.Terms.program in
     subst (λ ns. All (λ m. m < length p.members) ns)
     (sym (c.deref.ensures.value ∙ c.in_ok-numbers.ensures ∙ ap (λ (q : ProgramAction). participants (tabled q.program) q.action) c.in_ok-participation.ensures

@@ -1,0 +1,73 @@
+-- A run on one thread as a play of the schedule machine: the events of its turns, each with its answer.
+use Rattle.std.specs.Prelude.{◌≢◌, ◌+◌, ◌++◌, ℕ, zero, suc, List, [], ◌∷◌, All, cond, length, map}
+use Rattle.ioa_value.specs.Actions.{Act}
+use Rattle.ioa_tree.specs.Components.{Component}
+use Rattle.ioa_tree.specs.Proposing.{Words, Tried, tries, idle}
+use Rattle.ioa_compile.specs.Programs.{Prog}
+use Rattle.ioa_compile.specs.Tables.{start_states, tabled}
+use Rattle.ioa_run.specs.Alone.{alone_in}
+use Rattle.ioa_run.specs.Boards.{Standing}
+use Rattle.ioa_run.specs.Proposers.{proposers}
+use Rattle.ioa_run.specs.Schedules.{Event, Plays, Schedule, commit, copy, start_schedule}
+use Rattle.ioa_run.specs.Turns.{Proposer, Turns, attempt, first_turns, has_ended, meant, rounds, turns_of_first}
+use Rattle.ioa_run.specs.declared.answer.Answer.{Answer}
+
+-- the events of a worker's attempt that is answered so: it copies and, where it can plan the action, commits at once
+abbrev pub attempt_events : ℕ → Act → Answer → List (Event × Answer)
+attempt_events w a Answer.NotAnAction = (copy w a, Answer.NotAnAction) ∷ []
+attempt_events w a Answer.NotYours = (copy w a, Answer.NotYours) ∷ []
+attempt_events w a Answer.NotEnabled = (copy w a, Answer.NotEnabled) ∷ []
+attempt_events w a Answer.Planned = (copy w a, Answer.Planned) ∷ (commit w, Answer.Planned) ∷ []
+attempt_events w a Answer.NoPlan = (copy w a, Answer.Planned) ∷ (commit w, Answer.NoPlan) ∷ []
+attempt_events w a Answer.Stopped = (copy w a, Answer.Planned) ∷ (commit w, Answer.Stopped) ∷ []
+attempt_events w a Answer.Stale = (copy w a, Answer.Planned) ∷ (commit w, Answer.Stale) ∷ []
+attempt_events w a (Answer.Faulted c f) = (copy w a, Answer.Planned) ∷ (commit w, Answer.Faulted c f) ∷ []
+attempt_events w a (Answer.Committed n) = (copy w a, Answer.Planned) ∷ (commit w, Answer.Committed n) ∷ []
+
+-- of the turn of a worker that means to do this, or nothing
+abbrev pub tried_events : {S : Type 0} → List (Component S) → ℕ → Tried Act → Standing S → List (Event × Answer)
+tried_events ps w (idle taken) b = []
+tried_events ps w (tries a taken) b = attempt_events w a (attempt ps w a b).0
+
+-- the components, the local entries of each in order, and the environment's script
+module _ {S : Type 0} (ps : List (Component S)) (entries : List (List (Proposer S))) (inputs : List Act) where
+  -- of a worker's turn: who has ended takes none
+  abbrev pub turn_events : ℕ → Turns S → List (Event × Answer)
+  turn_events w t = cond (has_ended t w) [] (tried_events ps w (meant ps entries inputs w t) t.board)
+
+  -- of the turns of the first so many workers
+  abbrev pub first_events : ℕ → Turns S → List (Event × Answer)
+  first_events zero t = []
+  first_events (suc n) t = first_events n t ++ turn_events n (turns_of_first ps entries inputs n t)
+
+  -- of so many rounds
+  abbrev pub rounds_events : ℕ → Turns S → List (Event × Answer)
+  rounds_events zero t = []
+  rounds_events (suc n) t = rounds_events n t ++ first_events (length entries + 1) (rounds ps entries inputs n t)
+
+-- of a whole run
+abbrev pub alone_events : {S : Type 0} → List (Component S) → List (List (Proposer S)) → List Act → ℕ → List S → List Words → List (Event × Answer)
+alone_events ps entries inputs turns ss words = rounds_events ps entries inputs turns (first_turns ss words (length entries))
+
+-- each of these events is answered so, one after another
+abbrev pub PlaysAs : {S : Type 0} → List (Component S) → List (Event × Answer) → Schedule S → Schedule S → Type 0
+PlaysAs ps es s t = Plays ps (map (λ e. e.0) es) s (map (λ e. e.1) es) t
+
+-- the board stands so, and no worker has a plan, as at the start
+abbrev pub played : {S : Type 0} → List S → Standing S → Schedule S
+played ss b = record (start_schedule ss) { board = b }
+
+-- ---- laws
+
+abbrev pub events_in : Prog → List Words → List Act → ℕ → List (Event × Answer)
+events_in p words inputs turns = alone_events (tabled p) (proposers p) inputs turns (start_states p) words
+
+-- the machine answers so, and comes to the board of the run
+abbrev pub AlonePlays : Type 0
+AlonePlays =
+    (p : Prog) (words : List Words) (inputs : List Act) (turns : ℕ)
+    → PlaysAs (tabled p) (events_in p words inputs turns) (start_schedule (start_states p)) (played (start_states p) (alone_in p words inputs turns).board)
+
+-- no plan is stale
+abbrev pub NeverStale : Type 0
+NeverStale = (p : Prog) (words : List Words) (inputs : List Act) (turns : ℕ) → All (λ e. e.1 ≢ Answer.Stale) (events_in p words inputs turns)
