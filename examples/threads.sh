@@ -57,18 +57,50 @@ for source in "$top"/*/*.ioa; do
 done
 [ "$runs" -gt 0 ] || fail "examples" "there are none"
 
-# Where the system refuses a thread, the run is refused, and nothing is written. With less and less memory for its stacks, that comes before the program
-# cannot begin at all.
+# A source of four components whose turns are long, and one of two whose turns are short
+{
+  echo "automaton Work(i: Int) signature internal go(const i) states a: Int; b: Int transitions internal go"
+  awk 'BEGIN { for (i = 0; i < 200; i++) printf "%s a := (a * 7 + b + %d) mod 1009; b := (b * 5 - a) mod 997", i ? ";" : "eff", i }'
+  echo " composition Long components A: Work(0); B: Work(1); C: Work(2); D: Work(3)"
+} > "$work/long.ioa"
+{
+  echo "automaton Work(i: Int) signature internal go(const i) states a: Int transitions internal go eff a := 1 - a"
+  echo "composition Short components A: Work(0); B: Work(1)"
+} > "$work/short.ioa"
+
+# Whether with this memory a run of so many turns is refused for want of a thread, and nothing is written
 refused() {
-  for kilobytes in $(seq 400000 -4000 4000); do
-    (ulimit -v "$kilobytes" && "$program" run "$top/links/links.ioa" --comp Sliding --turns 1 > "$work/out" 2> "$work/errors") 2> "$work/shell"
-    status=$?
-    if [ "$(cat "$work/errors")" = N3 ]; then
-      [ "$status" -eq 5 ] && [ ! -s "$work/out" ]
-      return
-    fi
-  done
-  return 1
+  (ulimit -v "$1" && ulimit -t 10 && "$program" run "$work/long.ioa" --turns "$2" > "$work/out" 2> "$work/errors") 2> "$work/shell"
+  [ $? -eq 5 ] && [ "$(cat "$work/errors")" = N3 ] && [ ! -s "$work/out" ]
 }
-refused || fail "examples/links/links.ioa" "no thread is refused, or not so"
+
+# Where the system refuses a thread, the run is refused, and nothing is written. Those that were started take no more turns: of the many that each has here they would
+# take longer than they are given. With less and less memory for its stacks, the environment's thread is refused first, and then a component's, before the
+# program cannot begin at all.
+refusals=0
+for kilobytes in $(seq 400000 -4000 4000); do
+  if refused "$kilobytes" 1; then
+    refused "$kilobytes" 100000 || fail "$kilobytes kilobytes" "a run of many turns is not refused at once"
+    refusals=$((refusals + 1))
+  fi
+done
+[ "$refusals" -gt 1 ] || fail "threads" "none is refused, or not so"
+
+# Whether with this memory some is refused to a worker in its turn, and the run is given all the same: a report counts fewer turns than the worker has, and the
+# log is accepted
+shortened() {
+  (ulimit -v "$1" && "$program" run "$work/short.ioa" --turns 100000 --log --reports > "$work/log" 2> "$work/reports") 2> "$work/shell" || return 1
+  awk '$2 + $4 + $6 < 100000 { short = 1 } END { exit !short }' "$work/reports" && counted "$work/log" "$work/reports" \
+    && "$program" replay "$work/short.ioa" --log < "$work/log" > "$work/replayed"
+}
+
+# A worker to which memory is refused says so as it leaves. Of one that leaves without a word no run is given. (A thread may be refused, too.)
+found=no
+for kilobytes in $(seq 100000 -4000 20000); do
+  if shortened "$kilobytes"; then
+    found=yes
+    break
+  fi
+done
+[ "$found" = yes ] || fail "memory" "no run is given in which some is refused to a worker"
 echo "threads: $runs passed, 0 failed"
