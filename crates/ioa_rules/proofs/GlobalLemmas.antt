@@ -1,12 +1,10 @@
 -- The names of the global space, as they are gathered.
 use Rattle.std.proofs.Common.{◌≡◌, ℕ, ◌+◌, ◌<◌, ◌≤◌, Bool, true, false, not, cond, List, [], ◌∷◌, ◌++◌, map, take, drop, length, get_or, Result, Ok, Err, IsErr, refl, sym, ap, subst, ◌∙◌, append_assoc, append-nil, take-append-drop}
-use Rattle.std.specs.List.{list_any, flat_map}
+use Rattle.std.specs.List.{flat_map}
 use Rattle.std.specs.Result.{IsErrAnd}
-use Rattle.std.specs.Str.{bytes_eq}
 use Rattle.std.proofs.lemmas.Bool.{not_from_false, and_from, and_left}
 use Rattle.std.proofs.lemmas.Grind.{flat_map-append}
 use Rattle.std.proofs.lemmas.List.{map-append, drop_all}
-use denote.Ref.{Bor}
 use Rattle.ioa_value.specs.Actions.{Name}
 use Rattle.ioa_value.specs.Table.{contains, distinct}
 use Rattle.ioa_value.proofs.ItemLemmas.{take_item}
@@ -18,11 +16,7 @@ use Rattle.ioa_tree.specs.WellFormed.{declared_names}
 use Rattle.ioa_rules.specs.Codes.{duplicate_name, tells}
 use Rattle.ioa_rules.specs.Globals.{Adds}
 use Rattle.ioa_rules.specs.Verdicts.{SaysOrMemory}
-use Rattle.ioa_rules.proofs.NameLemmas.{contains-texts}
 use Rattle.ioa_rules.proofs.SayLemmas.{split-at}
-
-abbrev texts_of : List (Bor (List ℕ)) → List Name
-texts_of ks = map (λ k. k.now) ks
 
 -- ---- one name
 
@@ -35,28 +29,22 @@ has true e = refl
 has false e = absurd (cc)
 
 -- a new name goes last
-pub added-new : (ks new : List (Bor (List ℕ))) (v : Bor (List ℕ)) (n : Name) (b : Bool) → v.now ≡ n → b ≡ not (list_any (λ k. bytes_eq v.now k.now) ks)
-    → new ≡ cond (list_any (λ k. bytes_eq v.now k.now) ks) ks (ks ++ v ∷ []) → b ≡ true
-    → (texts_of new ≡ texts_of ks ++ n ∷ []) × (distinct (texts_of ks) ≡ true → distinct (texts_of new) ≡ true)
-added-new ks new v n b is added keys fresh = (last ∙ ap (λ m. texts_of ks ++ m ∷ []) is, once)
+pub added-new : (old new : List Name) (v n : Name) (b : Bool) → v ≡ n → b ≡ not (contains old v) → new ≡ cond b (old ++ v ∷ []) old → b ≡ true
+    → (new ≡ old ++ n ∷ []) × (distinct old ≡ true → distinct new ≡ true)
+added-new old new v n b is added names fresh = (last ∙ ap (λ m. old ++ m ∷ []) is, once)
   where
-    absent : list_any (λ k. bytes_eq v.now k.now) ks ≡ false
+    absent : contains old v ≡ false
     absent = has-not _ (sym fresh ∙ added)
 
-    last : texts_of new ≡ texts_of ks ++ v.now ∷ []
-    last = ap texts_of (keys ∙ ap (λ c. cond c ks (ks ++ v ∷ [])) absent) ∙ map-append (λ (k : Bor (List ℕ)). k.now) ks (v ∷ [])
+    last : new ≡ old ++ v ∷ []
+    last = names ∙ ap (λ c. cond c (old ++ v ∷ []) old) fresh
 
-    once : distinct (texts_of ks) ≡ true → distinct (texts_of new) ≡ true
-    once h = ap distinct last ∙ distinct-append (texts_of ks) (v.now ∷ [])
-        ∙ and_from _ _ h (and_from _ _ refl (and_from _ _ (not_from_false _ (sym (contains-texts ks v.now) ∙ absent)) refl))
+    once : distinct old ≡ true → distinct new ≡ true
+    once h = ap distinct last ∙ distinct-append old (v ∷ []) ∙ and_from _ _ h (and_from _ _ refl (and_from _ _ (not_from_false _ absent) refl))
 
 -- a name that is there already
-pub added-again : (ks : List (Bor (List ℕ))) (v : Bor (List ℕ)) (n : Name) (b : Bool) → v.now ≡ n → b ≡ not (list_any (λ k. bytes_eq v.now k.now) ks)
-    → b ≡ false
-    → distinct (texts_of ks ++ n ∷ []) ≡ false
-added-again ks v n b is added taken =
-    let there : contains (texts_of ks) v.now ≡ true = sym (contains-texts ks v.now) ∙ has _ (sym taken ∙ added) in
-    distinct-again (texts_of ks) n [] (ap (contains (texts_of ks)) (sym is) ∙ there)
+pub added-again : (old : List Name) (v n : Name) (b : Bool) → v ≡ n → b ≡ not (contains old v) → b ≡ false → distinct (old ++ n ∷ []) ≡ false
+added-again old v n b is added taken = distinct-again old n [] (ap (contains old) (sym is) ∙ has _ (sym taken ∙ added))
 
 -- ---- names after one another
 

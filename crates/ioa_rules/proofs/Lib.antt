@@ -1,4 +1,5 @@
 pub mod NameLemmas
+pub mod NameSetLemmas
 pub mod ViewLemmas
 pub mod SayLemmas
 pub mod KnownLemmas

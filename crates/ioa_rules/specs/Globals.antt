@@ -1,4 +1,4 @@
--- The names in a set of texts.
+-- Names that are gathered.
 use Rattle.std.specs.Prelude.{◌≡◌, ◌≢◌, ℕ, true, false, List, ◌++◌, map, Result, Ok, Err}
 use Rattle.indexmap.specs.IndexSet.{IndexSet}
 use denote.Ref.{Bor}
@@ -8,7 +8,7 @@ use Rattle.ioa_lex.specs.declared.refusal.Refusal.{Refusal}
 use Rattle.ioa_lex.specs.declared.refusal.Refusal.TheVariants.{OutOfMemory}
 use Rattle.ioa_rules.specs.Codes.{duplicate_name, tells}
 
--- the names, in the order in which they were put in
+-- the names of a set of texts, in the order in which they were put in
 abbrev pub texts : {S : Type 0} → IndexSet (Bor (List ℕ)) S → List Name
 texts set = map (λ text. text.now) set.keys
 

@@ -1,6 +1,7 @@
 pub mod Codes
 pub mod Reasons
 pub mod Verdicts
+pub mod NameSets
 pub mod Globals
 pub mod Fields
 pub mod KnownTypes

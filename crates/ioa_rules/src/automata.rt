@@ -3,7 +3,6 @@ ghost use Rattle.std.specs.List.{list_all};
 ghost use Rattle.ioa_tree.specs.Compositions as compositions;
 ghost use Rattle.ioa_tree.specs.View.{automaton_of, entry_of, variable_of, name_of, tree_of};
 ghost use Rattle.ioa_tree.specs.WellFormed as well_formed;
-ghost use Rattle.ioa_rules.specs.Globals.{texts};
 ghost use Rattle.ioa_rules.specs.KnownTypes.{whole, early};
 ghost use Rattle.ioa_rules.specs.Codes.{duplicate_name, tells};
 ghost use Rattle.ioa_rules.specs.Reasons as reasons;
@@ -13,11 +12,11 @@ use crate::expressions::expect_type;
 use crate::fields::types_known;
 use crate::globals::apart_from_globals;
 use crate::known_types::KnownTypes;
+use crate::name_set::NameSet;
 use crate::names::{apart, distinct, same_name};
 use crate::positions::{parameters_apart, parameters_distinct, positions_fine};
 use crate::scope::Scope;
 use crate::transitions::{one_to_one, transitions_fine};
-use indexmap::IndexSet;
 use ioa_lex::Refusal;
 use ioa_tree::{Automaton, Declaration, Entry, Name, Variable};
 
@@ -39,9 +38,9 @@ pub fn automaton_named<'a>(declarations: &'a [Declaration], name: &Name) -> Opti
 pub(crate) fn automaton_fine(
     known: &KnownTypes,
     automaton: &Automaton,
-    globals: &IndexSet<&str>,
+    globals: &NameSet,
 ) -> Result<(), Refusal>
-    ensures { Says result (well_formed.automaton_fine (whole known.now) (early known.now) (texts globals.now) (automaton_of automaton.now)) (reasons.in_automaton (whole known.now) (early known.now) (texts globals.now) (automaton_of automaton.now)) }
+    ensures { Says result (well_formed.automaton_fine (whole known.now) (early known.now) globals.now (automaton_of automaton.now)) (reasons.in_automaton (whole known.now) (early known.now) globals.now (automaton_of automaton.now)) }
 {
     fields_fine(known, automaton, globals)?;
     starts_fine(known, automaton)?;
@@ -52,12 +51,8 @@ pub(crate) fn automaton_fine(
 
 /// Whether formals and variables have names of their own and known types.
 #[tactic(auto, using(crate::proofs::ViewLemmas::views))]
-fn fields_fine(
-    known: &KnownTypes,
-    automaton: &Automaton,
-    globals: &IndexSet<&str>,
-) -> Result<(), Refusal>
-    ensures { Says result (well_formed.fields_fine (whole known.now) (early known.now) (texts globals.now) (automaton_of automaton.now)) (reasons.in_fields (whole known.now) (early known.now) (texts globals.now) (automaton_of automaton.now)) }
+fn fields_fine(known: &KnownTypes, automaton: &Automaton, globals: &NameSet) -> Result<(), Refusal>
+    ensures { Says result (well_formed.fields_fine (whole known.now) (early known.now) globals.now (automaton_of automaton.now)) (reasons.in_fields (whole known.now) (early known.now) globals.now (automaton_of automaton.now)) }
 {
     names_distinct(automaton)?;
     names_apart(automaton, globals)?;
@@ -75,8 +70,8 @@ fn names_distinct(automaton: &Automaton) -> Result<(), Refusal>
 }
 
 #[tactic(auto, using(crate::proofs::ViewLemmas::views, crate::proofs::NameLemmas::joins))]
-fn names_apart(automaton: &Automaton, globals: &IndexSet<&str>) -> Result<(), Refusal>
-    ensures { Says result (well_formed.apart (well_formed.local_names [] [] [] (automaton_of automaton.now)) (texts globals.now)) (tells duplicate_name) }
+fn names_apart(automaton: &Automaton, globals: &NameSet) -> Result<(), Refusal>
+    ensures { Says result (well_formed.apart (well_formed.local_names [] [] [] (automaton_of automaton.now)) globals.now) (tells duplicate_name) }
 {
     apart_from_globals(&automaton.formals, globals)?;
     apart_from_globals(&automaton.variables, globals)
@@ -109,12 +104,8 @@ fn start_fine(known: &KnownTypes, automaton: &Automaton, variable: &Variable) ->
 
 /// Whether entries have names of their own, and parameters and constants that are fine.
 #[tactic(auto, using(crate::proofs::ViewLemmas::views))]
-fn entries_fine(
-    known: &KnownTypes,
-    automaton: &Automaton,
-    globals: &IndexSet<&str>,
-) -> Result<(), Refusal>
-    ensures { let a = automaton_of automaton.now in Says result (well_formed.distinct (map (λ e. e.name) a.entries) && list_all (well_formed.entry_fine (whole known.now) (early known.now) (texts globals.now) a) a.entries) (reasons.in_entries (whole known.now) (early known.now) (texts globals.now) a) }
+fn entries_fine(known: &KnownTypes, automaton: &Automaton, globals: &NameSet) -> Result<(), Refusal>
+    ensures { let a = automaton_of automaton.now in Says result (well_formed.distinct (map (λ e. e.name) a.entries) && list_all (well_formed.entry_fine (whole known.now) (early known.now) globals.now a) a.entries) (reasons.in_entries (whole known.now) (early known.now) globals.now a) }
 {
     distinct(&automaton.entries)?;
     each_entry_fine(known, automaton, globals)
@@ -123,9 +114,9 @@ fn entries_fine(
 fn each_entry_fine(
     known: &KnownTypes,
     automaton: &Automaton,
-    globals: &IndexSet<&str>,
+    globals: &NameSet,
 ) -> Result<(), Refusal>
-    ensures { let a = automaton_of automaton.now in Says result (list_all (well_formed.entry_fine (whole known.now) (early known.now) (texts globals.now) a) a.entries) (reasons.in_any (reasons.in_entry (whole known.now) (early known.now) (texts globals.now) a) a.entries) }
+    ensures { let a = automaton_of automaton.now in Says result (list_all (well_formed.entry_fine (whole known.now) (early known.now) globals.now a) a.entries) (reasons.in_any (reasons.in_entry (whole known.now) (early known.now) globals.now a) a.entries) }
 {
     for entry in &automaton.entries {
         entry_fine(known, automaton, entry, globals)?;
@@ -138,9 +129,9 @@ fn entry_fine(
     known: &KnownTypes,
     automaton: &Automaton,
     entry: &Entry,
-    globals: &IndexSet<&str>,
+    globals: &NameSet,
 ) -> Result<(), Refusal>
-    ensures { let a = automaton_of automaton.now in let e = entry_of entry.now in Says result (well_formed.entry_fine (whole known.now) (early known.now) (texts globals.now) a e) (reasons.in_entry (whole known.now) (early known.now) (texts globals.now) a e) }
+    ensures { let a = automaton_of automaton.now in let e = entry_of entry.now in Says result (well_formed.entry_fine (whole known.now) (early known.now) globals.now a e) (reasons.in_entry (whole known.now) (early known.now) globals.now a e) }
 {
     parameters_distinct(&entry.positions)?;
     parameters_apart(automaton, &entry.positions, globals)?;

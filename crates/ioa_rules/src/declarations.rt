@@ -6,7 +6,6 @@ ghost use Rattle.ioa_tree.specs.Names.{LegalNames};
 ghost use Rattle.ioa_tree.specs.View.{assembly_of, instance_of, tree_of, name_of, expr_of};
 ghost use Rattle.ioa_tree.specs.Types.{types_of};
 ghost use Rattle.ioa_tree.specs.WellFormed as well_formed;
-ghost use Rattle.ioa_rules.specs.Globals.{texts};
 ghost use Rattle.ioa_rules.specs.KnownTypes.{whole, early};
 ghost use Rattle.ioa_rules.specs.Reasons as reasons;
 ghost use Rattle.ioa_rules.specs.Types.{types_fine};
@@ -18,10 +17,10 @@ use crate::globals::global_names;
 use crate::invariants::invariant_fine;
 use crate::known_types::KnownTypes;
 use crate::limits::source_within;
+use crate::name_set::NameSet;
 use crate::names::distinct;
 use crate::scope::Scope;
 use crate::types::source_types;
-use indexmap::IndexSet;
 use ioa_lex::Refusal;
 use ioa_tree::{Assembly, Declaration, Expression, Instance, Name};
 use ioa_value::Types;
@@ -49,12 +48,12 @@ pub fn source_fine(alloc: Global, declarations: &[Declaration]) -> Result<Types,
 fn declarations_fine(
     types: &Types,
     declarations: &[Declaration],
-    globals: &IndexSet<&str>,
+    globals: &NameSet,
 ) -> Result<(), Refusal>
     requires types { types.now ≡ types_of (tree_of declarations.now) }
     requires fine { IsTrue (types_fine basic (tree_of declarations.now)) }
     ensures { let s = tree_of declarations.now in
-        Says result (well_formed.declarations_fine types.now (texts globals.now) [] s) (reasons.in_declarations types.now (texts globals.now) [] s) }
+        Says result (well_formed.declarations_fine types.now globals.now [] s) (reasons.in_declarations types.now globals.now [] s) }
 {
     // Bool and Int are known from the start.
     let mut known = KnownTypes { types, count: 2 };

@@ -1,12 +1,10 @@
-ghost use Rattle.std.specs.Prelude.{◌≡◌, ◌<◌, map, length, IfSome};
+ghost use Rattle.std.specs.Prelude.{◌≡◌, map};
 ghost use Rattle.std.specs.List.{list_all};
 ghost use Rattle.std.specs.Option.{option_map};
 ghost use Rattle.ioa_tree.specs.Tree.{FieldTree};
 ghost use Rattle.ioa_tree.specs.View.{name_of};
 ghost use Rattle.ioa_tree.specs.View as view;
 ghost use Rattle.ioa_value.specs.Plain.{number};
-ghost use Rattle.ioa_value.specs.Table as table;
-ghost use Rattle.ioa_value.specs.Table.{AreTypes};
 ghost use Rattle.ioa_tree.specs.WellFormed.{type_in, context_of, is_type};
 ghost use Rattle.ioa_rules.specs.Fields.{type_under};
 ghost use Rattle.ioa_rules.specs.Codes.{unknown_name, tells};
@@ -17,7 +15,7 @@ use crate::known_types::KnownTypes;
 use crate::names::same_name;
 use ioa_lex::Refusal;
 use ioa_tree::{Field, Name, Variable};
-use ioa_value::{Ty, Types};
+use ioa_value::Ty;
 
 /// What has a name and the name of a type in a source.
 pub(crate) trait Typed {
@@ -45,15 +43,6 @@ impl Typed for Variable {
     fn field(&self) -> &Field {
         &self.field
     }
-}
-
-/// The type of this name, where there is one.
-pub fn type_named(types: &Types, name: &Name) -> Option<Ty>
-    ensures value { option_map number result ≡ table.type_named types.now (name_of name.now) }
-    ensures within { IfSome result (λ ty. ty.0 < length types.now) }
-    ensures types { AreTypes types.now }
-{
-    types.named(name.text.as_str())
 }
 
 /// The type of the first of the items that has this name and a type.

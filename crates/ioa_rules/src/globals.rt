@@ -4,10 +4,10 @@ ghost use Rattle.ioa_tree.specs.View.{name_of, declaration_of, type_declaration_
 ghost use Rattle.ioa_tree.specs.WellFormed as well_formed;
 ghost use Rattle.ioa_rules.specs.Codes.{duplicate_name, tells};
 ghost use Rattle.ioa_rules.specs.Verdicts.{Says, SaysOrMemory};
-ghost use Rattle.ioa_rules.specs.Globals.{texts, Adds};
+ghost use Rattle.ioa_rules.specs.Globals.{Adds};
 
+use crate::name_set::NameSet;
 use crate::names::Named;
-use indexmap::IndexSet;
 use ioa_lex::Refusal;
 use ioa_tree::{Declaration, Name, TypeDeclaration, TypeForm};
 use std::alloc::Global;
@@ -17,11 +17,11 @@ use std::alloc::Global;
 pub(crate) fn global_names(
     alloc: Global,
     declarations: &[Declaration],
-) -> Result<IndexSet<&str>, Refusal>
+) -> Result<NameSet<'_>, Refusal>
     ensures distinct { SaysOrMemory result (well_formed.distinct (well_formed.global_names (tree_of declarations.now))) (tells duplicate_name) }
-    ensures names { IfOk result (λ names. texts names ≡ well_formed.global_names (tree_of declarations.now)) }
+    ensures names { IfOk result (λ names. names ≡ well_formed.global_names (tree_of declarations.now)) }
 {
-    let mut names = IndexSet::new(alloc);
+    let mut names = NameSet::new(alloc);
     names.insert("Bool")?;
     names.insert("Int")?;
     for declaration in declarations {
@@ -31,11 +31,8 @@ pub(crate) fn global_names(
 }
 
 /// Puts the names that a declaration gives among the others.
-fn add_declared<'a>(
-    names: &mut IndexSet<&'a str>,
-    declaration: &'a Declaration,
-) -> Result<(), Refusal>
-    ensures { Adds result (texts names.old) (well_formed.declared_names (declaration_of declaration.now)) (texts names.new) }
+fn add_declared<'a>(names: &mut NameSet<'a>, declaration: &'a Declaration) -> Result<(), Refusal>
+    ensures { Adds result names.old (well_formed.declared_names (declaration_of declaration.now)) names.new }
 {
     match declaration {
         Declaration::Type(declared) => add_type(names, declared),
@@ -46,8 +43,8 @@ fn add_declared<'a>(
 }
 
 /// Puts a type's name among the others, and those of the enumeration that it is, if it is one.
-fn add_type<'a>(names: &mut IndexSet<&'a str>, declared: &'a TypeDeclaration) -> Result<(), Refusal>
-    ensures { Adds result (texts names.old) (well_formed.declared_names (declared_type (type_declaration_of declared.now))) (texts names.new) }
+fn add_type<'a>(names: &mut NameSet<'a>, declared: &'a TypeDeclaration) -> Result<(), Refusal>
+    ensures { Adds result names.old (well_formed.declared_names (declared_type (type_declaration_of declared.now))) names.new }
 {
     add(names, &declared.name)?;
     add_all(names, constants_of(&declared.form))
@@ -64,8 +61,8 @@ fn constants_of(form: &TypeForm) -> &[Name]
 }
 
 /// Puts names among the others. A line is that of the first that is there already.
-fn add_all<'a>(names: &mut IndexSet<&'a str>, added: &'a [Name]) -> Result<(), Refusal>
-    ensures { Adds result (texts names.old) (map name_of added.now) (texts names.new) }
+fn add_all<'a>(names: &mut NameSet<'a>, added: &'a [Name]) -> Result<(), Refusal>
+    ensures { Adds result names.old (map name_of added.now) names.new }
 {
     for name in added {
         add(names, name)?;
@@ -74,8 +71,8 @@ fn add_all<'a>(names: &mut IndexSet<&'a str>, added: &'a [Name]) -> Result<(), R
 }
 
 /// Puts a name among the others. A line is that of the name, if it is there already.
-fn add<'a>(names: &mut IndexSet<&'a str>, name: &'a Name) -> Result<(), Refusal>
-    ensures { Adds result (texts names.old) (name_of name.now ∷ []) (texts names.new) }
+fn add<'a>(names: &mut NameSet<'a>, name: &'a Name) -> Result<(), Refusal>
+    ensures { Adds result names.old (name_of name.now ∷ []) names.new }
 {
     if names.insert(name.text.as_str())? {
         Ok(())
@@ -85,11 +82,8 @@ fn add<'a>(names: &mut IndexSet<&'a str>, name: &'a Name) -> Result<(), Refusal>
 }
 
 /// Whether no item has a global name. A line is that of the item.
-pub(crate) fn apart_from_globals<T: Named>(
-    items: &[T],
-    globals: &IndexSet<&str>,
-) -> Result<(), Refusal>
-    ensures { Says result (well_formed.apart (map T.called items.now) (texts globals.now)) (tells duplicate_name) }
+pub(crate) fn apart_from_globals<T: Named>(items: &[T], globals: &NameSet) -> Result<(), Refusal>
+    ensures { Says result (well_formed.apart (map T.called items.now) globals.now) (tells duplicate_name) }
 {
     for item in items {
         if is_global(item.name(), globals) {
@@ -100,8 +94,8 @@ pub(crate) fn apart_from_globals<T: Named>(
 }
 
 /// Whether something global has this name.
-pub(crate) fn is_global(name: &Name, globals: &IndexSet<&str>) -> bool
-    ensures { result ≡ well_formed.contains (texts globals.now) (name_of name.now) }
+pub(crate) fn is_global(name: &Name, globals: &NameSet) -> bool
+    ensures { result ≡ well_formed.contains globals.now (name_of name.now) }
 {
     globals.contains(name.text.as_str())
 }

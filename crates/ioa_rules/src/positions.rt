@@ -11,7 +11,6 @@ ghost use Rattle.ioa_tree.specs.WellFormed as well_formed;
 ghost use Rattle.ioa_tree.specs.WellFormed.{type_in, context_of};
 ghost use Rattle.ioa_rules.specs.Codes.{duplicate_name, type_mismatch, too_many, tells};
 ghost use Rattle.ioa_rules.specs.Fields.{parameters};
-ghost use Rattle.ioa_rules.specs.Globals.{texts};
 ghost use Rattle.ioa_rules.specs.KnownTypes.{early};
 ghost use Rattle.ioa_rules.specs.Reasons as reasons;
 ghost use Rattle.ioa_rules.specs.Scopes.{context};
@@ -21,9 +20,9 @@ use crate::expressions::number_type;
 use crate::fields::{type_known, type_under};
 use crate::globals::is_global;
 use crate::known_types::KnownTypes;
+use crate::name_set::NameSet;
 use crate::names::{find_name, same_name};
 use crate::scope::Scope;
-use indexmap::IndexSet;
 use ioa_lex::Refusal;
 use ioa_tree::{Automaton, Constant, Name, Position};
 use ioa_value::{LIMITS, Ty};
@@ -76,9 +75,9 @@ fn parameter_named<'a>(positions: &'a [Position], name: &Name) -> Option<&'a Nam
 pub(crate) fn parameters_apart(
     automaton: &Automaton,
     positions: &[Position],
-    globals: &IndexSet<&str>,
+    globals: &NameSet,
 ) -> Result<(), Refusal>
-    ensures { Says result (well_formed.apart (field_names (parameters positions.now)) (texts globals.now ++ well_formed.local_names [] [] [] (automaton_of automaton.now))) (tells duplicate_name) }
+    ensures { Says result (well_formed.apart (field_names (parameters positions.now)) (globals.now ++ well_formed.local_names [] [] [] (automaton_of automaton.now))) (tells duplicate_name) }
 {
     for position in positions {
         if let Position::Typed(field) = position
@@ -92,8 +91,8 @@ pub(crate) fn parameters_apart(
 
 /// Whether a formal, a variable or something global has this name.
 #[tactic(auto, using(crate::proofs::ViewLemmas::views, crate::proofs::NameLemmas::joins))]
-fn is_taken(automaton: &Automaton, name: &Name, globals: &IndexSet<&str>) -> bool
-    ensures { result ≡ well_formed.contains (texts globals.now ++ well_formed.local_names [] [] [] (automaton_of automaton.now)) (name_of name.now) }
+fn is_taken(automaton: &Automaton, name: &Name, globals: &NameSet) -> bool
+    ensures { result ≡ well_formed.contains (globals.now ++ well_formed.local_names [] [] [] (automaton_of automaton.now)) (name_of name.now) }
 {
     is_global(name, globals)
         || find_name(&automaton.formals, name).is_some()

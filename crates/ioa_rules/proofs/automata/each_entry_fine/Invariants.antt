@@ -2,9 +2,8 @@ use Rattle.std.proofs.Common.{◌≡◌, map, drop}
 use Rattle.std.specs.List.{list_all}
 use Rattle.ioa_tree.specs.View.{automaton_of, entry_of}
 use Rattle.ioa_tree.specs.WellFormed as well_formed
-use Rattle.ioa_rules.specs.Globals.{texts}
 use Rattle.ioa_rules.specs.KnownTypes.{whole, early}
 use Rattle.ioa_rules.proofs.automata.each_entry_fine.Given as goal
 
 abbrev pub invariant-loop-entry : goal.invariant-loop-entry
-invariant-loop-entry l = list_all (well_formed.entry_fine (whole l.known) (early l.known) (texts l.globals) (automaton_of l.automaton)) (map entry_of (drop l.entry-index l.automaton.entries.items)) ≡ list_all (well_formed.entry_fine (whole l.known) (early l.known) (texts l.globals) (automaton_of l.automaton)) (map entry_of l.automaton.entries.items)
+invariant-loop-entry l = list_all (well_formed.entry_fine (whole l.known) (early l.known) l.globals (automaton_of l.automaton)) (map entry_of (drop l.entry-index l.automaton.entries.items)) ≡ list_all (well_formed.entry_fine (whole l.known) (early l.known) l.globals (automaton_of l.automaton)) (map entry_of l.automaton.entries.items)

@@ -1,7 +1,6 @@
 use Rattle.std.proofs.Common.{◌+◌, refl, sym, ap, subst, Ok}
 use Rattle.ioa_tree.specs.View.{type_declaration_of, declaration_of}
 use Rattle.ioa_tree.specs.WellFormed.{is_type_declaration}
-use Rattle.ioa_rules.specs.Globals.{texts}
 use Rattle.ioa_rules.specs.KnownTypes.{whole}
 use Rattle.ioa_rules.proofs.DeclarationLemmas.{Reached, reached_start, reached_type, reached_other, reached_end, says-of_declarations, automaton-says, composition-says, invariant-says}
 use Rattle.ioa_rules.proofs.declarations.declarations_fine.Goals as goal
@@ -13,7 +12,7 @@ loop-i-init c = reached_start _ _ c.args.declarations.now _ refl refl c.requires
 pub returns-in_err-automaton_fine-in-Automaton : goal.returns-in_err-automaton_fine-in-Automaton
 returns-in_err-automaton_fine-in-Automaton c =
     let t = c.args.types.now in
-    let g = texts c.args.globals.now in
+    let g = c.args.globals.now in
     let ds = c.args.declarations.now in
     let d = c.index-declarations-i.result in
     says-of_declarations t g ds c.loop-i.i c.loop-i.known c.loop-i.invariant c.requires.types d c.loop-i-test.true c.index-declarations-i.is
@@ -25,7 +24,7 @@ returns-in_err-automaton_fine-in-Automaton c =
 pub returns-in_err-composition_fine-in-Composition : goal.returns-in_err-composition_fine-in-Composition
 returns-in_err-composition_fine-in-Composition c =
     let t = c.args.types.now in
-    let g = texts c.args.globals.now in
+    let g = c.args.globals.now in
     let ds = c.args.declarations.now in
     let d = c.index-declarations-i.result in
     says-of_declarations t g ds c.loop-i.i c.loop-i.known c.loop-i.invariant c.requires.types d c.loop-i-test.true c.index-declarations-i.is
@@ -37,7 +36,7 @@ returns-in_err-composition_fine-in-Composition c =
 pub returns-in_err-invariant_fine-in-Invariant : goal.returns-in_err-invariant_fine-in-Invariant
 returns-in_err-invariant_fine-in-Invariant c =
     let t = c.args.types.now in
-    let g = texts c.args.globals.now in
+    let g = c.args.globals.now in
     let ds = c.args.declarations.now in
     let d = c.index-declarations-i.result in
     says-of_declarations t g ds c.loop-i.i c.loop-i.known c.loop-i.invariant c.requires.types d c.loop-i-test.true c.index-declarations-i.is
@@ -49,7 +48,7 @@ returns-in_err-invariant_fine-in-Invariant c =
 pub loop-i-preserved : goal.loop-i-preserved
 loop-i-preserved c =
     let t = c.args.types.now in
-    let g = texts c.args.globals.now in
+    let g = c.args.globals.now in
     let ds = c.args.declarations.now in
     let i = c.loop-i.i in
     let k = c.loop-i.known in
@@ -79,4 +78,4 @@ loop-i-preserved c =
     ]
 
 pub returns : goal.returns
-returns c = reached_end c.args.types.now (texts c.args.globals.now) c.args.declarations.now c.loop-i.i c.loop-i.known c.loop-i.invariant c.loop-i-test.false
+returns c = reached_end c.args.types.now c.args.globals.now c.args.declarations.now c.loop-i.i c.loop-i.known c.loop-i.invariant c.loop-i-test.false

@@ -4,8 +4,8 @@ use Rattle.ioa_rules.proofs.globals.add.Goals as goal
 
 pub returns-then-branch : goal.returns-then-branch
 returns-then-branch c =
-    added-new c.args.names.now.keys c.insert.new.self.keys c.as_str.result _ c.in_ok-insert.field-0 c.as_str.ensures.value c.in_ok-insert.ensures.added c.in_ok-insert.ensures.keys c.if-branch.true
+    added-new c.args.names.now c.insert.new.self c.as_str.result.now _ c.in_ok-insert.field-0 c.as_str.ensures.value c.in_ok-insert.ensures.added c.in_ok-insert.ensures.names c.if-branch.true
 
 pub returns-else-branch : goal.returns-else-branch
 returns-else-branch c =
-    λ n. (refl, added-again c.args.names.now.keys c.as_str.result _ c.in_ok-insert.field-0 c.as_str.ensures.value c.in_ok-insert.ensures.added c.if-branch.false)
+    λ n. (refl, added-again c.args.names.now c.as_str.result.now _ c.in_ok-insert.field-0 c.as_str.ensures.value c.in_ok-insert.ensures.added c.if-branch.false)
