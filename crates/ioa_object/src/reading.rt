@@ -34,7 +34,8 @@ fn is_marked(bytes: &[u8]) -> bool
 
 /// The program whose object the bytes are. Its code is verified.
 ///
-/// No more memory is taken than the bytes that are there ask for, whatever their numbers say.
+/// Whatever their numbers say, no more memory is taken than a fixed multiple of the bytes that are there for each level to which types are
+/// declared over one another (at most 1,024): of a value the bytes tell only what is innermost, and it takes memory for each type around that.
 ///
 /// # Errors
 /// - `Magic`, exactly where the first four bytes are not all there, or are others.
