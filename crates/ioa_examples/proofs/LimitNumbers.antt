@@ -1,6 +1,7 @@
--- The limits of a source, each by its number.
+-- The limits of a source, each by its number, and those of a component of a composition.
 use Rattle.std.proofs.Common.{◌≡◌, refl}
 use Rattle.ioa_value.specs.declared.limits.TheConstants.{LIMITS}
+use Rattle.ioa_compose.specs.Fine.{component_limits}
 
 bytes_of_a_text : LIMITS.text ≡ 1048576
 bytes_of_a_text = refl
@@ -49,3 +50,21 @@ entries_of_an_automaton = refl
 
 nodes_of_a_part : LIMITS.nodes ≡ 4096
 nodes_of_a_part = refl
+
+-- one that crashes and recovers has a variable and two entries more than its automaton in the source, a formal more for each variable,
+-- and two nodes more in a part
+variables_of_a_component : component_limits.variables ≡ 65
+variables_of_a_component = refl
+
+entries_of_a_component : component_limits.entries ≡ 66
+entries_of_a_component = refl
+
+formals_of_a_component : component_limits.parameters ≡ 72
+formals_of_a_component = refl
+
+nodes_of_a_part_of_a_component : component_limits.nodes ≡ 4098
+nodes_of_a_part_of_a_component = refl
+
+-- in all else a component has the limits of a source
+other_limits_of_a_component : component_limits ≡ record LIMITS { parameters = 72; variables = 65; entries = 66; nodes = 4098 }
+other_limits_of_a_component = refl
