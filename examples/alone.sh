@@ -3,7 +3,7 @@
 #
 # Each composition of a source that the program accepts is run over ten seeds, 1,000 turns each; the environment performs the inputs of the
 # folder's inputs.script, where it has one that fits. The log has to be accepted by `replay --log`, which has to print what the run
-# prints without `--log`, with the same exit status.
+# prints without `--log`, with the same exit status. Last, a script and words that are longer than a source may be are read to their ends.
 set -u
 program=$1
 case $program in /*) ;; *) program=$PWD/$program ;; esac
@@ -48,4 +48,25 @@ for source in "$top"/*/*.ioa; do
   done
 done
 [ "$runs" -gt 0 ] || fail "examples" "there are none"
+
+# counter TEXT WORDS..: a run of the counter by these words prints this, on standard output or as what is refused
+counter() {
+  text=$1
+  shift
+  [ "$("$program" run "$top/counter/counter.ioa" --alone --turns 2 "$@" 2>&1)" = "$text" ] || fail "$*" "it prints another text than $text"
+  runs=$((runs + 1))
+}
+
+twice=$(printf 'tick(5)\nreset\ntick(5)\nreset\nend: done after 4')
+awk 'BEGIN { for (i = 0; i < 200000; i++) print "reset" }' > "$work/script"
+counter "$twice" --inputs "$work/script"
+echo 'tick(5)' >> "$work/script"
+counter 'N2 index 200000' --inputs "$work/script"
+echo 'tick(' >> "$work/script"
+counter 'L2 line 200002' --inputs "$work/script"
+awk 'BEGIN { for (i = 0; i < 200000; i++) printf "%s ", 10000; print 1 }' > "$work/words"
+printf 'reset\nreset\n' > "$work/resets"
+counter "$twice" --inputs "$work/resets" --words "$work/words"
+sed 's/1$/x/' "$work/words" > "$work/bad"
+counter 'words line 1' --words "$work/bad"
 echo "runs: $runs passed, 0 failed"

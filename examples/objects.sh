@@ -3,7 +3,7 @@
 #
 # Each composition of a source that the program accepts is compiled. Where neither the source nor anything else lies, its object has to be
 # verified, to have the source's graph, to run as the source does by two seeds, and to replay each list and log of the folder, and to draw it, as the source does, with the same exit status. An object is not compiled again, and is
-# no other composition's. Of what is refused no file is left, and one that was there stays as it was.
+# no other composition's. Of what is refused no file is left, and one that was there stays as it was; so does a file that is no object, where an object should take its place.
 set -u
 program=$1
 case $program in /*) ;; *) program=$PWD/$program ;; esac
@@ -86,4 +86,32 @@ rm object.part
 cmp -s object "$work/kept" || fail "counter" "a refusal changes the object that was there"
 head -c 30 object > cut
 refused 1 O3 check cut
+
+# A file that is no object keeps its place, also where a link leads to it, but what is wrong with the source is told first. What is no file is not waited for.
+cp "$top/counter/counter.ioa" source
+ln -s source link
+mkfifo pipe
+printf '\177IO' > short
+cp short other
+for out in source link short pipe ..; do
+  refused 5 io compile source "$out"
+  refused 1 E17 compile source "$out" --comp Nine
+done
+cmp -s source "$top/counter/counter.ioa" || fail "source" "its object takes its place"
+[ -L link ] && [ -p pipe ] && cmp -s short other || fail "source" "an object takes the place of what is none"
+"$program" compile source source --explain 2> "$work/errors" && fail "source" "it is its own object"
+[ "$(sed -n '1,2p' "$work/errors")" = "io
+source is there and is no object" ] || fail "source" "it is not told that it is there and is no object"
+
+# An empty file gives way, and so do an object, what begins as one, and a link to one or to nothing. A new name needs nothing to give way.
+: > empty
+cp object old
+cp object target
+printf '\177IOA' > marked
+ln -s target to_object
+ln -s none to_nothing
+for out in empty old marked to_object to_nothing new; do
+  [ "$("$program" compile source "$out" 2>&1)" = ok ] || fail "source" "its object is not put in $out"
+  [ ! -L "$out" ] && cmp -s "$out" "$work/kept" || fail "source" "$out is not its object"
+done
 echo "objects: $objects compiled, $replays answers compared, 0 differ"

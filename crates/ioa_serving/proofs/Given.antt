@@ -71,7 +71,6 @@ given holds (WordsFrom.File file) m workers (WordSources.Seeded v) e k = absurd 
 given holds (WordsFrom.File file) m workers (WordSources.Listed v) e k = (
   k.0,
   k.1,
-  k.2,
-  (map listed v.items, subst (λ n. AreWords n k.0 (map listed v.items)) e k.3),
-  subst (λ n. HaveOwn n (line_words k.0) (map words_to_come v.items)) e (lines_given k.0 m v.items k.3 k.4),
+  (map listed v.items, subst (λ n. AreWords n k.0 (map listed v.items)) e k.2),
+  subst (λ n. HaveOwn n (line_words k.0) (map words_to_come v.items)) e (lines_given k.0 m v.items k.2 k.3),
 )

@@ -57,7 +57,7 @@ module _ (holds : Name → List ℕ → Type 0) (lacks : Name → Type 0) where
   has_words (WordsFrom.Key key) m workers sources e k = tt
   has_words (WordsFrom.File file) m workers (WordSources.Seeded v) e k = absurd k
   has_words (WordsFrom.File file) m workers (WordSources.Listed v) e k =
-      (k.0, k.1, k.2, (map listed v.items, subst (λ w. AreWords w k.0 (map listed v.items)) e k.3))
+      (k.0, k.1, (map listed v.items, subst (λ w. AreWords w k.0 (map listed v.items)) e k.2))
 
   pub has_script : (types own : Table) (file : Option Name) (script : List Act) → own ≡ types → IsScript holds own file script → IsScript holds types file script
   has_script types own file script e k = subst (λ ts. IsScript holds ts file script) e k
@@ -103,7 +103,7 @@ pub count_is : (holds : Name → List ℕ → Type 0) (from : WordsFrom) (worker
 count_is holds (WordsFrom.Key key) workers (WordSources.Seeded v) k = k.count
 count_is holds (WordsFrom.Key key) workers (WordSources.Listed v) k = absurd k
 count_is holds (WordsFrom.File file) workers (WordSources.Seeded v) k = absurd k
-count_is holds (WordsFrom.File file) workers (WordSources.Listed v) k = sym (length-map v.items listed) ∙ k.3.count
+count_is holds (WordsFrom.File file) workers (WordSources.Listed v) k = sym (length-map v.items listed) ∙ k.2.count
 
 -- the run is refused
 pub unrun_by : (p : Prog) (x : Subject) (holds : Name → List ℕ → Type 0) (lacks : Name → Type 0) (s : Settings) (script : List Act) (e : RunErr) {T : Type 0} → RunsAs p x

@@ -2,7 +2,6 @@
 use Rattle.std.specs.Prelude.{◌≡◌, ◌<◌, ◌≤◌, ◌⊎◌, ℕ, Bool, true, false, List, [], Option, Some, None, All, length, map, slice_get, take}
 use Rattle.std.specs.Io.KnownBytes.{Appends}
 use Rattle.std.specs.Option.{option_copied}
-use Rattle.ioa_value.specs.declared.limits.TheConstants.{LIMITS}
 use Rattle.ioa_value.specs.Actions.{Act, Name}
 use Rattle.ioa_value.specs.Lists as lists
 use Rattle.ioa_value.specs.Lists.{ReadsList}
@@ -80,15 +79,11 @@ told_of s false reports = None
 abbrev pub MayGive : (Name → List ℕ → Type 0) → Settings → Subject → Type 0
 MayGive holds s x = (text : List ℕ) × holds s.file.now text × Gives text (option_copied s.composition) x
 
--- a file that is not a source is no longer than this
-abbrev pub IsShort : List ℕ → Type 0
-IsShort text = length text ≤ LIMITS.text
-
 -- where the words of so many workers are listed, the file may hold a text that lists them
 abbrev pub HasWords : (Name → List ℕ → Type 0) → WordsFrom → ℕ → Type 0
 HasWords holds (WordsFrom.Key key) workers = Unit {0}
 HasWords holds (WordsFrom.File file) workers =
-    (text : List ℕ) × holds file.now text × IsShort text × ((words : List (List ℕ)) × AreWords workers text words)
+    (text : List ℕ) × holds file.now text × ((words : List (List ℕ)) × AreWords workers text words)
 
 -- each of so many workers has its own words, by its number
 pub record HaveOwn (workers : ℕ) (own : ℕ → Words) (words : List Words) : Type 0 where
@@ -100,12 +95,12 @@ pub record HaveOwn (workers : ℕ) (own : ℕ → Words) (words : List Words) : 
 abbrev pub AreGiven : (Name → List ℕ → Type 0) → WordsFrom → ℕ → List Words → Type 0
 AreGiven holds (WordsFrom.Key key) workers words = HaveOwn workers (key_words key) words
 AreGiven holds (WordsFrom.File file) workers words =
-    (text : List ℕ) × holds file.now text × IsShort text × ((lists : List (List ℕ)) × AreWords workers text lists) × HaveOwn workers (line_words text) words
+    (text : List ℕ) × holds file.now text × ((lists : List (List ℕ)) × AreWords workers text lists) × HaveOwn workers (line_words text) words
 
 -- the script is that of a list that the file may hold; without a file it is empty
 abbrev pub IsScript : (Name → List ℕ → Type 0) → Table → Option Name → List Act → Type 0
 IsScript holds types None script = script ≡ []
-IsScript holds types (Some file) script = (text : List ℕ) × holds file text × IsShort text × ReadsList types text script
+IsScript holds types (Some file) script = (text : List ℕ) × holds file text × ReadsList types text script
 
 -- all that is read for a run of this subject with this script
 pub record IsReady (holds : Name → List ℕ → Type 0) (s : Settings) (x : Subject) (script : List Act) : Type 0 where
@@ -151,17 +146,14 @@ pub record BeginsRunOf (holds : Name → List ℕ → Type 0) (s : Settings) (be
 
 -- ---- why there is none
 
--- a load of the file may fail, or give a text that is too long for a file that is not a source
-abbrev pub IsUnreadable : (Name → List ℕ → Type 0) → (Name → Type 0) → Name → Type 0
-IsUnreadable holds lacks file = lacks file ⊎ ((text : List ℕ) × holds file text × (IsShort text → ⊥))
+-- a load of the file of words, or of the script, may fail
+abbrev pub LacksWords : (Name → Type 0) → WordsFrom → Type 0
+LacksWords lacks (WordsFrom.Key key) = ⊥
+LacksWords lacks (WordsFrom.File file) = lacks file.now
 
-abbrev pub LacksWords : (Name → List ℕ → Type 0) → (Name → Type 0) → WordsFrom → Type 0
-LacksWords holds lacks (WordsFrom.Key key) = ⊥
-LacksWords holds lacks (WordsFrom.File file) = IsUnreadable holds lacks file.now
-
-abbrev pub LacksScript : (Name → List ℕ → Type 0) → (Name → Type 0) → Option Name → Type 0
-LacksScript holds lacks None = ⊥
-LacksScript holds lacks (Some file) = IsUnreadable holds lacks file
+abbrev pub LacksScript : (Name → Type 0) → Option Name → Type 0
+LacksScript lacks None = ⊥
+LacksScript lacks (Some file) = lacks file
 
 -- the words are from there: of the key, each worker's stream; of the file, each worker's line, from its first word
 abbrev pub AreSources : (Name → List ℕ → Type 0) → WordsFrom → ℕ → WordSources → Type 0
@@ -169,7 +161,7 @@ AreSources holds (WordsFrom.Key key) workers (WordSources.Seeded sources) = AreS
 AreSources holds (WordsFrom.Key key) workers (WordSources.Listed sources) = ⊥
 AreSources holds (WordsFrom.File file) workers (WordSources.Seeded sources) = ⊥
 AreSources holds (WordsFrom.File file) workers (WordSources.Listed sources) =
-    (text : List ℕ) × holds file.now text × IsShort text × AreWords workers text (map listed sources.items) × All (λ s. s.taken ≡ 0) sources.items
+    (text : List ℕ) × holds file.now text × AreWords workers text (map listed sources.items) × All (λ s. s.taken ≡ 0) sources.items
 
 abbrev pub count_of : WordSources → ℕ
 count_of (WordSources.Seeded sources) = length sources.items
@@ -183,17 +175,17 @@ streams_of (WordSources.Listed sources) = map words_to_come sources.items
 -- the file may hold a text of which this line is the first that lists no words
 abbrev pub HasBadWords : (Name → List ℕ → Type 0) → WordsFrom → ℕ → ℕ → Type 0
 HasBadWords holds (WordsFrom.Key key) workers n = ⊥
-HasBadWords holds (WordsFrom.File file) workers n = (text : List ℕ) × holds file.now text × IsShort text × IsBadWords workers text n
+HasBadWords holds (WordsFrom.File file) workers n = (text : List ℕ) × holds file.now text × IsBadWords workers text n
 
 -- the file may hold a text of which this line is the first that is no action
 abbrev pub HasBadLine : (Name → List ℕ → Type 0) → Table → Option Name → ℕ → Type 0
 HasBadLine holds types None n = ⊥
-HasBadLine holds types (Some file) n = (text : List ℕ) × holds file text × IsShort text × lists.BadLine types text n
+HasBadLine holds types (Some file) n = (text : List ℕ) × holds file text × lists.BadLine types text n
 
 -- why there are no words, and why there is no script
 abbrev pub IsWordless : (Name → List ℕ → Type 0) → (Name → Type 0) → WordsFrom → ℕ → Failure → Type 0
 IsWordless holds lacks from workers (Failure.BadWords n) = HasBadWords holds from workers n
-IsWordless holds lacks from workers Failure.Io = LacksWords holds lacks from
+IsWordless holds lacks from workers Failure.Io = LacksWords lacks from
 IsWordless holds lacks from workers Failure.OutOfMemory = Unit {0}
 IsWordless holds lacks from workers (Failure.Refused r) = ⊥
 IsWordless holds lacks from workers (Failure.Object e) = ⊥
@@ -206,7 +198,7 @@ IsWordless holds lacks from workers Failure.Threads = ⊥
 
 abbrev pub IsScriptless : (Name → List ℕ → Type 0) → (Name → Type 0) → Table → Option Name → Failure → Type 0
 IsScriptless holds lacks types file (Failure.List (LogErr.BadLine n)) = HasBadLine holds types file n
-IsScriptless holds lacks types file Failure.Io = LacksScript holds lacks file
+IsScriptless holds lacks types file Failure.Io = LacksScript lacks file
 IsScriptless holds lacks types file Failure.OutOfMemory = Unit {0}
 IsScriptless holds lacks types file (Failure.List (LogErr.NotJson n)) = ⊥
 IsScriptless holds lacks types file (Failure.List (LogErr.WrongOwner n)) = ⊥
@@ -229,7 +221,7 @@ abbrev pub IsUnloaded : (Name → List ℕ → Type 0) → (Name → Type 0) →
 IsUnloaded holds lacks s =
     lacks s.file.now
     ⊎ ((x : Subject) × MayGive holds s x
-    × (LacksWords holds lacks s.words ⊎ (HasWords holds s.words (length (its_names x)) × LacksScript holds lacks (option_copied s.inputs))))
+    × (LacksWords lacks s.words ⊎ (HasWords holds s.words (length (its_names x)) × LacksScript lacks (option_copied s.inputs))))
 
 -- Each reason comes only where those before it do not hold: a file is not read; the source or its composition, or the object, is refused; a line of
 -- words is none; a line of the script is no action; there are too many turns; an action of the script is no input; a thread is refused, of which a run

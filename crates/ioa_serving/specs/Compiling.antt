@@ -1,10 +1,11 @@
 -- What compiling a source writes: the object of a program that does what the source's hosts do.
-use Rattle.std.specs.Prelude.{◌≡◌, ◌⊎◌, true, false, List, Option, ℕ, take}
+use Rattle.std.specs.Prelude.{◌≡◌, ◌⊎◌, ◌++◌, true, false, List, [], Option, Some, None, ℕ, take}
 use Rattle.std.specs.Io.KnownBytes.{Appends, Keeps}
 use Rattle.ioa_value.specs.Actions.{Name}
 use Rattle.ioa_tree.specs.Hosts.{Hosted}
 use Rattle.ioa_compile.specs.Programs.{Prog}
 use Rattle.ioa_object.specs.Objects.{IsObject}
+use Rattle.ioa_object.specs.Spelling.{mark}
 use Rattle.ioa_serving.specs.declared.failure.Failure.{Failure}
 use Rattle.ioa_serving.specs.Checks.{ok_line}
 use Rattle.ioa_serving.specs.Failing.{IsDeviceErr, IsRefusedSource}
@@ -29,6 +30,20 @@ IsUncompiled text name (Failure.BadInput i) = ⊥
 IsUncompiled text name Failure.Threads = ⊥
 IsUncompiled text name Failure.Io = ⊥
 IsUncompiled text name Failure.OutOfMemory = Unit {0}
+
+-- What stands in the place of an object that is to be written gives way to it: no file that can be read, or an empty one, or one that begins as
+-- an object does. Of a file its beginning is told.
+abbrev pub GivesWay : Option (List ℕ) → Type 0
+GivesWay None = Unit {0}
+GivesWay (Some found) = (found ≡ []) ⊎ ((rest : List ℕ) × (found ≡ mark ++ rest))
+
+-- the bytes were put in the file, where what stood there gave way
+abbrev pub Places : (Name → Option (List ℕ) → Type 0) → (Name → List ℕ → Type 0) → Name → List ℕ → Type 0
+Places begins saves out object = ((found : Option (List ℕ)) × begins out found × GivesWay found) × saves out object
+
+-- the file may not be written, or there may stand what does not give way
+abbrev pub Blocks : (Name → Option (List ℕ) → Type 0) → (Name → Type 0) → Name → Type 0
+Blocks begins bars out = bars out ⊎ ((found : Option (List ℕ)) × begins out found × (GivesWay found → ⊥))
 
 -- the file may hold a source whose object this is, and it was put in the file `out`
 abbrev pub IsSaved : (Name → List ℕ → Type 0) → (Name → List ℕ → Type 0) → Name → Name → Option Name → Type 0

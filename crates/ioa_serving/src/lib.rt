@@ -44,7 +44,7 @@ pub use list_log::log_list_text;
 pub use log_chart::chart_log_text;
 pub use log_replay::replay_log_text;
 pub use monitor::{monitor_text, performed_in};
-pub use object_file::compile_file;
+pub use object_file::{compile_file, gives_way};
 pub use replay::replay_text;
 pub use run::run_file;
 pub use served::{Served, silent};

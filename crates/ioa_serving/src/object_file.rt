@@ -1,19 +1,21 @@
-ghost use Rattle.std.specs.Prelude.{◌≡◌, OnOk, IfErr, IsErrOf};
-ghost use Rattle.std.specs.Option.{option_copied};
+ghost use Rattle.std.specs.Prelude.{◌≡◌, ◌↔◌, IsTrue, OnOk, IfErr, IsErrOf, Some};
+ghost use Rattle.std.specs.Option.{option_copied, option_map};
 ghost use Rattle.ioa_log.specs.declared.failure.LogErr.{LogErr};
 ghost use Rattle.ioa_log.specs.Failing.{HasFailed};
-ghost use Rattle.ioa_serving.specs.Compiling.{IsMade, IsUnmade};
+ghost use Rattle.ioa_serving.specs.Compiling as spec;
+ghost use Rattle.ioa_serving.specs.Compiling.{Blocks, IsMade, IsUnmade, Places};
+ghost use Rattle.ioa_serving.specs.declared.store.StoreErr.{StoreErr};
 
 use crate::compile::object_of;
 use crate::failure::Failure;
-use crate::store::Store;
+use crate::store::{Store, StoreErr};
 use ioa_log::{OutputDevice, send_all};
 use std::alloc::Global;
 
 /// Puts the object of a composition of a source in the file `out`, and writes `ok` on a line.
 ///
 /// # Errors
-/// `Io` where the source's file is not read, or the object is not put in its own; `Refused` where the source or its composition is;
+/// `Io` where the source's file is not read, or the object is not put in its own, as where a file stands there that is no object; `Refused` where the source or its composition is;
 /// `SourceWanted` where the file is an object itself; or want of memory. No file was changed then, and nothing written. `List` where the
 /// device failed: the object stands in its file then, and no more than a beginning of the line was written.
 pub fn compile_file<F: Store, W: OutputDevice>(
@@ -24,14 +26,49 @@ pub fn compile_file<F: Store, W: OutputDevice>(
     store: &mut F,
     output: &mut W,
 ) -> Result<(), Failure>
-    ensures makes { OnOk result (IsMade (F.holds store.old) (F.saves store.old store.new) file.now out.now (option_copied composition.entry) (W.contents output.old) (W.contents output.new)) }
-    ensures refused { IfErr result (λ e. IsUnmade (F.holds store.old) (F.lacks store.old) (F.bars store.old) (F.saves store.old store.new) (store.new ≡ store.old)
+    ensures makes { OnOk result (IsMade (F.holds store.old) (Places (F.begins store.old) (F.saves store.old store.new)) file.now out.now (option_copied composition.entry) (W.contents output.old) (W.contents output.new)) }
+    ensures refused { IfErr result (λ e. IsUnmade (F.holds store.old) (F.lacks store.old) (Blocks (F.begins store.old) (F.bars store.old)) (Places (F.begins store.old) (F.saves store.old store.new)) (store.new ≡ store.old)
         file.now out.now (option_copied composition.entry) (HasFailed (W.failure_count output.old) (W.failure_count output.new)) (W.contents output.old) (W.contents output.new) e) }
     ensures passed { (IsErrOf result (Failure.List LogErr.Io) → ⊥) → W.failure_count output.new ≡ W.failure_count output.old }
 {
     let text = store.load(alloc, file)?;
     let object = object_of(alloc, text.as_slice(), composition)?;
-    store.save(alloc, out, object.as_slice())?;
+    place(alloc, out, object.as_slice(), store)?;
     send_all(output, b"ok\n")?;
     Ok(())
+}
+
+/// Puts an object in the file `out`, where what stands there gives way to it.
+///
+/// # Errors
+/// `Io` where a file stands there that is no object, or the store does not write it; or want of memory. No file was changed then.
+fn place<F: Store>(alloc: Global, out: &str, object: &[u8], store: &mut F) -> Result<(), StoreErr>
+    ensures ok { OnOk result (Places (F.begins store.old) (F.saves store.old store.new) out.now object.now) }
+    ensures io { IsErrOf result StoreErr.Io → Blocks (F.begins store.old) (F.bars store.old) out.now }
+    ensures kept { IfErr result (λ _. store.new ≡ store.old) }
+{
+    let found = store.beginning(alloc, out)?;
+    if !gives_way(&found) {
+        return Err(StoreErr::Io);
+    }
+    store.save(alloc, out, object)
+}
+
+/// Whether an object may be put where this stands: no file that can be read, an empty one, or one that begins as an object does.
+pub fn gives_way(found: &Option<Vec<u8>>) -> bool
+    ensures { IsTrue result ↔ spec.GivesWay (option_map (λ bytes. bytes.items) found.now) }
+{
+    match found {
+        Some(bytes) => is_empty_or_marked(bytes.as_slice()),
+        None => true,
+    }
+}
+
+fn is_empty_or_marked(bytes: &[u8]) -> bool
+    ensures { IsTrue result ↔ spec.GivesWay (Some bytes.now) }
+{
+    match bytes {
+        [] | [0x7F, 0x49, 0x4F, 0x41, ..] => true,
+        _ => false,
+    }
 }

@@ -4,7 +4,7 @@ ghost use Rattle.ioa_value.specs.Actions.{act_of};
 ghost use Rattle.ioa_serving.specs.Alone.{IsScript, IsScriptless};
 
 use crate::failure::Failure;
-use crate::store::{Store, load_short};
+use crate::store::Store;
 use ioa_log::LogErr;
 use ioa_value::{Action, Types, read_list};
 use std::alloc::Global;
@@ -25,7 +25,7 @@ pub fn load_script<F: Store>(
     let Some(name) = file else {
         return Ok(Vec::new(alloc));
     };
-    let text = load_short(alloc, name, store)?;
+    let text = store.load_whole(alloc, name)?;
     match read_list(alloc, types, text.as_slice())? {
         Ok(actions) => Ok(actions),
         Err(line) => Err(Failure::List(LogErr::BadLine(line))),

@@ -1,9 +1,8 @@
-ghost use Rattle.std.specs.Prelude.{◌≡◌, ℕ, List, IfOk, IfErr, IsErrOf, OnOk};
-ghost use Rattle.ioa_serving.specs.Alone.{IsShort, IsUnreadable};
+ghost use Rattle.std.specs.Prelude.{◌≡◌, ℕ, List, Option, IfOk, IfErr, IsErrOf, OnOk, OnSome};
+ghost use Rattle.std.specs.Option.{option_map};
 ghost use Rattle.ioa_value.specs.Actions.{Name};
 ghost use Rattle.ioa_serving.specs.declared.store.StoreErr.{StoreErr};
 
-use ioa_value::LIMITS;
 use std::alloc::{AllocError, AllocFailed, Global};
 use thiserror::Error;
 
@@ -48,16 +47,30 @@ pub trait Store {
     /// A load of the file of this name may fail.
     ghost lacks: { Self → Name → Type 0 };
 
+    /// Under this name may stand a file that can be read and begins so: its first four bytes at least, or all where it has fewer. None: there may
+    /// be no such file.
+    ghost begins: { Self → Name → Option (List ℕ) → Type 0 };
+
     /// A save to the file of this name may fail.
     ghost bars: { Self → Name → Type 0 };
 
     /// Between these two these bytes were put in the file of this name, and no other file was changed.
     ghost saves: { Self → Self → Name → List ℕ → Type 0 };
 
-    /// The bytes of a file.
+    /// The bytes of a source or an object. Of a source that is longer than one may be so many are enough that this can be told.
     fn load(&self, alloc: Global, name: &str) -> Result<Vec<u8>, StoreErr>
         ensures ok { IfOk result (λ bytes. holds self.now name.now bytes.items) }
         ensures io { IsErrOf result StoreErr.Io → lacks self.now name.now };
+
+    /// All bytes of a file, however many they are.
+    fn load_whole(&self, alloc: Global, name: &str) -> Result<Vec<u8>, StoreErr>
+        ensures ok { IfOk result (λ bytes. holds self.now name.now bytes.items) }
+        ensures io { IsErrOf result StoreErr.Io → lacks self.now name.now };
+
+    /// The first four bytes of a file at least, or all where it has fewer. None where no file of this name is there that can be read. Only want of
+    /// memory is an error.
+    fn beginning(&self, alloc: Global, name: &str) -> Result<Option<Vec<u8>>, AllocError>
+        ensures ok { IfOk result (λ found. begins self.now name.now (option_map (λ bytes. bytes.items) found)) };
 
     /// Puts bytes in a file, whether it was there or not: all of them, or no file is changed.
     fn save(&mut self, alloc: Global, name: &str, bytes: &[u8]) -> Result<(), StoreErr>
@@ -66,20 +79,6 @@ pub trait Store {
         ensures kept { IfErr result (λ _. self.new ≡ self.old) };
 
     /// What is wrong with a file that cannot be read, in words for people. None where nothing is.
-    fn complaint(&self, alloc: Global, name: &str) -> Result<Option<String>, StoreErr>;
-}
-
-/// The bytes of a file that is not a source.
-///
-/// # Errors
-/// `Io` where it is not read, or longer than a source may be; or want of memory.
-pub fn load_short<F: Store>(alloc: Global, name: &str, store: &F) -> Result<Vec<u8>, StoreErr>
-    ensures ok { IfOk result (λ bytes. F.holds store.now name.now bytes.items × IsShort bytes.items) }
-    ensures io { IsErrOf result StoreErr.Io → IsUnreadable (F.holds store.now) (F.lacks store.now) name.now }
-{
-    let bytes = store.load(alloc, name)?;
-    if bytes.len() > LIMITS.text {
-        return Err(StoreErr::Io);
-    }
-    Ok(bytes)
+    fn complaint(&self, alloc: Global, name: &str) -> Result<Option<String>, StoreErr>
+        ensures complains { IfOk result (λ complaint. OnSome complaint (lacks self.now name.now)) };
 }

@@ -3,7 +3,7 @@ ghost use Rattle.ioa_serving.specs.Alone.{AreSources, IsWordless};
 
 use crate::failure::Failure;
 use crate::seed::seeded;
-use crate::store::{Store, load_short};
+use crate::store::Store;
 use crate::words_file::{ListedWords, read_words};
 use ioa_request::WordsFrom;
 use ioa_run::Seeded;
@@ -35,7 +35,7 @@ pub fn load_words<F: Store>(
             Ok(WordSources::Seeded(sources))
         }
         WordsFrom::File(name) => {
-            let text = load_short(alloc, name, store)?;
+            let text = store.load_whole(alloc, name)?;
             match read_words(alloc, text.as_slice(), workers)? {
                 Ok(sources) => Ok(WordSources::Listed(sources)),
                 Err(line) => Err(Failure::BadWords(line)),

@@ -3,6 +3,7 @@ ghost use Rattle.clap.specs.Words.{subcommand_of};
 ghost use Rattle.ioa_log.specs.Failing.{HasFailed};
 ghost use Rattle.ioa_request.specs.CommandLine.{IsAsked, ioac_app, is_explained};
 ghost use Rattle.ioac.specs.Commands.{IsAnswered, IsAnsweredAs, IsFinished, IsUnasked};
+ghost use Rattle.ioa_serving.specs.Compiling.{Blocks, Places};
 ghost use Rattle.ioa_serving.specs.Serving.{IsReading, IsSaving, IsServed, IsUnserved, reports_of};
 ghost use Rattle.ioac.specs.Telling.{IsReported};
 ghost use Rattle.ioa_serving.specs.Statuses.{number_of};
@@ -50,7 +51,7 @@ pub fn command<
         (W.contents output.old) (W.contents output.new) (HasFailed (W.failure_count output.old) (W.failure_count output.new))
         (E.contents errors.old) (E.contents errors.new) (HasFailed (E.failure_count errors.old) (E.failure_count errors.new)) status
         ⊎ ((request : Request) × IsAsked (map S.text words.now) request
-        × IsAnsweredAs (is_explained (subcommand_of ioac_app (map S.text words.now))) (F.holds store.old) (F.lacks store.old) (F.bars store.old) (F.saves store.old store.new) (store.new ≡ store.old)
+        × IsAnsweredAs (is_explained (subcommand_of ioac_app (map S.text words.now))) (F.holds store.old) (F.lacks store.old) (Blocks (F.begins store.old) (F.bars store.old)) (Places (F.begins store.old) (F.saves store.old store.new)) (store.new ≡ store.old)
         (F.holds store.new) (F.lacks store.new) request
         (R.remaining input.old.inner) (HasFailed (R.failure_count input.old.inner) (R.failure_count input.new.inner))
         (W.contents output.old) (W.contents output.new) (HasFailed (W.failure_count output.old) (W.failure_count output.new))
@@ -83,7 +84,7 @@ fn perform<
         (W.contents output.old) (W.contents output.new) (HasFailed (W.failure_count output.old) (W.failure_count output.new))
         (E.contents errors.old) (E.contents errors.new) (HasFailed (E.failure_count errors.old) (E.failure_count errors.new)) result
         ⊎ ((request : Request) × IsAsked (map S.text words.now) request
-        × IsAnsweredAs (is_explained (subcommand_of ioac_app (map S.text words.now))) (F.holds store.old) (F.lacks store.old) (F.bars store.old) (F.saves store.old store.new) (store.new ≡ store.old)
+        × IsAnsweredAs (is_explained (subcommand_of ioac_app (map S.text words.now))) (F.holds store.old) (F.lacks store.old) (Blocks (F.begins store.old) (F.bars store.old)) (Places (F.begins store.old) (F.saves store.old store.new)) (store.new ≡ store.old)
         (F.holds store.new) (F.lacks store.new) request
         (R.remaining input.old.inner) (HasFailed (R.failure_count input.old.inner) (R.failure_count input.new.inner))
         (W.contents output.old) (W.contents output.new) (HasFailed (W.failure_count output.old) (W.failure_count output.new))
@@ -116,7 +117,7 @@ fn answer_as<H: Threads + Wait + Sync, F: Store, R: InputDevice, W: OutputDevice
     output: &mut W,
     errors: &mut E,
 ) -> Status
-    ensures answers { IsAnsweredAs explains (F.holds store.old) (F.lacks store.old) (F.bars store.old) (F.saves store.old store.new) (store.new ≡ store.old)
+    ensures answers { IsAnsweredAs explains (F.holds store.old) (F.lacks store.old) (Blocks (F.begins store.old) (F.bars store.old)) (Places (F.begins store.old) (F.saves store.old store.new)) (store.new ≡ store.old)
         (F.holds store.new) (F.lacks store.new) asked.now
         (R.remaining input.old.inner) (HasFailed (R.failure_count input.old.inner) (R.failure_count input.new.inner))
         (W.contents output.old) (W.contents output.new) (HasFailed (W.failure_count output.old) (W.failure_count output.new))
@@ -147,7 +148,7 @@ fn answer_and_explain<
     output: &mut W,
     errors: &mut E,
 ) -> Status
-    ensures answers { IsAnsweredAs true (F.holds store.old) (F.lacks store.old) (F.bars store.old) (F.saves store.old store.new) (store.new ≡ store.old)
+    ensures answers { IsAnsweredAs true (F.holds store.old) (F.lacks store.old) (Blocks (F.begins store.old) (F.bars store.old)) (Places (F.begins store.old) (F.saves store.old store.new)) (store.new ≡ store.old)
         (F.holds store.new) (F.lacks store.new) asked.now
         (R.remaining input.old.inner) (HasFailed (R.failure_count input.old.inner) (R.failure_count input.new.inner))
         (W.contents output.old) (W.contents output.new) (HasFailed (W.failure_count output.old) (W.failure_count output.new))
@@ -172,7 +173,7 @@ fn answer<H: Threads + Wait + Sync, F: Store, R: InputDevice, W: OutputDevice, E
     output: &mut W,
     errors: &mut E,
 ) -> Status
-    ensures answers { IsAnswered (F.holds store.old) (F.lacks store.old) (F.bars store.old) (F.saves store.old store.new) (store.new ≡ store.old) asked.now (R.remaining input.old) (HasFailed (R.failure_count input.old) (R.failure_count input.new))
+    ensures answers { IsAnswered (F.holds store.old) (F.lacks store.old) (Blocks (F.begins store.old) (F.bars store.old)) (Places (F.begins store.old) (F.saves store.old store.new)) (store.new ≡ store.old) asked.now (R.remaining input.old) (HasFailed (R.failure_count input.old) (R.failure_count input.new))
         (W.contents output.old) (W.contents output.new) (HasFailed (W.failure_count output.old) (W.failure_count output.new))
         (E.contents errors.old) (E.contents errors.new) (HasFailed (E.failure_count errors.old) (E.failure_count errors.new)) result }
     ensures kept { (IsSaving asked.now → ⊥) → store.new ≡ store.old }
@@ -200,9 +201,9 @@ fn serve_and_tell<
     output: &mut W,
     errors: &mut E,
 ) -> (Result<Served, Failure>, Status)
-    ensures served { IfOk result.0 (λ s. IsServed (F.holds store.old) (F.saves store.old store.new) asked.now (R.remaining input.old) (W.contents output.old) (W.contents output.new) (reports_of s) s.status
+    ensures served { IfOk result.0 (λ s. IsServed (F.holds store.old) (Places (F.begins store.old) (F.saves store.old store.new)) asked.now (R.remaining input.old) (W.contents output.old) (W.contents output.new) (reports_of s) s.status
         × IsFinished (reports_of s) s.status (E.contents errors.old) (E.contents errors.new) (HasFailed (E.failure_count errors.old) (E.failure_count errors.new)) result.1) }
-    ensures unserved { IfErr result.0 (λ e. IsUnserved (F.holds store.old) (F.lacks store.old) (F.bars store.old) (F.saves store.old store.new) (store.new ≡ store.old) asked.now (R.remaining input.old)
+    ensures unserved { IfErr result.0 (λ e. IsUnserved (F.holds store.old) (F.lacks store.old) (Blocks (F.begins store.old) (F.bars store.old)) (Places (F.begins store.old) (F.saves store.old store.new)) (store.new ≡ store.old) asked.now (R.remaining input.old)
         (HasFailed (R.failure_count input.old) (R.failure_count input.new)) (HasFailed (W.failure_count output.old) (W.failure_count output.new))
         (W.contents output.old) (W.contents output.new) e
         × IsReported e (E.contents errors.old) (E.contents errors.new) (HasFailed (E.failure_count errors.old) (E.failure_count errors.new)) result.1) }

@@ -5,6 +5,7 @@ ghost use Rattle.ioa_system.specs.Outcomes.{ending_of};
 ghost use Rattle.ioa_log.specs.declared.failure.LogErr.{LogErr};
 ghost use Rattle.ioa_log.specs.Failing.{HasFailed};
 ghost use Rattle.ioa_request.specs.declared.request.Request.TheVariants as requests;
+ghost use Rattle.ioa_serving.specs.Compiling.{Blocks, Places};
 ghost use Rattle.ioa_serving.specs.Logs.{found_of};
 ghost use Rattle.ioa_serving.specs.Serving.{IsReading, IsSaving, IsServed, IsUnserved, reports_of};
 ghost use Rattle.ioa_serving.specs.Statuses.{answer_status, ending_status, found_status};
@@ -37,8 +38,8 @@ pub(crate) fn serve<H: Threads + Wait + Sync, F: Store, R: InputDevice, W: Outpu
     input: &mut R,
     output: &mut W,
 ) -> Result<Served, Failure>
-    ensures served { IfOk result (λ s. IsServed (F.holds store.old) (F.saves store.old store.new) asked.now (R.remaining input.old) (W.contents output.old) (W.contents output.new) (reports_of s) s.status) }
-    ensures refused { IfErr result (λ e. IsUnserved (F.holds store.old) (F.lacks store.old) (F.bars store.old) (F.saves store.old store.new) (store.new ≡ store.old) asked.now (R.remaining input.old)
+    ensures served { IfOk result (λ s. IsServed (F.holds store.old) (Places (F.begins store.old) (F.saves store.old store.new)) asked.now (R.remaining input.old) (W.contents output.old) (W.contents output.new) (reports_of s) s.status) }
+    ensures refused { IfErr result (λ e. IsUnserved (F.holds store.old) (F.lacks store.old) (Blocks (F.begins store.old) (F.bars store.old)) (Places (F.begins store.old) (F.saves store.old store.new)) (store.new ≡ store.old) asked.now (R.remaining input.old)
         (HasFailed (R.failure_count input.old) (R.failure_count input.new)) (HasFailed (W.failure_count output.old) (W.failure_count output.new))
         (W.contents output.old) (W.contents output.new) e) }
     ensures kept { (IsSaving asked.now → ⊥) → store.new ≡ store.old }
@@ -307,9 +308,9 @@ fn compile<F: Store, W: OutputDevice>(
     store: &mut F,
     output: &mut W,
 ) -> Result<Served, Failure>
-    ensures served { IfOk result (λ s. IsServed (F.holds store.old) (F.saves store.old store.new) (requests.Compile file.entry out.entry composition.entry) None
+    ensures served { IfOk result (λ s. IsServed (F.holds store.old) (Places (F.begins store.old) (F.saves store.old store.new)) (requests.Compile file.entry out.entry composition.entry) None
         (W.contents output.old) (W.contents output.new) (reports_of s) s.status) }
-    ensures refused { IfErr result (λ e. IsUnserved (F.holds store.old) (F.lacks store.old) (F.bars store.old) (F.saves store.old store.new) (store.new ≡ store.old)
+    ensures refused { IfErr result (λ e. IsUnserved (F.holds store.old) (F.lacks store.old) (Blocks (F.begins store.old) (F.bars store.old)) (Places (F.begins store.old) (F.saves store.old store.new)) (store.new ≡ store.old)
         (requests.Compile file.entry out.entry composition.entry) None ⊥ (HasFailed (W.failure_count output.old) (W.failure_count output.new))
         (W.contents output.old) (W.contents output.new) e) }
     ensures passed { (IsErrOf result (Failure.List LogErr.Io) → ⊥) → W.failure_count output.new ≡ W.failure_count output.old }

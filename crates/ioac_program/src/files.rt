@@ -4,7 +4,7 @@ ghost use Rattle.ioa_serving.specs.Headline.{begins_object};
 
 use ioa_value::LIMITS;
 use ioac::{Store, StoreErr, is_object};
-use std::alloc::Global;
+use std::alloc::{AllocError, Global};
 use std::fs::{File, OpenFile};
 use std::io::{ErrorKind, Read, Write};
 use std::{fs, io, rt};
@@ -32,15 +32,28 @@ impl<'a, R: rt::Files> Store for Files<'a, R> {
 
     ghost lacks = { λ _ _. Unit {0} };
 
+    ghost begins = { λ _ _ _. Unit {0} };
+
     ghost bars = { λ _ _. Unit {0} };
 
     ghost saves = { λ _ _ _ _. Unit {0} };
 
     fn load(&self, alloc: Global, name: &str) -> Result<Vec<u8>, StoreErr> {
-        match fs::open(self.rt, name) {
-            // One byte past the limit tells that a source is too long.
-            Ok(file) => read_file(alloc, file, LIMITS.text as u64 + 1),
-            Err(error) => Err(store_err(&error)),
+        let file = open(self.rt, name)?;
+        // One byte past the limit tells that a source is too long.
+        read_file(alloc, file, LIMITS.text as u64 + 1)
+    }
+
+    fn load_whole(&self, alloc: Global, name: &str) -> Result<Vec<u8>, StoreErr> {
+        let file = open(self.rt, name)?;
+        read_all(alloc, file)
+    }
+
+    fn beginning(&self, alloc: Global, name: &str) -> Result<Option<Vec<u8>>, AllocError> {
+        match first_bytes(self.rt, alloc, name, 4) {
+            Ok(bytes) => Ok(Some(bytes)),
+            Err(StoreErr::Io) => Ok(None),
+            Err(StoreErr::OutOfMemory) => Err(AllocError),
         }
     }
 
@@ -57,6 +70,35 @@ impl<'a, R: rt::Files> Store for Files<'a, R> {
             Ok(_) => Ok(None),
             Err(error) => Ok(Some(format!(in alloc; "{error}")?)),
         }
+    }
+}
+
+fn open<R: rt::Files>(rt: &R, name: &str) -> Result<R::File, StoreErr> {
+    fs::open(rt, name).map_err(|error| store_err(&error))
+}
+
+/// So many bytes of a file at most. What is no file, as a pipe, is not opened: that would wait for who writes to it.
+///
+/// # Errors
+/// `Io` where there is no file of this name that can be read; or want of memory.
+fn first_bytes<R: rt::Files>(
+    rt: &R,
+    alloc: Global,
+    name: &str,
+    most: u64,
+) -> Result<Vec<u8>, StoreErr> {
+    if !is_file(rt, name) {
+        return Err(StoreErr::Io);
+    }
+    let file = open(rt, name)?;
+    read_all(alloc, file.take(most))
+}
+
+/// Whether a file stands under this name, or where a link of this name leads.
+fn is_file<R: rt::Files>(rt: &R, name: &str) -> bool {
+    match fs::metadata(rt, name) {
+        Ok(found) => found.is_file(),
+        Err(_) => false,
     }
 }
 
@@ -106,6 +148,18 @@ fn read_file<R: Read + Drop>(alloc: Global, reader: R, most: u64) -> Result<Vec<
         let mut rest = first.into_inner();
         read_on(&mut rest, &mut bytes)?;
     }
+    Ok(bytes)
+}
+
+/// All that a reader gives.
+///
+/// # Errors
+/// `Io` where a read fails, if it was not just interrupted; or want of memory.
+fn read_all<R: Read + Drop>(alloc: Global, mut reader: R) -> Result<Vec<u8>, StoreErr>
+    ensures { IfOk result (λ bytes. IfSome (R.remaining reader) (λ all. bytes.items ≡ all)) }
+{
+    let mut bytes = Vec::new(alloc);
+    read_on(&mut reader, &mut bytes)?;
     Ok(bytes)
 }
 

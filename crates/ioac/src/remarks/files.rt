@@ -2,8 +2,8 @@
 
 use crate::remarks::places::{files_of, out_of};
 use ioa_request::Request;
-use ioa_serving::{Store, StoreErr};
-use ioa_value::{LIMITS, OutOfMemory};
+use ioa_serving::{Store, StoreErr, gives_way};
+use ioa_value::OutOfMemory;
 use std::alloc::Global;
 use std::fmt::Write;
 
@@ -14,37 +14,46 @@ pub fn put<F: Store>(
     asked: &Request<'_>,
     store: &F,
 ) -> Result<(), OutOfMemory> {
-    let files = files_of(asked);
-    for i in 0..files.len() {
-        if let Some(name) = files[i] {
-            if put_unread(alloc, text, name, i > 0, store)? {
+    for file in files_of(asked) {
+        if let Some(name) = file {
+            if put_unread(alloc, text, name, store)? {
                 return Ok(());
             }
         }
     }
     if let Some(name) = out_of(asked) {
-        writeln!(
-            text,
-            "{name} was not written: it is no file, {name}.part is there already, or the system refuses"
-        )?;
+        put_unwritten(alloc, text, name, store)?;
     }
     Ok(())
 }
 
-/// Puts what is wrong with a file, and answers whether something is. One that has to be short is no source.
+/// Puts why an object was not put in a file.
+fn put_unwritten<F: Store>(
+    alloc: Global,
+    text: &mut String,
+    name: &str,
+    store: &F,
+) -> Result<(), OutOfMemory> {
+    let found = store.beginning(alloc, name)?;
+    if gives_way(&found) {
+        writeln!(
+            text,
+            "{name} was not written: it is no file, {name}.part is there already, or the system refuses"
+        )?;
+    } else {
+        writeln!(text, "{name} is there and is no object")?;
+    }
+    Ok(())
+}
+
+/// Puts what is wrong with a file, and answers whether something is.
 fn put_unread<F: Store>(
     alloc: Global,
     text: &mut String,
     name: &str,
-    has_to_be_short: bool,
     store: &F,
 ) -> Result<bool, OutOfMemory> {
     match store.load(alloc, name) {
-        Ok(bytes) if has_to_be_short && bytes.len() > LIMITS.text => {
-            let most = LIMITS.text;
-            writeln!(text, "{name} is longer than {most} bytes")?;
-            Ok(true)
-        }
         Ok(_) => Ok(false),
         Err(StoreErr::OutOfMemory) => Err(OutOfMemory),
         Err(StoreErr::Io) => {

@@ -14,7 +14,7 @@ use ioa_account::{line_of_action, put_line};
 use ioa_log::LogErr;
 use ioa_request::explanations::explanation;
 use ioa_request::{Request, Topic};
-use ioa_serving::{Failure, Store};
+use ioa_serving::{Failure, Store, StoreErr};
 use ioa_value::OutOfMemory;
 use std::alloc::Global;
 use std::fmt::Write;
@@ -62,6 +62,15 @@ fn put_place<F: Store>(
     }
 }
 
+/// All bytes of a file. None at all, where it cannot be read now.
+fn loaded_whole<F: Store>(alloc: Global, name: &str, store: &F) -> Result<Vec<u8>, OutOfMemory> {
+    match store.load_whole(alloc, name) {
+        Ok(bytes) => Ok(bytes),
+        Err(StoreErr::Io) => Ok(Vec::new(alloc)),
+        Err(StoreErr::OutOfMemory) => Err(OutOfMemory),
+    }
+}
+
 fn put_source_line<F: Store>(
     alloc: Global,
     text: &mut String,
@@ -86,7 +95,7 @@ fn put_file_line<F: Store>(
     let Some(name) = file else {
         return Ok(());
     };
-    let bytes = loaded(alloc, name, store)?;
+    let bytes = loaded_whole(alloc, name, store)?;
     put_line(alloc, text, name, bytes.as_slice(), line)
 }
 
@@ -119,7 +128,7 @@ fn put_script_action<F: Store>(
     let Some(name) = inputs_of(asked) else {
         return Ok(());
     };
-    let script = loaded(alloc, name, store)?;
+    let script = loaded_whole(alloc, name, store)?;
     match line_of_action(script.as_slice(), index) {
         Some(line) => put_line(alloc, text, name, script.as_slice(), line),
         None => Ok(()),

@@ -5,7 +5,7 @@ use ioa_log::Counted;
 use ioa_rows::{column, columns, is_row};
 use ioac::command::command;
 use ioac::{Heard, Store, StoreErr};
-use std::alloc::Global;
+use std::alloc::{AllocError, Global};
 use std::process::Abort;
 use std::sync::Wait;
 use std::thread::Threads;
@@ -104,6 +104,8 @@ impl<'a> Store for Rack<'a> {
 
     ghost lacks = { λ _ _. Unit {0} };
 
+    ghost begins = { λ _ _ _. Unit {0} };
+
     ghost bars = { λ _ _. Unit {0} };
 
     ghost saves = { λ _ _ _ _. ⊥ };
@@ -116,6 +118,14 @@ impl<'a> Store for Rack<'a> {
             _ => return Err(StoreErr::Io),
         };
         Ok(Vec::from_slice(alloc, text.as_bytes())?)
+    }
+
+    fn load_whole(&self, alloc: Global, name: &str) -> Result<Vec<u8>, StoreErr> {
+        self.load(alloc, name)
+    }
+
+    fn beginning(&self, _alloc: Global, _name: &str) -> Result<Option<Vec<u8>>, AllocError> {
+        Ok(None)
     }
 
     fn save(&mut self, _alloc: Global, _name: &str, _bytes: &[u8]) -> Result<(), StoreErr> {

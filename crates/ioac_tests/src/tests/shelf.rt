@@ -20,10 +20,13 @@ pub struct Shelf<'a> {
 
 impl<'a> Store for Shelf<'a> {
     ghost use Rattle.std.specs.Prelude.{◌≡◌, codes, IfNone, IfSome};
+    ghost use Rattle.std.specs.Option.{option_map};
 
     ghost holds = { λ shelf name bytes. (name ≡ codes "f") × (bytes ≡ shelf.bytes.now) };
 
     ghost lacks = { λ _ name. name ≡ codes "f" → ⊥ };
+
+    ghost begins = { λ shelf name found. name ≡ codes "o" → found ≡ option_map (λ o. o.items) shelf.saved };
 
     ghost bars = { λ _ name. name ≡ codes "o" → ⊥ };
 
@@ -34,6 +37,21 @@ impl<'a> Store for Shelf<'a> {
             Ok(Vec::from_slice(alloc, self.bytes)?)
         } else {
             Err(StoreErr::Io)
+        }
+    }
+
+    fn load_whole(&self, alloc: Global, name: &str) -> Result<Vec<u8>, StoreErr> {
+        self.load(alloc, name)
+    }
+
+    fn beginning(&self, alloc: Global, name: &str) -> Result<Option<Vec<u8>>, AllocError> {
+        if name == "o" {
+            match &self.saved {
+                Some(bytes) => Ok(Some(Vec::from_slice(alloc, bytes)?)),
+                None => Ok(None),
+            }
+        } else {
+            Ok(None)
         }
     }
 
