@@ -225,6 +225,7 @@ fn compile_command<'a>(alloc: Global) -> Result<Command<'a>, AllocError>
         .about("Compiles a composition, puts its object in a file, and prints ok")
         .after_help(
             "`check`, `replay`, `run` and `monitor` take the object in the place of a source.\n\
+             OUT is replaced where it is an object, empty or cannot be read; any other file there is refused.\n\
              Example: ioac compile protocol.ioa protocol.object\n\
              Exit status: 0 done, 1 source refused, 2 bad command line or no source, 5 memory, a file or a device.",
         )
