@@ -9,19 +9,24 @@ use ioa_compile::Program;
 use ioa_log::replay;
 use ioa_node::Words;
 use ioa_rows::{COUNTER, text};
-use ioa_run::{Gate, Outcome, Point, Report, Why, run_alone, run_threads};
+use ioa_run::{Gate, Outcome, Point, Report, RunErr, Why, run_alone, run_threads};
 use ioa_system::Log;
 use std::alloc::{AllocError, Global};
+use std::fmt::Write;
 use std::process::Abort;
 use std::sync::{Condvar, Mutex, Wait};
 use std::thread::Threads;
 use std::time::{Clock, Duration};
 
-/// Where a worker may be held: at a point of its turn, or as it asks for its word of this number, from 0.
+/// Where a worker may be held.
 #[derive(Clone, Copy, Debug, PartialEq, Eq)]
 enum Stop {
-    At(usize, Point),
+    /// At a point of its turns, to which it came so often before.
+    At(usize, usize, Point),
+    /// As it asks for its word of this number, from 0.
     Word(usize, usize),
+    /// As it gives up its words: it takes no more turns.
+    Gone(usize),
 }
 
 /// Who comes to the first stop waits there until somebody has come to the second one.
@@ -60,10 +65,14 @@ impl<'a, R> Course<'a, R> {
         }
     }
 
-    /// Whether somebody was held at each stop where that is wanted, and nobody too long.
-    fn is_kept(self) -> bool {
+    /// The stops in order, where somebody was held at each one where that is wanted, and nobody too long.
+    fn kept(self) -> Option<Vec<Stop>> {
         let Reached { stops, is_late } = self.reached.into_inner();
-        !is_late && self.holds.iter().all(|(held, _)| stops.contains(held))
+        if !is_late && self.holds.iter().all(|(held, _)| stops.contains(held)) {
+            Some(stops)
+        } else {
+            None
+        }
     }
 }
 
@@ -99,19 +108,52 @@ impl<R: Wait + Clock> Course<'_, R> {
     }
 }
 
+impl<R: Wait> Course<'_, R> {
+    /// How often the worker came to the point.
+    fn times(&self, who: usize, at: Point) -> usize {
+        let reached = self.reached.lock(self.rt);
+        times(&reached.stops, who, at)
+    }
+}
+
 impl<R: Wait + Clock> Gate for Course<'_, R> {
     fn reach(&self, who: usize, at: Point) {
-        self.stop(Stop::At(who, at));
+        self.stop(Stop::At(who, self.times(who, at), at));
+    }
+}
+
+/// How often the worker of this number came to the point, by these stops.
+fn times(stops: &[Stop], who: usize, at: Point) -> usize {
+    let mut there = stops.iter().filter_map(|stop| point_of(*stop, who));
+    there.filter(|point| *point == at).count()
+}
+
+/// The point at which the stop is, where it is this worker's.
+fn point_of(stop: Stop, who: usize) -> Option<Point> {
+    match stop {
+        Stop::At(worker, _, point) if worker == who => Some(point),
+        _ => None,
     }
 }
 
 /// A worker's words, at each of which it may be held; after those that are given they are 0.
-#[derive(Drop)]
-struct Asked<'a, R> {
+struct Asked<'a, R: Wait + Clock> {
     words: &'a [u32],
     who: usize,
     number: usize,
     course: &'a Course<'a, R>,
+}
+
+impl<R: Wait + Clock> Drop for Asked<'_, R> {
+    fn drop(self) {
+        let Asked {
+            words: _,
+            who,
+            number: _,
+            course,
+        } = self;
+        course.stop(Stop::Gone(who));
+    }
 }
 
 impl<R: Wait + Clock> Words for Asked<'_, R> {
@@ -133,7 +175,7 @@ impl<R: Wait + Clock> Words for Asked<'_, R> {
 }
 
 /// A run on threads: a source, how many turns each worker has, the components' words, the script, and the holds; of what it may give the
-/// logs, each with the states and the end, and the reports, where they are few.
+/// logs, each with the states and the end, and the reports, where they are few; and each worker's points, in order.
 #[derive(Clone, Copy)]
 struct Case {
     source: &'static str,
@@ -143,13 +185,14 @@ struct Case {
     holds: &'static [Hold],
     logs: &'static [&'static str],
     reports: &'static [&'static str],
+    points: &'static [&'static str],
 }
 
 const SOLO: &str = "
 automaton Go signature output go states n: Int transitions output go eff n := n + 1
 composition Solo components G: Go";
 
-const CASES: [Case; 5] = [
+const CASES: [Case; 6] = [
     Case {
         source: SOLO,
         turns: 100,
@@ -160,6 +203,7 @@ const CASES: [Case; 5] = [
         reports: &[
             "100 committed, 0 idle, 0 stale, TurnsDone; 0 committed, 100 idle, 0 stale, TurnsDone",
         ],
+        points: &["Turn Planned Committed @100&; &Turn Idle @100"],
     },
     Case {
         source: SOLO,
@@ -171,26 +215,38 @@ const CASES: [Case; 5] = [
         reports: &[
             "0 committed, 0 idle, 0 stale, TurnsDone; 0 committed, 0 idle, 0 stale, TurnsDone",
         ],
+        points: &["; "],
     },
-    // the second plan is committed before the first one, which is stale then
+    // the second plan is committed before the first one, which is stale then; the next ones come one after the other
     Case {
         source: PUTS,
-        turns: 1,
+        turns: 2,
         words: &[],
         script: &[],
         holds: &[
-            (Stop::At(1, Point::Turn), Stop::At(0, Point::Planned)),
-            (Stop::At(0, Point::Planned), Stop::At(1, Point::Committed)),
+            (Stop::At(1, 0, Point::Turn), Stop::At(0, 0, Point::Planned)),
+            (
+                Stop::At(0, 0, Point::Planned),
+                Stop::At(1, 0, Point::Committed),
+            ),
+            (
+                Stop::At(1, 1, Point::Turn),
+                Stop::At(0, 0, Point::Committed),
+            ),
         ],
-        logs: &["1 put(1), state(0), state(1), state(1), done after 1"],
+        logs: &["1 put(1); 0 put(0); 1 put(1), state(1), state(2), state(1), done after 3"],
         reports: &[
-            "0 committed, 0 idle, 1 stale, TurnsDone; 1 committed, 0 idle, 0 stale, TurnsDone; \
-            0 committed, 1 idle, 0 stale, TurnsDone; 0 committed, 1 idle, 0 stale, TurnsDone",
+            "1 committed, 0 idle, 1 stale, TurnsDone; 2 committed, 0 idle, 0 stale, TurnsDone; \
+            0 committed, 2 idle, 0 stale, TurnsDone; 0 committed, 2 idle, 0 stale, TurnsDone",
+        ],
+        points: &[
+            "Turn Planned Stale Turn Planned Committed ; Turn Planned Committed Turn Planned Committed ; Turn Idle Turn Idle ; Turn Idle Turn Idle ",
         ],
     },
+    // who faults takes no more turns
     Case {
         source: TWO,
-        turns: 1,
+        turns: 2,
         words: &[],
         script: &[],
         holds: &[],
@@ -198,9 +254,28 @@ const CASES: [Case; 5] = [
             "0 go, state(0), state(S[], 0), state(9223372036854775807), fault 4 in component 1 at 0",
         ],
         reports: &[
-            "0 committed, 0 idle, 0 stale, Faulted; 0 committed, 1 idle, 0 stale, TurnsDone; \
-            0 committed, 1 idle, 0 stale, TurnsDone; 0 committed, 1 idle, 0 stale, TurnsDone",
+            "0 committed, 0 idle, 0 stale, Faulted; 0 committed, 2 idle, 0 stale, TurnsDone; \
+            0 committed, 2 idle, 0 stale, TurnsDone; 0 committed, 2 idle, 0 stale, TurnsDone",
         ],
+        points: &[
+            "Turn Planned ; Turn Idle Turn Idle ; Turn Idle Turn Idle ; Turn Idle Turn Idle ",
+        ],
+    },
+    // nor does who would commit after another's fault
+    Case {
+        source: "
+automaton Full signature output up states n: Int := 9223372036854775807 transitions output up eff n := n + 1
+automaton Go signature output go states n: Int transitions output go eff n := n + 1
+composition Both components F: Full; G: Go",
+        turns: 2,
+        words: &[],
+        script: &[],
+        holds: &[(Stop::At(1, 0, Point::Planned), Stop::Gone(0))],
+        logs: &["0 up, state(9223372036854775807), state(0), fault 1 in component 0 at 0"],
+        reports: &[
+            "0 committed, 0 idle, 0 stale, Faulted; 0 committed, 0 idle, 0 stale, Stopped; 0 committed, 2 idle, 0 stale, TurnsDone",
+        ],
+        points: &["Turn Planned ; Turn Planned ; Turn Idle Turn Idle "],
     },
     Case {
         source: COUNTER,
@@ -210,7 +285,19 @@ const CASES: [Case; 5] = [
         holds: &[],
         logs: &[],
         reports: &[],
+        points: &[],
     },
+];
+
+/// What is told of runs that could not begin, which the program does not print.
+const REFUSALS: [(RunErr, &str); 4] = [
+    (RunErr::TooManyTurns, "too many turns"),
+    (RunErr::BadInput(2), "action 2 of the script is no input"),
+    (
+        RunErr::Threads,
+        "a thread was refused, or ended without a word",
+    ),
+    (RunErr::OutOfMemory, "memory"),
 ];
 
 /// Each worker has a plan before either one is committed.
@@ -223,8 +310,14 @@ composition Both components G: Go; H: Go2",
     words: &[],
     script: &[],
     holds: &[
-        (Stop::At(0, Point::Planned), Stop::At(1, Point::Planned)),
-        (Stop::At(1, Point::Planned), Stop::At(0, Point::Planned)),
+        (
+            Stop::At(0, 0, Point::Planned),
+            Stop::At(1, 0, Point::Planned),
+        ),
+        (
+            Stop::At(1, 0, Point::Planned),
+            Stop::At(0, 0, Point::Planned),
+        ),
     ],
     logs: &[
         "0 go; 1 go2, state(1), state(1), done after 2",
@@ -233,6 +326,7 @@ composition Both components G: Go; H: Go2",
     reports: &[
         "1 committed, 0 idle, 0 stale, TurnsDone; 1 committed, 0 idle, 0 stale, TurnsDone; 0 committed, 1 idle, 0 stale, TurnsDone",
     ],
+    points: &["Turn Planned Committed ; Turn Planned Committed ; Turn Idle "],
 };
 
 /// While the first worker waits for its word of this number, the second one takes its turn.
@@ -250,19 +344,63 @@ composition Both components D: Dice(6); G: Go",
         reports: &[
             "1 committed, 0 idle, 0 stale, TurnsDone; 1 committed, 0 idle, 0 stale, TurnsDone; 0 committed, 1 idle, 0 stale, TurnsDone",
         ],
+        points: &["Turn Planned Committed ; Turn Planned Committed ; Turn Idle "],
     }
 }
 
 /// The first word picks an entry, and the second one a value.
 const UNLOCKED: [&[Hold]; 2] = [
     &[
-        (Stop::At(1, Point::Turn), Stop::Word(0, 0)),
-        (Stop::Word(0, 0), Stop::At(1, Point::Committed)),
+        (Stop::At(1, 0, Point::Turn), Stop::Word(0, 0)),
+        (Stop::Word(0, 0), Stop::At(1, 0, Point::Committed)),
     ],
     &[
-        (Stop::At(1, Point::Turn), Stop::Word(0, 1)),
-        (Stop::Word(0, 1), Stop::At(1, Point::Committed)),
+        (Stop::At(1, 0, Point::Turn), Stop::Word(0, 1)),
+        (Stop::Word(0, 1), Stop::At(1, 0, Point::Committed)),
     ],
+];
+
+/// The environment pokes a component that has taken its last word, which then plans by its state as it is now: the roll that it has proposed
+/// is no longer enabled, or still is.
+const POKED: [Case; 2] = [
+    Case {
+        source: "
+automaton Dice(n: Int) signature output roll(d: Int); input poke states k: Int
+transitions output roll pre k < 2 propose d := any(n) eff k := k + 1 input poke eff k := k + 10
+composition One components D: Dice(6)",
+        turns: 1,
+        words: &[&[9, 17, 4]],
+        script: &["poke"],
+        holds: &[
+            (Stop::At(1, 0, Point::Turn), Stop::Word(0, 1)),
+            (Stop::Word(0, 1), Stop::At(1, 0, Point::Committed)),
+        ],
+        logs: &["1 poke, state(10), done after 1"],
+        reports: &[
+            "0 committed, 1 idle, 0 stale, TurnsDone; 1 committed, 0 idle, 0 stale, TurnsDone",
+        ],
+        points: &["Turn Idle ; Turn Planned Committed "],
+    },
+    Case {
+        source: "
+automaton Dice(n: Int) signature output roll(d: Int); input poke states k: Int
+transitions output roll pre k < 2 propose d := any(n) eff k := k + 1 input poke eff k := k - 10
+composition One components D: Dice(6)",
+        turns: 2,
+        words: &[&[9, 17, 4]],
+        script: &["poke"],
+        holds: &[
+            (Stop::At(1, 0, Point::Turn), Stop::Word(0, 1)),
+            (Stop::Word(0, 1), Stop::At(1, 0, Point::Committed)),
+        ],
+        logs: &["1 poke; 0 roll(5); 0 roll(0), state(-8), done after 3"],
+        reports: &[
+            "2 committed, 0 idle, 0 stale, TurnsDone; 1 committed, 1 idle, 0 stale, TurnsDone",
+        ],
+        points: &[
+            "Turn Planned Committed Turn Planned Committed ; Turn Planned Committed Turn Idle ",
+        ],
+    },
 ];
 
 const KEPT: Case = Case {
@@ -276,10 +414,13 @@ composition Kept components K: Keep",
     holds: &[],
     logs: &["0 tell(0); 0 tell(0), state(0), done after 2"],
     reports: &["2 committed, 1 idle, 0 stale, TurnsDone; 0 committed, 3 idle, 0 stale, TurnsDone"],
+    points: &[
+        "Turn Idle Turn Planned Committed Turn Planned Committed ; Turn Idle Turn Idle Turn Idle ",
+    ],
 };
 
 /// A source of words for each of the components, of which there are so many.
-fn sources<'a, R>(
+fn sources<'a, R: Wait + Clock>(
     alloc: Global,
     case: &Case,
     course: &'a Course<'a, R>,
@@ -313,8 +454,51 @@ fn ran<R: Abort + Threads + Wait + Clock + Sync>(
     let outcome = run_threads(rt, alloc, program, case.turns, words, &script, &course).expect(
         rt, "memory",
     );
-    assert!(rt; course.is_kept(), "a worker was not held, or too long");
+    let stops = course
+        .kept()
+        .expect(rt, "each worker is held, and none too long");
+    expect_points(rt, alloc, case, &outcome.reports, &stops);
     outcome
+}
+
+/// Compares the points to which the workers came with what is wanted, and with what their reports count.
+fn expect_points(rt: &impl Abort, alloc: Global, case: &Case, reports: &[Report], stops: &[Stop]) {
+    let points = told_points(alloc, reports.len(), stops).expect(rt, "memory");
+    assert!(rt;
+        is_wanted(rt, alloc, case.points, points.as_str()),
+        "{points}"
+    );
+    for (who, report) in reports.iter().enumerate() {
+        assert!(rt; ends_as_counted(stops, who, report), "{points}");
+    }
+}
+
+/// Whether so many turns of the worker ended at each point as its report counts.
+fn ends_as_counted(stops: &[Stop], who: usize, report: &Report) -> bool {
+    times(stops, who, Point::Committed) == report.committed
+        && times(stops, who, Point::Stale) as u64 == report.stale
+        && times(stops, who, Point::Idle) as u64 == report.idle
+}
+
+/// The points of each of so many workers, in order.
+fn told_points(alloc: Global, workers: usize, stops: &[Stop]) -> Result<String, AllocError> {
+    let mut text = String::new(alloc);
+    for who in 0..workers {
+        if who > 0 {
+            text.push_str("; ")?;
+        }
+        push_points(&mut text, who, stops)?;
+    }
+    Ok(text)
+}
+
+fn push_points(text: &mut String, who: usize, stops: &[Stop]) -> Result<(), AllocError> {
+    for stop in stops {
+        if let Some(point) = point_of(*stop, who) {
+            write!(text, "{point:?} ")?;
+        }
+    }
+    Ok(())
 }
 
 /// What the run on one thread gives.
@@ -418,6 +602,10 @@ fn threads_give_what_is_wanted(rt: HostRuntime) {
     for case in &CASES {
         expect_case(&rt, rt.alloc(), case);
     }
+    for (error, text) in &REFUSALS {
+        let told = format!(in rt.alloc(); "{error}").expect(&rt, "memory");
+        assert!(rt; told.as_str() == *text, "{told}");
+    }
 }
 
 #[test]
@@ -429,6 +617,9 @@ fn two_workers_overlap(rt: HostRuntime) {
 fn words_unlocked(rt: HostRuntime) {
     for holds in UNLOCKED {
         expect_case(&rt, rt.alloc(), &unlocked(holds));
+    }
+    for case in &POKED {
+        expect_case(&rt, rt.alloc(), case);
     }
 }
 
