@@ -1,5 +1,8 @@
 #!/bin/sh
-# What threads gain and what their lock costs: bench/threads.sh PROGRAM
+# What threads do, what they gain, and what their lock costs: bench/threads.sh PROGRAM
+#
+# Runs protocols in as many turns with and without `--alone`, and prints how many of the actions, and of those that deliver something, come to pass on
+# threads, and the ratio of the wall times: the medians of twenty runs, each by another seed.
 #
 # Runs compositions of 2, 4, 8 and 16 components with and without `--alone`, and prints the actions a second of both, the ratio of their
 # wall times, and the share of stale turns among the components' turns on threads. The components share no action, or every action; their
@@ -8,6 +11,7 @@
 set -eu
 program=$1
 case $program in /*) ;; *) program=$PWD/$program ;; esac
+top=$(cd "$(dirname "$0")/.." && pwd)
 work=$(mktemp -d)
 trap 'rm -rf "$work"' EXIT
 
@@ -61,7 +65,36 @@ compared() {
   ' "$work/alone" "$work/threads"
 }
 
+# performed SOURCE COMPOSITION ACTION WAY: of twenty runs the medians of the actions, of those of this name, and of the seconds
+performed() {
+  for seed in $(seq 20); do
+    from=$(date +%s.%N)
+    # shellcheck disable=SC2086
+    timeout 300 "$program" run "$top/examples/$1" --comp "$2" $4 --turns 2000 --seed "$(printf '%064d' "$seed")" --log > "$work/log"
+    till=$(date +%s.%N)
+    awk -v a="$from" -v b="$till" -v name="\"act\":\"$3[(\"]" '/"act":/ { all++ } $0 ~ name { some++ } END { print all + 0, some + 0, b - a }' "$work/log"
+  done > "$work/runs"
+  for column in 1 2 3; do
+    sort -g -k "$column,$column" "$work/runs" | awk -v column="$column" '{ value[NR] = $column } END { printf "%s ", (value[10] + value[11]) / 2 }'
+  done
+}
+# kept SOURCE COMPOSITION ACTION
+kept() {
+  performed "$1" "$2" "$3" --alone > "$work/alone"
+  performed "$1" "$2" "$3" '' > "$work/threads"
+  awk -v name="$2" -v action="$3" '
+    FNR == NR { all = $1; some = $2; seconds = $3; next }
+    { printf "%s: on threads %.2f of the actions, %.2f of the %s; wall time %.2f of alone\n", name, $1 / all, $2 / some, action, $3 / seconds }
+  ' "$work/alone" "$work/threads"
+}
+
 echo "processors: $(getconf _NPROCESSORS_ONLN)"
+kept links/links.ioa AltBit receive_msg
+kept links/links.ioa Stenning receive_msg
+kept links/links.ioa Sliding receive_msg
+kept links/links.ioa Handshake receive_msg
+kept peterson/peterson.ioa Peterson crit
+kept ring/ring.ioa Ring receive
 for count in 2 4 8 16; do
   compared apart "$count" long 10000
 done
