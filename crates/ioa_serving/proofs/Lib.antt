@@ -10,6 +10,7 @@ pub mod ListedLines
 pub mod Logged
 pub mod Made
 pub mod Named
+pub mod Pacing
 pub mod Pictured
 pub mod Ran
 pub mod Refused

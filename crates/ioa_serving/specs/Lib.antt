@@ -12,6 +12,7 @@ pub mod Headline
 pub mod Libraries
 pub mod ListLogs
 pub mod Logs
+pub mod Pacing
 pub mod Pictures
 pub mod Printed
 pub mod RunReports

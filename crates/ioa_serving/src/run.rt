@@ -18,6 +18,7 @@ ghost use Rattle.ioa_serving.specs.Traces.{performed, table_reports, table_text}
 
 use crate::compile::program_of;
 use crate::failure::Failure;
+use crate::pacer::Pacer;
 use crate::reports::reports_text;
 use crate::script::load_script;
 use crate::served::Served;
@@ -34,6 +35,7 @@ use ioa_value::Action;
 use std::alloc::{AllocError, Global};
 use std::sync::Wait;
 use std::thread::Threads;
+use std::time::Clock;
 
 /// Runs a composition of a source, or an object, on one thread or on one for each worker, and writes its trace and how it ends, or its log.
 ///
@@ -46,7 +48,7 @@ use std::thread::Threads;
 /// the file of words is no list of words; `List` where a line of the script is no action; `TooManyTurns`, `BadInput`; `Threads`, unless the run is on one thread; then
 /// `List` where the device failed; or want of memory. Nothing was written then, or, where the device failed, no more than a beginning of
 /// the text.
-pub fn run_file<H: Threads + Wait + Sync, F: Store, W: OutputDevice>(
+pub fn run_file<H: Threads + Wait + Clock + Sync, F: Store, W: OutputDevice>(
     rt: &H,
     alloc: Global,
     settings: &Settings<'_>,
@@ -77,7 +79,7 @@ pub struct Ran {
 }
 
 /// Reads what a run is given, and runs it. Nothing is written.
-fn run_settings<H: Threads + Wait + Sync, F: Store>(
+fn run_settings<H: Threads + Wait + Clock + Sync, F: Store>(
     rt: &H,
     alloc: Global,
     settings: &Settings<'_>,
@@ -116,7 +118,7 @@ fn ran_of(program: Program, outcome: Outcome) -> Ran
 }
 
 /// Runs the program by these words, one source for each component.
-fn run_sources<H: Threads + Wait + Sync>(
+fn run_sources<H: Threads + Wait + Clock + Sync>(
     rt: &H,
     alloc: Global,
     program: &Program,
@@ -138,7 +140,7 @@ fn run_sources<H: Threads + Wait + Sync>(
 }
 
 /// The same, of sources of one kind: on one thread, where that is asked for, or on one for each worker.
-fn run_by<H: Threads + Wait + Sync, W: Words + Send + Drop>(
+fn run_by<H: Threads + Wait + Clock + Sync, W: Words + Send + Drop>(
     rt: &H,
     alloc: Global,
     program: &Program,
@@ -157,7 +159,12 @@ fn run_by<H: Threads + Wait + Sync, W: Words + Send + Drop>(
     if settings.alone {
         return run_alone(alloc, program, turns, words, script);
     }
-    run_threads(rt, alloc, program, turns, words, script, &OpenGate)
+    let workers = program.members().len().saturating_add(1);
+    let Ok(gate) = Pacer::new(rt, alloc, workers) else {
+        // memory is short for the gate, so nobody is held
+        return run_threads(rt, alloc, program, turns, words, script, &OpenGate);
+    };
+    run_threads(rt, alloc, program, turns, words, script, &gate)
 }
 
 /// The text of the reports, where they are to be told.

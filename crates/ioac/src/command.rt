@@ -24,6 +24,7 @@ use std::alloc::Global;
 use std::convert::AsStr;
 use std::sync::Wait;
 use std::thread::Threads;
+use std::time::Clock;
 
 /// The program: reads the words of its command line, does what they ask, and answers its exit status, as `Status` numbers it. A run may take
 /// threads of the runtime.
@@ -32,7 +33,7 @@ use std::thread::Threads;
 /// `Unable` where `errors` failed, too. Any other status means that no device failed in this call. A file is changed only where it is asked
 /// for: by an object that stands in it whole. `input` is read only where a list or a log is asked for.
 pub fn command<
-    H: Threads + Wait + Sync,
+    H: Threads + Wait + Clock + Sync,
     S: AsStr,
     F: Store,
     R: InputDevice,
@@ -65,7 +66,7 @@ pub fn command<
 
 /// Does what the words of a command line ask.
 fn perform<
-    H: Threads + Wait + Sync,
+    H: Threads + Wait + Clock + Sync,
     S: AsStr,
     F: Store,
     R: InputDevice,
@@ -107,7 +108,13 @@ fn perform<
 
 /// Does what is asked, and tells why not; and behind it, where `explains` says so, what there is to say of it, for people. Where memory is short for that,
 /// it is left out.
-fn answer_as<H: Threads + Wait + Sync, F: Store, R: InputDevice, W: OutputDevice, E: OutputDevice>(
+fn answer_as<
+    H: Threads + Wait + Clock + Sync,
+    F: Store,
+    R: InputDevice,
+    W: OutputDevice,
+    E: OutputDevice,
+>(
     rt: &H,
     alloc: Global,
     asked: &Request<'_>,
@@ -134,7 +141,7 @@ fn answer_as<H: Threads + Wait + Sync, F: Store, R: InputDevice, W: OutputDevice
 
 /// Does what is asked, and tells why not, and then what there is to say of it.
 fn answer_and_explain<
-    H: Threads + Wait + Sync,
+    H: Threads + Wait + Clock + Sync,
     F: Store,
     R: InputDevice,
     W: OutputDevice,
@@ -164,7 +171,13 @@ fn answer_and_explain<
 }
 
 /// Does what is asked, and tells why not.
-fn answer<H: Threads + Wait + Sync, F: Store, R: InputDevice, W: OutputDevice, E: OutputDevice>(
+fn answer<
+    H: Threads + Wait + Clock + Sync,
+    F: Store,
+    R: InputDevice,
+    W: OutputDevice,
+    E: OutputDevice,
+>(
     rt: &H,
     alloc: Global,
     asked: &Request<'_>,
@@ -187,7 +200,7 @@ fn answer<H: Threads + Wait + Sync, F: Store, R: InputDevice, W: OutputDevice, E
 /// Does what is asked, and tells why not: answers what came of it, and the exit status.
 #[tactic(auto, using(crate::proofs::Reported::no_device_failed))]
 fn serve_and_tell<
-    H: Threads + Wait + Sync,
+    H: Threads + Wait + Clock + Sync,
     F: Store,
     R: InputDevice,
     W: OutputDevice,

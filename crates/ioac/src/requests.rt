@@ -24,13 +24,14 @@ use ioa_system::End;
 use std::alloc::Global;
 use std::sync::Wait;
 use std::thread::Threads;
+use std::time::Clock;
 
 /// Does what is asked, and answers the exit status with what is left to tell.
 ///
 /// # Errors
 /// `Io` or `OutOfMemory` where the file is not read, and those of the replay, the log, the run, the monitor, the chart, the graph, the check, the object or the dump of
 /// what it holds, or of the explanation or the library. Nothing was written then, or, where a device failed, no more than a beginning of the text.
-pub(crate) fn serve<H: Threads + Wait + Sync, F: Store, R: InputDevice, W: OutputDevice>(
+pub(crate) fn serve<H: Threads + Wait + Clock + Sync, F: Store, R: InputDevice, W: OutputDevice>(
     rt: &H,
     alloc: Global,
     asked: &Request<'_>,

@@ -14,6 +14,7 @@ mod list_logs;
 mod lists;
 mod logs;
 mod objects;
+mod pacing;
 mod pictures;
 mod proposals;
 mod remarked;

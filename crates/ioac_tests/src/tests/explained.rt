@@ -8,6 +8,7 @@ use std::alloc::Global;
 use std::process::Abort;
 use std::sync::Wait;
 use std::thread::Threads;
+use std::time::Clock;
 
 /// The words, a file and a list that give a code, if there are some: for `E1` this long file.
 fn example(
@@ -41,7 +42,7 @@ fn tells(errors: &[u8], code: Code) -> bool {
 }
 
 /// Whether the program tells this code of what it is given, and nothing else.
-fn is_given<H: Abort + Threads + Wait + Sync>(
+fn is_given<H: Abort + Threads + Wait + Clock + Sync>(
     rt: &H,
     alloc: Global,
     code: Code,
@@ -75,7 +76,7 @@ fn examples_give_their_codes(rt: HostRuntime) {
 }
 
 /// Runs `explain` with these words, which has to print what is said of this topic.
-fn expect_topic<H: Abort + Threads + Wait + Sync>(
+fn expect_topic<H: Abort + Threads + Wait + Clock + Sync>(
     rt: &H,
     alloc: Global,
     words: &str,

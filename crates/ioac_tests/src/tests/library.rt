@@ -8,6 +8,7 @@ use std::alloc::Global;
 use std::process::Abort;
 use std::sync::Wait;
 use std::thread::Threads;
+use std::time::Clock;
 
 /// The words after the program's name, a list or a log for the library, what is printed, what is told of errors, and the exit status.
 const ROWS: &str = r#"
@@ -61,7 +62,7 @@ fn the_library_gives_what_is_wanted(rt: HostRuntime) {
 }
 
 /// Runs the program on a source, by these words and this input; it is done.
-fn done<H: Abort + Threads + Wait + Sync>(
+fn done<H: Abort + Threads + Wait + Clock + Sync>(
     rt: &H,
     alloc: Global,
     source: &[u8],
@@ -79,7 +80,7 @@ fn done<H: Abort + Threads + Wait + Sync>(
 }
 
 /// Runs a composition of a source on one thread or on several; its log is replayed, and its specification, of the library, accepts it.
-fn expect_accepted<H: Abort + Threads + Wait + Sync>(
+fn expect_accepted<H: Abort + Threads + Wait + Clock + Sync>(
     rt: &H,
     alloc: Global,
     source: &[u8],
@@ -102,7 +103,7 @@ fn expect_accepted<H: Abort + Threads + Wait + Sync>(
 }
 
 /// The same on one thread, and on several.
-fn expect_accepted_both_ways<H: Abort + Threads + Wait + Sync>(
+fn expect_accepted_both_ways<H: Abort + Threads + Wait + Clock + Sync>(
     rt: &H,
     alloc: Global,
     source: &[u8],
@@ -144,7 +145,7 @@ fn instruction_count(program: &Program) -> usize {
 }
 
 /// How many lines with an instruction the dump of the program's object has.
-fn dumped_count<H: Abort + Threads + Wait + Sync>(
+fn dumped_count<H: Abort + Threads + Wait + Clock + Sync>(
     rt: &H,
     alloc: Global,
     program: &Program,

@@ -4,6 +4,7 @@ use std::alloc::Global;
 use std::process::Abort;
 use std::sync::Wait;
 use std::thread::Threads;
+use std::time::Clock;
 
 /// The words, a file and standard input; what `--explain` tells behind what is told without it; and the code of which it then says what it means, if it
 /// does so.
@@ -38,7 +39,7 @@ check f | automaton C^signature internal a^states c: Int^transitions internal a^
 "#;
 
 /// What the program prints by these words.
-fn ran<H: Abort + Threads + Wait + Sync>(
+fn ran<H: Abort + Threads + Wait + Clock + Sync>(
     rt: &H,
     alloc: Global,
     words: &str,
@@ -53,7 +54,7 @@ fn ran<H: Abort + Threads + Wait + Sync>(
 }
 
 /// What is told in all: what is told without the flag, this behind it, and what `explain` says of a code, if there is one.
-fn told<H: Abort + Threads + Wait + Sync>(
+fn told<H: Abort + Threads + Wait + Clock + Sync>(
     rt: &H,
     alloc: Global,
     errors: &[u8],
@@ -72,7 +73,7 @@ fn told<H: Abort + Threads + Wait + Sync>(
     told
 }
 
-fn expect_remark<H: Abort + Threads + Wait + Sync>(rt: &H, alloc: Global, row: &str) {
+fn expect_remark<H: Abort + Threads + Wait + Clock + Sync>(rt: &H, alloc: Global, row: &str) {
     let columns = columns(alloc, row).expect(rt, "columns");
     let words = column(&columns, 0);
     let without = ran(rt, alloc, words, &columns);

@@ -9,6 +9,7 @@ use std::alloc::Global;
 use std::process::Abort;
 use std::sync::Wait;
 use std::thread::Threads;
+use std::time::Clock;
 
 /// Those with sources and lists as long as they may be, and longer.
 const LONG: [(&str, First<'static>); 2] = [
@@ -50,7 +51,7 @@ const SHORT: [(&str, First<'static>); 30] = [
 ];
 
 /// Runs the program on the rows of each table.
-fn expect_tables<H: Abort + Threads + Wait + Sync>(
+fn expect_tables<H: Abort + Threads + Wait + Clock + Sync>(
     rt: &H,
     alloc: Global,
     tables: &[(&str, First<'_>)],

@@ -9,6 +9,7 @@ use std::alloc::{AllocError, Global};
 use std::process::Abort;
 use std::sync::Wait;
 use std::thread::Threads;
+use std::time::Clock;
 
 /// A component that rolls, twice at most, and one that adds and tells.
 const GAME: &str = "\
@@ -138,7 +139,7 @@ impl<'a> Store for Rack<'a> {
 }
 
 /// Runs the program by these words after `run f`.
-fn run_by<H: Abort + Threads + Wait + Sync>(
+fn run_by<H: Abort + Threads + Wait + Clock + Sync>(
     rt: &H,
     alloc: Global,
     options: &str,
@@ -167,7 +168,12 @@ fn run_by<H: Abort + Threads + Wait + Sync>(
 }
 
 /// Runs the row of a table on this source.
-fn expect_run<H: Abort + Threads + Wait + Sync>(rt: &H, alloc: Global, row: &str, source: &str) {
+fn expect_run<H: Abort + Threads + Wait + Clock + Sync>(
+    rt: &H,
+    alloc: Global,
+    row: &str,
+    source: &str,
+) {
     let columns = columns(alloc, row).expect(rt, "a row");
     let mut rack = Rack {
         source,
@@ -180,7 +186,12 @@ fn expect_run<H: Abort + Threads + Wait + Sync>(rt: &H, alloc: Global, row: &str
 }
 
 /// Runs each row of a table on this source.
-fn expect_runs<H: Abort + Threads + Wait + Sync>(rt: &H, alloc: Global, rows: &str, source: &str) {
+fn expect_runs<H: Abort + Threads + Wait + Clock + Sync>(
+    rt: &H,
+    alloc: Global,
+    rows: &str,
+    source: &str,
+) {
     for row in rows.lines() {
         if is_row(row) {
             expect_run(rt, alloc, row, source);
@@ -196,7 +207,11 @@ fn runs_print_what_is_wanted(rt: HostRuntime) {
 }
 
 /// What a run of the game prints by these words.
-fn printed<H: Abort + Threads + Wait + Sync>(rt: &H, alloc: Global, options: &str) -> Vec<u8> {
+fn printed<H: Abort + Threads + Wait + Clock + Sync>(
+    rt: &H,
+    alloc: Global,
+    options: &str,
+) -> Vec<u8> {
     let mut rack = Rack {
         source: GAME,
         words: "",

@@ -7,6 +7,7 @@ use std::alloc::{AllocError, Global};
 use std::process::Abort;
 use std::sync::Wait;
 use std::thread::Threads;
+use std::time::Clock;
 
 /// The words, after the program's name, that most tests give.
 pub const REPLAY: &str = "replay f";
@@ -110,7 +111,12 @@ pub fn words<'a>(rt: &impl Abort, alloc: Global, text: &'a str) -> Vec<&'a str> 
 }
 
 /// Runs the program on devices, and answers its exit status, and what it has saved.
-pub fn run_on<H: Abort + Threads + Wait + Sync, R: InputDevice, W: OutputDevice, E: OutputDevice>(
+pub fn run_on<
+    H: Abort + Threads + Wait + Clock + Sync,
+    R: InputDevice,
+    W: OutputDevice,
+    E: OutputDevice,
+>(
     rt: &H,
     alloc: Global,
     given: &Given<'_>,
@@ -136,7 +142,11 @@ pub fn run_on<H: Abort + Threads + Wait + Sync, R: InputDevice, W: OutputDevice,
 }
 
 /// Runs the program.
-pub fn run<H: Abort + Threads + Wait + Sync>(rt: &H, alloc: Global, given: &Given<'_>) -> Ran {
+pub fn run<H: Abort + Threads + Wait + Clock + Sync>(
+    rt: &H,
+    alloc: Global,
+    given: &Given<'_>,
+) -> Ran {
     let mut input = Heard::new(Counted::new(given.list.as_bytes()));
     let mut output = Counted::new(Vec::new(alloc));
     let mut errors = Counted::new(Vec::new(alloc));
@@ -150,7 +160,7 @@ pub fn run<H: Abort + Threads + Wait + Sync>(rt: &H, alloc: Global, given: &Give
 }
 
 /// Runs the program and compares what it prints. It tells the row that fails.
-pub fn expect<H: Abort + Threads + Wait + Sync>(
+pub fn expect<H: Abort + Threads + Wait + Clock + Sync>(
     rt: &H,
     alloc: Global,
     row: &str,
@@ -209,7 +219,11 @@ fn changed(rt: &impl Abort, alloc: Global, file: &str, columns: &[String]) -> Ve
 }
 
 /// The object that the program makes of a source.
-pub fn object<H: Abort + Threads + Wait + Sync>(rt: &H, alloc: Global, source: &str) -> Vec<u8> {
+pub fn object<H: Abort + Threads + Wait + Clock + Sync>(
+    rt: &H,
+    alloc: Global,
+    source: &str,
+) -> Vec<u8> {
     let given = Given {
         words: "compile f o",
         file: source.as_bytes(),
@@ -219,7 +233,7 @@ pub fn object<H: Abort + Threads + Wait + Sync>(rt: &H, alloc: Global, source: &
 }
 
 // The bytes of a row's file.
-fn file_in<H: Abort + Threads + Wait + Sync>(
+fn file_in<H: Abort + Threads + Wait + Clock + Sync>(
     rt: &H,
     alloc: Global,
     first: First<'_>,
@@ -262,7 +276,7 @@ pub fn wanted_in<'a>(rt: &impl Abort, columns: &'a [String], number: usize) -> W
 }
 
 // Runs the program on this row, and compares what it prints.
-fn expect_row<H: Abort + Threads + Wait + Sync>(
+fn expect_row<H: Abort + Threads + Wait + Clock + Sync>(
     rt: &H,
     alloc: Global,
     row: &str,
@@ -277,7 +291,7 @@ fn expect_row<H: Abort + Threads + Wait + Sync>(
 
 /// Runs the program on each row of a table and compares what it prints: after the first columns come what is printed, what is
 /// told of errors, and the exit status.
-pub fn expect_rows<H: Abort + Threads + Wait + Sync>(
+pub fn expect_rows<H: Abort + Threads + Wait + Clock + Sync>(
     rt: &H,
     alloc: Global,
     rows: &str,

@@ -7,6 +7,7 @@ use std::io::{Read, Write};
 use std::process::Abort;
 use std::sync::Wait;
 use std::thread::Threads;
+use std::time::Clock;
 
 /// Takes one byte a call, and fails after so many calls.
 #[derive(Drop)]
@@ -105,7 +106,7 @@ const GIVEN: [(&str, &str, &str, &str, Status); 6] = [
 
 /// Replays what is given on a device that fails after so many calls, and the answer is printed on one that takes so many;
 /// with how many calls failed.
-fn replayed<H: Abort + Threads + Wait + Sync>(
+fn replayed<H: Abort + Threads + Wait + Clock + Sync>(
     rt: &H,
     alloc: Global,
     given: &Given<'_>,
@@ -151,7 +152,7 @@ fn reads_of(given: &Given<'_>) -> u64 {
 }
 
 /// Replays on devices that fail at each call in turn.
-fn expect_failures<H: Abort + Threads + Wait + Sync>(
+fn expect_failures<H: Abort + Threads + Wait + Clock + Sync>(
     rt: &H,
     alloc: Global,
     given: &Given<'_>,
@@ -173,7 +174,7 @@ fn expect_failures<H: Abort + Threads + Wait + Sync>(
 }
 
 /// Replays on devices that do not fail.
-fn expect_success<H: Abort + Threads + Wait + Sync>(
+fn expect_success<H: Abort + Threads + Wait + Clock + Sync>(
     rt: &H,
     alloc: Global,
     given: &Given<'_>,
@@ -219,7 +220,7 @@ const ROOMS: [(&str, &str, &str, &[u8], &[u8]); 12] = [
 ];
 
 /// Whether the program fails where no more than this can be written.
-fn fills<H: Abort + Threads + Wait + Sync>(
+fn fills<H: Abort + Threads + Wait + Clock + Sync>(
     rt: &H,
     alloc: Global,
     given: &Given<'_>,
