@@ -15,7 +15,7 @@ pub const E12: Explanation = Explanation {
         transitions output tick eff c := c + 1\n\
         composition One components A: Counter(true)",
     ),
-    mending: "Give one value for each formal, of its type and in order. Here: `A: Counter(5)`.",
+    mending: "Give one value for each formal, of its type and in order. In this example: `A: Counter(5)`.",
 };
 
 pub const E13: Explanation = Explanation {
@@ -29,8 +29,8 @@ pub const E13: Explanation = Explanation {
         transitions output tick eff c := c + 1 input reset eff c := 0\n\
         composition One components A: Counter crash reset recover up",
     ),
-    mending: "Take two names that the automaton does not have. Here: `A: Counter crash down recover up`. Another component may\n\
-        have them, so two hosts may crash together.",
+    mending: "Take two names that the automaton does not have. In this example: `A: Counter crash down recover up`.\n\
+        Another component may have them, so two hosts may crash together.",
 };
 
 pub const E14: Explanation = Explanation {
@@ -44,7 +44,7 @@ pub const E14: Explanation = Explanation {
         composition Two components A: Door; B: Door",
     ),
     mending: "An action has one owner, and an internal one is nobody else's: give one of the two another name or another\n\
-        constant, or make an output an input of the other component. Here one Door is enough.",
+        constant, or make an output an input of the other component. In this example: one Door is enough.",
 };
 
 pub const E15: Explanation = Explanation {
@@ -58,7 +58,7 @@ pub const E15: Explanation = Explanation {
         composition House components D: Door\n\
         hidden open",
     ),
-    mending: "Hide names of outputs alone. Here: `hidden ring`.",
+    mending: "Hide names of outputs alone. In this example: `hidden ring`.",
 };
 
 pub const E16: Explanation = Explanation {
@@ -72,7 +72,7 @@ pub const E16: Explanation = Explanation {
         transitions output tick eff c := c + 1\n\
         composition One components A: Counter(9223372036854775807)",
     ),
-    mending: "Give other arguments, or write another start expression. Here any smaller number will do.",
+    mending: "Give other arguments, or write another start expression. In this example: any smaller number will do.",
 };
 
 pub const E17: Explanation = Explanation {
@@ -83,5 +83,5 @@ pub const E17: Explanation = Explanation {
         signature input open\n\
         transitions input open",
     ),
-    mending: "Name a composition that the source has, or add one. Here: `composition One components D: Door`.",
+    mending: "Name a composition that the source has, or add one. In this example: `composition One components D: Door`.",
 };

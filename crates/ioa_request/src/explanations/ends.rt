@@ -30,7 +30,8 @@ pub const NOT_AN_ACTION: Explanation = Explanation {
         list: "tick(0)\n\
         tick",
     },
-    mending: "Compare the line with the signatures, or take the composition that has the action by `--comp`. Here it is `tick(1)`.",
+    mending: "Compare the line with the signatures, or take the composition that has the action by `--comp`. In this example:\n\
+        it is `tick(1)`.",
 };
 
 pub const NOT_ENABLED: Explanation = Explanation {
@@ -47,7 +48,8 @@ pub const NOT_ENABLED: Explanation = Explanation {
         list: "tick(0)\n\
         tick(0)",
     },
-    mending: "Follow the states by hand up to this action. Here `c` is 1 after the first one, so `tick(1)` is enabled.",
+    mending: "Follow the states by hand up to this action. In this example: `c` is 1 after the first one, so `tick(1)`\n\
+        is enabled.",
 };
 
 pub const BROKEN: Explanation = Explanation {

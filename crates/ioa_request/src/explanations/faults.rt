@@ -31,7 +31,7 @@ pub const ZERO_DIVISOR: Explanation = Explanation {
         composition One components A: Turns",
         list: "next",
     },
-    mending: "Ask before, as in `pre workers > 0`. Here `workers` has no start value, so it is 0: give it one.",
+    mending: "Ask before, as in `pre workers > 0`. In this example: `workers` has no start value, so it is 0: give it one.",
 };
 
 pub const EMPTY: Explanation = Explanation {
@@ -47,8 +47,8 @@ pub const EMPTY: Explanation = Explanation {
         composition One components A: Channel",
         list: "recv(1)",
     },
-    mending: "Ask before whether there is an item. Here: `pre len(q) > 0 /\\ m = head(q)`, since `/\\` stops where its first part is\n\
-        false.",
+    mending: "Ask before whether there is an item. In this example: `pre len(q) > 0 /\\ m = head(q)`, since `/\\` stops where\n\
+        its first part is false.",
 };
 
 pub const OUT_OF_RANGE: Explanation = Explanation {
@@ -64,7 +64,7 @@ pub const OUT_OF_RANGE: Explanation = Explanation {
         composition One components A: Reader",
         list: "read(7)",
     },
-    mending: "Compare the index with the length before, as in `i < len(row)`. Here the one item is `at(row, 0)`.",
+    mending: "Compare the index with the length before, as in `i < len(row)`. In this example: the one item is `at(row, 0)`.",
 };
 
 pub const FULL: Explanation = Explanation {

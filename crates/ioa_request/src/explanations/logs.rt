@@ -33,7 +33,7 @@ pub const L3: Explanation = Explanation {
         log: "{\"act\":\"tick(0)\",\"who\":1}\n\
         {\"end\":\"done after 1\"}",
     },
-    mending: "Give the log to the composition that it is of, or mend the number. Here: `\"who\":0`.",
+    mending: "Give the log to the composition that it is of, or mend the number. In this example: `\"who\":0`.",
 };
 
 pub const L4: Explanation = Explanation {
@@ -56,7 +56,7 @@ pub const L5: Explanation = Explanation {
         source: COUNTER,
         log: "{\"act\":\"tick(0)\",\"who\":0}",
     },
-    mending: "The log was cut off. If nothing but the end is missing, add it. Here: `{\"end\":\"done after 1\"}`.",
+    mending: "The log was cut off. If nothing but the end is missing, add it. In this example: `{\"end\":\"done after 1\"}`.",
 };
 
 pub const L6: Explanation = Explanation {

@@ -7,8 +7,8 @@ use crate::topic::Topic;
 pub const E5: Explanation = Explanation {
     topic: Topic::Code(Code::E5),
     meaning: "A name is declared twice, or has two entries or two proposals, or is hidden twice. Within an automaton its\n\
-        formals, its variables and the parameters of an entry differ from each other, and from the names of types, automata\n\
-        and compositions.",
+        formals, its variables and the parameters of an entry differ from each other, and from the names of types, of the\n\
+        values of enumerations, of automata and of compositions; so do these.",
     example: Example::Source(
         "automaton Door\n\
         signature input open\n\
@@ -29,7 +29,7 @@ pub const E6: Explanation = Explanation {
         states n: Int\n\
         transitions input open eff m := 1",
     ),
-    mending: "Mend its spelling, or declare it before its use. Here `m` should be `n`.",
+    mending: "Mend its spelling, or declare it before its use. In this example: `m` should be `n`.",
 };
 
 pub const E7: Explanation = Explanation {
@@ -43,7 +43,7 @@ pub const E7: Explanation = Explanation {
         states n: Int := true\n\
         transitions input open",
     ),
-    mending: "Change the expression, or the declared type. Here the variable should be a Bool.",
+    mending: "Change the expression, or the declared type. In this example: the variable should be a Bool.",
 };
 
 pub const E8: Explanation = Explanation {
@@ -56,8 +56,8 @@ pub const E8: Explanation = Explanation {
         states is_open: Bool\n\
         transitions input open pre is_open = false eff is_open := true",
     ),
-    mending: "Add the missing transition, or take the needless one away. Here `pre` has to go: let the effect do\n\
-        nothing where the input does not matter.",
+    mending: "Add the missing transition, or take the needless one away. In this example: `pre` has to go: let the\n\
+        effect do nothing where the input does not matter.",
 };
 
 pub const E9: Explanation = Explanation {
@@ -70,7 +70,7 @@ pub const E9: Explanation = Explanation {
         states c: Int\n\
         transitions output tick pre k = c eff c := c + 1",
     ),
-    mending: "Say which value to try. Here: `propose k := c` after the precondition.",
+    mending: "Say which value to try. In this example: `propose k := c` after the precondition.",
 };
 
 pub const E10: Explanation = Explanation {
@@ -83,7 +83,7 @@ pub const E10: Explanation = Explanation {
         signature input open\n\
         transitions input open",
     ),
-    mending: "Part the automaton into several, or keep fewer things in it. Here one formal has to go.",
+    mending: "Part the automaton into several, or keep fewer things in it. In this example: one formal has to go.",
 };
 
 pub const E11: Explanation = Explanation {
@@ -94,5 +94,5 @@ pub const E11: Explanation = Explanation {
         "type Row = seq 256 of Int\n\
         type Board = seq 16 of Row",
     ),
-    mending: "Make a capacity smaller, or leave out a field. Here 15 rows are the most.",
+    mending: "Make a capacity smaller, or leave out a field. In this example: 15 rows are the most.",
 };

@@ -35,7 +35,7 @@ pub const E3: Explanation = Explanation {
         signature input open\n\
         composition One components D: Door",
     ),
-    mending: "Compare the line with the grammar in docs/language.md. Here `transitions input open` is missing.",
+    mending: "Compare the line with the grammar in docs/language.md. In this example: `transitions input open` is missing.",
 };
 
 pub const E4: Explanation = Explanation {
