@@ -1,11 +1,11 @@
 -- The lines whose comment begins within a statement are those that break one off.
-use Rattle.std.proofs.Common.{◌≡◌, ◌≢◌, ℕ, ◌==◌, Bool, true, false, not, cond, ◌&&◌, ◌||◌, List, [], ◌∷◌, ◌++◌, Option, Some, None, refl, sym, ap, subst, ◌∙◌}
+use Rattle.std.proofs.Common.{◌≡◌, ◌≢◌, ℕ, ◌==◌, Bool, true, false, not, cond, ◌&&◌, ◌||◌, List, [], ◌∷◌, ◌++◌, Option, Some, None, refl, sym, ap, ap₂, subst, ◌∙◌}
 use Rattle.std.specs.List.{list_all}
 use Rattle.std.specs.Option.{option_map, option_map_or, option_or}
 use Rattle.std.proofs.lemmas.Bool.{and_parts, eq-eqb, eqb-true, false≢true, or_parts}
 use Rattle.ioa_value.specs.Reads.{is_blank}
-use Rattle.ioa_warnings.specs.Comments.{assigns, before_comment, begins_equal, goes_on, is_cut, is_within_statement, last_byte}
-use Rattle.ioa_warnings.specs.Statements.{Assigns, CutIsBrokenOff, EndsWith, IsBrokenOff, StandsBefore}
+use Rattle.ioa_warnings.specs.Comments.{assigns, before_comment, begins_equal, behind_comment, goes_on, is_cut, is_operand, is_within_statement, last_byte}
+use Rattle.ioa_warnings.specs.Statements.{Assigns, CutIsBrokenOff, EndsWith, IsBrokenOff, IsParted}
 
 abbrev NoMark : List ℕ → Bool
 NoMark text = list_all (λ b. not (b == 37)) text
@@ -16,20 +16,21 @@ not_true false e = refl
 
 -- ---- where the comment begins
 
-module _ (b : ℕ) (bs front : List ℕ) (later : (rest : List ℕ) → before_comment bs ≡ Some rest → StandsBefore rest bs) where
-  parted_further : (b == 37) ≡ false → (o : Option (List ℕ)) → before_comment bs ≡ o → option_map (λ rest. b ∷ rest) o ≡ Some front → StandsBefore front (b ∷ bs)
+module _ (b : ℕ) (bs front : List ℕ) (later : (rest : List ℕ) → before_comment bs ≡ Some rest → IsParted rest (behind_comment bs) bs) where
+  parted_further : (b == 37) ≡ false → (o : Option (List ℕ)) → before_comment bs ≡ o → option_map (λ rest. b ∷ rest) o ≡ Some front → IsParted front (behind_comment bs) (b ∷ bs)
   parted_further e None at is = absurd (cc)
   parted_further e (Some rest) at is =
       let w = later rest at in
       let same : b ∷ rest ≡ front = cc in
       let plain : NoMark (b ∷ rest) ≡ true = rw e w.0 in
-      subst (λ f. StandsBefore f (b ∷ bs)) same (plain, (w.1.0, ap (λ l. b ∷ l) w.1.1))
+      subst (λ f. IsParted f (behind_comment bs) (b ∷ bs)) same (plain, ap (λ l. b ∷ l) w.1)
 
-  parted_at : (t : Bool) → (b == 37) ≡ t → cond t (Some []) (option_map (λ rest. b ∷ rest) (before_comment bs)) ≡ Some front → StandsBefore front (b ∷ bs)
-  parted_at true e is = let none : [] ≡ front = cc in subst (λ f. StandsBefore f (b ∷ bs)) none (refl, (bs, ap (λ m. m ∷ bs) (eqb-true b 37 e)))
+  parted_at : (t : Bool) → (b == 37) ≡ t → cond t (Some []) (option_map (λ rest. b ∷ rest) (before_comment bs)) ≡ Some front
+      → IsParted front (cond t bs (behind_comment bs)) (b ∷ bs)
+  parted_at true e is = let none : [] ≡ front = cc in subst (λ f. IsParted f bs (b ∷ bs)) none (refl, ap (λ m. m ∷ bs) (eqb-true b 37 e))
   parted_at false e is = parted_further e (before_comment bs) refl is
 
-parted : (line front : List ℕ) → before_comment line ≡ Some front → StandsBefore front line
+parted : (line front : List ℕ) → before_comment line ≡ Some front → IsParted front (behind_comment line) line
 parted [] front e = absurd (cc)
 parted (b ∷ bs) front e = parted_at b bs front (λ rest at. parted bs rest at) (b == 37) refl e
 
@@ -38,6 +39,12 @@ begins_there [] comment h = refl
 begins_there (b ∷ bs) comment h =
     let k = and_parts (not (b == 37)) (NoMark bs) h in
     rw (not_true (b == 37) k.0, begins_there bs comment k.1) refl
+
+behind_there : (front comment : List ℕ) → NoMark front ≡ true → behind_comment (front ++ 37 ∷ comment) ≡ comment
+behind_there [] comment h = refl
+behind_there (b ∷ bs) comment h =
+    let k = and_parts (not (b == 37)) (NoMark bs) h in
+    rw (not_true (b == 37) k.0) (behind_there bs comment k.1)
 
 -- ---- what it stands behind
 
@@ -111,32 +118,39 @@ equals_none a b false e differ = e
 goes_on_so : (last : ℕ) → last ≢ 59 → last ≢ 61 → goes_on (Some last) ≡ true
 goes_on_so last one other = rw (equals_none last 59 (last == 59) refl one, equals_none last 61 (last == 61) refl other) refl
 
-broken_at : (line front : List ℕ) → StandsBefore front line → Assigns front → (o : Option ℕ) → last_byte front ≡ o → goes_on o ≡ true → IsBrokenOff line
-broken_at line front before assigns None at h = absurd (false≢true h)
-broken_at line front before assigns (Some last) at h =
+broken_at : (line front : List ℕ) → IsParted front (behind_comment line) line → Assigns front → is_operand (behind_comment line) ≡ true
+    → (o : Option ℕ) → last_byte front ≡ o → goes_on o ≡ true → IsBrokenOff line
+broken_at line front parted assigns reads None at h = absurd (false≢true h)
+broken_at line front parted assigns reads (Some last) at h =
     let k = or_parts (last == 59) (last == 61) (not_true (last == 59 || last == 61) h) in
     record {
       front = front;
-      before = before;
+      comment = behind_comment line;
+      parted = parted;
       assigns = assigns;
       last = last;
       ends = ended front last at;
       not_ended = differs last 59 k.0;
       has_value = differs last 61 k.1;
+      reads = reads;
     }
 
-broken : (line : List ℕ) (o : Option (List ℕ)) → before_comment line ≡ o → option_map_or is_within_statement o false ≡ true → IsBrokenOff line
+broken : (line : List ℕ) (o : Option (List ℕ)) → before_comment line ≡ o → (option_map_or is_within_statement o false && is_operand (behind_comment line)) ≡ true
+    → IsBrokenOff line
 broken line None at h = absurd (false≢true h)
 broken line (Some front) at h =
-    let k = and_parts (assigns front) (goes_on (last_byte front)) h in
-    broken_at line front (parted line front at) (assigned front k.0) (last_byte front) refl k.1
+    let both = and_parts (is_within_statement front) (is_operand (behind_comment line)) h in
+    let k = and_parts (assigns front) (goes_on (last_byte front)) both.0 in
+    broken_at line front (parted line front at) (assigned front k.0) both.1 (last_byte front) refl k.1
 
 cut : (line : List ℕ) → IsBrokenOff line → is_cut line ≡ true
 cut line w =
-    let begins : before_comment line ≡ Some w.front = ap before_comment w.before.1.1 ∙ begins_there w.front w.before.1.0 w.before.0 in
+    let begins : before_comment line ≡ Some w.front = ap before_comment w.parted.1 ∙ begins_there w.front w.comment w.parted.0 in
+    let behind : behind_comment line ≡ w.comment = ap behind_comment w.parted.1 ∙ behind_there w.front w.comment w.parted.0 in
     let assigning : assigns w.front ≡ true = ap assigns w.assigns.2 ∙ assigns_there w.assigns.0 w.assigns.1 in
     let ending : last_byte w.front ≡ Some w.last = ap last_byte w.ends.2 ∙ ends_there w.ends.0 w.ends.1 w.last w.ends.3 w.ends.4 in
-    rw (begins, assigning, ending) (goes_on_so w.last w.not_ended w.has_value)
+    let within : option_map_or is_within_statement (before_comment line) false ≡ true = rw (begins, assigning, ending) (goes_on_so w.last w.not_ended w.has_value) in
+    ap₂ (λ (x y : Bool). x && y) within (ap is_operand behind ∙ w.reads)
 
 pub cut_is_broken_off : CutIsBrokenOff
 cut_is_broken_off line = (broken line (before_comment line) refl, cut line)

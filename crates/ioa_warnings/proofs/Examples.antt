@@ -4,7 +4,7 @@ use Rattle.ioa_value.specs.Actions.{Name}
 use Rattle.ioa_value.specs.declared.operator.Op.TheVariants.{Eq}
 use Rattle.ioa_tree.specs.declared.tree.Infix.TheVariants.{And, Operator}
 use Rattle.ioa_tree.specs.declared.tree.Kind.TheVariants.{Input, Output, Internal}
-use Rattle.ioa_tree.specs.Tree.{Expr, binary, make, named, number, select, also, no_expr, PositionTree, only, positive, typed, EntryTree, TransitionTree, AutomatonTree, stop}
+use Rattle.ioa_tree.specs.Tree.{Expr, binary, make, named, number, select, truth, also, no_expr, any_below, exactly, PositionTree, only, positive, typed, EntryTree, TransitionTree, AutomatonTree, stop}
 use Rattle.ioa_warnings.specs.Comments.{comments_in_statements}
 use Rattle.ioa_warnings.specs.Free.{free_of_automaton}
 use Rattle.ioa_warnings.specs.Mentions.{mentions}
@@ -73,6 +73,20 @@ ticks_fast = record ticks {
 abbrev resets : TransitionTree
 resets = record { kind = Internal; name = codes "reset"; pre = None; proposals = []; effect = stop }
 
+-- internal reset propose k := any(3), internal reset pre true
+abbrev resets_by_chance : TransitionTree
+resets_by_chance = record resets { proposals = record { name = codes "k"; choice = any_below (number 3) } ∷ [] }
+
+abbrev resets_always : TransitionTree
+resets_always = record resets { pre = Some (truth true) }
+
+-- internal reset propose k := 3, internal reset pre false
+abbrev resets_to_three : TransitionTree
+resets_to_three = record resets { proposals = record { name = codes "k"; choice = exactly (number 3) } ∷ [] }
+
+abbrev resets_never : TransitionTree
+resets_never = record resets { pre = Some (truth false) }
+
 -- input set
 abbrev sets : TransitionTree
 sets = record { kind = Input; name = codes "set"; pre = None; proposals = []; effect = stop }
@@ -94,6 +108,21 @@ free_ones = refl
 mentioned_ones : free_of_automaton (clock (sets ∷ ticks_fast ∷ [])) ((4, sets) ∷ (5, ticks_fast) ∷ []) ≡ []
 mentioned_ones = refl
 
+-- where the source says that any value of k will do it is none
+meant_by_chance : free_of_automaton (clock (sets ∷ ticks_fast ∷ resets_by_chance ∷ [])) ((4, sets) ∷ (5, ticks_fast) ∷ (6, resets_by_chance) ∷ []) ≡ []
+meant_by_chance = refl
+
+meant_always : free_of_automaton (clock (sets ∷ ticks_fast ∷ resets_always ∷ [])) ((4, sets) ∷ (5, ticks_fast) ∷ (6, resets_always) ∷ []) ≡ []
+meant_always = refl
+
+proposed_alone : free_of_automaton (clock (sets ∷ ticks_fast ∷ resets_to_three ∷ [])) ((4, sets) ∷ (5, ticks_fast) ∷ (6, resets_to_three) ∷ [])
+    ≡ record { parameter = codes "k"; action = codes "reset"; line = 6 } ∷ []
+proposed_alone = refl
+
+never_enabled : free_of_automaton (clock (sets ∷ ticks_fast ∷ resets_never ∷ [])) ((4, sets) ∷ (5, ticks_fast) ∷ (6, resets_never) ∷ [])
+    ≡ record { parameter = codes "k"; action = codes "reset"; line = 6 } ∷ []
+never_enabled = refl
+
 -- ---- comments
 
 a_remainder : comments_in_statements (codes "x := y % 2") ≡ 1 ∷ []
@@ -108,8 +137,20 @@ before_an_expression = refl
 behind_a_precondition : comments_in_statements (codes "output tick pre k = c % counts") ≡ []
 behind_a_precondition = refl
 
+behind_a_whole_statement : comments_in_statements (codes "eff n := n + 1   % count up") ≡ []
+behind_a_whole_statement = refl
+
+of_several_operands : comments_in_statements (codes "eff x := (y + 1) % (len(q) + 2 * p.tag) fi; z := 1") ≡ 1 ∷ []
+of_several_operands = refl
+
+before_the_end_of_a_choice : comments_in_statements (codes "if a then x := y % 2 fi") ≡ 1 ∷ []
+before_the_end_of_a_choice = refl
+
+of_a_sentence : comments_in_statements (codes "x := y % then, of two (as said): 2\nx := y % 2 of them\nx := y % - - -\nx := y %\nx := y % done.") ≡ []
+of_a_sentence = refl
+
 in_a_comment : comments_in_statements (codes "% x := y % 2") ≡ []
 in_a_comment = refl
 
-on_two_lines : comments_in_statements (codes "eff x := y % 2;\n  y := x mod 2;\n\n  x := 3 %") ≡ 1 ∷ 4 ∷ []
+on_two_lines : comments_in_statements (codes "eff x := y % 2;\n  y := x mod 2;\n\n  x := 3 % k") ≡ 1 ∷ 4 ∷ []
 on_two_lines = refl

@@ -1,15 +1,17 @@
-//! Comments that begin within a statement.
+//! Comments that begin within a statement, and read as its operand.
 
-ghost use Rattle.std.specs.Prelude.{◌≡◌, IfOk, Some, if◌then◌else◌};
-ghost use Rattle.std.specs.Option.{option_copied};
+ghost use Rattle.std.specs.Prelude.{◌≡◌, IfOk, Some, false, if◌then◌else◌};
+ghost use Rattle.std.specs.Option.{option_copied, option_map_or};
 ghost use Rattle.ioa_value.specs.Reads as reads;
 ghost use Rattle.ioa_warnings.specs.Comments as spec;
 
+use crate::operands::is_operand;
 use ioa_value::{OutOfMemory, first_line};
 use std::alloc::Global;
 
-/// The numbers, from 1, of the lines on which a comment begins within a statement, as behind `x := y % 2`: what stands before the
-/// line's first `%` has `:=` in it, and its last byte that is no blank is none of `;` and `=`.
+/// The numbers, from 1, of the lines on which a comment begins within a statement and reads as its operand, as in `x := y % 2`: what stands before
+/// the line's first `%` has `:=` in it, its last byte that is no blank is none of `;` and `=`, and what stands behind the `%` is an operand. Words, as in
+/// `x := y % at last`, are none.
 ///
 /// # Errors
 /// `OutOfMemory`.
@@ -31,9 +33,16 @@ pub fn comments_in_statements(alloc: Global, text: &[u8]) -> Result<Vec<usize>, 
     Ok(numbers)
 }
 
-/// Whether the line's comment begins within a statement.
+/// Whether the line's comment begins within a statement, and reads as its operand.
 fn is_cut(line: &[u8]) -> bool
     ensures { result ≡ spec.is_cut line.now }
+{
+    is_within_statement(line) && is_operand(behind_comment(line))
+}
+
+/// Whether the line's comment begins within a statement.
+fn is_within_statement(line: &[u8]) -> bool
+    ensures { result ≡ option_map_or spec.is_within_statement (spec.before_comment line.now) false }
 {
     match before_comment(line) {
         Some(front) => assigns(front) && goes_on(last_byte(front)),
@@ -51,6 +60,20 @@ fn before_comment(line: &[u8]) -> Option<&[u8]>
         }
     }
     None
+}
+
+/// What stands behind it; nothing, where there is none.
+fn behind_comment(line: &[u8]) -> &[u8]
+    ensures { result.now ≡ spec.behind_comment line.now }
+{
+    let mut rest = line;
+    while let [byte, after @ ..] = rest {
+        if *byte == b'%' {
+            return after;
+        }
+        rest = after;
+    }
+    rest
 }
 
 /// Whether `:=` stands in the text.
@@ -95,7 +118,7 @@ fn later(before: Option<u8>, byte: u8) -> Option<u8>
     if is_blank(byte) { before } else { Some(byte) }
 }
 
-fn is_blank(byte: u8) -> bool
+pub(crate) fn is_blank(byte: u8) -> bool
     ensures { result ≡ reads.is_blank byte }
 {
     byte == b' ' || byte == b'\t' || byte == b'\r'

@@ -1,10 +1,11 @@
-//! Parameters of which no precondition says anything.
+//! Parameters of which no precondition says anything, and no proposal.
 
-ghost use Rattle.std.specs.Prelude.{◌≡◌, ◌&&◌, ◌++◌, [], IfOk, OnOk, map};
-ghost use Rattle.std.specs.Option.{option_map};
+ghost use Rattle.std.specs.Prelude.{◌≡◌, ◌&&◌, ◌++◌, [], IfOk, OnOk, false, map};
+ghost use Rattle.std.specs.List.{list_any};
+ghost use Rattle.std.specs.Option.{option_map, option_map_or};
 ghost use Rattle.std.specs.Str.{bytes_eq};
 ghost use Rattle.ioa_tree.specs.Tree.{AutomatonTree, typed};
-ghost use Rattle.ioa_tree.specs.View.{automaton_of, entry_of, expr_of, field_of, name_of, position_of};
+ghost use Rattle.ioa_tree.specs.View.{automaton_of, entry_of, expr_of, field_of, name_of, position_of, proposal_of, transition_of};
 ghost use Rattle.ioa_tree.specs.WellFormed as well_formed;
 ghost use Rattle.ioa_warnings.specs.Free as spec;
 ghost use Rattle.ioa_warnings.specs.Free.{lined};
@@ -12,7 +13,8 @@ ghost use Rattle.ioa_warnings.specs.Shown.{free_of};
 
 use crate::names::mentions;
 use ioa_tree::{
-    Automaton, Declaration, Entry, Expression, Field, Kind, Name, Position, Transition,
+    Automaton, Choice, Declaration, Entry, Expression, Field, Kind, Name, Position, Proposal,
+    Transition,
 };
 use ioa_value::OutOfMemory;
 use std::alloc::Global;
@@ -26,7 +28,8 @@ pub struct FreeParameter<'a> {
     pub line: u32,
 }
 
-/// The free parameters of a source's outputs and internal actions, in its order.
+/// The free parameters of a source's outputs and internal actions, in its order, but for those of which the source says that any value of them will do: by
+/// `pre true`, or by a proposal that leaves them to chance.
 ///
 /// # Errors
 /// `OutOfMemory`.
@@ -103,7 +106,7 @@ fn add_in<'a>(
     Ok(())
 }
 
-/// Adds the parameter of a position, if it is one and is free.
+/// Adds the parameter of a position, if it is one and is free, and is not said to be.
 fn add_at<'a>(
     found: &mut Vec<FreeParameter<'a>>,
     transition: &'a Transition,
@@ -117,7 +120,7 @@ fn add_at<'a>(
     }
 }
 
-/// Adds a parameter, if it is free.
+/// Adds a parameter, if it is free and is not said to be.
 fn add_parameter<'a>(
     found: &mut Vec<FreeParameter<'a>>,
     transition: &'a Transition,
@@ -125,7 +128,7 @@ fn add_parameter<'a>(
 ) -> Result<(), OutOfMemory>
     ensures { OnOk result (map free_of found.new.items ≡ map free_of found.old.items ++ spec.free_at (lined transition.now) (typed (field_of field.now))) }
 {
-    if !is_free(&transition.pre, &field.name) {
+    if !is_free(&transition.pre, &field.name) || is_meant(transition, &field.name) {
         return Ok(());
     }
     found.push(FreeParameter {
@@ -144,6 +147,43 @@ fn is_free(pre: &Option<Expression>, name: &Name) -> bool
         Some(condition) => !mentions(condition, name.text.as_str()),
         None => true,
     }
+}
+
+/// Whether the source says that any value of this parameter will do.
+fn is_meant(transition: &Transition, name: &Name) -> bool
+    ensures { result ≡ spec.is_meant (transition_of transition.now) (name_of name.now) }
+{
+    is_true(&transition.pre) || is_left_to_chance(&transition.proposals, name)
+}
+
+/// Whether a precondition is written as `true`.
+fn is_true(pre: &Option<Expression>) -> bool
+    ensures { result ≡ option_map_or spec.is_true (option_map expr_of pre.now) false }
+{
+    match pre {
+        Some(Expression::Truth(truth, _)) => *truth,
+        Some(_) | None => false,
+    }
+}
+
+/// Whether one of the proposals leaves this parameter to chance.
+fn is_left_to_chance(proposals: &[Proposal], name: &Name) -> bool
+    ensures { result ≡ list_any (spec.is_chance_of (name_of name.now)) (map proposal_of proposals.now) }
+{
+    for proposal in proposals {
+        if is_chance_of(proposal, name) {
+            return true;
+        }
+    }
+    false
+}
+
+/// Whether the proposal is for this parameter, and leaves it to chance.
+fn is_chance_of(proposal: &Proposal, name: &Name) -> bool
+    ensures { result ≡ spec.is_chance_of (name_of name.now) (proposal_of proposal.now) }
+{
+    proposal.name.text.as_str() == name.text.as_str()
+        && matches!(&proposal.choice, Choice::Any(_, _))
 }
 
 /// Whether entry and transition are of one kind and one name.

@@ -9,7 +9,7 @@ pub fn free_is_enabled()
 {}
 
 /// The lines that are told are those that have `:=` before their comment, and there end neither with `;`, which would end the
-/// statement, nor with `=`, behind which its value is yet to come.
+/// statement, nor with `=`, behind which its value is yet to come, and whose comment reads as an operand.
 pub fn cut_is_broken_off()
     ensures { CutIsBrokenOff }
 {}

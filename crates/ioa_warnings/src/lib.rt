@@ -5,6 +5,7 @@ mod comments;
 mod free;
 mod laws;
 mod names;
+mod operands;
 
 pub use comments::comments_in_statements;
 pub use free::{FreeParameter, free_parameters};

@@ -36,6 +36,9 @@ replay f --log --invariants | automaton C^signature internal a^transitions inter
 -- warnings
 check f | automaton C^signature output tick(k: Int)^states c: Int^transitions^  output tick^  pre c < 9^  propose k := c^  eff c := c + 1 |  | warning: f, line 5: no precondition names k, so tick is enabled with any value of it^
 check f | automaton C^signature internal a^states c: Int^transitions internal a^  eff c := c % 2^ |  | warning: f, line 5: a comment begins within a statement; a remainder is written `mod`^
+check f | automaton C^signature internal a^states c: Int^transitions internal a^  eff c := c + 1   % count up^
+check f | automaton C^signature output tick(k: Int)^states c: Int^transitions^  output tick^  propose k := any(9)^  eff c := c + 1
+check f | automaton C^signature output tick(k: Int)^states c: Int^transitions^  output tick^  pre true^  propose k := c^  eff c := c + 1
 "#;
 
 /// What the program prints by these words.
