@@ -1,5 +1,5 @@
 -- What is told of how runs end.
-use Rattle.std.proofs.Common.{◌≡◌, inl, inr, length, ℕ, ◌++◌, true, false, cond, List, [], ◌∷◌, Option, None, Result, Ok, Err, OnOk, map, refl, sym, ap, ap₂, subst, ◌∙◌, append-nil}
+use Rattle.std.proofs.Common.{◌≡◌, inl, inr, length, ℕ, ◌++◌, true, false, cond, List, [], ◌∷◌, Option, None, Result, Ok, Err, OnOk, map, refl, sym, ap, ap₂, subst, ◌∙◌, append-nil, append_assoc}
 use Rattle.std.specs.List.{list_any}
 use Rattle.std.proofs.lemmas.List.Elements.{filter-append}
 use Rattle.std.proofs.lemmas.Simd.{map-map}
@@ -30,6 +30,11 @@ use Rattle.ioa_account.proofs.Counting.{known_first}
 pub on_ok : {A E : Type 0} {P Q : Type 0} (r : Result A E) → (P → Q) → OnOk r P → OnOk r Q
 on_ok (Ok x) f p = f p
 on_ok (Err e) f p = tt
+
+-- three texts that are put one behind the other
+pub three_put : (old a b c first second third : List ℕ) → first ≡ old ++ a → second ≡ first ++ b → third ≡ second ++ c → third ≡ old ++ (a ++ (b ++ c))
+three_put old a b c first second third e f g =
+    g ∙ ap (λ l. l ++ c) (f ∙ ap (λ l. l ++ b) e) ∙ append_assoc (old ++ a) b c ∙ append_assoc old a (b ++ c)
 
 -- the actions of a log's entries
 abbrev pub entered : List LogEntry → List Act

@@ -7,7 +7,7 @@ use Rattle.std.specs.Str.{bytes_eq}
 use Rattle.std.proofs.lemmas.Bool.{and_parts, false≢true}
 use Rattle.std.proofs.lemmas.Bool.Decides.{nat_tests}
 use Rattle.std.proofs.lemmas.List.{map-append}
-use Rattle.std.proofs.lemmas.Option.{slice_get_within}
+use Rattle.std.proofs.lemmas.Option.{slice_get_past, slice_get_within}
 use Rattle.std.proofs.lemmas.Slice.Eq.{bytes_eq-Decides}
 use Rattle.ioa_value.specs.Actions.{Name}
 use Rattle.ioa_value.specs.Plain.{Val, truth}
@@ -26,7 +26,7 @@ use Rattle.ioa_compose.specs.Fine.{AllFine, IsFine, IsSound, component_limits}
 use Rattle.ioa_compose.specs.Rewriting.{added_variables}
 use Rattle.ioa_compose.specs.Stands.{Holds, HoldsAt, IsMadeOf, Stands, TellsUp}
 use Rattle.ioa_picture.specs.Lines.{numbered}
-use Rattle.ioa_account.specs.States.{component_lines, host_lines, slot_line, slot_lines, slot_name, slots_at, slots_in, state_lines, up_line, value_line, variable_line}
+use Rattle.ioa_account.specs.States.{component_lines, host_lines, is_down, is_down_at, is_down_by, is_down_in_slots, is_down_of, slot_line, slot_lines, slot_name, slots_at, slots_in, state_lines, tells_down, up_line, value_line, variable_line}
 
 -- ---- slot i has the value of the variable that is the i-th
 
@@ -234,3 +234,45 @@ component_told (Ok x) types c vss number old new same sound e = λ h hs stands h
     ∙ ap (λ l. old ++ l)
     (component_shows h.types component_limits h.hosts h.hosts c.members c.members 0 hs vss number (from_start h.hosts) (from_start c.members) stands.members sound.members holds)
 component_told (Err e) types c vss number old new same sound k = tt
+
+-- ---- whether a host is down
+
+not_down : {X : Type 0} (o : Option X) → option_map_or {U = Bool} (λ (x : X). false) o false ≡ false
+not_down None = refl
+not_down (Some x) = refl
+
+none_down : (ms : List Member) (i : ℕ) (o : Option (List Val)) → slice_get ms i ≡ None → option_map_or (is_down_in_slots ms i) o false ≡ false
+none_down ms i None none = refl
+none_down ms i (Some vs) none = ap (λ (m : Option Member). is_down_of m vs) none
+
+-- behind its declared variables stands whether it is up
+down_shows : (crash : Option CrashTree) (m : Member) (n : ℕ) (up : Bool) (vs : List Val) → m.declared ≡ n → TellsUp crash n up vs → is_down_by m vs ≡ not up
+down_shows None m n up vs same tells =
+    let past : slice_get vs m.declared ≡ None = slice_get_past vs m.declared (omega (arith, same, tells.0)) in
+    ap (λ o. option_map_or tells_down o false) past ∙ ap not (sym tells.1)
+down_shows (Some names) m n up vs same tells = ap (λ o. option_map_or tells_down o false) (ap (slice_get vs) same ∙ tells.1)
+
+host_down : (all ps : List Host) (every ms : List Member) (i : ℕ) (hs : List (HostState Env)) (vss : List (List Val)) (k : ℕ)
+    → ((j : ℕ) → slice_get all (i + j) ≡ slice_get ps j) → ((j : ℕ) → slice_get every (i + j) ≡ slice_get ms j)
+    → AllZip IsMadeOf ps ms → AllRelated (HoldsAt all) i hs vss
+    → option_map_or (is_down_in_slots every (i + k)) (slice_get vss k) false ≡ is_down ps hs k
+host_down all [] every [] i hs vss k at am made holds = none_down every (i + k) (slice_get vss k) (am k) ∙ sym (not_down (slice_get hs k))
+host_down all [] every (m ∷ ms) i hs vss k at am made holds = absurd made
+host_down all (p ∷ ps) every [] i hs vss k at am made holds = absurd made
+host_down all (p ∷ ps) every (m ∷ ms) i [] [] k at am made holds = refl
+host_down all (p ∷ ps) every (m ∷ ms) i [] (vs ∷ vss) k at am made holds = absurd holds
+host_down all (p ∷ ps) every (m ∷ ms) i (h ∷ hs) [] k at am made holds = absurd holds
+host_down all (p ∷ ps) every (m ∷ ms) i (h ∷ hs) (vs ∷ vss) zero at am made holds =
+    ap (λ (o : Option Member). is_down_of o vs) (am 0)
+    ∙ down_shows p.crash m (length p.instance.automaton.variables) h.up vs made.0.declared (holds.0 p (same_at all i (Some p) (at 0))).up
+host_down all (p ∷ ps) every (m ∷ ms) i (h ∷ hs) (vs ∷ vss) (suc k) at am made holds =
+    let next : i + suc k ≡ i + 1 + k = omega arith in
+    ap (λ n. option_map_or (is_down_in_slots every n) (slice_get vss k) false) next
+    ∙ host_down all ps every ms (i + 1) hs vss k (later all ps i p at) (later every ms i m am) made.1 holds.1
+
+pub down_alike : (c : Composed) (vss : List (List Val)) (number : ℕ) (down : Bool) → down ≡ is_down_at c.members vss number
+    → (h : Hosted) (hs : List (HostState Env)) → Stands h c → AllRelated (HoldsAt h.hosts) 0 hs vss → down ≡ is_down h.hosts hs number
+down_alike c vss number down e h hs stands holds =
+    let here : number ≡ 0 + number = omega arith in
+    e ∙ ap (λ n. option_map_or (is_down_in_slots c.members n) (slice_get vss number) false) here
+    ∙ host_down h.hosts h.hosts c.members c.members 0 hs vss number (from_start h.hosts) (from_start c.members) stands.members holds

@@ -1,21 +1,24 @@
 -- What is told of hosts is what is told of the composition that stands for them.
-use Rattle.std.proofs.Common.{◌≡◌, ℕ, zero, suc, List, [], ◌∷◌, Option, Some, None, Result, Ok, Err, IfOk, map, slice_get, refl, sym, ap, ◌∙◌}
+use Rattle.std.proofs.Common.{◌≡◌, ℕ, zero, suc, Bool, false, List, [], ◌∷◌, Option, Some, None, Result, Ok, Err, IfOk, map, slice_get, refl, sym, ap, ◌∙◌}
 use Rattle.std.specs.List.{AllZip}
 use Rattle.std.specs.Option.{option_map, option_map_or}
 use Rattle.std.specs.String.{string_bytes}
 use Rattle.std.proofs.lemmas.Option.{slice_get-map}
 use Rattle.ioa_value.specs.Actions.{Act}
+use Rattle.ioa_value.specs.Plain.{Val}
 use Rattle.ioa_value.proofs.ItemLemmas.{image_at}
 use Rattle.ioa_tree.specs.Compositions.{Composed, Member}
-use Rattle.ioa_tree.specs.Hosts.{Host, Hosted, hosts_of}
+use Rattle.ioa_tree.specs.Hosts.{Host, Hosted, host_starts, hosts_of}
+use Rattle.ioa_tree.specs.Runs.{run}
 use Rattle.ioa_compose.specs.declared.member.Member as held
 use Rattle.ioa_compose.specs.Held.{member_of}
 use Rattle.ioa_compose.specs.Stands.{IsMadeOf, Stands}
 use Rattle.ioa_compile.specs.Means.{Means}
 use Rattle.ioa_compile.specs.Programs.{Prog}
-use Rattle.ioa_compile.specs.Tables.{tabled}
-use Rattle.ioa_system.proofs.Hosting.{host_participants}
-use Rattle.ioa_account.specs.Accounts.{name_at}
+use Rattle.ioa_compile.specs.Tables.{start_states, tabled}
+use Rattle.ioa_system.specs.Preconditions.{precondition_faults}
+use Rattle.ioa_system.proofs.Hosting.{host_asked, host_participants}
+use Rattle.ioa_account.specs.Accounts.{faults_early, name_at}
 use Rattle.ioa_account.specs.Counts.{known_actions}
 use Rattle.ioa_account.proofs.Counting.{known_alike}
 
@@ -40,3 +43,15 @@ pub known_hosts : {E : Type 0} (p : Prog) (acts : List Act) (r : Result ℕ E) �
     → IfOk r (λ n. (h : Hosted) (c : Composed) → Stands h c → Means p c → n ≡ known_actions (hosts_of h) acts)
 known_hosts p acts (Ok n) e = λ h c stands means. e ∙ known_alike (tabled p) (hosts_of h) acts (λ a. host_participants p h c a stands means)
 known_hosts p acts (Err e) k = tt
+
+-- ---- whether a precondition faults
+
+-- for the hosts as for the table, where their runs end
+pub early_alike : (p : Prog) (h : Hosted) (c : Composed) (acts : List Act) (i : ℕ) (ss : List (List Val)) → Stands h c → Means p c → ss ≡ (run (tabled p) acts (start_states p)).states
+    → faults_early (tabled p) acts i ss ≡ faults_early (hosts_of h) acts i (run (hosts_of h) acts (host_starts h)).states
+early_alike p h c acts i ss stands means same = ap (faults_early (tabled p) acts i) same ∙ sym (at (slice_get acts i))
+  where
+    at : (o : Option Act) → option_map_or (λ (a : Act). precondition_faults (hosts_of h) a (run (hosts_of h) acts (host_starts h)).states) o false
+        ≡ option_map_or (λ (a : Act). precondition_faults (tabled p) a (run (tabled p) acts (start_states p)).states) o false
+    at None = refl
+    at (Some a) = host_asked p h c acts a stands means

@@ -1,22 +1,26 @@
 -- What is told of how a run ends, and of how much was asked of it.
-use Rattle.std.specs.Prelude.{◌≡◌, ◌⊎◌, ◌+◌, ◌++◌, ℕ, zero, suc, List, [], Option, Some, None, codes, filter, length, string_bytes, take}
+use Rattle.std.specs.Prelude.{◌≡◌, ◌⊎◌, ◌+◌, ◌-◌, ◌++◌, ◌==◌, ◌&&◌, ℕ, zero, suc, Bool, false, not, if◌then◌else◌, List, [], Option, Some, None, codes, filter, length, slice_get, string_bytes, take}
 use Rattle.std.specs.Fmt.{decimal}
 use Rattle.std.specs.List.{list_any}
 use Rattle.std.specs.Option.{option_map_or}
-use Rattle.ioa_value.specs.Actions.{Act}
+use Rattle.ioa_value.specs.Actions.{Act, Name}
+use Rattle.ioa_value.specs.Table.{Table}
 use Rattle.ioa_tree.specs.Components.{Component, has}
 use Rattle.ioa_tree.specs.Hosts.{Hosted, first_broken_host, host_instances, host_starts, hosts_of}
 use Rattle.ioa_tree.specs.Invariants.{Broken}
-use Rattle.ioa_tree.specs.Runs.{Ending, run}
+use Rattle.ioa_tree.specs.declared.tree.Invariant.{Invariant}
+use Rattle.ioa_tree.specs.Runs.{Ending, done, not_an_action_at, not_enabled_at, fault_at, run}
 use Rattle.ioa_compose.specs.declared.composition.Composition.{Composition}
 use Rattle.ioa_compose.specs.Held.{composed_of}
 use Rattle.ioa_compose.specs.Stands.{Stands}
-use Rattle.ioa_system.specs.Logs.{Logged, actions_of}
+use Rattle.ioa_system.specs.Endings.{ending_text}
+use Rattle.ioa_system.specs.Logs.{Logged, actions_of, is_fault}
+use Rattle.ioa_system.specs.Outcomes.{ending_of}
 use Rattle.ioa_log.specs.Judging.{agrees, judged}
 use Rattle.ioa_log.specs.Monitoring.{IsHiding, monitored}
 use Rattle.ioa_account.specs.declared.ends.Account.{Account}
 use Rattle.ioa_account.specs.declared.remarks.Told.{Told}
-use Rattle.ioa_account.specs.Accounts.{IsAccount, TellsLine}
+use Rattle.ioa_account.specs.Accounts.{IsAccount, TellsLine, action_text, name_at}
 use Rattle.ioa_account.specs.Counts.{asked_invariants, known_actions}
 use Rattle.ioa_account.specs.Ends.{index_in}
 use Rattle.ioa_account.specs.Lines.{line_of_action}
@@ -52,13 +56,32 @@ no_line i = []
 abbrev pub TellsEnd : Told → (ℕ → List ℕ) → List Act → List ℕ → List ℕ → Type 0
 TellsEnd t line acts before after = (o : Option Account) × IsAccountOf t.composition.now acts o × (after ≡ before ++ end_text t line o)
 
--- of a log that is not of the composition's run: why the run over its actions ends, or that they are all performed
-abbrev pub difference_text : Told → Option Account → List ℕ
-difference_text t None = codes "all actions of the log are performed\n"
-difference_text t (Some a) = account_text t a
+-- ---- of a log that is not of the composition's run
 
-abbrev pub TellsDifference : Told → List Act → List ℕ → List ℕ → Type 0
-TellsDifference t acts before after = (o : Option Account) × IsAccountOf t.composition.now acts o × (after ≡ before ++ difference_text t o)
+-- the run over so many actions ends by a fault of the last one
+abbrev pub faults_last : ℕ → Ending → Bool
+faults_last count (done n) = false
+faults_last count (not_an_action_at i) = false
+faults_last count (not_enabled_at i) = false
+faults_last count (fault_at c f i) = i == count - 1
+
+-- the run's end, where the log tells that the last action faults, and it does, but otherwise
+abbrev pub other_fault : ℕ → Ending → Ending → List ℕ
+other_fault count end own = if is_fault end && faults_last count own then codes "the run's end is: " ++ (ending_text own ++ codes "\n") else []
+
+-- all actions are performed: but the log tells that the last one faults, or another number of them
+abbrev pub all_performed : Table → List Act → Ending → List ℕ
+all_performed types acts end =
+    if is_fault end && not (length acts == 0) then codes "the log says that " ++ (action_text types acts (length acts - 1) ++ codes " faults, and it is performed\n")
+    else codes "all actions of the log are performed, so that the run's end is: " ++ (ending_text (done (length acts)) ++ codes "\n")
+
+-- why the run over the log's actions ends, or that they are all performed; and how the log's end differs, where it is this that does
+abbrev pub difference_text : Told → List Act → Ending → Option Account → List ℕ
+difference_text t acts end None = all_performed t.composition.now.types acts end
+difference_text t acts end (Some a) = other_fault (length acts) end (ending_of a.end) ++ account_text t a
+
+abbrev pub TellsDifference : Told → List Act → Ending → List ℕ → List ℕ → Type 0
+TellsDifference t acts end before after = (o : Option Account) × IsAccountOf t.composition.now acts o × (after ≡ before ++ difference_text t acts end o)
 
 -- ---- of a monitor
 
@@ -95,11 +118,26 @@ abbrev pub states_asked : Hosted → List Act → Option Broken → ℕ
 states_asked h acts None = (run (hosts_of h) acts (host_starts h)).performed + 1
 states_asked h acts (Some b) = b.state + 1
 
--- the variables of the component that breaks it, in that state; where none is broken, how the log ends
+-- in which state an invariant of the component of this name is broken: in the first, or after an action of the log
+abbrev pub broken_after : Told → ℕ → Name → List ℕ
+broken_after t zero x = codes "in the first state an invariant of " ++ (x ++ codes " is broken:\n")
+broken_after t (suc n) x = log_line t n ++ (codes "after this action an invariant of " ++ (x ++ codes " is broken:\n"))
+
+-- the invariant of this number as it stands in the source
+abbrev pub invariant_text : Told → ℕ → List ℕ
+invariant_text t k = option_map_or (λ (v : Invariant). transition_text t.file.now t.source.now v.automaton.line) (slice_get t.composition.now.invariants k) []
+
+-- the variables of the component that breaks it, in that state
+abbrev pub broken_state : Hosted → List Act → ℕ → ℕ → List ℕ
+broken_state h acts state i = component_lines h.types h.hosts (run (hosts_of h) (take state acts) (host_starts h)).states i
+
+abbrev pub broken_text : Told → Hosted → List Act → Broken → List ℕ
+broken_text t h acts b = broken_after t b.state (name_at h.hosts b.component) ++ (invariant_text t b.invariant ++ broken_state h acts b.state b.component)
+
+-- when and where it is broken, what it says, and in which state; where none is, how the log ends
 abbrev pub TellsBroken : Told → Hosted → List Act → Option Broken → List ℕ → List ℕ → Type 0
 TellsBroken t h acts None before after = TellsEnd t (log_line t) acts before after
-TellsBroken t h acts (Some b) before after =
-    after ≡ before ++ component_lines h.types h.hosts (run (hosts_of h) (take b.state acts) (host_starts h)).states b.component
+TellsBroken t h acts (Some b) before after = after ≡ before ++ broken_text t h acts b
 
 -- of a log that is of the hosts' run
 abbrev pub TellsInspected : Told → Hosted → Logged → List ℕ → List ℕ → Type 0

@@ -1,9 +1,9 @@
 -- The states of components by the source's names: lines of text, for people.
-use Rattle.std.specs.Prelude.{◌++◌, ◌∷◌, [], ℕ, if◌then◌else◌, nat_lt, Bool, List, Option, Some, None, codes, slice_get}
+use Rattle.std.specs.Prelude.{◌++◌, ◌∷◌, [], ℕ, if◌then◌else◌, nat_lt, not, Bool, false, List, Option, Some, None, codes, slice_get}
 use Rattle.std.specs.List.{flat_map}
 use Rattle.std.specs.Option.{option_map_or}
 use Rattle.ioa_value.specs.Actions.{Name}
-use Rattle.ioa_value.specs.Plain.{Val, truth}
+use Rattle.ioa_value.specs.Plain.{Val, truth, num, name, tuple, items}
 use Rattle.ioa_value.specs.Table.{Table}
 use Rattle.ioa_value.specs.Written.{written_value}
 use Rattle.ioa_tree.specs.Compositions.{Member}
@@ -41,6 +41,10 @@ state_lines types (p ∷ ps) (h ∷ hs) = host_lines types p h ++ state_lines ty
 abbrev pub component_lines : Table → List Host → List (HostState Env) → ℕ → List ℕ
 component_lines types ps hs i = option_map_or (λ h. option_map_or (λ p. host_lines types p h) (slice_get ps i) []) (slice_get hs i) []
 
+-- the component of this number is down
+abbrev pub is_down : List Host → List (HostState Env) → ℕ → Bool
+is_down ps hs i = option_map_or (λ (h : HostState Env). option_map_or (λ (p : Host). not h.up) (slice_get ps i) false) (slice_get hs i) false
+
 -- ---- of slots
 
 -- the name of the component's variable that this slot holds: one that is declared, or behind these whether it is up
@@ -61,3 +65,26 @@ slots_in types ms i vs = slot_lines types (slice_get ms i) vs
 -- the same, where its slots are among these
 abbrev pub slots_at : Table → List Member → List (List Val) → ℕ → List ℕ
 slots_at types ms vss i = option_map_or (slots_in types ms i) (slice_get vss i) []
+
+-- the value tells that a component is down
+abbrev pub tells_down : Val → Bool
+tells_down (truth up) = not up
+tells_down (num z) = false
+tells_down (name ty n) = false
+tells_down (tuple ty vs) = false
+tells_down (items ty vs) = false
+
+-- a component is down: behind its declared variables stands whether it is up, where it crashes and recovers
+abbrev pub is_down_by : Member → List Val → Bool
+is_down_by m vs = option_map_or tells_down (slice_get vs m.declared) false
+
+abbrev pub is_down_of : Option Member → List Val → Bool
+is_down_of None vs = false
+is_down_of (Some m) vs = is_down_by m vs
+
+-- the one of this number
+abbrev pub is_down_in_slots : List Member → ℕ → List Val → Bool
+is_down_in_slots ms i vs = is_down_of (slice_get ms i) vs
+
+abbrev pub is_down_at : List Member → List (List Val) → ℕ → Bool
+is_down_at ms vss i = option_map_or (is_down_in_slots ms i) (slice_get vss i) false

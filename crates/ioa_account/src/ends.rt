@@ -11,25 +11,28 @@ ghost use Rattle.ioa_tree.specs.Runs.{run};
 ghost use Rattle.ioa_compose.specs.Held.{composed_of};
 ghost use Rattle.ioa_compose.specs.Stands.{HoldsAt, Stands};
 ghost use Rattle.ioa_compile.specs.Means.{Means};
+ghost use Rattle.ioa_compile.specs.Tables.{tabled};
 ghost use Rattle.ioa_system.specs.Outcomes.{ending_of};
-ghost use Rattle.ioa_system.specs.Records.{IsHostRun};
-ghost use Rattle.ioa_system.specs.Systems.{values_of};
+ghost use Rattle.ioa_system.specs.Records.{IsHostRun, IsTableRun};
+ghost use Rattle.ioa_system.specs.Systems.{slot_types, types_of, values_of};
 ghost use Rattle.ioa_account.specs.Accounts as spec;
 ghost use Rattle.ioa_account.specs.Ends.{component_in, index_in, owner_at};
 ghost use Rattle.ioa_account.specs.Accounts.{IsAccount, Tells, TellsLine};
 
-use crate::states::put_component;
+use crate::states::{is_down, put_component};
 use ioa_compile::Program;
 use ioa_compose::Composition;
 use ioa_node::NodeState;
-use ioa_system::{End, Run, owner, run_list};
+use ioa_system::{End, Participation, Run, owner, run_list};
 use ioa_tree::Transition;
-use ioa_value::{Action, OutOfMemory, Types, print_action};
+use ioa_value::{Action, Fault, OutOfMemory, Types, print_action};
 use std::alloc::Global;
 
 /// Why a run ends before all its actions are performed.
 #[derive(Drop)]
 pub struct Account {
+    /// How the run ends.
+    pub end: End,
     /// The index of the action that is not performed, from 0.
     pub index: usize,
     /// What is told of it, in a few words.
@@ -83,6 +86,7 @@ fn tell(
     index: usize,
 ) -> Result<Account, OutOfMemory>
     requires means { Means program.now (composed_of composition.now) }
+    requires run { IsTableRun program.now (map act_of actions.now) reached.now }
     requires index { index_in (ending_of reached.now.end) ≡ Some index }
     ensures told { IfOk result (λ told. (h : Hosted) → Stands h (composed_of composition.now) → IsHostRun h (map act_of actions.now) reached.now
         → Tells h (map act_of actions.now) (run (hosts_of h) (map act_of actions.now) (host_starts h)) told) }
@@ -90,9 +94,20 @@ fn tell(
 {
     let component = component_of(program, actions, reached.end);
     let name = name_of(composition, component);
-    let why = why(alloc, composition.types(), actions, name, reached.end)?;
+    let is_down = is_down_in(composition, component, &reached.states);
+    let is_early = faults_early(alloc, program, actions, index, &reached.states)?;
+    let why = why(
+        alloc,
+        composition.types(),
+        actions,
+        name,
+        is_down,
+        is_early,
+        reached.end,
+    )?;
     let states = lines_of(alloc, composition, component, &reached.states)?;
     Ok(Account {
+        end: reached.end,
         index,
         why,
         component,
@@ -133,7 +148,7 @@ fn name_of<'a>(composition: &'a Composition, component: Option<usize>) -> &'a st
 }
 
 /// The name of the component of this number.
-fn name_at<'a>(composition: &'a Composition, number: usize) -> &'a str
+pub(crate) fn name_at<'a>(composition: &'a Composition, number: usize) -> &'a str
     ensures { (h : Hosted) → Stands h (composed_of composition.now) → result.now ≡ spec.name_at h.hosts number }
 {
     match composition.members().get(number) {
@@ -142,15 +157,48 @@ fn name_at<'a>(composition: &'a Composition, number: usize) -> &'a str
     }
 }
 
-/// Why, by the name of that component.
+/// Whether it is down in these states.
+fn is_down_in(composition: &Composition, component: Option<usize>, states: &[NodeState]) -> bool
+    ensures { (h : Hosted) (hs : List (HostState Env)) → Stands h (composed_of composition.now) → AllRelated (HoldsAt h.hosts) 0 hs (values_of states.now)
+        → result ≡ spec.is_down_in h.hosts hs component }
+{
+    match component {
+        Some(number) => is_down(composition, number, states),
+        None => false,
+    }
+}
+
+/// Whether the precondition of the owner of the action of this index faults in these states.
+fn faults_early(
+    alloc: Global,
+    program: &Program,
+    actions: &[Action],
+    index: usize,
+    states: &[NodeState],
+) -> Result<bool, OutOfMemory>
+    requires { types_of states.now ≡ slot_types program.now.members }
+    ensures { IfOk result (λ b. b ≡ spec.faults_early (tabled program.now) (map act_of actions.now) index (values_of states.now)) }
+{
+    match actions.get(index) {
+        Some(action) => {
+            let participation = Participation::of(alloc, program, action)?;
+            participation.precondition_faults(alloc, states)
+        }
+        None => Ok(false),
+    }
+}
+
+/// Why, by the name of that component, and by whether it is down, and its precondition faults.
 fn why(
     alloc: Global,
     types: &Types,
     actions: &[Action],
     component: &str,
+    is_down: bool,
+    is_early: bool,
     end: End,
 ) -> Result<String, OutOfMemory>
-    ensures { IfOk result (λ text. string_bytes text ≡ spec.why types.now (map act_of actions.now) component.now (ending_of end)) }
+    ensures { IfOk result (λ text. string_bytes text ≡ spec.why types.now (map act_of actions.now) component.now is_down is_early (ending_of end)) }
 {
     match end {
         End::Done(_) => Ok(String::new(alloc)),
@@ -160,18 +208,58 @@ fn why(
         }
         End::NotEnabled(index) => {
             let action = action_text(alloc, types, actions, index)?;
-            Ok(format!(in alloc; "the precondition of {action} in {component} is false")?)
+            blocked(alloc, is_down, action.as_str(), component)
         }
         End::Fault(_, fault, index) => {
             let action = action_text(alloc, types, actions, index)?;
             let number = fault.number();
-            Ok(format!(in alloc; "fault {number} of {action} in {component}")?)
+            let part = part_words(is_early);
+            let words = fault_words(fault);
+            Ok(format!(in alloc;
+                "fault {number} in the {part} of {action} in {component}: {words}"
+            )?)
         }
     }
 }
 
+/// Why an action is not enabled, by the name of its owner.
+fn blocked(
+    alloc: Global,
+    is_down: bool,
+    action: &str,
+    component: &str,
+) -> Result<String, OutOfMemory>
+    ensures { IfOk result (λ text. string_bytes text ≡ spec.blocked is_down action.now component.now) }
+{
+    if is_down {
+        Ok(format!(in alloc; "{component} is down, so that {action} is not enabled")?)
+    } else {
+        Ok(format!(in alloc; "the precondition of {action} in {component} is false")?)
+    }
+}
+
+/// What of a transition faults.
+fn part_words(is_early: bool) -> &'static str
+    ensures { result.now ≡ spec.part_words is_early }
+{
+    if is_early { "precondition" } else { "effect" }
+}
+
+/// What a fault is.
+fn fault_words(fault: Fault) -> &'static str
+    ensures { result.now ≡ spec.fault_words fault }
+{
+    match fault {
+        Fault::Overflow => "the result does not fit 64 bits",
+        Fault::ZeroDivisor => "the divisor is 0",
+        Fault::Empty => "the sequence is empty",
+        Fault::OutOfRange => "the index is not from 0 to less than the sequence's length",
+        Fault::Full => "the sequence is full",
+    }
+}
+
 /// The text of the action of this index.
-fn action_text(
+pub(crate) fn action_text(
     alloc: Global,
     types: &Types,
     actions: &[Action],

@@ -1,29 +1,30 @@
 //! What is told of how a run ends, and of how much was asked of it.
 
-ghost use Rattle.std.specs.Prelude.{◌≡◌, ◌+◌, ◌++◌, IfOk, OnOk, map, take};
+ghost use Rattle.std.specs.Prelude.{◌≡◌, ◌+◌, ◌++◌, suc, IfOk, OnOk, map};
 ghost use Rattle.std.specs.String.{string_bytes};
 ghost use Rattle.ioa_value.specs.Actions.{act_of};
-ghost use Rattle.ioa_tree.specs.Hosts.{Hosted, host_starts, hosts_of};
-ghost use Rattle.ioa_tree.specs.Runs.{run};
+ghost use Rattle.ioa_tree.specs.Hosts.{Hosted, hosts_of};
 ghost use Rattle.ioa_compose.specs.Held.{composed_of};
 ghost use Rattle.ioa_compose.specs.Stands.{Stands};
 ghost use Rattle.ioa_compile.specs.Means.{Means};
 ghost use Rattle.ioa_compile.specs.Tables.{tabled};
-ghost use Rattle.ioa_system.specs.Logs.{logged};
+ghost use Rattle.ioa_log.specs.Breaking.{broken_of};
+ghost use Rattle.ioa_system.specs.Logs as logs;
+ghost use Rattle.ioa_system.specs.Logs.{log_end, logged};
+ghost use Rattle.ioa_system.specs.Outcomes.{ending_of};
 ghost use Rattle.ioa_account.specs.Remarks as spec;
-ghost use Rattle.ioa_account.specs.States.{component_lines};
 ghost use Rattle.ioa_account.specs.Remarks.{IsAccountOf, TellsDifference, TellsEnd, TellsInspected, TellsMonitored};
 
 use crate::counts::{asked_invariants, is_known, known_actions};
-use crate::ends::{Account, account_of};
+use crate::ends::{Account, account_of, action_text, name_at};
 use crate::lines::line_of_action;
 use crate::quoted::{put_line, put_transition};
 use crate::states::put_component;
 use ioa_compile::{Program, compile};
 use ioa_compose::Composition;
 use ioa_log::{Broken, LogErr, MonitorErr, inspect, monitor};
-use ioa_system::{Log, LogEntry, run_list};
-use ioa_value::{Action, OutOfMemory};
+use ioa_system::{End, Log, LogEnd, LogEntry, run_list};
+use ioa_value::{Action, OutOfMemory, Types};
 use std::alloc::Global;
 use std::fmt::Write;
 
@@ -73,21 +74,81 @@ pub fn put_log_end(
     }
 }
 
-/// Puts behind the text, of the actions of a log that is not of the composition's run, why the run over them ends, or that they are all performed.
+/// Puts behind the text, of the actions and the end of a log that is not of the composition's run, why the run over them ends, or that they are all performed;
+/// and how the log's end differs, where it is this that does.
 pub fn put_difference(
     alloc: Global,
     text: &mut String,
     told: &Told<'_>,
     actions: &[Action],
+    end: LogEnd,
 ) -> Result<(), OutOfMemory>
-    ensures { OnOk result (TellsDifference told.now (map act_of actions.now) (string_bytes text.old) (string_bytes text.new)) }
+    ensures { OnOk result (TellsDifference told.now (map act_of actions.now) (log_end end) (string_bytes text.old) (string_bytes text.new)) }
 {
     match account_by_run(alloc, told.composition, actions)? {
-        Some(found) => put_account(alloc, text, told, &found),
-        None => {
-            text.push_str("all actions of the log are performed\n")?;
-            Ok(())
+        Some(found) => {
+            put_other_fault(text, actions.len(), end, found.end)?;
+            put_account(alloc, text, told, &found)
         }
+        None => put_all_performed(alloc, text, told.composition.types(), actions, end),
+    }
+}
+
+/// Puts the run's end, where the log tells that the last of so many actions faults, and it does, but otherwise.
+fn put_other_fault(
+    text: &mut String,
+    count: usize,
+    end: LogEnd,
+    own: End,
+) -> Result<(), OutOfMemory>
+    ensures { OnOk result (string_bytes text.new ≡ string_bytes text.old ++ spec.other_fault count (log_end end) (ending_of own)) }
+{
+    if is_fault(end) && faults_last(count, own) {
+        writeln!(text, "the run's end is: {own}")?;
+    }
+    Ok(())
+}
+
+/// Puts that all actions of a log are performed, where its end tells that the last one faults, or another number of them.
+fn put_all_performed(
+    alloc: Global,
+    text: &mut String,
+    types: &Types,
+    actions: &[Action],
+    end: LogEnd,
+) -> Result<(), OutOfMemory>
+    ensures { OnOk result (string_bytes text.new ≡ string_bytes text.old ++ spec.all_performed types.now (map act_of actions.now) (log_end end)) }
+{
+    if is_fault(end) && !actions.is_empty() {
+        let last = action_text(alloc, types, actions, actions.len().saturating_sub(1))?;
+        writeln!(text, "the log says that {last} faults, and it is performed")?;
+    } else {
+        let own = End::Done(actions.len());
+        writeln!(
+            text,
+            "all actions of the log are performed, so that the run's end is: {own}"
+        )?;
+    }
+    Ok(())
+}
+
+/// Whether the log ends by a fault.
+fn is_fault(end: LogEnd) -> bool
+    ensures { result ≡ logs.is_fault (log_end end) }
+{
+    match end {
+        LogEnd::Done(_) => false,
+        LogEnd::Fault(_, _, _) => true,
+    }
+}
+
+/// Whether a run over so many actions ends by a fault of the last one.
+fn faults_last(count: usize, end: End) -> bool
+    ensures { result ≡ spec.faults_last count (ending_of end) }
+{
+    match end {
+        End::Done(_) | End::NotAnAction(_) | End::NotEnabled(_) => false,
+        End::Fault(_, _, index) => index == count.saturating_sub(1),
     }
 }
 
@@ -115,8 +176,8 @@ pub fn put_monitored(
     }
 }
 
-/// Puts behind the text how many invariants were asked in how many of a log's states; and of the first that is broken the variables of its component, or
-/// else how the log ends. Of a log that is not of the composition's run nothing is told.
+/// Puts behind the text how many invariants were asked in how many of a log's states; and of the first that is broken after which action it is, as it stands in
+/// the source, and the variables of its component, or else how the log ends. Of a log that is not of the composition's run nothing is told.
 pub fn put_inspected(
     alloc: Global,
     text: &mut String,
@@ -277,7 +338,7 @@ fn put_asked(text: &mut String, count: usize, states: usize) -> Result<(), OutOf
     Ok(())
 }
 
-/// Puts the variables of the component that breaks an invariant, in the state in which it does.
+/// Puts when and where an invariant is broken, as it stands in the source, and the variables of the component that breaks it.
 fn put_broken(
     alloc: Global,
     text: &mut String,
@@ -286,8 +347,82 @@ fn put_broken(
     broken: Broken,
 ) -> Result<(), OutOfMemory>
     ensures { OnOk result ((h : Hosted) → Stands h (composed_of told.now.composition.now)
-        → string_bytes text.new ≡ string_bytes text.old
-        ++ component_lines h.types h.hosts (run (hosts_of h) (take broken.state (map act_of actions.now)) (host_starts h)).states broken.component) }
+        → string_bytes text.new ≡ string_bytes text.old ++ spec.broken_text told.now h (map act_of actions.now) (broken_of broken)) }
+{
+    let name = name_at(told.composition, broken.component);
+    put_broken_after(alloc, text, told, broken.state, name)?;
+    put_invariant(alloc, text, told, broken.invariant)?;
+    put_broken_state(alloc, text, told, actions, broken)
+}
+
+/// Puts after how many of the log's actions an invariant of the component of this name is broken, with the last of these.
+fn put_broken_after(
+    alloc: Global,
+    text: &mut String,
+    told: &Told<'_>,
+    state: usize,
+    component: &str,
+) -> Result<(), OutOfMemory>
+    ensures { OnOk result (string_bytes text.new ≡ string_bytes text.old ++ spec.broken_after told.now state component.now) }
+{
+    match state.checked_sub(1) {
+        Some(last) => put_broken_behind(alloc, text, told, last, component),
+        None => {
+            writeln!(
+                text,
+                "in the first state an invariant of {component} is broken:"
+            )?;
+            Ok(())
+        }
+    }
+}
+
+/// Puts the log's line of this index, after whose action an invariant is broken.
+fn put_broken_behind(
+    alloc: Global,
+    text: &mut String,
+    told: &Told<'_>,
+    last: usize,
+    component: &str,
+) -> Result<(), OutOfMemory>
+    ensures { OnOk result (string_bytes text.new ≡ string_bytes text.old ++ spec.broken_after told.now (suc last) component.now) }
+{
+    put_log_line(alloc, text, told, last)?;
+    writeln!(
+        text,
+        "after this action an invariant of {component} is broken:"
+    )?;
+    Ok(())
+}
+
+/// Puts the invariant of this number as it stands in the source.
+fn put_invariant(
+    alloc: Global,
+    text: &mut String,
+    told: &Told<'_>,
+    number: usize,
+) -> Result<(), OutOfMemory>
+    ensures { OnOk result (string_bytes text.new ≡ string_bytes text.old ++ spec.invariant_text told.now number) }
+{
+    match told.composition.invariants().get(number) {
+        Some(invariant) => {
+            let line = invariant.automaton.line as usize;
+            put_transition(alloc, text, told.file, told.source, line)
+        }
+        None => Ok(()),
+    }
+}
+
+/// Puts the variables of the component that breaks an invariant, in the state in which it does.
+fn put_broken_state(
+    alloc: Global,
+    text: &mut String,
+    told: &Told<'_>,
+    actions: &[Action],
+    broken: Broken,
+) -> Result<(), OutOfMemory>
+    ensures { OnOk result ((h : Hosted) → Stands h (composed_of told.now.composition.now)
+        → string_bytes text.new ≡ string_bytes text.old ++ spec.broken_state h (map act_of actions.now) broken.state broken.component) }
 {
     let program = compile(alloc, told.composition)?;
     let before = broken.state.min(actions.len());

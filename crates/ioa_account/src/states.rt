@@ -47,6 +47,53 @@ pub fn put_component(
     )
 }
 
+/// Whether the component of this number is down.
+pub fn is_down(composition: &Composition, number: usize, states: &[NodeState]) -> bool
+    ensures { (h : Hosted) (hs : List (HostState Env)) → Stands h (composed_of composition.now) → AllRelated (HoldsAt h.hosts) 0 hs (values_of states.now)
+        → result ≡ spec.is_down h.hosts hs number }
+{
+    is_down_at(composition.members(), number, states)
+}
+
+/// The same, said of the states' slots.
+fn is_down_at(members: &[Member], number: usize, states: &[NodeState]) -> bool
+    ensures { result ≡ spec.is_down_at (map member_of members.now) (values_of states.now) number }
+{
+    match states.get(number) {
+        Some(state) => is_down_in_slots(members, number, state.values()),
+        None => false,
+    }
+}
+
+/// Whether the component of this number is down in a state of these values.
+fn is_down_in_slots(members: &[Member], number: usize, values: &[Value]) -> bool
+    ensures { result ≡ spec.is_down_in_slots (map member_of members.now) number (map plain values.now) }
+{
+    match members.get(number) {
+        Some(member) => is_down_by(member, values),
+        None => false,
+    }
+}
+
+/// Whether a component is down, by the value behind its declared variables. One that does not crash has none there.
+fn is_down_by(member: &Member, values: &[Value]) -> bool
+    ensures { result ≡ spec.is_down_by (member_of member.now) (map plain values.now) }
+{
+    match values.get(member.declared) {
+        Some(value) => tells_down(value),
+        None => false,
+    }
+}
+
+fn tells_down(value: &Value) -> bool
+    ensures { result ≡ spec.tells_down (plain value.now) }
+{
+    match value {
+        Value::Truth(up) => !*up,
+        Value::Num(_) | Value::Name(_, _) | Value::Tuple(_, _) | Value::Items(_, _) => false,
+    }
+}
+
 /// The same, said of the states' slots.
 fn put_slots_at(
     text: &mut String,

@@ -15,7 +15,7 @@ use Rattle.ioa_tree.specs.Runs.{Reached, run, trace, is_external}
 use Rattle.ioa_tree.specs.Likes.{IsLike, AllLike, AllRelated, MovesLike, RunsLike}
 use Rattle.ioa_tree.specs.Compositions.{Composed, Member, components_of, starts_of}
 use Rattle.ioa_tree.specs.Hosts.{HostState, Host, host_start, Hosted, hosts_of, host_starts}
-use Rattle.ioa_tree.proofs.Simulation.{step_like, run_like, trace_like, owner_like, participants_like, external_like}
+use Rattle.ioa_tree.proofs.Simulation.{asked_like, step_like, run_like, trace_like, owner_like, participants_like, external_like}
 use Rattle.ioa_compose.specs.Stands.{StandsFor, StandsAt, Holds, HoldsAt, Stands}
 use Rattle.ioa_compose.proofs.RewrittenNames.{fit_length}
 use Rattle.ioa_compile.specs.Correspondence.{CorrespondsIn, CorrespondsAt}
@@ -27,7 +27,8 @@ use Rattle.ioa_compile.proofs.Fits.{fit_have, have_fit}
 use Rattle.ioa_system.specs.declared.runs.Run.{Run}
 use Rattle.ioa_system.specs.Participants.{renumbered}
 use Rattle.ioa_system.specs.Records.{IsTableRun, IsHostRun}
-use Rattle.ioa_system.specs.Sources.{HostOwner, HostParticipants, HostExternal, HostRun, HostTrace, HoldsIn, HoldsTyped, HoldsOf, HostStart, HostStep, HostStepFrom}
+use Rattle.ioa_system.specs.Preconditions.{is_faulted}
+use Rattle.ioa_system.specs.Sources.{HostAsked, HostOwner, HostParticipants, HostExternal, HostRun, HostTrace, HoldsIn, HoldsTyped, HoldsOf, HostStart, HostStep, HostStepFrom}
 
 some_same : {X : Type 0} (o : Option X) (x y : X) → o ≡ Some x → o ≡ Some y → x ≡ y
 some_same o x y e f = let g : Some x ≡ Some y = sym e ∙ f in cc
@@ -57,6 +58,13 @@ host_run p h c acts s m =
     let r = run_like (StandsAt h.hosts) (hosts_of h) (components_of c) acts (host_starts h) (starts_of c) s.like s.start in
     let q = run_like (CorrespondsAt c.members) (components_of c) (tabled p) acts (starts_of c) (start_states p) m.components m.starts in
     record { performed = r.performed ∙ q.performed; ending = r.ending ∙ q.ending; states = held h c s 0 _ _ _ r.states q.states }
+
+pub host_asked : HostAsked
+host_asked p h c acts a s m =
+    let r = run_like (StandsAt h.hosts) (hosts_of h) (components_of c) acts (host_starts h) (starts_of c) s.like s.start in
+    let q = run_like (CorrespondsAt c.members) (components_of c) (tabled p) acts (starts_of c) (start_states p) m.components m.starts in
+    ap is_faulted (asked_like (StandsAt h.hosts) 0 (hosts_of h) (components_of c) a _ _ s.like r.states)
+    ∙ ap is_faulted (asked_like (CorrespondsAt c.members) 0 (components_of c) (tabled p) a _ _ m.components q.states)
 
 pub host_trace : HostTrace
 host_trace p h c acts n s m =

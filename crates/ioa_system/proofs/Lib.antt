@@ -3,6 +3,7 @@ pub mod Matching
 pub mod Finding
 pub mod Readying
 pub mod Drafting
+pub mod Asking
 pub mod Stepping
 pub mod Running
 pub mod Tracing

@@ -148,6 +148,13 @@ module _ {S : Type 0} (a : Act) (all : List S) (ns : List ℕ) where
         rw (n, f, o) ih
   ]
 
+-- the owner's answer depends on the participants' states alone
+pub asked_from : {S : Type 0} (ps : List (Component S)) (a : Act) (ss : List S) → length ss ≡ length ps
+    → asked 0 ps a ss ≡ asked_renumbered (participants ps a) (asked 0 (filter (has a) ps) a (taken (participants ps a) ss))
+asked_from ps a ss h =
+    let st : Stands ss 0 ss = λ j. let e : 0 + j ≡ j = omega arith in ap (slice_get ss) e in
+    asked_taken a ss (participants ps a) 0 0 ps ss st h refl
+
 -- ---- the effects' answer
 
 -- an answer with states put before its own

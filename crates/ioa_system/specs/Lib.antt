@@ -5,6 +5,7 @@ pub mod Outcomes
 pub mod Endings
 pub mod PrintedBytes
 pub mod Found
+pub mod Preconditions
 pub mod Drafted
 pub mod Progress
 pub mod Records

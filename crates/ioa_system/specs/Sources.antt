@@ -15,6 +15,7 @@ use Rattle.ioa_compile.specs.Tables.{tabled, start_states}
 use Rattle.ioa_compile.specs.Correspondence.{CorrespondsAt}
 use Rattle.ioa_compile.specs.Means.{Means}
 use Rattle.ioa_system.specs.Participants.{step_from}
+use Rattle.ioa_system.specs.Preconditions.{precondition_faults}
 
 abbrev pub SameOwner : Type 0
 SameOwner = (p : Prog) (c : Composed) (a : Act) → Means p c → owner (tabled p) a ≡ owner (components_of c) a
@@ -45,6 +46,12 @@ abbrev pub HostRun : Type 0
 HostRun =
     (p : Prog) (h : Hosted) (c : Composed) (acts : List Act) → Stands h c → Means p c
     → RunsLike (HoldsAt h.hosts) (run (hosts_of h) acts (host_starts h)) (run (tabled p) acts (start_states p))
+
+-- where it ends, the precondition of an action's owner faults for both, or for neither
+abbrev pub HostAsked : Type 0
+HostAsked =
+    (p : Prog) (h : Hosted) (c : Composed) (acts : List Act) (a : Act) → Stands h c → Means p c
+    → precondition_faults (hosts_of h) a (run (hosts_of h) acts (host_starts h)).states ≡ precondition_faults (tabled p) a (run (tabled p) acts (start_states p)).states
 
 -- of as many actions the trace is the same
 abbrev pub HostTrace : Type 0

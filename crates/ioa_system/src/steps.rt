@@ -11,6 +11,7 @@ ghost use Rattle.ioa_system.specs.Outcomes.{AreOfTypes, IfNext, moved_of, step_o
 ghost use Rattle.ioa_system.specs.Found.{AreReady, IsLent, components_of, consented, lent, lent_types, numbers_of, placed};
 ghost use Rattle.ioa_system.specs.Drafted.{AreDrafts, IsTyped, drafted};
 ghost use Rattle.ioa_system.specs.Participants as spec;
+ghost use Rattle.ioa_system.specs.Preconditions as preconditions;
 ghost use Rattle.ioa_system.specs.Systems.{slot_types, slots_of, types_of, values_of};
 
 use crate::outcomes::{Moved, Step};
@@ -31,7 +32,39 @@ enum Consent {
     Faulted(usize, Fault),
 }
 
+impl Consent {
+    /// Whether a precondition faults.
+    fn is_fault(self) -> bool
+        ensures { result ≡ preconditions.is_fault_of self }
+    {
+        match self {
+            Consent::Given | Consent::Denied => false,
+            Consent::Faulted(_, _) => true,
+        }
+    }
+}
+
 impl Participation<'_, '_> {
+    /// Whether the precondition of the action's owner faults in these states of all components, one for each in order and of its variables' types. Where a
+    /// step from them faults and this does not, an effect does.
+    pub fn precondition_faults(
+        &self,
+        alloc: Global,
+        states: &[NodeState],
+    ) -> Result<bool, OutOfMemory>
+        requires { types_of states.now ≡ slot_types self.now.program.members }
+        ensures { IfOk result (λ b. b ≡ preconditions.precondition_faults (tabled self.now.program) self.now.action (values_of states.now)) }
+    {
+        let consent = asked(
+            alloc,
+            &mut Workspace::new(alloc),
+            self.participants(),
+            self.action(),
+            states,
+        )?;
+        Ok(consent.is_fault())
+    }
+
     /// What a step answers from these states of the action's participants, one for each in order and of its
     /// variables' types. A step of all components depends on these states alone.
     pub fn step_from(&self, alloc: Global, states: &[NodeState]) -> Result<Moved, OutOfMemory>

@@ -31,7 +31,7 @@ any_like R i (p ∷ ps) (q ∷ qs) a h =
     let k : list_any (has a) ps ≡ list_any (has a) qs = any_like R (i + 1) ps qs a h.1 in
     rw (e, k) refl
 
-asked_like : {S T : Type 0} (R : ℕ → S → T → Type 0) (i : ℕ) (ps : List (Component S)) (qs : List (Component T)) (a : Act) (ss : List S) (ts : List T)
+pub asked_like : {S T : Type 0} (R : ℕ → S → T → Type 0) (i : ℕ) (ps : List (Component S)) (qs : List (Component T)) (a : Act) (ss : List S) (ts : List T)
     → AllLike R i ps qs → AllRelated R i ss ts → asked i ps a ss ≡ asked i qs a ts
 asked_like R i [] [] a ss ts h r = refl
 asked_like R i [] (q ∷ qs) a ss ts h r = absurd h

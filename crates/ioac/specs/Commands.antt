@@ -37,7 +37,7 @@ abbrev pub IsServedRemark : (Name → List ℕ → Type 0) → (Name → Type 0)
 IsServedRemark holds lacks request done text = MayRemark (λ heard. IsRemark holds lacks request heard done) text
 
 abbrev pub IsUnservedRemark : (Name → List ℕ → Type 0) → (Name → Type 0) → Request → Failure → List ℕ → Type 0
-IsUnservedRemark holds lacks request e text = (n : ℕ) → e ≡ Failure.List (LogErr.Diverges n) → MayRemark (λ heard. IsDifference holds lacks request heard) text
+IsUnservedRemark holds lacks request e text = (n : ℕ) → e ≡ Failure.List (LogErr.Diverges n) → MayRemark (λ heard. IsDifference holds lacks request heard n []) text
 
 -- such words follow what is told, and the status is still that of the answer; or the device failed then
 abbrev pub IsFollowed : (List ℕ → Type 0) → Status → Option (List ℕ) → Option (List ℕ) → Type 0 → Status → Type 0

@@ -13,6 +13,7 @@ use Rattle.ioa_compose.specs.Stands.{Stands}
 use Rattle.ioa_system.specs.Logs.{Logged, actions_of}
 use Rattle.ioa_log.specs.LogTexts.{GoesOnAt, HasNoEnd, NoEntryAt, NotJsonAt, ReadsLog}
 use Rattle.ioa_account.specs.declared.remarks.Told.{Told}
+use Rattle.ioa_account.specs.Quoted.{line_text}
 use Rattle.ioa_account.specs.Remarks.{TellsDifference, TellsEnd, TellsInspected, TellsMonitored, list_line, log_line}
 use Rattle.ioac.specs.declared.remarks.ended.Ended.{Ended}
 use Rattle.ioa_request.specs.declared.request.Request.{Request}
@@ -94,7 +95,7 @@ run_text is_log Status.Unable = []
 
 -- what is told of a request that was served to this status, or whose log is of another run
 abbrev pub Tells : Request → Ended → Told → List ℕ → List ℕ → Type 0
-Tells request Ended.Diverged t before after = OfLog t (λ log. TellsDifference t (actions_of log)) before after
+Tells request Ended.Diverged t before after = OfLog t (λ log. TellsDifference t (actions_of log) log.ending) before after
 Tells (Request.Replay file composition) (Ended.Served status) t before after = TellsListEnd t before after
 Tells (Request.ReplayStates file composition) (Ended.Served status) t before after = TellsListEnd t before after
 Tells (Request.Log file composition) (Ended.Served status) t before after = TellsListEnd t before after
@@ -145,7 +146,11 @@ abbrev pub IsRemark : (Name → List ℕ → Type 0) → (Name → Type 0) → R
 IsRemark holds lacks request input status text =
     (warnings : List ℕ) × ((IsChecking request → ⊥) → warnings ≡ []) × TellsEnded holds lacks request (source_of request) (Ended.Served status) input warnings text
 
--- of a log that is of another run, where what is told before and behind are words for people
-abbrev pub IsDifference : (Name → List ℕ → Type 0) → (Name → Type 0) → Request → List ℕ → List ℕ → Type 0
-IsDifference holds lacks request input text =
-    (before : List ℕ) × (told : List ℕ) × (rest : List ℕ) × TellsEnded holds lacks request (source_of request) Ended.Diverged input before told × (text ≡ told ++ rest)
+-- of a log that is of another run: the line of the log that differs, and then how
+abbrev pub TellsDiverged : (Name → List ℕ → Type 0) → (Name → Type 0) → Request → List ℕ → ℕ → List ℕ → List ℕ → Type 0
+TellsDiverged holds lacks request input n before after =
+    TellsEnded holds lacks request (source_of request) Ended.Diverged input (before ++ line_text (codes "log") input n) after
+
+-- behind that stand words for people
+abbrev pub IsDifference : (Name → List ℕ → Type 0) → (Name → Type 0) → Request → List ℕ → ℕ → List ℕ → List ℕ → Type 0
+IsDifference holds lacks request input n before text = (told : List ℕ) × (rest : List ℕ) × TellsDiverged holds lacks request input n before told × (text ≡ told ++ rest)

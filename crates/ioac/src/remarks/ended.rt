@@ -155,14 +155,15 @@ fn put_end_of_log(alloc: Global, text: &mut String, told: &Told<'_>) -> Result<(
     }
 }
 
-/// Puts why a log is not of the composition's run, by the run of its actions.
+/// Puts why a log is not of the composition's run, by the run of its actions and its end.
 fn put_log_difference(alloc: Global, text: &mut String, told: &Told<'_>) -> Result<(), OutOfMemory>
-    ensures { OnOk result (OfLog told.now (λ log. TellsDifference told.now (actions_of log)) (string_bytes text.old) (string_bytes text.new)) }
+    ensures { OnOk result (OfLog told.now (λ log. TellsDifference told.now (actions_of log) log.ending) (string_bytes text.old) (string_bytes text.new)) }
 {
     match heard_log(alloc, told.composition.types(), told.input)? {
         Some(log) => {
+            let end = log.end;
             let actions = actions_in(alloc, log.entries)?;
-            put_difference(alloc, text, told, &actions)
+            put_difference(alloc, text, told, &actions, end)
         }
         None => Ok(()),
     }

@@ -4,12 +4,13 @@ ghost use Rattle.std.specs.Prelude.{◌≡◌, ◌++◌, ℕ, List, OnOk};
 ghost use Rattle.std.specs.String.{string_bytes};
 ghost use Rattle.ioa_log.specs.declared.failure.LogErr as errors;
 ghost use Rattle.ioa_serving.specs.declared.failure.Failure as failures;
+ghost use Rattle.ioac.specs.Remarks as spec;
 ghost use Rattle.ioac.specs.Remarks.{IsDifference};
 
-use crate::remarks::ended;
 use crate::remarks::ended::{Ended, loaded};
 use crate::remarks::places::{Place, input_name, inputs_of, place_of, source_of, words_of};
 use crate::remarks::sources::component_line;
+use crate::remarks::{ended, warned};
 use ioa_account::{line_of_action, put_line};
 use ioa_log::LogErr;
 use ioa_request::explanations::explanation;
@@ -29,15 +30,32 @@ pub fn put<F: Store>(
     input: &[u8],
 ) -> Result<(), OutOfMemory>
     ensures { (n : ℕ) → failure.now ≡ failures.Failure.List (errors.LogErr.Diverges n)
-        → OnOk result (IsDifference (F.holds store.now) (F.lacks store.now) asked.now input.now (string_bytes text.new)) }
+        → OnOk result (IsDifference (F.holds store.now) (F.lacks store.now) asked.now input.now n (string_bytes text.old) (string_bytes text.new)) }
 {
-    put_place(alloc, text, asked, failure, store, input)?;
-    if let Failure::List(LogErr::Diverges(_)) = failure {
-        ended::put(alloc, text, asked, Ended::Diverged, store, input)?;
-    }
+    put_found(alloc, text, asked, failure, store, input)?;
     let explained = explanation(Topic::Code(failure.code()));
     write!(text, "\n{explained}")?;
     Ok(())
+}
+
+/// Puts where what a failure tells of stands. Behind it stands how a log differs, and the warnings of a check.
+fn put_found<F: Store>(
+    alloc: Global,
+    text: &mut String,
+    asked: &Request<'_>,
+    failure: &Failure,
+    store: &F,
+    input: &[u8],
+) -> Result<(), OutOfMemory>
+    ensures { (n : ℕ) → failure.now ≡ failures.Failure.List (errors.LogErr.Diverges n)
+        → OnOk result (spec.TellsDiverged (F.holds store.now) (F.lacks store.now) asked.now input.now n (string_bytes text.old) (string_bytes text.new)) }
+{
+    if let Failure::List(LogErr::Diverges(line)) = failure {
+        put_line(alloc, text, "log", input, *line as usize)?;
+        return ended::put(alloc, text, asked, Ended::Diverged, store, input);
+    }
+    put_place(alloc, text, asked, failure, store, input)?;
+    warned::put(alloc, text, asked, store)
 }
 
 /// Puts the line of the source, of the list or the log, or of a run's files that a failure tells of.

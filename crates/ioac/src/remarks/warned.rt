@@ -1,13 +1,44 @@
 //! What is likely a mistake in a source, also where it is accepted.
 
+ghost use Rattle.std.specs.Prelude.{◌≡◌, OnOk};
+ghost use Rattle.std.specs.String.{string_bytes};
+ghost use Rattle.ioac.specs.Remarks.{IsChecking};
+
+use crate::remarks::ended::loaded;
+use ioa_request::Request;
+use ioa_serving::{Store, is_object};
 use ioa_syntax::{Refusal, parse};
 use ioa_value::OutOfMemory;
 use ioa_warnings::{FreeParameter, comments_in_statements, free_parameters};
 use std::alloc::Global;
 use std::fmt::Write;
 
-/// Puts the warnings of a source behind the text. Of what is no source there are none but those of its lines.
-pub fn put(alloc: Global, text: &mut String, file: &str, source: &[u8]) -> Result<(), OutOfMemory> {
+/// Puts the warnings of a source that was to be checked behind the text.
+pub fn put<F: Store>(
+    alloc: Global,
+    text: &mut String,
+    asked: &Request<'_>,
+    store: &F,
+) -> Result<(), OutOfMemory>
+    ensures { (IsChecking asked.now → ⊥) → OnOk result (string_bytes text.new ≡ string_bytes text.old) }
+{
+    let Request::Check { file, .. } = asked else {
+        return Ok(());
+    };
+    let source = loaded(alloc, file, store)?;
+    if is_object(source.as_slice()) {
+        return Ok(());
+    }
+    put_of_source(alloc, text, file, source.as_slice())
+}
+
+/// Puts those of a source. Of what is no source there are none but those of its lines.
+fn put_of_source(
+    alloc: Global,
+    text: &mut String,
+    file: &str,
+    source: &[u8],
+) -> Result<(), OutOfMemory> {
     put_comments(alloc, text, file, source)?;
     match parse(alloc, source) {
         Ok(parsed) => {

@@ -1,14 +1,17 @@
-use Rattle.std.proofs.Common.{◌≡◌, map, sym, ap, subst, ◌∙◌}
+use Rattle.std.proofs.Common.{◌≡◌, List, map, sym, ap, subst, ◌∙◌}
 use Rattle.ioa_value.specs.Actions.{act_of}
+use Rattle.ioa_value.specs.Plain.{Val}
+use Rattle.ioa_node.specs.Nodes.{Node}
 use Rattle.ioa_tree.specs.Hosts.{host_starts, hosts_of}
 use Rattle.ioa_tree.specs.Likes.{AllRelated}
-use Rattle.ioa_tree.specs.Runs.{run}
+use Rattle.ioa_tree.specs.Runs.{Reached, run}
 use Rattle.ioa_compose.specs.Held.{composed_of}
 use Rattle.ioa_compose.specs.Stands.{HoldsAt}
 use Rattle.ioa_system.specs.Outcomes.{ending_of}
-use Rattle.ioa_system.specs.Systems.{values_of}
-use Rattle.ioa_account.specs.Accounts.{name_of, why}
+use Rattle.ioa_system.specs.Systems.{types_of, values_of}
+use Rattle.ioa_account.specs.Accounts.{faults_early, is_down_in, name_of, why}
 use Rattle.ioa_account.specs.Ends.{component_in, index_in}
+use Rattle.ioa_account.proofs.Telling.{early_alike}
 use Rattle.ioa_account.proofs.ends.tell.Goals as goal
 
 pub returns-clause-told : goal.returns-clause-told
@@ -17,12 +20,26 @@ returns-clause-told c = λ h stands said.
     let r = run (hosts_of h) acts (host_starts h) in
     let end = ending_of c.args.reached.now.end in
     let component = c.component_of-component.result in
+    let down = c.is_down_in-is_down.result in
     let same : r.ending ≡ end = said.reached.ending in
+    let holding : (ns : List Node) → ns ≡ c.args.reached.now.states.items → AllRelated (HoldsAt h.hosts) 0 r.states (values_of ns) = λ ns e.
+    subst (λ (xs : List Node). AllRelated (HoldsAt h.hosts) 0 r.states (values_of xs)) (sym e) said.reached.states in
+    let early = c.in_ok-is_early.is_early in
+    let asks : early ≡ faults_early (hosts_of h) acts c.args.index r.states =
+    c.in_ok-is_early.ensures
+    ∙ early_alike c.args.program.now h (composed_of c.args.composition.now) acts c.args.index (values_of c.deref-2.result.now) stands c.requires.means
+    (ap values_of c.deref-2.ensures.value ∙ ap (λ (q : Reached (List Val)). q.states) c.requires.run.reached) in
     record {
+      end = sym same;
       index = ap index_in same ∙ c.requires.index;
       component = c.component_of-component.ensures h (composed_of c.args.composition.now) stands c.requires.means ∙ ap (component_in (hosts_of h) acts) (sym same);
-      why = c.in_ok-why.ensures ∙ ap (λ types. why types acts c.name_of-name.result.now end) (c.types.ensures.value ∙ stands.types)
-          ∙ ap (λ x. why h.types acts x end) (c.name_of-name.ensures h stands)
-          ∙ ap (why h.types acts (name_of h.hosts component)) (sym same);
-      states = c.in_ok-states.ensures h r.states stands (subst (λ ns. AllRelated (HoldsAt h.hosts) 0 r.states (values_of ns)) (sym c.deref.ensures.value) said.reached.states);
+      why = c.in_ok-why.ensures ∙ ap (λ types. why types acts c.name_of-name.result.now down early end) (c.types.ensures.value ∙ stands.types)
+          ∙ ap (λ x. why h.types acts x down early end) (c.name_of-name.ensures h stands)
+          ∙ ap (λ d. why h.types acts (name_of h.hosts component) d early end) (c.is_down_in-is_down.ensures h r.states stands (holding c.deref.result.now c.deref.ensures.value))
+          ∙ ap (λ e. why h.types acts (name_of h.hosts component) (is_down_in h.hosts r.states component) e end) asks
+          ∙ ap (why h.types acts (name_of h.hosts component) (is_down_in h.hosts r.states component) (faults_early (hosts_of h) acts c.args.index r.states)) (sym same);
+      states = c.in_ok-states.ensures h r.states stands (holding c.deref-3.result.now c.deref-3.ensures.value);
     }
+
+pub faults_early-requires : goal.faults_early-requires
+faults_early-requires c = ap types_of c.deref-2.ensures.value ∙ c.requires.run.types

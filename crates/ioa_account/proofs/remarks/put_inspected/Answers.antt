@@ -1,12 +1,9 @@
-use Rattle.std.proofs.Common.{◌≡◌, ◌+◌, ◌++◌, Some, None, map, take, string_bytes, ap, sym, subst, ◌∙◌}
+use Rattle.std.proofs.Common.{◌≡◌, ◌+◌, ◌++◌, Some, None, map, string_bytes, ap, sym, subst, ◌∙◌}
 use Rattle.std.specs.Option.{option_map}
 use Rattle.ioa_value.specs.Actions.{act_of}
-use Rattle.ioa_tree.specs.Hosts.{host_starts, hosts_of}
-use Rattle.ioa_tree.specs.Runs.{run}
 use Rattle.ioa_system.specs.Logs.{actions_of, logged}
 use Rattle.ioa_log.specs.Breaking.{broken_of}
-use Rattle.ioa_account.specs.States.{component_lines}
-use Rattle.ioa_account.specs.Remarks.{TellsEnd, log_line}
+use Rattle.ioa_account.specs.Remarks.{TellsEnd, broken_text, log_line}
 use Rattle.ioa_account.proofs.Remarking.{acts_of_log, inspected, on_ok}
 use Rattle.ioa_account.proofs.remarks.put_inspected.Goals as goal
 
@@ -21,7 +18,7 @@ returns-in-Some c =
     inspected c.args.told.now h (logged log) (Some (broken_of b)) _ _ _ c.asked_invariants-asked.result c.in_ok-number_of-in-Some.field-0
     (sym (ap (option_map broken_of) c.in-Some.is) ∙ c.in-Ok.ensures.hosts_first h stands) (c.asked_invariants-asked.ensures.hosts h stands) c.in_ok-number_of-in-Some.ensures
     c.in_ok-put_asked-in-Some.ensures
-    (puts h stands ∙ ap (λ acts. string_bytes c.put_asked.new.text ++ component_lines h.types h.hosts (run (hosts_of h) (take b.state acts) (host_starts h)).states b.component) acts))
+    (puts h stands ∙ ap (λ acts. string_bytes c.put_asked.new.text ++ broken_text c.args.told.now h acts (broken_of b)) acts))
     c.put_broken.ensures
 
 pub returns : goal.returns

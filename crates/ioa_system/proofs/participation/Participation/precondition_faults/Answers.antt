@@ -1,0 +1,29 @@
+use Rattle.std.proofs.Common.{List, ap, subst, sym, ◌∙◌}
+use Rattle.ioa_value.specs.Actions.{Act, act_of}
+use Rattle.ioa_node.specs.Nodes.{Node}
+use Rattle.ioa_tree.specs.Steps.{asked, not_an_action}
+use Rattle.ioa_compile.specs.Programs.{Prog}
+use Rattle.ioa_system.specs.declared.participation.Participant.{Participant}
+use Rattle.ioa_system.specs.Found.{AreReady, components_of, lent, numbers_of}
+use Rattle.ioa_system.specs.Preconditions.{is_faulted}
+use Rattle.ioa_system.proofs.Asking.{asked_of_all, faulted_so}
+use Rattle.ioa_system.proofs.Readying.{ready_all}
+use Rattle.ioa_system.proofs.participation.Participation.precondition_faults.Goals as goal
+
+pub asked-requires : goal.asked-requires
+asked-requires c =
+    let p : Prog = c.args.self.now.program in
+    let a : Act = c.args.self.now.action in
+    let qs : List Participant = c.participants.result.now in
+    subst (λ (b : Act). AreReady b c.args.states.now qs) (sym c.action.ensures)
+    (ready_all p.types a p.members c.args.states.now qs c.participants.ensures.found c.participants.ensures.sound.members c.requires)
+
+pub returns : goal.returns
+returns c =
+    let a : Act = c.args.self.now.action in
+    let ns : List Node = c.args.states.now in
+    let qs : List Participant = c.participants.result.now in
+    c.is_fault.ensures
+    ∙ faulted_so (numbers_of qs) c.in_ok-consent.consent (asked 0 (components_of qs) (act_of c.action.result.now) (lent ns qs)) (c.in_ok-consent.ensures not_an_action)
+    ∙ ap (λ (b : Act). is_faulted (asked 0 (components_of qs) b (lent ns qs))) c.action.ensures
+    ∙ asked_of_all c.args.self.now.program a ns qs c.participants.ensures.found c.requires
