@@ -6,3 +6,4 @@ pub mod StateLines
 pub mod Telling
 pub mod Quoting
 pub mod Remarking
+pub mod Refusing

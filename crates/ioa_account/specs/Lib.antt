@@ -5,3 +5,4 @@ pub mod Ends
 pub mod Accounts
 pub mod Quoted
 pub mod Remarks
+pub mod Objects

@@ -246,7 +246,7 @@ fn part_words(is_early: bool) -> &'static str
 }
 
 /// What a fault is.
-fn fault_words(fault: Fault) -> &'static str
+pub(crate) fn fault_words(fault: Fault) -> &'static str
     ensures { result.now ≡ spec.fault_words fault }
 {
     match fault {

@@ -263,7 +263,7 @@ fn put_log_line(
 }
 
 /// The number, from 1, of what has this index, from 0. So many things are not held in memory that there is none.
-fn number_of(index: usize) -> Result<usize, OutOfMemory>
+pub(crate) fn number_of(index: usize) -> Result<usize, OutOfMemory>
     ensures { IfOk result (λ number. number ≡ index + 1) }
 {
     match index.checked_add(1) {
@@ -273,7 +273,7 @@ fn number_of(index: usize) -> Result<usize, OutOfMemory>
 }
 
 /// Puts how many of so many actions the specification has.
-fn put_known(text: &mut String, count: usize, all: usize) -> Result<(), OutOfMemory>
+pub(crate) fn put_known(text: &mut String, count: usize, all: usize) -> Result<(), OutOfMemory>
     ensures { OnOk result (string_bytes text.new ≡ string_bytes text.old ++ spec.known_text count all) }
 {
     if count == 0 {
