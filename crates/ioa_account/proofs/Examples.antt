@@ -1,14 +1,14 @@
 -- The answers of the definitions, of small texts.
 use Rattle.std.proofs.Common.{◌≡◌, ℕ, List, [], ◌∷◌, Some, None, true, false, codes, refl}
 use Rattle.std.specs.Fmt.{digits}
-use Rattle.ioa_arithmetic.specs.declared.arithmetic.Fault.TheVariants.{ZeroDivisor}
+use Rattle.ioa_arithmetic.specs.declared.arithmetic.Fault.TheVariants.{ZeroDivisor, Empty}
 use Rattle.ioa_value.specs.Actions.{Act}
 use Rattle.ioa_value.specs.Written.{written_action}
-use Rattle.ioa_tree.specs.Runs.{not_an_action_at, not_enabled_at, fault_at}
+use Rattle.ioa_tree.specs.Runs.{done, not_an_action_at, not_enabled_at, fault_at}
 use Rattle.ioa_account.specs.Accounts.{why}
 use Rattle.ioa_account.specs.Lines.{line_at, line_of_action}
 use Rattle.ioa_account.specs.Quoted.{end_of, goes_on}
-use Rattle.ioa_account.specs.Remarks.{asked_text, known_text}
+use Rattle.ioa_account.specs.Remarks.{all_performed, asked_text, known_text, other_fault}
 
 -- a blank line, a comment, an action, a line of blanks, and another action
 list : List ℕ
@@ -43,17 +43,42 @@ no_line_behind = refl
 steps : List Act
 steps = record { name = codes "step"; vals = [] } ∷ []
 
-unknown : why [] steps (codes "Left") (not_an_action_at 0) ≡ codes "no component has step"
+unknown : why [] steps (codes "Left") false false (not_an_action_at 0) ≡ codes "no component has step"
 unfolding steps written_action
 unknown = refl
 
-blocked : why [] steps (codes "Left") (not_enabled_at 0) ≡ codes "the precondition of step in Left is false"
+blocked : why [] steps (codes "Left") false false (not_enabled_at 0) ≡ codes "the precondition of step in Left is false"
 unfolding steps written_action
 blocked = refl
 
-faulted : why [] steps (codes "Left") (fault_at 0 ZeroDivisor 0) ≡ codes "fault 2 of step in Left"
+down : why [] steps (codes "Left") true false (not_enabled_at 0) ≡ codes "Left is down, so that step is not enabled"
+unfolding steps written_action
+down = refl
+
+faulted : why [] steps (codes "Left") false false (fault_at 0 ZeroDivisor 0) ≡ codes "fault 2 in the effect of step in Left: the divisor is 0"
 unfolding steps written_action digits
 faulted = refl
+
+faulted_early : why [] steps (codes "Left") false true (fault_at 0 ZeroDivisor 0) ≡ codes "fault 2 in the precondition of step in Left: the divisor is 0"
+unfolding steps written_action digits
+faulted_early = refl
+
+-- ---- how a log differs
+
+ends_otherwise : other_fault 1 (fault_at 0 ZeroDivisor 0) (fault_at 0 Empty 0) ≡ codes "the run's end is: fault 3 in component 0 at 0\n"
+unfolding digits
+ends_otherwise = refl
+
+faults_before : other_fault 2 (fault_at 0 ZeroDivisor 1) (fault_at 0 Empty 0) ≡ []
+faults_before = refl
+
+does_not_fault : all_performed [] steps (fault_at 1 ZeroDivisor 0) ≡ codes "the log says that step faults, and it is performed\n"
+unfolding steps written_action
+does_not_fault = refl
+
+ends_later : all_performed [] steps (done 2) ≡ codes "all actions of the log are performed, so that the run's end is: done after 1\n"
+unfolding steps digits
+ends_later = refl
 
 -- ---- how much was asked
 

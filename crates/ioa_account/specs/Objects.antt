@@ -20,11 +20,15 @@ abbrev pub member_name : Prog → Option ℕ → Name
 member_name p None = []
 member_name p (Some i) = option_map_or (λ (m : MemberCode). m.name) (slice_get p.members i) []
 
+-- an action of this text is not enabled in the component of this name
+abbrev pub not_enabled_text : List ℕ → Name → List ℕ
+not_enabled_text action x = action ++ (codes " is not enabled in " ++ (x ++ codes "\n"))
+
 -- why an action is not accepted
 abbrev pub reason : Prog → List Act → Ending → List ℕ
 reason p acts (done n) = []
 reason p acts (not_an_action_at i) = []
-reason p acts (not_enabled_at i) = action_text p.types acts i ++ (codes " is not enabled in " ++ (member_name p (owner_at (tabled p) acts i) ++ codes "\n"))
+reason p acts (not_enabled_at i) = not_enabled_text (action_text p.types acts i) (member_name p (owner_at (tabled p) acts i))
 reason p acts (fault_at c f i) =
     codes "fault " ++ (decimal (fault_number f) ++ (codes " of " ++ (action_text p.types acts i ++ (codes " in " ++ (member_name p (Some c) ++ (codes ": " ++ (fault_words f ++ codes "\n")))))))
 

@@ -69,11 +69,21 @@ faults_last count (fault_at c f i) = i == count - 1
 abbrev pub other_fault : ℕ → Ending → Ending → List ℕ
 other_fault count end own = if is_fault end && faults_last count own then codes "the run's end is: " ++ (ending_text own ++ codes "\n") else []
 
+-- an action of this text is performed, which the log tells to fault
+abbrev pub performed_text : List ℕ → List ℕ
+performed_text action = codes "the log says that " ++ (action ++ codes " faults, and it is performed\n")
+
+-- the one of this index
+abbrev pub last_performed : Table → List Act → ℕ → List ℕ
+last_performed types acts last = performed_text (action_text types acts last)
+
+-- so many actions are performed, and the log tells another end
+abbrev pub own_end : ℕ → List ℕ
+own_end count = codes "all actions of the log are performed, so that the run's end is: " ++ (ending_text (done count) ++ codes "\n")
+
 -- all actions are performed: but the log tells that the last one faults, or another number of them
 abbrev pub all_performed : Table → List Act → Ending → List ℕ
-all_performed types acts end =
-    if is_fault end && not (length acts == 0) then codes "the log says that " ++ (action_text types acts (length acts - 1) ++ codes " faults, and it is performed\n")
-    else codes "all actions of the log are performed, so that the run's end is: " ++ (ending_text (done (length acts)) ++ codes "\n")
+all_performed types acts end = if is_fault end && not (length acts == 0) then last_performed types acts (length acts - 1) else own_end (length acts)
 
 -- why the run over the log's actions ends, or that they are all performed; and how the log's end differs, where it is this that does
 abbrev pub difference_text : Told → List Act → Ending → Option Account → List ℕ

@@ -91,8 +91,15 @@ fn put_blocked(
     ensures { OnOk result (string_bytes text.new ≡ string_bytes text.old ++ spec.reason program.now (map act_of actions.now) (spec.ending_at index Step.NotEnabled)) }
 {
     let action = action_text(alloc, program.types(), actions, index)?;
-    let name = member_name(program, owner_at(program, actions, index));
-    writeln!(text, "{action} is not enabled in {name}")?;
+    let name = owner_name(program, actions, index);
+    put_not_enabled(text, action.as_str(), name)
+}
+
+/// Puts that an action of this text is not enabled in the component of this name.
+fn put_not_enabled(text: &mut String, action: &str, component: &str) -> Result<(), OutOfMemory>
+    ensures { OnOk result (string_bytes text.new ≡ string_bytes text.old ++ spec.not_enabled_text action.now component.now) }
+{
+    writeln!(text, "{action} is not enabled in {component}")?;
     Ok(())
 }
 
@@ -114,6 +121,13 @@ fn put_fault(
     let words = fault_words(fault);
     writeln!(text, "fault {number} of {action} in {name}: {words}")?;
     Ok(())
+}
+
+/// The name of the component that owns the action of this index.
+fn owner_name<'a>(program: &'a Program, actions: &[Action], index: usize) -> &'a str
+    ensures { result.now ≡ spec.member_name program.now (ends.owner_at (tabled program.now) (map act_of actions.now) index) }
+{
+    member_name(program, owner_at(program, actions, index))
 }
 
 /// The number of the component that owns the action of this index.

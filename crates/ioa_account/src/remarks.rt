@@ -1,6 +1,6 @@
 //! What is told of how a run ends, and of how much was asked of it.
 
-ghost use Rattle.std.specs.Prelude.{◌≡◌, ◌+◌, ◌++◌, suc, IfOk, OnOk, map};
+ghost use Rattle.std.specs.Prelude.{◌≡◌, ◌+◌, ◌++◌, ◌&&◌, ◌==◌, not, suc, length, IfOk, OnOk, map};
 ghost use Rattle.std.specs.String.{string_bytes};
 ghost use Rattle.ioa_value.specs.Actions.{act_of};
 ghost use Rattle.ioa_tree.specs.Hosts.{Hosted, hosts_of};
@@ -119,16 +119,55 @@ fn put_all_performed(
 ) -> Result<(), OutOfMemory>
     ensures { OnOk result (string_bytes text.new ≡ string_bytes text.old ++ spec.all_performed types.now (map act_of actions.now) (log_end end)) }
 {
-    if is_fault(end) && !actions.is_empty() {
-        let last = action_text(alloc, types, actions, actions.len().saturating_sub(1))?;
-        writeln!(text, "the log says that {last} faults, and it is performed")?;
+    if is_of_last(actions, end) {
+        let last = actions.len().saturating_sub(1);
+        put_last_performed(alloc, text, types, actions, last)
     } else {
-        let own = End::Done(actions.len());
-        writeln!(
-            text,
-            "all actions of the log are performed, so that the run's end is: {own}"
-        )?;
+        put_own_end(text, actions.len())
     }
+}
+
+/// Whether the end of a log of these actions tells that the last one faults.
+fn is_of_last(actions: &[Action], end: LogEnd) -> bool
+    ensures { result ≡ (logs.is_fault (log_end end) && not (length actions.now == 0)) }
+{
+    is_fault(end) && !actions.is_empty()
+}
+
+/// Puts that the action of this index is performed, which the log tells to fault.
+fn put_last_performed(
+    alloc: Global,
+    text: &mut String,
+    types: &Types,
+    actions: &[Action],
+    last: usize,
+) -> Result<(), OutOfMemory>
+    ensures { OnOk result (string_bytes text.new ≡ string_bytes text.old ++ spec.last_performed types.now (map act_of actions.now) last) }
+{
+    let action = action_text(alloc, types, actions, last)?;
+    put_performed(text, action.as_str())
+}
+
+/// Puts that an action of this text is performed, which the log tells to fault.
+fn put_performed(text: &mut String, action: &str) -> Result<(), OutOfMemory>
+    ensures { OnOk result (string_bytes text.new ≡ string_bytes text.old ++ spec.performed_text action.now) }
+{
+    writeln!(
+        text,
+        "the log says that {action} faults, and it is performed"
+    )?;
+    Ok(())
+}
+
+/// Puts the end of a run that performs all of so many actions.
+fn put_own_end(text: &mut String, count: usize) -> Result<(), OutOfMemory>
+    ensures { OnOk result (string_bytes text.new ≡ string_bytes text.old ++ spec.own_end count) }
+{
+    let own = End::Done(count);
+    writeln!(
+        text,
+        "all actions of the log are performed, so that the run's end is: {own}"
+    )?;
     Ok(())
 }
 

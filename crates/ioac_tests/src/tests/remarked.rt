@@ -132,7 +132,7 @@ fn expect_remark<H: Abort + Threads + Wait + Clock + Sync>(
     assert!(rt; with.errors == wanted, "errors in {row}");
 }
 
-fn expect_remarks<H: Abort + Threads + Wait + Sync>(
+fn expect_remarks<H: Abort + Threads + Wait + Clock + Sync>(
     rt: &H,
     alloc: Global,
     rows: &str,

@@ -13,7 +13,7 @@ pub returns-in-Ok : goal.returns-in-Ok
 returns-in-Ok c =
     let xs = c.args.actions.now in
     object_accepts c.args.program.now c.args.input.now (map act_of xs) (string_bytes c.args.text.now) (string_bytes c.put_known.new.text)
-    (c.in_ok-put_known.ensures ∙ ap₂ (λ n m. string_bytes c.args.text.now ++ known_text n m) c.in_ok-count.ensures.table (c.len.ensures ∙ sym (length-map xs act_of)))
+    (c.in_ok-put_known.ensures ∙ ap₂ (λ n m. string_bytes c.args.text.now ++ known_text n m) c.in_ok-count.ensures.table (sym (length-map xs act_of)))
     c.in-Ok.ensures.accepted.1
 
 pub returns-in-Err-SpecHasInternal : goal.returns-in-Err-SpecHasInternal
@@ -21,7 +21,7 @@ returns-in-Err-SpecHasInternal c =
     let xs = c.args.actions.now in
     let p = c.args.program.now in
     object_hides p c.args.input.now (map act_of xs) (string_bytes c.args.text.now) (string_bytes c.put_known.new.text)
-    (c.in_ok-put_known.ensures ∙ ap₂ (λ n m. string_bytes c.args.text.now ++ known_text n m) c.in_ok-count.ensures.table (c.len.ensures ∙ sym (length-map xs act_of)))
+    (c.in_ok-put_known.ensures ∙ ap₂ (λ n m. string_bytes c.args.text.now ++ known_text n m) c.in_ok-count.ensures.table (sym (length-map xs act_of)))
     (subst (λ e. IsRefusal e (hides p) (monitored (tabled p) (map act_of xs) (start_states p))) c.in-Err-SpecHasInternal.field-0-is c.in-Err-SpecHasInternal.ensures.refused)
 
 pub returns-in-Err-At : goal.returns-in-Err-At
@@ -31,6 +31,6 @@ returns-in-Err-At c =
     let answered = subst (λ e. IsRefusal e (hides p) (monitored (tabled p) (map act_of xs) (start_states p))) c.in-Err-At.field-0-is c.in-Err-At.ensures.refused in
     on_ok c.put_refusal.result
     (λ puts. object_refuses p c.args.input.now (map act_of xs) (string_bytes c.args.text.now) (string_bytes c.put_known.new.text)
-    (c.in_ok-put_known.ensures ∙ ap₂ (λ n m. string_bytes c.args.text.now ++ known_text n m) c.in_ok-count.ensures.table (c.len.ensures ∙ sym (length-map xs act_of)))
+    (c.in_ok-put_known.ensures ∙ ap₂ (λ n m. string_bytes c.args.text.now ++ known_text n m) c.in_ok-count.ensures.table (sym (length-map xs act_of)))
     (string_bytes c.put_refusal.new.text) puts)
     (c.put_refusal.ensures (monitored (tabled p) (map act_of xs) (start_states p)) answered.1)
