@@ -2,6 +2,7 @@
 use Rattle.std.proofs.Common.{◌≡◌, ◌≢◌, ℕ, ◌+◌, ◌<◌, ◌≤◌, ◌==◌, List, length, All, Bool, true, false, cond, Option, None, Some, refl, sym, ◌∙◌, ap, subst, arith, inl, inr, if◌then◌else◌}
 use Rattle.std.specs.Prelude.{IsSome, is_some, slice_get, slice_set, unwrap_or}
 use Rattle.std.specs.Option.{option_map}
+use Rattle.std.proofs.Math.Nat.{eq-or-lt_of_le}
 use Rattle.std.proofs.lemmas.Bool.Decides.{eqb_tells}
 use Rattle.std.proofs.lemmas.Option.{get_or_from_slice_get, slice_get_within}
 use Rattle.ioa_value.specs.Actions.{Act}
@@ -15,7 +16,7 @@ use Rattle.ioa_run.specs.declared.answer.Answer.{Answer}
 use Rattle.ioa_run.specs.declared.report.Report.{Report}
 use Rattle.ioa_run.specs.declared.report.Why.{Why}
 use Rattle.ioa_run.specs.Boards.{Failure, Standing}
-use Rattle.ioa_run.specs.Going.{AreSettled, HaveCauses, IsCause, IsTurn, dismissed}
+use Rattle.ioa_run.specs.Going.{AreCounted, AreSettled, HasFewer, HaveCauses, HaveFewer, IsCause, IsTurn, dismissed}
 use Rattle.ioa_run.specs.Outcomes.{HasEnded, HaveEnded, IsFault, IsReason, ending}
 use Rattle.ioa_run.specs.Reports.{Changes, counted, left, with_idle, with_why}
 use Rattle.ioa_run.specs.Turns.{Proposer, Turns, attempt, first_turns, is_last, meant, not_own, own_attempt, told, turned}
@@ -62,6 +63,32 @@ cause_stays f g Why.Memory h k = k
 not_both : (o : Option Bool) → o ≡ Some true → o ≡ Some false → ⊥
 not_both o e f = let q : Some true ≡ Some false = sym e ∙ f in cc
 
+-- who had fewer turns than there were before a turn had fewer after it
+fewer_on : (n k v : ℕ) (q : Report) → HasFewer n k v q → HasFewer n (k + 1) v q
+fewer_on n k v q f = record {
+  had = λ l. elim (eq-or-lt_of_le {n = v} {m = k} (omega (arith, l))) as (λ _. counted q < n + 1) [
+    | inl e ↦ (let b = f.before (omega (arith, e)) in omega (arith, b))
+    | inr m ↦ f.had m
+  ];
+  before = λ l. f.before (omega (arith, l));
+}
+
+-- who leaves in its turn has had those of the rounds before
+fewer_now : (n k : ℕ) (q : Report) → counted q ≡ n → HasFewer n (k + 1) k q
+fewer_now n k q e = record { had = λ _. omega (arith, e); before = λ l. absurd (omega (arith, l)) }
+
+-- a worker's last turn is not counted
+last_uncounted : (x : Answer) (r : Report) → is_last x ≡ true → counted (told x r) ≡ counted r
+last_uncounted (Answer.Committed n) r l = absurd (cc)
+last_uncounted (Answer.Faulted c f) r l = refl
+last_uncounted Answer.Stopped r l = refl
+last_uncounted Answer.NotAnAction r l = absurd (cc)
+last_uncounted Answer.NotYours r l = absurd (cc)
+last_uncounted Answer.NotEnabled r l = absurd (cc)
+last_uncounted Answer.Planned r l = absurd (cc)
+last_uncounted Answer.NoPlan r l = absurd (cc)
+last_uncounted Answer.Stale r l = absurd (cc)
+
 module _ {S : Type 0} (ps : List (Component S)) where
   -- a fault that is recorded stays
   recorded_stays : (w : ℕ) (a : Act) (b : Standing S) → IsSome b.failure → IsSome (attempt ps w a b).1.failure
@@ -97,6 +124,30 @@ module _ {S : Type 0} (ps : List (Component S)) where
             ]
       ]
 
+  fewer_turned : (n w : ℕ) (m : Tried Act) (t : Turns S) → slice_get t.ended w ≡ Some false → AreCounted n w t → HaveFewer n w t → HaveFewer n (w + 1) (turned ps w m t)
+  fewer_turned n w (idle taken) t o a h v q e g =
+      elim (at_changed with_idle w v t.reports q g) as (λ _. HasFewer n (w + 1) v q) [
+        | here x p k i ↦ absurd (not_both (slice_get t.ended v) e (subst (λ u. slice_get t.ended u ≡ Some false) (sym p) o))
+        | there d k ↦ fewer_on n w v q (h v q e k)
+      ]
+  fewer_turned n w (tries a taken) t o c h v q e g =
+      let x : Answer = (attempt ps w a t.board).0 in
+      let e' : At (λ _. is_last x) w v t.ended true = at_changed (λ _. is_last x) w v t.ended true e in
+      elim (at_changed (told x) w v t.reports q g) as (λ _. HasFewer n (w + 1) v q) [
+        | here r p k i ↦
+            elim e' as (λ _. HasFewer n (w + 1) v q) [
+              | here b _ _ l ↦
+                  subst (λ u. HasFewer n (w + 1) u q) (sym p)
+                  (fewer_now n w q (ap counted i ∙ last_uncounted x r (sym l) ∙ (c w r o k).before (omega arith)))
+              | there d _ ↦ absurd (d p)
+            ]
+        | there d k ↦
+            elim e' as (λ _. HasFewer n (w + 1) v q) [
+              | here _ p _ _ ↦ absurd (d p)
+              | there _ f ↦ fewer_on n w v q (h v q f k)
+            ]
+      ]
+
 -- ---- one turn
 
 module _ {S : Type 0} (ps : List (Component S)) (entries : List (List (Proposer S))) (inputs : List Act) where
@@ -107,6 +158,7 @@ module _ {S : Type 0} (ps : List (Component S)) (entries : List (List (Proposer 
         going = going_turned ps k m t o s.going;
         taken = counted_turned ps n k m t l o s.taken;
         gone = causes_turned ps k m t o s.gone;
+        fewer = fewer_turned ps n k m t o s.taken s.fewer;
       })
 
 -- who has ended takes no turn
@@ -115,6 +167,7 @@ settled_ended n k t e s = record {
   going = s.going;
   taken = λ v q f g. no_turn n k v q (λ p. not_both (slice_get t.ended k) e (subst (λ u. slice_get t.ended u ≡ Some false) p f)) (s.taken v q f g);
   gone = s.gone;
+  fewer = λ v q f g. fewer_on n k v q (s.fewer v q f g);
 }
 
 -- memory is refused to a worker in its turn
@@ -143,11 +196,25 @@ module _ {S : Type 0} (n k turns : ℕ) (t t' : Turns S) (e : slice_get t.ended 
         | inr p ↦ subst (λ (b : Standing S). IsCause b.failure q.why) (sym board) (s.gone v q (sym (other_ended v p.1) ∙ f) (sym (c.others v p.1) ∙ g))
       ]
 
+  refused_fewer : (q : Report) (o : Option Report) → slice_get t.reports k ≡ o → option_map (left turns Why.Memory) o ≡ Some q → HasFewer n (k + 1) k q
+  refused_fewer q None i g = absurd (cc)
+  refused_fewer q (Some r) i g =
+      let same : left turns Why.Memory r ≡ q = cc in
+      fewer_now n k q (ap counted (sym same) ∙ (s.taken k r e i).before (omega arith))
+
+  fewer_refused : HaveFewer n (k + 1) t'
+  fewer_refused v q f g =
+      elim (eqb_tells v k) as (λ _. HasFewer n (k + 1) v q) [
+        | inl p ↦ subst (λ u. HasFewer n (k + 1) u q) (sym p.1) (refused_fewer q (slice_get t.reports k) refl (sym c.own ∙ subst (λ u. slice_get t'.reports u ≡ Some q) p.1 g))
+        | inr p ↦ fewer_on n k v q (s.fewer v q (sym (other_ended v p.1) ∙ f) (sym (c.others v p.1) ∙ g))
+      ]
+
   pub settled_refused : AreSettled n (k + 1) t'
   settled_refused = record {
     going = λ v q f g. (let d = not_own_turn v f in s.going v q (sym (other_ended v d) ∙ f) (sym (c.others v d) ∙ g));
     taken = λ v q f g. (let d = not_own_turn v f in no_turn n k v q d (s.taken v q (sym (other_ended v d) ∙ f) (sym (c.others v d) ∙ g)));
     gone = gone_refused;
+    fewer = fewer_refused;
   }
 
 -- ---- rounds
@@ -161,6 +228,10 @@ settled_round n k t l s = record {
     before = λ _. (s.taken v q f g).had (omega (arith, within, l));
   });
   gone = s.gone;
+  fewer = λ v q f g. (let within : v < length t.ended = slice_get_within t.ended v true f in record {
+    had = λ z. absurd (omega (arith, z));
+    before = λ _. (s.fewer v q f g).had (omega (arith, within, l));
+  });
 }
 
 pub settled_first : {S : Type 0} (ss : List S) (ws : List Words) (n : ℕ) → AreSettled 0 0 (first_turns ss ws n)
@@ -168,6 +239,7 @@ settled_first ss ws n = record {
   going = first_going ss ws n;
   taken = first_counted ss ws n;
   gone = λ w q e g. absurd (let z : true ≡ false = got_replicated (n + 1) w false true e in cc);
+  fewer = λ w q e g. absurd (let z : true ≡ false = got_replicated (n + 1) w false true e in cc);
 }
 
 -- ---- the end
@@ -181,11 +253,11 @@ recorded_ends h (not_enabled_at n) None e s = absurd (cc)
 recorded_ends h (not_enabled_at n) (Some r) e s = absurd (cc)
 recorded_ends h (fault_at c x i) f e s = tt
 
-cause_is_reason : (turns n : ℕ) (h : List (ℕ × Act)) (f : Option Failure) (end : Ending) (y : Why) → end ≡ ending h f → IsCause f y → IsReason turns end n y
-cause_is_reason turns n h f end Why.TurnsDone e k = absurd k
-cause_is_reason turns n h f end Why.Faulted e k = recorded_ends h end f e k
-cause_is_reason turns n h f end Why.Stopped e k = recorded_ends h end f e k
-cause_is_reason turns n h f end Why.Memory e k = tt
+cause_is_reason : (turns n : ℕ) (h : List (ℕ × Act)) (f : Option Failure) (end : Ending) (y : Why) → end ≡ ending h f → n < turns → IsCause f y → IsReason turns end n y
+cause_is_reason turns n h f end Why.TurnsDone e l k = absurd k
+cause_is_reason turns n h f end Why.Faulted e l k = (l, recorded_ends h end f e k)
+cause_is_reason turns n h f end Why.Stopped e l k = (l, recorded_ends h end f e k)
+cause_is_reason turns n h f end Why.Memory e l k = l
 
 all_got : {X : Type 0} (P : X → Type 0) (xs : List X) → ((w : ℕ) (x : X) → slice_get xs w ≡ Some x → P x) → All P xs
 all_got P xs h k d m = let found = item_there xs k m in subst P (sym (get_or_from_slice_get xs k found.0 d found.1)) (h k found.0 found.1)
@@ -195,7 +267,7 @@ module _ {S : Type 0} (turns : ℕ) (t : Turns S) (rs : List Report) (h : List (
     (d : (w : ℕ) → slice_get rs w ≡ option_map (dismissed turns t.ended w) (slice_get t.reports w)) (ends : end ≡ ending h t.board.failure) where
   ended_dismissed : (w : ℕ) (r q : Report) (o : Option Bool) → w < length t.ended → slice_get t.ended w ≡ o → slice_get t.reports w ≡ Some r → cond (unwrap_or o true) r (left turns Why.TurnsDone r) ≡ q → HasEnded turns end q
   ended_dismissed w r q None m e g i = absurd (let k = item_there t.ended w m in let z : None ≡ Some k.0 = sym e ∙ k.1 in cc)
-  ended_dismissed w r q (Some true) m e g i = subst (HasEnded turns end) i (cause_is_reason turns (counted r) h t.board.failure end r.why ends (s.gone w r e g))
+  ended_dismissed w r q (Some true) m e g i = subst (HasEnded turns end) i (cause_is_reason turns (counted r) h t.board.failure end r.why ends ((s.fewer w r e g).before (omega arith)) (s.gone w r e g))
   ended_dismissed w r q (Some false) m e g i =
       let all_had : counted r ≡ turns = (s.taken w r e g).before (omega arith) in
       let is_done : left turns Why.TurnsDone r ≡ with_why Why.TurnsDone r = left_done turns r (s.going w r e g) all_had in

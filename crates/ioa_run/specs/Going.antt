@@ -72,9 +72,18 @@ IsCause f Why.Memory = Unit {0}
 abbrev pub HaveCauses : {S : Type 0} → Turns S → Type 0
 HaveCauses t = (w : ℕ) (q : Report) → slice_get t.ended w ≡ Some true → slice_get t.reports w ≡ Some q → IsCause t.board.failure q.why
 
+-- in the round after n rounds, and after the turns of the first k workers, who takes none has had fewer than there were
+pub record HasFewer (n k v : ℕ) (q : Report) : Type 0 where
+  pub had : v < k → counted q < n + 1
+  pub before : k ≤ v → counted q < n
+
+abbrev pub HaveFewer : {S : Type 0} → ℕ → ℕ → Turns S → Type 0
+HaveFewer n k t = (v : ℕ) (q : Report) → slice_get t.ended v ≡ Some true → slice_get t.reports v ≡ Some q → HasFewer n k v q
+
 -- in the round after n rounds, and after the turns of the first k workers: who takes more turns has had all till now, and who takes none
--- has a cause
+-- has a cause, and has had fewer
 pub record AreSettled {S : Type 0} (n k : ℕ) (t : Turns S) : Type 0 where
   pub going : AreGoing t
   pub taken : AreCounted n k t
   pub gone : HaveCauses t
+  pub fewer : HaveFewer n k t

@@ -1,5 +1,5 @@
 -- What a run gives.
-use Rattle.std.specs.Prelude.{◌≡◌, ◌++◌, ◌∷◌, ℕ, List, [], All, Option, None, Some, length, map}
+use Rattle.std.specs.Prelude.{◌≡◌, ◌<◌, ◌++◌, ◌∷◌, ℕ, List, [], All, Option, None, Some, length, map}
 use Rattle.ioa_value.specs.Actions.{Act}
 use Rattle.ioa_value.specs.Plain.{Val}
 use Rattle.ioa_tree.specs.Runs.{Ending, done, not_an_action_at, not_enabled_at, fault_at, run}
@@ -41,14 +41,14 @@ IsFault (not_an_action_at n) = ⊥
 IsFault (not_enabled_at n) = ⊥
 IsFault (fault_at c f i) = Unit {0}
 
--- why a worker takes no more turns, so many of which are counted: they are all that each has; or its action faulted, and the log ends by
--- that fault; or it was stopped, and the log ends by the fault that stopped it, which is another's, since who faulted is told so; or memory
--- was refused to it
+-- why a worker takes no more turns, so many of which are counted: they are all that each has. Or they are fewer: its action faulted, and the
+-- log ends by that fault; or it was stopped, and the log ends by the fault that stopped it, which is another's, since who faulted is told
+-- so; or memory was refused to it
 abbrev pub IsReason : ℕ → Ending → ℕ → Why → Type 0
 IsReason turns end n Why.TurnsDone = n ≡ turns
-IsReason turns end n Why.Faulted = IsFault end
-IsReason turns end n Why.Stopped = IsFault end
-IsReason turns end n Why.Memory = Unit {0}
+IsReason turns end n Why.Faulted = (n < turns) × IsFault end
+IsReason turns end n Why.Stopped = (n < turns) × IsFault end
+IsReason turns end n Why.Memory = n < turns
 
 -- the worker of this report has ended, where each has so many turns and the log ends so
 abbrev pub HasEnded : ℕ → Ending → Report → Type 0

@@ -26,8 +26,8 @@ use std::alloc::Global;
 /// which performs the inputs. There is one source of words for each component.
 ///
 /// A worker takes no more turns after a fault of its action, or where it would commit after another's; the others go on. Memory that is
-/// refused to a worker in its turn ends that worker alone, and its report says so. So of each worker all turns are counted, or its action
-/// faulted, or another's did, or memory was refused to it.
+/// refused to a worker in its turn ends that worker alone, and its report says so. So of each worker all turns are counted, or fewer, since
+/// its action faulted, or another's did, or memory was refused to it.
 ///
 /// It answers `TooManyTurns` where each worker would have more than 100,000 turns; then `BadInput` with the first action that is no
 /// input of the composition; and `OutOfMemory` where memory was refused before the start. It never answers `Threads`.

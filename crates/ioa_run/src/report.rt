@@ -153,15 +153,17 @@ impl Report {
         }
     }
 
-    /// Whether the worker has ended, where each has so many turns and the log ends so: all its turns are counted, or its action faulted, or
-    /// another's did and stopped it, or memory was refused to it. Who is stopped without a fault has said nothing.
+    /// Whether the worker has ended, where each has so many turns and the log ends so: all its turns are counted, or fewer, since its action
+    /// faulted, or another's did and stopped it, or memory was refused to it. Who is stopped without a fault has said nothing.
     pub(crate) fn has_ended(self, turns: u64, end: LogEnd) -> bool
         ensures { IsTrue result ↔ HasEnded turns (log_end end) self }
     {
         match self.why {
             Why::TurnsDone => self.counted() == u128::from(turns),
-            Why::Faulted | Why::Stopped => matches!(end, LogEnd::Fault(_, _, _)),
-            Why::Memory => true,
+            Why::Faulted | Why::Stopped => {
+                self.counted() < u128::from(turns) && matches!(end, LogEnd::Fault(_, _, _))
+            }
+            Why::Memory => self.counted() < u128::from(turns),
         }
     }
 
