@@ -3,7 +3,8 @@
 #
 # Each composition of a source that the program accepts is run over ten seeds, 1,000 turns each; the environment performs the inputs of the
 # folder's inputs.script, where it has one that fits. The log has to be accepted by `replay --log`, which has to print what the run
-# prints without `--log`, with the same exit status. Last, a script and words that are longer than a source may be are read to their ends.
+# prints without `--log`, with the same exit status. Each worker's report has to count the actions that the log tells of it, and all turns where the
+# log ends as done; without reports nothing is told. Last, a script and words that are longer than a source may be are read to their ends.
 set -u
 program=$1
 case $program in /*) ;; *) program=$PWD/$program ;; esac
@@ -37,8 +38,10 @@ for source in "$top"/*/*.ioa; do
       "$program" run $asked --alone --seed "$seed" > "$work/printed" 2> "$work/errors"
       status=$?
       # shellcheck disable=SC2086
-      "$program" run $asked --alone --seed "$seed" --log > "$work/log" 2>> "$work/errors"
+      "$program" run $asked --alone --seed "$seed" --log --reports > "$work/log" 2> "$work/reports"
       [ $? -eq "$status" ] || fail "$asked" "with and without --log the exit statuses of seed $seed differ"
+      awk -v turns=1000 -f "$top/counted.awk" "$work/log" "$work/reports" ||
+        fail "$asked" "the reports of seed $seed do not count the actions of its log, or the turns"
       "$program" replay "$source" --comp "$composition" --log < "$work/log" > "$work/replayed" 2>> "$work/errors"
       [ $? -eq "$status" ] || fail "$asked" "the log of seed $seed is not replayed with exit status $status"
       cmp -s "$work/printed" "$work/replayed" || fail "$asked" "the log of seed $seed is replayed otherwise"

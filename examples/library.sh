@@ -2,7 +2,7 @@
 # The library of protocols on a program, as it is printed and as it runs: examples/library.sh PROGRAM
 #
 # `library` has to print the bytes of links/links.ioa. Each protocol is run over ten seeds, 200 turns each, on one thread and on threads. A
-# log has to be accepted by `replay --log` and by the protocol's specification: but for the handshake's, which may lose messages where hosts
+# log has to be accepted by `replay --log` and by the protocol's specification, and to have its actions and the turns counted by the reports: but for the handshake's, which may lose messages where hosts
 # crash, that is `ReliableFifo`. On one thread each run delivers something; on threads no schedule has to.
 set -u
 program=$1
@@ -30,9 +30,10 @@ accepted() {
 # judged COMPOSITION SPECIFICATION DIGIT [--alone]: runs the composition with the seed, and replays and monitors the log
 judged() {
   named="$1 with seed $3${4+ $4}"
-  timeout 60 "$program" run "$source" --comp "$1" ${4+"$4"} --turns 200 --seed "$(printf '%064d' "$3")" --log > "$work/log" 2> "$work/errors" ||
+  timeout 60 "$program" run "$source" --comp "$1" ${4+"$4"} --turns 200 --seed "$(printf '%064d' "$3")" --log --reports > "$work/log" 2> "$work/reports" ||
     fail "the run of $named fails"
-  "$program" replay "$source" --comp "$1" --log < "$work/log" > "$work/trace" 2>> "$work/errors" ||
+  awk -v turns=200 -f "$top/counted.awk" "$work/log" "$work/reports" || fail "the reports of $named do not count the actions of its log, or the turns"
+  "$program" replay "$source" --comp "$1" --log < "$work/log" > "$work/trace" 2> "$work/errors" ||
     fail "the log of $named is not replayed"
   "$program" monitor "$source" --comp "$2" < "$work/log" > "$work/answer" 2>> "$work/errors" ||
     fail "the log of $named is not accepted by $2: $(cat "$work/answer")"

@@ -2,7 +2,7 @@
 # Compiles the examples, and does with their objects what is done with their sources: examples/objects.sh PROGRAM
 #
 # Each composition of a source that the program accepts is compiled. Where neither the source nor anything else lies, its object has to be
-# verified, to have the source's graph, to run as the source does by two seeds, and to replay each list and log of the folder, and to draw it, as the source does, with the same exit status. An object is not compiled again, and is
+# verified, to have the source's graph, to run as the source does by two seeds, with the actions of the log and the turns counted by the reports, and to replay each list and log of the folder, and to draw it, as the source does, with the same exit status. An object is not compiled again, and is
 # no other composition's. Of what is refused no file is left, and one that was there stays as it was; so does a file that is no object, where an object should take its place.
 set -u
 program=$1
@@ -55,6 +55,9 @@ for source in "$top"/*/*.ioa; do
     both graph /dev/null
     for digit in 0 1; do
       both run /dev/null --alone --turns 100 --log --reports --seed "$(printf '%064d' "$digit")"
+      grep '^{' "$work/answer" > "$work/log"
+      grep -v '^{' "$work/answer" > "$work/reports"
+      awk -v turns=100 -f "$top/counted.awk" "$work/log" "$work/reports" || fail "$source" "the reports of the object of $composition do not count the actions of its log, or the turns"
     done
     for list in "$(dirname "$source")"/*.list; do
       [ -f "$list" ] || continue

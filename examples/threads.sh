@@ -3,7 +3,8 @@
 #
 # Each composition of a source that the program accepts is run over three seeds, 1,000 turns each; the environment performs the inputs of
 # the folder's inputs.script, where it has one that fits. Whatever the schedule was, the log has to be accepted by `replay --log`, with the
-# same exit status, and each worker's report has to count the actions that the log tells of it, but for one that faults.
+# same exit status, and each worker's report has to count the actions that the log tells of it, but for one that faults, and all turns where
+# the log ends as done.
 set -u
 program=$1
 case $program in /*) ;; *) program=$PWD/$program ;; esac
@@ -27,16 +28,6 @@ named() {
   echo "$@"
 }
 
-# Whether the reports, a line for each worker, count the actions of the log
-counted() {
-  awk '
-    FNR == NR && /"end":/ { faulted = /"end":"fault/; next }
-    FNR == NR { last = $0; sub(/.*"who":/, "", last); sub(/}.*/, "", last); performed[last]++; next }
-    FNR == 1 && faulted { performed[last]-- }
-    $2 != performed[FNR - 1] + 0 { exit 1 }
-  ' "$1" "$2"
-}
-
 for source in "$top"/*/*.ioa; do
   for composition in $(sed -n 's/^ *composition \([A-Za-z0-9_]*\).*/\1/p' "$source"); do
     "$program" run "$source" --comp "$composition" --turns 0 > "$work/fits" 2>&1 || continue
@@ -47,7 +38,8 @@ for source in "$top"/*/*.ioa; do
       timeout 60 "$program" run $asked --seed "$seed" --log --reports > "$work/log" 2> "$work/reports"
       status=$?
       [ "$status" -eq 0 ] || [ "$status" -eq 3 ] || fail "$asked" "the run of seed $seed has exit status $status"
-      counted "$work/log" "$work/reports" || fail "$asked" "the reports of seed $seed do not count the actions of its log"
+      awk -v turns=1000 -f "$top/counted.awk" "$work/log" "$work/reports" ||
+        fail "$asked" "the reports of seed $seed do not count the actions of its log, or the turns"
       "$program" replay "$source" --comp "$composition" --log < "$work/log" > "$work/replayed" 2> "$work/errors"
       [ $? -eq "$status" ] || fail "$asked" "the log of seed $seed is not replayed with exit status $status"
       [ -s "$work/errors" ] && fail "$asked" "the replay of seed $seed tells of an error"

@@ -25,14 +25,14 @@ use Rattle.ioa_run.specs.Hosts.{hosts_alone}
 use Rattle.ioa_run.specs.Outcomes.{ending, logged}
 use Rattle.ioa_run.specs.Reports.{AreTold}
 use Rattle.ioa_run.proofs.Hosting.{host_history, host_turns, program_history}
-use Rattle.ioa_serving.specs.Alone.{IsRoundRobin, IsRun, told_of, written}
+use Rattle.ioa_serving.specs.Alone.{IsRoundRobin, IsRun, told_of, wants_of_run, written}
 use Rattle.ioa_serving.specs.Carried.{ComesTo, HistoriesAsSource, RunsAsSource, TakesTurnsAsSource}
 use Rattle.ioa_serving.specs.Headline.{Gives}
 use Rattle.ioa_serving.specs.Running.{Runs}
 use Rattle.ioa_serving.specs.Subjects.{Subject, of_hosts, of_table, its_names}
 use Rattle.ioa_serving.proofs.Carried.{begins, same_text}
 use Rattle.ioa_serving.proofs.Declared.{one_composition}
-use Rattle.ioa_serving.proofs.Hosted.{count_same, told_same}
+use Rattle.ioa_serving.proofs.Hosted.{count_same, told_same, wants_same}
 
 -- ---- the program's own table and the hosts
 
@@ -56,6 +56,9 @@ module _ (p : Prog) (h : Hosted) (c : Composed) (s : Stands h c) (m : Means p c)
   same_told : (told : Bool) (reports : List Report) → told_of (of_table p) told reports ≡ told_of (of_hosts h) told reports
   same_told told reports = sym (told_same p (of_table p) refl told reports) ∙ told_same p (of_hosts h) (c, s, m) told reports
 
+  same_wants : (reports : List Report) → wants_of_run (of_table p) reports ≡ wants_of_run (of_hosts h) reports
+  same_wants reports = sym (wants_same p (of_table p) refl reports) ∙ wants_same p (of_hosts h) (c, s, m) reports
+
   hosts_run : (script : List Act) (turns : ℕ) (log : Logged) (reports : List Report) → IsRun (of_table p) script turns log reports → IsRun (of_hosts h) script turns log reports
   hosts_run script turns log reports k = record {
     legal = (same_legal log).0 k.legal;
@@ -78,18 +81,20 @@ module _ (p : Prog) (h : Hosted) (c : Composed) (s : Stands h c) (m : Means p c)
     ended = k.ended;
   }
 
-  comes_alike : (script : List Act) (turns : ℕ) (log : Logged) (reports : List Report) (as_log told : Bool) (before after telling : Option (List ℕ))
-      → ComesTo (of_table p) script turns log reports as_log told before after telling ↔ ComesTo (of_hosts h) script turns log reports as_log told before after telling
-  comes_alike script turns log reports as_log told before after telling = (
+  comes_alike : (script : List Act) (turns : ℕ) (log : Logged) (reports : List Report) (as_log told : Bool) (before after telling : Option (List ℕ)) (wants : List ℕ)
+      → ComesTo (of_table p) script turns log reports as_log told before after telling wants ↔ ComesTo (of_hosts h) script turns log reports as_log told before after telling wants
+  comes_alike script turns log reports as_log told before after telling wants = (
     λ k. record {
       run = hosts_run script turns log reports k.run;
       output = subst (Appends before after) (same_written as_log log) k.output;
       tells = k.tells ∙ same_told told reports;
+      wanting = k.wanting ∙ same_wants reports;
     },
     λ k. record {
       run = table_run script turns log reports k.run;
       output = subst (Appends before after) (sym (same_written as_log log)) k.output;
       tells = k.tells ∙ sym (same_told told reports);
+      wanting = k.wanting ∙ sym (same_wants reports);
     },
   )
 
@@ -124,10 +129,10 @@ module _ (text object : List ℕ) (name of : Option Name) (p : Prog) (h : Hosted
   to_object (of_table q, gives, holds) = absurd (false≢true (sym declares.0 ∙ begins text q gives.object))
 
 pub runs_as_source : RunsAsSource
-runs_as_source text object name of p script turns log reports as_log told before after telling (h, declares, (q, runs, is)) given =
+runs_as_source text object name of p script turns log reports as_log told before after telling wants (h, declares, (q, runs, is)) given =
     let r : Runs p h = subst (λ x. Runs x h) (one_program object q p is given.object) runs in
-    let same = comes_alike p h r.0 r.1 r.2 script turns log reports as_log told before after telling in
-    let P : Subject → Type 0 = λ x. ComesTo x script turns log reports as_log told before after telling in
+    let same = comes_alike p h r.0 r.1 r.2 script turns log reports as_log told before after telling wants in
+    let P : Subject → Type 0 = λ x. ComesTo x script turns log reports as_log told before after telling wants in
     (to_source text object name of p h declares given P same, to_object text object name of p h declares given P same)
 
 pub turns_as_source : TakesTurnsAsSource

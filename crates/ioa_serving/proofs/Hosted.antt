@@ -31,8 +31,8 @@ use Rattle.ioa_run.specs.Histories.{acts_of}
 use Rattle.ioa_run.proofs.Performing.{legal_workers}
 use Rattle.ioa_run.specs.Outcomes.{HaveEnded, IsLogOf, ending, logged}
 use Rattle.ioa_run.specs.Reports.{AreTold}
-use Rattle.ioa_serving.specs.Alone.{IsRun, told_of, written}
-use Rattle.ioa_serving.specs.RunReports.{reports_text}
+use Rattle.ioa_serving.specs.Alone.{IsRun, told_of, wants_of_run, written}
+use Rattle.ioa_serving.specs.RunReports.{reports_text, wants_text}
 use Rattle.ioa_serving.specs.Running.{RunsAs}
 use Rattle.ioa_serving.specs.Subjects.{Subject, its_components, its_hidden, its_names, its_starts, its_types}
 use Rattle.ioa_serving.specs.Traces.{performed, table_reports, table_text, traced_text}
@@ -175,3 +175,7 @@ module _ (p : Prog) (x : Subject) (runs : RunsAs p x) where
   pub told_same : (reports : Bool) (rs : List Report) → table_reports p reports rs ≡ told_of x reports rs
   told_same true rs = ap (λ names. Some (reports_text names rs)) names_same
   told_same false rs = refl
+
+  -- and of whom memory was refused to
+  pub wants_same : (rs : List Report) → wants_text (map (λ (m : MemberCode). m.name) p.members) rs ≡ wants_of_run x rs
+  wants_same rs = ap (λ names. wants_text names rs) names_same

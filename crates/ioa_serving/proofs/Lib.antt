@@ -12,10 +12,12 @@ pub mod Made
 pub mod Named
 pub mod Pacing
 pub mod Pictured
-pub mod Ran
+pub mod Pieces
 pub mod Refused
 pub mod RoundRobin
+pub mod RunServed
 pub mod Streams
 pub mod Subjects
 pub mod Traced
 pub mod Unrun
+pub mod Wanting

@@ -22,30 +22,9 @@ use Rattle.ioa_serving.specs.Subjects.{Subject, its_names, its_types}
 use Rattle.ioa_serving.specs.WordLists.{AreWords, listed}
 use Rattle.ioa_serving.proofs.Hosted.{inputs_same, other_same}
 
--- a device that did not fail is no reason
-pub unrun_weaker : (holds : Name → List ℕ → Type 0) (lacks : Name → Type 0) (s : Settings) (failed : Type 0) (e : Failure) → IsUnrun holds lacks s ⊥ e → IsUnrun holds lacks s failed e
-unrun_weaker holds lacks s failed (Failure.Refused r) k = k
-unrun_weaker holds lacks s failed (Failure.Object e) k = k
-unrun_weaker holds lacks s failed Failure.SourceWanted k = k
-unrun_weaker holds lacks s failed (Failure.BadWords n) k = k
-unrun_weaker holds lacks s failed (Failure.List (LogErr.BadLine n)) k = k
-unrun_weaker holds lacks s failed (Failure.List LogErr.Io) k = absurd k.5
-unrun_weaker holds lacks s failed (Failure.List LogErr.OutOfMemory) k = k
-unrun_weaker holds lacks s failed (Failure.List (LogErr.NotJson n)) k = k
-unrun_weaker holds lacks s failed (Failure.List (LogErr.WrongOwner n)) k = k
-unrun_weaker holds lacks s failed (Failure.List (LogErr.Diverges n)) k = k
-unrun_weaker holds lacks s failed (Failure.List LogErr.NoEnd) k = k
-unrun_weaker holds lacks s failed (Failure.List LogErr.AfterEnd) k = k
-unrun_weaker holds lacks s failed Failure.TooManyTurns k = k
-unrun_weaker holds lacks s failed (Failure.BadInput i) k = k
-unrun_weaker holds lacks s failed Failure.Threads k = k
-unrun_weaker holds lacks s failed Failure.Io k = k
-unrun_weaker holds lacks s failed Failure.OutOfMemory k = k
-unrun_weaker holds lacks s failed Failure.SpecHasInternal k = k
-
 -- the source is not read
 pub unloaded : {T : Type 0} (holds : Name → List ℕ → Type 0) (lacks : Name → Type 0) (s : Settings) (x : StoreErr) → (IsErrOf {T = T} (Err x) StoreErr.Io → lacks s.file.now)
-    → IsUnrun holds lacks s ⊥ (failure_of x)
+    → IsUnrun holds lacks s (failure_of x)
 unloaded holds lacks s StoreErr.Io io = inl (io refl)
 unloaded holds lacks s StoreErr.OutOfMemory io = tt
 
@@ -63,7 +42,7 @@ module _ (holds : Name → List ℕ → Type 0) (lacks : Name → Type 0) where
   has_script types own file script e k = subst (λ ts. IsScript holds ts file script) e k
 
   -- there are no words
-  pub wordless : (s : Settings) (x : Subject) (m : ℕ) (e : Failure) → MayGive holds s x → m ≡ length (its_names x) → IsWordless holds lacks s.words m e → IsUnrun holds lacks s ⊥ e
+  pub wordless : (s : Settings) (x : Subject) (m : ℕ) (e : Failure) → MayGive holds s x → m ≡ length (its_names x) → IsWordless holds lacks s.words m e → IsUnrun holds lacks s e
   wordless s x m (Failure.BadWords n) d same k = (x, d, bad_words s.words m (length (its_names x)) n same k)
   wordless s x m Failure.Io d same k = inr (x, d, inl k)
   wordless s x m Failure.OutOfMemory d same k = tt
@@ -78,7 +57,7 @@ module _ (holds : Name → List ℕ → Type 0) (lacks : Name → Type 0) where
 
   -- there is no script
   pub scriptless : (s : Settings) (x : Subject) (own : Table) (e : Failure) → MayGive holds s x → HasWords holds s.words (length (its_names x)) → own ≡ its_types x
-      → IsScriptless holds lacks own (option_copied s.inputs) e → IsUnrun holds lacks s ⊥ e
+      → IsScriptless holds lacks own (option_copied s.inputs) e → IsUnrun holds lacks s e
   scriptless s x own (Failure.List (LogErr.BadLine n)) d w same k =
       (x, d, w, subst (λ ts. HasBadLine holds ts (option_copied s.inputs) n) same k)
   scriptless s x own Failure.Io d w same k = inr (x, d, inr (w, k))
@@ -107,7 +86,7 @@ count_is holds (WordsFrom.File file) workers (WordSources.Listed v) k = sym (len
 
 -- the run is refused
 pub unrun_by : (p : Prog) (x : Subject) (holds : Name → List ℕ → Type 0) (lacks : Name → Type 0) (s : Settings) (script : List Act) (e : RunErr) {T : Type 0} → RunsAs p x
-    → IsReady holds s x script → Refuses p script s.turns (Err e) → (IsErrOf {T = T} (Err e) RunErr.Threads → s.alone ≡ false) → IsUnrun holds lacks s ⊥ (run_failure e)
+    → IsReady holds s x script → Refuses p script s.turns (Err e) → (IsErrOf {T = T} (Err e) RunErr.Threads → s.alone ≡ false) → IsUnrun holds lacks s (run_failure e)
 unrun_by p x holds lacks s script RunErr.TooManyTurns runs ready k own = (x, script, ready, k)
 unrun_by p x holds lacks s script (RunErr.BadInput i) runs ready k own = (x, script, ready, k.0, other_same p x runs script i k.1)
 unrun_by p x holds lacks s script RunErr.Threads runs ready k own = (x, script, ready, k.0, inputs_same p x runs script k.1, own refl)
@@ -115,7 +94,7 @@ unrun_by p x holds lacks s script RunErr.OutOfMemory runs ready k own = tt
 
 -- the file gives nothing
 pub ungiven : (holds : Name → List ℕ → Type 0) (lacks : Name → Type 0) (s : Settings) (text : List ℕ) (e : Failure) → holds s.file.now text
-    → IsRefusedGiven text (option_copied s.composition) e → IsUnrun holds lacks s ⊥ e
+    → IsRefusedGiven text (option_copied s.composition) e → IsUnrun holds lacks s e
 ungiven holds lacks s text (Failure.Refused r) held k = (text, held, k)
 ungiven holds lacks s text (Failure.Object e) held k = (text, held, k)
 ungiven holds lacks s text Failure.SourceWanted held k = absurd k

@@ -1,6 +1,6 @@
 -- What a run of a composition writes and tells, whose workers take turns on one thread or have a thread each, and why there is none.
 use Rattle.std.specs.Prelude.{◌≡◌, ◌<◌, ◌≤◌, ◌⊎◌, ℕ, Bool, true, false, List, [], Option, Some, None, All, length, map, slice_get, take}
-use Rattle.std.specs.Io.KnownBytes.{Appends}
+use Rattle.std.specs.Io.KnownBytes.{Appends, Keeps}
 use Rattle.std.specs.Option.{option_copied}
 use Rattle.ioa_value.specs.Actions.{Act, Name}
 use Rattle.ioa_value.specs.Lists as lists
@@ -29,7 +29,7 @@ use Rattle.ioa_serving.specs.Failing.{IsNoObject, IsRefusedFile}
 use Rattle.ioa_serving.specs.Headline.{Gives}
 use Rattle.ioa_serving.specs.Streams.{AreStreams, key_words}
 use Rattle.ioa_serving.specs.Logs.{log_run_text}
-use Rattle.ioa_serving.specs.RunReports.{reports_text}
+use Rattle.ioa_serving.specs.RunReports.{reports_text, wants_text}
 use Rattle.ioa_serving.specs.Statuses.{ending_status}
 use Rattle.ioa_serving.specs.Subjects.{State, Subject, of_hosts, of_table, its_components, its_names, its_starts, its_types}
 use Rattle.ioa_serving.specs.WordLists.{AreWords, IsBadWords, line_words, listed, words_to_come}
@@ -37,8 +37,8 @@ use Rattle.ioa_serving.specs.WordLists.{AreWords, IsBadWords, line_words, listed
 -- ---- what a run is
 
 -- The log tells a legal history of the subject, and the fault by which it ends, if it does. Of this the reports tell: each counts what its
--- worker performed, and the environment performed the script's first actions, in order. All turns of each worker are counted, unless its
--- action faulted or another's did, which then ends the log, or memory was refused to it.
+-- worker performed, and the environment performed the script's first actions, in order. All turns of each worker are counted, or fewer,
+-- where its action faulted or another's did, which then ends the log, or memory was refused to it, which is told.
 pub record IsRun (s : Subject) (script : List Act) (turns : ℕ) (log : Logged) (reports : List Report) : Type 0 where
   pub legal : TellsHistory (its_components s) (its_starts s) log
   pub history : List (ℕ × Act)
@@ -72,6 +72,10 @@ written s false log = log_run_text s log
 abbrev pub told_of : Subject → Bool → List Report → Option (List ℕ)
 told_of s true reports = Some (reports_text (its_names s) reports)
 told_of s false reports = None
+
+-- and of whom memory was refused to, which is told of every run
+abbrev pub wants_of_run : Subject → List Report → List ℕ
+wants_of_run s reports = wants_text (its_names s) reports
 
 -- ---- what it is given
 
@@ -115,34 +119,40 @@ abbrev pub IsExact : (Name → List ℕ → Type 0) → Settings → Subject →
 IsExact holds s x script log reports =
     s.alone ≡ true → NoMemory reports → (words : List Words) × AreGiven holds s.words (length (its_names x)) words × IsRoundRobin x words script s.turns log reports
 
--- all is read; the turns are not too many, and the script is of inputs; and a run's text is written, and its reports are left to be told
-pub record IsRunServed (holds : Name → List ℕ → Type 0) (s : Settings) (before after : Option (List ℕ)) (telling : Option (List ℕ)) (done : Status) : Type 0 where
-  pub subject : Subject
+-- all is read; the turns are not too many, and the script is of inputs; and this came of the run
+pub record CameOf (holds : Name → List ℕ → Type 0) (s : Settings) (x : Subject) (log : Logged) (reports : List Report) : Type 0 where
   pub script : List Act
-  pub ready : IsReady holds s subject script
+  pub ready : IsReady holds s x script
   pub turns : s.turns ≤ most_turns
-  pub inputs : All (IsInput (its_components subject)) script
+  pub inputs : All (IsInput (its_components x)) script
+  pub run : IsRun x script s.turns log reports
+  pub exact : IsExact holds s x script log reports
+
+-- a run's text is written, and its reports, where they are asked for, and the workers to which memory was refused are left to be told
+pub record IsRunServed (holds : Name → List ℕ → Type 0) (s : Settings) (before after : Option (List ℕ)) (telling : Option (List ℕ)) (wants : List ℕ) (done : Status) : Type 0 where
+  pub subject : Subject
   pub log : Logged
   pub reports : List Report
-  pub run : IsRun subject script s.turns log reports
-  pub exact : IsExact holds s subject script log reports
+  pub came : CameOf holds s subject log reports
   pub output : Appends before after (written subject s.log log)
   pub told : telling ≡ told_of subject s.reports reports
+  pub wanting : wants ≡ wants_of_run subject reports
   pub status : done ≡ ending_status log.ending
 
--- a beginning of a run's text is written
-pub record BeginsRunOf (holds : Name → List ℕ → Type 0) (s : Settings) (before after : Option (List ℕ)) : Type 0 where
+-- why a text is not all written: the device failed, which has taken a beginning of it; or memory was short, and nothing is written
+abbrev pub IsCutShort : List ℕ → Type 0 → Option (List ℕ) → Option (List ℕ) → Failure → Type 0
+IsCutShort text failed before after e =
+    ((e ≡ Failure.List LogErr.Io) × failed × ((k : ℕ) × Appends before after (take k text)))
+    ⊎ (((e ≡ Failure.List LogErr.OutOfMemory) ⊎ (e ≡ Failure.OutOfMemory)) × Keeps before after)
+
+-- a run's text is not all written; the workers to which memory was refused are left to be told as of any run
+pub record IsRunCut (holds : Name → List ℕ → Type 0) (s : Settings) (failed : Type 0) (before after : Option (List ℕ)) (wants : List ℕ) (e : Failure) : Type 0 where
   pub subject : Subject
-  pub script : List Act
-  pub ready : IsReady holds s subject script
-  pub turns : s.turns ≤ most_turns
-  pub inputs : All (IsInput (its_components subject)) script
   pub log : Logged
   pub reports : List Report
-  pub run : IsRun subject script s.turns log reports
-  pub exact : IsExact holds s subject script log reports
-  pub taken : ℕ
-  pub begun : Appends before after (take taken (written subject s.log log))
+  pub came : CameOf holds s subject log reports
+  pub cut : IsCutShort (written subject s.log log) failed before after e
+  pub wanting : wants ≡ wants_of_run subject reports
 
 -- ---- why there is none
 
@@ -225,27 +235,30 @@ IsUnloaded holds lacks s =
 
 -- Each reason comes only where those before it do not hold: a file is not read; the source or its composition, or the object, is refused; a line of
 -- words is none; a line of the script is no action; there are too many turns; an action of the script is no input; a thread is refused, of which a run
--- on one thread takes none. Or the device failed, after all were past. Memory may be short at any time.
-abbrev pub IsUnrun : (Name → List ℕ → Type 0) → (Name → Type 0) → Settings → Type 0 → Failure → Type 0
-IsUnrun holds lacks s failed (Failure.Refused r) = (text : List ℕ) × holds s.file.now text × IsRefusedFile text (option_copied s.composition) r
-IsUnrun holds lacks s failed (Failure.Object e) = (text : List ℕ) × holds s.file.now text × IsNoObject text e
-IsUnrun holds lacks s failed Failure.SourceWanted = ⊥
-IsUnrun holds lacks s failed (Failure.BadWords n) = (x : Subject) × MayGive holds s x × HasBadWords holds s.words (length (its_names x)) n
-IsUnrun holds lacks s failed (Failure.List (LogErr.BadLine n)) =
+-- on one thread takes none. Memory may be short at any time.
+abbrev pub IsUnrun : (Name → List ℕ → Type 0) → (Name → Type 0) → Settings → Failure → Type 0
+IsUnrun holds lacks s (Failure.Refused r) = (text : List ℕ) × holds s.file.now text × IsRefusedFile text (option_copied s.composition) r
+IsUnrun holds lacks s (Failure.Object e) = (text : List ℕ) × holds s.file.now text × IsNoObject text e
+IsUnrun holds lacks s Failure.SourceWanted = ⊥
+IsUnrun holds lacks s (Failure.BadWords n) = (x : Subject) × MayGive holds s x × HasBadWords holds s.words (length (its_names x)) n
+IsUnrun holds lacks s (Failure.List (LogErr.BadLine n)) =
     (x : Subject) × MayGive holds s x × HasWords holds s.words (length (its_names x)) × HasBadLine holds (its_types x) (option_copied s.inputs) n
-IsUnrun holds lacks s failed Failure.TooManyTurns = (x : Subject) × (script : List Act) × IsReady holds s x script × (most_turns < s.turns)
-IsUnrun holds lacks s failed (Failure.BadInput i) =
+IsUnrun holds lacks s Failure.TooManyTurns = (x : Subject) × (script : List Act) × IsReady holds s x script × (most_turns < s.turns)
+IsUnrun holds lacks s (Failure.BadInput i) =
     (x : Subject) × (script : List Act) × IsReady holds s x script × (s.turns ≤ most_turns) × IsFirstOther (its_components x) script i
-IsUnrun holds lacks s failed Failure.Threads =
+IsUnrun holds lacks s Failure.Threads =
     (x : Subject) × (script : List Act) × IsReady holds s x script × (s.turns ≤ most_turns) × All (IsInput (its_components x)) script × (s.alone ≡ false)
-IsUnrun holds lacks s failed (Failure.List LogErr.Io) =
-    (x : Subject) × (script : List Act) × IsReady holds s x script × (s.turns ≤ most_turns) × All (IsInput (its_components x)) script × failed
-IsUnrun holds lacks s failed Failure.Io = IsUnloaded holds lacks s
-IsUnrun holds lacks s failed Failure.OutOfMemory = Unit {0}
-IsUnrun holds lacks s failed (Failure.List LogErr.OutOfMemory) = Unit {0}
-IsUnrun holds lacks s failed (Failure.List (LogErr.NotJson n)) = ⊥
-IsUnrun holds lacks s failed (Failure.List (LogErr.WrongOwner n)) = ⊥
-IsUnrun holds lacks s failed (Failure.List (LogErr.Diverges n)) = ⊥
-IsUnrun holds lacks s failed (Failure.List LogErr.NoEnd) = ⊥
-IsUnrun holds lacks s failed (Failure.List LogErr.AfterEnd) = ⊥
-IsUnrun holds lacks s failed Failure.SpecHasInternal = ⊥
+IsUnrun holds lacks s (Failure.List LogErr.Io) = ⊥
+IsUnrun holds lacks s Failure.Io = IsUnloaded holds lacks s
+IsUnrun holds lacks s Failure.OutOfMemory = Unit {0}
+IsUnrun holds lacks s (Failure.List LogErr.OutOfMemory) = ⊥
+IsUnrun holds lacks s (Failure.List (LogErr.NotJson n)) = ⊥
+IsUnrun holds lacks s (Failure.List (LogErr.WrongOwner n)) = ⊥
+IsUnrun holds lacks s (Failure.List (LogErr.Diverges n)) = ⊥
+IsUnrun holds lacks s (Failure.List LogErr.NoEnd) = ⊥
+IsUnrun holds lacks s (Failure.List LogErr.AfterEnd) = ⊥
+IsUnrun holds lacks s Failure.SpecHasInternal = ⊥
+
+-- it was not run, nothing is written, and of no worker there is anything to tell; or it was run, and its text is not all written
+abbrev pub IsRunUnserved : (Name → List ℕ → Type 0) → (Name → Type 0) → Settings → Type 0 → Option (List ℕ) → Option (List ℕ) → List ℕ → Failure → Type 0
+IsRunUnserved holds lacks s failed before after wants e = (IsUnrun holds lacks s e × Keeps before after × (wants ≡ [])) ⊎ IsRunCut holds s failed before after wants e

@@ -13,7 +13,7 @@ use Rattle.ioa_system.specs.Logs.{Logged}
 use Rattle.ioa_run.specs.declared.report.Report.{Report}
 use Rattle.ioa_run.specs.Boards.{IsSound, Standing}
 use Rattle.ioa_run.specs.Hosts.{BoardsLike, Held}
-use Rattle.ioa_serving.specs.Alone.{IsRoundRobin, IsRun, told_of, written}
+use Rattle.ioa_serving.specs.Alone.{IsRoundRobin, IsRun, told_of, wants_of_run, written}
 use Rattle.ioa_serving.specs.Compiling.{IsCompiled}
 use Rattle.ioa_serving.specs.Headline.{Declares, Gives, IsReplay, IsLogReplay, IsMonitoring}
 use Rattle.ioa_serving.specs.ListLogs.{IsListLog}
@@ -64,22 +64,23 @@ HistoriesAsSource = (text object : List ℕ) (name of : Option Name) (p : Prog) 
     × ((d : Standing (HostState Env)) → IsSound (hosts_of h) (host_starts h) d → (b : Standing (List Val)) × IsSound (tabled p) (start_states p) b × BoardsLike (Held h p) d b)
 
 -- a run of the subject has this log and these reports, of which this is written and told
-pub record ComesTo (s : Subject) (script : List Act) (turns : ℕ) (log : Logged) (reports : List Report) (as_log told : Bool) (before after telling : Option (List ℕ)) : Type 0 where
+pub record ComesTo (s : Subject) (script : List Act) (turns : ℕ) (log : Logged) (reports : List Report) (as_log told : Bool) (before after telling : Option (List ℕ)) (wants : List ℕ) : Type 0 where
   pub run : IsRun s script turns log reports
   pub output : Appends before after (written s as_log log)
   pub tells : telling ≡ told_of s told reports
+  pub wanting : wants ≡ wants_of_run s reports
 
 -- so of what the file gives
-abbrev pub IsRunOf : List ℕ → Option Name → List Act → ℕ → Logged → List Report → Bool → Bool → Option (List ℕ) → Option (List ℕ) → Option (List ℕ) → Type 0
-IsRunOf text name script turns log reports as_log told before after telling =
-    (s : Subject) × Gives text name s × ComesTo s script turns log reports as_log told before after telling
+abbrev pub IsRunOf : List ℕ → Option Name → List Act → ℕ → Logged → List Report → Bool → Bool → Option (List ℕ) → Option (List ℕ) → Option (List ℕ) → List ℕ → Type 0
+IsRunOf text name script turns log reports as_log told before after telling wants =
+    (s : Subject) × Gives text name s × ComesTo s script turns log reports as_log told before after telling wants
 
 -- What a run by the object may come to, a run by the source's composition may come to, and the other way: the same log with the same end, the
 -- same reports, and the same text of both, whatever the words and the schedule.
 abbrev pub RunsAsSource : Type 0
 RunsAsSource = (text object : List ℕ) (name of : Option Name) (p : Prog) (script : List Act) (turns : ℕ) (log : Logged) (reports : List Report) (as_log told : Bool)
-    (before after telling : Option (List ℕ)) → IsCompiled text name object → Gives object of (of_table p)
-    → IsRunOf object of script turns log reports as_log told before after telling ↔ IsRunOf text name script turns log reports as_log told before after telling
+    (before after telling : Option (List ℕ)) (wants : List ℕ) → IsCompiled text name object → Gives object of (of_table p)
+    → IsRunOf object of script turns log reports as_log told before after telling wants ↔ IsRunOf text name script turns log reports as_log told before after telling wants
 
 -- the log and the reports are those of turns of what the file gives, by these words
 abbrev pub AreTurnsOf : List ℕ → Option Name → List Words → List Act → ℕ → Logged → List Report → Type 0

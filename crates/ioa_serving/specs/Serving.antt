@@ -1,5 +1,5 @@
 -- What a request comes to, from what files may hold to the bytes that are written.
-use Rattle.std.specs.Prelude.{◌≡◌, ℕ, ◌⊎◌, List, Option, None, IfSome}
+use Rattle.std.specs.Prelude.{◌≡◌, ℕ, ◌⊎◌, List, [], map, Option, None, Some, IfSome}
 use Rattle.std.specs.Option.{option_copied, option_map}
 use Rattle.std.specs.String.{string_bytes}
 use Rattle.std.specs.Io.KnownBytes.{Appends, Keeps}
@@ -9,6 +9,7 @@ use Rattle.ioa_links.specs.Library.{library_text}
 use Rattle.ioa_run.specs.declared.run_err.RunErr.{RunErr}
 use Rattle.ioa_serving.specs.declared.failure.Failure.{Failure}
 use Rattle.ioa_request.specs.declared.request.Request.{Request}
+use Rattle.ioa_serving.specs.declared.run.Ran.{Ran}
 use Rattle.ioa_serving.specs.declared.served.Served.{Served}
 use Rattle.ioa_serving.specs.declared.store.StoreErr.{StoreErr}
 use Rattle.ioa_serving.specs.declared.status.Status.{Status}
@@ -20,14 +21,20 @@ use Rattle.ioa_serving.specs.Headline.{IsReplay, IsLogReplay, IsInvariantReplay,
 use Rattle.ioa_serving.specs.Libraries.{IsUnlisted}
 use Rattle.ioa_serving.specs.ListLogs.{BeginsListLogOf, IsListLog}
 use Rattle.ioa_serving.specs.Logs.{Found}
+use Rattle.ioa_serving.specs.RunReports.{wants_text}
 use Rattle.ioa_serving.specs.Pictures.{BeginsChartOf, IsGraphed, IsLogChart, IsUngraphed}
-use Rattle.ioa_serving.specs.Alone.{BeginsRunOf, IsRunServed, IsUnrun}
+use Rattle.ioa_serving.specs.Alone.{IsRunServed, IsRunUnserved}
 use Rattle.ioa_serving.specs.Failing.{IsFailure, IsInvariantFailure, IsLogFailure, IsMonitorFailure, IsStatesFailure, IsUnwritten, BeginsReplayOf, BeginsLogOf, BeginsLogStatesOf, BeginsFoundOf, BeginsMonitorOf, BeginsStatesOf}
 use Rattle.ioa_serving.specs.Statuses.{answer_status, ending_status, found_status}
 
 -- what is left to be told
 abbrev pub reports_of : Served → Option (List ℕ)
 reports_of s = option_map string_bytes s.reports
+
+-- and of the workers to which memory was refused, where there was a run
+abbrev pub wants_of : Option Ran → List ℕ
+wants_of None = []
+wants_of (Some r) = wants_text (map (λ m. m.name) r.program.members) r.reports.items
 
 -- why nothing is served of a file that was not read
 abbrev pub failure_of : StoreErr → Failure
@@ -43,98 +50,99 @@ run_failure RunErr.OutOfMemory = Failure.OutOfMemory
 
 -- the file may hold a text such that the list or the log was replayed, or monitored, or the log of the list's run was written, in the
 -- composition that is asked for, the last one where none is, with or without the states in which it ends; or the log or the composition was drawn; or that passed the check; or its object was put
--- in a file; or it was dumped; or a composition was run; or the topic was explained; or the library's text was written. Reports of a run are left to be told
-abbrev pub IsServed : (Name → List ℕ → Type 0) → (Name → List ℕ → Type 0) → Request → Option (List ℕ) → Option (List ℕ) → Option (List ℕ) → Option (List ℕ) → Status → Type 0
-IsServed holds saves (Request.Replay file composition) bytes before after told status =
+-- in a file; or it was dumped; or a composition was run; or the topic was explained; or the library's text was written. Reports of a run are left to be told, and the
+-- workers to which memory was refused
+abbrev pub IsServed : (Name → List ℕ → Type 0) → (Name → List ℕ → Type 0) → Request → Option (List ℕ) → Option (List ℕ) → Option (List ℕ) → Option (List ℕ) → List ℕ → Status → Type 0
+IsServed holds saves (Request.Replay file composition) bytes before after told wants status =
     (text : List ℕ) × holds file.now text
     × ((end : Ending) × IfSome bytes (λ xs. IsReplay text (option_copied composition) xs end before after) × (status ≡ ending_status end)) × (told ≡ None)
-IsServed holds saves (Request.ReplayStates file composition) bytes before after told status =
+IsServed holds saves (Request.ReplayStates file composition) bytes before after told wants status =
     (text : List ℕ) × holds file.now text
     × ((end : Ending) × IfSome bytes (λ xs. IsStatesReplay text (option_copied composition) xs end before after) × (status ≡ ending_status end)) × (told ≡ None)
-IsServed holds saves (Request.ReplayLog file composition) bytes before after told status =
+IsServed holds saves (Request.ReplayLog file composition) bytes before after told wants status =
     (text : List ℕ) × holds file.now text
     × ((end : Ending) × IfSome bytes (λ xs. IsLogReplay text (option_copied composition) xs end before after) × (status ≡ ending_status end)) × (told ≡ None)
-IsServed holds saves (Request.ReplayLogStates file composition) bytes before after told status =
+IsServed holds saves (Request.ReplayLogStates file composition) bytes before after told wants status =
     (text : List ℕ) × holds file.now text
     × ((end : Ending) × IfSome bytes (λ xs. IsLogStatesReplay text (option_copied composition) xs end before after) × (status ≡ ending_status end)) × (told ≡ None)
-IsServed holds saves (Request.ReplayInvariants file composition) bytes before after told status =
+IsServed holds saves (Request.ReplayInvariants file composition) bytes before after told wants status =
     (text : List ℕ) × holds file.now text
     × ((found : Found) × IfSome bytes (λ xs. IsInvariantReplay text (option_copied composition) xs found before after) × (status ≡ found_status found)) × (told ≡ None)
-IsServed holds saves (Request.Log file composition) bytes before after told status =
+IsServed holds saves (Request.Log file composition) bytes before after told wants status =
     (text : List ℕ) × holds file.now text
     × ((end : Ending) × IfSome bytes (λ xs. IsListLog text (option_copied composition) xs end before after) × (status ≡ ending_status end)) × (told ≡ None)
-IsServed holds saves (Request.Monitor file composition) bytes before after told status =
+IsServed holds saves (Request.Monitor file composition) bytes before after told wants status =
     (text : List ℕ) × holds file.now text
     × ((answer : Option Ending) × IfSome bytes (λ xs. IsMonitoring text (option_copied composition) xs answer before after) × (status ≡ answer_status answer)) × (told ≡ None)
-IsServed holds saves (Request.Chart file composition) bytes before after told status =
+IsServed holds saves (Request.Chart file composition) bytes before after told wants status =
     (text : List ℕ) × holds file.now text
     × ((end : Ending) × IfSome bytes (λ xs. IsLogChart text (option_copied composition) xs end before after) × (status ≡ ending_status end)) × (told ≡ None)
-IsServed holds saves (Request.Graph file composition) bytes before after told status =
+IsServed holds saves (Request.Graph file composition) bytes before after told wants status =
     ((text : List ℕ) × holds file.now text × IsGraphed text (option_copied composition) before after) × (status ≡ Status.Done) × (told ≡ None)
-IsServed holds saves (Request.Run settings) bytes before after told status = IsRunServed holds settings before after told status
-IsServed holds saves (Request.Check file compositions) bytes before after told status =
+IsServed holds saves (Request.Run settings) bytes before after told wants status = IsRunServed holds settings before after told wants status
+IsServed holds saves (Request.Check file compositions) bytes before after told wants status =
     ((text : List ℕ) × holds file.now text × IsCheck text compositions before after) × (status ≡ Status.Done) × (told ≡ None)
-IsServed holds saves (Request.Compile file out composition) bytes before after told status =
+IsServed holds saves (Request.Compile file out composition) bytes before after told wants status =
     IsMade holds saves file.now out.now (option_copied composition) before after × (status ≡ Status.Done) × (told ≡ None)
-IsServed holds saves (Request.Dump file) bytes before after told status =
+IsServed holds saves (Request.Dump file) bytes before after told wants status =
     ((object : List ℕ) × holds file.now object × IsDumped object before after) × (status ≡ Status.Done) × (told ≡ None)
-IsServed holds saves (Request.Explain topic) bytes before after told status = IsExplained topic before after × (status ≡ Status.Done) × (told ≡ None)
-IsServed holds saves Request.Library bytes before after told status = Appends before after library_text × (status ≡ Status.Done) × (told ≡ None)
+IsServed holds saves (Request.Explain topic) bytes before after told wants status = IsExplained topic before after × (status ≡ Status.Done) × (told ≡ None)
+IsServed holds saves Request.Library bytes before after told wants status = Appends before after library_text × (status ≡ Status.Done) × (told ≡ None)
 
 -- a load of the file may fail, or memory is short, and nothing was written
 abbrev pub IsUnread : Type 0 → Option (List ℕ) → Option (List ℕ) → Failure → Type 0
 IsUnread lacks before after e = (((e ≡ Failure.Io) × lacks) ⊎ (e ≡ Failure.OutOfMemory)) × Keeps before after
 
 -- The file is not read, or it may hold a text with which the replay, the log of a list, the monitor, the chart, the graph, the check or the dump fails so; or no object is
--- made; or nothing is run; or the topic is not explained; or the library's text is not written. The reader of standard input and the writer failed
+-- made; or nothing is run, or the run's text is not all written; or the topic is not explained; or the library's text is not written. The reader of standard input and the writer failed
 -- where these say so.
-abbrev pub IsUnserved : (Name → List ℕ → Type 0) → (Name → Type 0) → (Name → Type 0) → (Name → List ℕ → Type 0) → Type 0 → Request → Option (List ℕ) → Type 0 → Type 0 → Option (List ℕ) → Option (List ℕ) → Failure → Type 0
-IsUnserved holds lacks bars saves kept (Request.Replay file composition) bytes reader_failed writer_failed before after e =
+abbrev pub IsUnserved : (Name → List ℕ → Type 0) → (Name → Type 0) → (Name → Type 0) → (Name → List ℕ → Type 0) → Type 0 → Request → Option (List ℕ) → Type 0 → Type 0 → Option (List ℕ) → Option (List ℕ) → List ℕ → Failure → Type 0
+IsUnserved holds lacks bars saves kept (Request.Replay file composition) bytes reader_failed writer_failed before after wants e =
     IsUnread (lacks file.now) before after e
     ⊎ ((text : List ℕ) × holds file.now text × IsFailure text (option_copied composition) bytes (reader_failed ⊎ writer_failed) e
     × IsUnwritten (BeginsReplayOf text (option_copied composition) bytes) before after e)
-IsUnserved holds lacks bars saves kept (Request.ReplayStates file composition) bytes reader_failed writer_failed before after e =
+IsUnserved holds lacks bars saves kept (Request.ReplayStates file composition) bytes reader_failed writer_failed before after wants e =
     IsUnread (lacks file.now) before after e
     ⊎ ((text : List ℕ) × holds file.now text × IsStatesFailure text (option_copied composition) bytes (reader_failed ⊎ writer_failed) e
     × IsUnwritten (BeginsStatesOf text (option_copied composition) bytes) before after e)
-IsUnserved holds lacks bars saves kept (Request.ReplayLog file composition) bytes reader_failed writer_failed before after e =
+IsUnserved holds lacks bars saves kept (Request.ReplayLog file composition) bytes reader_failed writer_failed before after wants e =
     IsUnread (lacks file.now) before after e
     ⊎ ((text : List ℕ) × holds file.now text × IsLogFailure text (option_copied composition) bytes (reader_failed ⊎ writer_failed) e
     × IsUnwritten (BeginsLogOf text (option_copied composition) bytes) before after e)
-IsUnserved holds lacks bars saves kept (Request.ReplayLogStates file composition) bytes reader_failed writer_failed before after e =
+IsUnserved holds lacks bars saves kept (Request.ReplayLogStates file composition) bytes reader_failed writer_failed before after wants e =
     IsUnread (lacks file.now) before after e
     ⊎ ((text : List ℕ) × holds file.now text × IsInvariantFailure text (option_copied composition) bytes (reader_failed ⊎ writer_failed) e
     × IsUnwritten (BeginsLogStatesOf text (option_copied composition) bytes) before after e)
-IsUnserved holds lacks bars saves kept (Request.ReplayInvariants file composition) bytes reader_failed writer_failed before after e =
+IsUnserved holds lacks bars saves kept (Request.ReplayInvariants file composition) bytes reader_failed writer_failed before after wants e =
     IsUnread (lacks file.now) before after e
     ⊎ ((text : List ℕ) × holds file.now text × IsInvariantFailure text (option_copied composition) bytes (reader_failed ⊎ writer_failed) e
     × IsUnwritten (BeginsFoundOf text (option_copied composition) bytes) before after e)
-IsUnserved holds lacks bars saves kept (Request.Log file composition) bytes reader_failed writer_failed before after e =
+IsUnserved holds lacks bars saves kept (Request.Log file composition) bytes reader_failed writer_failed before after wants e =
     IsUnread (lacks file.now) before after e
     ⊎ ((text : List ℕ) × holds file.now text × IsFailure text (option_copied composition) bytes (reader_failed ⊎ writer_failed) e
     × IsUnwritten (BeginsListLogOf text (option_copied composition) bytes) before after e)
-IsUnserved holds lacks bars saves kept (Request.Monitor file composition) bytes reader_failed writer_failed before after e =
+IsUnserved holds lacks bars saves kept (Request.Monitor file composition) bytes reader_failed writer_failed before after wants e =
     IsUnread (lacks file.now) before after e
     ⊎ ((text : List ℕ) × holds file.now text × IsMonitorFailure text (option_copied composition) bytes (reader_failed ⊎ writer_failed) e
     × IsUnwritten (BeginsMonitorOf text (option_copied composition) bytes) before after e)
-IsUnserved holds lacks bars saves kept (Request.Chart file composition) bytes reader_failed writer_failed before after e =
+IsUnserved holds lacks bars saves kept (Request.Chart file composition) bytes reader_failed writer_failed before after wants e =
     IsUnread (lacks file.now) before after e
     ⊎ ((text : List ℕ) × holds file.now text × IsLogFailure text (option_copied composition) bytes (reader_failed ⊎ writer_failed) e
     × IsUnwritten (BeginsChartOf text (option_copied composition) bytes) before after e)
-IsUnserved holds lacks bars saves kept (Request.Graph file composition) bytes reader_failed writer_failed before after e =
+IsUnserved holds lacks bars saves kept (Request.Graph file composition) bytes reader_failed writer_failed before after wants e =
     IsUnread (lacks file.now) before after e
     ⊎ ((text : List ℕ) × holds file.now text × IsUngraphed text (option_copied composition) writer_failed before after e)
-IsUnserved holds lacks bars saves kept (Request.Run settings) bytes reader_failed writer_failed before after e =
-    IsUnrun holds lacks settings writer_failed e × IsUnwritten (BeginsRunOf holds settings) before after e
-IsUnserved holds lacks bars saves kept (Request.Check file compositions) bytes reader_failed writer_failed before after e =
+IsUnserved holds lacks bars saves kept (Request.Run settings) bytes reader_failed writer_failed before after wants e =
+    IsRunUnserved holds lacks settings writer_failed before after wants e
+IsUnserved holds lacks bars saves kept (Request.Check file compositions) bytes reader_failed writer_failed before after wants e =
     IsUnread (lacks file.now) before after e
     ⊎ ((text : List ℕ) × holds file.now text × IsCheckFailure text compositions writer_failed e × IsUnchecked before after e)
-IsUnserved holds lacks bars saves kept (Request.Compile file out composition) bytes reader_failed writer_failed before after e =
+IsUnserved holds lacks bars saves kept (Request.Compile file out composition) bytes reader_failed writer_failed before after wants e =
     IsUnmade holds lacks bars saves kept file.now out.now (option_copied composition) writer_failed before after e
-IsUnserved holds lacks bars saves kept (Request.Dump file) bytes reader_failed writer_failed before after e =
+IsUnserved holds lacks bars saves kept (Request.Dump file) bytes reader_failed writer_failed before after wants e =
     IsUnread (lacks file.now) before after e ⊎ ((object : List ℕ) × holds file.now object × IsUndumped object writer_failed before after e)
-IsUnserved holds lacks bars saves kept (Request.Explain topic) bytes reader_failed writer_failed before after e = IsUnexplained topic writer_failed before after e
-IsUnserved holds lacks bars saves kept Request.Library bytes reader_failed writer_failed before after e = IsUnlisted writer_failed before after e
+IsUnserved holds lacks bars saves kept (Request.Explain topic) bytes reader_failed writer_failed before after wants e = IsUnexplained topic writer_failed before after e
+IsUnserved holds lacks bars saves kept Request.Library bytes reader_failed writer_failed before after wants e = IsUnlisted writer_failed before after e
 
 -- a list or a log is to be read
 abbrev pub IsReading : Request → Type 0
@@ -153,6 +161,24 @@ IsReading (Request.Compile file out composition) = ⊥
 IsReading (Request.Dump file) = ⊥
 IsReading (Request.Explain topic) = ⊥
 IsReading Request.Library = ⊥
+
+-- there is to be a run
+abbrev pub IsRunning : Request → Type 0
+IsRunning (Request.Replay file composition) = ⊥
+IsRunning (Request.ReplayStates file composition) = ⊥
+IsRunning (Request.ReplayLog file composition) = ⊥
+IsRunning (Request.ReplayLogStates file composition) = ⊥
+IsRunning (Request.ReplayInvariants file composition) = ⊥
+IsRunning (Request.Log file composition) = ⊥
+IsRunning (Request.Monitor file composition) = ⊥
+IsRunning (Request.Chart file composition) = ⊥
+IsRunning (Request.Graph file composition) = ⊥
+IsRunning (Request.Run settings) = Unit {0}
+IsRunning (Request.Check file compositions) = ⊥
+IsRunning (Request.Compile file out composition) = ⊥
+IsRunning (Request.Dump file) = ⊥
+IsRunning (Request.Explain topic) = ⊥
+IsRunning Request.Library = ⊥
 
 -- a file is to be written
 abbrev pub IsSaving : Request → Type 0

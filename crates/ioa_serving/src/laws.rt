@@ -2,6 +2,7 @@
 
 ghost use Rattle.ioa_serving.specs.Carried.{ChartsAsSource, GraphsAsSource, HistoriesAsSource, LogsListsAsSource, MonitorsAsSource, OneComposition, ReplaysAsSource, ReplaysLogsAsSource, RunsAsSource, TakesTurnsAsSource};
 ghost use Rattle.ioa_serving.specs.Delivering.{HistoriesDeliver, ObjectsDeliver};
+ghost use Rattle.ioa_serving.specs.RunReports.{SilenceMeans};
 
 /// From the bytes of an object to the trace: the program that is read of an object is the one that was compiled, so what is written by an
 /// object that was compiled of a source is what the source's hosts do. So it is of each list, of each log, of the log of a list's run, of the chart of
@@ -35,4 +36,10 @@ pub fn objects_run_as_their_sources()
     ensures histories { HistoriesAsSource }
     ensures runs { RunsAsSource }
     ensures turns { TakesTurnsAsSource }
+{}
+
+/// Where of no worker it is told that memory was refused to it, it was refused to none; so where no fault ends the run each worker has had
+/// all its turns. And where it was refused to none, of none it is told.
+pub fn silent_runs_lack_no_memory()
+    ensures { SilenceMeans }
 {}

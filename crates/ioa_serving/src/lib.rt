@@ -40,7 +40,8 @@ pub use dump::dump_object;
 pub use failure::Failure;
 pub use invariant_replay::{Finding, replay_invariants_text};
 pub use laws::{
-    objects_do_as_their_sources, objects_run_as_their_sources, one_composition, stenning_delivers,
+    objects_do_as_their_sources, objects_run_as_their_sources, one_composition,
+    silent_runs_lack_no_memory, stenning_delivers,
 };
 pub use library::write_library;
 pub use list_log::log_list_text;
@@ -51,7 +52,8 @@ pub use object_file::{compile_file, gives_way};
 pub use pace::{Arrival, Pace};
 pub use progress::Progress;
 pub use replay::replay_text;
-pub use run::run_file;
+pub use reports::send_wants;
+pub use run::{Ran, run_file};
 pub use served::{Served, silent};
 pub use states_replay::{replay_log_states_text, replay_states_text};
 pub use status::{Status, status_of};

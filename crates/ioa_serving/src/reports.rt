@@ -1,10 +1,16 @@
-ghost use Rattle.std.specs.Prelude.{◌≡◌, ◌++◌, IfOk, OnOk, map};
+ghost use Rattle.std.specs.Prelude.{◌≡◌, ◌++◌, ℕ, [], Some, IfErr, IfOk, IsOk, OnErr, OnOk, map, take};
+ghost use Rattle.std.specs.Io.KnownBytes.{Appends};
 ghost use Rattle.std.specs.String.{string_bytes};
+ghost use Rattle.ioa_log.specs.declared.failure.LogErr.TheVariants as errors;
+ghost use Rattle.ioa_log.specs.Failing.{HasFailed};
 ghost use Rattle.ioa_serving.specs.RunReports as spec;
-ghost use Rattle.ioa_serving.specs.RunReports.{name_at, report_line};
+ghost use Rattle.ioa_serving.specs.RunReports.{counts_text, name_at, report_line, want_line, wants_text, why_text};
+ghost use Rattle.ioa_serving.specs.Serving.{wants_of};
 
+use crate::run::Ran;
 use ioa_compile::Program;
-use ioa_run::Report;
+use ioa_log::{LogErr, OutputDevice, send_all};
+use ioa_run::{Report, Why};
 use std::alloc::{AllocError, Global};
 use std::fmt::Write;
 
@@ -40,15 +46,88 @@ fn worker_name(program: &Program, worker: usize) -> &str
 fn push_report(text: &mut String, name: &str, report: &Report) -> Result<(), AllocError>
     ensures { OnOk result (string_bytes text.new ≡ string_bytes text.old ++ report_line name.now report.now) }
 {
+    push_counts(text, name, report)?;
+    let why = in_words(report.why);
+    writeln!(text, ", {why}")?;
+    Ok(())
+}
+
+/// Puts the worker's name and the numbers of its turns there.
+fn push_counts(text: &mut String, name: &str, report: &Report) -> Result<(), AllocError>
+    ensures { OnOk result (string_bytes text.new ≡ string_bytes text.old ++ counts_text name.now report.now) }
+{
     let Report {
         committed,
         idle,
         stale,
         why: _,
     } = report;
-    writeln!(
+    write!(
         text,
         "{name}: {committed} committed, {idle} idle, {stale} stale"
     )?;
     Ok(())
+}
+
+/// Why a worker takes no more turns.
+fn in_words(why: Why) -> &'static str
+    ensures { result.now ≡ why_text why }
+{
+    match why {
+        Why::TurnsDone => "turns done",
+        Why::Faulted => "faulted",
+        Why::Stopped => "stopped",
+        Why::Memory => "memory",
+    }
+}
+
+/// Tells of each worker of a run to which memory was refused in its turn, a line for each, in the order of the reports. The lines are written
+/// in pieces that stand, since there may be no memory for a text of them. Where there is no such worker the writer is not asked.
+///
+/// # Errors
+/// `Io` where the writer failed in this call, which is not tried again. It has taken a beginning of the lines then.
+pub fn send_wants<W: OutputDevice>(ran: &Ran, output: &mut W) -> Result<(), LogErr>
+    ensures ok { OnOk result (Appends (W.contents output.old) (W.contents output.new) (wants_of (Some ran.now))) }
+    ensures io { IfErr result (λ e. (e ≡ errors.Io) × HasFailed (W.failure_count output.old) (W.failure_count output.new)) }
+    ensures passed { OnOk result (W.failure_count output.new ≡ W.failure_count output.old) }
+    ensures begun { OnErr result ((k : ℕ) × Appends (W.contents output.old) (W.contents output.new) (take k (wants_of (Some ran.now)))) }
+    ensures quiet { wants_of (Some ran.now) ≡ [] → IsOk result × (output.new ≡ output.old) }
+{
+    send_lines(&ran.program, &ran.reports, output)
+}
+
+/// The same of a program's workers with these reports.
+fn send_lines<W: OutputDevice>(
+    program: &Program,
+    reports: &[Report],
+    output: &mut W,
+) -> Result<(), LogErr>
+    ensures ok { OnOk result (Appends (W.contents output.old) (W.contents output.new) (wants_text (map (λ m. m.name) program.now.members) reports.now)) }
+    ensures io { IfErr result (λ e. (e ≡ errors.Io) × HasFailed (W.failure_count output.old) (W.failure_count output.new)) }
+    ensures passed { OnOk result (W.failure_count output.new ≡ W.failure_count output.old) }
+    ensures begun { OnErr result ((k : ℕ) × Appends (W.contents output.old) (W.contents output.new) (take k (wants_text (map (λ m. m.name) program.now.members) reports.now))) }
+    ensures quiet { wants_text (map (λ m. m.name) program.now.members) reports.now ≡ [] → IsOk result × (output.new ≡ output.old) }
+{
+    for i in 0..reports.len() {
+        let report = reports[i];
+        send_line(worker_name(program, i), report.why, output)?;
+    }
+    Ok(())
+}
+
+/// Tells that memory was refused to the worker of this name, where that is why it takes no more turns.
+fn send_line<W: OutputDevice>(name: &str, why: Why, output: &mut W) -> Result<(), LogErr>
+    ensures ok { OnOk result (Appends (W.contents output.old) (W.contents output.new) (want_line name.now why)) }
+    ensures io { IfErr result (λ e. (e ≡ errors.Io) × HasFailed (W.failure_count output.old) (W.failure_count output.new)) }
+    ensures passed { OnOk result (W.failure_count output.new ≡ W.failure_count output.old) }
+    ensures begun { OnErr result ((k : ℕ) × Appends (W.contents output.old) (W.contents output.new) (take k (want_line name.now why))) }
+    ensures quiet { want_line name.now why ≡ [] → IsOk result × (output.new ≡ output.old) }
+{
+    match why {
+        Why::TurnsDone | Why::Faulted | Why::Stopped => Ok(()),
+        Why::Memory => {
+            send_all(output, name.as_bytes())?;
+            send_all(output, b": memory\n")
+        }
+    }
 }

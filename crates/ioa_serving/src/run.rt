@@ -10,11 +10,11 @@ ghost use Rattle.ioa_log.specs.Failing.{HasFailed};
 ghost use Rattle.ioa_run.specs.Alone.{IsAlone, IsOutcome, NoMemory, Refuses};
 ghost use Rattle.ioa_run.specs.Outcomes.{HaveEnded};
 ghost use Rattle.ioa_run.specs.declared.run_err.RunErr.{RunErr};
-ghost use Rattle.ioa_serving.specs.Alone.{BeginsRunOf, IsRunServed, IsUnrun, count_of, streams_of};
-ghost use Rattle.ioa_serving.specs.Failing.{IsUnwritten};
+ghost use Rattle.ioa_serving.specs.Alone.{IsCutShort, IsRunServed, IsRunUnserved, IsUnrun, count_of, streams_of};
 ghost use Rattle.ioa_serving.specs.HasRun.{HasRun};
-ghost use Rattle.ioa_serving.specs.Serving.{reports_of};
-ghost use Rattle.ioa_serving.specs.Traces.{performed, table_reports, table_text};
+ghost use Rattle.ioa_serving.specs.Serving.{reports_of, wants_of};
+ghost use Rattle.ioa_serving.specs.Statuses.{ending_status};
+ghost use Rattle.ioa_serving.specs.Traces.{performed, ran_text, table_reports, table_text};
 
 use crate::compile::program_of;
 use crate::failure::Failure;
@@ -38,35 +38,57 @@ use std::thread::Threads;
 use std::time::Clock;
 
 /// Runs a composition of a source, or an object, on one thread or on one for each worker, and writes its trace and how it ends, or its log.
+/// Answers what came of it, and the run, where there was one, whose workers may have something to be told.
 ///
 /// Whatever the words and the schedule: where the answer is `Ok`, what was written is the trace and the end, or the log, of a legal
-/// history of what the source declares or the object is of, in which the environment performs its script in order. On one thread, where
-/// memory is refused to no worker, it is the one history in which all workers take turns, round by round, each by its own words.
+/// history of what the source declares or the object is of, in which the environment performs its script in order. The workers to which
+/// memory was refused in their turns are those of which `send_wants` tells. Where there is none, each worker has had its turns, or a fault
+/// ends the run; and on one thread it is the one history in which all workers take turns, round by round, each by its own words.
 ///
 /// # Errors
 /// `Io` where a file is not read; `Refused` where the source or its composition is, `Object` where the object is; `BadWords` where a line of
-/// the file of words is no list of words; `List` where a line of the script is no action; `TooManyTurns`, `BadInput`; `Threads`, unless the run is on one thread; then
-/// `List` where the device failed; or want of memory. Nothing was written then, or, where the device failed, no more than a beginning of
-/// the text.
+/// the file of words is no list of words; `List` where a line of the script is no action; `TooManyTurns`, `BadInput`; `Threads`, unless the run is on one thread;
+/// or want of memory: there was no run then, and nothing was written. Or there was one: `List` where the device failed, which has taken no
+/// more than a beginning of the text, and want of memory for the text, of which nothing was written.
 pub fn run_file<H: Threads + Wait + Clock + Sync, F: Store, W: OutputDevice>(
     rt: &H,
     alloc: Global,
     settings: &Settings<'_>,
     store: &F,
     output: &mut W,
+) -> (Result<Served, Failure>, Option<Ran>)
+    ensures runs { IfOk result.0 (λ served. IsRunServed (F.holds store.now) settings.now (W.contents output.old) (W.contents output.new) (reports_of served) (wants_of result.1) served.status) }
+    ensures refused { IfErr result.0 (λ e. IsRunUnserved (F.holds store.now) (F.lacks store.now) settings.now (HasFailed (W.failure_count output.old) (W.failure_count output.new))
+        (W.contents output.old) (W.contents output.new) (wants_of result.1) e) }
+    ensures passed { (IsErrOf result.0 (Failure.List LogErr.Io) → ⊥) → W.failure_count output.new ≡ W.failure_count output.old }
+{
+    match run_settings(rt, alloc, settings, store) {
+        Ok(ran) => {
+            let served = serve_run(alloc, settings, &ran, output);
+            (served, Some(ran))
+        }
+        Err(failure) => (Err(failure), None),
+    }
+}
+
+/// Writes the text of a run, and leaves its reports to be told, where they are asked for.
+fn serve_run<W: OutputDevice>(
+    alloc: Global,
+    settings: &Settings<'_>,
+    ran: &Ran,
+    output: &mut W,
 ) -> Result<Served, Failure>
-    ensures runs { IfOk result (λ served. IsRunServed (F.holds store.now) settings.now (W.contents output.old) (W.contents output.new) (reports_of served) served.status) }
-    ensures refused { IfErr result (λ e. IsUnrun (F.holds store.now) (F.lacks store.now) settings.now (HasFailed (W.failure_count output.old) (W.failure_count output.new)) e) }
-    ensures unwritten { IfErr result (λ e. IsUnwritten (BeginsRunOf (F.holds store.now) settings.now) (W.contents output.old) (W.contents output.new) e) }
+    requires { performed ran.now.log.end ≤ length ran.now.log.entries.items }
+    ensures served { IfOk result (λ s. Appends (W.contents output.old) (W.contents output.new) (ran_text settings.now.log ran.now)
+        × (reports_of s ≡ table_reports ran.now.program settings.now.reports ran.now.reports.items) × (s.status ≡ ending_status (log_end ran.now.log.end))) }
+    ensures cut { IfErr result (λ e. IsCutShort (ran_text settings.now.log ran.now) (HasFailed (W.failure_count output.old) (W.failure_count output.new)) (W.contents output.old) (W.contents output.new) e) }
     ensures passed { (IsErrOf result (Failure.List LogErr.Io) → ⊥) → W.failure_count output.new ≡ W.failure_count output.old }
 {
-    let ran = run_settings(rt, alloc, settings, store)?;
-    let told = told_reports(alloc, settings, &ran)?;
-    let status = status_of(ran.log.end.end());
+    let reports = told_reports(alloc, settings, ran)?;
     write_run(alloc, &ran.program, &ran.log, settings.log, output)?;
     Ok(Served {
-        status,
-        reports: told,
+        status: status_of(ran.log.end.end()),
+        reports,
     })
 }
 
@@ -86,7 +108,7 @@ fn run_settings<H: Threads + Wait + Clock + Sync, F: Store>(
     store: &F,
 ) -> Result<Ran, Failure>
     ensures ran { IfOk result (λ r. HasRun (F.holds store.now) settings.now r) }
-    ensures refused { IfErr result (λ e. IsUnrun (F.holds store.now) (F.lacks store.now) settings.now ⊥ e) }
+    ensures refused { IfErr result (λ e. IsUnrun (F.holds store.now) (F.lacks store.now) settings.now e) }
 {
     let text = store.load(alloc, settings.file)?;
     let program = program_of(alloc, text.as_slice(), settings.composition)?;

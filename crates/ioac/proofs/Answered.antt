@@ -25,12 +25,13 @@ pub if_err : {A E : Type 0} (P Q : E → Type 0) (r : Result A E) → ((e : E) �
 if_err P Q (Ok x) f p = tt
 if_err P Q (Err e) f p = f e p
 
--- one of both is so
-pub answered : (r : Result Served Failure) (served finished : Option (List ℕ) → Status → Type 0) (unserved reported : Failure → Type 0)
-    → IfOk r (λ s. served (reports_of s) s.status × finished (reports_of s) s.status) → IfErr r (λ e. unserved e × reported e)
-    → ((reports : Option (List ℕ)) × (done : Status) × served reports done × finished reports done) ⊎ ((e : Failure) × unserved e × reported e)
-answered (Ok s) served finished unserved reported serves fails = inl (reports_of s, s.status, serves.0, serves.1)
-answered (Err e) served finished unserved reported serves fails = inr (e, fails.0, fails.1)
+-- one of both is so, with what there is to tell of workers
+pub answered : (r : Result Served Failure) (of : List ℕ → Type 0) (served finished : Option (List ℕ) → List ℕ → Status → Type 0) (unserved reported : List ℕ → Failure → Type 0)
+    → (wants : List ℕ) × of wants × IfOk r (λ s. served (reports_of s) wants s.status × finished (reports_of s) wants s.status) × IfErr r (λ e. unserved wants e × reported wants e)
+    → (wants : List ℕ) × of wants
+    × (((reports : Option (List ℕ)) × (done : Status) × served reports wants done × finished reports wants done) ⊎ ((e : Failure) × unserved wants e × reported wants e))
+answered (Ok s) of served finished unserved reported (wants, are, serves, fails) = (wants, are, inl (reports_of s, s.status, serves.0, serves.1))
+answered (Err e) of served finished unserved reported (wants, are, serves, fails) = (wants, are, inr (e, fails.0, fails.1))
 
 -- and what there is to say of it follows
 pub followed : (r : Result Served Failure) (served finished : Option (List ℕ) → Status → Type 0) (unserved reported : Failure → Type 0) (remarks : Status → List ℕ → Type 0)

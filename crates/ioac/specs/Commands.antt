@@ -1,6 +1,6 @@
 -- What a run of the program comes to: what is asked, what is written, what is told, and the exit status. Of each device it is said what it
 -- holds before and after, and whether it failed.
-use Rattle.std.specs.Prelude.{◌≡◌, ℕ, ◌⊎◌, ◌<◌, ◌≤◌, Bool, true, false, List, [], length, Option, Some, None}
+use Rattle.std.specs.Prelude.{◌≡◌, ℕ, ◌⊎◌, ◌++◌, ◌∷◌, ◌<◌, ◌≤◌, Bool, true, false, List, [], length, Option, Some, None}
 use Rattle.std.specs.Io.KnownBytes.{Appends, Keeps}
 use Rattle.clap.specs.Words.{IsAmong, Text, fault_of, subcommand_of}
 use Rattle.clap.specs.declared.error.kind.ErrorKind.{ErrorKind}
@@ -13,20 +13,28 @@ use Rattle.ioa_request.specs.declared.request.Request.{Request}
 use Rattle.ioa_serving.specs.declared.status.Status.{Status}
 use Rattle.ioa_request.specs.CommandLine.{ioac_app, HasNoFault, IsAsked}
 use Rattle.ioac.specs.Remarks.{IsDifference, IsRemark}
-use Rattle.ioa_serving.specs.Serving.{IsServed, IsUnserved}
+use Rattle.ioa_serving.specs.Serving.{IsRunning, IsServed, IsUnserved}
 use Rattle.ioac.specs.Telling.{IsCut, IsPut, IsReported, IsShort, IsTold, unasked_text}
 
--- what is served leaves nothing to tell, or this text, whose device may fail
-abbrev pub IsFinished : Option (List ℕ) → Status → Option (List ℕ) → Option (List ℕ) → Type 0 → Status → Type 0
-IsFinished None done told telling teller_failed status = (status ≡ done) × Keeps told telling
-IsFinished (Some text) done told telling teller_failed status = IsPut text done told telling teller_failed status
+-- What is served leaves nothing to tell; or these reports, or the workers to which memory was refused, or both, in this order, whose device may fail.
+-- So where nothing is told, memory was refused to no worker.
+abbrev pub IsFinished : Option (List ℕ) → List ℕ → Status → Option (List ℕ) → Option (List ℕ) → Type 0 → Status → Type 0
+IsFinished None [] done told telling teller_failed status = (status ≡ done) × Keeps told telling
+IsFinished None (b ∷ bs) done told telling teller_failed status = IsPut (b ∷ bs) done told telling teller_failed status
+IsFinished (Some text) wants done told telling teller_failed status = IsPut (text ++ wants) done told telling teller_failed status
+
+-- a run alone has workers to tell of
+abbrev pub AreWantsOf : Request → List ℕ → Type 0
+AreWantsOf request wants = (IsRunning request → ⊥) → wants ≡ []
 
 -- the request was served; or why it was not is told
 abbrev pub IsAnswered : (Name → List ℕ → Type 0) → (Name → Type 0) → (Name → Type 0) → (Name → List ℕ → Type 0) → Type 0 → Request → Option (List ℕ) → Type 0
     → Option (List ℕ) → Option (List ℕ) → Type 0 → Option (List ℕ) → Option (List ℕ) → Type 0 → Status → Type 0
 IsAnswered holds lacks bars saves kept request bytes reader_failed before after writer_failed told telling teller_failed status =
-    ((reports : Option (List ℕ)) × (done : Status) × IsServed holds saves request bytes before after reports done × IsFinished reports done told telling teller_failed status)
-    ⊎ ((e : Failure) × IsUnserved holds lacks bars saves kept request bytes reader_failed writer_failed before after e × IsReported e told telling teller_failed status)
+    (wants : List ℕ) × AreWantsOf request wants
+    × (((reports : Option (List ℕ)) × (done : Status) × IsServed holds saves request bytes before after reports wants done
+    × IsFinished reports wants done told telling teller_failed status)
+    ⊎ ((e : Failure) × IsUnserved holds lacks bars saves kept request bytes reader_failed writer_failed before after wants e × IsReported e wants told telling teller_failed status))
 
 -- where memory is short for what there is to say, it is left out
 abbrev pub MayRemark : (List ℕ → List ℕ → Type 0) → List ℕ → Type 0
@@ -50,12 +58,12 @@ abbrev pub IsAnsweredAs : Bool → (Name → List ℕ → Type 0) → (Name → 
 IsAnsweredAs false holds lacks bars saves kept held lacked request bytes reader_failed before after writer_failed told count telling failures status =
     IsAnswered holds lacks bars saves kept request bytes reader_failed before after writer_failed told telling (HasFailed count failures) status
 IsAnsweredAs true holds lacks bars saves kept held lacked request bytes reader_failed before after writer_failed told count telling failures status =
-    (said : Option (List ℕ)) × (so_far : ℕ) × (answered : Status) × (so_far ≤ failures)
-    × (((reports : Option (List ℕ)) × (done : Status) × IsServed holds saves request bytes before after reports done
-    × IsFinished reports done told said (HasFailed count so_far) answered
+    (said : Option (List ℕ)) × (so_far : ℕ) × (answered : Status) × (so_far ≤ failures) × (wants : List ℕ) × AreWantsOf request wants
+    × (((reports : Option (List ℕ)) × (done : Status) × IsServed holds saves request bytes before after reports wants done
+    × IsFinished reports wants done told said (HasFailed count so_far) answered
     × IsFollowed (IsServedRemark held lacked request done) answered said telling (HasFailed so_far failures) status)
-    ⊎ ((e : Failure) × IsUnserved holds lacks bars saves kept request bytes reader_failed writer_failed before after e
-    × IsReported e told said (HasFailed count so_far) answered
+    ⊎ ((e : Failure) × IsUnserved holds lacks bars saves kept request bytes reader_failed writer_failed before after wants e
+    × IsReported e wants told said (HasFailed count so_far) answered
     × IsFollowed (IsUnservedRemark held lacked request e) answered said telling (HasFailed so_far failures) status))
 
 -- of a parse that gives no request, by what it tells
@@ -82,7 +90,7 @@ usage_status kinds.Format = Status.BadCommandLine
 abbrev pub IsShown : List ℕ → Option (List ℕ) → Option (List ℕ) → Type 0 → Option (List ℕ) → Option (List ℕ) → Type 0 → Status → Type 0
 IsShown text before after writer_failed told telling teller_failed status =
     ((status ≡ Status.Done) × Appends before after text × Keeps told telling)
-    ⊎ (IsCut text before after writer_failed × IsReported (Failure.List LogErr.Io) told telling teller_failed status)
+    ⊎ (IsCut text before after writer_failed × IsReported (Failure.List LogErr.Io) [] told telling teller_failed status)
 
 -- what comes of words that are not served, by the status of their fault: help or the version is written; or what is wrong is told, and
 -- nothing is written. Of the words of both it is said only that there are some. Or memory was short, which is told.

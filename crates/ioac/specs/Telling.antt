@@ -29,9 +29,10 @@ IsShort before after failed status = IsPut (codes "memory\n") Status.Unable befo
 abbrev pub IsTold : List ℕ → Status → Option (List ℕ) → Option (List ℕ) → Type 0 → Status → Type 0
 IsTold text wanted before after failed status = IsPut text wanted before after failed status ⊎ IsShort before after failed status
 
--- the failure's text is told, on a line
-abbrev pub IsReported : Failure → Option (List ℕ) → Option (List ℕ) → Type 0 → Status → Type 0
-IsReported e before after failed status = IsTold (failure_text e ++ 10 ∷ []) (failure_status e) before after failed status
+-- the failure's text is told, on a line, or that memory was short to write it; and after it the workers to which memory was refused
+abbrev pub IsReported : Failure → List ℕ → Option (List ℕ) → Option (List ℕ) → Type 0 → Status → Type 0
+IsReported e wants before after failed status =
+    IsPut (failure_text e ++ 10 ∷ wants) (failure_status e) before after failed status ⊎ IsPut (codes "memory\n" ++ wants) Status.Unable before after failed status
 
 -- the end of what is told of a command line
 abbrev pub try_help : List ℕ

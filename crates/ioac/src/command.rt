@@ -1,10 +1,10 @@
-ghost use Rattle.std.specs.Prelude.{◌≡◌, ◌⊎◌, true, map, IfOk, IfErr};
+ghost use Rattle.std.specs.Prelude.{◌≡◌, ◌⊎◌, ℕ, List, true, map, IfOk, IfErr};
 ghost use Rattle.clap.specs.Words.{subcommand_of};
 ghost use Rattle.ioa_log.specs.Failing.{HasFailed};
 ghost use Rattle.ioa_request.specs.CommandLine.{IsAsked, ioac_app, is_explained};
-ghost use Rattle.ioac.specs.Commands.{IsAnswered, IsAnsweredAs, IsFinished, IsUnasked};
+ghost use Rattle.ioac.specs.Commands.{AreWantsOf, IsAnswered, IsAnsweredAs, IsFinished, IsUnasked};
+ghost use Rattle.ioa_serving.specs.Serving.{IsReading, IsSaving, IsServed, IsUnserved, reports_of, wants_of};
 ghost use Rattle.ioa_serving.specs.Compiling.{Blocks, Places};
-ghost use Rattle.ioa_serving.specs.Serving.{IsReading, IsSaving, IsServed, IsUnserved, reports_of};
 ghost use Rattle.ioac.specs.Telling.{IsReported};
 ghost use Rattle.ioa_serving.specs.Statuses.{number_of};
 ghost use Rattle.ioa_serving.specs.declared.status.Status.{Status};
@@ -19,7 +19,7 @@ use crate::telling::{put, reported};
 use crate::usage::{told, told_unasked};
 use ioa_log::{InputDevice, OutputDevice};
 use ioa_request::{Request, is_explained, parse, read_request};
-use ioa_serving::{Failure, Served, Status, Store};
+use ioa_serving::{Failure, Ran, Served, Status, Store};
 use std::alloc::Global;
 use std::convert::AsStr;
 use std::sync::Wait;
@@ -214,35 +214,37 @@ fn serve_and_tell<
     output: &mut W,
     errors: &mut E,
 ) -> (Result<Served, Failure>, Status)
-    ensures served { IfOk result.0 (λ s. IsServed (F.holds store.old) (Places (F.begins store.old) (F.saves store.old store.new)) asked.now (R.remaining input.old) (W.contents output.old) (W.contents output.new) (reports_of s) s.status
-        × IsFinished (reports_of s) s.status (E.contents errors.old) (E.contents errors.new) (HasFailed (E.failure_count errors.old) (E.failure_count errors.new)) result.1) }
-    ensures unserved { IfErr result.0 (λ e. IsUnserved (F.holds store.old) (F.lacks store.old) (Blocks (F.begins store.old) (F.bars store.old)) (Places (F.begins store.old) (F.saves store.old store.new)) (store.new ≡ store.old) asked.now (R.remaining input.old)
+    ensures tells { (wants : List ℕ) × AreWantsOf asked.now wants
+        × IfOk result.0 (λ s. IsServed (F.holds store.old) (Places (F.begins store.old) (F.saves store.old store.new)) asked.now (R.remaining input.old) (W.contents output.old) (W.contents output.new) (reports_of s) wants s.status
+        × IsFinished (reports_of s) wants s.status (E.contents errors.old) (E.contents errors.new) (HasFailed (E.failure_count errors.old) (E.failure_count errors.new)) result.1)
+        × IfErr result.0 (λ e. IsUnserved (F.holds store.old) (F.lacks store.old) (Blocks (F.begins store.old) (F.bars store.old)) (Places (F.begins store.old) (F.saves store.old store.new)) (store.new ≡ store.old) asked.now (R.remaining input.old)
         (HasFailed (R.failure_count input.old) (R.failure_count input.new)) (HasFailed (W.failure_count output.old) (W.failure_count output.new))
-        (W.contents output.old) (W.contents output.new) e
-        × IsReported e (E.contents errors.old) (E.contents errors.new) (HasFailed (E.failure_count errors.old) (E.failure_count errors.new)) result.1) }
+        (W.contents output.old) (W.contents output.new) wants e
+        × IsReported e wants (E.contents errors.old) (E.contents errors.new) (HasFailed (E.failure_count errors.old) (E.failure_count errors.new)) result.1) }
     ensures kept { (IsSaving asked.now → ⊥) → store.new ≡ store.old }
     ensures unread { (IsReading asked.now → ⊥) → input.new ≡ input.old }
     ensures passed { (result.1 ≡ statuses.Unable → ⊥) → (R.failure_count input.new ≡ R.failure_count input.old) × (W.failure_count output.new ≡ W.failure_count output.old) × (E.failure_count errors.new ≡ E.failure_count errors.old) }
 {
-    let served = serve(rt, alloc, asked, store, input, output);
-    let status = settle(alloc, &served, errors);
+    let (served, ran) = serve(rt, alloc, asked, store, input, output);
+    let status = settle(alloc, &served, &ran, errors);
     (served, status)
 }
 
-/// Tells what is left to tell of what was served, or why it was not, and answers the exit status.
+/// Tells what is left to tell of what was served, or why it was not, and of the run's workers; and answers the exit status.
 fn settle<E: OutputDevice>(
     alloc: Global,
     served: &Result<Served, Failure>,
+    ran: &Option<Ran>,
     errors: &mut E,
 ) -> Status
-    ensures finishes { IfOk served.now (λ s. IsFinished (reports_of s) s.status
+    ensures finishes { IfOk served.now (λ s. IsFinished (reports_of s) (wants_of ran.now) s.status
         (E.contents errors.old) (E.contents errors.new) (HasFailed (E.failure_count errors.old) (E.failure_count errors.new)) result) }
-    ensures reports { IfErr served.now (λ e. IsReported e
+    ensures reports { IfErr served.now (λ e. IsReported e (wants_of ran.now)
         (E.contents errors.old) (E.contents errors.new) (HasFailed (E.failure_count errors.old) (E.failure_count errors.new)) result) }
     ensures passed { (result ≡ statuses.Unable → ⊥) → E.failure_count errors.new ≡ E.failure_count errors.old }
 {
     match served {
-        Ok(served) => finish(served, errors),
-        Err(failure) => reported(alloc, failure, errors),
+        Ok(served) => finish(served, ran, errors),
+        Err(failure) => reported(alloc, failure, ran, errors),
     }
 }

@@ -1,13 +1,13 @@
 //! The requests, one by one: what is asked of which file.
 
-ghost use Rattle.std.specs.Prelude.{◌≡◌, None, IfOk, IfErr, IsErrOf, option_map};
+ghost use Rattle.std.specs.Prelude.{◌≡◌, [], None, IfOk, IfErr, IsErrOf, option_map};
 ghost use Rattle.ioa_system.specs.Outcomes.{ending_of};
 ghost use Rattle.ioa_log.specs.declared.failure.LogErr.{LogErr};
 ghost use Rattle.ioa_log.specs.Failing.{HasFailed};
 ghost use Rattle.ioa_request.specs.declared.request.Request.TheVariants as requests;
 ghost use Rattle.ioa_serving.specs.Compiling.{Blocks, Places};
 ghost use Rattle.ioa_serving.specs.Logs.{found_of};
-ghost use Rattle.ioa_serving.specs.Serving.{IsReading, IsSaving, IsServed, IsUnserved, reports_of};
+ghost use Rattle.ioa_serving.specs.Serving.{IsReading, IsRunning, IsSaving, IsServed, IsUnserved, reports_of, wants_of};
 ghost use Rattle.ioa_serving.specs.Statuses.{answer_status, ending_status, found_status};
 ghost use Rattle.ioa_serving.specs.declared.failure.Failure.{Failure};
 ghost use Rattle.ioac.specs.Requests.{Fails, Serves};
@@ -16,9 +16,10 @@ use ioa_log::{InputDevice, OutputDevice};
 use ioa_request::{Request, Topic};
 use ioa_serving::explain::explain;
 use ioa_serving::{
-    Failure, Finding, Served, Status, Store, chart_log_text, check_text, compile_file, dump_object,
-    graph_text, log_list_text, monitor_text, replay_invariants_text, replay_log_states_text,
-    replay_log_text, replay_states_text, replay_text, run_file, silent, status_of, write_library,
+    Failure, Finding, Ran, Served, Status, Store, chart_log_text, check_text, compile_file,
+    dump_object, graph_text, log_list_text, monitor_text, replay_invariants_text,
+    replay_log_states_text, replay_log_text, replay_states_text, replay_text, run_file, silent,
+    status_of, write_library,
 };
 use ioa_system::End;
 use std::alloc::Global;
@@ -26,7 +27,7 @@ use std::sync::Wait;
 use std::thread::Threads;
 use std::time::Clock;
 
-/// Does what is asked, and answers the exit status with what is left to tell.
+/// Does what is asked, and answers the exit status with what is left to tell; and the run, where there was one.
 ///
 /// # Errors
 /// `Io` or `OutOfMemory` where the file is not read, and those of the replay, the log, the run, the monitor, the chart, the graph, the check, the object or the dump of
@@ -38,49 +39,64 @@ pub(crate) fn serve<H: Threads + Wait + Clock + Sync, F: Store, R: InputDevice, 
     store: &mut F,
     input: &mut R,
     output: &mut W,
-) -> Result<Served, Failure>
-    ensures served { IfOk result (λ s. IsServed (F.holds store.old) (Places (F.begins store.old) (F.saves store.old store.new)) asked.now (R.remaining input.old) (W.contents output.old) (W.contents output.new) (reports_of s) s.status) }
-    ensures refused { IfErr result (λ e. IsUnserved (F.holds store.old) (F.lacks store.old) (Blocks (F.begins store.old) (F.bars store.old)) (Places (F.begins store.old) (F.saves store.old store.new)) (store.new ≡ store.old) asked.now (R.remaining input.old)
+) -> (Result<Served, Failure>, Option<Ran>)
+    ensures served { IfOk result.0 (λ s. IsServed (F.holds store.old) (Places (F.begins store.old) (F.saves store.old store.new)) asked.now (R.remaining input.old) (W.contents output.old) (W.contents output.new) (reports_of s) (wants_of result.1) s.status) }
+    ensures refused { IfErr result.0 (λ e. IsUnserved (F.holds store.old) (F.lacks store.old) (Blocks (F.begins store.old) (F.bars store.old)) (Places (F.begins store.old) (F.saves store.old store.new)) (store.new ≡ store.old) asked.now (R.remaining input.old)
         (HasFailed (R.failure_count input.old) (R.failure_count input.new)) (HasFailed (W.failure_count output.old) (W.failure_count output.new))
-        (W.contents output.old) (W.contents output.new) e) }
+        (W.contents output.old) (W.contents output.new) (wants_of result.1) e) }
+    ensures silent { (IsRunning asked.now → ⊥) → result.1 ≡ None }
     ensures kept { (IsSaving asked.now → ⊥) → store.new ≡ store.old }
     ensures unread { (IsReading asked.now → ⊥) → input.new ≡ input.old }
-    ensures passed { (IsErrOf result (Failure.List LogErr.Io) → ⊥) → (R.failure_count input.new ≡ R.failure_count input.old) × (W.failure_count output.new ≡ W.failure_count output.old) }
+    ensures passed { (IsErrOf result.0 (Failure.List LogErr.Io) → ⊥) → (R.failure_count input.new ≡ R.failure_count input.old) × (W.failure_count output.new ≡ W.failure_count output.old) }
 {
     match asked {
-        Request::Replay { file, composition } => {
-            replay(alloc, file, *composition, store, input, output)
-        }
-        Request::ReplayStates { file, composition } => {
-            replay_states(alloc, file, *composition, store, input, output)
-        }
-        Request::ReplayLog { file, composition } => {
-            replay_log(alloc, file, *composition, store, input, output)
-        }
-        Request::ReplayLogStates { file, composition } => {
-            replay_log_states(alloc, file, *composition, store, input, output)
-        }
-        Request::ReplayInvariants { file, composition } => {
-            replay_invariants(alloc, file, *composition, store, input, output)
-        }
-        Request::Log { file, composition } => log(alloc, file, *composition, store, input, output),
+        Request::Replay { file, composition } => (
+            replay(alloc, file, *composition, store, input, output),
+            None,
+        ),
+        Request::ReplayStates { file, composition } => (
+            replay_states(alloc, file, *composition, store, input, output),
+            None,
+        ),
+        Request::ReplayLog { file, composition } => (
+            replay_log(alloc, file, *composition, store, input, output),
+            None,
+        ),
+        Request::ReplayLogStates { file, composition } => (
+            replay_log_states(alloc, file, *composition, store, input, output),
+            None,
+        ),
+        Request::ReplayInvariants { file, composition } => (
+            replay_invariants(alloc, file, *composition, store, input, output),
+            None,
+        ),
+        Request::Log { file, composition } => (
+            log(alloc, file, *composition, store, input, output),
+            None,
+        ),
         Request::Run(settings) => run_file(rt, alloc, settings, store, output),
-        Request::Monitor { file, composition } => {
-            monitor(alloc, file, *composition, store, input, output)
+        Request::Monitor { file, composition } => (
+            monitor(alloc, file, *composition, store, input, output),
+            None,
+        ),
+        Request::Chart { file, composition } => (
+            chart(alloc, file, *composition, store, input, output),
+            None,
+        ),
+        Request::Graph { file, composition } => {
+            (graph(alloc, file, *composition, store, output), None)
         }
-        Request::Chart { file, composition } => {
-            chart(alloc, file, *composition, store, input, output)
+        Request::Check { file, compositions } => {
+            (check(alloc, file, *compositions, store, output), None)
         }
-        Request::Graph { file, composition } => graph(alloc, file, *composition, store, output),
-        Request::Check { file, compositions } => check(alloc, file, *compositions, store, output),
         Request::Compile {
             file,
             out,
             composition,
-        } => compile(alloc, file, out, *composition, store, output),
-        Request::Dump { file } => dump(alloc, file, store, output),
-        Request::Explain { topic } => explain_topic(alloc, *topic, output),
-        Request::Library => library(output),
+        } => (compile(alloc, file, out, *composition, store, output), None),
+        Request::Dump { file } => (dump(alloc, file, store, output), None),
+        Request::Explain { topic } => (explain_topic(alloc, *topic, output), None),
+        Request::Library => (library(output), None),
     }
 }
 
@@ -310,10 +326,10 @@ fn compile<F: Store, W: OutputDevice>(
     output: &mut W,
 ) -> Result<Served, Failure>
     ensures served { IfOk result (λ s. IsServed (F.holds store.old) (Places (F.begins store.old) (F.saves store.old store.new)) (requests.Compile file.entry out.entry composition.entry) None
-        (W.contents output.old) (W.contents output.new) (reports_of s) s.status) }
+        (W.contents output.old) (W.contents output.new) (reports_of s) [] s.status) }
     ensures refused { IfErr result (λ e. IsUnserved (F.holds store.old) (F.lacks store.old) (Blocks (F.begins store.old) (F.bars store.old)) (Places (F.begins store.old) (F.saves store.old store.new)) (store.new ≡ store.old)
         (requests.Compile file.entry out.entry composition.entry) None ⊥ (HasFailed (W.failure_count output.old) (W.failure_count output.new))
-        (W.contents output.old) (W.contents output.new) e) }
+        (W.contents output.old) (W.contents output.new) [] e) }
     ensures passed { (IsErrOf result (Failure.List LogErr.Io) → ⊥) → W.failure_count output.new ≡ W.failure_count output.old }
 {
     compile_file(alloc, file, out, composition, store, output)?;

@@ -1,21 +1,21 @@
 ghost use Rattle.std.specs.Prelude.{◌≡◌};
 ghost use Rattle.ioa_log.specs.Failing.{HasFailed};
 ghost use Rattle.ioac.specs.Commands.{IsFinished};
-ghost use Rattle.ioa_serving.specs.Serving.{reports_of};
+ghost use Rattle.ioa_serving.specs.Serving.{reports_of, wants_of};
 ghost use Rattle.ioa_serving.specs.declared.status.Status.TheVariants as statuses;
 
-use crate::telling::put;
+use crate::telling::{put_wants, put_with_wants};
 use ioa_log::OutputDevice;
-use ioa_serving::{Served, Status};
+use ioa_serving::{Ran, Served, Status};
 
-/// Tells what is left to tell on standard error, and answers the exit status, or that of `Unable` where the device failed.
-pub fn finish<E: OutputDevice>(served: &Served, errors: &mut E) -> Status
-    ensures finishes { IsFinished (reports_of served.now) served.now.status
+/// Tells what is left to tell on standard error, of the run's workers too, and answers the exit status, or that of `Unable` where the device failed.
+pub fn finish<E: OutputDevice>(served: &Served, ran: &Option<Ran>, errors: &mut E) -> Status
+    ensures finishes { IsFinished (reports_of served.now) (wants_of ran.now) served.now.status
         (E.contents errors.old) (E.contents errors.new) (HasFailed (E.failure_count errors.old) (E.failure_count errors.new)) result }
     ensures passed { (result ≡ statuses.Unable → ⊥) → E.failure_count errors.new ≡ E.failure_count errors.old }
 {
     match &served.reports {
-        Some(text) => put(text.as_str(), served.status, errors),
-        None => served.status,
+        Some(text) => put_with_wants(text.as_str(), ran, served.status, errors),
+        None => put_wants(ran, served.status, errors),
     }
 }

@@ -3,11 +3,12 @@ ghost use Rattle.std.specs.IoError.{error_kind};
 ghost use Rattle.std.specs.String.{string_bytes};
 ghost use Rattle.ioa_log.specs.Failing.{HasFailed};
 ghost use Rattle.ioa_serving.specs.Printed.{failure_text};
+ghost use Rattle.ioa_serving.specs.Serving.{wants_of};
 ghost use Rattle.ioac.specs.Telling.{IsPut, IsReported, IsShort, unreadable_text};
 ghost use Rattle.ioa_serving.specs.declared.status.Status.TheVariants as statuses;
 
 use ioa_log::{OutputDevice, send_all};
-use ioa_serving::{Failure, Status};
+use ioa_serving::{Failure, Ran, Status, send_wants};
 use std::alloc::{AllocError, Global};
 use std::io;
 use std::io::ErrorKind;
@@ -32,14 +33,51 @@ pub fn put_short<E: OutputDevice>(errors: &mut E) -> Status
     put("memory\n", Status::Unable, errors)
 }
 
-/// Tells why nothing was served, and answers the exit status.
-pub fn reported<E: OutputDevice>(alloc: Global, failure: &Failure, errors: &mut E) -> Status
-    ensures reports { IsReported failure.now (E.contents errors.old) (E.contents errors.new) (HasFailed (E.failure_count errors.old) (E.failure_count errors.new)) result }
+/// Writes a text on standard error, and after it of each worker of the run, where there was one, to which memory was refused in its turn that it
+/// was; and answers this exit status, or that of `Unable` where the device failed.
+pub fn put_with_wants<E: OutputDevice>(
+    text: &str,
+    ran: &Option<Ran>,
+    wanted: Status,
+    errors: &mut E,
+) -> Status
+    ensures puts { IsPut (text.now ++ wants_of ran.now) wanted (E.contents errors.old) (E.contents errors.new) (HasFailed (E.failure_count errors.old) (E.failure_count errors.new)) result }
+    ensures passed { (result ≡ statuses.Unable → ⊥) → E.failure_count errors.new ≡ E.failure_count errors.old }
+{
+    match send_all(errors, text.as_bytes()) {
+        Ok(()) => put_wants(ran, wanted, errors),
+        Err(_) => Status::Unable,
+    }
+}
+
+/// The same without a text before: where memory was refused to no worker, nothing is written.
+pub fn put_wants<E: OutputDevice>(ran: &Option<Ran>, wanted: Status, errors: &mut E) -> Status
+    ensures puts { IsPut (wants_of ran.now) wanted (E.contents errors.old) (E.contents errors.new) (HasFailed (E.failure_count errors.old) (E.failure_count errors.new)) result }
+    ensures quiet { wants_of ran.now ≡ [] → (result ≡ wanted) × (errors.new ≡ errors.old) }
+    ensures passed { (result ≡ statuses.Unable → ⊥) → E.failure_count errors.new ≡ E.failure_count errors.old }
+{
+    let Some(ran) = ran else {
+        return wanted;
+    };
+    match send_wants(ran, errors) {
+        Ok(()) => wanted,
+        Err(_) => Status::Unable,
+    }
+}
+
+/// Tells why nothing was served, or a run not all, and of the run's workers; and answers the exit status.
+pub fn reported<E: OutputDevice>(
+    alloc: Global,
+    failure: &Failure,
+    ran: &Option<Ran>,
+    errors: &mut E,
+) -> Status
+    ensures reports { IsReported failure.now (wants_of ran.now) (E.contents errors.old) (E.contents errors.new) (HasFailed (E.failure_count errors.old) (E.failure_count errors.new)) result }
     ensures passed { (result ≡ statuses.Unable → ⊥) → E.failure_count errors.new ≡ E.failure_count errors.old }
 {
     match failure_line(alloc, failure) {
-        Ok(line) => put(line.as_str(), failure.status(), errors),
-        Err(AllocError) => put_short(errors),
+        Ok(line) => put_with_wants(line.as_str(), ran, failure.status(), errors),
+        Err(AllocError) => put_with_wants("memory\n", ran, Status::Unable, errors),
     }
 }
 

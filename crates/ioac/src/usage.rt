@@ -64,7 +64,7 @@ fn shown<W: OutputDevice, E: OutputDevice>(
 {
     match send_all(output, text.as_bytes()) {
         Ok(()) => Status::Done,
-        Err(error) => reported(alloc, &Failure::List(error), errors),
+        Err(error) => reported(alloc, &Failure::List(error), &None, errors),
     }
 }
 

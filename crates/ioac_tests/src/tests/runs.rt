@@ -30,10 +30,10 @@ composition Two components G: Go; P: Pick";
 /// The words after `run f`, the file of words `w`, the script `l`, what is printed, what is told of errors, and the exit status.
 const GAMES: &str = "\
 --alone --turns 3 --words w | 9 17 4^1 2^ |  | roll(5)^roll(0)^tell(0)^tell(0)^end: done after 5^ |  | 0
---alone --turns 3 --words w --reports | 9 17 4^1 2 |  | roll(5)^roll(0)^tell(0)^tell(0)^end: done after 5^ | D: 2 committed, 1 idle, 0 stale^K: 3 committed, 0 idle, 0 stale^environment: 0 committed, 3 idle, 0 stale^ | 0
+--alone --turns 3 --words w --reports | 9 17 4^1 2 |  | roll(5)^roll(0)^tell(0)^tell(0)^end: done after 5^ | D: 2 committed, 1 idle, 0 stale, turns done^K: 3 committed, 0 idle, 0 stale, turns done^environment: 0 committed, 3 idle, 0 stale, turns done^ | 0
 --alone --turns 3 --words w --log | 9 17 4^1 2 |  | {\"act\":\"roll(5)\",\"who\":0}^{\"act\":\"clear\",\"who\":1}^{\"act\":\"roll(0)\",\"who\":0}^{\"act\":\"tell(0)\",\"who\":1}^{\"act\":\"tell(0)\",\"who\":1}^{\"end\":\"done after 5\"}^ |  | 0
---alone --turns 3 --words w --comp Zero --reports | 9 17 4^1 2 |  | tell(0)^tell(0)^end: done after 2^ | D: 0 committed, 3 idle, 0 stale^K: 2 committed, 1 idle, 0 stale^environment: 0 committed, 3 idle, 0 stale^ | 0
---turns 3 --words w --comp Zero --reports | 9 17 4^1 2 |  | tell(0)^tell(0)^end: done after 2^ | D: 0 committed, 3 idle, 0 stale^K: 2 committed, 1 idle, 0 stale^environment: 0 committed, 3 idle, 0 stale^ | 0
+--alone --turns 3 --words w --comp Zero --reports | 9 17 4^1 2 |  | tell(0)^tell(0)^end: done after 2^ | D: 0 committed, 3 idle, 0 stale, turns done^K: 2 committed, 1 idle, 0 stale, turns done^environment: 0 committed, 3 idle, 0 stale, turns done^ | 0
+--turns 3 --words w --comp Zero --reports | 9 17 4^1 2 |  | tell(0)^tell(0)^end: done after 2^ | D: 0 committed, 3 idle, 0 stale, turns done^K: 2 committed, 1 idle, 0 stale, turns done^environment: 0 committed, 3 idle, 0 stale, turns done^ | 0
 -- lines past the components' are not looked at, and words that are used up, or of a line that is missing, are 0
 --alone --turns 3 --words w | 9 17 4^1 2^x |  | roll(5)^roll(0)^tell(0)^tell(0)^end: done after 5^ |  | 0
 --alone --turns 3 --words w |  |  | roll(0)^tell(0)^roll(0)^tell(0)^tell(0)^end: done after 5^ |  | 0
@@ -55,7 +55,7 @@ const GAMES: &str = "\
 /// The same.
 const COUNTS: &str = "\
 --alone --turns 2 --inputs l |  | reset | tick(5)^reset^tick(5)^end: done after 3^ |  | 0
---alone --turns 2 --inputs l --reports |  | % once^^reset^ | tick(5)^reset^tick(5)^end: done after 3^ | A: 2 committed, 0 idle, 0 stale^environment: 1 committed, 1 idle, 0 stale^ | 0
+--alone --turns 2 --inputs l --reports |  | % once^^reset^ | tick(5)^reset^tick(5)^end: done after 3^ | A: 2 committed, 0 idle, 0 stale, turns done^environment: 1 committed, 1 idle, 0 stale, turns done^ | 0
 --alone --turns 2 --inputs l --log |  | reset | {\"act\":\"tick(5)\",\"who\":0}^{\"act\":\"reset\",\"who\":1}^{\"act\":\"tick(5)\",\"who\":0}^{\"end\":\"done after 3\"}^ |  | 0
 --alone --turns 0 |  |  | end: done after 0^ |  | 0
 --alone --turns 2 --inputs l |  | tick(5) |  | N2 index 0^ | 4
@@ -68,8 +68,11 @@ const COUNTS: &str = "\
 --alone --turns 18446744073709551615 |  |  |  | N1^ | 2
 --alone --inputs q |  |  |  | io^ | 5
 --turns 3 |  |  | tick(5)^tick(6)^tick(7)^end: done after 3^ |  | 0
---turns 2 --log --reports |  |  | {\"act\":\"tick(5)\",\"who\":0}^{\"act\":\"tick(6)\",\"who\":0}^{\"end\":\"done after 2\"}^ | A: 2 committed, 0 idle, 0 stale^environment: 0 committed, 2 idle, 0 stale^ | 0
+--turns 2 --log --reports |  |  | {\"act\":\"tick(5)\",\"who\":0}^{\"act\":\"tick(6)\",\"who\":0}^{\"end\":\"done after 2\"}^ | A: 2 committed, 0 idle, 0 stale, turns done^environment: 0 committed, 2 idle, 0 stale, turns done^ | 0
 --turns 0 --inputs l |  | reset | end: done after 0^ |  | 0
+-- more turns than a run that is given up early takes, and nothing is told of memory
+--alone --turns 64 |  |  | tick(5)^tick(6)^tick(7)^tick(8)^tick(9)^tick(10)^tick(11)^tick(12)^tick(13)^tick(14)^tick(15)^tick(16)^tick(17)^tick(18)^tick(19)^tick(20)^tick(21)^tick(22)^tick(23)^tick(24)^tick(25)^tick(26)^tick(27)^tick(28)^tick(29)^tick(30)^tick(31)^tick(32)^tick(33)^tick(34)^tick(35)^tick(36)^tick(37)^tick(38)^tick(39)^tick(40)^tick(41)^tick(42)^tick(43)^tick(44)^tick(45)^tick(46)^tick(47)^tick(48)^tick(49)^tick(50)^tick(51)^tick(52)^tick(53)^tick(54)^tick(55)^tick(56)^tick(57)^tick(58)^tick(59)^tick(60)^tick(61)^tick(62)^tick(63)^tick(64)^tick(65)^tick(66)^tick(67)^tick(68)^end: done after 64^ |  | 0
+--turns 64 --reports |  |  | tick(5)^tick(6)^tick(7)^tick(8)^tick(9)^tick(10)^tick(11)^tick(12)^tick(13)^tick(14)^tick(15)^tick(16)^tick(17)^tick(18)^tick(19)^tick(20)^tick(21)^tick(22)^tick(23)^tick(24)^tick(25)^tick(26)^tick(27)^tick(28)^tick(29)^tick(30)^tick(31)^tick(32)^tick(33)^tick(34)^tick(35)^tick(36)^tick(37)^tick(38)^tick(39)^tick(40)^tick(41)^tick(42)^tick(43)^tick(44)^tick(45)^tick(46)^tick(47)^tick(48)^tick(49)^tick(50)^tick(51)^tick(52)^tick(53)^tick(54)^tick(55)^tick(56)^tick(57)^tick(58)^tick(59)^tick(60)^tick(61)^tick(62)^tick(63)^tick(64)^tick(65)^tick(66)^tick(67)^tick(68)^end: done after 64^ | A: 64 committed, 0 idle, 0 stale, turns done^environment: 0 committed, 64 idle, 0 stale, turns done^ | 0
 --turns 2 --inputs l |  | reset^% no^tick(5) |  | N2 index 1^ | 4
 --turns 100001 --inputs l |  | tick(5) |  | N1^ | 2
 --turns 100001 --inputs l |  | tick( |  | L2 line 1^ | 4
@@ -87,9 +90,9 @@ const COUNTS: &str = "\
 /// The same.
 const FAULTS: &str = "\
 --alone --turns 1 |  |  | end: fault 4 in component 1 at 0^ |  | 3
---alone --turns 1 --log --reports |  |  | {\"act\":\"go\",\"who\":0}^{\"end\":\"fault 4 in component 1 at 0\"}^ | G: 0 committed, 0 idle, 0 stale^P: 0 committed, 1 idle, 0 stale^environment: 0 committed, 1 idle, 0 stale^ | 3
+--alone --turns 1 --log --reports |  |  | {\"act\":\"go\",\"who\":0}^{\"end\":\"fault 4 in component 1 at 0\"}^ | G: 0 committed, 0 idle, 0 stale, faulted^P: 0 committed, 1 idle, 0 stale, turns done^environment: 0 committed, 1 idle, 0 stale, turns done^ | 3
 --turns 1 |  |  | end: fault 4 in component 1 at 0^ |  | 3
---turns 1 --log --reports |  |  | {\"act\":\"go\",\"who\":0}^{\"end\":\"fault 4 in component 1 at 0\"}^ | G: 0 committed, 0 idle, 0 stale^P: 0 committed, 1 idle, 0 stale^environment: 0 committed, 1 idle, 0 stale^ | 3
+--turns 1 --log --reports |  |  | {\"act\":\"go\",\"who\":0}^{\"end\":\"fault 4 in component 1 at 0\"}^ | G: 0 committed, 0 idle, 0 stale, faulted^P: 0 committed, 1 idle, 0 stale, turns done^environment: 0 committed, 1 idle, 0 stale, turns done^ | 3
 ";
 
 /// Three files in memory: the source `f`, the words `w` and the script `l`.

@@ -8,7 +8,7 @@ use Rattle.ioa_serving.specs.Alone.{IsScript}
 use Rattle.ioa_serving.specs.Subjects.{its_names, its_types}
 use Rattle.ioa_serving.proofs.Hosted.{count_same}
 use Rattle.ioa_serving.proofs.Subjects.{types_as}
-use Rattle.ioa_serving.proofs.Ran.{has_run}
+use Rattle.ioa_serving.proofs.RunServed.{has_run}
 use Rattle.ioa_serving.proofs.Refused.{err_so}
 use Rattle.ioa_serving.proofs.RoundRobin.{exactly}
 use Rattle.ioa_serving.proofs.Unrun.{count_is, has_script, has_words, scriptless, ungiven, unloaded, unrun_by, wordless}

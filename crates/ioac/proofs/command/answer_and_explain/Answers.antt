@@ -12,15 +12,18 @@ returns-clause-answers g c =
     let telling = g.E.Write.contents c.put.new.errors in
     let so_far = g.E.Device.failure_count c.serve_and_tell-served.new.errors in
     let failed = HasFailed so_far (g.E.Device.failure_count c.put.new.errors) in
-    let answered = c.serve_and_tell-served.result.1 in (
+    let answered = c.serve_and_tell-served.result.1 in
+    let tells = c.serve_and_tell-served.ensures.tells in (
       said,
       so_far,
       answered,
       c.put.ensures.counts,
+      tells.0,
+      tells.1,
       followed c.serve_and_tell-served.result.0 _ _ _ _ (IsServedRemark (g.F.Store.holds store) (g.F.Store.lacks store) c.args.asked.now)
           (IsUnservedRemark (g.F.Store.holds store) (g.F.Store.lacks store) c.args.asked.now) (λ text. IsPut text answered said telling failed c.put.result)
-          (string_bytes c.remarks_or_none-text.result) (rw (sym c.keep.ensures.inner) c.serve_and_tell-served.ensures.served)
-          (rw (sym c.keep.ensures.inner) c.serve_and_tell-served.ensures.unserved) c.remarks_or_none-text.ensures.served c.remarks_or_none-text.ensures.unserved
+          (string_bytes c.remarks_or_none-text.result) (rw (sym c.keep.ensures.inner) tells.2)
+          (rw (sym c.keep.ensures.inner) tells.3) c.remarks_or_none-text.ensures.served c.remarks_or_none-text.ensures.unserved
           (subst (λ text. IsPut text answered said telling failed c.put.result) c.as_str.ensures.value c.put.ensures.puts),
     )
 

@@ -1,5 +1,6 @@
 -- From a program's run to what is written and told of the subject's run.
-use Rattle.std.proofs.Common.{◌≡◌, ◌≤◌, ◌⊎◌, ◌∙◌, ℕ, List, Option, Err, Vec, All, inl, inr, length, refl, subst, sym, take}
+use Rattle.std.proofs.Common.{◌≡◌, ◌≤◌, ◌⊎◌, ◌∙◌, ℕ, List, Option, Some, Result, Ok, Err, IfOk, Vec, All, ap, inl, inr, length, subst, sym, take}
+use Rattle.std.specs.Prelude.{IfErr}
 use Rattle.std.specs.Global.{Global}
 use Rattle.std.specs.Io.KnownBytes.{Appends, Keeps}
 use Rattle.std.specs.Result.{IsErrOf}
@@ -16,16 +17,17 @@ use Rattle.ioa_run.specs.Outcomes.{HaveEnded, IsLogOf}
 use Rattle.ioa_run.specs.Reports.{AreTold}
 use Rattle.ioa_serving.specs.declared.failure.Failure.{Failure}
 use Rattle.ioa_serving.specs.declared.run.Ran.{Ran}
+use Rattle.ioa_serving.specs.declared.served.Served.{Served}
 use Rattle.ioa_request.specs.declared.settings.Settings.{Settings}
 use Rattle.ioa_serving.specs.declared.status.Status.{Status}
-use Rattle.ioa_serving.specs.Alone.{BeginsRunOf, IsExact, IsReady, IsRunServed, IsUnrun}
-use Rattle.ioa_serving.specs.Failing.{IsUnwritten}
+use Rattle.ioa_serving.specs.Alone.{CameOf, IsCutShort, IsExact, IsReady, IsRunServed, IsRunUnserved, written}
 use Rattle.ioa_serving.specs.HasRun.{HasRun}
 use Rattle.ioa_serving.specs.Running.{RunsAs}
+use Rattle.ioa_serving.specs.Serving.{reports_of, wants_of}
 use Rattle.ioa_serving.specs.Statuses.{ending_status}
 use Rattle.ioa_serving.specs.Subjects.{Subject}
-use Rattle.ioa_serving.specs.Traces.{performed, table_reports, table_text}
-use Rattle.ioa_serving.proofs.Hosted.{inputs_same, is_run, log_of, performed_within, text_same, told_same}
+use Rattle.ioa_serving.specs.Traces.{performed, ran_text, table_reports}
+use Rattle.ioa_serving.proofs.Hosted.{inputs_same, is_run, log_of, performed_within, text_same, told_same, wants_same}
 
 -- the program, its log and its reports, of what the run gave
 pub has_run : (holds : Name → List ℕ → Type 0) (s : Settings) (r : Ran) (p : Prog) (o : Outcome) (x : Subject) (script : List Act) → r.program ≡ p → r.log.entries ≡ o.log
@@ -50,61 +52,58 @@ has_run holds s r p o x script of entries end reports ready runs fine (b, log, t
       (subst (λ (rs : Vec Report Global). IsExact holds s x script (log_of o.log.items o.end) rs.items) (sym reports) exact));
 }
 
--- what is written of it
-abbrev pub ran_text : Settings → Ran → List ℕ
-ran_text s r = table_text r.program s.log (logged r.log) (performed r.log.end)
-
 module _ (holds : Name → List ℕ → Type 0) (s : Settings) (r : Ran) (k : HasRun holds s r) where
   pub within : performed r.log.end ≤ length r.log.entries.items
   within = performed_within r.program k.board r.log.entries.items r.log.end k.states k.log
 
-  pub served : (before after telling : Option (List ℕ)) (done : Status) → Appends before after (ran_text s r) → telling ≡ table_reports r.program s.reports r.reports.items
-      → done ≡ ending_status (log_end r.log.end) → IsRunServed holds s before after telling done
-  served before after telling done output told status = record {
-    subject = k.subject;
+  came : CameOf holds s k.subject (logged r.log) r.reports.items
+  came = record {
     script = k.script;
     ready = k.ready;
     turns = k.turns;
     inputs = inputs_same r.program k.subject k.runs k.script k.inputs;
-    log = logged r.log;
-    reports = r.reports.items;
     run = is_run r.program k.subject k.runs k.board r.log.entries.items r.log.end k.states k.log k.script s.turns r.reports.items k.told k.ended;
     exact = k.exact;
-    output = subst (Appends before after) (text_same r.program k.subject k.runs k.board r.log.entries.items r.log.end k.states k.log s.log) output;
+  }
+
+  same_text : ran_text s.log r ≡ written k.subject s.log (logged r.log)
+  same_text = text_same r.program k.subject k.runs k.board r.log.entries.items r.log.end k.states k.log s.log
+
+  served_by : (before after telling : Option (List ℕ)) (done : Status) → Appends before after (ran_text s.log r) → telling ≡ table_reports r.program s.reports r.reports.items
+      → done ≡ ending_status (log_end r.log.end) → IsRunServed holds s before after telling (wants_of (Some r)) done
+  served_by before after telling done output told status = record {
+    subject = k.subject;
+    log = logged r.log;
+    reports = r.reports.items;
+    came = came;
+    output = subst (Appends before after) same_text output;
     told = told ∙ told_same r.program k.subject k.runs s.reports r.reports.items;
+    wanting = wants_same r.program k.subject k.runs r.reports.items;
     status = status;
   }
 
-  begun : (before after : Option (List ℕ)) → (n : ℕ) × Appends before after (take n (ran_text s r)) → BeginsRunOf holds s before after
-  begun before after output = record {
+  -- what comes of its text
+  pub served : (before after : Option (List ℕ)) (x : Result Served Failure)
+      → IfOk x (λ d. Appends before after (ran_text s.log r) × (reports_of d ≡ table_reports r.program s.reports r.reports.items) × (d.status ≡ ending_status (log_end r.log.end)))
+      → IfOk x (λ d. IsRunServed holds s before after (reports_of d) (wants_of (Some r)) d.status)
+  served before after (Ok d) h = served_by before after (reports_of d) d.status h.0 h.1 h.2
+  served before after (Err e) h = tt
+
+  pub cut : (lacks : Name → Type 0) (failed : Type 0) (before after : Option (List ℕ)) (x : Result Served Failure) → IfErr x (λ e. IsCutShort (ran_text s.log r) failed before after e)
+      → IfErr x (λ e. IsRunUnserved holds lacks s failed before after (wants_of (Some r)) e)
+  cut lacks failed before after (Ok d) h = tt
+  cut lacks failed before after (Err e) h = inr (record {
     subject = k.subject;
-    script = k.script;
-    ready = k.ready;
-    turns = k.turns;
-    inputs = inputs_same r.program k.subject k.runs k.script k.inputs;
     log = logged r.log;
     reports = r.reports.items;
-    run = is_run r.program k.subject k.runs k.board r.log.entries.items r.log.end k.states k.log k.script s.turns r.reports.items k.told k.ended;
-    exact = k.exact;
-    taken = output.0;
-    begun = subst (λ t. Appends before after (take output.0 t))
-        (text_same r.program k.subject k.runs k.board r.log.entries.items r.log.end k.states k.log s.log) output.1;
-  }
+    came = came;
+    cut = subst (λ text. IsCutShort text failed before after e) same_text h;
+    wanting = wants_same r.program k.subject k.runs r.reports.items;
+  })
 
-  -- the device failed, or memory was short
-  pub write_failed : {T : Type 0} (lacks : Name → Type 0) (failed : Type 0) (x : LogErr) → (x ≡ LogErr.Io) ⊎ (x ≡ LogErr.OutOfMemory) → (IsErrOf {T = T} (Err x) LogErr.Io → failed)
-      → IsUnrun holds lacks s failed (Failure.List x)
-  write_failed {T} lacks failed x (inl e) io =
-      subst (λ y. IsUnrun holds lacks s failed (Failure.List y)) (sym e)
-      (k.subject, k.script, k.ready, k.turns, inputs_same r.program k.subject k.runs k.script k.inputs, io (subst (λ y. IsErrOf {T = T} (Err y) LogErr.Io) (sym e) refl))
-  write_failed lacks failed x (inr e) io = subst (λ y. IsUnrun holds lacks s failed (Failure.List y)) (sym e) tt
-
-  pub write_left : {T : Type 0} (before after : Option (List ℕ)) (x : LogErr) → (x ≡ LogErr.Io) ⊎ (x ≡ LogErr.OutOfMemory)
-      → (IsErrOf {T = T} (Err x) LogErr.Io → (n : ℕ) × Appends before after (take n (ran_text s r))) → (IsErrOf {T = T} (Err x) LogErr.OutOfMemory → Keeps before after)
-      → IsUnwritten (BeginsRunOf holds s) before after (Failure.List x)
-  write_left {T} before after x (inl e) io memory =
-      subst (λ y. IsUnwritten (BeginsRunOf holds s) before after (Failure.List y)) (sym e)
-      (inr (begun before after (io (subst (λ y. IsErrOf {T = T} (Err y) LogErr.Io) (sym e) refl))))
-  write_left {T} before after x (inr e) io memory =
-      subst (λ y. IsUnwritten (BeginsRunOf holds s) before after (Failure.List y)) (sym e)
-      (memory (subst (λ y. IsErrOf {T = T} (Err y) LogErr.OutOfMemory) (sym e) refl))
+-- the device failed, or memory was short
+pub cut_by : {T : Type 0} (text : List ℕ) (failed : Type 0) (before after : Option (List ℕ)) (x : LogErr) → (x ≡ LogErr.Io) ⊎ (x ≡ LogErr.OutOfMemory) → (IsErrOf {T = T} (Err x) LogErr.Io → failed)
+    → (IsErrOf {T = T} (Err x) LogErr.Io → (n : ℕ) × Appends before after (take n text)) → (IsErrOf {T = T} (Err x) LogErr.OutOfMemory → Keeps before after)
+    → IsCutShort text failed before after (Failure.List x)
+cut_by text failed before after x (inl e) io begun memory = inl (ap Failure.List e, io (ap Err e), begun (ap Err e))
+cut_by text failed before after x (inr e) io begun memory = inr (inl (ap Failure.List e), memory (ap Err e))
