@@ -1,5 +1,5 @@
 -- What is told, where an explanation is asked for, of a request that was served: by what the files may hold now, and by what was heard of standard input.
-use Rattle.std.specs.Prelude.{◌≡◌, ◌≢◌, ◌⊎◌, ◌++◌, ℕ, Bool, true, false, if◌then◌else◌, List, [], Option, Some, None, codes}
+use Rattle.std.specs.Prelude.{◌≡◌, ◌≢◌, ◌⊎◌, ◌++◌, ℕ, Bool, true, if◌then◌else◌, List, [], Option, Some, None, codes}
 use Rattle.std.specs.Borrow.{Bor}
 use Rattle.std.specs.Option.{option_copied, option_map}
 use Rattle.ioa_value.specs.Actions.{Act, Name}
@@ -10,19 +10,16 @@ use Rattle.ioa_tree.specs.Hosts.{Hosted}
 use Rattle.ioa_compose.specs.declared.composition.Composition.{Composition}
 use Rattle.ioa_compose.specs.Held.{composed_of}
 use Rattle.ioa_compose.specs.Stands.{Stands}
-use Rattle.ioa_compile.specs.Programs.{Prog}
 use Rattle.ioa_system.specs.Logs.{Logged, actions_of}
 use Rattle.ioa_log.specs.LogTexts.{GoesOnAt, HasNoEnd, NoEntryAt, NotJsonAt, ReadsLog}
 use Rattle.ioa_account.specs.declared.remarks.Told.{Told}
-use Rattle.ioa_account.specs.Objects.{TellsObject}
 use Rattle.ioa_account.specs.Quoted.{line_text}
 use Rattle.ioa_account.specs.Remarks.{TellsDifference, TellsEnd, TellsInspected, TellsMonitored, list_line, log_line}
 use Rattle.ioac.specs.declared.remarks.ended.Ended.{Ended}
 use Rattle.ioa_request.specs.declared.request.Request.{Request}
 use Rattle.ioa_serving.specs.declared.status.Status.{Status}
-use Rattle.ioa_serving.specs.declared.failure.Failure.{Failure}
-use Rattle.ioa_serving.specs.Failing.{IsRefusedGiven, IsRefusedSource}
-use Rattle.ioa_serving.specs.Headline.{Declares, IsObjectOf, begins_object}
+use Rattle.ioa_serving.specs.Failing.{IsRefusedSource}
+use Rattle.ioa_serving.specs.Headline.{Declares, begins_object}
 use Rattle.ioa_serving.specs.Logs.{performed_in}
 
 -- ---- the source that is looked at once more
@@ -115,52 +112,16 @@ Tells (Request.Dump file) (Ended.Served status) t before after = after ≡ befor
 Tells (Request.Explain topic) (Ended.Served status) t before after = after ≡ before
 Tells Request.Library (Ended.Served status) t before after = after ≡ before
 
--- ---- of an object, which has no source: only how a monitor took a log, by the names of its components
-
--- a log was monitored
-abbrev pub is_monitored : Request → Ended → Bool
-is_monitored request Ended.Diverged = false
-is_monitored (Request.Monitor file composition) (Ended.Served status) = true
-is_monitored (Request.Replay file composition) (Ended.Served status) = false
-is_monitored (Request.ReplayStates file composition) (Ended.Served status) = false
-is_monitored (Request.ReplayLog file composition) (Ended.Served status) = false
-is_monitored (Request.ReplayLogStates file composition) (Ended.Served status) = false
-is_monitored (Request.ReplayInvariants file composition) (Ended.Served status) = false
-is_monitored (Request.Log file composition) (Ended.Served status) = false
-is_monitored (Request.Chart file composition) (Ended.Served status) = false
-is_monitored (Request.Graph file composition) (Ended.Served status) = false
-is_monitored (Request.Run settings) (Ended.Served status) = false
-is_monitored (Request.Check file compositions) (Ended.Served status) = false
-is_monitored (Request.Compile file out composition) (Ended.Served status) = false
-is_monitored (Request.Dump file) (Ended.Served status) = false
-is_monitored (Request.Explain topic) (Ended.Served status) = false
-is_monitored Request.Library (Ended.Served status) = false
-
--- the program of which the bytes are the object; none, where they are no object, or are refused
-abbrev pub IsProgramIn : List ℕ → Option Name → Option Prog → Type 0
-IsProgramIn bytes name None = (begins_object bytes ≡ false) ⊎ ((e : Failure) × IsRefusedGiven bytes name e)
-IsProgramIn bytes name (Some p) = IsObjectOf bytes name p
-
--- of the log that was heard this is told; of other bytes nothing
-abbrev pub TellsObjectIn : List ℕ → Option Prog → List ℕ → List ℕ → Type 0
-TellsObjectIn input None before after = after ≡ before
-TellsObjectIn input (Some p) before after =
-    ((log : Logged) × ReadsLog p.types input log × TellsObject p input (performed_in log) before after) ⊎ (IsNoLog p.types input × (after ≡ before))
-
-abbrev pub TellsNameless : Bool → List ℕ → Option Name → List ℕ → List ℕ → List ℕ → Type 0
-TellsNameless false bytes name input before after = after ≡ before
-TellsNameless true bytes name input before after = (p : Option Prog) × IsProgramIn bytes name p × TellsObjectIn input p before after
-
--- It is told of the composition that the file declares, by its name and bytes. Of a refused source nothing is told.
-abbrev pub TellsIn : Request → Ended → Name → Option Name → List ℕ → List ℕ → Option Composition → List ℕ → List ℕ → Type 0
-TellsIn request ended file name source input None before after = TellsNameless (is_monitored request ended) source name input before after
-TellsIn request ended file name source input (Some c) before after =
+-- It is told of the composition that the file declares, by its name and bytes. Of an object, which has no names, and of a refused source nothing is told.
+abbrev pub TellsIn : Request → Ended → Name → List ℕ → List ℕ → Option Composition → List ℕ → List ℕ → Type 0
+TellsIn request ended file source input None before after = after ≡ before
+TellsIn request ended file source input (Some c) before after =
     (t : Told) × (t.file.now ≡ file) × (t.source.now ≡ source) × (t.input.now ≡ input) × (t.composition.now ≡ c) × Tells request ended t before after
 
 abbrev pub TellsEnded : (Name → List ℕ → Type 0) → (Name → Type 0) → Request → Option (Name × Option Name) → Ended → List ℕ → List ℕ → List ℕ → Type 0
 TellsEnded holds lacks request None ended input before after = after ≡ before
 TellsEnded holds lacks request (Some from) ended input before after =
-    (source : List ℕ) × (c : Option Composition) × IsLoaded holds lacks from.0 source × IsComposed source from.1 c × TellsIn request ended from.0 from.1 source input c before after
+    (source : List ℕ) × (c : Option Composition) × IsLoaded holds lacks from.0 source × IsComposed source from.1 c × TellsIn request ended from.0 source input c before after
 
 -- a source is to be checked, of which there may be warnings
 abbrev pub IsChecking : Request → Type 0

@@ -10,7 +10,6 @@ ghost use Rattle.ioa_serving.specs.Logs.{performed_in};
 ghost use Rattle.ioac.specs.Remarks as spec;
 ghost use Rattle.ioac.specs.Remarks.{IsComposed, IsLoaded, IsNoLog, OfHosts, OfLog, Tells, TellsEnded, TellsListEnd, TellsLogEnd};
 
-use crate::remarks::nameless;
 use crate::remarks::places::source_of;
 use ioa_account::{
     Told, actions_in, put_difference, put_inspected, put_list_end, put_log_end, put_monitored,
@@ -33,7 +32,7 @@ pub enum Ended {
     Diverged,
 }
 
-/// Puts behind the text what there is to say of a request that ended so. Of an object, which has no source, it is only how a monitor took a log.
+/// Puts behind the text what there is to say of a request that ended so. Of an object nothing is said: it has no names.
 pub fn put<F: Store>(
     alloc: Global,
     text: &mut String,
@@ -49,7 +48,7 @@ pub fn put<F: Store>(
     };
     let source = loaded(alloc, file, store)?;
     let Some(composition) = composed(alloc, source.as_slice(), name)? else {
-        return nameless::put(alloc, text, asked, ended, source.as_slice(), name, input);
+        return Ok(());
     };
     let told = Told {
         file,
@@ -191,7 +190,7 @@ fn put_monitor(alloc: Global, text: &mut String, told: &Told<'_>) -> Result<(), 
 }
 
 /// The log that the bytes are, if they are one. They are at hand, so that no device fails.
-pub fn heard_log(alloc: Global, types: &Types, bytes: &[u8]) -> Result<Option<Log>, OutOfMemory>
+fn heard_log(alloc: Global, types: &Types, bytes: &[u8]) -> Result<Option<Log>, OutOfMemory>
     ensures log { IfOk result (λ heard. IfSome heard (λ log. ReadsLog types.now bytes.now (logged log))) }
     ensures none { IfOk result (λ heard. heard ≡ None → IsNoLog types.now bytes.now) }
 {

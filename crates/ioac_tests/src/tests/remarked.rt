@@ -1,4 +1,4 @@
-use crate::tests::shelf::{Given, Ran, object, run};
+use crate::tests::shelf::{Given, Ran, run};
 use ioa_rows::{column, columns, is_row};
 use std::alloc::Global;
 use std::process::Abort;
@@ -63,27 +63,16 @@ check f | automaton C^signature output tick(k: Int)^states c: Int^transitions^  
 check f | automaton C^signature output tick(k: Int)^states c: Int := true^transitions^  output tick^  pre c < 9^  propose k := c^  eff c := c + 1 |  | f, line 3:^    states c: Int := true^warning: f, line 5: no precondition names k, so tick is enabled with any value of it^ | E7
 "#;
 
-/// The same, where the file is the object of a source: of a monitor what there is to say by the names of its components, and of nothing else.
-const OBJECTS: &str = r#"
-monitor f | automaton C^signature output tick(k: Int)^states c: Int^transitions output tick pre k = c propose k := c eff c := c + 1^composition One components A: C | {"act":"tick(0)","who":0}^{"act":"other","who":1}^{"act":"tick(5)","who":0}^{"end":"done after 3"}^ | the specification has 2 of 3 actions of the log^log, line 3:^    {"act":"tick(5)","who":0}^tick(5) is not enabled in A^
-monitor f | automaton C^signature output tick(k: Int)^states c: Int^transitions output tick pre k = c propose k := c eff c := c + 1^composition One components A: C | {"act":"tick(0)","who":0}^{"end":"done after 1"}^ | the specification has 1 of 1 actions of the log^
-monitor f | automaton C^signature output tick(k: Int)^states c: Int^transitions output tick pre k = c propose k := c eff c := c + 1^composition One components A: C | {"act":"other","who":1}^{"end":"done after 1"}^ | the specification has 0 of 1 actions of the log: nothing was specified^
-monitor f | automaton A^signature output a^transitions output a^automaton D^signature input a^states n: Int^transitions input a eff n := 1 div n^composition Two components X: A; E: D | {"act":"a","who":0}^{"end":"done after 1"}^ | the specification has 1 of 1 actions of the log^log, line 1:^    {"act":"a","who":0}^fault 2 of a in E: the divisor is 0^
-monitor f | type Ints = seq 16 of Int^automaton Host^signature output put(m: Int)^states q: Ints; stable t: Int^transitions output put pre m = t propose m := t eff q := append(q, m); t := t + 1^composition One components A: Host crash down recover up | {"act":"put(0)","who":0}^{"act":"down","who":1}^{"act":"put(1)","who":0}^{"end":"done after 3"}^ | the specification has 3 of 3 actions of the log^log, line 3:^    {"act":"put(1)","who":0}^put(1) is not enabled in A^
-replay f | automaton C^signature output tick(k: Int)^states c: Int^transitions output tick pre k = c propose k := c eff c := c + 1^composition One components A: C | tick(5)^
-"#;
-
 /// What the program prints by these words.
 fn ran<H: Abort + Threads + Wait + Clock + Sync>(
     rt: &H,
     alloc: Global,
     words: &str,
-    file: &[u8],
     columns: &[String],
 ) -> Ran {
     let given = Given {
         words,
-        file,
+        file: column(columns, 1).as_bytes(),
         list: column(columns, 2),
     };
     run(rt, alloc, &given)
@@ -102,51 +91,30 @@ fn told<H: Abort + Threads + Wait + Clock + Sync>(
     let code = column(columns, 4);
     if !code.is_empty() {
         let words = format!(in alloc; "explain {code}").expect(rt, "memory");
-        let said = ran(rt, alloc, words.as_str(), b"", columns);
+        let said = ran(rt, alloc, words.as_str(), columns);
         told.push(b'\n').expect(rt, "memory");
         told.extend_from_slice(&said.output).expect(rt, "memory");
     }
     told
 }
 
-fn expect_remark<H: Abort + Threads + Wait + Clock + Sync>(
-    rt: &H,
-    alloc: Global,
-    row: &str,
-    is_object: bool,
-) {
+fn expect_remark<H: Abort + Threads + Wait + Clock + Sync>(rt: &H, alloc: Global, row: &str) {
     let columns = columns(alloc, row).expect(rt, "columns");
-    let source = column(&columns, 1);
-    let file = if is_object {
-        object(rt, alloc, source)
-    } else {
-        Vec::from_slice(alloc, source.as_bytes()).expect(rt, "memory")
-    };
     let words = column(&columns, 0);
-    let without = ran(rt, alloc, words, &file, &columns);
+    let without = ran(rt, alloc, words, &columns);
     let flagged = format!(in alloc; "{words} --explain").expect(rt, "memory");
-    let with = ran(rt, alloc, flagged.as_str(), &file, &columns);
+    let with = ran(rt, alloc, flagged.as_str(), &columns);
     assert!(rt; with.output == without.output, "output in {row}");
     assert!(rt; with.status == without.status, "status in {row}");
     let wanted = told(rt, alloc, &without.errors, &columns);
     assert!(rt; with.errors == wanted, "errors in {row}");
 }
 
-fn expect_remarks<H: Abort + Threads + Wait + Clock + Sync>(
-    rt: &H,
-    alloc: Global,
-    rows: &str,
-    is_object: bool,
-) {
-    for row in rows.lines() {
-        if is_row(row) {
-            expect_remark(rt, alloc, row, is_object);
-        }
-    }
-}
-
 #[test]
 fn outcomes_are_explained(rt: HostRuntime) {
-    expect_remarks(&rt, rt.alloc(), REMARKS, false);
-    expect_remarks(&rt, rt.alloc(), OBJECTS, true);
+    for row in REMARKS.lines() {
+        if is_row(row) {
+            expect_remark(&rt, rt.alloc(), row);
+        }
+    }
 }
