@@ -15,7 +15,7 @@ returns-clause-served g c =
       | in-Ok+in_ok-put_served-in-Ok w ↦
           subst (λ r. IfOk r tells) (sym w.in-Ok.is)
           (subst (λ t. IsRemark (g.F.Store.holds c.args.store.now) (g.F.Store.lacks c.args.store.now) c.args.asked.now c.args.input.now w.in-Ok.served.status (string_bytes t)) (sym w.text-is)
-          (w.in_ok-put_served-in-Ok.ensures c.new-text.ensures))
+          (w.in_ok-put_served-in-Ok.ensures c.new-text.ensures.bytes))
       | in-Err+in_ok-put_failure-in-Err w ↦ subst (λ r. IfOk r tells) (sym w.in-Err.is) tt
     ]
 
@@ -28,5 +28,5 @@ returns-clause-unserved g c =
       | in-Err+in_ok-put_failure-in-Err w ↦
           subst (λ r. IfErr r tells) (sym w.in-Err.is)
           (λ n e. subst (λ t. differs n [] (string_bytes t)) (sym w.text-is)
-          (subst (λ old. differs n old (string_bytes c.put_failure.new.text)) c.new-text.ensures (w.in_ok-put_failure-in-Err.ensures n e)))
+          (subst (λ old. differs n old (string_bytes w.put_failure.new.text)) c.new-text.ensures.bytes (w.in_ok-put_failure-in-Err.ensures n e)))
     ]
