@@ -78,11 +78,11 @@ for kilobytes in $(seq 400000 -4000 4000); do
 done
 [ "$refusals" -gt 1 ] || fail "threads" "none is refused, or not so"
 
-# Whether with this memory some is refused to a worker in its turn, and the run is given all the same: a report counts fewer turns than the worker has, and the
-# log is accepted
+# Whether with this memory some is refused to a worker in its turn, and the run is given all the same: that is told, its report counts fewer turns than the worker
+# has, and the log is accepted
 shortened() {
   (ulimit -v "$1" && "$program" run "$work/short.ioa" --turns 100000 --log --reports > "$work/log" 2> "$work/reports") 2> "$work/shell" || return 1
-  awk '$2 + $4 + $6 < 100000 { short = 1 } END { exit !short }' "$work/reports" && counted "$work/log" "$work/reports" \
+  grep -q '^[AB]: memory$' "$work/reports" && awk -v turns=100000 -f "$top/counted.awk" "$work/log" "$work/reports" \
     && "$program" replay "$work/short.ioa" --log < "$work/log" > "$work/replayed"
 }
 
