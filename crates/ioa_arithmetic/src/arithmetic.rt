@@ -1,3 +1,5 @@
+//! Operators on whole numbers of 64 bits. No result is wrapped: one that does not fit is a fault.
+
 ghost use Rattle.std.specs.Prelude.{◌≡◌, ◌+ℤ◌, ◌-ℤ◌, ◌*ℤ◌, neg_ℤ};
 ghost use Rattle.ioa_arithmetic.specs.Arithmetic.{tested, quotient, remainder, fault_number};
 

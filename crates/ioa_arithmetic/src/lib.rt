@@ -1,4 +1,5 @@
-//! Whole numbers of 64 bits: what operators on them give, and why an operator has no value.
+//! Whole numbers of 64 bits: what operators on them give, and why an operator has no value. A
+//! result is the number that mathematics gives, or a `Fault`.
 #![tactic(auto)]
 
 mod arithmetic;

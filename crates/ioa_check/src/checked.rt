@@ -1,3 +1,5 @@
+//! The type that keeps the rules of sources, so that nothing above asks them again.
+
 ghost use Rattle.std.specs.Prelude.{◌≡◌, ◌≢◌, IsTrue, IfOk, IfErr, OnOk};
 ghost use Rattle.ioa_tree.specs.Names.{LegalNames};
 ghost use Rattle.ioa_tree.specs.Types.{types_of};

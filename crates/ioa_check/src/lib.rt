@@ -1,4 +1,5 @@
-//! Sources that are well formed.
+//! Sources that are well formed. A `Checked` keeps that its source breaks no rule of names, types
+//! and limits, that some tokens spell it, and the table of its types.
 #![tactic(auto)]
 
 mod checked;

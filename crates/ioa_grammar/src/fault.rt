@@ -1,3 +1,5 @@
+//! Failures of reading, which tell how many tokens are left, and not yet a line.
+
 use std::alloc::{AllocError, AllocFailed};
 
 /// Why the tokens do not go on as the grammar wants.

@@ -1,20 +1,29 @@
-//! The grammar: tokens are read as declarations, and how operators bind and are written.
+//! The grammar: tokens are read as declarations, and one table says how operators bind and are
+//! written, from which reading and printing take all else. What is read is what the tokens spell,
+//! at most 64 deep; or it is told on which line they spell nothing.
 #![tactic(auto)]
 
-mod automata;
-mod calls;
-mod compositions;
+// Tokens that are still to be read, and why they are not.
 mod cursor;
-mod expressions;
 mod fault;
-mod invariants;
+
+// Expressions.
+mod calls;
+mod expressions;
 mod measured;
 mod operators;
+
+// Automata.
+mod automata;
 mod signatures;
-mod sources;
 mod statements;
 mod states;
 mod transitions;
+
+// The other declarations, and sources.
+mod compositions;
+mod invariants;
+mod sources;
 mod types;
 
 pub use operators::{stands_around, word_of};

@@ -1,12 +1,19 @@
-//! Tokens of the language, and why a source is refused.
+//! Texts as tokens, each with the line on which it begins, and `Refusal`, by which this crate and
+//! those above it say why a source or a composition is refused. A text has one list of tokens, or
+//! stops on one line.
 #![tactic(auto)]
 
-mod front;
-mod laws;
-mod lexer;
+// Tokens and refusals.
 mod refusal;
-mod scan;
 mod token;
+
+// From a text to its tokens.
+mod front;
+mod lexer;
+mod scan;
+
+// Laws.
+mod laws;
 
 pub use ioa_value::Terminal;
 pub use laws::{one_answer, spaced_tokens, tokens_alone, written_once};

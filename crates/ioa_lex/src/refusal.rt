@@ -1,3 +1,5 @@
+//! Refusals of texts, sources and compositions: one type for all crates that may refuse them.
+
 use ioa_value::{Fault, OutOfMemory};
 use std::alloc::{AllocError, AllocFailed};
 use thiserror::Error;

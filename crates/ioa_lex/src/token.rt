@@ -1,3 +1,5 @@
+//! Tokens: what the grammar goes over, in the place of bytes.
+
 use ioa_value::Terminal;
 /// What a token is.
 #[derive(Debug, Drop)]

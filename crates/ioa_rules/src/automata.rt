@@ -1,3 +1,5 @@
+//! The rules of an automaton: of its names and types, its start values, signature and transitions.
+
 ghost use Rattle.std.specs.Prelude.{◌≡◌, ◌&&◌, [], map, option_map};
 ghost use Rattle.std.specs.List.{list_all};
 ghost use Rattle.ioa_tree.specs.Compositions as compositions;

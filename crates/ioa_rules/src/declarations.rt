@@ -1,3 +1,5 @@
+//! The rules of a source, one after another, and those of a composition.
+
 ghost use Rattle.std.specs.Prelude.{◌≡◌, [], map, true, false, IfOk, IsTrue};
 ghost use Rattle.std.specs.List.{list_all, list_any};
 ghost use Rattle.std.specs.Option.{option_map_or};

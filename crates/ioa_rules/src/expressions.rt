@@ -1,3 +1,5 @@
+//! Types of expressions, by the types of their operands, and the line at which there is none.
+
 ghost use Rattle.std.specs.Prelude.{◌≡◌, [], ◌∷◌, Some, map};
 ghost use Rattle.std.specs.Option.{option_map};
 ghost use Rattle.ioa_value.specs.Operators as operators;

@@ -1,3 +1,5 @@
+//! Variables, formals and parameters by their types, which are declared before them.
+
 ghost use Rattle.std.specs.Prelude.{◌≡◌, map};
 ghost use Rattle.std.specs.List.{list_all};
 ghost use Rattle.std.specs.Option.{option_map};

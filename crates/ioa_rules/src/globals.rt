@@ -1,3 +1,5 @@
+//! The global space of names, which types, automata and compositions share.
+
 ghost use Rattle.std.specs.Prelude.{◌≡◌, [], ◌∷◌, IfOk, map};
 ghost use Rattle.ioa_tree.specs.Tree.{declared_type};
 ghost use Rattle.ioa_tree.specs.View.{name_of, declaration_of, type_declaration_of, type_form_of, tree_of};

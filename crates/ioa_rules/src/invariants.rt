@@ -1,3 +1,5 @@
+//! The rule of invariants, which are asked in states and see no parameter.
+
 ghost use Rattle.ioa_tree.specs.View.{invariant_of, tree_of};
 ghost use Rattle.ioa_tree.specs.WellFormed as well_formed;
 ghost use Rattle.ioa_rules.specs.KnownTypes.{whole, early};

@@ -1,3 +1,5 @@
+//! Types are declared before they are used: a declaration sees the beginning of the table alone.
+
 ghost use Rattle.std.specs.Prelude.{◌≡◌, Some, None, IfSome, IfNone};
 ghost use Rattle.std.specs.Option.{option_map};
 ghost use Rattle.ioa_value.specs.Plain.{number};

@@ -1,22 +1,32 @@
-//! Names, types and limits: the rules by which sources are well formed.
+//! The rules by which sources are well formed: of names, of types and of limits. `source_fine`
+//! answers the table of a source's types, or which rule is broken, and on which line.
 #![tactic(auto)]
 
-mod automata;
-mod declarations;
-mod expressions;
-mod fields;
-mod globals;
-mod invariants;
-mod known_types;
+// Limits.
 mod limits;
+
+// Names.
+mod globals;
 mod name_set;
 mod names;
-mod positions;
+
+// Types, and what names stand for.
+mod fields;
+mod known_types;
 mod scope;
-mod statements;
-mod transitions;
-mod tuples;
 mod types;
+
+// Expressions and statements.
+mod expressions;
+mod statements;
+mod tuples;
+
+// Declarations.
+mod automata;
+mod declarations;
+mod invariants;
+mod positions;
+mod transitions;
 
 pub use automata::automaton_named;
 pub use declarations::source_fine;

@@ -1,3 +1,5 @@
+//! The rules of limits, by counts alone, so that no other rule goes over a tree that is too large.
+
 ghost use Rattle.std.specs.Prelude.{◌≡◌, ◌+◌, ◌≤◌, ◌&&◌, map, length, filter, sum, nat_le};
 ghost use Rattle.std.specs.List.{list_all};
 ghost use Rattle.ioa_tree.specs.View.{automaton_of, assembly_of, entry_of, transition_of, declaration_of, type_declaration_of, tree_of, proposal_of, stmt_of, stmts_of, arms_of, expr_of, exprs_of};

@@ -1,3 +1,5 @@
+//! Names in lists, of whatever they are: which item has one, and whether all differ.
+
 ghost use Rattle.std.specs.Prelude.{◌≡◌, ℕ, List, map, length, nat_le, is_some};
 ghost use Rattle.ioa_tree.specs.View.{name_of};
 ghost use Rattle.ioa_tree.specs.WellFormed as well_formed;

@@ -1,3 +1,5 @@
+//! Scopes: which names each kind of expression may use, and of which types they are.
+
 ghost use Rattle.std.specs.Prelude.{◌≡◌, [], map};
 ghost use Rattle.std.specs.Option.{option_map};
 ghost use Rattle.ioa_tree.specs.View.{name_of, automaton_of, entry_of};

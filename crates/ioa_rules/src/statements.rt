@@ -1,3 +1,5 @@
+//! The rules of effects: of what is asked in them, and of what is assigned.
+
 ghost use Rattle.std.specs.Prelude.{◌≡◌, ◌&&◌, []};
 ghost use Rattle.ioa_tree.specs.Tree.{assign};
 ghost use Rattle.ioa_tree.specs.View.{automaton_of, entry_of, name_of, expr_of, stmt_of, stmts_of, arms_of};

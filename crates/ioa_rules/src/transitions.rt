@@ -1,3 +1,6 @@
+//! The rules of transitions: they match the signature one to one, inputs are always enabled, and
+//! what a component performs proposes values for its parameters.
+
 ghost use Rattle.std.specs.Prelude.{◌≡◌, ◌==◌, [], ◌||◌, ◌&&◌, not, map, filter, length, Some, if◌then◌else◌};
 ghost use Rattle.std.specs.List.{list_all, list_any};
 ghost use Rattle.std.specs.Str.{bytes_eq};

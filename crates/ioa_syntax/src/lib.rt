@@ -1,4 +1,6 @@
-//! Sources: texts are read as trees, and trees are printed.
+//! Sources: texts are read as trees, and trees are printed. A `Source` keeps that some tokens spell
+//! it, that its names are legal, and that nothing in it is deeper than 64. The trees are handed on
+//! from here.
 #![tactic(auto)]
 
 mod laws;

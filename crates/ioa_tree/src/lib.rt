@@ -1,4 +1,6 @@
-//! Trees of the language, and what they mean.
+//! Trees of the language, and what they mean: when a source is well formed, and what its instances,
+//! steps, runs and traces are. A tree keeps nothing but its form; what is made of one above says by
+//! its type what it keeps.
 #![tactic(auto)]
 
 mod laws;

@@ -1,3 +1,6 @@
+//! The abstract syntax of the language: what the grammar reads, what rules judge, and what has a
+//! meaning. Lines are kept for what is told of a tree, and mean nothing.
+
 ghost use Rattle.std.specs.Prelude.{◌≡◌};
 ghost use Rattle.ioa_tree.specs.Tree.{expr_in};
 ghost use Rattle.ioa_tree.specs.View.{first_line, constant_line, expr_of, choice_of};

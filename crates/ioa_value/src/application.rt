@@ -1,3 +1,5 @@
+//! Operators at work, on operands that are lent, or that move off a stack.
+
 ghost use Rattle.std.specs.Prelude.{◌≡◌, ◌-◌, ◌∷◌, [], true, false, map, length, take, drop, IfOk, IsOk};
 ghost use Rattle.ioa_value.specs.Plain.{plain};
 ghost use Rattle.ioa_value.specs.Table.{Table};

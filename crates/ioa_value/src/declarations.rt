@@ -1,3 +1,5 @@
+//! The making of a table of types, one declaration after another, each judged as it comes.
+
 ghost use Rattle.std.specs.Prelude.{◌≡◌, ◌∷◌, [], ◌++◌, ◌+◌, IfSome, IfOk, OnOk, ℕ, List, ◌<◌, ◌≤◌, ◌↔◌, IsTrue, All, map, length, string_bytes, Some, if◌then◌else◌};
 ghost use Rattle.std.specs.BTreeMap.{get_by_text};
 ghost use Rattle.std.specs.Str.{bytes_eq};

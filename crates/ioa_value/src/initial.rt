@@ -1,3 +1,5 @@
+//! Where a variable starts that has no start expression.
+
 ghost use Rattle.std.specs.Prelude.{◌≡◌, ◌<◌, All, map, length, IfOk};
 ghost use Rattle.ioa_value.specs.Plain.{plain, plain_all};
 ghost use Rattle.ioa_value.specs.Table.{types_of};

@@ -1,31 +1,45 @@
-//! Values, types, operators and the texts of actions.
+//! Values and actions, the table of types, operators, limits, reserved words, and the texts of
+//! values, actions and lists. A table of types begins with Bool and Int, each type names earlier
+//! ones alone, its names are legal and differ, and none of its values is too wide. Each value has
+//! just one type.
 #![tactic(auto)]
 
-mod action;
-mod application;
-mod declarations;
-mod initial;
-mod laws;
+// Limits, and what words may be names.
 mod limits;
-mod lines;
-mod listing;
 mod memory;
 mod names;
-mod operands;
-mod operator;
-mod parts;
-mod positions;
-mod reading;
-mod scanning;
-mod sequences;
 mod spelling;
-mod stack;
 mod terminal;
-mod tokens;
+
+// The table of types.
+mod declarations;
+mod parts;
 mod types;
+
+// Values and actions, by their types and positions.
+mod action;
+mod initial;
+mod positions;
 mod typing;
 mod value;
+
+// Operators.
+mod application;
+mod operands;
+mod operator;
+mod sequences;
+mod stack;
+
+// Texts of values, actions and lists.
+mod lines;
+mod listing;
+mod reading;
+mod scanning;
+mod tokens;
 mod writing;
+
+// Laws.
+mod laws;
 
 pub use action::Action;
 pub use application::{apply, apply_last, computed, field};

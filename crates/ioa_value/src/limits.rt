@@ -1,3 +1,5 @@
+//! The one home of a source's limits, which code, definitions and clauses ask alike.
+
 /// How much a source may have: what passes a limit is refused.
 #[derive(Clone, Copy)]
 pub struct Limits {

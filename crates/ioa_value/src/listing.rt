@@ -1,3 +1,5 @@
+//! Lists of actions as texts: what a replay performs, and what the script of an environment is.
+
 ghost use Rattle.std.specs.Prelude.{◌≡◌, ℕ, List, IfOk, IfErr, IsOkAnd, IsErrAnd, map};
 ghost use Rattle.ioa_value.specs.Actions.{Act, act_of};
 ghost use Rattle.ioa_value.specs.Lists as spec;

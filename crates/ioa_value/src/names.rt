@@ -1,3 +1,5 @@
+//! Which words may name a type, an automaton, an action or a variable.
+
 ghost use Rattle.std.specs.Prelude.{◌≡◌, ◌↔◌, ◌&&◌, IsTrue, length, nat_le};
 ghost use Rattle.std.specs.List.{list_all};
 ghost use Rattle.ioa_value.specs.Names as spec;

@@ -1,3 +1,5 @@
+//! The operators of expressions and of code, by the types that they take and give.
+
 ghost use Rattle.std.specs.Prelude.{◌≡◌, ◌&&◌, ◌==◌, map};
 ghost use Rattle.std.specs.Option.{option_map};
 ghost use Rattle.ioa_value.specs.Plain.{number};

@@ -1,3 +1,6 @@
+//! Positions of an entry in a signature: by these it is decided which actions the entry has, and
+//! whether it has one in common with another entry.
+
 ghost use Rattle.std.specs.Prelude.{◌≡◌, IfOk, map};
 ghost use Rattle.ioa_value.specs.Plain.{plain};
 ghost use Rattle.ioa_value.specs.Positions as spec;

@@ -1,3 +1,5 @@
+//! Texts read as actions, however their blanks and their leading zeros stand.
+
 ghost use Rattle.std.specs.Prelude.{◌≡◌, List, [], IsTrue, MatchBool, IfSome, IfNone, IfOk, IsSomeAnd, map};
 ghost use Rattle.ioa_value.specs.Plain.{Val, plain};
 ghost use Rattle.ioa_value.specs.Actions.{Act, act_of};

@@ -1,3 +1,5 @@
+//! Values at the front of a text. The first word tells of which type a value is.
+
 ghost use Rattle.std.specs.Prelude.{◌≡◌, ℤ, ◌<◌, ℕ, All, Some, None, IsTrue, IfSome, IfNone, IfOk, if◌then◌else◌, length, map, drop, slice_get};
 ghost use Rattle.std.specs.Option.{option_map};
 ghost use Rattle.std.specs.Str.{bytes_eq};

@@ -1,3 +1,5 @@
+//! The alphabet of the grammar, but for names and numbers.
+
 /// A reserved word or a sign.
 #[derive(Clone, Copy, PartialEq, Eq, Debug)]
 pub enum Terminal {

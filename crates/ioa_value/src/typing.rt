@@ -1,3 +1,5 @@
+//! The test of values against the table of types, part by part.
+
 ghost use Rattle.std.specs.Prelude.{◌≡◌, ◌&&◌, ◌==◌, nat_le, map};
 ghost use Rattle.ioa_value.specs.Plain.{plain, plain_all, count};
 ghost use Rattle.ioa_value.specs.Table.{shape_at, types_of};

@@ -1,3 +1,5 @@
+//! Actions and values as texts, each in the one spelling in which it is printed.
+
 ghost use Rattle.std.specs.Prelude.{◌≡◌, ◌++◌, IfOk, OnOk, map, string_bytes};
 ghost use Rattle.ioa_value.specs.Plain.{plain, plain_all};
 ghost use Rattle.ioa_value.specs.Actions.{act_of};
