@@ -1,3 +1,5 @@
+//! The ways on from an instruction, which have to lead forward.
+
 ghost use Rattle.std.specs.Prelude.{◌≡◌, ◌+◌, ◌<◌, ◌^◌, ◌&&◌, nat_lt, nat_le, map};
 ghost use Rattle.ioa_code.specs.Scan.{all_forward};
 ghost use Rattle.ioa_code.specs.Stacks.{listed, next_exit, both_exits};

@@ -1,3 +1,5 @@
+//! What the ways of code bring to places further on, where they have to agree.
+
 ghost use Rattle.std.specs.Prelude.{◌≡◌, ◌<◌, ◌+◌, ◌∷◌, [], length, IfOk};
 ghost use Rattle.ioa_code.specs.Stacks.{listed};
 ghost use Rattle.ioa_code.specs.Pending.{met, AreBelow, Brings, IsFirst};

@@ -1,3 +1,5 @@
+//! The conditions of valid code that may fail, in the order of their numbers.
+
 ghost use Rattle.std.specs.Prelude.{◌≡◌};
 ghost use Rattle.ioa_code.specs.Reasons.{number_of};
 

@@ -1,3 +1,5 @@
+//! Stacks of types, of which the verifier compares any two at once, however deep they are.
+
 ghost use Rattle.std.specs.Prelude.{◌≡◌, map, IfOk, Some};
 ghost use Rattle.ioa_value.specs.Plain.{number};
 ghost use Rattle.ioa_code.specs.Stacks.{node_at, IsStack, IsNumber, IsNumbered, Searched, Grows, topmost, taken};

@@ -1,3 +1,5 @@
+//! The compiler: of the components of a composition it makes the tables of a program.
+
 ghost use Rattle.std.specs.Prelude.{◌≡◌, map, IfOk};
 ghost use Rattle.std.specs.List.{AllZip};
 ghost use Rattle.std.specs.String.{string_bytes};

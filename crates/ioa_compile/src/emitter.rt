@@ -1,3 +1,5 @@
+//! Code of expressions and statements. What need not be evaluated is jumped over.
+
 ghost use Rattle.ioa_value.specs.Table.{Table};
 ghost use Rattle.std.specs.Prelude.{◌≡◌, ◌+◌, ◌<◌, ◌^◌, length, OnOk, Some};
 ghost use Rattle.std.specs.Option.{option_map};

@@ -1,3 +1,5 @@
+//! Entries of a component's table: an entry of the signature with its transition, verified.
+
 ghost use Rattle.std.specs.Prelude.{◌≡◌, ◌∷◌, [], map, Some, None, IfOk, IfSome, IsSome};
 ghost use Rattle.std.specs.List.{AllZip};
 ghost use Rattle.std.specs.Option.{option_map};

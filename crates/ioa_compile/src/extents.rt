@@ -1,3 +1,5 @@
+//! Lengths of code, by which jumps lead over code that is not there yet.
+
 ghost use Rattle.std.specs.Prelude.{◌≡◌, ◌<◌, ◌^◌};
 ghost use Rattle.ioa_tree.specs.View.{expr_of, exprs_of, stmt_of, stmts_of, arms_of};
 ghost use Rattle.ioa_compile.specs.Extents.{extent, exprs_extent, infix_extent, stmt_extent, stmts_extent, arms_extent as extent_of_arms};

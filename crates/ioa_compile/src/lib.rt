@@ -1,24 +1,36 @@
-//! From compositions to programs: tables, start states and verified code.
+//! From compositions to programs: tables, start states and verified code. A `Program` keeps what an
+//! object says and no more: one table of types, legal and different names, start states of their
+//! types, entries with verified parts, hidden names that are outputs, and that its components are
+//! compatible.
 #![tactic(auto)]
 
+// Programs and their tables, and whether tables are right.
 mod compatibility;
-mod compiler;
-mod emitter;
-mod entries;
-mod extents;
-mod laws;
 mod limits;
-mod name_places;
 mod named;
 mod program;
-mod proposals;
 mod rightness;
 mod same;
-mod scope;
 mod table;
 mod tables;
-mod transition;
+
+// What names and types become in code.
+mod name_places;
+mod scope;
 mod types;
+
+// Code of transitions.
+mod emitter;
+mod extents;
+mod proposals;
+mod transition;
+
+// The compiler.
+mod compiler;
+mod entries;
+
+// Laws.
+mod laws;
 
 pub use compatibility::clash_among;
 pub use compiler::compile;

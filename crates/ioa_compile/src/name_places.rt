@@ -1,3 +1,5 @@
+//! Names become places: code knows variables, parameters and fields by their numbers.
+
 ghost use Rattle.std.specs.Prelude.{◌≡◌, map};
 ghost use Rattle.ioa_tree.specs.View.{name_of, field_of, position_of, variable_of};
 ghost use Rattle.ioa_value.specs.Table.{place_from};

@@ -1,3 +1,5 @@
+//! The type of what runs, and of what objects hold.
+
 ghost use Rattle.std.specs.Prelude.{◌≡◌, map};
 ghost use Rattle.std.specs.String.{string_bytes};
 ghost use Rattle.ioa_compile.specs.Shown.{member_code};

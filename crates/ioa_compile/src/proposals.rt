@@ -1,3 +1,5 @@
+//! Code of proposals, in which each parameter gets a value.
+
 ghost use Rattle.std.specs.Prelude.{◌≡◌, [], ◌∷◌, ◌+◌, ◌<◌, ◌^◌, map, length, OnOk};
 ghost use Rattle.std.specs.Option.{option_map};
 ghost use Rattle.ioa_code.specs.Parts.{listing};

@@ -1,3 +1,5 @@
+//! Scopes of code: an emitter asks what a name stands for, and knows of no component and no entry.
+
 ghost use Rattle.std.specs.Prelude.{◌≡◌, ℕ, map, length, Some, None, IfSome, IfNone, IsSome, slice_get};
 ghost use Rattle.ioa_value.specs.Plain.{plain};
 ghost use Rattle.ioa_value.specs.Table.{place_from};

@@ -1,3 +1,5 @@
+//! The tables of a program.
+
 use ioa_code::Verified;
 use ioa_node::NodeState;
 use ioa_tree::Kind;

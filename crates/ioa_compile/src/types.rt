@@ -1,3 +1,5 @@
+//! The types for which parts of code are verified: of variables, of positions, of parameters.
+
 ghost use Rattle.std.specs.Prelude.{◌≡◌, map, Some, IfOk, IsSome, IsTrue};
 ghost use Rattle.std.specs.List.{list_all};
 ghost use Rattle.ioa_value.specs.Plain.{number};

@@ -1,3 +1,6 @@
+//! Automata bound to arguments: formals have values, constants of positions are evaluated, and what
+//! crashes and recovers is rewritten.
+
 ghost use Rattle.std.specs.Prelude.{◌≡◌, ◌&&◌, [], ◌∷◌, true, map, Some, Ok, Err, length, IfOk, IfErr};
 ghost use Rattle.std.specs.List.{AllZip, list_all};
 ghost use Rattle.std.specs.Option.{option_map};

@@ -1,3 +1,5 @@
+//! The composition of automata: from the instances that a source declares to components that fit.
+
 ghost use Rattle.std.specs.Prelude.{◌≡◌, ◌≢◌, ◌↔◌, ◌<◌, ◌++◌, length, List, Some, None, IfOk, IfErr, IsErrOf, option_copied, map};
 ghost use Rattle.std.specs.Str.{bytes_eq};
 ghost use Rattle.std.specs.String.{string_bytes};

@@ -1,3 +1,5 @@
+//! What the table of types alone gives an expression, without variables and formals.
+
 ghost use Rattle.std.specs.Prelude.{◌≡◌, Some, IsSome};
 ghost use Rattle.ioa_value.specs.Plain.{plain};
 ghost use Rattle.ioa_tree.specs.Types as spec;

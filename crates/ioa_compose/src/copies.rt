@@ -1,3 +1,5 @@
+//! Copies of trees, since a composition keeps automata and invariants, and no source.
+
 ghost use Rattle.std.specs.Prelude.{◌≡◌, IfOk, map};
 ghost use Rattle.std.specs.Option.{option_map};
 ghost use Rattle.ioa_tree.specs.View as view;

@@ -1,3 +1,5 @@
+//! Expressions that are evaluated as trees: arguments, start expressions and invariants.
+
 ghost use Rattle.std.specs.Prelude.{◌≡◌, ◌<◌, ◌^◌, ◌∷◌, [], ℕ, pos, true, Some, map, IfOk, IfSome, IfNone};
 ghost use Rattle.std.specs.List.{list_all};
 ghost use Rattle.ioa_value.specs.Plain.{plain, truth};

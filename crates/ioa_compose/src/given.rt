@@ -1,3 +1,5 @@
+//! Values that are read where they are, and copied only where they have to be.
+
 ghost use Rattle.std.specs.Prelude.{◌≡◌, IfOk};
 ghost use Rattle.ioa_value.specs.Operators.{answer_of};
 ghost use Rattle.ioa_value.specs.Plain.{plain};

@@ -1,3 +1,5 @@
+//! Hiding: which outputs the traces of a composition do not show.
+
 ghost use Rattle.std.specs.Prelude.{◌≡◌, ◌&&◌, true, map, Some, IfOk, IfErr};
 ghost use Rattle.std.specs.List.{list_all};
 ghost use Rattle.std.specs.Str.{bytes_eq};

@@ -1,3 +1,5 @@
+//! Invariants of a composition, and whether a state of a component keeps one.
+
 ghost use Rattle.std.specs.Prelude.{◌≡◌, IfOk, map};
 ghost use Rattle.ioa_value.specs.Operators.{gives};
 ghost use Rattle.ioa_value.specs.Plain.{plain};

@@ -1,26 +1,37 @@
-//! Compositions: instances with their start values, compatible with one another.
+//! Compositions: instances with their start values, compatible with one another. A `Composition`
+//! keeps that its components are well formed and within the limits, that arguments and start values
+//! are of their types, that hidden names are outputs, and which invariants its source declares.
 #![tactic(auto)]
 
-mod binding;
-mod clashes;
-mod compatibility;
+// Compositions and their components.
 mod composition;
-mod constants;
-mod copies;
-mod domains;
-mod evaluate;
-mod given;
 mod hidden;
-mod index;
 mod invariants;
-mod laws;
 mod limits;
 mod member;
 mod picks;
-mod rewriting;
+
+// Values of expressions.
+mod constants;
+mod domains;
+mod evaluate;
+mod given;
 mod scope;
-mod signatures;
+
+// Instances: automata with their arguments, crashes and start values.
+mod binding;
+mod copies;
+mod rewriting;
 mod starts;
+
+// Compatibility.
+mod clashes;
+mod compatibility;
+mod index;
+mod signatures;
+
+// Laws.
+mod laws;
 
 pub use clashes::{Clash, SignedEntry, first_clash};
 pub use composition::{Composition, compose};

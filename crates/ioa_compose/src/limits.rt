@@ -1,3 +1,5 @@
+//! How far the rewriting for crashes takes an automaton past the limits of sources.
+
 use ioa_value::{LIMITS, Limits};
 
 /// What a component of a composition keeps within. One that crashes and recovers is rewritten: it has a variable and two entries

@@ -1,3 +1,5 @@
+//! Components, from which all that stands above is made: no declaration is asked again.
+
 use ioa_tree::Automaton;
 use ioa_value::{Position, Types, Value};
 

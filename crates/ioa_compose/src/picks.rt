@@ -1,3 +1,5 @@
+//! Which of the compositions that a source declares is composed.
+
 ghost use Rattle.std.specs.Prelude.{◌≡◌, find, reverse, option_map, option_copied};
 ghost use Rattle.std.specs.Str.{bytes_eq};
 ghost use Rattle.ioa_tree.specs.View.{tree_of, assembly_of};

@@ -1,3 +1,5 @@
+//! Scopes in which expressions are evaluated: what their names stand for.
+
 ghost use Rattle.std.specs.Prelude.{◌≡◌, ◌≤◌, [], Some, None, map, length, take, IfSome, IfNone};
 ghost use Rattle.ioa_value.specs.Plain.{plain};
 ghost use Rattle.ioa_tree.specs.Tree.{FieldTree};

@@ -1,3 +1,5 @@
+//! Start states of components, and what a crash restores of them.
+
 ghost use Rattle.std.specs.Prelude.{◌≡◌, ◌++◌, [], true, map, length, IfOk, IfErr};
 ghost use Rattle.std.specs.List.{AllZip};
 ghost use Rattle.std.specs.Option.{option_map};

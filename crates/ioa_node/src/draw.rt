@@ -1,3 +1,5 @@
+//! The machine's instructions as a proposal has them, which takes words.
+
 ghost use Rattle.std.specs.Prelude.{◌≢◌, [], ◌+◌, ◌<◌, ◌^◌, map, IfOk, IfErr};
 ghost use Rattle.ioa_value.specs.Plain.{plain};
 ghost use Rattle.ioa_code.specs.Machine.{act, stuck};

@@ -1,15 +1,25 @@
-//! The state of a component, and the machine that runs its code.
+//! The state of a component, and the machine that runs its code: preconditions, effects and
+//! proposals. A `NodeState` keeps that each value is of its variable's type, so code that is
+//! verified for these types runs on it, and ends, faults or is idle. States of one component share
+//! their types.
 #![tactic(auto)]
 
+// States, and new values for them.
 mod draft;
-mod draw;
+mod state;
+
+// Words, and what they pick.
 mod picks;
+mod words;
+
+// The machine.
+mod draw;
+mod step;
+mod workspace;
+
+// Parts of code that are run.
 mod proposal;
 mod run;
-mod state;
-mod step;
-mod words;
-mod workspace;
 
 pub use draft::Draft;
 pub use proposal::{propose, propose_with};

@@ -1,3 +1,5 @@
+//! The machine's instructions, but for those that take words.
+
 ghost use Rattle.std.specs.Prelude.{◌≡◌, ◌≢◌, Bool, ℤ, ◌∷◌, [], ◌++◌, ◌+◌, ◌<◌, ◌≤◌, ◌^◌, map, take, length, IfOk, OnOk};
 ghost use Rattle.ioa_value.specs.Plain.{plain, truth, num};
 ghost use Rattle.ioa_code.specs.Machine.{act, stuck, Wordless};

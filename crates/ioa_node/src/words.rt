@@ -1,3 +1,5 @@
+//! Where choices come from that an automaton leaves open.
+
 ghost use Rattle.std.specs.Prelude.{◌≡◌, ◌+◌, ℕ};
 
 /// A source of words, which never ends.
