@@ -1,3 +1,5 @@
+//! Streams of any kind as devices.
+
 ghost use Rattle.std.specs.Prelude.{◌≡◌, ◌≤◌, ◌+◌, ◌-◌, ◌^◌, ℕ, min, true, OnErr, OnOk};
 ghost use Rattle.std.specs.Result.{is_err, result_ok};
 ghost use Rattle.std.specs.Io.KnownBytes.{Keeps, ReadConsumes, WriteAppends};

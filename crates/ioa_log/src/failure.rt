@@ -1,3 +1,5 @@
+//! Refusals of lists and logs, by their lines, and failures of what they are read from.
+
 use crate::device::Failed;
 use ioa_value::OutOfMemory;
 use std::alloc::{AllocError, AllocFailed};

@@ -1,20 +1,31 @@
-//! Replays of lists of actions and texts of logs, over readers and writers that count their failures.
+//! Replays of lists of actions, texts of logs, and what is asked of the run that a log tells:
+//! whether it is the program's, what a monitor accepts of it, which invariants its states break.
+//! Devices count their failures, so that none is passed over.
 #![tactic(auto)]
 
-mod broken_invariants;
+// Devices, and texts that pass through them.
 mod counted;
 mod device;
-mod end_texts;
 mod failure;
-mod judge;
-mod laws;
-mod log_lines;
-mod logs;
-mod monitors;
+mod streams;
+
+// Runs of lists.
 mod reading;
 mod replays;
 mod run_logs;
-mod streams;
+
+// Texts of logs.
+mod end_texts;
+mod log_lines;
+mod logs;
+
+// What is asked of logs.
+mod broken_invariants;
+mod judge;
+mod monitors;
+
+// Laws.
+mod laws;
 
 pub use broken_invariants::{Broken, Inspection, inspect, invariants};
 pub use counted::Counted;

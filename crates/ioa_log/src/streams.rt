@@ -1,3 +1,5 @@
+//! Whole texts through devices, piece by piece, and which device is to blame.
+
 ghost use Rattle.std.specs.Prelude.{◌≡◌, ◌≤◌, ◌-◌, ◌^◌, ◌⊎◌, ℕ, [], OnOk, OnErr, IfOk, IfErr, IfSome, IsErrOf, min, take};
 ghost use Rattle.std.specs.Io.KnownBytes.{Appends};
 ghost use Rattle.ioa_value.specs.Lists.{BadLine};

@@ -1,3 +1,5 @@
+//! Refusals of bytes that are no object, by the place at which they fail.
+
 use ioa_value::OutOfMemory;
 use std::alloc::{AllocError, AllocFailed};
 use thiserror::Error;

@@ -1,17 +1,25 @@
-//! Object files: programs as bytes, and bytes as programs.
+//! Object files: programs as bytes, and bytes as programs. Bytes are tested item by item and their
+//! code is verified, so what is read keeps all that a `Program` keeps, whoever wrote the bytes.
 #![tactic(auto)]
 
-mod components;
+// How objects begin, a place in their bytes, and why bytes are none.
 mod cursor;
 mod failure;
-mod instructions;
-mod laws;
 mod mark;
+
+// Items of a program.
+mod components;
+mod instructions;
 mod parts;
-mod reading;
 mod types;
 mod values;
+
+// Whole programs.
+mod reading;
 mod writing;
+
+// Laws.
+mod laws;
 
 pub use failure::ObjErr;
 pub use laws::objects_are_their_programs;

@@ -1,3 +1,5 @@
+//! Runs on one thread, whose history the words and the script decide.
+
 ghost use Rattle.std.specs.Prelude.{◌≡◌, ◌+◌, ◌<◌, All, IfOk, IsErrOf, false, length, map, replicate};
 ghost use Rattle.std.specs.Option.{option_map};
 ghost use Rattle.ioa_value.specs.Actions.{act_of};

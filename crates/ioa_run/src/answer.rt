@@ -1,3 +1,5 @@
+//! Answers of the schedule machine: what became of a copy or of a commit.
+
 use ioa_value::Fault;
 
 /// What an event of a schedule answers.

@@ -1,3 +1,5 @@
+//! What is found out of an action before a worker has a plan for it.
+
 use ioa_system::Moved;
 
 /// Whether a worker can plan an action.

@@ -1,3 +1,5 @@
+//! Turns without plans: where nobody commits in between, an action is performed at once.
+
 ghost use Rattle.std.specs.Prelude.{◌≡◌, IfOk, IsSome, OnErr};
 ghost use Rattle.ioa_value.specs.Actions.{act_of};
 ghost use Rattle.ioa_system.specs.Systems.{slot_types, types_of};

@@ -1,3 +1,5 @@
+//! What a component means to do next: its words decide what its automaton leaves open.
+
 ghost use Rattle.std.specs.Prelude.{◌≡◌, List, IfOk, IfSome, length, map};
 ghost use Rattle.std.specs.Bool.{OnTrue};
 ghost use Rattle.std.specs.Option.{option_map};

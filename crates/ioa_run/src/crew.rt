@@ -1,3 +1,5 @@
+//! The lock of a run on threads: all that workers do under it.
+
 ghost use Rattle.std.specs.Prelude.{◌≡◌, ◌<◌, All, IfOk, length, map};
 ghost use Rattle.ioa_value.specs.Actions.{act_of};
 ghost use Rattle.ioa_system.specs.Participants.{taken};

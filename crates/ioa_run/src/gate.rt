@@ -1,3 +1,5 @@
+//! Gates, by which a caller sees where workers of a run on threads are, and can hold them there.
+
 /// Where a worker of a run on threads is in its turn.
 #[derive(Clone, Copy, Debug, PartialEq, Eq)]
 pub enum Point {

@@ -1,32 +1,49 @@
-//! The board to which the workers of a run commit their plans, the room that they share, and the machine of their schedules, which
-//! waits for nobody.
+//! Runs of workers that plan actions by copies and commit them to one board: by the events of a
+//! schedule, on one thread, and on threads. A `Board` keeps a legal history and the states to which
+//! it leads, a `Plan` what its action does to the states that were copied, a `Core` each worker's
+//! plan, a `Room` reports that agree with the history.
 #![tactic(auto)]
 
-mod alone;
-mod answer;
-mod assessed;
-mod attempt;
-mod beginning;
+// The board and its history.
 mod board;
-mod choice;
-mod crew;
-mod event;
-mod gate;
-mod laws;
-mod outcome;
-mod own_room;
+mod recorded;
+mod verdict;
+
+// Plans.
+mod assessed;
 mod plan;
 mod planned;
-mod recorded;
+
+// The schedule machine.
+mod answer;
+mod event;
+mod schedule;
+
+// The room, and the reports of its workers.
+mod outcome;
 mod report;
 mod room;
+
+// How runs begin, and what workers mean to do.
+mod beginning;
+mod choice;
 mod run_err;
-mod schedule;
 mod seeded;
-mod threads;
+
+// Turns on one thread.
+mod alone;
+mod attempt;
 mod turn;
-mod verdict;
+
+// Turns on threads.
+mod crew;
+mod gate;
+mod own_room;
+mod threads;
 mod worker;
+
+// Laws.
+mod laws;
 
 pub use alone::run_alone;
 pub use answer::Answer;

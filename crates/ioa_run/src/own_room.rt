@@ -1,3 +1,5 @@
+//! A room whose run is told by its type, since of a value under a lock no more is known.
+
 ghost use Rattle.std.specs.Prelude.{◌≡◌, ◌<◌, All, IfOk, length, map};
 ghost use Rattle.ioa_value.specs.Actions.{act_of};
 ghost use Rattle.ioa_system.specs.Participants.{taken};

@@ -1,3 +1,5 @@
+//! Plans are made by copies, without the board, and hold as long as its states equal these.
+
 ghost use Rattle.std.specs.Prelude.{◌≡◌, ◌↔◌, ◌<◌, All, IfNone, IfOk, IfSome, IsTrue, List, length};
 ghost use Rattle.ioa_value.specs.Actions.{act_of};
 ghost use Rattle.ioa_value.specs.Plain.{Val};

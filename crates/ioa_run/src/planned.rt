@@ -1,3 +1,5 @@
+//! Answers to a worker that wants to plan an action.
+
 use crate::plan::Plan;
 
 /// What making a plan answers.

@@ -1,3 +1,5 @@
+//! Reports of workers, in which each turn is counted as what became of it.
+
 ghost use Rattle.std.specs.Prelude.{◌≡◌, ◌↔◌, ◌+◌, ◌<◌, ◌^◌, ◌==◌, ℕ, IsTrue};
 ghost use Rattle.ioa_run.specs.Going.{told_in};
 ghost use Rattle.ioa_system.specs.Logs.{log_end};

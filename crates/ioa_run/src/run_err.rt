@@ -1,3 +1,5 @@
+//! Refusals of runs, and failures of threads: in either case there is no outcome.
+
 use ioa_value::OutOfMemory;
 use thiserror::Error;
 

@@ -1,3 +1,5 @@
+//! The schedule machine, on which copies and commits of workers come in any order.
+
 ghost use Rattle.std.specs.Prelude.{◌≡◌, ◌+◌, IfOk, None, OnErr, length, map, replicate, slice_get, slice_set, unwrap_or};
 ghost use Rattle.ioa_value.specs.Actions.{act_of};
 ghost use Rattle.ioa_compile.specs.Tables.{tabled};

@@ -1,3 +1,5 @@
+//! Words by chance, the same for the same key.
+
 ghost use Rattle.std.specs.Prelude.{◌≡◌, ◌%◌, ◌^◌, ◌<◌, ℕ};
 ghost use Rattle.rand_chacha.specs.ChaCha.{ChaCha, word_at, key_of};
 ghost use Rattle.ioa_run.specs.Seeds.{words_from};

@@ -1,3 +1,5 @@
+//! Runs on threads, whose history is legal in whatever order their workers come.
+
 ghost use Rattle.std.specs.Prelude.{◌≡◌, ◌≤◌, All, IfErr, IfOk, length, map};
 ghost use denote.Param.Send.{IsSend, IsSync};
 ghost use Rattle.ioa_value.specs.Actions.{act_of};

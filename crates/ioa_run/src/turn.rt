@@ -1,3 +1,5 @@
+//! Turns on one thread, from what a worker means to do to whether it goes on.
+
 ghost use Rattle.std.specs.Prelude.{◌≡◌, ◌↔◌, All, IfOk, IsTrue, Some, map, slice_get};
 ghost use Rattle.std.specs.Option.{option_map};
 ghost use Rattle.ioa_value.specs.Actions.{act_of};

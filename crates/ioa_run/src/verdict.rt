@@ -1,3 +1,5 @@
+//! Answers to a commit, by the board as it stands then.
+
 use crate::plan::Plan;
 use ioa_value::Fault;
 

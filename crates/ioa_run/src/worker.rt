@@ -1,3 +1,5 @@
+//! Turns on a thread of their own: a worker proposes and plans without the lock.
+
 ghost use Rattle.std.specs.Prelude.{◌≡◌, IfOk, IfSome};
 ghost use Rattle.ioa_value.specs.Actions.{act_of};
 ghost use Rattle.ioa_run.specs.declared.gate.Point.TheVariants as points;

@@ -1,3 +1,5 @@
+//! Which entry of a component has an action, by its name and its values.
+
 ghost use Rattle.std.specs.Prelude.{◌≡◌};
 ghost use Rattle.std.specs.Option.{option_map};
 ghost use Rattle.std.specs.Str.{bytes_eq};

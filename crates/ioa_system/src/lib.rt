@@ -1,16 +1,25 @@
-//! Steps of a program's components, and runs over lists of actions.
+//! Steps of a program's components, and runs over lists of actions. A `Participation` keeps which
+//! components have an action, each with the entry that has it. A `System` and a `Runner` keep
+//! states of the program's types; a `Stepper` takes steps on such states, which are lent to it.
 #![tactic(auto)]
 
+// Who takes part in an action.
 mod entries;
-mod laws;
-mod log;
-mod outcomes;
 mod participation;
-mod runner;
-mod runs;
+
+// Steps.
+mod outcomes;
 mod stepper;
 mod steps;
 mod system;
+
+// Runs, and logs of runs.
+mod log;
+mod runner;
+mod runs;
+
+// Laws.
+mod laws;
 
 pub use laws::{runs_are_the_hosts, steps_are_the_hosts, steps_are_the_sources};
 pub use log::{Log, LogEnd, LogEntry};

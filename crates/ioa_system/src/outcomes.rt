@@ -1,3 +1,5 @@
+//! What comes of a step, and of a run: that an action is performed, or what keeps it from that.
+
 ghost use Rattle.std.specs.Prelude.{◌≡◌, List, Some, IfSome, IfNone};
 ghost use Rattle.ioa_value.specs.Plain.{Val};
 ghost use Rattle.ioa_tree.specs.Runs.{Reached, after};

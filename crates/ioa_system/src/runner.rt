@@ -1,3 +1,5 @@
+//! Runs that are handed one action after another, as lists and logs are read.
+
 ghost use Rattle.std.specs.Prelude.{◌≡◌, ◌++◌, ◌∷◌, [], List, IfOk, OnErr, OnOk, if◌then◌else◌, map};
 ghost use Rattle.ioa_value.specs.Actions.{Act, act_of};
 ghost use Rattle.ioa_compile.specs.Programs.{Prog};

@@ -1,3 +1,5 @@
+//! Runs over whole lists of actions, with their traces.
+
 ghost use Rattle.std.specs.Prelude.{◌≡◌, IfOk, map};
 ghost use Rattle.ioa_value.specs.Actions.{act_of};
 ghost use Rattle.ioa_tree.specs.Compositions.{Composed};

@@ -1,3 +1,5 @@
+//! Steps without copies, on states that stay with a caller.
+
 ghost use Rattle.std.specs.Prelude.{◌≡◌, IfOk, OnErr};
 ghost use Rattle.ioa_value.specs.Actions.{act_of};
 ghost use Rattle.ioa_tree.specs.Steps as steps;
