@@ -1,14 +1,23 @@
-//! What is told of runs for people: states by the source's names, why a run ends where it does, in which line, and how much was asked.
+//! What is told of runs for people, put behind a text: states by the source's names, why a run ends
+//! where it does, in which line, and how much was asked. What each call puts is said letter by
+//! letter.
 #![tactic(auto)]
 
+// Lines of files, lists and logs.
+mod lines;
+mod quoted;
+
+// States, ends and counts.
 mod counts;
 mod ends;
-mod laws;
-mod lines;
-mod objects;
-mod quoted;
-mod remarks;
 mod states;
+
+// What is told of them.
+mod objects;
+mod remarks;
+
+// Laws.
+mod laws;
 
 pub use counts::{asked_invariants, known_actions};
 pub use ends::{Account, account_of};

@@ -1,3 +1,5 @@
+//! States for people: slots as the variables that a source declares.
+
 ghost use Rattle.std.specs.Prelude.{◌≡◌, ◌++◌, List, OnOk, map};
 ghost use Rattle.std.specs.String.{string_bytes};
 ghost use Rattle.ioa_value.specs.Plain.{plain};

@@ -1,4 +1,5 @@
-//! Programs as lines of text, for people.
+//! Programs as lines of text, for people: the tables and the code, an item a line. What is written
+//! of each item is defined letter by letter.
 #![tactic(auto)]
 
 mod code;

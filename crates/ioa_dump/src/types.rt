@@ -1,3 +1,5 @@
+//! The table of types in lines.
+
 ghost use Rattle.std.specs.Prelude.{◌≡◌, ◌++◌, ℕ, OnOk, map};
 ghost use Rattle.std.specs.String.{string_bytes};
 ghost use Rattle.ioa_value.specs.Shapes.{declaration as declaration_of, shape, tuple_field};

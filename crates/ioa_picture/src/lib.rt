@@ -1,4 +1,5 @@
-//! Pictures of logs and of programs, as texts that other programs draw.
+//! Pictures of logs and of programs, as texts that other programs draw. What a picture shows is
+//! computed from components by definitions, letter by letter.
 #![tactic(auto)]
 
 mod charts;

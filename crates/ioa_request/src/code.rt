@@ -1,3 +1,5 @@
+//! Codes of refusals and failures, and how they are spelled.
+
 ghost use Rattle.std.specs.Prelude.{◌≡◌, true, IfSome, IfNone, find, option_map};
 ghost use Rattle.ioa_request.specs.Codes.{spelling};
 ghost use Rattle.ioa_request.specs.Pasted.{reads};

@@ -1,3 +1,5 @@
+//! The form of an explanation, and how it is printed.
+
 use crate::topic::Topic;
 use std::fmt;
 

@@ -1,3 +1,5 @@
+//! The explanation of each topic, in a module for each kind of what goes wrong.
+
 mod compositions;
 mod ends;
 mod faults;

@@ -1,3 +1,5 @@
+//! Lines in fields, which single spaces part.
+
 ghost use Rattle.std.specs.Prelude.{◌≡◌, option_map};
 ghost use Rattle.ioa_request.specs.Fields.{after_field, first_field};
 

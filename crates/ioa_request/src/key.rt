@@ -1,3 +1,5 @@
+//! Seeds: the keys of a run's words.
+
 ghost use Rattle.std.specs.Prelude.{◌≡◌};
 ghost use Rattle.ioa_request.specs.Keys.{key_in};
 

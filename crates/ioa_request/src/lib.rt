@@ -1,17 +1,24 @@
-//! What the words of a command line ask for, and what is said of what the program prints.
+//! What the words of a command line ask for: a `Request`, with `Settings` where it is a run. No
+//! file is read for it. Each `Code` and each `Topic` of what the program prints has an explanation
+//! here.
 #![tactic(auto)]
 
-mod code;
-pub mod explanation;
-pub mod explanations;
-mod fields;
-mod key;
-mod numerals;
-mod pasted;
+// What is asked for.
 mod reading;
 mod request;
 mod run_usage;
 mod settings;
+
+// Words, and what they spell.
+mod fields;
+mod key;
+mod numerals;
+
+// Codes and topics, and what is said of them.
+mod code;
+pub mod explanation;
+pub mod explanations;
+mod pasted;
 mod topic;
 
 pub use code::Code;

@@ -1,3 +1,5 @@
+//! Numbers in decimal digits, within a bound.
+
 ghost use Rattle.std.specs.Prelude.{◌≡◌, ◌-◌, ◌^◌};
 ghost use Rattle.ioa_request.specs.Numerals.{numeral_in};
 

@@ -1,3 +1,5 @@
+//! The command line, its subcommands with their arguments, and the requests that they make.
+
 ghost use Rattle.std.specs.Prelude.{◌≡◌, false, map, codes, IfOk};
 ghost use Rattle.clap.specs.Words.{FailsBy, app_of, fault_of, new_app, rule_of, subcommand_of, subcommand_rows_of};
 ghost use Rattle.ioa_request.specs.CommandLine.{IsLocal, chart_app, check_app, comp_rule, compile_app, compositions_rule, dump_app, explain_app, explain_rule, file_rule, graph_app, invariants_rule, ioac_app, library_app, log_app, log_rule, monitor_app, out_rule, replay_app, states_rule, text_rule};

@@ -1,3 +1,5 @@
+//! The settings of a run: how its workers take their turns, by which words, and what is written.
+
 ghost use Rattle.std.specs.Prelude.{◌≡◌, IfSome, IfNone, option_map};
 ghost use Rattle.std.specs.Option.{option_copied};
 ghost use Rattle.clap.specs.Words.{found_of, rows_of};

@@ -1,3 +1,5 @@
+//! `check`: whether a source keeps the rules, or the code of an object is valid.
+
 ghost use Rattle.std.specs.Prelude.{◌≡◌, ◌∷◌, [], All, List, Some, OnOk, IfErr, IsErrOf};
 ghost use Rattle.ioa_log.specs.declared.failure.LogErr.{LogErr};
 ghost use Rattle.ioa_log.specs.Failing.{HasFailed};

@@ -1,3 +1,5 @@
+//! Programs, compositions and objects of the bytes of a file.
+
 ghost use Rattle.std.specs.Prelude.{◌≡◌, true, false, not, IfOk, IfErr};
 ghost use Rattle.std.specs.Option.{option_copied, option_map_or};
 ghost use Rattle.std.specs.Str.{bytes_eq};

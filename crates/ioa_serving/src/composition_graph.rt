@@ -1,3 +1,5 @@
+//! `graph`: pictures of compositions.
+
 ghost use Rattle.std.specs.Prelude.{◌≡◌, IfErr, IsErrOf, OnOk};
 ghost use Rattle.std.specs.Option.{option_copied};
 ghost use Rattle.ioa_log.specs.declared.failure.LogErr.{LogErr};

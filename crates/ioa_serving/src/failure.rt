@@ -1,3 +1,5 @@
+//! Failures of requests, of whatever crate, with their codes, texts and statuses.
+
 ghost use Rattle.std.specs.Prelude.{◌≡◌};
 ghost use Rattle.ioa_serving.specs.FailureCodes as codes;
 ghost use Rattle.ioa_serving.specs.Statuses as statuses;

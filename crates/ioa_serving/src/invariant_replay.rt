@@ -1,3 +1,5 @@
+//! `replay --log --invariants`: whether the states of a log keep the invariants of its source.
+
 ghost use Rattle.std.specs.Prelude.{◌≡◌, ◌⊎◌, ℕ, IfOk, IfErr, IfSome, IsErrOf};
 ghost use Rattle.std.specs.Option.{option_copied};
 ghost use Rattle.std.specs.String.{string_bytes};

@@ -1,37 +1,52 @@
-//! Serves each thing that the words of a command line ask for: from what files hold to what is written, and why not.
+//! Serves each thing that the words of a command line ask for, from what files hold to what is
+//! written; or says why not, by a `Failure` with its code, text and `Status`. Contracts say by the
+//! meaning of the source, or by the object's program, what was written.
 #![tactic(auto)]
 
+// Files, and what becomes of requests.
+mod failure;
+mod object_failure;
+mod refusal;
+mod served;
+mod status;
+mod store;
+
+// Sources and objects.
 mod check;
 mod compile;
 mod composition_graph;
 mod dump;
-pub mod explain;
-mod failure;
+mod object_file;
+
+// Lists and logs.
 mod invariant_replay;
-mod laws;
-mod library;
 mod list_log;
 mod log_chart;
 mod log_replay;
 mod monitor;
-mod object_failure;
-mod object_file;
-mod pace;
-mod pacer;
-mod progress;
-mod refusal;
 mod replay;
+mod states_replay;
+
+// Runs.
 mod reports;
 mod run;
 mod script;
 mod seed;
-mod served;
-mod states_replay;
-mod status;
-mod store;
 mod trace;
 mod word_sources;
 mod words_file;
+
+// The gate of runs on threads.
+mod pace;
+mod pacer;
+mod progress;
+
+// Texts that are there from the start.
+pub mod explain;
+mod library;
+
+// Laws.
+mod laws;
 
 pub use check::check_text;
 pub use compile::{compile_text, compose_text, is_object, object_of, program_of};

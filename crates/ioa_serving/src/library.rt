@@ -1,3 +1,5 @@
+//! `library`: the source with the protocols, which can be checked, run and replayed.
+
 ghost use Rattle.std.specs.Prelude.{◌≡◌, OnOk, IfErr, IsErrOf};
 ghost use Rattle.ioa_links.specs.Library.{library_text};
 ghost use Rattle.ioa_log.specs.declared.failure.LogErr.{LogErr};

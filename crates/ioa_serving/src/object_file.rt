@@ -1,3 +1,5 @@
+//! `compile`: objects in files, where only objects and empty files give way to them.
+
 ghost use Rattle.std.specs.Prelude.{◌≡◌, ◌↔◌, IsTrue, OnOk, IfErr, IsErrOf, Some};
 ghost use Rattle.std.specs.Option.{option_copied, option_map};
 ghost use Rattle.ioa_log.specs.declared.failure.LogErr.{LogErr};

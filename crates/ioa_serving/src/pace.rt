@@ -1,3 +1,5 @@
+//! The state of the gate of runs on threads, which decides who waits for whom.
+
 ghost use Rattle.std.specs.Prelude.{◌≡◌, IfOk, false, map, replicate};
 ghost use Rattle.std.specs.List.{list_any};
 ghost use Rattle.ioa_serving.specs.Pacing.{Begins, begun_by, given_up, is_ahead, is_behind, is_held, lets_go, unseen};

@@ -1,3 +1,5 @@
+//! The gate of runs on threads, which holds a worker for a while where others are too far behind.
+
 use crate::pace::Pace;
 use ioa_run::{Gate, Point};
 use std::alloc::{AllocError, Global};

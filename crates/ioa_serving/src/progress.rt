@@ -1,3 +1,5 @@
+//! How far one worker of a run on threads has come, and whether others wait for it.
+
 ghost use Rattle.std.specs.Prelude.{◌≡◌};
 ghost use Rattle.ioa_serving.specs.Pacing.{given_up, is_ahead, is_awaited, is_behind, next, unseen};
 

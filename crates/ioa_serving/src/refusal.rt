@@ -1,3 +1,5 @@
+//! Refusals of sources as they are printed.
+
 ghost use Rattle.std.specs.Prelude.{◌≡◌, Some};
 ghost use Rattle.ioa_serving.specs.FailureCodes as codes;
 ghost use Rattle.ioa_serving.specs.Printed.{refusal_details};

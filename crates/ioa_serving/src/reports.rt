@@ -1,3 +1,5 @@
+//! Reports of workers in lines, and the workers to which memory was refused.
+
 ghost use Rattle.std.specs.Prelude.{◌≡◌, ◌++◌, ℕ, [], Some, IfErr, IfOk, IsOk, OnErr, OnOk, map, take};
 ghost use Rattle.std.specs.Io.KnownBytes.{Appends};
 ghost use Rattle.std.specs.String.{string_bytes};

@@ -1,3 +1,5 @@
+//! Scripts of environments, from files.
+
 ghost use Rattle.std.specs.Prelude.{IfOk, IfErr, map};
 ghost use Rattle.std.specs.Option.{option_copied};
 ghost use Rattle.ioa_value.specs.Actions.{act_of};

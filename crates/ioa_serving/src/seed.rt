@@ -1,3 +1,5 @@
+//! Words by chance for each worker of a run.
+
 ghost use Rattle.std.specs.Prelude.{◌≡◌, ◌<◌, ℕ, IfOk, Some, length, slice_get};
 ghost use Rattle.rand_chacha.specs.ChaCha.{key_of};
 ghost use Rattle.ioa_serving.specs.Streams.{AreStreams};

@@ -1,3 +1,5 @@
+//! What is left of a request that was served, for its caller to tell.
+
 ghost use Rattle.std.specs.Prelude.{◌≡◌, None};
 ghost use Rattle.ioa_serving.specs.Serving.{reports_of};
 

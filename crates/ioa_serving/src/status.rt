@@ -1,3 +1,5 @@
+//! Exit statuses, by which a caller of the process tells what came of a request.
+
 ghost use Rattle.std.specs.Prelude.{◌≡◌};
 ghost use Rattle.ioa_system.specs.Outcomes.{ending_of};
 ghost use Rattle.ioa_serving.specs.Statuses.{ending_status};

@@ -1,3 +1,5 @@
+//! Files as contracts speak of them, whatever system keeps them.
+
 ghost use Rattle.std.specs.Prelude.{◌≡◌, ℕ, List, Option, IfOk, IfErr, IsErrOf, OnOk, OnSome};
 ghost use Rattle.std.specs.Option.{option_map};
 ghost use Rattle.ioa_value.specs.Actions.{Name};

@@ -1,3 +1,5 @@
+//! Words for the workers of a run, of either kind that its settings name.
+
 ghost use Rattle.std.specs.Prelude.{IfOk, IfErr};
 ghost use Rattle.ioa_serving.specs.Alone.{AreSources, IsWordless};
 

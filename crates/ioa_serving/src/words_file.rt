@@ -1,3 +1,5 @@
+//! Words that a user lists in a file, to make each choice of a run.
+
 ghost use Rattle.std.specs.Prelude.{◌≡◌, ◌-◌, ◌^◌, All, IfOk, IfErr, map, option_map};
 ghost use Rattle.ioa_request.specs.Numerals.{numeral_in};
 ghost use Rattle.ioa_request.specs.Fields.{after_field, first_field};

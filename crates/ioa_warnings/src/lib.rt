@@ -1,4 +1,5 @@
-//! What is likely a mistake in a source that is fine.
+//! What is likely a mistake in a source that is fine: parameters of which no precondition says
+//! anything, and comments that begin within a statement. Nothing is refused for it.
 #![tactic(auto)]
 
 mod comments;
