@@ -1,4 +1,5 @@
-//! Tables whose rows are texts, and the sources that tests of more than one crate run. Only tests stand on it.
+//! Tables whose rows are texts, and the sources that tests of more than one crate run. Only tests
+//! stand on it.
 #![tactic(auto)]
 
 mod rows;

@@ -1,3 +1,5 @@
+//! Small sources that tests replay and run.
+
 /// The counter that most tests replay.
 pub const COUNTER: &str =
     "automaton Counter(start: Int) signature output tick(k: Int); input reset \

@@ -1,3 +1,5 @@
+//! Tests by what they call, and what they make their arguments of.
+
 mod calls;
 mod code;
 mod drawn;

@@ -1,3 +1,5 @@
+//! The command, from the words of a command line and its devices to an exit status.
+
 ghost use Rattle.std.specs.Prelude.{◌≡◌, ◌⊎◌, ℕ, List, true, map, IfOk, IfErr};
 ghost use Rattle.clap.specs.Words.{subcommand_of};
 ghost use Rattle.ioa_log.specs.Failing.{HasFailed};

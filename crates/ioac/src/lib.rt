@@ -1,13 +1,17 @@
-//! What `ioac` does: its command line, and what it tells of each thing that the words of one ask for.
+//! What `ioac` does: `command` serves what the words of a command line ask for, and tells what came
+//! of it, with `--explain` in words for people. What a caller names is handed on from here.
 #![tactic(auto)]
 
+// The command, and what it is asked for.
 pub mod command;
+mod requests;
+mod usage;
+
+// What is told of a request.
 mod hearing;
 mod remarks;
-mod requests;
 mod served;
 mod telling;
-mod usage;
 
 pub use hearing::Heard;
 pub use ioa_request::{Code, Topic, explanation, explanations};

@@ -1,3 +1,5 @@
+//! What is told of a request that was served, on standard error.
+
 ghost use Rattle.std.specs.Prelude.{◌≡◌};
 ghost use Rattle.ioa_log.specs.Failing.{HasFailed};
 ghost use Rattle.ioac.specs.Commands.{IsFinished};

@@ -1,3 +1,5 @@
+//! Command lines that ask for nothing that can be served: help, versions and faults.
+
 ghost use Rattle.std.specs.Prelude.{◌≡◌, ◌<◌, length, IfOk};
 ghost use Rattle.std.specs.Option.{option_copied};
 ghost use Rattle.std.specs.String.{string_bytes};

@@ -1,3 +1,5 @@
+//! The files of the process as a `Store`. A file is replaced whole, or stays as it is.
+
 ghost use Rattle.std.specs.Prelude.{◌≡◌, ◌++◌, false, IfOk, IfSome, OnOk, take};
 ghost use Rattle.std.specs.Io.{StartsWith};
 ghost use Rattle.ioa_serving.specs.Headline.{begins_object};

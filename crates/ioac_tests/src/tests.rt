@@ -1,3 +1,5 @@
+//! Tables of rows by what they are about, and tests that no row can be.
+
 mod bounds;
 mod changes;
 mod choices;

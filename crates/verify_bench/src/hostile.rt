@@ -1,3 +1,5 @@
+//! Valid code of any length that is made to cost the verifier much.
+
 ghost use Rattle.std.specs.Prelude.{◌≡◌, ◌∷◌, [], ◌<◌, true, IfOk, length, map};
 ghost use Rattle.ioa_value.specs.Plain.{plain, truth};
 ghost use Rattle.ioa_value.specs.Table.{basic};

@@ -1,3 +1,5 @@
+//! Single calls: actions and sources as they are printed, first values, and steps.
+
 ghost use Rattle.std.specs.Prelude.{◌≡◌, ◌<◌, length, IfOk};
 ghost use Rattle.ioa_value.specs.Actions.{act_of};
 ghost use Rattle.ioa_tree.specs.Steps as steps;

@@ -1,3 +1,5 @@
+//! Tokens of texts, and texts that have none.
+
 use ioa_lex::{Kind, Refusal, Terminal, Token, lex};
 use std::alloc::{AllocError, Global};
 use std::process::Abort;

@@ -1,3 +1,5 @@
+//! Both sides of each limit, in sources that are made of repeated pieces.
+
 /// A source, a list, what is printed, what is told of errors, and the exit status.
 pub const ROWS: &str = "\
 -- the text

@@ -1,3 +1,5 @@
+//! One counter, changed in one place: what each rule refuses, and on which line.
+
 /// A counter with a part on each line.
 pub const LINES: &str =
     "automaton Counter(start: Int)\nsignature\n output tick(k: Int);\n input reset\n\

@@ -1,3 +1,5 @@
+//! What preconditions, proposals and effects mean, as the transition of a counter shows.
+
 /// A counter in which `?` stands for what a tick asks, proposes and does.
 pub const COUNTER: &str =
     "automaton Counter(start: Int) signature output tick(k: Int); input reset \

@@ -1,3 +1,5 @@
+//! Command lines: compositions by their names, help, and words that are refused.
+
 /// Two compositions of one counter.
 pub const TWO: &str =
     "automaton Counter(start: Int) signature output tick(k: Int) states c: Int := start \

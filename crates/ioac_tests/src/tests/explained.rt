@@ -1,3 +1,5 @@
+//! Explanations held against the program: their examples give what they explain.
+
 use crate::tests::shelf::{Given, REPLAY, Wanted, expect, run};
 use ioa_rows::text;
 use ioa_value::Fault;

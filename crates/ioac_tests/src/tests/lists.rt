@@ -1,3 +1,5 @@
+//! Lists of actions: how they are read, and how they end.
+
 /// A list for the counter, what is printed, what is told of errors, and the exit status.
 pub const ROWS: &str = "\
 tick(5)^tick(6)^reset^ | tick(5)^tick(6)^reset^end: done after 3^ |  | 0

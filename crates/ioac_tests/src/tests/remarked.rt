@@ -1,3 +1,5 @@
+//! What `--explain` adds, outcome by outcome.
+
 use crate::tests::shelf::{Given, Ran, run};
 use ioa_rows::{column, columns, is_row};
 use std::alloc::Global;

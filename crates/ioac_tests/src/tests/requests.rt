@@ -1,3 +1,5 @@
+//! Requests that replay nothing: checks, objects, explanations, the library.
+
 /// The words after the program's name, a source, what is printed, what is told of errors, and the exit status.
 pub const ROWS: &str = "\
 check f |  | ok^ |  | 0

@@ -1,3 +1,5 @@
+//! Devices that fail at any of their calls, or are full.
+
 use crate::tests::shelf::{COUNTER, Given, REPLAY, Ran, run_on};
 use ioa_log::{Counted, Device};
 use ioac::{Heard, Status};
