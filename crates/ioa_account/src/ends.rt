@@ -323,7 +323,7 @@ fn transition_line(transitions: &[Transition], name: &str) -> u32
     ensures { result ≡ spec.transition_line transitions.now name.now }
 {
     for transition in transitions {
-        if transition.name.text.as_str() == name {
+        if transition.name.is(name) {
             return transition.name.line;
         }
     }

@@ -123,7 +123,7 @@ fn transition_of<'a>(automaton: &'a Automaton, entry: &EntryTree) -> &'a Transit
     ensures { transition_for (automaton_of automaton.now) (entry_of entry.now) ≡ Some (transition_of result.now) }
 {
     for transition in &automaton.transitions {
-        if transition.name.text.as_str() == entry.name.text.as_str() {
+        if transition.name.is(entry.name.text.as_str()) {
             return transition;
         }
     }

@@ -14,14 +14,16 @@ pub(crate) fn field_place(fields: &[Field], name: &Name) -> Option<usize>
 {
     fields
         .iter()
-        .position(|field| field.name.text.as_str() == name.text.as_str())
+        .position(|field| field.name.is(name.text.as_str()))
 }
 
 /// The place of the first variable of this name.
 pub(crate) fn variable_place(variables: &[Variable], name: &Name) -> Option<usize>
     ensures { result ≡ place_from 0 (map (λ v. v.field.name) (map variable_of variables.now)) (name_of name.now) }
 {
-    variables.iter().position(|variable| variable.field.name.text.as_str() == name.text.as_str())
+    variables
+        .iter()
+        .position(|variable| variable.field.name.is(name.text.as_str()))
 }
 
 /// The place of the parameter of this name among all positions; a constant has no name.
@@ -29,7 +31,7 @@ pub(crate) fn parameter_place(positions: &[Position], name: &Name) -> Option<usi
     ensures { result ≡ parameter_from 0 (map position_of positions.now) (name_of name.now) }
 {
     positions.iter().position(|position| match position {
-        Position::Typed(field) => field.name.text.as_str() == name.text.as_str(),
+        Position::Typed(field) => field.name.is(name.text.as_str()),
         Position::Constant(_) => false,
     })
 }

@@ -65,7 +65,7 @@ fn proposal_for<'a>(proposals: &'a [Proposal], field: &Field) -> Option<&'a Prop
     ensures { option_map (λ r. proposal_of r.now) result ≡ proposal_tree (map proposal_of proposals.now) (field_of field.now) }
 {
     for proposal in proposals {
-        if proposal.name.text.as_str() == field.name.text.as_str() {
+        if proposal.name.is(field.name.text.as_str()) {
             return Some(proposal);
         }
     }

@@ -136,7 +136,7 @@ fn has_entry(automaton: &Automaton, name: &Name) -> bool
     ensures { result ≡ contains (map (λ e. e.name) (automaton_of automaton.now).entries) (name_of name.now) }
 {
     for entry in &automaton.entries {
-        if entry.name.text.as_str() == name.text.as_str() {
+        if entry.name.is(name.text.as_str()) {
             return true;
         }
     }

@@ -107,7 +107,9 @@ impl Composition {
         ensures { OfThese (composed_of self.now) component invariant (λ m v. result ≡ bytes_eq v.automaton m.instance.automaton.name) }
     {
         let automaton = &self.members[component].automaton;
-        self.invariants[invariant].automaton.text.as_str() == automaton.name.text.as_str()
+        self.invariants[invariant]
+            .automaton
+            .is(automaton.name.text.as_str())
     }
 
     /// Whether the invariant, which is of the component's automaton, is true where the first `declared` of the component's variables

@@ -64,7 +64,7 @@ fn is_output_named(entry: &Entry, name: &Name) -> bool
     ensures { result ≡ (is_output (Some (entry_of entry.now).kind) && bytes_eq (entry_of entry.now).name (name_of name.now)) }
 {
     match entry.kind {
-        Kind::Output => entry.name.text.as_str() == name.text.as_str(),
+        Kind::Output => entry.name.is(name.text.as_str()),
         Kind::Input | Kind::Internal => false,
     }
 }

@@ -25,7 +25,7 @@ fn composition_named<'a>(declarations: &'a [Declaration], name: &str) -> Option<
 {
     for declaration in declarations {
         if let Declaration::Composition(composition) = declaration
-            && composition.name.text.as_str() == name
+            && composition.name.is(name)
         {
             return Some(composition);
         }

@@ -100,18 +100,9 @@ fn keeps_inside(entries: &[Entry]) -> bool
     ensures { result ≡ list_any (λ e. spec.is_internal e.kind) (map entry_code entries.now) }
 {
     for entry in entries {
-        if is_internal(entry.kind) {
+        if entry.kind == Kind::Internal {
             return true;
         }
     }
     false
-}
-
-fn is_internal(kind: Kind) -> bool
-    ensures { result ≡ spec.is_internal kind }
-{
-    match kind {
-        Kind::Input | Kind::Output => false,
-        Kind::Internal => true,
-    }
 }

@@ -72,7 +72,7 @@ fn put_internals(text: &mut String, entries: &[Entry]) -> Result<(), OutOfMemory
 fn put_internal(text: &mut String, entry: &Entry) -> Result<(), OutOfMemory>
     ensures { OnOk result (string_bytes text.new ≡ string_bytes text.old ++ spec.internal_text (entry_code entry.now)) }
 {
-    if is_kind(Kind::Internal, entry.kind) {
+    if entry.kind == Kind::Internal {
         let name = entry.name.as_str();
         write!(text, "\\ninternal {name}")?;
     }
@@ -267,18 +267,7 @@ fn has_of(types: &Types, kind: Kind, entry: &Entry, member: &Member) -> bool
 fn shares(types: &Types, kind: Kind, entry: &Entry, other: &Entry) -> bool
     ensures { result ≡ spec.shares types.now kind (entry_code entry.now) (entry_code other.now) }
 {
-    is_kind(kind, other.kind)
+    kind == other.kind
         && entry.name == other.name
         && all_meet(types, &entry.positions, &other.positions)
-}
-
-fn is_kind(kind: Kind, other: Kind) -> bool
-    ensures { result ≡ spec.is_kind kind other }
-{
-    match (kind, other) {
-        (Kind::Input, Kind::Input) => true,
-        (Kind::Output, Kind::Output) => true,
-        (Kind::Internal, Kind::Internal) => true,
-        _ => false,
-    }
 }

@@ -98,7 +98,7 @@ impl Named for Declaration {
 pub(crate) fn same_name(a: &Name, b: &Name) -> bool
     ensures { result ≡ bytes_eq (name_of a.now) (name_of b.now) }
 {
-    a.text.as_str() == b.text.as_str()
+    a.is(b.text.as_str())
 }
 
 /// The first of the items that has this name.

@@ -89,23 +89,7 @@ fn one_transition(automaton: &Automaton, entry: &Entry) -> Result<(), Refusal>
 fn matches(entry: &Entry, transition: &Transition) -> bool
     ensures { result ≡ (well_formed.same_kind entry.now.kind transition.now.kind && bytes_eq (name_of entry.now.name) (name_of transition.now.name)) }
 {
-    same_kind(entry.kind, transition.kind) && same_name(&entry.name, &transition.name)
-}
-
-fn same_kind(a: Kind, b: Kind) -> bool
-    ensures { result ≡ well_formed.same_kind a b }
-{
-    match a {
-        Kind::Input => is_input(b),
-        Kind::Output => matches!(b, Kind::Output),
-        Kind::Internal => matches!(b, Kind::Internal),
-    }
-}
-
-fn is_input(kind: Kind) -> bool
-    ensures { result ≡ well_formed.is_input kind }
-{
-    matches!(kind, Kind::Input)
+    entry.kind == transition.kind && same_name(&entry.name, &transition.name)
 }
 
 /// Whether the transitions of each entry are well formed.
@@ -172,7 +156,7 @@ fn before_effect_fine(
         Says result (if well_formed.is_input r.kind then well_formed.input_fine (whole known.now) (early known.now) [] a r else well_formed.pre_fine (whole known.now) (early known.now) [] a e r && well_formed.proposals_fine (whole known.now) (early known.now) [] a e r && well_formed.all_proposed (whole known.now) (early known.now) [] a e r)
         (reasons.before_effect (whole known.now) (early known.now) [] a e r) }
 {
-    if is_input(transition.kind) {
+    if transition.kind.is_input() {
         input_fine(transition)
     } else {
         local_fine(known, automaton, entry, transition)

@@ -50,7 +50,7 @@ fn local_count(entries: &[Entry]) -> usize
 {
     let mut count = 0;
     for entry in entries {
-        if is_local(entry.kind) {
+        if entry.kind.is_local() {
             count += 1;
         }
     }
@@ -63,7 +63,7 @@ fn local_entry<'a>(entries: &'a [Entry], number: usize) -> Option<&'a Entry>
 {
     let mut before = number;
     for entry in entries {
-        if is_local(entry.kind) {
+        if entry.kind.is_local() {
             if before == 0 {
                 return Some(entry);
             }
@@ -71,15 +71,6 @@ fn local_entry<'a>(entries: &'a [Entry], number: usize) -> Option<&'a Entry>
         }
     }
     None
-}
-
-fn is_local(kind: Kind) -> bool
-    ensures { result ≡ components.is_local (Some kind) }
-{
-    match kind {
-        Kind::Input => false,
-        Kind::Output | Kind::Internal => true,
-    }
 }
 
 /// The action that the entry proposes.

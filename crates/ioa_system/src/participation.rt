@@ -161,7 +161,7 @@ pub fn owner(program: &Program, action: &Action) -> Option<usize>
     let members = program.members();
     for i in 0..members.len() {
         match entry_of(&members[i], action) {
-            Some(entry) if is_local(entry.kind) => return Some(i),
+            Some(entry) if entry.kind.is_local() => return Some(i),
             _ => {}
         }
     }
@@ -175,7 +175,7 @@ pub fn is_external(program: &Program, action: &Action) -> bool
     let members = program.members();
     for member in members {
         match entry_of(member, action) {
-            Some(entry) if is_local(entry.kind) => {
+            Some(entry) if entry.kind.is_local() => {
                 return is_shown(program.hidden(), entry.kind, action);
             }
             _ => {}
@@ -223,20 +223,11 @@ fn owner_among<'p, 'a>(participants: &'p [Participant<'a>]) -> Option<&'p Partic
     ensures { option_copied result ≡ owner_of participants.now }
 {
     for participant in participants {
-        if is_local(participant.entry.kind) {
+        if participant.entry.kind.is_local() {
             return Some(participant);
         }
     }
     None
-}
-
-pub(crate) fn is_local(kind: Kind) -> bool
-    ensures { result ≡ components.is_local (Some kind) }
-{
-    match kind {
-        Kind::Input => false,
-        Kind::Output | Kind::Internal => true,
-    }
 }
 
 /// Whether the action of an owner of this kind is external.

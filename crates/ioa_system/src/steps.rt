@@ -17,7 +17,7 @@ ghost use Rattle.ioa_system.specs.Preconditions as preconditions;
 ghost use Rattle.ioa_system.specs.Systems.{slot_types, slots_of, types_of, values_of};
 
 use crate::outcomes::{Moved, Step};
-use crate::participation::{Participant, Participation, is_local};
+use crate::participation::{Participant, Participation};
 use ioa_compile::{Entry, Member, Program};
 use ioa_node::{Draft, NodeState, Workspace, draft_effect, enabled_with};
 use ioa_value::{Action, Fault, OutOfMemory};
@@ -213,7 +213,7 @@ fn asked(
         ≡ spec.renumbered (numbers_of participants.now) (steps.allowed (steps.asked 0 (components_of participants.now) (act_of action.now) (lent states.now participants.now)) m)) }
 {
     for participant in participants {
-        if is_local(participant.entry.kind) {
+        if participant.entry.kind.is_local() {
             let state = &states[participant.place];
             let answer = guard(
                 alloc,

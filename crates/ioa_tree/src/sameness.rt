@@ -45,7 +45,7 @@ impl Same for Name {
     ghost tree = { name_of };
 
     fn same(&self, other: &Name) -> bool {
-        self.text.as_str() == other.text.as_str()
+        self.is(other.text.as_str())
     }
 }
 

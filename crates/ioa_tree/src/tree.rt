@@ -1,9 +1,12 @@
 //! The abstract syntax of the language: what the grammar reads, what rules judge, and what has a
 //! meaning. Lines are kept for what is told of a tree, and mean nothing.
 
-ghost use Rattle.std.specs.Prelude.{◌≡◌};
+ghost use Rattle.std.specs.Prelude.{◌≡◌, Some};
+ghost use Rattle.std.specs.Str.{bytes_eq};
+ghost use Rattle.ioa_tree.specs.Components.{is_local};
 ghost use Rattle.ioa_tree.specs.Tree.{expr_in};
-ghost use Rattle.ioa_tree.specs.View.{first_line, constant_line, expr_of, choice_of};
+ghost use Rattle.ioa_tree.specs.View.{first_line, constant_line, expr_of, choice_of, name_of};
+ghost use Rattle.ioa_tree.specs.WellFormed.{is_input};
 
 use ioa_value::Op;
 
@@ -12,6 +15,15 @@ use ioa_value::Op;
 pub struct Name {
     pub text: String,
     pub line: u32,
+}
+
+impl Name {
+    /// Whether the name is this text.
+    pub fn is(&self, text: &str) -> bool
+        ensures { result ≡ bytes_eq (name_of self.now) text.now }
+    {
+        self.text.as_str() == text
+    }
 }
 
 /// An operator on two operands. All but those that are written around their operands stand between them.
@@ -77,6 +89,22 @@ pub enum Kind {
     Input,
     Output,
     Internal,
+}
+
+impl Kind {
+    /// Whether the action comes from the environment of its automaton.
+    pub fn is_input(self) -> bool
+        ensures { result ≡ is_input self }
+    {
+        self == Kind::Input
+    }
+
+    /// Whether the action is its automaton's own: an output, or internal.
+    pub fn is_local(self) -> bool
+        ensures { result ≡ is_local (Some self) }
+    {
+        self != Kind::Input
+    }
 }
 
 /// The constant of a position, with the line of its first token.

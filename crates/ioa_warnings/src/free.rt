@@ -80,7 +80,7 @@ fn add_of_entry<'a>(
 ) -> Result<(), OutOfMemory>
     ensures { OnOk result (map free_of found.new.items ≡ map free_of found.old.items ++ spec.free_of_entry (automaton_of automaton.now) (map lined automaton.now.transitions.items) (entry_of entry.now)) }
 {
-    if is_input(entry.kind) {
+    if entry.kind.is_input() {
         return Ok(());
     }
     for transition in &automaton.transitions {
@@ -182,19 +182,12 @@ fn is_left_to_chance(proposals: &[Proposal], name: &Name) -> bool
 fn is_chance_of(proposal: &Proposal, name: &Name) -> bool
     ensures { result ≡ spec.is_chance_of (name_of name.now) (proposal_of proposal.now) }
 {
-    proposal.name.text.as_str() == name.text.as_str()
-        && matches!(&proposal.choice, Choice::Any(_, _))
+    proposal.name.is(name.text.as_str()) && matches!(&proposal.choice, Choice::Any(_, _))
 }
 
 /// Whether entry and transition are of one kind and one name.
 fn matches(entry: &Entry, transition: &Transition) -> bool
     ensures { result ≡ (well_formed.same_kind entry.now.kind transition.now.kind && bytes_eq (name_of entry.now.name) (name_of transition.now.name)) }
 {
-    entry.kind == transition.kind && entry.name.text.as_str() == transition.name.text.as_str()
-}
-
-fn is_input(kind: Kind) -> bool
-    ensures { result ≡ well_formed.is_input kind }
-{
-    matches!(kind, Kind::Input)
+    entry.kind == transition.kind && entry.name.is(transition.name.text.as_str())
 }

@@ -14,7 +14,7 @@ pub fn mentions(expression: &Expression, name: &str) -> bool
 {
     match expression {
         Expression::Number(_, _) | Expression::Truth(_, _) | Expression::Empty(_, _) => false,
-        Expression::Name(other) => other.text.as_str() == name,
+        Expression::Name(other) => other.is(name),
         Expression::Parentheses(part, _)
         | Expression::Prefix(_, part, _)
         | Expression::Select(part, _, _) => mentions(part, name),

@@ -39,7 +39,7 @@ fn line_among(
 /// Whether the composition has this name; each has, where none is given.
 fn is_named(assembly: &Assembly, composition: Option<&str>) -> bool {
     match composition {
-        Some(name) => assembly.name.text.as_str() == name,
+        Some(name) => assembly.name.is(name),
         None => true,
     }
 }
