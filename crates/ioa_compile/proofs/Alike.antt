@@ -1,5 +1,5 @@
 -- The parts of a table's entry end as the transition says, and so the table's component does what its instance does.
-use Rattle.std.proofs.Common.{◌≡◌, ℕ, ◌⊎◌, inl, inr, Bool, true, false, cond, ◌++◌, IsTrue, List, [], ◌∷◌, length, Option, Some, None, IfSome, Result, Ok, Err, refl, sym, ap, ◌∙◌, subst, arith}
+use Rattle.std.proofs.Common.{◌≡◌, ◌≤◌, ℕ, ◌⊎◌, inl, inr, Bool, true, false, cond, ◌++◌, IsTrue, List, [], ◌∷◌, length, Option, Some, None, IfSome, Result, Ok, Err, refl, sym, ap, ◌∙◌, subst}
 use Rattle.std.specs.List.{AllZip}
 use Rattle.std.specs.Option.{option_map, option_map_or}
 use Rattle.std.specs.Str.{bytes_eq}
@@ -14,10 +14,12 @@ use Rattle.ioa_value.specs.Typing.{HaveTypes}
 use Rattle.ioa_value.proofs.PositionLemmas.{all_take-typed}
 use Rattle.ioa_value.proofs.TypingLemmas.{HaveTypes-length}
 use Rattle.ioa_value.proofs.NameLemmas.{outside_both}
-use Rattle.ioa_code.specs.Machine.{Listing, State, End, done, fault}
+use Rattle.ioa_code.specs.Machine.{Listing, State, state, End, done, fault, Ends}
 use Rattle.ioa_code.specs.Outcome.{outcome}
-use Rattle.ioa_code.specs.Valid.{Part}
+use Rattle.ioa_code.specs.Valid.{Part, bound}
 use Rattle.ioa_code.proofs.Ends.{outcome_is_end}
+use Rattle.ioa_code.proofs.Remaining.{ends_within}
+use Rattle.ioa_code.specs.declared.instr.PartKind.{PartKind}
 use Rattle.ioa_node.specs.Runs as runs
 use Rattle.ioa_node.specs.Runs.{no_words, start, guard_answer, guard_of, effect_answer, effect_of}
 use Rattle.ioa_tree.specs.declared.tree.Kind.{Kind}
@@ -35,7 +37,7 @@ use Rattle.ioa_tree.proofs.Domains.{domains_have}
 use Rattle.ioa_tree.proofs.ValTyped.{val_typed}
 use Rattle.ioa_compose.specs.Fine.{IsFine, component_limits}
 use Rattle.ioa_compose.proofs.SpelledNames.{or_none}
-use Rattle.ioa_code.specs.declared.instr.PartKind.TheVariants.{Pre, Propose}
+use Rattle.ioa_code.specs.declared.instr.PartKind.TheVariants.{Pre, Propose, Eff}
 use Rattle.ioa_compile.specs.Programs.{EntryCode, MemberCode}
 use Rattle.ioa_compile.specs.Tables.{HasLocal, allows, entry_of, table_component, position_types, parameter_types}
 use Rattle.ioa_compile.specs.Correspondence.{Corresponds}
@@ -58,17 +60,22 @@ use Rattle.ioa_compile.proofs.Twins.{Both, Neither, finds_same}
 
 -- ---- the end of a run
 
-module _ (part : Part) (s : Scope) (slots args : List Val) where
-  came : (stack after : List Val) → Comes part.code s args (on part.code s args no_words 0 0 [] slots) (on part.code s args no_words 0 (length part.code.instrs) stack after) → runs.Comes part (start slots args) (done stack after 0)
-  came stack after c = let r = c.by (done stack after 0) 0 (refl, refl) in (r.0, omega (arith, r.1), r.2)
+module _ (part : Part) (s : Scope) (slots args : List Val) (within : (n : ℕ) (r : End) → Ends part.code n (start slots args) r → n ≤ bound part) where
+  came : (stack after : List Val) → Comes part.code (on part.code s args no_words 0 0 [] slots) (on part.code s args no_words 0 (length part.code.instrs) stack after) → runs.Comes part (start slots args) (done stack after 0)
+  came stack after c = let r = c.by (done stack after 0) 0 (refl, refl) in (r.0, within r.0 (done stack after 0) r.1, r.1)
 
   broke : (f : Fault) → Breaks part.code s args no_words 0 (on part.code s args no_words 0 0 [] slots) f → runs.Comes part (start slots args) (fault f 0)
-  broke f b = (b.count, omega (arith, b.within), b.ends)
+  broke f b = (b.0, within b.0 (fault f 0) b.1, b.1)
 
   answer_comes : (v : Answer) → (v ≡ nothing → ⊥) → Reaches part.code s args no_words 0 (on part.code s args no_words 0 0 [] slots) (length part.code.instrs) [] slots v → GuardEnds part slots args v
   answer_comes (gives v) t r = came (v ∷ []) slots r
   answer_comes (faults f) t r = broke f r
   answer_comes nothing t r = absurd (t refl)
+
+-- values of the types that a part is for are of the part's types
+for_part : (part : Part) (types : Table) (ts us : List ℕ) (vals : List Val) → part.code.types ≡ types → us ≡ ts → HaveTypes types vals ts → HaveTypes part.code.types vals us
+for_part part types ts us vals e f h =
+    subst (HaveTypes part.code.types vals) (sym f) (subst (λ t. HaveTypes t vals ts) (sym e) h)
 
 -- ---- what the end of a run says of the answer
 
@@ -128,7 +135,14 @@ module _ (m : Member) (e : EntryTree) (vs ps : List ℕ) (h : Setting m e vs ps)
   args_long : length e.positions ≡ length args
   args_long = parameters_long m e vs ps h ∙ sym (HaveTypes-length m.instance.types args ps values)
 
-  module _ (part : Part) (over : part.code.types ≡ m.instance.types) (declared : AreTypes m.instance.types) where
+  module _ (part : Part) (kind : PartKind) (end : List ℕ) (is : IsFor part m.instance.types kind end vs ps) where
+    declared : AreTypes m.instance.types
+    declared = subst AreTypes is.types_are is.verified.types
+
+    pub within : (slots : List Val) (words : ℕ → ℕ) → HaveTypes m.instance.types slots vs → (n : ℕ) (r : End) → Ends part.code n (state 0 [] slots args words 0) r → n ≤ bound part
+    within slots words typed n r e =
+        (ends_within part slots args words is.verified (for_part part m.instance.types vs part.slots slots is.types_are is.slots typed) (for_part part m.instance.types ps part.args args is.types_are is.args values) n r e).0
+
     -- the types of the names in this entry, and of the variables
     abbrev names_in : Context
     names_in = scope m.instance.types m.instance.types h.globals m.instance.automaton e
@@ -138,7 +152,7 @@ module _ (m : Member) (e : EntryTree) (vs ps : List ℕ) (h : Setting m e vs ps)
 
     knows : Knows part.code (scope_of m e) args no_words 0 m.instance.types names_in variables_in vs h.types ps
     knows = record {
-      same_types = over;
+      same_types = is.types_are;
       own_types = refl;
       context = refl;
       declared = declared;
@@ -174,8 +188,8 @@ module _ (m : Member) (e : EntryTree) (vs ps : List ℕ) (h : Setting m e vs ps)
     guard_comes None env slots c t k =
         let s = scope_of m e in
         let code = part.code in
-        let run = subst (λ n. Comes code s args (on code s args no_words 0 0 [] slots) (on code s args no_words 0 n (plain.truth true ∷ []) slots)) (sym k.has.1) (push_comes code s args no_words 0 0 [] slots (plain.truth true) k.has.0) in
-        came part s slots args (plain.truth true ∷ []) slots run
+        let run = subst (λ n. Comes code (on code s args no_words 0 0 [] slots) (on code s args no_words 0 n (plain.truth true ∷ []) slots)) (sym k.has.1) (push_comes code s args no_words 0 0 [] slots (plain.truth true) k.has.0) in
+        came part s slots args (within slots no_words (holds env slots c).typed) (plain.truth true ∷ []) slots run
     guard_comes (Some x) env slots c t k =
         let s = scope_of m e in
         let types = m.instance.types in
@@ -183,7 +197,7 @@ module _ (m : Member) (e : EntryTree) (vs ps : List ℕ) (h : Setting m e vs ps)
         let own = holds env slots c in
         let suits = running.suits part.code s args no_words 0 types names_in variables_in vs h.types ps knows inner slots own in
         let agree = running.agree part.code s args no_words 0 types names_in variables_in vs h.types ps knows inner slots own in
-        answer_comes part s slots args (val types x inner) (some_answer 0 (val types x inner) (val_typed types declared names_in inner x 0 suits t)) (expr_runs part.code s args no_words 0 types over refl declared names_in refl inner suits slots agree x 0 0 (length part.code.instrs) [] t k.has)
+        answer_comes part s slots args (within slots no_words own.typed) (val types x inner) (some_answer 0 (val types x inner) (val_typed types declared names_in inner x 0 suits t)) (expr_runs part.code s args no_words 0 types is.types_are refl declared names_in refl inner suits slots agree x 0 0 (length part.code.instrs) [] t k.has)
 
     kept_corresponds : (env : Env) (slots : List Val) → Holds env slots → Corresponds m.instance (kept (variable_names m.instance.automaton) env) slots
     kept_corresponds env slots k = record {
@@ -200,19 +214,20 @@ module _ (m : Member) (e : EntryTree) (vs ps : List ℕ) (h : Setting m e vs ps)
             k.agrees x ∙ ap (λ o. or_else o (or_else (look (field_names m.instance.automaton.formals) m.instance.arguments x) (passed e.positions args x))) there.1 ∙ sym there.1
         go x false t = sym (look_outside (variable_names m.instance.automaton) slots x t)
 
-    outcome_comes : (slots : List Val) (o : Outcome) → running.RunsTo part.code (scope_of m e) args no_words 0 m.instance.types names_in variables_in vs h.types ps knows (on part.code (scope_of m e) args no_words 0 0 [] slots) (length part.code.instrs) o → EffectEnds m.instance part slots args o
-    outcome_comes slots (becomes after) r = (r.0, kept_corresponds after r.0 r.1, came part (scope_of m e) slots args [] r.0 r.2)
-    outcome_comes slots (breaks f) r = broke part (scope_of m e) slots args f r
-    outcome_comes slots nowhere r = absurd r
+    outcome_comes : (slots : List Val) → HaveTypes m.instance.types slots vs → (o : Outcome) → running.RunsTo part.code (scope_of m e) args no_words 0 m.instance.types names_in variables_in vs h.types ps knows (on part.code (scope_of m e) args no_words 0 0 [] slots) (length part.code.instrs) o → EffectEnds m.instance part slots args o
+    outcome_comes slots typed (becomes after) r =
+        (r.0, kept_corresponds after r.0 r.1, came part (scope_of m e) slots args (within slots no_words typed) [] r.0 r.2)
+    outcome_comes slots typed (breaks f) r = broke part (scope_of m e) slots args (within slots no_words typed) f r
+    outcome_comes slots typed nowhere r = absurd r
 
     effect_comes : (ts : Stmts) (env : Env) (slots : List Val) → Corresponds m.instance env slots → StmtsTyped m.instance.types names_in variables_in ts → HasStmts part.code (scope_of m e) ts 0 (length part.code.instrs) → EffectEnds m.instance part slots args (eff m.instance.types ts (environment m.instance e args env))
     effect_comes ts env slots c t k =
-        outcome_comes slots (eff m.instance.types ts (environment m.instance e args env))
+        outcome_comes slots (holds env slots c).typed (eff m.instance.types ts (environment m.instance e args env))
         (running.stmts_run part.code (scope_of m e) args no_words 0 m.instance.types names_in variables_in vs h.types ps knows ts 0 (length part.code.instrs) (environment m.instance e args env) slots (holds env slots c) t k)
 
 -- ---- proposals
 
-module _ (m : Member) (e : EntryTree) (vs ps : List ℕ) (h : Setting m e vs ps) (part : Part) (same_types : part.code.types ≡ m.instance.types) (declared : AreTypes m.instance.types) where
+module _ (m : Member) (e : EntryTree) (vs ps : List ℕ) (h : Setting m e vs ps) (part : Part) (kind : PartKind) (end : List ℕ) (is : IsFor part m.instance.types kind end vs []) where
   pub proposals_come : (t : TransitionTree) → transition_for m.instance.automaton e ≡ Some t → ProposalsTyped m.instance.types (held m.instance.types m.instance.types h.globals m.instance.automaton) t.proposals e.positions → HasProposals part.code (scope_of_proposals m) t.proposals e.positions 0 (length part.code.instrs) → (env : Env) (slots : List Val) (words : Words) → Corresponds m.instance env slots → ProposalEnds part slots words (proposed m.instance e env words 0)
   proposals_come t found typed k env slots words c =
       let types = m.instance.types in
@@ -221,14 +236,15 @@ module _ (m : Member) (e : EntryTree) (vs ps : List ℕ) (h : Setting m e vs ps)
       let names = scope types types h.globals m.instance.automaton bare in
       let variables = context_of types (variable_fields m.instance.automaton) in
       let none : List Val = [] in
+      let declared = subst AreTypes is.types_are is.verified.types in
       let inner = over (formal_values m.instance) env in
-      let known = knows m bare vs [] b none tt part same_types declared in
-      let own = holds m bare vs [] b none tt part same_types declared env slots c in
+      let known = knows m bare vs [] b none tt part kind end is in
+      let own = holds m bare vs [] b none tt part kind end is env slots c in
       let suits = running.suits part.code s none no_words 0 types names variables vs h.types [] known inner slots own in
       let agree = running.agree part.code s none no_words 0 types names variables vs h.types [] known inner slots own in
-      let runs = proposals_try part.code s words slots types same_types refl declared names refl inner suits agree t.proposals e.positions 0 0 (length part.code.instrs) [] (bare_typed m e vs ps h t.proposals e.positions typed) k in
+      let runs = proposals_try part.code s words slots types is.types_are refl declared names refl inner suits agree t.proposals e.positions 0 0 (length part.code.instrs) [] (bare_typed m e vs ps h t.proposals e.positions typed) k in
       subst (λ o. ProposalEnds part slots words (option_map_or (λ r. parameters words types inner r.proposals e.positions 0) o (meaning.idle 0))) (sym found)
-      (tried_ends part s slots words (parameters words types inner t.proposals e.positions 0) runs)
+      (tried_ends part s slots words (within m bare vs [] b none tt part kind end is slots words own.typed) (parameters words types inner t.proposals e.positions 0) runs)
 
 -- ---- an entry
 
@@ -248,7 +264,6 @@ entry_matches m vs e c fine types is own =
     let all = setting m e fine own vs ps c.positions types is.positions refl in
     let t = is.transition.0 in
     let ok = fine_of m e fine own t is.transition.1 in
-    let declared = subst AreTypes is.effect.types_are is.effect.verified.types in
     record {
       kind = is.kind;
       name = is.name;
@@ -256,12 +271,12 @@ entry_matches m vs e c fine types is own =
       transition = t;
       found = is.transition.1;
       guard = on_part _ (λ p. IsFor p m.instance.types Pre (0 ∷ []) vs ps) (λ code. IsGuard code (scope_of m e) t.pre) e.kind c.pre is.transition.2.pre is.pre
-          (λ p local k q env slots args r values. guard_comes m e vs ps all args values p q.types_are declared t.pre env slots r (guard_typed m.instance.types all.globals m.instance.automaton e t ok) k);
+          (λ p local k q env slots args r values. guard_comes m e vs ps all args values p Pre (0 ∷ []) q t.pre env slots r (guard_typed m.instance.types all.globals m.instance.automaton e t ok) k);
       propose = on_part _ (λ p. IsFor p m.instance.types Propose (parameter_types c.positions) vs []) (λ code. IsProposing code (scope_of_proposals m) t.proposals e.positions) e.kind c.propose is.transition.2.propose is.propose
           (λ p local k q.
           let its_kind : is_input t.kind ≡ false = ap is_input (sym (kind_of m e fine own t is.transition.1)) ∙ local in
-          proposals_come m e vs ps all p q.types_are declared t is.transition.1 (proposals_typed m.instance.types all.globals m.instance.automaton e t all.entry its_kind ok) k.has);
-      effect = λ env slots args r values. effect_comes m e vs ps all args values c.effect is.effect.types_are declared t.effect env slots r (effect_typed m.instance.types all.globals m.instance.automaton e t ok) is.transition.2.effect.has;
+          proposals_come m e vs ps all p Propose (parameter_types c.positions) q t is.transition.1 (proposals_typed m.instance.types all.globals m.instance.automaton e t all.entry its_kind ok) k.has);
+      effect = λ env slots args r values. effect_comes m e vs ps all args values c.effect Eff [] is.effect t.effect env slots r (effect_typed m.instance.types all.globals m.instance.automaton e t ok) is.transition.2.effect.has;
     }
 
 guard_cases : (x : Result Bool Fault) (k : Kind) (o : Option Part) (s : Scope) (g : Option Expr) (slots args : List Val) → IsTrue (is_local (Some k)) → IsGuardFor k (codes_of o) s g → IfSome o (λ p. x ≡ guard_of p slots args) → x ≡ allows o slots args

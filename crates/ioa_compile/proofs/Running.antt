@@ -1,9 +1,8 @@
 -- The machine follows the tree.
-use Rattle.std.proofs.Common.{◌≡◌, ℕ, suc, ◌+◌, ◌<◌, ◌≤◌, ◌==◌, Bool, true, false, cond, List, [], ◌∷◌, ◌++◌, length, Option, Some, None, pos, refl, sym, ap, ◌∙◌, subst, arith, append_assoc, append-nil}
+use Rattle.std.proofs.Common.{◌≡◌, ℕ, suc, ◌+◌, ◌==◌, Bool, true, false, cond, List, [], ◌∷◌, ◌++◌, length, Option, Some, None, pos, refl, sym, ap, ◌∙◌, subst, arith, append_assoc, append-nil}
 use Rattle.std.specs.Prelude.{slice_get, slice_set}
 use Rattle.std.specs.Option.{option_map}
 use Rattle.std.specs.Str.{bytes_eq}
-use Rattle.std.proofs.lemmas.Option.{slice_get_within}
 use Rattle.ioa_arithmetic.specs.declared.arithmetic.Fault.{Fault}
 use Rattle.ioa_value.specs.declared.operator.Op.{Op}
 use Rattle.ioa_value.specs.declared.operator.Op.TheVariants.{Make, Field}
@@ -31,29 +30,29 @@ use Rattle.ioa_tree.specs.Answers.{Suits}
 use Rattle.ioa_tree.proofs.ValTyped.{val_typed, type_of_one, types_of_both, types_of_row}
 use Rattle.ioa_compile.specs.Scopes.{Scope, Origin, slot, formal, parameter, fixed, unknown, origin}
 use Rattle.ioa_compile.specs.Placed.{Stretch, At, Pushes, PushesTruth, Brings, Chooses, Combines, HasExpr, HasExprs, HasStmt, HasStmts, HasArms}
-use Rattle.ioa_compile.proofs.Lengths.{expr_long, stmts_long, arms_long}
 use Rattle.ioa_compile.proofs.Fine.{StmtTyped, StmtsTyped, ArmsTyped}
 use Rattle.ioa_compile.proofs.Looks.{look, look_at, look_set, Paired}
 use Rattle.ioa_compile.proofs.Parameters.{passed}
 use Rattle.ioa_compile.proofs.Standing.{at, stands, stands_at, stands-paired}
 use Rattle.ioa_compile.proofs.Tuples.{of_make, of_select, place_is, made_is, selected_is}
 
-module _ (code : Listing) (s : Scope) (args : List Val) where
-  -- the machine comes from one state to another: as that ends, so does this, after as many steps more as it is further on
+module _ (code : Listing) where
+  -- the machine comes from one state to another: whatever end that comes to, this comes to
   pub record Comes (x y : State) : Type 0 where
-    pub by : (r : End) (n : ℕ) → Ends code n y r → (k : ℕ) × (k + x.place ≤ n + y.place) × Ends code k x r
+    pub by : (r : End) (n : ℕ) → Ends code n y r → (k : ℕ) × Ends code k x r
 
   pub stays : (x : State) → Comes x x
-  stays x = record { by = λ r n e. (n, omega arith, e) }
+  stays x = record { by = λ r n e. (n, e) }
 
   pub comes_on : (x y z : State) → Comes x y → Comes y z → Comes x z
-  comes_on x y z a b = record { by = λ r n e. let f = b.by r n e in let g = a.by r f.0 f.2 in (g.0, omega (arith, f.1, g.1), g.2) }
+  comes_on x y z a b = record { by = λ r n e. let f = b.by r n e in a.by r f.0 f.1 }
 
-  pub step : (x y : State) → x.place < y.place → move code x ≡ goes y → Comes x y
-  step x y p e = record {
-    by = λ r n h. (suc n, omega arith, subst (λ m. After m (λ z. Ends code n z r) (λ z. (n ≡ 0) × (r ≡ z))) (sym e) h);
+  pub step : (x y : State) → move code x ≡ goes y → Comes x y
+  step x y e = record {
+    by = λ r n h. (suc n, subst (λ m. After m (λ z. Ends code n z r) (λ z. (n ≡ 0) × (r ≡ z))) (sym e) h);
   }
 
+module _ (code : Listing) (s : Scope) (args : List Val) where
   -- with these words, of which so many are taken, which stay as they are: nothing below takes one
   module _ (words : ℕ → ℕ) (taken : ℕ) where
     -- the machine at a place
@@ -63,27 +62,22 @@ module _ (code : Listing) (s : Scope) (args : List Val) where
     pub moves : (p : ℕ) (stack slots : List Val) (i : Instr) (m : Move) → At code p i → act code i (on p stack slots) ≡ m → move code (on p stack slots) ≡ m
     moves p stack slots i m h e = ap (λ o. fetched code o (on p stack slots)) h ∙ e
 
-    -- the machine ends by the fault, before the code does
-    pub record Breaks (x : State) (f : Fault) : Type 0 where
-      pub count : ℕ
-      pub within : count + x.place ≤ length code.instrs
-      pub ends : Ends code count x (fault f taken)
+    -- the machine ends by the fault
+    abbrev pub Breaks : State → Fault → Type 0
+    Breaks x f = (k : ℕ) × Ends code k x (fault f taken)
 
-    breaks_on : (x y : State) (f : Fault) → Comes x y → y.place ≤ length code.instrs → Breaks y f → Breaks x f
-    breaks_on x y f c le b = let r = c.by (fault f taken) b.count b.ends in record { count = r.0; within = omega (arith, r.1, b.within); ends = r.2 }
+    breaks_on : (x y : State) (f : Fault) → Comes code x y → Breaks y f → Breaks x f
+    breaks_on x y f c b = c.by (fault f taken) b.0 b.1
 
     -- the machine comes from x to q with the answer's value on the stack, or ends by its fault
     abbrev pub Reaches : State → ℕ → List Val → List Val → Answer → Type 0
-    Reaches x q stack slots (gives v) = Comes x (on q (stack ++ v ∷ []) slots)
+    Reaches x q stack slots (gives v) = Comes code x (on q (stack ++ v ∷ []) slots)
     Reaches x q stack slots (faults f) = Breaks x f
     Reaches x q stack slots nothing = Unit {0}
 
-    breaks_after : (x y : State) (f : Fault) → Comes x y → Breaks y f → Breaks x f
-    breaks_after x y f c b = let r = c.by (fault f taken) b.count b.ends in record { count = r.0; within = omega (arith, r.1, b.within); ends = r.2 }
-
-    after_comes : (x y : State) (q : ℕ) (stack slots : List Val) (a : Answer) → Comes x y → Reaches y q stack slots a → Reaches x q stack slots a
-    after_comes x y q stack slots (gives v) c r = comes_on x y _ c r
-    after_comes x y q stack slots (faults f) c r = breaks_after x y f c r
+    after_comes : (x y : State) (q : ℕ) (stack slots : List Val) (a : Answer) → Comes code x y → Reaches y q stack slots a → Reaches x q stack slots a
+    after_comes x y q stack slots (gives v) c r = comes_on code x y _ c r
+    after_comes x y q stack slots (faults f) c r = breaks_on x y f c r
     after_comes x y q stack slots nothing c r = tt
 
     -- a value of this type, and what is done with it
@@ -97,19 +91,19 @@ module _ (code : Listing) (s : Scope) (args : List Val) where
     ends_fault p stack slots f e =
         let P : Move → Type 0 = λ m. After m (λ z. Ends code 0 z (fault f taken)) (λ g. (◌≡◌ {A = ℕ} 0 0) × (fault f taken ≡ g)) in subst P (sym e) (refl, refl)
 
-    answer_reaches : (p : ℕ) (full stack slots : List Val) (a : Answer) → p < length code.instrs → move code (on p full slots) ≡ answered a (on p full slots) stack → Reaches (on p full slots) (p + 1) stack slots a
-    answer_reaches p full stack slots (gives v) lt e = step _ _ (omega arith) e
-    answer_reaches p full stack slots (faults f) lt e = record { count = 1; within = omega arith; ends = ends_fault p full slots f e }
-    answer_reaches p full stack slots nothing lt e = tt
+    answer_reaches : (p : ℕ) (full stack slots : List Val) (a : Answer) → move code (on p full slots) ≡ answered a (on p full slots) stack → Reaches (on p full slots) (p + 1) stack slots a
+    answer_reaches p full stack slots (gives v) e = step code _ _ e
+    answer_reaches p full stack slots (faults f) e = (1, ends_fault p full slots f e)
+    answer_reaches p full stack slots nothing e = tt
 
-    pub push_comes : (p : ℕ) (stack slots : List Val) (v : Val) → Pushes code p v → Comes (on p stack slots) (on (p + 1) (stack ++ v ∷ []) slots)
+    pub push_comes : (p : ℕ) (stack slots : List Val) (v : Val) → Pushes code p v → Comes code (on p stack slots) (on (p + 1) (stack ++ v ∷ []) slots)
     push_comes p stack slots v h =
-        step _ _ (omega arith) (moves p stack slots (Const h.0) _ h.1 (ap (λ o. pushed o (on p stack slots)) h.2))
+        step code _ _ (moves p stack slots (Const h.0) _ h.1 (ap (λ o. pushed o (on p stack slots)) h.2))
 
-    read_comes : (p : ℕ) (stack slots : List Val) (i : Instr) (o : Option Val) (v : Val) → At code p i → act code i (on p stack slots) ≡ pushed o (on p stack slots) → o ≡ Some v → Comes (on p stack slots) (on (p + 1) (stack ++ v ∷ []) slots)
-    read_comes p stack slots i o v h e k = step _ _ (omega arith) (moves p stack slots i _ h (e ∙ ap (λ x. pushed x (on p stack slots)) k))
+    read_comes : (p : ℕ) (stack slots : List Val) (i : Instr) (o : Option Val) (v : Val) → At code p i → act code i (on p stack slots) ≡ pushed o (on p stack slots) → o ≡ Some v → Comes code (on p stack slots) (on (p + 1) (stack ++ v ∷ []) slots)
+    read_comes p stack slots i o v h e k = step code _ _ (moves p stack slots i _ h (e ∙ ap (λ x. pushed x (on p stack slots)) k))
 
-    brings_comes : (p : ℕ) (stack slots : List Val) (o : Origin) (v : Val) → at (λ w. w) o slots s.arguments args ≡ Some v → Brings code s p o → Comes (on p stack slots) (on (p + 1) (stack ++ v ∷ []) slots)
+    brings_comes : (p : ℕ) (stack slots : List Val) (o : Origin) (v : Val) → at (λ w. w) o slots s.arguments args ≡ Some v → Brings code s p o → Comes code (on p stack slots) (on (p + 1) (stack ++ v ∷ []) slots)
     brings_comes p stack slots (slot i) v e h = read_comes p stack slots (Slot i) (slice_get slots i) v h refl e
     brings_comes p stack slots (formal i) v e h =
         let both : Some h.0 ≡ Some v = sym h.1 ∙ e in
@@ -123,37 +117,35 @@ module _ (code : Listing) (s : Scope) (args : List Val) where
     brings_reaches p stack slots None w e h = tt
     brings_reaches p stack slots (Some v) w e h = brings_comes p stack slots w v (sym e) h
 
-    jump_comes : (p t : ℕ) (stack slots : List Val) → At code p (Jump t) → p < t → Comes (on p stack slots) (on t stack slots)
-    jump_comes p t stack slots h lt = step _ _ lt (moves p stack slots (Jump t) _ h refl)
+    jump_comes : (p t : ℕ) (stack slots : List Val) → At code p (Jump t) → Comes code (on p stack slots) (on t stack slots)
+    jump_comes p t stack slots h = step code _ _ (moves p stack slots (Jump t) _ h refl)
 
-    branch_comes : (p t to : ℕ) (stack slots : List Val) (b : Bool) → At code p (JumpIfFalse t) → p < to → decided t (on p (stack ++ plain.truth b ∷ []) slots) stack (plain.truth b) ≡ goes (on to stack slots) → Comes (on p (stack ++ plain.truth b ∷ []) slots) (on to stack slots)
-    branch_comes p t to stack slots b h lt e =
+    branch_comes : (p t to : ℕ) (stack slots : List Val) (b : Bool) → At code p (JumpIfFalse t) → decided t (on p (stack ++ plain.truth b ∷ []) slots) stack (plain.truth b) ≡ goes (on to stack slots) → Comes code (on p (stack ++ plain.truth b ∷ []) slots) (on to stack slots)
+    branch_comes p t to stack slots b h e =
         let full = stack ++ plain.truth b ∷ [] in
-        step _ _ lt (moves p full slots (JumpIfFalse t) _ h
+        step code _ _ (moves p full slots (JumpIfFalse t) _ h
         (on_top-append 1 stack (plain.truth b ∷ []) stuck (λ below top. branched t (on p full slots) below top) refl ∙ e))
 
-    true_comes : (p t : ℕ) (stack slots : List Val) → At code p (JumpIfFalse t) → Comes (on p (stack ++ plain.truth true ∷ []) slots) (on (p + 1) stack slots)
-    true_comes p t stack slots h = branch_comes p t (p + 1) stack slots true h (omega arith) refl
+    true_comes : (p t : ℕ) (stack slots : List Val) → At code p (JumpIfFalse t) → Comes code (on p (stack ++ plain.truth true ∷ []) slots) (on (p + 1) stack slots)
+    true_comes p t stack slots h = branch_comes p t (p + 1) stack slots true h refl
 
-    false_comes : (p t : ℕ) (stack slots : List Val) → At code p (JumpIfFalse t) → p < t → Comes (on p (stack ++ plain.truth false ∷ []) slots) (on t stack slots)
-    false_comes p t stack slots h lt = branch_comes p t t stack slots false h lt refl
+    false_comes : (p t : ℕ) (stack slots : List Val) → At code p (JumpIfFalse t) → Comes code (on p (stack ++ plain.truth false ∷ []) slots) (on t stack slots)
+    false_comes p t stack slots h = branch_comes p t t stack slots false h refl
 
-    reaches_jump : (x : State) (n q : ℕ) (stack slots : List Val) (a : Answer) → At code n (Jump q) → n < q → Reaches x n stack slots a → Reaches x q stack slots a
-    reaches_jump x n q stack slots (gives v) h lt r =
-        comes_on x (on n (stack ++ v ∷ []) slots) _ r (jump_comes n q (stack ++ v ∷ []) slots h lt)
-    reaches_jump x n q stack slots (faults f) h lt r = r
-    reaches_jump x n q stack slots nothing h lt r = tt
+    reaches_jump : (x : State) (n q : ℕ) (stack slots : List Val) (a : Answer) → At code n (Jump q) → Reaches x n stack slots a → Reaches x q stack slots a
+    reaches_jump x n q stack slots (gives v) h r =
+        comes_on code x (on n (stack ++ v ∷ []) slots) _ r (jump_comes n q (stack ++ v ∷ []) slots h)
+    reaches_jump x n q stack slots (faults f) h r = r
+    reaches_jump x n q stack slots nothing h r = tt
 
     -- a choice between two answers
-    module _ (This Other : Stretch) (p q : ℕ) (stack slots : List Val) (this other : Answer) (first : (m n : ℕ) → This m n → Reaches (on m stack slots) n stack slots this) (second : (m n : ℕ) → Other m n → Reaches (on m stack slots) n stack slots other) (this_on : (m n : ℕ) → This m n → m ≤ n) (other_on : (m n : ℕ) → Other m n → m ≤ n) (h : Chooses code This Other p q) where
+    module _ (This Other : Stretch) (p q : ℕ) (stack slots : List Val) (this other : Answer) (first : (m n : ℕ) → This m n → Reaches (on m stack slots) n stack slots this) (second : (m n : ℕ) → Other m n → Reaches (on m stack slots) n stack slots other) (h : Chooses code This Other p q) where
       chooses_reaches : (v : Val) → Reaches (on p (stack ++ v ∷ []) slots) q stack slots (Meaning.decided v this other)
       chooses_reaches (plain.truth true) =
-          let on_to = other_on (h.0 + 1) q h.4 in
-          reaches_jump _ h.0 q stack slots this h.3 (omega arith)
+          reaches_jump _ h.0 q stack slots this h.3
           (after_comes _ (on (p + 1) stack slots) h.0 stack slots this (true_comes p (h.0 + 1) stack slots h.1) (first (p + 1) h.0 h.2))
       chooses_reaches (plain.truth false) =
-          let on_to = this_on (p + 1) h.0 h.2 in
-          after_comes _ (on (h.0 + 1) stack slots) q stack slots other (false_comes p (h.0 + 1) stack slots h.1 (omega arith)) (second (h.0 + 1) q h.4)
+          after_comes _ (on (h.0 + 1) stack slots) q stack slots other (false_comes p (h.0 + 1) stack slots h.1) (second (h.0 + 1) q h.4)
       chooses_reaches (plain.num z) = tt
       chooses_reaches (plain.name ty n) = tt
       chooses_reaches (plain.tuple ty vs) = tt
@@ -161,10 +153,7 @@ module _ (code : Listing) (s : Scope) (args : List Val) where
 
     truth_reaches : (b : Bool) (stack slots : List Val) (m n : ℕ) → PushesTruth code b m n → Reaches (on m stack slots) n stack slots (gives (plain.truth b))
     truth_reaches b stack slots m n h =
-        subst (λ k. Comes (on m stack slots) (on k (stack ++ plain.truth b ∷ []) slots)) (sym h.1) (push_comes m stack slots (plain.truth b) h.0)
-
-    truth_on : (b : Bool) (m n : ℕ) → PushesTruth code b m n → m ≤ n
-    truth_on b m n h = omega (arith, h.1)
+        subst (λ k. Comes code (on m stack slots) (on k (stack ++ plain.truth b ∷ []) slots)) (sym h.1) (push_comes m stack slots (plain.truth b) h.0)
 
     -- what a name stands for is where its code finds it
     abbrev pub Agrees : Table → Env → List Val → Type 0
@@ -179,11 +168,11 @@ module _ (code : Listing) (s : Scope) (args : List Val) where
           let is : applied code.types op operands ≡ operate types op operands =
           ap (λ l. applied l op operands) same_types ∙ applied_is types op operands ty (ap (op_type types op) owns.0 ∙ t) in
           let here : Reaches (on p (stack ++ operands) slots) (p + 1) stack slots (applied code.types op operands) =
-          answer_reaches p (stack ++ operands) stack slots (applied code.types op operands) (slice_get_within code.instrs p (Apply op) h)
+          answer_reaches p (stack ++ operands) stack slots (applied code.types op operands)
           (moves p (stack ++ operands) slots (Apply op) _ h (on_top-append (arity code.types op) stack operands stuck (λ below top. answered (applied code.types op top) (on p (stack ++ operands) slots) below) takes)) in
           subst (Reaches (on p (stack ++ operands) slots) (p + 1) stack slots) is here
 
-      module _ (Second : Stretch) (p q : ℕ) (stack slots : List Val) (x : Val) (answer : Answer) (a b ty : ℕ) (typed : HasType types x a) (answers : IsTypedAnswer types b answer) (second : (m n : ℕ) (under : List Val) → Second m n → Reaches (on m under slots) n under slots answer) (second_on : (m n : ℕ) → Second m n → m ≤ n) where
+      module _ (Second : Stretch) (p q : ℕ) (stack slots : List Val) (x : Val) (answer : Answer) (a b ty : ℕ) (typed : HasType types x a) (answers : IsTypedAnswer types b answer) (second : (m n : ℕ) (under : List Val) → Second m n → Reaches (on m under slots) n under slots answer) where
         combines_reaches : (o : Infix) → infix_type types o (a ∷ b ∷ []) ≡ Some ty → Combines code o Second p q → Reaches (on p (stack ++ x ∷ []) slots) q stack slots (combined types o x answer)
         combines_reaches (Operator o) t h =
             let go : Val → Answer = λ y. operate types o (x ∷ y ∷ []) in
@@ -191,14 +180,11 @@ module _ (code : Listing) (s : Scope) (args : List Val) where
             (then_reaches types (on p (stack ++ x ∷ []) slots) h.0 (h.0 + 1) b (stack ++ x ∷ []) stack slots answer go answers (second p h.0 (stack ++ x ∷ []) h.1)
             (λ y k. subst (λ l. Reaches (on h.0 l slots) (h.0 + 1) stack slots (go y)) (sym (append_assoc stack (x ∷ []) (y ∷ []))) (apply_reaches h.0 stack (x ∷ y ∷ []) slots o (a ∷ b ∷ []) ty t (typed, (k, tt)) h.2)))
         combines_reaches And t h =
-            chooses_reaches Second (PushesTruth code false) p q stack slots answer (gives (plain.truth false)) (λ m n k. second m n stack k) (truth_reaches false stack slots) second_on (truth_on false) h x
+            chooses_reaches Second (PushesTruth code false) p q stack slots answer (gives (plain.truth false)) (λ m n k. second m n stack k) (truth_reaches false stack slots) h x
         combines_reaches Or t h =
-            chooses_reaches (PushesTruth code true) Second p q stack slots (gives (plain.truth true)) answer (truth_reaches true stack slots) (λ m n k. second m n stack k) (truth_on true) second_on h x
+            chooses_reaches (PushesTruth code true) Second p q stack slots (gives (plain.truth true)) answer (truth_reaches true stack slots) (λ m n k. second m n stack k) h x
         combines_reaches Implies t h =
-            chooses_reaches Second (PushesTruth code true) p q stack slots answer (gives (plain.truth true)) (λ m n k. second m n stack k) (truth_reaches true stack slots) second_on (truth_on true) h x
-
-      expr_on : (e : Expr) (m n : ℕ) → HasExpr code s e m n → m ≤ n
-      expr_on e m n h = omega (arith, expr_long code s e m n h)
+            chooses_reaches Second (PushesTruth code true) p q stack slots answer (gives (plain.truth true)) (λ m n k. second m n stack k) (truth_reaches true stack slots) h x
 
       -- where each name of a context stands for a value of its type
       module _ (declared : AreTypes types) (c : Context) (own_context : s.context ≡ c) (env : Env) (suits : Suits types c env) (slots : List Val) (agrees : Agrees types env slots) where
@@ -208,7 +194,7 @@ module _ (code : Listing) (s : Scope) (args : List Val) where
         mutual
           pub expr_runs : (e : Expr) (ty p q : ℕ) (stack : List Val) → type_of types types c e ≡ Some ty → HasExpr code s e p q → Reaches (on p stack slots) q stack slots (val types e env)
           expr_runs (number n) ty p q stack t h =
-              subst (λ k. Comes (on p stack slots) (on k (stack ++ plain.num (pos n) ∷ []) slots)) (sym h.1) (push_comes p stack slots (plain.num (pos n)) h.0)
+              subst (λ k. Comes code (on p stack slots) (on k (stack ++ plain.num (pos n) ∷ []) slots)) (sym h.1) (push_comes p stack slots (plain.num (pos n)) h.0)
           expr_runs (truth b) ty p q stack t h = truth_reaches b stack slots p q h
           expr_runs (named x) ty p q stack t h =
               subst (λ k. Reaches (on p stack slots) k stack slots (value_of (or_else (env x) (constant types x)))) (sym h.1) (brings_reaches p stack slots (or_else (env x) (constant types x)) (origin s x) (agrees x) h.0)
@@ -223,11 +209,11 @@ module _ (code : Listing) (s : Scope) (args : List Val) where
               let both = types_of_both (type_of types types c l) (type_of types types c r) (infix_type types o) ty t in
               let go : Val → Answer = λ x. combined types o x (val types r env) in
               then_reaches types (on p stack slots) h.0 q both.0 stack stack slots (val types l env) go (answers_typed l both.0 both.2) (expr_runs l both.0 p h.0 stack both.2 h.1)
-              (λ x typed. combines_reaches (HasExpr code s r) h.0 q stack slots x (val types r env) both.0 both.1 ty typed (answers_typed r both.1 both.3) (λ m n under k. expr_runs r both.1 m n under both.3 k) (expr_on r) o both.4 h.2)
+              (λ x typed. combines_reaches (HasExpr code s r) h.0 q stack slots x (val types r env) both.0 both.1 ty typed (answers_typed r both.1 both.3) (λ m n under k. expr_runs r both.1 m n under both.3 k) o both.4 h.2)
           expr_runs (empty x) ty p q stack t h =
               let there : empty_of types x ≡ Some h.0 = ap (λ l. empty_of l x) (sym own_types) ∙ h.1 in
               subst (λ o. Reaches (on p stack slots) q stack slots (value_of o)) (sym there)
-              (subst (λ k. Comes (on p stack slots) (on k (stack ++ h.0 ∷ []) slots)) (sym h.3) (push_comes p stack slots h.0 h.2))
+              (subst (λ k. Comes code (on p stack slots) (on k (stack ++ h.0 ∷ []) slots)) (sym h.3) (push_comes p stack slots h.0 h.2))
           expr_runs (make x es) ty p q stack t h =
               let parts = of_make types c x es ty t in
               let end = h.2.0 in
@@ -310,13 +296,13 @@ module _ (code : Listing) (s : Scope) (args : List Val) where
 
       -- the machine comes to q with the new variables, or ends by the fault
       abbrev pub RunsTo : State → ℕ → Outcome → Type 0
-      RunsTo x q (becomes env) = (slots : List Val) × Holds env slots × Comes x (on q [] slots)
+      RunsTo x q (becomes env) = (slots : List Val) × Holds env slots × Comes code x (on q [] slots)
       RunsTo x q (breaks f) = Breaks x f
       RunsTo x q nowhere = ⊥
 
-      after_runs : (x y : State) (q : ℕ) (o : Outcome) → Comes x y → RunsTo y q o → RunsTo x q o
-      after_runs x y q (becomes env) k r = (r.0, r.1, comes_on x y _ k r.2)
-      after_runs x y q (breaks f) k r = breaks_after x y f k r
+      after_runs : (x y : State) (q : ℕ) (o : Outcome) → Comes code x y → RunsTo y q o → RunsTo x q o
+      after_runs x y q (becomes env) k r = (r.0, r.1, comes_on code x y _ k r.2)
+      after_runs x y q (breaks f) k r = breaks_on x y f k r
       after_runs x y q nowhere k r = absurd r
 
       then_runs : (x : State) (m q : ℕ) (o : Outcome) (go : Env → Outcome) → RunsTo x m o → ((env : Env) (slots : List Val) → Holds env slots → RunsTo (on m [] slots) q (go env)) → RunsTo x q (then_do o go)
@@ -324,10 +310,10 @@ module _ (code : Listing) (s : Scope) (args : List Val) where
       then_runs x m q (breaks f) go r k = r
       then_runs x m q nowhere go r k = absurd r
 
-      store_comes : (m i : ℕ) (slots : List Val) (w was : Val) → At code m (Store i) → slice_get slots i ≡ Some was → (own was == own w) ≡ true → Comes (on m (w ∷ []) slots) (on (m + 1) [] (slice_set slots i w))
+      store_comes : (m i : ℕ) (slots : List Val) (w was : Val) → At code m (Store i) → slice_get slots i ≡ Some was → (own was == own w) ≡ true → Comes code (on m (w ∷ []) slots) (on (m + 1) [] (slice_set slots i w))
       store_comes m i slots w was h here-is alike =
           let here = on m (w ∷ []) slots in
-          step _ _ (omega arith) (moves m (w ∷ []) slots (Store i) _ h
+          step code _ _ (moves m (w ∷ []) slots (Store i) _ h
           (on_top-append 1 [] (w ∷ []) stuck (λ below top. stored i here below top) refl
           ∙ ap (replaced i here [] w) here-is
           ∙ ap (λ b. cond b (next here [] (slice_set slots i w)) stuck) alike))
@@ -350,7 +336,7 @@ module _ (code : Listing) (s : Scope) (args : List Val) where
       assigns : (m i ty : ℕ) (slots : List Val) (x : Name) (env : Env) (start : State) (a : Answer) (old : Option Val) (was : Val) → Holds env slots → At code m (Store i) → place_from 0 s.variables x ≡ Some i → slice_get vs i ≡ Some ty → slice_get slots i ≡ Some was → HasType types was ty → old ≡ Some was → IsTypedAnswer types ty a → Reaches start m [] slots a → RunsTo start (m + 1) (assigned x env a old)
       assigns m i ty slots x env start (gives w) None was h k place t now kept e typed r = absurd (cc)
       assigns m i ty slots x env start (gives w) (Some old) was h k place t now kept e typed r =
-          (slice_set slots i w, holds_set env slots x i ty w h place t typed, comes_on start (on m (w ∷ []) slots) _ r (store_comes m i slots w was k now (alike_own types was w ty kept typed)))
+          (slice_set slots i w, holds_set env slots x i ty w h place t typed, comes_on code start (on m (w ∷ []) slots) _ r (store_comes m i slots w was k now (alike_own types was w ty kept typed)))
       assigns m i ty slots x env start (faults f) old was h k place t now kept e typed r = r
       assigns m i ty slots x env start nothing old was h k place t now kept e typed r = absurd typed
 
@@ -367,21 +353,19 @@ module _ (code : Listing) (s : Scope) (args : List Val) where
           subst (λ n. RunsTo (on p [] slots) n (assigned x env (val types e env) (env x))) (sym k.5)
           (assigns m i ty slots x env (on p [] slots) (val types e env) (env x) now.0 h k.3 k.4 slot_ty now.1 now.2 old typed run)
 
-      runs_jump : (x : State) (n q : ℕ) (o : Outcome) → At code n (Jump q) → n < q → RunsTo x n o → RunsTo x q o
-      runs_jump x n q (becomes env) h lt r = (r.0, r.1, comes_on x _ _ r.2 (jump_comes n q [] r.0 h lt))
-      runs_jump x n q (breaks f) h lt r = r
-      runs_jump x n q nowhere h lt r = absurd r
+      runs_jump : (x : State) (n q : ℕ) (o : Outcome) → At code n (Jump q) → RunsTo x n o → RunsTo x q o
+      runs_jump x n q (becomes env) h r = (r.0, r.1, comes_on code x _ _ r.2 (jump_comes n q [] r.0 h))
+      runs_jump x n q (breaks f) h r = r
+      runs_jump x n q nowhere h r = absurd r
 
       -- a choice between two outcomes
-      module _ (This Other : Stretch) (x : State) (p q : ℕ) (slots : List Val) (this other : Outcome) (first : (m n : ℕ) → This m n → RunsTo (on m [] slots) n this) (second : (m n : ℕ) → Other m n → RunsTo (on m [] slots) n other) (this_on : (m n : ℕ) → This m n → m ≤ n) (other_on : (m n : ℕ) → Other m n → m ≤ n) (h : Chooses code This Other p q) where
+      module _ (This Other : Stretch) (x : State) (p q : ℕ) (slots : List Val) (this other : Outcome) (first : (m n : ℕ) → This m n → RunsTo (on m [] slots) n this) (second : (m n : ℕ) → Other m n → RunsTo (on m [] slots) n other) (h : Chooses code This Other p q) where
         by_truth : (b : Bool) → RunsTo (on p (plain.truth b ∷ []) slots) q (chosen (gives (plain.truth b)) this other)
         by_truth true =
-            let on_to = other_on (h.0 + 1) q h.4 in
-            runs_jump _ h.0 q this h.3 (omega arith)
+            runs_jump _ h.0 q this h.3
             (after_runs _ (on (p + 1) [] slots) h.0 this (true_comes p (h.0 + 1) [] slots h.1) (first (p + 1) h.0 h.2))
         by_truth false =
-            let on_to = this_on (p + 1) h.0 h.2 in
-            after_runs _ (on (h.0 + 1) [] slots) q other (false_comes p (h.0 + 1) [] slots h.1 (omega arith)) (second (h.0 + 1) q h.4)
+            after_runs _ (on (h.0 + 1) [] slots) q other (false_comes p (h.0 + 1) [] slots h.1) (second (h.0 + 1) q h.4)
 
         chosen_runs : (a : Answer) → IsTypedAnswer types 0 a → Reaches x p [] slots a → RunsTo x q (chosen a this other)
         chosen_runs (gives w) typed r =
@@ -391,9 +375,6 @@ module _ (code : Listing) (s : Scope) (args : List Val) where
         chosen_runs (faults f) typed r = r
         chosen_runs nothing typed r = absurd typed
 
-      stmts_on : (us : Stmts) (m n : ℕ) → HasStmts code s us m n → m ≤ n
-      stmts_on us m n k = omega (arith, stmts_long code s us m n k)
-
       mutual
         stmt_runs : (u : Stmt) (p q : ℕ) (env : Env) (slots : List Val) → Holds env slots → StmtTyped types c v u → HasStmt code s u p q → RunsTo (on p [] slots) q (does types u env)
         stmt_runs (assign x e) p q env slots h t k = assign_runs x e p q env slots h t k
@@ -402,7 +383,7 @@ module _ (code : Listing) (s : Scope) (args : List Val) where
 
         pub stmts_run : (us : Stmts) (p q : ℕ) (env : Env) (slots : List Val) → Holds env slots → StmtsTyped types c v us → HasStmts code s us p q → RunsTo (on p [] slots) q (eff types us env)
         stmts_run stop p q env slots h t k =
-            (slots, h, subst (λ n. Comes (on p [] slots) (on n [] slots)) (sym k) (stays (on p [] slots)))
+            (slots, h, subst (λ n. Comes code (on p [] slots) (on n [] slots)) (sym k) (stays code (on p [] slots)))
         stmts_run (seq u us) p q env slots h t k =
             then_runs (on p [] slots) k.0 q (does types u env) (eff types us) (stmt_runs u p k.0 env slots h t.0 k.1) (λ env2 slots2 h2. stmts_run us k.0 q env2 slots2 h2 t.1 k.2)
 
@@ -412,8 +393,6 @@ module _ (code : Listing) (s : Scope) (args : List Val) where
             chosen_runs (HasStmts code s us) (HasArms code s more (HasStmts code s others)) (on p [] slots) k.0 q slots (eff types us env) (picks types more env (eff types others env))
             (λ m n l. stmts_run us m n env slots h t.1 l)
             (λ m n l. arms_run more others m n env slots h t.2 f l)
-            (stmts_on us)
-            (λ m n l. omega (arith, arms_long code s more others (stmts_long code s others) m n l))
             k.2
             (val types e env)
             (val_typed types known.declared c env e 0 (suits env slots h) t.0)
