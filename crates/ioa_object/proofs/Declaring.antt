@@ -1,5 +1,5 @@
 -- How the reading of a declaration goes on.
-use Rattle.std.proofs.Common.{◌≡◌, ℕ, ◌+◌, ◌<◌, ◌≤◌, Bool, true, false, ◌&&◌, ◌⊎◌, inl, inr, nat_le, List, [], ◌∷◌, ◌++◌, length, Ok, Err, refl, sym, ap, ◌∙◌, arith}
+use Rattle.std.proofs.Common.{◌≡◌, ℕ, ◌+◌, ◌<◌, ◌≤◌, Bool, true, false, ◌&&◌, ◌⊎◌, inl, inr, nat_le, [], ◌∷◌, ◌++◌, length, Ok, Err, refl, ap, ◌∙◌, arith}
 use Rattle.std.proofs.lemmas.Bool.{le-leb, lt-leb, and_from}
 use Rattle.ioa_value.specs.Actions.{Name}
 use Rattle.ioa_value.specs.Table.{Table, Shape, Declaration, AreTypes, MayStand, MayFollow, contains, all_names}
@@ -9,7 +9,7 @@ use Rattle.ioa_object.specs.Reading.{Outcome, ◌>>=◌, ◌>>◌, right, byte_a
 use Rattle.ioa_object.specs.Spots.{Spot}
 use Rattle.ioa_object.specs.declared.failure.ObjErr.{ObjErr}
 use Rattle.ioa_object.specs.declared.failure.ObjErr.TheVariants as errors
-use Rattle.ioa_object.proofs.Formats.{AreBytes, IsFormat, yielded}
+use Rattle.ioa_object.proofs.Formats.{AreBytes, yielded}
 use Rattle.ioa_object.proofs.Forms.{form_format}
 use Rattle.ioa_object.proofs.Fresh.{distinct_push}
 use Rattle.ioa_object.proofs.Numbers.{byte_format}

@@ -7,12 +7,11 @@ ghost use Rattle.ioa_value.specs.Table.{AreTypes, all_names, contains, names_in}
 ghost use Rattle.ioa_value.specs.declared.limits.TheConstants.{LIMITS as most};
 ghost use Rattle.ioa_object.specs.Reading as spec;
 ghost use Rattle.ioa_object.specs.Reading.{Reads};
-ghost use Rattle.ioa_rules.specs.Globals.{texts};
 
 use crate::cursor::Cursor;
 use crate::failure::ObjErr;
-use indexmap::IndexSet;
 use ioa_compile::is_named;
+use ioa_rules::NameSet;
 use ioa_value::{Declarations, Declared, Field, Form, LIMITS, Types};
 
 /// The types of a program. Bool and Int are there without a declaration.
@@ -24,7 +23,7 @@ pub(crate) fn types(cursor: &mut Cursor<'_>) -> Result<Types, ObjErr>
     let alloc = cursor.alloc();
     let count = cursor.count(0, LIMITS.types)?;
     let mut declarations = Declarations::new(alloc)?;
-    let mut taken = IndexSet::new(alloc);
+    let mut taken = NameSet::new(alloc);
     taken.insert("Bool")?;
     taken.insert("Int")?;
     for _ in 0..count {
@@ -37,12 +36,12 @@ pub(crate) fn types(cursor: &mut Cursor<'_>) -> Result<Types, ObjErr>
 fn one_more<'a>(
     cursor: &mut Cursor<'a>,
     declarations: Declarations,
-    taken: &mut IndexSet<&'a str>,
+    taken: &mut NameSet<'a>,
 ) -> Result<Declarations, ObjErr>
     requires room { length declarations < 2 + most.types }
-    requires names { texts taken.old ≡ all_names declarations }
+    requires names { taken.old ≡ all_names declarations }
     ensures read { Reads (λ types. types) (spec.built (λ d. declarations ++ d ∷ []) (spec.declaration_at declarations cursor.old)) result cursor.new }
-    ensures names { IfOk result (λ types. texts taken.new ≡ all_names types) }
+    ensures names { IfOk result (λ types. taken.new ≡ all_names types) }
 {
     let alloc = cursor.alloc();
     let at = cursor.place();
@@ -61,9 +60,9 @@ fn one_more<'a>(
 
 /// A name that is not taken, and is taken from here on.
 #[tactic(auto, unfolding(crate::specs::Reading::name_at))]
-fn new_name<'a>(cursor: &mut Cursor<'a>, taken: &mut IndexSet<&'a str>) -> Result<&'a str, ObjErr>
-    ensures read { Reads (λ x. x.now) (spec.name_at (contains (texts taken.old)) cursor.old) result cursor.new }
-    ensures names { IfOk result (λ x. texts taken.new ≡ texts taken.old ++ x.now ∷ []) }
+fn new_name<'a>(cursor: &mut Cursor<'a>, taken: &mut NameSet<'a>) -> Result<&'a str, ObjErr>
+    ensures read { Reads (λ x. x.now) (spec.name_at (contains taken.old) cursor.old) result cursor.new }
+    ensures names { IfOk result (λ x. taken.new ≡ taken.old ++ x.now ∷ []) }
 {
     let name = cursor.name()?;
     if taken.insert(name.text)? {
@@ -79,10 +78,10 @@ fn form<'a>(
     cursor: &mut Cursor<'a>,
     tag: u8,
     count: usize,
-    taken: &mut IndexSet<&'a str>,
+    taken: &mut NameSet<'a>,
 ) -> Result<Form, ObjErr>
-    ensures read { Reads shape (spec.form_at tag (texts taken.old) count cursor.old) result cursor.new }
-    ensures names { IfOk result (λ form. texts taken.new ≡ texts taken.old ++ names_in (shape form)) }
+    ensures read { Reads shape (spec.form_at tag taken.old count cursor.old) result cursor.new }
+    ensures names { IfOk result (λ form. taken.new ≡ taken.old ++ names_in (shape form)) }
 {
     match tag {
         1 => Ok(Form::Names(constants(cursor, taken)?)),
@@ -92,12 +91,9 @@ fn form<'a>(
 }
 
 /// The names of an enumeration.
-fn constants<'a>(
-    cursor: &mut Cursor<'a>,
-    taken: &mut IndexSet<&'a str>,
-) -> Result<Vec<String>, ObjErr>
-    ensures read { Reads (λ v. map string_bytes v.items) (spec.list_at 1 most.names (λ before. spec.name_at (contains (texts taken.old ++ before))) cursor.old) result cursor.new }
-    ensures names { IfOk result (λ v. texts taken.new ≡ texts taken.old ++ map string_bytes v.items) }
+fn constants<'a>(cursor: &mut Cursor<'a>, taken: &mut NameSet<'a>) -> Result<Vec<String>, ObjErr>
+    ensures read { Reads (λ v. map string_bytes v.items) (spec.list_at 1 most.names (λ before. spec.name_at (contains (taken.old ++ before))) cursor.old) result cursor.new }
+    ensures names { IfOk result (λ v. taken.new ≡ taken.old ++ map string_bytes v.items) }
 {
     let alloc = cursor.alloc();
     let count = cursor.count(1, LIMITS.names)?;
