@@ -1,14 +1,13 @@
 #!/bin/sh
-# The library of protocols on a program, as it is printed and as it runs: examples/library.sh PROGRAM
+# The library of protocols on a program, as it is printed and as it runs, and the protocols of the examples: examples/library.sh PROGRAM
 #
 # `library` has to print the bytes of links/links.ioa. Each protocol is run over ten seeds, 200 turns each, on one thread and on threads. A
 # log has to be accepted by `replay --log` and by the protocol's specification, and to have its actions and the turns counted by the reports: but for the handshake's, which may lose messages where hosts
-# crash, that is `ReliableFifo`. On one thread each run delivers something; on threads no schedule has to.
+# crash, that of the library is `ReliableFifo`. On one thread each run does what the protocol is for, as to deliver something; on threads no schedule has to.
 set -u
 program=$1
 case $program in /*) ;; *) program=$PWD/$program ;; esac
 top=$(cd "$(dirname "$0")" && pwd)
-source=$top/links/links.ioa
 work=$(mktemp -d) || exit 1
 trap 'rm -rf "$work"' EXIT
 runs=0
@@ -18,12 +17,13 @@ fail() {
   exit 1
 }
 
-# accepted COMPOSITION SPECIFICATION: runs the composition over ten seeds, on one thread and on threads
+# accepted SOURCE COMPOSITION SPECIFICATION ACTION: runs the composition over ten seeds, on one thread, where it performs an action of this name, and on threads
 accepted() {
+  source=$top/$1
   for digit in 0 1 2 3 4 5 6 7 8 9; do
-    judged "$1" "$2" "$digit" --alone
-    grep -q '"receive_msg(' "$work/log" || fail "$1 with seed $digit delivers nothing"
-    judged "$1" "$2" "$digit"
+    judged "$2" "$3" "$digit" --alone
+    grep -q "\"$4(" "$work/log" || fail "$2 with seed $digit performs no $4"
+    judged "$2" "$3" "$digit"
   done
 }
 
@@ -43,9 +43,10 @@ judged() {
 
 "$program" library > "$work/printed" 2> "$work/errors" || fail "it is not printed"
 [ -s "$work/errors" ] && fail "it tells of an error"
-cmp -s "$work/printed" "$source" || fail "what is printed is not links/links.ioa"
-accepted Stenning ReliableFifo
-accepted AltBit ReliableFifo
-accepted Sliding ReliableFifo
-accepted Handshake AtMostOnce
+cmp -s "$work/printed" "$top/links/links.ioa" || fail "what is printed is not links/links.ioa"
+accepted links/links.ioa Stenning ReliableFifo receive_msg
+accepted links/links.ioa AltBit ReliableFifo receive_msg
+accepted links/links.ioa Sliding ReliableFifo receive_msg
+accepted links/links.ioa Handshake AtMostOnce receive_msg
+accepted peterson/peterson.ioa Peterson Specification crit
 echo "library: $runs passed, 0 failed"
