@@ -49,4 +49,5 @@ accepted links/links.ioa AltBit ReliableFifo receive_msg
 accepted links/links.ioa Sliding ReliableFifo receive_msg
 accepted links/links.ioa Handshake AtMostOnce receive_msg
 accepted peterson/peterson.ioa Peterson Specification crit
+accepted ring/ring.ioa Ring Specification leader
 echo "library: $runs passed, 0 failed"
