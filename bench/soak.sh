@@ -27,7 +27,7 @@ specification() {
     links/links.ioa:Stenning | links/links.ioa:AltBit | links/links.ioa:Sliding) echo ReliableFifo ;;
     links/links.ioa:Handshake) echo AtMostOnce ;;
     logs/ordered.ioa:Link) echo InOrder ;;
-    peterson/peterson.ioa:Peterson | ring/ring.ioa:Ring) echo Specification ;;
+    peterson/peterson.ioa:Peterson | ring/ring.ioa:Ring | commit/commit.ioa:TwoPhase) echo Specification ;;
   esac
 }
 

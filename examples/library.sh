@@ -50,4 +50,5 @@ accepted links/links.ioa Sliding ReliableFifo receive_msg
 accepted links/links.ioa Handshake AtMostOnce receive_msg
 accepted peterson/peterson.ioa Peterson Specification crit
 accepted ring/ring.ioa Ring Specification leader
+accepted commit/commit.ioa TwoPhase Specification vote
 echo "library: $runs passed, 0 failed"
