@@ -51,4 +51,5 @@ accepted links/links.ioa Handshake AtMostOnce receive_msg
 accepted peterson/peterson.ioa Peterson Specification crit
 accepted ring/ring.ioa Ring Specification leader
 accepted commit/commit.ioa TwoPhase Specification vote
+accepted token/token.ioa Token Specification enter
 echo "library: $runs passed, 0 failed"
