@@ -28,7 +28,7 @@ specification() {
     links/links.ioa:Handshake) echo AtMostOnce ;;
     logs/ordered.ioa:Link) echo InOrder ;;
     peterson/peterson.ioa:Peterson | ring/ring.ioa:Ring | commit/commit.ioa:TwoPhase) echo Specification ;;
-    token/token.ioa:Token) echo Specification ;;
+    token/token.ioa:Token | window/window.ioa:Window) echo Specification ;;
   esac
 }
 

@@ -52,4 +52,5 @@ accepted peterson/peterson.ioa Peterson Specification crit
 accepted ring/ring.ioa Ring Specification leader
 accepted commit/commit.ioa TwoPhase Specification vote
 accepted token/token.ioa Token Specification enter
+accepted window/window.ioa Window Specification receive_msg
 echo "library: $runs passed, 0 failed"
