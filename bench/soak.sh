@@ -29,6 +29,7 @@ specification() {
     logs/ordered.ioa:Link) echo InOrder ;;
     peterson/peterson.ioa:Peterson | ring/ring.ioa:Ring | commit/commit.ioa:TwoPhase) echo Specification ;;
     token/token.ioa:Token | window/window.ioa:Window) echo Specification ;;
+    numbered/numbered.ioa:Numbered) echo ByCounting ;;
   esac
 }
 
