@@ -52,6 +52,10 @@ install: all
 	install -m 755 $(PROGRAM) $(DESTDIR)$(PREFIX)/bin/ioac
 	install -d $(DESTDIR)$(PREFIX)/share/man/man1
 	install -m 644 docs/ioac.1 $(DESTDIR)$(PREFIX)/share/man/man1/ioac.1
+	install -d $(DESTDIR)$(PREFIX)/share/bash-completion/completions $(DESTDIR)$(PREFIX)/share/zsh/site-functions $(DESTDIR)$(PREFIX)/share/fish/vendor_completions.d
+	install -m 644 editors/completions/ioac.bash $(DESTDIR)$(PREFIX)/share/bash-completion/completions/ioac
+	install -m 644 editors/completions/_ioac $(DESTDIR)$(PREFIX)/share/zsh/site-functions/_ioac
+	install -m 644 editors/completions/ioac.fish $(DESTDIR)$(PREFIX)/share/fish/vendor_completions.d/ioac.fish
 
 clean:
 	rm -rf crates/*/out
