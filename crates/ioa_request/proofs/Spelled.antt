@@ -63,10 +63,12 @@ place Code.L8 = 31
 place Code.N1 = 32
 place Code.N2 = 33
 place Code.N3 = 34
-place Code.Words = 35
-place Code.Object = 36
-place Code.Memory = 37
-place Code.Io = 38
+place Code.N4 = 35
+place Code.N5 = 36
+place Code.Words = 37
+place Code.Object = 38
+place Code.Memory = 39
+place Code.Io = 40
 
 at_place : (c : Code) → slice_get all_codes (place c) ≡ Some c
 unfolding place
@@ -105,6 +107,8 @@ at_place Code.L8 = refl
 at_place Code.N1 = refl
 at_place Code.N2 = refl
 at_place Code.N3 = refl
+at_place Code.N4 = refl
+at_place Code.N5 = refl
 at_place Code.Words = refl
 at_place Code.Object = refl
 at_place Code.Memory = refl

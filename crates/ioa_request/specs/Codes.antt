@@ -8,7 +8,8 @@ all_codes =
     Code.E1 ∷ Code.E2 ∷ Code.E3 ∷ Code.E4 ∷ Code.E5 ∷ Code.E6 ∷ Code.E7 ∷ Code.E8 ∷ Code.E9 ∷ Code.E10 ∷
     Code.E11 ∷ Code.E12 ∷ Code.E13 ∷ Code.E14 ∷ Code.E15 ∷ Code.E16 ∷ Code.E17 ∷ Code.O1 ∷ Code.O2 ∷ Code.O3 ∷
     Code.O4 ∷ Code.O5 ∷ Code.O6 ∷ Code.O7 ∷ Code.L1 ∷ Code.L2 ∷ Code.L3 ∷ Code.L4 ∷ Code.L5 ∷ Code.L6 ∷
-    Code.L7 ∷ Code.L8 ∷ Code.N1 ∷ Code.N2 ∷ Code.N3 ∷ Code.Words ∷ Code.Object ∷ Code.Memory ∷ Code.Io ∷ []
+    Code.L7 ∷ Code.L8 ∷ Code.N1 ∷ Code.N2 ∷ Code.N3 ∷ Code.N4 ∷ Code.N5 ∷ Code.Words ∷ Code.Object ∷ Code.Memory ∷
+    Code.Io ∷ []
 
 abbrev pub spelling : Code → List ℕ
 spelling Code.E1 = codes "E1"
@@ -46,6 +47,8 @@ spelling Code.L8 = codes "L8"
 spelling Code.N1 = codes "N1"
 spelling Code.N2 = codes "N2"
 spelling Code.N3 = codes "N3"
+spelling Code.N4 = codes "N4"
+spelling Code.N5 = codes "N5"
 spelling Code.Words = codes "words"
 spelling Code.Object = codes "object"
 spelling Code.Memory = codes "memory"

@@ -46,6 +46,8 @@ pub enum Code {
     N1,
     N2,
     N3,
+    N4,
+    N5,
     Words,
     Object,
     Memory,
@@ -56,7 +58,7 @@ impl Code {
     ghost use Rattle.ioa_request.specs.declared.code.Code.{Code};
 
     /// Each code, once.
-    pub const ALL: [Code; 39] = [
+    pub const ALL: [Code; 41] = [
         Code::E1,
         Code::E2,
         Code::E3,
@@ -92,6 +94,8 @@ impl Code {
         Code::N1,
         Code::N2,
         Code::N3,
+        Code::N4,
+        Code::N5,
         Code::Words,
         Code::Object,
         Code::Memory,
@@ -138,6 +142,8 @@ impl Code {
             Code::N1 => "N1",
             Code::N2 => "N2",
             Code::N3 => "N3",
+            Code::N4 => "N4",
+            Code::N5 => "N5",
             Code::Words => "words",
             Code::Object => "object",
             Code::Memory => "memory",

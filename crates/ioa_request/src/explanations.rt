@@ -84,6 +84,8 @@ fn of_code(code: Code) -> Explanation
         Code::N1 => scripts::N1,
         Code::N2 => scripts::N2,
         Code::N3 => scripts::N3,
+        Code::N4 => scripts::N4,
+        Code::N5 => scripts::N5,
         Code::Words => scripts::WORDS,
         Code::Object => objects::OBJECT,
         Code::Memory => runs::MEMORY,

@@ -14,7 +14,8 @@ use Rattle.ioa_run.specs.declared.report.Report.{Report}
 use Rattle.ioa_run.specs.declared.report.Why.{Why}
 use Rattle.ioa_run.specs.Going.{AreCounted, AreGoing, Counts, IsRefused, dismissed}
 use Rattle.ioa_run.specs.Reports.{blank, counted, left, one_more, unless_done, unless_faulted, with_idle, with_why}
-use Rattle.ioa_run.specs.Turns.{Proposer, Turns, attempt, first_turns, has_ended, is_last, meant, rounds, told, turn, turned, turns_of_first, with_done}
+use Rattle.ioa_run.specs.Boards.{Standing}
+use Rattle.ioa_run.specs.Turns.{Proposer, Turns, attempt, turns_from, has_ended, is_last, meant, rounds, told, turn, turned, turns_of_first, with_done}
 use Rattle.ioa_run.proofs.Turned.{At, at_changed, has_not, here, length_changed, same_items, there}
 
 one_counted : (n : ℕ) → n + 1 < 18446744073709551616 → one_more n ≡ n + 1
@@ -134,11 +135,11 @@ got_replicated zero v x y e = absurd (cc)
 got_replicated (suc n) zero x y e = cc
 got_replicated (suc n) (suc v) x y e = got_replicated n v x y e
 
-pub first_going : {S : Type 0} (ss : List S) (ws : List Words) (n : ℕ) → AreGoing (first_turns ss ws n)
-first_going ss ws n v q e g = ap (λ (r : Report). r.why) (got_replicated (n + 1) v blank q g)
+pub first_going : {S : Type 0} (b : Standing S) (ws : List Words) (n : ℕ) → AreGoing (turns_from b ws n)
+first_going b ws n v q e g = ap (λ (r : Report). r.why) (got_replicated (n + 1) v blank q g)
 
-pub first_counted : {S : Type 0} (ss : List S) (ws : List Words) (n : ℕ) → AreCounted 0 0 (first_turns ss ws n)
-first_counted ss ws n v q e g = record { had = λ z. absurd (omega (arith, z)); before = λ _. ap counted (got_replicated (n + 1) v blank q g) }
+pub first_counted : {S : Type 0} (b : Standing S) (ws : List Words) (n : ℕ) → AreCounted 0 0 (turns_from b ws n)
+first_counted b ws n v q e g = record { had = λ z. absurd (omega (arith, z)); before = λ _. ap counted (got_replicated (n + 1) v blank q g) }
 
 -- ---- the end
 

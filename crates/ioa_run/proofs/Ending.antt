@@ -11,21 +11,23 @@ use Rattle.ioa_value.proofs.ItemLemmas.{item_there}
 use Rattle.ioa_tree.specs.Components.{Component}
 use Rattle.ioa_tree.specs.Proposing.{Words}
 use Rattle.ioa_compile.specs.Programs.{Prog}
-use Rattle.ioa_compile.specs.Tables.{start_states, tabled}
+use Rattle.ioa_compile.specs.Tables.{tabled}
 use Rattle.ioa_system.specs.Logs.{log_end}
 use Rattle.ioa_run.specs.declared.outcome.Outcome.{Outcome}
 use Rattle.ioa_run.specs.declared.report.Report.{Report}
 use Rattle.ioa_run.specs.declared.report.Why.{Why}
-use Rattle.ioa_run.specs.Alone.{IsAlone, IsFirstOther, IsInput, NoMemory, alone_in}
+use Rattle.ioa_run.specs.Alone.{IsAloneFrom, IsOutcomeFrom, IsFirstOther, IsInput, NoMemory}
 use Rattle.ioa_run.specs.Boards.{Standing}
+use Rattle.ioa_run.specs.Histories.{GoesOn, since}
+use Rattle.ioa_run.specs.Reports.{AreTold}
 use Rattle.ioa_run.specs.Going.{AreSettled, Follows, dismissed}
 use Rattle.ioa_run.specs.Outcomes.{HaveEnded, IsLogOf, ending}
-use Rattle.ioa_run.specs.ProgramRooms.{IsRoom, ProgramRoom, Tells, start_room}
+use Rattle.ioa_run.specs.ProgramRooms.{IsRoom, ProgramRoom, Tells, room_on}
 use Rattle.ioa_run.specs.Proposers.{proposers, proposers_of}
 use Rattle.ioa_run.specs.Reports.{blank, left}
 use Rattle.ioa_run.specs.Rounds.{Dismisses, GoesRounds}
 use Rattle.ioa_run.specs.Turning.{standing_at}
-use Rattle.ioa_run.specs.Turns.{Turns, first_turns, rounds}
+use Rattle.ioa_run.specs.Turns.{Turns, turns_from, rounds, alone_from}
 use Rattle.ioa_run.proofs.Going.{run_followed}
 use Rattle.ioa_run.proofs.Settled.{settled_end, settled_first}
 
@@ -129,44 +131,44 @@ dismisses_all n r u es l h = record {
 
 -- ---- the run
 
-pub ended_alone : (p : Prog) (ws : List Words) (inputs : List Act) (turns : ℕ) (wu : List Words) (eu : List Bool) (u v : ProgramRoom) (es : List Bool) (o : Outcome) → turns ≤ 100000
-    → es ≡ (first_turns (start_states p) ws (length (proposers p))).ended
-    → GoesRounds turns (start_room p inputs turns) ws es u wu eu → Dismisses u eu v
-    → IsLogOf v.program v.board o.log.items o.end o.states.items → o.reports.items ≡ v.reports → NoMemory o.reports.items → IsAlone p ws inputs turns o
-ended_alone p ws inputs turns wu eu u v es o l s g d log k none =
-    let start : Turns (List Val) = first_turns (start_states p) ws (length (proposers p)) in
+pub ended_alone : (p : Prog) (b : Standing (List Val)) (ws : List Words) (inputs : List Act) (turns : ℕ) (wu : List Words) (eu : List Bool) (u v : ProgramRoom) (es : List Bool) (o : Outcome) → turns ≤ 100000
+    → es ≡ (turns_from b ws (length (proposers p))).ended
+    → GoesRounds turns (room_on p b inputs turns) ws es u wu eu → Dismisses u eu v
+    → IsLogOf v.program v.board o.log.items o.end o.states.items → o.reports.items ≡ v.reports → NoMemory o.reports.items → IsAloneFrom p b ws inputs turns o
+ended_alone p b ws inputs turns wu eu u v es o l s g d log k none =
+    let start : Turns (List Val) = turns_from b ws (length (proposers p)) in
     let many : length (proposers p) ≡ length p.members = length-map p.members proposers_of in
-    let begun : standing_at (start_room p inputs turns) ws es ≡ start =
-    ap (standing_at (start_room p inputs turns) ws) s
+    let begun : standing_at (room_on p b inputs turns) ws es ≡ start =
+    ap (standing_at (room_on p b inputs turns) ws) s
     ∙ ap (λ (n : ℕ). record { board = start.board; reports = replicate (n + 1) blank; words = ws; ended = start.ended }) (sym many) in
     let went : Follows (rounds (tabled p) (proposers p) inputs turns) start (standing_at u wu eu) =
     subst (λ (t : Turns (List Val)). Follows (rounds (tabled p) (proposers p) inputs turns) t (standing_at u wu eu)) begun g.follows in
     let turns_are : u.turns ≡ turns = ap (λ (q : ProgramRoom). q.turns) g.rest in
     let told : (w : ℕ) → slice_get o.reports.items w ≡ option_map (dismissed turns eu w) (slice_get u.reports w) =
     λ w. ap (λ rs. slice_get rs w) k ∙ d.reports w ∙ ap (λ n. option_map (dismissed n eu w) (slice_get u.reports w)) turns_are in
-    let both = run_followed (tabled p) (proposers p) inputs turns (start_states p) ws (standing_at u wu eu) o.reports.items (omega (arith, l)) went told none in
+    let both = run_followed (tabled p) (proposers p) inputs turns b ws (standing_at u wu eu) o.reports.items (omega (arith, l)) went told none in
     let program : v.program ≡ p = ap (λ (q : ProgramRoom). q.program) (d.rest) ∙ ap (λ (q : ProgramRoom). q.program) g.rest in
-    let board : v.board ≡ (alone_in p ws inputs turns).board = ap (λ (q : ProgramRoom). q.board) d.rest ∙ both.0 in
+    let board : v.board ≡ (alone_from (tabled p) (proposers p) inputs turns b ws).board = ap (λ (q : ProgramRoom). q.board) d.rest ∙ both.0 in
     record {
-      log = subst (λ (b : Standing (List Val)). IsLogOf p b o.log.items o.end o.states.items) board (subst (λ (q : Prog). IsLogOf q v.board o.log.items o.end o.states.items) program log);
+      log = subst (λ (x : Standing (List Val)). IsLogOf p x o.log.items o.end o.states.items) board (subst (λ (q : Prog). IsLogOf q v.board o.log.items o.end o.states.items) program log);
       reports = both.1;
     }
 
 -- who has ended on one thread has a reason that its report tells
-pub ends_alone : (p : Prog) (ws : List Words) (inputs : List Act) (turns : ℕ) (wu : List Words) (eu : List Bool) (u v : ProgramRoom) (es : List Bool) (o : Outcome) → turns ≤ 100000
-    → es ≡ (first_turns (start_states p) ws (length (proposers p))).ended
-    → GoesRounds turns (start_room p inputs turns) ws es u wu eu → Dismisses u eu v
+pub ends_alone : (p : Prog) (b : Standing (List Val)) (ws : List Words) (inputs : List Act) (turns : ℕ) (wu : List Words) (eu : List Bool) (u v : ProgramRoom) (es : List Bool) (o : Outcome) → turns ≤ 100000
+    → es ≡ (turns_from b ws (length (proposers p))).ended
+    → GoesRounds turns (room_on p b inputs turns) ws es u wu eu → Dismisses u eu v
     → IsLogOf v.program v.board o.log.items o.end o.states.items → o.reports.items ≡ v.reports → IsRoom v → HaveEnded turns (log_end o.end) o.reports.items
-ends_alone p ws inputs turns wu eu u v es o l s g d log k told =
-    let start : Turns (List Val) = first_turns (start_states p) ws (length (proposers p)) in
+ends_alone p b ws inputs turns wu eu u v es o l s g d log k told =
+    let start : Turns (List Val) = turns_from b ws (length (proposers p)) in
     let many : length (proposers p) ≡ length p.members = length-map p.members proposers_of in
-    let begun : standing_at (start_room p inputs turns) ws es ≡ start =
-    ap (standing_at (start_room p inputs turns) ws) s
+    let begun : standing_at (room_on p b inputs turns) ws es ≡ start =
+    ap (standing_at (room_on p b inputs turns) ws) s
     ∙ ap (λ (n : ℕ). record { board = start.board; reports = replicate (n + 1) blank; words = ws; ended = start.ended }) (sym many) in
     let few : 0 + turns ≤ 100000 = omega (arith, l) in
     let settled : AreSettled turns 0 (standing_at u wu eu) =
     subst (λ n. AreSettled n 0 (standing_at u wu eu)) (omega arith)
-    (g.settled 0 few (subst (λ (t : Turns (List Val)). AreSettled 0 0 t) (sym begun) (settled_first (start_states p) ws (length (proposers p))))) in
+    (g.settled 0 few (subst (λ (t : Turns (List Val)). AreSettled 0 0 t) (sym begun) (settled_first b ws (length (proposers p))))) in
     let turns_are : u.turns ≡ turns = ap (λ (q : ProgramRoom). q.turns) g.rest in
     let program : v.program ≡ p = ap (λ (q : ProgramRoom). q.program) d.rest ∙ ap (λ (q : ProgramRoom). q.program) g.rest in
     let board : v.board ≡ u.board = ap (λ (q : ProgramRoom). q.board) d.rest in
@@ -177,4 +179,24 @@ ends_alone p ws inputs turns wu eu u v es o l s g d log k told =
     let all : length o.reports.items ≤ length eu = omega (arith, reports, workers, first, many, kept) in
     settled_end turns (standing_at u wu eu) o.reports.items v.board.history (log_end o.end) settled all
     (λ w. ap (λ rs. slice_get rs w) k ∙ d.reports w ∙ ap (λ n. option_map (dismissed n eu w) (slice_get u.reports w)) turns_are)
-    (log.ends ∙ ap (λ (b : Standing (List Val)). ending v.board.history b.failure) board)
+    (log.ends ∙ ap (λ (x : Standing (List Val)). ending v.board.history x.failure) board)
+
+-- what it gives is a board's, of which the reports tell what is new
+pub outcome_from : (p : Prog) (b : Standing (List Val)) (inputs : List Act) (turns : ℕ) (u v : ProgramRoom) (o : Outcome)
+    → u ≡ record (room_on p b inputs turns) { board = u.board; reports = u.reports } → v ≡ record u { reports = v.reports }
+    → IsLogOf v.program v.board o.log.items o.end o.states.items → o.reports.items ≡ v.reports → IsRoom v → GoesOn v.before v.board.history
+    → IsOutcomeFrom p b.history inputs turns o
+outcome_from p b inputs turns u v o e d log k told goes =
+    let program : v.program ≡ p = ap (λ (q : ProgramRoom). q.program) d ∙ ap (λ (q : ProgramRoom). q.program) e in
+    let before : v.before ≡ b.history = ap (λ (q : ProgramRoom). q.before) d ∙ ap (λ (q : ProgramRoom). q.before) e in
+    let script : v.inputs ≡ inputs = ap (λ (q : ProgramRoom). q.inputs) d ∙ ap (λ (q : ProgramRoom). q.inputs) e in
+    let many : v.turns ≡ turns = ap (λ (q : ProgramRoom). q.turns) d ∙ ap (λ (q : ProgramRoom). q.turns) e in (
+      v.board,
+      subst (λ (q : Prog). IsLogOf q v.board o.log.items o.end o.states.items) program log,
+      subst (λ (h : List (ℕ × Act)). GoesOn h v.board.history) before goes,
+      subst (λ (q : Prog). AreTold (length q.members) inputs turns (since b.history v.board.history) v.board.failure o.reports.items) program
+          (subst (λ (xs : List Act). AreTold (length v.program.members) xs turns (since b.history v.board.history) v.board.failure o.reports.items) script
+          (subst (λ (n : ℕ). AreTold (length v.program.members) v.inputs n (since b.history v.board.history) v.board.failure o.reports.items) many
+          (subst (λ (h : List (ℕ × Act)). AreTold (length v.program.members) v.inputs v.turns (since h v.board.history) v.board.failure o.reports.items) before
+          (subst (λ (rs : List Report). AreTold (length v.program.members) v.inputs v.turns (since v.before v.board.history) v.board.failure rs) (sym k) told)))),
+    )

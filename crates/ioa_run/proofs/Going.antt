@@ -12,7 +12,7 @@ use Rattle.ioa_run.specs.declared.report.Why.{Why}
 use Rattle.ioa_run.specs.Boards.{Standing}
 use Rattle.ioa_run.specs.Going.{AreCounted, AreGoing, Follows, IsRefused, IsTurn, dismissed, told_in}
 use Rattle.ioa_run.specs.Reports.{Changes, blank, left, unless_faulted, with_idle, with_why}
-use Rattle.ioa_run.specs.Turns.{Proposer, Turns, after, alone, attempt, changed, first_turns, is_last, meant, round, rounds, told, turn, turned, turns_of_first, with_done}
+use Rattle.ioa_run.specs.Turns.{Proposer, Turns, after, alone_from, attempt, changed, turns_from, is_last, meant, round, rounds, told, turn, turned, turns_of_first, with_done}
 use Rattle.ioa_run.proofs.Attempting.{set_there}
 use Rattle.ioa_run.proofs.Scheduling.{set_got}
 use Rattle.ioa_run.proofs.Counting.{counted_rounds, dismissed_is, first_counted, first_going, none_refused, refused_dismissed}
@@ -177,18 +177,18 @@ module _ {S : Type 0} (ps : List (Component S)) (entries : List (List (Proposer 
   -- ---- the end of the run
 
   -- where no memory was refused, it is the run that is defined
-  pub run_followed : (turns : ℕ) (ss : List S) (ws : List Words) (v : Turns S) (rs : List Report) → turns < 18446744073709551616
-      → Follows (rounds ps entries inputs turns) (first_turns ss ws (length entries)) v
+  pub run_followed : (turns : ℕ) (b : Standing S) (ws : List Words) (v : Turns S) (rs : List Report) → turns < 18446744073709551616
+      → Follows (rounds ps entries inputs turns) (turns_from b ws (length entries)) v
       → ((w : ℕ) → slice_get rs w ≡ option_map (dismissed turns v.ended w) (slice_get v.reports w))
       → All (λ (r : Report). r.why ≢ Why.Memory) rs
-      → (v.board ≡ (alone ps entries inputs turns ss ws).board) × (rs ≡ (alone ps entries inputs turns ss ws).reports)
-  run_followed turns ss ws v rs l h d none =
-      let t : Turns S = first_turns ss ws (length entries) in
-      let result : Turns S = alone ps entries inputs turns ss ws in
-      elim (h.follows (first_going ss ws (length entries))) as (λ _. (v.board ≡ result.board) × (rs ≡ result.reports)) [
+      → (v.board ≡ (alone_from ps entries inputs turns b ws).board) × (rs ≡ (alone_from ps entries inputs turns b ws).reports)
+  run_followed turns b ws v rs l h d none =
+      let t : Turns S = turns_from b ws (length entries) in
+      let result : Turns S = alone_from ps entries inputs turns b ws in
+      elim (h.follows (first_going b ws (length entries))) as (λ _. (v.board ≡ result.board) × (rs ≡ result.reports)) [
         | inl i ↦
-            let going : AreGoing v = subst (λ (x : Turns S). AreGoing x) (sym i) (going_rounds ps entries inputs turns t (first_going ss ws (length entries))) in
-            let many : AreCounted turns 0 v = subst (λ (x : Turns S). AreCounted turns 0 x) (sym i) (counted_rounds ps entries inputs turns t l (length-replicate (length entries + 1) blank) (first_counted ss ws (length entries))) in (
+            let going : AreGoing v = subst (λ (x : Turns S). AreGoing x) (sym i) (going_rounds ps entries inputs turns t (first_going b ws (length entries))) in
+            let many : AreCounted turns 0 v = subst (λ (x : Turns S). AreCounted turns 0 x) (sym i) (counted_rounds ps entries inputs turns t l (length-replicate (length entries + 1) blank) (first_counted b ws (length entries))) in (
               ap (λ (x : Turns S). x.board) i,
               dismissed_is turns v.ended v.reports rs d (λ w q e f. (going w q e f, (many w q e f).before (omega arith)))
                   ∙ ap (λ (x : Turns S). with_done x.ended x.reports) i,

@@ -4,6 +4,7 @@ pub mod Making
 pub mod Committing
 pub mod Scheduling
 pub mod Once
+pub mod Since
 pub mod Telling
 pub mod Finishing
 pub mod Attempting
@@ -26,3 +27,4 @@ pub mod HostProposals
 pub mod Hosting
 pub mod Played
 pub mod Sharing
+pub mod Resumed

@@ -19,7 +19,7 @@ use Rattle.ioa_run.specs.Boards.{Failure, Standing}
 use Rattle.ioa_run.specs.Going.{AreCounted, AreSettled, HasFewer, HaveCauses, HaveFewer, IsCause, IsTurn, dismissed}
 use Rattle.ioa_run.specs.Outcomes.{HasEnded, HaveEnded, IsFault, IsReason, ending}
 use Rattle.ioa_run.specs.Reports.{Changes, counted, left, with_idle, with_why}
-use Rattle.ioa_run.specs.Turns.{Proposer, Turns, attempt, first_turns, is_last, meant, not_own, own_attempt, told, turned}
+use Rattle.ioa_run.specs.Turns.{Proposer, Turns, attempt, turns_from, is_last, meant, not_own, own_attempt, told, turned}
 use Rattle.ioa_run.proofs.Attempting.{set_there}
 use Rattle.ioa_run.proofs.Counting.{counted_turned, first_counted, first_going, got_replicated, left_done, no_turn}
 use Rattle.ioa_run.proofs.Going.{left_memory, other_there}
@@ -234,10 +234,10 @@ settled_round n k t l s = record {
   });
 }
 
-pub settled_first : {S : Type 0} (ss : List S) (ws : List Words) (n : ℕ) → AreSettled 0 0 (first_turns ss ws n)
-settled_first ss ws n = record {
-  going = first_going ss ws n;
-  taken = first_counted ss ws n;
+pub settled_first : {S : Type 0} (b : Standing S) (ws : List Words) (n : ℕ) → AreSettled 0 0 (turns_from b ws n)
+settled_first b ws n = record {
+  going = first_going b ws n;
+  taken = first_counted b ws n;
   gone = λ w q e g. absurd (let z : true ≡ false = got_replicated (n + 1) w false true e in cc);
   fewer = λ w q e g. absurd (let z : true ≡ false = got_replicated (n + 1) w false true e in cc);
 }

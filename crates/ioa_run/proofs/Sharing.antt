@@ -113,7 +113,7 @@ board_send : (a : NamedLft) → IsSend (Board.the_row a)
 board_send a = search (program_sync, log_entry_send, state_send, recorded_send, crosses, sendable) depth 20
 
 pub room_send : (a : NamedLft) → IsSend (Room.the_row a)
-room_send a = search (action_sync, board_send, crosses, sendable) depth 20
+room_send a = search (action_sync, board_send, crosses, sendable) depth 30
 
 pub input_sync : IsSync Action.the_row
 input_sync = search (action_sync, sendable) depth 20

@@ -21,7 +21,7 @@ use Rattle.ioa_system.proofs.Finding.{no_item}
 use Rattle.ioa_system.proofs.Participating.{taken_some}
 use Rattle.ioa_run.specs.Choices.{AreOfState, Chooses, IsOfState}
 use Rattle.ioa_run.specs.Histories.{count}
-use Rattle.ioa_run.specs.ProgramRooms.{ProgramRoom}
+use Rattle.ioa_run.specs.ProgramRooms.{ProgramRoom, new_in}
 use Rattle.ioa_run.specs.Proposers.{proposers, proposers_of, tried}
 use Rattle.ioa_run.specs.Turning.{HasPerformed, Wishes}
 use Rattle.ioa_run.specs.Turns.{after, next_choice, next_input}
@@ -118,5 +118,5 @@ environment_wishes r ws w n o l d p e =
           ∙ ap (next_input r.inputs) p.there ∙ ap (λ k. option_map_or (λ a. tries a 0) (slice_get r.inputs k) (idle 0)) (sym p.told) ∙ tried_next (slice_get r.inputs n)
           ∙ ap (λ z. tried z 0) (sym e);
       words = sym (changed_none (after 0) w ws (omega (arith, d, l)));
-      script = λ q. e ∙ ap (slice_get r.inputs) p.counted ∙ ap (λ k. slice_get r.inputs (count r.board.history k)) q;
+      script = λ q. e ∙ ap (slice_get r.inputs) p.counted ∙ ap (λ k. slice_get r.inputs (count (new_in r) k)) q;
     }

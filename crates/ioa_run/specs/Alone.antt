@@ -7,11 +7,14 @@ use Rattle.ioa_tree.specs.Proposing.{Words}
 use Rattle.ioa_tree.specs.Steps.{owner, participants}
 use Rattle.ioa_compile.specs.Programs.{Prog}
 use Rattle.ioa_compile.specs.Tables.{start_states, tabled}
-use Rattle.ioa_run.specs.Boards.{Standing}
+use Rattle.ioa_system.specs.Logs.{Logged}
+use Rattle.ioa_run.specs.Boards.{Standing, begun}
+use Rattle.ioa_run.specs.Histories.{GoesOn, since}
+use Rattle.ioa_run.specs.Resuming.{resumption}
 use Rattle.ioa_run.specs.Outcomes.{IsLogOf}
 use Rattle.ioa_run.specs.Proposers.{proposers}
 use Rattle.ioa_run.specs.Reports.{AreTold}
-use Rattle.ioa_run.specs.Turns.{Turns, alone}
+use Rattle.ioa_run.specs.Turns.{Turns, alone, alone_from}
 use Rattle.ioa_run.specs.declared.outcome.Outcome.{Outcome}
 use Rattle.ioa_run.specs.declared.report.Report.{Report}
 use Rattle.ioa_run.specs.declared.report.Why.{Why}
@@ -28,14 +31,24 @@ abbrev pub IsOutcome : Prog → List Act → ℕ → Outcome → Type 0
 IsOutcome p inputs turns o =
     (b : Standing (List Val)) × IsLogOf p b o.log.items o.end o.states.items × AreTold (length p.members) inputs turns b.history b.failure o.reports.items
 
+-- the same of a run that goes on from what was done before: the reports tell of what is new
+abbrev pub IsOutcomeFrom : Prog → List (ℕ × Act) → List Act → ℕ → Outcome → Type 0
+IsOutcomeFrom p before inputs turns o =
+    (b : Standing (List Val)) × IsLogOf p b o.log.items o.end o.states.items × GoesOn before b.history
+    × AreTold (length p.members) inputs turns (since before b.history) b.failure o.reports.items
+
 -- memory was refused to no worker
 abbrev pub NoMemory : List Report → Type 0
 NoMemory rs = All (λ r. r.why ≢ Why.Memory) rs
 
--- the log, the end, the states and the reports are those of the run that is defined
-pub record IsAlone (p : Prog) (words : List Words) (inputs : List Act) (turns : ℕ) (o : Outcome) : Type 0 where
-  pub log : IsLogOf p (alone_in p words inputs turns).board o.log.items o.end o.states.items
-  pub reports : o.reports.items ≡ (alone_in p words inputs turns).reports
+-- the log, the end, the states and the reports are those of the run that is defined, from this board
+pub record IsAloneFrom (p : Prog) (b : Standing (List Val)) (words : List Words) (inputs : List Act) (turns : ℕ) (o : Outcome) : Type 0 where
+  pub log : IsLogOf p (alone_from (tabled p) (proposers p) inputs turns b words).board o.log.items o.end o.states.items
+  pub reports : o.reports.items ≡ (alone_from (tabled p) (proposers p) inputs turns b words).reports
+
+-- the same from the start
+abbrev pub IsAlone : Prog → List Words → List Act → ℕ → Outcome → Type 0
+IsAlone p words inputs turns o = IsAloneFrom p (begun (start_states p)) words inputs turns o
 
 -- ---- when there is none
 
@@ -61,4 +74,22 @@ Refuses p inputs turns (Ok o) = (turns ≤ most_turns) × All (IsInput (tabled p
 Refuses p inputs turns (Err RunErr.TooManyTurns) = most_turns < turns
 Refuses p inputs turns (Err (RunErr.BadInput i)) = (turns ≤ most_turns) × IsFirstOther (tabled p) inputs i
 Refuses p inputs turns (Err RunErr.Threads) = (turns ≤ most_turns) × All (IsInput (tabled p)) inputs
+Refuses p inputs turns (Err (RunErr.BadLog i)) = ⊥
+Refuses p inputs turns (Err RunErr.EndedByFault) = ⊥
 Refuses p inputs turns (Err RunErr.OutOfMemory) = turns ≤ most_turns
+
+-- the log is resumed
+abbrev pub HasResumed : Prog → Logged → Type 0
+HasResumed p log = (b : Standing (List Val)) × (resumption (tabled p) (start_states p) log ≡ Ok b)
+
+-- the same of a run that is resumed, and begins only where its log is: after the turns and the inputs, what refuses the log
+abbrev pub RefusesResumed : Prog → List Act → ℕ → Logged → Result Outcome RunErr → Type 0
+RefusesResumed p inputs turns log (Ok o) = (turns ≤ most_turns) × All (IsInput (tabled p)) inputs × HasResumed p log
+RefusesResumed p inputs turns log (Err RunErr.TooManyTurns) = most_turns < turns
+RefusesResumed p inputs turns log (Err (RunErr.BadInput i)) = (turns ≤ most_turns) × IsFirstOther (tabled p) inputs i
+RefusesResumed p inputs turns log (Err (RunErr.BadLog i)) =
+    (turns ≤ most_turns) × All (IsInput (tabled p)) inputs × (resumption (tabled p) (start_states p) log ≡ Err (RunErr.BadLog i))
+RefusesResumed p inputs turns log (Err RunErr.EndedByFault) =
+    (turns ≤ most_turns) × All (IsInput (tabled p)) inputs × (resumption (tabled p) (start_states p) log ≡ Err RunErr.EndedByFault)
+RefusesResumed p inputs turns log (Err RunErr.Threads) = (turns ≤ most_turns) × All (IsInput (tabled p)) inputs × HasResumed p log
+RefusesResumed p inputs turns log (Err RunErr.OutOfMemory) = turns ≤ most_turns

@@ -16,6 +16,7 @@ pub mod Outcomes
 pub mod Turns
 pub mod Attempts
 pub mod Proposers
+pub mod Resuming
 pub mod Alone
 pub mod Choices
 pub mod Going

@@ -9,14 +9,15 @@ use Rattle.ioa_compile.specs.Tables.{start_states}
 use Rattle.ioa_run.specs.declared.report.Report.{Report}
 use Rattle.ioa_run.specs.contracts.report.Report as report
 use Rattle.ioa_run.specs.Boards.{Standing, begun}
-use Rattle.ioa_run.specs.Coded.{coded_act, coded_standing}
-use Rattle.ioa_run.specs.Histories.{count}
+use Rattle.ioa_run.specs.Coded.{coded_act, coded_entry, coded_standing}
+use Rattle.ioa_run.specs.Histories.{count, since}
 use Rattle.ioa_run.specs.ProgramBoards.{ProgramBoard}
 use Rattle.ioa_run.specs.Reports.{AreTold, Changes, blank}
 
--- the inputs are the environment's script, and each worker has so many turns
+-- the inputs are the environment's script, each worker has so many turns, and the run goes on from what was done before
 pub record ProgramRoom : Type 0 where
   pub program : Prog
+  pub before : List (ℕ × Act)
   pub inputs : List Act
   pub turns : ℕ
   pub board : Standing (List Val)
@@ -24,14 +25,18 @@ pub record ProgramRoom : Type 0 where
 
 abbrev pub coded_program_room : Coded ProgramRoom
 coded_program_room =
-    code_by (Prog × (List Act × (ℕ × (Standing (List Val) × List Report)))) (coded× coded_prog (coded× (coded_list coded_act) (coded× coded_ℕ (coded× coded_standing (coded_list report.the_row.coded)))))
-    (λ r. (r.program, (r.inputs, (r.turns, (r.board, r.reports)))))
-    (λ p. record { program = p.0; inputs = p.1.0; turns = p.1.1.0; board = p.1.1.1.0; reports = p.1.1.1.1 }) (λ _. refl)
+    code_by ((Prog × List (ℕ × Act)) × (List Act × (ℕ × (Standing (List Val) × List Report)))) (coded× (coded× coded_prog (coded_list coded_entry)) (coded× (coded_list coded_act) (coded× coded_ℕ (coded× coded_standing (coded_list report.the_row.coded)))))
+    (λ r. ((r.program, r.before), (r.inputs, (r.turns, (r.board, r.reports)))))
+    (λ p. record { program = p.0.0; before = p.0.1; inputs = p.1.0; turns = p.1.1.0; board = p.1.1.1.0; reports = p.1.1.1.1 }) (λ _. refl)
+
+-- nothing is done yet since this board
+abbrev pub room_on : Prog → Standing (List Val) → List Act → ℕ → ProgramRoom
+room_on p b inputs turns =
+    record { program = p; before = b.history; inputs = inputs; turns = turns; board = b; reports = replicate (length p.members + 1) blank }
 
 -- nothing is done yet
 abbrev pub start_room : Prog → List Act → ℕ → ProgramRoom
-start_room p inputs turns =
-    record { program = p; inputs = inputs; turns = turns; board = begun (start_states p); reports = replicate (length p.members + 1) blank }
+start_room p inputs turns = room_on p (begun (start_states p)) inputs turns
 
 abbrev pub board_in : ProgramRoom → ProgramBoard
 board_in r = record { program = r.program; board = r.board }
@@ -40,13 +45,17 @@ board_in r = record { program = r.program; board = r.board }
 abbrev pub environment : ProgramRoom → ℕ
 environment r = length r.program.members
 
+-- what is done since
+abbrev pub new_in : ProgramRoom → List (ℕ × Act)
+new_in r = since r.before r.board.history
+
 -- how many of the inputs are performed
 abbrev pub place : ProgramRoom → ℕ
-place r = count r.board.history (environment r)
+place r = count (new_in r) (environment r)
 
 -- what a room keeps
 abbrev pub IsRoom : ProgramRoom → Type 0
-IsRoom r = AreTold (environment r) r.inputs r.turns r.board.history r.board.failure r.reports
+IsRoom r = AreTold (environment r) r.inputs r.turns (new_in r) r.board.failure r.reports
 
 -- the worker is the environment, which has not performed all inputs
 abbrev pub HasInputsLeft : ProgramRoom → ℕ → Type 0

@@ -20,6 +20,8 @@ Checks p inputs turns (Ok u) = (turns ≤ most_turns) × All (IsInput (tabled p)
 Checks p inputs turns (Err RunErr.TooManyTurns) = most_turns < turns
 Checks p inputs turns (Err (RunErr.BadInput i)) = (turns ≤ most_turns) × IsFirstOther (tabled p) inputs i
 Checks p inputs turns (Err RunErr.Threads) = ⊥
+Checks p inputs turns (Err (RunErr.BadLog i)) = ⊥
+Checks p inputs turns (Err RunErr.EndedByFault) = ⊥
 Checks p inputs turns (Err RunErr.OutOfMemory) = turns ≤ most_turns
 
 -- the board and the reports alone are others; turns are taken as they are defined, unless memory is refused to a worker; and after m

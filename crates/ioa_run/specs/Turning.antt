@@ -11,7 +11,7 @@ use Rattle.ioa_run.specs.declared.turn.TurnEnd.{TurnEnd}
 use Rattle.ioa_run.specs.Proposers.{proposers, tried}
 use Rattle.ioa_run.specs.Going.{IsTurn, told_in}
 use Rattle.ioa_run.specs.Histories.{count}
-use Rattle.ioa_run.specs.ProgramRooms.{ProgramRoom, Tells, environment, place}
+use Rattle.ioa_run.specs.ProgramRooms.{ProgramRoom, Tells, environment, new_in, place}
 use Rattle.ioa_run.specs.Reports.{Changes, left, with_idle}
 use Rattle.ioa_run.specs.Turns.{Turns, after, attempt, changed, is_last, meant}
 
@@ -60,7 +60,7 @@ pub record HasPerformed (r : ProgramRoom) (w n : ℕ) : Type 0 where
   pub report : Report
   pub there : slice_get r.reports w ≡ Some report
   pub told : n ≡ report.committed
-  pub counted : n ≡ count r.board.history w
+  pub counted : n ≡ count (new_in r) w
 
 -- the worker, which has not ended, takes the turn that is defined
 pub record Took (r : ProgramRoom) (ws : List Words) (w : ℕ) (last : Bool) (r' : ProgramRoom) (ws' : List Words) : Type 0 where

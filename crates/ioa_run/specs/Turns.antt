@@ -139,10 +139,18 @@ with_done (e ∷ es) (r ∷ rs) = cond e r (with_why Why.TurnsDone r) ∷ with_d
 abbrev pub all_done : {S : Type 0} → Turns S → Turns S
 all_done t = record { board = t.board; reports = with_done t.ended t.reports; words = t.words; ended = t.ended }
 
--- nothing is done yet, and so many components, and the environment, have these words
-abbrev pub first_turns : {S : Type 0} → List S → List Words → ℕ → Turns S
-first_turns ss words n = record { board = begun ss; reports = replicate (n + 1) blank; words = words; ended = replicate (n + 1) false }
+-- nothing is done yet since this board, and so many components, and the environment, have these words
+abbrev pub turns_from : {S : Type 0} → Standing S → List Words → ℕ → Turns S
+turns_from b words n = record { board = b; reports = replicate (n + 1) blank; words = words; ended = replicate (n + 1) false }
 
--- the run of so many rounds from these states, by these words for each component
+-- nothing is done yet
+abbrev pub first_turns : {S : Type 0} → List S → List Words → ℕ → Turns S
+first_turns ss words n = turns_from (begun ss) words n
+
+-- the run of so many rounds from this board, by these words for each component
+abbrev pub alone_from : {S : Type 0} → List (Component S) → List (List (Proposer S)) → List Act → ℕ → Standing S → List Words → Turns S
+alone_from ps entries inputs turns b words = all_done (rounds ps entries inputs turns (turns_from b words (length entries)))
+
+-- the run of so many rounds from these states
 abbrev pub alone : {S : Type 0} → List (Component S) → List (List (Proposer S)) → List Act → ℕ → List S → List Words → Turns S
-alone ps entries inputs turns ss words = all_done (rounds ps entries inputs turns (first_turns ss words (length entries)))
+alone ps entries inputs turns ss words = alone_from ps entries inputs turns (begun ss) words

@@ -1,17 +1,21 @@
 //! Runs on one thread, whose history the words and the script decide.
 
-ghost use Rattle.std.specs.Prelude.{◌≡◌, ◌+◌, ◌<◌, All, IfOk, IsErrOf, false, length, map, replicate};
+ghost use Rattle.std.specs.Prelude.{◌≡◌, ◌+◌, ◌<◌, ◌≤◌, All, List, Ok, IfOk, IsErrOf, false, length, map, replicate};
 ghost use Rattle.std.specs.Option.{option_map};
 ghost use Rattle.ioa_value.specs.Actions.{act_of};
-ghost use Rattle.ioa_compile.specs.Tables.{tabled};
-ghost use Rattle.ioa_system.specs.Logs.{log_end};
-ghost use Rattle.ioa_run.specs.Alone.{IsAlone, IsInput, IsOutcome, NoMemory, Refuses};
+ghost use Rattle.ioa_compile.specs.Tables.{start_states, tabled};
+ghost use Rattle.ioa_system.specs.Logs.{log_end, logged};
+ghost use Rattle.ioa_run.specs.Alone.{IsAlone, IsAloneFrom, IsInput, IsOutcome, IsOutcomeFrom, NoMemory, Refuses, RefusesResumed, most_turns};
+ghost use Rattle.ioa_run.specs.Boards.{Standing};
+ghost use Rattle.ioa_run.specs.ProgramRooms.{room_on};
+ghost use Rattle.ioa_run.specs.Resuming.{resumption};
+ghost use Rattle.ioa_value.specs.Plain.{Val};
 ghost use Rattle.ioa_run.specs.declared.run_err.RunErr.{RunErr};
 ghost use Rattle.ioa_run.specs.Outcomes.{HaveEnded};
 ghost use Rattle.ioa_run.specs.Rounds.{Dismisses, GoesRound, GoesRounds};
 ghost use Rattle.ioa_run.specs.Turning.{HasPerformed, Takes, Wishes};
 
-use crate::beginning::check;
+use crate::beginning::{check, resumed_room};
 use crate::choice::choose;
 use crate::outcome::Outcome;
 use crate::report::Why;
@@ -20,7 +24,7 @@ use crate::run_err::RunErr;
 use crate::turn::{TurnEnd, act, next_input};
 use ioa_compile::Program;
 use ioa_node::{Words, Workspace};
-use ioa_system::Stepper;
+use ioa_system::{Log, Stepper};
 use ioa_value::{Action, OutOfMemory};
 use std::alloc::Global;
 
@@ -48,9 +52,56 @@ pub fn run_alone<W: Words + Drop>(
     ensures threads { IsErrOf result RunErr.Threads → ⊥ }
 {
     check(alloc, program, turns, inputs)?;
+    let room = Room::start(alloc, program, inputs, turns)?;
+    let outcome = run_in(alloc, room, turns, words, inputs)?;
+    Ok(outcome)
+}
+
+/// Runs the program on one thread as `run_alone` does, from where the run ended that the log tells: what the log has stands at the
+/// beginning of the history, words and inputs begin anew, and the reports tell of what is new.
+///
+/// It answers `TooManyTurns` and `BadInput` as `run_alone` does; then `EndedByFault` where the log ends by a fault; then `BadLog` with the first
+/// of its entries that is not the program's run's, or with their number where the end has another count; and `OutOfMemory` where memory
+/// was refused before the start. It never answers `Threads`.
+pub fn resume_alone<W: Words + Drop>(
+    alloc: Global,
+    program: &Program,
+    log: &Log,
+    turns: u64,
+    words: Vec<W>,
+    inputs: &[Action],
+) -> Result<Outcome, RunErr>
+    requires sources { length words.items ≡ length program.now.members }
+    ensures outcome { IfOk result (λ o. IsOutcomeFrom program.now (logged log.now).entries (map act_of inputs.now) turns o) }
+    ensures ended { IfOk result (λ o. HaveEnded turns (log_end o.end) o.reports.items) }
+    ensures alone { IfOk result (λ o. NoMemory o.reports.items → (b : Standing (List Val)) × (resumption (tabled program.now) (start_states program.now) (logged log.now) ≡ Ok b) × IsAloneFrom program.now b (map W.stream words.items) (map act_of inputs.now) turns o) }
+    ensures refused { RefusesResumed program.now (map act_of inputs.now) turns (logged log.now) result }
+    ensures threads { IsErrOf result RunErr.Threads → ⊥ }
+{
+    let room = resumed_room(alloc, program, log, inputs, turns)?;
+    let outcome = run_in(alloc, room, turns, words, inputs)?;
+    Ok(outcome)
+}
+
+/// The turns of all workers in this room, in which nothing is done yet.
+fn run_in<'p, W: Words + Drop>(
+    alloc: Global,
+    room: Room<'p>,
+    turns: u64,
+    words: Vec<W>,
+    inputs: &[Action],
+) -> Result<Outcome, OutOfMemory>
+    requires fresh { room ≡ room_on room.program room.board (map act_of inputs.now) turns }
+    requires few { turns ≤ most_turns }
+    requires fine { All (IsInput (tabled room.program)) (map act_of inputs.now) }
+    requires sources { length words.items ≡ length room.program.members }
+    ensures outcome { IfOk result (λ o. IsOutcomeFrom room.entry.program room.entry.board.history (map act_of inputs.now) turns o) }
+    ensures ended { IfOk result (λ o. HaveEnded turns (log_end o.end) o.reports.items) }
+    ensures alone { IfOk result (λ o. NoMemory o.reports.items → IsAloneFrom room.entry.program room.entry.board (map W.stream words.items) (map act_of inputs.now) turns o) }
+{
+    let mut room = room;
     let mut words = words;
-    let mut room = Room::start(alloc, program, inputs, turns)?;
-    let mut ended = none_ended(alloc, program.members().len())?;
+    let mut ended = none_ended(alloc, room.board().program().members().len())?;
     take_turns(alloc, &mut room, inputs, turns, &mut words, &mut ended);
     dismiss(&mut room, &ended);
     Ok(room.finish())

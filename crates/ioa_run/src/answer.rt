@@ -1,5 +1,8 @@
 //! Answers of the schedule machine: what became of a copy or of a commit.
 
+ghost use Rattle.std.specs.Prelude.{◌≡◌};
+ghost use Rattle.ioa_run.specs.Resuming.{is_committed};
+
 use ioa_value::Fault;
 
 /// What an event of a schedule answers.
@@ -23,4 +26,13 @@ pub enum Answer {
     Faulted(usize, Fault),
     /// The action was performed: it has this index in the history.
     Committed(usize),
+}
+
+impl Answer {
+    /// Whether the action was performed.
+    pub(crate) fn is_committed(self) -> bool
+        ensures { result ≡ is_committed self }
+    {
+        matches!(self, Answer::Committed(_))
+    }
 }

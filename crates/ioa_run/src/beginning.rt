@@ -1,14 +1,21 @@
 //! What has to hold of turns and of the script before a run begins.
 
-ghost use Rattle.std.specs.Prelude.{◌↔◌, IfOk, IsTrue, map};
+ghost use Rattle.std.specs.Prelude.{◌≡◌, ◌↔◌, ◌≤◌, All, Err, IfErr, IfOk, IsErrOf, IsTrue, List, Ok, map};
 ghost use Rattle.ioa_value.specs.Actions.{act_of};
-ghost use Rattle.ioa_compile.specs.Tables.{tabled};
-ghost use Rattle.ioa_run.specs.Alone.{IsInput};
+ghost use Rattle.ioa_value.specs.Plain.{Val};
+ghost use Rattle.ioa_compile.specs.Tables.{start_states, tabled};
+ghost use Rattle.ioa_system.specs.Logs.{logged};
+ghost use Rattle.ioa_run.specs.Alone.{IsInput, RefusesResumed, most_turns};
+ghost use Rattle.ioa_run.specs.Boards.{Standing};
+ghost use Rattle.ioa_run.specs.ProgramRooms.{room_on};
+ghost use Rattle.ioa_run.specs.Resuming.{resumption};
 ghost use Rattle.ioa_run.specs.Rounds.{Checks};
+ghost use Rattle.ioa_run.specs.declared.run_err.RunErr.{RunErr};
 
+use crate::room::Room;
 use crate::run_err::RunErr;
 use ioa_compile::Program;
-use ioa_system::Participation;
+use ioa_system::{Log, Participation};
 use ioa_value::{Action, OutOfMemory};
 use std::alloc::Global;
 
@@ -33,6 +40,23 @@ pub(crate) fn check(
         }
     }
     Ok(())
+}
+
+/// The room of a run that goes on from what the log tells, where turns and inputs say that it may.
+pub(crate) fn resumed_room<'p>(
+    alloc: Global,
+    program: &'p Program,
+    log: &Log,
+    inputs: &'p [Action],
+    turns: u64,
+) -> Result<Room<'p>, RunErr>
+    ensures fine { IfOk result (λ _. (turns ≤ most_turns) × All (IsInput (tabled program.now)) (map act_of inputs.now)) }
+    ensures resumed { IfOk result (λ r. (b : Standing (List Val)) × (resumption (tabled program.now) (start_states program.now) (logged log.now) ≡ Ok b) × (r ≡ room_on program.now b (map act_of inputs.now) turns)) }
+    ensures refused { IfErr result (λ e. RefusesResumed program.now (map act_of inputs.now) turns (logged log.now) (Err e)) }
+    ensures threads { IsErrOf result RunErr.Threads → ⊥ }
+{
+    check(alloc, program, turns, inputs)?;
+    Room::resume(alloc, program, log, inputs, turns)
 }
 
 /// Whether the action is an input of the composition.

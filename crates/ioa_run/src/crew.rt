@@ -1,20 +1,19 @@
 //! The lock of a run on threads: all that workers do under it.
 
-ghost use Rattle.std.specs.Prelude.{◌≡◌, ◌<◌, All, IfOk, length, map};
-ghost use Rattle.ioa_value.specs.Actions.{act_of};
+ghost use Rattle.std.specs.Prelude.{◌≡◌, ◌<◌, All, IfOk, length};
 ghost use Rattle.ioa_system.specs.Participants.{taken};
 ghost use Rattle.ioa_system.specs.Systems.{slot_types, types_of};
-ghost use Rattle.ioa_run.specs.Alone.{IsOutcome};
+ghost use Rattle.ioa_run.specs.Alone.{IsOutcomeFrom};
 
 use crate::outcome::Outcome;
 use crate::own_room::{OwnRoom, Terms};
 use crate::plan::Plan;
 use crate::report::Why;
+use crate::room::Room;
 use crate::verdict::Verdict;
 use ioa_compile::Program;
 use ioa_node::NodeState;
 use ioa_value::{Action, OutOfMemory};
-use std::alloc::Global;
 use std::sync::atomic::{AtomicBool, Ordering};
 use std::sync::{Mutex, Wait};
 
@@ -32,25 +31,27 @@ pub(crate) struct Crew<'p, T: Terms> {
 }
 
 impl<'p, T: Terms> Crew<'p, T> {
-    /// The crew of a run in which nothing is done yet.
-    pub(crate) fn start(
-        alloc: Global,
+    /// The crew of a run in this room.
+    pub(crate) fn of(
         program: &'p Program,
         inputs: &'p [Action],
         turns: u64,
-    ) -> Result<Crew<'p, T>, OutOfMemory>
-        requires program { program.now ≡ T.program }
-        requires inputs { map act_of inputs.now ≡ T.inputs }
-        requires turns { turns ≡ T.turns }
+        room: Room<'p>,
+    ) -> Crew<'p, T>
+        requires own { program.now ≡ T.program }
+        requires program { room.program ≡ T.program }
+        requires inputs { room.inputs ≡ T.inputs }
+        requires turns { room.turns ≡ T.turns }
+        requires before { room.before ≡ T.before }
     {
-        let room = OwnRoom::start(alloc, program, inputs, turns)?;
-        Ok(Crew {
+        let room = OwnRoom::of(room);
+        Crew {
             program,
             inputs,
             turns,
             room: Mutex::new(room),
             cancelled: AtomicBool::new(false),
-        })
+        }
     }
 
     /// Equals of the states of the components of these numbers, in their order, all as they are at one moment.
@@ -100,7 +101,7 @@ impl<'p, T: Terms> Crew<'p, T> {
 
     /// What the run gives, once no thread is left.
     pub(crate) fn finish(self) -> Outcome
-        ensures { IsOutcome T.program T.inputs T.turns result }
+        ensures { IsOutcomeFrom T.program T.before T.inputs T.turns result }
     {
         self.room.into_inner().finish()
     }

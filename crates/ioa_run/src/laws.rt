@@ -5,6 +5,7 @@ ghost use Rattle.ioa_run.specs.Hosts.{HostAlone, HostCopy, HostEvents, HostHisto
 ghost use Rattle.ioa_run.specs.Played.{AlonePlays, NeverStale};
 ghost use Rattle.ioa_run.specs.ProgramSchedules.{CopyAnswers};
 ghost use Rattle.ioa_run.specs.Schedules.{OnePlay};
+ghost use Rattle.ioa_run.specs.Resuming.{CountsSince, LogsResume};
 
 /// The schedule machine answers events in one way, and they lead to one schedule.
 pub fn one_play()
@@ -58,4 +59,11 @@ pub fn schedules_are_the_hosts()
     ensures answers { HostSchedule }
     ensures back { ProgramSchedule }
     ensures apart { HostsApart }
+{}
+
+/// Just the logs of legal histories are resumed whose end is the number of their entries, at the states to which they lead. So often as a worker acts in a
+/// history, less so often as it did in what was done before, it acts in what is new.
+pub fn logs_resume()
+    ensures resumed { LogsResume }
+    ensures counted { CountsSince }
 {}

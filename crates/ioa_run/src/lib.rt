@@ -45,14 +45,14 @@ mod worker;
 // Laws.
 mod laws;
 
-pub use alone::run_alone;
+pub use alone::{resume_alone, run_alone};
 pub use answer::Answer;
 pub use board::Board;
 pub use event::Event;
 pub use gate::{Gate, OpenGate, Point};
 pub use laws::{
-    attempts_answer, copies_answer, histories_are_the_hosts, one_play, runs_alone_are_plays,
-    schedules_are_the_hosts, turns_are_the_hosts,
+    attempts_answer, copies_answer, histories_are_the_hosts, logs_resume, one_play,
+    runs_alone_are_plays, schedules_are_the_hosts, turns_are_the_hosts,
 };
 pub use outcome::Outcome;
 pub use plan::Plan;
@@ -63,5 +63,5 @@ pub use room::Room;
 pub use run_err::RunErr;
 pub use schedule::{Core, play};
 pub use seeded::Seeded;
-pub use threads::run_threads;
+pub use threads::{resume_threads, run_threads};
 pub use verdict::Verdict;

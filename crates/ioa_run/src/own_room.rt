@@ -1,11 +1,10 @@
 //! A room whose run is told by its type, since of a value under a lock no more is known.
 
-ghost use Rattle.std.specs.Prelude.{◌≡◌, ◌<◌, All, IfOk, length, map};
-ghost use Rattle.ioa_value.specs.Actions.{act_of};
+ghost use Rattle.std.specs.Prelude.{◌≡◌, ◌<◌, All, IfOk, length};
 ghost use Rattle.ioa_system.specs.Participants.{taken};
 ghost use Rattle.ioa_system.specs.Systems.{slot_types, types_of};
-ghost use Rattle.ioa_run.specs.Alone.{IsOutcome};
-ghost use Rattle.ioa_run.specs.ProgramRooms.{HasInputsLeft, Tells, start_room};
+ghost use Rattle.ioa_run.specs.Alone.{IsOutcomeFrom};
+ghost use Rattle.ioa_run.specs.ProgramRooms.{HasInputsLeft, Tells};
 ghost use Rattle.ioa_run.specs.Reports.{left, with_idle};
 ghost use Rattle.ioa_run.specs.RoomCommits.{RoomCommit};
 
@@ -14,13 +13,11 @@ use crate::plan::Plan;
 use crate::report::Why;
 use crate::room::Room;
 use crate::verdict::Verdict;
-use ioa_compile::Program;
 use ioa_node::NodeState;
-use ioa_value::{Action, OutOfMemory};
-use std::alloc::Global;
+use ioa_value::OutOfMemory;
 use std::marker::{Brand, Model, PhantomData};
 
-/// Of what a run is: its program, the script of inputs, and how many turns each worker has. Each run picks its own.
+/// Of what a run is: its program, the script of inputs, how many turns each worker has, and what was done before it. Each run picks its own.
 pub(crate) trait Terms {
     ghost use Rattle.std.specs.Prelude.{ℕ, List};
     ghost use Rattle.ioa_value.specs.Actions.{Act};
@@ -31,6 +28,8 @@ pub(crate) trait Terms {
     ghost inputs: { List Act };
 
     ghost turns: { ℕ };
+
+    ghost before: { List (ℕ × Act) };
 }
 
 impl Terms for Brand {
@@ -41,6 +40,8 @@ impl Terms for Brand {
     ghost inputs = { [] };
 
     ghost turns = { 0 };
+
+    ghost before = { [] };
 }
 
 /// The room of a run of just these terms, by its type: whoever gets it from under its lock has the run's own, and asks for nothing.
@@ -61,27 +62,22 @@ impl<'p, T: Terms> Model for OwnRoom<'p, T> {
 
     ghost view = { λ o. o.room };
 
-    ghost invariant = { λ o. (o.room.program ≡ T.program) × (o.room.inputs ≡ T.inputs) × (o.room.turns ≡ T.turns) };
+    ghost invariant = { λ o. (o.room.program ≡ T.program) × (o.room.inputs ≡ T.inputs) × (o.room.turns ≡ T.turns) × (o.room.before ≡ T.before) };
 }
 
 impl<'p, T: Terms> OwnRoom<'p, T> {
-    /// The room of a run in which nothing is done yet.
-    pub(crate) fn start(
-        alloc: Global,
-        program: &'p Program,
-        inputs: &'p [Action],
-        turns: u64,
-    ) -> Result<OwnRoom<'p, T>, OutOfMemory>
-        requires program { program.now ≡ T.program }
-        requires inputs { map act_of inputs.now ≡ T.inputs }
-        requires turns { turns ≡ T.turns }
-        ensures { IfOk result (λ r. r ≡ start_room T.program T.inputs T.turns) }
+    /// This room, which is of these terms.
+    pub(crate) fn of(room: Room<'p>) -> OwnRoom<'p, T>
+        requires program { room.program ≡ T.program }
+        requires inputs { room.inputs ≡ T.inputs }
+        requires turns { room.turns ≡ T.turns }
+        requires before { room.before ≡ T.before }
+        ensures { result ≡ room.entry }
     {
-        let room = Room::start(alloc, program, inputs, turns)?;
-        Ok(OwnRoom {
+        OwnRoom {
             room,
             of: PhantomData,
-        })
+        }
     }
 
     /// Equals of the states of the components of these numbers, in their order.
@@ -123,7 +119,7 @@ impl<'p, T: Terms> OwnRoom<'p, T> {
 
     /// The log, the states, the end and the reports.
     pub(crate) fn finish(self) -> Outcome
-        ensures { IsOutcome T.program T.inputs T.turns result }
+        ensures { IsOutcomeFrom T.program T.before T.inputs T.turns result }
     {
         self.room.finish()
     }

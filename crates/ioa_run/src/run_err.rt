@@ -15,6 +15,13 @@ pub enum RunErr {
     /// A thread was refused, or ended without a word.
     #[error("a thread was refused, or ended without a word")]
     Threads,
+    /// The entry of this number, from 0, is the first of the log whose worker is not its action's or whose action is not performed; or so many
+    /// entries are performed, and the log's end has another count.
+    #[error("entry {0} of the log is not the run's")]
+    BadLog(usize),
+    /// The log ends by a fault.
+    #[error("the log ends by a fault")]
+    EndedByFault,
     /// Memory was refused before the start.
     #[error("memory")]
     OutOfMemory,

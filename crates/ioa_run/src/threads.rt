@@ -4,21 +4,23 @@ ghost use Rattle.std.specs.Prelude.{◌≡◌, ◌≤◌, All, IfErr, IfOk, leng
 ghost use denote.Param.Send.{IsSend, IsSync};
 ghost use Rattle.ioa_value.specs.Actions.{act_of};
 ghost use Rattle.ioa_compile.specs.Tables.{tabled};
-ghost use Rattle.ioa_system.specs.Logs.{log_end};
+ghost use Rattle.ioa_system.specs.Logs.{log_end, logged};
 ghost use Rattle.ioa_run.specs.declared.run_err.RunErr.TheVariants as errors;
-ghost use Rattle.ioa_run.specs.Alone.{IsInput, IsOutcome, Refuses, most_turns};
+ghost use Rattle.ioa_run.specs.Alone.{IsInput, IsOutcome, IsOutcomeFrom, Refuses, RefusesResumed, most_turns};
 ghost use Rattle.ioa_run.specs.Outcomes.{HaveEnded};
 
-use crate::beginning::check;
+use crate::beginning::{check, resumed_room};
 use crate::crew::Crew;
 use crate::gate::Gate;
 use crate::outcome::Outcome;
 use crate::own_room::Terms;
 use crate::report::have_ended;
+use crate::room::Room;
 use crate::run_err::RunErr;
 use crate::worker::{Source, Worker};
 use ioa_compile::Program;
 use ioa_node::Words;
+use ioa_system::Log;
 use ioa_value::Action;
 use std::alloc::Global;
 use std::marker::Brand;
@@ -52,29 +54,59 @@ pub fn run_threads<R: Threads + Wait + Sync, W: Words + Send + Drop, G: Gate + S
     ensures refused { Refuses program.now (map act_of inputs.now) turns result }
 {
     check(alloc, program, turns, inputs)?;
-    run_on::<Brand, R, W, G>(rt, alloc, program, turns, words, inputs, gate)
+    let room = Room::start(alloc, program, inputs, turns)?;
+    run_on::<Brand, R, W, G>(rt, alloc, program, room, turns, words, inputs, gate)
 }
 
-/// A run of these terms, which may begin.
-fn run_on<T: Terms + Send, R: Threads + Wait + Sync, W: Words + Send + Drop, G: Gate + Sync>(
+/// Runs the program on threads as `run_threads` does, from where the run ended that the log tells: what the log has stands at the beginning of the
+/// history, words and inputs begin anew, and the reports tell of what is new.
+///
+/// It answers as `run_threads` does; and after `TooManyTurns` and `BadInput` `EndedByFault` where the log ends by a fault, then `BadLog` with the
+/// first of its entries that is not the program's run's, or with their number where the end has another count.
+pub fn resume_threads<R: Threads + Wait + Sync, W: Words + Send + Drop, G: Gate + Sync>(
     rt: &R,
     alloc: Global,
     program: &Program,
+    log: &Log,
     turns: u64,
     words: Vec<W>,
     inputs: &[Action],
     gate: &G,
 ) -> Result<Outcome, RunErr>
+    requires sources { length words.items ≡ length program.now.members }
+    ensures outcome { IfOk result (λ o. IsOutcomeFrom program.now (logged log.now).entries (map act_of inputs.now) turns o) }
+    ensures ended { IfOk result (λ o. HaveEnded turns (log_end o.end) o.reports.items) }
+    ensures refused { RefusesResumed program.now (map act_of inputs.now) turns (logged log.now) result }
+{
+    let room = resumed_room(alloc, program, log, inputs, turns)?;
+    run_on::<Brand, R, W, G>(rt, alloc, program, room, turns, words, inputs, gate)
+}
+
+/// A run of these terms, which may begin.
+fn run_on<'p, T: Terms + Send, R: Threads + Wait + Sync, W: Words + Send + Drop, G: Gate + Sync>(
+    rt: &R,
+    alloc: Global,
+    program: &'p Program,
+    room: Room<'p>,
+    turns: u64,
+    words: Vec<W>,
+    inputs: &'p [Action],
+    gate: &G,
+) -> Result<Outcome, RunErr>
     requires program { program.now ≡ T.program }
+    requires own { room.program ≡ T.program }
+    requires script { room.inputs ≡ T.inputs }
+    requires rounds { room.turns ≡ T.turns }
+    requires before { room.before ≡ T.before }
     requires inputs { map act_of inputs.now ≡ T.inputs }
     requires turns { turns ≡ T.turns }
     requires few { T.turns ≤ most_turns }
     requires fine { All (IsInput (tabled T.program)) T.inputs }
-    ensures outcome { IfOk result (λ o. IsOutcome T.program T.inputs T.turns o) }
+    ensures outcome { IfOk result (λ o. IsOutcomeFrom T.program T.before T.inputs T.turns o) }
     ensures ended { IfOk result (λ o. HaveEnded T.turns (log_end o.end) o.reports.items) }
     ensures refused { Refuses T.program T.inputs T.turns result }
 {
-    let crew: Crew<'_, T> = Crew::start(alloc, program, inputs, turns)?;
+    let crew: Crew<'_, T> = Crew::of(program, inputs, turns, room);
     if !work_all(rt, alloc, &crew, words, gate) {
         return Err(RunErr::Threads);
     }

@@ -21,6 +21,8 @@ unmade holds lacks bars saves kept file out name failed before after text (Failu
 unmade holds lacks bars saves kept file out name failed before after text Failure.TooManyTurns held k same keeps = absurd k
 unmade holds lacks bars saves kept file out name failed before after text (Failure.BadInput i) held k same keeps = absurd k
 unmade holds lacks bars saves kept file out name failed before after text Failure.Threads held k same keeps = absurd k
+unmade holds lacks bars saves kept file out name failed before after text (Failure.BadLog i) held k same keeps = absurd k
+unmade holds lacks bars saves kept file out name failed before after text Failure.EndedByFault held k same keeps = absurd k
 unmade holds lacks bars saves kept file out name failed before after text Failure.Io held k same keeps = absurd k
 unmade holds lacks bars saves kept file out name failed before after text Failure.OutOfMemory held k same keeps = (same, keeps)
 

@@ -46,5 +46,7 @@ ungraphed text name failed before after (Failure.BadWords n) h k = absurd h
 ungraphed text name failed before after Failure.TooManyTurns h k = absurd h
 ungraphed text name failed before after (Failure.BadInput i) h k = absurd h
 ungraphed text name failed before after Failure.Threads h k = absurd h
+ungraphed text name failed before after (Failure.BadLog i) h k = absurd h
+ungraphed text name failed before after Failure.EndedByFault h k = absurd h
 ungraphed text name failed before after Failure.Io h k = absurd h
 ungraphed text name failed before after Failure.OutOfMemory h k = k

@@ -190,6 +190,8 @@ list_ungiven text name bytes failed (Failure.BadWords n) k = absurd k
 list_ungiven text name bytes failed Failure.TooManyTurns k = absurd k
 list_ungiven text name bytes failed (Failure.BadInput i) k = absurd k
 list_ungiven text name bytes failed Failure.Threads k = absurd k
+list_ungiven text name bytes failed (Failure.BadLog i) k = absurd k
+list_ungiven text name bytes failed Failure.EndedByFault k = absurd k
 list_ungiven text name bytes failed Failure.Io k = absurd k
 list_ungiven text name bytes failed Failure.OutOfMemory k = absurd k
 
@@ -203,6 +205,8 @@ log_ungiven text name bytes failed (Failure.BadWords n) k = absurd k
 log_ungiven text name bytes failed Failure.TooManyTurns k = absurd k
 log_ungiven text name bytes failed (Failure.BadInput i) k = absurd k
 log_ungiven text name bytes failed Failure.Threads k = absurd k
+log_ungiven text name bytes failed (Failure.BadLog i) k = absurd k
+log_ungiven text name bytes failed Failure.EndedByFault k = absurd k
 log_ungiven text name bytes failed Failure.Io k = absurd k
 log_ungiven text name bytes failed Failure.OutOfMemory k = absurd k
 
@@ -216,5 +220,7 @@ monitor_ungiven text name bytes failed (Failure.BadWords n) k = absurd k
 monitor_ungiven text name bytes failed Failure.TooManyTurns k = absurd k
 monitor_ungiven text name bytes failed (Failure.BadInput i) k = absurd k
 monitor_ungiven text name bytes failed Failure.Threads k = absurd k
+monitor_ungiven text name bytes failed (Failure.BadLog i) k = absurd k
+monitor_ungiven text name bytes failed Failure.EndedByFault k = absurd k
 monitor_ungiven text name bytes failed Failure.Io k = absurd k
 monitor_ungiven text name bytes failed Failure.OutOfMemory k = absurd k

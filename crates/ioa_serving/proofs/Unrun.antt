@@ -54,6 +54,8 @@ module _ (holds : Name → List ℕ → Type 0) (lacks : Name → Type 0) where
   wordless s x m Failure.TooManyTurns d same k = absurd k
   wordless s x m (Failure.BadInput i) d same k = absurd k
   wordless s x m Failure.Threads d same k = absurd k
+  wordless s x m (Failure.BadLog i) d same k = absurd k
+  wordless s x m Failure.EndedByFault d same k = absurd k
 
   -- there is no script
   pub scriptless : (s : Settings) (x : Subject) (own : Table) (e : Failure) → MayGive holds s x → HasWords holds s.words (length (its_names x)) → own ≡ its_types x
@@ -77,6 +79,8 @@ module _ (holds : Name → List ℕ → Type 0) (lacks : Name → Type 0) where
   scriptless s x own Failure.TooManyTurns d w same k = absurd k
   scriptless s x own (Failure.BadInput i) d w same k = absurd k
   scriptless s x own Failure.Threads d w same k = absurd k
+  scriptless s x own (Failure.BadLog i) d w same k = absurd k
+  scriptless s x own Failure.EndedByFault d w same k = absurd k
 
 pub count_is : (holds : Name → List ℕ → Type 0) (from : WordsFrom) (workers : ℕ) (sources : WordSources) → AreSources holds from workers sources → count_of sources ≡ workers
 count_is holds (WordsFrom.Key key) workers (WordSources.Seeded v) k = k.count
@@ -90,6 +94,8 @@ pub unrun_by : (p : Prog) (x : Subject) (holds : Name → List ℕ → Type 0) (
 unrun_by p x holds lacks s script RunErr.TooManyTurns runs ready k own = (x, script, ready, k)
 unrun_by p x holds lacks s script (RunErr.BadInput i) runs ready k own = (x, script, ready, k.0, other_same p x runs script i k.1)
 unrun_by p x holds lacks s script RunErr.Threads runs ready k own = (x, script, ready, k.0, inputs_same p x runs script k.1, own refl)
+unrun_by p x holds lacks s script (RunErr.BadLog i) runs ready k own = absurd k
+unrun_by p x holds lacks s script RunErr.EndedByFault runs ready k own = absurd k
 unrun_by p x holds lacks s script RunErr.OutOfMemory runs ready k own = tt
 
 -- the file gives nothing
@@ -104,5 +110,7 @@ ungiven holds lacks s text (Failure.BadWords n) held k = absurd k
 ungiven holds lacks s text Failure.TooManyTurns held k = absurd k
 ungiven holds lacks s text (Failure.BadInput i) held k = absurd k
 ungiven holds lacks s text Failure.Threads held k = absurd k
+ungiven holds lacks s text (Failure.BadLog i) held k = absurd k
+ungiven holds lacks s text Failure.EndedByFault held k = absurd k
 ungiven holds lacks s text Failure.Io held k = absurd k
 ungiven holds lacks s text Failure.OutOfMemory held k = absurd k

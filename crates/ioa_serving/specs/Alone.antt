@@ -205,6 +205,8 @@ IsWordless holds lacks from workers Failure.SpecHasInternal = ⊥
 IsWordless holds lacks from workers Failure.TooManyTurns = ⊥
 IsWordless holds lacks from workers (Failure.BadInput i) = ⊥
 IsWordless holds lacks from workers Failure.Threads = ⊥
+IsWordless holds lacks from workers (Failure.BadLog i) = ⊥
+IsWordless holds lacks from workers Failure.EndedByFault = ⊥
 
 abbrev pub IsScriptless : (Name → List ℕ → Type 0) → (Name → Type 0) → Table → Option Name → Failure → Type 0
 IsScriptless holds lacks types file (Failure.List (LogErr.BadLine n)) = HasBadLine holds types file n
@@ -225,6 +227,8 @@ IsScriptless holds lacks types file Failure.SpecHasInternal = ⊥
 IsScriptless holds lacks types file Failure.TooManyTurns = ⊥
 IsScriptless holds lacks types file (Failure.BadInput i) = ⊥
 IsScriptless holds lacks types file Failure.Threads = ⊥
+IsScriptless holds lacks types file (Failure.BadLog i) = ⊥
+IsScriptless holds lacks types file Failure.EndedByFault = ⊥
 
 -- a file is not read: the first one; or where that gives a subject, the words'; or where all have words, the script's
 abbrev pub IsUnloaded : (Name → List ℕ → Type 0) → (Name → Type 0) → Settings → Type 0
@@ -248,6 +252,8 @@ IsUnrun holds lacks s (Failure.BadInput i) =
     (x : Subject) × (script : List Act) × IsReady holds s x script × (s.turns ≤ most_turns) × IsFirstOther (its_components x) script i
 IsUnrun holds lacks s Failure.Threads =
     (x : Subject) × (script : List Act) × IsReady holds s x script × (s.turns ≤ most_turns) × All (IsInput (its_components x)) script × (s.alone ≡ false)
+IsUnrun holds lacks s (Failure.BadLog i) = ⊥
+IsUnrun holds lacks s Failure.EndedByFault = ⊥
 IsUnrun holds lacks s (Failure.List LogErr.Io) = ⊥
 IsUnrun holds lacks s Failure.Io = IsUnloaded holds lacks s
 IsUnrun holds lacks s Failure.OutOfMemory = Unit {0}

@@ -65,6 +65,8 @@ IsUnfine text asked (Failure.BadWords n) = ⊥
 IsUnfine text asked Failure.TooManyTurns = ⊥
 IsUnfine text asked (Failure.BadInput i) = ⊥
 IsUnfine text asked Failure.Threads = ⊥
+IsUnfine text asked (Failure.BadLog i) = ⊥
+IsUnfine text asked Failure.EndedByFault = ⊥
 IsUnfine text asked Failure.Io = ⊥
 IsUnfine text asked Failure.OutOfMemory = ⊥
 
@@ -79,6 +81,8 @@ IsCheckFailure text asked failed (Failure.BadWords n) = ⊥
 IsCheckFailure text asked failed Failure.TooManyTurns = ⊥
 IsCheckFailure text asked failed (Failure.BadInput i) = ⊥
 IsCheckFailure text asked failed Failure.Threads = ⊥
+IsCheckFailure text asked failed (Failure.BadLog i) = ⊥
+IsCheckFailure text asked failed Failure.EndedByFault = ⊥
 IsCheckFailure text asked failed Failure.Io = ⊥
 IsCheckFailure text asked failed Failure.OutOfMemory = ⊥
 

@@ -28,6 +28,8 @@ IsUncompiled text name (Failure.BadWords n) = ⊥
 IsUncompiled text name Failure.TooManyTurns = ⊥
 IsUncompiled text name (Failure.BadInput i) = ⊥
 IsUncompiled text name Failure.Threads = ⊥
+IsUncompiled text name (Failure.BadLog i) = ⊥
+IsUncompiled text name Failure.EndedByFault = ⊥
 IsUncompiled text name Failure.Io = ⊥
 IsUncompiled text name Failure.OutOfMemory = Unit {0}
 
@@ -68,6 +70,8 @@ IsUnmade holds lacks bars saves kept file out name failed before after (Failure.
 IsUnmade holds lacks bars saves kept file out name failed before after Failure.TooManyTurns = ⊥
 IsUnmade holds lacks bars saves kept file out name failed before after (Failure.BadInput i) = ⊥
 IsUnmade holds lacks bars saves kept file out name failed before after Failure.Threads = ⊥
+IsUnmade holds lacks bars saves kept file out name failed before after (Failure.BadLog i) = ⊥
+IsUnmade holds lacks bars saves kept file out name failed before after Failure.EndedByFault = ⊥
 IsUnmade holds lacks bars saves kept file out name failed before after Failure.Io =
     (lacks file ⊎ (bars out × ((text object : List ℕ) × holds file text × IsCompiled text name object))) × kept × Keeps before after
 IsUnmade holds lacks bars saves kept file out name failed before after Failure.OutOfMemory = kept × Keeps before after

@@ -23,5 +23,7 @@ IsUnexplained topic failed before after (Failure.BadWords n) = ⊥
 IsUnexplained topic failed before after Failure.TooManyTurns = ⊥
 IsUnexplained topic failed before after (Failure.BadInput i) = ⊥
 IsUnexplained topic failed before after Failure.Threads = ⊥
+IsUnexplained topic failed before after (Failure.BadLog i) = ⊥
+IsUnexplained topic failed before after Failure.EndedByFault = ⊥
 IsUnexplained topic failed before after Failure.Io = ⊥
 IsUnexplained topic failed before after Failure.OutOfMemory = Keeps before after

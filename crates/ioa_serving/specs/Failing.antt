@@ -76,6 +76,8 @@ IsRefusedGiven text name (Failure.BadWords n) = ⊥
 IsRefusedGiven text name Failure.TooManyTurns = ⊥
 IsRefusedGiven text name (Failure.BadInput i) = ⊥
 IsRefusedGiven text name Failure.Threads = ⊥
+IsRefusedGiven text name (Failure.BadLog i) = ⊥
+IsRefusedGiven text name Failure.EndedByFault = ⊥
 IsRefusedGiven text name Failure.Io = ⊥
 IsRefusedGiven text name Failure.OutOfMemory = ⊥
 
@@ -110,6 +112,8 @@ IsFailure text name bytes failed (Failure.BadWords n) = ⊥
 IsFailure text name bytes failed Failure.TooManyTurns = ⊥
 IsFailure text name bytes failed (Failure.BadInput i) = ⊥
 IsFailure text name bytes failed Failure.Threads = ⊥
+IsFailure text name bytes failed (Failure.BadLog i) = ⊥
+IsFailure text name bytes failed Failure.EndedByFault = ⊥
 IsFailure text name bytes failed Failure.Io = ⊥
 IsFailure text name bytes failed Failure.OutOfMemory = Unit {0}
 
@@ -132,6 +136,8 @@ IsLogFailure text name bytes failed (Failure.BadWords n) = ⊥
 IsLogFailure text name bytes failed Failure.TooManyTurns = ⊥
 IsLogFailure text name bytes failed (Failure.BadInput i) = ⊥
 IsLogFailure text name bytes failed Failure.Threads = ⊥
+IsLogFailure text name bytes failed (Failure.BadLog i) = ⊥
+IsLogFailure text name bytes failed Failure.EndedByFault = ⊥
 IsLogFailure text name bytes failed Failure.Io = ⊥
 IsLogFailure text name bytes failed Failure.OutOfMemory = Unit {0}
 
@@ -164,6 +170,8 @@ IsMonitorFailure text name bytes failed (Failure.BadWords n) = ⊥
 IsMonitorFailure text name bytes failed Failure.TooManyTurns = ⊥
 IsMonitorFailure text name bytes failed (Failure.BadInput i) = ⊥
 IsMonitorFailure text name bytes failed Failure.Threads = ⊥
+IsMonitorFailure text name bytes failed (Failure.BadLog i) = ⊥
+IsMonitorFailure text name bytes failed Failure.EndedByFault = ⊥
 IsMonitorFailure text name bytes failed Failure.Io = ⊥
 IsMonitorFailure text name bytes failed Failure.OutOfMemory = Unit {0}
 
@@ -205,6 +213,8 @@ IsLeft broken other (Failure.BadWords n) = other
 IsLeft broken other Failure.TooManyTurns = other
 IsLeft broken other (Failure.BadInput i) = other
 IsLeft broken other Failure.Threads = other
+IsLeft broken other (Failure.BadLog i) = other
+IsLeft broken other Failure.EndedByFault = other
 IsLeft broken other Failure.Io = other
 IsLeft broken other Failure.OutOfMemory = other
 

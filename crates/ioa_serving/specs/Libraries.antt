@@ -16,5 +16,7 @@ IsUnlisted failed before after (Failure.BadWords n) = ⊥
 IsUnlisted failed before after Failure.TooManyTurns = ⊥
 IsUnlisted failed before after (Failure.BadInput i) = ⊥
 IsUnlisted failed before after Failure.Threads = ⊥
+IsUnlisted failed before after (Failure.BadLog i) = ⊥
+IsUnlisted failed before after Failure.EndedByFault = ⊥
 IsUnlisted failed before after Failure.Io = ⊥
 IsUnlisted failed before after Failure.OutOfMemory = ⊥

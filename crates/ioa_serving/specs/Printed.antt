@@ -65,6 +65,8 @@ failure_details (Failure.BadWords n) = on_line n
 failure_details Failure.TooManyTurns = []
 failure_details (Failure.BadInput i) = codes " index " ++ decimal i
 failure_details Failure.Threads = []
+failure_details (Failure.BadLog i) = codes " index " ++ decimal i
+failure_details Failure.EndedByFault = []
 failure_details Failure.Io = []
 failure_details Failure.OutOfMemory = []
 

@@ -46,6 +46,8 @@ abbrev pub run_failure : RunErr → Failure
 run_failure RunErr.TooManyTurns = Failure.TooManyTurns
 run_failure (RunErr.BadInput i) = Failure.BadInput i
 run_failure RunErr.Threads = Failure.Threads
+run_failure (RunErr.BadLog i) = Failure.BadLog i
+run_failure RunErr.EndedByFault = Failure.EndedByFault
 run_failure RunErr.OutOfMemory = Failure.OutOfMemory
 
 -- the file may hold a text such that the list or the log was replayed, or monitored, or the log of the list's run was written, in the

@@ -86,5 +86,7 @@ failure_status (Failure.BadWords n) = Status.BadCommandLine
 failure_status Failure.TooManyTurns = Status.BadCommandLine
 failure_status (Failure.BadInput i) = Status.NotAccepted
 failure_status Failure.Threads = Status.Unable
+failure_status (Failure.BadLog i) = Status.NotAccepted
+failure_status Failure.EndedByFault = Status.NotAccepted
 failure_status Failure.Io = Status.Unable
 failure_status Failure.OutOfMemory = Status.Unable

@@ -37,6 +37,11 @@ pub enum Failure {
     BadInput(usize),
     /// A thread was refused to a run.
     Threads,
+    /// The entry of this number, from 0, is the first of the log from which a run was to go on that is not the run's; or so many entries are, and
+    /// the log's end has another count.
+    BadLog(usize),
+    /// The log from which a run was to go on ends by a fault.
+    EndedByFault,
     /// A file was not read or not written.
     Io,
     /// A growth of memory was refused.
@@ -62,6 +67,8 @@ impl Failure {
             Failure::TooManyTurns => Code::N1,
             Failure::BadInput(_) => Code::N2,
             Failure::Threads => Code::N3,
+            Failure::BadLog(_) => Code::N4,
+            Failure::EndedByFault => Code::N5,
             Failure::Io => Code::Io,
             Failure::OutOfMemory => Code::Memory,
         }
@@ -75,7 +82,10 @@ impl Failure {
             Failure::Refused(refusal) => refusal_status(refusal),
             Failure::Object(error) => object_status(*error),
             Failure::List(error) => log_status(*error),
-            Failure::SpecHasInternal | Failure::BadInput(_) => Status::NotAccepted,
+            Failure::SpecHasInternal
+            | Failure::BadInput(_)
+            | Failure::BadLog(_)
+            | Failure::EndedByFault => Status::NotAccepted,
             Failure::SourceWanted | Failure::BadWords(_) | Failure::TooManyTurns => {
                 Status::BadCommandLine
             }
@@ -139,12 +149,15 @@ impl fmt::Display for Failure {
                 | LogErr::Diverges(line),
             ) => write!(f, "{code} line {line}"),
             Failure::BadWords(line) => write!(f, "{code} line {line}"),
-            Failure::BadInput(index) => write!(f, "{code} index {index}"),
+            Failure::BadInput(index) | Failure::BadLog(index) => {
+                write!(f, "{code} index {index}")
+            }
             Failure::List(LogErr::NoEnd | LogErr::AfterEnd | LogErr::Io | LogErr::OutOfMemory)
             | Failure::SourceWanted
             | Failure::SpecHasInternal
             | Failure::TooManyTurns
             | Failure::Threads
+            | Failure::EndedByFault
             | Failure::Io
             | Failure::OutOfMemory => write!(f, "{code}"),
         }
@@ -209,6 +222,8 @@ impl From<RunErr> for Failure {
             RunErr::TooManyTurns => Failure::TooManyTurns,
             RunErr::BadInput(index) => Failure::BadInput(index),
             RunErr::Threads => Failure::Threads,
+            RunErr::BadLog(index) => Failure::BadLog(index),
+            RunErr::EndedByFault => Failure::EndedByFault,
             RunErr::OutOfMemory => Failure::OutOfMemory,
         }
     }

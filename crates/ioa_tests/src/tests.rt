@@ -10,6 +10,7 @@ mod made;
 mod operators;
 mod proposals;
 mod reached;
+mod resumed;
 mod rooms;
 mod schedules;
 mod threads;

@@ -32,6 +32,24 @@ pub const N3: Explanation = Explanation {
     mending: "Raise the limit, or run it with `--alone`, on one thread.",
 };
 
+pub const N4: Explanation = Explanation {
+    topic: Topic::Code(Code::N4),
+    meaning: "A run goes on only from a log of the composition itself: each action is performed, by the worker that is told with it, and the\n\
+        end counts them all. The log's action of this index is the first that is not so; or, where the end alone has another count,\n\
+        the index is the number of the log's actions. Actions count from 0. Nothing was run.",
+    example: Example::Told(
+        "A log gives it that tells an output with another component's number, or that ends by `done after 2` behind three actions.",
+    ),
+    mending: "Take the log as a run of this composition wrote it.",
+};
+
+pub const N5: Explanation = Explanation {
+    topic: Topic::Code(Code::N5),
+    meaning: "The log from which the run was to go on ends by a fault, and after a fault nothing is performed. Nothing was run.",
+    example: Example::Told("A log gives it with the last line `{\"end\":\"fault 1 in component 0 at 0\"}`."),
+    mending: "Take a log that ends by `done`.",
+};
+
 pub const WORDS: Explanation = Explanation {
     topic: Topic::Code(Code::Words),
     meaning: "This line of the file of words is no list of words. A word is a decimal number up to 4294967295, of digits alone, and one\n\

@@ -204,8 +204,8 @@ fn walked(
     moves: &[Turn],
 ) -> Outcome {
     let mut room = Room::start(alloc, program, script, turns).expect(rt, "memory");
-    assert!(rt; room.is_of(program, script, turns));
-    assert!(rt; !room.is_of(program, script, 0));
+    assert!(rt; room.is_of(program, script, turns, &[]));
+    assert!(rt; !room.is_of(program, script, 0, &[]));
     for turn in moves {
         take(rt, alloc, &mut room, *turn);
     }

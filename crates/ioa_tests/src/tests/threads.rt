@@ -290,13 +290,15 @@ composition Both components F: Full; G: Go",
 ];
 
 /// What is told of runs that could not begin, which the program does not print.
-const REFUSALS: [(RunErr, &str); 4] = [
+const REFUSALS: [(RunErr, &str); 6] = [
     (RunErr::TooManyTurns, "too many turns"),
     (RunErr::BadInput(2), "action 2 of the script is no input"),
     (
         RunErr::Threads,
         "a thread was refused, or ended without a word",
     ),
+    (RunErr::BadLog(3), "entry 3 of the log is not the run's"),
+    (RunErr::EndedByFault, "the log ends by a fault"),
     (RunErr::OutOfMemory, "memory"),
 ];
 
@@ -525,7 +527,7 @@ fn told_report(alloc: Global, report: &Report) -> Result<String, AllocError> {
     format!(in alloc; "{committed} committed, {idle} idle, {stale} stale, {why:?}")
 }
 
-fn told_reports(rt: &impl Abort, alloc: Global, reports: &[Report]) -> String {
+pub fn told_reports(rt: &impl Abort, alloc: Global, reports: &[Report]) -> String {
     let mut text = String::new(alloc);
     for report in reports {
         let told = told_report(alloc, report).expect(rt, "memory");

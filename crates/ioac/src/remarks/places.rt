@@ -42,6 +42,8 @@ pub fn place_of(failure: &Failure) -> Place {
         | Failure::SpecHasInternal
         | Failure::TooManyTurns
         | Failure::Threads
+        | Failure::BadLog(_)
+        | Failure::EndedByFault
         | Failure::Io
         | Failure::OutOfMemory => Place::Nowhere,
     }

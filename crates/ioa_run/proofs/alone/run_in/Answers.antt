@@ -1,0 +1,59 @@
+use Rattle.std.proofs.Common.{◌≡◌, ◌∙◌, ◌+◌, List, Bool, false, ap, length, map, replicate, sym, subst, rules}
+use Rattle.std.proofs.lemmas.List.{length-map}
+use Rattle.ioa_value.specs.Actions.{act_of}
+use Rattle.ioa_compile.specs.Shown.{member_code}
+use Rattle.ioa_compile.specs.Programs.{Prog}
+use Rattle.ioa_run.specs.ProgramBoards.{ProgramBoard}
+use Rattle.ioa_run.specs.ProgramRooms.{ProgramRoom, room_on}
+use Rattle.ioa_run.specs.Proposers.{proposers, proposers_of}
+use Rattle.ioa_run.specs.Rounds.{Dismisses, GoesRounds}
+use Rattle.ioa_run.specs.Turns.{turns_from}
+use Rattle.ioa_system.proofs.Participating.{written_anew}
+use Rattle.ioa_run.proofs.Ending.{ended_alone, ends_alone, outcome_from}
+use Rattle.ioa_run.proofs.alone.run_in.Given.{Over}
+use Rattle.ioa_run.proofs.alone.run_in.Goals as goal
+use Rattle.ioa_run.proofs.alone.run_in.Goals.{After-finish}
+
+none_has : (g : Over) (c : After-finish g) → c.in_ok-ended.ended.items ≡ (turns_from c.args.room.board (map g.W.Words.stream c.args.words.items) (length (proposers c.args.room.program))).ended
+none_has g c =
+    let many : length c.members.result.now ≡ length (proposers c.args.room.program) =
+    sym (length-map c.members.result.now member_code) ∙ ap length c.members.ensures.value ∙ ap (λ (p : Prog). length p.members) (c.program.ensures ∙ ap (λ (x : ProgramBoard). x.program) c.board.ensures) ∙ sym (length-map c.args.room.program.members proposers_of) in
+    c.in_ok-ended.ensures ∙ ap (λ n. replicate (n + 1) false) many
+
+goes : (g : Over) (c : After-finish g)
+    → GoesRounds c.args.turns (room_on c.args.room.program c.args.room.board (map act_of c.args.inputs.now) c.args.turns) (map g.W.Words.stream c.args.words.items) c.in_ok-ended.ended.items c.take_turns.new.room (map g.W.Words.stream c.take_turns.new.words) c.take_turns.new.ended
+goes g c =
+    let stream = g.W.Words.stream in
+    let lent : c.deref_mut.result.now ≡ c.args.words.items = c.deref_mut.ensures.value in
+    let begun : c.deref_mut-2.result.now ≡ c.in_ok-ended.ended.items = c.deref_mut-2.ensures.value in
+    let room : GoesRounds c.args.turns (room_on c.args.room.program c.args.room.board (map act_of c.args.inputs.now) c.args.turns) (map stream c.deref_mut.result.now) c.deref_mut-2.result.now c.take_turns.new.room (map stream c.take_turns.new.words) c.take_turns.new.ended =
+    subst (λ (r : ProgramRoom). GoesRounds c.args.turns r (map stream c.deref_mut.result.now) c.deref_mut-2.result.now c.take_turns.new.room (map stream c.take_turns.new.words) c.take_turns.new.ended)
+    c.requires.fresh c.take_turns.ensures in
+    subst (λ (es : List Bool). GoesRounds c.args.turns (room_on c.args.room.program c.args.room.board (map act_of c.args.inputs.now) c.args.turns) (map stream c.args.words.items) es c.take_turns.new.room (map stream c.take_turns.new.words) c.take_turns.new.ended) begun
+    (subst (λ xs. GoesRounds c.args.turns (room_on c.args.room.program c.args.room.board (map act_of c.args.inputs.now) c.args.turns) (map stream xs) c.deref_mut-2.result.now c.take_turns.new.room (map stream c.take_turns.new.words) c.take_turns.new.ended) lent room)
+
+dismisses : (g : Over) (c : After-finish g) → Dismisses c.take_turns.new.room c.take_turns.new.ended c.dismiss.new.room
+dismisses g c =
+    let begun : c.deref_mut-2.result.now ≡ c.in_ok-ended.ended.items = c.deref_mut-2.ensures.value in
+    let count : c.in_ok-ended.ended.len ≡ length c.in_ok-ended.ended.items = search rules in
+    let kept : length c.take_turns.new.ended ≡ length c.in_ok-ended.ended.items = c.take_turns.ensures.follows.ended ∙ ap length begun in
+    let last : c.deref.result.now ≡ c.take_turns.new.ended = c.deref.ensures.value ∙ written_anew c.in_ok-ended.ended.len c.take_turns.new.ended c.in_ok-ended.ended.items kept count in
+    subst (λ (es : List Bool). Dismisses c.take_turns.new.room es c.dismiss.new.room) last c.dismiss.ensures
+
+pub returns-clause-ended : goal.returns-clause-ended
+returns-clause-ended g c =
+    let a = (goal.at.returns-clause-ended g c).After-finish in
+    ends_alone c.args.room.program c.args.room.board (map g.W.Words.stream c.args.words.items) (map act_of c.args.inputs.now) c.args.turns (map g.W.Words.stream c.take_turns.new.words) c.take_turns.new.ended c.take_turns.new.room c.dismiss.new.room
+    c.in_ok-ended.ended.items c.finish.result c.requires.few (none_has g a) (goes g a) (dismisses g a) c.finish.ensures.log c.finish.ensures.reports c.finish.ensures.told
+
+pub returns-clause-alone : goal.returns-clause-alone
+returns-clause-alone g c =
+    let a = (goal.at.returns-clause-alone g c).After-finish in
+    ended_alone c.args.room.program c.args.room.board (map g.W.Words.stream c.args.words.items) (map act_of c.args.inputs.now) c.args.turns (map g.W.Words.stream c.take_turns.new.words) c.take_turns.new.ended c.take_turns.new.room c.dismiss.new.room
+    c.in_ok-ended.ended.items c.finish.result c.requires.few (none_has g a) (goes g a) (dismisses g a) c.finish.ensures.log c.finish.ensures.reports
+
+pub returns-clause-outcome : goal.returns-clause-outcome
+returns-clause-outcome g c =
+    let a = (goal.at.returns-clause-outcome g c).After-finish in
+    outcome_from c.args.room.program c.args.room.board (map act_of c.args.inputs.now) c.args.turns c.take_turns.new.room c.dismiss.new.room c.finish.result (goes g a).rest (dismisses g a).rest
+    c.finish.ensures.log c.finish.ensures.reports c.finish.ensures.told c.finish.ensures.goes_on

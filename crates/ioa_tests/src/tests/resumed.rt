@@ -1,0 +1,387 @@
+//! Runs that go on from logs.
+
+ghost use Rattle.std.specs.Prelude.{◌≡◌, IfOk, length};
+
+use crate::tests::made;
+use crate::tests::reached::PUTS;
+use crate::tests::rooms::{script, told_outcome};
+use crate::tests::threads::told_reports;
+use ioa_compile::Program;
+use ioa_log::{Counted, monitor, read_log, replay};
+use ioa_rows::COUNTER;
+use ioa_run::{
+    Board, OpenGate, Outcome, Room, RunErr, Seeded, resume_alone, resume_threads, run_alone,
+    run_threads,
+};
+use ioa_system::{Log, LogEntry};
+use ioa_value::{Action, OutOfMemory};
+use std::alloc::{AllocError, Global};
+use std::process::Abort;
+use std::sync::Wait;
+use std::thread::Threads;
+
+/// The counter ticks twice, and the environment resets it.
+const TICKED: &str =
+    "{\"act\":\"tick(5)\",\"who\":0}\n{\"act\":\"tick(6)\",\"who\":0}\n{\"act\":\"reset\",\"who\":1}\n{\"end\":\"done after 3\"}\n";
+
+/// The same with the first of them by the environment.
+const ANOTHERS: &str =
+    "{\"act\":\"tick(5)\",\"who\":1}\n{\"act\":\"tick(6)\",\"who\":0}\n{\"act\":\"reset\",\"who\":1}\n{\"end\":\"done after 3\"}\n";
+
+/// The same with another count at the end, and with both.
+const MISCOUNTED: &str =
+    "{\"act\":\"tick(5)\",\"who\":0}\n{\"act\":\"tick(6)\",\"who\":0}\n{\"act\":\"reset\",\"who\":1}\n{\"end\":\"done after 2\"}\n";
+
+const BOTH: &str =
+    "{\"act\":\"tick(5)\",\"who\":1}\n{\"act\":\"tick(6)\",\"who\":0}\n{\"act\":\"reset\",\"who\":1}\n{\"end\":\"done after 2\"}\n";
+
+/// The counter ends by a fault: as it does where it begins with the greatest number, behind actions that it does not perform, and behind
+/// none.
+const FAULTED: &str =
+    "{\"act\":\"tick(9223372036854775807)\",\"who\":0}\n{\"end\":\"fault 1 in component 0 at 0\"}\n";
+
+const ELSEWHERE: &str =
+    "{\"act\":\"tick(9)\",\"who\":1}\n{\"end\":\"fault 2 in component 4 at 7\"}\n";
+
+const BARE: &str = "{\"end\":\"fault 1 in component 0 at 0\"}\n";
+
+const EMPTY: &str = "{\"end\":\"done after 0\"}";
+
+/// Counters that are at the greatest number, or come to it by one action.
+const FULL: &str = "automaton Counter(start: Int) signature output tick(k: Int); input reset \
+    states c: Int := start transitions output tick pre k = c propose k := c eff c := c + 1 \
+    input reset eff c := start composition One components A: Counter(9223372036854775807)";
+
+const NEARLY: &str = "automaton Counter(start: Int) signature output tick(k: Int); input reset \
+    states c: Int := start transitions output tick pre k = c propose k := c eff c := c + 1 \
+    input reset eff c := start composition One components A: Counter(9223372036854775806)";
+
+/// A run on one thread that goes on from a log, what it gives, and its reports.
+struct Case {
+    source: &'static str,
+    log: &'static str,
+    turns: u64,
+    script: &'static [&'static str],
+    given: &'static str,
+    reports: &'static str,
+}
+
+/// What is new is counted alone, also of the inputs; all else is of the whole history.
+const CASES: [Case; 6] = [
+    Case {
+        source: COUNTER,
+        log: TICKED,
+        turns: 1,
+        script: &[],
+        given: "0 tick(5); 0 tick(6); 1 reset; 0 tick(5), state(6), done after 4",
+        reports: "1 committed, 0 idle, 0 stale, TurnsDone; 0 committed, 1 idle, 0 stale, TurnsDone",
+    },
+    Case {
+        source: COUNTER,
+        log: TICKED,
+        turns: 2,
+        script: &["reset"],
+        given: "0 tick(5); 0 tick(6); 1 reset; 0 tick(5); 1 reset; 0 tick(5), state(6), done after 6",
+        reports: "2 committed, 0 idle, 0 stale, TurnsDone; 1 committed, 1 idle, 0 stale, TurnsDone",
+    },
+    Case {
+        source: COUNTER,
+        log: TICKED,
+        turns: 0,
+        script: &["reset"],
+        given: "0 tick(5); 0 tick(6); 1 reset, state(5), done after 3",
+        reports: "0 committed, 0 idle, 0 stale, TurnsDone; 0 committed, 0 idle, 0 stale, TurnsDone",
+    },
+    Case {
+        source: COUNTER,
+        log: EMPTY,
+        turns: 2,
+        script: &["reset"],
+        given: "0 tick(5); 1 reset; 0 tick(5), state(6), done after 3",
+        reports: "2 committed, 0 idle, 0 stale, TurnsDone; 1 committed, 1 idle, 0 stale, TurnsDone",
+    },
+    Case {
+        source: PUTS,
+        log: "{\"act\":\"put(1)\",\"who\":1}\n{\"end\":\"done after 1\"}",
+        turns: 1,
+        script: &[],
+        given: "1 put(1); 0 put(0); 1 put(1), state(1), state(2), state(1), done after 3",
+        reports: "1 committed, 0 idle, 0 stale, TurnsDone; 1 committed, 0 idle, 0 stale, TurnsDone; 0 committed, 1 idle, 0 stale, TurnsDone; 0 committed, 1 idle, 0 stale, TurnsDone",
+    },
+    Case {
+        source: NEARLY,
+        log: "{\"act\":\"tick(9223372036854775806)\",\"who\":0}\n{\"end\":\"done after 1\"}",
+        turns: 2,
+        script: &[],
+        given: "0 tick(9223372036854775806); 0 tick(9223372036854775807), state(9223372036854775807), fault 1 in component 0 at 1",
+        reports: "0 committed, 0 idle, 0 stale, Faulted; 0 committed, 2 idle, 0 stale, TurnsDone",
+    },
+];
+
+/// A source, a log, turns and a script, and why no run goes on from there.
+type Refused = (
+    &'static str,
+    &'static str,
+    u64,
+    &'static [&'static str],
+    RunErr,
+);
+
+/// Turns come first, then inputs, then a fault at the log's end, then its entries, and last its count.
+const REFUSED: [Refused; 17] = [
+    (COUNTER, ANOTHERS, 1, &[], RunErr::BadLog(0)),
+    (COUNTER, MISCOUNTED, 1, &[], RunErr::BadLog(3)),
+    (COUNTER, BOTH, 1, &[], RunErr::BadLog(0)),
+    (FULL, FAULTED, 1, &[], RunErr::EndedByFault),
+    (COUNTER, ELSEWHERE, 1, &[], RunErr::EndedByFault),
+    (COUNTER, BARE, 1, &[], RunErr::EndedByFault),
+    (
+        COUNTER,
+        "{\"act\":\"tick(5)\",\"who\":0}\n{\"act\":\"tick(5)\",\"who\":0}\n{\"end\":\"done after 2\"}",
+        1,
+        &[],
+        RunErr::BadLog(1),
+    ),
+    (
+        COUNTER,
+        "{\"act\":\"tick(5)\",\"who\":0}\n{\"act\":\"reset\",\"who\":0}\n{\"end\":\"done after 2\"}",
+        1,
+        &[],
+        RunErr::BadLog(1),
+    ),
+    (
+        COUNTER,
+        "{\"act\":\"tock\",\"who\":1}\n{\"end\":\"done after 1\"}",
+        1,
+        &[],
+        RunErr::BadLog(0),
+    ),
+    (
+        FULL,
+        "{\"act\":\"tick(9223372036854775807)\",\"who\":0}\n{\"end\":\"done after 1\"}",
+        1,
+        &[],
+        RunErr::BadLog(0),
+    ),
+    (
+        FULL,
+        "{\"act\":\"tick(9223372036854775807)\",\"who\":0}\n{\"end\":\"done after 0\"}",
+        1,
+        &[],
+        RunErr::BadLog(0),
+    ),
+    (
+        COUNTER,
+        "{\"end\":\"done after 1\"}",
+        1,
+        &[],
+        RunErr::BadLog(0),
+    ),
+    (COUNTER, TICKED, 100_001, &[], RunErr::TooManyTurns),
+    (
+        COUNTER,
+        FAULTED,
+        100_001,
+        &["tick(5)"],
+        RunErr::TooManyTurns,
+    ),
+    (
+        COUNTER,
+        TICKED,
+        1,
+        &["reset", "tick(5)"],
+        RunErr::BadInput(1),
+    ),
+    (COUNTER, FAULTED, 1, &["tick(5)"], RunErr::BadInput(0)),
+    (
+        COUNTER,
+        BOTH,
+        100_000,
+        &["reset", "tick(5)"],
+        RunErr::BadInput(1),
+    ),
+];
+
+/// The log of this text.
+fn logged(rt: &impl Abort, alloc: Global, program: &Program, text: &str) -> Log {
+    let mut input = Counted::new(text.as_bytes());
+    read_log(alloc, program.types(), &mut input).expect(rt, "a log")
+}
+
+/// A source of words for each of the components, of which there are so many.
+fn seeded(alloc: Global, components: usize) -> Result<Vec<Seeded>, AllocError>
+    ensures { IfOk result (λ sources. length sources.items ≡ components) }
+{
+    let mut sources = Vec::new(alloc);
+    for who in 0..components {
+        sources.push(Seeded::new([0; 32], who as u64))?;
+    }
+    Ok(sources)
+}
+
+/// The run on one thread that goes on from the log.
+fn alone(
+    rt: &impl Abort,
+    alloc: Global,
+    program: &Program,
+    log: &Log,
+    turns: u64,
+    script: &[Action],
+) -> Result<Outcome, RunErr> {
+    let words = seeded(alloc, program.members().len()).expect(rt, "memory");
+    resume_alone(alloc, program, log, turns, words, script)
+}
+
+/// The run on threads that goes on from the log.
+fn on_threads<H: Abort + Threads + Wait + Sync>(
+    rt: &H,
+    alloc: Global,
+    program: &Program,
+    log: &Log,
+    turns: u64,
+    script: &[Action],
+) -> Result<Outcome, RunErr> {
+    let words = seeded(alloc, program.members().len()).expect(rt, "memory");
+    resume_threads(rt, alloc, program, log, turns, words, script, &OpenGate)
+}
+
+/// The log of what a run gives.
+fn log_of(outcome: Outcome) -> Log {
+    Log {
+        entries: outcome.log,
+        end: outcome.end,
+    }
+}
+
+fn expect_case(rt: &impl Abort, alloc: Global, case: &Case) {
+    let program = made::program(rt, alloc, case.source, None);
+    let log = logged(rt, alloc, &program, case.log);
+    let script = script(rt, alloc, program.types(), case.script);
+    let outcome = alone(rt, alloc, &program, &log, case.turns, &script).expect(rt, "a run");
+    let given = told_outcome(rt, alloc, program.types(), &outcome);
+    assert!(rt; given.as_str() == case.given, "{given}");
+    let reports = told_reports(rt, alloc, &outcome.reports);
+    assert!(rt; reports.as_str() == case.reports, "{reports}");
+    replay(alloc, &program, &log_of(outcome)).expect(rt, "a log of the program");
+}
+
+#[test]
+fn runs_go_on_from_logs(rt: HostRuntime) {
+    for case in &CASES {
+        expect_case(&rt, rt.alloc(), case);
+    }
+}
+
+/// Whether it is refused for this.
+fn is_refused(answer: Result<Outcome, RunErr>, error: RunErr) -> bool {
+    match answer {
+        Ok(_) => false,
+        Err(other) => other == error,
+    }
+}
+
+#[test]
+fn other_logs_are_refused(rt: HostRuntime) {
+    let alloc = rt.alloc();
+    for (source, text, turns, inputs, error) in &REFUSED {
+        let program = made::program(&rt, alloc, source, None);
+        let log = logged(&rt, alloc, &program, text);
+        let script = script(&rt, alloc, program.types(), inputs);
+        let answer = alone(&rt, alloc, &program, &log, *turns, &script);
+        assert!(rt; is_refused(answer, *error), "{text}");
+        let answer = on_threads(&rt, alloc, &program, &log, *turns, &script);
+        assert!(rt; is_refused(answer, *error), "{text}");
+    }
+}
+
+/// Goes on ten times for a turn, alone and on threads in turn.
+#[test]
+fn a_run_goes_on_ten_times(rt: HostRuntime) {
+    let alloc = rt.alloc();
+    let program = made::program(&rt, alloc, COUNTER, None);
+    let mut log = logged(&rt, alloc, &program, EMPTY);
+    for turn in 0..10 {
+        let answer = if turn % 2 == 0 {
+            alone(&rt, alloc, &program, &log, 1, &[])
+        } else {
+            on_threads(&rt, alloc, &program, &log, 1, &[])
+        };
+        let outcome = answer.expect(&rt, "a run");
+        let given = told_outcome(&rt, alloc, program.types(), &outcome);
+        let wanted = format!(in alloc; "state({}), done after {}", 6 + turn, 1 + turn);
+        assert!(rt;
+            given
+                .as_str()
+                .ends_with(wanted.expect(&rt, "memory").as_str()),
+            "{given}"
+        );
+        let reports = told_reports(&rt, alloc, &outcome.reports);
+        assert!(rt;
+            reports.as_str()
+                == "1 committed, 0 idle, 0 stale, TurnsDone; 0 committed, 1 idle, 0 stale, TurnsDone",
+            "{reports}"
+        );
+        log = log_of(outcome);
+    }
+}
+
+/// A room knows what was done before it.
+#[test]
+fn a_room_goes_on_from_a_log(rt: HostRuntime) {
+    let alloc = rt.alloc();
+    let program = made::program(&rt, alloc, COUNTER, None);
+    let log = logged(&rt, alloc, &program, TICKED);
+    let other = logged(&rt, alloc, &program, ANOTHERS);
+    let board = Board::resume(alloc, &program, &log).expect(&rt, "a board");
+    assert!(rt; board.history().len() == 3 && board.recorded().is_none());
+    let room = Room::resume(alloc, &program, &log, &[], 1).expect(&rt, "a room");
+    assert!(rt; room.is_of(&program, &[], 1, &log.entries));
+    assert!(rt; !room.is_of(&program, &[], 1, &log.entries[..2]));
+    assert!(rt; !room.is_of(&program, &[], 1, &other.entries));
+    assert!(rt; !room.is_of(&program, &[], 1, &[]));
+    let fresh = Room::start(alloc, &program, &[], 1).expect(&rt, "memory");
+    assert!(rt; fresh.is_of(&program, &[], 1, &[]) && !fresh.is_of(&program, &[], 1, &log.entries));
+}
+
+/// The actions of the log.
+fn actions(alloc: Global, entries: &[LogEntry]) -> Result<Vec<Action>, OutOfMemory> {
+    let mut actions = Vec::new(alloc);
+    for entry in entries {
+        actions.push(entry.action.try_copy(alloc)?)?;
+    }
+    Ok(actions)
+}
+
+/// Stenning's protocol goes on, and the whole log is accepted.
+#[test]
+fn the_protocol_goes_on(rt: HostRuntime) {
+    let alloc = rt.alloc();
+    let library = str::from_utf8(ioa_links::text()).expect(&rt, "a text");
+    let program = made::program(&rt, alloc, library, Some("Stenning"));
+    let words = seeded(alloc, program.members().len()).expect(&rt, "memory");
+    let first = run_threads(&rt, alloc, &program, 200, words, &[], &OpenGate);
+    let log = log_of(first.expect(&rt, "a run"));
+    let second = on_threads(&rt, alloc, &program, &log, 50, &[]).expect(&rt, "a run");
+    let whole = log_of(second);
+    assert!(rt; whole.entries.len() > log.entries.len());
+    replay(alloc, &program, &whole).expect(&rt, "a log of the program");
+    let fifo = made::program(&rt, alloc, library, Some("ReliableFifo"));
+    let actions = actions(alloc, &whole.entries).expect(&rt, "memory");
+    monitor(alloc, &fifo, &actions).expect(&rt, "an accepted log");
+}
+
+/// Without actions before it a run goes on as it begins.
+#[test]
+fn a_run_goes_on_from_nothing(rt: HostRuntime) {
+    let alloc = rt.alloc();
+    let library = str::from_utf8(ioa_links::text()).expect(&rt, "a text");
+    let program = made::program(&rt, alloc, library, Some("AltBit"));
+    let log = logged(&rt, alloc, &program, EMPTY);
+    let words = seeded(alloc, program.members().len()).expect(&rt, "memory");
+    let first = run_alone(alloc, &program, 100, words, &[]).expect(&rt, "a run");
+    let second = alone(&rt, alloc, &program, &log, 100, &[]).expect(&rt, "a run");
+    let told = told_outcome(&rt, alloc, program.types(), &first);
+    assert!(rt; told.as_str() == told_outcome(&rt, alloc, program.types(), &second).as_str());
+    let reports = told_reports(&rt, alloc, &first.reports);
+    assert!(rt; reports.as_str() == told_reports(&rt, alloc, &second.reports).as_str());
+}
