@@ -8,7 +8,7 @@ use Rattle.ioa_tree.specs.Runs.{done, not_an_action_at, not_enabled_at, fault_at
 use Rattle.ioa_account.specs.Accounts.{why}
 use Rattle.ioa_account.specs.Lines.{line_at, line_of_action}
 use Rattle.ioa_account.specs.Quoted.{end_of, goes_on}
-use Rattle.ioa_account.specs.Remarks.{all_performed, asked_text, known_text, other_fault}
+use Rattle.ioa_account.specs.Remarks.{all_performed, asked_text, broken_of, known_text, other_fault}
 
 -- a blank line, a comment, an action, a line of blanks, and another action
 list : List ℕ
@@ -93,6 +93,15 @@ none_known = refl
 asked : asked_text 1 4 ≡ codes "invariants asked: 1 in each of 4 states\n"
 unfolding digits
 asked = refl
+
+-- ---- an invariant that is broken
+
+false_there : broken_of (codes "in the first state") (codes "Left") None ≡ codes "in the first state an invariant of Left is broken:\n"
+false_there = refl
+
+faults_there : broken_of (codes "after this action") (codes "Left") (Some ZeroDivisor) ≡ codes "after this action an invariant of Left has fault 2: the divisor is 0\n"
+unfolding digits
+faults_there = refl
 
 -- ---- lines of a transition
 

@@ -2,6 +2,7 @@ mod Examples
 pub mod LineNumbers
 pub mod Counting
 pub mod Ending
+pub mod Faulting
 pub mod StateLines
 pub mod Telling
 pub mod Quoting

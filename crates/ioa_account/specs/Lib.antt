@@ -2,6 +2,7 @@ pub mod Lines
 pub mod States
 pub mod Counts
 pub mod Ends
+pub mod Faults
 pub mod Accounts
 pub mod Quoted
 pub mod Remarks

@@ -3,10 +3,13 @@ use Rattle.std.specs.Prelude.{◌≡◌, ◌⊎◌, ◌+◌, ◌-◌, ◌++◌, 
 use Rattle.std.specs.Fmt.{decimal}
 use Rattle.std.specs.List.{list_any}
 use Rattle.std.specs.Option.{option_map_or}
+use Rattle.ioa_arithmetic.specs.Arithmetic.{fault_number}
+use Rattle.ioa_arithmetic.specs.declared.arithmetic.Fault.{Fault}
 use Rattle.ioa_value.specs.Actions.{Act, Name}
 use Rattle.ioa_value.specs.Table.{Table}
 use Rattle.ioa_tree.specs.Components.{Component, has}
-use Rattle.ioa_tree.specs.Hosts.{Hosted, first_broken_host, host_instances, host_starts, hosts_of}
+use Rattle.ioa_tree.specs.Hosts.{HostState, Hosted, first_broken_host, host_instances, host_starts, hosts_of}
+use Rattle.ioa_tree.specs.Meaning.{Env}
 use Rattle.ioa_tree.specs.Invariants.{Broken}
 use Rattle.ioa_tree.specs.declared.tree.Invariant.{Invariant}
 use Rattle.ioa_tree.specs.Runs.{Ending, done, not_an_action_at, not_enabled_at, fault_at, run}
@@ -20,9 +23,10 @@ use Rattle.ioa_log.specs.Judging.{agrees, judged}
 use Rattle.ioa_log.specs.Monitoring.{IsHiding, monitored}
 use Rattle.ioa_account.specs.declared.ends.Account.{Account}
 use Rattle.ioa_account.specs.declared.remarks.Told.{Told}
-use Rattle.ioa_account.specs.Accounts.{IsAccount, TellsLine, action_text, name_at}
+use Rattle.ioa_account.specs.Accounts.{IsAccount, TellsLine, action_text, fault_words, name_at}
 use Rattle.ioa_account.specs.Counts.{asked_invariants, known_actions}
 use Rattle.ioa_account.specs.Ends.{index_in}
+use Rattle.ioa_account.specs.Faults.{invariant_fault}
 use Rattle.ioa_account.specs.Lines.{line_of_action}
 use Rattle.ioa_account.specs.Quoted.{line_text, transition_text}
 use Rattle.ioa_account.specs.States.{component_lines}
@@ -128,23 +132,36 @@ abbrev pub states_asked : Hosted → List Act → Option Broken → ℕ
 states_asked h acts None = (run (hosts_of h) acts (host_starts h)).performed + 1
 states_asked h acts (Some b) = b.state + 1
 
--- in which state an invariant of the component of this name is broken: in the first, or after an action of the log
-abbrev pub broken_after : Told → ℕ → Name → List ℕ
-broken_after t zero x = codes "in the first state an invariant of " ++ (x ++ codes " is broken:\n")
-broken_after t (suc n) x = log_line t n ++ (codes "after this action an invariant of " ++ (x ++ codes " is broken:\n"))
+-- an invariant of the component of this name is false then, or has this fault
+abbrev pub broken_of : List ℕ → Name → Option Fault → List ℕ
+broken_of when x None = when ++ (codes " an invariant of " ++ (x ++ codes " is broken:\n"))
+broken_of when x (Some f) = when ++ (codes " an invariant of " ++ (x ++ (codes " has fault " ++ (decimal (fault_number f) ++ (codes ": " ++ (fault_words f ++ codes "\n"))))))
+
+-- in which state it is so: in the first, or after an action of the log
+abbrev pub broken_after : Told → ℕ → Name → Option Fault → List ℕ
+broken_after t zero x f = broken_of (codes "in the first state") x f
+broken_after t (suc n) x f = log_line t n ++ broken_of (codes "after this action") x f
 
 -- the invariant of this number as it stands in the source
 abbrev pub invariant_text : Told → ℕ → List ℕ
 invariant_text t k = option_map_or (λ (v : Invariant). transition_text t.file.now t.source.now v.automaton.line) (slice_get t.composition.now.invariants k) []
 
--- the variables of the component that breaks it, in that state
-abbrev pub broken_state : Hosted → List Act → ℕ → ℕ → List ℕ
-broken_state h acts state i = component_lines h.types h.hosts (run (hosts_of h) (take state acts) (host_starts h)).states i
+-- the states of the hosts after so many of the actions
+abbrev pub states_before : Hosted → List Act → ℕ → List (HostState Env)
+states_before h acts count = (run (hosts_of h) (take count acts) (host_starts h)).states
+
+-- its fault there, if it has one, and the variables of the component that breaks it
+abbrev pub broken_fault : Hosted → List Act → Broken → Option Fault
+broken_fault h acts b = invariant_fault h (states_before h acts b.state) b.component b.invariant
+
+abbrev pub broken_state : Hosted → List Act → Broken → List ℕ
+broken_state h acts b = component_lines h.types h.hosts (states_before h acts b.state) b.component
 
 abbrev pub broken_text : Told → Hosted → List Act → Broken → List ℕ
-broken_text t h acts b = broken_after t b.state (name_at h.hosts b.component) ++ (invariant_text t b.invariant ++ broken_state h acts b.state b.component)
+broken_text t h acts b =
+    broken_after t b.state (name_at h.hosts b.component) (broken_fault h acts b) ++ (invariant_text t b.invariant ++ broken_state h acts b)
 
--- when and where it is broken, what it says, and in which state; where none is, how the log ends
+-- when and where it is broken, by which fault, if by one, what it says, and in which state; where none is, how the log ends
 abbrev pub TellsBroken : Told → Hosted → List Act → Option Broken → List ℕ → List ℕ → Type 0
 TellsBroken t h acts None before after = TellsEnd t (log_line t) acts before after
 TellsBroken t h acts (Some b) before after = after ≡ before ++ broken_text t h acts b

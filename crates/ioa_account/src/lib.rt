@@ -13,6 +13,7 @@ mod ends;
 mod states;
 
 // What is told of them.
+mod faults;
 mod objects;
 mod remarks;
 

@@ -4,27 +4,30 @@ ghost use Rattle.std.specs.Prelude.{◌≡◌, ◌+◌, ◌++◌, ◌&&◌, ◌=
 ghost use Rattle.std.specs.String.{string_bytes};
 ghost use Rattle.ioa_value.specs.Actions.{act_of};
 ghost use Rattle.ioa_tree.specs.Hosts.{Hosted, hosts_of};
+ghost use Rattle.ioa_tree.specs.Likes.{AllRelated};
 ghost use Rattle.ioa_compose.specs.Held.{composed_of};
-ghost use Rattle.ioa_compose.specs.Stands.{Stands};
+ghost use Rattle.ioa_compose.specs.Stands.{HoldsAt, Stands};
 ghost use Rattle.ioa_compile.specs.Means.{Means};
 ghost use Rattle.ioa_compile.specs.Tables.{tabled};
-ghost use Rattle.ioa_log.specs.Breaking.{broken_of};
+ghost use Rattle.ioa_log.specs.Breaking.{AreStates, broken_of};
 ghost use Rattle.ioa_system.specs.Logs as logs;
 ghost use Rattle.ioa_system.specs.Logs.{log_end, logged};
 ghost use Rattle.ioa_system.specs.Outcomes.{ending_of};
+ghost use Rattle.ioa_system.specs.Systems.{values_of};
 ghost use Rattle.ioa_account.specs.Remarks as spec;
 ghost use Rattle.ioa_account.specs.Remarks.{IsAccountOf, TellsDifference, TellsEnd, TellsInspected, TellsMonitored};
 
 use crate::counts::{asked_invariants, is_known, known_actions};
-use crate::ends::{Account, account_of, action_text, name_at};
+use crate::ends::{Account, account_of, action_text, fault_words, name_at};
+use crate::faults::invariant_fault;
 use crate::lines::line_of_action;
 use crate::quoted::{put_line, put_transition};
 use crate::states::put_component;
 use ioa_compile::{Program, compile};
 use ioa_compose::Composition;
 use ioa_log::{Broken, LogErr, MonitorErr, inspect, monitor};
-use ioa_system::{End, Log, LogEnd, LogEntry, run_list};
-use ioa_value::{Action, OutOfMemory, Types};
+use ioa_system::{End, Log, LogEnd, LogEntry, Run, run_list};
+use ioa_value::{Action, Fault, OutOfMemory, Types};
 use std::alloc::Global;
 use std::fmt::Write;
 
@@ -215,8 +218,8 @@ pub fn put_monitored(
     }
 }
 
-/// Puts behind the text how many invariants were asked in how many of a log's states; and of the first that is broken after which action it is, as it stands in
-/// the source, and the variables of its component, or else how the log ends. Of a log that is not of the composition's run nothing is told.
+/// Puts behind the text how many invariants were asked in how many of a log's states; and of the first that is broken after which action it is, its fault, where it has one,
+/// itself as it stands in the source, and the variables of its component, or else how the log ends. Of a log that is not of the composition's run nothing is told.
 pub fn put_inspected(
     alloc: Global,
     text: &mut String,
@@ -388,31 +391,49 @@ fn put_broken(
     ensures { OnOk result ((h : Hosted) → Stands h (composed_of told.now.composition.now)
         → string_bytes text.new ≡ string_bytes text.old ++ spec.broken_text told.now h (map act_of actions.now) (broken_of broken)) }
 {
+    let run = run_before(alloc, told.composition, actions, broken.state)?;
+    let fault = invariant_fault(
+        told.composition,
+        &run.states,
+        broken.component,
+        broken.invariant,
+    )?;
     let name = name_at(told.composition, broken.component);
-    put_broken_after(alloc, text, told, broken.state, name)?;
+    put_broken_after(alloc, text, told, broken.state, name, fault)?;
     put_invariant(alloc, text, told, broken.invariant)?;
-    put_broken_state(alloc, text, told, actions, broken)
+    put_component(text, told.composition, broken.component, &run.states)
 }
 
-/// Puts after how many of the log's actions an invariant of the component of this name is broken, with the last of these.
+/// The composition's run of the first so many actions.
+fn run_before(
+    alloc: Global,
+    composition: &Composition,
+    actions: &[Action],
+    count: usize,
+) -> Result<Run, OutOfMemory>
+    ensures states { IfOk result (λ r. AreStates (composed_of composition.now).members (values_of r.states.items)) }
+    ensures hosts { IfOk result (λ r. (h : Hosted) → Stands h (composed_of composition.now)
+        → AllRelated (HoldsAt h.hosts) 0 (spec.states_before h (map act_of actions.now) count) (values_of r.states.items)) }
+{
+    let program = compile(alloc, composition)?;
+    let before = count.min(actions.len());
+    run_list(alloc, &program, &actions[..before])
+}
+
+/// Puts after how many of the log's actions an invariant of the component of this name is broken, with the last of these; and its fault, where it has one.
 fn put_broken_after(
     alloc: Global,
     text: &mut String,
     told: &Told<'_>,
     state: usize,
     component: &str,
+    fault: Option<Fault>,
 ) -> Result<(), OutOfMemory>
-    ensures { OnOk result (string_bytes text.new ≡ string_bytes text.old ++ spec.broken_after told.now state component.now) }
+    ensures { OnOk result (string_bytes text.new ≡ string_bytes text.old ++ spec.broken_after told.now state component.now fault) }
 {
     match state.checked_sub(1) {
-        Some(last) => put_broken_behind(alloc, text, told, last, component),
-        None => {
-            writeln!(
-                text,
-                "in the first state an invariant of {component} is broken:"
-            )?;
-            Ok(())
-        }
+        Some(last) => put_broken_behind(alloc, text, told, last, component, fault),
+        None => put_broken_of(text, "in the first state", component, fault),
     }
 }
 
@@ -423,14 +444,34 @@ fn put_broken_behind(
     told: &Told<'_>,
     last: usize,
     component: &str,
+    fault: Option<Fault>,
 ) -> Result<(), OutOfMemory>
-    ensures { OnOk result (string_bytes text.new ≡ string_bytes text.old ++ spec.broken_after told.now (suc last) component.now) }
+    ensures { OnOk result (string_bytes text.new ≡ string_bytes text.old ++ spec.broken_after told.now (suc last) component.now fault) }
 {
     put_log_line(alloc, text, told, last)?;
-    writeln!(
-        text,
-        "after this action an invariant of {component} is broken:"
-    )?;
+    put_broken_of(text, "after this action", component, fault)
+}
+
+/// Puts when it is that an invariant of the component of this name is false, or which fault it has then.
+fn put_broken_of(
+    text: &mut String,
+    when: &str,
+    component: &str,
+    fault: Option<Fault>,
+) -> Result<(), OutOfMemory>
+    ensures { OnOk result (string_bytes text.new ≡ string_bytes text.old ++ spec.broken_of when.now component.now fault) }
+{
+    match fault {
+        None => writeln!(text, "{when} an invariant of {component} is broken:")?,
+        Some(fault) => {
+            let number = fault.number();
+            let words = fault_words(fault);
+            writeln!(
+                text,
+                "{when} an invariant of {component} has fault {number}: {words}"
+            )?;
+        }
+    }
     Ok(())
 }
 
@@ -450,23 +491,6 @@ fn put_invariant(
         }
         None => Ok(()),
     }
-}
-
-/// Puts the variables of the component that breaks an invariant, in the state in which it does.
-fn put_broken_state(
-    alloc: Global,
-    text: &mut String,
-    told: &Told<'_>,
-    actions: &[Action],
-    broken: Broken,
-) -> Result<(), OutOfMemory>
-    ensures { OnOk result ((h : Hosted) → Stands h (composed_of told.now.composition.now)
-        → string_bytes text.new ≡ string_bytes text.old ++ spec.broken_state h (map act_of actions.now) broken.state broken.component) }
-{
-    let program = compile(alloc, told.composition)?;
-    let before = broken.state.min(actions.len());
-    let run = run_list(alloc, &program, &actions[..before])?;
-    put_component(text, told.composition, broken.component, &run.states)
 }
 
 /// The actions of a log's entries.

@@ -9,9 +9,8 @@ use Rattle.ioa_value.specs.Table.{Table, contains}
 use Rattle.ioa_value.proofs.NameLemmas.{same_name, not_true}
 use Rattle.ioa_tree.specs.Names.{names_of_expr}
 use Rattle.ioa_tree.specs.Tree.{Expr, VariableTree}
-use Rattle.ioa_tree.specs.Meaning.{or_else, values_of, over}
+use Rattle.ioa_tree.specs.Meaning.{or_else, values_of, over, val}
 use Rattle.ioa_tree.specs.Instances.{Instance, formal_values, state_of}
-use Rattle.ioa_tree.specs.Invariants.{is_true, holds}
 use Rattle.ioa_tree.specs.WellFormed.{type_in, typed_field, context_of, held, is_some_of, has_ty}
 use Rattle.ioa_tree.proofs.Agreement.{val_same}
 use Rattle.ioa_tree.proofs.TypeAgreement.{type_same}
@@ -85,11 +84,11 @@ module _ (n : Instance) (d : ℕ) (added : list_all is_added (drop d n.automaton
           ∙ ap (λ o. or_else o (type_in behind x)) (types_front n.types n.automaton.variables d x added s)
           ∙ sym (in_both (context_of n.types (map (λ v. v.field) (take d n.automaton.variables))) behind x)
 
-  -- and it holds whatever the values of the others are
-  pub holds_front : (ws more : List Val) → length ws ≡ length (take d n.automaton.variables)
-      → holds n e (state_of (first_of d n.automaton) ws) ≡ holds n e (state_of n.automaton (ws ++ more))
-  holds_front ws more l =
-      ap is_true (val_same n.types spelled (over (state_of (first_of d n.automaton) ws) (formal_values n)) (over (state_of n.automaton (ws ++ more)) (formal_values n)) same e spells)
+  -- and it answers the same whatever the values of the others are
+  pub val_front : (ws more : List Val) → length ws ≡ length (take d n.automaton.variables)
+      → val n.types e (over (state_of (first_of d n.automaton) ws) (formal_values n)) ≡ val n.types e (over (state_of n.automaton (ws ++ more)) (formal_values n))
+  val_front ws more l =
+      val_same n.types spelled (over (state_of (first_of d n.automaton) ws) (formal_values n)) (over (state_of n.automaton (ws ++ more)) (formal_values n)) same e spells
     where
       same : (x : Name) → spelled x ≡ true → or_else (state_of (first_of d n.automaton) ws x) (formal_values n x) ≡ or_else (state_of n.automaton (ws ++ more) x) (formal_values n x)
       same x s = ap (λ o. or_else o (formal_values n x)) (sym (values_front n.automaton.variables d ws more x l added s))

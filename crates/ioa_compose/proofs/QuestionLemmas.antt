@@ -1,5 +1,5 @@
 -- What is asked of a composition, over what it holds.
-use Rattle.std.proofs.Common.{◌≡◌, ℕ, zero, suc, ◌<◌, length, get_or, All, Bool, true, List, [], ◌∷◌, ◌++◌, map, take, Some, Result, Ok, Err, IfOk, sym, subst, ◌∙◌}
+use Rattle.std.proofs.Common.{◌≡◌, ℕ, zero, suc, ◌<◌, length, get_or, All, true, List, [], ◌∷◌, ◌++◌, map, take, Some, Result, Ok, Err, IfOk, sym, ap, subst, ◌∙◌}
 use Rattle.std.specs.Prelude.{slice_get}
 use Rattle.std.specs.List.{list_all}
 use Rattle.std.specs.Str.{bytes_eq}
@@ -7,14 +7,15 @@ use Rattle.std.proofs.lemmas.Option.{slice_get_within}
 use Rattle.std.proofs.lemmas.List.{length-map}
 use Rattle.std.proofs.lemmas.List.Elements.{All-head, All-tail}
 use Rattle.ioa_value.specs.declared.memory.OutOfMemory.{OutOfMemory}
+use Rattle.ioa_value.specs.Operators.{Answer}
 use Rattle.ioa_value.specs.Plain.{Val}
 use Rattle.ioa_value.proofs.ItemLemmas.{at_map}
 use Rattle.ioa_tree.specs.declared.tree.Invariant.{Invariant}
 use Rattle.ioa_tree.specs.Tree.{InvariantTree}
 use Rattle.ioa_tree.specs.View.{invariant_of, automaton_of}
 use Rattle.ioa_tree.specs.Names.{names_of_expr}
-use Rattle.ioa_tree.specs.Instances.{Fit, state_of}
-use Rattle.ioa_tree.specs.Invariants.{holds}
+use Rattle.ioa_tree.specs.Instances.{Fit, formal_values, state_of}
+use Rattle.ioa_tree.specs.Meaning.{over, val}
 use Rattle.ioa_tree.specs.WellFormed.{variable_fields, held as held_names, has_ty}
 use Rattle.ioa_tree.specs.Compositions as compositions
 use Rattle.ioa_compose.specs.declared.member.Member.{Member}
@@ -23,7 +24,7 @@ use Rattle.ioa_compose.specs.Fine.{IsFine, IsSound, component_limits}
 use Rattle.ioa_compose.specs.Rewriting.{spelled}
 use Rattle.ioa_compose.specs.Questions.{OfThese, first_of, IsQuestion, IsAnswerable}
 use Rattle.ioa_compose.proofs.MemberLemmas.{fine_at, declared_at}
-use Rattle.ioa_compose.proofs.FirstVariables.{typed_front, holds_front}
+use Rattle.ioa_compose.proofs.FirstVariables.{typed_front, val_front}
 use Rattle.ioa_compose.proofs.RewrittenNames.{fit_length}
 
 -- a place that has an item is within the list
@@ -78,20 +79,20 @@ module _ (h : Held) (i k : ℕ) (values : List Val) (q : IsQuestion (composed_of
   }
 
   -- whatever the values of the variables behind them are
-  pub whatever : IsSound (composed_of h) → (r : Result Bool OutOfMemory)
-      → IfOk r (λ b. b ≡ holds (member_of m).instance (invariant_of v).condition (state_of (first_of m.declared (automaton_of m.automaton)) values))
-      → IfOk r (λ b. (more : List Val) → b ≡ holds (member_of m).instance (invariant_of v).condition (state_of (automaton_of m.automaton) (values ++ more)))
-  whatever s (Ok b) said = λ more. said ∙ holds_front (member_of m).instance m.declared (fine s).added (invariant_of v).condition (spells s) values more long
+  pub whatever : {X : Type 0} (f : Answer → X) → IsSound (composed_of h) → (r : Result X OutOfMemory)
+      → IfOk r (λ b. b ≡ f (val m.types (invariant_of v).condition (over (state_of (first_of m.declared (automaton_of m.automaton)) values) (formal_values (member_of m).instance))))
+      → IfOk r (λ b. (more : List Val) → b ≡ f (val m.types (invariant_of v).condition (over (state_of (automaton_of m.automaton) (values ++ more)) (formal_values (member_of m).instance))))
+  whatever f s (Ok b) said = λ more. said ∙ ap f (val_front (member_of m).instance m.declared (fine s).added (invariant_of v).condition (spells s) values more long)
     where
       long : length values ≡ length (take m.declared (automaton_of m.automaton).variables)
       long =
           sym (fit_length m.types (variable_fields (first_of m.declared (automaton_of m.automaton))) values fits)
           ∙ length-map (map (λ w. w.field) (take m.declared (automaton_of m.automaton).variables)) (λ f. f.name)
           ∙ length-map (take m.declared (automaton_of m.automaton).variables) (λ w. w.field)
-  whatever s (Err x) said = tt
+  whatever f s (Err x) said = tt
 
   -- what is said of the component and the invariant that are found
-  pub answers : (r : Result Bool OutOfMemory) (p : Bool → compositions.Member → InvariantTree → Type 0)
+  pub answers : {X : Type 0} (r : Result X OutOfMemory) (p : X → compositions.Member → InvariantTree → Type 0)
       → IfOk r (λ b. p b (member_of m) (invariant_of v)) → IfOk r (λ b. OfThese (composed_of h) i k (p b))
   answers (Ok b) p said = λ n w x y.
       let same : member_of m ≡ n = cc (member-there, x) in

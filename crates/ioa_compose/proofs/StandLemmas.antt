@@ -279,7 +279,7 @@ same_formals (Some n) p may e c s =
     ap is_true (val_same p.instance.types spelled (over s (formal_values (crashing n p.instance p.starts))) (over s (formal_values p.instance))
     (λ x k. ap (λ (u : Option Val). or_else (s x) u) (formals_same n p.instance p.starts may x k)) e c)
 
-none_spelled : (o : Option CrashTree) → list_all is_added (added_variables o) ≡ true
+pub none_spelled : (o : Option CrashTree) → list_all is_added (added_variables o) ≡ true
 none_spelled None = refl
 none_spelled (Some n) = refl
 
@@ -293,12 +293,12 @@ one_valued o p may e c values more l =
     ∙ values_before p.instance.automaton.variables (added_variables o) values more x l (none_spelled o) k)
 
 -- values of more names than there are
-first_values : (ns : List Name) (vs : List Val) (x : Name) → values_of ns (take (length ns) vs) x ≡ values_of ns vs x
+pub first_values : (ns : List Name) (vs : List Val) (x : Name) → values_of ns (take (length ns) vs) x ≡ values_of ns vs x
 first_values [] vs x = refl
 first_values (n ∷ ns) [] x = refl
 first_values (n ∷ ns) (v ∷ vs) x = ap (λ (o : Option Val). if bytes_eq n x then Some v else o) (first_values ns vs x)
 
-long_enough : (o : Option CrashTree) (n : ℕ) (up : Bool) (slots : List Val) → TellsUp o n up slots → length (take n slots) ≡ n
+pub long_enough : (o : Option CrashTree) (n : ℕ) (up : Bool) (slots : List Val) → TellsUp o n up slots → length (take n slots) ≡ n
 long_enough None n up slots t = let l : length slots ≡ n = t.0 in length-take-le n slots (omega arith)
 long_enough (Some c) n up slots t = let l : length slots ≡ n + 1 = t.0 in length-take-le n slots (omega arith)
 

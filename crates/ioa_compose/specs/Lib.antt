@@ -9,6 +9,7 @@ pub mod Operands
 pub mod Givens
 pub mod Scopes
 pub mod Questions
+pub mod Faults
 pub mod Rewriting
 pub mod Crashes
 pub mod Stands

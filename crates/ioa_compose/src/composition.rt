@@ -18,6 +18,7 @@ ghost use Rattle.ioa_compose.specs.Refusals.{IsRefused, TellsClash, reason_of};
 ghost use Rattle.ioa_tree.specs.Compositions.{picked};
 ghost use Rattle.ioa_tree.specs.Hosts.{Hosted, IsHosted};
 ghost use Rattle.ioa_compose.specs.Stands.{Stands};
+ghost use Rattle.ioa_compose.specs.Faults.{condition_fault};
 ghost use Rattle.ioa_compose.specs.Fine.{IsSound};
 ghost use Rattle.ioa_compose.specs.Held.{composed_of, AllHoldPositions};
 ghost use Rattle.ioa_compose.specs.Questions.{OfThese, IsQuestion};
@@ -25,14 +26,14 @@ ghost use Rattle.ioa_compose.specs.Questions.{OfThese, IsQuestion};
 use crate::binding::bind_all;
 use crate::compatibility::compatible;
 use crate::hidden::hidden_outputs;
-use crate::invariants::{declared_invariants, is_kept};
+use crate::invariants::{condition_fault, declared_invariants, is_kept};
 use crate::member::Member;
 use crate::picks;
 use crate::starts::start_all;
 use ioa_check::Checked;
 use ioa_syntax::Refusal;
 use ioa_tree::{Assembly, Declaration, Invariant};
-use ioa_value::{OutOfMemory, Types, Value};
+use ioa_value::{Fault, OutOfMemory, Types, Value};
 use std::alloc::Global;
 use std::marker::Model;
 
@@ -129,6 +130,26 @@ impl Composition {
         let member = &self.members[component];
         let condition = &self.invariants[invariant].condition;
         is_kept(*self.members.allocator(), member, condition, values)
+    }
+
+    /// The fault that the invariant, which is of the component's automaton, has where the first `declared` of the component's variables
+    /// have these values, whatever the others have. None where it has a value.
+    ///
+    /// # Errors
+    /// `OutOfMemory`.
+    pub fn fault_of(
+        &self,
+        component: usize,
+        invariant: usize,
+        values: &[Value],
+    ) -> Result<Option<Fault>, OutOfMemory>
+        requires asked { IsQuestion (composed_of self.now) component invariant (map plain values.now) }
+        ensures { IfOk result (λ f. OfThese (composed_of self.now) component invariant (λ m v. (more : List Val)
+            → f ≡ condition_fault m.instance.types m.instance v.condition (state_of m.instance.automaton (map plain values.now ++ more)))) }
+    {
+        let asked = &self.members[component];
+        let condition = &self.invariants[invariant].condition;
+        condition_fault(*self.members.allocator(), asked, condition, values)
     }
 }
 

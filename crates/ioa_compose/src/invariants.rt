@@ -7,6 +7,7 @@ ghost use Rattle.ioa_tree.specs.View.{tree_of, invariant_of, expr_of};
 ghost use Rattle.ioa_tree.specs.Compositions as spec;
 ghost use Rattle.ioa_tree.specs.Instances.{state_of};
 ghost use Rattle.ioa_tree.specs.Invariants as meaning;
+ghost use Rattle.ioa_compose.specs.Faults as faults;
 ghost use Rattle.ioa_compose.specs.Givens.{answer_in};
 ghost use Rattle.ioa_compose.specs.Held.{member_of};
 ghost use Rattle.ioa_compose.specs.Questions.{IsAnswerable, first_of};
@@ -48,6 +49,31 @@ pub(crate) fn is_kept(
 {
     let scope = Scope::of_state(member, values);
     Ok(is_true(evaluate(alloc, &scope, condition)?))
+}
+
+/// The fault that the condition has where the variables that the component's source declares have these values. None where it has a value.
+pub(crate) fn condition_fault(
+    alloc: Global,
+    member: &Member,
+    condition: &Expression,
+    values: &[Value],
+) -> Result<Option<Fault>, OutOfMemory>
+    requires { IsAnswerable (member_of member.now) (expr_of condition.now) (map plain values.now) }
+    ensures { let n = (member_of member.now).instance in IfOk result (λ f. f ≡ faults.condition_fault n.types n (expr_of condition.now) (state_of (first_of member.now.declared n.automaton) (map plain values.now))) }
+{
+    let scope = Scope::of_state(member, values);
+    let answer = evaluate(alloc, &scope, condition)?;
+    Ok(fault_of(&answer))
+}
+
+/// The fault that is answered, if one is.
+fn fault_of(answer: &Result<Given<'_>, Fault>) -> Option<Fault>
+    ensures { result ≡ faults.fault_of (answer_in answer.now) }
+{
+    match answer {
+        Ok(_) => None,
+        Err(fault) => Some(*fault),
+    }
 }
 
 /// Whether the value true is given. A fault is not.

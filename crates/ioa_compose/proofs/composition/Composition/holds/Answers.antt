@@ -20,5 +20,5 @@ returns c =
     let there = subst (λ (h : Held). c.index.result.now ≡ get_or h.invariants c.args.invariant c.index.result.now) c.self.view_is c.index.ensures in
     answers c.args.self.now c.args.component c.args.invariant (map plain c.args.values.now) c.requires.asked c.index-member.result.now c.index.result.now at there c.is_kept.result
     (λ b m v. (more : List Val) → b ≡ meaning.holds m.instance v.condition (state_of m.instance.automaton (map plain c.args.values.now ++ more)))
-    (whatever c.args.self.now c.args.component c.args.invariant (map plain c.args.values.now) c.requires.asked c.index-member.result.now c.index.result.now at there
+    (whatever c.args.self.now c.args.component c.args.invariant (map plain c.args.values.now) c.requires.asked c.index-member.result.now c.index.result.now at there meaning.is_true
     (subst (λ (h : Held). IsSound (composed_of h)) c.self.view_is c.self.invariant.sound) c.is_kept.result c.is_kept.ensures)
