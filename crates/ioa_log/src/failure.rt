@@ -14,7 +14,7 @@ pub enum LogErr {
     /// This line is the first of a list that is neither skipped nor the text of an action, or of a log that is neither an
     /// entry nor the end. Nothing was written.
     #[error("line {0} is no action")]
-    BadLine(u64),
+    BadEntry(u64),
     /// This line of a log has another worker than its action's.
     #[error("line {0} has another worker")]
     WrongOwner(u64),

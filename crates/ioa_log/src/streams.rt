@@ -24,7 +24,7 @@ pub(crate) fn feed_all<R: InputDevice>(
 ) -> Result<(), LogErr>
     requires { reading.old.count ≡ 0 }
     ensures ok { OnOk result (IfSome (R.remaining input.old) (λ bytes. (p : Prog) → HasSeen p [] reading.old → HasSeen p bytes reading.new)) }
-    ensures bad { (n : ℕ) → IsErrOf result (LogErr.BadLine n) → IfSome (R.remaining input.old) (λ bytes. (p : Prog) → HasSeen p [] reading.old → BadLine p.types bytes n) }
+    ensures bad { (n : ℕ) → IsErrOf result (LogErr.BadEntry n) → IfSome (R.remaining input.old) (λ bytes. (p : Prog) → HasSeen p [] reading.old → BadLine p.types bytes n) }
     ensures counted { OnOk result (min reading.new.count (2 ^ 64 - 1) ≤ R.given_count input.new) }
     ensures io { IsErrOf result LogErr.Io → HasFailed (R.failure_count input.old) (R.failure_count input.new) }
     ensures passed { (IsErrOf result LogErr.Io → ⊥) → R.failure_count input.new ≡ R.failure_count input.old }

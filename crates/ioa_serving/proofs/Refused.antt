@@ -73,10 +73,10 @@ err_as (Err w) y x z is of h =
 -- a list that is refused, or a device that failed
 pub list_failed : (text : List ℕ) (name : Option Name) (bytes : Option (List ℕ)) (failed : Type 0) (s : Subject) (types : Table) (x : LogErr) {T : Type 0}
     → Gives text name s → types ≡ its_types s → IsListErr x
-    → ((n : ℕ) → IsErrOf {T = T} (Err x) (LogErr.BadLine n) → IfSome bytes (λ xs. lists.BadLine types xs n))
+    → ((n : ℕ) → IsErrOf {T = T} (Err x) (LogErr.BadEntry n) → IfSome bytes (λ xs. lists.BadLine types xs n))
     → (IsErrOf {T = T} (Err x) LogErr.Io → failed)
     → IsFailure text name bytes failed (Failure.List x)
-list_failed text name bytes failed s types (LogErr.BadLine n) of same only bad io = (s, of, subst (λ ts. IfSome bytes (λ xs. lists.BadLine ts xs n)) same (bad n refl))
+list_failed text name bytes failed s types (LogErr.BadEntry n) of same only bad io = (s, of, subst (λ ts. IfSome bytes (λ xs. lists.BadLine ts xs n)) same (bad n refl))
 list_failed text name bytes failed s types LogErr.Io of same only bad io = (s, of, io refl)
 list_failed text name bytes failed s types LogErr.OutOfMemory of same only bad io = tt
 list_failed text name bytes failed s types (LogErr.NotJson n) of same only bad io = absurd only
@@ -88,7 +88,7 @@ list_failed text name bytes failed s types LogErr.AfterEnd of same only bad io =
 -- why a log is not read
 abbrev pub IsUnread : Table → Option (List ℕ) → Type 0 → LogErr → Type 0
 IsUnread types bytes failed (LogErr.NotJson n) = IfSome bytes (λ xs. NotJsonAt types xs n)
-IsUnread types bytes failed (LogErr.BadLine n) = IfSome bytes (λ xs. NoEntryAt types xs n)
+IsUnread types bytes failed (LogErr.BadEntry n) = IfSome bytes (λ xs. NoEntryAt types xs n)
 IsUnread types bytes failed (LogErr.WrongOwner n) = ⊥
 IsUnread types bytes failed (LogErr.Diverges n) = ⊥
 IsUnread types bytes failed LogErr.NoEnd = IfSome bytes (HasNoEnd types)
@@ -98,13 +98,13 @@ IsUnread types bytes failed LogErr.OutOfMemory = Unit {0}
 
 pub unread : (types : Table) (bytes : Option (List ℕ)) (failed : Type 0) (x : LogErr) {T : Type 0} → IsTextErr x
     → ((n : ℕ) → IsErrOf {T = T} (Err x) (LogErr.NotJson n) → IfSome bytes (λ xs. NotJsonAt types xs n))
-    → ((n : ℕ) → IsErrOf {T = T} (Err x) (LogErr.BadLine n) → IfSome bytes (λ xs. NoEntryAt types xs n))
+    → ((n : ℕ) → IsErrOf {T = T} (Err x) (LogErr.BadEntry n) → IfSome bytes (λ xs. NoEntryAt types xs n))
     → (IsErrOf {T = T} (Err x) LogErr.AfterEnd → IfSome bytes (λ xs. (n : ℕ) × GoesOnAt types xs n))
     → (IsErrOf {T = T} (Err x) LogErr.NoEnd → IfSome bytes (HasNoEnd types))
     → (IsErrOf {T = T} (Err x) LogErr.Io → failed)
     → IsUnread types bytes failed x
 unread types bytes failed (LogErr.NotJson n) only not_json bad after no_end io = not_json n refl
-unread types bytes failed (LogErr.BadLine n) only not_json bad after no_end io = bad n refl
+unread types bytes failed (LogErr.BadEntry n) only not_json bad after no_end io = bad n refl
 unread types bytes failed LogErr.NoEnd only not_json bad after no_end io = no_end refl
 unread types bytes failed LogErr.AfterEnd only not_json bad after no_end io = after refl
 unread types bytes failed LogErr.Io only not_json bad after no_end io = io refl
@@ -118,7 +118,7 @@ log_unread text name bytes failed s types x of same u = go x (subst (λ ts. IsUn
   where
     go : (x : LogErr) → IsUnread (its_types s) bytes failed x → IsLogFailure text name bytes failed (Failure.List x)
     go (LogErr.NotJson n) u = (s, of, u)
-    go (LogErr.BadLine n) u = (s, of, u)
+    go (LogErr.BadEntry n) u = (s, of, u)
     go LogErr.NoEnd u = (s, of, u)
     go LogErr.AfterEnd u = (s, of, u)
     go LogErr.Io u = (s, of, u)
@@ -132,7 +132,7 @@ monitor_unread text name bytes failed s types x of same seen u = go x (subst (λ
   where
     go : (x : LogErr) → IsUnread (its_types s) bytes failed x → IsMonitorFailure text name bytes failed (Failure.List x)
     go (LogErr.NotJson n) u = (s, of, seen, u)
-    go (LogErr.BadLine n) u = (s, of, seen, u)
+    go (LogErr.BadEntry n) u = (s, of, seen, u)
     go LogErr.NoEnd u = (s, of, seen, u)
     go LogErr.AfterEnd u = (s, of, seen, u)
     go LogErr.Io u = (s, of, seen, u)
@@ -152,7 +152,7 @@ log_judged text name bytes failed s log (LogErr.Diverges n) of reads only owner 
     (s, of, IfSome_then bytes reads (λ xs r. (log, r, diverging n refl)))
 log_judged text name bytes failed s log LogErr.OutOfMemory of reads only owner diverging = tt
 log_judged text name bytes failed s log (LogErr.NotJson n) of reads only owner diverging = absurd only
-log_judged text name bytes failed s log (LogErr.BadLine n) of reads only owner diverging = absurd only
+log_judged text name bytes failed s log (LogErr.BadEntry n) of reads only owner diverging = absurd only
 log_judged text name bytes failed s log LogErr.NoEnd of reads only owner diverging = absurd only
 log_judged text name bytes failed s log LogErr.AfterEnd of reads only owner diverging = absurd only
 log_judged text name bytes failed s log LogErr.Io of reads only owner diverging = absurd only
@@ -161,11 +161,11 @@ log_judged text name bytes failed s log LogErr.Io of reads only owner diverging 
 pub list_unwritten : (text : List ℕ) (name : Option Name) (bytes before after : Option (List ℕ)) (begins : Option (List ℕ) → Option (List ℕ) → Subject → List ℕ → Type 0)
     (s : Subject) (x : LogErr) {T : Type 0}
     → Gives text name s → IsListErr x
-    → ((n : ℕ) → IsErrOf {T = T} (Err x) (LogErr.BadLine n) → Keeps before after)
+    → ((n : ℕ) → IsErrOf {T = T} (Err x) (LogErr.BadEntry n) → Keeps before after)
     → (IsErrOf {T = T} (Err x) LogErr.OutOfMemory → Keeps before after)
     → (IsErrOf {T = T} (Err x) LogErr.Io → Keeps before after ⊎ IfSome bytes (begins before after s))
     → IsUnwritten (λ b a. Given text name bytes (begins b a)) before after (Failure.List x)
-list_unwritten text name bytes before after begins s (LogErr.BadLine n) of only bad memory io = bad n refl
+list_unwritten text name bytes before after begins s (LogErr.BadEntry n) of only bad memory io = bad n refl
 list_unwritten text name bytes before after begins s LogErr.OutOfMemory of only bad memory io = memory refl
 list_unwritten text name bytes before after begins s LogErr.Io of only bad memory io = elim (io refl) [ inl k ↦ inl k | inr k ↦ inr (s, of, k) ]
 list_unwritten text name bytes before after begins s (LogErr.NotJson n) of only bad memory io = absurd only

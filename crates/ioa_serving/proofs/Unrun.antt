@@ -60,7 +60,7 @@ module _ (holds : Name → List ℕ → Type 0) (lacks : Name → Type 0) where
   -- there is no script
   pub scriptless : (s : Settings) (x : Subject) (own : Table) (e : Failure) → MayGive holds s x → HasWords holds s.words (length (its_names x)) → own ≡ its_types x
       → IsScriptless holds lacks own (option_copied s.inputs) e → IsUnrun holds lacks s e
-  scriptless s x own (Failure.List (LogErr.BadLine n)) d w same k =
+  scriptless s x own (Failure.List (LogErr.BadEntry n)) d w same k =
       (x, d, w, subst (λ ts. HasBadLine holds ts (option_copied s.inputs) n) same k)
   scriptless s x own Failure.Io d w same k = inr (x, d, inr (w, k))
   scriptless s x own Failure.OutOfMemory d w same k = tt

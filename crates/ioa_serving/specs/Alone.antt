@@ -209,7 +209,7 @@ IsWordless holds lacks from workers (Failure.BadLog i) = ⊥
 IsWordless holds lacks from workers Failure.EndedByFault = ⊥
 
 abbrev pub IsScriptless : (Name → List ℕ → Type 0) → (Name → Type 0) → Table → Option Name → Failure → Type 0
-IsScriptless holds lacks types file (Failure.List (LogErr.BadLine n)) = HasBadLine holds types file n
+IsScriptless holds lacks types file (Failure.List (LogErr.BadEntry n)) = HasBadLine holds types file n
 IsScriptless holds lacks types file Failure.Io = LacksScript lacks file
 IsScriptless holds lacks types file Failure.OutOfMemory = Unit {0}
 IsScriptless holds lacks types file (Failure.List (LogErr.NotJson n)) = ⊥
@@ -245,7 +245,7 @@ IsUnrun holds lacks s (Failure.Refused r) = (text : List ℕ) × holds s.file.no
 IsUnrun holds lacks s (Failure.Object e) = (text : List ℕ) × holds s.file.now text × IsNoObject text e
 IsUnrun holds lacks s Failure.SourceWanted = ⊥
 IsUnrun holds lacks s (Failure.BadWords n) = (x : Subject) × MayGive holds s x × HasBadWords holds s.words (length (its_names x)) n
-IsUnrun holds lacks s (Failure.List (LogErr.BadLine n)) =
+IsUnrun holds lacks s (Failure.List (LogErr.BadEntry n)) =
     (x : Subject) × MayGive holds s x × HasWords holds s.words (length (its_names x)) × HasBadLine holds (its_types x) (option_copied s.inputs) n
 IsUnrun holds lacks s Failure.TooManyTurns = (x : Subject) × (script : List Act) × IsReady holds s x script × (most_turns < s.turns)
 IsUnrun holds lacks s (Failure.BadInput i) =

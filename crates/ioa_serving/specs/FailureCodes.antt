@@ -37,7 +37,7 @@ object_code ObjErr.OutOfMemory = Code.Memory
 
 abbrev pub log_code : LogErr → Code
 log_code (LogErr.NotJson line) = Code.L1
-log_code (LogErr.BadLine line) = Code.L2
+log_code (LogErr.BadEntry line) = Code.L2
 log_code (LogErr.WrongOwner line) = Code.L3
 log_code (LogErr.Diverges line) = Code.L4
 log_code LogErr.NoEnd = Code.L5

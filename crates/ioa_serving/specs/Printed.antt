@@ -47,7 +47,7 @@ object_details ObjErr.OutOfMemory = []
 
 abbrev pub log_details : LogErr → List ℕ
 log_details (LogErr.NotJson line) = on_line line
-log_details (LogErr.BadLine line) = on_line line
+log_details (LogErr.BadEntry line) = on_line line
 log_details (LogErr.WrongOwner line) = on_line line
 log_details (LogErr.Diverges line) = on_line line
 log_details LogErr.NoEnd = []

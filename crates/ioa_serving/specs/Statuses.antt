@@ -68,7 +68,7 @@ object_status ObjErr.OutOfMemory = Status.Unable
 -- of a list or a log that is refused
 abbrev pub log_status : LogErr → Status
 log_status (LogErr.NotJson line) = Status.NotAccepted
-log_status (LogErr.BadLine line) = Status.NotAccepted
+log_status (LogErr.BadEntry line) = Status.NotAccepted
 log_status (LogErr.WrongOwner line) = Status.NotAccepted
 log_status (LogErr.Diverges line) = Status.NotAccepted
 log_status LogErr.NoEnd = Status.NotAccepted

@@ -100,7 +100,7 @@ fn log_code(error: LogErr) -> Code
 {
     match error {
         LogErr::NotJson(_) => Code::L1,
-        LogErr::BadLine(_) => Code::L2,
+        LogErr::BadEntry(_) => Code::L2,
         LogErr::WrongOwner(_) => Code::L3,
         LogErr::Diverges(_) => Code::L4,
         LogErr::NoEnd => Code::L5,
@@ -116,7 +116,7 @@ fn log_status(error: LogErr) -> Status
 {
     match error {
         LogErr::NotJson(_)
-        | LogErr::BadLine(_)
+        | LogErr::BadEntry(_)
         | LogErr::WrongOwner(_)
         | LogErr::Diverges(_)
         | LogErr::NoEnd
@@ -144,7 +144,7 @@ impl fmt::Display for Failure {
             }
             Failure::List(
                 LogErr::NotJson(line)
-                | LogErr::BadLine(line)
+                | LogErr::BadEntry(line)
                 | LogErr::WrongOwner(line)
                 | LogErr::Diverges(line),
             ) => write!(f, "{code} line {line}"),

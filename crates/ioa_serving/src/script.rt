@@ -30,6 +30,6 @@ pub fn load_script<F: Store>(
     let text = store.load_whole(alloc, name)?;
     match read_list(alloc, types, text.as_slice())? {
         Ok(actions) => Ok(actions),
-        Err(line) => Err(Failure::List(LogErr::BadLine(line))),
+        Err(line) => Err(Failure::List(LogErr::BadEntry(line))),
     }
 }

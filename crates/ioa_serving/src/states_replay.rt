@@ -96,7 +96,7 @@ fn reached<R: InputDevice>(
 ) -> Result<(String, End), LogErr>
     ensures reaches { IfOk result (λ told. (h : Hosted) → Stands h (composed_of composition.now)
         → IfSome (R.remaining input.old) (λ bytes. Reaches h bytes (ending_of told.1) (string_bytes told.0))) }
-    ensures bad { (n : ℕ) → IsErrOf result (LogErr.BadLine n) → IfSome (R.remaining input.old) (λ bytes. BadLine composition.now.types bytes n) }
+    ensures bad { (n : ℕ) → IsErrOf result (LogErr.BadEntry n) → IfSome (R.remaining input.old) (λ bytes. BadLine composition.now.types bytes n) }
     ensures io { IsErrOf result LogErr.Io → HasFailed (R.failure_count input.old) (R.failure_count input.new) }
     ensures passed { (IsErrOf result LogErr.Io → ⊥) → R.failure_count input.new ≡ R.failure_count input.old }
     ensures only { IfErr result IsListErr }

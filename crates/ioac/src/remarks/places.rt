@@ -30,7 +30,7 @@ pub fn place_of(failure: &Failure) -> Place {
         Failure::Refused(refusal) => place_of_refusal(refusal),
         Failure::List(
             LogErr::NotJson(line)
-            | LogErr::BadLine(line)
+            | LogErr::BadEntry(line)
             | LogErr::WrongOwner(line)
             | LogErr::Diverges(line),
         ) => Place::Input(*line as usize),

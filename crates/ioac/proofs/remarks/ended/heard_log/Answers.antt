@@ -9,10 +9,10 @@ returns-in-Err-NotJson c =
     let said = c.in-Err-NotJson.ensures.not_json n (ap Err c.in-Err-NotJson.field-0-is) in
     record { log = tt; none = λ _. inl (n, inl (subst (λ d. NotJsonAt c.args.types.now d.inner.now n) c.new-device.ensures said)) }
 
-pub returns-in-Err-BadLine : goal.returns-in-Err-BadLine
-returns-in-Err-BadLine c =
-    let n = c.in-Err-BadLine.field-0-0 in
-    let said = c.in-Err-BadLine.ensures.bad n (ap Err c.in-Err-BadLine.field-0-is) in
+pub returns-in-Err-BadEntry : goal.returns-in-Err-BadEntry
+returns-in-Err-BadEntry c =
+    let n = c.in-Err-BadEntry.field-0-0 in
+    let said = c.in-Err-BadEntry.ensures.bad n (ap Err c.in-Err-BadEntry.field-0-is) in
     record { log = tt; none = λ _. inl (n, inr (inl (subst (λ d. NoEntryAt c.args.types.now d.inner.now n) c.new-device.ensures said))) }
 
 pub returns-in-Err-NoEnd : goal.returns-in-Err-NoEnd
