@@ -5,7 +5,7 @@ ghost use Rattle.std.specs.Result.{is_err, result_ok};
 ghost use Rattle.std.specs.Io.KnownBytes.{Keeps, ReadConsumes, WriteAppends};
 ghost use Rattle.std.specs.Io.{ReadsAtMost, WritesAtMost};
 ghost use Rattle.ioa_log.specs.Counts.{moved, has_failed, least_taken, count_after, given_after};
-ghost use Rattle.ioa_log.specs.Failing.{HasFailed, TakesSome};
+ghost use Rattle.ioa_log.specs.Failing.{FailedOnceAtMost, HasFailed, TakesSome};
 
 use crate::device::{Device, Failed, InputDevice, OutputDevice};
 use std::io;
@@ -42,6 +42,7 @@ impl<T> Counted<T> {
         ensures count { self.new.failures ≡ count_after failed self.old.failures }
         ensures failed { failed ≡ true → HasFailed self.old.failures self.new.failures }
         ensures counts { self.old.failures ≤ self.new.failures }
+        ensures once { FailedOnceAtMost self.old.failures self.new.failures }
         ensures given { self.new.given ≡ self.old.given }
     {
         if failed {
@@ -112,6 +113,7 @@ impl<T: Read> InputDevice for Counted<T> {
         ensures failed { OnErr result (HasFailed self.old.failures self.new.failures) }
         ensures passed { OnOk result (self.new.failures ≡ self.old.failures) }
         ensures counts { self.old.failures ≤ self.new.failures }
+        ensures once { FailedOnceAtMost self.old.failures self.new.failures }
         ensures count { self.new.failures ≡ count_after (is_err result) self.old.failures }
     {
         let answer = told(&self.inner.read(piece), 0);
@@ -124,6 +126,7 @@ impl<T: Read> InputDevice for Counted<T> {
         requires { 2 ^ 64 - 1 ≤ self.old.given }
         ensures failed { HasFailed self.old.failures self.new.failures }
         ensures counts { self.old.failures ≤ self.new.failures }
+        ensures once { FailedOnceAtMost self.old.failures self.new.failures }
         ensures inner { self.new.inner ≡ self.old.inner }
         ensures given { self.new.given ≡ self.old.given }
         ensures count { self.new.failures ≡ count_after true self.old.failures }
@@ -163,6 +166,7 @@ impl<T: Write> OutputDevice for Counted<T> {
         ensures failed { OnErr result (HasFailed self.old.failures self.new.failures) }
         ensures passed { OnOk result (self.new.failures ≡ self.old.failures) }
         ensures counts { self.old.failures ≤ self.new.failures }
+        ensures once { FailedOnceAtMost self.old.failures self.new.failures }
         ensures count { self.new.failures ≡ count_after (is_err result) self.old.failures }
     {
         let answer = told(&self.inner.write(piece), least_taken_of(piece));

@@ -4,7 +4,7 @@ ghost use Rattle.std.specs.Prelude.{◌≡◌, ◌≤◌, ◌-◌, ◌^◌, ℕ,
 ghost use Rattle.std.specs.Io.KnownBytes.{ReadConsumes, WriteAppends};
 ghost use Rattle.std.specs.Io.{ReadsAtMost, WritesAtMost};
 ghost use Rattle.ioa_log.specs.Counts.{given_after};
-ghost use Rattle.ioa_log.specs.Failing.{HasFailed, TakesSome};
+ghost use Rattle.ioa_log.specs.Failing.{FailedOnceAtMost, HasFailed, TakesSome};
 
 use std::io::{Read, Write};
 
@@ -32,14 +32,16 @@ pub trait InputDevice: Read + Device {
         ensures given { given_count self.new ≡ given_after result (given_count self.old) }
         ensures failed { OnErr result (HasFailed (Self.failure_count self.old) (Self.failure_count self.new)) }
         ensures passed { OnOk result (Self.failure_count self.new ≡ Self.failure_count self.old) }
-        ensures counts { Self.failure_count self.old ≤ Self.failure_count self.new };
+        ensures counts { Self.failure_count self.old ≤ Self.failure_count self.new }
+        ensures once { FailedOnceAtMost (Self.failure_count self.old) (Self.failure_count self.new) };
 
     /// Counts as failed a reader that goes on past what can be counted: it gave the greatest count of bytes, so that its reads, or the
     /// lines that it gave, may have no number any more.
     fn refuse(&mut self)
         requires { 2 ^ 64 - 1 ≤ given_count self.old }
         ensures failed { HasFailed (Self.failure_count self.old) (Self.failure_count self.new) }
-        ensures counts { Self.failure_count self.old ≤ Self.failure_count self.new };
+        ensures counts { Self.failure_count self.old ≤ Self.failure_count self.new }
+        ensures once { FailedOnceAtMost (Self.failure_count self.old) (Self.failure_count self.new) };
 }
 
 /// A writer whose failures are counted, a write that takes nothing of a piece among them.
@@ -51,5 +53,6 @@ pub trait OutputDevice: Write + Device {
         ensures bytes { WriteAppends (Self.contents self.old) (Self.contents self.new) result piece.now }
         ensures failed { OnErr result (HasFailed (Self.failure_count self.old) (Self.failure_count self.new)) }
         ensures passed { OnOk result (Self.failure_count self.new ≡ Self.failure_count self.old) }
-        ensures counts { Self.failure_count self.old ≤ Self.failure_count self.new };
+        ensures counts { Self.failure_count self.old ≤ Self.failure_count self.new }
+        ensures once { FailedOnceAtMost (Self.failure_count self.old) (Self.failure_count self.new) };
 }

@@ -4,7 +4,7 @@ ghost use Rattle.std.specs.Prelude.{◌≡◌, ◌≤◌, ◌-◌, ◌^◌, ◌�
 ghost use Rattle.std.specs.Io.KnownBytes.{Appends};
 ghost use Rattle.ioa_value.specs.Lists.{BadLine};
 ghost use Rattle.ioa_compile.specs.Programs.{Prog};
-ghost use Rattle.ioa_log.specs.Failing.{HasFailed, IsListErr};
+ghost use Rattle.ioa_log.specs.Failing.{FailedOnceAtMost, HasFailed, IsListErr};
 ghost use Rattle.ioa_log.specs.Readings.{HasSeen};
 ghost use Rattle.ioa_log.specs.declared.failure.LogErr.{LogErr};
 
@@ -28,6 +28,7 @@ pub(crate) fn feed_all<R: InputDevice>(
     ensures counted { OnOk result (min reading.new.count (2 ^ 64 - 1) ≤ R.given_count input.new) }
     ensures io { IsErrOf result LogErr.Io → HasFailed (R.failure_count input.old) (R.failure_count input.new) }
     ensures passed { (IsErrOf result LogErr.Io → ⊥) → R.failure_count input.new ≡ R.failure_count input.old }
+    ensures once { FailedOnceAtMost (R.failure_count input.old) (R.failure_count input.new) }
     ensures only { IfErr result IsListErr }
 {
     let mut room = vec![in alloc; 0u8; PIECE]?;
@@ -50,6 +51,7 @@ pub(crate) fn read_all<R: InputDevice>(alloc: Global, input: &mut R) -> Result<V
     ensures ok { IfOk result (λ text. IfSome (R.remaining input.old) (λ bytes. text.items ≡ bytes)) }
     ensures io { IsErrOf result LogErr.Io → HasFailed (R.failure_count input.old) (R.failure_count input.new) }
     ensures passed { (IsErrOf result LogErr.Io → ⊥) → R.failure_count input.new ≡ R.failure_count input.old }
+    ensures once { FailedOnceAtMost (R.failure_count input.old) (R.failure_count input.new) }
     ensures only { IfErr result (λ e. (e ≡ LogErr.Io) ⊎ (e ≡ LogErr.OutOfMemory)) }
 {
     let mut text = Vec::new(alloc);
@@ -70,6 +72,7 @@ pub(crate) fn blamed<R: InputDevice>(input: &mut R, error: LogErr) -> LogErr
     ensures same { result ≡ error }
     ensures failed { error ≡ LogErr.Io → HasFailed (R.failure_count input.old) (R.failure_count input.new) }
     ensures passed { (error ≡ LogErr.Io → ⊥) → R.failure_count input.new ≡ R.failure_count input.old }
+    ensures once { FailedOnceAtMost (R.failure_count input.old) (R.failure_count input.new) }
 {
     if error == LogErr::Io {
         input.refuse();
@@ -85,6 +88,7 @@ pub fn send_all<W: OutputDevice>(output: &mut W, text: &[u8]) -> Result<(), LogE
     ensures ok { OnOk result (Appends (W.contents output.old) (W.contents output.new) text.now) }
     ensures io { IfErr result (λ e. (e ≡ LogErr.Io) × HasFailed (W.failure_count output.old) (W.failure_count output.new)) }
     ensures passed { OnOk result (W.failure_count output.new ≡ W.failure_count output.old) }
+    ensures once { FailedOnceAtMost (W.failure_count output.old) (W.failure_count output.new) }
     ensures counts { W.failure_count output.old ≤ W.failure_count output.new }
     ensures begun { OnErr result ((k : ℕ) × Appends (W.contents output.old) (W.contents output.new) (take k text.now)) }
 {

@@ -2,7 +2,7 @@
 
 ghost use Rattle.std.specs.Prelude.{◌≡◌, ◌∷◌, [], All, List, Some, OnOk, IfErr, IsErrOf};
 ghost use Rattle.ioa_log.specs.declared.failure.LogErr.{LogErr};
-ghost use Rattle.ioa_log.specs.Failing.{HasFailed};
+ghost use Rattle.ioa_log.specs.Failing.{FailedOnceAtMost, HasFailed};
 ghost use Rattle.ioa_tree.specs.Compositions.{compositions};
 ghost use Rattle.ioa_tree.specs.Tree.{CompositionTree};
 ghost use Rattle.ioa_tree.specs.View.{declaration_of, tree_of};
@@ -36,6 +36,7 @@ pub fn check_text<W: OutputDevice>(
     ensures refused { IfErr result (λ e. IsCheckFailure text.now compositions (HasFailed (W.failure_count output.old) (W.failure_count output.new)) e) }
     ensures unwritten { IfErr result (λ e. IsUnchecked (W.contents output.old) (W.contents output.new) e) }
     ensures passed { (IsErrOf result (Failure.List LogErr.Io) → ⊥) → W.failure_count output.new ≡ W.failure_count output.old }
+    ensures once { FailedOnceAtMost (W.failure_count output.old) (W.failure_count output.new) }
 {
     accept(alloc, text, compositions)?;
     send_all(output, b"ok\n")?;

@@ -2,7 +2,7 @@
 
 ghost use Rattle.std.specs.Prelude.{◌≡◌, OnOk, IfErr, IsErrOf};
 ghost use Rattle.ioa_log.specs.declared.failure.LogErr.{LogErr};
-ghost use Rattle.ioa_log.specs.Failing.{HasFailed};
+ghost use Rattle.ioa_log.specs.Failing.{FailedOnceAtMost, HasFailed};
 ghost use Rattle.ioa_serving.specs.Explaining.{IsExplained, IsUnexplained};
 
 use crate::failure::Failure;
@@ -21,6 +21,7 @@ pub fn explain<W: OutputDevice>(alloc: Global, topic: Topic, output: &mut W) -> 
     ensures refused { IfErr result (λ e. IsUnexplained topic (HasFailed (W.failure_count output.old) (W.failure_count output.new))
         (W.contents output.old) (W.contents output.new) e) }
     ensures passed { (IsErrOf result (Failure.List LogErr.Io) → ⊥) → W.failure_count output.new ≡ W.failure_count output.old }
+    ensures once { FailedOnceAtMost (W.failure_count output.old) (W.failure_count output.new) }
 {
     let explanation = explanation(topic);
     let text = format!(in alloc; "{explanation}")?;

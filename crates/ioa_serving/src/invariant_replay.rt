@@ -9,7 +9,7 @@ ghost use Rattle.ioa_compose.specs.Stands.{Stands};
 ghost use Rattle.ioa_system.specs.Logs.{logged};
 ghost use Rattle.ioa_log.specs.declared.failure.LogErr.{LogErr};
 ghost use Rattle.ioa_log.specs.Breaking.{broken_of};
-ghost use Rattle.ioa_log.specs.Failing.{HasFailed};
+ghost use Rattle.ioa_log.specs.Failing.{FailedOnceAtMost, HasFailed};
 ghost use Rattle.ioa_log.specs.Judging.{IsReplayErr, agrees, diverges, judged, wrong_owner};
 ghost use Rattle.ioa_serving.specs.Failing.{BeginsFoundOf, IsInvariantFailure, IsUnwritten};
 ghost use Rattle.ioa_serving.specs.Headline.{IsInvariantReplay};
@@ -56,6 +56,7 @@ pub fn replay_invariants_text<R: InputDevice, W: OutputDevice>(
         (W.contents output.old) (W.contents output.new) e) }
     ensures passed { (IsErrOf result (Failure.List LogErr.Io) → ⊥)
         → (R.failure_count input.new ≡ R.failure_count input.old) × (W.failure_count output.new ≡ W.failure_count output.old) }
+    ensures once { FailedOnceAtMost (R.failure_count input.old) (R.failure_count input.new) × FailedOnceAtMost (W.failure_count output.old) (W.failure_count output.new) }
 {
     if is_object(text) {
         return Err(Failure::SourceWanted);

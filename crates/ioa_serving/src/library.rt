@@ -3,7 +3,7 @@
 ghost use Rattle.std.specs.Prelude.{◌≡◌, OnOk, IfErr, IsErrOf};
 ghost use Rattle.ioa_links.specs.Library.{library_text};
 ghost use Rattle.ioa_log.specs.declared.failure.LogErr.{LogErr};
-ghost use Rattle.ioa_log.specs.Failing.{HasFailed};
+ghost use Rattle.ioa_log.specs.Failing.{FailedOnceAtMost, HasFailed};
 ghost use Rattle.ioa_serving.specs.Libraries.{IsUnlisted};
 ghost use Rattle.std.specs.Io.KnownBytes.{Appends};
 
@@ -19,6 +19,7 @@ pub fn write_library<W: OutputDevice>(output: &mut W) -> Result<(), Failure>
     ensures refused { IfErr result (λ e. IsUnlisted (HasFailed (W.failure_count output.old) (W.failure_count output.new))
         (W.contents output.old) (W.contents output.new) e) }
     ensures passed { (IsErrOf result (Failure.List LogErr.Io) → ⊥) → W.failure_count output.new ≡ W.failure_count output.old }
+    ensures once { FailedOnceAtMost (W.failure_count output.old) (W.failure_count output.new) }
 {
     send_all(output, ioa_links::text())?;
     Ok(())

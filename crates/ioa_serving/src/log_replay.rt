@@ -6,7 +6,7 @@ ghost use Rattle.std.specs.String.{string_bytes};
 ghost use Rattle.ioa_system.specs.Outcomes.{ending_of};
 ghost use Rattle.ioa_system.specs.Records.{trace_of};
 ghost use Rattle.ioa_log.specs.declared.failure.LogErr.{LogErr};
-ghost use Rattle.ioa_log.specs.Failing.{HasFailed};
+ghost use Rattle.ioa_log.specs.Failing.{FailedOnceAtMost, HasFailed};
 ghost use Rattle.ioa_log.specs.Replays as replays;
 ghost use Rattle.ioa_serving.specs.Failing.{BeginsLogOf, IsLogFailure, IsUnwritten};
 ghost use Rattle.ioa_serving.specs.Headline.{IsLogReplay};
@@ -40,6 +40,7 @@ pub fn replay_log_text<R: InputDevice, W: OutputDevice>(
         (W.contents output.old) (W.contents output.new) e) }
     ensures passed { (IsErrOf result (Failure.List LogErr.Io) → ⊥)
         → (R.failure_count input.new ≡ R.failure_count input.old) × (W.failure_count output.new ≡ W.failure_count output.old) }
+    ensures once { FailedOnceAtMost (R.failure_count input.old) (R.failure_count input.new) × FailedOnceAtMost (W.failure_count output.old) (W.failure_count output.new) }
 {
     let program = program_of(alloc, text, composition)?;
     let log = read_log(alloc, program.types(), input)?;

@@ -7,7 +7,7 @@ ghost use Rattle.ioa_value.specs.Actions.{act_of};
 ghost use Rattle.ioa_system.specs.Outcomes.{ending_of};
 ghost use Rattle.ioa_system.specs.Logs.{logged};
 ghost use Rattle.ioa_log.specs.declared.failure.LogErr.{LogErr};
-ghost use Rattle.ioa_log.specs.Failing.{HasFailed};
+ghost use Rattle.ioa_log.specs.Failing.{FailedOnceAtMost, HasFailed};
 ghost use Rattle.ioa_log.specs.Monitoring.{monitored};
 ghost use Rattle.ioa_serving.specs.Failing.{BeginsMonitorOf, IsMonitorFailure, IsUnwritten};
 ghost use Rattle.ioa_serving.specs.Headline.{IsMonitoring};
@@ -47,6 +47,7 @@ pub fn monitor_text<R: InputDevice, W: OutputDevice>(
         (W.contents output.old) (W.contents output.new) e) }
     ensures passed { (IsErrOf result (Failure.List LogErr.Io) → ⊥)
         → (R.failure_count input.new ≡ R.failure_count input.old) × (W.failure_count output.new ≡ W.failure_count output.old) }
+    ensures once { FailedOnceAtMost (R.failure_count input.old) (R.failure_count input.new) × FailedOnceAtMost (W.failure_count output.old) (W.failure_count output.new) }
 {
     let program = program_of(alloc, text, composition)?;
     // It has an answer to no action at all where it may be a monitor.

@@ -3,7 +3,7 @@
 ghost use Rattle.std.specs.Prelude.{◌≡◌, ◌↔◌, IsTrue, OnOk, IfErr, IsErrOf, Some};
 ghost use Rattle.std.specs.Option.{option_copied, option_map};
 ghost use Rattle.ioa_log.specs.declared.failure.LogErr.{LogErr};
-ghost use Rattle.ioa_log.specs.Failing.{HasFailed};
+ghost use Rattle.ioa_log.specs.Failing.{FailedOnceAtMost, HasFailed};
 ghost use Rattle.ioa_serving.specs.Compiling as spec;
 ghost use Rattle.ioa_serving.specs.Compiling.{Blocks, IsMade, IsUnmade, Places};
 ghost use Rattle.ioa_serving.specs.declared.store.StoreErr.{StoreErr};
@@ -32,6 +32,7 @@ pub fn compile_file<F: Store, W: OutputDevice>(
     ensures refused { IfErr result (λ e. IsUnmade (F.holds store.old) (F.lacks store.old) (Blocks (F.begins store.old) (F.bars store.old)) (Places (F.begins store.old) (F.saves store.old store.new)) (store.new ≡ store.old)
         file.now out.now (option_copied composition.entry) (HasFailed (W.failure_count output.old) (W.failure_count output.new)) (W.contents output.old) (W.contents output.new) e) }
     ensures passed { (IsErrOf result (Failure.List LogErr.Io) → ⊥) → W.failure_count output.new ≡ W.failure_count output.old }
+    ensures once { FailedOnceAtMost (W.failure_count output.old) (W.failure_count output.new) }
 {
     let text = store.load(alloc, file)?;
     let object = object_of(alloc, text.as_slice(), composition)?;

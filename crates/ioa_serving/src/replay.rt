@@ -4,7 +4,7 @@ ghost use Rattle.std.specs.Prelude.{◌≡◌, ◌⊎◌, IfOk, IfErr, IfSome, I
 ghost use Rattle.std.specs.Option.{option_copied};
 ghost use Rattle.ioa_system.specs.Outcomes.{ending_of};
 ghost use Rattle.ioa_log.specs.declared.failure.LogErr.{LogErr};
-ghost use Rattle.ioa_log.specs.Failing.{HasFailed};
+ghost use Rattle.ioa_log.specs.Failing.{FailedOnceAtMost, HasFailed};
 ghost use Rattle.ioa_serving.specs.Failing.{BeginsReplayOf, IsFailure, IsUnwritten};
 ghost use Rattle.ioa_serving.specs.Headline.{IsReplay};
 
@@ -39,6 +39,7 @@ pub fn replay_text<R: InputDevice, W: OutputDevice>(
         (W.contents output.old) (W.contents output.new) e) }
     ensures passed { (IsErrOf result (Failure.List LogErr.Io) → ⊥)
         → (R.failure_count input.new ≡ R.failure_count input.old) × (W.failure_count output.new ≡ W.failure_count output.old) }
+    ensures once { FailedOnceAtMost (R.failure_count input.old) (R.failure_count input.new) × FailedOnceAtMost (W.failure_count output.old) (W.failure_count output.new) }
 {
     let program = program_of(alloc, text, composition)?;
     let end = replay_list(alloc, &program, input, output)?;

@@ -4,7 +4,7 @@ ghost use Rattle.std.specs.Prelude.{◌≡◌, ◌++◌, ℕ, [], Some, IfErr, I
 ghost use Rattle.std.specs.Io.KnownBytes.{Appends};
 ghost use Rattle.std.specs.String.{string_bytes};
 ghost use Rattle.ioa_log.specs.declared.failure.LogErr.TheVariants as errors;
-ghost use Rattle.ioa_log.specs.Failing.{HasFailed};
+ghost use Rattle.ioa_log.specs.Failing.{FailedOnceAtMost, HasFailed};
 ghost use Rattle.ioa_serving.specs.RunReports as spec;
 ghost use Rattle.ioa_serving.specs.RunReports.{counts_text, name_at, report_line, want_line, wants_text, why_text};
 ghost use Rattle.ioa_serving.specs.Serving.{wants_of};
@@ -92,6 +92,7 @@ pub fn send_wants<W: OutputDevice>(ran: &Ran, output: &mut W) -> Result<(), LogE
     ensures ok { OnOk result (Appends (W.contents output.old) (W.contents output.new) (wants_of (Some ran.now))) }
     ensures io { IfErr result (λ e. (e ≡ errors.Io) × HasFailed (W.failure_count output.old) (W.failure_count output.new)) }
     ensures passed { OnOk result (W.failure_count output.new ≡ W.failure_count output.old) }
+    ensures once { FailedOnceAtMost (W.failure_count output.old) (W.failure_count output.new) }
     ensures begun { OnErr result ((k : ℕ) × Appends (W.contents output.old) (W.contents output.new) (take k (wants_of (Some ran.now)))) }
     ensures quiet { wants_of (Some ran.now) ≡ [] → IsOk result × (output.new ≡ output.old) }
 {
@@ -107,6 +108,7 @@ fn send_lines<W: OutputDevice>(
     ensures ok { OnOk result (Appends (W.contents output.old) (W.contents output.new) (wants_text (map (λ m. m.name) program.now.members) reports.now)) }
     ensures io { IfErr result (λ e. (e ≡ errors.Io) × HasFailed (W.failure_count output.old) (W.failure_count output.new)) }
     ensures passed { OnOk result (W.failure_count output.new ≡ W.failure_count output.old) }
+    ensures once { FailedOnceAtMost (W.failure_count output.old) (W.failure_count output.new) }
     ensures begun { OnErr result ((k : ℕ) × Appends (W.contents output.old) (W.contents output.new) (take k (wants_text (map (λ m. m.name) program.now.members) reports.now))) }
     ensures quiet { wants_text (map (λ m. m.name) program.now.members) reports.now ≡ [] → IsOk result × (output.new ≡ output.old) }
 {
@@ -122,6 +124,7 @@ fn send_line<W: OutputDevice>(name: &str, why: Why, output: &mut W) -> Result<()
     ensures ok { OnOk result (Appends (W.contents output.old) (W.contents output.new) (want_line name.now why)) }
     ensures io { IfErr result (λ e. (e ≡ errors.Io) × HasFailed (W.failure_count output.old) (W.failure_count output.new)) }
     ensures passed { OnOk result (W.failure_count output.new ≡ W.failure_count output.old) }
+    ensures once { FailedOnceAtMost (W.failure_count output.old) (W.failure_count output.new) }
     ensures begun { OnErr result ((k : ℕ) × Appends (W.contents output.old) (W.contents output.new) (take k (want_line name.now why))) }
     ensures quiet { want_line name.now why ≡ [] → IsOk result × (output.new ≡ output.old) }
 {

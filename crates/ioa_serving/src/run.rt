@@ -8,7 +8,7 @@ ghost use Rattle.ioa_value.specs.Actions.{act_of};
 ghost use Rattle.ioa_system.specs.Outcomes.{ending_of};
 ghost use Rattle.ioa_system.specs.Logs.{log_end, logged};
 ghost use Rattle.ioa_log.specs.declared.failure.LogErr.{LogErr};
-ghost use Rattle.ioa_log.specs.Failing.{HasFailed};
+ghost use Rattle.ioa_log.specs.Failing.{FailedOnceAtMost, HasFailed};
 ghost use Rattle.ioa_run.specs.Alone.{IsAlone, IsOutcome, NoMemory, Refuses};
 ghost use Rattle.ioa_run.specs.Outcomes.{HaveEnded};
 ghost use Rattle.ioa_run.specs.declared.run_err.RunErr.{RunErr};
@@ -63,6 +63,7 @@ pub fn run_file<H: Threads + Wait + Clock + Sync, F: Store, W: OutputDevice>(
     ensures refused { IfErr result.0 (λ e. IsRunUnserved (F.holds store.now) (F.lacks store.now) settings.now (HasFailed (W.failure_count output.old) (W.failure_count output.new))
         (W.contents output.old) (W.contents output.new) (wants_of result.1) e) }
     ensures passed { (IsErrOf result.0 (Failure.List LogErr.Io) → ⊥) → W.failure_count output.new ≡ W.failure_count output.old }
+    ensures once { FailedOnceAtMost (W.failure_count output.old) (W.failure_count output.new) }
 {
     match run_settings(rt, alloc, settings, store) {
         Ok(ran) => {
@@ -85,6 +86,7 @@ fn serve_run<W: OutputDevice>(
         × (reports_of s ≡ table_reports ran.now.program settings.now.reports ran.now.reports.items) × (s.status ≡ ending_status (log_end ran.now.log.end))) }
     ensures cut { IfErr result (λ e. IsCutShort (ran_text settings.now.log ran.now) (HasFailed (W.failure_count output.old) (W.failure_count output.new)) (W.contents output.old) (W.contents output.new) e) }
     ensures passed { (IsErrOf result (Failure.List LogErr.Io) → ⊥) → W.failure_count output.new ≡ W.failure_count output.old }
+    ensures once { FailedOnceAtMost (W.failure_count output.old) (W.failure_count output.new) }
 {
     let reports = told_reports(alloc, settings, ran)?;
     write_run(alloc, &ran.program, &ran.log, settings.log, output)?;
@@ -221,6 +223,7 @@ fn write_run<W: OutputDevice>(
     ensures ok { OnOk result (Appends (W.contents output.old) (W.contents output.new) (table_text program.now as_log (logged log.now) (performed log.now.end))) }
     ensures io { IsErrOf result LogErr.Io → HasFailed (W.failure_count output.old) (W.failure_count output.new) }
     ensures passed { (IsErrOf result LogErr.Io → ⊥) → W.failure_count output.new ≡ W.failure_count output.old }
+    ensures once { FailedOnceAtMost (W.failure_count output.old) (W.failure_count output.new) }
     ensures begun { IsErrOf result LogErr.Io → (k : ℕ) × Appends (W.contents output.old) (W.contents output.new) (take k (table_text program.now as_log (logged log.now) (performed log.now.end))) }
     ensures memory { IsErrOf result LogErr.OutOfMemory → Keeps (W.contents output.old) (W.contents output.new) }
     ensures only { IfErr result (λ e. (e ≡ LogErr.Io) ⊎ (e ≡ LogErr.OutOfMemory)) }

@@ -11,7 +11,7 @@ ghost use Rattle.ioa_compose.specs.Stands.{Stands};
 ghost use Rattle.ioa_system.specs.Logs.{actions_of, logged};
 ghost use Rattle.ioa_system.specs.Outcomes.{ending_of};
 ghost use Rattle.ioa_log.specs.declared.failure.LogErr.{LogErr};
-ghost use Rattle.ioa_log.specs.Failing.{HasFailed, IsListErr};
+ghost use Rattle.ioa_log.specs.Failing.{FailedOnceAtMost, HasFailed, IsListErr};
 ghost use Rattle.ioa_log.specs.Judging.{IsReplayErr, agrees, diverges, judged, wrong_owner};
 ghost use Rattle.ioa_serving.specs.Failing.{BeginsLogStatesOf, BeginsStatesOf, IsInvariantFailure, IsStatesFailure, IsUnwritten};
 ghost use Rattle.ioa_serving.specs.Headline.{IsLogStatesReplay, IsStatesReplay};
@@ -47,6 +47,7 @@ pub fn replay_states_text<R: InputDevice, W: OutputDevice>(
         (W.contents output.old) (W.contents output.new) e) }
     ensures passed { (IsErrOf result (Failure.List LogErr.Io) → ⊥)
         → (R.failure_count input.new ≡ R.failure_count input.old) × (W.failure_count output.new ≡ W.failure_count output.old) }
+    ensures once { FailedOnceAtMost (R.failure_count input.old) (R.failure_count input.new) × FailedOnceAtMost (W.failure_count output.old) (W.failure_count output.new) }
 {
     if is_object(text) {
         return Err(Failure::SourceWanted);
@@ -77,6 +78,7 @@ pub fn replay_log_states_text<R: InputDevice, W: OutputDevice>(
         (W.contents output.old) (W.contents output.new) e) }
     ensures passed { (IsErrOf result (Failure.List LogErr.Io) → ⊥)
         → (R.failure_count input.new ≡ R.failure_count input.old) × (W.failure_count output.new ≡ W.failure_count output.old) }
+    ensures once { FailedOnceAtMost (R.failure_count input.old) (R.failure_count input.new) × FailedOnceAtMost (W.failure_count output.old) (W.failure_count output.new) }
 {
     if is_object(text) {
         return Err(Failure::SourceWanted);
@@ -99,6 +101,7 @@ fn reached<R: InputDevice>(
     ensures bad { (n : ℕ) → IsErrOf result (LogErr.BadEntry n) → IfSome (R.remaining input.old) (λ bytes. BadLine composition.now.types bytes n) }
     ensures io { IsErrOf result LogErr.Io → HasFailed (R.failure_count input.old) (R.failure_count input.new) }
     ensures passed { (IsErrOf result LogErr.Io → ⊥) → R.failure_count input.new ≡ R.failure_count input.old }
+    ensures once { FailedOnceAtMost (R.failure_count input.old) (R.failure_count input.new) }
     ensures only { IfErr result IsListErr }
 {
     let program = compile(alloc, composition)?;

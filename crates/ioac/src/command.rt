@@ -2,7 +2,7 @@
 
 ghost use Rattle.std.specs.Prelude.{◌≡◌, ◌⊎◌, ℕ, List, true, map, IfOk, IfErr};
 ghost use Rattle.clap.specs.Words.{subcommand_of};
-ghost use Rattle.ioa_log.specs.Failing.{HasFailed};
+ghost use Rattle.ioa_log.specs.Failing.{FailedOnceAtMost, HasFailed};
 ghost use Rattle.ioa_request.specs.CommandLine.{IsAsked, ioac_app, is_explained};
 ghost use Rattle.ioac.specs.Commands.{AreWantsOf, IsAnswered, IsAnsweredAs, IsFinished, IsUnasked};
 ghost use Rattle.ioa_serving.specs.Serving.{IsReading, IsSaving, IsServed, IsUnserved, reports_of, wants_of};
@@ -194,6 +194,7 @@ fn answer<
     ensures kept { (IsSaving asked.now → ⊥) → store.new ≡ store.old }
     ensures unread { (IsReading asked.now → ⊥) → input.new ≡ input.old }
     ensures passed { (result ≡ statuses.Unable → ⊥) → (R.failure_count input.new ≡ R.failure_count input.old) × (W.failure_count output.new ≡ W.failure_count output.old) × (E.failure_count errors.new ≡ E.failure_count errors.old) }
+    ensures once { FailedOnceAtMost (R.failure_count input.old) (R.failure_count input.new) × FailedOnceAtMost (W.failure_count output.old) (W.failure_count output.new) × FailedOnceAtMost (E.failure_count errors.old) (E.failure_count errors.new) }
 {
     let (_served, status) = serve_and_tell(rt, alloc, asked, store, input, output, errors);
     status
@@ -226,6 +227,7 @@ fn serve_and_tell<
     ensures kept { (IsSaving asked.now → ⊥) → store.new ≡ store.old }
     ensures unread { (IsReading asked.now → ⊥) → input.new ≡ input.old }
     ensures passed { (result.1 ≡ statuses.Unable → ⊥) → (R.failure_count input.new ≡ R.failure_count input.old) × (W.failure_count output.new ≡ W.failure_count output.old) × (E.failure_count errors.new ≡ E.failure_count errors.old) }
+    ensures once { FailedOnceAtMost (R.failure_count input.old) (R.failure_count input.new) × FailedOnceAtMost (W.failure_count output.old) (W.failure_count output.new) × FailedOnceAtMost (E.failure_count errors.old) (E.failure_count errors.new) }
 {
     let (served, ran) = serve(rt, alloc, asked, store, input, output);
     let status = settle(alloc, &served, &ran, errors);
@@ -244,6 +246,7 @@ fn settle<E: OutputDevice>(
     ensures reports { IfErr served.now (λ e. IsReported e (wants_of ran.now)
         (E.contents errors.old) (E.contents errors.new) (HasFailed (E.failure_count errors.old) (E.failure_count errors.new)) result) }
     ensures passed { (result ≡ statuses.Unable → ⊥) → E.failure_count errors.new ≡ E.failure_count errors.old }
+    ensures once { FailedOnceAtMost (E.failure_count errors.old) (E.failure_count errors.new) }
 {
     match served {
         Ok(served) => finish(served, ran, errors),

@@ -5,7 +5,7 @@ ghost use Rattle.std.specs.Option.{option_copied};
 ghost use Rattle.std.specs.Io.KnownBytes.{ReadConsumes};
 ghost use Rattle.std.specs.Io.{ReadsAtMost};
 ghost use Rattle.ioa_log.specs.Counts.{given_after};
-ghost use Rattle.ioa_log.specs.Failing.{HasFailed};
+ghost use Rattle.ioa_log.specs.Failing.{FailedOnceAtMost, HasFailed};
 ghost use Rattle.ioac.specs.Hearing.{IsNoted, kept_of};
 
 use ioa_log::{Device, Failed, InputDevice};
@@ -73,7 +73,12 @@ impl<T: Device> Device for Heard<T> {
 impl<T: Read> Read for Heard<T> {
     ghost remaining = { λ h. T.remaining h.inner };
 
-    fn read(&mut self, buf: &mut [u8]) -> io::Result<usize> {
+    fn read(&mut self, buf: &mut [u8]) -> io::Result<usize>
+        ensures bound { ReadsAtMost result buf.new }
+        ensures bytes { ReadConsumes (T.remaining self.old.inner) (T.remaining self.new.inner) result buf.new }
+        ensures noted { IfOk result (λ n. IsNoted (kept_of self.old) (take n buf.new) (kept_of self.new)) }
+        ensures unnoted { OnErr result (kept_of self.new ≡ kept_of self.old) }
+    {
         let count = self.inner.read(buf)?;
         self.note(&buf[..count]);
         Ok(count)
@@ -90,6 +95,7 @@ impl<T: InputDevice> InputDevice for Heard<T> {
         ensures failed { OnErr result (HasFailed (T.failure_count self.old.inner) (T.failure_count self.new.inner)) }
         ensures passed { OnOk result (T.failure_count self.new.inner ≡ T.failure_count self.old.inner) }
         ensures counts { T.failure_count self.old.inner ≤ T.failure_count self.new.inner }
+        ensures once { FailedOnceAtMost (T.failure_count self.old.inner) (T.failure_count self.new.inner) }
         ensures noted { IfOk result (λ n. IsNoted (kept_of self.old) (take n piece.new) (kept_of self.new)) }
     {
         let answer = self.inner.pull(piece);

@@ -1,7 +1,7 @@
 //! What is told of a request that was served, on standard error.
 
 ghost use Rattle.std.specs.Prelude.{◌≡◌};
-ghost use Rattle.ioa_log.specs.Failing.{HasFailed};
+ghost use Rattle.ioa_log.specs.Failing.{FailedOnceAtMost, HasFailed};
 ghost use Rattle.ioac.specs.Commands.{IsFinished};
 ghost use Rattle.ioa_serving.specs.Serving.{reports_of, wants_of};
 ghost use Rattle.ioa_serving.specs.declared.status.Status.TheVariants as statuses;
@@ -15,6 +15,7 @@ pub fn finish<E: OutputDevice>(served: &Served, ran: &Option<Ran>, errors: &mut 
     ensures finishes { IsFinished (reports_of served.now) (wants_of ran.now) served.now.status
         (E.contents errors.old) (E.contents errors.new) (HasFailed (E.failure_count errors.old) (E.failure_count errors.new)) result }
     ensures passed { (result ≡ statuses.Unable → ⊥) → E.failure_count errors.new ≡ E.failure_count errors.old }
+    ensures once { FailedOnceAtMost (E.failure_count errors.old) (E.failure_count errors.new) }
 {
     match &served.reports {
         Some(text) => put_with_wants(text.as_str(), ran, served.status, errors),

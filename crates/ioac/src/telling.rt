@@ -3,7 +3,7 @@
 ghost use Rattle.std.specs.Prelude.{◌≡◌, ◌≢◌, ◌≤◌, ◌++◌, ◌∷◌, [], IfOk};
 ghost use Rattle.std.specs.IoError.{error_kind};
 ghost use Rattle.std.specs.String.{string_bytes};
-ghost use Rattle.ioa_log.specs.Failing.{HasFailed};
+ghost use Rattle.ioa_log.specs.Failing.{FailedOnceAtMost, HasFailed};
 ghost use Rattle.ioa_serving.specs.Printed.{failure_text};
 ghost use Rattle.ioa_serving.specs.Serving.{wants_of};
 ghost use Rattle.ioac.specs.Telling.{IsPut, IsReported, IsShort, unreadable_text};
@@ -19,6 +19,7 @@ use std::io::ErrorKind;
 pub fn put<E: OutputDevice>(text: &str, wanted: Status, errors: &mut E) -> Status
     ensures puts { IsPut text.now wanted (E.contents errors.old) (E.contents errors.new) (HasFailed (E.failure_count errors.old) (E.failure_count errors.new)) result }
     ensures passed { (result ≡ statuses.Unable → ⊥) → E.failure_count errors.new ≡ E.failure_count errors.old }
+    ensures once { FailedOnceAtMost (E.failure_count errors.old) (E.failure_count errors.new) }
     ensures counts { E.failure_count errors.old ≤ E.failure_count errors.new }
 {
     match send_all(errors, text.as_bytes()) {
@@ -31,6 +32,7 @@ pub fn put<E: OutputDevice>(text: &str, wanted: Status, errors: &mut E) -> Statu
 pub fn put_short<E: OutputDevice>(errors: &mut E) -> Status
     ensures short { IsShort (E.contents errors.old) (E.contents errors.new) (HasFailed (E.failure_count errors.old) (E.failure_count errors.new)) result }
     ensures passed { (result ≡ statuses.Unable → ⊥) → E.failure_count errors.new ≡ E.failure_count errors.old }
+    ensures once { FailedOnceAtMost (E.failure_count errors.old) (E.failure_count errors.new) }
 {
     put("memory\n", Status::Unable, errors)
 }
@@ -45,6 +47,7 @@ pub fn put_with_wants<E: OutputDevice>(
 ) -> Status
     ensures puts { IsPut (text.now ++ wants_of ran.now) wanted (E.contents errors.old) (E.contents errors.new) (HasFailed (E.failure_count errors.old) (E.failure_count errors.new)) result }
     ensures passed { (result ≡ statuses.Unable → ⊥) → E.failure_count errors.new ≡ E.failure_count errors.old }
+    ensures once { FailedOnceAtMost (E.failure_count errors.old) (E.failure_count errors.new) }
 {
     match send_all(errors, text.as_bytes()) {
         Ok(()) => put_wants(ran, wanted, errors),
@@ -57,6 +60,7 @@ pub fn put_wants<E: OutputDevice>(ran: &Option<Ran>, wanted: Status, errors: &mu
     ensures puts { IsPut (wants_of ran.now) wanted (E.contents errors.old) (E.contents errors.new) (HasFailed (E.failure_count errors.old) (E.failure_count errors.new)) result }
     ensures quiet { wants_of ran.now ≡ [] → (result ≡ wanted) × (errors.new ≡ errors.old) }
     ensures passed { (result ≡ statuses.Unable → ⊥) → E.failure_count errors.new ≡ E.failure_count errors.old }
+    ensures once { FailedOnceAtMost (E.failure_count errors.old) (E.failure_count errors.new) }
 {
     let Some(ran) = ran else {
         return wanted;
@@ -76,6 +80,7 @@ pub fn reported<E: OutputDevice>(
 ) -> Status
     ensures reports { IsReported failure.now (wants_of ran.now) (E.contents errors.old) (E.contents errors.new) (HasFailed (E.failure_count errors.old) (E.failure_count errors.new)) result }
     ensures passed { (result ≡ statuses.Unable → ⊥) → E.failure_count errors.new ≡ E.failure_count errors.old }
+    ensures once { FailedOnceAtMost (E.failure_count errors.old) (E.failure_count errors.new) }
 {
     match failure_line(alloc, failure) {
         Ok(line) => put_with_wants(line.as_str(), ran, failure.status(), errors),
@@ -96,6 +101,7 @@ pub fn told_unread<E: OutputDevice>(error: &io::Error, errors: &mut E) -> Status
         → IsShort (E.contents errors.old) (E.contents errors.new) (HasFailed (E.failure_count errors.old) (E.failure_count errors.new)) result }
     ensures unreadable { error_kind error.now ≢ ErrorKind.OutOfMemory → IsPut unreadable_text statuses.BadCommandLine
         (E.contents errors.old) (E.contents errors.new) (HasFailed (E.failure_count errors.old) (E.failure_count errors.new)) result }
+    ensures once { FailedOnceAtMost (E.failure_count errors.old) (E.failure_count errors.new) }
 {
     if error.kind() == ErrorKind::OutOfMemory {
         return put_short(errors);

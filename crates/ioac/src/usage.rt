@@ -4,7 +4,7 @@ ghost use Rattle.std.specs.Prelude.{◌≡◌, ◌<◌, length, IfOk};
 ghost use Rattle.std.specs.Option.{option_copied};
 ghost use Rattle.std.specs.String.{string_bytes};
 ghost use Rattle.clap.specs.Words.{found_of, kind_of, rows_of, subcommand_rows_of};
-ghost use Rattle.ioa_log.specs.Failing.{HasFailed};
+ghost use Rattle.ioa_log.specs.Failing.{FailedOnceAtMost, HasFailed};
 ghost use Rattle.ioac.specs.Commands.{IsShown, IsUsage, usage_status};
 ghost use Rattle.ioac.specs.Telling as telling;
 ghost use Rattle.ioac.specs.Telling.{IsTold};
@@ -29,6 +29,7 @@ pub fn told<W: OutputDevice, E: OutputDevice>(
         (W.contents output.old) (W.contents output.new) (HasFailed (W.failure_count output.old) (W.failure_count output.new))
         (E.contents errors.old) (E.contents errors.new) (HasFailed (E.failure_count errors.old) (E.failure_count errors.new)) result }
     ensures passed { (result ≡ statuses.Unable → ⊥) → (W.failure_count output.new ≡ W.failure_count output.old) × (E.failure_count errors.new ≡ E.failure_count errors.old) }
+    ensures once { FailedOnceAtMost (W.failure_count output.old) (W.failure_count output.new) × FailedOnceAtMost (E.failure_count errors.old) (E.failure_count errors.new) }
 {
     if error.kind() == ErrorKind::OutOfMemory {
         return put_short(errors);
@@ -63,6 +64,7 @@ fn shown<W: OutputDevice, E: OutputDevice>(
         (W.contents output.old) (W.contents output.new) (HasFailed (W.failure_count output.old) (W.failure_count output.new))
         (E.contents errors.old) (E.contents errors.new) (HasFailed (E.failure_count errors.old) (E.failure_count errors.new)) result }
     ensures passed { (result ≡ statuses.Unable → ⊥) → (W.failure_count output.new ≡ W.failure_count output.old) × (E.failure_count errors.new ≡ E.failure_count errors.old) }
+    ensures once { FailedOnceAtMost (W.failure_count output.old) (W.failure_count output.new) × FailedOnceAtMost (E.failure_count errors.old) (E.failure_count errors.new) }
 {
     match send_all(output, text.as_bytes()) {
         Ok(()) => Status::Done,
@@ -80,6 +82,7 @@ pub fn told_unasked<E: OutputDevice>(
     ensures tells { IsTold (telling.unasked_text (subcommand_rows_of matches.now)) statuses.BadCommandLine
         (E.contents errors.old) (E.contents errors.new) (HasFailed (E.failure_count errors.old) (E.failure_count errors.new)) result }
     ensures passed { (result ≡ statuses.Unable → ⊥) → E.failure_count errors.new ≡ E.failure_count errors.old }
+    ensures once { FailedOnceAtMost (E.failure_count errors.old) (E.failure_count errors.new) }
 {
     match unasked_text(alloc, matches) {
         Ok(text) => put(text.as_str(), Status::BadCommandLine, errors),

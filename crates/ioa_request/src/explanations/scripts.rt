@@ -46,7 +46,9 @@ pub const N4: Explanation = Explanation {
 pub const N5: Explanation = Explanation {
     topic: Topic::Code(Code::N5),
     meaning: "The log from which the run was to go on ends by a fault, and after a fault nothing is performed. Nothing was run.",
-    example: Example::Told("A log gives it with the last line `{\"end\":\"fault 1 in component 0 at 0\"}`."),
+    example: Example::Told(
+        "A log gives it with the last line `{\"end\":\"fault 1 in component 0 at 0\"}`.",
+    ),
     mending: "Take a log that ends by `done`.",
 };
 

@@ -11,7 +11,7 @@ use std::sync::Wait;
 use std::thread::Threads;
 use std::time::Clock;
 
-/// Takes one byte a call, and fails after so many calls.
+/// Takes one byte a call, and fails after so many calls. No flush of it passes.
 #[derive(Drop)]
 struct Slow {
     held: Vec<u8>,
@@ -34,7 +34,7 @@ impl Write for Slow {
     }
 
     fn flush(&mut self) -> io::Result<()> {
-        Ok(())
+        Err(io::Error::from(io::ErrorKind::Interrupted))
     }
 }
 
@@ -79,7 +79,7 @@ const PRINTED: &str = "tick(5)\ntick(6)\nreset\nend: done after 3\n";
 const REACHED: &str = "tick(5)\ntick(6)\nreset\nend: done after 3\nA.c = 5\n";
 
 /// The words, a file, and what stands on standard input; what is printed, and the exit status.
-const GIVEN: [(&str, &str, &str, &str, Status); 6] = [
+const GIVEN: [(&str, &str, &str, &str, Status); 8] = [
     (REPLAY, COUNTER, LIST, PRINTED, Status::Done),
     ("replay f --states", COUNTER, LIST, REACHED, Status::Done),
     (
@@ -104,6 +104,8 @@ const GIVEN: [(&str, &str, &str, &str, Status); 6] = [
         "invariant 0 of component 0 broken after 2\n",
         Status::NotAccepted,
     ),
+    ("log f", COUNTER, LIST, LOG, Status::Done),
+    ("monitor f", COUNTER, LOG, "monitor: ok\n", Status::Done),
 ];
 
 /// Replays what is given on a device that fails after so many calls, and the answer is printed on one that takes so many;
@@ -221,7 +223,7 @@ const ROOMS: [(&str, &str, &str, &[u8], &[u8]); 12] = [
     ("", COUNTER, LIST, b"", b""),
 ];
 
-/// Whether the program fails where no more than this can be written.
+/// Whether the program fails where no more than this can be written, and no device of it twice.
 fn fills<H: Abort + Threads + Wait + Clock + Sync>(
     rt: &H,
     alloc: Global,
@@ -231,16 +233,19 @@ fn fills<H: Abort + Threads + Wait + Clock + Sync>(
 ) -> bool {
     let mut output = vec![in alloc; 0u8; printed.len()].expect(rt, "memory");
     let mut errors = vec![in alloc; 0u8; told.len()].expect(rt, "memory");
+    let mut writer = Counted::new(output.as_mut_slice());
+    let mut teller = Counted::new(errors.as_mut_slice());
     let (status, _saved) = run_on(
         rt,
         alloc,
         given,
         &mut Heard::new(Counted::new(given.list.as_bytes())),
-        &mut Counted::new(output.as_mut_slice()),
-        &mut Counted::new(errors.as_mut_slice()),
+        &mut writer,
+        &mut teller,
     );
+    let is_once = writer.failures() <= 1 && teller.failures() <= 1;
     let is_full = output.as_slice() == printed && errors.as_slice() == told;
-    is_full && status == Status::Unable.number()
+    is_full && is_once && status == Status::Unable.number()
 }
 
 #[test]
