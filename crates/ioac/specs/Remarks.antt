@@ -1,5 +1,5 @@
 -- What is told, where an explanation is asked for, of a request that was served: by what the files may hold now, and by what was heard of standard input.
-use Rattle.std.specs.Prelude.{◌≡◌, ◌≢◌, ◌⊎◌, ◌++◌, ℕ, Bool, true, if◌then◌else◌, List, [], Option, Some, None, codes}
+use Rattle.std.specs.Prelude.{◌≡◌, ◌≢◌, ◌⊎◌, ◌++◌, ℕ, Bool, true, false, if◌then◌else◌, List, [], Option, Some, None, codes}
 use Rattle.std.specs.Borrow.{Bor}
 use Rattle.std.specs.Option.{option_copied, option_map}
 use Rattle.ioa_value.specs.Actions.{Act, Name}
@@ -10,16 +10,20 @@ use Rattle.ioa_tree.specs.Hosts.{Hosted}
 use Rattle.ioa_compose.specs.declared.composition.Composition.{Composition}
 use Rattle.ioa_compose.specs.Held.{composed_of}
 use Rattle.ioa_compose.specs.Stands.{Stands}
+use Rattle.ioa_compile.specs.Programs.{Prog}
+use Rattle.ioa_object.specs.declared.failure.ObjErr.{ObjErr}
 use Rattle.ioa_system.specs.Logs.{Logged, actions_of}
 use Rattle.ioa_log.specs.LogTexts.{GoesOnAt, HasNoEnd, NoEntryAt, NotJsonAt, ReadsLog}
 use Rattle.ioa_account.specs.declared.remarks.Told.{Told}
+use Rattle.ioa_account.specs.Objects.{TellsObject}
 use Rattle.ioa_account.specs.Quoted.{line_text}
 use Rattle.ioa_account.specs.Remarks.{TellsDifference, TellsEnd, TellsInspected, TellsMonitored, list_line, log_line}
 use Rattle.ioac.specs.declared.remarks.ended.Ended.{Ended}
 use Rattle.ioa_request.specs.declared.request.Request.{Request}
 use Rattle.ioa_serving.specs.declared.status.Status.{Status}
-use Rattle.ioa_serving.specs.Failing.{IsRefusedSource}
-use Rattle.ioa_serving.specs.Headline.{Declares, begins_object}
+use Rattle.ioa_serving.specs.declared.failure.Failure.{Failure}
+use Rattle.ioa_serving.specs.Failing.{IsRefusedGiven, IsRefusedSource}
+use Rattle.ioa_serving.specs.Headline.{Declares, IsObjectOf, begins_object}
 use Rattle.ioa_serving.specs.Logs.{performed_in}
 
 -- ---- the source that is looked at once more
@@ -50,10 +54,15 @@ source_of Request.Library = None
 abbrev pub IsLoaded : (Name → List ℕ → Type 0) → (Name → Type 0) → Name → List ℕ → Type 0
 IsLoaded holds lacks file bytes = holds file bytes ⊎ (lacks file × (bytes ≡ []))
 
--- the composition that the bytes declare as a source; none, where they are an object or are refused
+-- the composition that the source declares; none, where it is refused
 abbrev pub IsComposed : List ℕ → Option Name → Option Composition → Type 0
-IsComposed source name None = (begins_object source ≡ true) ⊎ ((r : Refusal) × (r ≢ Refusal.OutOfMemory) × IsRefusedSource source name r)
+IsComposed source name None = (r : Refusal) × (r ≢ Refusal.OutOfMemory) × IsRefusedSource source name r
 IsComposed source name (Some c) = (h : Hosted) × Declares source name h × Stands h (composed_of c)
+
+-- the program that the bytes are the object of; none, where they are refused, or are one of another composition
+abbrev pub IsProgramOf : List ℕ → Option Name → Option Prog → Type 0
+IsProgramOf object name None = (e : Failure) × (e ≢ Failure.Object ObjErr.OutOfMemory) × IsRefusedGiven object name e
+IsProgramOf object name (Some p) = IsObjectOf object name p
 
 -- ---- what was heard
 
@@ -67,10 +76,11 @@ OfList t tells before after =
     ((acts : List Act) × ReadsList t.composition.now.types t.input.now acts × tells acts before after)
     ⊎ (((n : ℕ) × BadLine t.composition.now.types t.input.now n) × (after ≡ before))
 
+abbrev pub OfLogOver : Table → List ℕ → (Logged → List ℕ → List ℕ → Type 0) → List ℕ → List ℕ → Type 0
+OfLogOver types input tells before after = ((log : Logged) × ReadsLog types input log × tells log before after) ⊎ (IsNoLog types input × (after ≡ before))
+
 abbrev pub OfLog : Told → (Logged → List ℕ → List ℕ → Type 0) → List ℕ → List ℕ → Type 0
-OfLog t tells before after =
-    ((log : Logged) × ReadsLog t.composition.now.types t.input.now log × tells log before after)
-    ⊎ (IsNoLog t.composition.now.types t.input.now × (after ≡ before))
+OfLog t tells before after = OfLogOver t.composition.now.types t.input.now tells before after
 
 -- of each hosts that the composition stands for
 abbrev pub OfHosts : Told → (Hosted → List ℕ → List ℕ → Type 0) → List ℕ → List ℕ → Type 0
@@ -112,16 +122,64 @@ Tells (Request.Dump file) (Ended.Served status) t before after = after ≡ befor
 Tells (Request.Explain topic) (Ended.Served status) t before after = after ≡ before
 Tells Request.Library (Ended.Served status) t before after = after ≡ before
 
--- It is told of the composition that the file declares, by its name and bytes. Of an object, which has no names, and of a refused source nothing is told.
+-- ---- of an object, which has no source, and whose variables have no names
+
+-- of the log that was heard how many of its actions the program has, and of the first that it does not perform why not
+abbrev pub TellsObjectLog : Prog → List ℕ → List ℕ → List ℕ → Type 0
+TellsObjectLog p input before after = OfLogOver p.types input (λ log. TellsObject p input (performed_in log)) before after
+
+abbrev pub TellsProgram : Option Prog → List ℕ → List ℕ → List ℕ → Type 0
+TellsProgram None input before after = after ≡ before
+TellsProgram (Some p) input before after = TellsObjectLog p input before after
+
+-- this is told of the program that it is the object of; of one that is refused nothing
+abbrev pub TellsObjectMonitor : List ℕ → Option Name → List ℕ → List ℕ → List ℕ → Type 0
+TellsObjectMonitor object name input before after = (p : Option Prog) × IsProgramOf object name p × TellsProgram p input before after
+
+-- of a monitor alone, where a request was served
+abbrev pub TellsOfObject : Request → List ℕ → Option Name → List ℕ → List ℕ → List ℕ → Type 0
+TellsOfObject (Request.Monitor file composition) object name input before after = TellsObjectMonitor object name input before after
+TellsOfObject (Request.Replay file composition) object name input before after = after ≡ before
+TellsOfObject (Request.ReplayStates file composition) object name input before after = after ≡ before
+TellsOfObject (Request.Log file composition) object name input before after = after ≡ before
+TellsOfObject (Request.ReplayLog file composition) object name input before after = after ≡ before
+TellsOfObject (Request.ReplayLogStates file composition) object name input before after = after ≡ before
+TellsOfObject (Request.ReplayInvariants file composition) object name input before after = after ≡ before
+TellsOfObject (Request.Chart file composition) object name input before after = after ≡ before
+TellsOfObject (Request.Run settings) object name input before after = after ≡ before
+TellsOfObject (Request.Graph file composition) object name input before after = after ≡ before
+TellsOfObject (Request.Check file compositions) object name input before after = after ≡ before
+TellsOfObject (Request.Compile file out composition) object name input before after = after ≡ before
+TellsOfObject (Request.Dump file) object name input before after = after ≡ before
+TellsOfObject (Request.Explain topic) object name input before after = after ≡ before
+TellsOfObject Request.Library object name input before after = after ≡ before
+
+abbrev pub TellsNameless : Request → Ended → List ℕ → Option Name → List ℕ → List ℕ → List ℕ → Type 0
+TellsNameless request Ended.Diverged object name input before after = after ≡ before
+TellsNameless request (Ended.Served status) object name input before after = TellsOfObject request object name input before after
+
+-- ---- of what the file holds
+
+-- It is told of the composition that the file declares, by its name and bytes. Of a refused source nothing is told.
 abbrev pub TellsIn : Request → Ended → Name → List ℕ → List ℕ → Option Composition → List ℕ → List ℕ → Type 0
 TellsIn request ended file source input None before after = after ≡ before
 TellsIn request ended file source input (Some c) before after =
     (t : Told) × (t.file.now ≡ file) × (t.source.now ≡ source) × (t.input.now ≡ input) × (t.composition.now ≡ c) × Tells request ended t before after
 
+abbrev pub TellsSource : Request → Ended → Name × Option Name → List ℕ → List ℕ → List ℕ → List ℕ → Type 0
+TellsSource request ended from source input before after =
+    (c : Option Composition) × IsComposed source from.1 c × TellsIn request ended from.0 source input c before after
+
+-- of these bytes, as an object, or else as a source
+abbrev pub TellsLoaded : Request → Ended → Name × Option Name → List ℕ → List ℕ → List ℕ → List ℕ → Type 0
+TellsLoaded request ended from bytes input before after =
+    ((begins_object bytes ≡ true) × TellsNameless request ended bytes from.1 input before after)
+    ⊎ ((begins_object bytes ≡ false) × TellsSource request ended from bytes input before after)
+
 abbrev pub TellsEnded : (Name → List ℕ → Type 0) → (Name → Type 0) → Request → Option (Name × Option Name) → Ended → List ℕ → List ℕ → List ℕ → Type 0
 TellsEnded holds lacks request None ended input before after = after ≡ before
 TellsEnded holds lacks request (Some from) ended input before after =
-    (source : List ℕ) × (c : Option Composition) × IsLoaded holds lacks from.0 source × IsComposed source from.1 c × TellsIn request ended from.0 source input c before after
+    (bytes : List ℕ) × IsLoaded holds lacks from.0 bytes × TellsLoaded request ended from bytes input before after
 
 -- a source is to be checked, of which there may be warnings
 abbrev pub IsChecking : Request → Type 0

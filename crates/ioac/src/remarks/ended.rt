@@ -8,8 +8,9 @@ ghost use Rattle.ioa_log.specs.LogTexts.{ReadsLog};
 ghost use Rattle.ioa_account.specs.Remarks.{TellsDifference, TellsInspected, TellsMonitored};
 ghost use Rattle.ioa_serving.specs.Logs.{performed_in};
 ghost use Rattle.ioac.specs.Remarks as spec;
-ghost use Rattle.ioac.specs.Remarks.{IsComposed, IsLoaded, IsNoLog, OfHosts, OfLog, Tells, TellsEnded, TellsListEnd, TellsLogEnd};
+ghost use Rattle.ioac.specs.Remarks.{IsComposed, IsLoaded, IsNoLog, OfHosts, OfLog, Tells, TellsEnded, TellsListEnd, TellsLogEnd, TellsSource};
 
+use crate::remarks::nameless;
 use crate::remarks::places::source_of;
 use ioa_account::{
     Told, actions_in, put_difference, put_inspected, put_list_end, put_log_end, put_monitored,
@@ -32,7 +33,7 @@ pub enum Ended {
     Diverged,
 }
 
-/// Puts behind the text what there is to say of a request that ended so. Of an object nothing is said: it has no names.
+/// Puts behind the text what there is to say of a request that ended so.
 pub fn put<F: Store>(
     alloc: Global,
     text: &mut String,
@@ -46,13 +47,33 @@ pub fn put<F: Store>(
     let Some((file, name)) = source_of(asked) else {
         return Ok(());
     };
-    let source = loaded(alloc, file, store)?;
-    let Some(composition) = composed(alloc, source.as_slice(), name)? else {
+    let bytes = loaded(alloc, file, store)?;
+    let source = bytes.as_slice();
+    if is_object(source) {
+        return nameless::put(alloc, text, asked, ended, source, name, input);
+    }
+    put_source(alloc, text, asked, ended, file, source, name, input)
+}
+
+/// Puts what there is to say of a request that names a source.
+fn put_source(
+    alloc: Global,
+    text: &mut String,
+    asked: &Request<'_>,
+    ended: Ended,
+    file: &str,
+    source: &[u8],
+    name: Option<&str>,
+    input: &[u8],
+) -> Result<(), OutOfMemory>
+    ensures { OnOk result (TellsSource asked.now ended (file.now, option_copied name.entry) source.now input.now (string_bytes text.old) (string_bytes text.new)) }
+{
+    let Some(composition) = composed(alloc, source, name)? else {
         return Ok(());
     };
     let told = Told {
         file,
-        source: source.as_slice(),
+        source,
         composition: &composition,
         input,
     };
@@ -70,7 +91,7 @@ pub fn loaded<F: Store>(alloc: Global, name: &str, store: &F) -> Result<Vec<u8>,
     }
 }
 
-/// The composition of this name, where the bytes are a source that has it.
+/// The composition of this name, where the source has it.
 fn composed(
     alloc: Global,
     source: &[u8],
@@ -78,9 +99,6 @@ fn composed(
 ) -> Result<Option<Composition>, OutOfMemory>
     ensures { IfOk result (λ c. IsComposed source.now (option_copied name.entry) c) }
 {
-    if is_object(source) {
-        return Ok(None);
-    }
     match compose_text(alloc, source, name) {
         Ok(composition) => Ok(Some(composition)),
         Err(Refusal::OutOfMemory) => Err(OutOfMemory),
@@ -190,7 +208,7 @@ fn put_monitor(alloc: Global, text: &mut String, told: &Told<'_>) -> Result<(), 
 }
 
 /// The log that the bytes are, if they are one. They are at hand, so that no device fails.
-fn heard_log(alloc: Global, types: &Types, bytes: &[u8]) -> Result<Option<Log>, OutOfMemory>
+pub fn heard_log(alloc: Global, types: &Types, bytes: &[u8]) -> Result<Option<Log>, OutOfMemory>
     ensures log { IfOk result (λ heard. IfSome heard (λ log. ReadsLog types.now bytes.now (logged log))) }
     ensures none { IfOk result (λ heard. heard ≡ None → IsNoLog types.now bytes.now) }
 {

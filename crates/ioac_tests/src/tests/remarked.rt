@@ -1,6 +1,6 @@
 //! What `--explain` adds, outcome by outcome.
 
-use crate::tests::shelf::{Given, Ran, run};
+use crate::tests::shelf::{Given, Ran, object, run};
 use ioa_rows::{column, columns, is_row};
 use std::alloc::Global;
 use std::process::Abort;
@@ -69,16 +69,33 @@ check f | automaton C^signature output tick(k: Int)^states c: Int^transitions^  
 check f | automaton C^signature output tick(k: Int)^states c: Int := true^transitions^  output tick^  pre c < 9^  propose k := c^  eff c := c + 1 |  | f, line 3:^    states c: Int := true^warning: f, line 5: no precondition names k, so tick is enabled with any value of it^ | E7
 "#;
 
-/// What the program prints by these words.
+/// The same, where the file is the object of this source: of a monitor what can be said without the source, and of what is no monitor nothing.
+const OBJECTS: &str = r#"
+monitor f | automaton C^signature output tick(k: Int)^states c: Int^transitions output tick pre k = c propose k := c eff c := c + 1^composition One components A: C | {"act":"tick(0)","who":0}^{"act":"other","who":1}^{"end":"done after 2"}^ | the specification has 1 of 2 actions of the log^
+monitor f | automaton C^signature output tick(k: Int)^states c: Int^transitions output tick pre k = c propose k := c eff c := c + 1^composition One components A: C | {"act":"other","who":1}^{"end":"done after 1"}^ | the specification has 0 of 1 actions of the log: nothing was specified^
+monitor f --comp One | automaton C^signature output tick(k: Int)^states c: Int^transitions output tick pre k = c propose k := c eff c := c + 1^composition One components A: C | {"act":"tick(0)","who":0}^{"act":"other","who":1}^{"act":"tick(5)","who":0}^{"end":"done after 3"}^ | the specification has 2 of 3 actions of the log^log, line 3:^    {"act":"tick(5)","who":0}^tick(5) is not enabled in A^
+-- the action at which a log ends by a fault is none that is monitored; another's fault is told with its component
+monitor f | automaton C^signature output tick(k: Int)^states c: Int^transitions output tick pre k = c propose k := c eff c := c + 1^composition One components A: C | {"act":"tick(0)","who":0}^{"act":"tick(5)","who":0}^{"end":"fault 1 in component 0 at 1"}^ | the specification has 1 of 1 actions of the log^
+monitor f | automaton A^signature output a^transitions output a^automaton B^signature input a^states n: Int^transitions input a eff n := 1 mod n^composition Two components X: A; Y: B | {"act":"a","who":0}^{"end":"done after 1"}^ | the specification has 1 of 1 actions of the log^log, line 1:^    {"act":"a","who":0}^fault 2 of a in Y: the divisor is 0^
+monitor f | automaton C^signature output tick(k: Int)^transitions output tick propose k := 0^composition One components A: C | {"act":"tick(0)","who":0}^tick^ | log, line 2:^    tick^ | L1
+-- what is no monitor
+run f --alone --turns 1 | automaton D^signature internal a^states n: Int^transitions internal a eff n := 1 div n^composition One components E: D |  |
+replay f | automaton C^signature output tick(k: Int)^states c: Int^transitions output tick pre k = c propose k := c eff c := c + 1^composition One components A: C | tick(5)^
+replay f --log | automaton C^signature output tick(k: Int)^states c: Int^transitions output tick pre k = c propose k := c eff c := c + 1^composition One components A: C | {"act":"tick(5)","who":0}^{"end":"done after 1"}^ | log, line 1:^    {"act":"tick(5)","who":0}^ | L4
+monitor f | automaton C^signature internal a^transitions internal a^composition One components A: C | {"end":"done after 0"}^ |  | L7
+"#;
+
+/// What the program prints by these words and this file.
 fn ran<H: Abort + Threads + Wait + Clock + Sync>(
     rt: &H,
     alloc: Global,
     words: &str,
+    file: &[u8],
     columns: &[String],
 ) -> Ran {
     let given = Given {
         words,
-        file: column(columns, 1).as_bytes(),
+        file,
         list: column(columns, 2),
     };
     run(rt, alloc, &given)
@@ -97,30 +114,56 @@ fn told<H: Abort + Threads + Wait + Clock + Sync>(
     let code = column(columns, 4);
     if !code.is_empty() {
         let words = format!(in alloc; "explain {code}").expect(rt, "memory");
-        let said = ran(rt, alloc, words.as_str(), columns);
+        let said = ran(rt, alloc, words.as_str(), b"", columns);
         told.push(b'\n').expect(rt, "memory");
         told.extend_from_slice(&said.output).expect(rt, "memory");
     }
     told
 }
 
-fn expect_remark<H: Abort + Threads + Wait + Clock + Sync>(rt: &H, alloc: Global, row: &str) {
-    let columns = columns(alloc, row).expect(rt, "columns");
-    let words = column(&columns, 0);
-    let without = ran(rt, alloc, words, &columns);
+fn expect_remark<H: Abort + Threads + Wait + Clock + Sync>(
+    rt: &H,
+    alloc: Global,
+    row: &str,
+    file: &[u8],
+    columns: &[String],
+) {
+    let words = column(columns, 0);
+    let without = ran(rt, alloc, words, file, columns);
     let flagged = format!(in alloc; "{words} --explain").expect(rt, "memory");
-    let with = ran(rt, alloc, flagged.as_str(), &columns);
+    let with = ran(rt, alloc, flagged.as_str(), file, columns);
     assert!(rt; with.output == without.output, "output in {row}");
     assert!(rt; with.status == without.status, "status in {row}");
-    let wanted = told(rt, alloc, &without.errors, &columns);
+    let wanted = told(rt, alloc, &without.errors, columns);
     assert!(rt; with.errors == wanted, "errors in {row}");
+}
+
+fn expect_of_source<H: Abort + Threads + Wait + Clock + Sync>(rt: &H, alloc: Global, row: &str) {
+    let columns = columns(alloc, row).expect(rt, "columns");
+    let file = column(&columns, 1).as_bytes();
+    expect_remark(rt, alloc, row, file, &columns);
+}
+
+fn expect_of_object<H: Abort + Threads + Wait + Clock + Sync>(rt: &H, alloc: Global, row: &str) {
+    let columns = columns(alloc, row).expect(rt, "columns");
+    let file = object(rt, alloc, column(&columns, 1));
+    expect_remark(rt, alloc, row, &file, &columns);
 }
 
 #[test]
 fn outcomes_are_explained(rt: HostRuntime) {
     for row in REMARKS.lines() {
         if is_row(row) {
-            expect_remark(&rt, rt.alloc(), row);
+            expect_of_source(&rt, rt.alloc(), row);
+        }
+    }
+}
+
+#[test]
+fn outcomes_of_objects_are_explained(rt: HostRuntime) {
+    for row in OBJECTS.lines() {
+        if is_row(row) {
+            expect_of_object(&rt, rt.alloc(), row);
         }
     }
 }
