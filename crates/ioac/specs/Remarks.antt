@@ -1,5 +1,5 @@
 -- What is told, where an explanation is asked for, of a request that was served: by what the files may hold now, and by what was heard of standard input.
-use Rattle.std.specs.Prelude.{◌≡◌, ◌≢◌, ◌⊎◌, ◌++◌, ℕ, Bool, true, false, if◌then◌else◌, List, [], Option, Some, None, codes}
+use Rattle.std.specs.Prelude.{◌≡◌, ◌≢◌, ◌⊎◌, ◌++◌, ℕ, true, false, if◌then◌else◌, List, [], Option, Some, None, codes}
 use Rattle.std.specs.Borrow.{Bor}
 use Rattle.std.specs.Option.{option_copied, option_map}
 use Rattle.ioa_value.specs.Actions.{Act, Name}
@@ -12,8 +12,8 @@ use Rattle.ioa_compose.specs.Held.{composed_of}
 use Rattle.ioa_compose.specs.Stands.{Stands}
 use Rattle.ioa_compile.specs.Programs.{Prog}
 use Rattle.ioa_object.specs.declared.failure.ObjErr.{ObjErr}
-use Rattle.ioa_system.specs.Logs.{Logged, actions_of}
-use Rattle.ioa_log.specs.LogTexts.{GoesOnAt, HasNoEnd, NoEntryAt, NotJsonAt, ReadsLog}
+use Rattle.ioa_system.specs.Logs.{Logged, actions_of, is_fault, log_end, logged}
+use Rattle.ioa_log.specs.LogTexts.{GoesOnAt, HasNoEnd, NoEntryAt, NotJsonAt, ReadsLog, log_text}
 use Rattle.ioa_account.specs.declared.remarks.Told.{Told}
 use Rattle.ioa_account.specs.Objects.{TellsObject}
 use Rattle.ioa_account.specs.Quoted.{line_text}
@@ -22,6 +22,7 @@ use Rattle.ioac.specs.declared.remarks.ended.Ended.{Ended}
 use Rattle.ioa_request.specs.declared.request.Request.{Request}
 use Rattle.ioa_serving.specs.declared.status.Status.{Status}
 use Rattle.ioa_serving.specs.declared.failure.Failure.{Failure}
+use Rattle.ioa_serving.specs.declared.run.Ran.{Ran}
 use Rattle.ioa_serving.specs.Failing.{IsRefusedGiven, IsRefusedSource}
 use Rattle.ioa_serving.specs.Headline.{Declares, IsObjectOf, begins_object}
 use Rattle.ioa_serving.specs.Logs.{performed_in}
@@ -92,16 +93,14 @@ TellsListEnd t before after = OfList t (TellsEnd t (list_line t)) before after
 abbrev pub TellsLogEnd : Told → List ℕ → List ℕ → Type 0
 TellsLogEnd t before after = OfLog t (λ log. TellsEnd t (log_line t) (actions_of log)) before after
 
--- how the fault of a run is looked at
-abbrev pub run_text : Bool → Status → List ℕ
-run_text is_log Status.Faulted =
-    if is_log then codes "`ioac replay --log --explain` tells more, with this log on standard input\n"
-    else codes "with `--log` the run's log is printed, of which `ioac replay --log --explain` tells more\n"
-run_text is_log Status.Done = []
-run_text is_log Status.NotAccepted = []
-run_text is_log Status.Refused = []
-run_text is_log Status.BadCommandLine = []
-run_text is_log Status.Unable = []
+-- of a run that a fault ended the same as of its log
+abbrev pub TellsRunEnd : Status → Told → List ℕ → List ℕ → Type 0
+TellsRunEnd Status.Faulted t before after = TellsLogEnd t before after
+TellsRunEnd Status.Done t before after = after ≡ before
+TellsRunEnd Status.NotAccepted t before after = after ≡ before
+TellsRunEnd Status.Refused t before after = after ≡ before
+TellsRunEnd Status.BadCommandLine t before after = after ≡ before
+TellsRunEnd Status.Unable t before after = after ≡ before
 
 -- what is told of a request that was served to this status, or whose log is of another run
 abbrev pub Tells : Request → Ended → Told → List ℕ → List ℕ → Type 0
@@ -114,7 +113,7 @@ Tells (Request.ReplayLogStates file composition) (Ended.Served status) t before 
 Tells (Request.Chart file composition) (Ended.Served status) t before after = TellsLogEnd t before after
 Tells (Request.ReplayInvariants file composition) (Ended.Served status) t before after = OfLog t (λ log. OfHosts t (λ h. TellsInspected t h log)) before after
 Tells (Request.Monitor file composition) (Ended.Served status) t before after = OfLog t (λ log. OfHosts t (λ h. TellsMonitored t h (performed_in log))) before after
-Tells (Request.Run settings) (Ended.Served status) t before after = after ≡ before ++ run_text settings.log status
+Tells (Request.Run settings) (Ended.Served status) t before after = TellsRunEnd status t before after
 Tells (Request.Graph file composition) (Ended.Served status) t before after = after ≡ before
 Tells (Request.Check file compositions) (Ended.Served status) t before after = after ≡ before
 Tells (Request.Compile file out composition) (Ended.Served status) t before after = after ≡ before
@@ -198,6 +197,11 @@ IsChecking (Request.Compile file out composition) = ⊥
 IsChecking (Request.Dump file) = ⊥
 IsChecking (Request.Explain topic) = ⊥
 IsChecking Request.Library = ⊥
+
+-- the log of a run that a fault ended, which stands for what would be heard
+abbrev pub fault_log_of : Option Ran → Option (List ℕ)
+fault_log_of None = None
+fault_log_of (Some r) = if is_fault (log_end r.log.end) then Some (log_text r.program.types (logged r.log)) else None
 
 -- what is told of a request that was served to this status, behind the warnings
 abbrev pub IsRemark : (Name → List ℕ → Type 0) → (Name → Type 0) → Request → List ℕ → Status → List ℕ → Type 0

@@ -167,8 +167,8 @@ fn answer_and_explain<
     ensures passed { (result ≡ statuses.Unable → ⊥) → (R.failure_count input.new.inner ≡ R.failure_count input.old.inner) × (W.failure_count output.new ≡ W.failure_count output.old) × (E.failure_count errors.new ≡ E.failure_count errors.old) }
 {
     input.keep(alloc);
-    let (served, answered) = serve_and_tell(rt, alloc, asked, store, input, output, errors);
-    let text = remarks_or_none(alloc, asked, &served, store, input.kept());
+    let (served, ran, answered) = serve_and_tell(rt, alloc, asked, store, input, output, errors);
+    let text = remarks_or_none(alloc, asked, &served, &ran, store, input.kept());
     put(text.as_str(), answered, errors)
 }
 
@@ -196,11 +196,11 @@ fn answer<
     ensures passed { (result ≡ statuses.Unable → ⊥) → (R.failure_count input.new ≡ R.failure_count input.old) × (W.failure_count output.new ≡ W.failure_count output.old) × (E.failure_count errors.new ≡ E.failure_count errors.old) }
     ensures once { FailedOnceAtMost (R.failure_count input.old) (R.failure_count input.new) × FailedOnceAtMost (W.failure_count output.old) (W.failure_count output.new) × FailedOnceAtMost (E.failure_count errors.old) (E.failure_count errors.new) }
 {
-    let (_served, status) = serve_and_tell(rt, alloc, asked, store, input, output, errors);
+    let (_served, _ran, status) = serve_and_tell(rt, alloc, asked, store, input, output, errors);
     status
 }
 
-/// Does what is asked, and tells why not: answers what came of it, and the exit status.
+/// Does what is asked, and tells why not: answers what came of it, the run, where there was one, and the exit status.
 #[tactic(auto, using(crate::proofs::Reported::no_device_failed))]
 fn serve_and_tell<
     H: Threads + Wait + Clock + Sync,
@@ -216,22 +216,22 @@ fn serve_and_tell<
     input: &mut R,
     output: &mut W,
     errors: &mut E,
-) -> (Result<Served, Failure>, Status)
+) -> (Result<Served, Failure>, Option<Ran>, Status)
     ensures tells { (wants : List ℕ) × AreWantsOf asked.now wants
         × IfOk result.0 (λ s. IsServed (F.holds store.old) (Places (F.begins store.old) (F.saves store.old store.new)) asked.now (R.remaining input.old) (W.contents output.old) (W.contents output.new) (reports_of s) wants s.status
-        × IsFinished (reports_of s) wants s.status (E.contents errors.old) (E.contents errors.new) (HasFailed (E.failure_count errors.old) (E.failure_count errors.new)) result.1)
+        × IsFinished (reports_of s) wants s.status (E.contents errors.old) (E.contents errors.new) (HasFailed (E.failure_count errors.old) (E.failure_count errors.new)) result.2)
         × IfErr result.0 (λ e. IsUnserved (F.holds store.old) (F.lacks store.old) (Blocks (F.begins store.old) (F.bars store.old)) (Places (F.begins store.old) (F.saves store.old store.new)) (store.new ≡ store.old) asked.now (R.remaining input.old)
         (HasFailed (R.failure_count input.old) (R.failure_count input.new)) (HasFailed (W.failure_count output.old) (W.failure_count output.new))
         (W.contents output.old) (W.contents output.new) wants e
-        × IsReported e wants (E.contents errors.old) (E.contents errors.new) (HasFailed (E.failure_count errors.old) (E.failure_count errors.new)) result.1) }
+        × IsReported e wants (E.contents errors.old) (E.contents errors.new) (HasFailed (E.failure_count errors.old) (E.failure_count errors.new)) result.2) }
     ensures kept { (IsSaving asked.now → ⊥) → store.new ≡ store.old }
     ensures unread { (IsReading asked.now → ⊥) → input.new ≡ input.old }
-    ensures passed { (result.1 ≡ statuses.Unable → ⊥) → (R.failure_count input.new ≡ R.failure_count input.old) × (W.failure_count output.new ≡ W.failure_count output.old) × (E.failure_count errors.new ≡ E.failure_count errors.old) }
+    ensures passed { (result.2 ≡ statuses.Unable → ⊥) → (R.failure_count input.new ≡ R.failure_count input.old) × (W.failure_count output.new ≡ W.failure_count output.old) × (E.failure_count errors.new ≡ E.failure_count errors.old) }
     ensures once { FailedOnceAtMost (R.failure_count input.old) (R.failure_count input.new) × FailedOnceAtMost (W.failure_count output.old) (W.failure_count output.new) × FailedOnceAtMost (E.failure_count errors.old) (E.failure_count errors.new) }
 {
     let (served, ran) = serve(rt, alloc, asked, store, input, output);
     let status = settle(alloc, &served, &ran, errors);
-    (served, status)
+    (served, ran, status)
 }
 
 /// Tells what is left to tell of what was served, or why it was not, and of the run's workers; and answers the exit status.

@@ -1,6 +1,6 @@
 //! What there is to say of how a list, a log or a run ended: of the action that was not performed, and of the states before it.
 
-ghost use Rattle.std.specs.Prelude.{◌≡◌, ◌++◌, IfOk, IfSome, None, OnOk};
+ghost use Rattle.std.specs.Prelude.{◌≡◌, IfOk, IfSome, None, OnOk};
 ghost use Rattle.std.specs.Option.{option_copied};
 ghost use Rattle.std.specs.String.{string_bytes};
 ghost use Rattle.ioa_system.specs.Logs.{actions_of, logged};
@@ -8,7 +8,7 @@ ghost use Rattle.ioa_log.specs.LogTexts.{ReadsLog};
 ghost use Rattle.ioa_account.specs.Remarks.{TellsDifference, TellsInspected, TellsMonitored};
 ghost use Rattle.ioa_serving.specs.Logs.{performed_in};
 ghost use Rattle.ioac.specs.Remarks as spec;
-ghost use Rattle.ioac.specs.Remarks.{IsComposed, IsLoaded, IsNoLog, OfHosts, OfLog, Tells, TellsEnded, TellsListEnd, TellsLogEnd, TellsSource};
+ghost use Rattle.ioac.specs.Remarks.{IsComposed, IsLoaded, IsNoLog, OfHosts, OfLog, Tells, TellsEnded, TellsListEnd, TellsLogEnd, TellsRunEnd, TellsSource};
 
 use crate::remarks::nameless;
 use crate::remarks::places::source_of;
@@ -140,7 +140,7 @@ fn put_served(
         Request::Chart { .. } => put_end_of_log(alloc, text, told),
         Request::ReplayInvariants { .. } => put_invariants(alloc, text, told),
         Request::Monitor { .. } => put_monitor(alloc, text, told),
-        Request::Run(settings) => put_run_end(text, settings.log, status),
+        Request::Run(_) => put_end_of_run(alloc, text, status, told),
         Request::Graph { .. } => Ok(()),
         Request::Check { .. } => Ok(()),
         Request::Compile { .. } => Ok(()),
@@ -170,6 +170,25 @@ fn put_end_of_log(alloc: Global, text: &mut String, told: &Told<'_>) -> Result<(
             put_log_end(alloc, text, told, &actions)
         }
         None => Ok(()),
+    }
+}
+
+/// Puts the action at which a fault ended a run, and which fault it is: the same as of its log. Of a run that no fault ended there is nothing to say.
+fn put_end_of_run(
+    alloc: Global,
+    text: &mut String,
+    status: Status,
+    told: &Told<'_>,
+) -> Result<(), OutOfMemory>
+    ensures { OnOk result (TellsRunEnd status told.now (string_bytes text.old) (string_bytes text.new)) }
+{
+    match status {
+        Status::Faulted => put_end_of_log(alloc, text, told),
+        Status::Done => Ok(()),
+        Status::NotAccepted => Ok(()),
+        Status::Refused => Ok(()),
+        Status::BadCommandLine => Ok(()),
+        Status::Unable => Ok(()),
     }
 }
 
@@ -224,19 +243,4 @@ pub fn heard_log(alloc: Global, types: &Types, bytes: &[u8]) -> Result<Option<Lo
         Err(LogErr::WrongOwner(_)) => Ok(None),
         Err(LogErr::Diverges(_)) => Ok(None),
     }
-}
-
-/// Puts how the fault of a run can be looked at.
-fn put_run_end(text: &mut String, is_log: bool, status: Status) -> Result<(), OutOfMemory>
-    ensures { OnOk result (string_bytes text.new ≡ string_bytes text.old ++ spec.run_text is_log status) }
-{
-    if status != Status::Faulted {
-        return Ok(());
-    }
-    text.push_str(if is_log {
-        "`ioac replay --log --explain` tells more, with this log on standard input\n"
-    } else {
-        "with `--log` the run's log is printed, of which `ioac replay --log --explain` tells more\n"
-    })?;
-    Ok(())
 }

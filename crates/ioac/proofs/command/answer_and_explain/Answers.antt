@@ -12,7 +12,7 @@ returns-clause-answers g c =
     let telling = g.E.Write.contents c.put.new.errors in
     let so_far = g.E.Device.failure_count c.serve_and_tell-served.new.errors in
     let failed = HasFailed so_far (g.E.Device.failure_count c.put.new.errors) in
-    let answered = c.serve_and_tell-served.result.1 in
+    let answered = c.serve_and_tell-served.result.2 in
     let tells = c.serve_and_tell-served.ensures.tells in (
       said,
       so_far,
@@ -31,3 +31,6 @@ pub returns-clause-passed : goal.returns-clause-passed
 returns-clause-passed g c = λ whole.
     let so = c.serve_and_tell-served.ensures.passed (told_through _ _ _ _ _ _ c.put.ensures.puts whole) in
     (so.0 ∙ ap g.R.Device.failure_count c.keep.ensures.inner, so.1, c.put.ensures.passed whole ∙ so.2)
+
+pub returns-clause-unread : goal.returns-clause-unread
+returns-clause-unread g c = λ none. ap (λ h. h.inner) (c.serve_and_tell-served.ensures.unread none) ∙ c.keep.ensures.inner
