@@ -21,7 +21,7 @@ use Rattle.ioa_tree.proofs.Agreement.{val_same}
 use Rattle.ioa_compose.specs.Faults.{condition_fault, fault_of}
 use Rattle.ioa_compose.specs.Fine.{AreOver, IsSound}
 use Rattle.ioa_compose.specs.Rewriting.{added_variables, spelled}
-use Rattle.ioa_compose.specs.Stands.{Holds, HoldsAt, IsMadeOf, Stands}
+use Rattle.ioa_compose.specs.Simulates.{SlotsHold, SlotsHoldAt, IsMadeOf, Simulates}
 use Rattle.ioa_compose.proofs.FirstVariables.{values_before}
 use Rattle.ioa_compose.proofs.QuestionLemmas.{all_found}
 use Rattle.ioa_compose.proofs.StandLemmas.{first_values, long_enough, none_spelled}
@@ -32,7 +32,7 @@ use Rattle.ioa_account.specs.Faults.{fault_among, fault_at, fault_in, host_fault
 -- ---- of one component, made of a host
 
 module _ (types : Table) (p : Host) (m : Member) (made : IsMadeOf p m) (e : Expr) (spells : list_all spelled (names_of_expr e) ≡ true) where
-  declared_same : (h : HostState Env) (slots : List Val) → Holds p h slots → (x : Name) → spelled x ≡ true → state_of m.instance.automaton slots x ≡ h.inner x
+  declared_same : (h : HostState Env) (slots : List Val) → SlotsHold p h slots → (x : Name) → spelled x ≡ true → state_of m.instance.automaton slots x ≡ h.inner x
   declared_same h slots k x s =
       let vs = p.instance.automaton.variables in
       let n = length vs in
@@ -42,7 +42,7 @@ module _ (types : Table) (p : Host) (m : Member) (made : IsMadeOf p m) (e : Expr
       ∙ ap (λ (j : ℕ). values_of (variable_names p.instance.automaton) (take j slots) x) (sym (length-map vs (λ (v : VariableTree). v.field.name)))
       ∙ first_values (variable_names p.instance.automaton) slots x ∙ sym (k.values x)
 
-  pub condition_alike : (h : HostState Env) (slots : List Val) → Holds p h slots
+  pub condition_alike : (h : HostState Env) (slots : List Val) → SlotsHold p h slots
       → condition_fault types m.instance e (state_of m.instance.automaton slots) ≡ condition_fault types p.instance e h.inner
   condition_alike h slots k =
       ap fault_of (val_same types spelled (over (state_of m.instance.automaton slots) (formal_values m.instance)) (over h.inner (formal_values p.instance))
@@ -52,13 +52,13 @@ abbrev IsSpelled : InvariantTree → Type 0
 IsSpelled v = list_all spelled (names_of_expr v.condition) ≡ true
 
 member_alike : (types : Table) (v : InvariantTree) (p : Host) (m : Member) → IsSpelled v → IsMadeOf p m → m.instance.automaton.name ≡ p.instance.automaton.name
-    → (h : HostState Env) (slots : List Val) → Holds p h slots → member_fault types slots v m ≡ host_fault types h v p
+    → (h : HostState Env) (slots : List Val) → SlotsHold p h slots → member_fault types slots v m ≡ host_fault types h v p
 member_alike types v p m spells made name h slots k =
     ap (λ (x : Name). if bytes_eq v.automaton x then condition_fault types m.instance v.condition (state_of m.instance.automaton slots) else None) name
     ∙ ap (λ (f : Option Fault). if bytes_eq v.automaton p.instance.automaton.name then f else None) (condition_alike types p m made v.condition spells h slots k)
 
 one_alike : (types : Table) (o : Option InvariantTree) (p : Host) (m : Member) → IfSome o IsSpelled → IsMadeOf p m → m.instance.automaton.name ≡ p.instance.automaton.name
-    → (h : HostState Env) (slots : List Val) → Holds p h slots
+    → (h : HostState Env) (slots : List Val) → SlotsHold p h slots
     → option_and_then (λ v. member_fault types slots v m) o ≡ option_and_then (λ v. host_fault types h v p) o
 one_alike types None p m spells made name h slots k = refl
 one_alike types (Some v) p m spells made name h slots k = member_alike types v p m spells made name h slots k
@@ -86,7 +86,7 @@ names is = map (λ (i : Instance). i.automaton.name) is
 
 faults_from : (types : Table) (o : Option InvariantTree) → IfSome o IsSpelled → (all ps : List Host) (ms : List Member) (i : ℕ) (hs : List (HostState Env)) (vss : List (List Val)) (k : ℕ)
     → ((j : ℕ) → slice_get all (i + j) ≡ slice_get ps j) → AllZip IsMadeOf ps ms → names (map (λ (m : Member). m.instance) ms) ≡ names (map (λ (p : Host). p.instance) ps)
-    → AllRelated (HoldsAt all) i hs vss → fault_in types o ms vss k ≡ fault_among types o ps hs k
+    → AllRelated (SlotsHoldAt all) i hs vss → fault_in types o ms vss k ≡ fault_among types o ps hs k
 faults_from types o spells all [] [] i hs vss k at made same holds = no_member types o (slice_get vss k) k ∙ sym (no_host types o (slice_get hs k) k)
 faults_from types o spells all [] (m ∷ ms) i hs vss k at made same holds = absurd made
 faults_from types o spells all (p ∷ ps) [] i hs vss k at made same holds = absurd made
@@ -102,7 +102,7 @@ faults_from types o spells all (p ∷ ps) (m ∷ ms) i (h ∷ hs) (vs ∷ vss) (
     (λ j. let next : i + 1 + j ≡ i + suc j = omega arith in ap (slice_get all) next ∙ at (suc j)) made.1 rest holds.1
 
 pub faults_alike : (c : Composed) (vss : List (List Val)) (i k : ℕ) (f : Option Fault) → IsSound c → f ≡ slots_fault c vss i k
-    → (h : Hosted) (hs : List (HostState Env)) → Stands h c → AllRelated (HoldsAt h.hosts) 0 hs vss → f ≡ invariant_fault h hs i k
+    → (h : Hosted) (hs : List (HostState Env)) → Simulates h c → AllRelated (SlotsHoldAt h.hosts) 0 hs vss → f ≡ invariant_fault h hs i k
 faults_alike c vss i k f sound e h hs stands holds =
     e
     ∙ faults_from c.types (slice_get c.invariants k) (spells (slice_get c.invariants k) refl) h.hosts h.hosts c.members 0 hs vss i
@@ -113,7 +113,7 @@ faults_alike c vss i k f sound e h hs stands holds =
     spells None at = tt
     spells (Some v) at = all_found IsSpelled c.invariants k v sound.conditions at
 
-pub no_invariant : (c : Composed) (i k : ℕ) → length c.invariants ≤ k → (h : Hosted) (hs : List (HostState Env)) → Stands h c → None ≡ invariant_fault h hs i k
+pub no_invariant : (c : Composed) (i k : ℕ) → length c.invariants ≤ k → (h : Hosted) (hs : List (HostState Env)) → Simulates h c → None ≡ invariant_fault h hs i k
 no_invariant c i k past h hs stands =
     let none : slice_get h.invariants k ≡ None = ap (λ vs. slice_get vs k) (sym stands.invariants) ∙ slice_get_past c.invariants k past in
     sym (ap (λ o. fault_among h.types o h.hosts hs i) none ∙ nothing (slice_get hs i))

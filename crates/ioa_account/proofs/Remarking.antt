@@ -11,8 +11,8 @@ use Rattle.ioa_tree.specs.Hosts.{Hosted, first_broken_host, host_instances, host
 use Rattle.ioa_tree.specs.Invariants.{Broken}
 use Rattle.ioa_tree.specs.Runs.{Ending}
 use Rattle.ioa_tree.specs.Steps.{participants}
-use Rattle.ioa_compose.specs.Stands.{Stands}
-use Rattle.ioa_compile.specs.Means.{Means}
+use Rattle.ioa_compose.specs.Simulates.{Simulates}
+use Rattle.ioa_compile.specs.Implements.{Implements}
 use Rattle.ioa_compile.specs.Programs.{Prog}
 use Rattle.ioa_compile.specs.Tables.{tabled}
 use Rattle.ioa_system.specs.declared.outcomes.Step.{Step}
@@ -68,7 +68,7 @@ known_among_alike ps qs (a ∷ acts) same =
     ap₂ (λ known rest. cond known (a ∷ rest) rest) (known_first ps qs a (same a)) (known_among_alike ps qs acts same)
 
 -- of a composition's program and of the hosts that the composition stands for
-pub known_to_hosts : (p : Prog) (c : Composed) (acts known : List Act) (h : Hosted) → Stands h c → Means p c → known ≡ known_among (tabled p) acts → known ≡ known_among (hosts_of h) acts
+pub known_to_hosts : (p : Prog) (c : Composed) (acts known : List Act) (h : Hosted) → Simulates h c → Implements p c → known ≡ known_among (tabled p) acts → known ≡ known_among (hosts_of h) acts
 known_to_hosts p c acts known h stands means e = e ∙ known_among_alike (tabled p) (hosts_of h) acts (λ a. host_participants p h c a stands means)
 
 -- ---- what a monitor answers

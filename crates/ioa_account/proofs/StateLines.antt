@@ -24,7 +24,7 @@ use Rattle.ioa_tree.specs.Tree.{CrashTree, VariableTree}
 use Rattle.ioa_tree.proofs.FineParts.{fine_parts}
 use Rattle.ioa_compose.specs.Fine.{AllFine, IsFine, IsSound, component_limits}
 use Rattle.ioa_compose.specs.Rewriting.{added_variables}
-use Rattle.ioa_compose.specs.Stands.{Holds, HoldsAt, IsMadeOf, Stands, TellsUp}
+use Rattle.ioa_compose.specs.Simulates.{SlotsHold, SlotsHoldAt, IsMadeOf, Simulates, TellsUp}
 use Rattle.ioa_picture.specs.Lines.{numbered}
 use Rattle.ioa_account.specs.States.{component_lines, host_lines, is_down, is_down_at, is_down_by, is_down_in_slots, is_down_of, slot_line, slot_lines, slot_name, slots_at, slots_in, state_lines, tells_down, up_line, value_line, variable_line}
 
@@ -125,7 +125,7 @@ long_enough : (crash : Option CrashTree) (n : ℕ) (up : Bool) (vs : List Val) �
 long_enough None n up vs tells = omega (arith, tells.0)
 long_enough (Some names) n up vs tells = omega (arith, tells.0)
 
-host_shows : (types : Table) (most : Limits) (p : Host) (m : Member) (h : HostState Env) (vs : List Val) → IsMadeOf p m → IsFine most m → Holds p h vs
+host_shows : (types : Table) (most : Limits) (p : Host) (m : Member) (h : HostState Env) (vs : List Val) → IsMadeOf p m → IsFine most m → SlotsHold p h vs
     → numbered (slot_line types m) 0 vs ≡ host_lines types p h
 host_shows types most p m h vs made fine holds =
     let own = p.instance.automaton.variables in
@@ -168,7 +168,7 @@ none_show types ms i (vs ∷ vss) none =
 
 hosts_show : (types : Table) (most : Limits) (all ps : List Host) (every ms : List Member) (i : ℕ) (hs : List (HostState Env)) (vss : List (List Val))
     → ((k : ℕ) → slice_get all (i + k) ≡ slice_get ps k) → ((k : ℕ) → slice_get every (i + k) ≡ slice_get ms k)
-    → AllZip IsMadeOf ps ms → AllFine most ms → AllRelated (HoldsAt all) i hs vss
+    → AllZip IsMadeOf ps ms → AllFine most ms → AllRelated (SlotsHoldAt all) i hs vss
     → numbered (slots_in types every) i vss ≡ state_lines types ps hs
 hosts_show types most all [] every [] i hs vss at am made fine holds = none_show types every i vss am
 hosts_show types most all [] every (m ∷ ms) i hs vss at am made fine holds = absurd made
@@ -184,8 +184,8 @@ hosts_show types most all (p ∷ ps) every (m ∷ ms) i (h ∷ hs) (vs ∷ vss) 
 from_start : {X : Type 0} (xs : List X) (k : ℕ) → slice_get xs (0 + k) ≡ slice_get xs k
 from_start xs k = let here : 0 + k ≡ k = omega arith in ap (slice_get xs) here
 
-pub states_show : (types : Table) (c : Composed) (h : Hosted) (hs : List (HostState Env)) (vss : List (List Val)) → types ≡ c.types → IsSound c → Stands h c
-    → AllRelated (HoldsAt h.hosts) 0 hs vss → numbered (slots_in types c.members) 0 vss ≡ state_lines h.types h.hosts hs
+pub states_show : (types : Table) (c : Composed) (h : Hosted) (hs : List (HostState Env)) (vss : List (List Val)) → types ≡ c.types → IsSound c → Simulates h c
+    → AllRelated (SlotsHoldAt h.hosts) 0 hs vss → numbered (slots_in types c.members) 0 vss ≡ state_lines h.types h.hosts hs
 states_show types c h hs vss same sound stands holds =
     ap (λ ts. numbered (slots_in ts c.members) 0 vss) (same ∙ stands.types)
     ∙ hosts_show h.types component_limits h.hosts h.hosts c.members c.members 0 hs vss (from_start h.hosts) (from_start c.members) stands.members sound.members holds
@@ -193,7 +193,7 @@ states_show types c h hs vss same sound stands holds =
 -- the same of what is written behind a text
 pub states_told : {E : Type 0} (r : Result Unit E) (types : Table) (c : Composed) (vss : List (List Val)) (old new : List ℕ) → types ≡ c.types → IsSound c
     → OnOk r (new ≡ old ++ numbered (slots_in types c.members) 0 vss)
-    → OnOk r ((h : Hosted) (hs : List (HostState Env)) → Stands h c → AllRelated (HoldsAt h.hosts) 0 hs vss → new ≡ old ++ state_lines h.types h.hosts hs)
+    → OnOk r ((h : Hosted) (hs : List (HostState Env)) → Simulates h c → AllRelated (SlotsHoldAt h.hosts) 0 hs vss → new ≡ old ++ state_lines h.types h.hosts hs)
 states_told (Ok x) types c vss old new same sound e = λ h hs stands holds. e ∙ ap (λ l. old ++ l) (states_show types c h hs vss same sound stands holds)
 states_told (Err e) types c vss old new same sound k = tt
 
@@ -209,7 +209,7 @@ no_slots types ms i (Some vs) none = ap (λ o. slot_lines types o vs) none
 
 component_shows : (types : Table) (most : Limits) (all ps : List Host) (every ms : List Member) (i : ℕ) (hs : List (HostState Env)) (vss : List (List Val)) (k : ℕ)
     → ((j : ℕ) → slice_get all (i + j) ≡ slice_get ps j) → ((j : ℕ) → slice_get every (i + j) ≡ slice_get ms j)
-    → AllZip IsMadeOf ps ms → AllFine most ms → AllRelated (HoldsAt all) i hs vss
+    → AllZip IsMadeOf ps ms → AllFine most ms → AllRelated (SlotsHoldAt all) i hs vss
     → option_map_or (slots_in types every (i + k)) (slice_get vss k) [] ≡ component_lines types ps hs k
 component_shows types most all [] every [] i hs vss k at am made fine holds = no_slots types every (i + k) (slice_get vss k) (am k) ∙ sym (nothing (slice_get hs k))
 component_shows types most all [] every (m ∷ ms) i hs vss k at am made fine holds = absurd made
@@ -226,7 +226,7 @@ component_shows types most all (p ∷ ps) every (m ∷ ms) i (h ∷ hs) (vs ∷ 
 
 pub component_told : {E : Type 0} (r : Result Unit E) (types : Table) (c : Composed) (vss : List (List Val)) (number : ℕ) (old new : List ℕ) → types ≡ c.types → IsSound c
     → OnOk r (new ≡ old ++ slots_at types c.members vss number)
-    → OnOk r ((h : Hosted) (hs : List (HostState Env)) → Stands h c → AllRelated (HoldsAt h.hosts) 0 hs vss → new ≡ old ++ component_lines h.types h.hosts hs number)
+    → OnOk r ((h : Hosted) (hs : List (HostState Env)) → Simulates h c → AllRelated (SlotsHoldAt h.hosts) 0 hs vss → new ≡ old ++ component_lines h.types h.hosts hs number)
 component_told (Ok x) types c vss number old new same sound e = λ h hs stands holds.
     let here : number ≡ 0 + number = omega arith in
     e ∙ ap (λ ts. old ++ slots_at ts c.members vss number) (same ∙ stands.types)
@@ -254,7 +254,7 @@ down_shows (Some names) m n up vs same tells = ap (λ o. option_map_or tells_dow
 
 host_down : (all ps : List Host) (every ms : List Member) (i : ℕ) (hs : List (HostState Env)) (vss : List (List Val)) (k : ℕ)
     → ((j : ℕ) → slice_get all (i + j) ≡ slice_get ps j) → ((j : ℕ) → slice_get every (i + j) ≡ slice_get ms j)
-    → AllZip IsMadeOf ps ms → AllRelated (HoldsAt all) i hs vss
+    → AllZip IsMadeOf ps ms → AllRelated (SlotsHoldAt all) i hs vss
     → option_map_or (is_down_in_slots every (i + k)) (slice_get vss k) false ≡ is_down ps hs k
 host_down all [] every [] i hs vss k at am made holds = none_down every (i + k) (slice_get vss k) (am k) ∙ sym (not_down (slice_get hs k))
 host_down all [] every (m ∷ ms) i hs vss k at am made holds = absurd made
@@ -271,7 +271,7 @@ host_down all (p ∷ ps) every (m ∷ ms) i (h ∷ hs) (vs ∷ vss) (suc k) at a
     ∙ host_down all ps every ms (i + 1) hs vss k (later all ps i p at) (later every ms i m am) made.1 holds.1
 
 pub down_alike : (c : Composed) (vss : List (List Val)) (number : ℕ) (down : Bool) → down ≡ is_down_at c.members vss number
-    → (h : Hosted) (hs : List (HostState Env)) → Stands h c → AllRelated (HoldsAt h.hosts) 0 hs vss → down ≡ is_down h.hosts hs number
+    → (h : Hosted) (hs : List (HostState Env)) → Simulates h c → AllRelated (SlotsHoldAt h.hosts) 0 hs vss → down ≡ is_down h.hosts hs number
 down_alike c vss number down e h hs stands holds =
     let here : number ≡ 0 + number = omega arith in
     e ∙ ap (λ n. option_map_or (is_down_in_slots c.members n) (slice_get vss number) false) here

@@ -12,8 +12,8 @@ use Rattle.ioa_tree.specs.Hosts.{Host, Hosted, host_starts, hosts_of}
 use Rattle.ioa_tree.specs.Runs.{run}
 use Rattle.ioa_compose.specs.declared.member.Member as held
 use Rattle.ioa_compose.specs.Held.{member_of}
-use Rattle.ioa_compose.specs.Stands.{IsMadeOf, Stands}
-use Rattle.ioa_compile.specs.Means.{Means}
+use Rattle.ioa_compose.specs.Simulates.{IsMadeOf, Simulates}
+use Rattle.ioa_compile.specs.Implements.{Implements}
 use Rattle.ioa_compile.specs.Programs.{Prog}
 use Rattle.ioa_compile.specs.Tables.{start_states, tabled}
 use Rattle.ioa_system.specs.Preconditions.{precondition_faults}
@@ -40,14 +40,14 @@ unnamed xs i ps at made =
 -- ---- actions that are known
 
 pub known_hosts : {E : Type 0} (p : Prog) (acts : List Act) (r : Result ℕ E) → IfOk r (λ n. n ≡ known_actions (tabled p) acts)
-    → IfOk r (λ n. (h : Hosted) (c : Composed) → Stands h c → Means p c → n ≡ known_actions (hosts_of h) acts)
+    → IfOk r (λ n. (h : Hosted) (c : Composed) → Simulates h c → Implements p c → n ≡ known_actions (hosts_of h) acts)
 known_hosts p acts (Ok n) e = λ h c stands means. e ∙ known_alike (tabled p) (hosts_of h) acts (λ a. host_participants p h c a stands means)
 known_hosts p acts (Err e) k = tt
 
 -- ---- whether a precondition faults
 
 -- for the hosts as for the table, where their runs end
-pub early_alike : (p : Prog) (h : Hosted) (c : Composed) (acts : List Act) (i : ℕ) (ss : List (List Val)) → Stands h c → Means p c → ss ≡ (run (tabled p) acts (start_states p)).states
+pub early_alike : (p : Prog) (h : Hosted) (c : Composed) (acts : List Act) (i : ℕ) (ss : List (List Val)) → Simulates h c → Implements p c → ss ≡ (run (tabled p) acts (start_states p)).states
     → faults_early (tabled p) acts i ss ≡ faults_early (hosts_of h) acts i (run (hosts_of h) acts (host_starts h)).states
 early_alike p h c acts i ss stands means same = ap (faults_early (tabled p) acts i) same ∙ sym (at (slice_get acts i))
   where

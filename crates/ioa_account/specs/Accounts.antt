@@ -74,7 +74,7 @@ abbrev pub faults_early : {S : Type 0} → List (Component S) → List Act → �
 faults_early ps acts i ss = option_map_or (λ (a : Act). precondition_faults ps a ss) (slice_get acts i) false
 
 -- the account tells how and why the hosts' run over these actions, which reaches this, ends
-pub record Tells (h : Hosted) (acts : List Act) (r : Reached (HostState Env)) (a : Account) : Type 0 where
+pub record AccountsFor (h : Hosted) (acts : List Act) (r : Reached (HostState Env)) (a : Account) : Type 0 where
   pub end : ending_of a.end ≡ r.ending
   pub index : index_in r.ending ≡ Some a.index
   pub component : a.component ≡ component_in (hosts_of h) acts r.ending
@@ -84,7 +84,7 @@ pub record Tells (h : Hosted) (acts : List Act) (r : Reached (HostState Env)) (a
 -- there is one just where the run ends before all its actions are performed
 abbrev pub IsAccount : Hosted → List Act → Option Account → Type 0
 IsAccount h acts None = index_in (run (hosts_of h) acts (host_starts h)).ending ≡ None
-IsAccount h acts (Some a) = Tells h acts (run (hosts_of h) acts (host_starts h)) a
+IsAccount h acts (Some a) = AccountsFor h acts (run (hosts_of h) acts (host_starts h)) a
 
 -- ---- lines, which the trees do not keep
 

@@ -15,7 +15,7 @@ use Rattle.ioa_tree.specs.declared.tree.Invariant.{Invariant}
 use Rattle.ioa_tree.specs.Runs.{Ending, done, not_an_action_at, not_enabled_at, fault_at, run}
 use Rattle.ioa_compose.specs.declared.composition.Composition.{Composition}
 use Rattle.ioa_compose.specs.Held.{composed_of}
-use Rattle.ioa_compose.specs.Stands.{Stands}
+use Rattle.ioa_compose.specs.Simulates.{Simulates}
 use Rattle.ioa_system.specs.Endings.{ending_text}
 use Rattle.ioa_system.specs.Logs.{Logged, actions_of, is_fault}
 use Rattle.ioa_system.specs.Outcomes.{ending_of}
@@ -35,7 +35,7 @@ use Rattle.ioa_account.specs.States.{component_lines}
 
 -- it is the account of the composition's run over these actions
 abbrev pub IsAccountOf : Composition → List Act → Option Account → Type 0
-IsAccountOf c acts told = ((h : Hosted) → Stands h (composed_of c) → IsAccount h acts told) × TellsLine c.members acts told
+IsAccountOf c acts told = ((h : Hosted) → Simulates h (composed_of c) → IsAccount h acts told) × TellsLine c.members acts told
 
 -- a sentence, the transition as it stands in the source, and the variables of its component
 abbrev pub account_text : Told → Account → List ℕ

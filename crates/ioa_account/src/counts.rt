@@ -7,8 +7,8 @@ ghost use Rattle.ioa_tree.specs.Components.{has};
 ghost use Rattle.ioa_tree.specs.Compositions.{Composed, Member, instances_of};
 ghost use Rattle.ioa_tree.specs.Hosts.{Hosted, host_instances, hosts_of};
 ghost use Rattle.ioa_compose.specs.Held.{composed_of};
-ghost use Rattle.ioa_compose.specs.Stands.{Stands};
-ghost use Rattle.ioa_compile.specs.Means.{Means};
+ghost use Rattle.ioa_compose.specs.Simulates.{Simulates};
+ghost use Rattle.ioa_compile.specs.Implements.{Implements};
 ghost use Rattle.ioa_compile.specs.Tables.{tabled};
 ghost use Rattle.ioa_account.specs.Counts as spec;
 
@@ -25,7 +25,7 @@ pub fn known_actions(
     actions: &[Action],
 ) -> Result<usize, OutOfMemory>
     ensures table { IfOk result (λ count. count ≡ spec.known_actions (tabled program.now) (map act_of actions.now)) }
-    ensures hosts { IfOk result (λ count. (h : Hosted) (c : Composed) → Stands h c → Means program.now c → count ≡ spec.known_actions (hosts_of h) (map act_of actions.now)) }
+    ensures hosts { IfOk result (λ count. (h : Hosted) (c : Composed) → Simulates h c → Implements program.now c → count ≡ spec.known_actions (hosts_of h) (map act_of actions.now)) }
 {
     known_to_table(alloc, program, actions)
 }
@@ -63,7 +63,7 @@ pub(crate) fn is_known(
 /// How many invariants are asked in each state: of each component those of its automaton.
 pub fn asked_invariants(composition: &Composition) -> usize
     ensures composed { result ≡ spec.asked_invariants (composed_of composition.now).invariants (instances_of (composed_of composition.now)) }
-    ensures hosts { (h : Hosted) → Stands h (composed_of composition.now) → result ≡ spec.asked_invariants h.invariants (host_instances h) }
+    ensures hosts { (h : Hosted) → Simulates h (composed_of composition.now) → result ≡ spec.asked_invariants h.invariants (host_instances h) }
 {
     asked_of_all(composition)
 }

@@ -9,15 +9,15 @@ ghost use Rattle.ioa_tree.specs.Likes.{AllRelated};
 ghost use Rattle.ioa_tree.specs.Meaning.{Env};
 ghost use Rattle.ioa_tree.specs.Runs.{run};
 ghost use Rattle.ioa_compose.specs.Held.{composed_of};
-ghost use Rattle.ioa_compose.specs.Stands.{HoldsAt, Stands};
-ghost use Rattle.ioa_compile.specs.Means.{Means};
+ghost use Rattle.ioa_compose.specs.Simulates.{SlotsHoldAt, Simulates};
+ghost use Rattle.ioa_compile.specs.Implements.{Implements};
 ghost use Rattle.ioa_compile.specs.Tables.{tabled};
 ghost use Rattle.ioa_system.specs.Outcomes.{ending_of};
 ghost use Rattle.ioa_system.specs.Records.{IsHostRun, IsTableRun};
 ghost use Rattle.ioa_system.specs.Systems.{slot_types, types_of, values_of};
 ghost use Rattle.ioa_account.specs.Accounts as spec;
 ghost use Rattle.ioa_account.specs.Ends.{component_in, index_in, owner_at};
-ghost use Rattle.ioa_account.specs.Accounts.{IsAccount, Tells, TellsLine};
+ghost use Rattle.ioa_account.specs.Accounts.{IsAccount, AccountsFor, TellsLine};
 
 use crate::states::{is_down, put_component};
 use ioa_compile::Program;
@@ -54,8 +54,8 @@ pub fn account_of(
     program: &Program,
     actions: &[Action],
 ) -> Result<Option<Account>, OutOfMemory>
-    requires { Means program.now (composed_of composition.now) }
-    ensures told { IfOk result (λ told. (h : Hosted) → Stands h (composed_of composition.now) → IsAccount h (map act_of actions.now) told) }
+    requires { Implements program.now (composed_of composition.now) }
+    ensures told { IfOk result (λ told. (h : Hosted) → Simulates h (composed_of composition.now) → IsAccount h (map act_of actions.now) told) }
     ensures line { IfOk result (λ told. TellsLine composition.now.members (map act_of actions.now) told) }
 {
     let run = run_list(alloc, program, actions)?;
@@ -85,11 +85,11 @@ fn tell(
     reached: &Run,
     index: usize,
 ) -> Result<Account, OutOfMemory>
-    requires means { Means program.now (composed_of composition.now) }
+    requires means { Implements program.now (composed_of composition.now) }
     requires run { IsTableRun program.now (map act_of actions.now) reached.now }
     requires index { index_in (ending_of reached.now.end) ≡ Some index }
-    ensures told { IfOk result (λ told. (h : Hosted) → Stands h (composed_of composition.now) → IsHostRun h (map act_of actions.now) reached.now
-        → Tells h (map act_of actions.now) (run (hosts_of h) (map act_of actions.now) (host_starts h)) told) }
+    ensures told { IfOk result (λ told. (h : Hosted) → Simulates h (composed_of composition.now) → IsHostRun h (map act_of actions.now) reached.now
+        → AccountsFor h (map act_of actions.now) (run (hosts_of h) (map act_of actions.now) (host_starts h)) told) }
     ensures line { IfOk result (λ told. told.line ≡ spec.line_of composition.now.members (map act_of actions.now) told.index told.component) }
 {
     let component = component_of(program, actions, reached.end);
@@ -118,7 +118,7 @@ fn tell(
 
 /// The number of the component that stops the run.
 fn component_of(program: &Program, actions: &[Action], end: End) -> Option<usize>
-    ensures { (h : Hosted) (c : Composed) → Stands h c → Means program.now c → result ≡ component_in (hosts_of h) (map act_of actions.now) (ending_of end) }
+    ensures { (h : Hosted) (c : Composed) → Simulates h c → Implements program.now c → result ≡ component_in (hosts_of h) (map act_of actions.now) (ending_of end) }
 {
     match end {
         End::Done(_) | End::NotAnAction(_) => None,
@@ -129,7 +129,7 @@ fn component_of(program: &Program, actions: &[Action], end: End) -> Option<usize
 
 /// The number of the component that has the action of this index as output or internal.
 fn owner_at(program: &Program, actions: &[Action], index: usize) -> Option<usize>
-    ensures { (h : Hosted) (c : Composed) → Stands h c → Means program.now c → result ≡ owner_at (hosts_of h) (map act_of actions.now) index }
+    ensures { (h : Hosted) (c : Composed) → Simulates h c → Implements program.now c → result ≡ owner_at (hosts_of h) (map act_of actions.now) index }
 {
     match actions.get(index) {
         Some(action) => owner(program, action),
@@ -139,7 +139,7 @@ fn owner_at(program: &Program, actions: &[Action], index: usize) -> Option<usize
 
 /// The component's name.
 fn name_of<'a>(composition: &'a Composition, component: Option<usize>) -> &'a str
-    ensures { (h : Hosted) → Stands h (composed_of composition.now) → result.now ≡ spec.name_of h.hosts component }
+    ensures { (h : Hosted) → Simulates h (composed_of composition.now) → result.now ≡ spec.name_of h.hosts component }
 {
     match component {
         Some(number) => name_at(composition, number),
@@ -149,7 +149,7 @@ fn name_of<'a>(composition: &'a Composition, component: Option<usize>) -> &'a st
 
 /// The name of the component of this number.
 pub(crate) fn name_at<'a>(composition: &'a Composition, number: usize) -> &'a str
-    ensures { (h : Hosted) → Stands h (composed_of composition.now) → result.now ≡ spec.name_at h.hosts number }
+    ensures { (h : Hosted) → Simulates h (composed_of composition.now) → result.now ≡ spec.name_at h.hosts number }
 {
     match composition.members().get(number) {
         Some(member) => member.name.as_str(),
@@ -159,7 +159,7 @@ pub(crate) fn name_at<'a>(composition: &'a Composition, number: usize) -> &'a st
 
 /// Whether it is down in these states.
 fn is_down_in(composition: &Composition, component: Option<usize>, states: &[NodeState]) -> bool
-    ensures { (h : Hosted) (hs : List (HostState Env)) → Stands h (composed_of composition.now) → AllRelated (HoldsAt h.hosts) 0 hs (values_of states.now)
+    ensures { (h : Hosted) (hs : List (HostState Env)) → Simulates h (composed_of composition.now) → AllRelated (SlotsHoldAt h.hosts) 0 hs (values_of states.now)
         → result ≡ spec.is_down_in h.hosts hs component }
 {
     match component {
@@ -280,7 +280,7 @@ fn lines_of(
     component: Option<usize>,
     states: &[NodeState],
 ) -> Result<String, OutOfMemory>
-    ensures { IfOk result (λ text. (h : Hosted) (hs : List (HostState Env)) → Stands h (composed_of composition.now) → AllRelated (HoldsAt h.hosts) 0 hs (values_of states.now)
+    ensures { IfOk result (λ text. (h : Hosted) (hs : List (HostState Env)) → Simulates h (composed_of composition.now) → AllRelated (SlotsHoldAt h.hosts) 0 hs (values_of states.now)
         → string_bytes text ≡ spec.lines_of h.types h.hosts hs component) }
 {
     let mut text = String::new(alloc);

@@ -6,7 +6,7 @@ ghost use Rattle.ioa_tree.specs.Hosts.{HostState, Hosted};
 ghost use Rattle.ioa_tree.specs.Likes.{AllRelated};
 ghost use Rattle.ioa_tree.specs.Meaning.{Env};
 ghost use Rattle.ioa_compose.specs.Held.{composed_of};
-ghost use Rattle.ioa_compose.specs.Stands.{HoldsAt, Stands};
+ghost use Rattle.ioa_compose.specs.Simulates.{SlotsHoldAt, Simulates};
 ghost use Rattle.ioa_system.specs.Systems.{values_of};
 ghost use Rattle.ioa_log.specs.Breaking.{AreStates, IsState};
 ghost use Rattle.ioa_account.specs.Faults as spec;
@@ -24,7 +24,7 @@ pub(crate) fn invariant_fault(
     invariant: usize,
 ) -> Result<Option<Fault>, OutOfMemory>
     requires { AreStates (composed_of composition.now).members (values_of states.now) }
-    ensures { IfOk result (λ f. (h : Hosted) (hs : List (HostState Env)) → Stands h (composed_of composition.now) → AllRelated (HoldsAt h.hosts) 0 hs (values_of states.now)
+    ensures { IfOk result (λ f. (h : Hosted) (hs : List (HostState Env)) → Simulates h (composed_of composition.now) → AllRelated (SlotsHoldAt h.hosts) 0 hs (values_of states.now)
         → f ≡ spec.invariant_fault h hs component invariant) }
 {
     match composition.invariants().get(invariant) {

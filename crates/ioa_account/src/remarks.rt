@@ -6,8 +6,8 @@ ghost use Rattle.ioa_value.specs.Actions.{act_of};
 ghost use Rattle.ioa_tree.specs.Hosts.{Hosted, hosts_of};
 ghost use Rattle.ioa_tree.specs.Likes.{AllRelated};
 ghost use Rattle.ioa_compose.specs.Held.{composed_of};
-ghost use Rattle.ioa_compose.specs.Stands.{HoldsAt, Stands};
-ghost use Rattle.ioa_compile.specs.Means.{Means};
+ghost use Rattle.ioa_compose.specs.Simulates.{SlotsHoldAt, Simulates};
+ghost use Rattle.ioa_compile.specs.Implements.{Implements};
 ghost use Rattle.ioa_compile.specs.Tables.{tabled};
 ghost use Rattle.ioa_log.specs.Breaking.{AreStates, broken_of};
 ghost use Rattle.ioa_system.specs.Logs as logs;
@@ -201,7 +201,7 @@ pub fn put_monitored(
     told: &Told<'_>,
     actions: Vec<Action>,
 ) -> Result<(), OutOfMemory>
-    ensures { OnOk result ((h : Hosted) → Stands h (composed_of told.now.composition.now)
+    ensures { OnOk result ((h : Hosted) → Simulates h (composed_of told.now.composition.now)
         → TellsMonitored told.now h (map act_of actions.items) (string_bytes text.old) (string_bytes text.new)) }
 {
     let program = compile(alloc, told.composition)?;
@@ -226,7 +226,7 @@ pub fn put_inspected(
     told: &Told<'_>,
     log: Log,
 ) -> Result<(), OutOfMemory>
-    ensures { OnOk result ((h : Hosted) → Stands h (composed_of told.now.composition.now)
+    ensures { OnOk result ((h : Hosted) → Simulates h (composed_of told.now.composition.now)
         → TellsInspected told.now h (logged log) (string_bytes text.old) (string_bytes text.new)) }
 {
     match inspect(alloc, told.composition, &log) {
@@ -340,8 +340,8 @@ fn put_refused(
     program: &Program,
     actions: Vec<Action>,
 ) -> Result<(), OutOfMemory>
-    requires { Means program.now (composed_of told.now.composition.now) }
-    ensures { OnOk result ((h : Hosted) → Stands h (composed_of told.now.composition.now)
+    requires { Implements program.now (composed_of told.now.composition.now) }
+    ensures { OnOk result ((h : Hosted) → Simulates h (composed_of told.now.composition.now)
         → TellsEnd told.now spec.no_line (spec.known_among (hosts_of h) (map act_of actions.items)) (string_bytes text.old) (string_bytes text.new)) }
 {
     let known = those_known(alloc, program, actions)?;
@@ -388,7 +388,7 @@ fn put_broken(
     actions: &[Action],
     broken: Broken,
 ) -> Result<(), OutOfMemory>
-    ensures { OnOk result ((h : Hosted) → Stands h (composed_of told.now.composition.now)
+    ensures { OnOk result ((h : Hosted) → Simulates h (composed_of told.now.composition.now)
         → string_bytes text.new ≡ string_bytes text.old ++ spec.broken_text told.now h (map act_of actions.now) (broken_of broken)) }
 {
     let run = run_before(alloc, told.composition, actions, broken.state)?;
@@ -412,8 +412,8 @@ fn run_before(
     count: usize,
 ) -> Result<Run, OutOfMemory>
     ensures states { IfOk result (λ r. AreStates (composed_of composition.now).members (values_of r.states.items)) }
-    ensures hosts { IfOk result (λ r. (h : Hosted) → Stands h (composed_of composition.now)
-        → AllRelated (HoldsAt h.hosts) 0 (spec.states_before h (map act_of actions.now) count) (values_of r.states.items)) }
+    ensures hosts { IfOk result (λ r. (h : Hosted) → Simulates h (composed_of composition.now)
+        → AllRelated (SlotsHoldAt h.hosts) 0 (spec.states_before h (map act_of actions.now) count) (values_of r.states.items)) }
 {
     let program = compile(alloc, composition)?;
     let before = count.min(actions.len());

@@ -7,7 +7,7 @@ ghost use Rattle.ioa_tree.specs.Hosts.{HostState, Hosted};
 ghost use Rattle.ioa_tree.specs.Likes.{AllRelated};
 ghost use Rattle.ioa_tree.specs.Meaning.{Env};
 ghost use Rattle.ioa_compose.specs.Held.{composed_of, member_of};
-ghost use Rattle.ioa_compose.specs.Stands.{HoldsAt, Stands};
+ghost use Rattle.ioa_compose.specs.Simulates.{SlotsHoldAt, Simulates};
 ghost use Rattle.ioa_system.specs.Systems.{values_of};
 ghost use Rattle.ioa_picture.specs.Lines.{numbered};
 ghost use Rattle.ioa_account.specs.States as spec;
@@ -24,7 +24,7 @@ pub fn put_states(
     composition: &Composition,
     states: &[NodeState],
 ) -> Result<(), OutOfMemory>
-    ensures { OnOk result ((h : Hosted) (hs : List (HostState Env)) → Stands h (composed_of composition.now) → AllRelated (HoldsAt h.hosts) 0 hs (values_of states.now)
+    ensures { OnOk result ((h : Hosted) (hs : List (HostState Env)) → Simulates h (composed_of composition.now) → AllRelated (SlotsHoldAt h.hosts) 0 hs (values_of states.now)
         → string_bytes text.new ≡ string_bytes text.old ++ spec.state_lines h.types h.hosts hs) }
 {
     put_slots(text, composition.types(), composition.members(), states)
@@ -37,7 +37,7 @@ pub fn put_component(
     number: usize,
     states: &[NodeState],
 ) -> Result<(), OutOfMemory>
-    ensures { OnOk result ((h : Hosted) (hs : List (HostState Env)) → Stands h (composed_of composition.now) → AllRelated (HoldsAt h.hosts) 0 hs (values_of states.now)
+    ensures { OnOk result ((h : Hosted) (hs : List (HostState Env)) → Simulates h (composed_of composition.now) → AllRelated (SlotsHoldAt h.hosts) 0 hs (values_of states.now)
         → string_bytes text.new ≡ string_bytes text.old ++ spec.component_lines h.types h.hosts hs number) }
 {
     put_slots_at(
@@ -51,7 +51,7 @@ pub fn put_component(
 
 /// Whether the component of this number is down.
 pub fn is_down(composition: &Composition, number: usize, states: &[NodeState]) -> bool
-    ensures { (h : Hosted) (hs : List (HostState Env)) → Stands h (composed_of composition.now) → AllRelated (HoldsAt h.hosts) 0 hs (values_of states.now)
+    ensures { (h : Hosted) (hs : List (HostState Env)) → Simulates h (composed_of composition.now) → AllRelated (SlotsHoldAt h.hosts) 0 hs (values_of states.now)
         → result ≡ spec.is_down h.hosts hs number }
 {
     is_down_at(composition.members(), number, states)

@@ -15,8 +15,8 @@ use Rattle.ioa_code.specs.declared.exits.Exit.{Exit}
 use Rattle.ioa_code.specs.declared.exits.Exits.{Exits}
 use Rattle.ioa_code.specs.Valid.{Part, Way, after}
 use Rattle.ioa_code.specs.Scan.{Brought, none, some, clash, good, bad, same_types, joined, bring, targets, all_forward, onward, at_end, arrived, passed, scan_from, at_first, scan}
-use Rattle.ioa_code.specs.Stacks.{IsStack, IsNumber, IsNumbered, Keeps, Grows, listed, AreWays, AgreeOn, LeadsOn}
-use Rattle.ioa_code.specs.Pending.{met, Means, Holds, AreBelow, Brings, IsFirst, Reached}
+use Rattle.ioa_code.specs.Stacks.{IsStack, IsNumber, IsNumbered, KeepsStacks, Grows, listed, AreWays, AgreeOn, LeadsOn}
+use Rattle.ioa_code.specs.Pending.{met, Represents, RepresentAll, AreBelow, Brings, IsFirst, Reached}
 use Rattle.ioa_value.proofs.ItemLemmas.{get_last}
 use Rattle.ioa_code.proofs.Lists.{get_before, slice_get-set_same, slice_get-set_other}
 use Rattle.ioa_code.proofs.Numbered.{one_number, one_stack, stack_kept, is_number}
@@ -25,13 +25,13 @@ use Rattle.ioa_code.proofs.Judged.{led, rest, scan_at, scan_end, unclear_bad}
 
 -- ---- one place
 
-met_means : (s : Stacks) → IsNumbered s → (x : Pending) (b : Brought) (k : ℕ) (ts : List ℕ) → Means s.nodes.items (Some x) b → IsStack s.nodes.items k ts → Means s.nodes.items (Some (met x k)) (joined b ts)
+met_means : (s : Stacks) → IsNumbered s → (x : Pending) (b : Brought) (k : ℕ) (ts : List ℕ) → Represents s.nodes.items (Some x) b → IsStack s.nodes.items k ts → Represents s.nodes.items (Some (met x k)) (joined b ts)
 met_means s n Nothing b k ts m h = (ts, ap (λ y. joined y ts) m, h)
 met_means s n Clash b k ts m h = ap (λ y. joined y ts) m
 met_means s n (Stack j) b k ts m h =
-    subst (λ y. Means s.nodes.items (Some (if j == k then Stack j else Clash)) (joined y ts)) (sym m.1) (go (j == k) refl)
+    subst (λ y. Represents s.nodes.items (Some (if j == k then Stack j else Clash)) (joined y ts)) (sym m.1) (go (j == k) refl)
   where
-    go : (c : Bool) → (j == k) ≡ c → Means s.nodes.items (Some (if c then Stack j else Clash)) (if same_types m.0 ts then some m.0 else clash)
+    go : (c : Bool) → (j == k) ≡ c → Represents s.nodes.items (Some (if c then Stack j else Clash)) (if same_types m.0 ts then some m.0 else clash)
     go true e =
         let same : k ≡ j = grind (arith, nat_tests) in
         let us = one_stack s j m.0 ts m.2 (subst (λ i. IsStack s.nodes.items i ts) same h) in
@@ -53,18 +53,18 @@ brings_one pending e x y lt at f = record {
   holds = λ s brought ways n h i. all s brought ways n h i;
 }
   where
-    go : (s : Stacks) (brought : ℕ → Brought) (w : Way) → IsNumbered s → Holds s pending brought → e.to ≡ w.to → IsStack s.nodes.items e.stack w.types → (q : ℕ) (c : Bool) → (q == w.to) ≡ c → Means s.nodes.items (slice_get (slice_set pending e.to y) q) (if c then joined (brought q) w.types else brought q)
+    go : (s : Stacks) (brought : ℕ → Brought) (w : Way) → IsNumbered s → RepresentAll s pending brought → e.to ≡ w.to → IsStack s.nodes.items e.stack w.types → (q : ℕ) (c : Bool) → (q == w.to) ≡ c → Represents s.nodes.items (slice_get (slice_set pending e.to y) q) (if c then joined (brought q) w.types else brought q)
     go s brought w n h j i q true t =
         let same : e.to ≡ q = grind (arith, nat_tests) in
-        let m : Means s.nodes.items (Some x) (brought e.to) = subst (λ o. Means s.nodes.items o (brought e.to)) at (h e.to) in
+        let m : Represents s.nodes.items (Some x) (brought e.to) = subst (λ o. Represents s.nodes.items o (brought e.to)) at (h e.to) in
         let set : slice_get (slice_set pending e.to y) e.to ≡ Some (met x e.stack) = slice_get-set_same pending e.to y lt ∙ ap Some f in
-        subst (λ r. Means s.nodes.items (slice_get (slice_set pending e.to y) r) (joined (brought r) w.types)) same
-        (subst (λ o. Means s.nodes.items o (joined (brought e.to) w.types)) (sym set) (met_means s n x (brought e.to) e.stack w.types m i))
+        subst (λ r. Represents s.nodes.items (slice_get (slice_set pending e.to y) r) (joined (brought r) w.types)) same
+        (subst (λ o. Represents s.nodes.items o (joined (brought e.to) w.types)) (sym set) (met_means s n x (brought e.to) e.stack w.types m i))
     go s brought w n h j i q false t =
         let apart : q ≢ e.to = grind (arith, nat_tests) in
-        subst (λ o. Means s.nodes.items o (brought q)) (sym (slice_get-set_other pending e.to q y apart)) (h q)
+        subst (λ o. Represents s.nodes.items o (brought q)) (sym (slice_get-set_other pending e.to q y apart)) (h q)
 
-    all : (s : Stacks) (brought : ℕ → Brought) (ways : List Way) → IsNumbered s → Holds s pending brought → AreWays s.nodes.items (e ∷ []) ways → Holds s (slice_set pending e.to y) (bring ways brought)
+    all : (s : Stacks) (brought : ℕ → Brought) (ways : List Way) → IsNumbered s → RepresentAll s pending brought → AreWays s.nodes.items (e ∷ []) ways → RepresentAll s (slice_set pending e.to y) (bring ways brought)
     all s brought [] n h i = absurd i
     all s brought (w ∷ v ∷ vs) n h i = absurd i.2
     all s brought (w ∷ []) n h i = λ q. go s brought w n h i.0 i.1 q (q == w.to) refl
@@ -75,7 +75,7 @@ brings_two old mid new a b f g = record {
   holds = λ s brought ways n h i. all s brought ways n h i;
 }
   where
-    all : (s : Stacks) (brought : ℕ → Brought) (ways : List Way) → IsNumbered s → Holds s old brought → AreWays s.nodes.items (a ∷ b ∷ []) ways → Holds s new (bring ways brought)
+    all : (s : Stacks) (brought : ℕ → Brought) (ways : List Way) → IsNumbered s → RepresentAll s old brought → AreWays s.nodes.items (a ∷ b ∷ []) ways → RepresentAll s new (bring ways brought)
     all s brought [] n h i = absurd i
     all s brought (w ∷ []) n h i = absurd i.2
     all s brought (w ∷ v ∷ u ∷ us) n h i = absurd i.2.2
@@ -121,16 +121,16 @@ first_more xs f lt = record {
 pub first_reached : (part : Part) (s : Stacks) (pending : List Pending) → IsNumbered s → length pending ≡ length part.code.instrs + 1 → IsFirst pending → Reached part s pending 0
 first_reached part s pending n long f = record { numbered = n; long = long; brought = at_first; holds = holds; is = refl }
   where
-    holds : Holds s pending at_first
-    holds zero = subst (λ o. Means s.nodes.items o (some [])) (sym f.start) ([], refl, refl)
+    holds : RepresentAll s pending at_first
+    holds zero = subst (λ o. Represents s.nodes.items o (some [])) (sym f.start) ([], refl, refl)
     holds (suc q) = ⊎_elim
-        (λ e. subst (λ o. Means s.nodes.items o none) (sym e) refl)
-        (λ e. subst (λ o. Means s.nodes.items o none) (sym e) refl)
+        (λ e. subst (λ o. Represents s.nodes.items o none) (sym e) refl)
+        (λ e. subst (λ o. Represents s.nodes.items o none) (sym e) refl)
         (f.others q)
 
 -- ---- one place more
 
-means_kept : (old new : Stacks) → Keeps old new → (o : Option Pending) (b : Brought) → Means old.nodes.items o b → Means new.nodes.items o b
+means_kept : (old new : Stacks) → KeepsStacks old new → (o : Option Pending) (b : Brought) → Represents old.nodes.items o b → Represents new.nodes.items o b
 means_kept old new keeps (Some (Stack k)) b m = (m.0, m.1, stack_kept old new keeps k m.0 m.2)
 means_kept old new keeps (Some Clash) b m = m
 means_kept old new keeps (Some Nothing) b m = m
@@ -146,15 +146,15 @@ module _ (part : Part) (old : Stacks) (pending : List Pending) (p : ℕ) (reache
   -- where no stack is pending
   pub none_pending : (x : Pending) → slice_get pending p ≡ Some x → (x ≡ Nothing) ⊎ (x ≡ Clash) → scan part ≡ bad p NotOne
   none_pending x e (inl f) =
-      let m : reached.brought p ≡ none = subst (λ o. Means old.nodes.items o (reached.brought p)) (e ∙ ap Some f) (reached.holds p) in
+      let m : reached.brought p ≡ none = subst (λ o. Represents old.nodes.items o (reached.brought p)) (e ∙ ap Some f) (reached.holds p) in
       reached.is ∙ unclear_bad part (drop p part.code.instrs) p reached.brought none m (λ ts x. cc)
   none_pending x e (inr f) =
-      let m : reached.brought p ≡ clash = subst (λ o. Means old.nodes.items o (reached.brought p)) (e ∙ ap Some f) (reached.holds p) in
+      let m : reached.brought p ≡ clash = subst (λ o. Represents old.nodes.items o (reached.brought p)) (e ∙ ap Some f) (reached.holds p) in
       reached.is ∙ unclear_bad part (drop p part.code.instrs) p reached.brought clash m (λ ts x. cc)
 
   module _ (k : ℕ) (e : slice_get pending p ≡ Some (Stack k)) where
     here : (ts : List ℕ) × (reached.brought p ≡ some ts) × IsStack old.nodes.items k ts
-    here = subst (λ o. Means old.nodes.items o (reached.brought p)) e (reached.holds p)
+    here = subst (λ o. Represents old.nodes.items o (reached.brought p)) e (reached.holds p)
 
     pub number_here : IsNumber old k
     number_here = is_number old k here.0 here.2

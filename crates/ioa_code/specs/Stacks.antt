@@ -50,12 +50,12 @@ pub record IsNumbered (s : Stacks) : Type 0 where
   pub each : (key : ℕ × ℕ) (k : ℕ) → node_at s.nodes.items k ≡ Some key → (link : Link) × Reaches s key link × (leads s.links.items link ≡ k)
 
 -- no stack has changed its types
-abbrev pub Keeps : Stacks → Stacks → Type 0
-Keeps old new = (k : ℕ) (key : ℕ × ℕ) → node_at old.nodes.items k ≡ Some key → node_at new.nodes.items k ≡ Some key
+abbrev pub KeepsStacks : Stacks → Stacks → Type 0
+KeepsStacks old new = (k : ℕ) (key : ℕ × ℕ) → node_at old.nodes.items k ≡ Some key → node_at new.nodes.items k ≡ Some key
 
 pub record Grows (old new : Stacks) : Type 0 where
   pub numbered : IsNumbered new
-  pub keeps : Keeps old new
+  pub keeps : KeepsStacks old new
 
 -- the n topmost types with the last on top, and the stack below them, if there are so many
 abbrev pub on : Option (ℕ × List ℕ) → ℕ → Option (ℕ × List ℕ)

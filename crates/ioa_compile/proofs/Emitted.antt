@@ -24,7 +24,7 @@ use Rattle.ioa_tree.specs.Tree.{Expr, number, truth, named, parens, prefix, bina
 use Rattle.ioa_compile.specs.Scopes.{Scope, Origin, slot, formal, parameter, fixed, unknown, origin, IsOrigin, parameter_from, place_of, proposal_for, AreKnownProposals}
 use Rattle.ioa_tree.specs.Types.{constant, empty_of}
 use Rattle.ioa_compile.specs.Placed.{Stretch, At, Pushes, PushesTruth, Brings, Applies, Chooses, Combines, HasExpr, HasExprs, HasGuard, HasStmt, HasStmts, HasArms, HasChoice, HasProposal, HasProposals}
-use Rattle.ioa_compile.specs.Emitting.{Keeps, Adds, AddsInstr, AddsConst, AddsExpr, AddsExprs, AddsCombined, AddsTrueSide, AddsFalseSide, AddsStmt, AddsStmts, AddsChoice, AddsProposal, AddsProposals, proposals_nodes, IsGrown}
+use Rattle.ioa_compile.specs.Emitting.{KeepsCode, Adds, AddsInstr, AddsConst, AddsExpr, AddsExprs, AddsCombined, AddsTrueSide, AddsFalseSide, AddsStmt, AddsStmts, AddsChoice, AddsProposal, AddsProposals, proposals_nodes, IsGrown}
 use Rattle.ioa_compile.specs.Extents.{extent, stmts_extent, arms_extent, proposals_extent}
 use Rattle.ioa_compile.proofs.Lengths.{expr_long, stmts_long, arms_long}
 
@@ -37,11 +37,11 @@ pub missing_from : {X : Type 0} (o : Option X) (P : Type 0) → ((x : X) → o �
 missing_from None P has h = h
 missing_from (Some x) P has h = absurd (has x refl)
 
-pub Keeps-self : (a : Listing) → Keeps a a
-Keeps-self a = record { instr = λ p i e. e; const = λ k v e. e; types = refl; typed = λ h. h }
+pub KeepsCode-self : (a : Listing) → KeepsCode a a
+KeepsCode-self a = record { instr = λ p i e. e; const = λ k v e. e; types = refl; typed = λ h. h }
 
-pub Keeps-trans : (a b c : Listing) → Keeps a b → Keeps b c → Keeps a c
-Keeps-trans a b c h k = record {
+pub KeepsCode-trans : (a b c : Listing) → KeepsCode a b → KeepsCode b c → KeepsCode a c
+KeepsCode-trans a b c h k = record {
   instr = λ p i e. k.instr p i (h.instr p i e);
   const = λ n v e. k.const n v (h.const n v e);
   types = k.types ∙ h.types;
@@ -119,15 +119,15 @@ adds_empty c d s x v e h = record { keeps = h.keeps; has = (v, e, h.has.0, h.has
 
 -- one stretch's code goes on standing where another listing has more
 abbrev pub IsKept : (Listing → Stretch) → Type 0
-IsKept Has = (c d : Listing) → Keeps c d → (p q : ℕ) → Has c p q → Has d p q
+IsKept Has = (c d : Listing) → KeepsCode c d → (p q : ℕ) → Has c p q → Has d p q
 
-pub Pushes-keeps : (c d : Listing) → Keeps c d → (p : ℕ) (v : Val) → Pushes c p v → Pushes d p v
+pub Pushes-keeps : (c d : Listing) → KeepsCode c d → (p : ℕ) (v : Val) → Pushes c p v → Pushes d p v
 Pushes-keeps c d k p v h = (h.0, k.instr p _ h.1, k.const h.0 v h.2)
 
 pub truth_kept : (b : Bool) → IsKept (λ code p q. PushesTruth code b p q)
 truth_kept b c d k p q h = (Pushes-keeps c d k p _ h.0, h.1)
 
-module _ (c d : Listing) (k : Keeps c d) where
+module _ (c d : Listing) (k : KeepsCode c d) where
   Brings-keeps : (s : Scope) (p : ℕ) (o : Origin) → Brings c s p o → Brings d s p o
   Brings-keeps s p (slot i) h = k.instr p _ h
   Brings-keeps s p (formal i) h = (h.0, h.1, Pushes-keeps c d k p h.0 h.2)
@@ -214,7 +214,7 @@ stmts_kept s ts c d k p q h = HasStmts-keeps c d k s ts p q h
 -- an operator after its last operand
 pub adds_applied : (c0 c1 c2 : Listing) (Operands : Listing → Stretch) (n : ℕ) (o : Op) → IsKept Operands → Adds c0 c1 n Operands → AddsInstr c1 c2 (Apply o) → Adds c0 c2 (n + 1) (λ code p q. Applies code o (Operands code) p q)
 adds_applied c0 c1 c2 Operands n o kept x y = record {
-  keeps = Keeps-trans c0 c1 c2 x.keeps y.keeps;
+  keeps = KeepsCode-trans c0 c1 c2 x.keeps y.keeps;
   has = (length c1.instrs, kept c1 c2 y.keeps (length c0.instrs) (length c1.instrs) x.has, y.has.0, y.has.1);
   few = omega (arith, x.few, y.few);
 }
@@ -240,18 +240,18 @@ adds_select c0 c1 c2 s e x j is y z =
     record { keeps = a.keeps; has = (j, is, a.has); few = a.few }
 
 pub adds_no_expr : (c : Listing) (s : Scope) → AddsExprs c c s no_expr
-adds_no_expr c s = record { keeps = Keeps-self c; has = refl; few = omega arith }
+adds_no_expr c s = record { keeps = KeepsCode-self c; has = refl; few = omega arith }
 
 pub adds_also : (c0 c1 c2 : Listing) (s : Scope) (e : Expr) (es : Exprs) → AddsExpr c0 c1 s e → AddsExprs c1 c2 s es → AddsExprs c0 c2 s (also e es)
 adds_also c0 c1 c2 s e es y z = record {
-  keeps = Keeps-trans c0 c1 c2 y.keeps z.keeps;
+  keeps = KeepsCode-trans c0 c1 c2 y.keeps z.keeps;
   has = (length c1.instrs, HasExpr-keeps c1 c2 z.keeps s e _ _ y.has, z.has);
   few = omega (arith, y.few, z.few);
 }
 
 pub adds_binary : (c0 c1 c2 : Listing) (s : Scope) (l r : Expr) (o : Infix) → AddsExpr c0 c1 s l → AddsCombined c1 c2 s o r → AddsExpr c0 c2 s (binary l o r)
 adds_binary c0 c1 c2 s l r o x y = record {
-  keeps = Keeps-trans c0 c1 c2 x.keeps y.keeps;
+  keeps = KeepsCode-trans c0 c1 c2 x.keeps y.keeps;
   has = (length c1.instrs, HasExpr-keeps c1 c2 y.keeps s l _ _ x.has, y.has);
   few = omega (arith, x.few, y.few);
 }
@@ -259,8 +259,8 @@ adds_binary c0 c1 c2 s l r o x y = record {
 -- two stretches, with the jumps that choose between them
 pub adds_choice : (c0 c1 c2 c3 c4 : Listing) (This Other : Listing → Stretch) (a b t u : ℕ) → IsKept This → AddsInstr c0 c1 (JumpIfFalse t) → Adds c1 c2 a This → AddsInstr c2 c3 (Jump u) → Adds c3 c4 b Other → t ≡ length c2.instrs + 1 → u ≡ length c4.instrs → Adds c0 c4 (a + b) (λ code p q. Chooses code (This code) (Other code) p q)
 adds_choice c0 c1 c2 c3 c4 This Other a b t u kept w x y z t-is u-is =
-    let k24 = Keeps-trans c2 c3 c4 y.keeps z.keeps in
-    let k14 = Keeps-trans c1 c2 c4 x.keeps k24 in
+    let k24 = KeepsCode-trans c2 c3 c4 y.keeps z.keeps in
+    let k14 = KeepsCode-trans c1 c2 c4 x.keeps k24 in
     let p = length c0.instrs in
     let n = length c2.instrs in
     let q = length c4.instrs in
@@ -268,7 +268,7 @@ adds_choice c0 c1 c2 c3 c4 This Other a b t u kept w x y z t-is u-is =
     subst (λ m. At c4 p (JumpIfFalse m)) t-is (k14.instr p (JumpIfFalse t) w.has.0) in
     let second : At c4 n (Jump q) = subst (λ m. At c4 n (Jump m)) u-is (z.keeps.instr n (Jump u) y.has.0) in
     record {
-      keeps = Keeps-trans c0 c1 c4 w.keeps k14;
+      keeps = KeepsCode-trans c0 c1 c4 w.keeps k14;
       has = (n, first, subst (λ m. This c4 m n) w.has.1 (kept c2 c4 k24 (length c1.instrs) n x.has), second, subst (λ m. Other c4 m q) y.has.1 z.has);
       few = omega (arith, w.few, x.few, y.few, z.few);
     }
@@ -286,17 +286,17 @@ adds_false_side c0 c1 c2 c3 c4 s e t u w x y z t-is u-is =
 
 pub adds_assign : (c0 c1 c2 : Listing) (s : Scope) (x : Name) (e : Expr) (i : ℕ) → place_from 0 s.variables x ≡ Some i → AddsExpr c0 c1 s e → AddsInstr c1 c2 (Store i) → AddsStmt c0 c2 s (assign x e)
 adds_assign c0 c1 c2 s x e i at y z = record {
-  keeps = Keeps-trans c0 c1 c2 y.keeps z.keeps;
+  keeps = KeepsCode-trans c0 c1 c2 y.keeps z.keeps;
   has = (length c1.instrs, i, HasExpr-keeps c1 c2 z.keeps s e _ _ y.has, z.has.0, at, z.has.1);
   few = omega (arith, y.few, z.few);
 }
 
 pub adds_none : (c : Listing) (s : Scope) → AddsStmts c c s stop
-adds_none c s = record { keeps = Keeps-self c; has = refl; few = omega arith }
+adds_none c s = record { keeps = KeepsCode-self c; has = refl; few = omega arith }
 
 pub adds_first : (c0 c1 c2 : Listing) (s : Scope) (t : Stmt) (ts : Stmts) → AddsStmt c0 c1 s t → AddsStmts c1 c2 s ts → AddsStmts c0 c2 s (seq t ts)
 adds_first c0 c1 c2 s t ts y z = record {
-  keeps = Keeps-trans c0 c1 c2 y.keeps z.keeps;
+  keeps = KeepsCode-trans c0 c1 c2 y.keeps z.keeps;
   has = (length c1.instrs, HasStmt-keeps c1 c2 z.keeps s t _ _ y.has, z.has);
   few = omega (arith, y.few, z.few);
 }
@@ -312,7 +312,7 @@ adds_arm c0 c1 c2 c3 c4 c5 s e ts more others t u v w x y z t-is u-is =
     let rest = arms_long c5 s more others (stmts_long c5 s others) (length c4.instrs) (length c5.instrs) z.has in
     let a = adds_choice c1 c2 c3 c4 c5 (λ code p q. HasStmts code s ts p q) (λ code p q. HasArms code s more (HasStmts code s others) p q) (stmts_nodes ts) (arms_nodes more + stmts_nodes others) t u (stmts_kept s ts) w x y z (omega (arith, w.has.1, long)) (u-is ∙ sym rest) in
     record {
-      keeps = Keeps-trans c0 c1 c5 v.keeps a.keeps;
+      keeps = KeepsCode-trans c0 c1 c5 v.keeps a.keeps;
       has = (length c1.instrs, HasExpr-keeps c1 c5 a.keeps s e _ _ v.has, a.has);
       few = omega (arith, v.few, a.few);
     }
@@ -328,7 +328,7 @@ adds_choose c d s arms others h = record { keeps = h.keeps; has = h.has; few = o
 
 pub adds_any : (c0 c1 c2 : Listing) (s : Scope) (e : Expr) → AddsExpr c0 c1 s e → AddsInstr c1 c2 Any → AddsChoice c0 c2 s (any_below e)
 adds_any c0 c1 c2 s e y z = record {
-  keeps = Keeps-trans c0 c1 c2 y.keeps z.keeps;
+  keeps = KeepsCode-trans c0 c1 c2 y.keeps z.keeps;
   has = (length c1.instrs, HasExpr-keeps c1 c2 z.keeps s e _ _ y.has, z.has.0, z.has.1);
   few = omega (arith, y.few, z.few);
 }
@@ -343,7 +343,7 @@ pub adds_proposed : (c d : Listing) (s : Scope) (f : FieldTree) (r : ProposalTre
 adds_proposed c d s f r h = record { keeps = h.keeps; has = h.has; few = h.few }
 
 pub adds_no_proposal : (c : Listing) (s : Scope) (rs : List ProposalTree) → AddsProposals c c s rs []
-adds_no_proposal c s rs = record { keeps = Keeps-self c; has = refl; few = omega arith }
+adds_no_proposal c s rs = record { keeps = KeepsCode-self c; has = refl; few = omega arith }
 
 -- one position
 pub adds_typed : (c d : Listing) (s : Scope) (rs : List ProposalTree) (f : FieldTree) → AddsProposal c d s f (proposal_for rs f) → AddsProposals c d s rs (typed f ∷ [])
@@ -351,19 +351,19 @@ adds_typed c d s rs f h = record { keeps = h.keeps; has = (length d.instrs, h.ha
 
 pub adds_only : (c : Listing) (s : Scope) (rs : List ProposalTree) (p : PositionTree) → ((f : FieldTree) → p ≡ typed f → ⊥) → AddsProposals c c s rs (p ∷ [])
 adds_only c s rs (typed f) h = absurd (h f refl)
-adds_only c s rs (only x) h = record { keeps = Keeps-self c; has = refl; few = omega arith }
+adds_only c s rs (only x) h = record { keeps = KeepsCode-self c; has = refl; few = omega arith }
 
 -- and those after it
 pub adds_position : (c0 c1 c2 : Listing) (s : Scope) (rs : List ProposalTree) (p : PositionTree) (ps : List PositionTree) → AddsProposals c0 c1 s rs (p ∷ []) → AddsProposals c1 c2 s rs ps → AddsProposals c0 c2 s rs (p ∷ ps)
 adds_position c0 c1 c2 s rs (typed f) ps y z =
     let first : HasProposal c1 s f (proposal_for rs f) (length c0.instrs) (length c1.instrs) = subst (HasProposal c1 s f (proposal_for rs f) (length c0.instrs)) (sym y.has.2) y.has.1 in
     record {
-      keeps = Keeps-trans c0 c1 c2 y.keeps z.keeps;
+      keeps = KeepsCode-trans c0 c1 c2 y.keeps z.keeps;
       has = (length c1.instrs, HasProposal-keeps c1 c2 z.keeps s f (proposal_for rs f) _ _ first, z.has);
       few = omega (arith, y.few, z.few);
     }
 adds_position c0 c1 c2 s rs (only x) ps y z = record {
-  keeps = Keeps-trans c0 c1 c2 y.keeps z.keeps;
+  keeps = KeepsCode-trans c0 c1 c2 y.keeps z.keeps;
   has = subst (λ n. HasProposals c2 s rs ps n (length c2.instrs)) y.has z.has;
   few = omega (arith, y.few, z.few);
 }
@@ -391,7 +391,7 @@ local_is P k x is h =
 abbrev pub with_consts : Listing → List Val → Listing
 with_consts old consts = record { types = old.types; instrs = old.instrs; consts = consts }
 
-grown_keeps : (old : Listing) (consts : List Val) → IsGrown old.consts consts → OwnTypes old.types consts → Keeps old (with_consts old consts)
+grown_keeps : (old : Listing) (consts : List Val) → IsGrown old.consts consts → OwnTypes old.types consts → KeepsCode old (with_consts old consts)
 grown_keeps old consts grown own_types = record { instr = λ p i e. e; const = grown; types = refl; typed = λ t. own_types }
 
 pub grown_guard : (s : Scope) (g : Option Expr) (old : Listing) (consts : List Val) → IsGuard old s g → IsGrown old.consts consts → OwnTypes old.types consts → IsGuard (with_consts old consts) s g

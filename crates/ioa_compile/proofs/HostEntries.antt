@@ -11,7 +11,7 @@ use Rattle.ioa_tree.specs.Hosts.{HostState, Host}
 use Rattle.ioa_tree.specs.Proposing.{Words, proposed}
 use Rattle.ioa_tree.specs.WellFormed.{variable_fields}
 use Rattle.ioa_compose.specs.Rewriting.{signals, with_signals}
-use Rattle.ioa_compose.specs.Stands.{Holds, IsMadeOf}
+use Rattle.ioa_compose.specs.Simulates.{SlotsHold, IsMadeOf}
 use Rattle.ioa_compose.proofs.SignatureLemmas.{zip-at, zip-to}
 use Rattle.ioa_compile.specs.CodeEnds.{ProposalEnds}
 use Rattle.ioa_compile.specs.Correspondence.{Corresponds}
@@ -39,7 +39,7 @@ entries_are_the_hosts p h c stands means i k host e m at here there =
     let d = entry.0 in
     let own = entry.2 in
     let gives : (part : Part) → ((env : Env) (slots : List Val) (words : Words) → Corresponds cm.instance env slots → ProposalEnds part slots words (proposed cm.instance e env words 0))
-    → (state : HostState Env) (slots : List Val) (words : Words) → Holds host state slots → HaveTypes m.start.table slots m.start.types → ProposalEnds part slots words (proposed host.instance e state.inner words 0) =
+    → (state : HostState Env) (slots : List Val) (words : Words) → SlotsHold host state slots → HaveTypes m.start.table slots m.start.types → ProposalEnds part slots words (proposed host.instance e state.inner words 0) =
     λ part ends state slots words holds have.
     let found = stands.held i host cm at pair.1 state slots holds in
     let fit = have_fit cm.instance.types (variable_fields cm.instance.automaton) slots m.start.types (subst (λ t. HaveTypes t slots m.start.types) matches.types have) matches.variables in

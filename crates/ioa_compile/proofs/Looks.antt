@@ -6,7 +6,7 @@ use Rattle.std.proofs.lemmas.Slice.Eq.{bytes_eq-Decides}
 use Rattle.ioa_value.specs.Actions.{Name}
 use Rattle.ioa_value.specs.Plain.{Val}
 use Rattle.ioa_value.specs.Typing.{HasType, HaveTypes}
-use Rattle.ioa_tree.specs.Answers.{Stands}
+use Rattle.ioa_tree.specs.Answers.{HasValueOf}
 use Rattle.ioa_tree.specs.Meaning.{values_of, or_else}
 use Rattle.ioa_value.specs.Table.{Table, place_from}
 use Rattle.ioa_tree.specs.WellFormed.{contains, distinct, apart}
@@ -75,7 +75,7 @@ look_at {V} ns vs x i v long place item = go (place_from 0 ns x) (look ns vs x) 
 
 -- where there is a type there is a value of it, and else nothing
 abbrev pub Paired : Table → Option ℕ → Option Val → Type 0
-Paired types (Some ty) o = Stands types ty o
+Paired types (Some ty) o = HasValueOf types ty o
 Paired types None o = o ≡ None
 
 -- one value more in front, under this name or under none

@@ -11,7 +11,7 @@ use Rattle.ioa_compile.specs.Scopes.{Scope, proposal_for}
 use Rattle.ioa_compile.specs.Placed.{At, Pushes, PushesTruth, Chooses, Combines, HasExpr, HasExprs, HasGuard, HasStmt, HasStmts, HasChoice, HasProposal, HasProposals}
 
 -- what stands in the old code stands in the new one too
-pub record Keeps (old new : Listing) : Type 0 where
+pub record KeepsCode (old new : Listing) : Type 0 where
   pub instr : (p : ℕ) (i : Instr) → At old p i → At new p i
   pub const : (k : ℕ) (v : Val) → slice_get old.consts k ≡ Some v → slice_get new.consts k ≡ Some v
   pub types : new.types ≡ old.types
@@ -19,7 +19,7 @@ pub record Keeps (old new : Listing) : Type 0 where
 
 -- code that stands from the old end to the new one, with at most so many new constants
 pub record Adds (old new : Listing) (n : ℕ) (Has : Listing → ℕ → ℕ → Type 0) : Type 0 where
-  pub keeps : Keeps old new
+  pub keeps : KeepsCode old new
   pub has : Has new (length old.instrs) (length new.instrs)
   pub few : length new.consts ≤ length old.consts + n
 

@@ -8,7 +8,7 @@ pub mod Coded
 pub mod Correspondence
 pub mod CodeEnds
 pub mod Matching
-pub mod Means
+pub mod Implements
 pub mod Hosts
 pub mod Scopes
 pub mod CodedScopes

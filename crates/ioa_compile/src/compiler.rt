@@ -6,7 +6,7 @@ ghost use Rattle.std.specs.String.{string_bytes};
 ghost use Rattle.ioa_value.specs.Table.{Table, AreTypes};
 ghost use Rattle.ioa_compose.specs.Fine.{IsFine, AllFine, AreOver, component_limits};
 ghost use Rattle.ioa_compose.specs.Held.{composed_of, member_of, HoldsPositions, AllHoldPositions};
-ghost use Rattle.ioa_compile.specs.Means.{Means};
+ghost use Rattle.ioa_compile.specs.Implements.{Implements};
 ghost use Rattle.ioa_compile.specs.Shown.{member_code};
 ghost use Rattle.ioa_compile.specs.Translated.{DoesSame};
 
@@ -21,7 +21,7 @@ use std::alloc::Global;
 
 /// The program that means the composition. It refuses nothing but for want of memory.
 pub fn compile(alloc: Global, composition: &Composition) -> Result<Program, OutOfMemory>
-    ensures { IfOk result (λ p. Means p (composed_of composition.now)) }
+    ensures { IfOk result (λ p. Implements p (composed_of composition.now)) }
 {
     let types = composition.types().share()?;
     let members = compile_members(alloc, composition.members())?;

@@ -29,7 +29,7 @@ use Rattle.ioa_compose.specs.Fine.{IsSound, IsTyped, AreOver}
 use Rattle.ioa_compose.specs.Held.{member_of}
 use Rattle.ioa_compose.specs.Refusals.{Reason, misfit, faulty, misnamed, clashing, hiding, no_memory, other, reason_of, IsUnbound, IsFirstUnknown, IsRefused, NoneClash, FaultsIn, ClashesIn, HidesIn}
 use Rattle.ioa_compose.specs.Rewriting.{spelled}
-use Rattle.ioa_compose.specs.Stands.{member_for, composed_for, signalled, Stands}
+use Rattle.ioa_compose.specs.Simulates.{member_for, composed_for, signalled, Simulates}
 use Rattle.ioa_compose.proofs.CompatibleLemmas.{compatible-from}
 use Rattle.ioa_compose.proofs.FineLemmas.{AllBind, all-bound}
 use Rattle.ioa_compose.proofs.HostLemmas.{same_names, same_outputs, typed_for, hosts_may, conditions_spelled, hosts_fine, hosts_over, hosts_types, hosts_called, hosts_named, hosts_stand}
@@ -49,7 +49,7 @@ all_same p q (x ∷ xs) h = ap (λ b. b && list_all p xs) (h x) ∙ ap (λ b. q 
 
 module _ (s : SourceTree) (t : CompositionTree) (h : Hosted) (declared : AreTypes (types_of s)) (fine : well_formed s ≡ true) (legal : LegalNames s)
     (k : IsComposable s t) (b : IsHosted s t h) where
-  stands : Stands h (composed_for h)
+  stands : Simulates h (composed_for h)
   stands = hosts_stand s t h fine legal b
 
   called : map (λ (m : Member). m.name) (map member_for h.hosts) ≡ map (λ (i : InstanceTree). i.name) t.instances
@@ -158,8 +158,8 @@ module _ (s : SourceTree) (types : Table) (a : Assembly) (bs : List Binding) (ms
   pub parts-sound : AreTypes (types_of s) → well_formed s ≡ true → LegalNames s → IsComposable s (assembly_of a) → IsSound made
   parts-sound d w l k = subst IsSound made-is (hosted-sound s (assembly_of a) parts-hosts d w l k parts-hosted)
 
-  pub parts-stand : well_formed s ≡ true → LegalNames s → Stands parts-hosts made
-  parts-stand w l = subst (Stands parts-hosts) made-is (hosts_stand s (assembly_of a) parts-hosts w l parts-hosted)
+  pub parts-stand : well_formed s ≡ true → LegalNames s → Simulates parts-hosts made
+  parts-stand w l = subst (Simulates parts-hosts) made-is (hosts_stand s (assembly_of a) parts-hosts w l parts-hosted)
 
 -- ---- the parts and the refusals, of what the calls give
 

@@ -23,7 +23,7 @@ use Rattle.ioa_tree.specs.Meaning.{Env, or_else, val, then_all, made, then_value
 use Rattle.ioa_tree.specs.Instances.{settled, with_value, all_values}
 use Rattle.ioa_tree.specs.Types.{sequence_named, empty_of, constant, constant_type}
 use Rattle.ioa_tree.specs.WellFormed.{Context, nodes, exprs_nodes, type_in, type_of, types_of_all, of_truths, infix_type, made_type, selected_type}
-use Rattle.ioa_tree.specs.Answers.{Stands, Suits}
+use Rattle.ioa_tree.specs.Answers.{HasValueOf, Suits}
 use Rattle.ioa_tree.proofs.ValTyped.{type_of_one, types_of_both, types_of_row, type_there, are_truths, val_typed}
 use Rattle.ioa_value.proofs.OperatorTyping.{op_takes}
 use Rattle.ioa_value.proofs.TypingLemmas.{is_truth, own_type}
@@ -116,7 +116,7 @@ known_constant types x ty e = go (constant_named types x) e
 pub name_known : (types : Table) (c : Context) (env : Env) (x : Name) → Suits types c env → HasSome types c (named x) → env x ≡ None → IsSome (constant types x)
 name_known types c env x s h missing = go (type_in c x) refl h.1
   where
-    stood : (ty : ℕ) (o : Option Val) → Stands types ty o → o ≡ None → ⊥
+    stood : (ty : ℕ) (o : Option Val) → HasValueOf types ty o → o ≡ None → ⊥
     stood ty (Some v) k e = absurd (cc)
     stood ty None k e = k
 

@@ -27,7 +27,7 @@ use Rattle.ioa_compose.specs.Bindings.{HaveEntries}
 use Rattle.ioa_compose.specs.Rewriting.{spelled, up_variable, signals, rewritten}
 use Rattle.ioa_compose.specs.Crashes.{MayCrash}
 use Rattle.ioa_compose.specs.Fine.{IsFine, AllFine, AreOver, IsTyped, component_limits}
-use Rattle.ioa_compose.specs.Stands.{member_by, member_for, MayStand, AllNamed, HostsStand}
+use Rattle.ioa_compose.specs.Simulates.{member_by, member_for, MayStand, AllNamed, HostsAreSimulated}
 use Rattle.ioa_compose.proofs.FirstVariables.{is_added}
 use Rattle.ioa_compose.proofs.SpelledNames.{all_spelled, or_false}
 use Rattle.ioa_compose.proofs.SpelledTrees.{automaton_spelled}
@@ -227,7 +227,7 @@ hosts_named s (i ∷ is) (h ∷ hs) b zero p e =
     subst (λ (q : Host). crash_fine q.crash q.instance.automaton ≡ true) same (ap (λ o. crash_fine o h.instance.automaton) b.0.crash ∙ b.0.fine)
 hosts_named s (i ∷ is) (h ∷ hs) b (suc k) p e = hosts_named s is hs b.1 k p e
 
-pub hosts_stand : HostsStand
+pub hosts_stand : HostsAreSimulated
 hosts_stand s t h fine legal b =
     rewriting_stands h (hosts_may s fine legal t.instances h.hosts b.hosts)
     (subst AreSpelled (sym b.invariants) (conditions_spelled s fine legal))

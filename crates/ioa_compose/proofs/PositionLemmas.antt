@@ -25,7 +25,7 @@ use Rattle.ioa_compose.specs.Crashes.{MayCrash}
 use Rattle.ioa_compose.specs.Held.{member_of, HoldsPositions, AllHoldPositions, KeepsPositions}
 use Rattle.ioa_compose.specs.Rewriting.{spelled, signals, with_signals, crashing}
 use Rattle.ioa_compose.specs.Signatures.{domains_in, ArePositionsOf}
-use Rattle.ioa_compose.specs.Stands.{member_by, MayStand}
+use Rattle.ioa_compose.specs.Simulates.{member_by, MayStand}
 use Rattle.ioa_compose.proofs.FineLemmas.{AllBind}
 use Rattle.ioa_compose.proofs.HostLemmas.{host_may}
 use Rattle.ioa_compose.proofs.RewrittenEntries.{all_flat_at, constant_same}

@@ -12,7 +12,7 @@ use Rattle.ioa_tree.specs.View.{field_of, variable_of}
 use Rattle.ioa_tree.specs.Meaning.{Env, or_else, values_of, over}
 use Rattle.ioa_tree.specs.Instances.{Fit, field_names}
 use Rattle.ioa_tree.specs.WellFormed.{Context, type_in, context_of}
-use Rattle.ioa_tree.specs.Answers.{Stands, Suits}
+use Rattle.ioa_tree.specs.Answers.{HasValueOf, Suits}
 use Rattle.ioa_tree.proofs.Starts.{suits_of_fit}
 use Rattle.ioa_rules.proofs.ScopeLemmas.{type_in-append}
 use Rattle.ioa_compose.specs.declared.scope.Scope.{Scope}
@@ -25,14 +25,14 @@ suits-over types c d e f h k = record {
   others = λ x at. nowhere x (type_in c x) refl (sym (type_in-append c d x) ∙ at);
 }
   where
-    first : (ty : ℕ) (v o : Option Val) → Stands types ty v → Stands types ty (or_else v o)
+    first : (ty : ℕ) (v o : Option Val) → HasValueOf types ty v → HasValueOf types ty (or_else v o)
     first ty (Some v) o s = s
     first ty None o s = absurd s
 
-    here : (x : Name) (ty : ℕ) (t : Option ℕ) (v : Option Val) → ((u : ℕ) → type_in c x ≡ Some u → Stands types u v) → (type_in c x ≡ None → v ≡ None) → type_in c x ≡ t
-        → option_or t (type_in d x) ≡ Some ty → Stands types ty (or_else v (f x))
-    here x ty (Some u) v s n is at = let same : u ≡ ty = cc in subst (λ t. Stands types t (or_else v (f x))) same (first u v (f x) (s u is))
-    here x ty None v s n is at = subst (λ o. Stands types ty (or_else o (f x))) (sym (n is)) (k.stands x ty at)
+    here : (x : Name) (ty : ℕ) (t : Option ℕ) (v : Option Val) → ((u : ℕ) → type_in c x ≡ Some u → HasValueOf types u v) → (type_in c x ≡ None → v ≡ None) → type_in c x ≡ t
+        → option_or t (type_in d x) ≡ Some ty → HasValueOf types ty (or_else v (f x))
+    here x ty (Some u) v s n is at = let same : u ≡ ty = cc in subst (λ t. HasValueOf types t (or_else v (f x))) same (first u v (f x) (s u is))
+    here x ty None v s n is at = subst (λ o. HasValueOf types ty (or_else o (f x))) (sym (n is)) (k.stands x ty at)
 
     nowhere : (x : Name) (t : Option ℕ) → type_in c x ≡ t → option_or t (type_in d x) ≡ None → or_else (e x) (f x) ≡ None
     nowhere x (Some u) is at = absurd (cc)

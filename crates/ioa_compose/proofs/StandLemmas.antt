@@ -30,7 +30,7 @@ use Rattle.ioa_tree.proofs.Agreement.{val_same}
 use Rattle.ioa_tree.proofs.Alike.{like_kinds, kinds_back, same_compatible, first_like}
 use Rattle.ioa_tree.proofs.Simulation.{run_like, trace_like, owner_like, participants_like, external_like}
 use Rattle.ioa_compose.specs.Rewriting.{spelled, up_name, up_variable, signals, guarded, proposing, added_proposals, added_variables, crash_transition, recover_transition, rewritten, crashing}
-use Rattle.ioa_compose.specs.Stands.{StandsBy, StandsFor, StandsAt, member_by, member_for, MayStand, TellsUp, Holds, HoldsWith, IsMadeBy, IsMadeOf, HoldsAlike, has_kind, Stands, RewritingStands, HeldWith}
+use Rattle.ioa_compose.specs.Simulates.{StandsBy, StandsFor, StandsAt, member_by, member_for, MayStand, TellsUp, SlotsHold, HoldsWith, IsMadeBy, IsMadeOf, HoldsAlike, has_kind, Simulates, RewritingSimulates, HeldWith}
 use Rattle.ioa_compose.proofs.SpelledNames.{absent, all_of, none_unspelled, unspelled}
 use Rattle.ioa_compose.proofs.SpelledTrees.{automaton_spelled}
 use Rattle.ioa_compose.proofs.FirstVariables.{is_added, values_before}
@@ -303,7 +303,7 @@ long_enough None n up slots t = let l : length slots ≡ n = t.0 in length-take-
 long_enough (Some c) n up slots t = let l : length slots ≡ n + 1 = t.0 in length-take-le n slots (omega arith)
 
 one_slotted : (o : Option CrashTree) (p : Host) → MayStand o p → (e : Expr) → list_all spelled (names_of_expr e) ≡ true
-    → (h : HostState Env) (slots more : List Val) → Holds p h slots
+    → (h : HostState Env) (slots more : List Val) → SlotsHold p h slots
     → holds (member_by o p).instance e (state_of (member_by o p).instance.automaton (take (length p.instance.automaton.variables) slots ++ more)) ≡ holds p.instance e h.inner
 one_slotted o p may e c h slots more k =
     let vs = p.instance.automaton.variables in
@@ -423,7 +423,7 @@ all_held hosts may i p m at there h slots k =
     let w = one_held p.crash p (may i p at) h slots k.values k.up in
     (w.0, w.1, λ x. w.2 x ∙ sym (ap (λ (u : Member). values_of (variable_names u.instance.automaton) slots x) is))
 
-pub rewriting_stands : RewritingStands
+pub rewriting_stands : RewritingSimulates
 rewriting_stands h may c =
     let whole : IsRest h.hosts 0 h.hosts = λ j. let e : 0 + j ≡ j = omega arith in ap (slice_get h.hosts) e in
     let k = all_like h.hosts may 0 h.hosts whole in
@@ -445,7 +445,7 @@ rewriting_stands h may c =
 
 -- ---- what follows
 
-module _ (h : Hosted) (c : Composed) (s : Stands h c) where
+module _ (h : Hosted) (c : Composed) (s : Simulates h c) where
   -- the same actions performed, the same end, and states that stand for one another
   pub stands_run : (acts : List Act) → RunsLike (StandsAt h.hosts) (run (hosts_of h) acts (host_starts h)) (run (components_of c) acts (starts_of c))
   stands_run acts = run_like (StandsAt h.hosts) (hosts_of h) (components_of c) acts (host_starts h) (starts_of c) s.like s.start

@@ -26,7 +26,7 @@ use Rattle.ioa_compose.specs.declared.member.Member as held
 use Rattle.ioa_compose.specs.Bindings.{value_in, crash_in, plain_in, instance_in, instance_with, IsStarted}
 use Rattle.ioa_compose.specs.Held.{member_of}
 use Rattle.ioa_compose.specs.Rewriting.{own_automaton, own_starts, added_arguments, volatile_values, rewritten}
-use Rattle.ioa_compose.specs.Stands.{member_by}
+use Rattle.ioa_compose.specs.Simulates.{member_by}
 use Rattle.ioa_compose.specs.Refusals.{NoneFaults}
 use Rattle.ioa_value.proofs.ItemLemmas.{passes_at}
 use Rattle.ioa_compose.proofs.RewrittenNames.{names_of}

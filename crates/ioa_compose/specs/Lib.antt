@@ -12,4 +12,4 @@ pub mod Questions
 pub mod Faults
 pub mod Rewriting
 pub mod Crashes
-pub mod Stands
+pub mod Simulates

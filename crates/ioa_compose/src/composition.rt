@@ -17,7 +17,7 @@ ghost use Rattle.ioa_compose.specs.Bindings.{AreBound, IsComposable};
 ghost use Rattle.ioa_compose.specs.Refusals.{IsRefused, TellsClash, reason_of};
 ghost use Rattle.ioa_tree.specs.Compositions.{picked};
 ghost use Rattle.ioa_tree.specs.Hosts.{Hosted, IsHosted};
-ghost use Rattle.ioa_compose.specs.Stands.{Stands};
+ghost use Rattle.ioa_compose.specs.Simulates.{Simulates};
 ghost use Rattle.ioa_compose.specs.Faults.{condition_fault};
 ghost use Rattle.ioa_compose.specs.Fine.{IsSound};
 ghost use Rattle.ioa_compose.specs.Held.{composed_of, AllHoldPositions};
@@ -170,7 +170,7 @@ impl Composition {
 /// Of several components with faulting arguments, `ArgMismatch` or `CrashName` the first is told, and so of several with faulting
 /// start expressions.
 pub fn compose(alloc: Global, checked: &Checked, name: Option<&str>) -> Result<Composition, Refusal>
-    ensures composed { IfOk result (λ c. (t : CompositionTree) × (picked (tree_of checked.now) (option_copied name.entry) ≡ Some t) × (h : Hosted) × IsHosted (tree_of checked.now) t h × Stands h (composed_of c)) }
+    ensures composed { IfOk result (λ c. (t : CompositionTree) × (picked (tree_of checked.now) (option_copied name.entry) ≡ Some t) × (h : Hosted) × IsHosted (tree_of checked.now) t h × Simulates h (composed_of c)) }
     ensures missing { (picked (tree_of checked.now) (option_copied name.entry) ≡ None) ↔ IsErrOf result refusals.NoComposition }
     ensures exact { IfErr result (λ r. r ≢ refusals.OutOfMemory → (t : CompositionTree) → picked (tree_of checked.now) (option_copied name.entry) ≡ Some t → (h : Hosted) → IsHosted (tree_of checked.now) t h → ⊥) }
     ensures refused { (t : CompositionTree) → picked (tree_of checked.now) (option_copied name.entry) ≡ Some t → IfErr result (λ r. IsRefused (tree_of checked.now) t r) }
@@ -194,7 +194,7 @@ fn composed(
     requires well_formed { WellFormed (tree_of declarations.now) }
     requires legal { LegalNames (tree_of declarations.now) }
     requires composable { IsComposable (tree_of declarations.now) (assembly_of assembly.now) }
-    ensures composed { IfOk result (λ c. (h : Hosted) × IsHosted (tree_of declarations.now) (assembly_of assembly.now) h × Stands h (composed_of c)) }
+    ensures composed { IfOk result (λ c. (h : Hosted) × IsHosted (tree_of declarations.now) (assembly_of assembly.now) h × Simulates h (composed_of c)) }
     ensures refused { IfErr result (λ r. IsRefused (tree_of declarations.now) (assembly_of assembly.now) r) }
 {
     let shared = types.share()?;

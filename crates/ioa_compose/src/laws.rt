@@ -1,7 +1,7 @@
 //! What the rewriting for crashes promises. The functions do nothing: what they say is in their contracts.
 
 ghost use Rattle.ioa_compose.specs.Crashes.{RewritingMeansCrash, RewritingStaysFine};
-ghost use Rattle.ioa_compose.specs.Stands.{HostsStand, RewritingStands, SignalsDecide};
+ghost use Rattle.ioa_compose.specs.Simulates.{HostsAreSimulated, RewritingSimulates, SignalsDecide};
 
 /// The rewritten tree of an automaton means the component that crashes and recovers.
 pub fn rewriting_means_crash()
@@ -15,12 +15,12 @@ pub fn rewriting_stays_fine()
 
 /// A composition of rewritten components, and of those that do not crash, does what the hosts do.
 pub fn rewriting_stands()
-    ensures { RewritingStands }
+    ensures { RewritingSimulates }
 {}
 
 /// So it is for the hosts of a well formed source.
 pub fn hosts_stand()
-    ensures { HostsStand }
+    ensures { HostsAreSimulated }
 {}
 
 /// Hosts are compatible just where their automata with inputs for crash and recover are.

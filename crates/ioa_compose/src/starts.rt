@@ -16,7 +16,7 @@ ghost use Rattle.ioa_compose.specs.Refusals.{FaultsAt, FaultsIn, reason_of};
 ghost use Rattle.ioa_compose.specs.Held.{member_of, KeepsPositions};
 ghost use Rattle.ioa_compose.specs.Rewriting as spec;
 ghost use Rattle.ioa_compose.specs.Rewriting.{added_arguments, volatile_values};
-ghost use Rattle.ioa_compose.specs.Stands.{member_for};
+ghost use Rattle.ioa_compose.specs.Simulates.{member_for};
 
 use crate::binding::Binding;
 use crate::evaluate::value_of;

@@ -11,7 +11,7 @@ use Rattle.ioa_tree.specs.declared.tree.Statement.{Statement}
 use Rattle.ioa_tree.specs.declared.tree.Statement.TheVariants.{If}
 use Rattle.ioa_tree.specs.declared.tree.Arm.{Arm}
 use Rattle.ioa_tree.specs.Tree.{Expr, Stmt, Stmts, choose, arm}
-use Rattle.ioa_grammar.specs.Reading.{Outcome, Reader, Reads, Fails, ◌>>=◌, ◌▸◌, built, many, many_from, sees, after, assignment, statement, sees_statement, terminated, in_sequence, an_arm, more_arms, introduced, sign, choice}
+use Rattle.ioa_grammar.specs.Reading.{Outcome, Reader, ReadsAs, Fails, ◌>>=◌, ◌▸◌, built, many, many_from, sees, after, assignment, statement, sees_statement, terminated, in_sequence, an_arm, more_arms, introduced, sign, choice}
 use Rattle.ioa_tree.specs.Rows.{sequence, choices}
 use Rattle.ioa_tree.specs.View.{stmt_of, stmts_of, arm_of, arms_of}
 use Rattle.ioa_grammar.proofs.Outcomes.{ok_pair}
@@ -29,7 +29,7 @@ sequence_fails one ts errors.OutOfMemory failed = tt
 sequence_fails one ts (errors.Fault f) failed = ap (λ o. o >>= λ x. Ok (sequence x.0, x.1)) failed
 
 pub sequence_reads : (one : Reader Stmt) (ts left : List Tok) (r : Result (Vec Statement Global) ReadError) →
-    Reads (λ v. map stmt_of v.items) (terminated sees_statement terminals.Semicolon one ts) r left → Reads (λ v. stmts_of v.items) (in_sequence one ts) r left
+    ReadsAs (λ v. map stmt_of v.items) (terminated sees_statement terminals.Semicolon one ts) r left → ReadsAs (λ v. stmts_of v.items) (in_sequence one ts) r left
 sequence_reads one ts left (Ok v) read = sequence_read one ts left v.items read
 sequence_reads one ts left (Err e) read = sequence_fails one ts e read
 

@@ -35,9 +35,9 @@ abbrev pub Fails : {Y : Type 0} → ReadError → Result Y Fault → Type 0
 Fails errors.OutOfMemory read = Unit {0}
 Fails (errors.Fault f) read = read ≡ Err f
 
-abbrev pub Reads : {X Y : Type 0} → (X → Y) → Outcome Y → Result X ReadError → List Tok → Type 0
-Reads view read (Ok x) left = read ≡ Ok (view x, left)
-Reads view read (Err e) left = Fails e read
+abbrev pub ReadsAs : {X Y : Type 0} → (X → Y) → Outcome Y → Result X ReadError → List Tok → Type 0
+ReadsAs view read (Ok x) left = read ≡ Ok (view x, left)
+ReadsAs view read (Err e) left = Fails e read
 
 infixl 10 ◌>>=◌
 abbrev pub ◌>>=◌ : {A B : Type 0} → Result A Fault → (A → Result B Fault) → Result B Fault
@@ -556,9 +556,9 @@ abbrev pub Refuses : Refusal → Result SourceTree Refusal → Type 0
 Refuses refusals.OutOfMemory read = Unit {0}
 Refuses e read = read ≡ Err e
 
-abbrev pub Gives : {X : Type 0} → (X → SourceTree) → Result X Refusal → Result SourceTree Refusal → Type 0
-Gives view (Ok x) read = read ≡ Ok (view x)
-Gives view (Err e) read = Refuses e read
+abbrev pub ReturnsSource : {X : Type 0} → (X → SourceTree) → Result X Refusal → Result SourceTree Refusal → Type 0
+ReturnsSource view (Ok x) read = read ≡ Ok (view x)
+ReturnsSource view (Err e) read = Refuses e read
 
 -- the line of the first token, or of the end
 abbrev pub line_of : ℕ → List Token → ℕ

@@ -4,7 +4,7 @@ ghost use Rattle.ioa_value.specs.declared.limits.TheConstants.{LIMITS};
 ghost use Rattle.std.specs.Prelude.{◌≡◌};
 ghost use Rattle.ioa_lex.specs.Tokens.{tokens_shown};
 ghost use Rattle.ioa_grammar.specs.Reading as spec;
-ghost use Rattle.ioa_grammar.specs.Reading.{Reads};
+ghost use Rattle.ioa_grammar.specs.Reading.{ReadsAs};
 ghost use Rattle.ioa_tree.specs.View.{automaton_of};
 
 use crate::cursor::Cursor;
@@ -18,7 +18,7 @@ use ioa_tree::Automaton;
 /// What stands after the word `automaton`.
 #[tactic(auto, unfolding(crate::specs::Reading::an_automaton))]
 pub(crate) fn automaton(cursor: &mut Cursor<'_>) -> Result<Automaton, ReadError>
-    ensures { Reads automaton_of (spec.an_automaton LIMITS.depth (tokens_shown cursor.old)) result (tokens_shown cursor.new) }
+    ensures { ReadsAs automaton_of (spec.an_automaton LIMITS.depth (tokens_shown cursor.old)) result (tokens_shown cursor.new) }
 {
     let name = cursor.name()?;
     let formals = formals(cursor)?;

@@ -3,7 +3,7 @@
 ghost use Rattle.std.specs.Prelude.{◌≡◌, ◌≤◌, ◌<◌, ◌+◌, IfOk, map};
 ghost use Rattle.ioa_lex.specs.Tokens.{tokens_shown};
 ghost use Rattle.ioa_grammar.specs.Reading as spec;
-ghost use Rattle.ioa_grammar.specs.Reading.{Reads};
+ghost use Rattle.ioa_grammar.specs.Reading.{ReadsAs};
 ghost use Rattle.ioa_tree.specs.Depth.{exprs_depth};
 ghost use Rattle.ioa_tree.specs.View.{expr_of, exprs_of, name_of};
 
@@ -19,7 +19,7 @@ use ioa_value::Op;
 /// The empty sequence of a type, after the word `empty`, which stands on this line.
 #[tactic(auto, unfolding(crate::specs::Reading::an_empty, crate::specs::Reading::enclosed, crate::specs::Reading::closing))]
 pub(crate) fn empty(cursor: &mut Cursor<'_>, line: u32) -> Result<Measured, ReadError>
-    ensures read { Reads (λ m. expr_of m.expression) (spec.an_empty (tokens_shown cursor.old)) result (tokens_shown cursor.new) }
+    ensures read { ReadsAs (λ m. expr_of m.expression) (spec.an_empty (tokens_shown cursor.old)) result (tokens_shown cursor.new) }
     ensures within { IfOk result (λ m. m.depth ≡ 1) }
 {
     cursor.expect(Terminal::Open)?;
@@ -38,7 +38,7 @@ fn around_one(
     line: u32,
 ) -> Result<Measured, ReadError>
     requires { depth < 999 }
-    ensures read { Reads (λ m. expr_of m.expression) (spec.around_one (spec.expr depth 0) operator (tokens_shown cursor.old)) result (tokens_shown cursor.new) }
+    ensures read { ReadsAs (λ m. expr_of m.expression) (spec.around_one (spec.expr depth 0) operator (tokens_shown cursor.old)) result (tokens_shown cursor.new) }
     ensures within { IfOk result (λ m. m.depth ≤ depth + 1) }
 {
     cursor.expect(Terminal::Open)?;
@@ -57,7 +57,7 @@ fn around_two(
     line: u32,
 ) -> Result<Measured, ReadError>
     requires { depth < 999 }
-    ensures read { Reads (λ m. expr_of m.expression) (spec.around_two (spec.expr depth 0) operator (tokens_shown cursor.old)) result (tokens_shown cursor.new) }
+    ensures read { ReadsAs (λ m. expr_of m.expression) (spec.around_two (spec.expr depth 0) operator (tokens_shown cursor.old)) result (tokens_shown cursor.new) }
     ensures within { IfOk result (λ m. m.depth ≤ depth + 1) }
 {
     cursor.expect(Terminal::Open)?;
@@ -78,7 +78,7 @@ pub(crate) fn around(
     line: u32,
 ) -> Result<Measured, ReadError>
     requires { depth < 999 }
-    ensures read { Reads (λ m. expr_of m.expression) (spec.around (spec.expr depth 0) operator (tokens_shown cursor.old)) result (tokens_shown cursor.new) }
+    ensures read { ReadsAs (λ m. expr_of m.expression) (spec.around (spec.expr depth 0) operator (tokens_shown cursor.old)) result (tokens_shown cursor.new) }
     ensures within { IfOk result (λ m. m.depth ≤ depth + 1) }
 {
     if encloses(Infix::Operator(operator)) == 1 {
@@ -93,7 +93,7 @@ pub(crate) fn around(
 #[tactic(auto, unfolding(crate::specs::Reading::separated), using(crate::proofs::Turns::items_turn, crate::proofs::Turns::items_close, crate::proofs::Turns::items_fail, crate::proofs::Turns::items_spent))]
 fn fields(cursor: &mut Cursor<'_>, depth: u32) -> Result<(Vec<Expression>, u32), ReadError>
     requires { depth < 999 }
-    ensures read { Reads (λ p. map expr_of p.0.items) (spec.separated Terminal.Comma (spec.expr depth 0) (tokens_shown cursor.old)) result (tokens_shown cursor.new) }
+    ensures read { ReadsAs (λ p. map expr_of p.0.items) (spec.separated Terminal.Comma (spec.expr depth 0) (tokens_shown cursor.old)) result (tokens_shown cursor.new) }
     ensures exact { IfOk result (λ p. p.1 ≡ exprs_depth (exprs_of p.0.items)) }
     ensures within { IfOk result (λ p. p.1 ≤ depth) }
 {
@@ -123,7 +123,7 @@ pub(crate) fn after_name(
     depth: u32,
 ) -> Result<Measured, ReadError>
     requires { depth < 999 }
-    ensures read { Reads (λ m. expr_of m.expression) (spec.after_name (spec.expr depth 0) (name_of name) (tokens_shown cursor.old)) result (tokens_shown cursor.new) }
+    ensures read { ReadsAs (λ m. expr_of m.expression) (spec.after_name (spec.expr depth 0) (name_of name) (tokens_shown cursor.old)) result (tokens_shown cursor.new) }
     ensures within { IfOk result (λ m. m.depth ≤ depth + 1) }
 {
     if !cursor.take(Terminal::Open) {
@@ -143,7 +143,7 @@ pub(crate) fn selected(
 ) -> Result<Measured, ReadError>
     requires small { depth < 999 }
     requires within { operand.depth ≤ depth + 1 }
-    ensures read { Reads (λ m. expr_of m.expression) (spec.fields_from depth depth (expr_of operand.expression) (tokens_shown cursor.old)) result (tokens_shown cursor.new) }
+    ensures read { ReadsAs (λ m. expr_of m.expression) (spec.fields_from depth depth (expr_of operand.expression) (tokens_shown cursor.old)) result (tokens_shown cursor.new) }
     ensures within { IfOk result (λ m. m.depth ≤ depth + 1) }
 {
     let mut whole = operand;

@@ -5,7 +5,7 @@ ghost use Rattle.std.specs.Prelude.{◌≡◌, map};
 ghost use Rattle.std.specs.Option.{option_map};
 ghost use Rattle.ioa_lex.specs.Tokens.{tokens_shown};
 ghost use Rattle.ioa_grammar.specs.Reading as spec;
-ghost use Rattle.ioa_grammar.specs.Reading.{Reads};
+ghost use Rattle.ioa_grammar.specs.Reading.{ReadsAs};
 ghost use Rattle.ioa_tree.specs.View.{name_of, expr_of, crash_of, instance_of, assembly_of};
 
 use crate::cursor::Cursor;
@@ -17,7 +17,7 @@ use ioa_tree::{Assembly, Crash, Expression, Instance, Name};
 
 #[tactic(auto, unfolding(crate::specs::Reading::separated), using(crate::proofs::Turns::items_turn, crate::proofs::Turns::items_close, crate::proofs::Turns::items_fail, crate::proofs::Turns::items_spent))]
 fn argument_list(cursor: &mut Cursor<'_>) -> Result<Vec<Expression>, ReadError>
-    ensures { Reads (λ v. map expr_of v.items) (spec.separated Terminal.Comma (spec.expression LIMITS.depth) (tokens_shown cursor.old)) result (tokens_shown cursor.new) }
+    ensures { ReadsAs (λ v. map expr_of v.items) (spec.separated Terminal.Comma (spec.expression LIMITS.depth) (tokens_shown cursor.old)) result (tokens_shown cursor.new) }
 {
     let mut found = Vec::new(cursor.alloc());
     for _turn in 0..cursor.left() {
@@ -32,7 +32,7 @@ fn argument_list(cursor: &mut Cursor<'_>) -> Result<Vec<Expression>, ReadError>
 /// Arguments between parentheses, or none.
 #[tactic(auto, unfolding(crate::specs::Reading::optional_list, crate::specs::Reading::arguments, crate::specs::Reading::closing))]
 fn arguments(cursor: &mut Cursor<'_>) -> Result<Vec<Expression>, ReadError>
-    ensures { Reads (λ v. map expr_of v.items) (spec.optional_list Terminal.Open (spec.arguments LIMITS.depth) (tokens_shown cursor.old)) result (tokens_shown cursor.new) }
+    ensures { ReadsAs (λ v. map expr_of v.items) (spec.optional_list Terminal.Open (spec.arguments LIMITS.depth) (tokens_shown cursor.old)) result (tokens_shown cursor.new) }
 {
     if !cursor.take(Terminal::Open) {
         return Ok(Vec::new(cursor.alloc()));
@@ -45,7 +45,7 @@ fn arguments(cursor: &mut Cursor<'_>) -> Result<Vec<Expression>, ReadError>
 /// The names after the word `crash`, or none.
 #[tactic(auto, unfolding(crate::specs::Reading::optional, crate::specs::Reading::a_crash))]
 fn crash(cursor: &mut Cursor<'_>) -> Result<Option<Crash>, ReadError>
-    ensures { Reads (option_map crash_of) (spec.optional Terminal.Crash spec.a_crash (tokens_shown cursor.old)) result (tokens_shown cursor.new) }
+    ensures { ReadsAs (option_map crash_of) (spec.optional Terminal.Crash spec.a_crash (tokens_shown cursor.old)) result (tokens_shown cursor.new) }
 {
     if !cursor.take(Terminal::Crash) {
         return Ok(None);
@@ -59,7 +59,7 @@ fn crash(cursor: &mut Cursor<'_>) -> Result<Option<Crash>, ReadError>
 /// A component: its name, its automaton's name, the arguments, and crash and recover.
 #[tactic(auto, unfolding(crate::specs::Reading::instance))]
 fn instance(cursor: &mut Cursor<'_>) -> Result<Instance, ReadError>
-    ensures { Reads instance_of (spec.instance LIMITS.depth (tokens_shown cursor.old)) result (tokens_shown cursor.new) }
+    ensures { ReadsAs instance_of (spec.instance LIMITS.depth (tokens_shown cursor.old)) result (tokens_shown cursor.new) }
 {
     let name = cursor.name()?;
     cursor.expect(Terminal::Colon)?;
@@ -77,7 +77,7 @@ fn instance(cursor: &mut Cursor<'_>) -> Result<Instance, ReadError>
 /// The components of a composition, the last of them with or without a semicolon.
 #[tactic(auto, unfolding(crate::specs::Reading::instances, crate::specs::Reading::terminated), using(crate::proofs::Turns::items_turn, crate::proofs::Turns::items_close, crate::proofs::Turns::items_fail, crate::proofs::Turns::items_spent))]
 fn instances(cursor: &mut Cursor<'_>) -> Result<Vec<Instance>, ReadError>
-    ensures { Reads (λ v. map instance_of v.items) (spec.instances LIMITS.depth (tokens_shown cursor.old)) result (tokens_shown cursor.new) }
+    ensures { ReadsAs (λ v. map instance_of v.items) (spec.instances LIMITS.depth (tokens_shown cursor.old)) result (tokens_shown cursor.new) }
 {
     let mut found = Vec::new(cursor.alloc());
     for _turn in 0..cursor.left() {
@@ -92,7 +92,7 @@ fn instances(cursor: &mut Cursor<'_>) -> Result<Vec<Instance>, ReadError>
 /// The names after the word `hidden`, with or without a semicolon at their end, or none.
 #[tactic(auto, unfolding(crate::specs::Reading::optional_list, crate::specs::Reading::hidden_names, crate::specs::Reading::perhaps))]
 fn hidden(cursor: &mut Cursor<'_>) -> Result<Vec<Name>, ReadError>
-    ensures { Reads (λ v. map name_of v.items) (spec.optional_list Terminal.Hidden spec.hidden_names (tokens_shown cursor.old)) result (tokens_shown cursor.new) }
+    ensures { ReadsAs (λ v. map name_of v.items) (spec.optional_list Terminal.Hidden spec.hidden_names (tokens_shown cursor.old)) result (tokens_shown cursor.new) }
 {
     if !cursor.take(Terminal::Hidden) {
         return Ok(Vec::new(cursor.alloc()));
@@ -105,7 +105,7 @@ fn hidden(cursor: &mut Cursor<'_>) -> Result<Vec<Name>, ReadError>
 /// What stands after the word `composition`.
 #[tactic(auto, unfolding(crate::specs::Reading::a_composition))]
 pub(crate) fn composition(cursor: &mut Cursor<'_>) -> Result<Assembly, ReadError>
-    ensures { Reads assembly_of (spec.a_composition LIMITS.depth (tokens_shown cursor.old)) result (tokens_shown cursor.new) }
+    ensures { ReadsAs assembly_of (spec.a_composition LIMITS.depth (tokens_shown cursor.old)) result (tokens_shown cursor.new) }
 {
     let name = cursor.name()?;
     cursor.expect(Terminal::Components)?;

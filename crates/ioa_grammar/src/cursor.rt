@@ -3,7 +3,7 @@
 ghost use Rattle.std.specs.Prelude.{◌≡◌, length, MatchOption, List, [], ◌∷◌};
 ghost use Rattle.ioa_lex.specs.Tokens.{tokens_shown, kind_shown};
 ghost use Rattle.ioa_grammar.specs.Reading as spec;
-ghost use Rattle.ioa_grammar.specs.Reading.{Reads};
+ghost use Rattle.ioa_grammar.specs.Reading.{ReadsAs};
 ghost use Rattle.ioa_tree.specs.View.{name_of};
 
 use crate::fault::{Fault, ReadError};
@@ -166,7 +166,7 @@ impl<'a> Cursor<'a> {
     /// Takes this word or sign.
     #[tactic(auto, unfolding(crate::specs::Reading::sign))]
     pub fn expect(&mut self, wanted: Terminal) -> Result<(), ReadError>
-        ensures { Reads (λ u. u) (spec.sign wanted (tokens_shown self.old)) result (tokens_shown self.new) }
+        ensures { ReadsAs (λ u. u) (spec.sign wanted (tokens_shown self.old)) result (tokens_shown self.new) }
     {
         if !self.sees(wanted) {
             return Err(self.fault());
@@ -178,7 +178,7 @@ impl<'a> Cursor<'a> {
     /// Takes a name.
     #[tactic(auto, unfolding(crate::specs::Reading::a_name))]
     pub fn name(&mut self) -> Result<Name, ReadError>
-        ensures { Reads name_of (spec.a_name (tokens_shown self.old)) result (tokens_shown self.new) }
+        ensures { ReadsAs name_of (spec.a_name (tokens_shown self.old)) result (tokens_shown self.new) }
     {
         match self.left {
             [
@@ -199,7 +199,7 @@ impl<'a> Cursor<'a> {
     /// Takes a number.
     #[tactic(auto, unfolding(crate::specs::Reading::a_number))]
     pub fn number(&mut self) -> Result<u64, ReadError>
-        ensures { Reads (λ n. n) (spec.a_number (tokens_shown self.old)) result (tokens_shown self.new) }
+        ensures { ReadsAs (λ n. n) (spec.a_number (tokens_shown self.old)) result (tokens_shown self.new) }
     {
         match self.left {
             [
@@ -219,7 +219,7 @@ impl<'a> Cursor<'a> {
     /// Takes the word for a kind.
     #[tactic(auto, unfolding(crate::specs::Reading::a_kind, crate::specs::Reading::kind_at))]
     pub fn kind(&mut self) -> Result<ioa_tree::Kind, ReadError>
-        ensures { Reads (λ k. k) (spec.a_kind (tokens_shown self.old)) result (tokens_shown self.new) }
+        ensures { ReadsAs (λ k. k) (spec.a_kind (tokens_shown self.old)) result (tokens_shown self.new) }
     {
         let Some(kind) = self.next_kind() else {
             return Err(self.fault());

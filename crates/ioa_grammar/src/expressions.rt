@@ -3,7 +3,7 @@
 ghost use Rattle.std.specs.Prelude.{◌≡◌, ◌≤◌, ◌<◌, ◌+◌, IfOk};
 ghost use Rattle.ioa_lex.specs.Tokens.{tokens_shown};
 ghost use Rattle.ioa_grammar.specs.Reading as spec;
-ghost use Rattle.ioa_grammar.specs.Reading.{Reads};
+ghost use Rattle.ioa_grammar.specs.Reading.{ReadsAs};
 ghost use Rattle.ioa_tree.specs.View.{expr_of};
 
 use crate::calls::{after_name, around, empty, selected};
@@ -42,7 +42,7 @@ fn operator_at(cursor: &Cursor<'_>, least: u32, below: u32) -> Option<Infix>
 /// An expression, as deep as the limit allows.
 #[tactic(auto, unfolding(crate::specs::Reading::expression))]
 pub(crate) fn whole_expression(cursor: &mut Cursor<'_>) -> Result<Expression, ReadError>
-    ensures { Reads expr_of (spec.expression LIMITS.depth (tokens_shown cursor.old)) result (tokens_shown cursor.new) }
+    ensures { ReadsAs expr_of (spec.expression LIMITS.depth (tokens_shown cursor.old)) result (tokens_shown cursor.new) }
 {
     let Measured { expression, .. } = expression(cursor, MAX_DEPTH, 0)?;
     Ok(expression)
@@ -57,7 +57,7 @@ pub(crate) fn expression(
     least: u32,
 ) -> Result<Measured, ReadError>
     requires { depth < 1000 }
-    ensures read { Reads (λ m. expr_of m.expression) (spec.expr depth least (tokens_shown cursor.old)) result (tokens_shown cursor.new) }
+    ensures read { ReadsAs (λ m. expr_of m.expression) (spec.expr depth least (tokens_shown cursor.old)) result (tokens_shown cursor.new) }
     ensures within { IfOk result (λ m. m.depth ≤ depth) }
 {
     if depth == 0 {
@@ -73,7 +73,7 @@ pub(crate) fn expression(
 #[tactic(auto, unfolding(crate::specs::Reading::first))]
 fn first(cursor: &mut Cursor<'_>, depth: u32, least: u32) -> Result<(Measured, u32), ReadError>
     requires { depth < 999 }
-    ensures read { Reads (λ p. (expr_of p.0.expression, p.1)) (spec.first depth least (spec.expr depth) (tokens_shown cursor.old)) result (tokens_shown cursor.new) }
+    ensures read { ReadsAs (λ p. (expr_of p.0.expression, p.1)) (spec.first depth least (spec.expr depth) (tokens_shown cursor.old)) result (tokens_shown cursor.new) }
     ensures within { IfOk result (λ p. p.0.depth ≤ depth + 1) }
 {
     let Some(operator) = prefix_at(cursor) else {
@@ -95,7 +95,7 @@ fn first(cursor: &mut Cursor<'_>, depth: u32, least: u32) -> Result<(Measured, u
 #[tactic(auto, unfolding(crate::specs::Reading::operand))]
 fn operand(cursor: &mut Cursor<'_>, depth: u32) -> Result<Measured, ReadError>
     requires { depth < 999 }
-    ensures read { Reads (λ m. expr_of m.expression) (spec.operand depth (spec.expr depth 0) (tokens_shown cursor.old)) result (tokens_shown cursor.new) }
+    ensures read { ReadsAs (λ m. expr_of m.expression) (spec.operand depth (spec.expr depth 0) (tokens_shown cursor.old)) result (tokens_shown cursor.new) }
     ensures within { IfOk result (λ m. m.depth ≤ depth + 1) }
 {
     let whole = primary(cursor, depth)?;
@@ -108,7 +108,7 @@ fn operand(cursor: &mut Cursor<'_>, depth: u32) -> Result<Measured, ReadError>
 #[tactic(auto, unfolding(crate::specs::Reading::primary, crate::specs::Reading::start_at, crate::specs::Reading::start_of, crate::specs::Reading::closing, crate::specs::Reading::a_name))]
 fn primary(cursor: &mut Cursor<'_>, depth: u32) -> Result<Measured, ReadError>
     requires { depth < 999 }
-    ensures read { Reads (λ m. expr_of m.expression) (spec.primary (spec.expr depth 0) (tokens_shown cursor.old)) result (tokens_shown cursor.new) }
+    ensures read { ReadsAs (λ m. expr_of m.expression) (spec.primary (spec.expr depth 0) (tokens_shown cursor.old)) result (tokens_shown cursor.new) }
     ensures within { IfOk result (λ m. m.depth ≤ depth + 1) }
 {
     let Some(Token { kind, line }) = cursor.peek() else {
@@ -163,7 +163,7 @@ fn climb(
 ) -> Result<Measured, ReadError>
     requires small { depth < 999 }
     requires within { first.0.depth ≤ depth + 1 }
-    ensures read { Reads (λ m. expr_of m.expression) (spec.climb depth (spec.expr depth) depth least first.1 (expr_of first.0.expression) (tokens_shown cursor.old)) result (tokens_shown cursor.new) }
+    ensures read { ReadsAs (λ m. expr_of m.expression) (spec.climb depth (spec.expr depth) depth least first.1 (expr_of first.0.expression) (tokens_shown cursor.old)) result (tokens_shown cursor.new) }
     ensures within { IfOk result (λ m. m.depth ≤ depth + 1) }
 {
     let (mut left, mut below) = first;

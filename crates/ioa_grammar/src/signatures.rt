@@ -3,7 +3,7 @@
 ghost use Rattle.std.specs.Prelude.{◌≡◌, map};
 ghost use Rattle.ioa_lex.specs.Tokens.{tokens_shown};
 ghost use Rattle.ioa_grammar.specs.Reading as spec;
-ghost use Rattle.ioa_grammar.specs.Reading.{Reads};
+ghost use Rattle.ioa_grammar.specs.Reading.{ReadsAs};
 ghost use Rattle.ioa_tree.specs.View.{field_of, constant_of, position_of, entry_of};
 
 use crate::cursor::Cursor;
@@ -14,7 +14,7 @@ use ioa_tree::{Constant, Entry, Field, Position};
 /// A name and its type.
 #[tactic(auto, unfolding(crate::specs::Reading::field))]
 pub(crate) fn field(cursor: &mut Cursor<'_>) -> Result<Field, ReadError>
-    ensures { Reads field_of (spec.field (tokens_shown cursor.old)) result (tokens_shown cursor.new) }
+    ensures { ReadsAs field_of (spec.field (tokens_shown cursor.old)) result (tokens_shown cursor.new) }
 {
     let name = cursor.name()?;
     cursor.expect(Terminal::Colon)?;
@@ -25,7 +25,7 @@ pub(crate) fn field(cursor: &mut Cursor<'_>) -> Result<Field, ReadError>
 /// Fields, with commas between them.
 #[tactic(auto, unfolding(crate::specs::Reading::separated), using(crate::proofs::Turns::items_turn, crate::proofs::Turns::items_close, crate::proofs::Turns::items_fail, crate::proofs::Turns::items_spent))]
 pub(crate) fn field_list(cursor: &mut Cursor<'_>) -> Result<Vec<Field>, ReadError>
-    ensures { Reads (λ v. map field_of v.items) (spec.separated Terminal.Comma spec.field (tokens_shown cursor.old)) result (tokens_shown cursor.new) }
+    ensures { ReadsAs (λ v. map field_of v.items) (spec.separated Terminal.Comma spec.field (tokens_shown cursor.old)) result (tokens_shown cursor.new) }
 {
     let mut found = Vec::new(cursor.alloc());
     for _turn in 0..cursor.left() {
@@ -40,7 +40,7 @@ pub(crate) fn field_list(cursor: &mut Cursor<'_>) -> Result<Vec<Field>, ReadErro
 /// Formal parameters between parentheses, or none.
 #[tactic(auto, unfolding(crate::specs::Reading::optional_list, crate::specs::Reading::fields, crate::specs::Reading::closing))]
 pub(crate) fn formals(cursor: &mut Cursor<'_>) -> Result<Vec<Field>, ReadError>
-    ensures { Reads (λ v. map field_of v.items) (spec.optional_list Terminal.Open spec.fields (tokens_shown cursor.old)) result (tokens_shown cursor.new) }
+    ensures { ReadsAs (λ v. map field_of v.items) (spec.optional_list Terminal.Open spec.fields (tokens_shown cursor.old)) result (tokens_shown cursor.new) }
 {
     if !cursor.take(Terminal::Open) {
         return Ok(Vec::new(cursor.alloc()));
@@ -53,7 +53,7 @@ pub(crate) fn formals(cursor: &mut Cursor<'_>) -> Result<Vec<Field>, ReadError>
 /// A constant that is written with one token.
 #[tactic(auto, unfolding(crate::specs::Reading::literal, crate::specs::Reading::literal_at, crate::specs::Reading::literal_of, crate::specs::Reading::a_name))]
 fn literal(cursor: &mut Cursor<'_>) -> Result<Constant, ReadError>
-    ensures { Reads constant_of (spec.literal (tokens_shown cursor.old)) result (tokens_shown cursor.new) }
+    ensures { ReadsAs constant_of (spec.literal (tokens_shown cursor.old)) result (tokens_shown cursor.new) }
 {
     let Some(Token { kind, line }) = cursor.peek() else {
         return Err(cursor.fault());
@@ -72,7 +72,7 @@ fn literal(cursor: &mut Cursor<'_>) -> Result<Constant, ReadError>
 /// What stands after the word `const`.
 #[tactic(auto, unfolding(crate::specs::Reading::a_constant))]
 fn constant(cursor: &mut Cursor<'_>) -> Result<Constant, ReadError>
-    ensures { Reads constant_of (spec.a_constant (tokens_shown cursor.old)) result (tokens_shown cursor.new) }
+    ensures { ReadsAs constant_of (spec.a_constant (tokens_shown cursor.old)) result (tokens_shown cursor.new) }
 {
     let line = cursor.line();
     if cursor.take(Terminal::Minus) {
@@ -83,7 +83,7 @@ fn constant(cursor: &mut Cursor<'_>) -> Result<Constant, ReadError>
 
 #[tactic(auto, unfolding(crate::specs::Reading::position))]
 fn position(cursor: &mut Cursor<'_>) -> Result<Position, ReadError>
-    ensures { Reads position_of (spec.position (tokens_shown cursor.old)) result (tokens_shown cursor.new) }
+    ensures { ReadsAs position_of (spec.position (tokens_shown cursor.old)) result (tokens_shown cursor.new) }
 {
     if cursor.take(Terminal::Const) {
         return Ok(Position::Constant(constant(cursor)?));
@@ -93,7 +93,7 @@ fn position(cursor: &mut Cursor<'_>) -> Result<Position, ReadError>
 
 #[tactic(auto, unfolding(crate::specs::Reading::separated), using(crate::proofs::Turns::items_turn, crate::proofs::Turns::items_close, crate::proofs::Turns::items_fail, crate::proofs::Turns::items_spent))]
 fn position_list(cursor: &mut Cursor<'_>) -> Result<Vec<Position>, ReadError>
-    ensures { Reads (λ v. map position_of v.items) (spec.separated Terminal.Comma spec.position (tokens_shown cursor.old)) result (tokens_shown cursor.new) }
+    ensures { ReadsAs (λ v. map position_of v.items) (spec.separated Terminal.Comma spec.position (tokens_shown cursor.old)) result (tokens_shown cursor.new) }
 {
     let mut found = Vec::new(cursor.alloc());
     for _turn in 0..cursor.left() {
@@ -108,7 +108,7 @@ fn position_list(cursor: &mut Cursor<'_>) -> Result<Vec<Position>, ReadError>
 /// Positions between parentheses, or none.
 #[tactic(auto, unfolding(crate::specs::Reading::optional_list, crate::specs::Reading::positions, crate::specs::Reading::closing))]
 fn positions(cursor: &mut Cursor<'_>) -> Result<Vec<Position>, ReadError>
-    ensures { Reads (λ v. map position_of v.items) (spec.optional_list Terminal.Open spec.positions (tokens_shown cursor.old)) result (tokens_shown cursor.new) }
+    ensures { ReadsAs (λ v. map position_of v.items) (spec.optional_list Terminal.Open spec.positions (tokens_shown cursor.old)) result (tokens_shown cursor.new) }
 {
     if !cursor.take(Terminal::Open) {
         return Ok(Vec::new(cursor.alloc()));
@@ -121,7 +121,7 @@ fn positions(cursor: &mut Cursor<'_>) -> Result<Vec<Position>, ReadError>
 /// An entry: a kind, a name, and its positions.
 #[tactic(auto, unfolding(crate::specs::Reading::entry))]
 fn entry(cursor: &mut Cursor<'_>) -> Result<Entry, ReadError>
-    ensures { Reads entry_of (spec.entry (tokens_shown cursor.old)) result (tokens_shown cursor.new) }
+    ensures { ReadsAs entry_of (spec.entry (tokens_shown cursor.old)) result (tokens_shown cursor.new) }
 {
     let kind = cursor.kind()?;
     let name = cursor.name()?;
@@ -136,7 +136,7 @@ fn entry(cursor: &mut Cursor<'_>) -> Result<Entry, ReadError>
 /// The entries of a signature, the last of them with or without a semicolon.
 #[tactic(auto, unfolding(crate::specs::Reading::entries, crate::specs::Reading::terminated), using(crate::proofs::Turns::items_turn, crate::proofs::Turns::items_close, crate::proofs::Turns::items_fail, crate::proofs::Turns::items_spent))]
 pub(crate) fn entries(cursor: &mut Cursor<'_>) -> Result<Vec<Entry>, ReadError>
-    ensures { Reads (λ v. map entry_of v.items) (spec.entries (tokens_shown cursor.old)) result (tokens_shown cursor.new) }
+    ensures { ReadsAs (λ v. map entry_of v.items) (spec.entries (tokens_shown cursor.old)) result (tokens_shown cursor.new) }
 {
     let mut found = Vec::new(cursor.alloc());
     for _turn in 0..cursor.left() {

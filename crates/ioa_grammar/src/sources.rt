@@ -4,7 +4,7 @@ ghost use Rattle.ioa_value.specs.declared.limits.TheConstants.{LIMITS};
 ghost use Rattle.std.specs.Prelude.{◌≡◌};
 ghost use Rattle.ioa_lex.specs.Tokens.{tokens_shown};
 ghost use Rattle.ioa_grammar.specs.Reading as spec;
-ghost use Rattle.ioa_grammar.specs.Reading.{Reads, Gives, line_at, refusal_of};
+ghost use Rattle.ioa_grammar.specs.Reading.{ReadsAs, ReturnsSource, line_at, refusal_of};
 ghost use Rattle.ioa_tree.specs.View.{declaration_of, tree_of};
 
 use crate::automata::automaton;
@@ -19,7 +19,7 @@ use std::alloc::Global;
 
 #[tactic(auto, unfolding(crate::specs::Reading::composed))]
 fn composed(cursor: &mut Cursor<'_>) -> Result<Declaration, ReadError>
-    ensures { Reads declaration_of (spec.composed LIMITS.depth (tokens_shown cursor.old)) result (tokens_shown cursor.new) }
+    ensures { ReadsAs declaration_of (spec.composed LIMITS.depth (tokens_shown cursor.old)) result (tokens_shown cursor.new) }
 {
     cursor.expect(Terminal::Composition)?;
     Ok(Declaration::Composition(composition(cursor)?))
@@ -28,7 +28,7 @@ fn composed(cursor: &mut Cursor<'_>) -> Result<Declaration, ReadError>
 /// An automaton or a composition.
 #[tactic(auto, unfolding(crate::specs::Reading::machine))]
 fn machine(cursor: &mut Cursor<'_>) -> Result<Declaration, ReadError>
-    ensures { Reads declaration_of (spec.machine LIMITS.depth (tokens_shown cursor.old)) result (tokens_shown cursor.new) }
+    ensures { ReadsAs declaration_of (spec.machine LIMITS.depth (tokens_shown cursor.old)) result (tokens_shown cursor.new) }
 {
     if cursor.take(Terminal::Automaton) {
         Ok(Declaration::Automaton(automaton(cursor)?))
@@ -40,7 +40,7 @@ fn machine(cursor: &mut Cursor<'_>) -> Result<Declaration, ReadError>
 /// An automaton, a composition or an invariant.
 #[tactic(auto, unfolding(crate::specs::Reading::about_machines))]
 fn about_machines(cursor: &mut Cursor<'_>) -> Result<Declaration, ReadError>
-    ensures { Reads declaration_of (spec.about_machines LIMITS.depth (tokens_shown cursor.old)) result (tokens_shown cursor.new) }
+    ensures { ReadsAs declaration_of (spec.about_machines LIMITS.depth (tokens_shown cursor.old)) result (tokens_shown cursor.new) }
 {
     if cursor.take(Terminal::Invariant) {
         Ok(Declaration::Invariant(invariant(cursor)?))
@@ -52,7 +52,7 @@ fn about_machines(cursor: &mut Cursor<'_>) -> Result<Declaration, ReadError>
 /// A type, or what is about automata.
 #[tactic(auto, unfolding(crate::specs::Reading::declaration))]
 fn declaration(cursor: &mut Cursor<'_>) -> Result<Declaration, ReadError>
-    ensures { Reads declaration_of (spec.declaration LIMITS.depth (tokens_shown cursor.old)) result (tokens_shown cursor.new) }
+    ensures { ReadsAs declaration_of (spec.declaration LIMITS.depth (tokens_shown cursor.old)) result (tokens_shown cursor.new) }
 {
     if cursor.take(Terminal::Type) {
         Ok(Declaration::Type(type_declaration(cursor)?))
@@ -85,7 +85,7 @@ fn refusal(tokens: &[Token], end: u32, error: ReadError, first: usize) -> Refusa
 /// The declarations that the tokens are. The text ends on line `end`.
 #[tactic(auto, unfolding(crate::specs::Reading::source))]
 pub fn declarations(alloc: Global, tokens: &[Token], end: u32) -> Result<Vec<Declaration>, Refusal>
-    ensures { Gives (λ v. tree_of v.items) result (spec.source LIMITS.depth (line_at tokens.now end) (tokens_shown tokens.now)) }
+    ensures { ReturnsSource (λ v. tree_of v.items) result (spec.source LIMITS.depth (line_at tokens.now end) (tokens_shown tokens.now)) }
 {
     let mut cursor = Cursor::new(alloc, tokens);
     let mut found = Vec::new(alloc);

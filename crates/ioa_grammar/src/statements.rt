@@ -4,7 +4,7 @@ ghost use Rattle.ioa_value.specs.declared.limits.TheConstants.{LIMITS};
 ghost use Rattle.std.specs.Prelude.{◌≡◌, ◌∷◌, map};
 ghost use Rattle.ioa_lex.specs.Tokens.{tokens_shown};
 ghost use Rattle.ioa_grammar.specs.Reading as spec;
-ghost use Rattle.ioa_grammar.specs.Reading.{Reads, built, ◌▸◌};
+ghost use Rattle.ioa_grammar.specs.Reading.{ReadsAs, built, ◌▸◌};
 ghost use Rattle.ioa_tree.specs.View.{stmt_of, stmts_of, arm_of};
 
 use crate::cursor::Cursor;
@@ -15,7 +15,7 @@ use ioa_tree::{Arm, Statement};
 
 #[tactic(auto, unfolding(crate::specs::Reading::assignment))]
 fn assignment(cursor: &mut Cursor<'_>) -> Result<Statement, ReadError>
-    ensures { Reads stmt_of (spec.assignment LIMITS.depth (tokens_shown cursor.old)) result (tokens_shown cursor.new) }
+    ensures { ReadsAs stmt_of (spec.assignment LIMITS.depth (tokens_shown cursor.old)) result (tokens_shown cursor.new) }
 {
     let name = cursor.name()?;
     cursor.expect(Terminal::Becomes)?;
@@ -26,7 +26,7 @@ fn assignment(cursor: &mut Cursor<'_>) -> Result<Statement, ReadError>
 #[cycle(statement)]
 #[tactic(auto, unfolding(crate::specs::Reading::statement))]
 fn statement(cursor: &mut Cursor<'_>, levels: u32) -> Result<Statement, ReadError>
-    ensures { Reads stmt_of (spec.statement LIMITS.depth levels (tokens_shown cursor.old)) result (tokens_shown cursor.new) }
+    ensures { ReadsAs stmt_of (spec.statement LIMITS.depth levels (tokens_shown cursor.old)) result (tokens_shown cursor.new) }
 {
     if levels == 0 {
         return Err(cursor.too_deep());
@@ -42,7 +42,7 @@ fn statement(cursor: &mut Cursor<'_>, levels: u32) -> Result<Statement, ReadErro
 #[cycle(statement)]
 #[tactic(auto, unfolding(crate::specs::Reading::terminated), using(crate::proofs::Turns::items_turn, crate::proofs::Turns::items_close, crate::proofs::Turns::items_fail, crate::proofs::Turns::items_spent))]
 fn each_statement(cursor: &mut Cursor<'_>, levels: u32) -> Result<Vec<Statement>, ReadError>
-    ensures { Reads (λ v. map stmt_of v.items) (spec.terminated spec.sees_statement Terminal.Semicolon (spec.statement LIMITS.depth levels) (tokens_shown cursor.old)) result (tokens_shown cursor.new) }
+    ensures { ReadsAs (λ v. map stmt_of v.items) (spec.terminated spec.sees_statement Terminal.Semicolon (spec.statement LIMITS.depth levels) (tokens_shown cursor.old)) result (tokens_shown cursor.new) }
 {
     let mut found = Vec::new(cursor.alloc());
     for _turn in 0..cursor.left() {
@@ -58,7 +58,7 @@ fn each_statement(cursor: &mut Cursor<'_>, levels: u32) -> Result<Vec<Statement>
 #[cycle(statement)]
 #[tactic(auto, using(crate::proofs::Sequences::sequence_reads))]
 fn statements(cursor: &mut Cursor<'_>, levels: u32) -> Result<Vec<Statement>, ReadError>
-    ensures { Reads (λ v. stmts_of v.items) (spec.in_sequence (spec.statement LIMITS.depth levels) (tokens_shown cursor.old)) result (tokens_shown cursor.new) }
+    ensures { ReadsAs (λ v. stmts_of v.items) (spec.in_sequence (spec.statement LIMITS.depth levels) (tokens_shown cursor.old)) result (tokens_shown cursor.new) }
 {
     each_statement(cursor, levels)
 }
@@ -71,7 +71,7 @@ pub(crate) fn introduced(
     word: Terminal,
     levels: u32,
 ) -> Result<Vec<Statement>, ReadError>
-    ensures { Reads (λ v. stmts_of v.items) (spec.introduced word (spec.in_sequence (spec.statement LIMITS.depth levels)) (tokens_shown cursor.old)) result (tokens_shown cursor.new) }
+    ensures { ReadsAs (λ v. stmts_of v.items) (spec.introduced word (spec.in_sequence (spec.statement LIMITS.depth levels)) (tokens_shown cursor.old)) result (tokens_shown cursor.new) }
 {
     if !cursor.take(word) {
         return Ok(Vec::new(cursor.alloc()));
@@ -83,7 +83,7 @@ pub(crate) fn introduced(
 #[cycle(statement)]
 #[tactic(auto, unfolding(crate::specs::Reading::an_arm))]
 fn an_arm(cursor: &mut Cursor<'_>, levels: u32) -> Result<Arm, ReadError>
-    ensures { Reads arm_of (spec.an_arm LIMITS.depth (spec.in_sequence (spec.statement LIMITS.depth levels)) (tokens_shown cursor.old)) result (tokens_shown cursor.new) }
+    ensures { ReadsAs arm_of (spec.an_arm LIMITS.depth (spec.in_sequence (spec.statement LIMITS.depth levels)) (tokens_shown cursor.old)) result (tokens_shown cursor.new) }
 {
     let condition = whole_expression(cursor)?;
     cursor.expect(Terminal::Then)?;
@@ -97,7 +97,7 @@ fn an_arm(cursor: &mut Cursor<'_>, levels: u32) -> Result<Arm, ReadError>
 #[cycle(statement)]
 #[tactic(auto)]
 fn another_arm(cursor: &mut Cursor<'_>, levels: u32) -> Result<Arm, ReadError>
-    ensures { Reads arm_of (built (λ p. p.1) (spec.sign Terminal.Elseif ▸ spec.an_arm LIMITS.depth (spec.in_sequence (spec.statement LIMITS.depth levels))) (tokens_shown cursor.old)) result (tokens_shown cursor.new) }
+    ensures { ReadsAs arm_of (built (λ p. p.1) (spec.sign Terminal.Elseif ▸ spec.an_arm LIMITS.depth (spec.in_sequence (spec.statement LIMITS.depth levels))) (tokens_shown cursor.old)) result (tokens_shown cursor.new) }
 {
     cursor.expect(Terminal::Elseif)?;
     an_arm(cursor, levels)
@@ -107,7 +107,7 @@ fn another_arm(cursor: &mut Cursor<'_>, levels: u32) -> Result<Arm, ReadError>
 #[cycle(statement)]
 #[tactic(auto, unfolding(crate::specs::Reading::more_arms, crate::specs::Reading::many), using(crate::proofs::Turns::many_turn, crate::proofs::Turns::many_end, crate::proofs::Turns::many_fail, crate::proofs::Turns::many_spent, crate::proofs::Sequences::found_before))]
 fn arms(cursor: &mut Cursor<'_>, first: Arm, levels: u32) -> Result<Vec<Arm>, ReadError>
-    ensures { Reads (λ v. map arm_of v.items) (built (λ more. arm_of first ∷ more) (spec.more_arms LIMITS.depth (spec.in_sequence (spec.statement LIMITS.depth levels))) (tokens_shown cursor.old)) result (tokens_shown cursor.new) }
+    ensures { ReadsAs (λ v. map arm_of v.items) (built (λ more. arm_of first ∷ more) (spec.more_arms LIMITS.depth (spec.in_sequence (spec.statement LIMITS.depth levels))) (tokens_shown cursor.old)) result (tokens_shown cursor.new) }
 {
     let mut found = Vec::new(cursor.alloc());
     found.push(first)?;
@@ -124,7 +124,7 @@ fn arms(cursor: &mut Cursor<'_>, first: Arm, levels: u32) -> Result<Vec<Arm>, Re
 #[cycle(statement)]
 #[tactic(auto, unfolding(crate::specs::Reading::choice), using(crate::proofs::Sequences::choice_read, crate::proofs::Sequences::choice_fails, ioa_tree::proofs::StatementRows::stmt_choose))]
 fn choice(cursor: &mut Cursor<'_>, levels: u32, line: u32) -> Result<Statement, ReadError>
-    ensures { Reads stmt_of (spec.choice LIMITS.depth (spec.in_sequence (spec.statement LIMITS.depth levels)) (tokens_shown cursor.old)) result (tokens_shown cursor.new) }
+    ensures { ReadsAs stmt_of (spec.choice LIMITS.depth (spec.in_sequence (spec.statement LIMITS.depth levels)) (tokens_shown cursor.old)) result (tokens_shown cursor.new) }
 {
     let first = an_arm(cursor, levels)?;
     let arms = arms(cursor, first, levels)?;

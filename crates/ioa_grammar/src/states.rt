@@ -5,7 +5,7 @@ ghost use Rattle.std.specs.Prelude.{◌≡◌, map};
 ghost use Rattle.std.specs.Option.{option_map};
 ghost use Rattle.ioa_lex.specs.Tokens.{tokens_shown};
 ghost use Rattle.ioa_grammar.specs.Reading as spec;
-ghost use Rattle.ioa_grammar.specs.Reading.{Reads};
+ghost use Rattle.ioa_grammar.specs.Reading.{ReadsAs};
 ghost use Rattle.ioa_tree.specs.View.{expr_of, variable_of};
 
 use crate::cursor::Cursor;
@@ -17,7 +17,7 @@ use ioa_tree::{Expression, Variable};
 
 #[tactic(auto, unfolding(crate::specs::Reading::optional))]
 fn start(cursor: &mut Cursor<'_>) -> Result<Option<Expression>, ReadError>
-    ensures { Reads (option_map expr_of) (spec.optional Terminal.Becomes (spec.expression LIMITS.depth) (tokens_shown cursor.old)) result (tokens_shown cursor.new) }
+    ensures { ReadsAs (option_map expr_of) (spec.optional Terminal.Becomes (spec.expression LIMITS.depth) (tokens_shown cursor.old)) result (tokens_shown cursor.new) }
 {
     if !cursor.take(Terminal::Becomes) {
         return Ok(None);
@@ -28,7 +28,7 @@ fn start(cursor: &mut Cursor<'_>) -> Result<Option<Expression>, ReadError>
 /// A variable with its start expression, if it has one.
 #[tactic(auto, unfolding(crate::specs::Reading::variable, crate::specs::Reading::flag))]
 fn variable(cursor: &mut Cursor<'_>) -> Result<Variable, ReadError>
-    ensures { Reads variable_of (spec.variable LIMITS.depth (tokens_shown cursor.old)) result (tokens_shown cursor.new) }
+    ensures { ReadsAs variable_of (spec.variable LIMITS.depth (tokens_shown cursor.old)) result (tokens_shown cursor.new) }
 {
     let stable = cursor.take(Terminal::Stable);
     let field = field(cursor)?;
@@ -42,7 +42,7 @@ fn variable(cursor: &mut Cursor<'_>) -> Result<Variable, ReadError>
 
 #[tactic(auto, unfolding(crate::specs::Reading::variables, crate::specs::Reading::terminated), using(crate::proofs::Turns::items_turn, crate::proofs::Turns::items_close, crate::proofs::Turns::items_fail, crate::proofs::Turns::items_spent))]
 fn variables(cursor: &mut Cursor<'_>) -> Result<Vec<Variable>, ReadError>
-    ensures { Reads (λ v. map variable_of v.items) (spec.variables LIMITS.depth (tokens_shown cursor.old)) result (tokens_shown cursor.new) }
+    ensures { ReadsAs (λ v. map variable_of v.items) (spec.variables LIMITS.depth (tokens_shown cursor.old)) result (tokens_shown cursor.new) }
 {
     let mut found = Vec::new(cursor.alloc());
     for _turn in 0..cursor.left() {
@@ -57,7 +57,7 @@ fn variables(cursor: &mut Cursor<'_>) -> Result<Vec<Variable>, ReadError>
 /// The variables after the word `states`, or none.
 #[tactic(auto, unfolding(crate::specs::Reading::optional_list))]
 pub(crate) fn states(cursor: &mut Cursor<'_>) -> Result<Vec<Variable>, ReadError>
-    ensures { Reads (λ v. map variable_of v.items) (spec.optional_list Terminal.States (spec.variables LIMITS.depth) (tokens_shown cursor.old)) result (tokens_shown cursor.new) }
+    ensures { ReadsAs (λ v. map variable_of v.items) (spec.optional_list Terminal.States (spec.variables LIMITS.depth) (tokens_shown cursor.old)) result (tokens_shown cursor.new) }
 {
     if !cursor.take(Terminal::States) {
         return Ok(Vec::new(cursor.alloc()));

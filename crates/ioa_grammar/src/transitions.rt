@@ -5,7 +5,7 @@ ghost use Rattle.std.specs.Prelude.{◌≡◌, map};
 ghost use Rattle.std.specs.Option.{option_map};
 ghost use Rattle.ioa_lex.specs.Tokens.{tokens_shown};
 ghost use Rattle.ioa_grammar.specs.Reading as spec;
-ghost use Rattle.ioa_grammar.specs.Reading.{Reads};
+ghost use Rattle.ioa_grammar.specs.Reading.{ReadsAs};
 ghost use Rattle.ioa_tree.specs.View.{expr_of, choice_of, proposal_of, stmts_of, transition_of};
 
 use crate::cursor::Cursor;
@@ -17,7 +17,7 @@ use ioa_tree::{Choice, Expression, Proposal, Statement, Transition};
 
 #[tactic(auto, unfolding(crate::specs::Reading::optional))]
 fn precondition(cursor: &mut Cursor<'_>) -> Result<Option<Expression>, ReadError>
-    ensures { Reads (option_map expr_of) (spec.optional Terminal.Pre (spec.expression LIMITS.depth) (tokens_shown cursor.old)) result (tokens_shown cursor.new) }
+    ensures { ReadsAs (option_map expr_of) (spec.optional Terminal.Pre (spec.expression LIMITS.depth) (tokens_shown cursor.old)) result (tokens_shown cursor.new) }
 {
     if !cursor.take(Terminal::Pre) {
         return Ok(None);
@@ -28,7 +28,7 @@ fn precondition(cursor: &mut Cursor<'_>) -> Result<Option<Expression>, ReadError
 /// An expression, or one between parentheses after the word `any`.
 #[tactic(auto, unfolding(crate::specs::Reading::a_choice, crate::specs::Reading::enclosed, crate::specs::Reading::closing))]
 fn choice(cursor: &mut Cursor<'_>) -> Result<Choice, ReadError>
-    ensures { Reads choice_of (spec.a_choice LIMITS.depth (tokens_shown cursor.old)) result (tokens_shown cursor.new) }
+    ensures { ReadsAs choice_of (spec.a_choice LIMITS.depth (tokens_shown cursor.old)) result (tokens_shown cursor.new) }
 {
     let line = cursor.line();
     if !cursor.take(Terminal::Any) {
@@ -42,7 +42,7 @@ fn choice(cursor: &mut Cursor<'_>) -> Result<Choice, ReadError>
 
 #[tactic(auto, unfolding(crate::specs::Reading::proposal))]
 fn proposal(cursor: &mut Cursor<'_>) -> Result<Proposal, ReadError>
-    ensures { Reads proposal_of (spec.proposal LIMITS.depth (tokens_shown cursor.old)) result (tokens_shown cursor.new) }
+    ensures { ReadsAs proposal_of (spec.proposal LIMITS.depth (tokens_shown cursor.old)) result (tokens_shown cursor.new) }
 {
     let name = cursor.name()?;
     cursor.expect(Terminal::Becomes)?;
@@ -52,7 +52,7 @@ fn proposal(cursor: &mut Cursor<'_>) -> Result<Proposal, ReadError>
 
 #[tactic(auto, unfolding(crate::specs::Reading::proposals, crate::specs::Reading::separated), using(crate::proofs::Turns::items_turn, crate::proofs::Turns::items_close, crate::proofs::Turns::items_fail, crate::proofs::Turns::items_spent))]
 fn proposal_list(cursor: &mut Cursor<'_>) -> Result<Vec<Proposal>, ReadError>
-    ensures { Reads (λ v. map proposal_of v.items) (spec.proposals LIMITS.depth (tokens_shown cursor.old)) result (tokens_shown cursor.new) }
+    ensures { ReadsAs (λ v. map proposal_of v.items) (spec.proposals LIMITS.depth (tokens_shown cursor.old)) result (tokens_shown cursor.new) }
 {
     let mut found = Vec::new(cursor.alloc());
     for _turn in 0..cursor.left() {
@@ -66,7 +66,7 @@ fn proposal_list(cursor: &mut Cursor<'_>) -> Result<Vec<Proposal>, ReadError>
 
 #[tactic(auto, unfolding(crate::specs::Reading::optional_list))]
 fn proposals(cursor: &mut Cursor<'_>) -> Result<Vec<Proposal>, ReadError>
-    ensures { Reads (λ v. map proposal_of v.items) (spec.optional_list Terminal.Propose (spec.proposals LIMITS.depth) (tokens_shown cursor.old)) result (tokens_shown cursor.new) }
+    ensures { ReadsAs (λ v. map proposal_of v.items) (spec.optional_list Terminal.Propose (spec.proposals LIMITS.depth) (tokens_shown cursor.old)) result (tokens_shown cursor.new) }
 {
     if !cursor.take(Terminal::Propose) {
         return Ok(Vec::new(cursor.alloc()));
@@ -76,7 +76,7 @@ fn proposals(cursor: &mut Cursor<'_>) -> Result<Vec<Proposal>, ReadError>
 
 #[tactic(auto, unfolding(crate::specs::Reading::statements))]
 fn effect(cursor: &mut Cursor<'_>) -> Result<Vec<Statement>, ReadError>
-    ensures { Reads (λ v. stmts_of v.items) (spec.introduced Terminal.Eff (spec.statements LIMITS.depth) (tokens_shown cursor.old)) result (tokens_shown cursor.new) }
+    ensures { ReadsAs (λ v. stmts_of v.items) (spec.introduced Terminal.Eff (spec.statements LIMITS.depth) (tokens_shown cursor.old)) result (tokens_shown cursor.new) }
 {
     introduced(cursor, Terminal::Eff, MAX_DEPTH)
 }
@@ -84,7 +84,7 @@ fn effect(cursor: &mut Cursor<'_>) -> Result<Vec<Statement>, ReadError>
 /// A transition: a kind, a name, and the parts that it has.
 #[tactic(auto, unfolding(crate::specs::Reading::transition))]
 fn transition(cursor: &mut Cursor<'_>) -> Result<Transition, ReadError>
-    ensures { Reads transition_of (spec.transition LIMITS.depth (tokens_shown cursor.old)) result (tokens_shown cursor.new) }
+    ensures { ReadsAs transition_of (spec.transition LIMITS.depth (tokens_shown cursor.old)) result (tokens_shown cursor.new) }
 {
     let kind = cursor.kind()?;
     let name = cursor.name()?;
@@ -103,7 +103,7 @@ fn transition(cursor: &mut Cursor<'_>) -> Result<Transition, ReadError>
 /// Transitions, as long as the word for a kind comes next.
 #[tactic(auto, unfolding(crate::specs::Reading::transitions, crate::specs::Reading::many), using(crate::proofs::Turns::many_turn, crate::proofs::Turns::many_end, crate::proofs::Turns::many_fail, crate::proofs::Turns::many_spent))]
 pub(crate) fn transitions(cursor: &mut Cursor<'_>) -> Result<Vec<Transition>, ReadError>
-    ensures { Reads (λ v. map transition_of v.items) (spec.transitions LIMITS.depth (tokens_shown cursor.old)) result (tokens_shown cursor.new) }
+    ensures { ReadsAs (λ v. map transition_of v.items) (spec.transitions LIMITS.depth (tokens_shown cursor.old)) result (tokens_shown cursor.new) }
 {
     let mut found = Vec::new(cursor.alloc());
     for _turn in 0..cursor.left() {

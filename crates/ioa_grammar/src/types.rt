@@ -3,7 +3,7 @@
 ghost use Rattle.std.specs.Prelude.{◌≡◌, map};
 ghost use Rattle.ioa_lex.specs.Tokens.{tokens_shown};
 ghost use Rattle.ioa_grammar.specs.Reading as spec;
-ghost use Rattle.ioa_grammar.specs.Reading.{Reads};
+ghost use Rattle.ioa_grammar.specs.Reading.{ReadsAs};
 ghost use Rattle.ioa_tree.specs.View.{name_of, field_of, type_form_of, type_declaration_of};
 
 use crate::cursor::Cursor;
@@ -15,7 +15,7 @@ use ioa_tree::{Field, Name, TypeDeclaration, TypeForm};
 /// Names, with commas between them.
 #[tactic(auto, unfolding(crate::specs::Reading::separated), using(crate::proofs::Turns::items_turn, crate::proofs::Turns::items_close, crate::proofs::Turns::items_fail, crate::proofs::Turns::items_spent))]
 pub(crate) fn name_list(cursor: &mut Cursor<'_>) -> Result<Vec<Name>, ReadError>
-    ensures { Reads (λ v. map name_of v.items) (spec.separated Terminal.Comma spec.a_name (tokens_shown cursor.old)) result (tokens_shown cursor.new) }
+    ensures { ReadsAs (λ v. map name_of v.items) (spec.separated Terminal.Comma spec.a_name (tokens_shown cursor.old)) result (tokens_shown cursor.new) }
 {
     let mut found = Vec::new(cursor.alloc());
     for _turn in 0..cursor.left() {
@@ -30,7 +30,7 @@ pub(crate) fn name_list(cursor: &mut Cursor<'_>) -> Result<Vec<Name>, ReadError>
 /// Names between braces.
 #[tactic(auto, unfolding(crate::specs::Reading::braced))]
 fn names(cursor: &mut Cursor<'_>) -> Result<Vec<Name>, ReadError>
-    ensures { Reads (λ v. map name_of v.items) (spec.braced spec.a_name (tokens_shown cursor.old)) result (tokens_shown cursor.new) }
+    ensures { ReadsAs (λ v. map name_of v.items) (spec.braced spec.a_name (tokens_shown cursor.old)) result (tokens_shown cursor.new) }
 {
     cursor.expect(Terminal::OpenBrace)?;
     let found = name_list(cursor)?;
@@ -41,7 +41,7 @@ fn names(cursor: &mut Cursor<'_>) -> Result<Vec<Name>, ReadError>
 /// Fields between braces.
 #[tactic(auto, unfolding(crate::specs::Reading::braced))]
 fn fields(cursor: &mut Cursor<'_>) -> Result<Vec<Field>, ReadError>
-    ensures { Reads (λ v. map field_of v.items) (spec.braced spec.field (tokens_shown cursor.old)) result (tokens_shown cursor.new) }
+    ensures { ReadsAs (λ v. map field_of v.items) (spec.braced spec.field (tokens_shown cursor.old)) result (tokens_shown cursor.new) }
 {
     cursor.expect(Terminal::OpenBrace)?;
     let found = field_list(cursor)?;
@@ -52,7 +52,7 @@ fn fields(cursor: &mut Cursor<'_>) -> Result<Vec<Field>, ReadError>
 /// At most so many items of a type, after the word `seq`.
 #[tactic(auto, unfolding(crate::specs::Reading::a_sequence))]
 fn sequence(cursor: &mut Cursor<'_>) -> Result<TypeForm, ReadError>
-    ensures { Reads type_form_of (spec.a_sequence (tokens_shown cursor.old)) result (tokens_shown cursor.new) }
+    ensures { ReadsAs type_form_of (spec.a_sequence (tokens_shown cursor.old)) result (tokens_shown cursor.new) }
 {
     let line = cursor.line();
     let capacity = cursor.number()?;
@@ -64,7 +64,7 @@ fn sequence(cursor: &mut Cursor<'_>) -> Result<TypeForm, ReadError>
 /// What stands after the `=` of a type.
 #[tactic(auto, unfolding(crate::specs::Reading::type_form, crate::specs::Reading::compound_form, crate::specs::Reading::sequence_form, crate::specs::Reading::an_enumeration, crate::specs::Reading::a_tuple))]
 fn form(cursor: &mut Cursor<'_>) -> Result<TypeForm, ReadError>
-    ensures { Reads type_form_of (spec.type_form (tokens_shown cursor.old)) result (tokens_shown cursor.new) }
+    ensures { ReadsAs type_form_of (spec.type_form (tokens_shown cursor.old)) result (tokens_shown cursor.new) }
 {
     if cursor.take(Terminal::Enum) {
         return Ok(TypeForm::Enumeration(names(cursor)?));
@@ -79,7 +79,7 @@ fn form(cursor: &mut Cursor<'_>) -> Result<TypeForm, ReadError>
 /// What stands after the word `type`.
 #[tactic(auto, unfolding(crate::specs::Reading::a_type))]
 pub(crate) fn type_declaration(cursor: &mut Cursor<'_>) -> Result<TypeDeclaration, ReadError>
-    ensures { Reads type_declaration_of (spec.a_type (tokens_shown cursor.old)) result (tokens_shown cursor.new) }
+    ensures { ReadsAs type_declaration_of (spec.a_type (tokens_shown cursor.old)) result (tokens_shown cursor.new) }
 {
     let name = cursor.name()?;
     cursor.expect(Terminal::Equal)?;

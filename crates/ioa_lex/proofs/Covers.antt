@@ -3,7 +3,7 @@ use Rattle.std.proofs.Common.{◌≡◌, ℕ, List, [], ◌∷◌, ◌++◌, len
 use Rattle.std.specs.List.{flat_map}
 use Rattle.std.proofs.lemmas.List.{append_cancel_left, append-nil, length-append}
 use Rattle.ioa_lex.specs.Tokens.{Tok}
-use Rattle.ioa_lex.specs.Lexing.{Piece, blank, comment, token, bytes_of, Stands, Covers, NoneStands, line_after, tokens_after, Lexes, StopsOn}
+use Rattle.ioa_lex.specs.Lexing.{Piece, blank, comment, token, bytes_of, MayStandBefore, Covers, NoneStands, line_after, tokens_after, Lexes, StopsOn}
 use Rattle.ioa_lex.proofs.Pieces.{same_piece, piece_some}
 
 pub none_of_nothing : NoneStands []
@@ -36,7 +36,7 @@ pub stops_or_lexes : (text : List ℕ) (ts : List (Tok × ℕ)) (n : ℕ) → Le
 stops_or_lexes text ts n h k = k.3 (sym (same_pieces h.0 k.0 text [] k.1 h.1 none_of_nothing k.2 k.4).1)
 
 -- one more piece
-pub covers_more : (ps : List Piece) (text rest next : List ℕ) (p : Piece) → Covers ps text rest → rest ≡ bytes_of p ++ next → Stands p next → Covers (ps ++ p ∷ []) text next
+pub covers_more : (ps : List Piece) (text rest next : List ℕ) (p : Piece) → Covers ps text rest → rest ≡ bytes_of p ++ next → MayStandBefore p next → Covers (ps ++ p ∷ []) text next
 covers_more [] text rest next p h e k = (next, h ∙ e, k, refl)
 covers_more (q ∷ ps) text rest next p h e k = (h.0, h.1, h.2, covers_more ps h.0 rest next p h.3 e k)
 

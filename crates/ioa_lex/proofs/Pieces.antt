@@ -3,7 +3,7 @@ use Rattle.std.proofs.Common.{◌≡◌, ℕ, ◌≤◌, ◌<◌, true, false, n
 use Rattle.std.specs.List.{list_all}
 use Rattle.std.proofs.lemmas.Bool.Decides.{nat_tests}
 use Rattle.std.proofs.lemmas.Bool.{and_parts, both_ways, not-true, eq-eqb}
-use Rattle.ioa_lex.specs.Lexing.{is_blank, is_in_line, IsTokenText, Writes, IsLongest, Piece, blank, comment, token, bytes_of, EndsLine, Stands}
+use Rattle.ioa_lex.specs.Lexing.{is_blank, is_in_line, IsTokenText, Writes, IsLongest, Piece, blank, comment, token, bytes_of, EndsLine, MayStandBefore}
 use Rattle.ioa_lex.proofs.Bytes.{is_inner, is_first, none_counted}
 use Rattle.ioa_lex.proofs.Texts.{head, head_of_front, text_some, text_first, text_inner, text_of_token, same_token, same_front}
 
@@ -58,7 +58,7 @@ same_text w v r s e hw lw hv lv =
     let size : length w ≡ length v = omega arith in
     (same_front w v r s e size).0
 
-pub same_piece : (p q : Piece) (r s : List ℕ) → bytes_of p ++ r ≡ bytes_of q ++ s → Stands p r → Stands q s → p ≡ q
+pub same_piece : (p q : Piece) (r s : List ℕ) → bytes_of p ++ r ≡ bytes_of q ++ s → MayStandBefore p r → MayStandBefore q s → p ≡ q
 same_piece (blank b) (blank c) r s e h k = let same : b ≡ c = cc in ap blank same
 same_piece (blank b) (comment c) r s e h k = absurd (let same : b ≡ 37 = cc in both_ways (is_blank b) (ap is_blank same) h)
 same_piece (blank b) (token w t) r s e h k = absurd (no_blank b w r s e (text_of_token w t k.0) h)
@@ -79,7 +79,7 @@ same_piece (token w t) (token v u) r s e h k =
 no_line : (b : ℕ) → is_blank b ≡ false → eqb b 10 ≡ false
 no_line b h = grind (arith, nat_tests)
 
-pub lines_of : (p : Piece) (rest : List ℕ) → Stands p rest → count_by (λ b. eqb b 10) (bytes_of p) ≡ cond (eqb (head (bytes_of p)) 10) 1 0
+pub lines_of : (p : Piece) (rest : List ℕ) → MayStandBefore p rest → count_by (λ b. eqb b 10) (bytes_of p) ≡ cond (eqb (head (bytes_of p)) 10) 1 0
 lines_of (blank b) rest h = zero-add (cond (eqb b 10) 1 0)
 lines_of (comment c) rest h = none_counted (λ b. eqb b 10) is_in_line (λ b k. not-true (eqb b 10) k) (37 ∷ c) h.0
 lines_of (token w t) rest h =
@@ -88,7 +88,7 @@ lines_of (token w t) rest h =
     let first : eqb (head w) 10 ≡ false = no_line (head w) (plain (head w) (text_first w it)).blank in
     rw first none
 
-pub piece_some : (p : Piece) (rest : List ℕ) → Stands p rest → 0 < length (bytes_of p)
+pub piece_some : (p : Piece) (rest : List ℕ) → MayStandBefore p rest → 0 < length (bytes_of p)
 piece_some (blank b) rest h = omega arith
 piece_some (comment c) rest h = omega arith
 piece_some (token w t) rest h = text_some w (text_of_token w t h.0)

@@ -8,7 +8,7 @@ use Rattle.std.proofs.lemmas.Bool.{and_parts, and_from, both_ways, not-true}
 use Rattle.std.proofs.lemmas.Bool.Decides.{nat_tests}
 use Rattle.ioa_value.specs.Names.{is_digit}
 use Rattle.ioa_lex.specs.Tokens.{Tok, number, name, terminal}
-use Rattle.ioa_lex.specs.Lexing.{is_blank, is_digits, value_of, Writes, Piece, blank, token, Stands, Covers, tokens_after, Lexes}
+use Rattle.ioa_lex.specs.Lexing.{is_blank, is_digits, value_of, Writes, Piece, blank, token, MayStandBefore, Covers, tokens_after, Lexes}
 use Rattle.ioa_lex.specs.Spaced.{text_of, IsToken, Spaced}
 use Rattle.ioa_lex.proofs.Bytes.{is_inner}
 use Rattle.ioa_lex.proofs.Texts.{text_inner}
@@ -58,7 +58,7 @@ before_blank (y ∷ w) (x ∷ v) rest r b e h k =
     let more = before_blank w v rest r b tail l.1 k in
     omega arith
 
-pub token_stands : (t : Tok) (b : ℕ) (rest : List ℕ) → IsToken t → is_blank b ≡ true → Stands (token (text_of t) t) (b ∷ rest)
+pub token_stands : (t : Tok) (b : ℕ) (rest : List ℕ) → IsToken t → is_blank b ≡ true → MayStandBefore (token (text_of t) t) (b ∷ rest)
 token_stands t b rest h k = (writes_text t h, λ v r e it. before_blank (text_of t) v rest r b e (text_inner v it) k)
 
 pieces_of : (ts : List Tok) (text : List ℕ) → Spaced ts text → List Piece

@@ -11,7 +11,7 @@ use Rattle.ioa_lex.specs.declared.token.Token.{Token}
 use Rattle.ioa_lex.specs.declared.refusal.Refusal.{Refusal}
 use Rattle.ioa_lex.specs.declared.refusal.Refusal.TheVariants as refusals
 use Rattle.ioa_lex.specs.Tokens.{Tok, kind_shown}
-use Rattle.ioa_lex.specs.Lexing.{Piece, blank, comment, token, bytes_of, Stands, Covers, NoneStands, line_after, tokens_after, Lexes, StopsOn, IsRefused, placed}
+use Rattle.ioa_lex.specs.Lexing.{Piece, blank, comment, token, bytes_of, MayStandBefore, Covers, NoneStands, line_after, tokens_after, Lexes, StopsOn, IsRefused, placed}
 use Rattle.ioa_lex.specs.Fronts.{IsPiece, IsFront, NoFront}
 use Rattle.ioa_lex.proofs.Texts.{head, head_of_front}
 use Rattle.ioa_lex.proofs.Pieces.{lines_of, piece_some}
@@ -47,7 +47,7 @@ pub lexed_more : (text : List ℕ) (at line len : ℕ) (ts : List (Tok × ℕ)) 
 lexed_more text at line len ts kind h here f =
     let rest : drop len (drop at text) ≡ drop (at + len) text = drop-drop len at text in
     let split : drop at text ≡ bytes_of f.piece ++ drop (at + len) text = f.split ∙ ap (λ x. bytes_of f.piece ++ x) rest in
-    let stands : Stands f.piece (drop (at + len) text) = subst (λ x. Stands f.piece x) rest f.stands in
+    let stands : MayStandBefore f.piece (drop (at + len) text) = subst (λ x. MayStandBefore f.piece x) rest f.stands in
     let before : line ≡ line_after (flat_map bytes_of h.pieces) = here ∙ ap line_after (sym (before_of text at ts h)) in
     let own : tokens_after (flat_map bytes_of h.pieces) (f.piece ∷ []) ≡ found_on line kind = token_of (flat_map bytes_of h.pieces) kind f.piece line before f.kept in
     let more : tokens_after [] (h.pieces ++ f.piece ∷ []) ≡ tokens_after [] h.pieces ++ tokens_after (flat_map bytes_of h.pieces) (f.piece ∷ []) = tokens_more h.pieces [] f.piece in

@@ -5,7 +5,7 @@ use Rattle.ioa_lex.specs.declared.token.Kind.{Kind}
 use Rattle.ioa_lex.specs.declared.refusal.Refusal.{Refusal}
 use Rattle.ioa_lex.specs.declared.refusal.Refusal.TheVariants as refusals
 use Rattle.ioa_lex.specs.Tokens.{kind_shown}
-use Rattle.ioa_lex.specs.Lexing.{is_blank, Piece, blank, comment, token, bytes_of, Stands, NoneStands}
+use Rattle.ioa_lex.specs.Lexing.{is_blank, Piece, blank, comment, token, bytes_of, MayStandBefore, NoneStands}
 
 -- a byte that begins no blank, comment, word or number
 abbrev pub is_sign_part : ℕ → Bool
@@ -26,7 +26,7 @@ pub record IsFront (text : List ℕ) (kind : Option Kind) (len : ℕ) : Type 0 w
   pub kept : IsPiece kind piece
   pub size : length (bytes_of piece) ≡ len
   pub split : text ≡ bytes_of piece ++ drop len text
-  pub stands : Stands piece (drop len text)
+  pub stands : MayStandBefore piece (drop len text)
 
 -- why there is none, on this line
 abbrev pub NoFront : List ℕ → ℕ → Refusal → Type 0

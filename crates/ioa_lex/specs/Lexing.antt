@@ -63,15 +63,15 @@ EndsLine [] = Unit {0}
 EndsLine (b ∷ bs) = b ≡ 10
 
 -- the piece may stand before the rest: a comment goes on to the end of its line, and a token is the longest there
-abbrev pub Stands : Piece → List ℕ → Type 0
-Stands (blank b) rest = IsTrue (is_blank b)
-Stands (comment c) rest = IsTrue (list_all is_in_line c) × EndsLine rest
-Stands (token w t) rest = Writes w t × IsLongest w (w ++ rest)
+abbrev pub MayStandBefore : Piece → List ℕ → Type 0
+MayStandBefore (blank b) rest = IsTrue (is_blank b)
+MayStandBefore (comment c) rest = IsTrue (list_all is_in_line c) × EndsLine rest
+MayStandBefore (token w t) rest = Writes w t × IsLongest w (w ++ rest)
 
 -- the pieces, one after the other, are the text up to the rest
 abbrev pub Covers : List Piece → List ℕ → List ℕ → Type 0
 Covers [] text rest = text ≡ rest
-Covers (p ∷ ps) text rest = (next : List ℕ) × (text ≡ bytes_of p ++ next) × Stands p next × Covers ps next rest
+Covers (p ∷ ps) text rest = (next : List ℕ) × (text ≡ bytes_of p ++ next) × MayStandBefore p next × Covers ps next rest
 
 -- the line of the place that has these bytes before it
 abbrev pub line_after : List ℕ → ℕ
@@ -90,7 +90,7 @@ Lexes text ts = (ps : List Piece) × Covers ps text [] × (ts ≡ tokens_after [
 
 -- no piece stands at the front of the text
 abbrev pub NoneStands : List ℕ → Type 0
-NoneStands text = (p : Piece) (rest : List ℕ) → text ≡ bytes_of p ++ rest → ¬ (Stands p rest)
+NoneStands text = (p : Piece) (rest : List ℕ) → text ≡ bytes_of p ++ rest → ¬ (MayStandBefore p rest)
 
 -- the text is pieces up to a place on this line, and there it goes on and none stands
 abbrev pub StopsOn : List ℕ → ℕ → Type 0

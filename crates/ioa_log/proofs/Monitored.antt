@@ -15,7 +15,7 @@ use Rattle.ioa_compile.specs.Programs.{Prog, EntryCode, MemberCode}
 use Rattle.ioa_compile.specs.Tables.{tabled, start_states}
 use Rattle.ioa_compile.specs.Correspondence.{CorrespondsAt}
 use Rattle.ioa_compile.specs.Matching.{MatchesEntry, MatchesMember}
-use Rattle.ioa_compile.specs.Means.{Means}
+use Rattle.ioa_compile.specs.Implements.{Implements}
 use Rattle.ioa_compile.proofs.Paired.{paired_any}
 use Rattle.ioa_system.specs.declared.outcomes.Step.{Step}
 use Rattle.ioa_system.specs.Outcomes.{KeepsUnlessNext, step_of}
@@ -77,7 +77,7 @@ monitored_next p q acts i a ss us s same l item rest e k =
     ∙ monitored_more i (tabled p) a (drop (i + 1) acts) ss us s (subst (λ x. step_of s us ≡ step (tabled x) a ss) same e) k
 
 -- what the program's table accepts, the composition accepts that it means
-pub monitored_means : (p : Prog) (c : Composed) (acts : List Act) → Means p c → monitored (components_of c) acts (starts_of c) ≡ monitored (tabled p) acts (start_states p)
+pub monitored_means : (p : Prog) (c : Composed) (acts : List Act) → Implements p c → monitored (components_of c) acts (starts_of c) ≡ monitored (tabled p) acts (start_states p)
 monitored_means p c acts m = monitored_like (CorrespondsAt c.members) (components_of c) (tabled p) acts (starts_of c) (start_states p) m.components m.starts
 
 hides_entry : (m : Member) (e : EntryTree) (c : EntryCode) → MatchesEntry m e c → is_internal c.kind ≡ is_internal e.kind
@@ -88,7 +88,7 @@ hides_member : (m : Member) (c : MemberCode) → MatchesMember m c
 hides_member m c h =
     paired_any (MatchesEntry m) (λ (e : EntryTree). is_internal e.kind) (λ (e : EntryCode). is_internal e.kind) (hides_entry m) m.instance.automaton.entries c.entries h.entries
 
-pub hides_means : (p : Prog) (c : Composed) → Means p c → hides_in c ≡ hides p
+pub hides_means : (p : Prog) (c : Composed) → Implements p c → hides_in c ≡ hides p
 hides_means p c m =
     let e : list_any (λ (k : MemberCode). list_any (λ (x : EntryCode). is_internal x.kind) k.entries) p.members
     ≡ list_any (λ (k : Member). list_any (λ (x : EntryTree). is_internal x.kind) k.instance.automaton.entries) c.members =
@@ -98,12 +98,12 @@ hides_means p c m =
 
 -- what is told of the program's table, is told of the composition
 pub accepted_sources : {E : Type 0} (p : Prog) (acts : List Act) (r : Result Unit E) → OnOk r ((hides p ≡ false) × (monitored (tabled p) acts (start_states p) ≡ None))
-    → OnOk r ((c : Composed) → Means p c → (hides_in c ≡ false) × (monitored (components_of c) acts (starts_of c) ≡ None))
+    → OnOk r ((c : Composed) → Implements p c → (hides_in c ≡ false) × (monitored (components_of c) acts (starts_of c) ≡ None))
 accepted_sources p acts (Ok x) h = λ c m. (hides_means p c m ∙ h.0, monitored_means p c acts m ∙ h.1)
 accepted_sources p acts (Err e) h = tt
 
 pub refused_sources : {A : Type 0} (p : Prog) (acts : List Act) (r : Result A MonitorErr) → IfErr r (λ e. IsRefusal e (hides p) (monitored (tabled p) acts (start_states p)))
-    → IfErr r (λ e. (c : Composed) → Means p c → IsRefusal e (hides_in c) (monitored (components_of c) acts (starts_of c)))
+    → IfErr r (λ e. (c : Composed) → Implements p c → IsRefusal e (hides_in c) (monitored (components_of c) acts (starts_of c)))
 refused_sources p acts (Ok x) h = tt
 refused_sources p acts (Err e) h = λ c m.
     subst (λ b. IsRefusal e b (monitored (components_of c) acts (starts_of c))) (sym (hides_means p c m))

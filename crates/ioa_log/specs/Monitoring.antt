@@ -10,7 +10,7 @@ use Rattle.ioa_tree.specs.Hosts.{HostState, Hosted, hosts_of, host_instances}
 use Rattle.ioa_tree.specs.Meaning.{Env}
 use Rattle.ioa_tree.specs.declared.tree.Kind.{Kind}
 use Rattle.ioa_tree.specs.declared.tree.Kind.TheVariants.{Input, Output, Internal}
-use Rattle.ioa_compose.specs.Stands.{has_kind}
+use Rattle.ioa_compose.specs.Simulates.{has_kind}
 use Rattle.ioa_compile.specs.Programs.{Prog}
 use Rattle.ioa_system.specs.declared.outcomes.Step.{Step}
 use Rattle.ioa_log.specs.declared.monitors.MonitorErr.{MonitorErr}

@@ -6,7 +6,7 @@ use Rattle.ioa_value.specs.Lists.{ReadsLines, ReadsList, first_line}
 use Rattle.ioa_tree.specs.Hosts.{Hosted, hosts_of, host_starts}
 use Rattle.ioa_tree.specs.Likes.{AllRelated}
 use Rattle.ioa_tree.specs.Runs.{run}
-use Rattle.ioa_compose.specs.Stands.{HoldsAt}
+use Rattle.ioa_compose.specs.Simulates.{SlotsHoldAt}
 use Rattle.ioa_compile.specs.Programs.{Prog}
 use Rattle.ioa_compile.specs.Tables.{start_states, tabled}
 use Rattle.ioa_system.specs.Outcomes.{ending_of}
@@ -66,4 +66,4 @@ pub record IsHostReplayed (h : Hosted) (seen : List ℕ) (r : Replayed) : Type 0
   pub reads : ReadsList h.types seen acts
   pub ending : ending_of r.end ≡ (run (hosts_of h) acts (host_starts h)).ending
   pub text : string_bytes r.text ≡ run_text h.types h.hidden (hosts_of h) (host_starts h) acts
-  pub states : AllRelated (HoldsAt h.hosts) 0 (run (hosts_of h) acts (host_starts h)).states (values_of r.states.items)
+  pub states : AllRelated (SlotsHoldAt h.hosts) 0 (run (hosts_of h) acts (host_starts h)).states (values_of r.states.items)

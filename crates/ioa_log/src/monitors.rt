@@ -5,8 +5,8 @@ ghost use Rattle.std.specs.List.{list_any};
 ghost use Rattle.ioa_value.specs.Actions.{act_of};
 ghost use Rattle.ioa_tree.specs.Compositions.{Composed, components_of, starts_of};
 ghost use Rattle.ioa_tree.specs.Hosts.{Hosted, hosts_of, host_starts};
-ghost use Rattle.ioa_compose.specs.Stands.{Stands};
-ghost use Rattle.ioa_compile.specs.Means.{Means};
+ghost use Rattle.ioa_compose.specs.Simulates.{Simulates};
+ghost use Rattle.ioa_compile.specs.Implements.{Implements};
 ghost use Rattle.ioa_compile.specs.Shown.{entry_code, member_code};
 ghost use Rattle.ioa_compile.specs.Tables.{start_states, tabled};
 ghost use Rattle.ioa_log.specs.Monitoring as spec;
@@ -39,11 +39,11 @@ pub enum MonitorErr {
 /// `SpecHasInternal`; `At` of the first action that is not performed, with its answer; `OutOfMemory`.
 pub fn monitor(alloc: Global, program: &Program, actions: &[Action]) -> Result<(), MonitorErr>
     ensures accepted { OnOk result ((spec.hides program.now ≡ false) × (monitored (tabled program.now) (map act_of actions.now) (start_states program.now) ≡ None)) }
-    ensures source { OnOk result ((c : Composed) → Means program.now c → (hides_in c ≡ false) × (monitored (components_of c) (map act_of actions.now) (starts_of c) ≡ None)) }
+    ensures source { OnOk result ((c : Composed) → Implements program.now c → (hides_in c ≡ false) × (monitored (components_of c) (map act_of actions.now) (starts_of c) ≡ None)) }
     ensures refused { IfErr result (λ e. IsRefusal e (spec.hides program.now) (monitored (tabled program.now) (map act_of actions.now) (start_states program.now))) }
-    ensures source_refused { IfErr result (λ e. (c : Composed) → Means program.now c → IsRefusal e (hides_in c) (monitored (components_of c) (map act_of actions.now) (starts_of c))) }
-    ensures hosts { OnOk result ((h : Hosted) (c : Composed) → Stands h c → Means program.now c → IsSeen h × (monitored (hosts_of h) (map act_of actions.now) (host_starts h) ≡ None)) }
-    ensures hosts_refused { IfErr result (λ e. (h : Hosted) (c : Composed) → Stands h c → Means program.now c → IsHostRefusal e h (monitored (hosts_of h) (map act_of actions.now) (host_starts h))) }
+    ensures source_refused { IfErr result (λ e. (c : Composed) → Implements program.now c → IsRefusal e (hides_in c) (monitored (components_of c) (map act_of actions.now) (starts_of c))) }
+    ensures hosts { OnOk result ((h : Hosted) (c : Composed) → Simulates h c → Implements program.now c → IsSeen h × (monitored (hosts_of h) (map act_of actions.now) (host_starts h) ≡ None)) }
+    ensures hosts_refused { IfErr result (λ e. (h : Hosted) (c : Composed) → Simulates h c → Implements program.now c → IsHostRefusal e h (monitored (hosts_of h) (map act_of actions.now) (host_starts h))) }
 {
     monitor_table(alloc, program, actions)
 }

@@ -6,7 +6,7 @@ ghost use Rattle.ioa_code.specs.Machine.{act, stuck};
 ghost use Rattle.ioa_node.specs.Drafts.{standing};
 ghost use Rattle.ioa_node.specs.Steps.{at};
 ghost use Rattle.ioa_node.specs.Proposals.{TakesAtMost};
-ghost use Rattle.ioa_node.specs.Draws.{Keeps, Draws};
+ghost use Rattle.ioa_node.specs.Draws.{ChangesNoVariable, Draws};
 
 use crate::draft::Draft;
 use crate::picks::{below, pick};
@@ -29,7 +29,7 @@ pub(crate) fn draw<W: Words>(
     words: &mut W,
 ) -> Result<Option<usize>, OutOfMemory>
     requires fine { act code.now.code instr (at place stack.old.items (standing draft.now (map plain slots.now)) []) ≢ stuck }
-    requires keeps { Keeps instr }
+    requires keeps { ChangesNoVariable instr }
     requires small { place + 1 < 2 ^ 64 }
     ensures draws { IfOk result (λ r. Draws code.now.code instr place stack.old.items (standing draft.now (map plain slots.now)) (W.stream words.old) r stack.new.items (W.stream words.new)) }
     ensures memory { IfErr result (λ _. TakesAtMost 1 (W.stream words.old) (W.stream words.new)) }

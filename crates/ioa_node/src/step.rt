@@ -4,7 +4,7 @@ ghost use Rattle.std.specs.Prelude.{◌≡◌, ◌≢◌, Bool, ℤ, ◌∷◌, 
 ghost use Rattle.ioa_value.specs.Plain.{plain, truth, num};
 ghost use Rattle.ioa_code.specs.Machine.{act, stuck, Wordless};
 ghost use Rattle.ioa_node.specs.Drafts.{standing};
-ghost use Rattle.ioa_node.specs.Steps.{at, moved, Reads};
+ghost use Rattle.ioa_node.specs.Steps.{at, moved, OnlyReads};
 
 use crate::draft::Draft;
 use ioa_code::{Instr, Verified};
@@ -57,7 +57,7 @@ pub(crate) fn read(
     values: &[Value],
 ) -> Result<Result<usize, Fault>, OutOfMemory>
     requires fine { act code.now.code instr (at place stack.old.items (standing draft.now (map plain slots.now)) values.now) ≢ stuck }
-    requires reads { Reads instr }
+    requires reads { OnlyReads instr }
     requires small { place + 1 < 2 ^ 64 }
     ensures { IfOk result (λ r. moved r stack.new.items (standing draft.now (map plain slots.now)) values.now ≡ act code.now.code instr (at place stack.old.items (standing draft.now (map plain slots.now)) values.now)) }
 {

@@ -6,7 +6,7 @@ use Rattle.ioa_value.specs.Actions.{Name}
 use Rattle.ioa_value.specs.Plain.{Val}
 use Rattle.ioa_value.proofs.RowLemmas.{drop_there}
 use Rattle.ioa_object.specs.Spots.{Spot}
-use Rattle.ioa_object.specs.Reading.{Outcome, Reader, Fails, Reads, named_at, name_at, ◌>>=◌, ◌>>◌, built, right, count_at, items_at, list_at, parts_at}
+use Rattle.ioa_object.specs.Reading.{Outcome, Reader, Fails, ReadsItem, named_at, name_at, ◌>>=◌, ◌>>◌, built, right, count_at, items_at, list_at, parts_at}
 use Rattle.ioa_object.specs.declared.failure.ObjErr.{ObjErr}
 use Rattle.ioa_object.specs.declared.failure.ObjErr.TheVariants as errors
 
@@ -25,7 +25,7 @@ fails_on errors.OutOfMemory r s on h = tt
 
 -- what returned the refusal of a step
 pub reads_err : {Y W Z : Type 0} (view : W → Z) (r : Result W ObjErr) (e : ObjErr) (step : Outcome Y) (read : Outcome Z) (d : Spot) → IsErrAnd r (λ f. f ≡ e)
-    → ((f : ObjErr) → step ≡ Err f → read ≡ Err f) → Fails e step → Reads view read r d
+    → ((f : ObjErr) → step ≡ Err f → read ≡ Err f) → Fails e step → ReadsItem view read r d
 reads_err view (Ok x) e step read d h on fails = absurd h
 reads_err view (Err f) e step read d h on fails = fails_on f step read on (subst (λ g. Fails g step) (sym h) fails)
 
@@ -62,7 +62,7 @@ seen_more view xs ys x h = ap (map view) h ∙ map-append view xs (x ∷ [])
 -- ---- names that are taken, or not
 
 module _ (taken : Name → Bool) (c : Spot) where
-  pub name_fails : {W : Type 0} (view : W → Name) (r : Result W ObjErr) (e : ObjErr) (d : Spot) → IsErrAnd r (λ f. f ≡ e) → Fails e (named_at c) → Reads view (name_at taken c) r d
+  pub name_fails : {W : Type 0} (view : W → Name) (r : Result W ObjErr) (e : ObjErr) (d : Spot) → IsErrAnd r (λ f. f ≡ e) → Fails e (named_at c) → ReadsItem view (name_at taken c) r d
   unfolding name_at
   name_fails view r e d err fails = reads_err view r e (named_at c) (name_at taken c) d err (λ f q. then_err (named_at c) _ f q) fails
 
@@ -96,7 +96,7 @@ module _ {A : Type 0} (item : List A → Reader A) where
 
   -- a reading of n items, of which i are read
   pub amid_fails : {W : Type 0} (view : W → List A) (r : Result W ObjErr) (e : ObjErr) (whole : Outcome (List A)) (n i : ℕ) (before : List A) (c d : Spot)
-      → IsErrAnd r (λ f. f ≡ e) → i < n → whole ≡ items_at item before (n - i) c → Fails e (item before c) → Reads view whole r d
+      → IsErrAnd r (λ f. f ≡ e) → i < n → whole ≡ items_at item before (n - i) c → Fails e (item before c) → ReadsItem view whole r d
   amid_fails view r e whole n i before c d err h w fails =
       reads_err view r e (item before c) whole d err (λ g q. w ∙ items_err before (n - i) c g (omega arith) q) fails
 
@@ -115,7 +115,7 @@ module _ {A : Type 0} (item : List A → Reader A) where
       then_ok (count_at least most c) (λ n. items_at item [] n.0 n.1) (n, d) h ∙ ap (λ m. items_at item [] m d) (omega arith) ∙ ap (λ l. items_at item l (n - 0) d) (sym none)
 
   pub list_fails : {W : Type 0} (view : W → List A) (r : Result W ObjErr) (e : ObjErr) (least most : ℕ) (c d : Spot) → IsErrAnd r (λ f. f ≡ e) → Fails e (count_at least most c)
-      → Reads view (list_at least most item c) r d
+      → ReadsItem view (list_at least most item c) r d
   unfolding list_at
   list_fails view r e least most c d err fails =
       reads_err view r e (count_at least most c) (list_at least most item c) d err (λ g q. then_err (count_at least most c) (λ n. items_at item [] n.0 n.1) g q) fails
@@ -128,7 +128,7 @@ module _ (inner : ℕ → Reader Val) where
   parts_none before tys i c h = ap (λ l. parts_at inner before l c) (drop_all i tys h)
 
   pub parts_fails : {W : Type 0} (view : W → List Val) (r : Result W ObjErr) (e : ObjErr) (whole : Outcome (List Val)) (before : List Val) (tys : List ℕ) (i ty : ℕ) (c d : Spot)
-      → IsErrAnd r (λ f. f ≡ e) → slice_get tys i ≡ Some ty → whole ≡ parts_at inner before (drop i tys) c → Fails e (inner ty c) → Reads view whole r d
+      → IsErrAnd r (λ f. f ≡ e) → slice_get tys i ≡ Some ty → whole ≡ parts_at inner before (drop i tys) c → Fails e (inner ty c) → ReadsItem view whole r d
   unfolding parts_at
   parts_fails view r e whole before tys i ty c d err at w fails =
       reads_err view r e (inner ty c) whole d err

@@ -47,9 +47,9 @@ Fails (errors.BadCode part at) read = read ≡ Err (errors.BadCode part at)
 Fails errors.Clash read = read ≡ Err errors.Clash
 Fails errors.OutOfMemory read = Unit {0}
 
-abbrev pub Reads : {X Y : Type 0} → (X → Y) → Outcome Y → Result X ObjErr → Spot → Type 0
-Reads view read (Ok x) c = read ≡ Ok (view x, c)
-Reads view read (Err e) c = Fails e read
+abbrev pub ReadsItem : {X Y : Type 0} → (X → Y) → Outcome Y → Result X ObjErr → Spot → Type 0
+ReadsItem view read (Ok x) c = read ≡ Ok (view x, c)
+ReadsItem view read (Err e) c = Fails e read
 
 infixl 10 ◌>>=◌
 abbrev pub ◌>>=◌ : {A B : Type 0} → Result A ObjErr → (A → Result B ObjErr) → Result B ObjErr

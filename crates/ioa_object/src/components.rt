@@ -11,7 +11,7 @@ ghost use Rattle.ioa_compose.specs.Fine.{component_limits};
 ghost use Rattle.ioa_compile.specs.Shown.{entry_code, member_code};
 ghost use Rattle.ioa_object.specs.Openings.{opening};
 ghost use Rattle.ioa_object.specs.Reading as spec;
-ghost use Rattle.ioa_object.specs.Reading.{Reads};
+ghost use Rattle.ioa_object.specs.Reading.{ReadsItem};
 
 use crate::cursor::Cursor;
 use crate::failure::ObjErr;
@@ -28,7 +28,7 @@ use std::alloc::Global;
 /// The components of a program over these types.
 pub(crate) fn components(cursor: &mut Cursor<'_>, types: &Types) -> Result<Vec<Member>, ObjErr>
     requires { AreTypes types.now }
-    ensures { Reads (λ v. map member_code v.items) (spec.list_at 1 most.components (spec.component_at types.now) cursor.old) result cursor.new }
+    ensures { ReadsItem (λ v. map member_code v.items) (spec.list_at 1 most.components (spec.component_at types.now) cursor.old) result cursor.new }
 {
     let count = cursor.count(1, LIMITS.components)?;
     let mut found = Vec::new(cursor.alloc());
@@ -42,7 +42,7 @@ pub(crate) fn components(cursor: &mut Cursor<'_>, types: &Types) -> Result<Vec<M
 #[tactic(auto, unfolding(crate::specs::Reading::component_at, crate::specs::Reading::name_at))]
 fn component(cursor: &mut Cursor<'_>, types: &Types, before: &[Member]) -> Result<Member, ObjErr>
     requires { AreTypes types.now }
-    ensures { Reads member_code (spec.component_at types.now (map member_code before.now) cursor.old) result cursor.new }
+    ensures { ReadsItem member_code (spec.component_at types.now (map member_code before.now) cursor.old) result cursor.new }
 {
     let alloc = cursor.alloc();
     let name = cursor.name()?;
@@ -81,7 +81,7 @@ fn types_of(alloc: Global, values: &[Value]) -> Result<Vec<Ty>, OutOfMemory>
 #[tactic(auto, unfolding(crate::specs::Reading::list_at))]
 fn entries(cursor: &mut Cursor<'_>, types: &Types, slots: &[Ty]) -> Result<Vec<Entry>, ObjErr>
     requires { AreTypes types.now }
-    ensures { Reads (λ v. map entry_code v.items) (spec.list_at 1 component_limits.entries (spec.entry_at types.now (map number slots.now)) cursor.old) result cursor.new }
+    ensures { ReadsItem (λ v. map entry_code v.items) (spec.list_at 1 component_limits.entries (spec.entry_at types.now (map number slots.now)) cursor.old) result cursor.new }
 {
     let count = cursor.count(1, COMPONENT_LIMITS.entries)?;
     let mut found = Vec::new(cursor.alloc());
@@ -109,7 +109,7 @@ fn entry(
     before: &[Entry],
 ) -> Result<Entry, ObjErr>
     requires { AreTypes types.now }
-    ensures { Reads entry_code (spec.entry_at types.now (map number slots.now) (map entry_code before.now) cursor.old) result cursor.new }
+    ensures { ReadsItem entry_code (spec.entry_at types.now (map number slots.now) (map entry_code before.now) cursor.old) result cursor.new }
 {
     let front = front_of(cursor, types, before)?;
     coded(cursor, types, slots, front)
@@ -120,7 +120,7 @@ fn entry(
 fn front_of(cursor: &mut Cursor<'_>, types: &Types, before: &[Entry]) -> Result<Front, ObjErr>
     requires { AreTypes types.now }
     ensures typed { IfOk result (λ front. OwnTypes types.now (map plain front.consts.items)) }
-    ensures read { Reads opening (spec.opening_at types.now (map entry_code before.now) cursor.old) result cursor.new }
+    ensures read { ReadsItem opening (spec.opening_at types.now (map entry_code before.now) cursor.old) result cursor.new }
 {
     let alloc = cursor.alloc();
     let kind = kind(cursor)?;
@@ -141,7 +141,7 @@ fn front_of(cursor: &mut Cursor<'_>, types: &Types, before: &[Entry]) -> Result<
 /// The kind of an entry.
 #[tactic(auto, unfolding(crate::specs::Reading::kind_at))]
 fn kind(cursor: &mut Cursor<'_>) -> Result<Kind, ObjErr>
-    ensures { Reads (λ kind. kind) (spec.kind_at cursor.old) result cursor.new }
+    ensures { ReadsItem (λ kind. kind) (spec.kind_at cursor.old) result cursor.new }
 {
     let at = cursor.place();
     match cursor.byte()? {
@@ -154,7 +154,7 @@ fn kind(cursor: &mut Cursor<'_>) -> Result<Kind, ObjErr>
 
 /// The positions of an entry.
 fn positions(cursor: &mut Cursor<'_>, types: &Types) -> Result<Vec<Position>, ObjErr>
-    ensures { Reads (λ v. map domain_of v.items) (spec.list_at 0 most.parameters (λ _. spec.position_at types.now) cursor.old) result cursor.new }
+    ensures { ReadsItem (λ v. map domain_of v.items) (spec.list_at 0 most.parameters (λ _. spec.position_at types.now) cursor.old) result cursor.new }
 {
     let count = cursor.count(0, LIMITS.parameters)?;
     let mut found = Vec::new(cursor.alloc());
@@ -167,7 +167,7 @@ fn positions(cursor: &mut Cursor<'_>, types: &Types) -> Result<Vec<Position>, Ob
 /// A position: any value of a type, or a single value.
 #[tactic(auto, unfolding(crate::specs::Reading::position_at))]
 fn position(cursor: &mut Cursor<'_>, types: &Types) -> Result<Position, ObjErr>
-    ensures { Reads domain_of (spec.position_at types.now cursor.old) result cursor.new }
+    ensures { ReadsItem domain_of (spec.position_at types.now cursor.old) result cursor.new }
 {
     let at = cursor.place();
     match cursor.byte()? {
@@ -186,7 +186,7 @@ fn coded(
     front: Front,
 ) -> Result<Entry, ObjErr>
     requires { OwnTypes types.now (map plain front.consts.items) }
-    ensures { Reads entry_code (spec.coded_at types.now (map number slots.now) (opening front) cursor.old) result cursor.new }
+    ensures { ReadsItem entry_code (spec.coded_at types.now (map number slots.now) (opening front) cursor.old) result cursor.new }
 {
     let alloc = cursor.alloc();
     let arguments = position_types(alloc, &front.positions)?;

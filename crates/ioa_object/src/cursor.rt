@@ -4,7 +4,7 @@ ghost use Rattle.std.specs.Prelude.{◌≡◌, ◌+◌, ◌<◌, ◌≤◌, ◌^
 ghost use Rattle.ioa_value.specs.Names.{IsName};
 ghost use Rattle.ioa_value.specs.Plain.{number as type_number, plain};
 ghost use Rattle.ioa_object.specs.Reading as spec;
-ghost use Rattle.ioa_object.specs.Reading.{Reads, counted};
+ghost use Rattle.ioa_object.specs.Reading.{ReadsItem, counted};
 ghost use Rattle.ioa_object.specs.declared.failure.ObjErr.TheVariants as errors;
 
 use crate::failure::ObjErr;
@@ -96,7 +96,7 @@ impl<'a> Cursor<'a> {
     /// So many bytes.
     #[tactic(auto, unfolding(crate::specs::Reading::bytes_at))]
     pub fn bytes(&mut self, count: usize) -> Result<&'a [u8], ObjErr>
-        ensures read { Reads (λ bytes. bytes.now) (spec.bytes_at count self.old) result self.new }
+        ensures read { ReadsItem (λ bytes. bytes.now) (spec.bytes_at count self.old) result self.new }
         ensures count { IfOk result (λ bytes. length bytes.now ≡ count) }
         ensures further { OnOk result ((self.new.place ≡ self.old.place + count) × (self.new.parts ≡ self.old.parts)) }
     {
@@ -111,7 +111,7 @@ impl<'a> Cursor<'a> {
     /// The next byte.
     #[tactic(auto, unfolding(crate::specs::Reading::byte_at))]
     pub fn byte(&mut self) -> Result<u8, ObjErr>
-        ensures read { Reads (λ b. b) (spec.byte_at self.old) result self.new }
+        ensures read { ReadsItem (λ b. b) (spec.byte_at self.old) result self.new }
         ensures cut { IfErr result (λ e. e ≡ errors.Truncated) }
         ensures further { OnOk result ((self.new.place ≡ self.old.place + 1) × (self.new.parts ≡ self.old.parts)) }
     {
@@ -127,7 +127,7 @@ impl<'a> Cursor<'a> {
     /// A number of 16 bits.
     #[tactic(auto, unfolding(crate::specs::Reading::short_at))]
     pub fn short(&mut self) -> Result<u16, ObjErr>
-        ensures read { Reads (λ n. n) (spec.short_at self.old) result self.new }
+        ensures read { ReadsItem (λ n. n) (spec.short_at self.old) result self.new }
         ensures further { OnOk result ((self.new.place ≡ self.old.place + 2) × (self.new.parts ≡ self.old.parts)) }
     {
         let found = self.bytes(2)?;
@@ -137,7 +137,7 @@ impl<'a> Cursor<'a> {
     /// A whole number of 64 bits.
     #[tactic(auto, unfolding(crate::specs::Reading::long_at))]
     pub fn long(&mut self) -> Result<Value, ObjErr>
-        ensures { Reads plain (spec.long_at self.old) result self.new }
+        ensures { ReadsItem plain (spec.long_at self.old) result self.new }
     {
         let b = self.bytes(8)?;
         let number = i64::from_le_bytes([b[0], b[1], b[2], b[3], b[4], b[5], b[6], b[7]]);
@@ -147,7 +147,7 @@ impl<'a> Cursor<'a> {
     /// A number from `least` to `most`.
     #[tactic(auto, unfolding(crate::specs::Reading::count_at))]
     pub fn count(&mut self, least: usize, most: usize) -> Result<usize, ObjErr>
-        ensures read { Reads (λ n. n) (spec.count_at least most self.old) result self.new }
+        ensures read { ReadsItem (λ n. n) (spec.count_at least most self.old) result self.new }
         ensures within { IfOk result (λ n. (least ≤ n) × (n ≤ most)) }
     {
         let at = self.place;
@@ -162,7 +162,7 @@ impl<'a> Cursor<'a> {
     /// The number of one of so many types.
     #[tactic(auto, unfolding(crate::specs::Reading::type_at))]
     pub fn ty(&mut self, count: usize) -> Result<Ty, ObjErr>
-        ensures read { Reads type_number (spec.type_at count self.old) result self.new }
+        ensures read { ReadsItem type_number (spec.type_at count self.old) result self.new }
         ensures within { IfOk result (λ ty. ty.0 < count) }
     {
         let at = self.place;
@@ -177,7 +177,7 @@ impl<'a> Cursor<'a> {
     /// A legal name.
     #[tactic(auto, unfolding(crate::specs::Reading::named_at))]
     pub fn name(&mut self) -> Result<Named<'a>, ObjErr>
-        ensures read { Reads (λ x. (x.text.now, x.at)) (spec.named_at self.old) result self.new }
+        ensures read { ReadsItem (λ x. (x.text.now, x.at)) (spec.named_at self.old) result self.new }
         ensures legal { IfOk result (λ x. IsName x.text.now) }
     {
         let at = self.place;

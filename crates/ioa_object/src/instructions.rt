@@ -2,7 +2,7 @@
 
 ghost use Rattle.std.specs.Prelude.{◌≡◌, ◌≤◌, OnOk};
 ghost use Rattle.ioa_object.specs.Reading as spec;
-ghost use Rattle.ioa_object.specs.Reading.{Reads};
+ghost use Rattle.ioa_object.specs.Reading.{ReadsItem};
 
 use crate::cursor::Cursor;
 use crate::failure::ObjErr;
@@ -16,7 +16,7 @@ pub(crate) fn instruction(
     part: usize,
     before: &[Instr],
 ) -> Result<Instr, ObjErr>
-    ensures read { Reads (λ i. i) (spec.instr_at part before.now cursor.old) result cursor.new }
+    ensures read { ReadsItem (λ i. i) (spec.instr_at part before.now cursor.old) result cursor.new }
     ensures further { OnOk result ((cursor.old.place ≤ cursor.new.place) × (cursor.new.parts ≡ cursor.old.parts)) }
 {
     let byte = cursor.byte()?;
@@ -26,7 +26,7 @@ pub(crate) fn instruction(
 /// The instruction of this byte, with its operand, as the one at this place of this part.
 #[tactic(auto, unfolding(crate::specs::Reading::instr_of))]
 fn of_byte(cursor: &mut Cursor<'_>, part: usize, at: usize, byte: u8) -> Result<Instr, ObjErr>
-    ensures read { Reads (λ i. i) (spec.instr_of part at byte cursor.old) result cursor.new }
+    ensures read { ReadsItem (λ i. i) (spec.instr_of part at byte cursor.old) result cursor.new }
     ensures further { OnOk result ((cursor.old.place ≤ cursor.new.place) × (cursor.new.parts ≡ cursor.old.parts)) }
 {
     match byte {

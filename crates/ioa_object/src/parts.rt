@@ -4,7 +4,7 @@ ghost use Rattle.std.specs.Prelude.{◌≡◌, ◌<◌, OnOk, map};
 ghost use Rattle.ioa_value.specs.Plain.{number, plain};
 ghost use Rattle.ioa_value.specs.Typing.{OwnTypes};
 ghost use Rattle.ioa_object.specs.Reading as spec;
-ghost use Rattle.ioa_object.specs.Reading.{Reads};
+ghost use Rattle.ioa_object.specs.Reading.{ReadsItem};
 
 use crate::cursor::Cursor;
 use crate::failure::ObjErr;
@@ -22,7 +22,7 @@ pub(crate) fn local_part(
     env: &Env<'_>,
 ) -> Result<Option<Verified>, ObjErr>
     requires { OwnTypes env.now.types.now (map plain consts.now) }
-    ensures { Reads (λ part. part) (spec.local_at kind (spec.part_at env.now.types.now (map number env.now.slots.now) (map plain consts.now) env.now.kind (map number env.now.arguments.now) (map number env.now.result.now)) cursor.old) result cursor.new }
+    ensures { ReadsItem (λ part. part) (spec.local_at kind (spec.part_at env.now.types.now (map number env.now.slots.now) (map plain consts.now) env.now.kind (map number env.now.arguments.now) (map number env.now.result.now)) cursor.old) result cursor.new }
 {
     match kind {
         Kind::Input => Ok(None),
@@ -38,7 +38,7 @@ pub(crate) fn part(
     env: &Env<'_>,
 ) -> Result<Verified, ObjErr>
     requires { OwnTypes env.now.types.now (map plain consts.now) }
-    ensures { Reads (λ v. v) (spec.part_at env.now.types.now (map number env.now.slots.now) (map plain consts.now) env.now.kind (map number env.now.arguments.now) (map number env.now.result.now) cursor.old) result cursor.new }
+    ensures { ReadsItem (λ v. v) (spec.part_at env.now.types.now (map number env.now.slots.now) (map plain consts.now) env.now.kind (map number env.now.arguments.now) (map number env.now.result.now) cursor.old) result cursor.new }
 {
     let alloc = cursor.alloc();
     let instrs = instructions(cursor)?;
@@ -59,7 +59,7 @@ pub(crate) fn part(
 /// The instructions of a part.
 #[tactic(auto, unfolding(crate::specs::Reading::instrs_at))]
 fn instructions(cursor: &mut Cursor<'_>) -> Result<Vec<Instr>, ObjErr>
-    ensures read { Reads (λ v. v.items) (spec.instrs_at cursor.old) result cursor.new }
+    ensures read { ReadsItem (λ v. v.items) (spec.instrs_at cursor.old) result cursor.new }
     ensures further { OnOk result ((cursor.old.place < cursor.new.place) × (cursor.new.parts ≡ cursor.old.parts)) }
 {
     let part = cursor.parts();

@@ -6,7 +6,7 @@ ghost use Rattle.ioa_value.specs.Shapes.{shape, tuple_field};
 ghost use Rattle.ioa_value.specs.Table.{AreTypes, all_names, contains, names_in};
 ghost use Rattle.ioa_value.specs.declared.limits.TheConstants.{LIMITS as most};
 ghost use Rattle.ioa_object.specs.Reading as spec;
-ghost use Rattle.ioa_object.specs.Reading.{Reads};
+ghost use Rattle.ioa_object.specs.Reading.{ReadsItem};
 
 use crate::cursor::Cursor;
 use crate::failure::ObjErr;
@@ -17,7 +17,7 @@ use ioa_value::{Declarations, Declared, Field, Form, LIMITS, Types};
 /// The types of a program. Bool and Int are there without a declaration.
 #[tactic(auto, unfolding(crate::specs::Reading::types_at))]
 pub(crate) fn types(cursor: &mut Cursor<'_>) -> Result<Types, ObjErr>
-    ensures read { Reads (λ types. types) (spec.types_at cursor.old) result cursor.new }
+    ensures read { ReadsItem (λ types. types) (spec.types_at cursor.old) result cursor.new }
     ensures table { IfOk result AreTypes }
 {
     let alloc = cursor.alloc();
@@ -40,7 +40,7 @@ fn one_more<'a>(
 ) -> Result<Declarations, ObjErr>
     requires room { length declarations < 2 + most.types }
     requires names { taken.old ≡ all_names declarations }
-    ensures read { Reads (λ types. types) (spec.built (λ d. declarations ++ d ∷ []) (spec.declaration_at declarations cursor.old)) result cursor.new }
+    ensures read { ReadsItem (λ types. types) (spec.built (λ d. declarations ++ d ∷ []) (spec.declaration_at declarations cursor.old)) result cursor.new }
     ensures names { IfOk result (λ types. taken.new ≡ all_names types) }
 {
     let alloc = cursor.alloc();
@@ -61,7 +61,7 @@ fn one_more<'a>(
 /// A name that is not taken, and is taken from here on.
 #[tactic(auto, unfolding(crate::specs::Reading::name_at))]
 fn new_name<'a>(cursor: &mut Cursor<'a>, taken: &mut NameSet<'a>) -> Result<&'a str, ObjErr>
-    ensures read { Reads (λ x. x.now) (spec.name_at (contains taken.old) cursor.old) result cursor.new }
+    ensures read { ReadsItem (λ x. x.now) (spec.name_at (contains taken.old) cursor.old) result cursor.new }
     ensures names { IfOk result (λ x. taken.new ≡ taken.old ++ x.now ∷ []) }
 {
     let name = cursor.name()?;
@@ -80,7 +80,7 @@ fn form<'a>(
     count: usize,
     taken: &mut NameSet<'a>,
 ) -> Result<Form, ObjErr>
-    ensures read { Reads shape (spec.form_at tag taken.old count cursor.old) result cursor.new }
+    ensures read { ReadsItem shape (spec.form_at tag taken.old count cursor.old) result cursor.new }
     ensures names { IfOk result (λ form. taken.new ≡ taken.old ++ names_in (shape form)) }
 {
     match tag {
@@ -92,7 +92,7 @@ fn form<'a>(
 
 /// The names of an enumeration.
 fn constants<'a>(cursor: &mut Cursor<'a>, taken: &mut NameSet<'a>) -> Result<Vec<String>, ObjErr>
-    ensures read { Reads (λ v. map string_bytes v.items) (spec.list_at 1 most.names (λ before. spec.name_at (contains (taken.old ++ before))) cursor.old) result cursor.new }
+    ensures read { ReadsItem (λ v. map string_bytes v.items) (spec.list_at 1 most.names (λ before. spec.name_at (contains (taken.old ++ before))) cursor.old) result cursor.new }
     ensures names { IfOk result (λ v. taken.new ≡ taken.old ++ map string_bytes v.items) }
 {
     let alloc = cursor.alloc();
@@ -106,7 +106,7 @@ fn constants<'a>(cursor: &mut Cursor<'a>, taken: &mut NameSet<'a>) -> Result<Vec
 
 /// The fields of a tuple, each of one of so many types.
 fn fields(cursor: &mut Cursor<'_>, count: usize) -> Result<Vec<Field>, ObjErr>
-    ensures { Reads (λ v. map tuple_field v.items) (spec.list_at 1 most.fields (spec.field_at count) cursor.old) result cursor.new }
+    ensures { ReadsItem (λ v. map tuple_field v.items) (spec.list_at 1 most.fields (spec.field_at count) cursor.old) result cursor.new }
 {
     let length = cursor.count(1, LIMITS.fields)?;
     let mut found = Vec::new(cursor.alloc());
@@ -119,7 +119,7 @@ fn fields(cursor: &mut Cursor<'_>, count: usize) -> Result<Vec<Field>, ObjErr>
 /// The field that comes after these.
 #[tactic(auto, unfolding(crate::specs::Reading::field_at, crate::specs::Reading::name_at))]
 fn field(cursor: &mut Cursor<'_>, count: usize, before: &[Field]) -> Result<Field, ObjErr>
-    ensures { Reads tuple_field (spec.field_at count (map tuple_field before.now) cursor.old) result cursor.new }
+    ensures { ReadsItem tuple_field (spec.field_at count (map tuple_field before.now) cursor.old) result cursor.new }
 {
     let name = cursor.name()?;
     if is_named(before, name.text) {
@@ -135,7 +135,7 @@ fn field(cursor: &mut Cursor<'_>, count: usize, before: &[Field]) -> Result<Fiel
 /// A sequence of items of one of so many types.
 #[tactic(auto, unfolding(crate::specs::Reading::sequence_at))]
 fn sequence(cursor: &mut Cursor<'_>, count: usize) -> Result<Form, ObjErr>
-    ensures read { Reads shape (spec.sequence_at count cursor.old) result cursor.new }
+    ensures read { ReadsItem shape (spec.sequence_at count cursor.old) result cursor.new }
     ensures names { IfOk result (λ form. names_in (shape form) ≡ []) }
 {
     let most = cursor.count(1, LIMITS.capacity)? as u16;

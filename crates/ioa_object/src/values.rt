@@ -5,7 +5,7 @@ ghost use Rattle.ioa_value.specs.Plain.{plain};
 ghost use Rattle.ioa_value.specs.Shapes.{tuple_field};
 ghost use Rattle.ioa_value.specs.Table.{AreTypes, types_of};
 ghost use Rattle.ioa_object.specs.Reading as spec;
-ghost use Rattle.ioa_object.specs.Reading.{Reads};
+ghost use Rattle.ioa_object.specs.Reading.{ReadsItem};
 
 use crate::cursor::Cursor;
 use crate::failure::ObjErr;
@@ -17,7 +17,7 @@ pub(crate) fn values(
     types: &Types,
     most: usize,
 ) -> Result<Vec<Value>, ObjErr>
-    ensures { Reads (λ v. map plain v.items) (spec.list_at 0 most (λ _. spec.value_at types.now) cursor.old) result cursor.new }
+    ensures { ReadsItem (λ v. map plain v.items) (spec.list_at 0 most (λ _. spec.value_at types.now) cursor.old) result cursor.new }
 {
     let count = cursor.count(0, most)?;
     let mut found = Vec::new(cursor.alloc());
@@ -30,7 +30,7 @@ pub(crate) fn values(
 /// A value: its type, and then what is spelled of a value of the type.
 #[tactic(auto, unfolding(crate::specs::Reading::value_at))]
 pub(crate) fn value(cursor: &mut Cursor<'_>, types: &Types) -> Result<Value, ObjErr>
-    ensures { Reads plain (spec.value_at types.now cursor.old) result cursor.new }
+    ensures { ReadsItem plain (spec.value_at types.now cursor.old) result cursor.new }
 {
     let ty = cursor.ty(types.len())?;
     payload(cursor, types, ty)
@@ -41,7 +41,7 @@ pub(crate) fn value(cursor: &mut Cursor<'_>, types: &Types) -> Result<Value, Obj
 #[tactic(auto, unfolding(crate::specs::Reading::payload_in))]
 fn payload(cursor: &mut Cursor<'_>, types: &Types, ty: Ty) -> Result<Value, ObjErr>
     requires { ty.0 < length types.now }
-    ensures { Reads plain (spec.payload_at types.now ty.0 cursor.old) result cursor.new }
+    ensures { ReadsItem plain (spec.payload_at types.now ty.0 cursor.old) result cursor.new }
 {
     match types.form(ty) {
         Some(Form::Truths) => truth(cursor),
@@ -66,7 +66,7 @@ fn parts(
     requires table { AreTypes types.now }
     requires own { ty.0 < length types.now }
     requires earlier { All (λ t. t < ty.0) (types_of (map tuple_field fields.now)) }
-    ensures { Reads (λ v. map plain v.items) (spec.parts_at (spec.payload_in ty.0 types.now) [] (types_of (map tuple_field fields.now)) cursor.old) result cursor.new }
+    ensures { ReadsItem (λ v. map plain v.items) (spec.parts_at (spec.payload_in ty.0 types.now) [] (types_of (map tuple_field fields.now)) cursor.old) result cursor.new }
 {
     let mut found = Vec::new(cursor.alloc());
     for i in 0..fields.len() {
@@ -87,7 +87,7 @@ fn items(
     requires table { AreTypes types.now }
     requires own { ty.0 < length types.now }
     requires earlier { of.0 < ty.0 }
-    ensures { Reads (λ v. map plain v.items) (spec.list_at 0 most (λ _. spec.payload_in ty.0 types.now of.0) cursor.old) result cursor.new }
+    ensures { ReadsItem (λ v. map plain v.items) (spec.list_at 0 most (λ _. spec.payload_in ty.0 types.now of.0) cursor.old) result cursor.new }
 {
     let count = cursor.count(0, most)?;
     let mut found = Vec::new(cursor.alloc());
@@ -100,7 +100,7 @@ fn items(
 /// A truth value.
 #[tactic(auto, unfolding(crate::specs::Reading::truth_at))]
 fn truth(cursor: &mut Cursor<'_>) -> Result<Value, ObjErr>
-    ensures { Reads plain (spec.truth_at cursor.old) result cursor.new }
+    ensures { ReadsItem plain (spec.truth_at cursor.old) result cursor.new }
 {
     let at = cursor.place();
     let byte = cursor.byte()?;
@@ -113,7 +113,7 @@ fn truth(cursor: &mut Cursor<'_>) -> Result<Value, ObjErr>
 /// A name of an enumeration that has so many.
 #[tactic(auto, unfolding(crate::specs::Reading::constant_at))]
 fn constant(cursor: &mut Cursor<'_>, ty: Ty, count: usize) -> Result<Value, ObjErr>
-    ensures { Reads plain (spec.constant_at ty.0 count cursor.old) result cursor.new }
+    ensures { ReadsItem plain (spec.constant_at ty.0 count cursor.old) result cursor.new }
 {
     let at = cursor.place();
     let byte = cursor.byte()?;

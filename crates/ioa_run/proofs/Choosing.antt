@@ -17,7 +17,7 @@ use Rattle.ioa_tree.specs.Components.{is_local}
 use Rattle.ioa_compile.specs.Programs.{EntryCode}
 use Rattle.ioa_compile.specs.Shown.{entry_code}
 use Rattle.ioa_compile.specs.declared.table.Entry.{Entry}
-use Rattle.ioa_run.specs.Choices.{Chooses, Gives}
+use Rattle.ioa_run.specs.Choices.{Chooses, GivesAction}
 use Rattle.ioa_run.specs.Proposers.{action_with, by_code, local_entries, tried}
 use Rattle.ioa_run.specs.Turns.{Proposer, after}
 use Rattle.ioa_run.proofs.Counting.{got_all}
@@ -37,7 +37,7 @@ one_after words rest h = fun_ext h
 
 -- the entry's code gives these values or none
 pub gives_by : (e : EntryCode) (part : Part) (s : List Val) (words rest : Words) (r : Option (List Val)) → e.propose ≡ Some part → r ≡ proposal_of part s words
-    → Left (words_of part s words) words rest → Gives e s words (option_map (action_with e) r) rest
+    → Left (words_of part s words) words rest → GivesAction e s words (option_map (action_with e) r) rest
 gives_by e part s words rest r p g l = record {
   taken = words_of part s words;
   gives = λ earlier n h.
@@ -49,7 +49,7 @@ gives_by e part s words rest r p g l = record {
 
 -- the entry that a word picks
 pub chosen_by : (es : List EntryCode) (s : List Val) (words mid rest : Words) (number : ℕ) (e : EntryCode) (a : Option Act) → number ≡ words 0 % length (local_entries es)
-    → slice_get (local_entries es) number ≡ Some e → mid ≡ after 1 words → Gives e s mid a rest → Chooses es s words a rest
+    → slice_get (local_entries es) number ≡ Some e → mid ≡ after 1 words → GivesAction e s mid a rest → Chooses es s words a rest
 chosen_by es s words mid rest number e a n g m h =
     let code : EntryCode → Proposer (List Val) = λ d. by_code d d.propose in
     let ls : List EntryCode = local_entries es in

@@ -22,7 +22,7 @@ use Rattle.ioa_run.specs.Histories.{GoesOn, since}
 use Rattle.ioa_run.specs.Reports.{AreTold}
 use Rattle.ioa_run.specs.Going.{AreSettled, Follows, dismissed}
 use Rattle.ioa_run.specs.Outcomes.{HaveEnded, IsLogOf, ending}
-use Rattle.ioa_run.specs.ProgramRooms.{IsRoom, ProgramRoom, Tells, room_on}
+use Rattle.ioa_run.specs.ProgramRooms.{IsRoom, ProgramRoom, ChangesReport, room_on}
 use Rattle.ioa_run.specs.Proposers.{proposers, proposers_of}
 use Rattle.ioa_run.specs.Reports.{blank, left}
 use Rattle.ioa_run.specs.Rounds.{Dismisses, GoesRounds}
@@ -93,7 +93,7 @@ dismisses_ended n r u es e h = record {
   others = λ w l. h.others w (omega (arith, l));
 }
 
-pub dismisses_more : (n : ℕ) (r u v : ProgramRoom) (es : List Bool) → slice_get es n ≡ Some false → DismissesFirst n r es u → Tells (left u.turns Why.TurnsDone) n u v → DismissesFirst (n + 1) r es v
+pub dismisses_more : (n : ℕ) (r u v : ProgramRoom) (es : List Bool) → slice_get es n ≡ Some false → DismissesFirst n r es u → ChangesReport (left u.turns Why.TurnsDone) n u v → DismissesFirst (n + 1) r es v
 dismisses_more n r u v es e h t =
     let turns : u.turns ≡ r.turns = ap (λ (q : ProgramRoom). q.turns) h.rest in
     let told : slice_get v.reports n ≡ option_map (left r.turns Why.TurnsDone) (slice_get r.reports n) =

@@ -33,12 +33,12 @@ use Rattle.ioa_tree.specs.Types.{types_of}
 use Rattle.ioa_tree.specs.WellFormed.{global_names}
 use Rattle.ioa_tree.proofs.FineParts.{fine_parts}
 use Rattle.ioa_compose.specs.Rewriting.{signals, with_signals}
-use Rattle.ioa_compose.specs.Stands.{Holds, IsMadeOf, Stands, TellsUp}
+use Rattle.ioa_compose.specs.Simulates.{SlotsHold, IsMadeOf, Simulates, TellsUp}
 use Rattle.ioa_compose.proofs.SignatureLemmas.{zip-at, zip-to}
 use Rattle.ioa_compose.proofs.SourceLemmas.{named_fine}
 use Rattle.ioa_compile.specs.CodeEnds.{ProposalEnds}
 use Rattle.ioa_compile.specs.Matching.{MatchesEntry, MatchesMember}
-use Rattle.ioa_compile.specs.Means.{Means}
+use Rattle.ioa_compile.specs.Implements.{Implements}
 use Rattle.ioa_compile.specs.Programs.{EntryCode, MemberCode, Prog}
 use Rattle.ioa_compile.specs.Tables.{AreEntries, AreMembers, HasPropose, IsEntry, IsMember, IsProgram, start_states, table_component, tabled}
 use Rattle.ioa_compile.proofs.HostEntries.{entries_are_the_hosts}
@@ -76,7 +76,7 @@ up_once : (o : Option CrashTree) (n : ℕ) (a b : Bool) (slots : List Val) → T
 up_once None n a b slots h k = h.1 ∙ sym k.1
 up_once (Some c) n a b slots h k = let e : truth a ≡ truth b = some_same (slice_get slots n) (truth a) (truth b) h.1 k.1 in cc
 
-holds_once : (p : Host) (x y : HostState Env) (slots : List Val) → Holds p x slots → Holds p y slots → x ≡ y
+holds_once : (p : Host) (x y : HostState Env) (slots : List Val) → SlotsHold p x slots → SlotsHold p y slots → x ≡ y
 holds_once p x y slots h k =
     let up : x.up ≡ y.up = up_once p.crash (length p.instance.automaton.variables) x.up y.up slots h.up k.up in
     let inner : x.inner ≡ y.inner = fun_ext (λ n. h.values n ∙ sym (k.values n)) in
@@ -193,7 +193,7 @@ tells_alike p (Some c) up as' bs d h k e =
     (one_more_value ns as' (truth up) (h.0 ∙ ap (λ m. m + 1) n) (subst (λ m. slice_get as' m ≡ Some (truth up)) n h.1))
     (one_more_value ns bs (truth up) (k.0 ∙ ap (λ m. m + 1) n) (subst (λ m. slice_get bs m ≡ Some (truth up)) n k.1)) e
 
-holds_apart : (p : Host) (x y : HostState Env) (as' bs : List Val) → distinct (variable_names p.instance.automaton) ≡ true → Holds p x as' → Holds p y bs → x ≡ y → as' ≡ bs
+holds_apart : (p : Host) (x y : HostState Env) (as' bs : List Val) → distinct (variable_names p.instance.automaton) ≡ true → SlotsHold p x as' → SlotsHold p y bs → x ≡ y → as' ≡ bs
 holds_apart p x y as' bs d h k e =
     tells_alike p p.crash x.up as' bs d h.up (subst (λ u. TellsUp p.crash (length p.instance.automaton.variables) u bs) (ap (λ (s : HostState Env). s.up) (sym e)) k.up)
     (λ n. sym (h.values n) ∙ ap (λ (s : HostState Env). s.inner n) e ∙ k.values n)
@@ -278,7 +278,7 @@ module _ {S T E D : Type 0} (R : S → T → Type 0) (f : E → Proposer S) (g :
       go false x true y p rest = let q : true ≡ false = sym y ∙ p.kind ∙ x in absurd (cc)
       go false x false y p rest = rest
 
-module _ (p : Prog) (h : Hosted) (c : Composed) (program : IsProgram p) (stands : Stands h c) (means : Means p c) where
+module _ (p : Prog) (h : Hosted) (c : Composed) (program : IsProgram p) (stands : Simulates h c) (means : Implements p c) where
   module _ (w : ℕ) (host : Host) (m : MemberCode) (at : slice_get h.hosts w ≡ Some host) (there : slice_get p.members w ≡ Some m) where
     member : IsMember p.types m
     member = member_at (IsMember p.types) (AreMembers p.types) (λ x xs a. a) p.members w m program.members there
@@ -294,7 +294,7 @@ module _ (p : Prog) (h : Hosted) (c : Composed) (program : IsProgram p) (stands 
         let q = zip-to IsMadeOf h.hosts c.members w made.0 stands.members made.1 in
         subst (λ x. IsMadeOf x made.0) (some_same (slice_get h.hosts w) q.0 host q.1 at) q.2
 
-    related : (s : HostState Env) (slots : List Val) → Held h p w s slots → Holds host s slots × HaveTypes m.start.table slots m.start.types
+    related : (s : HostState Env) (slots : List Val) → Held h p w s slots → SlotsHold host s slots × HaveTypes m.start.table slots m.start.types
     related s slots r = subst (λ o. HoldsIn (Some host) o s slots) there (subst (λ o. HoldsIn o (slice_get p.members w) s slots) at r)
 
     entry_like : (k : ℕ) (e : EntryTree) → slice_get host.instance.automaton.entries k ≡ Some e
@@ -313,7 +313,7 @@ module _ (p : Prog) (h : Hosted) (c : Composed) (program : IsProgram p) (stands 
                 let code = has_code m d d.kind d.propose (ap (λ x. is_local (Some x)) own.kind ∙ local) is.propose in
                 let held = related s slots r in
                 let ends : ProposalEnds code.0 slots (after n words) (proposed host.instance e s.inner (after n words) 0) =
-                subst (λ o. IfSome o (λ part. (x : HostState Env) (vs : List Val) (ws : Words) → Holds host x vs → HaveTypes m.start.table vs m.start.types → ProposalEnds part vs ws (proposed host.instance e x.inner ws 0))) code.1 own.propose
+                subst (λ o. IfSome o (λ part. (x : HostState Env) (vs : List Val) (ws : Words) → SlotsHold host x vs → HaveTypes m.start.table vs m.start.types → ProposalEnds part vs ws (proposed host.instance e x.inner ws 0))) code.1 own.propose
                 s slots (after n words) held.0 held.1 in
                 by_alike host.instance e d code.0 s.inner slots words n own.name (fills d own.name is mine.1) ends ∙ sym (ap (λ o. by_code d o slots words n) code.1);
           },
@@ -364,7 +364,7 @@ module _ (p : Prog) (h : Hosted) (c : Composed) (program : IsProgram p) (stands 
 
 -- ---- the program and its hosts
 
-module _ (p : Prog) (h : Hosted) (c : Composed) (stands : Stands h c) (means : Means p c) where
+module _ (p : Prog) (h : Hosted) (c : Composed) (stands : Simulates h c) (means : Implements p c) where
   starts : AllRelated (Held h p) 0 (host_starts h) (start_states p)
   starts = host_start_held p h c stands means
 
@@ -432,7 +432,7 @@ sound_run ps ss b s = go b.failure refl
 
 -- a log of a board is one of the hosts' board that is like it
 host_log : (p : Prog) (h : Hosted) (c : Composed) (b : Standing (List Val)) (d : Standing (HostState Env)) (log : List LogEntry) (end : LogEnd) (ns : List Node)
-    → Stands h c → Means p c → BoardsLike (Held h p) d b → IsLogOf p b log end ns → IsHostLog h p d log end ns
+    → Simulates h c → Implements p c → BoardsLike (Held h p) d b → IsLogOf p b log end ns → IsHostLog h p d log end ns
 host_log p h c b d log end ns stands means l g =
     let sound : IsSound (hosts_of h) (host_starts h) d = sound_like p h c stands means d b l g.sound in
     record {

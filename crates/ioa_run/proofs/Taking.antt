@@ -12,7 +12,7 @@ use Rattle.ioa_run.specs.declared.report.Why.{Why}
 use Rattle.ioa_run.specs.declared.turn.TurnEnd.{TurnEnd}
 use Rattle.ioa_run.specs.Boards.{Standing}
 use Rattle.ioa_run.specs.Going.{AreSettled, Follows, IsTurn}
-use Rattle.ioa_run.specs.ProgramRooms.{ProgramRoom, Tells}
+use Rattle.ioa_run.specs.ProgramRooms.{ProgramRoom, ChangesReport}
 use Rattle.ioa_run.specs.Proposers.{proposers, proposers_of}
 use Rattle.ioa_run.specs.Reports.{left, with_idle}
 use Rattle.ioa_run.specs.Rounds.{GoesFirst, GoesRound, GoesRounds}
@@ -29,7 +29,7 @@ took_attempt r r' ws ws' w a last h k = record {
   turn = λ es e. attempt_turn (tabled r.program) (proposers r.program) r.inputs r.turns w h.taken a last r.board r'.board r.reports r'.reports ws ws' es (h.wish es) k.board k.answer k.report h.words;
 }
 
-took_idle : (r r' : ProgramRoom) (ws ws' : List Words) (w : ℕ) → Wishes r ws w None ws' → Tells with_idle w r r' → Took r ws w false r' ws'
+took_idle : (r r' : ProgramRoom) (ws ws' : List Words) (w : ℕ) → Wishes r ws w None ws' → ChangesReport with_idle w r r' → Took r ws w false r' ws'
 took_idle r r' ws ws' w h k =
     let board : r'.board ≡ r.board = ap (λ (q : ProgramRoom). q.board) k.rest in
     record {
@@ -51,11 +51,11 @@ pub nothing_taken : (r m : ProgramRoom) (w : ℕ) (o : Option Act) → Acts r w 
 nothing_taken r m w None k = absurd k
 nothing_taken r m w (Some a) k = k
 
-pub refused_turn : (r m r' : ProgramRoom) (ws ws' : List Words) (w n : ℕ) → m ≡ r → HasPerformed r w n → Tells (left m.turns Why.Memory) w m r' → length ws' ≡ length ws → Takes r ws w TurnEnd.NoMemory r' ws'
+pub refused_turn : (r m r' : ProgramRoom) (ws ws' : List Words) (w n : ℕ) → m ≡ r → HasPerformed r w n → ChangesReport (left m.turns Why.Memory) w m r' → length ws' ≡ length ws → Takes r ws w TurnEnd.NoMemory r' ws'
 refused_turn r m r' ws ws' w n e p k l = record {
   report = p.report;
   there = p.there;
-  leaves = subst (λ (q : ProgramRoom). Tells (left q.turns Why.Memory) w q r') e k;
+  leaves = subst (λ (q : ProgramRoom). ChangesReport (left q.turns Why.Memory) w q r') e k;
   words = l;
 }
 

@@ -21,7 +21,7 @@ abbrev pub AreOfState : Node → List EntryCode → Type 0
 AreOfState n es = All (λ e. IfSome e.propose (IsOfState n)) es
 
 -- the entry's code gives this action or none with these words, whatever words were taken before them, and leaves these words
-pub record Gives (e : EntryCode) (s : List Val) (words : Words) (a : Option Act) (rest : Words) : Type 0 where
+pub record GivesAction (e : EntryCode) (s : List Val) (words : Words) (a : Option Act) (rest : Words) : Type 0 where
   pub taken : ℕ
   pub gives : (earlier : Words) (n : ℕ) → after n earlier ≡ words → by_code e e.propose s earlier n ≡ tried a (n + taken)
   pub left : rest ≡ after taken words

@@ -15,8 +15,8 @@ use Rattle.ioa_tree.specs.Proposing.{Words, proposed, then_try, tries}
 use Rattle.ioa_tree.specs.Runs.{run}
 use Rattle.ioa_tree.specs.Tree.{CompositionTree, EntryTree, PositionTree, SourceTree, only, typed}
 use Rattle.ioa_tree.specs.WellFormed.{WellFormed}
-use Rattle.ioa_compose.specs.Stands.{Stands}
-use Rattle.ioa_compile.specs.Means.{Means}
+use Rattle.ioa_compose.specs.Simulates.{Simulates}
+use Rattle.ioa_compile.specs.Implements.{Implements}
 use Rattle.ioa_compile.specs.Programs.{Prog}
 use Rattle.ioa_compile.specs.Tables.{IsProgram, start_states, tabled}
 use Rattle.ioa_node.specs.Nodes.{Node}
@@ -137,31 +137,31 @@ pub record IsHostAlone (h : Hosted) (p : Prog) (words : List Words) (inputs : Li
 -- the hosts' run on one thread has the same history, fault, reports and words left, and the program's slots hold the states that it reaches
 abbrev pub HostTurns : Type 0
 HostTurns =
-    (p : Prog) (h : Hosted) (c : Composed) (words : List Words) (inputs : List Act) (turns : ℕ) → IsProgram p → Stands h c → Means p c
+    (p : Prog) (h : Hosted) (c : Composed) (words : List Words) (inputs : List Act) (turns : ℕ) → IsProgram p → Simulates h c → Implements p c
     → TurnsLike (Held h p) (hosts_alone h words inputs turns) (alone_in p words inputs turns)
 
 -- so of what such a run gives
 abbrev pub HostAlone : Type 0
 HostAlone =
-    (p : Prog) (h : Hosted) (c : Composed) (words : List Words) (inputs : List Act) (turns : ℕ) (o : Outcome) → IsProgram p → Stands h c → Means p c
+    (p : Prog) (h : Hosted) (c : Composed) (words : List Words) (inputs : List Act) (turns : ℕ) (o : Outcome) → IsProgram p → Simulates h c → Implements p c
     → IsAlone p words inputs turns o → IsHostAlone h p words inputs turns o
 
 -- a legal history and its fault are the hosts', and the slots hold the states to which it leads them
 abbrev pub HostHistory : Type 0
 HostHistory =
-    (p : Prog) (h : Hosted) (c : Composed) (b : Standing (List Val)) → Stands h c → Means p c → IsSound (tabled p) (start_states p) b
+    (p : Prog) (h : Hosted) (c : Composed) (b : Standing (List Val)) → Simulates h c → Implements p c → IsSound (tabled p) (start_states p) b
     → (d : Standing (HostState Env)) × IsSound (hosts_of h) (host_starts h) d × BoardsLike (Held h p) d b
 
 -- what is legal for the hosts is the program's, too
 abbrev pub ProgramHistory : Type 0
 ProgramHistory =
-    (p : Prog) (h : Hosted) (c : Composed) (d : Standing (HostState Env)) → Stands h c → Means p c → IsSound (hosts_of h) (host_starts h) d
+    (p : Prog) (h : Hosted) (c : Composed) (d : Standing (HostState Env)) → Simulates h c → Implements p c → IsSound (hosts_of h) (host_starts h) d
     → (b : Standing (List Val)) × IsSound (tabled p) (start_states p) b × BoardsLike (Held h p) d b
 
 -- so of what any run gives
 abbrev pub HostOutcome : Type 0
 HostOutcome =
-    (p : Prog) (h : Hosted) (c : Composed) (inputs : List Act) (turns : ℕ) (o : Outcome) → Stands h c → Means p c
+    (p : Prog) (h : Hosted) (c : Composed) (inputs : List Act) (turns : ℕ) (o : Outcome) → Simulates h c → Implements p c
     → IsOutcome p inputs turns o → IsHostOutcome h p inputs turns o
 
 -- the variables of each host have names of their own, as those of a well formed source have
@@ -174,14 +174,14 @@ HostsApart = (s : SourceTree) (t : CompositionTree) (h : Hosted) → WellFormed 
 -- the hosts' workers are answered the same to every list of events
 abbrev pub HostSchedule : Type 0
 HostSchedule =
-    (p : Prog) (h : Hosted) (c : Composed) (es : List Event) (xs : List Answer) (u : Schedule (List Val)) → AreApart h → Stands h c → Means p c
+    (p : Prog) (h : Hosted) (c : Composed) (es : List Event) (xs : List Answer) (u : Schedule (List Val)) → AreApart h → Simulates h c → Implements p c
     → Plays (tabled p) es (start_schedule (start_states p)) xs u
     → (s : Schedule (HostState Env)) × Plays (hosts_of h) es (start_schedule (host_starts h)) xs s × SchedulesLike (Held h p) (hosts_of h) (tabled p) s u
 
 -- and so are the program's, as the hosts' are
 abbrev pub ProgramSchedule : Type 0
 ProgramSchedule =
-    (p : Prog) (h : Hosted) (c : Composed) (es : List Event) (xs : List Answer) (s : Schedule (HostState Env)) → AreApart h → Stands h c → Means p c
+    (p : Prog) (h : Hosted) (c : Composed) (es : List Event) (xs : List Answer) (s : Schedule (HostState Env)) → AreApart h → Simulates h c → Implements p c
     → Plays (hosts_of h) es (start_schedule (host_starts h)) xs s
     → (u : Schedule (List Val)) × Plays (tabled p) es (start_schedule (start_states p)) xs u × SchedulesLike (Held h p) (hosts_of h) (tabled p) s u
 
@@ -194,13 +194,13 @@ HostPlays =
 -- of the same events with the same answers as the program's
 abbrev pub HostEvents : Type 0
 HostEvents =
-    (p : Prog) (h : Hosted) (c : Composed) (words : List Words) (inputs : List Act) (turns : ℕ) → IsProgram p → Stands h c → Means p c
+    (p : Prog) (h : Hosted) (c : Composed) (words : List Words) (inputs : List Act) (turns : ℕ) → IsProgram p → Simulates h c → Implements p c
     → hosts_events h words inputs turns ≡ events_in p words inputs turns
 
 -- what planning by a copy of the program's slots answers a worker is what the hosts' machine answers to its copy, and the plans are of the same
 -- action in related states
 abbrev pub HostCopy : Type 0
 HostCopy =
-    (p : Prog) (h : Hosted) (c : Composed) (w : ℕ) (a : Act) (s : Schedule (HostState Env)) (u : Schedule (List Val)) (r : Planned) → Stands h c → Means p c
+    (p : Prog) (h : Hosted) (c : Composed) (w : ℕ) (a : Act) (s : Schedule (HostState Env)) (u : Schedule (List Val)) (r : Planned) → Simulates h c → Implements p c
     → length u.board.states ≡ length p.members → SchedulesLike (Held h p) (hosts_of h) (tabled p) s u → Makes p w a (now_of (tabled p) a u.board.states) r
     → (t : Schedule (HostState Env)) × Answers (hosts_of h) (copy w a) s (answer_of r) t × SchedulesLike (Held h p) (hosts_of h) (tabled p) t (with_plan u w (intent_of r))

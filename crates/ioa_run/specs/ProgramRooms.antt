@@ -62,6 +62,6 @@ abbrev pub HasInputsLeft : ProgramRoom → ℕ → Type 0
 HasInputsLeft r w = (w ≡ environment r) × (place r < length r.inputs)
 
 -- the worker's report is changed so, and nothing else
-pub record Tells (f : Report → Report) (w : ℕ) (r r' : ProgramRoom) : Type 0 where
+pub record ChangesReport (f : Report → Report) (w : ℕ) (r r' : ProgramRoom) : Type 0 where
   pub report : Changes f w r.reports r'.reports
   pub rest : r' ≡ record r { reports = r'.reports }

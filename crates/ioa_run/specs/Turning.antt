@@ -11,7 +11,7 @@ use Rattle.ioa_run.specs.declared.turn.TurnEnd.{TurnEnd}
 use Rattle.ioa_run.specs.Proposers.{proposers, tried}
 use Rattle.ioa_run.specs.Going.{IsTurn, told_in}
 use Rattle.ioa_run.specs.Histories.{count}
-use Rattle.ioa_run.specs.ProgramRooms.{ProgramRoom, Tells, environment, new_in, place}
+use Rattle.ioa_run.specs.ProgramRooms.{ProgramRoom, ChangesReport, environment, new_in, place}
 use Rattle.ioa_run.specs.Reports.{Changes, left, with_idle}
 use Rattle.ioa_run.specs.Turns.{Turns, after, attempt, changed, is_last, meant}
 
@@ -36,7 +36,7 @@ pub record Attempts (r : ProgramRoom) (w : ℕ) (a : Act) (last : Bool) (r' : Pr
 
 -- the turn of a worker that means to do this, or nothing
 abbrev pub Acts : ProgramRoom → ℕ → Option Act → TurnEnd → ProgramRoom → Type 0
-Acts r w None TurnEnd.GoesOn r' = Tells with_idle w r r'
+Acts r w None TurnEnd.GoesOn r' = ChangesReport with_idle w r r'
 Acts r w None TurnEnd.IsLast r' = ⊥
 Acts r w None TurnEnd.NoMemory r' = ⊥
 Acts r w (Some a) TurnEnd.GoesOn r' = Attempts r w a false r'
@@ -72,7 +72,7 @@ pub record Took (r : ProgramRoom) (ws : List Words) (w : ℕ) (last : Bool) (r' 
 pub record Refused (r : ProgramRoom) (ws : List Words) (w : ℕ) (r' : ProgramRoom) (ws' : List Words) : Type 0 where
   pub report : Report
   pub there : slice_get r.reports w ≡ Some report
-  pub leaves : Tells (left r.turns Why.Memory) w r r'
+  pub leaves : ChangesReport (left r.turns Why.Memory) w r r'
   pub words : length ws' ≡ length ws
 
 abbrev pub Takes : ProgramRoom → List Words → ℕ → TurnEnd → ProgramRoom → List Words → Type 0

@@ -10,7 +10,7 @@ ghost use Rattle.ioa_value.specs.Positions.{domain_of};
 ghost use Rattle.ioa_tree.specs.Components as components;
 ghost use Rattle.ioa_compile.specs.Shown.{entry_code, member_code};
 ghost use Rattle.ioa_run.specs.Proposers.{filled, local_entries};
-ghost use Rattle.ioa_run.specs.Choices.{AreOfState, Chooses, Gives, IsOfState};
+ghost use Rattle.ioa_run.specs.Choices.{AreOfState, Chooses, GivesAction, IsOfState};
 
 use ioa_compile::Entry;
 use ioa_node::{NodeState, Words, Workspace, propose_with};
@@ -82,7 +82,7 @@ fn propose_by<W: Words>(
     words: &mut W,
 ) -> Result<Option<Action>, OutOfMemory>
     requires { IfSome (entry_code entry.now).propose (IsOfState state.now) }
-    ensures { IfOk result (λ r. Gives (entry_code entry.now) state.now.values (W.stream words.old) (option_map act_of r) (W.stream words.new)) }
+    ensures { IfOk result (λ r. GivesAction (entry_code entry.now) state.now.values (W.stream words.old) (option_map act_of r) (W.stream words.new)) }
 {
     let Some(code) = &entry.propose else {
         return Ok(None);

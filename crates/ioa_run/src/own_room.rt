@@ -4,7 +4,7 @@ ghost use Rattle.std.specs.Prelude.{◌≡◌, ◌<◌, All, IfOk, length};
 ghost use Rattle.ioa_system.specs.Participants.{taken};
 ghost use Rattle.ioa_system.specs.Systems.{slot_types, types_of};
 ghost use Rattle.ioa_run.specs.Alone.{IsOutcomeFrom};
-ghost use Rattle.ioa_run.specs.ProgramRooms.{HasInputsLeft, Tells};
+ghost use Rattle.ioa_run.specs.ProgramRooms.{HasInputsLeft, ChangesReport};
 ghost use Rattle.ioa_run.specs.Reports.{left, with_idle};
 ghost use Rattle.ioa_run.specs.RoomCommits.{RoomCommit};
 
@@ -105,14 +105,14 @@ impl<'p, T: Terms> OwnRoom<'p, T> {
     /// Counts a turn in which the worker had nothing to commit; the environment has none before its script is at its end.
     pub(crate) fn idle(&mut self, who: usize)
         ensures left { HasInputsLeft self.old who → self.new ≡ self.old }
-        ensures idle { (HasInputsLeft self.old who → ⊥) → Tells with_idle who self.old self.new }
+        ensures idle { (HasInputsLeft self.old who → ⊥) → ChangesReport with_idle who self.old self.new }
     {
         self.room.idle(who);
     }
 
     /// Says why a worker takes no more turns.
     pub(crate) fn leave(&mut self, who: usize, why: Why)
-        ensures { Tells (left T.turns why) who self.old self.new }
+        ensures { ChangesReport (left T.turns why) who self.old self.new }
     {
         self.room.leave(who, why);
     }

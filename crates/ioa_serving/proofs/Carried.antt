@@ -7,8 +7,8 @@ use Rattle.ioa_value.specs.Lists.{ReadsList}
 use Rattle.ioa_tree.specs.Compositions.{Composed, components_of, starts_of}
 use Rattle.ioa_tree.specs.Hosts.{Hosted, hosts_of, host_starts}
 use Rattle.ioa_tree.specs.Runs.{Ending, run, trace}
-use Rattle.ioa_compose.specs.Stands.{Stands}
-use Rattle.ioa_compile.specs.Means.{Means}
+use Rattle.ioa_compose.specs.Simulates.{Simulates}
+use Rattle.ioa_compile.specs.Implements.{Implements}
 use Rattle.ioa_compile.specs.Programs.{Prog}
 use Rattle.ioa_compile.specs.Tables.{start_states, tabled}
 use Rattle.ioa_object.specs.Objects.{IsObject}
@@ -26,14 +26,14 @@ use Rattle.ioa_log.proofs.Monitored.{hides_means, monitored_means}
 use Rattle.ioa_picture.specs.Graphs.{graph}
 use Rattle.ioa_serving.specs.Carried.{ChartsAsSource, GraphsAsSource, LogsListsAsSource, MonitorsAsSource, ReplaysAsSource, ReplaysLogsAsSource}
 use Rattle.ioa_serving.specs.Compiling.{IsCompiled}
-use Rattle.ioa_serving.specs.Headline.{Gives, begins_object}
+use Rattle.ioa_serving.specs.Headline.{IsFileOf, begins_object}
 use Rattle.ioa_serving.specs.Logs.{Monitors, ReplaysLog, performed_in}
 use Rattle.ioa_serving.specs.Pictures.{ChartsLog}
 use Rattle.ioa_serving.specs.Subjects.{Subject, of_hosts, its_components, its_hidden, its_starts, its_types, of_table}
 use Rattle.ioa_serving.proofs.Pictured.{charted_as}
 
 -- what the table does, the hosts do
-module _ (p : Prog) (h : Hosted) (c : Composed) (s : Stands h c) (m : Means p c) where
+module _ (p : Prog) (h : Hosted) (c : Composed) (s : Simulates h c) (m : Implements p c) where
   same_ending : (acts : List Act) → (run (tabled p) acts (start_states p)).ending ≡ (run (hosts_of h) acts (host_starts h)).ending
   same_ending acts = sym (host_run p h c acts s m).ending
 
@@ -89,8 +89,8 @@ begins bytes p is = ap begins_object is.spelled
 
 -- what holds of an object's table, and of the hosts where it holds of their program's table, holds of what the source declares
 carried : (P : Subject → Type 0) (text bytes : List ℕ) (name of : Option Name)
-    → ((p : Prog) (h : Hosted) (c : Composed) → Stands h c → Means p c → P (of_table p) → P (of_hosts h))
-    → IsCompiled text name bytes → (s : Subject) × Gives bytes of s × P s → (s : Subject) × Gives text name s × P s
+    → ((p : Prog) (h : Hosted) (c : Composed) → Simulates h c → Implements p c → P (of_table p) → P (of_hosts h))
+    → IsCompiled text name bytes → (s : Subject) × IsFileOf bytes of s × P s → (s : Subject) × IsFileOf text name s × P s
 carried P text bytes name of over (h, gives, (p, runs, is)) (of_hosts k, given, holds) = absurd (false≢true (sym given.0 ∙ begins bytes p is))
 carried P text bytes name of over (h, gives, (p, runs, is)) (of_table q, given, holds) =
     (of_hosts h, gives, over p h runs.0 runs.1 runs.2 (subst (λ x. P (of_table x)) (one_program bytes q p given.object is) holds))

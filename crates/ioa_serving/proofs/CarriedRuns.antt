@@ -6,8 +6,8 @@ use Rattle.ioa_value.specs.Actions.{Act, Name}
 use Rattle.ioa_tree.specs.Compositions.{Composed, components_of, starts_of}
 use Rattle.ioa_tree.specs.Hosts.{Hosted, hosts_of, host_starts}
 use Rattle.ioa_tree.specs.Proposing.{Words}
-use Rattle.ioa_compose.specs.Stands.{Stands}
-use Rattle.ioa_compile.specs.Means.{Means}
+use Rattle.ioa_compose.specs.Simulates.{Simulates}
+use Rattle.ioa_compile.specs.Implements.{Implements}
 use Rattle.ioa_compile.specs.Programs.{Prog}
 use Rattle.ioa_compile.specs.Tables.{IsProgram, start_states, tabled}
 use Rattle.ioa_object.proofs.ObjectLaws.{one_program}
@@ -27,7 +27,7 @@ use Rattle.ioa_run.specs.Reports.{AreTold}
 use Rattle.ioa_run.proofs.Hosting.{host_history, host_turns, program_history}
 use Rattle.ioa_serving.specs.Alone.{IsRoundRobin, IsRun, told_of, wants_of_run, written}
 use Rattle.ioa_serving.specs.Carried.{ComesTo, HistoriesAsSource, RunsAsSource, TakesTurnsAsSource}
-use Rattle.ioa_serving.specs.Headline.{Gives}
+use Rattle.ioa_serving.specs.Headline.{IsFileOf}
 use Rattle.ioa_serving.specs.Running.{Runs}
 use Rattle.ioa_serving.specs.Subjects.{Subject, of_hosts, of_table, its_names}
 use Rattle.ioa_serving.proofs.Carried.{begins, same_text}
@@ -36,7 +36,7 @@ use Rattle.ioa_serving.proofs.Hosted.{count_same, told_same, wants_same}
 
 -- ---- the program's own table and the hosts
 
-module _ (p : Prog) (h : Hosted) (c : Composed) (s : Stands h c) (m : Means p c) where
+module _ (p : Prog) (h : Hosted) (c : Composed) (s : Simulates h c) (m : Implements p c) where
   same_judged : (log : Logged) → judged (tabled p) (start_states p) log ≡ judged (hosts_of h) (host_starts h) log
   same_judged log = sym (judged_means p c log m) ∙ sym (hosts_judged h c s log (judged (components_of c) (starts_of c) log) refl)
 
@@ -118,13 +118,13 @@ module _ (p : Prog) (h : Hosted) (c : Composed) (s : Stands h c) (m : Means p c)
 
 -- what holds of the program's own table just where it holds of the hosts is so of what the object gives just where it is so of what the
 -- source declares
-module _ (text object : List ℕ) (name of : Option Name) (p : Prog) (h : Hosted) (declares : Gives text name (of_hosts h)) (given : Gives object of (of_table p))
+module _ (text object : List ℕ) (name of : Option Name) (p : Prog) (h : Hosted) (declares : IsFileOf text name (of_hosts h)) (given : IsFileOf object of (of_table p))
     (P : Subject → Type 0) (same : P (of_table p) ↔ P (of_hosts h)) where
-  to_source : (x : Subject) × Gives object of x × P x → (x : Subject) × Gives text name x × P x
+  to_source : (x : Subject) × IsFileOf object of x × P x → (x : Subject) × IsFileOf text name x × P x
   to_source (of_hosts k, gives, holds) = absurd (false≢true (sym gives.0 ∙ begins object p given.object))
   to_source (of_table q, gives, holds) = (of_hosts h, declares, same.0 (subst (λ x. P (of_table x)) (one_program object q p gives.object given.object) holds))
 
-  to_object : (x : Subject) × Gives text name x × P x → (x : Subject) × Gives object of x × P x
+  to_object : (x : Subject) × IsFileOf text name x × P x → (x : Subject) × IsFileOf object of x × P x
   to_object (of_hosts k, gives, holds) = (of_table p, given, same.1 (subst (λ x. P (of_hosts x)) (one_composition text name k h gives.1 declares.1) holds))
   to_object (of_table q, gives, holds) = absurd (false≢true (sym declares.0 ∙ begins text q gives.object))
 

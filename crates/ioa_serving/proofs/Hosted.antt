@@ -11,7 +11,7 @@ use Rattle.ioa_tree.specs.Compositions.{Member}
 use Rattle.ioa_tree.specs.Hosts.{Host}
 use Rattle.ioa_tree.specs.Runs.{done, fault_at, run, trace}
 use Rattle.ioa_tree.specs.Steps.{owner, participants}
-use Rattle.ioa_compose.specs.Stands.{IsMadeOf}
+use Rattle.ioa_compose.specs.Simulates.{IsMadeOf}
 use Rattle.ioa_compile.specs.Matching.{MatchesMember}
 use Rattle.ioa_compile.specs.Programs.{MemberCode, Prog}
 use Rattle.ioa_compile.specs.Tables.{start_states, tabled}

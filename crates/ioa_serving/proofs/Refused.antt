@@ -19,7 +19,7 @@ use Rattle.ioa_log.specs.Failing.{IsListErr, IsTextErr}
 use Rattle.ioa_log.specs.Judging.{IsReplayErr, judged, wrong_owner, diverges}
 use Rattle.ioa_log.specs.LogTexts.{GoesOnAt, HasNoEnd, NoEntryAt, NotJsonAt, ReadsLog}
 use Rattle.ioa_serving.specs.declared.failure.Failure.{Failure}
-use Rattle.ioa_serving.specs.Headline.{Declares, Gives, Spells}
+use Rattle.ioa_serving.specs.Headline.{Declares, IsFileOf, Spells}
 use Rattle.ioa_serving.specs.Failing.{Given, IsFailure, IsLogFailure, IsMonitorFailure, IsRefusedGiven, IsRefusedSource, IsUnwritten}
 use Rattle.ioa_serving.specs.Subjects.{IsOpen, Subject, its_components, its_starts, its_types}
 
@@ -72,7 +72,7 @@ err_as (Err w) y x z is of h =
 
 -- a list that is refused, or a device that failed
 pub list_failed : (text : List ℕ) (name : Option Name) (bytes : Option (List ℕ)) (failed : Type 0) (s : Subject) (types : Table) (x : LogErr) {T : Type 0}
-    → Gives text name s → types ≡ its_types s → IsListErr x
+    → IsFileOf text name s → types ≡ its_types s → IsListErr x
     → ((n : ℕ) → IsErrOf {T = T} (Err x) (LogErr.BadEntry n) → IfSome bytes (λ xs. lists.BadLine types xs n))
     → (IsErrOf {T = T} (Err x) LogErr.Io → failed)
     → IsFailure text name bytes failed (Failure.List x)
@@ -113,7 +113,7 @@ unread types bytes failed (LogErr.WrongOwner n) only not_json bad after no_end i
 unread types bytes failed (LogErr.Diverges n) only not_json bad after no_end io = absurd only
 
 pub log_unread : (text : List ℕ) (name : Option Name) (bytes : Option (List ℕ)) (failed : Type 0) (s : Subject) (types : Table) (x : LogErr)
-    → Gives text name s → types ≡ its_types s → IsUnread types bytes failed x → IsLogFailure text name bytes failed (Failure.List x)
+    → IsFileOf text name s → types ≡ its_types s → IsUnread types bytes failed x → IsLogFailure text name bytes failed (Failure.List x)
 log_unread text name bytes failed s types x of same u = go x (subst (λ ts. IsUnread ts bytes failed x) same u)
   where
     go : (x : LogErr) → IsUnread (its_types s) bytes failed x → IsLogFailure text name bytes failed (Failure.List x)
@@ -127,7 +127,7 @@ log_unread text name bytes failed s types x of same u = go x (subst (λ ts. IsUn
     go (LogErr.Diverges n) u = absurd u
 
 pub monitor_unread : (text : List ℕ) (name : Option Name) (bytes : Option (List ℕ)) (failed : Type 0) (s : Subject) (types : Table) (x : LogErr)
-    → Gives text name s → types ≡ its_types s → IsOpen s → IsUnread types bytes failed x → IsMonitorFailure text name bytes failed (Failure.List x)
+    → IsFileOf text name s → types ≡ its_types s → IsOpen s → IsUnread types bytes failed x → IsMonitorFailure text name bytes failed (Failure.List x)
 monitor_unread text name bytes failed s types x of same seen u = go x (subst (λ ts. IsUnread ts bytes failed x) same u)
   where
     go : (x : LogErr) → IsUnread (its_types s) bytes failed x → IsMonitorFailure text name bytes failed (Failure.List x)
@@ -142,7 +142,7 @@ monitor_unread text name bytes failed s types x of same seen u = go x (subst (λ
 
 -- a log that is not the run's
 pub log_judged : (text : List ℕ) (name : Option Name) (bytes : Option (List ℕ)) (failed : Type 0) (s : Subject) (log : Logged) (x : LogErr) {T : Type 0}
-    → Gives text name s → IfSome bytes (λ xs. ReadsLog (its_types s) xs log) → IsReplayErr x
+    → IsFileOf text name s → IfSome bytes (λ xs. ReadsLog (its_types s) xs log) → IsReplayErr x
     → ((n : ℕ) → IsErrOf {T = T} (Err x) (LogErr.WrongOwner n) → judged (its_components s) (its_starts s) log ≡ wrong_owner n)
     → ((n : ℕ) → IsErrOf {T = T} (Err x) (LogErr.Diverges n) → judged (its_components s) (its_starts s) log ≡ diverges n)
     → IsLogFailure text name bytes failed (Failure.List x)
@@ -160,7 +160,7 @@ log_judged text name bytes failed s log LogErr.Io of reads only owner diverging 
 -- what was written for a list where a device failed
 pub list_unwritten : (text : List ℕ) (name : Option Name) (bytes before after : Option (List ℕ)) (begins : Option (List ℕ) → Option (List ℕ) → Subject → List ℕ → Type 0)
     (s : Subject) (x : LogErr) {T : Type 0}
-    → Gives text name s → IsListErr x
+    → IsFileOf text name s → IsListErr x
     → ((n : ℕ) → IsErrOf {T = T} (Err x) (LogErr.BadEntry n) → Keeps before after)
     → (IsErrOf {T = T} (Err x) LogErr.OutOfMemory → Keeps before after)
     → (IsErrOf {T = T} (Err x) LogErr.Io → Keeps before after ⊎ IfSome bytes (begins before after s))

@@ -5,8 +5,8 @@ use Rattle.ioa_value.specs.Table.{Table}
 use Rattle.ioa_tree.specs.Compositions.{Composed}
 use Rattle.ioa_tree.specs.Hosts.{Hosted, hosts_of, host_starts}
 use Rattle.ioa_tree.specs.Runs.{run, trace}
-use Rattle.ioa_compose.specs.Stands.{Stands}
-use Rattle.ioa_compile.specs.Means.{Means}
+use Rattle.ioa_compose.specs.Simulates.{Simulates}
+use Rattle.ioa_compile.specs.Implements.{Implements}
 use Rattle.ioa_compile.specs.Programs.{Prog}
 use Rattle.ioa_compile.specs.Tables.{start_states, tabled}
 use Rattle.ioa_system.specs.declared.runs.Run.{Run}
@@ -18,7 +18,7 @@ use Rattle.ioa_log.specs.Replays.{replay_text, run_text}
 use Rattle.ioa_serving.specs.Running.{RunsAs}
 use Rattle.ioa_serving.specs.Subjects.{Subject, of_hosts, of_table, its_components, its_hidden, its_starts, its_types}
 
-pub of_both : (p : Prog) (s : Subject) (P : Subject → Type 0) → RunsAs p s → P (of_table p) → ((h : Hosted) (c : Composed) → Stands h c → Means p c → P (of_hosts h)) → P s
+pub of_both : (p : Prog) (s : Subject) (P : Subject → Type 0) → RunsAs p s → P (of_table p) → ((h : Hosted) (c : Composed) → Simulates h c → Implements p c → P (of_hosts h)) → P s
 of_both p (of_hosts h) P of own other = other h of.0 of.1 of.2
 of_both p (of_table q) P same own other = subst (λ x. P (of_table x)) same own
 
@@ -42,7 +42,7 @@ abbrev pub IsSound : Subject → Logged → Run → Type 0
 IsSound s log r = (judged (its_components s) (its_starts s) log ≡ agrees) × Reaches s (actions_of log) r
 
 pub sound_as : (p : Prog) (s : Subject) (log : Logged) (r : Run) → RunsAs p s → (judged (tabled p) (start_states p) log ≡ agrees) × IsTableRun p (actions_of log) r
-    → ((h : Hosted) (c : Composed) → Stands h c → Means p c → (judged (hosts_of h) (host_starts h) log ≡ agrees) × IsHostRun h (actions_of log) r)
+    → ((h : Hosted) (c : Composed) → Simulates h c → Implements p c → (judged (hosts_of h) (host_starts h) log ≡ agrees) × IsHostRun h (actions_of log) r)
     → IsSound s log r
 sound_as p s log r of own other =
     of_both p s (λ x. IsSound x log r) of (own.0, table_reaches p (actions_of log) r own.1)

@@ -26,7 +26,7 @@ use Rattle.ioa_request.specs.declared.settings.WordsFrom.{WordsFrom}
 use Rattle.ioa_serving.specs.declared.status.Status.{Status}
 use Rattle.ioa_serving.specs.declared.word_sources.WordSources.{WordSources}
 use Rattle.ioa_serving.specs.Failing.{IsNoObject, IsRefusedFile}
-use Rattle.ioa_serving.specs.Headline.{Gives}
+use Rattle.ioa_serving.specs.Headline.{IsFileOf}
 use Rattle.ioa_serving.specs.Streams.{AreStreams, key_words}
 use Rattle.ioa_serving.specs.Logs.{log_run_text}
 use Rattle.ioa_serving.specs.RunReports.{reports_text, wants_text}
@@ -81,7 +81,7 @@ wants_of_run s reports = wants_text (its_names s) reports
 
 -- the file may hold a source that declares these hosts, or the object of this program
 abbrev pub MayGive : (Name → List ℕ → Type 0) → Settings → Subject → Type 0
-MayGive holds s x = (text : List ℕ) × holds s.file.now text × Gives text (option_copied s.composition) x
+MayGive holds s x = (text : List ℕ) × holds s.file.now text × IsFileOf text (option_copied s.composition) x
 
 -- where the words of so many workers are listed, the file may hold a text that lists them
 abbrev pub HasWords : (Name → List ℕ → Type 0) → WordsFrom → ℕ → Type 0

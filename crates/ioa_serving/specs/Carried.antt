@@ -15,7 +15,7 @@ use Rattle.ioa_run.specs.Boards.{IsSound, Standing}
 use Rattle.ioa_run.specs.Hosts.{BoardsLike, Held}
 use Rattle.ioa_serving.specs.Alone.{IsRoundRobin, IsRun, told_of, wants_of_run, written}
 use Rattle.ioa_serving.specs.Compiling.{IsCompiled}
-use Rattle.ioa_serving.specs.Headline.{Declares, Gives, IsReplay, IsLogReplay, IsMonitoring}
+use Rattle.ioa_serving.specs.Headline.{Declares, IsFileOf, IsReplay, IsLogReplay, IsMonitoring}
 use Rattle.ioa_serving.specs.ListLogs.{IsListLog}
 use Rattle.ioa_serving.specs.Pictures.{IsGraphed, IsLogChart}
 use Rattle.ioa_serving.specs.Subjects.{Subject, of_table}
@@ -59,7 +59,7 @@ OneComposition = (text : List ℕ) (name : Option Name) (h k : Hosted) → Decla
 -- A history of the object's own table is one of the source's hosts, with the same workers and the same fault, and the slots hold the states to
 -- which it leads them; and the other way.
 abbrev pub HistoriesAsSource : Type 0
-HistoriesAsSource = (text object : List ℕ) (name of : Option Name) (p : Prog) (h : Hosted) → IsCompiled text name object → Gives object of (of_table p) → Declares text name h
+HistoriesAsSource = (text object : List ℕ) (name of : Option Name) (p : Prog) (h : Hosted) → IsCompiled text name object → IsFileOf object of (of_table p) → Declares text name h
     → ((b : Standing (List Val)) → IsSound (tabled p) (start_states p) b → (d : Standing (HostState Env)) × IsSound (hosts_of h) (host_starts h) d × BoardsLike (Held h p) d b)
     × ((d : Standing (HostState Env)) → IsSound (hosts_of h) (host_starts h) d → (b : Standing (List Val)) × IsSound (tabled p) (start_states p) b × BoardsLike (Held h p) d b)
 
@@ -73,21 +73,21 @@ pub record ComesTo (s : Subject) (script : List Act) (turns : ℕ) (log : Logged
 -- so of what the file gives
 abbrev pub IsRunOf : List ℕ → Option Name → List Act → ℕ → Logged → List Report → Bool → Bool → Option (List ℕ) → Option (List ℕ) → Option (List ℕ) → List ℕ → Type 0
 IsRunOf text name script turns log reports as_log told before after telling wants =
-    (s : Subject) × Gives text name s × ComesTo s script turns log reports as_log told before after telling wants
+    (s : Subject) × IsFileOf text name s × ComesTo s script turns log reports as_log told before after telling wants
 
 -- What a run by the object may come to, a run by the source's composition may come to, and the other way: the same log with the same end, the
 -- same reports, and the same text of both, whatever the words and the schedule.
 abbrev pub RunsAsSource : Type 0
 RunsAsSource = (text object : List ℕ) (name of : Option Name) (p : Prog) (script : List Act) (turns : ℕ) (log : Logged) (reports : List Report) (as_log told : Bool)
-    (before after telling : Option (List ℕ)) (wants : List ℕ) → IsCompiled text name object → Gives object of (of_table p)
+    (before after telling : Option (List ℕ)) (wants : List ℕ) → IsCompiled text name object → IsFileOf object of (of_table p)
     → IsRunOf object of script turns log reports as_log told before after telling wants ↔ IsRunOf text name script turns log reports as_log told before after telling wants
 
 -- the log and the reports are those of turns of what the file gives, by these words
 abbrev pub AreTurnsOf : List ℕ → Option Name → List Words → List Act → ℕ → Logged → List Report → Type 0
-AreTurnsOf text name words script turns log reports = (s : Subject) × Gives text name s × IsRoundRobin s words script turns log reports
+AreTurnsOf text name words script turns log reports = (s : Subject) × IsFileOf text name s × IsRoundRobin s words script turns log reports
 
 -- by the same words the turns of both are the same: the same log and the same reports
 abbrev pub TakesTurnsAsSource : Type 0
 TakesTurnsAsSource = (text object : List ℕ) (name of : Option Name) (p : Prog) (words : List Words) (script : List Act) (turns : ℕ) (log : Logged) (reports : List Report)
-    → IsCompiled text name object → Gives object of (of_table p)
+    → IsCompiled text name object → IsFileOf object of (of_table p)
     → AreTurnsOf object of words script turns log reports ↔ AreTurnsOf text name words script turns log reports

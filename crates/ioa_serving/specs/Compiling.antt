@@ -9,13 +9,13 @@ use Rattle.ioa_object.specs.Spelling.{mark}
 use Rattle.ioa_serving.specs.declared.failure.Failure.{Failure}
 use Rattle.ioa_serving.specs.Checks.{ok_line}
 use Rattle.ioa_serving.specs.Failing.{IsDeviceErr, IsRefusedSource}
-use Rattle.ioa_serving.specs.Headline.{Gives, begins_object}
+use Rattle.ioa_serving.specs.Headline.{IsFileOf, begins_object}
 use Rattle.ioa_serving.specs.Running.{Runs}
 use Rattle.ioa_serving.specs.Subjects.{of_hosts}
 
 -- the source declares of_hosts, and the bytes are the object of a program of theirs
 abbrev pub IsCompiled : List ℕ → Option Name → List ℕ → Type 0
-IsCompiled text name object = (h : Hosted) × Gives text name (of_hosts h) × ((p : Prog) × Runs p h × IsObject object p)
+IsCompiled text name object = (h : Hosted) × IsFileOf text name (of_hosts h) × ((p : Prog) × Runs p h × IsObject object p)
 
 -- the source is refused, or the file is an object itself. Memory may be short
 abbrev pub IsUncompiled : List ℕ → Option Name → Failure → Type 0

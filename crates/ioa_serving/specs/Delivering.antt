@@ -10,7 +10,7 @@ use Rattle.ioa_links.specs.Trees.{stenning_source}
 use Rattle.ioa_run.specs.Boards.{IsSound, Standing}
 use Rattle.ioa_run.specs.Histories.{acts_of}
 use Rattle.ioa_serving.specs.Compiling.{IsCompiled}
-use Rattle.ioa_serving.specs.Headline.{Declares, Gives, Spells}
+use Rattle.ioa_serving.specs.Headline.{Declares, IsFileOf, Spells}
 use Rattle.ioa_serving.specs.Running.{Runs}
 use Rattle.ioa_serving.specs.Subjects.{of_table}
 
@@ -33,4 +33,4 @@ HistoriesDeliver =
 abbrev pub ObjectsDeliver : Type 0
 ObjectsDeliver =
     (n : ℕ) (text object : List ℕ) (of : Option Name) (p : Prog) (b : Standing (List Val)) → n < 2 ^ 63 → Spells text (stenning_source n)
-    → IsCompiled text (Some protocol_name) object → Gives object of (of_table p) → IsSound (tabled p) (start_states p) b → DeliversInOrder b
+    → IsCompiled text (Some protocol_name) object → IsFileOf object of (of_table p) → IsSound (tabled p) (start_states p) b → DeliversInOrder b

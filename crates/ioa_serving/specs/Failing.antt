@@ -22,7 +22,7 @@ use Rattle.ioa_log.specs.Judging.{Verdict, wrong_owner, diverges, judged}
 use Rattle.ioa_log.specs.LogTexts.{ReadsLog, NotJsonAt, NoEntryAt, GoesOnAt, HasNoEnd}
 use Rattle.ioa_log.specs.Replays.{BeginsReplay}
 use Rattle.ioa_serving.specs.declared.failure.Failure.{Failure}
-use Rattle.ioa_serving.specs.Headline.{Spells, Gives, begins_object}
+use Rattle.ioa_serving.specs.Headline.{Spells, IsFileOf, begins_object}
 use Rattle.ioa_serving.specs.Logs.{BeginsLog, BeginsFound, BeginsMonitor}
 use Rattle.ioa_serving.specs.States.{BeginsLogStates, BeginsStates}
 use Rattle.ioa_serving.specs.Subjects.{Subject, of_hosts, IsOpen, IsClosed, its_types, its_hidden, its_components, its_starts}
@@ -83,11 +83,11 @@ IsRefusedGiven text name Failure.OutOfMemory = ⊥
 
 -- the file gives hosts or a program, of which, with the bytes, where these are known, this holds
 abbrev pub Given : List ℕ → Option Name → Option (List ℕ) → (Subject → List ℕ → Type 0) → Type 0
-Given text name bytes holds = (s : Subject) × Gives text name s × IfSome bytes (holds s)
+Given text name bytes holds = (s : Subject) × IsFileOf text name s × IfSome bytes (holds s)
 
 -- the same, where all that they do is seen
 abbrev pub GivenMonitor : List ℕ → Option Name → Option (List ℕ) → (Subject → List ℕ → Type 0) → Type 0
-GivenMonitor text name bytes holds = (s : Subject) × Gives text name s × IsOpen s × IfSome bytes (holds s)
+GivenMonitor text name bytes holds = (s : Subject) × IsFileOf text name s × IsOpen s × IfSome bytes (holds s)
 
 -- the bytes are a text of a log, which is not the run's in this way
 abbrev pub IsJudged : Verdict → Subject → List ℕ → Type 0
@@ -105,7 +105,7 @@ IsFailure text name bytes failed (Failure.List (LogErr.WrongOwner n)) = ⊥
 IsFailure text name bytes failed (Failure.List (LogErr.Diverges n)) = ⊥
 IsFailure text name bytes failed (Failure.List LogErr.NoEnd) = ⊥
 IsFailure text name bytes failed (Failure.List LogErr.AfterEnd) = ⊥
-IsFailure text name bytes failed (Failure.List LogErr.Io) = (s : Subject) × Gives text name s × failed
+IsFailure text name bytes failed (Failure.List LogErr.Io) = (s : Subject) × IsFileOf text name s × failed
 IsFailure text name bytes failed (Failure.List LogErr.OutOfMemory) = Unit {0}
 IsFailure text name bytes failed Failure.SpecHasInternal = ⊥
 IsFailure text name bytes failed (Failure.BadWords n) = ⊥
@@ -129,7 +129,7 @@ IsLogFailure text name bytes failed (Failure.List (LogErr.WrongOwner n)) = Given
 IsLogFailure text name bytes failed (Failure.List (LogErr.Diverges n)) = Given text name bytes (IsJudged (diverges n))
 IsLogFailure text name bytes failed (Failure.List LogErr.NoEnd) = Given text name bytes (λ s xs. HasNoEnd (its_types s) xs)
 IsLogFailure text name bytes failed (Failure.List LogErr.AfterEnd) = Given text name bytes (λ s xs. (n : ℕ) × GoesOnAt (its_types s) xs n)
-IsLogFailure text name bytes failed (Failure.List LogErr.Io) = (s : Subject) × Gives text name s × failed
+IsLogFailure text name bytes failed (Failure.List LogErr.Io) = (s : Subject) × IsFileOf text name s × failed
 IsLogFailure text name bytes failed (Failure.List LogErr.OutOfMemory) = Unit {0}
 IsLogFailure text name bytes failed Failure.SpecHasInternal = ⊥
 IsLogFailure text name bytes failed (Failure.BadWords n) = ⊥
@@ -163,9 +163,9 @@ IsMonitorFailure text name bytes failed (Failure.List (LogErr.WrongOwner n)) = �
 IsMonitorFailure text name bytes failed (Failure.List (LogErr.Diverges n)) = ⊥
 IsMonitorFailure text name bytes failed (Failure.List LogErr.NoEnd) = GivenMonitor text name bytes (λ s xs. HasNoEnd (its_types s) xs)
 IsMonitorFailure text name bytes failed (Failure.List LogErr.AfterEnd) = GivenMonitor text name bytes (λ s xs. (n : ℕ) × GoesOnAt (its_types s) xs n)
-IsMonitorFailure text name bytes failed (Failure.List LogErr.Io) = (s : Subject) × Gives text name s × IsOpen s × failed
+IsMonitorFailure text name bytes failed (Failure.List LogErr.Io) = (s : Subject) × IsFileOf text name s × IsOpen s × failed
 IsMonitorFailure text name bytes failed (Failure.List LogErr.OutOfMemory) = Unit {0}
-IsMonitorFailure text name bytes failed Failure.SpecHasInternal = (s : Subject) × Gives text name s × IsClosed s
+IsMonitorFailure text name bytes failed Failure.SpecHasInternal = (s : Subject) × IsFileOf text name s × IsClosed s
 IsMonitorFailure text name bytes failed (Failure.BadWords n) = ⊥
 IsMonitorFailure text name bytes failed Failure.TooManyTurns = ⊥
 IsMonitorFailure text name bytes failed (Failure.BadInput i) = ⊥
@@ -184,13 +184,13 @@ abbrev pub BeginsLogOf : List ℕ → Option Name → Option (List ℕ) → Opti
 BeginsLogOf text name bytes before after = Given text name bytes (λ s xs. BeginsLog s xs before after)
 
 abbrev pub BeginsFoundOf : List ℕ → Option Name → Option (List ℕ) → Option (List ℕ) → Option (List ℕ) → Type 0
-BeginsFoundOf text name bytes before after = (h : Hosted) × Gives text name (of_hosts h) × IfSome bytes (λ xs. BeginsFound h xs before after)
+BeginsFoundOf text name bytes before after = (h : Hosted) × IsFileOf text name (of_hosts h) × IfSome bytes (λ xs. BeginsFound h xs before after)
 
 abbrev pub BeginsStatesOf : List ℕ → Option Name → Option (List ℕ) → Option (List ℕ) → Option (List ℕ) → Type 0
-BeginsStatesOf text name bytes before after = (h : Hosted) × Gives text name (of_hosts h) × IfSome bytes (λ xs. BeginsStates h xs before after)
+BeginsStatesOf text name bytes before after = (h : Hosted) × IsFileOf text name (of_hosts h) × IfSome bytes (λ xs. BeginsStates h xs before after)
 
 abbrev pub BeginsLogStatesOf : List ℕ → Option Name → Option (List ℕ) → Option (List ℕ) → Option (List ℕ) → Type 0
-BeginsLogStatesOf text name bytes before after = (h : Hosted) × Gives text name (of_hosts h) × IfSome bytes (λ xs. BeginsLogStates h xs before after)
+BeginsLogStatesOf text name bytes before after = (h : Hosted) × IsFileOf text name (of_hosts h) × IfSome bytes (λ xs. BeginsLogStates h xs before after)
 
 abbrev pub BeginsMonitorOf : List ℕ → Option Name → Option (List ℕ) → Option (List ℕ) → Option (List ℕ) → Type 0
 BeginsMonitorOf text name bytes before after = Given text name bytes (λ s xs. BeginsMonitor s xs before after)

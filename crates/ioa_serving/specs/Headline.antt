@@ -43,34 +43,34 @@ begins_object [] = false
 begins_object (b ∷ bytes) = b == 127
 
 -- what a file gives: the hosts that it declares as a source, or the program that it is an object of
-abbrev pub Gives : List ℕ → Option Name → Subject → Type 0
-Gives text name (of_hosts h) = (begins_object text ≡ false) × Declares text name h
-Gives text name (of_table p) = IsObjectOf text name p
+abbrev pub IsFileOf : List ℕ → Option Name → Subject → Type 0
+IsFileOf text name (of_hosts h) = (begins_object text ≡ false) × Declares text name h
+IsFileOf text name (of_table p) = IsObjectOf text name p
 
 -- The bytes are a list of actions, and what is written are the external ones among those that the hosts or the program perform, up to
 -- the first that they cannot, and then the end: why it is the first, and its index.
 abbrev pub IsReplay : List ℕ → Option Name → List ℕ → Ending → Option (List ℕ) → Option (List ℕ) → Type 0
 IsReplay text name bytes ending before after =
-    (s : Subject) × Gives text name s × Replays (its_types s) (its_hidden s) (its_components s) (its_starts s) bytes ending before after
+    (s : Subject) × IsFileOf text name s × Replays (its_types s) (its_hidden s) (its_components s) (its_starts s) bytes ending before after
 
 -- The bytes are a log of the run that they do, and what is written is the same as for the list of its actions.
 abbrev pub IsLogReplay : List ℕ → Option Name → List ℕ → Ending → Option (List ℕ) → Option (List ℕ) → Type 0
-IsLogReplay text name bytes ending before after = (s : Subject) × Gives text name s × ReplaysLog s bytes ending before after
+IsLogReplay text name bytes ending before after = (s : Subject) × IsFileOf text name s × ReplaysLog s bytes ending before after
 
 -- The bytes are a log of the run that the hosts do, and what is written is the first of the source's invariants that a host
 -- breaks: of the least state of the run, then host, then invariant. Where none is broken, it is the same as where none is asked for.
 abbrev pub IsInvariantReplay : List ℕ → Option Name → List ℕ → Found → Option (List ℕ) → Option (List ℕ) → Type 0
-IsInvariantReplay text name bytes found before after = (h : Hosted) × Gives text name (of_hosts h) × FindsInLog h bytes found before after
+IsInvariantReplay text name bytes found before after = (h : Hosted) × IsFileOf text name (of_hosts h) × FindsInLog h bytes found before after
 
 -- The bytes are a list, or a log of the run that they do, and what is written is the same as where no states are asked for, and then each
 -- variable of the hosts with its value in the state in which their run ends, by the source's names.
 abbrev pub IsStatesReplay : List ℕ → Option Name → List ℕ → Ending → Option (List ℕ) → Option (List ℕ) → Type 0
-IsStatesReplay text name bytes ending before after = (h : Hosted) × Gives text name (of_hosts h) × ReplaysStates h bytes ending before after
+IsStatesReplay text name bytes ending before after = (h : Hosted) × IsFileOf text name (of_hosts h) × ReplaysStates h bytes ending before after
 
 abbrev pub IsLogStatesReplay : List ℕ → Option Name → List ℕ → Ending → Option (List ℕ) → Option (List ℕ) → Type 0
-IsLogStatesReplay text name bytes ending before after = (h : Hosted) × Gives text name (of_hosts h) × ReplaysLogStates h bytes ending before after
+IsLogStatesReplay text name bytes ending before after = (h : Hosted) × IsFileOf text name (of_hosts h) × ReplaysLogStates h bytes ending before after
 
 -- The bytes are a log, of this or of another run, and what is written is whether the hosts or the program accept what it tells to be
 -- performed: the first action that they have and do not perform, if there is one.
 abbrev pub IsMonitoring : List ℕ → Option Name → List ℕ → Option Ending → Option (List ℕ) → Option (List ℕ) → Type 0
-IsMonitoring text name bytes answer before after = (s : Subject) × Gives text name s × Monitors s bytes answer before after
+IsMonitoring text name bytes answer before after = (s : Subject) × IsFileOf text name s × Monitors s bytes answer before after

@@ -10,7 +10,7 @@ use Rattle.ioa_picture.specs.Charts.{chart}
 use Rattle.ioa_picture.specs.Graphs.{graph}
 use Rattle.ioa_serving.specs.declared.failure.Failure.{Failure}
 use Rattle.ioa_serving.specs.Failing.{Given, IsDeviceErr, IsNoObject, IsRefusedFile}
-use Rattle.ioa_serving.specs.Headline.{Gives}
+use Rattle.ioa_serving.specs.Headline.{IsFileOf}
 use Rattle.ioa_serving.specs.Logs.{IsRunLog}
 use Rattle.ioa_serving.specs.Running.{RunsAs}
 use Rattle.ioa_serving.specs.Subjects.{Subject, its_components, its_names, its_starts, its_types}
@@ -26,7 +26,7 @@ ChartsLog s bytes end before after =
 
 -- The bytes are a log of the run that the hosts or the program do, and what is written is its chart.
 abbrev pub IsLogChart : List ℕ → Option Name → List ℕ → Ending → Option (List ℕ) → Option (List ℕ) → Type 0
-IsLogChart text name bytes end before after = (s : Subject) × Gives text name s × ChartsLog s bytes end before after
+IsLogChart text name bytes end before after = (s : Subject) × IsFileOf text name s × ChartsLog s bytes end before after
 
 -- what is written begins this chart
 abbrev pub BeginsChart : Subject → List ℕ → Option (List ℕ) → Option (List ℕ) → Type 0
@@ -37,7 +37,7 @@ BeginsChartOf text name bytes before after = Given text name bytes (λ s xs. Beg
 
 -- the program does what the file gives
 abbrev pub IsProgramOf : List ℕ → Option Name → Prog → Type 0
-IsProgramOf text name p = (s : Subject) × Gives text name s × RunsAs p s
+IsProgramOf text name p = (s : Subject) × IsFileOf text name s × RunsAs p s
 
 -- the graph of a program that does what the file gives is written
 abbrev pub IsGraphed : List ℕ → Option Name → Option (List ℕ) → Option (List ℕ) → Type 0

@@ -5,10 +5,10 @@ ghost use Rattle.std.specs.Option.{option_copied, option_map_or};
 ghost use Rattle.std.specs.Str.{bytes_eq};
 ghost use Rattle.ioa_tree.specs.Hosts.{Hosted};
 ghost use Rattle.ioa_compose.specs.Held.{composed_of};
-ghost use Rattle.ioa_compose.specs.Stands.{Stands};
+ghost use Rattle.ioa_compose.specs.Simulates.{Simulates};
 ghost use Rattle.ioa_serving.specs.Compiling.{IsCompiled, IsUncompiled};
 ghost use Rattle.ioa_serving.specs.Failing.{IsRefusedGiven, IsRefusedSource};
-ghost use Rattle.ioa_serving.specs.Headline.{Declares, Gives, IsObjectOf, begins_object};
+ghost use Rattle.ioa_serving.specs.Headline.{Declares, IsFileOf, IsObjectOf, begins_object};
 ghost use Rattle.ioa_serving.specs.Running.{Runs, RunsAs};
 ghost use Rattle.ioa_serving.specs.Subjects.{Subject};
 
@@ -31,7 +31,7 @@ pub fn compose_text(
     text: &[u8],
     composition: Option<&str>,
 ) -> Result<Composition, Refusal>
-    ensures composes { IfOk result (λ c. (h : Hosted) × Declares text.now (option_copied composition.entry) h × Stands h (composed_of c)) }
+    ensures composes { IfOk result (λ c. (h : Hosted) × Declares text.now (option_copied composition.entry) h × Simulates h (composed_of c)) }
     ensures refused { IfErr result (λ r. IsRefusedSource text.now (option_copied composition.entry) r) }
 {
     let source = parse(alloc, text)?;
@@ -75,7 +75,7 @@ pub fn program_of(
     bytes: &[u8],
     composition: Option<&str>,
 ) -> Result<Program, Failure>
-    ensures gives { IfOk result (λ p. (s : Subject) × Gives bytes.now (option_copied composition.entry) s × RunsAs p s) }
+    ensures gives { IfOk result (λ p. (s : Subject) × IsFileOf bytes.now (option_copied composition.entry) s × RunsAs p s) }
     ensures refused { IfErr result (λ e. IsRefusedGiven bytes.now (option_copied composition.entry) e) }
 {
     if is_object(bytes) {

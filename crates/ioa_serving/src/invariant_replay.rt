@@ -5,7 +5,7 @@ ghost use Rattle.std.specs.Option.{option_copied};
 ghost use Rattle.std.specs.String.{string_bytes};
 ghost use Rattle.ioa_tree.specs.Hosts.{Hosted, hosts_of, host_starts};
 ghost use Rattle.ioa_compose.specs.Held.{composed_of};
-ghost use Rattle.ioa_compose.specs.Stands.{Stands};
+ghost use Rattle.ioa_compose.specs.Simulates.{Simulates};
 ghost use Rattle.ioa_system.specs.Logs.{logged};
 ghost use Rattle.ioa_log.specs.declared.failure.LogErr.{LogErr};
 ghost use Rattle.ioa_log.specs.Breaking.{broken_of};
@@ -70,13 +70,13 @@ pub fn replay_invariants_text<R: InputDevice, W: OutputDevice>(
 
 /// What is found in a log of the run of the hosts that the composition stands for, and the text that tells it.
 fn inspect(alloc: Global, composition: &Composition, log: &Log) -> Result<(String, Finding), LogErr>
-    ensures judged { IfOk result (λ _. (h : Hosted) → Stands h (composed_of composition.now) → judged (hosts_of h) (host_starts h) (logged log.now) ≡ agrees) }
-    ensures finding { IfOk result (λ told. (h : Hosted) → Stands h (composed_of composition.now) → found_of told.1 ≡ found_in h (logged log.now)) }
-    ensures text { IfOk result (λ told. (h : Hosted) → Stands h (composed_of composition.now)
+    ensures judged { IfOk result (λ _. (h : Hosted) → Simulates h (composed_of composition.now) → judged (hosts_of h) (host_starts h) (logged log.now) ≡ agrees) }
+    ensures finding { IfOk result (λ told. (h : Hosted) → Simulates h (composed_of composition.now) → found_of told.1 ≡ found_in h (logged log.now)) }
+    ensures text { IfOk result (λ told. (h : Hosted) → Simulates h (composed_of composition.now)
         → string_bytes told.0 ≡ found_text h (logged log.now) (found_in h (logged log.now))) }
-    ensures owner { (n : ℕ) → IsErrOf result (LogErr.WrongOwner n) → (h : Hosted) → Stands h (composed_of composition.now)
+    ensures owner { (n : ℕ) → IsErrOf result (LogErr.WrongOwner n) → (h : Hosted) → Simulates h (composed_of composition.now)
         → judged (hosts_of h) (host_starts h) (logged log.now) ≡ wrong_owner n }
-    ensures diverges { (n : ℕ) → IsErrOf result (LogErr.Diverges n) → (h : Hosted) → Stands h (composed_of composition.now)
+    ensures diverges { (n : ℕ) → IsErrOf result (LogErr.Diverges n) → (h : Hosted) → Simulates h (composed_of composition.now)
         → judged (hosts_of h) (host_starts h) (logged log.now) ≡ diverges n }
     ensures only { IfErr result IsReplayErr }
 {

@@ -7,7 +7,7 @@ ghost use Rattle.ioa_value.specs.Lists.{BadLine};
 ghost use Rattle.ioa_tree.specs.Hosts.{Hosted, hosts_of, host_starts};
 ghost use Rattle.ioa_tree.specs.Runs.{run};
 ghost use Rattle.ioa_compose.specs.Held.{composed_of};
-ghost use Rattle.ioa_compose.specs.Stands.{Stands};
+ghost use Rattle.ioa_compose.specs.Simulates.{Simulates};
 ghost use Rattle.ioa_system.specs.Logs.{actions_of, logged};
 ghost use Rattle.ioa_system.specs.Outcomes.{ending_of};
 ghost use Rattle.ioa_log.specs.declared.failure.LogErr.{LogErr};
@@ -96,7 +96,7 @@ fn reached<R: InputDevice>(
     composition: &Composition,
     input: &mut R,
 ) -> Result<(String, End), LogErr>
-    ensures reaches { IfOk result (λ told. (h : Hosted) → Stands h (composed_of composition.now)
+    ensures reaches { IfOk result (λ told. (h : Hosted) → Simulates h (composed_of composition.now)
         → IfSome (R.remaining input.old) (λ bytes. Reaches h bytes (ending_of told.1) (string_bytes told.0))) }
     ensures bad { (n : ℕ) → IsErrOf result (LogErr.BadEntry n) → IfSome (R.remaining input.old) (λ bytes. BadLine composition.now.types bytes n) }
     ensures io { IsErrOf result LogErr.Io → HasFailed (R.failure_count input.old) (R.failure_count input.new) }
@@ -117,13 +117,13 @@ fn reached_by_log(
     composition: &Composition,
     log: &Log,
 ) -> Result<(String, End), LogErr>
-    ensures judged { IfOk result (λ _. (h : Hosted) → Stands h (composed_of composition.now) → judged (hosts_of h) (host_starts h) (logged log.now) ≡ agrees) }
-    ensures ending { IfOk result (λ told. (h : Hosted) → Stands h (composed_of composition.now)
+    ensures judged { IfOk result (λ _. (h : Hosted) → Simulates h (composed_of composition.now) → judged (hosts_of h) (host_starts h) (logged log.now) ≡ agrees) }
+    ensures ending { IfOk result (λ told. (h : Hosted) → Simulates h (composed_of composition.now)
         → ending_of told.1 ≡ (run (hosts_of h) (actions_of (logged log.now)) (host_starts h)).ending) }
-    ensures text { IfOk result (λ told. (h : Hosted) → Stands h (composed_of composition.now) → string_bytes told.0 ≡ states_text h (actions_of (logged log.now))) }
-    ensures owner { (n : ℕ) → IsErrOf result (LogErr.WrongOwner n) → (h : Hosted) → Stands h (composed_of composition.now)
+    ensures text { IfOk result (λ told. (h : Hosted) → Simulates h (composed_of composition.now) → string_bytes told.0 ≡ states_text h (actions_of (logged log.now))) }
+    ensures owner { (n : ℕ) → IsErrOf result (LogErr.WrongOwner n) → (h : Hosted) → Simulates h (composed_of composition.now)
         → judged (hosts_of h) (host_starts h) (logged log.now) ≡ wrong_owner n }
-    ensures diverges { (n : ℕ) → IsErrOf result (LogErr.Diverges n) → (h : Hosted) → Stands h (composed_of composition.now)
+    ensures diverges { (n : ℕ) → IsErrOf result (LogErr.Diverges n) → (h : Hosted) → Simulates h (composed_of composition.now)
         → judged (hosts_of h) (host_starts h) (logged log.now) ≡ diverges n }
     ensures only { IfErr result IsReplayErr }
 {

@@ -18,7 +18,7 @@ use Rattle.ioa_tree.specs.View.{tree_of}
 use Rattle.ioa_grammar.specs.Grammar.{SpellsSource, IsDeadEnd}
 use Rattle.ioa_syntax.specs.Source.{AreTokens, IsSource, plain, line_of, BeginsTooDeep, IsRefused}
 use Rattle.ioa_grammar.specs.Reading as reading
-use Rattle.ioa_grammar.specs.Reading.{source, line_at, Gives, Refuses}
+use Rattle.ioa_grammar.specs.Reading.{source, line_at, ReturnsSource, Refuses}
 use Rattle.ioa_grammar.proofs.Whole as whole
 use Rattle.ioa_grammar.proofs.Whole.{source_found, source_only, source_stuck, source_deeper, source_refuses}
 
@@ -113,7 +113,7 @@ module _ (text : List ℕ) (ts : List Token) (end : ℕ) (lexed : Lexes text (pl
   abbrev read : Result SourceTree Refusal
   read = source LIMITS.depth (line_at ts end) (tokens_shown ts)
 
-  pub parsed_found : (result : Result (List Declaration) Refusal) → Gives tree_of result read → IfOk result (λ s. (us : List (Tok × ℕ)) × Lexes text us × SpellsSource (tree_of s) (plain us))
+  pub parsed_found : (result : Result (List Declaration) Refusal) → ReturnsSource tree_of result read → IfOk result (λ s. (us : List (Tok × ℕ)) × Lexes text us × SpellsSource (tree_of s) (plain us))
   parsed_found (Ok s) h = (placed ts, lexed, subst (SpellsSource (tree_of s)) (sym (plain-placed ts)) (source_found LIMITS.depth (line_at ts end) (tokens_shown ts) (tree_of s) h).0)
   parsed_found (Err e) h = tt
 
@@ -159,12 +159,12 @@ module _ (text : List ℕ) (ts : List Token) (end : ℕ) (lexed : Lexes text (pl
         | inr d ↦ subst (IsRefused text) (sym d.1) (parsed_deep d.0 (h ∙ ap Err d.1))
       ]
 
-  pub parsed_refused : (result : Result (List Declaration) Refusal) → Gives tree_of result read → IfErr result (λ e. IsRefused text e)
+  pub parsed_refused : (result : Result (List Declaration) Refusal) → ReturnsSource tree_of result read → IfErr result (λ e. IsRefused text e)
   parsed_refused (Ok s) h = tt
   parsed_refused (Err e) h = parsed_err e (refused_by e read h)
 
   -- a tree that is spelled within the depth is the answer
-  pub parsed_only : (result : Result (List Declaration) Refusal) → Gives tree_of result read → (t : SourceTree) → SpellsSource t (plain (placed ts)) → source_deep t ≤ LIMITS.depth →
+  pub parsed_only : (result : Result (List Declaration) Refusal) → ReturnsSource tree_of result read → (t : SourceTree) → SpellsSource t (plain (placed ts)) → source_deep t ≤ LIMITS.depth →
       MatchResult result (λ s. tree_of s ≡ t) (λ e. e ≡ refusals.OutOfMemory)
   parsed_only result h t spelled d = by result h
     where
@@ -175,12 +175,12 @@ module _ (text : List ℕ) (ts : List Token) (end : ℕ) (lexed : Lexes text (pl
       none e (inl is) = is
       none e (inr h) = let never = sym ok ∙ h in absurd (cc)
 
-      by : (result : Result (List Declaration) Refusal) → Gives tree_of result read → MatchResult result (λ s. tree_of s ≡ t) (λ e. e ≡ refusals.OutOfMemory)
+      by : (result : Result (List Declaration) Refusal) → ReturnsSource tree_of result read → MatchResult result (λ s. tree_of s ≡ t) (λ e. e ≡ refusals.OutOfMemory)
       by (Ok s) h = let both = sym h ∙ ok in cc
       by (Err e) h = none e (refused_by e read h)
 
   -- no answer is one of the lexer's
-  pub parsed_short : (result : Result (List Declaration) Refusal) → Gives tree_of result read → result ≡ Err refusals.TextTooLong → ⊥
+  pub parsed_short : (result : Result (List Declaration) Refusal) → ReturnsSource tree_of result read → result ≡ Err refusals.TextTooLong → ⊥
   parsed_short (Ok s) h is = absurd (cc (is))
   parsed_short (Err e) h is = by (refused_by e read h)
     where

@@ -9,7 +9,7 @@ ghost use Rattle.ioa_tree.specs.Depth.{source_deep};
 ghost use Rattle.ioa_grammar.specs.Grammar.{SpellsSource};
 ghost use Rattle.ioa_syntax.specs.Source.{AreTokens, plain, IsRefused};
 ghost use Rattle.ioa_grammar.specs.Reading as spec;
-ghost use Rattle.ioa_grammar.specs.Reading.{Gives, line_at};
+ghost use Rattle.ioa_grammar.specs.Reading.{ReturnsSource, line_at};
 ghost use Rattle.ioa_tree.specs.View.{tree_of};
 
 use crate::source::Source;
@@ -42,7 +42,7 @@ pub fn parse(alloc: Global, text: &[u8]) -> Result<Source, Refusal>
 
 fn parse_tokens(alloc: Global, tokens: &[Token], end: u32) -> Result<Source, Refusal>
     requires { AreTokens (tokens_shown tokens.now) }
-    ensures { Gives tree_of result (spec.source LIMITS.depth (line_at tokens.now end) (tokens_shown tokens.now)) }
+    ensures { ReturnsSource tree_of result (spec.source LIMITS.depth (line_at tokens.now end) (tokens_shown tokens.now)) }
 {
     Ok(Source::new(declarations(alloc, tokens, end)?))
 }

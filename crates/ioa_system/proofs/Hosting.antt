@@ -16,13 +16,13 @@ use Rattle.ioa_tree.specs.Likes.{IsLike, AllLike, AllRelated, MovesLike, RunsLik
 use Rattle.ioa_tree.specs.Compositions.{Composed, Member, components_of, starts_of}
 use Rattle.ioa_tree.specs.Hosts.{HostState, Host, host_start, Hosted, hosts_of, host_starts}
 use Rattle.ioa_tree.proofs.Simulation.{asked_like, step_like, run_like, trace_like, owner_like, participants_like, external_like}
-use Rattle.ioa_compose.specs.Stands.{StandsFor, StandsAt, Holds, HoldsAt, Stands}
+use Rattle.ioa_compose.specs.Simulates.{StandsFor, StandsAt, SlotsHold, SlotsHoldAt, Simulates}
 use Rattle.ioa_compose.proofs.RewrittenNames.{fit_length}
 use Rattle.ioa_compile.specs.Correspondence.{CorrespondsIn, CorrespondsAt}
 use Rattle.ioa_compile.specs.Tables.{tabled, start_states}
 use Rattle.ioa_compile.specs.Programs.{MemberCode, Prog}
 use Rattle.ioa_compile.specs.Matching.{MatchesMember}
-use Rattle.ioa_compile.specs.Means.{Means}
+use Rattle.ioa_compile.specs.Implements.{Implements}
 use Rattle.ioa_compile.proofs.Fits.{fit_have, have_fit}
 use Rattle.ioa_system.specs.declared.runs.Run.{Run}
 use Rattle.ioa_system.specs.Participants.{renumbered}
@@ -40,8 +40,8 @@ as_many i vs h =
     omega (arith, l, length-map (variable_fields i.automaton) (λ f. f.name), length-map i.automaton.variables (λ v. v.field), length-map i.automaton.variables (λ v. v.field.name))
 
 -- slots that correspond to states that stand for the hosts' states hold these
-held : (h : Hosted) (c : Composed) → Stands h c → (i : ℕ) (hs : List (HostState Env)) (es : List Env) (vss : List (List Val))
-    → AllRelated (StandsAt h.hosts) i hs es → AllRelated (CorrespondsAt c.members) i es vss → AllRelated (HoldsAt h.hosts) i hs vss
+held : (h : Hosted) (c : Composed) → Simulates h c → (i : ℕ) (hs : List (HostState Env)) (es : List Env) (vss : List (List Val))
+    → AllRelated (StandsAt h.hosts) i hs es → AllRelated (CorrespondsAt c.members) i es vss → AllRelated (SlotsHoldAt h.hosts) i hs vss
 held h c s i [] [] [] r q = tt
 held h c s i [] [] (vs ∷ vss) r q = absurd q
 held h c s i [] (e ∷ es) vss r q = absurd r
@@ -49,7 +49,7 @@ held h c s i (x ∷ hs) [] vss r q = absurd r
 held h c s i (x ∷ hs) (e ∷ es) [] r q = absurd q
 held h c s i (x ∷ hs) (e ∷ es) (vs ∷ vss) r q = (here (slice_get c.members i) refl q.0, held h c s (i + 1) hs es vss r.1 q.1)
   where
-    here : (o : Option Member) → slice_get c.members i ≡ o → CorrespondsIn o e vs → (p : Host) → slice_get h.hosts i ≡ Some p → Holds p x vs
+    here : (o : Option Member) → slice_get c.members i ≡ o → CorrespondsIn o e vs → (p : Host) → slice_get h.hosts i ≡ Some p → SlotsHold p x vs
     here None at k p there = absurd k
     here (Some m) at k p there = s.slots i p m there at x e vs (r.0 p there) (as_many m.instance vs k.typed) k.values
 
@@ -143,7 +143,7 @@ started R f g j (x ∷ xs) [] i y h k = absurd h
 started R f g j (x ∷ xs) (z ∷ ys) zero y h k = (x, refl)
 started R f g j (x ∷ xs) (z ∷ ys) (suc i) y h k = started R f g (j + 1) xs ys i y h.1 k
 
-module _ (p : Prog) (h : Hosted) (c : Composed) (s : Stands h c) (m : Means p c) where
+module _ (p : Prog) (h : Hosted) (c : Composed) (s : Simulates h c) (m : Implements p c) where
   -- slots that hold a host's state are those of a state that stands for it
   between : (i : ℕ) (x : HostState Env) (vs : List Val) → HoldsTyped h.hosts p.members i x vs → (e : Env) × StandsAt h.hosts i x e × CorrespondsAt c.members i e vs
   between i x vs k = go (slice_get h.hosts i) (slice_get p.members i) refl refl k
@@ -171,7 +171,7 @@ module _ (p : Prog) (h : Hosted) (c : Composed) (s : Stands h c) (m : Means p c)
       go (Some n) at k =
           let z = zipped_back MatchesMember c.members p.members i n m.tables at in
           let w = started (StandsAt h.hosts) host_start (λ (u : Member). state_of u.instance.automaton u.starts) 0 h.hosts c.members i n s.start at in
-          let holds : Holds w.0 x vs = s.slots i w.0 n w.1 at x e vs (r w.0 w.1) (as_many n.instance vs k.typed) k.values in
+          let holds : SlotsHold w.0 x vs = s.slots i w.0 n w.1 at x e vs (r w.0 w.1) (as_many n.instance vs k.typed) k.values in
           let typed : HaveTypes z.0.start.table vs z.0.start.types =
           subst (λ t. HaveTypes t vs z.0.start.types) (sym z.2.types) (fit_have n.instance.types (variable_fields n.instance.automaton) vs z.0.start.types k.typed z.2.variables) in
           subst (λ (u : Option Host). HoldsIn u (slice_get p.members i) x vs) (sym w.1) (subst (λ (u : Option MemberCode). HoldsIn (Some w.0) u x vs) (sym z.1) (holds, typed))
@@ -252,9 +252,9 @@ host_step_from p h c a hs ss s m r =
 
 -- what the table's run is, the hosts' run is
 pub host_runs : {E : Type 0} (p : Prog) (acts : List Act) (r : Result Run E) → IfOk r (IsTableRun p acts)
-    → IfOk r (λ x. (h : Hosted) (c : Composed) → Stands h c → Means p c → IsHostRun h acts x)
+    → IfOk r (λ x. (h : Hosted) (c : Composed) → Simulates h c → Implements p c → IsHostRun h acts x)
 host_runs p acts (Ok x) t = λ h c s m. record {
-  reached = subst (λ (q : Reached (List Val)). RunsLike (HoldsAt h.hosts) (run (hosts_of h) acts (host_starts h)) q) (sym t.reached) (host_run p h c acts s m);
+  reached = subst (λ (q : Reached (List Val)). RunsLike (SlotsHoldAt h.hosts) (run (hosts_of h) acts (host_starts h)) q) (sym t.reached) (host_run p h c acts s m);
   trace = t.trace ∙ host_trace p h c acts x.performed s m;
 }
 host_runs p acts (Err e) t = tt

@@ -13,7 +13,7 @@ use Rattle.ioa_tree.specs.Likes.{RunsLike}
 use Rattle.ioa_compile.specs.Programs.{Prog}
 use Rattle.ioa_compile.specs.Tables.{tabled, start_states}
 use Rattle.ioa_compile.specs.Correspondence.{CorrespondsAt}
-use Rattle.ioa_compile.specs.Means.{Means}
+use Rattle.ioa_compile.specs.Implements.{Implements}
 use Rattle.ioa_system.specs.declared.outcomes.End.{End}
 use Rattle.ioa_system.specs.declared.runs.Run.{Run}
 use Rattle.ioa_system.specs.Outcomes.{ending_of, performed_by}
@@ -167,7 +167,7 @@ module _ (p : Prog) (acts traced : List Act) (a : Act) (r : Progress) (over : Is
   over_took shown now n o e = let d : r.end ≡ End.Done n = done_at r.end n e in o.reached ∙ more ∙ rw d refl
 
 -- what the table's run is, the source's run is
-pub source_run : (p : Prog) (acts : List Act) (r : Run) (c : Composed) → IsTableRun p acts r → Means p c → IsSourceRun c acts r
+pub source_run : (p : Prog) (acts : List Act) (r : Run) (c : Composed) → IsTableRun p acts r → Implements p c → IsSourceRun c acts r
 source_run p acts r c t m =
     let P : Reached (List Val) → Type 0 = λ h. RunsLike (CorrespondsAt c.members) (run (components_of c) acts (starts_of c)) h in
     let like : P (run (tabled p) acts (start_states p)) = run_like (CorrespondsAt c.members) (components_of c) (tabled p) acts (starts_of c) (start_states p) m.components m.starts in
@@ -178,6 +178,6 @@ source_run p acts r c t m =
     record { reached = subst P (sym t.reached) like; trace = t.trace ∙ hid ∙ sym same }
 
 pub source_runs : {E : Type 0} (p : Prog) (acts : List Act) (r : Result Run E) → IfOk r (IsTableRun p acts)
-    → IfOk r (λ x. (c : Composed) → Means p c → IsSourceRun c acts x)
+    → IfOk r (λ x. (c : Composed) → Implements p c → IsSourceRun c acts x)
 source_runs p acts (Ok x) t = λ c m. source_run p acts x c t m
 source_runs p acts (Err e) t = tt

@@ -6,7 +6,7 @@ use Rattle.ioa_tree.specs.Runs.{Reached, run, trace}
 use Rattle.ioa_tree.specs.Likes.{RunsLike}
 use Rattle.ioa_tree.specs.Compositions.{Composed, components_of, starts_of}
 use Rattle.ioa_tree.specs.Hosts.{Hosted, hosts_of, host_starts}
-use Rattle.ioa_compose.specs.Stands.{HoldsAt}
+use Rattle.ioa_compose.specs.Simulates.{SlotsHoldAt}
 use Rattle.ioa_compile.specs.Programs.{Prog}
 use Rattle.ioa_compile.specs.Tables.{tabled, start_states}
 use Rattle.ioa_compile.specs.Correspondence.{CorrespondsAt}
@@ -33,5 +33,5 @@ pub record IsSourceRun (c : Composed) (acts : List Act) (r : Run) : Type 0 where
 
 -- the same actions performed as by the hosts, the same end, slots that hold the hosts' states, and the hosts' trace
 pub record IsHostRun (h : Hosted) (acts : List Act) (r : Run) : Type 0 where
-  pub reached : RunsLike (HoldsAt h.hosts) (run (hosts_of h) acts (host_starts h)) (reached_of r)
+  pub reached : RunsLike (SlotsHoldAt h.hosts) (run (hosts_of h) acts (host_starts h)) (reached_of r)
   pub trace : trace_of r ≡ trace h.hidden (hosts_of h) acts r.performed

@@ -25,7 +25,7 @@ pub use laws::{runs_are_the_hosts, steps_are_the_hosts, steps_are_the_sources};
 pub use log::{Log, LogEnd, LogEntry};
 pub use outcomes::{End, Moved, Step};
 pub use participation::{Participant, Participation, is_external, owner, participants};
-pub use runner::{Runner, Taken};
+pub use runner::{Runner, RunStep};
 pub use runs::{Run, run_list};
 pub use stepper::Stepper;
 pub use steps::step_from;

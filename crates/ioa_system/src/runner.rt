@@ -18,7 +18,7 @@ use std::marker::Model;
 
 /// What a run makes of an action that it is handed.
 #[derive(Clone, Copy)]
-pub struct Taken {
+pub struct RunStep {
     /// The number of the action's worker. Where the run had ended before, none is looked for.
     pub worker: Option<usize>,
     /// Whether the trace goes on with the action: whether it is performed and external.
@@ -55,14 +55,14 @@ impl<'a> Runner<'a> {
 
     /// Hands the run its next action, and says whose work it is and whether the trace goes on with it. Where the run has ended,
     /// nothing changes. A refusal of memory changes nothing; an action past the greatest count is refused so.
-    pub fn take(&mut self, action: &Action) -> Result<Taken, OutOfMemory>
+    pub fn take(&mut self, action: &Action) -> Result<RunStep, OutOfMemory>
         ensures run { IfOk result (λ t. (p : Prog) (acts traced : List Act) → IsRunOver p acts traced self.old
             → IsRunOver p (acts ++ act_of action.now ∷ []) (traced ++ (if t.traced then act_of action.now ∷ [] else [])) self.new) }
         ensures worker { IfOk result (λ t. t.worker ≡ next_worker self.old (act_of action.now)) }
         ensures memory { OnErr result (self.new ≡ self.old) }
     {
         let End::Done(count) = self.end else {
-            return Ok(Taken {
+            return Ok(RunStep {
                 worker: None,
                 traced: false,
             });
@@ -76,7 +76,7 @@ impl<'a> Runner<'a> {
             None => (End::Done(next), performed.external),
         };
         self.end = end;
-        Ok(Taken {
+        Ok(RunStep {
             worker: Some(performed.worker),
             traced,
         })

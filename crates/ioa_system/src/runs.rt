@@ -4,8 +4,8 @@ ghost use Rattle.std.specs.Prelude.{◌≡◌, IfOk, map};
 ghost use Rattle.ioa_value.specs.Actions.{act_of};
 ghost use Rattle.ioa_tree.specs.Compositions.{Composed};
 ghost use Rattle.ioa_tree.specs.Hosts.{Hosted};
-ghost use Rattle.ioa_compose.specs.Stands.{Stands};
-ghost use Rattle.ioa_compile.specs.Means.{Means};
+ghost use Rattle.ioa_compose.specs.Simulates.{Simulates};
+ghost use Rattle.ioa_compile.specs.Implements.{Implements};
 ghost use Rattle.ioa_system.specs.Records.{IsTableRun, IsSourceRun, IsHostRun};
 
 use crate::outcomes::End;
@@ -31,8 +31,8 @@ pub struct Run {
 /// The run of the program over the actions.
 pub fn run_list(alloc: Global, program: &Program, actions: &[Action]) -> Result<Run, OutOfMemory>
     ensures machine { IfOk result (IsTableRun program.now (map act_of actions.now)) }
-    ensures source { IfOk result (λ r. (c : Composed) → Means program.now c → IsSourceRun c (map act_of actions.now) r) }
-    ensures hosts { IfOk result (λ r. (h : Hosted) (c : Composed) → Stands h c → Means program.now c → IsHostRun h (map act_of actions.now) r) }
+    ensures source { IfOk result (λ r. (c : Composed) → Implements program.now c → IsSourceRun c (map act_of actions.now) r) }
+    ensures hosts { IfOk result (λ r. (h : Hosted) (c : Composed) → Simulates h c → Implements program.now c → IsHostRun h (map act_of actions.now) r) }
 {
     run_table(alloc, program, actions)
 }

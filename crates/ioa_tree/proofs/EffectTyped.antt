@@ -14,7 +14,7 @@ use Rattle.ioa_value.specs.Typing.{HasType}
 use Rattle.ioa_tree.specs.Tree.{Expr, Stmt, assign, choose, Stmts, stop, seq, Arms, no_arm, arm, EntryTree, AutomatonTree}
 use Rattle.ioa_tree.specs.Meaning.{Env, val, with_name, Outcome, becomes, breaks, nowhere, assigned, then_do, chosen, does, picks, eff}
 use Rattle.ioa_tree.specs.WellFormed.{Context, type_in, type_of, is_some_of, has_ty, context_of, variable_fields, scope, stmt_fine, stmts_fine, arms_fine}
-use Rattle.ioa_tree.specs.Answers.{Stands, Suits, IsTypedOutcome}
+use Rattle.ioa_tree.specs.Answers.{HasValueOf, Suits, IsTypedOutcome}
 use Rattle.ioa_tree.proofs.ValTyped.{val_typed}
 
 pub some_type : (o : Option ℕ) (ty : ℕ) → is_some_of o ty ≡ true → o ≡ Some ty
@@ -35,7 +35,7 @@ module _ (types : Table) (c : Context) where
       → Suits types c (with_name env x v)
   replaced_suits env x ty v h t k = record { stands = λ y u e. same y u e (bytes_eq x y) refl; others = λ y e. other y e (bytes_eq x y) refl }
     where
-      same : (y : Name) (u : ℕ) → type_in c y ≡ Some u → (b : Bool) → bytes_eq x y ≡ b → Stands types u (cond b (Some v) (env y))
+      same : (y : Name) (u : ℕ) → type_in c y ≡ Some u → (b : Bool) → bytes_eq x y ≡ b → HasValueOf types u (cond b (Some v) (env y))
       same y u e true is =
           let names : x ≡ y = (bytes_eq-Decides x y).0 is in
           let there : type_in c x ≡ Some u = ap (type_in c) names ∙ e in
@@ -51,7 +51,7 @@ module _ (types : Table) (c : Context) where
       other y e false is = h.others y e
 
   assigned_typed : (env : Env) (x : Name) (ty : ℕ) (a : Answer) (old : Option Val) → Suits types c env → type_in c x ≡ Some ty → IsTypedAnswer types ty a
-      → Stands types ty old → IsTypedOutcome types c (assigned x env a old)
+      → HasValueOf types ty old → IsTypedOutcome types c (assigned x env a old)
   assigned_typed env x ty (gives v) (Some w) h t k o = replaced_suits env x ty v h t k
   assigned_typed env x ty (gives v) None h t k o = absurd o
   assigned_typed env x ty (faults f) old h t k o = tt

@@ -18,7 +18,7 @@ use Rattle.ioa_tree.specs.Meaning.{Env, nothing_known, values_of, val}
 use Rattle.ioa_tree.specs.Types.{first_named}
 use Rattle.ioa_tree.specs.Instances.{field_names, Fit, settled, start_answer, start_value, with_value, all_values}
 use Rattle.ioa_tree.specs.WellFormed.{Context, type_in, type_of, typed_field, context_of, is_type, same_type, start_fine, automaton_fine, is_automaton_of, instance_fine}
-use Rattle.ioa_tree.specs.Answers.{Stands, Suits, StartIsTyped, ArgumentIsTyped}
+use Rattle.ioa_tree.specs.Answers.{HasValueOf, Suits, StartIsTyped, ArgumentIsTyped}
 use Rattle.ioa_tree.proofs.ValTyped.{val_typed}
 use Rattle.ioa_tree.proofs.FineParts.{fine_parts}
 
@@ -36,7 +36,7 @@ some_there None h = absurd (cc)
 module _ (types : Table) where
   -- at the first name, or behind it
   at_name : (b : Bool) (n ty : ℕ) (v : Val) (o : Option ℕ) (p : Option Val)
-      → HasType types v n → (o ≡ Some ty → Stands types ty p) → cond b (Some n) o ≡ Some ty → Stands types ty (cond b (Some v) p)
+      → HasType types v n → (o ≡ Some ty → HasValueOf types ty p) → cond b (Some n) o ≡ Some ty → HasValueOf types ty (cond b (Some v) p)
   at_name true n ty v o p h k e = let q : n ≡ ty = cc in subst (HasType types v) q h
   at_name false n ty v o p h k e = k e
 

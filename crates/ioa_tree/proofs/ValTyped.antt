@@ -20,7 +20,7 @@ use Rattle.ioa_tree.specs.Tree.{Expr, number, truth, named, parens, prefix, bina
 use Rattle.ioa_tree.specs.Meaning.{Env, val, then_all, value_of, or_else, then_value, decided, combined, made, selected}
 use Rattle.ioa_tree.specs.Types.{constant, constant_type}
 use Rattle.ioa_tree.specs.WellFormed.{Context, type_in, type_of, types_of_all, one_type, both_types, of_truths, infix_type, made_type, selected_type}
-use Rattle.ioa_tree.specs.Answers.{Stands, Suits}
+use Rattle.ioa_tree.specs.Answers.{HasValueOf, Suits}
 use Rattle.ioa_tree.proofs.Constants.{constant_typed, empty_typed}
 
 -- both types are there where both_types gives one
@@ -64,7 +64,7 @@ module _ (types : Table) where
       → IsTypedAnswer types ty (value_of (or_else (env x) (constant types x)))
   name_typed c env x ty h e = go (type_in c x) refl e
     where
-      stood : (o : Option Val) → Stands types ty o → IsTypedAnswer types ty (value_of (or_else o (constant types x)))
+      stood : (o : Option Val) → HasValueOf types ty o → IsTypedAnswer types ty (value_of (or_else o (constant types x)))
       stood (Some v) k = k
       stood None k = absurd k
 

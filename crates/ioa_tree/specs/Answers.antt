@@ -12,13 +12,13 @@ use Rattle.ioa_tree.specs.Proposing.{Words, Tried, tries, idle, parameters}
 use Rattle.ioa_tree.specs.WellFormed.{Context, type_in, type_of, held, scope, entry_fine, proposals_fine, stmts_fine, automaton_fine, instance_fine}
 
 -- the name stands for a value of the type
-abbrev pub Stands : Table → ℕ → Option Val → Type 0
-Stands types ty (Some v) = HasType types v ty
-Stands types ty None = ⊥
+abbrev pub HasValueOf : Table → ℕ → Option Val → Type 0
+HasValueOf types ty (Some v) = HasType types v ty
+HasValueOf types ty None = ⊥
 
 -- each name of the context stands for a value of its type, and no other name for anything
 pub record Suits (types : Table) (c : Context) (env : Env) : Type 0 where
-  pub stands : (x : Name) (ty : ℕ) → type_in c x ≡ Some ty → Stands types ty (env x)
+  pub stands : (x : Name) (ty : ℕ) → type_in c x ≡ Some ty → HasValueOf types ty (env x)
   pub others : (x : Name) → type_in c x ≡ None → env x ≡ None
 
 -- an environment of the context's types, or a fault

@@ -293,6 +293,6 @@ IsTypedAnswer types ty (faults f) = Unit {0}
 IsTypedAnswer types ty nothing = ⊥
 
 -- what becomes of a stack: after a value it stands in the operands' place, above the values below them
-abbrev pub Stands : Answer → List Val → List Val → Result (Unit {0}) Fault → Type 0
-Stands answer below now (Ok u) = (v : Val) × (answer ≡ gives v) × (now ≡ below ++ v ∷ [])
-Stands answer below now (Err f) = answer ≡ faults f
+abbrev pub LeavesOnStack : Answer → List Val → List Val → Result (Unit {0}) Fault → Type 0
+LeavesOnStack answer below now (Ok u) = (v : Val) × (answer ≡ gives v) × (now ≡ below ++ v ∷ [])
+LeavesOnStack answer below now (Err f) = answer ≡ faults f

@@ -4,7 +4,7 @@ ghost use Rattle.std.specs.Prelude.{◌≡◌, ◌-◌, ◌∷◌, [], true, fal
 ghost use Rattle.ioa_value.specs.Plain.{plain};
 ghost use Rattle.ioa_value.specs.Table.{Table};
 ghost use Rattle.ioa_value.specs.Operators as spec;
-ghost use Rattle.ioa_value.specs.Operators.{operate, arity, Takes, Stands, answer_of, of_number, gives};
+ghost use Rattle.ioa_value.specs.Operators.{operate, arity, Takes, LeavesOnStack, answer_of, of_number, gives};
 ghost use Rattle.ioa_value.specs.Operands.{operands_of};
 ghost use Rattle.ioa_value.specs.declared.operator.Op.TheVariants as operators;
 
@@ -49,7 +49,7 @@ pub fn apply_last(
     stack: &mut Vec<Value>,
 ) -> Result<Result<(), Fault>, OutOfMemory>
     requires { Takes types.now op (drop (length stack.old.items - arity types.now op) (map plain stack.old.items)) }
-    ensures { IfOk result (λ r. Stands (operate types.now op (drop (length stack.old.items - arity types.now op) (map plain stack.old.items))) (take (length stack.old.items - arity types.now op) (map plain stack.old.items)) (map plain stack.new.items) r) }
+    ensures { IfOk result (λ r. LeavesOnStack (operate types.now op (drop (length stack.old.items - arity types.now op) (map plain stack.old.items))) (take (length stack.old.items - arity types.now op) (map plain stack.old.items)) (map plain stack.new.items) r) }
 {
     match taken_off(alloc, types, op, stack)? {
         Ok(value) => {

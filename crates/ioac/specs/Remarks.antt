@@ -9,7 +9,7 @@ use Rattle.ioa_lex.specs.declared.refusal.Refusal.{Refusal}
 use Rattle.ioa_tree.specs.Hosts.{Hosted}
 use Rattle.ioa_compose.specs.declared.composition.Composition.{Composition}
 use Rattle.ioa_compose.specs.Held.{composed_of}
-use Rattle.ioa_compose.specs.Stands.{Stands}
+use Rattle.ioa_compose.specs.Simulates.{Simulates}
 use Rattle.ioa_compile.specs.Programs.{Prog}
 use Rattle.ioa_object.specs.declared.failure.ObjErr.{ObjErr}
 use Rattle.ioa_system.specs.Logs.{Logged, actions_of, is_fault, log_end, logged}
@@ -58,7 +58,7 @@ IsLoaded holds lacks file bytes = holds file bytes ⊎ (lacks file × (bytes ≡
 -- the composition that the source declares; none, where it is refused
 abbrev pub IsComposed : List ℕ → Option Name → Option Composition → Type 0
 IsComposed source name None = (r : Refusal) × (r ≢ Refusal.OutOfMemory) × IsRefusedSource source name r
-IsComposed source name (Some c) = (h : Hosted) × Declares source name h × Stands h (composed_of c)
+IsComposed source name (Some c) = (h : Hosted) × Declares source name h × Simulates h (composed_of c)
 
 -- the program that the bytes are the object of; none, where they are refused, or are one of another composition
 abbrev pub IsProgramOf : List ℕ → Option Name → Option Prog → Type 0
@@ -85,7 +85,7 @@ OfLog t tells before after = OfLogOver t.composition.now.types t.input.now tells
 
 -- of each hosts that the composition stands for
 abbrev pub OfHosts : Told → (Hosted → List ℕ → List ℕ → Type 0) → List ℕ → List ℕ → Type 0
-OfHosts t tells before after = (h : Hosted) → Stands h (composed_of t.composition.now) → tells h before after
+OfHosts t tells before after = (h : Hosted) → Simulates h (composed_of t.composition.now) → tells h before after
 
 abbrev pub TellsListEnd : Told → List ℕ → List ℕ → Type 0
 TellsListEnd t before after = OfList t (TellsEnd t (list_line t)) before after
@@ -103,23 +103,23 @@ TellsRunEnd Status.BadCommandLine t before after = after ≡ before
 TellsRunEnd Status.Unable t before after = after ≡ before
 
 -- what is told of a request that was served to this status, or whose log is of another run
-abbrev pub Tells : Request → Ended → Told → List ℕ → List ℕ → Type 0
-Tells request Ended.Diverged t before after = OfLog t (λ log. TellsDifference t (actions_of log) log.ending) before after
-Tells (Request.Replay file composition) (Ended.Served status) t before after = TellsListEnd t before after
-Tells (Request.ReplayStates file composition) (Ended.Served status) t before after = TellsListEnd t before after
-Tells (Request.Log file composition) (Ended.Served status) t before after = TellsListEnd t before after
-Tells (Request.ReplayLog file composition) (Ended.Served status) t before after = TellsLogEnd t before after
-Tells (Request.ReplayLogStates file composition) (Ended.Served status) t before after = TellsLogEnd t before after
-Tells (Request.Chart file composition) (Ended.Served status) t before after = TellsLogEnd t before after
-Tells (Request.ReplayInvariants file composition) (Ended.Served status) t before after = OfLog t (λ log. OfHosts t (λ h. TellsInspected t h log)) before after
-Tells (Request.Monitor file composition) (Ended.Served status) t before after = OfLog t (λ log. OfHosts t (λ h. TellsMonitored t h (performed_in log))) before after
-Tells (Request.Run settings) (Ended.Served status) t before after = TellsRunEnd status t before after
-Tells (Request.Graph file composition) (Ended.Served status) t before after = after ≡ before
-Tells (Request.Check file compositions) (Ended.Served status) t before after = after ≡ before
-Tells (Request.Compile file out composition) (Ended.Served status) t before after = after ≡ before
-Tells (Request.Dump file) (Ended.Served status) t before after = after ≡ before
-Tells (Request.Explain topic) (Ended.Served status) t before after = after ≡ before
-Tells Request.Library (Ended.Served status) t before after = after ≡ before
+abbrev pub Explains : Request → Ended → Told → List ℕ → List ℕ → Type 0
+Explains request Ended.Diverged t before after = OfLog t (λ log. TellsDifference t (actions_of log) log.ending) before after
+Explains (Request.Replay file composition) (Ended.Served status) t before after = TellsListEnd t before after
+Explains (Request.ReplayStates file composition) (Ended.Served status) t before after = TellsListEnd t before after
+Explains (Request.Log file composition) (Ended.Served status) t before after = TellsListEnd t before after
+Explains (Request.ReplayLog file composition) (Ended.Served status) t before after = TellsLogEnd t before after
+Explains (Request.ReplayLogStates file composition) (Ended.Served status) t before after = TellsLogEnd t before after
+Explains (Request.Chart file composition) (Ended.Served status) t before after = TellsLogEnd t before after
+Explains (Request.ReplayInvariants file composition) (Ended.Served status) t before after = OfLog t (λ log. OfHosts t (λ h. TellsInspected t h log)) before after
+Explains (Request.Monitor file composition) (Ended.Served status) t before after = OfLog t (λ log. OfHosts t (λ h. TellsMonitored t h (performed_in log))) before after
+Explains (Request.Run settings) (Ended.Served status) t before after = TellsRunEnd status t before after
+Explains (Request.Graph file composition) (Ended.Served status) t before after = after ≡ before
+Explains (Request.Check file compositions) (Ended.Served status) t before after = after ≡ before
+Explains (Request.Compile file out composition) (Ended.Served status) t before after = after ≡ before
+Explains (Request.Dump file) (Ended.Served status) t before after = after ≡ before
+Explains (Request.Explain topic) (Ended.Served status) t before after = after ≡ before
+Explains Request.Library (Ended.Served status) t before after = after ≡ before
 
 -- ---- of an object, which has no source, and whose variables have no names
 
@@ -163,7 +163,7 @@ TellsNameless request (Ended.Served status) object name input before after = Tel
 abbrev pub TellsIn : Request → Ended → Name → List ℕ → List ℕ → Option Composition → List ℕ → List ℕ → Type 0
 TellsIn request ended file source input None before after = after ≡ before
 TellsIn request ended file source input (Some c) before after =
-    (t : Told) × (t.file.now ≡ file) × (t.source.now ≡ source) × (t.input.now ≡ input) × (t.composition.now ≡ c) × Tells request ended t before after
+    (t : Told) × (t.file.now ≡ file) × (t.source.now ≡ source) × (t.input.now ≡ input) × (t.composition.now ≡ c) × Explains request ended t before after
 
 abbrev pub TellsSource : Request → Ended → Name × Option Name → List ℕ → List ℕ → List ℕ → List ℕ → Type 0
 TellsSource request ended from source input before after =

@@ -13,7 +13,7 @@ ghost use Rattle.ioa_serving.specs.declared.status.Status.{Status};
 ghost use Rattle.ioa_serving.specs.declared.status.Status.TheVariants as statuses;
 ghost use Rattle.ioa_request.specs.declared.request.Request.{Request};
 
-use crate::hearing::Heard;
+use crate::tees::Tee;
 use crate::remarks::remarks_or_none;
 use crate::requests::serve;
 use crate::served::finish;
@@ -46,7 +46,7 @@ pub fn command<
     alloc: Global,
     words: &[S],
     store: &mut F,
-    input: &mut Heard<R>,
+    input: &mut Tee<R>,
     output: &mut W,
     errors: &mut E,
 ) -> u8
@@ -79,7 +79,7 @@ fn perform<
     alloc: Global,
     words: &[S],
     store: &mut F,
-    input: &mut Heard<R>,
+    input: &mut Tee<R>,
     output: &mut W,
     errors: &mut E,
 ) -> Status
@@ -122,7 +122,7 @@ fn answer_as<
     asked: &Request<'_>,
     explains: bool,
     store: &mut F,
-    input: &mut Heard<R>,
+    input: &mut Tee<R>,
     output: &mut W,
     errors: &mut E,
 ) -> Status
@@ -153,7 +153,7 @@ fn answer_and_explain<
     alloc: Global,
     asked: &Request<'_>,
     store: &mut F,
-    input: &mut Heard<R>,
+    input: &mut Tee<R>,
     output: &mut W,
     errors: &mut E,
 ) -> Status

@@ -8,15 +8,15 @@ mod requests;
 mod usage;
 
 // What is told of a request.
-mod hearing;
 mod remarks;
 mod served;
+mod tees;
 mod telling;
 
-pub use hearing::Heard;
 pub use ioa_request::{Code, Topic, explanation, explanations};
 pub use ioa_serving::{
     Status, Store, StoreErr, compile_text, is_object, objects_do_as_their_sources,
     objects_run_as_their_sources, one_composition,
 };
+pub use tees::Tee;
 pub use telling::told_unread;

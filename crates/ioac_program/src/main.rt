@@ -6,7 +6,7 @@ mod files;
 use crate::files::Files;
 use ioa_log::Counted;
 use ioac::command::command;
-use ioac::{Heard, told_unread};
+use ioac::{Tee, told_unread};
 use std::process::ExitCode;
 use std::{env, io};
 
@@ -17,7 +17,7 @@ fn main(rt: HostRuntime) -> ExitCode {
         Err(error) => return ExitCode::from(told_unread(&error, &mut errors).number()),
     };
     let mut store = Files::new(&rt);
-    let mut input = Heard::new(Counted::new(rt.stdin()));
+    let mut input = Tee::new(Counted::new(rt.stdin()));
     let mut output = Counted::new(rt.stdout());
     let status = command(
         &rt,

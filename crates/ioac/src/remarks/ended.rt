@@ -8,7 +8,7 @@ ghost use Rattle.ioa_log.specs.LogTexts.{ReadsLog};
 ghost use Rattle.ioa_account.specs.Remarks.{TellsDifference, TellsInspected, TellsMonitored};
 ghost use Rattle.ioa_serving.specs.Logs.{performed_in};
 ghost use Rattle.ioac.specs.Remarks as spec;
-ghost use Rattle.ioac.specs.Remarks.{IsComposed, IsLoaded, IsNoLog, OfHosts, OfLog, Tells, TellsEnded, TellsListEnd, TellsLogEnd, TellsRunEnd, TellsSource};
+ghost use Rattle.ioac.specs.Remarks.{IsComposed, IsLoaded, IsNoLog, OfHosts, OfLog, Explains, TellsEnded, TellsListEnd, TellsLogEnd, TellsRunEnd, TellsSource};
 
 use crate::remarks::nameless;
 use crate::remarks::places::source_of;
@@ -113,7 +113,7 @@ fn put_told(
     ended: Ended,
     told: &Told<'_>,
 ) -> Result<(), OutOfMemory>
-    ensures { OnOk result (Tells asked.now ended told.now (string_bytes text.old) (string_bytes text.new)) }
+    ensures { OnOk result (Explains asked.now ended told.now (string_bytes text.old) (string_bytes text.new)) }
 {
     match ended {
         Ended::Served(status) => put_served(alloc, text, asked, status, told),
@@ -129,7 +129,7 @@ fn put_served(
     status: Status,
     told: &Told<'_>,
 ) -> Result<(), OutOfMemory>
-    ensures { OnOk result (Tells asked.now (Ended.Served status) told.now (string_bytes text.old) (string_bytes text.new)) }
+    ensures { OnOk result (Explains asked.now (Ended.Served status) told.now (string_bytes text.old) (string_bytes text.new)) }
 {
     match asked {
         Request::Replay { .. } => put_end_of_list(alloc, text, told),

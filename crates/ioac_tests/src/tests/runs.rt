@@ -4,7 +4,7 @@ use crate::tests::shelf::{COUNTER, Ran, expect_answer, wanted_in, words};
 use ioa_log::Counted;
 use ioa_rows::{column, columns, is_row};
 use ioac::command::command;
-use ioac::{Heard, Store, StoreErr};
+use ioac::{Tee, Store, StoreErr};
 use std::alloc::{AllocError, Global};
 use std::process::Abort;
 use std::sync::Wait;
@@ -150,7 +150,7 @@ fn run_by<H: Abort + Threads + Wait + Clock + Sync>(
 ) -> Ran {
     let line = format!(in alloc; "run f {options}").expect(rt, "memory");
     let words = words(rt, alloc, line.as_str());
-    let mut input = Heard::new(Counted::new(b"".as_slice()));
+    let mut input = Tee::new(Counted::new(b"".as_slice()));
     let mut output = Counted::new(Vec::new(alloc));
     let mut errors = Counted::new(Vec::new(alloc));
     let status = command(

@@ -4,7 +4,7 @@ use ioa_log::{Counted, InputDevice, OutputDevice};
 pub use ioa_rows::COUNTER;
 use ioa_rows::{column, columns, is_row};
 use ioac::command::command;
-use ioac::{Heard, Store, StoreErr};
+use ioac::{Tee, Store, StoreErr};
 use std::alloc::{AllocError, Global};
 use std::process::Abort;
 use std::sync::Wait;
@@ -122,7 +122,7 @@ pub fn run_on<
     rt: &H,
     alloc: Global,
     given: &Given<'_>,
-    input: &mut Heard<R>,
+    input: &mut Tee<R>,
     output: &mut W,
     errors: &mut E,
 ) -> (u8, Option<Vec<u8>>) {
@@ -149,7 +149,7 @@ pub fn run<H: Abort + Threads + Wait + Clock + Sync>(
     alloc: Global,
     given: &Given<'_>,
 ) -> Ran {
-    let mut input = Heard::new(Counted::new(given.list.as_bytes()));
+    let mut input = Tee::new(Counted::new(given.list.as_bytes()));
     let mut output = Counted::new(Vec::new(alloc));
     let mut errors = Counted::new(Vec::new(alloc));
     let (status, saved) = run_on(rt, alloc, given, &mut input, &mut output, &mut errors);

@@ -2,7 +2,7 @@
 
 use crate::tests::shelf::{COUNTER, Given, REPLAY, Ran, run_on};
 use ioa_log::{Counted, Device};
-use ioac::{Heard, Status};
+use ioac::{Tee, Status};
 use std::alloc::Global;
 use std::io;
 use std::io::{Read, Write};
@@ -117,7 +117,7 @@ fn replayed<H: Abort + Threads + Wait + Clock + Sync>(
     reads: u64,
     writes: u64,
 ) -> (Ran, u64) {
-    let mut input = Heard::new(Counted::new(Dripping {
+    let mut input = Tee::new(Counted::new(Dripping {
         bytes: given.list.as_bytes(),
         left: reads,
     }));
@@ -239,7 +239,7 @@ fn fills<H: Abort + Threads + Wait + Clock + Sync>(
         rt,
         alloc,
         given,
-        &mut Heard::new(Counted::new(given.list.as_bytes())),
+        &mut Tee::new(Counted::new(given.list.as_bytes())),
         &mut writer,
         &mut teller,
     );

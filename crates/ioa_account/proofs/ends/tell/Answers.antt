@@ -6,7 +6,7 @@ use Rattle.ioa_tree.specs.Hosts.{host_starts, hosts_of}
 use Rattle.ioa_tree.specs.Likes.{AllRelated}
 use Rattle.ioa_tree.specs.Runs.{Reached, run}
 use Rattle.ioa_compose.specs.Held.{composed_of}
-use Rattle.ioa_compose.specs.Stands.{HoldsAt}
+use Rattle.ioa_compose.specs.Simulates.{SlotsHoldAt}
 use Rattle.ioa_system.specs.Outcomes.{ending_of}
 use Rattle.ioa_system.specs.Systems.{types_of, values_of}
 use Rattle.ioa_account.specs.Accounts.{faults_early, is_down_in, name_of, why}
@@ -22,8 +22,8 @@ returns-clause-told c = λ h stands said.
     let component = c.component_of-component.result in
     let down = c.is_down_in-is_down.result in
     let same : r.ending ≡ end = said.reached.ending in
-    let holding : (ns : List Node) → ns ≡ c.args.reached.now.states.items → AllRelated (HoldsAt h.hosts) 0 r.states (values_of ns) = λ ns e.
-    subst (λ (xs : List Node). AllRelated (HoldsAt h.hosts) 0 r.states (values_of xs)) (sym e) said.reached.states in
+    let holding : (ns : List Node) → ns ≡ c.args.reached.now.states.items → AllRelated (SlotsHoldAt h.hosts) 0 r.states (values_of ns) = λ ns e.
+    subst (λ (xs : List Node). AllRelated (SlotsHoldAt h.hosts) 0 r.states (values_of xs)) (sym e) said.reached.states in
     let early = c.in_ok-is_early.is_early in
     let asks : early ≡ faults_early (hosts_of h) acts c.args.index r.states =
     c.in_ok-is_early.ensures

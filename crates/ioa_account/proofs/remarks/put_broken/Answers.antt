@@ -1,7 +1,7 @@
 use Rattle.std.proofs.Common.{◌++◌, map, string_bytes, ap₂, sym, subst, ◌∙◌}
 use Rattle.ioa_value.specs.Actions.{act_of}
 use Rattle.ioa_tree.specs.Likes.{AllRelated}
-use Rattle.ioa_compose.specs.Stands.{HoldsAt}
+use Rattle.ioa_compose.specs.Simulates.{SlotsHoldAt}
 use Rattle.ioa_system.specs.Systems.{values_of}
 use Rattle.ioa_log.specs.Breaking.{AreStates, broken_of}
 use Rattle.ioa_compose.specs.Held.{composed_of}
@@ -26,7 +26,7 @@ returns c =
     three_put (string_bytes c.args.text.now) (broken_after t b.state (name_at h.hosts b.component) (broken_fault h acts (broken_of b))) (invariant_text t b.invariant)
     (broken_state h acts (broken_of b)) _ _ _
     (c.in_ok-put_broken_after.ensures ∙ ap₂ (λ x f. string_bytes c.args.text.now ++ broken_after t b.state x f) (c.name_at-name.ensures h stands)
-    (c.in_ok-fault.ensures h reached stands (subst (λ ns. AllRelated (HoldsAt h.hosts) 0 reached (values_of ns)) (sym c.deref.ensures.value) holds)))
+    (c.in_ok-fault.ensures h reached stands (subst (λ ns. AllRelated (SlotsHoldAt h.hosts) 0 reached (values_of ns)) (sym c.deref.ensures.value) holds)))
     c.in_ok-put_invariant.ensures
-    (puts h reached stands (subst (λ ns. AllRelated (HoldsAt h.hosts) 0 reached (values_of ns)) (sym c.deref-2.ensures.value) holds)))
+    (puts h reached stands (subst (λ ns. AllRelated (SlotsHoldAt h.hosts) 0 reached (values_of ns)) (sym c.deref-2.ensures.value) holds)))
     c.put_component.ensures

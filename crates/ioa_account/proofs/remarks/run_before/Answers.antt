@@ -6,7 +6,7 @@ use Rattle.ioa_tree.specs.Hosts.{host_starts, hosts_of}
 use Rattle.ioa_tree.specs.Likes.{AllRelated}
 use Rattle.ioa_tree.specs.Runs.{run}
 use Rattle.ioa_compose.specs.Held.{composed_of}
-use Rattle.ioa_compose.specs.Stands.{HoldsAt}
+use Rattle.ioa_compose.specs.Simulates.{SlotsHoldAt}
 use Rattle.ioa_system.specs.Systems.{values_of}
 use Rattle.ioa_log.proofs.Breaking.{are_states}
 use Rattle.ioa_account.proofs.Faulting.{on_answer}
@@ -28,6 +28,6 @@ returns-clause-hosts c =
     ap (map act_of) (ap (λ k. take k xs) c.min-before.ensures ∙ take_min c.args.count xs) ∙ sym (take-map act_of c.args.count xs) in
     on_answer c.run_list.result
     (λ r runs h stands.
-    subst (λ acts. AllRelated (HoldsAt h.hosts) 0 (run (hosts_of h) acts (host_starts h)).states (values_of r.states.items)) same
+    subst (λ acts. AllRelated (SlotsHoldAt h.hosts) 0 (run (hosts_of h) acts (host_starts h)).states (values_of r.states.items)) same
     (runs h composed stands c.in_ok-program.ensures).reached.states)
     c.run_list.ensures.hosts

@@ -5,7 +5,7 @@ use Rattle.ioa_compile.specs.Shown.{member_code}
 use Rattle.ioa_compile.specs.Translated.{DoesSame}
 use Rattle.std.specs.String.{string_bytes}
 use Rattle.ioa_compile.specs.Programs.{Prog}
-use Rattle.ioa_compile.specs.Means.{Means}
+use Rattle.ioa_compile.specs.Implements.{Implements}
 use Rattle.ioa_compile.proofs.Meant.{all_like, all_match, all_related, from_all}
 use Rattle.ioa_compile.proofs.Twins.{is_program}
 use Rattle.ioa_compile.proofs.compiler.compile.Goals as goal
@@ -24,7 +24,7 @@ returns c =
     let cs = map member_code c.in_ok-members.members.items in
     let all = subst (λ l. AllZip DoesSame (map member_of l) cs) c.members.ensures.value c.in_ok-members.ensures in
     let made : Prog = record { types = c.in_ok-types.types; name = string_bytes c.in_ok-name.name; members = cs; hidden = map string_bytes c.in_ok-hidden.hidden.items } in
-    let means : Means made composed = record {
+    let means : Implements made composed = record {
       types = c.in_ok-types.ensures.same ∙ c.types.ensures.value;
       name = c.in_ok-name.ensures.ok ∙ c.name.ensures;
       hidden = c.in_ok-hidden.ensures ∙ c.hidden.ensures;
@@ -32,4 +32,4 @@ returns c =
       components = all_like ms 0 ms cs (from_all ms) all;
       starts = all_related ms 0 ms cs (from_all ms) all;
     } in
-    subst (λ (p : Prog). Means p composed) (sym c.new.ensures) means
+    subst (λ (p : Prog). Implements p composed) (sym c.new.ensures) means

@@ -3,7 +3,7 @@ use Rattle.ioa_lex.specs.Tokens.{tokens_shown}
 use Rattle.ioa_tree.specs.Tree.{Stmt}
 use Rattle.ioa_value.specs.declared.limits.TheConstants.{LIMITS}
 use Rattle.ioa_value.specs.declared.terminal.Terminal.TheVariants as terminals
-use Rattle.ioa_grammar.specs.Reading.{Outcome, Reads, assignment, choice, sees_statement, sees, statement, in_sequence, an_arm, sign, built, ◌▸◌}
+use Rattle.ioa_grammar.specs.Reading.{Outcome, ReadsAs, assignment, choice, sees_statement, sees, statement, in_sequence, an_arm, sign, built, ◌▸◌}
 use Rattle.ioa_tree.specs.View.{stmt_of, stmts_of, arm_of}
 use Rattle.ioa_grammar.proofs.Sequences.{statement_plain, statement_choice, arms_start, choice_read}
 use Rattle.ioa_tree.proofs.StatementRows.{stmt_choose}
@@ -31,12 +31,12 @@ arms-returns t c = sym c.loop-turn.invariant ∙ many_spent arm_of (sees termina
 pub statement-returns-then-not-take : goal.statement-returns-then-not-take
 statement-returns-then-not-take t c =
     let e = statement_plain LIMITS.depth c.args.levels (tokens_shown c.args.cursor.now) (omega arith) (sym c.take.ensures.found ∙ c.if-not-take.true) ∙ ap (assignment LIMITS.depth) (sym c.take.ensures.after) in
-    subst (λ (o : Outcome Stmt). Reads stmt_of o c.assignment.result (tokens_shown c.assignment.new.cursor)) (sym e) c.assignment.ensures
+    subst (λ (o : Outcome Stmt). ReadsAs stmt_of o c.assignment.result (tokens_shown c.assignment.new.cursor)) (sym e) c.assignment.ensures
 
 pub statement-returns : goal.statement-returns
 statement-returns t c =
     let e = statement_choice LIMITS.depth c.args.levels (tokens_shown c.args.cursor.now) (omega arith) (sym c.take.ensures.found ∙ c.if-not-take.false) ∙ ap (choice LIMITS.depth (in_sequence (statement LIMITS.depth (c.args.levels - 1)))) (sym c.take.ensures.after) in
-    subst (λ (o : Outcome Stmt). Reads stmt_of o c.choice.result (tokens_shown c.choice.new.cursor)) (sym e) c.choice.ensures
+    subst (λ (o : Outcome Stmt). ReadsAs stmt_of o c.choice.result (tokens_shown c.choice.new.cursor)) (sym e) c.choice.ensures
 
 pub arms-loop-turn-init : goal.arms-loop-turn-init
 arms-loop-turn-init t c =

@@ -6,7 +6,7 @@ use Rattle.ioa_value.specs.Plain.{plain}
 use Rattle.ioa_code.specs.Machine.{act}
 use Rattle.ioa_code.specs.Picks.{number_picked, value_picked}
 use Rattle.ioa_node.specs.Drafts.{standing}
-use Rattle.ioa_node.specs.Steps.{at, moved, Reads}
+use Rattle.ioa_node.specs.Steps.{at, moved, OnlyReads}
 use Rattle.ioa_node.specs.Proposals.{TakesAtMost}
 use Rattle.ioa_node.proofs.Draws.{none_below, draws_idle, draws_below, draws_picked, draws_on, draws_fault, on_err}
 use Rattle.ioa_node.proofs.draw.draw.Goals as goal
@@ -44,7 +44,7 @@ pub returns-in-Ok : goal.returns-in-Ok
 returns-in-Ok g c =
     let slots = standing c.args.draft.now (map plain c.args.slots.now) in
     let e : moved (Ok c.in-Ok.next) c.read.new.stack.items slots [] ≡ act c.args.code.now.code c.args.instr (at c.args.place c.args.stack.now.items slots []) = ap (λ r. moved r c.read.new.stack.items slots []) (sym c.in-Ok.is) ∙ c.in_ok-next-in-Const.ensures in
-    let reads : Reads c.args.instr = search rules in
+    let reads : OnlyReads c.args.instr = search rules in
     record {
       draws = draws_on c.args.code.now.code c.args.instr c.args.place c.args.stack.now.items slots (g.W.Words.stream c.args.words.now) c.read.new.stack.items reads c.in-Ok.next e;
       memory = tt;
@@ -54,7 +54,7 @@ pub returns-in-Err : goal.returns-in-Err
 returns-in-Err g c =
     let slots = standing c.args.draft.now (map plain c.args.slots.now) in
     let e : moved (Err c.in-Err.field-0) c.read.new.stack.items slots [] ≡ act c.args.code.now.code c.args.instr (at c.args.place c.args.stack.now.items slots []) = ap (λ r. moved r c.read.new.stack.items slots []) (sym c.in-Err.is) ∙ c.in_ok-next-in-Const.ensures in
-    let reads : Reads c.args.instr = search rules in
+    let reads : OnlyReads c.args.instr = search rules in
     record {
       draws = draws_fault c.args.code.now.code c.args.instr c.args.place c.args.stack.now.items slots (g.W.Words.stream c.args.words.now) c.read.new.stack.items reads c.in-Err.field-0 e;
       memory = tt;

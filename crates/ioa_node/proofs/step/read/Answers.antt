@@ -1,7 +1,7 @@
 use Rattle.std.proofs.Common.{◌-◌, ◌<◌, arith, map, take, drop, length, Ok, Err, subst, sym, Result}
 use Rattle.ioa_arithmetic.specs.declared.arithmetic.Fault.{Fault}
 use Rattle.ioa_value.specs.Plain.{plain}
-use Rattle.ioa_value.specs.Operators.{arity, operate, Takes, Stands}
+use Rattle.ioa_value.specs.Operators.{arity, operate, Takes, LeavesOnStack}
 use Rattle.std.proofs.lemmas.List.{length-map}
 use Rattle.ioa_node.specs.Drafts.{standing}
 use Rattle.ioa_node.proofs.Drafts.{length-standing}
@@ -39,8 +39,8 @@ returns-in-Ok c =
     let new = c.apply_last.new.stack.items in
     let op = c.in-Apply.op in
     let types = c.types-types.result.now in
-    let stands = subst {A = Result (Unit {0}) Fault} (λ r. Stands (operate types op (drop (length st - arity types op) (map plain st))) (take (length st - arity types op) (map plain st)) (map plain new) r) c.in-Ok.is c.in_ok-apply_last-in-Apply.ensures in
-    let left = subst (λ t. Stands (operate t op (drop (length st - arity t op) (map plain st))) (take (length st - arity t op) (map plain st)) (map plain new) (Ok tt)) c.types-types.ensures stands in
+    let stands = subst {A = Result (Unit {0}) Fault} (λ r. LeavesOnStack (operate types op (drop (length st - arity types op) (map plain st))) (take (length st - arity types op) (map plain st)) (map plain new) r) c.in-Ok.is c.in_ok-apply_last-in-Apply.ensures in
+    let left = subst (λ t. LeavesOnStack (operate t op (drop (length st - arity t op) (map plain st))) (take (length st - arity t op) (map plain st)) (map plain new) (Ok tt)) c.types-types.ensures stands in
     apply_gives c.args.code.now.code c.args.instr op c.args.place st (standing c.args.draft.now (map plain c.args.slots.now)) c.args.values.now c.requires.fine c.in-Apply.is left.0 new left.1 left.2
 
 pub returns-in-Err : goal.returns-in-Err
@@ -50,6 +50,6 @@ returns-in-Err c =
     let op = c.in-Apply.op in
     let types = c.types-types.result.now in
     let f = c.in-Err.fault in
-    let stands = subst {A = Result (Unit {0}) Fault} (λ r. Stands (operate types op (drop (length st - arity types op) (map plain st))) (take (length st - arity types op) (map plain st)) (map plain new) r) c.in-Err.is c.in_ok-apply_last-in-Apply.ensures in
-    let left = subst (λ t. Stands (operate t op (drop (length st - arity t op) (map plain st))) (take (length st - arity t op) (map plain st)) (map plain new) (Err f)) c.types-types.ensures stands in
+    let stands = subst {A = Result (Unit {0}) Fault} (λ r. LeavesOnStack (operate types op (drop (length st - arity types op) (map plain st))) (take (length st - arity types op) (map plain st)) (map plain new) r) c.in-Err.is c.in_ok-apply_last-in-Apply.ensures in
+    let left = subst (λ t. LeavesOnStack (operate t op (drop (length st - arity t op) (map plain st))) (take (length st - arity t op) (map plain st)) (map plain new) (Err f)) c.types-types.ensures stands in
     apply_faults c.args.code.now.code c.args.instr op c.args.place st (standing c.args.draft.now (map plain c.args.slots.now)) c.args.values.now c.requires.fine c.in-Apply.is f left

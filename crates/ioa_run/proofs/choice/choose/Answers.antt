@@ -4,7 +4,7 @@ use Rattle.std.proofs.lemmas.Result.{IfOk-weaker}
 use Rattle.ioa_value.specs.Actions.{act_of}
 use Rattle.ioa_compile.specs.Programs.{EntryCode}
 use Rattle.ioa_compile.specs.Shown.{entry_code}
-use Rattle.ioa_run.specs.Choices.{Chooses, Gives, IsOfState}
+use Rattle.ioa_run.specs.Choices.{Chooses, GivesAction, IsOfState}
 use Rattle.ioa_run.proofs.Choosing.{chosen_by, entry_so, one_after, one_there}
 use Rattle.ioa_run.proofs.choice.choose.Goals as goal
 
@@ -19,7 +19,7 @@ returns-in-Some g c =
     let words = g.W.Words.stream c.args.words.now in
     let mid = g.W.Words.stream c.next.new.self in
     let rest = g.W.Words.stream c.propose_by.new.words in
-    IfOk-weaker c.propose_by.result (λ r. Gives (entry_code c.in-Some.entry.now) c.args.state.now.values mid (option_map act_of r) rest) (λ r. Chooses es c.args.state.now.values words (option_map act_of r) rest)
+    IfOk-weaker c.propose_by.result (λ r. GivesAction (entry_code c.in-Some.entry.now) c.args.state.now.values mid (option_map act_of r) rest) (λ r. Chooses es c.args.state.now.values words (option_map act_of r) rest)
     (λ r h.
     chosen_by es c.args.state.now.values words mid rest (c.next.result % c.local_count-count.result) (entry_code c.in-Some.entry.now) (option_map act_of r)
     (ap (λ w. w % c.local_count-count.result) c.next.ensures.word ∙ ap (λ k. words 0 % k) c.local_count-count.ensures)

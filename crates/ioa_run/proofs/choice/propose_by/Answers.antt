@@ -7,7 +7,7 @@ use Rattle.ioa_value.specs.Positions.{domain_of}
 use Rattle.ioa_node.specs.Proposals.{values_in}
 use Rattle.ioa_compile.specs.Programs.{EntryCode}
 use Rattle.ioa_compile.specs.Shown.{entry_code}
-use Rattle.ioa_run.specs.Choices.{Gives}
+use Rattle.ioa_run.specs.Choices.{GivesAction}
 use Rattle.ioa_run.specs.Proposers.{action_with, filled}
 use Rattle.ioa_run.proofs.Choosing.{gives_by}
 use Rattle.ioa_run.proofs.choice.propose_by.Goals as goal
@@ -17,7 +17,7 @@ returns-in_default-2 g c =
     let e : EntryCode = entry_code c.args.entry.now in
     let words = g.W.Words.stream c.args.words.now in
     let rest = g.W.Words.stream c.propose_with.new.words in
-    subst (λ o. Gives e c.args.state.now.values words (option_map (action_with e) (option_map values_in o)) rest) c.in_default-2.is
+    subst (λ o. GivesAction e c.args.state.now.values words (option_map (action_with e) (option_map values_in o)) rest) c.in_default-2.is
     (gives_by e c.in-Some.code c.args.state.now.values words rest (option_map values_in c.in_ok-values.field-0) c.in-Some.is c.in_ok-values.ensures.value c.in_ok-values.ensures.left)
 
 pub returns : goal.returns
@@ -31,6 +31,6 @@ returns g c =
     c.in_ok-fill.ensures ∙ ap (λ ps. filled (map domain_of ps) (map plain c.in-Some-2.values.items)) c.deref.ensures.value in
     let action : act_of (record { name = c.in_ok-clone.field-0; vals = c.in_ok-fill.field-0 }) ≡ action_with e (values_in c.in-Some-2.values) =
     ap (λ n. made n (map plain c.in_ok-fill.field-0.items)) name ∙ ap (made (string_bytes c.args.entry.now.name)) vals in
-    subst (λ a. Gives e c.args.state.now.values words (Some a) rest) (sym action)
-    (subst (λ o. Gives e c.args.state.now.values words (option_map (action_with e) (option_map values_in o)) rest) c.in-Some-2.is
+    subst (λ a. GivesAction e c.args.state.now.values words (Some a) rest) (sym action)
+    (subst (λ o. GivesAction e c.args.state.now.values words (option_map (action_with e) (option_map values_in o)) rest) c.in-Some-2.is
     (gives_by e c.in-Some.code c.args.state.now.values words rest (option_map values_in c.in_ok-values.field-0) c.in-Some.is c.in_ok-values.ensures.value c.in_ok-values.ensures.left))

@@ -6,7 +6,7 @@ use Rattle.ioa_tree.specs.Hosts.{hosts_of, host_starts}
 use Rattle.ioa_tree.specs.Likes.{AllRelated}
 use Rattle.ioa_tree.specs.Runs.{run}
 use Rattle.ioa_compose.specs.Held.{composed_of}
-use Rattle.ioa_compose.specs.Stands.{HoldsAt}
+use Rattle.ioa_compose.specs.Simulates.{SlotsHoldAt}
 use Rattle.ioa_system.specs.Systems.{values_of}
 use Rattle.ioa_account.specs.States.{state_lines}
 use Rattle.ioa_serving.proofs.Refused.{err_as}
@@ -27,6 +27,6 @@ returns-clause-reaches g c = λ h stands.
       k.reads,
       k.ending,
       c.in_ok-put_states.ensures h (run (hosts_of h) k.acts (host_starts h)).states stands
-          (subst (λ ns. AllRelated (HoldsAt h.hosts) 0 (run (hosts_of h) k.acts (host_starts h)).states (values_of ns)) (sym c.deref.ensures.value) k.states)
+          (subst (λ ns. AllRelated (SlotsHoldAt h.hosts) 0 (run (hosts_of h) k.acts (host_starts h)).states (values_of ns)) (sym c.deref.ensures.value) k.states)
           ∙ ap (λ told. told ++ state_lines h.types h.hosts (run (hosts_of h) k.acts (host_starts h)).states) k.text,
     ))

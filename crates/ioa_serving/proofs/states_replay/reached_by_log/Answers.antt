@@ -4,7 +4,7 @@ use Rattle.ioa_tree.specs.Hosts.{hosts_of, host_starts}
 use Rattle.ioa_tree.specs.Likes.{AllRelated}
 use Rattle.ioa_tree.specs.Runs.{run}
 use Rattle.ioa_compose.specs.Held.{composed_of}
-use Rattle.ioa_compose.specs.Stands.{HoldsAt}
+use Rattle.ioa_compose.specs.Simulates.{SlotsHoldAt}
 use Rattle.ioa_system.specs.Logs.{actions_of, logged}
 use Rattle.ioa_system.specs.Systems.{values_of}
 use Rattle.ioa_account.specs.States.{state_lines}
@@ -34,6 +34,6 @@ returns-clause-text c = λ h stands.
     let acts = actions_of (logged c.args.log.now) in
     let sound = (c.in_ok-run.ensures.hosts h (composed_of c.args.composition.now) stands c.in_ok-program.ensures).1 in
     let states = (run (hosts_of h) acts (host_starts h)).states in
-    c.in_ok-put_states.ensures h states stands (subst (λ ns. AllRelated (HoldsAt h.hosts) 0 states (values_of ns)) (sym c.deref.ensures.value) sound.reached.states)
+    c.in_ok-put_states.ensures h states stands (subst (λ ns. AllRelated (SlotsHoldAt h.hosts) 0 states (values_of ns)) (sym c.deref.ensures.value) sound.reached.states)
     ∙ ap (λ told. told ++ state_lines h.types h.hosts states)
     (c.in_ok-told.ensures ∙ run_told (of_hosts h) c.types.result.now acts c.in_ok-run.run' (c.types.ensures.value ∙ stands.types) (host_reaches h acts c.in_ok-run.run' sound))

@@ -6,7 +6,7 @@ ghost use Rattle.std.specs.Io.KnownBytes.{ReadConsumes};
 ghost use Rattle.std.specs.Io.{ReadsAtMost};
 ghost use Rattle.ioa_log.specs.Counts.{given_after};
 ghost use Rattle.ioa_log.specs.Failing.{FailedOnceAtMost, HasFailed};
-ghost use Rattle.ioac.specs.Hearing.{IsNoted, kept_of};
+ghost use Rattle.ioac.specs.Tees.{IsNoted, kept_of};
 
 use ioa_log::{Device, Failed, InputDevice};
 use std::alloc::Global;
@@ -15,18 +15,18 @@ use std::io::Read;
 
 /// A reader, and what it gave since it was asked to keep that.
 #[derive(Drop)]
-pub struct Heard<T> {
+pub struct Tee<T> {
     pub inner: T,
     kept: Option<Vec<u8>>,
 }
 
-impl<T> Heard<T> {
+impl<T> Tee<T> {
     /// A reader that keeps nothing.
-    pub fn new(inner: T) -> Heard<T>
+    pub fn new(inner: T) -> Tee<T>
         ensures inner { result.inner ≡ inner }
         ensures kept { kept_of result ≡ None }
     {
-        Heard { inner, kept: None }
+        Tee { inner, kept: None }
     }
 
     /// Keeps from now on what it gives, as long as memory is found for it.
@@ -62,7 +62,7 @@ impl<T> Heard<T> {
     }
 }
 
-impl<T: Device> Device for Heard<T> {
+impl<T: Device> Device for Tee<T> {
     ghost failure_count = { λ h. T.failure_count h.inner };
 
     fn failures(&self) -> u64 {
@@ -70,7 +70,7 @@ impl<T: Device> Device for Heard<T> {
     }
 }
 
-impl<T: Read> Read for Heard<T> {
+impl<T: Read> Read for Tee<T> {
     ghost remaining = { λ h. T.remaining h.inner };
 
     fn read(&mut self, buf: &mut [u8]) -> io::Result<usize>
@@ -85,7 +85,7 @@ impl<T: Read> Read for Heard<T> {
     }
 }
 
-impl<T: InputDevice> InputDevice for Heard<T> {
+impl<T: InputDevice> InputDevice for Tee<T> {
     ghost given_count = { λ h. T.given_count h.inner };
 
     fn pull(&mut self, piece: &mut [u8]) -> Result<usize, Failed>

@@ -10,7 +10,7 @@ use Rattle.ioa_compile.specs.Tables.{tabled, start_states}
 
 -- the program has the composition's types, name, components and hidden names; its components do the same on corresponding
 -- states, and start in them
-pub record Means (p : Prog) (c : Composed) : Type 0 where
+pub record Implements (p : Prog) (c : Composed) : Type 0 where
   pub types : p.types ≡ c.types
   pub name : p.name ≡ c.name
   pub tables : AllZip MatchesMember c.members p.members

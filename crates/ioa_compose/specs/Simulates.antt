@@ -62,18 +62,18 @@ TellsUp (Some c) n up slots = (length slots ≡ n + 1) × (slice_get slots n ≡
 
 -- slot i holds the value of the i-th declared variable (by its name: those of a well formed source differ), and the last slot of a host
 -- that crashes whether it is up
-pub record Holds (p : Host) (h : HostState Env) (slots : List Val) : Type 0 where
+pub record SlotsHold (p : Host) (h : HostState Env) (slots : List Val) : Type 0 where
   pub values : (x : Name) → h.inner x ≡ values_of (variable_names p.instance.automaton) slots x
   pub up : TellsUp p.crash (length p.instance.automaton.variables) h.up slots
 
 -- by place
-abbrev pub HoldsAt : List Host → ℕ → HostState Env → List Val → Type 0
-HoldsAt hosts i h slots = (p : Host) → slice_get hosts i ≡ Some p → Holds p h slots
+abbrev pub SlotsHoldAt : List Host → ℕ → HostState Env → List Val → Type 0
+SlotsHoldAt hosts i h slots = (p : Host) → slice_get hosts i ≡ Some p → SlotsHold p h slots
 
 -- slots that hold the values of the member's variables hold the state of the host for which its own state stands
 abbrev pub HoldsWith : Host → Member → Type 0
 HoldsWith p m = (h : HostState Env) (s : Env) (slots : List Val) → StandsFor p h s → length slots ≡ length (variable_names m.instance.automaton)
-    → ((x : Name) → s x ≡ values_of (variable_names m.instance.automaton) slots x) → Holds p h slots
+    → ((x : Name) → s x ≡ values_of (variable_names m.instance.automaton) slots x) → SlotsHold p h slots
 
 -- The component is made of the host: it has the host's name, its entries, each with the same actions, its transitions' proposals, its
 -- arguments and its variables, which are the declared ones, each in their order; what is added by which it crashes and recovers, if it
@@ -100,12 +100,12 @@ pub record HoldsAlike (p : Host) (m : Member) (condition : Expr) : Type 0 where
   pub states : (h : HostState Env) (s : Env) → StandsFor p h s → holds m.instance condition s ≡ holds p.instance condition h.inner
   pub values : (values more : List Val) → length values ≡ m.declared
       → holds m.instance condition (state_of m.instance.automaton (values ++ more)) ≡ holds p.instance condition (state_of p.instance.automaton values)
-  pub slots : (h : HostState Env) (slots more : List Val) → Holds p h slots
+  pub slots : (h : HostState Env) (slots more : List Val) → SlotsHold p h slots
       → holds m.instance condition (state_of m.instance.automaton (take m.declared slots ++ more)) ≡ holds p.instance condition h.inner
 
 -- slots that hold the host's state hold the values of the member's variables, in a state that stands for the host's
 abbrev pub HeldWith : Host → Member → Type 0
-HeldWith p m = (h : HostState Env) (slots : List Val) → Holds p h slots
+HeldWith p m = (h : HostState Env) (slots : List Val) → SlotsHold p h slots
     → (s : Env) × StandsFor p h s × ((x : Name) → s x ≡ values_of (variable_names m.instance.automaton) slots x)
 
 -- whether an entry of the automaton's signature is of such a kind
@@ -114,7 +114,7 @@ has_kind k i = list_any (λ e. k e.kind) i.automaton.entries
 
 -- the composition is made of the hosts, one by one; it does what they do, from their start on, its invariants are as true as theirs, and
 -- it breaks the same ones first; slots hold the hosts' states just where they hold its own
-pub record Stands (h : Hosted) (c : Composed) : Type 0 where
+pub record Simulates (h : Hosted) (c : Composed) : Type 0 where
   pub types : c.types ≡ h.types
   pub name : c.name ≡ h.name
   pub hidden : c.hidden ≡ h.hidden
@@ -131,12 +131,12 @@ pub record Stands (h : Hosted) (c : Composed) : Type 0 where
   pub broken : (n : ℕ) (hs : List (HostState Env)) (ss : List Env) → AllRelated (StandsAt h.hosts) 0 hs ss → broken_hosts h n hs ≡ broken_at c n ss
 
 -- the composition of the rewritten components, and of those that do not crash, stands for the hosts
-abbrev pub RewritingStands : Type 0
-RewritingStands = (h : Hosted) → AllMayStand h → All (λ v. IsTrue (list_all spelled (names_of_expr v.condition))) h.invariants → Stands h (composed_for h)
+abbrev pub RewritingSimulates : Type 0
+RewritingSimulates = (h : Hosted) → AllMayStand h → All (λ v. IsTrue (list_all spelled (names_of_expr v.condition))) h.invariants → Simulates h (composed_for h)
 
 -- so of the hosts of a well formed source
-abbrev pub HostsStand : Type 0
-HostsStand = (s : SourceTree) (t : CompositionTree) (h : Hosted) → WellFormed s → LegalNames s → IsHosted s t h → Stands h (composed_for h)
+abbrev pub HostsAreSimulated : Type 0
+HostsAreSimulated = (s : SourceTree) (t : CompositionTree) (h : Hosted) → WellFormed s → LegalNames s → IsHosted s t h → Simulates h (composed_for h)
 
 -- the instance with inputs for crash and recover
 abbrev pub signalled : Host → Instance
