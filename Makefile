@@ -4,7 +4,7 @@ PREFIX ?= /usr/local
 PROGRAM := crates/ioac_program/out/ioac_program
 EXAMPLE := examples/counter
 
-.PHONY: all demo test planted examples pictures bench install clean
+.PHONY: all demo test planted hostile examples pictures bench install clean
 
 # Proves and builds the program.
 all: $(PROGRAM)
@@ -25,6 +25,10 @@ test:
 # Tries the planted bugs, over what checks kept: those of all crates, or of CRATES.
 planted:
 	@tools/planted $(CRATES)
+
+# What no proof reaches, tried on the program that stands: memory that is refused, at each request in turn. Wants `cc`.
+hostile: all
+	@tools/refused $(PROGRAM)
 
 # The examples on the program that stands.
 examples: all
