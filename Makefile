@@ -26,9 +26,10 @@ test:
 planted:
 	@tools/planted $(CRATES)
 
-# What no proof reaches, tried on the program that stands: memory that is refused, at each request in turn. Wants `cc`.
+# What no proof reaches, tried on the program that stands: memory that is refused, at each request in turn, and bytes of strangers. Wants `cc`.
 hostile: all
 	@tools/refused $(PROGRAM)
+	@tools/foreign $(PROGRAM)
 
 # The examples on the program that stands.
 examples: all
