@@ -79,7 +79,7 @@ pub fn read_object(alloc: Global, bytes: &[u8]) -> Result<Program, ObjErr>
 /// The tables of a program.
 #[tactic(auto, unfolding(crate::specs::Reading::tables_at))]
 fn tables(cursor: &mut Cursor<'_>) -> Result<Tables, ObjErr>
-    ensures { spec.Reads prog_of (spec.tables_at cursor.old) result cursor.new }
+    ensures { spec.ReadsItem prog_of (spec.tables_at cursor.old) result cursor.new }
 {
     let types = types(cursor)?;
     let name = name(cursor, &types)?;
@@ -96,7 +96,7 @@ fn tables(cursor: &mut Cursor<'_>) -> Result<Tables, ObjErr>
 /// The composition's name, which no type gives.
 #[tactic(auto, unfolding(crate::specs::Reading::name_at))]
 fn name(cursor: &mut Cursor<'_>, types: &Types) -> Result<String, ObjErr>
-    ensures { spec.Reads string_bytes (spec.name_at (contains (all_names types.now)) cursor.old) result cursor.new }
+    ensures { spec.ReadsItem string_bytes (spec.name_at (contains (all_names types.now)) cursor.old) result cursor.new }
 {
     let name = cursor.name()?;
     if is_given(types, name.text) {
@@ -108,7 +108,7 @@ fn name(cursor: &mut Cursor<'_>, types: &Types) -> Result<String, ObjErr>
 /// The hidden names, each of an output.
 #[tactic(auto, unfolding(crate::specs::Reading::list_at))]
 fn hidden_names(cursor: &mut Cursor<'_>, members: &[Member]) -> Result<Vec<String>, ObjErr>
-    ensures { spec.Reads (λ v. map string_bytes v.items) (spec.list_at 0 most.hidden (spec.hidden_at (map member_code members.now)) cursor.old) result cursor.new }
+    ensures { spec.ReadsItem (λ v. map string_bytes v.items) (spec.list_at 0 most.hidden (spec.hidden_at (map member_code members.now)) cursor.old) result cursor.new }
 {
     let count = cursor.count(0, LIMITS.hidden)?;
     let mut found = Vec::new(cursor.alloc());
@@ -125,7 +125,7 @@ fn hidden_name(
     members: &[Member],
     before: &[String],
 ) -> Result<String, ObjErr>
-    ensures { spec.Reads string_bytes (spec.hidden_at (map member_code members.now) (map string_bytes before.now) cursor.old) result cursor.new }
+    ensures { spec.ReadsItem string_bytes (spec.hidden_at (map member_code members.now) (map string_bytes before.now) cursor.old) result cursor.new }
 {
     let name = cursor.name()?;
     if is_named(before, name.text) || !is_output(members, name.text) {

@@ -33,7 +33,7 @@ expressions::climb-returns-in_err-operand-clause-read t c =
 pub expressions::expression-returns-clause-read : goal.expressions::expression-returns-clause-read
 expressions::expression-returns-clause-read t c =
     let starts = expr_starts c.args.depth c.args.least _ (tokens_shown c.args.cursor.now) _ _ (omega arith) c.in_ok-left.ensures.read in
-    subst (λ (o : spec.Outcome Expr). spec.Reads (λ m. expr_of m.expression) o c.climb.result (tokens_shown c.climb.new.cursor)) (sym starts) c.climb.ensures.read
+    subst (λ (o : spec.Outcome Expr). spec.ReadsAs (λ m. expr_of m.expression) o c.climb.result (tokens_shown c.climb.new.cursor)) (sym starts) c.climb.ensures.read
 
 pub calls::after_name-returns-clause-read : goal.calls::after_name-returns-clause-read
 calls::after_name-returns-clause-read t c =
