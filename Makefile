@@ -26,9 +26,11 @@ test:
 planted:
 	@tools/planted $(CRATES)
 
-# What no proof reaches, tried on the program that stands: memory that is refused, at each request in turn, and bytes of strangers. Wants `cc`.
+# What no proof reaches, tried on the program that stands: memory that is refused, at each request in turn, devices that fail, and bytes of
+# strangers. Wants `cc`.
 hostile: all
 	@tools/refused $(PROGRAM)
+	@sh examples/devices.sh $(PROGRAM)
 	@tools/foreign $(PROGRAM)
 
 # The examples on the program that stands.
