@@ -24,3 +24,4 @@ pub mod Clashing
 pub mod Outlined
 pub mod HostEntries
 pub mod Given
+pub mod Subjects

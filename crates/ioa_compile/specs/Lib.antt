@@ -9,6 +9,7 @@ pub mod Correspondence
 pub mod CodeEnds
 pub mod Matching
 pub mod Implements
+pub mod Subjects
 pub mod Hosts
 pub mod Scopes
 pub mod CodedScopes
