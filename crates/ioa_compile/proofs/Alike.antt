@@ -32,7 +32,7 @@ use Rattle.ioa_tree.specs.Proposing.{Words, parameters, proposed}
 use Rattle.ioa_tree.specs.Components.{is_local}
 use Rattle.ioa_tree.specs.Compositions.{Member}
 use Rattle.ioa_tree.specs.Likes.{AreLike}
-use Rattle.ioa_tree.specs.WellFormed.{Context, contains, local_names, parameter_names, variable_fields, context_of, held, scope, is_input}
+use Rattle.ioa_tree.specs.WellFormed.{Context, contains, local_names, parameter_names, variable_fields, context_of, held, scope, is_input, type_of}
 use Rattle.ioa_tree.proofs.Domains.{domains_have}
 use Rattle.ioa_tree.proofs.ValTyped.{val_typed}
 use Rattle.ioa_compose.specs.Fine.{IsFine, component_limits}
@@ -82,7 +82,7 @@ for_part part types ts us vals e f h =
 end_is : (part : Part) (s : State) (r : End) → runs.Comes part s r → outcome part s ≡ Some r
 end_is part s r c = (outcome_is_end part s r).1 c
 
-guard_says : (part : Part) (slots args : List Val) (v : Answer) → GuardEnds part slots args v → truth_of v ≡ guard_of part slots args
+pub guard_says : (part : Part) (slots args : List Val) (v : Answer) → GuardEnds part slots args v → truth_of v ≡ guard_of part slots args
 guard_says part slots args (gives (plain.truth b)) c = sym (ap guard_answer (end_is part (start slots args) _ c))
 guard_says part slots args (gives (plain.num z)) c = sym (ap guard_answer (end_is part (start slots args) _ c))
 guard_says part slots args (gives (plain.name ty n)) c = sym (ap guard_answer (end_is part (start slots args) _ c))
@@ -150,7 +150,7 @@ module _ (m : Member) (e : EntryTree) (vs ps : List ℕ) (h : Setting m e vs ps)
     abbrev variables_in : Context
     variables_in = context_of m.instance.types (variable_fields m.instance.automaton)
 
-    knows : Knows part.code (scope_of m e) args no_words 0 m.instance.types names_in variables_in vs h.types ps
+    pub knows : Knows part.code (scope_of m e) args no_words 0 m.instance.types names_in variables_in vs h.types ps
     knows = record {
       same_types = is.types_are;
       own_types = refl;
@@ -166,7 +166,7 @@ module _ (m : Member) (e : EntryTree) (vs ps : List ℕ) (h : Setting m e vs ps)
     }
 
     -- what statements keep, in this entry
-    abbrev Holds : Env → List Val → Type 0
+    abbrev pub Holds : Env → List Val → Type 0
     Holds env slots = running.Holds part.code (scope_of m e) args no_words 0 m.instance.types names_in variables_in vs h.types ps knows env slots
 
     holds : (env : Env) (slots : List Val) → Corresponds m.instance env slots → Holds (environment m.instance e args env) slots
@@ -184,6 +184,15 @@ module _ (m : Member) (e : EntryTree) (vs ps : List ℕ) (h : Setting m e vs ps)
     some_answer ty (faults f) t n = absurd (cc)
     some_answer ty nothing t n = t
 
+    -- a condition's code, on slots that hold the environment
+    pub condition_comes : (x : Expr) (inner : Env) (slots : List Val) → Holds inner slots → type_of m.instance.types m.instance.types names_in x ≡ Some 0 → IsGuard part.code (scope_of m e) (Some x) → GuardEnds part slots args (val m.instance.types x inner)
+    condition_comes x inner slots own t k =
+        let s = scope_of m e in
+        let types = m.instance.types in
+        let suits = running.suits part.code s args no_words 0 types names_in variables_in vs h.types ps knows inner slots own in
+        let agree = running.agree part.code s args no_words 0 types names_in variables_in vs h.types ps knows inner slots own in
+        answer_comes part s slots args (within slots no_words own.typed) (val types x inner) (some_answer 0 (val types x inner) (val_typed types declared names_in inner x 0 suits t)) (expr_runs part.code s args no_words 0 types is.types_are refl declared names_in refl inner suits slots agree x 0 0 (length part.code.instrs) [] t k.has)
+
     guard_comes : (g : Option Expr) (env : Env) (slots : List Val) → Corresponds m.instance env slots → GuardTyped m.instance.types names_in g → IsGuard part.code (scope_of m e) g → GuardEnds part slots args (required m.instance.types g (environment m.instance e args env))
     guard_comes None env slots c t k =
         let s = scope_of m e in
@@ -191,13 +200,7 @@ module _ (m : Member) (e : EntryTree) (vs ps : List ℕ) (h : Setting m e vs ps)
         let run = subst (λ n. Comes code (on code s args no_words 0 0 [] slots) (on code s args no_words 0 n (plain.truth true ∷ []) slots)) (sym k.has.1) (push_comes code s args no_words 0 0 [] slots (plain.truth true) k.has.0) in
         came part s slots args (within slots no_words (holds env slots c).typed) (plain.truth true ∷ []) slots run
     guard_comes (Some x) env slots c t k =
-        let s = scope_of m e in
-        let types = m.instance.types in
-        let inner = environment m.instance e args env in
-        let own = holds env slots c in
-        let suits = running.suits part.code s args no_words 0 types names_in variables_in vs h.types ps knows inner slots own in
-        let agree = running.agree part.code s args no_words 0 types names_in variables_in vs h.types ps knows inner slots own in
-        answer_comes part s slots args (within slots no_words own.typed) (val types x inner) (some_answer 0 (val types x inner) (val_typed types declared names_in inner x 0 suits t)) (expr_runs part.code s args no_words 0 types is.types_are refl declared names_in refl inner suits slots agree x 0 0 (length part.code.instrs) [] t k.has)
+        condition_comes x (environment m.instance e args env) slots (holds env slots c) t k
 
     kept_corresponds : (env : Env) (slots : List Val) → Holds env slots → Corresponds m.instance (kept (variable_names m.instance.automaton) env) slots
     kept_corresponds env slots k = record {

@@ -25,3 +25,4 @@ pub mod Outlined
 pub mod HostEntries
 pub mod Given
 pub mod Subjects
+pub mod Asking

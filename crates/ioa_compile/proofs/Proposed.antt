@@ -43,7 +43,7 @@ find_none {X} p (x ∷ xs) e = go (p x) e (find_none p xs)
     go true e r = absurd (cc)
     go false e r = r e
 
-some_of : (o : Option ℕ) (ty : ℕ) → IsTrue (is_some_of o ty) → o ≡ Some ty
+pub some_of : (o : Option ℕ) (ty : ℕ) → IsTrue (is_some_of o ty) → o ≡ Some ty
 some_of (Some t) ty h = let same : t ≡ ty = grind (arith, nat_tests) in ap Some same
 some_of None ty h = absurd (cc)
 

@@ -17,3 +17,4 @@ pub mod Placed
 pub mod Extents
 pub mod Emitting
 pub mod Translated
+pub mod Asking

@@ -152,7 +152,7 @@ fn local_part(
 }
 
 /// Valid code, verified.
-fn verified(
+pub(crate) fn verified(
     alloc: Global,
     types: &Types,
     code: Code,

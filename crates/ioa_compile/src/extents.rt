@@ -42,7 +42,7 @@ fn expressions_extent(expressions: &[Expression]) -> usize
 }
 
 /// How many instructions stand beside the code of two operands: the operator, or two jumps and a constant.
-fn extent_beside(operator: Infix) -> usize
+pub(crate) fn extent_beside(operator: Infix) -> usize
     ensures { result ≡ infix_extent operator }
 {
     match operator {

@@ -29,9 +29,14 @@ mod transition;
 mod compiler;
 mod entries;
 
+// Conditions of invariants, compiled.
+mod asked;
+mod space;
+
 // Laws.
 mod laws;
 
+pub use asked::Asked;
 pub use compatibility::clash_among;
 pub use compiler::compile;
 pub use laws::entries_are_the_hosts;
