@@ -6,7 +6,6 @@ use Rattle.std.proofs.lemmas.Bool.Decides.{nat_tests}
 use Rattle.std.proofs.lemmas.List.{length-append}
 use Rattle.std.proofs.lemmas.Option.{slice_get_past, slice_get_read}
 use Rattle.ioa_code.specs.declared.instr.Instr.{Instr}
-use Rattle.ioa_code.specs.declared.stacks.Stacks.{Stacks}
 use Rattle.ioa_code.specs.declared.pending.Pending.{Pending}
 use Rattle.ioa_code.specs.declared.pending.Pending.TheVariants.{Nothing, Stack, Clash}
 use Rattle.ioa_code.specs.declared.reason.Reason.{Reason}
@@ -15,72 +14,53 @@ use Rattle.ioa_code.specs.declared.exits.Exit.{Exit}
 use Rattle.ioa_code.specs.declared.exits.Exits.{Exits}
 use Rattle.ioa_code.specs.Valid.{Part, Way, after}
 use Rattle.ioa_code.specs.Scan.{Brought, none, some, clash, good, bad, same_types, joined, bring, targets, all_forward, onward, at_end, arrived, passed, scan_from, at_first, scan}
-use Rattle.ioa_code.specs.Stacks.{IsStack, IsNumber, IsNumbered, KeepsStacks, Grows, listed, AreWays, AgreeOn, LeadsOn}
-use Rattle.ioa_code.specs.Pending.{met, Represents, RepresentAll, AreBelow, Brings, IsFirst, Reached}
+use Rattle.ioa_code.specs.Stacks.{Numbering, IsStack, IsNumber, Grows, listed, AreWays, AgreeOn, LeadsOn}
+use Rattle.ioa_code.specs.Pending.{Meets, Represents, RepresentAll, AreBelow, Brings, IsFirst, Reached}
 use Rattle.ioa_value.proofs.ItemLemmas.{get_last}
 use Rattle.ioa_code.proofs.Lists.{get_before, slice_get-set_same, slice_get-set_other}
-use Rattle.ioa_code.proofs.Numbered.{one_number, one_stack, stack_kept, is_number}
-use Rattle.ioa_code.proofs.Ways.{same_types-is, same_types-refl}
+use Rattle.ioa_code.proofs.Numbered.{stack_kept, is_number}
 use Rattle.ioa_code.proofs.Judged.{led, rest, scan_at, scan_end, unclear_bad}
 
 -- ---- one place
 
-met_means : (s : Stacks) → IsNumbered s → (x : Pending) (b : Brought) (k : ℕ) (ts : List ℕ) → Represents s.nodes.items (Some x) b → IsStack s.nodes.items k ts → Represents s.nodes.items (Some (met x k)) (joined b ts)
-met_means s n Nothing b k ts m h = (ts, ap (λ y. joined y ts) m, h)
-met_means s n Clash b k ts m h = ap (λ y. joined y ts) m
-met_means s n (Stack j) b k ts m h =
-    subst (λ y. Represents s.nodes.items (Some (if j == k then Stack j else Clash)) (joined y ts)) (sym m.1) (go (j == k) refl)
+-- where a stack was pending already, they are compared
+pub meets_other : (s : Numbering) (j k : ℕ) (b : Bool) → ((us ts : List ℕ) → IsStack s.nodes j us → IsStack s.nodes k ts → b ≡ same_types us ts) → Meets s (Stack j) k (if b then Stack j else Clash)
+meets_other s j k b same c ts m h =
+    subst (λ y. Represents s.nodes (Some (if b then Stack j else Clash)) (joined y ts)) (sym m.1) (go b (same_types m.0 ts) (same m.0 ts m.2 h))
   where
-    go : (c : Bool) → (j == k) ≡ c → Represents s.nodes.items (Some (if c then Stack j else Clash)) (if same_types m.0 ts then some m.0 else clash)
-    go true e =
-        let same : k ≡ j = grind (arith, nat_tests) in
-        let us = one_stack s j m.0 ts m.2 (subst (λ i. IsStack s.nodes.items i ts) same h) in
-        let t : same_types m.0 ts ≡ true = subst (λ l. same_types m.0 l ≡ true) us (same_types-refl m.0) in
-        (m.0, ap (λ c. if c then some m.0 else clash) t, m.2)
-    go false e =
-        let apart : j ≢ k = grind (arith, nat_tests) in
-        let t : same_types m.0 ts ≡ false = differ (same_types m.0 ts) refl apart in
-        ap (λ c. if c then some m.0 else clash) t
-      where
-        differ : (c : Bool) → same_types m.0 ts ≡ c → j ≢ k → c ≡ false
-        differ false t apart = refl
-        differ true t apart =
-            absurd (apart (one_number s n j k ts (subst (IsStack s.nodes.items j) (same_types-is m.0 ts t) m.2) h))
+    go : (b c : Bool) → b ≡ c → Represents s.nodes (Some (if b then Stack j else Clash)) (if c then some m.0 else clash)
+    go true true e = (m.0, refl, m.2)
+    go false false e = refl
+    go true false e = absurd (cc)
+    go false true e = absurd (cc)
 
-pub brings_one : (pending : List Pending) (e : Exit) (x y : Pending) → e.to < length pending → slice_get pending e.to ≡ Some x → y ≡ met x e.stack → Brings pending (slice_set pending e.to y) (e ∷ [])
-brings_one pending e x y lt at f = record {
-  long = simp length-set;
-  holds = λ s brought ways n h i. all s brought ways n h i;
-}
+pub brings_one : (s : Numbering) (pending : List Pending) (e : Exit) (x y : Pending) → e.to < length pending → slice_get pending e.to ≡ Some x → Meets s x e.stack y → Brings s pending (slice_set pending e.to y) (e ∷ [])
+brings_one s pending e x y lt at meets = record { long = simp length-set; holds = λ brought ways h i. all brought ways h i }
   where
-    go : (s : Stacks) (brought : ℕ → Brought) (w : Way) → IsNumbered s → RepresentAll s pending brought → e.to ≡ w.to → IsStack s.nodes.items e.stack w.types → (q : ℕ) (c : Bool) → (q == w.to) ≡ c → Represents s.nodes.items (slice_get (slice_set pending e.to y) q) (if c then joined (brought q) w.types else brought q)
-    go s brought w n h j i q true t =
+    go : (brought : ℕ → Brought) (w : Way) → RepresentAll s pending brought → e.to ≡ w.to → IsStack s.nodes e.stack w.types → (q : ℕ) (c : Bool) → (q == w.to) ≡ c → Represents s.nodes (slice_get (slice_set pending e.to y) q) (if c then joined (brought q) w.types else brought q)
+    go brought w h j i q true t =
         let same : e.to ≡ q = grind (arith, nat_tests) in
-        let m : Represents s.nodes.items (Some x) (brought e.to) = subst (λ o. Represents s.nodes.items o (brought e.to)) at (h e.to) in
-        let set : slice_get (slice_set pending e.to y) e.to ≡ Some (met x e.stack) = slice_get-set_same pending e.to y lt ∙ ap Some f in
-        subst (λ r. Represents s.nodes.items (slice_get (slice_set pending e.to y) r) (joined (brought r) w.types)) same
-        (subst (λ o. Represents s.nodes.items o (joined (brought e.to) w.types)) (sym set) (met_means s n x (brought e.to) e.stack w.types m i))
-    go s brought w n h j i q false t =
+        let m : Represents s.nodes (Some x) (brought e.to) = subst (λ o. Represents s.nodes o (brought e.to)) at (h e.to) in
+        subst (λ r. Represents s.nodes (slice_get (slice_set pending e.to y) r) (joined (brought r) w.types)) same
+        (subst (λ o. Represents s.nodes o (joined (brought e.to) w.types)) (sym (slice_get-set_same pending e.to y lt)) (meets (brought e.to) w.types m i))
+    go brought w h j i q false t =
         let apart : q ≢ e.to = grind (arith, nat_tests) in
-        subst (λ o. Represents s.nodes.items o (brought q)) (sym (slice_get-set_other pending e.to q y apart)) (h q)
+        subst (λ o. Represents s.nodes o (brought q)) (sym (slice_get-set_other pending e.to q y apart)) (h q)
 
-    all : (s : Stacks) (brought : ℕ → Brought) (ways : List Way) → IsNumbered s → RepresentAll s pending brought → AreWays s.nodes.items (e ∷ []) ways → RepresentAll s (slice_set pending e.to y) (bring ways brought)
-    all s brought [] n h i = absurd i
-    all s brought (w ∷ v ∷ vs) n h i = absurd i.2
-    all s brought (w ∷ []) n h i = λ q. go s brought w n h i.0 i.1 q (q == w.to) refl
+    all : (brought : ℕ → Brought) (ways : List Way) → RepresentAll s pending brought → AreWays s.nodes (e ∷ []) ways → RepresentAll s (slice_set pending e.to y) (bring ways brought)
+    all brought [] h i = absurd i
+    all brought (w ∷ v ∷ vs) h i = absurd i.2
+    all brought (w ∷ []) h i = λ q. go brought w h i.0 i.1 q (q == w.to) refl
 
-pub brings_two : (old mid new : List Pending) (a b : Exit) → Brings old mid (a ∷ []) → Brings mid new (b ∷ []) → Brings old new (a ∷ b ∷ [])
-brings_two old mid new a b f g = record {
-  long = g.long ∙ f.long;
-  holds = λ s brought ways n h i. all s brought ways n h i;
-}
+pub brings_two : (s : Numbering) (old mid new : List Pending) (a b : Exit) → Brings s old mid (a ∷ []) → Brings s mid new (b ∷ []) → Brings s old new (a ∷ b ∷ [])
+brings_two s old mid new a b f g = record { long = g.long ∙ f.long; holds = λ brought ways h i. all brought ways h i }
   where
-    all : (s : Stacks) (brought : ℕ → Brought) (ways : List Way) → IsNumbered s → RepresentAll s old brought → AreWays s.nodes.items (a ∷ b ∷ []) ways → RepresentAll s new (bring ways brought)
-    all s brought [] n h i = absurd i
-    all s brought (w ∷ []) n h i = absurd i.2
-    all s brought (w ∷ v ∷ u ∷ us) n h i = absurd i.2.2
-    all s brought (w ∷ v ∷ []) n h i =
-        g.holds s (bring (w ∷ []) brought) (v ∷ []) n (f.holds s brought (w ∷ []) n h (i.0, i.1, tt)) (i.2.0, i.2.1, tt)
+    all : (brought : ℕ → Brought) (ways : List Way) → RepresentAll s old brought → AreWays s.nodes (a ∷ b ∷ []) ways → RepresentAll s new (bring ways brought)
+    all brought [] h i = absurd i
+    all brought (w ∷ []) h i = absurd i.2
+    all brought (w ∷ v ∷ u ∷ us) h i = absurd i.2.2
+    all brought (w ∷ v ∷ []) h i =
+        g.holds (bring (w ∷ []) brought) (v ∷ []) (f.holds brought (w ∷ []) h (i.0, i.1, tt)) (i.2.0, i.2.1, tt)
 
 -- ---- the exits of an instruction
 
@@ -118,25 +98,25 @@ first_more xs f lt = record {
       (cases_lt (suc q) (length xs));
 }
 
-pub first_reached : (part : Part) (s : Stacks) (pending : List Pending) → IsNumbered s → length pending ≡ length part.code.instrs + 1 → IsFirst pending → Reached part s pending 0
-first_reached part s pending n long f = record { numbered = n; long = long; brought = at_first; holds = holds; is = refl }
+pub first_reached : (part : Part) (s : Numbering) (pending : List Pending) → length pending ≡ length part.code.instrs + 1 → IsFirst pending → Reached part s pending 0
+first_reached part s pending long f = record { long = long; brought = at_first; holds = holds; is = refl }
   where
     holds : RepresentAll s pending at_first
-    holds zero = subst (λ o. Represents s.nodes.items o (some [])) (sym f.start) ([], refl, refl)
+    holds zero = subst (λ o. Represents s.nodes o (some [])) (sym f.start) ([], refl, refl)
     holds (suc q) = ⊎_elim
-        (λ e. subst (λ o. Represents s.nodes.items o none) (sym e) refl)
-        (λ e. subst (λ o. Represents s.nodes.items o none) (sym e) refl)
+        (λ e. subst (λ o. Represents s.nodes o none) (sym e) refl)
+        (λ e. subst (λ o. Represents s.nodes o none) (sym e) refl)
         (f.others q)
 
 -- ---- one place more
 
-means_kept : (old new : Stacks) → KeepsStacks old new → (o : Option Pending) (b : Brought) → Represents old.nodes.items o b → Represents new.nodes.items o b
+means_kept : (old new : Numbering) → Grows old new → (o : Option Pending) (b : Brought) → Represents old.nodes o b → Represents new.nodes o b
 means_kept old new keeps (Some (Stack k)) b m = (m.0, m.1, stack_kept old new keeps k m.0 m.2)
 means_kept old new keeps (Some Clash) b m = m
 means_kept old new keeps (Some Nothing) b m = m
 means_kept old new keeps None b m = m
 
-module _ (part : Part) (old : Stacks) (pending : List Pending) (p : ℕ) (reached : Reached part old pending p) where
+module _ (part : Part) (old : Numbering) (pending : List Pending) (p : ℕ) (reached : Reached part old pending p) where
   -- what was read of the place
   pub pending_at : (x : Pending) → p < length part.code.instrs → x ≡ get_or pending p x → slice_get pending p ≡ Some x
   pending_at x lt is =
@@ -146,20 +126,20 @@ module _ (part : Part) (old : Stacks) (pending : List Pending) (p : ℕ) (reache
   -- where no stack is pending
   pub none_pending : (x : Pending) → slice_get pending p ≡ Some x → (x ≡ Nothing) ⊎ (x ≡ Clash) → scan part ≡ bad p NotOne
   none_pending x e (inl f) =
-      let m : reached.brought p ≡ none = subst (λ o. Represents old.nodes.items o (reached.brought p)) (e ∙ ap Some f) (reached.holds p) in
+      let m : reached.brought p ≡ none = subst (λ o. Represents old.nodes o (reached.brought p)) (e ∙ ap Some f) (reached.holds p) in
       reached.is ∙ unclear_bad part (drop p part.code.instrs) p reached.brought none m (λ ts x. cc)
   none_pending x e (inr f) =
-      let m : reached.brought p ≡ clash = subst (λ o. Represents old.nodes.items o (reached.brought p)) (e ∙ ap Some f) (reached.holds p) in
+      let m : reached.brought p ≡ clash = subst (λ o. Represents old.nodes o (reached.brought p)) (e ∙ ap Some f) (reached.holds p) in
       reached.is ∙ unclear_bad part (drop p part.code.instrs) p reached.brought clash m (λ ts x. cc)
 
   module _ (k : ℕ) (e : slice_get pending p ≡ Some (Stack k)) where
-    here : (ts : List ℕ) × (reached.brought p ≡ some ts) × IsStack old.nodes.items k ts
-    here = subst (λ o. Represents old.nodes.items o (reached.brought p)) e (reached.holds p)
+    here : (ts : List ℕ) × (reached.brought p ≡ some ts) × IsStack old.nodes k ts
+    here = subst (λ o. Represents old.nodes o (reached.brought p)) e (reached.holds p)
 
     pub number_here : IsNumber old k
     number_here = is_number old k here.0 here.2
 
-    module _ (new : Stacks) (i : Instr) (at : slice_get part.code.instrs p ≡ Some i) where
+    module _ (new : Numbering) (i : Instr) (at : slice_get part.code.instrs p ≡ Some i) where
       come : scan part ≡ rest part i p reached.brought here.0
       come = reached.is ∙ scan_at part p i reached.brought at ∙ ap (λ b. arrived p b (rest part i p reached.brought)) here.1
 
@@ -167,20 +147,20 @@ module _ (part : Part) (old : Stacks) (pending : List Pending) (p : ℕ) (reache
       pub lacks_found : (why : Reason) → LeadsOn old new k (Err why) (after part p i) → scan part ≡ bad p why
       lacks_found why leads = come ∙ go (after part p i here.0) (leads.1 here.0 here.2)
         where
-          go : (r : Result (List Way) Reason) → AgreeOn new.nodes.items (Err why) r → passed p r (led part p reached.brought) ≡ bad p why
+          go : (r : Result (List Way) Reason) → AgreeOn new.nodes (Err why) r → passed p r (led part p reached.brought) ≡ bad p why
           go (Ok ways) x = absurd x
           go (Err reason) x = ap (bad p) (sym x)
 
       module _ (exits : Exits) (leads : LeadsOn old new k (Ok exits) (after part p i)) where
-        after_is : (ways : List Way) × (after part p i here.0 ≡ Ok ways) × AreWays new.nodes.items (listed exits) ways
+        after_is : (ways : List Way) × (after part p i here.0 ≡ Ok ways) × AreWays new.nodes (listed exits) ways
         after_is = go (after part p i here.0) refl (leads.1 here.0 here.2)
           where
-            go : (r : Result (List Way) Reason) → after part p i here.0 ≡ r → AgreeOn new.nodes.items (Ok exits) r → (ways : List Way) × (after part p i here.0 ≡ Ok ways) × AreWays new.nodes.items (listed exits) ways
+            go : (r : Result (List Way) Reason) → after part p i here.0 ≡ r → AgreeOn new.nodes (Ok exits) r → (ways : List Way) × (after part p i here.0 ≡ Ok ways) × AreWays new.nodes (listed exits) ways
             go (Ok ways) f x = (ways, f, x)
             go (Err reason) f x = absurd x
 
         forward_same : (c : Bool) → all_forward (length part.code.instrs) p (map (λ e. e.to) (listed exits)) ≡ c → all_forward (length part.code.instrs) p (targets after_is.0) ≡ c
-        forward_same c t = ap (all_forward (length part.code.instrs) p) (sym (same_targets new.nodes.items (listed exits) after_is.0 after_is.2)) ∙ t
+        forward_same c t = ap (all_forward (length part.code.instrs) p) (sym (same_targets new.nodes (listed exits) after_is.0 after_is.2)) ∙ t
 
         led_on : (c : Bool) → all_forward (length part.code.instrs) p (map (λ e. e.to) (listed exits)) ≡ c → scan part ≡ onward p c (scan_from part (drop (p + 1) part.code.instrs) (p + 1) (bring after_is.0 reached.brought))
         led_on c t =
@@ -190,32 +170,22 @@ module _ (part : Part) (old : Stacks) (pending : List Pending) (p : ℕ) (reache
         pub back_found : all_forward (length part.code.instrs) p (map (λ e. e.to) (listed exits)) ≡ false → scan part ≡ bad p NotForward
         back_found t = led_on false t
 
-        pub goes_on : (next : List Pending) → all_forward (length part.code.instrs) p (map (λ e. e.to) (listed exits)) ≡ true → Brings pending next (listed exits) → Reached part new next (p + 1)
+        pub goes_on : (next : List Pending) → all_forward (length part.code.instrs) p (map (λ e. e.to) (listed exits)) ≡ true → Brings new pending next (listed exits) → Reached part new next (p + 1)
         goes_on next t brings = record {
-          numbered = leads.0.numbered;
           long = brings.long ∙ reached.long;
           brought = bring after_is.0 reached.brought;
-          holds = brings.holds new reached.brought after_is.0 leads.0.numbered (λ q. means_kept old new leads.0.keeps (slice_get pending q) (reached.brought q) (reached.holds q)) after_is.2;
+          holds = brings.holds reached.brought after_is.0 (λ q. means_kept old new leads.0 (slice_get pending q) (reached.brought q) (reached.holds q)) after_is.2;
           is = led_on true t;
         }
 
     -- ---- the end
 
-    module _ (new : Stacks) (grows : Grows old new) (j : ℕ) (result : IsStack new.nodes.items j part.result) (end : p ≡ length part.code.instrs) where
+    module _ (new : Numbering) (grows : Grows old new) (j : ℕ) (result : IsStack new.nodes j part.result) (end : p ≡ length part.code.instrs) where
       came : scan part ≡ (if same_types here.0 part.result then good else bad p WrongResult)
       came = reached.is ∙ scan_end part p reached.brought (omega arith) ∙ ap (at_end part p) here.1
 
-      mine : IsStack new.nodes.items k here.0
-      mine = stack_kept old new grows.keeps k here.0 here.2
+      mine : IsStack new.nodes k here.0
+      mine = stack_kept old new grows k here.0 here.2
 
-      pub end_good : k ≡ j → scan part ≡ good
-      end_good same =
-          let ts = one_stack new k here.0 part.result mine (subst (λ n. IsStack new.nodes.items n part.result) (sym same) result) in
-          came ∙ ap (λ c. if c then good else bad p WrongResult) (subst (λ l. same_types here.0 l ≡ true) ts (same_types-refl here.0))
-
-      pub end_bad : k ≢ j → scan part ≡ bad p WrongResult
-      end_bad apart = came ∙ ap (λ c. if c then good else bad p WrongResult) (go (same_types here.0 part.result) refl)
-        where
-          go : (c : Bool) → same_types here.0 part.result ≡ c → c ≡ false
-          go false t = refl
-          go true t = absurd (apart (one_number new grows.numbered k j part.result (subst (IsStack new.nodes.items k) (same_types-is here.0 part.result t) mine) result))
+      pub ended : (b : Bool) → ((ts us : List ℕ) → IsStack new.nodes k ts → IsStack new.nodes j us → b ≡ same_types ts us) → scan part ≡ (if b then good else bad p WrongResult)
+      ended b same = came ∙ ap (λ c. if c then good else bad p WrongResult) (sym (same here.0 part.result mine result))

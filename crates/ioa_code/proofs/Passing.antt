@@ -9,34 +9,33 @@ use Rattle.ioa_value.specs.Table.{Table}
 use Rattle.ioa_value.specs.Operators.{arity, op_type}
 use Rattle.ioa_code.specs.declared.reason.Reason.{Reason}
 use Rattle.ioa_code.specs.declared.reason.Reason.TheVariants.{TooShort, Mistyped}
-use Rattle.ioa_code.specs.declared.stacks.Stacks.{Stacks}
 use Rattle.ioa_value.specs.Plain.{number}
 use Rattle.ioa_code.specs.Machine.{on_top}
 use Rattle.ioa_code.specs.Valid.{wanted, popped, to_next}
-use Rattle.ioa_code.specs.Stacks.{node_at, Spells, IsStack, IsNumbered, Grows, from_node, topmost, Agrees, Passes, AgreeOn, LeadsOn, next_exit}
+use Rattle.ioa_code.specs.Stacks.{Numbering, node_at, Spells, IsStack, Grows, from_node, topmost, Agrees, Passes, AgreeOn, LeadsOn, next_exit}
 use Rattle.ioa_code.proofs.Lists.{on_top-append, on_top-short}
 use Rattle.ioa_code.proofs.Numbered.{grows_refl, stack_kept, one_more, Taken, Takes, takes}
 
-pub spelled_more : (old new : Stacks) (k j : ℕ) (xs : List Ty) (i : ℕ) (d : Ty) → Grows old new → i < length xs → IsStack old.nodes.items k (map number (take i xs)) → node_at new.nodes.items j ≡ Some (k, number (get_or xs i d)) → IsStack new.nodes.items j (map number (take (i + 1) xs))
+pub spelled_more : (old new : Numbering) (k j : ℕ) (xs : List Ty) (i : ℕ) (d : Ty) → Grows old new → i < length xs → IsStack old.nodes k (map number (take i xs)) → node_at new.nodes j ≡ Some (k, number (get_or xs i d)) → IsStack new.nodes j (map number (take (i + 1) xs))
 spelled_more old new k j xs i d g lt h e =
     let n : i + 1 ≡ suc i = omega arith in
     let whole : map number (take (i + 1) xs) ≡ map number (take i xs) ++ number (get_or xs i d) ∷ [] =
     ap (λ m. map number (take m xs)) n ∙ ap (map number) (take-suc xs i d lt) ∙ map-append number (take i xs) (get_or xs i d ∷ []) in
-    subst (IsStack new.nodes.items j) (sym whole)
-    (one_more new.nodes.items k j (number (get_or xs i d)) (map number (take i xs)) (stack_kept old new g.keeps k (map number (take i xs)) h) e)
+    subst (IsStack new.nodes j) (sym whole)
+    (one_more new.nodes k j (number (get_or xs i d)) (map number (take i xs)) (stack_kept old new g k (map number (take i xs)) h) e)
 
-pub passes_same : (old new : Stacks) (k : ℕ) (r : Result ℕ Reason) (f g : List ℕ → Result (List ℕ) Reason) → ((ts : List ℕ) → f ts ≡ g ts) → Passes old new k r f → Passes old new k r g
-passes_same old new k r f g e h = (h.0, λ ts x. subst (Agrees new.nodes.items r) (e ts) (h.1 ts x))
+pub passes_same : (old new : Numbering) (k : ℕ) (r : Result ℕ Reason) (f g : List ℕ → Result (List ℕ) Reason) → ((ts : List ℕ) → f ts ≡ g ts) → Passes old new k r f → Passes old new k r g
+passes_same old new k r f g e h = (h.0, λ ts x. subst (Agrees new.nodes r) (e ts) (h.1 ts x))
 
-pub push_passes : (old new : Stacks) (below k t : ℕ) → Grows old new → node_at new.nodes.items k ≡ Some (below, t) → Passes old new below (Ok k) (λ ts. Ok (ts ++ t ∷ []))
+pub push_passes : (old new : Numbering) (below k t : ℕ) → Grows old new → node_at new.nodes k ≡ Some (below, t) → Passes old new below (Ok k) (λ ts. Ok (ts ++ t ∷ []))
 push_passes old new below k t g e =
-    (g, λ ts h. one_more new.nodes.items below k t ts (stack_kept old new g.keeps below ts h) e)
+    (g, λ ts h. one_more new.nodes below k t ts (stack_kept old new g below ts h) e)
 
 -- what passes leads on to the next place
-pub passes_on : (old new : Stacks) (k p : ℕ) (r : Result ℕ Reason) (f : List ℕ → Result (List ℕ) Reason) → Passes old new k r f → LeadsOn old new k (next_exit p r) (λ ts. to_next p (f ts))
+pub passes_on : (old new : Numbering) (k p : ℕ) (r : Result ℕ Reason) (f : List ℕ → Result (List ℕ) Reason) → Passes old new k r f → LeadsOn old new k (next_exit p r) (λ ts. to_next p (f ts))
 passes_on old new k p r f h = (h.0, λ ts x. go r (f ts) (h.1 ts x))
   where
-    go : (a : Result ℕ Reason) (b : Result (List ℕ) Reason) → Agrees new.nodes.items a b → AgreeOn new.nodes.items (next_exit p a) (to_next p b)
+    go : (a : Result ℕ Reason) (b : Result (List ℕ) Reason) → Agrees new.nodes a b → AgreeOn new.nodes (next_exit p a) (to_next p b)
     go (Ok j) (Ok ts) s = (refl, s, cc)
     go (Ok j) (Err why) s = absurd s
     go (Err why) (Ok ts) s = absurd s
@@ -92,13 +91,13 @@ abbrev pub operator : Table → Op → List ℕ → Result (List ℕ) Reason
 operator types op ts =
     on_top (arity types op) ts (Err TooShort) (λ below operands. wanted Mistyped (op_type types op operands) (λ ty. Ok (below ++ ty ∷ [])))
 
-pub apply_passes : (types : Table) (old new : Stacks) (op : Op) (k : ℕ) (r : ℕ × List ℕ) (o : Option ℕ) (x : Result ℕ Reason) → topmost old.nodes.items k (arity types op) ≡ Some r → o ≡ op_type types op r.1 → Passes old new r.0 x (λ ts. wanted Mistyped o (λ ty. Ok (ts ++ ty ∷ []))) → Passes old new k x (operator types op)
+pub apply_passes : (types : Table) (old new : Numbering) (op : Op) (k : ℕ) (r : ℕ × List ℕ) (o : Option ℕ) (x : Result ℕ Reason) → topmost old.nodes k (arity types op) ≡ Some r → o ≡ op_type types op r.1 → Passes old new r.0 x (λ ts. wanted Mistyped o (λ ty. Ok (ts ++ ty ∷ []))) → Passes old new k x (operator types op)
 apply_passes types old new op k r o x e t p = (
   p.0,
-  λ ts h. top_there old.nodes.items k (arity types op) ts r (Agrees new.nodes.items x) (Err TooShort) (λ below operands. wanted Mistyped (op_type types op operands) (λ ty. Ok (below ++ ty ∷ []))) h e
-      (λ below s. subst (λ y. Agrees new.nodes.items x (wanted Mistyped y (λ ty. Ok (below ++ ty ∷ [])))) t (p.1 below s)),
+  λ ts h. top_there old.nodes k (arity types op) ts r (Agrees new.nodes x) (Err TooShort) (λ below operands. wanted Mistyped (op_type types op operands) (λ ty. Ok (below ++ ty ∷ []))) h e
+      (λ below s. subst (λ y. Agrees new.nodes x (wanted Mistyped y (λ ty. Ok (below ++ ty ∷ [])))) t (p.1 below s)),
 )
 
-pub apply_short : (types : Table) (s : Stacks) (op : Op) (k : ℕ) → IsNumbered s → topmost s.nodes.items k (arity types op) ≡ None → Passes s s k (Err TooShort) (operator types op)
-apply_short types s op k n e =
-    (grows_refl s n, λ ts h. subst (Agrees s.nodes.items (Err TooShort)) (sym (top_missing s.nodes.items k (arity types op) ts (Err TooShort) (λ below operands. wanted Mistyped (op_type types op operands) (λ ty. Ok (below ++ ty ∷ []))) h e)) refl)
+pub apply_short : (types : Table) (s : Numbering) (op : Op) (k : ℕ) → topmost s.nodes k (arity types op) ≡ None → Passes s s k (Err TooShort) (operator types op)
+apply_short types s op k e =
+    (grows_refl s, λ ts h. subst (Agrees s.nodes (Err TooShort)) (sym (top_missing s.nodes k (arity types op) ts (Err TooShort) (λ below operands. wanted Mistyped (op_type types op operands) (λ ty. Ok (below ++ ty ∷ []))) h e)) refl)

@@ -3,21 +3,20 @@ use Rattle.std.proofs.Common.{◌≡◌, ◌≢◌, ℕ, zero, suc, ◌+◌, ◌
 use Rattle.std.specs.Prelude.{slice_get}
 use Rattle.std.proofs.lemmas.Bool.{cases_lt}
 use Rattle.std.proofs.lemmas.List.{length-append}
-use Rattle.ioa_code.specs.declared.stacks.Stacks.{Stacks}
 use Rattle.ioa_code.specs.declared.links.Links.{Links}
 use Rattle.ioa_code.specs.declared.links.Link.{Link}
 use Rattle.ioa_code.specs.declared.links.Link.TheVariants.{Children, Left, Right}
 use Rattle.ioa_code.specs.Links.{owner, linked, leads, Hangs, turned, bits_from, searched}
-use Rattle.ioa_code.specs.Stacks.{node_at, IsNumber, Reaches, Searched, IsNumbered, Grows}
-use Rattle.ioa_code.proofs.Nodes.{node_within, node_old, node_either}
+use Rattle.ioa_code.specs.Stacks.{Numbering, node_at, IsNumber, Reaches, Searched, IsNumbered}
+use Rattle.ioa_code.proofs.Nodes.{node_within, node_either}
 
 -- ---- the search
 
 -- where the search is, and the bits by which it turns next
-pub record Looks (s : Stacks) (key : ℕ × ℕ) (link : Link) (bits : ℕ) : Type 0 where
+pub record Looks (s : Numbering) (key : ℕ × ℕ) (link : Link) (bits : ℕ) : Type 0 where
   pub reaches : Reaches s key link
   pub next : bits ≡ bits_from reaches.turns key.1
-  pub within : owner link < length s.links.items
+  pub within : owner link < length s.links
 
 owner_turned : (k bits : ℕ) → owner (turned k bits) ≡ k
 owner_turned k bits = go (bits % 2 == 0)
@@ -26,20 +25,20 @@ owner_turned k bits = go (bits % 2 == 0)
     go true = refl
     go false = refl
 
-pub looks_first : (s : Stacks) (key : ℕ × ℕ) → IsNumbered s → IsNumber s key.0 → Looks s key (Children key.0) key.1
+pub looks_first : (s : Numbering) (key : ℕ × ℕ) → IsNumbered s → IsNumber s key.0 → Looks s key (Children key.0) key.1
 looks_first s key n le = record {
   reaches = record { turns = 0; comes = refl; past = λ d lt. absurd (omega arith); others = λ d lt. absurd (omega arith) };
   next = refl;
   within = let long = n.long in omega arith;
 }
 
-pub looks_next : (s : Stacks) (key : ℕ × ℕ) (link : Link) (bits k : ℕ) → IsNumbered s → Looks s key link bits → k ≡ leads s.links.items link → k ≢ 0 → node_at s.nodes.items k ≢ Some key → Looks s key (turned k bits) (bits / 2)
+pub looks_next : (s : Numbering) (key : ℕ × ℕ) (link : Link) (bits k : ℕ) → IsNumbered s → Looks s key link bits → k ≡ leads s.links link → k ≢ 0 → node_at s.nodes k ≢ Some key → Looks s key (turned k bits) (bits / 2)
 looks_next s key link bits k n l e ne other = record {
   reaches = record {
     turns = suc l.reaches.turns;
     comes = ap (λ x. turned x (bits_from l.reaches.turns key.1)) here ∙ ap (turned k) (sym l.next);
     past = λ d lt z. ⊎_elim (λ less. l.reaches.past d less z) (λ ge. ne (sym (there d lt ge) ∙ z)) (cases_lt d l.reaches.turns);
-    others = λ d lt z. ⊎_elim (λ less. l.reaches.others d less z) (λ ge. other (ap (node_at s.nodes.items) (sym (there d lt ge)) ∙ z)) (cases_lt d l.reaches.turns);
+    others = λ d lt z. ⊎_elim (λ less. l.reaches.others d less z) (λ ge. other (ap (node_at s.nodes) (sym (there d lt ge)) ∙ z)) (cases_lt d l.reaches.turns);
   };
   next = ap (λ b. b / 2) l.next;
   within =
@@ -49,15 +48,15 @@ looks_next s key link bits k n l e ne other = record {
       omega arith;
 }
   where
-    here : leads s.links.items (searched s.links.items key l.reaches.turns) ≡ k
-    here = ap (leads s.links.items) l.reaches.comes ∙ sym e
+    here : leads s.links (searched s.links key l.reaches.turns) ≡ k
+    here = ap (leads s.links) l.reaches.comes ∙ sym e
 
-    there : (d : ℕ) → d < suc l.reaches.turns → l.reaches.turns ≤ d → leads s.links.items (searched s.links.items key d) ≡ k
+    there : (d : ℕ) → d < suc l.reaches.turns → l.reaches.turns ≤ d → leads s.links (searched s.links key d) ≡ k
     there d lt ge =
-        let at : d ≡ l.reaches.turns = omega arith in ap (λ i. leads s.links.items (searched s.links.items key i)) at ∙ here
+        let at : d ≡ l.reaches.turns = omega arith in ap (λ i. leads s.links (searched s.links key i)) at ∙ here
 
 -- the search for one stack finds one number
-pub one_found : (s : Stacks) → IsNumbered s → (j k : ℕ) (key : ℕ × ℕ) → node_at s.nodes.items j ≡ Some key → node_at s.nodes.items k ≡ Some key → j ≡ k
+pub one_found : (s : Numbering) → IsNumbered s → (j k : ℕ) (key : ℕ × ℕ) → node_at s.nodes j ≡ Some key → node_at s.nodes k ≡ Some key → j ≡ k
 one_found s n j k key a b =
     let x = n.each key j a in
     let y = n.each key k b in
@@ -67,14 +66,14 @@ one_found s n j k key a b =
     (λ more. absurd (passed k y.0 x.0 b y.1 y.2 x.1 more))
     (λ le.
     let same : x.1.turns ≡ y.1.turns = omega arith in
-    let link : x.0 ≡ y.0 = sym x.1.comes ∙ ap (searched s.links.items key) same ∙ y.1.comes in
-    sym x.2 ∙ ap (leads s.links.items) link ∙ y.2)
+    let link : x.0 ≡ y.0 = sym x.1.comes ∙ ap (searched s.links key) same ∙ y.1.comes in
+    sym x.2 ∙ ap (leads s.links) link ∙ y.2)
     (cases_lt y.1.turns x.1.turns))
     (cases_lt x.1.turns y.1.turns)
   where
-    passed : (i : ℕ) (f g : Link) → node_at s.nodes.items i ≡ Some key → (u : Reaches s key f) → leads s.links.items f ≡ i → (v : Reaches s key g) → u.turns < v.turns → ⊥
+    passed : (i : ℕ) (f g : Link) → node_at s.nodes i ≡ Some key → (u : Reaches s key f) → leads s.links f ≡ i → (v : Reaches s key g) → u.turns < v.turns → ⊥
     passed i f g c u e v lt =
-        v.others u.turns lt (ap (λ l. node_at s.nodes.items (leads s.links.items l)) u.comes ∙ ap (node_at s.nodes.items) e ∙ c)
+        v.others u.turns lt (ap (λ l. node_at s.nodes (leads s.links l)) u.comes ∙ ap (node_at s.nodes) e ∙ c)
 
 -- ---- a stack more
 
@@ -97,21 +96,21 @@ pub hung : (old mid new : List Links) (link : Link) (k : ℕ) → mid ≡ old ++
 hung old mid new link k e h = subst (λ l. Hangs l new link k) e h
 
 -- where the search for a stack ended, a new one hangs
-module _ (old new : Stacks) (key : ℕ × ℕ) (k : ℕ) (link : Link) (h : IsNumbered old) (number : IsNumber old key.0) (ended : Searched old key (Err link)) (more : new.nodes.items ≡ old.nodes.items ++ key ∷ []) (last : k ≡ length new.nodes.items) (hangs : Hangs (old.links.items ++ none ∷ []) new.links.items link k) where
-  longer : length new.nodes.items ≡ length old.nodes.items + 1
-  longer = ap length more ∙ length-append old.nodes.items (key ∷ [])
+module _ (old new : Numbering) (key : ℕ × ℕ) (k : ℕ) (link : Link) (h : IsNumbered old) (number : IsNumber old key.0) (ended : Searched old key (Err link)) (more : new.nodes ≡ old.nodes ++ key ∷ []) (last : k ≡ length new.nodes) (hangs : Hangs (old.links ++ none ∷ []) new.links link k) where
+  longer : length new.nodes ≡ length old.nodes + 1
+  longer = ap length more ∙ length-append old.nodes (key ∷ [])
 
-  leads_kept : (l : Link) → leads old.links.items l ≢ 0 → leads new.links.items l ≡ leads old.links.items l
+  leads_kept : (l : Link) → leads old.links l ≢ 0 → leads new.links l ≡ leads old.links l
   leads_kept l ne = ⊎_elim
-      (λ e. absurd (ne (ap (leads old.links.items) e ∙ ended.2)))
-      (λ e. e ∙ leads_more old.links.items l)
+      (λ e. absurd (ne (ap (leads old.links) e ∙ ended.2)))
+      (λ e. e ∙ leads_more old.links l)
       (hangs.others l)
 
-  searched_kept : (q : ℕ × ℕ) (d : ℕ) → ((e : ℕ) → e < d → leads old.links.items (searched old.links.items q e) ≢ 0) → searched new.links.items q d ≡ searched old.links.items q d
+  searched_kept : (q : ℕ × ℕ) (d : ℕ) → ((e : ℕ) → e < d → leads old.links (searched old.links q e) ≢ 0) → searched new.links q d ≡ searched old.links q d
   searched_kept q zero past = refl
   searched_kept q (suc d) past =
       ap (λ n. turned n (bits_from d q.1))
-      (ap (leads new.links.items) (searched_kept q d (λ e lt. past e (omega arith))) ∙ leads_kept (searched old.links.items q d) (past d (omega arith)))
+      (ap (leads new.links) (searched_kept q d (λ e lt. past e (omega arith))) ∙ leads_kept (searched old.links q d) (past d (omega arith)))
 
   reaches_kept : (q : ℕ × ℕ) (l : Link) → Reaches old q l → Reaches new q l
   reaches_kept q l r = record {
@@ -121,49 +120,46 @@ module _ (old new : Stacks) (key : ℕ × ℕ) (k : ℕ) (link : Link) (h : IsNu
     others = λ d lt e. ⊎_elim
         (r.others d lt)
         (λ y.
-        let within = (h.later (searched old.links.items q d) (r.past d lt)).1 in
+        let within = (h.later (searched old.links q d) (r.past d lt)).1 in
         let long = longer in
         absurd (omega arith))
-        (node_either old.nodes.items new.nodes.items key more (leads old.links.items (searched old.links.items q d)) q (subst (λ n. node_at new.nodes.items n ≡ Some q) (same d lt) e));
+        (node_either old.nodes new.nodes key more (leads old.links (searched old.links q d)) q (subst (λ n. node_at new.nodes n ≡ Some q) (same d lt) e));
   }
     where
-      same : (d : ℕ) → d < r.turns → leads new.links.items (searched new.links.items q d) ≡ leads old.links.items (searched old.links.items q d)
+      same : (d : ℕ) → d < r.turns → leads new.links (searched new.links q d) ≡ leads old.links (searched old.links q d)
       same d lt =
-          ap (leads new.links.items) (searched_kept q d (λ e less. r.past e (omega arith))) ∙ leads_kept (searched old.links.items q d) (r.past d lt)
+          ap (leads new.links) (searched_kept q d (λ e less. r.past e (omega arith))) ∙ leads_kept (searched old.links q d) (r.past d lt)
 
-  later : (l : Link) → leads new.links.items l ≢ 0 → (owner l < leads new.links.items l) × IsNumber new (leads new.links.items l)
+  later : (l : Link) → leads new.links l ≢ 0 → (owner l < leads new.links l) × IsNumber new (leads new.links l)
   later l ne = ⊎_elim
       (λ e.
-      let to : leads new.links.items l ≡ k = ap (leads new.links.items) e ∙ hangs.here in
+      let to : leads new.links l ≡ k = ap (leads new.links) e ∙ hangs.here in
       let mine : owner l ≡ owner link = ap owner e in
       let within = ended.1 in
       let long = h.long in
       let grown = longer in
       (omega arith, omega arith))
       (λ e.
-      let to : leads new.links.items l ≡ leads old.links.items l = e ∙ leads_more old.links.items l in
+      let to : leads new.links l ≡ leads old.links l = e ∙ leads_more old.links l in
       let was = h.later l (λ x. ne (to ∙ x)) in
       let grown = longer in
       (omega arith, omega arith))
       (hangs.others l)
 
-  pub grown : Grows old new
+  pub grown : IsNumbered new
   grown = record {
-    numbered = record {
-      long = let a = hangs.long in let b = h.long in let c = longer in omega (arith, length-append old.links.items (none ∷ []));
-      earlier = λ q j x. ⊎_elim
-          (λ y. h.earlier q j y)
-          (λ y. let below : q.0 ≡ key.0 = ap (λ p. p.0) y.0 in let c = longer in omega arith)
-          (node_either old.nodes.items new.nodes.items key more j q x);
-      later = later;
-      each = λ q j x. ⊎_elim
-          (λ y.
-          let was = h.each q j y in
-          let within = node_within old.nodes.items j q y in
-          let some : leads old.links.items was.0 ≢ 0 = λ z. let e = was.2 in absurd (omega arith) in
-          (was.0, reaches_kept q was.0 was.1, leads_kept was.0 some ∙ was.2))
-          (λ y. (link, subst (λ p. Reaches new p link) (sym y.0) (reaches_kept key link ended.0), hangs.here ∙ last ∙ sym y.1))
-          (node_either old.nodes.items new.nodes.items key more j q x);
-    };
-    keeps = node_old old.nodes.items new.nodes.items key more;
+    long = let a = hangs.long in let b = h.long in let c = longer in omega (arith, length-append old.links (none ∷ []));
+    earlier = λ q j x. ⊎_elim
+        (λ y. h.earlier q j y)
+        (λ y. let below : q.0 ≡ key.0 = ap (λ p. p.0) y.0 in let c = longer in omega arith)
+        (node_either old.nodes new.nodes key more j q x);
+    later = later;
+    each = λ q j x. ⊎_elim
+        (λ y.
+        let was = h.each q j y in
+        let within = node_within old.nodes j q y in
+        let some : leads old.links was.0 ≢ 0 = λ z. let e = was.2 in absurd (omega arith) in
+        (was.0, reaches_kept q was.0 was.1, leads_kept was.0 some ∙ was.2))
+        (λ y. (link, subst (λ p. Reaches new p link) (sym y.0) (reaches_kept key link ended.0), hangs.here ∙ last ∙ sym y.1))
+        (node_either old.nodes new.nodes key more j q x);
   }

@@ -4,13 +4,18 @@ use Rattle.std.specs.Global.{Global}
 use Rattle.ioa_value.specs.declared.value.Ty.{Ty}
 use Rattle.ioa_value.specs.Plain.{number}
 use Rattle.ioa_code.specs.declared.reason.Reason.{Reason}
-use Rattle.ioa_code.specs.declared.stacks.Stacks.{Stacks}
+use Rattle.ioa_code.specs.declared.links.Links.{Links}
 use Rattle.ioa_code.specs.declared.links.Link.{Link}
 use Rattle.ioa_code.specs.declared.exits.Exit.{Exit}
 use Rattle.ioa_code.specs.declared.exits.Exits.{Exits}
 use Rattle.ioa_code.specs.declared.exits.Exits.TheVariants.{One, Two}
 use Rattle.ioa_code.specs.Links.{owner, leads, searched}
 use Rattle.ioa_code.specs.Valid.{Way}
+
+-- stacks by their numbers: what each but the empty one lies on, with the type on its top, and the links by which it is found
+pub record Numbering : Type 0 where
+  pub nodes : List (ℕ × ℕ)
+  pub links : List Links
 
 -- stack 0 is empty; stack k + 1 has the number of a stack, and on it a type
 abbrev pub node_at : List (ℕ × ℕ) → ℕ → Option (ℕ × ℕ)
@@ -27,35 +32,31 @@ abbrev pub IsStack : List (ℕ × ℕ) → ℕ → List ℕ → Type 0
 IsStack nodes k ts = Spells nodes k (reverse ts)
 
 -- one of the numbers given
-abbrev pub IsNumber : Stacks → ℕ → Type 0
-IsNumber s k = k ≤ length s.nodes.items
+abbrev pub IsNumber : Numbering → ℕ → Type 0
+IsNumber s k = k ≤ length s.nodes
 
 -- the search for this stack comes to the link, past other stacks alone
-pub record Reaches (s : Stacks) (key : ℕ × ℕ) (link : Link) : Type 0 where
+pub record Reaches (s : Numbering) (key : ℕ × ℕ) (link : Link) : Type 0 where
   pub turns : ℕ
-  pub comes : searched s.links.items key turns ≡ link
-  pub past : (d : ℕ) → d < turns → leads s.links.items (searched s.links.items key d) ≢ 0
-  pub others : (d : ℕ) → d < turns → node_at s.nodes.items (leads s.links.items (searched s.links.items key d)) ≢ Some key
+  pub comes : searched s.links key turns ≡ link
+  pub past : (d : ℕ) → d < turns → leads s.links (searched s.links key d) ≢ 0
+  pub others : (d : ℕ) → d < turns → node_at s.nodes (leads s.links (searched s.links key d)) ≢ Some key
 
 -- the search for this stack finds its number, or else ends at this link
-abbrev pub Searched : Stacks → ℕ × ℕ → Result ℕ Link → Type 0
-Searched s key (Ok k) = node_at s.nodes.items k ≡ Some key
-Searched s key (Err link) = Reaches s key link × (owner link < length s.links.items) × (leads s.links.items link ≡ 0)
+abbrev pub Searched : Numbering → ℕ × ℕ → Result ℕ Link → Type 0
+Searched s key (Ok k) = node_at s.nodes k ≡ Some key
+Searched s key (Err link) = Reaches s key link × (owner link < length s.links) × (leads s.links link ≡ 0)
 
 -- a stack lies on an earlier one, links lead to later ones, and the search for a stack finds it
-pub record IsNumbered (s : Stacks) : Type 0 where
-  pub long : length s.links.items ≡ length s.nodes.items + 1
-  pub earlier : (key : ℕ × ℕ) (k : ℕ) → node_at s.nodes.items k ≡ Some key → key.0 < k
-  pub later : (link : Link) → leads s.links.items link ≢ 0 → (owner link < leads s.links.items link) × IsNumber s (leads s.links.items link)
-  pub each : (key : ℕ × ℕ) (k : ℕ) → node_at s.nodes.items k ≡ Some key → (link : Link) × Reaches s key link × (leads s.links.items link ≡ k)
+pub record IsNumbered (s : Numbering) : Type 0 where
+  pub long : length s.links ≡ length s.nodes + 1
+  pub earlier : (key : ℕ × ℕ) (k : ℕ) → node_at s.nodes k ≡ Some key → key.0 < k
+  pub later : (link : Link) → leads s.links link ≢ 0 → (owner link < leads s.links link) × IsNumber s (leads s.links link)
+  pub each : (key : ℕ × ℕ) (k : ℕ) → node_at s.nodes k ≡ Some key → (link : Link) × Reaches s key link × (leads s.links link ≡ k)
 
--- no stack has changed its types
-abbrev pub KeepsStacks : Stacks → Stacks → Type 0
-KeepsStacks old new = (k : ℕ) (key : ℕ × ℕ) → node_at old.nodes.items k ≡ Some key → node_at new.nodes.items k ≡ Some key
-
-pub record Grows (old new : Stacks) : Type 0 where
-  pub numbered : IsNumbered new
-  pub keeps : KeepsStacks old new
+-- there may be more stacks, and none has changed its types
+abbrev pub Grows : Numbering → Numbering → Type 0
+Grows old new = (k : ℕ) (key : ℕ × ℕ) → node_at old.nodes k ≡ Some key → node_at new.nodes k ≡ Some key
 
 -- the n topmost types with the last on top, and the stack below them, if there are so many
 abbrev pub on : Option (ℕ × List ℕ) → ℕ → Option (ℕ × List ℕ)
@@ -82,8 +83,8 @@ Agrees nodes (Err why) (Ok ts) = ⊥
 Agrees nodes (Err why) (Err reason) = why ≡ reason
 
 -- of each stack of these types, what comes of it
-abbrev pub Passes : Stacks → Stacks → ℕ → Result ℕ Reason → (List ℕ → Result (List ℕ) Reason) → Type 0
-Passes old new k r after = Grows old new × ((ts : List ℕ) → IsStack old.nodes.items k ts → Agrees new.nodes.items r (after ts))
+abbrev pub Passes : Numbering → Numbering → ℕ → Result ℕ Reason → (List ℕ → Result (List ℕ) Reason) → Type 0
+Passes old new k r after = Grows old new × ((ts : List ℕ) → IsStack old.nodes k ts → Agrees new.nodes r (after ts))
 
 -- the exits in order
 abbrev pub listed : Exits → List Exit
@@ -108,8 +109,8 @@ AgreeOn nodes (Err why) (Ok ways) = ⊥
 AgreeOn nodes (Err why) (Err reason) = why ≡ reason
 
 -- of each stack of these types, where the instruction leads
-abbrev pub LeadsOn : Stacks → Stacks → ℕ → Result Exits Reason → (List ℕ → Result (List Way) Reason) → Type 0
-LeadsOn old new k r after = Grows old new × ((ts : List ℕ) → IsStack old.nodes.items k ts → AgreeOn new.nodes.items r (after ts))
+abbrev pub LeadsOn : Numbering → Numbering → ℕ → Result Exits Reason → (List ℕ → Result (List Way) Reason) → Type 0
+LeadsOn old new k r after = Grows old new × ((ts : List ℕ) → IsStack old.nodes k ts → AgreeOn new.nodes r (after ts))
 
 -- with this stack to the place after p
 abbrev pub next_exit : ℕ → Result ℕ Reason → Result Exits Reason

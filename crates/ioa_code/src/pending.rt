@@ -2,9 +2,10 @@
 
 ghost use Rattle.std.specs.Prelude.{◌≡◌, ◌<◌, ◌+◌, ◌∷◌, [], length, IfOk};
 ghost use Rattle.ioa_code.specs.Stacks.{listed};
-ghost use Rattle.ioa_code.specs.Pending.{met, AreBelow, Brings, IsFirst};
+ghost use Rattle.ioa_code.specs.Pending.{Meets, AreBelow, Brings, IsFirst};
 
 use crate::exits::{Exit, Exits};
+use crate::stacks::{Stacks, same};
 use std::alloc::{AllocError, Global};
 
 /// What the ways from earlier places have brought to a place.
@@ -32,13 +33,13 @@ pub(crate) fn first(alloc: Global, instrs: usize) -> Result<Vec<Pending>, AllocE
 }
 
 // One more stack comes to a place.
-fn meet(had: Pending, stack: usize) -> Pending
-    ensures { result ≡ met had stack }
+fn meet(stacks: &Stacks, had: Pending, stack: usize) -> Pending
+    ensures { Meets stacks.now had stack result }
 {
     match had {
         Pending::Nothing => Pending::Stack(stack),
         Pending::Stack(other) => {
-            if other == stack {
+            if same(stacks, other, stack) {
                 Pending::Stack(other)
             } else {
                 Pending::Clash
@@ -49,24 +50,24 @@ fn meet(had: Pending, stack: usize) -> Pending
 }
 
 // The exit's stack comes to its place.
-fn bring(pending: &mut Vec<Pending>, exit: Exit)
+fn bring(stacks: &Stacks, pending: &mut Vec<Pending>, exit: Exit)
     requires { exit.to < length pending.old.items }
-    ensures { Brings pending.old.items pending.new.items (exit ∷ []) }
+    ensures { Brings stacks.now pending.old.items pending.new.items (exit ∷ []) }
 {
-    let next = meet(pending[exit.to], exit.stack);
+    let next = meet(stacks, pending[exit.to], exit.stack);
     pending[exit.to] = next;
 }
 
 // Each exit's stack comes to its place.
-pub(crate) fn bring_on(pending: &mut Vec<Pending>, exits: Exits)
+pub(crate) fn bring_on(stacks: &Stacks, pending: &mut Vec<Pending>, exits: Exits)
     requires { AreBelow (length pending.old.items) (listed exits) }
-    ensures { Brings pending.old.items pending.new.items (listed exits) }
+    ensures { Brings stacks.now pending.old.items pending.new.items (listed exits) }
 {
     match exits {
-        Exits::One(exit) => bring(pending, exit),
+        Exits::One(exit) => bring(stacks, pending, exit),
         Exits::Two(first, second) => {
-            bring(pending, first);
-            bring(pending, second);
+            bring(stacks, pending, first);
+            bring(stacks, pending, second);
         }
     }
 }

@@ -1,12 +1,14 @@
 //! Stacks of types, of which the verifier compares any two at once, however deep they are.
 
-ghost use Rattle.std.specs.Prelude.{◌≡◌, map, IfOk, Some};
+ghost use Rattle.std.specs.Prelude.{◌≡◌, ℕ, List, map, IfOk, IfSome, Some};
 ghost use Rattle.ioa_value.specs.Plain.{number};
-ghost use Rattle.ioa_code.specs.Stacks.{node_at, IsStack, IsNumber, IsNumbered, Searched, Grows, topmost, taken};
+ghost use Rattle.ioa_code.specs.Scan.{same_types};
+ghost use Rattle.ioa_code.specs.Stacks.{node_at, IsStack, IsNumber, Searched, Grows, topmost, taken};
 
 use crate::links::{Link, Links, hang, target, turn};
 use ioa_value::Ty;
 use std::alloc::{AllocError, Global};
+use std::marker::Model;
 
 /// Stacks of types, each known by a number: 0 is the empty one, k + 1 has the number of a stack, and on it a type.
 /// No two are equal, so equal stacks have equal numbers.
@@ -19,11 +21,19 @@ pub(crate) struct Stacks {
     links: Vec<Links>,
 }
 
+impl Model for Stacks {
+    ghost use Rattle.ioa_code.specs.Stacks.{Numbering, IsNumbered};
+
+    ghost Value = { Numbering };
+
+    ghost view = { λ s. record { nodes = s.nodes.items; links = s.links.items } };
+
+    ghost invariant = { λ s. IsNumbered (record { nodes = s.nodes.items; links = s.links.items }) };
+}
+
 impl Stacks {
     // The empty stack alone.
-    pub(crate) fn new(alloc: Global) -> Result<Stacks, AllocError>
-        ensures numbered { IfOk result IsNumbered }
-    {
+    pub(crate) fn new(alloc: Global) -> Result<Stacks, AllocError> {
         let mut links = Vec::new(alloc);
         links.push(Links::NONE)?;
         Ok(Stacks {
@@ -35,8 +45,7 @@ impl Stacks {
 
 // The number of the stack with this type on that one, or the link at which to hang it.
 fn find(stacks: &Stacks, below: usize, ty: u16) -> Result<usize, Link>
-    requires numbered { IsNumbered stacks.now }
-    requires number { IsNumber stacks.now below }
+    requires { IsNumber stacks.now below }
     ensures { Searched stacks.now (below, ty) result }
 {
     let mut link = Link::Children(below);
@@ -57,16 +66,17 @@ fn find(stacks: &Stacks, below: usize, ty: u16) -> Result<usize, Link>
 
 // The number of the stack with this type on that one.
 pub(crate) fn push(stacks: &mut Stacks, below: usize, ty: Ty) -> Result<usize, AllocError>
-    requires numbered { IsNumbered stacks.old }
-    requires number { IsNumber stacks.old below }
+    requires { IsNumber stacks.old below }
     ensures grows { IfOk result (λ k. Grows stacks.old stacks.new) }
-    ensures node { IfOk result (λ k. node_at stacks.new.nodes.items k ≡ Some (below, number ty)) }
+    ensures node { IfOk result (λ k. node_at stacks.new.nodes k ≡ Some (below, number ty)) }
 {
     match find(stacks, below, ty.0) {
         Ok(stack) => Ok(stack),
         Err(link) => {
-            stacks.nodes.push((below, ty.0))?;
+            // Where memory is short the stacks stay as they are, so what may fail goes first.
+            stacks.nodes.reserve(1)?;
             stacks.links.push(Links::NONE)?;
+            stacks.nodes.push_reserved((below, ty.0));
             let stack = stacks.nodes.len();
             hang(&mut stacks.links, link, stack);
             Ok(stack)
@@ -74,14 +84,31 @@ pub(crate) fn push(stacks: &mut Stacks, below: usize, ty: Ty) -> Result<usize, A
     }
 }
 
+// Whether two stacks have the same types. No two do, so their numbers tell.
+pub(crate) fn same(stacks: &Stacks, one: usize, other: usize) -> bool
+    ensures { (ts us : List ℕ) → IsStack stacks.now.nodes one ts → IsStack stacks.now.nodes other us → result ≡ same_types ts us }
+{
+    // That no two do is known where the stacks are opened.
+    let _nodes = &stacks.nodes;
+    one == other
+}
+
 // The stack's topmost type, and the stack below it.
 pub(crate) fn top(stacks: &Stacks, stack: usize) -> Option<(usize, u16)>
-    ensures { result ≡ node_at stacks.now.nodes.items stack }
+    ensures node { result ≡ node_at stacks.now.nodes stack }
+    ensures number { IfSome result (λ node. IsNumber stacks.now node.0) }
+{
+    node(&stacks.nodes, stack)
+}
+
+// The node of this number, where there is one: the empty stack has none.
+fn node(nodes: &[(usize, u16)], stack: usize) -> Option<(usize, u16)>
+    ensures { result ≡ node_at nodes.now stack }
 {
     if stack == 0 {
         return None;
     }
-    stacks.nodes.get(stack - 1).copied()
+    nodes.get(stack - 1).copied()
 }
 
 // The n topmost types, with the last on top, and the stack below them, if there are so many.
@@ -91,7 +118,8 @@ pub(crate) fn take(
     stack: usize,
     n: usize,
 ) -> Result<Option<(usize, Vec<Ty>)>, AllocError>
-    ensures { IfOk result (λ r. taken r ≡ topmost stacks.now.nodes.items stack n) }
+    ensures taken { IfOk result (λ r. taken r ≡ topmost stacks.now.nodes stack n) }
+    ensures number { IsNumber stacks.now stack → IfOk result (λ r. IfSome r (λ rest. IsNumber stacks.now rest.0)) }
 {
     if n == 0 {
         return Ok(Some((stack, Vec::new(alloc))));
@@ -110,9 +138,8 @@ pub(crate) fn take(
 
 // The number of the stack of these types.
 pub(crate) fn spell(stacks: &mut Stacks, types: &[Ty]) -> Result<usize, AllocError>
-    requires { IsNumbered stacks.old }
     ensures grows { IfOk result (λ k. Grows stacks.old stacks.new) }
-    ensures stack { IfOk result (λ k. IsStack stacks.new.nodes.items k (map number types.now)) }
+    ensures stack { IfOk result (λ k. IsStack stacks.new.nodes k (map number types.now)) }
 {
     let mut stack = 0;
     for ty in types {

@@ -7,18 +7,13 @@ use Rattle.ioa_code.specs.declared.reason.Reason.TheVariants.{Mistyped}
 use Rattle.ioa_code.specs.Valid.{wanted}
 use Rattle.ioa_code.specs.Stacks.{topmost, taken, Passes}
 use Rattle.ioa_code.proofs.Passing.{operator, apply_passes, apply_short}
-use Rattle.ioa_code.proofs.Numbered.{rest_is_number}
 use Rattle.ioa_code.proofs.verifier.applied.Goals as goal
 use Rattle.ioa_code.proofs.verifier.applied.Goals.{After-op_type}
 
 -- what was taken
-found : (c : After-op_type) → topmost c.args.stacks.now.nodes.items c.args.stack (arity c.args.types.now c.args.op) ≡ Some (c.in-Some.below, map number c.in-Some.operands.items)
+found : (c : After-op_type) → topmost c.args.stacks.now.nodes c.args.stack (arity c.args.types.now c.args.op) ≡ Some (c.in-Some.below, map number c.in-Some.operands.items)
 found c =
-    ap (topmost c.args.stacks.now.nodes.items c.args.stack) (sym c.arity.ensures) ∙ sym c.in_ok-below.ensures ∙ ap taken c.in-Some.is
-
-pub pushed-requires-clause-number : goal.pushed-requires-clause-number
-pushed-requires-clause-number c =
-    rest_is_number c.args.stacks.now c.requires.numbered c.args.stack (arity c.args.types.now c.args.op) (c.in-Some.below, map number c.in-Some.operands.items) c.requires.number (found c)
+    ap (topmost c.args.stacks.now.nodes c.args.stack) (sym c.arity.ensures) ∙ sym c.in_ok-below.ensures.taken ∙ ap taken c.in-Some.is
 
 pub returns-in-Some : goal.returns-in-Some
 returns-in-Some c =
@@ -36,6 +31,6 @@ returns-in-Some c =
 pub returns-in-None : goal.returns-in-None
 returns-in-None c =
     let old = c.args.stacks.now in
-    let found : topmost old.nodes.items c.args.stack (arity c.args.types.now c.args.op) ≡ None =
-    ap (topmost old.nodes.items c.args.stack) (sym c.arity.ensures) ∙ sym c.in_ok-below.ensures ∙ ap taken c.in-None.is in
-    apply_short c.args.types.now old c.args.op c.args.stack c.requires.numbered found
+    let found : topmost old.nodes c.args.stack (arity c.args.types.now c.args.op) ≡ None =
+    ap (topmost old.nodes c.args.stack) (sym c.arity.ensures) ∙ sym c.in_ok-below.ensures.taken ∙ ap taken c.in-None.is in
+    apply_short c.args.types.now old c.args.op c.args.stack found

@@ -8,7 +8,7 @@ use Rattle.ioa_code.proofs.verifier.scanned.Goals as goal
 pub loop-place-init : goal.loop-place-init
 loop-place-init c =
     let end : c.len-end.result ≡ length c.args.code.now.instrs.items = omega (arith, c.args.code.now.instrs.ok.0) in
-    first_reached (part_for c.args.code.now c.args.env.now) c.in_ok-stacks.stacks c.in_ok-pending.pending.items c.in_ok-stacks.ensures.numbered (c.in_ok-pending.ensures.long ∙ ap (λ n. n + 1) end) c.in_ok-pending.ensures.first
+    first_reached (part_for c.args.code.now c.args.env.now) c.in_ok-stacks.stacks c.in_ok-pending.pending.items (c.in_ok-pending.ensures.long ∙ ap (λ n. n + 1) end) c.in_ok-pending.ensures.first
 
 pub returns-clause-bad : goal.returns-clause-bad
 returns-clause-bad c =
