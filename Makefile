@@ -42,7 +42,7 @@ pictures: all
 	@tools/pages $(PROGRAM) --pictures
 
 # Figures: how time and memory grow with the list, with the source, with the components, and with the code that is verified; how fast
-# the protocols of the library run; how fast objects are read and written; what names cost that were chosen to collide; and what threads
+# the protocols of the library run; how fast objects are read and written; what names cost that were chosen to collide, and other bytes of strangers; and what threads
 # gain. Last, some thousand runs on threads are replayed.
 bench: all
 	@sh bench/ratios.sh $(PROGRAM)
@@ -51,6 +51,7 @@ bench: all
 	@sh bench/links.sh $(PROGRAM)
 	@sh bench/objects.sh $(PROGRAM)
 	@sh bench/names.sh $(PROGRAM)
+	@sh bench/hostile.sh $(PROGRAM)
 	@sh bench/threads.sh $(PROGRAM)
 	@sh bench/soak.sh $(PROGRAM) 50
 
