@@ -14,7 +14,8 @@ mod words;
 
 // The machine.
 mod draw;
-mod step;
+mod machine;
+mod stack;
 mod workspace;
 
 // Parts of code that are run.

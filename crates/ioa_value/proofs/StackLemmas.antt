@@ -1,5 +1,5 @@
 -- Operands on top of a stack, and what is below them.
-use Rattle.std.proofs.Common.{◌≡◌, ℕ, zero, suc, ◌<◌, ◌-◌, ◌+◌, List, [], ◌∷◌, ◌++◌, length, map, take, drop, None, cond, IfOk, Result, Ok, Err, refl, sym, ap, ap₂, ◌∙◌, arith}
+use Rattle.std.proofs.Common.{◌≡◌, ℕ, zero, suc, ◌<◌, ◌-◌, List, [], ◌∷◌, ◌++◌, length, map, take, drop, None, cond, IfOk, Result, Ok, Err, refl, sym, ap, ap₂, ◌∙◌, arith}
 use Rattle.std.proofs.lemmas.List.{length-map, length-drop, length-append, take-append-drop}
 use Rattle.std.proofs.Math.Seq.{take-length}
 use Rattle.std.specs.List.{take-map, drop-map}
@@ -10,7 +10,7 @@ use Rattle.ioa_value.specs.declared.value.Ty.{Ty}
 use Rattle.ioa_value.specs.declared.value.Value.{Value}
 use Rattle.ioa_value.specs.Plain.{Val, Vals, tuple, vals, count, plain, plain_all}
 use Rattle.ioa_value.specs.Table.{Table, field_types}
-use Rattle.ioa_value.specs.Operators.{Answer, gives, nothing, operate, arity}
+use Rattle.ioa_value.specs.Operators.{Answer, gives, nothing, operate, arity, operands_on, below_operands, GoOff}
 use Rattle.ioa_value.proofs.PlainLemmas.{vals-plain, count-plain_all}
 use Rattle.ioa_value.proofs.SameLemmas.{equal}
 
@@ -38,57 +38,58 @@ take_front : (xs ys : List Val) → take (length xs) (xs ++ ys) ≡ xs
 take_front [] ys = refl
 take_front (x ∷ xs) ys = ap (λ l. x ∷ l) (take_front xs ys)
 
-module _ (types : Table) (op : Op) (stack : List Value) where
-  whole : map plain stack ≡ take (length stack - arity types op) (map plain stack) ++ drop (length stack - arity types op) (map plain stack)
-  whole = sym (take-append-drop (length stack - arity types op) (map plain stack))
-
+module _ (types : Table) (op : Op) (stack : List Val) where
   -- the operands as they are known, at the end of the stack
-  pub topped : (vs : List Val) → drop (length stack - arity types op) (map plain stack) ≡ vs → map plain stack ≡ take (length stack - arity types op) (map plain stack) ++ vs
-  topped vs e = whole ∙ ap (λ l. take (length stack - arity types op) (map plain stack) ++ l) e
+  pub topped : (vs : List Val) → operands_on types op stack ≡ vs → stack ≡ below_operands types op stack ++ vs
+  topped vs e =
+      sym (take-append-drop (length stack - arity types op) stack) ∙ ap (λ l. below_operands types op stack ++ l) e
 
   -- what is below an operand, where it is the last of two
-  pub under : (new : List Val) (v x y : Val) → drop (length stack - arity types op) (map plain stack) ≡ x ∷ y ∷ [] → map plain stack ≡ new ++ v ∷ [] → new ≡ take (length stack - arity types op) (map plain stack) ++ x ∷ []
+  pub under : (new : List Val) (v x y : Val) → operands_on types op stack ≡ x ∷ y ∷ [] → stack ≡ new ++ v ∷ [] → new ≡ below_operands types op stack ++ x ∷ []
   under new v x y e f =
-      let b = take (length stack - arity types op) (map plain stack) in
+      let b = below_operands types op stack in
       ends_same new (b ++ x ∷ []) v y (sym f ∙ topped (x ∷ y ∷ []) e ∙ sym (over b x y))
 
-  long : length stack ≡ length (map plain stack)
-  long = simp length-map
+  module _ (new ops : List Val) (e : stack ≡ new ++ ops) (n : length ops ≡ arity types op) where
+    left : length stack - arity types op ≡ length new
+    left = omega (arith, ap length e, length-append new ops)
 
-  -- the operands are what went off the stack
-  pub top_is : (new ops : List Val) → map plain stack ≡ new ++ ops → length ops ≡ arity types op → drop (length stack - arity types op) (map plain stack) ≡ ops
-  top_is new ops e n =
-      let all : length stack ≡ length new + length ops = long ∙ ap length e ∙ length-append new ops in
-      let k : length stack - arity types op ≡ length new = omega arith in
-      ap₂ (λ i l. drop i l) k e ∙ drop_front new ops
+    -- the operands are what went off the stack
+    pub top_is : operands_on types op stack ≡ ops
+    top_is = ap₂ (λ i l. drop i l) left e ∙ drop_front new ops
+
+    below_is : below_operands types op stack ≡ new
+    below_is = ap₂ (λ i l. take i l) left e ∙ take_front new ops
 
   -- an answer for the operands that went off the stack is the operator's
-  pub moved_as : (o : Op) (new ops : List Val) (a : Answer) → op ≡ o → map plain stack ≡ new ++ ops → length ops ≡ arity types o → a ≡ operate types o ops → (a ≡ operate types op (drop (length stack - arity types op) (map plain stack))) × (new ≡ take (length stack - arity types op) (map plain stack))
+  pub moved_as : (o : Op) (new ops : List Val) (a : Answer) → op ≡ o → stack ≡ new ++ ops → length ops ≡ arity types o → a ≡ operate types o ops → GoOff types op stack new a
   moved_as o new ops a is e n g =
-      let dropped = top_is new ops e (n ∙ ap (arity types) (sym is)) in
-      let all : length stack ≡ length new + length ops = long ∙ ap length e ∙ length-append new ops in
       let size : length ops ≡ arity types op = n ∙ ap (arity types) (sym is) in
-      let k : length stack - arity types op ≡ length new = omega arith in
-      let taken : take (length stack - arity types op) (map plain stack) ≡ new = ap₂ (λ i l. take i l) k e ∙ take_front new ops in
-      (g ∙ ap (λ x. operate types x ops) (sym is) ∙ ap (operate types op) (sym dropped), sym taken)
+      (g ∙ ap (λ x. operate types x ops) (sym is) ∙ ap (operate types op) (sym (top_is new ops e size)), sym (below_is new ops e size))
 
   -- and so where two went, one after the other
-  pub both_moved : (o : Op) (new once : List Val) (x y : Val) (a : Answer) → op ≡ o → map plain stack ≡ once ++ y ∷ [] → once ≡ new ++ x ∷ [] → 2 ≡ arity types o → a ≡ operate types o (x ∷ y ∷ []) → (a ≡ operate types op (drop (length stack - arity types op) (map plain stack))) × (new ≡ take (length stack - arity types op) (map plain stack))
+  pub both_moved : (o : Op) (new once : List Val) (x y : Val) (a : Answer) → op ≡ o → stack ≡ once ++ y ∷ [] → once ≡ new ++ x ∷ [] → 2 ≡ arity types o → a ≡ operate types o (x ∷ y ∷ []) → GoOff types op stack new a
   both_moved o new once x y a is e f n g =
       moved_as o new (x ∷ y ∷ []) a is (e ∙ ap (λ l. l ++ y ∷ []) f ∙ over new x y) n g
 
 -- ---- operands as the end of a slice
 
-pub top_of : (stack d : List Value) (k n : ℕ) → d ≡ stack → k ≡ length stack - n → map plain (take (length d - k) (drop k d)) ≡ drop (length stack - n) (map plain stack)
-top_of stack d k n e f =
-    ap (λ l. map plain (take (length l - k) (drop k l))) e
-    ∙ ap (λ m. map plain (take m (drop k stack))) (sym (length-drop k stack))
-    ∙ ap (map plain) (take-length (drop k stack))
-    ∙ sym (drop-map plain k stack)
-    ∙ ap (λ m. drop m (map plain stack)) f
+module _ (types : Table) (op : Op) (stack : List Value) (k : ℕ) (at : k ≡ length stack - arity types op) where
+  from : k ≡ length (map plain stack) - arity types op
+  from = at ∙ ap (λ n. n - arity types op) (sym (length-map stack plain))
 
-pub below_of : (stack new : List Value) (k n : ℕ) → new ≡ take k stack → k ≡ length stack - n → map plain new ≡ take (length stack - n) (map plain stack)
-below_of stack new k n e f = ap (map plain) e ∙ sym (take-map plain k stack) ∙ ap (λ m. take m (map plain stack)) f
+  pub top_from : map plain (drop k stack) ≡ operands_on types op (map plain stack)
+  top_from = sym (drop-map plain k stack) ∙ ap (λ m. drop m (map plain stack)) from
+
+  pub top_of : (d : List Value) → d ≡ stack → map plain (take (length d - k) (drop k d)) ≡ operands_on types op (map plain stack)
+  top_of d e =
+      ap (λ l. map plain (take (length l - k) (drop k l))) e
+      ∙ ap (λ m. map plain (take m (drop k stack))) (sym (length-drop k stack))
+      ∙ ap (map plain) (take-length (drop k stack))
+      ∙ top_from
+
+  pub below_of : (new : List Value) → new ≡ take k stack → map plain new ≡ below_operands types op (map plain stack)
+  below_of new e = ap (map plain) e ∙ sym (take-map plain k stack) ∙ ap (λ m. take m (map plain stack)) from
 
 -- ---- tuples
 

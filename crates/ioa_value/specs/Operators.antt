@@ -1,5 +1,5 @@
 -- What each operator gives.
-use Rattle.std.specs.Prelude.{◌≡◌, ℕ, ◌<◌, nat_lt, ℤ, pos, ◌+ℤ◌, ◌-ℤ◌, ◌*ℤ◌, neg_ℤ, int_lt, int_le, Bool, true, false, not, ◌&&◌, ◌==◌, List, [], ◌∷◌, ◌++◌, length, Result, Ok, Err, Option, Some, None, if◌then◌else◌, slice_get}
+use Rattle.std.specs.Prelude.{◌≡◌, ℕ, ◌-◌, ◌<◌, nat_lt, ℤ, pos, ◌+ℤ◌, ◌-ℤ◌, ◌*ℤ◌, neg_ℤ, int_lt, int_le, Bool, true, false, not, ◌&&◌, ◌==◌, List, [], ◌∷◌, ◌++◌, length, take, drop, Result, Ok, Err, Option, Some, None, if◌then◌else◌, slice_get}
 use Rattle.std.specs.List.{list_any}
 use Rattle.std.specs.Option.{option_map}
 use Rattle.ioa_arithmetic.specs.declared.arithmetic.Fault.{Fault}
@@ -292,7 +292,22 @@ IsTypedAnswer types ty (gives v) = HasType types v ty
 IsTypedAnswer types ty (faults f) = Unit {0}
 IsTypedAnswer types ty nothing = ⊥
 
--- what becomes of a stack: after a value it stands in the operands' place, above the values below them
-abbrev pub LeavesOnStack : Answer → List Val → List Val → Result (Unit {0}) Fault → Type 0
-LeavesOnStack answer below now (Ok u) = (v : Val) × (answer ≡ gives v) × (now ≡ below ++ v ∷ [])
-LeavesOnStack answer below now (Err f) = answer ≡ faults f
+-- ---- operands on top of a stack
+
+-- the operator's operands, which a stack has on top, in order
+abbrev pub operands_on : Table → Op → List Val → List Val
+operands_on types op stack = drop (length stack - arity types op) stack
+
+-- what lies below them
+abbrev pub below_operands : Table → Op → List Val → List Val
+below_operands types op stack = take (length stack - arity types op) stack
+
+-- what the operator gives of them; they have gone off the stack
+abbrev pub GoOff : Table → Op → List Val → List Val → Answer → Type 0
+GoOff types op old new answer = (answer ≡ operate types op (operands_on types op old)) × (new ≡ below_operands types op old)
+
+-- the operator's value stands in their place, or its fault is this
+abbrev pub GivesOn : Table → Op → List Val → List Val → Result (Unit {0}) Fault → Type 0
+GivesOn types op old new (Ok u) =
+    (v : Val) × (operate types op (operands_on types op old) ≡ gives v) × (new ≡ below_operands types op old ++ v ∷ [])
+GivesOn types op old new (Err f) = operate types op (operands_on types op old) ≡ faults f

@@ -1,10 +1,10 @@
 //! Operators at work, on operands that are lent, or that move off a stack.
 
-ghost use Rattle.std.specs.Prelude.{◌≡◌, ◌-◌, ◌∷◌, [], true, false, map, length, take, drop, IfOk, IsOk};
+ghost use Rattle.std.specs.Prelude.{◌≡◌, ◌∷◌, [], true, false, map, IfOk, IsOk};
 ghost use Rattle.ioa_value.specs.Plain.{plain};
 ghost use Rattle.ioa_value.specs.Table.{Table};
 ghost use Rattle.ioa_value.specs.Operators as spec;
-ghost use Rattle.ioa_value.specs.Operators.{operate, arity, Takes, LeavesOnStack, answer_of, of_number, gives};
+ghost use Rattle.ioa_value.specs.Operators.{operate, operands_on, GoOff, GivesOn, Takes, answer_of, of_number, gives};
 ghost use Rattle.ioa_value.specs.Operands.{operands_of};
 ghost use Rattle.ioa_value.specs.declared.operator.Op.TheVariants as operators;
 
@@ -48,8 +48,8 @@ pub fn apply_last(
     op: Op,
     stack: &mut Vec<Value>,
 ) -> Result<Result<(), Fault>, OutOfMemory>
-    requires { Takes types.now op (drop (length stack.old.items - arity types.now op) (map plain stack.old.items)) }
-    ensures { IfOk result (λ r. LeavesOnStack (operate types.now op (drop (length stack.old.items - arity types.now op) (map plain stack.old.items))) (take (length stack.old.items - arity types.now op) (map plain stack.old.items)) (map plain stack.new.items) r) }
+    requires { Takes types.now op (operands_on types.now op (map plain stack.old.items)) }
+    ensures { IfOk result (λ r. GivesOn types.now op (map plain stack.old.items) (map plain stack.new.items) r) }
 {
     match taken_off(alloc, types, op, stack)? {
         Ok(value) => {
@@ -67,8 +67,8 @@ fn taken_off(
     op: Op,
     stack: &mut Vec<Value>,
 ) -> Result<Result<Value, Fault>, OutOfMemory>
-    requires { Takes types.now op (drop (length stack.old.items - arity types.now op) (map plain stack.old.items)) }
-    ensures { IfOk result (λ r. (answer_of r ≡ operate types.now op (drop (length stack.old.items - arity types.now op) (map plain stack.old.items))) × (map plain stack.new.items ≡ take (length stack.old.items - arity types.now op) (map plain stack.old.items))) }
+    requires { Takes types.now op (operands_on types.now op (map plain stack.old.items)) }
+    ensures { IfOk result (λ r. GoOff types.now op (map plain stack.old.items) (map plain stack.new.items) (answer_of r)) }
 {
     if grows(op) {
         return moved(alloc, types, op, stack);
@@ -156,9 +156,9 @@ fn moved(
     op: Op,
     stack: &mut Vec<Value>,
 ) -> Result<Result<Value, Fault>, OutOfMemory>
-    requires takes { Takes types.now op (drop (length stack.old.items - arity types.now op) (map plain stack.old.items)) }
+    requires takes { Takes types.now op (operands_on types.now op (map plain stack.old.items)) }
     requires large { spec.grows op ≡ true }
-    ensures { IfOk result (λ r. (answer_of r ≡ operate types.now op (drop (length stack.old.items - arity types.now op) (map plain stack.old.items))) × (map plain stack.new.items ≡ take (length stack.old.items - arity types.now op) (map plain stack.old.items))) }
+    ensures { IfOk result (λ r. GoOff types.now op (map plain stack.old.items) (map plain stack.new.items) (answer_of r)) }
 {
     match op {
         Op::Head => Ok(head(pop_sequence(stack).1)),

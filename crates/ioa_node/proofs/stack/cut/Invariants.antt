@@ -1,5 +1,5 @@
 use Rattle.std.proofs.Common.{◌≡◌, ◌≤◌, length, take}
-use Rattle.ioa_node.proofs.step.cut.Given as goal
+use Rattle.ioa_node.proofs.stack.cut.Given as goal
 
 abbrev pub invariant-loop-stack : goal.invariant-loop-stack
 invariant-loop-stack l = (l.count ≤ length l.stack.items) × (take l.count l.stack.items ≡ take l.count l.fn.stack.items)
