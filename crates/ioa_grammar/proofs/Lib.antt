@@ -21,5 +21,6 @@ pub mod Levels
 pub mod Productions
 pub mod DeclarationProductions
 pub mod Whole
+pub mod Stopped
 pub mod Sequences
 pub mod Tuples

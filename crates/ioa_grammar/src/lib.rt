@@ -22,9 +22,11 @@ mod transitions;
 
 // The other declarations, and sources.
 mod compositions;
+mod dead_ends;
 mod invariants;
 mod sources;
 mod types;
 
+pub use dead_ends::{dead_end, goes_on};
 pub use operators::{stands_around, word_of};
 pub use sources::declarations;

@@ -51,7 +51,7 @@ fn about_machines(cursor: &mut Cursor<'_>) -> Result<Declaration, ReadError>
 
 /// A type, or what is about automata.
 #[tactic(auto, unfolding(crate::specs::Reading::declaration))]
-fn declaration(cursor: &mut Cursor<'_>) -> Result<Declaration, ReadError>
+pub(crate) fn declaration(cursor: &mut Cursor<'_>) -> Result<Declaration, ReadError>
     ensures { ReadsAs declaration_of (spec.declaration LIMITS.depth (tokens_shown cursor.old)) result (tokens_shown cursor.new) }
 {
     if cursor.take(Terminal::Type) {

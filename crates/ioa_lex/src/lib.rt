@@ -11,6 +11,7 @@ mod token;
 mod front;
 mod lexer;
 mod scan;
+mod stop;
 
 // Laws.
 mod laws;
@@ -19,4 +20,5 @@ pub use ioa_value::Terminal;
 pub use laws::{one_answer, spaced_tokens, tokens_alone, written_once};
 pub use lexer::lex;
 pub use refusal::Refusal;
+pub use stop::stop_of;
 pub use token::{Kind, Token};
