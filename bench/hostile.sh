@@ -229,7 +229,9 @@ name, words = sys.argv[1], sys.argv[2:]
 times, taken = [], 0.0
 while len(times) < 3 and taken < 2:
     given = open(name, "rb") if words[-1] == "<" else subprocess.DEVNULL
-    subprocess.run([name if it == "FILE" else it for it in words if it != "<"], stdin=given, stdout=subprocess.DEVNULL, stderr=subprocess.DEVNULL)
+    ran = subprocess.run([name if it == "FILE" else it for it in words if it != "<"], stdin=given, stdout=subprocess.DEVNULL, stderr=subprocess.DEVNULL)
+    if ran.returncode not in range(5):
+        sys.exit(f"{name}: exit status {ran.returncode}")
     used = resource.getrusage(resource.RUSAGE_CHILDREN)
     times.append(used.ru_utime + used.ru_stime - taken)
     taken = used.ru_utime + used.ru_stime
