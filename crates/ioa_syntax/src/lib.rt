@@ -4,9 +4,11 @@
 #![tactic(auto)]
 
 mod laws;
+mod numbered;
 mod parsing;
 mod printing;
 mod source;
+mod stuck;
 
 pub use ioa_lex::Refusal;
 pub use ioa_tree::{
@@ -16,6 +18,8 @@ pub use ioa_tree::{
     well_typed_proposals,
 };
 pub use laws::one_tree;
+pub use numbered::{Numbered, parse_numbered};
 pub use parsing::parse;
 pub use printing::print;
 pub use source::Source;
+pub use stuck::{Stuck, stuck_in};

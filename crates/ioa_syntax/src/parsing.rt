@@ -40,7 +40,7 @@ pub fn parse(alloc: Global, text: &[u8]) -> Result<Source, Refusal>
     parse_tokens(alloc, &tokens, last_line(text))
 }
 
-fn parse_tokens(alloc: Global, tokens: &[Token], end: u32) -> Result<Source, Refusal>
+pub(crate) fn parse_tokens(alloc: Global, tokens: &[Token], end: u32) -> Result<Source, Refusal>
     requires { AreTokens (tokens_shown tokens.now) }
     ensures { ReturnsSource tree_of result (spec.source LIMITS.depth (line_at tokens.now end) (tokens_shown tokens.now)) }
 {
