@@ -2,9 +2,9 @@
 # Fails the devices of a program: examples/devices.sh PROGRAM
 #
 # Each command that prints is given a full device, a pipe whose reader is gone, a file that may not grow and no device at all as standard output, and has to tell `L8`, with exit
-# status 5; what a file that may not grow holds is a beginning of the answer. What cannot be told on standard error, a list or a log that cannot be read and a file that cannot has exit status 5, too. An
-# object that does not fit its disk or the size that a file may have, or whose folder may not be written, is refused (`io`): OUT stays as it was, and no file is left. It is put on another device, as
-# asked. Where the program is killed on the way, OUT is the old object or the new one, whole.
+# status 5; what a file that may not grow holds is a beginning of the answer. What cannot be told on standard error, a list or a log that cannot be read and a file that cannot has exit
+# status 5, too. An object that does not fit its disk or the size that a file may have, or whose folder may not be written, is refused (`io`): OUT stays as it was, and no file is left. It is
+# put on another device, as asked. Where the program is killed on the way, OUT is the old object or the new one, whole.
 #
 # What the machine does not let do is skipped, and told.
 set -u
@@ -260,12 +260,14 @@ while [ "$turn" -lt 200 ]; do
   turn=$((turn + 1))
   signal=KILL
   [ $((turn % 4)) -ne 0 ] || signal=TERM
+  : > "$work/printed"
   "$program" compile source.ioa out --comp Big > "$work/printed" 2> "$work/errors" &
   compiling=$!
+  looks=0
   if [ $((turn % 2)) -eq 0 ]; then
     sleep "$(awk -v took="$took" -v turn="$turn" 'BEGIN { srand(turn); printf "%.6f", rand() * 2 * took / 1000000 }')"
   else
-    while [ ! -e out.part ] && kill -0 "$compiling" 2> "$work/found"; do :; done
+    while [ ! -e out.part ] && [ ! -s "$work/printed" ] && [ "$looks" -lt 1000000 ]; do looks=$((looks + 1)); done
   fi
   kill -s "$signal" "$compiling" 2> "$work/found"
   wait "$compiling" 2> "$work/found"
