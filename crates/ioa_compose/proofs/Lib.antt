@@ -11,6 +11,7 @@ pub mod FineLemmas
 pub mod SignatureLemmas
 pub mod ClashLemmas
 pub mod SignedLemmas
+pub mod RowLemmas
 pub mod IndexLemmas
 pub mod SearchLemmas
 pub mod ComposeLemmas

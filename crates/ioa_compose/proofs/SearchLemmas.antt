@@ -1,8 +1,6 @@
 -- A search for the first clash of a signature with later ones.
-use Rattle.std.proofs.Common.{◌≡◌, ℕ, ◌<◌, ◌≤◌, ◌+◌, ◌&&◌, Bool, true, false, not, List, [], ◌∷◌, length, take, Some, refl, sym, ap, subst, ◌∙◌, arith, slice_get, ◌⊎◌, inl, inr, zero, suc, Vec, Global}
+use Rattle.std.proofs.Common.{◌≡◌, ℕ, ◌<◌, ◌≤◌, ◌+◌, ◌&&◌, Bool, true, false, not, List, [], ◌∷◌, length, take, Some, refl, sym, ap, subst, ◌∙◌, arith, slice_get, ◌⊎◌, inl, inr, zero, suc}
 use Rattle.std.specs.List.{list_all}
-use Rattle.std.specs.BTreeMap.{BTreeMap}
-use Rattle.std.specs.Borrow.{Bor}
 use Rattle.std.specs.Str.{bytes_eq}
 use Rattle.std.proofs.lemmas.Bool.{and_from, and_parts, both_ways, not-true, cases_lt}
 use Rattle.std.proofs.lemmas.Slice.Eq.{bytes_eq-Decides}
@@ -10,9 +8,12 @@ use Rattle.std.proofs.lemmas.Option.{slice_get_within}
 use Rattle.ioa_value.specs.Positions.{all_meet}
 use Rattle.ioa_value.proofs.ItemLemmas.{all_at}
 use Rattle.ioa_value.specs.Table.{Table}
-use Rattle.ioa_compose.specs.declared.index.Place.{Place}
+use Rattle.ioa_value.specs.Actions.{Name}
+use Rattle.ioa_compose.specs.declared.index.Index.{Index}
+use Rattle.ioa_compose.specs.declared.places.Place.{Place}
 use Rattle.ioa_compose.specs.Clashes.{SignedEntry, kinds_clash, clash, clear_of, IsClearAt, HitsAt, IsFirstHit, IsHit, IsClearUpTo, IsClearTill}
-use Rattle.ioa_compose.specs.Index.{places_in, IsAt, IsIndexOf}
+use Rattle.ioa_compose.specs.Index.{under, entry_name, place_of, IsAt, IsIndexOf}
+use Rattle.ioa_compose.proofs.IndexLemmas.{is-of, stands-in}
 use Rattle.ioa_compose.proofs.SignatureLemmas.{same-item}
 
 all-from : {X : Type 0} (p : X → Bool) (xs : List X) → ((k : ℕ) (x : X) → slice_get xs k ≡ Some x → p x ≡ true) → list_all p xs ≡ true
@@ -49,6 +50,15 @@ module _ (types : Table) (ss : List (List SignedEntry)) where
       let list : at.0 ≡ on.0 = same-item at.1 (ap (λ r. slice_get ss r.component) place ∙ on.1) in
       same-item at.2 (ap (λ us. slice_get us p.entry) list ∙ ap (λ r. slice_get on.0 r.entry) place ∙ on.2)
 
+  -- an entry stands in each place of an index
+  pub held-there : (index : Index Place) (x : Name) (places : List Place) (k : ℕ) (p : Place) → IsIndexOf entry_name place_of index ss → places ≡ under index x
+      → slice_get places k ≡ Some p → (e : SignedEntry) × IsAt ss p e
+  held-there index x places k p of is here =
+      let f = is-of entry_name place_of 0 ss x k p (ap (λ ps. slice_get ps k) (sym (is ∙ of x)) ∙ here) in
+      let first : 0 + f.component ≡ f.component = omega arith in
+      let place : p ≡ place_of f.component f.entry f.holder = f.is ∙ ap (λ i. place_of i f.entry f.holder) first in
+      (f.holder, subst (λ q. IsAt ss q f.holder) (sym place) (f.list, f.here, f.there))
+
   module _ (e : SignedEntry) (start end k first : ℕ) (places : List Place) (p : Place) (here : slice_get places k ≡ Some p)
       (h : IsHitAmong e start end places k first) where
     clear-too : (last : ℕ) → last ≤ first → ((f : SignedEntry) → IsAt ss p f → start ≤ p.component → p.component < last → clash types e f ≡ false)
@@ -78,10 +88,10 @@ module _ (types : Table) (ss : List (List SignedEntry)) where
         (record { within = h.within; clear = clear-too first (omega arith) this; hit = h.hit })
 
   -- entries of other names do not clash
-  pub hit-first : (m : BTreeMap (Bor (List ℕ)) (Vec Place Global)) (e : SignedEntry) (start end k first : ℕ) (places : List Place) → IsIndexOf m ss
-      → places ≡ places_in m e.name → length places ≤ k
+  pub hit-first : (index : Index Place) (e : SignedEntry) (start end k first : ℕ) (places : List Place) → IsIndexOf entry_name place_of index ss
+      → places ≡ under index e.name → length places ≤ k
       → IsHitAmong e start end places k first → IsFirstHit types ss e start end first
-  hit-first m e start end k first places index is all h = record {
+  hit-first index e start end k first places of is all h = record {
     within = h.within;
     clear = λ j from till fs at. all-from (λ f. not (clash types e f)) fs (λ l f there. clear j l fs f from till at there (clash types e f) refl);
     hit = h.hit;
@@ -94,8 +104,9 @@ module _ (types : Table) (ss : List (List SignedEntry)) where
           let parts = and_parts (bytes_eq e.name f.name && all_meet types e.domains f.domains) (kinds_clash e.kind f.kind) q in
           let name = (bytes_eq-Decides e.name f.name).0 (and_parts (bytes_eq e.name f.name) (all_meet types e.domains f.domains) parts.0).0 in
           let p : Place = record { component = j; entry = l } in
-          let found = index.whole e.name p (f, (fs, at, there), sym name) in
-          let among = ap (λ ps. slice_get ps found.0) is ∙ found.1 in
+          let found = stands-in entry_name place_of 0 ss e.name j l fs f at there ((bytes_eq-Decides f.name e.name).1 (sym name)) in
+          let first : 0 + j ≡ j = omega arith in
+          let among : slice_get places found.0 ≡ Some p = ap (λ ps. slice_get ps found.0) (is ∙ of e.name) ∙ found.1 ∙ ap (λ i. Some (place_of i l f)) first in
           let within = slice_get_within places found.0 p among in
           absurd (both_ways (clash types e f) (h.clear found.0 p f (omega arith) among (fs, at, there) from till) q)
 

@@ -1,37 +1,57 @@
--- Where the entries of each name stand among the signatures of components.
-use Rattle.std.specs.Prelude.{◌≡◌, ℕ, ◌<◌, ◌⊎◌, List, [], Some, Vec, slice_get}
-use Rattle.std.specs.BTreeMap.{BTreeMap, get_by}
-use Rattle.std.specs.Borrow.{Bor}
-use Rattle.std.specs.Cmp.Lexicographic.{slice_cmp}
-use Rattle.std.specs.Global.{Global}
-use Rattle.std.specs.Option.{option_map_or}
-use Rattle.std.specs.Ordering.{nat_cmp}
+-- What stands under each name: of items that were added in order, and of the entries of components.
+use Rattle.std.specs.Prelude.{◌≡◌, ℕ, ◌+◌, List, [], ◌∷◌, ◌++◌, Some, slice_get, if◌then◌else◌}
+use Rattle.std.specs.Str.{bytes_eq}
+use Rattle.std.specs.String.{string_bytes}
 use Rattle.ioa_value.specs.Actions.{Name}
-use Rattle.ioa_compose.specs.declared.index.Place.{Place}
+use Rattle.ioa_compose.specs.declared.index.Index.{Index}
+use Rattle.ioa_compose.specs.declared.index.Row.{Row}
+use Rattle.ioa_compose.specs.declared.places.Place.{Place}
 use Rattle.ioa_compose.specs.Clashes.{SignedEntry}
 
--- the places of a name
-abbrev pub places_in : BTreeMap (Bor (List ℕ)) (Vec Place Global) → Name → List Place
-places_in m x = option_map_or (λ ps. ps.items) (get_by (λ k. slice_cmp nat_cmp x k.now) m) []
+module _ {P : Type 0} where
+  -- the items of the first row of this name
+  abbrev pub items_of : List (Row P) → Name → List P
+  items_of [] x = []
+  items_of (r ∷ rs) x = if bytes_eq (string_bytes r.name) x then r.items.items else items_of rs x
+
+  -- what the index has under a name, in order
+  abbrev pub under : Index P → Name → List P
+  under index x = items_of index.rows.items x
+
+  -- the index has nothing
+  abbrev pub HasNothing : Index P → Type 0
+  HasNothing index = (x : Name) → under index x ≡ []
+
+  -- the item stands behind the others of this name, and nothing else changes
+  abbrev pub Adds : Index P → Name → P → Index P → Type 0
+  Adds old name item new = (x : Name) → under new x ≡ (if bytes_eq name x then under old x ++ item ∷ [] else under old x)
+
+module _ {E P : Type 0} (name : E → Name) (item : ℕ → ℕ → E → P) where
+  -- the items of those of these entries that have the name: of component c, from entry k on
+  abbrev pub named_among : ℕ → ℕ → List E → Name → List P
+  named_among c k [] x = []
+  named_among c k (e ∷ es) x = if bytes_eq (name e) x then item c k e ∷ named_among c (k + 1) es x else named_among c (k + 1) es x
+
+  -- the same of all entries of these components, which are numbered from c on
+  abbrev pub named_in : ℕ → List (List E) → Name → List P
+  named_in c [] x = []
+  named_in c (es ∷ ess) x = named_among c 0 es x ++ named_in (c + 1) ess x
+
+  -- the items of all entries of this component are added
+  abbrev pub AddsAll : Index P → ℕ → List E → Index P → Type 0
+  AddsAll old c es new = (x : Name) → under new x ≡ under old x ++ named_among c 0 es x
+
+  -- under each name stand the items of its entries, each once, in ascending order
+  abbrev pub IsIndexOf : Index P → List (List E) → Type 0
+  IsIndexOf index ess = (x : Name) → under index x ≡ named_in 0 ess x
+
+-- the place of an entry
+abbrev pub place_of : ℕ → ℕ → SignedEntry → Place
+place_of c k e = record { component = c; entry = k }
 
 -- the entry in this place
 abbrev pub IsAt : List (List SignedEntry) → Place → SignedEntry → Type 0
 IsAt ss p e = (es : List SignedEntry) × (slice_get ss p.component ≡ Some es) × (slice_get es p.entry ≡ Some e)
 
--- an entry of this name stands there
-abbrev pub IsNamed : List (List SignedEntry) → Name → Place → Type 0
-IsNamed ss x p = (e : SignedEntry) × IsAt ss p e × (e.name ≡ x)
-
--- the place stands before this entry of this component
-abbrev pub IsBefore : ℕ → ℕ → Place → Type 0
-IsBefore c k p = (p.component < c) ⊎ ((p.component ≡ c) × (p.entry < k))
-
--- the map has the places of all entries before this one by their names, and no others
-pub record IsIndexUpTo (m : BTreeMap (Bor (List ℕ)) (Vec Place Global)) (ss : List (List SignedEntry)) (c k : ℕ) : Type 0 where
-  pub sound : (x : Name) (i : ℕ) (p : Place) → slice_get (places_in m x) i ≡ Some p → IsNamed ss x p × IsBefore c k p
-  pub whole : (x : Name) (p : Place) → IsNamed ss x p → IsBefore c k p → (i : ℕ) × (slice_get (places_in m x) i ≡ Some p)
-
--- it has those of all entries
-pub record IsIndexOf (m : BTreeMap (Bor (List ℕ)) (Vec Place Global)) (ss : List (List SignedEntry)) : Type 0 where
-  pub sound : (x : Name) (i : ℕ) (p : Place) → slice_get (places_in m x) i ≡ Some p → IsNamed ss x p
-  pub whole : (x : Name) (p : Place) → IsNamed ss x p → (i : ℕ) × (slice_get (places_in m x) i ≡ Some p)
+abbrev pub entry_name : SignedEntry → Name
+entry_name e = e.name

@@ -3,6 +3,7 @@ pub mod Held
 pub mod Bindings
 pub mod Clashes
 pub mod Signatures
+pub mod Rows
 pub mod Index
 pub mod Refusals
 pub mod Operands

@@ -5,9 +5,10 @@ ghost use Rattle.ioa_value.specs.Table.{AreTypes};
 ghost use Rattle.ioa_tree.specs.Components.{Compatible};
 ghost use Rattle.ioa_compose.specs.Clashes as spec;
 ghost use Rattle.ioa_compose.specs.Clashes.{signed_of, signature_of, signed_components, IsSignature, IsFirstClash, IsFirstHit, IsHit, IsClearTill};
-ghost use Rattle.ioa_compose.specs.Index.{IsAt, IsIndexOf};
+ghost use Rattle.ioa_compose.specs.Index.{IsAt, IsIndexOf, entry_name, place_of};
 
-use crate::index::{Index, Place};
+use crate::index::Index;
+use crate::places::{Place, places_of};
 use ioa_tree::Kind;
 use ioa_value::{OutOfMemory, Position, Types, all_meet};
 use std::alloc::Global;
@@ -44,7 +45,7 @@ pub fn first_clash(
     ensures exact { IfOk result (λ clash. (clash ≡ None) ↔ Compatible (signed_components types.now (map signature_of signatures.now))) }
     ensures first { IfOk result (λ clash. IfSome clash (IsFirstClash types.now (map signature_of signatures.now))) }
 {
-    let index = Index::of(alloc, signatures)?;
+    let index = places_of(alloc, signatures)?;
     for i in 0..signatures.len() {
         if let Some(hit) = first_of(types, signatures, &index, i) {
             return Ok(Some(Clash {
@@ -65,9 +66,14 @@ struct Hit {
 }
 
 /// The first later component with which this one clashes, and the first entry on which it does.
-fn first_of(types: &Types, signatures: &[Vec<SignedEntry>], index: &Index, i: usize) -> Option<Hit>
+fn first_of(
+    types: &Types,
+    signatures: &[Vec<SignedEntry>],
+    index: &Index<Place>,
+    i: usize,
+) -> Option<Hit>
     requires within { i < length signatures.now }
-    requires indexed { IsIndexOf index.now.places (map signature_of signatures.now) }
+    requires indexed { IsIndexOf entry_name place_of index.now (map signature_of signatures.now) }
     ensures none { IfNone result (IsClearTill types.now (map signature_of signatures.now) i (length signatures.now)) }
     ensures before { IfSome result (λ c. IsClearTill types.now (map signature_of signatures.now) i c.other) }
     ensures hit { IfSome result (λ c. IsHit types.now (map signature_of signatures.now) i c.other c.entry) }
@@ -96,12 +102,12 @@ fn first_of(types: &Types, signatures: &[Vec<SignedEntry>], index: &Index, i: us
 fn first_hit(
     types: &Types,
     signatures: &[Vec<SignedEntry>],
-    index: &Index,
+    index: &Index<Place>,
     entry: &SignedEntry,
     start: usize,
     end: usize,
 ) -> usize
-    requires indexed { IsIndexOf index.now.places (map signature_of signatures.now) }
+    requires indexed { IsIndexOf entry_name place_of index.now (map signature_of signatures.now) }
     requires within { end ≤ length signatures.now }
     ensures { IsFirstHit types.now (map signature_of signatures.now) (signed_of entry.now) start end result }
 {

@@ -7,7 +7,7 @@ ghost use Rattle.ioa_compose.specs.Refusals.{NoneClash, ClashesIn, reason_of};
 
 use crate::binding::Binding;
 use crate::clashes::{entry_at, first_clash};
-use crate::index::Place;
+use crate::places::Place;
 use crate::signatures::signatures;
 use ioa_syntax::Refusal;
 use ioa_value::Types;

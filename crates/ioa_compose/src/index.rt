@@ -1,81 +1,113 @@
-//! Entries by their names.
+//! What stands under a name, found by the order of names.
 
-ghost use Rattle.std.specs.Prelude.{◌≡◌, ◌+◌, ◌<◌, ◌++◌, [], ◌∷◌, map, length, IfOk, OnOk, if◌then◌else◌};
+ghost use Rattle.std.specs.Prelude.{◌≡◌, OnOk};
 ghost use Rattle.std.specs.Str.{bytes_eq};
-ghost use Rattle.ioa_value.specs.Actions as actions;
-ghost use Rattle.ioa_compose.specs.Clashes.{signature_of};
-ghost use Rattle.ioa_compose.specs.Index.{places_in, IsIndexUpTo, IsIndexOf};
+ghost use Rattle.ioa_compose.specs.Rows.{AreNumbered, names_of, number_of};
 
-use crate::clashes::SignedEntry;
 use ioa_value::OutOfMemory;
 use std::alloc::Global;
 use std::collections::BTreeMap;
 
-/// The place of an entry: its component's, and its own among that component's entries.
-#[derive(Clone, Copy)]
-pub(crate) struct Place {
-    pub(crate) component: usize,
-    pub(crate) entry: usize,
-}
+/// Up to so many names are compared one after another, which takes less time than their order does.
+const FEW: usize = 8;
 
-/// The places of all entries by their names.
+/// A name, and the items of this name.
 #[derive(Drop)]
-pub(crate) struct Index<'a> {
-    places: BTreeMap<&'a str, Vec<Place>>,
+struct Row<P> {
+    name: String,
+    items: Vec<P>,
 }
 
-impl<'a> Index<'a> {
-    /// The index of these signatures.
-    pub(crate) fn of(
-        alloc: Global,
-        signatures: &[Vec<SignedEntry<'a>>],
-    ) -> Result<Index<'a>, OutOfMemory>
-        ensures { IfOk result (λ index. IsIndexOf index.places (map signature_of signatures.now)) }
+/// Items by names: those of one name in the order in which they were added. It wants memory for each name and for each item.
+#[derive(Drop)]
+pub struct Index<P> {
+    alloc: Global,
+    rows: Vec<Row<P>>,
+    /// The numbers of the rows by their names.
+    numbers: BTreeMap<String, usize>,
+    ghost numbered: { AreNumbered numbers (names_of rows.items) },
+}
+
+impl<P: Drop> Index<P> {
+    ghost use Rattle.ioa_compose.specs.Index.{Adds, HasNothing, under};
+
+    /// The index that has nothing.
+    pub fn new(alloc: Global) -> Index<P>
+        ensures { HasNothing result }
     {
-        let mut index = Index {
-            places: BTreeMap::new(alloc),
-        };
-        for component in 0..signatures.len() {
-            index.add_all(signatures, component)?;
+        Index {
+            alloc,
+            rows: Vec::new(alloc),
+            numbers: BTreeMap::new(alloc),
         }
-        Ok(index)
     }
 
-    fn add_all(
-        &mut self,
-        signatures: &[Vec<SignedEntry<'a>>],
-        component: usize,
-    ) -> Result<(), OutOfMemory>
-        requires within { component < length signatures.now }
-        requires before { IsIndexUpTo self.old.places (map signature_of signatures.now) component 0 }
-        ensures { OnOk result (IsIndexUpTo self.new.places (map signature_of signatures.now) (component + 1) 0) }
+    /// Puts the item behind those of its name.
+    pub fn add(&mut self, name: &str, item: P) -> Result<(), OutOfMemory>
+        ensures { OnOk result (Adds self.old name.now item self.new) }
     {
-        let entries = signatures[component].as_slice();
-        for k in 0..entries.len() {
-            let name = entries[k].name;
-            let place = Place {
-                component,
-                entry: k,
-            };
-            self.add(name, place)?;
+        match self.numbers.get(name).copied() {
+            Some(number) => self.rows[number].items.push(item)?,
+            None => {
+                let mut items = Vec::new(self.alloc);
+                items.push(item)?;
+                let row = Row {
+                    name: name.to_string(self.alloc)?,
+                    items,
+                };
+                let number = self.rows.len();
+                self.rows.reserve(1)?;
+                self.numbers.insert(name.to_string(self.alloc)?, number)?;
+                self.rows.push_reserved(row);
+            }
         }
         Ok(())
     }
 
-    fn add(&mut self, name: &'a str, place: Place) -> Result<(), OutOfMemory>
-        ensures { OnOk result ((x : actions.Name) → places_in self.new.places x ≡ (if bytes_eq x name.now then places_in self.old.places x ++ place ∷ [] else places_in self.old.places x)) }
+    /// The items of this name, in the order in which they were added.
+    pub fn named(&self, name: &str) -> &[P]
+        ensures { result.now ≡ under self.now name.now }
     {
-        self.places.entry(name)?.or_default().push(place)?;
-        Ok(())
-    }
-
-    /// The places of the entries of this name.
-    pub(crate) fn named(&self, name: &str) -> &[Place]
-        ensures { result.now ≡ places_in self.now.places name.now }
-    {
-        match self.places.get(name) {
-            Some(places) => places.as_slice(),
+        match self.number_of(name) {
+            Some(number) => self.rows[number].items.as_slice(),
             None => &[],
         }
     }
+
+    /// The number of the name's row.
+    fn number_of(&self, name: &str) -> Option<usize>
+        ensures { result ≡ number_of 0 (names_of self.now.rows.items) name.now }
+    {
+        if self.rows.len() <= FEW {
+            return first_named(&self.rows, name);
+        }
+        self.numbers.get(name).copied()
+    }
+}
+
+/// The number of the first row of this name.
+fn first_named<P>(rows: &[Row<P>], name: &str) -> Option<usize>
+    ensures { result ≡ number_of 0 (names_of rows.now) name.now }
+{
+    for i in 0..rows.len() {
+        if same_name(rows[i].name.as_bytes(), name.as_bytes()) {
+            return Some(i);
+        }
+    }
+    None
+}
+
+/// Whether two names are equal. Names are short: a call that compares words of memory costs more than their few bytes.
+fn same_name(a: &[u8], b: &[u8]) -> bool
+    ensures { result ≡ bytes_eq a.now b.now }
+{
+    if a.len() != b.len() {
+        return false;
+    }
+    for i in 0..a.len() {
+        if a[i] != b[i] {
+            return false;
+        }
+    }
+    true
 }

@@ -28,6 +28,7 @@ mod starts;
 mod clashes;
 mod compatibility;
 mod index;
+mod places;
 mod signatures;
 
 // Laws.
@@ -36,6 +37,7 @@ mod laws;
 pub use clashes::{Clash, SignedEntry, first_clash};
 pub use composition::{Composition, compose};
 pub use constants::{constant, empty};
+pub use index::Index;
 pub use ioa_syntax::Refusal;
 pub use laws::{
     hosts_stand, rewriting_means_crash, rewriting_stands, rewriting_stays_fine, signals_decide,

@@ -1,9 +1,15 @@
 use Rattle.std.proofs.Common.{map, get_or, arith, refl, sym, ap, ◌∙◌}
 use Rattle.std.proofs.lemmas.Option.{slice_get-get_or}
 use Rattle.ioa_compose.specs.Clashes.{signed_of, signature_of, clash}
-use Rattle.ioa_compose.proofs.SearchLemmas.{one-entry, hit-more, hit-same, hit-first}
+use Rattle.ioa_compose.proofs.SearchLemmas.{held-there, one-entry, hit-more, hit-same, hit-first}
 use Rattle.ioa_compose.proofs.clashes.first_hit.Goals as goal
 use Rattle.ioa_compose.proofs.clashes.first_hit.Goals.{then-start-place+then-place-first+then-entries_clash, else-start-place, else-start-place-via-then-start-place+then-place-first+else-entries_clash, else-start-place-via-then-start-place+else-place-first, else-start-place-via-else-start-place}
+
+pub entry_at-requires : goal.entry_at-requires
+entry_at-requires c =
+    let ps = c.named-places.result.now in
+    let here = slice_get-get_or ps c.loop-k.k (record { component = 0; entry = 0 }) c.loop-k-test.true in
+    held-there c.args.types.now (map signature_of c.args.signatures.now) c.args.index.now c.args.entry.now.name.now ps c.loop-k.k _ c.requires.indexed c.named-places.ensures here
 
 pub loop-k-preserved : goal.loop-k-preserved
 loop-k-preserved c =
@@ -29,6 +35,6 @@ loop-k-preserved c =
     ]
 
 pub returns : goal.returns
-returns c = hit-first c.args.types.now (map signature_of c.args.signatures.now) c.args.index.now.places (signed_of c.args.entry.now) c.args.start
+returns c = hit-first c.args.types.now (map signature_of c.args.signatures.now) c.args.index.now (signed_of c.args.entry.now) c.args.start
     c.args.end c.loop-k.k c.loop-k.first c.named-places.result.now c.requires.indexed
     c.named-places.ensures c.loop-k-test.false c.loop-k.invariant
