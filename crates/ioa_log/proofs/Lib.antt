@@ -10,6 +10,7 @@ pub mod RunLogs
 pub mod ReadBack
 pub mod LoggedLists
 pub mod Entries
+pub mod EntryByEntry
 pub mod Judged
 pub mod Following
 pub mod Telling

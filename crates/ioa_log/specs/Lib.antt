@@ -4,7 +4,8 @@ pub mod Replays
 pub mod LogLines
 pub mod LogTexts
 pub mod Judging
-pub mod Agreeing
+pub mod EntryByEntry
+pub mod Following
 pub mod Breaking
 pub mod Monitoring
 pub mod LinesRead

@@ -33,9 +33,9 @@ pub use device::{Device, Failed, InputDevice, OutputDevice};
 pub use failure::LogErr;
 pub use judge::replay;
 pub use laws::{
-    first_broken_is_least, judged_is_the_run, logs_tell_histories, monitored_is_the_run,
-    no_refusal, one_log, run_log_is_read, run_logs_agree, verdict_is_the_first_difference,
-    written_log_is_read,
+    first_broken_is_least, judged_entry_by_entry, judged_is_the_run, logs_tell_histories,
+    monitored_is_the_run, no_refusal, one_log, run_log_is_read, run_logs_agree,
+    verdict_is_the_first_difference, written_log_is_read,
 };
 pub use logs::{read_log, write_log};
 pub use monitors::{MonitorErr, monitor};
