@@ -1,7 +1,6 @@
 -- A list text, line by line.
 use Rattle.std.proofs.Common.{◌≡◌, ℕ, ◌+◌, ◌<◌, ◌≤◌, Bool, true, false, ◌==◌, List, [], ◌∷◌, ◌++◌, length, take, All, min, append_assoc, refl, sym, ◌∙◌, ap, subst, arith, length-append, length-take, Option, None, Some, Err, IfSome, inl, inr}
 use Rattle.std.specs.Result.{IsErrOf}
-use Rattle.std.specs.String.{string_bytes}
 use Rattle.std.specs.Io.KnownBytes.{Consumes}
 use Rattle.std.proofs.lemmas.List.{append-nil}
 use Rattle.std.proofs.lemmas.List.Elements.{All-nil, All-head, All-tail, All-cons, All-append}
@@ -189,7 +188,7 @@ pub one_skipped : (p : Prog) (ls : List (List ℕ)) (l : List ℕ) (r : Reading)
 one_skipped p ls l r h s = (h.acts, reads_skipped p.types ls h.acts l h.reads s, h.performed)
 
 pub one_performed : (p : Prog) (ls : List (List ℕ)) (l : List ℕ) (a : Act) (r now : Reading) → HasRead p ls r → Reads r.types.now l a
-    → ((acts : List Act) → r.types.now ≡ p.types → HasPerformed p acts r.runner (string_bytes r.text) → HasPerformed p (acts ++ a ∷ []) now.runner (string_bytes now.text)) → ReadsOneMore p ls l now
+    → ((acts : List Act) → r.types.now ≡ p.types → HasPerformed p acts r.runner r.trace → HasPerformed p (acts ++ a ∷ []) now.runner now.trace) → ReadsOneMore p ls l now
 one_performed p ls l a r now h e goes =
     (h.acts ++ a ∷ [], reads_action p.types ls h.acts l a h.reads (subst (λ ts. Reads ts l a) h.types e), goes h.acts h.types h.performed)
 

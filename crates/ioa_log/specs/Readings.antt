@@ -28,11 +28,11 @@ pub record HasRead (p : Prog) (ls : List (List ℕ)) (r : Reading) : Type 0 wher
   pub types : r.types.now ≡ p.types
   pub reads : ReadsLines p.types ls acts
   pub count : r.count ≡ length ls
-  pub performed : HasPerformed p acts r.runner (string_bytes r.text)
+  pub performed : HasPerformed p acts r.runner r.trace
 
 -- the lines with one more are read, and their actions are performed
 abbrev pub ReadsOneMore : Prog → List (List ℕ) → List ℕ → Reading → Type 0
-ReadsOneMore p ls l r = (acts : List Act) × ReadsLines p.types (ls ++ l ∷ []) acts × HasPerformed p acts r.runner (string_bytes r.text)
+ReadsOneMore p ls l r = (acts : List Act) × ReadsLines p.types (ls ++ l ∷ []) acts × HasPerformed p acts r.runner r.trace
 
 -- lines that each end at an LF
 abbrev pub ended : List (List ℕ) → List ℕ

@@ -13,6 +13,7 @@ mod streams;
 mod reading;
 mod replays;
 mod run_logs;
+mod trace;
 
 // Texts of logs.
 mod end_texts;
@@ -43,5 +44,6 @@ pub use reading::{Replayed, push_line};
 pub use replays::{perform_list, replay_list};
 pub use run_logs::log_list;
 pub use streams::send_all;
+pub use trace::Trace;
 // What logs are is defined beside the runs that they tell.
 pub use ioa_system::{Log, LogEnd, LogEntry};
