@@ -1,3 +1,4 @@
+pub mod LineReading
 pub mod Lines
 pub mod Ends
 pub mod LinesRead

@@ -10,6 +10,7 @@ pub mod Breaking
 pub mod Monitoring
 pub mod LinesRead
 pub mod Telling
+pub mod LineReading
 pub mod Readings
 pub mod RunLogs
 pub mod FirstBroken

@@ -1,8 +1,8 @@
 -- A list text that is read and performed line by line.
-use Rattle.std.specs.Prelude.{◌≡◌, ℕ, List, [], ◌∷◌, ◌++◌, All, length}
+use Rattle.std.specs.Prelude.{◌≡◌, ℕ, List, [], ◌∷◌, ◌++◌}
 use Rattle.std.specs.String.{string_bytes}
 use Rattle.ioa_value.specs.Actions.{Act}
-use Rattle.ioa_value.specs.Lists.{ReadsLines, ReadsList, first_line}
+use Rattle.ioa_value.specs.Lists.{ReadsLines, ReadsList}
 use Rattle.ioa_tree.specs.Hosts.{Hosted, hosts_of, host_starts}
 use Rattle.ioa_tree.specs.Likes.{AllRelated}
 use Rattle.ioa_tree.specs.Runs.{run}
@@ -27,29 +27,11 @@ pub record HasRead (p : Prog) (ls : List (List ℕ)) (r : Reading) : Type 0 wher
   pub acts : List Act
   pub types : r.types.now ≡ p.types
   pub reads : ReadsLines p.types ls acts
-  pub count : r.count ≡ length ls
   pub performed : HasPerformed p acts r.runner r.trace
 
 -- the lines with one more are read, and their actions are performed
 abbrev pub ReadsOneMore : Prog → List (List ℕ) → List ℕ → Reading → Type 0
 ReadsOneMore p ls l r = (acts : List Act) × ReadsLines p.types (ls ++ l ∷ []) acts × HasPerformed p acts r.runner r.trace
-
--- lines that each end at an LF
-abbrev pub ended : List (List ℕ) → List ℕ
-ended [] = []
-ended (l ∷ ls) = l ++ (10 ∷ ended ls)
-
--- a text that is its own first line holds no LF
-abbrev pub IsLineText : List ℕ → Type 0
-IsLineText l = first_line l ≡ l
-
--- these bytes came: the lines of them that end are read, and the others are kept
-pub record HasSeen (p : Prog) (seen : List ℕ) (r : Reading) : Type 0 where
-  pub lines : List (List ℕ)
-  pub whole : All IsLineText lines
-  pub unended : IsLineText r.line.items
-  pub bytes : seen ≡ ended lines ++ r.line.items
-  pub read : HasRead p lines r
 
 -- the bytes are a list text, and these are its run's end and text, and the states that the run reaches, of the types of the program's slots
 pub record IsReplayed (p : Prog) (seen : List ℕ) (r : Replayed) : Type 0 where

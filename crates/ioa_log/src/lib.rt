@@ -7,6 +7,7 @@
 mod counted;
 mod device;
 mod failure;
+mod line_reader;
 mod streams;
 
 // Runs of lists.

@@ -1,50 +1,16 @@
 //! Whole texts through devices, piece by piece, and which device is to blame.
 
-ghost use Rattle.std.specs.Prelude.{◌≡◌, ◌≤◌, ◌-◌, ◌^◌, ◌⊎◌, ℕ, [], OnOk, OnErr, IfOk, IfErr, IfSome, IsErrOf, min, take};
+ghost use Rattle.std.specs.Prelude.{◌≡◌, ◌≤◌, ◌-◌, ◌^◌, ◌⊎◌, ℕ, OnOk, OnErr, IfOk, IfErr, IfSome, IsErrOf, take};
 ghost use Rattle.std.specs.Io.KnownBytes.{Appends};
-ghost use Rattle.ioa_value.specs.Lists.{BadLine};
-ghost use Rattle.ioa_compile.specs.Programs.{Prog};
-ghost use Rattle.ioa_log.specs.Failing.{FailedOnceAtMost, HasFailed, IsListErr};
-ghost use Rattle.ioa_log.specs.Readings.{HasSeen};
+ghost use Rattle.ioa_log.specs.Failing.{FailedOnceAtMost, HasFailed};
 ghost use Rattle.ioa_log.specs.declared.failure.LogErr.{LogErr};
 
 use crate::device::{Failed, InputDevice, OutputDevice};
 use crate::failure::LogErr;
-use crate::reading::Reading;
 use std::alloc::Global;
 
 /// How many bytes are asked for in one read.
-const PIECE: usize = 65_536;
-
-/// Hands all that a reader gives to a reading, piece by piece.
-pub(crate) fn feed_all<R: InputDevice>(
-    alloc: Global,
-    input: &mut R,
-    reading: &mut Reading<'_>,
-) -> Result<(), LogErr>
-    requires { reading.old.count ≡ 0 }
-    ensures ok { OnOk result (IfSome (R.remaining input.old) (λ bytes. (p : Prog) → HasSeen p [] reading.old → HasSeen p bytes reading.new)) }
-    ensures bad { (n : ℕ) → IsErrOf result (LogErr.BadEntry n) → IfSome (R.remaining input.old) (λ bytes. (p : Prog) → HasSeen p [] reading.old → BadLine p.types bytes n) }
-    ensures counted { OnOk result (min reading.new.count (2 ^ 64 - 1) ≤ R.given_count input.new) }
-    ensures io { IsErrOf result LogErr.Io → HasFailed (R.failure_count input.old) (R.failure_count input.new) }
-    ensures passed { (IsErrOf result LogErr.Io → ⊥) → R.failure_count input.new ≡ R.failure_count input.old }
-    ensures once { FailedOnceAtMost (R.failure_count input.old) (R.failure_count input.new) }
-    ensures only { IfErr result IsListErr }
-{
-    let mut room = vec![in alloc; 0u8; PIECE]?;
-    let piece = room.as_mut_slice();
-    for turn in 0..u64::MAX {
-        match input.pull(piece) {
-            Ok(0) => return Ok(()),
-            Ok(count) => match reading.feed(&piece[..count]) {
-                Ok(()) => {}
-                Err(error) => return Err(blamed(input, error)),
-            },
-            Err(Failed) => return Err(LogErr::Io),
-        }
-    }
-    Err(blamed(input, LogErr::Io))
-}
+pub(crate) const PIECE: usize = 65_536;
 
 /// All that a reader gives.
 pub(crate) fn read_all<R: InputDevice>(alloc: Global, input: &mut R) -> Result<Vec<u8>, LogErr>
