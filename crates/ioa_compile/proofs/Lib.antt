@@ -9,6 +9,7 @@ pub mod Standing
 pub mod Fixed
 pub mod Fits
 pub mod Finds
+pub mod Sited
 pub mod Fine
 pub mod Proposed
 pub mod Blocks

@@ -1,4 +1,5 @@
 pub mod Programs
+pub mod Sites
 pub mod Tables
 pub mod Clashes
 pub mod Shown

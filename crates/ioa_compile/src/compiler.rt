@@ -27,7 +27,7 @@ pub fn compile(alloc: Global, composition: &Composition) -> Result<Program, OutO
     let members = compile_members(alloc, composition.members())?;
     let name = composition.name().to_string(alloc)?;
     let hidden = names(alloc, composition.hidden())?;
-    Ok(Program::new(types, name, members, hidden))
+    Program::new(alloc, types, name, members, hidden)
 }
 
 /// The components, compiled, in order.

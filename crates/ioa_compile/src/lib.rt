@@ -11,6 +11,7 @@ mod named;
 mod program;
 mod rightness;
 mod same;
+mod sites;
 mod table;
 mod tables;
 
@@ -44,6 +45,7 @@ pub use limits::MOST_PLACES;
 pub use named::{Named, is_given, is_named};
 pub use program::Program;
 pub use rightness::is_output;
+pub use sites::Site;
 pub use table::{Entry, Member};
 pub use tables::{TableErr, Tables};
 pub use types::{parameter_types, position_types};

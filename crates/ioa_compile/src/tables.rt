@@ -80,6 +80,13 @@ impl Program {
         if let Some(clash) = clash_among(alloc, &tables.types, &tables.members)? {
             return Err(TableErr::Clash(clash.first, clash.second));
         }
-        Ok(Program::new(tables.types, tables.name, tables.members, tables.hidden))
+        let program = Program::new(
+            alloc,
+            tables.types,
+            tables.name,
+            tables.members,
+            tables.hidden,
+        )?;
+        Ok(program)
     }
 }

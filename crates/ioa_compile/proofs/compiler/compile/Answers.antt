@@ -1,5 +1,6 @@
-use Rattle.std.proofs.Common.{◌∙◌, map, sym, subst}
+use Rattle.std.proofs.Common.{◌≡◌, ◌∙◌, map, sym, subst}
 use Rattle.std.specs.List.{AllZip}
+use Rattle.std.proofs.lemmas.Result.{IfOk-weaker}
 use Rattle.ioa_compose.specs.Held.{composed_of, member_of}
 use Rattle.ioa_compile.specs.Shown.{member_code}
 use Rattle.ioa_compile.specs.Translated.{DoesSame}
@@ -32,4 +33,4 @@ returns c =
       components = all_like ms 0 ms cs (from_all ms) all;
       starts = all_related ms 0 ms cs (from_all ms) all;
     } in
-    subst (λ (p : Prog). Implements p composed) (sym c.new.ensures) means
+    IfOk-weaker c.new.result (λ (p : Prog). p ≡ made) (λ (p : Prog). Implements p composed) (λ p e. subst (λ (q : Prog). Implements q composed) (sym e) means) c.new.ensures
