@@ -15,10 +15,10 @@ use Rattle.ioa_system.specs.Logs.{worker}
 use Rattle.ioa_run.specs.declared.answer.Answer.{Answer}
 use Rattle.ioa_run.specs.declared.report.Report.{Report}
 use Rattle.ioa_run.specs.Boards.{Failure, IsFailureFrom, IsSound, Standing}
-use Rattle.ioa_run.specs.Hosts.{BoardsLike, TurnsLike}
 use Rattle.ioa_run.specs.Played.{alone_events, attempt_events, first_events, rounds_events, tried_events, turn_events}
 use Rattle.ioa_run.specs.Reports.{blank, with_idle}
 use Rattle.ioa_run.specs.Schedules.{Event}
+use Rattle.ioa_run.specs.Subjects.{BoardsLike, TurnsLike}
 use Rattle.ioa_run.specs.Turns.{Proposer, Turns, after, all_done, alone, attempt, changed, chosen, first_turns, has_ended, is_last, meant, next_choice, next_input, not_own, own_attempt, rounds, told, turn, turned, turns_of_first, with_done}
 
 pub related_length : {S T : Type 0} (R : ℕ → S → T → Type 0) (i : ℕ) (xs : List S) (ys : List T) → AllRelated R i xs ys → length xs ≡ length ys

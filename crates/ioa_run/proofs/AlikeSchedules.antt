@@ -11,7 +11,7 @@ use Rattle.ioa_system.specs.Logs.{worker}
 use Rattle.ioa_system.specs.Participants.{taken}
 use Rattle.ioa_run.specs.declared.answer.Answer.{Answer}
 use Rattle.ioa_run.specs.Boards.{Commits, Failure, Intent, IsCurrent, Standing, now_of, with_entry, with_failure}
-use Rattle.ioa_run.specs.Hosts.{BoardsLike, IntentsLike, PlansLike, SchedulesLike}
+use Rattle.ioa_run.specs.Subjects.{BoardsLike, IntentsLike, PlansLike, SchedulesLike}
 use Rattle.ioa_run.specs.Schedules.{Answers, Event, Plans, Plays, Schedule, Spends, commit, copy, intent, plan_of, start_schedule, with_plan}
 use Rattle.ioa_run.proofs.Alike.{Both, fault_back, next_back, related_at, related_length}
 

@@ -29,8 +29,7 @@ use Rattle.ioa_tree.specs.Tree.{FieldTree, PositionTree, typed, only, EntryTree,
 use Rattle.ioa_tree.proofs.Domains.{domains_have}
 use Rattle.ioa_compile.specs.CodeEnds.{ProposalEnds}
 use Rattle.ioa_compile.specs.Programs.{EntryCode}
-use Rattle.ioa_run.specs.Hosts.{filled_in}
-use Rattle.ioa_run.specs.Proposers.{action_with, by_code, filled, tried}
+use Rattle.ioa_run.specs.Proposers.{action_with, by_code, filled, filled_in, tried}
 use Rattle.ioa_run.specs.Turns.{after}
 
 -- ---- words that were taken before

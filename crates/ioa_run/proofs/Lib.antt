@@ -24,6 +24,7 @@ pub mod Ending
 pub mod Alike
 pub mod AlikeSchedules
 pub mod HostProposals
+pub mod Subjects
 pub mod Hosting
 pub mod Played
 pub mod Sharing

@@ -5,16 +5,17 @@ use Rattle.std.proofs.lemmas.List.{length-map, length-replicate}
 use Rattle.std.proofs.lemmas.List.Elements.{All-append, All-cons, All-nil}
 use Rattle.ioa_value.specs.Actions.{Act}
 use Rattle.ioa_tree.specs.Components.{Component}
-use Rattle.ioa_tree.specs.Hosts.{host_start, host_starts, hosts_of}
+use Rattle.ioa_tree.specs.Compositions.{Member}
+use Rattle.ioa_tree.specs.Hosts.{host_start}
+use Rattle.ioa_tree.specs.Instances.{state_of}
 use Rattle.ioa_tree.specs.Proposing.{Words, Tried, tries, idle}
 use Rattle.ioa_compile.specs.Programs.{MemberCode}
-use Rattle.ioa_compile.specs.Tables.{start_states, tabled}
+use Rattle.ioa_compile.specs.Subjects.{Subject, its_components, its_starts, of_composition, of_hosts, of_table}
 use Rattle.ioa_run.specs.declared.answer.Answer.{Answer}
 use Rattle.ioa_run.specs.Attempts.{IsAttempt}
 use Rattle.ioa_run.specs.Boards.{Intent, Standing}
-use Rattle.ioa_run.specs.Hosts.{HostPlays, host_proposers, host_proposers_of}
 use Rattle.ioa_run.specs.Played.{AlonePlays, NeverStale, PlaysAs, alone_events, attempt_events, first_events, played, rounds_events, tried_events, turn_events}
-use Rattle.ioa_run.specs.Proposers.{proposers, proposers_of}
+use Rattle.ioa_run.specs.Proposers.{host_proposers_of, its_proposers, member_proposers_of, proposers_of}
 use Rattle.ioa_run.specs.Schedules.{Answers, Event, Schedule, Spends, commit, copy, plan_of, start_schedule, with_plan}
 use Rattle.ioa_run.specs.Turns.{Proposer, Turns, alone, attempt, first_turns, has_ended, meant, rounds, turned, turns_of_first}
 use Rattle.ioa_run.proofs.Attempting.{attempt_answers}
@@ -156,14 +157,14 @@ module _ {S : Type 0} (ps : List (Component S)) (entries : List (List (Proposer 
   run_plays : length entries ≡ length ss → PlaysAs ps (alone_events ps entries inputs turns ss words) (start_schedule ss) (played ss (alone ps entries inputs turns ss words).board)
   run_plays many = (run_goes many).plays
 
+-- there is a state for each component that proposes
+start_for_each : (s : Subject) → length (its_proposers s) ≡ length (its_starts s)
+start_for_each (of_hosts h) = length-map h.hosts host_proposers_of ∙ sym (length-map h.hosts host_start)
+start_for_each (of_composition c) = length-map c.members member_proposers_of ∙ sym (length-map c.members (λ (q : Member). state_of q.instance.automaton q.starts))
+start_for_each (of_table p) = length-map p.members proposers_of ∙ sym (length-map p.members (λ (q : MemberCode). q.start.values))
+
 pub alone_plays : AlonePlays
-alone_plays p words inputs turns =
-    run_plays (tabled p) (proposers p) inputs turns (start_states p) words (length-map p.members proposers_of ∙ sym (length-map p.members (λ (m : MemberCode). m.start.values)))
+alone_plays s words inputs turns = run_plays (its_components s) (its_proposers s) inputs turns (its_starts s) words (start_for_each s)
 
 pub never_stale : NeverStale
-never_stale p words inputs turns =
-    (run_goes (tabled p) (proposers p) inputs turns (start_states p) words (length-map p.members proposers_of ∙ sym (length-map p.members (λ (m : MemberCode). m.start.values)))).fresh
-
-pub host_plays : HostPlays
-host_plays h words inputs turns =
-    run_plays (hosts_of h) (host_proposers h) inputs turns (host_starts h) words (length-map h.hosts host_proposers_of ∙ sym (length-map h.hosts host_start))
+never_stale s words inputs turns = (run_goes (its_components s) (its_proposers s) inputs turns (its_starts s) words (start_for_each s)).fresh

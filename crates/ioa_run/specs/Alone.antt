@@ -1,4 +1,4 @@
--- A run of a program's workers on one thread, and what it gives.
+-- A run on one thread of the workers of whatever a program runs as, and what it gives.
 use Rattle.std.specs.Prelude.{◌≡◌, ◌≢◌, ◌≤◌, ◌<◌, ℕ, List, [], None, Some, All, Result, Ok, Err, length, slice_get}
 use Rattle.ioa_value.specs.Actions.{Act}
 use Rattle.ioa_value.specs.Plain.{Val}
@@ -6,13 +6,14 @@ use Rattle.ioa_tree.specs.Components.{Component}
 use Rattle.ioa_tree.specs.Proposing.{Words}
 use Rattle.ioa_tree.specs.Steps.{owner, participants}
 use Rattle.ioa_compile.specs.Programs.{Prog}
+use Rattle.ioa_compile.specs.Subjects.{State, Subject, its_components, its_starts, of_table}
 use Rattle.ioa_compile.specs.Tables.{start_states, tabled}
 use Rattle.ioa_system.specs.Logs.{Logged}
 use Rattle.ioa_run.specs.Boards.{Standing, begun}
 use Rattle.ioa_run.specs.Histories.{GoesOn, since}
 use Rattle.ioa_run.specs.Resuming.{resumption}
 use Rattle.ioa_run.specs.Outcomes.{IsLogOf}
-use Rattle.ioa_run.specs.Proposers.{proposers}
+use Rattle.ioa_run.specs.Proposers.{its_proposers, proposers}
 use Rattle.ioa_run.specs.Reports.{AreTold}
 use Rattle.ioa_run.specs.Turns.{Turns, alone, alone_from}
 use Rattle.ioa_run.specs.declared.outcome.Outcome.{Outcome}
@@ -20,9 +21,14 @@ use Rattle.ioa_run.specs.declared.report.Report.{Report}
 use Rattle.ioa_run.specs.declared.report.Why.{Why}
 use Rattle.ioa_run.specs.declared.run_err.RunErr.{RunErr}
 
--- the run of the program on one thread
+-- turns of all workers on one thread, so many rounds of them: in each round the components in order, each by its own words, and then the
+-- environment
+abbrev pub turns_of : (s : Subject) → List Words → List Act → ℕ → Turns (State s)
+turns_of s words inputs turns = alone (its_components s) (its_proposers s) inputs turns (its_starts s) words
+
+-- of a program's own table
 abbrev pub alone_in : Prog → List Words → List Act → ℕ → Turns (List Val)
-alone_in p words inputs turns = alone (tabled p) (proposers p) inputs turns (start_states p) words
+alone_in p words inputs turns = turns_of (of_table p) words inputs turns
 
 -- ---- what it gives
 

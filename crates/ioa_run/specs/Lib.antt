@@ -24,4 +24,5 @@ pub mod Turning
 pub mod Attempted
 pub mod Rounds
 pub mod Played
+pub mod Subjects
 pub mod Hosts

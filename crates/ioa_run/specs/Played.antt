@@ -3,11 +3,10 @@ use Rattle.std.specs.Prelude.{◌≢◌, ◌+◌, ◌++◌, ℕ, zero, suc, List
 use Rattle.ioa_value.specs.Actions.{Act}
 use Rattle.ioa_tree.specs.Components.{Component}
 use Rattle.ioa_tree.specs.Proposing.{Words, Tried, tries, idle}
-use Rattle.ioa_compile.specs.Programs.{Prog}
-use Rattle.ioa_compile.specs.Tables.{start_states, tabled}
-use Rattle.ioa_run.specs.Alone.{alone_in}
+use Rattle.ioa_compile.specs.Subjects.{Subject, its_components, its_starts}
+use Rattle.ioa_run.specs.Alone.{turns_of}
 use Rattle.ioa_run.specs.Boards.{Standing}
-use Rattle.ioa_run.specs.Proposers.{proposers}
+use Rattle.ioa_run.specs.Proposers.{its_proposers}
 use Rattle.ioa_run.specs.Schedules.{Event, Plays, Schedule, commit, copy, start_schedule}
 use Rattle.ioa_run.specs.Turns.{Proposer, Turns, attempt, first_turns, has_ended, meant, rounds, turns_of_first}
 use Rattle.ioa_run.specs.declared.answer.Answer.{Answer}
@@ -59,15 +58,16 @@ played ss b = record (start_schedule ss) { board = b }
 
 -- ---- laws
 
-abbrev pub events_in : Prog → List Words → List Act → ℕ → List (Event × Answer)
-events_in p words inputs turns = alone_events (tabled p) (proposers p) inputs turns (start_states p) words
+-- of a run of whatever a program runs as
+abbrev pub events_of : Subject → List Words → List Act → ℕ → List (Event × Answer)
+events_of s words inputs turns = alone_events (its_components s) (its_proposers s) inputs turns (its_starts s) words
 
 -- the machine answers so, and comes to the board of the run
 abbrev pub AlonePlays : Type 0
 AlonePlays =
-    (p : Prog) (words : List Words) (inputs : List Act) (turns : ℕ)
-    → PlaysAs (tabled p) (events_in p words inputs turns) (start_schedule (start_states p)) (played (start_states p) (alone_in p words inputs turns).board)
+    (s : Subject) (words : List Words) (inputs : List Act) (turns : ℕ)
+    → PlaysAs (its_components s) (events_of s words inputs turns) (start_schedule (its_starts s)) (played (its_starts s) (turns_of s words inputs turns).board)
 
 -- no plan is stale
 abbrev pub NeverStale : Type 0
-NeverStale = (p : Prog) (words : List Words) (inputs : List Act) (turns : ℕ) → All (λ e. e.1 ≢ Answer.Stale) (events_in p words inputs turns)
+NeverStale = (s : Subject) (words : List Words) (inputs : List Act) (turns : ℕ) → All (λ e. e.1 ≢ Answer.Stale) (events_of s words inputs turns)

@@ -1,11 +1,11 @@
 //! Laws of schedules. The functions do nothing: what they say is in their contracts.
 
 ghost use Rattle.ioa_run.specs.Attempts.{AttemptsAnswer};
-ghost use Rattle.ioa_run.specs.Hosts.{HostAlone, HostCopy, HostEvents, HostHistory, HostOutcome, HostPlays, HostSchedule, HostTurns, HostsApart, ProgramHistory, ProgramSchedule};
 ghost use Rattle.ioa_run.specs.Played.{AlonePlays, NeverStale};
 ghost use Rattle.ioa_run.specs.ProgramSchedules.{CopyAnswers};
 ghost use Rattle.ioa_run.specs.Schedules.{OnePlay};
 ghost use Rattle.ioa_run.specs.Resuming.{CountsSince, LogsResume};
+ghost use Rattle.ioa_run.specs.Subjects.{HostsApart, ProgramHistory, ProgramSchedule, SameAlone, SameCopy, SameEvents, SameOutcome, SameTurns, SubjectHistory, SubjectSchedule};
 
 /// The schedule machine answers events in one way, and they lead to one schedule.
 pub fn one_play()
@@ -18,45 +18,43 @@ pub fn attempts_answer()
 {}
 
 /// Planning an action by a copy of its participants' states (`Board::copy`, `Plan::make`) is the schedule machine's copy at the moment at which they
-/// are copied: the answer is the same, and the worker then has that plan or none. So it is for the hosts for which the composition stands that the
-/// program means, whose slots the states are.
+/// are copied: the answer is the same, and the worker then has that plan or none. So it is for whatever the program runs as, whose states the slots
+/// hold.
 pub fn copies_answer()
     ensures program { CopyAnswers }
-    ensures hosts { HostCopy }
+    ensures subject { SameCopy }
 {}
 
-/// The whole run on one thread is a play of the schedule machine: in each turn in which a worker means to do something it copies and, where it can
-/// plan the action, commits at once. The machine answers each event so, no plan is stale, and what then stands is the run's, with no plan left. The
-/// run of the hosts for which the composition stands that the program means is such a play, too, of the same events with the same answers.
+/// The whole run on one thread, of a program's table, of a composition or of hosts, is a play of the schedule machine: in each turn in which a worker
+/// means to do something it copies and, where it can plan the action, commits at once. The machine answers each event so, no plan is stale, and what
+/// then stands is the run's, with no plan left. A program's run plays the same events with the same answers as that of whatever it runs as.
 pub fn runs_alone_are_plays()
-    ensures program { AlonePlays }
+    ensures plays { AlonePlays }
     ensures stale { NeverStale }
-    ensures hosts { HostPlays }
-    ensures events { HostEvents }
+    ensures events { SameEvents }
 {}
 
-/// A program's run on one thread is that of the hosts for which the composition stands that the program means: each host takes its turns by
-/// its own entries, state and words, and the environment by the script. Both have the same history, fault, reports and words left, and the
-/// program's slots hold the states that the hosts reach. So a run's log and reports are those of the hosts' run.
-pub fn turns_are_the_hosts()
-    ensures turns { HostTurns }
-    ensures outcome { HostAlone }
+/// A program's run on one thread is that of whatever it runs as: each host, or component, takes its turns by its own entries, state and words, and the
+/// environment by the script. Both have the same history, fault, reports and words left, and the program's slots hold the states that are reached. So
+/// a run's log and reports are those of the hosts' run.
+pub fn turns_are_the_subjects()
+    ensures turns { SameTurns }
+    ensures outcome { SameAlone }
 {}
 
-/// What workers of a program did, in whichever order, the hosts may do for which the composition stands that the program means: its history is
-/// legal for the hosts, with the same workers and the same fault, and the slots hold the states to which it leads them; and what is legal for the
-/// hosts is legal for the program. So of the log, the states and the reports that any run gives.
-pub fn histories_are_the_hosts()
-    ensures history { HostHistory }
+/// What workers of a program did, in whichever order, those of whatever it runs as may do: its history is legal for them, with the same workers and
+/// the same fault, and the slots hold the states to which it leads them; and what is legal for them is legal for the program. So of the log, the
+/// states and the reports that any run gives.
+pub fn histories_are_the_subjects()
+    ensures history { SubjectHistory }
     ensures back { ProgramHistory }
-    ensures outcome { HostOutcome }
+    ensures outcome { SameOutcome }
 {}
 
-/// The schedule machine answers every list of events of a program's workers as it answers those of the hosts for which the composition stands
-/// that the program means, also where a plan is stale. The variables of each host have names of their own, as those of a well formed source
-/// have.
-pub fn schedules_are_the_hosts()
-    ensures answers { HostSchedule }
+/// The schedule machine answers every list of events of a program's workers as it answers those of whatever it runs as, also where a plan is stale.
+/// The variables of each component have names of their own, as those of a well formed source have.
+pub fn schedules_are_the_subjects()
+    ensures answers { SubjectSchedule }
     ensures back { ProgramSchedule }
     ensures apart { HostsApart }
 {}

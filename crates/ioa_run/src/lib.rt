@@ -51,8 +51,8 @@ pub use board::Board;
 pub use event::Event;
 pub use gate::{Gate, OpenGate, Point};
 pub use laws::{
-    attempts_answer, copies_answer, histories_are_the_hosts, logs_resume, one_play,
-    runs_alone_are_plays, schedules_are_the_hosts, turns_are_the_hosts,
+    attempts_answer, copies_answer, histories_are_the_subjects, logs_resume, one_play,
+    runs_alone_are_plays, schedules_are_the_subjects, turns_are_the_subjects,
 };
 pub use outcome::Outcome;
 pub use plan::Plan;

@@ -7,5 +7,6 @@ pub mod Asking
 pub mod Stepping
 pub mod Running
 pub mod Tracing
+pub mod Subjects
 pub mod Hosting
 pub mod PrintedBytes

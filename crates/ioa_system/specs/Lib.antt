@@ -9,6 +9,6 @@ pub mod Preconditions
 pub mod Drafted
 pub mod Progress
 pub mod Records
-pub mod Sources
+pub mod Likeness
 pub mod Logs
 pub mod Histories

@@ -21,11 +21,11 @@ mod runs;
 // Laws.
 mod laws;
 
-pub use laws::{runs_are_the_hosts, steps_are_the_hosts, steps_are_the_sources};
+pub use laws::{runs_are_the_subjects, steps_are_the_subjects};
 pub use log::{Log, LogEnd, LogEntry};
 pub use outcomes::{End, Moved, Step};
 pub use participation::{Participant, Participation, is_external, owner, participants};
-pub use runner::{Runner, RunStep};
+pub use runner::{RunStep, Runner};
 pub use runs::{Run, run_list};
 pub use stepper::Stepper;
 pub use steps::step_from;

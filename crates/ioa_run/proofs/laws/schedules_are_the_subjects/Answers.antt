@@ -1,8 +1,8 @@
-use Rattle.ioa_run.proofs.Hosting.{host_schedule, hosts_apart, program_schedule}
-use Rattle.ioa_run.proofs.laws.schedules_are_the_hosts.Goals as goal
+use Rattle.ioa_run.proofs.Subjects.{hosts_apart, program_schedule, subject_schedule}
+use Rattle.ioa_run.proofs.laws.schedules_are_the_subjects.Goals as goal
 
 pub returns-clause-answers : goal.returns-clause-answers
-returns-clause-answers _ = host_schedule
+returns-clause-answers _ = subject_schedule
 
 pub returns-clause-back : goal.returns-clause-back
 returns-clause-back _ = program_schedule
