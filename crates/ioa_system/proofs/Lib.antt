@@ -1,6 +1,7 @@
 pub mod Participating
 pub mod Matching
 pub mod Finding
+pub mod Taking
 pub mod Readying
 pub mod Drafting
 pub mod Asking

@@ -107,13 +107,13 @@ participants_differ a i (p ∷ ps) =
     ]
 
 -- the places of a list that come from i on in another
-abbrev Stands : {X : Type 0} → List X → ℕ → List X → Type 0
+abbrev pub Stands : {X : Type 0} → List X → ℕ → List X → Type 0
 Stands all i xs = (j : ℕ) → slice_get all (i + j) ≡ slice_get xs j
 
-stands_rest : {X : Type 0} (all : List X) (i : ℕ) (x : X) (xs : List X) → Stands all i (x ∷ xs) → Stands all (i + 1) xs
+pub stands_rest : {X : Type 0} (all : List X) (i : ℕ) (x : X) (xs : List X) → Stands all i (x ∷ xs) → Stands all (i + 1) xs
 stands_rest all i x xs h = λ j. let e : (i + 1) + j ≡ i + suc j = omega arith in ap (slice_get all) e ∙ h (suc j)
 
-stands_first : {X : Type 0} (all : List X) (i : ℕ) (x : X) (xs : List X) → Stands all i (x ∷ xs) → slice_get all i ≡ Some x
+pub stands_first : {X : Type 0} (all : List X) (i : ℕ) (x : X) (xs : List X) → Stands all i (x ∷ xs) → slice_get all i ≡ Some x
 stands_first all i x xs h = let e : i ≡ i + 0 = omega arith in ap (slice_get all) e ∙ h 0
 
 -- ---- the owner's answer

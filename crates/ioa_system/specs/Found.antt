@@ -1,13 +1,18 @@
 -- The participants that are found for an action, and the states that are lent to them.
-use Rattle.std.specs.Prelude.{◌≡◌, ◌<◌, ◌+◌, ℕ, List, [], ◌∷◌, All, Option, Some, filter, find, length, map, slice_get, slice_index_or}
+use Rattle.std.specs.Prelude.{◌≡◌, ◌<◌, ◌+◌, ℕ, Bool, true, false, List, [], ◌∷◌, All, Option, None, Some, filter, find, length, map, slice_get, slice_index_or, if◌then◌else◌}
+use Rattle.std.specs.Option.{option_map_or}
 use Rattle.ioa_value.specs.Actions.{Act}
 use Rattle.ioa_value.specs.Plain.{Val}
+use Rattle.ioa_value.specs.Positions.{all_take}
 use Rattle.ioa_node.specs.Nodes.{Node}
+use Rattle.ioa_tree.specs.declared.tree.Kind.{Kind}
 use Rattle.ioa_tree.specs.Components.{Component, has, is_local}
 use Rattle.ioa_tree.specs.Steps as steps
 use Rattle.ioa_tree.specs.Steps.{participants}
-use Rattle.ioa_compile.specs.Programs.{MemberCode}
+use Rattle.ioa_compile.specs.declared.sites.Site.{Site}
+use Rattle.ioa_compile.specs.Programs.{EntryCode, MemberCode, Prog}
 use Rattle.ioa_compile.specs.Shown.{entry_code, member_code}
+use Rattle.ioa_compile.specs.Sites.{sites_of}
 use Rattle.ioa_compile.specs.Tables.{AreEntries, entry_of, table_component}
 use Rattle.ioa_system.specs.declared.participation.Participant.{Participant}
 use Rattle.ioa_system.specs.Systems.{Slots, slots_of}
@@ -43,9 +48,38 @@ pub record AreParticipants (a : Act) (ms : List MemberCode) (qs : List Participa
   pub entries : HaveEntries a qs
   pub places : All (λ q. q.place ≡ q.component) qs
 
--- the first participant whose entry is an output or internal
-abbrev pub owner_of : List Participant → Option Participant
-owner_of qs = find (λ q. is_local (Some (entry_code q.entry.now).kind)) qs
+-- an entry of these members stands in the site
+abbrev pub IsSite : List MemberCode → Site → Type 0
+IsSite ms s = (m : MemberCode) × (slice_get ms s.component ≡ Some m) × ((e : EntryCode) × (slice_get m.entries s.entry ≡ Some e))
+
+-- the positions of the entry in this site take the action's values
+abbrev pub takes_at : List MemberCode → Act → Site → Bool
+takes_at ms a s = option_map_or (λ (m : MemberCode). option_map_or (λ (e : EntryCode). all_take m.start.table e.positions a.vals) (slice_get m.entries s.entry) false) (slice_get ms s.component) false
+
+-- the entry in this site is an output or internal
+abbrev pub is_local_at : List MemberCode → Site → Bool
+is_local_at ms s = option_map_or (λ (m : MemberCode). option_map_or (λ (e : EntryCode). is_local (Some e.kind)) (slice_get m.entries s.entry) false) (slice_get ms s.component) false
+
+-- the sites whose entries have the action, in ascending order
+abbrev pub takers : Prog → Act → List Site
+takers p a = filter (takes_at p.members a) (sites_of p a.name)
+
+-- the first of them whose entry is an output or internal
+abbrev pub owner_site : Prog → Act → Option Site
+owner_site p a = find (is_local_at p.members) (takers p a)
+
+-- the site that was found before, or this one of an entry of this kind, if it is an output or internal
+abbrev pub first_local : Option Site → Kind → Site → Option Site
+first_local (Some t) k s = Some t
+first_local None k s = if is_local (Some k) then Some s else None
+
+-- the participant's entry stands in this site and takes the action's values, and its state stands in its place among those of all
+pub record IsTaker (ms : List MemberCode) (a : Act) (s : Site) (q : Participant) : Type 0 where
+  pub component : q.component ≡ s.component
+  pub place : q.place ≡ s.component
+  pub here : slice_get ms s.component ≡ Some (member_of q)
+  pub there : slice_get (member_of q).entries s.entry ≡ Some (entry_code q.entry.now)
+  pub takes : all_take (member_of q).start.table (entry_code q.entry.now).positions a.vals ≡ true
 
 -- the participant's state among those at hand
 abbrev pub state_of : List Node → Participant → Node

@@ -4,7 +4,6 @@
 #![tactic(auto)]
 
 // Who takes part in an action.
-mod entries;
 mod participation;
 
 // Steps.

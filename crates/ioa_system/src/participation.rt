@@ -1,23 +1,19 @@
 //! The components that share an action, by the one search from which all is told of it.
 
-ghost use Rattle.std.specs.Prelude.{◌≡◌, ◌&&◌, not, IfOk, OnOk, Some, map};
-ghost use Rattle.std.specs.List.{list_any};
-ghost use Rattle.std.specs.Option.{option_copied};
-ghost use Rattle.std.specs.Str.{bytes_eq};
-ghost use Rattle.std.specs.String.{string_bytes};
+ghost use Rattle.std.specs.Prelude.{◌≡◌, true, false, IfNone, IfOk, IfSome, OnOk, map};
+ghost use Rattle.std.specs.Option.{option_map, option_map_or};
 ghost use Rattle.ioa_value.specs.Actions.{act_of};
-ghost use Rattle.ioa_tree.specs.Components as components;
 ghost use Rattle.ioa_tree.specs.Runs as runs;
 ghost use Rattle.ioa_tree.specs.Steps as steps;
 ghost use Rattle.ioa_compile.specs.Shown.{member_code};
 ghost use Rattle.ioa_compile.specs.Tables.{IsProgram, tabled};
-ghost use Rattle.ioa_system.specs.Found.{AreParticipants, owner_of};
+ghost use Rattle.ioa_system.specs.Found as spec;
+ghost use Rattle.ioa_system.specs.Found.{AreParticipants, IsSite, IsTaker, takes_at};
 ghost use Rattle.ioa_system.specs.Logs as logs;
 
-use crate::entries::entry_of;
-use ioa_compile::{Entry, Member, Program};
+use ioa_compile::{Entry, Member, Program, Site};
 use ioa_tree::Kind;
-use ioa_value::{Action, OutOfMemory};
+use ioa_value::{Action, OutOfMemory, all_take};
 use std::alloc::Global;
 use std::marker::Model;
 
@@ -39,6 +35,8 @@ pub struct Participation<'a, 'b> {
     program: &'a Program,
     action: &'b Action,
     participants: Vec<Participant<'a>>,
+    /// Where the entry stands that has the action as output or internal.
+    owner: Option<Site>,
 }
 
 impl<'a, 'b> Model for Participation<'a, 'b> {
@@ -48,13 +46,14 @@ impl<'a, 'b> Model for Participation<'a, 'b> {
 
     ghost coded = { coded_program_action };
 
+    ghost use Rattle.std.specs.Prelude.{◌≡◌};
     ghost use Rattle.ioa_value.specs.Actions.{act_of};
     ghost use Rattle.ioa_compile.specs.Tables.{IsProgram};
-    ghost use Rattle.ioa_system.specs.Found.{AreParticipants};
+    ghost use Rattle.ioa_system.specs.Found.{AreParticipants, owner_site};
 
     ghost view = { λ q. record { program = q.program.now; action = act_of q.action.now } };
 
-    ghost invariant = { λ q. IsProgram q.program.now × AreParticipants (act_of q.action.now) q.program.now.members q.participants.items };
+    ghost invariant = { λ q. IsProgram q.program.now × AreParticipants (act_of q.action.now) q.program.now.members q.participants.items × (q.owner ≡ owner_site q.program.now (act_of q.action.now)) };
 }
 
 impl<'a, 'b> Participation<'a, 'b> {
@@ -77,11 +76,12 @@ impl<'a, 'b> Participation<'a, 'b> {
     ) -> Result<Participation<'a, 'b>, OutOfMemory>
         ensures { IfOk result (λ q. q ≡ record { program = program.now; action = act_of action.now }) }
     {
-        find(program.members(), action, &mut room)?;
+        let owner = find(program, action, &mut room)?;
         Ok(Participation {
             program,
             action,
             participants: room,
+            owner,
         })
     }
 
@@ -127,20 +127,14 @@ impl<'a, 'b> Participation<'a, 'b> {
     pub fn owner(&self) -> Option<usize>
         ensures { result ≡ steps.owner (tabled self.now.program) self.now.action }
     {
-        match owner_among(&self.participants) {
-            Some(owner) => Some(owner.component),
-            None => None,
-        }
+        component_in(self.owner)
     }
 
     /// Whether the action is external: it has no owner, or is its owner's output and is not hidden.
     pub fn is_external(&self) -> bool
         ensures { result ≡ runs.is_external self.now.program.hidden (tabled self.now.program) self.now.action }
     {
-        match owner_among(&self.participants) {
-            Some(owner) => is_shown(self.program.hidden(), owner.entry.kind, self.action),
-            None => true,
-        }
+        is_shown(self.owner)
     }
 
     /// The number of the worker that performs the action: its owner's or, where it has none, the number of components.
@@ -158,30 +152,14 @@ impl<'a, 'b> Participation<'a, 'b> {
 pub fn owner(program: &Program, action: &Action) -> Option<usize>
     ensures { result ≡ steps.owner (tabled program.now) (act_of action.now) }
 {
-    let members = program.members();
-    for i in 0..members.len() {
-        match entry_of(&members[i], action) {
-            Some(entry) if entry.kind.is_local() => return Some(i),
-            _ => {}
-        }
-    }
-    None
+    component_in(owner_site(program, action))
 }
 
 /// Whether the action is external: it has no owner, or is its owner's output and is not hidden. It takes no memory.
 pub fn is_external(program: &Program, action: &Action) -> bool
     ensures { result ≡ runs.is_external program.now.hidden (tabled program.now) (act_of action.now) }
 {
-    let members = program.members();
-    for member in members {
-        match entry_of(member, action) {
-            Some(entry) if entry.kind.is_local() => {
-                return is_shown(program.hidden(), entry.kind, action);
-            }
-            _ => {}
-        }
-    }
-    true
+    is_shown(owner_site(program, action))
 }
 
 /// The numbers of the components that have the action, in ascending order.
@@ -195,58 +173,94 @@ pub fn participants(
     Participation::of(alloc, program, action)?.numbers(alloc)
 }
 
-/// The action's participants in ascending order, in place of what the list held.
+/// The action's participants in ascending order, in place of what the list held, and where its owner's entry stands.
 fn find<'a>(
-    members: &'a [Member],
+    program: &'a Program,
     action: &Action,
     participants: &mut Vec<Participant<'a>>,
-) -> Result<(), OutOfMemory>
-    ensures { OnOk result (AreParticipants (act_of action.now) (map member_code members.now) participants.new.items) }
+) -> Result<Option<Site>, OutOfMemory>
+    ensures participants { OnOk result (AreParticipants (act_of action.now) program.now.members participants.new.items) }
+    ensures owner { IfOk result (λ owner. owner ≡ spec.owner_site program.now (act_of action.now)) }
+    ensures sound { IsProgram program.now }
 {
     participants.clear();
-    for i in 0..members.len() {
-        let member = &members[i];
-        if let Some(entry) = entry_of(member, action) {
-            participants.push(Participant {
-                component: i,
-                place: i,
-                member,
-                entry,
-            })?;
+    let mut owner = None;
+    let members = program.members();
+    let sites = program.sites(action.name.as_str());
+    for k in 0..sites.len() {
+        let site = sites[k];
+        if let Some(taker) = taker_at(members, site, action) {
+            owner = first_local(owner, taker.entry.kind, site);
+            participants.push(taker)?;
         }
     }
-    Ok(())
+    Ok(owner)
 }
 
-/// The first participant that has the action as output or internal.
-fn owner_among<'p, 'a>(participants: &'p [Participant<'a>]) -> Option<&'p Participant<'a>>
-    ensures { option_copied result ≡ owner_of participants.now }
+/// The site that was found before, or this one of an entry of this kind, if it is an output or internal.
+fn first_local(before: Option<Site>, kind: Kind, site: Site) -> Option<Site>
+    ensures { result ≡ spec.first_local before kind site }
 {
-    for participant in participants {
-        if participant.entry.kind.is_local() {
-            return Some(participant);
+    match before {
+        Some(_) => before,
+        None if kind.is_local() => Some(site),
+        None => None,
+    }
+}
+
+/// Where the first entry stands that has the action as output or internal. It takes no memory.
+fn owner_site(program: &Program, action: &Action) -> Option<Site>
+    ensures value { result ≡ spec.owner_site program.now (act_of action.now) }
+    ensures sound { IsProgram program.now }
+{
+    let members = program.members();
+    let sites = program.sites(action.name.as_str());
+    for k in 0..sites.len() {
+        let site = sites[k];
+        match taker_at(members, site, action) {
+            Some(taker) if taker.entry.kind.is_local() => return Some(site),
+            _ => {}
         }
     }
     None
 }
 
-/// Whether the action of an owner of this kind is external.
-fn is_shown(hidden: &[String], kind: Kind, action: &Action) -> bool
-    ensures { result ≡ (components.is_output (Some kind) && not (list_any (λ h. bytes_eq h (act_of action.now).name) (map string_bytes hidden.now))) }
+/// The component whose entry stands in this site, if the entry takes the action's values.
+#[inline(always)]
+fn taker_at<'a>(members: &'a [Member], site: Site, action: &Action) -> Option<Participant<'a>>
+    requires { IsSite (map member_code members.now) site }
+    ensures taker { IfSome result (IsTaker (map member_code members.now) (act_of action.now) site) }
+    ensures none { IfNone result (takes_at (map member_code members.now) (act_of action.now) site ≡ false) }
 {
-    match kind {
-        Kind::Output => !is_hidden(hidden, action),
-        Kind::Input | Kind::Internal => false,
+    let member = &members[site.component];
+    let entry = &member.entries[site.entry];
+    if !all_take(member.start.declared(), &entry.positions, &action.vals) {
+        return None;
+    }
+    Some(Participant {
+        component: site.component,
+        place: site.component,
+        member,
+        entry,
+    })
+}
+
+/// The number of the owner whose entry stands in this site.
+fn component_in(owner: Option<Site>) -> Option<usize>
+    ensures { result ≡ option_map (λ s. s.component) owner }
+{
+    match owner {
+        Some(site) => Some(site.component),
+        None => None,
     }
 }
 
-fn is_hidden(hidden: &[String], action: &Action) -> bool
-    ensures { result ≡ list_any (λ h. bytes_eq h (act_of action.now).name) (map string_bytes hidden.now) }
+/// Whether an action is external whose owner's entry stands in this site.
+fn is_shown(owner: Option<Site>) -> bool
+    ensures { result ≡ option_map_or (λ s. s.shown) owner true }
 {
-    for name in hidden {
-        if *name == action.name {
-            return true;
-        }
+    match owner {
+        Some(site) => site.shown,
+        None => true,
     }
-    false
 }
