@@ -1,8 +1,9 @@
 //! The files of the process as a `Store`. A file is replaced whole, or stays as it is.
 
-ghost use Rattle.std.specs.Prelude.{◌≡◌, ◌++◌, false, IfOk, IfSome, OnOk, take};
+ghost use Rattle.std.specs.Prelude.{◌≡◌, ◌++◌, ◌∷◌, [], IfOk, IfSome, MatchOption, OnOk};
 ghost use Rattle.std.specs.Io.{StartsWith};
-ghost use Rattle.ioa_serving.specs.Headline.{begins_object};
+ghost use Rattle.std.specs.Io.KnownBytes.{Consumes, IsAtEnd};
+ghost use Rattle.ioac_program.specs.Files.{read_of};
 
 use ioa_value::LIMITS;
 use ioac::{Store, StoreErr, is_object};
@@ -42,8 +43,7 @@ impl<'a, R: rt::Files> Store for Files<'a, R> {
 
     fn load(&self, alloc: Global, name: &str) -> Result<Vec<u8>, StoreErr> {
         let file = open(self.rt, name)?;
-        // One byte past the limit tells that a source is too long.
-        read_file(alloc, file, LIMITS.text as u64 + 1)
+        read_file(alloc, file, LIMITS.text as u64)
     }
 
     fn load_whole(&self, alloc: Global, name: &str) -> Result<Vec<u8>, StoreErr> {
@@ -135,22 +135,44 @@ fn fill<F: Write + OpenFile + Drop>(mut file: F, bytes: &[u8]) -> io::Result<()>
     file.sync_all()
 }
 
-/// The bytes of a file: so many of a source at most, and all of an object.
+/// The bytes of a file: of an object all, of anything else one past the limit at most, which tells that a source is too long. They are counted as they
+/// come, and no length is believed before.
 ///
 /// # Errors
 /// `Io` where a read fails, if it was not just interrupted; or want of memory.
-#[tactic(auto, using(crate::proofs::Sources::first_of))]
-fn read_file<R: Read + Drop>(alloc: Global, reader: R, most: u64) -> Result<Vec<u8>, StoreErr>
-    ensures { IfOk result (λ bytes. begins_object bytes.items ≡ false → IfSome (R.remaining reader) (λ all. bytes.items ≡ take most all)) }
+fn read_file<R: Read + Drop>(alloc: Global, mut file: R, limit: u64) -> Result<Vec<u8>, StoreErr>
+    ensures { IfOk result (λ bytes. IfSome (R.remaining file) (λ all. bytes.items ≡ read_of limit all)) }
 {
     let mut bytes = Vec::new(alloc);
-    let mut first = reader.take(most);
-    read_on(&mut first, &mut bytes)?;
+    let Some(first) = first_byte(&mut file)? else {
+        return Ok(bytes);
+    };
+    bytes.push(first)?;
     if is_object(bytes.as_slice()) {
-        let mut rest = first.into_inner();
-        read_on(&mut rest, &mut bytes)?;
+        read_on(&mut file, &mut bytes)?;
+    } else {
+        read_on(&mut file.take(limit), &mut bytes)?;
     }
     Ok(bytes)
+}
+
+/// The next byte of a reader. None at its end.
+///
+/// # Errors
+/// `Io` where a read fails, if it was not just interrupted; or want of memory.
+fn first_byte<R: Read>(reader: &mut R) -> Result<Option<u8>, StoreErr>
+    ensures { IfOk result (λ first. MatchOption first (IsAtEnd (R.remaining reader.old)) (λ byte. Consumes (R.remaining reader.old) (R.remaining reader.new) (byte ∷ []))) }
+{
+    let mut byte = [0; 1];
+    for _ in 0..u64::MAX {
+        match reader.read(&mut byte) {
+            Ok(0) => return Ok(None),
+            Ok(_) => return Ok(Some(byte[0])),
+            Err(error) if error.kind() == ErrorKind::Interrupted => {}
+            Err(error) => return Err(store_err(&error)),
+        }
+    }
+    Err(StoreErr::Io)
 }
 
 /// All that a reader gives.
