@@ -3,6 +3,7 @@ pub mod Carried
 pub mod Checks
 pub mod Compiling
 pub mod Delivering
+pub mod Devices
 pub mod Dumps
 pub mod Explaining
 pub mod Failing
@@ -14,6 +15,7 @@ pub mod ListLogs
 pub mod Logs
 pub mod Pacing
 pub mod Pictures
+pub mod Placing
 pub mod Printed
 pub mod RunReports
 pub mod Running

@@ -2,8 +2,6 @@
 use Rattle.std.specs.Prelude.{◌≡◌, ℕ, ◌⊎◌, List, [], map, Option, None, Some, IfSome}
 use Rattle.std.specs.Option.{option_copied, option_map}
 use Rattle.std.specs.String.{string_bytes}
-use Rattle.std.specs.Io.KnownBytes.{Appends, Keeps}
-use Rattle.ioa_value.specs.Actions.{Name}
 use Rattle.ioa_tree.specs.Runs.{Ending}
 use Rattle.ioa_links.specs.Library.{library_text}
 use Rattle.ioa_run.specs.declared.run_err.RunErr.{RunErr}
@@ -15,6 +13,7 @@ use Rattle.ioa_serving.specs.declared.store.StoreErr.{StoreErr}
 use Rattle.ioa_serving.specs.declared.status.Status.{Status}
 use Rattle.ioa_serving.specs.Checks.{IsCheck, IsCheckFailure, IsUnchecked}
 use Rattle.ioa_serving.specs.Compiling.{IsMade, IsUnmade}
+use Rattle.ioa_serving.specs.Devices.{Change, Failed, Files, Untouched, Wrote}
 use Rattle.ioa_serving.specs.Dumps.{IsDumped, IsUndumped}
 use Rattle.ioa_serving.specs.Explaining.{IsExplained, IsUnexplained}
 use Rattle.ioa_serving.specs.Headline.{IsReplay, IsLogReplay, IsInvariantReplay, IsMonitoring, IsLogStatesReplay, IsStatesReplay}
@@ -54,97 +53,97 @@ run_failure RunErr.OutOfMemory = Failure.OutOfMemory
 -- composition that is asked for, the last one where none is, with or without the states in which it ends; or the log or the composition was drawn; or that passed the check; or its object was put
 -- in a file; or it was dumped; or a composition was run; or the topic was explained; or the library's text was written. Reports of a run are left to be told, and the
 -- workers to which memory was refused
-abbrev pub IsServed : (Name → List ℕ → Type 0) → (Name → List ℕ → Type 0) → Request → Option (List ℕ) → Option (List ℕ) → Option (List ℕ) → Option (List ℕ) → List ℕ → Status → Type 0
-IsServed holds saves (Request.Replay file composition) bytes before after told wants status =
-    (text : List ℕ) × holds file.now text
-    × ((end : Ending) × IfSome bytes (λ xs. IsReplay text (option_copied composition) xs end before after) × (status ≡ ending_status end)) × (told ≡ None)
-IsServed holds saves (Request.ReplayStates file composition) bytes before after told wants status =
-    (text : List ℕ) × holds file.now text
-    × ((end : Ending) × IfSome bytes (λ xs. IsStatesReplay text (option_copied composition) xs end before after) × (status ≡ ending_status end)) × (told ≡ None)
-IsServed holds saves (Request.ReplayLog file composition) bytes before after told wants status =
-    (text : List ℕ) × holds file.now text
-    × ((end : Ending) × IfSome bytes (λ xs. IsLogReplay text (option_copied composition) xs end before after) × (status ≡ ending_status end)) × (told ≡ None)
-IsServed holds saves (Request.ReplayLogStates file composition) bytes before after told wants status =
-    (text : List ℕ) × holds file.now text
-    × ((end : Ending) × IfSome bytes (λ xs. IsLogStatesReplay text (option_copied composition) xs end before after) × (status ≡ ending_status end)) × (told ≡ None)
-IsServed holds saves (Request.ReplayInvariants file composition) bytes before after told wants status =
-    (text : List ℕ) × holds file.now text
-    × ((found : Found) × IfSome bytes (λ xs. IsInvariantReplay text (option_copied composition) xs found before after) × (status ≡ found_status found)) × (told ≡ None)
-IsServed holds saves (Request.Log file composition) bytes before after told wants status =
-    (text : List ℕ) × holds file.now text
-    × ((end : Ending) × IfSome bytes (λ xs. IsListLog text (option_copied composition) xs end before after) × (status ≡ ending_status end)) × (told ≡ None)
-IsServed holds saves (Request.Monitor file composition) bytes before after told wants status =
-    (text : List ℕ) × holds file.now text
-    × ((answer : Option Ending) × IfSome bytes (λ xs. IsMonitoring text (option_copied composition) xs answer before after) × (status ≡ answer_status answer)) × (told ≡ None)
-IsServed holds saves (Request.Chart file composition) bytes before after told wants status =
-    (text : List ℕ) × holds file.now text
-    × ((end : Ending) × IfSome bytes (λ xs. IsLogChart text (option_copied composition) xs end before after) × (status ≡ ending_status end)) × (told ≡ None)
-IsServed holds saves (Request.Graph file composition) bytes before after told wants status =
-    ((text : List ℕ) × holds file.now text × IsGraphed text (option_copied composition) before after) × (status ≡ Status.Done) × (told ≡ None)
-IsServed holds saves (Request.Run settings) bytes before after told wants status = IsRunServed holds settings before after told wants status
-IsServed holds saves (Request.Check file compositions) bytes before after told wants status =
-    ((text : List ℕ) × holds file.now text × IsCheck text compositions before after) × (status ≡ Status.Done) × (told ≡ None)
-IsServed holds saves (Request.Compile file out composition) bytes before after told wants status =
-    IsMade holds saves file.now out.now (option_copied composition) before after × (status ≡ Status.Done) × (told ≡ None)
-IsServed holds saves (Request.Dump file) bytes before after told wants status =
-    ((object : List ℕ) × holds file.now object × IsDumped object before after) × (status ≡ Status.Done) × (told ≡ None)
-IsServed holds saves (Request.Explain topic) bytes before after told wants status = IsExplained topic before after × (status ≡ Status.Done) × (told ≡ None)
-IsServed holds saves Request.Library bytes before after told wants status = Appends before after library_text × (status ≡ Status.Done) × (told ≡ None)
+abbrev pub IsServed : Files → Request → Change → Change → Option (List ℕ) → List ℕ → Status → Type 0
+IsServed f (Request.Replay file composition) input output told wants status =
+    (text : List ℕ) × f.holds file.now text
+    × ((end : Ending) × IfSome input.before.bytes (λ xs. IsReplay text (option_copied composition) xs end output.before.bytes output.after.bytes) × (status ≡ ending_status end)) × (told ≡ None)
+IsServed f (Request.ReplayStates file composition) input output told wants status =
+    (text : List ℕ) × f.holds file.now text
+    × ((end : Ending) × IfSome input.before.bytes (λ xs. IsStatesReplay text (option_copied composition) xs end output.before.bytes output.after.bytes) × (status ≡ ending_status end)) × (told ≡ None)
+IsServed f (Request.ReplayLog file composition) input output told wants status =
+    (text : List ℕ) × f.holds file.now text
+    × ((end : Ending) × IfSome input.before.bytes (λ xs. IsLogReplay text (option_copied composition) xs end output.before.bytes output.after.bytes) × (status ≡ ending_status end)) × (told ≡ None)
+IsServed f (Request.ReplayLogStates file composition) input output told wants status =
+    (text : List ℕ) × f.holds file.now text
+    × ((end : Ending) × IfSome input.before.bytes (λ xs. IsLogStatesReplay text (option_copied composition) xs end output.before.bytes output.after.bytes) × (status ≡ ending_status end)) × (told ≡ None)
+IsServed f (Request.ReplayInvariants file composition) input output told wants status =
+    (text : List ℕ) × f.holds file.now text
+    × ((found : Found) × IfSome input.before.bytes (λ xs. IsInvariantReplay text (option_copied composition) xs found output.before.bytes output.after.bytes) × (status ≡ found_status found)) × (told ≡ None)
+IsServed f (Request.Log file composition) input output told wants status =
+    (text : List ℕ) × f.holds file.now text
+    × ((end : Ending) × IfSome input.before.bytes (λ xs. IsListLog text (option_copied composition) xs end output.before.bytes output.after.bytes) × (status ≡ ending_status end)) × (told ≡ None)
+IsServed f (Request.Monitor file composition) input output told wants status =
+    (text : List ℕ) × f.holds file.now text
+    × ((answer : Option Ending) × IfSome input.before.bytes (λ xs. IsMonitoring text (option_copied composition) xs answer output.before.bytes output.after.bytes) × (status ≡ answer_status answer)) × (told ≡ None)
+IsServed f (Request.Chart file composition) input output told wants status =
+    (text : List ℕ) × f.holds file.now text
+    × ((end : Ending) × IfSome input.before.bytes (λ xs. IsLogChart text (option_copied composition) xs end output.before.bytes output.after.bytes) × (status ≡ ending_status end)) × (told ≡ None)
+IsServed f (Request.Graph file composition) input output told wants status =
+    ((text : List ℕ) × f.holds file.now text × IsGraphed text (option_copied composition) output.before.bytes output.after.bytes) × (status ≡ Status.Done) × (told ≡ None)
+IsServed f (Request.Run settings) input output told wants status = IsRunServed f.holds settings output.before.bytes output.after.bytes told wants status
+IsServed f (Request.Check file compositions) input output told wants status =
+    ((text : List ℕ) × f.holds file.now text × IsCheck text compositions output.before.bytes output.after.bytes) × (status ≡ Status.Done) × (told ≡ None)
+IsServed f (Request.Compile file out composition) input output told wants status =
+    IsMade f file.now out.now (option_copied composition) output × (status ≡ Status.Done) × (told ≡ None)
+IsServed f (Request.Dump file) input output told wants status =
+    ((object : List ℕ) × f.holds file.now object × IsDumped object output.before.bytes output.after.bytes) × (status ≡ Status.Done) × (told ≡ None)
+IsServed f (Request.Explain topic) input output told wants status = IsExplained topic output.before.bytes output.after.bytes × (status ≡ Status.Done) × (told ≡ None)
+IsServed f Request.Library input output told wants status = Wrote output library_text × (status ≡ Status.Done) × (told ≡ None)
 
 -- a load of the file may fail, or memory is short, and nothing was written
-abbrev pub IsUnread : Type 0 → Option (List ℕ) → Option (List ℕ) → Failure → Type 0
-IsUnread lacks before after e = (((e ≡ Failure.Io) × lacks) ⊎ (e ≡ Failure.OutOfMemory)) × Keeps before after
+abbrev pub IsUnread : Type 0 → Change → Failure → Type 0
+IsUnread lacks output e = (((e ≡ Failure.Io) × lacks) ⊎ (e ≡ Failure.OutOfMemory)) × Untouched output
 
 -- The file is not read, or it may hold a text with which the replay, the log of a list, the monitor, the chart, the graph, the check or the dump fails so; or no object is
 -- made; or nothing is run, or the run's text is not all written; or the topic is not explained; or the library's text is not written. The reader of standard input and the writer failed
 -- where these say so.
-abbrev pub IsUnserved : (Name → List ℕ → Type 0) → (Name → Type 0) → (Name → Type 0) → (Name → List ℕ → Type 0) → Type 0 → Request → Option (List ℕ) → Type 0 → Type 0 → Option (List ℕ) → Option (List ℕ) → List ℕ → Failure → Type 0
-IsUnserved holds lacks bars saves kept (Request.Replay file composition) bytes reader_failed writer_failed before after wants e =
-    IsUnread (lacks file.now) before after e
-    ⊎ ((text : List ℕ) × holds file.now text × IsFailure text (option_copied composition) bytes (reader_failed ⊎ writer_failed) e
-    × IsUnwritten (BeginsReplayOf text (option_copied composition) bytes) before after e)
-IsUnserved holds lacks bars saves kept (Request.ReplayStates file composition) bytes reader_failed writer_failed before after wants e =
-    IsUnread (lacks file.now) before after e
-    ⊎ ((text : List ℕ) × holds file.now text × IsStatesFailure text (option_copied composition) bytes (reader_failed ⊎ writer_failed) e
-    × IsUnwritten (BeginsStatesOf text (option_copied composition) bytes) before after e)
-IsUnserved holds lacks bars saves kept (Request.ReplayLog file composition) bytes reader_failed writer_failed before after wants e =
-    IsUnread (lacks file.now) before after e
-    ⊎ ((text : List ℕ) × holds file.now text × IsLogFailure text (option_copied composition) bytes (reader_failed ⊎ writer_failed) e
-    × IsUnwritten (BeginsLogOf text (option_copied composition) bytes) before after e)
-IsUnserved holds lacks bars saves kept (Request.ReplayLogStates file composition) bytes reader_failed writer_failed before after wants e =
-    IsUnread (lacks file.now) before after e
-    ⊎ ((text : List ℕ) × holds file.now text × IsInvariantFailure text (option_copied composition) bytes (reader_failed ⊎ writer_failed) e
-    × IsUnwritten (BeginsLogStatesOf text (option_copied composition) bytes) before after e)
-IsUnserved holds lacks bars saves kept (Request.ReplayInvariants file composition) bytes reader_failed writer_failed before after wants e =
-    IsUnread (lacks file.now) before after e
-    ⊎ ((text : List ℕ) × holds file.now text × IsInvariantFailure text (option_copied composition) bytes (reader_failed ⊎ writer_failed) e
-    × IsUnwritten (BeginsFoundOf text (option_copied composition) bytes) before after e)
-IsUnserved holds lacks bars saves kept (Request.Log file composition) bytes reader_failed writer_failed before after wants e =
-    IsUnread (lacks file.now) before after e
-    ⊎ ((text : List ℕ) × holds file.now text × IsFailure text (option_copied composition) bytes (reader_failed ⊎ writer_failed) e
-    × IsUnwritten (BeginsListLogOf text (option_copied composition) bytes) before after e)
-IsUnserved holds lacks bars saves kept (Request.Monitor file composition) bytes reader_failed writer_failed before after wants e =
-    IsUnread (lacks file.now) before after e
-    ⊎ ((text : List ℕ) × holds file.now text × IsMonitorFailure text (option_copied composition) bytes (reader_failed ⊎ writer_failed) e
-    × IsUnwritten (BeginsMonitorOf text (option_copied composition) bytes) before after e)
-IsUnserved holds lacks bars saves kept (Request.Chart file composition) bytes reader_failed writer_failed before after wants e =
-    IsUnread (lacks file.now) before after e
-    ⊎ ((text : List ℕ) × holds file.now text × IsLogFailure text (option_copied composition) bytes (reader_failed ⊎ writer_failed) e
-    × IsUnwritten (BeginsChartOf text (option_copied composition) bytes) before after e)
-IsUnserved holds lacks bars saves kept (Request.Graph file composition) bytes reader_failed writer_failed before after wants e =
-    IsUnread (lacks file.now) before after e
-    ⊎ ((text : List ℕ) × holds file.now text × IsUngraphed text (option_copied composition) writer_failed before after e)
-IsUnserved holds lacks bars saves kept (Request.Run settings) bytes reader_failed writer_failed before after wants e =
-    IsRunUnserved holds lacks settings writer_failed before after wants e
-IsUnserved holds lacks bars saves kept (Request.Check file compositions) bytes reader_failed writer_failed before after wants e =
-    IsUnread (lacks file.now) before after e
-    ⊎ ((text : List ℕ) × holds file.now text × IsCheckFailure text compositions writer_failed e × IsUnchecked before after e)
-IsUnserved holds lacks bars saves kept (Request.Compile file out composition) bytes reader_failed writer_failed before after wants e =
-    IsUnmade holds lacks bars saves kept file.now out.now (option_copied composition) writer_failed before after e
-IsUnserved holds lacks bars saves kept (Request.Dump file) bytes reader_failed writer_failed before after wants e =
-    IsUnread (lacks file.now) before after e ⊎ ((object : List ℕ) × holds file.now object × IsUndumped object writer_failed before after e)
-IsUnserved holds lacks bars saves kept (Request.Explain topic) bytes reader_failed writer_failed before after wants e = IsUnexplained topic writer_failed before after e
-IsUnserved holds lacks bars saves kept Request.Library bytes reader_failed writer_failed before after wants e = IsUnlisted writer_failed before after e
+abbrev pub IsUnserved : Files → Request → Change → Change → List ℕ → Failure → Type 0
+IsUnserved f (Request.Replay file composition) input output wants e =
+    IsUnread (f.lacks file.now) output e
+    ⊎ ((text : List ℕ) × f.holds file.now text × IsFailure text (option_copied composition) input.before.bytes (Failed input ⊎ Failed output) e
+    × IsUnwritten (BeginsReplayOf text (option_copied composition) input.before.bytes) output.before.bytes output.after.bytes e)
+IsUnserved f (Request.ReplayStates file composition) input output wants e =
+    IsUnread (f.lacks file.now) output e
+    ⊎ ((text : List ℕ) × f.holds file.now text × IsStatesFailure text (option_copied composition) input.before.bytes (Failed input ⊎ Failed output) e
+    × IsUnwritten (BeginsStatesOf text (option_copied composition) input.before.bytes) output.before.bytes output.after.bytes e)
+IsUnserved f (Request.ReplayLog file composition) input output wants e =
+    IsUnread (f.lacks file.now) output e
+    ⊎ ((text : List ℕ) × f.holds file.now text × IsLogFailure text (option_copied composition) input.before.bytes (Failed input ⊎ Failed output) e
+    × IsUnwritten (BeginsLogOf text (option_copied composition) input.before.bytes) output.before.bytes output.after.bytes e)
+IsUnserved f (Request.ReplayLogStates file composition) input output wants e =
+    IsUnread (f.lacks file.now) output e
+    ⊎ ((text : List ℕ) × f.holds file.now text × IsInvariantFailure text (option_copied composition) input.before.bytes (Failed input ⊎ Failed output) e
+    × IsUnwritten (BeginsLogStatesOf text (option_copied composition) input.before.bytes) output.before.bytes output.after.bytes e)
+IsUnserved f (Request.ReplayInvariants file composition) input output wants e =
+    IsUnread (f.lacks file.now) output e
+    ⊎ ((text : List ℕ) × f.holds file.now text × IsInvariantFailure text (option_copied composition) input.before.bytes (Failed input ⊎ Failed output) e
+    × IsUnwritten (BeginsFoundOf text (option_copied composition) input.before.bytes) output.before.bytes output.after.bytes e)
+IsUnserved f (Request.Log file composition) input output wants e =
+    IsUnread (f.lacks file.now) output e
+    ⊎ ((text : List ℕ) × f.holds file.now text × IsFailure text (option_copied composition) input.before.bytes (Failed input ⊎ Failed output) e
+    × IsUnwritten (BeginsListLogOf text (option_copied composition) input.before.bytes) output.before.bytes output.after.bytes e)
+IsUnserved f (Request.Monitor file composition) input output wants e =
+    IsUnread (f.lacks file.now) output e
+    ⊎ ((text : List ℕ) × f.holds file.now text × IsMonitorFailure text (option_copied composition) input.before.bytes (Failed input ⊎ Failed output) e
+    × IsUnwritten (BeginsMonitorOf text (option_copied composition) input.before.bytes) output.before.bytes output.after.bytes e)
+IsUnserved f (Request.Chart file composition) input output wants e =
+    IsUnread (f.lacks file.now) output e
+    ⊎ ((text : List ℕ) × f.holds file.now text × IsLogFailure text (option_copied composition) input.before.bytes (Failed input ⊎ Failed output) e
+    × IsUnwritten (BeginsChartOf text (option_copied composition) input.before.bytes) output.before.bytes output.after.bytes e)
+IsUnserved f (Request.Graph file composition) input output wants e =
+    IsUnread (f.lacks file.now) output e
+    ⊎ ((text : List ℕ) × f.holds file.now text × IsUngraphed text (option_copied composition) (Failed output) output.before.bytes output.after.bytes e)
+IsUnserved f (Request.Run settings) input output wants e =
+    IsRunUnserved f.holds f.lacks settings (Failed output) output.before.bytes output.after.bytes wants e
+IsUnserved f (Request.Check file compositions) input output wants e =
+    IsUnread (f.lacks file.now) output e
+    ⊎ ((text : List ℕ) × f.holds file.now text × IsCheckFailure text compositions (Failed output) e × IsUnchecked output.before.bytes output.after.bytes e)
+IsUnserved f (Request.Compile file out composition) input output wants e =
+    IsUnmade f file.now out.now (option_copied composition) output e
+IsUnserved f (Request.Dump file) input output wants e =
+    IsUnread (f.lacks file.now) output e ⊎ ((object : List ℕ) × f.holds file.now object × IsUndumped object (Failed output) output.before.bytes output.after.bytes e)
+IsUnserved f (Request.Explain topic) input output wants e = IsUnexplained topic (Failed output) output.before.bytes output.after.bytes e
+IsUnserved f Request.Library input output wants e = IsUnlisted (Failed output) output.before.bytes output.after.bytes e
 
 -- a list or a log is to be read
 abbrev pub IsReading : Request → Type 0

@@ -3,9 +3,11 @@
 ghost use Rattle.std.specs.Prelude.{◌≡◌, ◌↔◌, IsTrue, OnOk, IfErr, IsErrOf, Some};
 ghost use Rattle.std.specs.Option.{option_copied, option_map};
 ghost use Rattle.ioa_log.specs.declared.failure.LogErr.{LogErr};
-ghost use Rattle.ioa_log.specs.Failing.{FailedOnceAtMost, HasFailed};
-ghost use Rattle.ioa_serving.specs.Compiling as spec;
-ghost use Rattle.ioa_serving.specs.Compiling.{Blocks, IsMade, IsUnmade, Places};
+ghost use Rattle.ioa_log.specs.Failing.{FailedOnceAtMost};
+ghost use Rattle.ioa_serving.specs.Compiling.{IsMade, IsUnmade};
+ghost use Rattle.ioa_serving.specs.Devices.{change, files};
+ghost use Rattle.ioa_serving.specs.Placing as spec;
+ghost use Rattle.ioa_serving.specs.Placing.{Blocks, Places};
 ghost use Rattle.ioa_serving.specs.declared.store.StoreErr.{StoreErr};
 
 use crate::compile::object_of;
@@ -28,9 +30,9 @@ pub fn compile_file<F: Store, W: OutputDevice>(
     store: &mut F,
     output: &mut W,
 ) -> Result<(), Failure>
-    ensures makes { OnOk result (IsMade (F.holds store.old) (Places (F.begins store.old) (F.saves store.old store.new)) file.now out.now (option_copied composition.entry) (W.contents output.old) (W.contents output.new)) }
-    ensures refused { IfErr result (λ e. IsUnmade (F.holds store.old) (F.lacks store.old) (Blocks (F.begins store.old) (F.bars store.old)) (Places (F.begins store.old) (F.saves store.old store.new)) (store.new ≡ store.old)
-        file.now out.now (option_copied composition.entry) (HasFailed (W.failure_count output.old) (W.failure_count output.new)) (W.contents output.old) (W.contents output.new) e) }
+    ensures makes { OnOk result (IsMade (files F.holds F.lacks F.begins F.bars F.saves store.old store.new) file.now out.now (option_copied composition.entry) (change W.contents W.failure_count output.old output.new)) }
+    ensures refused { IfErr result (λ e. IsUnmade (files F.holds F.lacks F.begins F.bars F.saves store.old store.new) file.now out.now (option_copied composition.entry)
+        (change W.contents W.failure_count output.old output.new) e) }
     ensures passed { (IsErrOf result (Failure.List LogErr.Io) → ⊥) → W.failure_count output.new ≡ W.failure_count output.old }
     ensures once { FailedOnceAtMost (W.failure_count output.old) (W.failure_count output.new) }
 {

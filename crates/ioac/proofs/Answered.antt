@@ -4,6 +4,7 @@ use Rattle.std.specs.Prelude.{IfErr}
 use Rattle.ioa_serving.specs.declared.failure.Failure.{Failure}
 use Rattle.ioa_serving.specs.declared.served.Served.{Served}
 use Rattle.ioa_serving.specs.declared.status.Status.{Status}
+use Rattle.ioa_serving.specs.Devices.{Change}
 use Rattle.ioa_serving.specs.Serving.{reports_of}
 use Rattle.ioac.specs.Telling.{IsPut}
 
@@ -33,18 +34,24 @@ pub answered : (r : Result Served Failure) (of : List ℕ → Type 0) (served fi
 answered (Ok s) of served finished unserved reported (wants, are, serves, fails) = (wants, are, inl (reports_of s, s.status, serves.0, serves.1))
 answered (Err e) of served finished unserved reported (wants, are, serves, fails) = (wants, are, inr (e, fails.0, fails.1))
 
+-- what holds of whatever a call passed, or of whatever it failed with
+pub any_ok : {A E : Type 0} (P : A → Type 0) (r : Result A E) → ((x : A) → P x) → IfOk r P
+any_ok P (Ok x) f = f x
+any_ok P (Err e) f = tt
+
+pub any_err : {A E : Type 0} (P : E → Type 0) (r : Result A E) → ((e : E) → P e) → IfErr r P
+any_err P (Ok x) f = tt
+any_err P (Err e) f = f e
+
 -- and what there is to say of it follows
-pub followed : (r : Result Served Failure) (served finished : Option (List ℕ) → Status → Type 0) (unserved reported : Failure → Type 0) (remarks : Status → List ℕ → Type 0)
-    (differs : Failure → List ℕ → Type 0) (puts : List ℕ → Type 0) (text : List ℕ)
-    → IfOk r (λ s. served (reports_of s) s.status × finished (reports_of s) s.status) → IfErr r (λ e. unserved e × reported e)
-    → IfOk r (λ s. remarks s.status text) → IfErr r (λ e. differs e text) → puts text
-    → ((reports : Option (List ℕ)) × (done : Status) × served reports done × finished reports done × ((t : List ℕ) × remarks done t × puts t))
-    ⊎ ((e : Failure) × unserved e × reported e × ((t : List ℕ) × differs e t × puts t))
-followed (Ok s) served finished unserved reported remarks differs puts text serves fails tells none put = inl (reports_of s, s.status, serves.0, serves.1, (text, tells, put))
-followed (Err e) served finished unserved reported remarks differs puts text serves fails none tells put = inr (e, fails.0, fails.1, (text, tells, put))
+pub followed : (r : Result Served Failure) (served finished : Option (List ℕ) → Status → Type 0) (unserved reported : Failure → Type 0) (follows_done : Status → Type 0)
+    (follows : Failure → Type 0) → IfOk r (λ s. served (reports_of s) s.status × finished (reports_of s) s.status) → IfErr r (λ e. unserved e × reported e)
+    → IfOk r (λ s. follows_done s.status) → IfErr r follows
+    → ((reports : Option (List ℕ)) × (done : Status) × served reports done × finished reports done × follows_done done) ⊎ ((e : Failure) × unserved e × reported e × follows e)
+followed (Ok s) served finished unserved reported follows_done follows serves fails done none = inl (reports_of s, s.status, serves.0, serves.1, done)
+followed (Err e) served finished unserved reported follows_done follows serves fails none done = inr (e, fails.0, fails.1, done)
 
 -- where the text is told, the status is the one that was wanted
-pub told_through : (text : List ℕ) (wanted : Status) (before after : Option (List ℕ)) (failed : Type 0) (status : Status) → IsPut text wanted before after failed status
-    → (status ≡ Status.Unable → ⊥) → wanted ≡ Status.Unable → ⊥
-told_through text wanted before after failed status (inl put) whole is = whole (put.0 ∙ is)
-told_through text wanted before after failed status (inr cut) whole is = whole cut.0
+pub told_through : (text : List ℕ) (wanted : Status) (errors : Change) (status : Status) → IsPut text wanted errors status → (status ≡ Status.Unable → ⊥) → wanted ≡ Status.Unable → ⊥
+told_through text wanted errors status (inl put) whole is = whole (put.0 ∙ is)
+told_through text wanted errors status (inr cut) whole is = whole cut.0

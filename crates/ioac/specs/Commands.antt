@@ -1,40 +1,37 @@
--- What a run of the program comes to: what is asked, what is written, what is told, and the exit status. Of each device it is said what it
--- holds before and after, and whether it failed.
+-- What a run of the program comes to: what is asked, what is written, what is told, and the exit status.
 use Rattle.std.specs.Prelude.{◌≡◌, ℕ, ◌⊎◌, ◌++◌, ◌∷◌, ◌<◌, ◌≤◌, Bool, true, false, List, [], length, Option, Some, None}
-use Rattle.std.specs.Io.KnownBytes.{Appends, Keeps}
 use Rattle.clap.specs.Words.{IsAmong, Text, fault_of, subcommand_of}
 use Rattle.clap.specs.declared.error.kind.ErrorKind.{ErrorKind}
 use Rattle.clap.specs.declared.error.kind.ErrorKind.TheVariants as kinds
 use Rattle.ioa_log.specs.declared.failure.LogErr.{LogErr}
-use Rattle.ioa_log.specs.Failing.{HasFailed}
 use Rattle.ioa_value.specs.Actions.{Name}
 use Rattle.ioa_serving.specs.declared.failure.Failure.{Failure}
 use Rattle.ioa_request.specs.declared.request.Request.{Request}
 use Rattle.ioa_serving.specs.declared.status.Status.{Status}
-use Rattle.ioa_request.specs.CommandLine.{ioac_app, HasNoFault, IsAsked}
+use Rattle.ioa_request.specs.CommandLine.{ioac_app, is_explained, HasNoFault, IsAsked}
 use Rattle.ioac.specs.Remarks.{IsDifference, IsRemark}
+use Rattle.ioa_serving.specs.Devices.{Change, Passed, Seen, Untouched, World, Wrote, onward, until}
 use Rattle.ioa_serving.specs.Serving.{IsRunning, IsServed, IsUnserved}
 use Rattle.ioac.specs.Telling.{IsCut, IsPut, IsReported, IsShort, IsTold, unasked_text}
 
 -- What is served leaves nothing to tell; or these reports, or the workers to which memory was refused, or both, in this order, whose device may fail.
 -- So where nothing is told, memory was refused to no worker.
-abbrev pub IsFinished : Option (List ℕ) → List ℕ → Status → Option (List ℕ) → Option (List ℕ) → Type 0 → Status → Type 0
-IsFinished None [] done told telling teller_failed status = (status ≡ done) × Keeps told telling
-IsFinished None (b ∷ bs) done told telling teller_failed status = IsPut (b ∷ bs) done told telling teller_failed status
-IsFinished (Some text) wants done told telling teller_failed status = IsPut (text ++ wants) done told telling teller_failed status
+abbrev pub IsFinished : Option (List ℕ) → List ℕ → Status → Change → Status → Type 0
+IsFinished None [] done errors status = (status ≡ done) × Untouched errors
+IsFinished None (b ∷ bs) done errors status = IsPut (b ∷ bs) done errors status
+IsFinished (Some text) wants done errors status = IsPut (text ++ wants) done errors status
 
 -- a run alone has workers to tell of
 abbrev pub AreWantsOf : Request → List ℕ → Type 0
 AreWantsOf request wants = (IsRunning request → ⊥) → wants ≡ []
 
 -- the request was served; or why it was not is told
-abbrev pub IsAnswered : (Name → List ℕ → Type 0) → (Name → Type 0) → (Name → Type 0) → (Name → List ℕ → Type 0) → Type 0 → Request → Option (List ℕ) → Type 0
-    → Option (List ℕ) → Option (List ℕ) → Type 0 → Option (List ℕ) → Option (List ℕ) → Type 0 → Status → Type 0
-IsAnswered holds lacks bars saves kept request bytes reader_failed before after writer_failed told telling teller_failed status =
+abbrev pub IsAnswered : World → Request → Status → Type 0
+IsAnswered w request status =
     (wants : List ℕ) × AreWantsOf request wants
-    × (((reports : Option (List ℕ)) × (done : Status) × IsServed holds saves request bytes before after reports wants done
-    × IsFinished reports wants done told telling teller_failed status)
-    ⊎ ((e : Failure) × IsUnserved holds lacks bars saves kept request bytes reader_failed writer_failed before after wants e × IsReported e wants told telling teller_failed status))
+    × (((reports : Option (List ℕ)) × (done : Status) × IsServed w.files request w.input w.output reports wants done
+    × IsFinished reports wants done w.errors status)
+    ⊎ ((e : Failure) × IsUnserved w.files request w.input w.output wants e × IsReported e wants w.errors status))
 
 -- where memory is short for what there is to say, it is left out
 abbrev pub MayRemark : (List ℕ → List ℕ → Type 0) → List ℕ → Type 0
@@ -47,24 +44,24 @@ IsServedRemark holds lacks request done text = MayRemark (λ heard. IsRemark hol
 abbrev pub IsUnservedRemark : (Name → List ℕ → Type 0) → (Name → Type 0) → Request → Failure → List ℕ → Type 0
 IsUnservedRemark holds lacks request e text = (n : ℕ) → e ≡ Failure.List (LogErr.Diverges n) → MayRemark (λ heard. IsDifference holds lacks request heard n []) text
 
--- such words follow what is told, and the status is still that of the answer; or the device failed then
-abbrev pub IsFollowed : (List ℕ → Type 0) → Status → Option (List ℕ) → Option (List ℕ) → Type 0 → Status → Type 0
-IsFollowed remarks answered told telling teller_failed status = (text : List ℕ) × remarks text × IsPut text answered told telling teller_failed status
+-- Such words follow what was told, and the status is still that of the answer; or the device failed then. Where it had failed before, nothing follows.
+abbrev pub IsFollowed : (List ℕ → Type 0) → Status → Change → Change → Status → Type 0
+IsFollowed remarks answered telling more status =
+    (Passed telling × ((text : List ℕ) × remarks text × IsPut text answered more status))
+    ⊎ ((Passed telling → ⊥) × (status ≡ answered) × (more.after ≡ more.before))
 
--- It is answered so, where the device of what is told holds this before and after, and so many of its calls failed. Where an explanation is asked for, it
--- follows what is told without: of the files, as they are held then, and of what was heard of standard input.
-abbrev pub IsAnsweredAs : Bool → (Name → List ℕ → Type 0) → (Name → Type 0) → (Name → Type 0) → (Name → List ℕ → Type 0) → Type 0 → (Name → List ℕ → Type 0) → (Name → Type 0)
-    → Request → Option (List ℕ) → Type 0 → Option (List ℕ) → Option (List ℕ) → Type 0 → Option (List ℕ) → ℕ → Option (List ℕ) → ℕ → Status → Type 0
-IsAnsweredAs false holds lacks bars saves kept held lacked request bytes reader_failed before after writer_failed told count telling failures status =
-    IsAnswered holds lacks bars saves kept request bytes reader_failed before after writer_failed told telling (HasFailed count failures) status
-IsAnsweredAs true holds lacks bars saves kept held lacked request bytes reader_failed before after writer_failed told count telling failures status =
-    (said : Option (List ℕ)) × (so_far : ℕ) × (answered : Status) × (so_far ≤ failures) × (wants : List ℕ) × AreWantsOf request wants
-    × (((reports : Option (List ℕ)) × (done : Status) × IsServed holds saves request bytes before after reports wants done
-    × IsFinished reports wants done told said (HasFailed count so_far) answered
-    × IsFollowed (IsServedRemark held lacked request done) answered said telling (HasFailed so_far failures) status)
-    ⊎ ((e : Failure) × IsUnserved holds lacks bars saves kept request bytes reader_failed writer_failed before after wants e
-    × IsReported e wants told said (HasFailed count so_far) answered
-    × IsFollowed (IsUnservedRemark held lacked request e) answered said telling (HasFailed so_far failures) status))
+-- It is answered so. Where an explanation is asked for, it follows what is told without: of the files, as they are held then, and of what was heard of
+-- standard input. In between the device of what is told has shown so much.
+abbrev pub IsAnsweredAs : Bool → World → Request → Status → Type 0
+IsAnsweredAs false w request status = IsAnswered w request status
+IsAnsweredAs true w request status =
+    (between : Seen) × (answered : Status) × (between.failures ≤ w.errors.after.failures) × (wants : List ℕ) × AreWantsOf request wants
+    × (((reports : Option (List ℕ)) × (done : Status) × IsServed w.files request w.input w.output reports wants done
+    × IsFinished reports wants done (until w.errors between) answered
+    × IsFollowed (IsServedRemark w.files.held w.files.lacked request done) answered (until w.errors between) (onward w.errors between) status)
+    ⊎ ((e : Failure) × IsUnserved w.files request w.input w.output wants e
+    × IsReported e wants (until w.errors between) answered
+    × IsFollowed (IsUnservedRemark w.files.held w.files.lacked request e) answered (until w.errors between) (onward w.errors between) status))
 
 -- of a parse that gives no request, by what it tells
 abbrev pub usage_status : ErrorKind → Status
@@ -87,29 +84,31 @@ usage_status kinds.Io = Status.BadCommandLine
 usage_status kinds.Format = Status.BadCommandLine
 
 -- help or the version is written, and nothing is told; or the device failed, which is told
-abbrev pub IsShown : List ℕ → Option (List ℕ) → Option (List ℕ) → Type 0 → Option (List ℕ) → Option (List ℕ) → Type 0 → Status → Type 0
-IsShown text before after writer_failed told telling teller_failed status =
-    ((status ≡ Status.Done) × Appends before after text × Keeps told telling)
-    ⊎ (IsCut text before after writer_failed × IsReported (Failure.List LogErr.Io) [] told telling teller_failed status)
+abbrev pub IsShown : List ℕ → Change → Change → Status → Type 0
+IsShown text output errors status =
+    ((status ≡ Status.Done) × Wrote output text × Untouched errors) ⊎ (IsCut text output × IsReported (Failure.List LogErr.Io) [] errors status)
 
 -- what comes of words that are not served, by the status of their fault: help or the version is written; or what is wrong is told, and
 -- nothing is written. Of the words of both it is said only that there are some. Or memory was short, which is told.
-abbrev pub IsUsage : Status → Option (List ℕ) → Option (List ℕ) → Type 0 → Option (List ℕ) → Option (List ℕ) → Type 0 → Status → Type 0
-IsUsage Status.Done before after writer_failed told telling teller_failed status =
-    ((text : List ℕ) × (0 < length text) × IsShown text before after writer_failed told telling teller_failed status)
-    ⊎ (Keeps before after × IsShort told telling teller_failed status)
-IsUsage Status.BadCommandLine before after writer_failed told telling teller_failed status =
-    Keeps before after × ((text : List ℕ) × (0 < length text) × IsTold text Status.BadCommandLine told telling teller_failed status)
-IsUsage Status.Unable before after writer_failed told telling teller_failed status = Keeps before after × IsShort told telling teller_failed status
-IsUsage Status.Refused before after writer_failed told telling teller_failed status = ⊥
-IsUsage Status.Faulted before after writer_failed told telling teller_failed status = ⊥
-IsUsage Status.NotAccepted before after writer_failed told telling teller_failed status = ⊥
+abbrev pub IsUsage : Status → Change → Change → Status → Type 0
+IsUsage Status.Done output errors status =
+    ((text : List ℕ) × (0 < length text) × IsShown text output errors status) ⊎ (Untouched output × IsShort errors status)
+IsUsage Status.BadCommandLine output errors status = Untouched output × ((text : List ℕ) × (0 < length text) × IsTold text Status.BadCommandLine errors status)
+IsUsage Status.Unable output errors status = Untouched output × IsShort errors status
+IsUsage Status.Refused output errors status = ⊥
+IsUsage Status.Faulted output errors status = ⊥
+IsUsage Status.NotAccepted output errors status = ⊥
 
 -- Nothing is served. The words have a fault, or ask for help or the version, or memory was short while they were read; or they have
 -- no fault and ask for nothing, as for a code that is none, for the invariants of a list, or for a run with turns that are no number.
-abbrev pub IsUnasked : List Text → Option (List ℕ) → Option (List ℕ) → Type 0 → Option (List ℕ) → Option (List ℕ) → Type 0 → Status → Type 0
-IsUnasked words before after writer_failed told telling teller_failed status =
-    ((kind : ErrorKind) × ((kind ≡ kinds.OutOfMemory) ⊎ IsAmong kind (fault_of ioac_app words))
-    × IsUsage (usage_status kind) before after writer_failed told telling teller_failed status)
-    ⊎ (HasNoFault words × ((request : Request) → IsAsked words request → ⊥) × Keeps before after
-    × IsTold (unasked_text (subcommand_of ioac_app words)) Status.BadCommandLine told telling teller_failed status)
+abbrev pub IsUnasked : List Text → Change → Change → Status → Type 0
+IsUnasked words output errors status =
+    ((kind : ErrorKind) × ((kind ≡ kinds.OutOfMemory) ⊎ IsAmong kind (fault_of ioac_app words)) × IsUsage (usage_status kind) output errors status)
+    ⊎ (HasNoFault words × ((request : Request) → IsAsked words request → ⊥) × Untouched output
+    × IsTold (unasked_text (subcommand_of ioac_app words)) Status.BadCommandLine errors status)
+
+-- what comes of the words of a command line: they ask for nothing, or the one request that they ask for is answered
+abbrev pub IsCommand : List Text → World → Status → Type 0
+IsCommand words w status =
+    IsUnasked words w.output w.errors status
+    ⊎ ((request : Request) × IsAsked words request × IsAnsweredAs (is_explained (subcommand_of ioac_app words)) w request status)

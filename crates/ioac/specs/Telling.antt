@@ -1,6 +1,5 @@
--- What is told on standard error. Of a device it is said what it holds before and after, and whether it failed.
+-- What is told on standard error.
 use Rattle.std.specs.Prelude.{◌≡◌, ℕ, ◌⊎◌, ◌++◌, ◌∷◌, [], ◌&&◌, Bool, true, false, if◌then◌else◌, is_some, List, Option, Some, None, take, codes}
-use Rattle.std.specs.Io.KnownBytes.{Appends}
 use Rattle.std.specs.List.{join_by}
 use Rattle.std.specs.Str.{bytes_eq}
 use Rattle.clap.specs.Words.{Row, Text, first_of}
@@ -8,31 +7,31 @@ use Rattle.ioa_serving.specs.declared.failure.Failure.{Failure}
 use Rattle.ioa_serving.specs.declared.status.Status.{Status}
 use Rattle.ioa_request.specs.Codes.{all_codes, spelling}
 use Rattle.ioa_request.specs.CommandLine.{is_set}
+use Rattle.ioa_serving.specs.Devices.{Change, Failed, Wrote}
 use Rattle.ioa_serving.specs.Printed.{failure_text}
 use Rattle.ioa_request.specs.Settings.{turns_in}
 use Rattle.ioa_serving.specs.Statuses.{failure_status}
 
 -- the device failed, and has taken no more than a beginning of the text
-abbrev pub IsCut : List ℕ → Option (List ℕ) → Option (List ℕ) → Type 0 → Type 0
-IsCut text before after failed = failed × ((k : ℕ) × Appends before after (take k text))
+abbrev pub IsCut : List ℕ → Change → Type 0
+IsCut text errors = Failed errors × ((k : ℕ) × Wrote errors (take k text))
 
 -- the text is told, and the status is the one that is wanted; or the device failed
-abbrev pub IsPut : List ℕ → Status → Option (List ℕ) → Option (List ℕ) → Type 0 → Status → Type 0
-IsPut text wanted before after failed status =
-    ((status ≡ wanted) × Appends before after text) ⊎ ((status ≡ Status.Unable) × IsCut text before after failed)
+abbrev pub IsPut : List ℕ → Status → Change → Status → Type 0
+IsPut text wanted errors status = ((status ≡ wanted) × Wrote errors text) ⊎ ((status ≡ Status.Unable) × IsCut text errors)
 
 -- a growth of memory was refused, which is told
-abbrev pub IsShort : Option (List ℕ) → Option (List ℕ) → Type 0 → Status → Type 0
-IsShort before after failed status = IsPut (codes "memory\n") Status.Unable before after failed status
+abbrev pub IsShort : Change → Status → Type 0
+IsShort errors status = IsPut (codes "memory\n") Status.Unable errors status
 
 -- the text is told, or that memory was short to write it
-abbrev pub IsTold : List ℕ → Status → Option (List ℕ) → Option (List ℕ) → Type 0 → Status → Type 0
-IsTold text wanted before after failed status = IsPut text wanted before after failed status ⊎ IsShort before after failed status
+abbrev pub IsTold : List ℕ → Status → Change → Status → Type 0
+IsTold text wanted errors status = IsPut text wanted errors status ⊎ IsShort errors status
 
 -- the failure's text is told, on a line, or that memory was short to write it; and after it the workers to which memory was refused
-abbrev pub IsReported : Failure → List ℕ → Option (List ℕ) → Option (List ℕ) → Type 0 → Status → Type 0
-IsReported e wants before after failed status =
-    IsPut (failure_text e ++ 10 ∷ wants) (failure_status e) before after failed status ⊎ IsPut (codes "memory\n" ++ wants) Status.Unable before after failed status
+abbrev pub IsReported : Failure → List ℕ → Change → Status → Type 0
+IsReported e wants errors status =
+    IsPut (failure_text e ++ 10 ∷ wants) (failure_status e) errors status ⊎ IsPut (codes "memory\n" ++ wants) Status.Unable errors status
 
 -- the end of what is told of a command line
 abbrev pub try_help : List ℕ

@@ -1,25 +1,24 @@
 //! The command, from the words of a command line and its devices to an exit status.
 
-ghost use Rattle.std.specs.Prelude.{◌≡◌, ◌⊎◌, ℕ, List, true, map, IfOk, IfErr};
-ghost use Rattle.clap.specs.Words.{subcommand_of};
-ghost use Rattle.ioa_log.specs.Failing.{FailedOnceAtMost, HasFailed};
-ghost use Rattle.ioa_request.specs.CommandLine.{IsAsked, ioac_app, is_explained};
-ghost use Rattle.ioac.specs.Commands.{AreWantsOf, IsAnswered, IsAnsweredAs, IsFinished, IsUnasked};
+ghost use Rattle.std.specs.Prelude.{◌≡◌, ℕ, List, true, map, IfOk, IfErr};
+ghost use Rattle.ioa_log.specs.Failing.{FailedOnceAtMost};
+ghost use Rattle.ioa_request.specs.CommandLine.{IsAsked};
+ghost use Rattle.ioac.specs.Commands.{AreWantsOf, IsAnswered, IsAnsweredAs, IsFinished, IsCommand};
 ghost use Rattle.ioa_serving.specs.Serving.{IsReading, IsSaving, IsServed, IsUnserved, reports_of, wants_of};
-ghost use Rattle.ioa_serving.specs.Compiling.{Blocks, Places};
+ghost use Rattle.ioa_serving.specs.Devices.{change, files, world};
 ghost use Rattle.ioac.specs.Telling.{IsReported};
 ghost use Rattle.ioa_serving.specs.Statuses.{number_of};
 ghost use Rattle.ioa_serving.specs.declared.status.Status.{Status};
 ghost use Rattle.ioa_serving.specs.declared.status.Status.TheVariants as statuses;
 ghost use Rattle.ioa_request.specs.declared.request.Request.{Request};
 
-use crate::tees::Tee;
 use crate::remarks::remarks_or_none;
 use crate::requests::serve;
 use crate::served::finish;
+use crate::tees::Tee;
 use crate::telling::{put, reported};
 use crate::usage::{told, told_unasked};
-use ioa_log::{InputDevice, OutputDevice};
+use ioa_log::{Device, InputDevice, OutputDevice};
 use ioa_request::{Request, is_explained, parse, read_request};
 use ioa_serving::{Failure, Ran, Served, Status, Store};
 use std::alloc::Global;
@@ -50,18 +49,14 @@ pub fn command<
     output: &mut W,
     errors: &mut E,
 ) -> u8
-    ensures answers { (status : Status) × (result ≡ number_of status) × (IsUnasked (map S.text words.now)
-        (W.contents output.old) (W.contents output.new) (HasFailed (W.failure_count output.old) (W.failure_count output.new))
-        (E.contents errors.old) (E.contents errors.new) (HasFailed (E.failure_count errors.old) (E.failure_count errors.new)) status
-        ⊎ ((request : Request) × IsAsked (map S.text words.now) request
-        × IsAnsweredAs (is_explained (subcommand_of ioac_app (map S.text words.now))) (F.holds store.old) (F.lacks store.old) (Blocks (F.begins store.old) (F.bars store.old)) (Places (F.begins store.old) (F.saves store.old store.new)) (store.new ≡ store.old)
-        (F.holds store.new) (F.lacks store.new) request
-        (R.remaining input.old.inner) (HasFailed (R.failure_count input.old.inner) (R.failure_count input.new.inner))
-        (W.contents output.old) (W.contents output.new) (HasFailed (W.failure_count output.old) (W.failure_count output.new))
-        (E.contents errors.old) (E.failure_count errors.old) (E.contents errors.new) (E.failure_count errors.new) status)) }
+    ensures answers { (status : Status) × (result ≡ number_of status) × IsCommand (map S.text words.now)
+        (world (files F.holds F.lacks F.begins F.bars F.saves store.old store.new)
+        (change R.remaining R.failure_count input.old.inner input.new.inner) (change W.contents W.failure_count output.old output.new)
+        (change E.contents E.failure_count errors.old errors.new)) status }
     ensures kept { ((request : Request) → IsAsked (map S.text words.now) request → IsSaving request → ⊥) → store.new ≡ store.old }
     ensures unread { ((request : Request) → IsAsked (map S.text words.now) request → IsReading request → ⊥) → input.new.inner ≡ input.old.inner }
     ensures passed { (result ≡ number_of statuses.Unable → ⊥) → (R.failure_count input.new.inner ≡ R.failure_count input.old.inner) × (W.failure_count output.new ≡ W.failure_count output.old) × (E.failure_count errors.new ≡ E.failure_count errors.old) }
+    ensures once { FailedOnceAtMost (R.failure_count input.old.inner) (R.failure_count input.new.inner) × FailedOnceAtMost (W.failure_count output.old) (W.failure_count output.new) × FailedOnceAtMost (E.failure_count errors.old) (E.failure_count errors.new) }
 {
     perform(rt, alloc, words, store, input, output, errors).number()
 }
@@ -83,18 +78,14 @@ fn perform<
     output: &mut W,
     errors: &mut E,
 ) -> Status
-    ensures performs { IsUnasked (map S.text words.now)
-        (W.contents output.old) (W.contents output.new) (HasFailed (W.failure_count output.old) (W.failure_count output.new))
-        (E.contents errors.old) (E.contents errors.new) (HasFailed (E.failure_count errors.old) (E.failure_count errors.new)) result
-        ⊎ ((request : Request) × IsAsked (map S.text words.now) request
-        × IsAnsweredAs (is_explained (subcommand_of ioac_app (map S.text words.now))) (F.holds store.old) (F.lacks store.old) (Blocks (F.begins store.old) (F.bars store.old)) (Places (F.begins store.old) (F.saves store.old store.new)) (store.new ≡ store.old)
-        (F.holds store.new) (F.lacks store.new) request
-        (R.remaining input.old.inner) (HasFailed (R.failure_count input.old.inner) (R.failure_count input.new.inner))
-        (W.contents output.old) (W.contents output.new) (HasFailed (W.failure_count output.old) (W.failure_count output.new))
-        (E.contents errors.old) (E.failure_count errors.old) (E.contents errors.new) (E.failure_count errors.new) result) }
+    ensures performs { IsCommand (map S.text words.now)
+        (world (files F.holds F.lacks F.begins F.bars F.saves store.old store.new)
+        (change R.remaining R.failure_count input.old.inner input.new.inner) (change W.contents W.failure_count output.old output.new)
+        (change E.contents E.failure_count errors.old errors.new)) result }
     ensures kept { ((request : Request) → IsAsked (map S.text words.now) request → IsSaving request → ⊥) → store.new ≡ store.old }
     ensures unread { ((request : Request) → IsAsked (map S.text words.now) request → IsReading request → ⊥) → input.new.inner ≡ input.old.inner }
     ensures passed { (result ≡ statuses.Unable → ⊥) → (R.failure_count input.new.inner ≡ R.failure_count input.old.inner) × (W.failure_count output.new ≡ W.failure_count output.old) × (E.failure_count errors.new ≡ E.failure_count errors.old) }
+    ensures once { FailedOnceAtMost (R.failure_count input.old.inner) (R.failure_count input.new.inner) × FailedOnceAtMost (W.failure_count output.old) (W.failure_count output.new) × FailedOnceAtMost (E.failure_count errors.old) (E.failure_count errors.new) }
 {
     match parse(alloc, words) {
         Ok(matches) => match read_request(&matches) {
@@ -126,14 +117,13 @@ fn answer_as<
     output: &mut W,
     errors: &mut E,
 ) -> Status
-    ensures answers { IsAnsweredAs explains (F.holds store.old) (F.lacks store.old) (Blocks (F.begins store.old) (F.bars store.old)) (Places (F.begins store.old) (F.saves store.old store.new)) (store.new ≡ store.old)
-        (F.holds store.new) (F.lacks store.new) asked.now
-        (R.remaining input.old.inner) (HasFailed (R.failure_count input.old.inner) (R.failure_count input.new.inner))
-        (W.contents output.old) (W.contents output.new) (HasFailed (W.failure_count output.old) (W.failure_count output.new))
-        (E.contents errors.old) (E.failure_count errors.old) (E.contents errors.new) (E.failure_count errors.new) result }
+    ensures answers { IsAnsweredAs explains (world (files F.holds F.lacks F.begins F.bars F.saves store.old store.new)
+        (change R.remaining R.failure_count input.old.inner input.new.inner) (change W.contents W.failure_count output.old output.new)
+        (change E.contents E.failure_count errors.old errors.new)) asked.now result }
     ensures kept { (IsSaving asked.now → ⊥) → store.new ≡ store.old }
     ensures unread { (IsReading asked.now → ⊥) → input.new.inner ≡ input.old.inner }
     ensures passed { (result ≡ statuses.Unable → ⊥) → (R.failure_count input.new.inner ≡ R.failure_count input.old.inner) × (W.failure_count output.new ≡ W.failure_count output.old) × (E.failure_count errors.new ≡ E.failure_count errors.old) }
+    ensures once { FailedOnceAtMost (R.failure_count input.old.inner) (R.failure_count input.new.inner) × FailedOnceAtMost (W.failure_count output.old) (W.failure_count output.new) × FailedOnceAtMost (E.failure_count errors.old) (E.failure_count errors.new) }
 {
     if explains {
         return answer_and_explain(rt, alloc, asked, store, input, output, errors);
@@ -157,17 +147,21 @@ fn answer_and_explain<
     output: &mut W,
     errors: &mut E,
 ) -> Status
-    ensures answers { IsAnsweredAs true (F.holds store.old) (F.lacks store.old) (Blocks (F.begins store.old) (F.bars store.old)) (Places (F.begins store.old) (F.saves store.old store.new)) (store.new ≡ store.old)
-        (F.holds store.new) (F.lacks store.new) asked.now
-        (R.remaining input.old.inner) (HasFailed (R.failure_count input.old.inner) (R.failure_count input.new.inner))
-        (W.contents output.old) (W.contents output.new) (HasFailed (W.failure_count output.old) (W.failure_count output.new))
-        (E.contents errors.old) (E.failure_count errors.old) (E.contents errors.new) (E.failure_count errors.new) result }
+    ensures answers { IsAnsweredAs true (world (files F.holds F.lacks F.begins F.bars F.saves store.old store.new)
+        (change R.remaining R.failure_count input.old.inner input.new.inner) (change W.contents W.failure_count output.old output.new)
+        (change E.contents E.failure_count errors.old errors.new)) asked.now result }
     ensures kept { (IsSaving asked.now → ⊥) → store.new ≡ store.old }
     ensures unread { (IsReading asked.now → ⊥) → input.new.inner ≡ input.old.inner }
     ensures passed { (result ≡ statuses.Unable → ⊥) → (R.failure_count input.new.inner ≡ R.failure_count input.old.inner) × (W.failure_count output.new ≡ W.failure_count output.old) × (E.failure_count errors.new ≡ E.failure_count errors.old) }
+    ensures once { FailedOnceAtMost (R.failure_count input.old.inner) (R.failure_count input.new.inner) × FailedOnceAtMost (W.failure_count output.old) (W.failure_count output.new) × FailedOnceAtMost (E.failure_count errors.old) (E.failure_count errors.new) }
 {
     input.keep(alloc);
+    let failures = errors.failures();
     let (served, ran, answered) = serve_and_tell(rt, alloc, asked, store, input, output, errors);
+    // A device that failed is not called again.
+    if errors.failures() != failures {
+        return answered;
+    }
     let text = remarks_or_none(alloc, asked, &served, &ran, store, input.kept());
     put(text.as_str(), answered, errors)
 }
@@ -188,9 +182,9 @@ fn answer<
     output: &mut W,
     errors: &mut E,
 ) -> Status
-    ensures answers { IsAnswered (F.holds store.old) (F.lacks store.old) (Blocks (F.begins store.old) (F.bars store.old)) (Places (F.begins store.old) (F.saves store.old store.new)) (store.new ≡ store.old) asked.now (R.remaining input.old) (HasFailed (R.failure_count input.old) (R.failure_count input.new))
-        (W.contents output.old) (W.contents output.new) (HasFailed (W.failure_count output.old) (W.failure_count output.new))
-        (E.contents errors.old) (E.contents errors.new) (HasFailed (E.failure_count errors.old) (E.failure_count errors.new)) result }
+    ensures answers { IsAnswered (world (files F.holds F.lacks F.begins F.bars F.saves store.old store.new)
+        (change R.remaining R.failure_count input.old input.new) (change W.contents W.failure_count output.old output.new)
+        (change E.contents E.failure_count errors.old errors.new)) asked.now result }
     ensures kept { (IsSaving asked.now → ⊥) → store.new ≡ store.old }
     ensures unread { (IsReading asked.now → ⊥) → input.new ≡ input.old }
     ensures passed { (result ≡ statuses.Unable → ⊥) → (R.failure_count input.new ≡ R.failure_count input.old) × (W.failure_count output.new ≡ W.failure_count output.old) × (E.failure_count errors.new ≡ E.failure_count errors.old) }
@@ -218,12 +212,12 @@ fn serve_and_tell<
     errors: &mut E,
 ) -> (Result<Served, Failure>, Option<Ran>, Status)
     ensures tells { (wants : List ℕ) × AreWantsOf asked.now wants
-        × IfOk result.0 (λ s. IsServed (F.holds store.old) (Places (F.begins store.old) (F.saves store.old store.new)) asked.now (R.remaining input.old) (W.contents output.old) (W.contents output.new) (reports_of s) wants s.status
-        × IsFinished (reports_of s) wants s.status (E.contents errors.old) (E.contents errors.new) (HasFailed (E.failure_count errors.old) (E.failure_count errors.new)) result.2)
-        × IfErr result.0 (λ e. IsUnserved (F.holds store.old) (F.lacks store.old) (Blocks (F.begins store.old) (F.bars store.old)) (Places (F.begins store.old) (F.saves store.old store.new)) (store.new ≡ store.old) asked.now (R.remaining input.old)
-        (HasFailed (R.failure_count input.old) (R.failure_count input.new)) (HasFailed (W.failure_count output.old) (W.failure_count output.new))
-        (W.contents output.old) (W.contents output.new) wants e
-        × IsReported e wants (E.contents errors.old) (E.contents errors.new) (HasFailed (E.failure_count errors.old) (E.failure_count errors.new)) result.2) }
+        × IfOk result.0 (λ s. IsServed (files F.holds F.lacks F.begins F.bars F.saves store.old store.new) asked.now (change R.remaining R.failure_count input.old input.new)
+        (change W.contents W.failure_count output.old output.new) (reports_of s) wants s.status
+        × IsFinished (reports_of s) wants s.status (change E.contents E.failure_count errors.old errors.new) result.2)
+        × IfErr result.0 (λ e. IsUnserved (files F.holds F.lacks F.begins F.bars F.saves store.old store.new) asked.now (change R.remaining R.failure_count input.old input.new)
+        (change W.contents W.failure_count output.old output.new) wants e
+        × IsReported e wants (change E.contents E.failure_count errors.old errors.new) result.2) }
     ensures kept { (IsSaving asked.now → ⊥) → store.new ≡ store.old }
     ensures unread { (IsReading asked.now → ⊥) → input.new ≡ input.old }
     ensures passed { (result.2 ≡ statuses.Unable → ⊥) → (R.failure_count input.new ≡ R.failure_count input.old) × (W.failure_count output.new ≡ W.failure_count output.old) × (E.failure_count errors.new ≡ E.failure_count errors.old) }
@@ -242,9 +236,9 @@ fn settle<E: OutputDevice>(
     errors: &mut E,
 ) -> Status
     ensures finishes { IfOk served.now (λ s. IsFinished (reports_of s) (wants_of ran.now) s.status
-        (E.contents errors.old) (E.contents errors.new) (HasFailed (E.failure_count errors.old) (E.failure_count errors.new)) result) }
+        (change E.contents E.failure_count errors.old errors.new) result) }
     ensures reports { IfErr served.now (λ e. IsReported e (wants_of ran.now)
-        (E.contents errors.old) (E.contents errors.new) (HasFailed (E.failure_count errors.old) (E.failure_count errors.new)) result) }
+        (change E.contents E.failure_count errors.old errors.new) result) }
     ensures passed { (result ≡ statuses.Unable → ⊥) → E.failure_count errors.new ≡ E.failure_count errors.old }
     ensures once { FailedOnceAtMost (E.failure_count errors.old) (E.failure_count errors.new) }
 {

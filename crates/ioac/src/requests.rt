@@ -3,9 +3,9 @@
 ghost use Rattle.std.specs.Prelude.{◌≡◌, [], None, IfOk, IfErr, IsErrOf, option_map};
 ghost use Rattle.ioa_system.specs.Outcomes.{ending_of};
 ghost use Rattle.ioa_log.specs.declared.failure.LogErr.{LogErr};
-ghost use Rattle.ioa_log.specs.Failing.{FailedOnceAtMost, HasFailed};
+ghost use Rattle.ioa_log.specs.Failing.{FailedOnceAtMost};
 ghost use Rattle.ioa_request.specs.declared.request.Request.TheVariants as requests;
-ghost use Rattle.ioa_serving.specs.Compiling.{Blocks, Places};
+ghost use Rattle.ioa_serving.specs.Devices.{change, files, no_files, read_only, unused};
 ghost use Rattle.ioa_serving.specs.Logs.{found_of};
 ghost use Rattle.ioa_serving.specs.Serving.{IsReading, IsRunning, IsSaving, IsServed, IsUnserved, reports_of, wants_of};
 ghost use Rattle.ioa_serving.specs.Statuses.{answer_status, ending_status, found_status};
@@ -40,10 +40,10 @@ pub(crate) fn serve<H: Threads + Wait + Clock + Sync, F: Store, R: InputDevice, 
     input: &mut R,
     output: &mut W,
 ) -> (Result<Served, Failure>, Option<Ran>)
-    ensures served { IfOk result.0 (λ s. IsServed (F.holds store.old) (Places (F.begins store.old) (F.saves store.old store.new)) asked.now (R.remaining input.old) (W.contents output.old) (W.contents output.new) (reports_of s) (wants_of result.1) s.status) }
-    ensures refused { IfErr result.0 (λ e. IsUnserved (F.holds store.old) (F.lacks store.old) (Blocks (F.begins store.old) (F.bars store.old)) (Places (F.begins store.old) (F.saves store.old store.new)) (store.new ≡ store.old) asked.now (R.remaining input.old)
-        (HasFailed (R.failure_count input.old) (R.failure_count input.new)) (HasFailed (W.failure_count output.old) (W.failure_count output.new))
-        (W.contents output.old) (W.contents output.new) (wants_of result.1) e) }
+    ensures served { IfOk result.0 (λ s. IsServed (files F.holds F.lacks F.begins F.bars F.saves store.old store.new) asked.now (change R.remaining R.failure_count input.old input.new)
+        (change W.contents W.failure_count output.old output.new) (reports_of s) (wants_of result.1) s.status) }
+    ensures refused { IfErr result.0 (λ e. IsUnserved (files F.holds F.lacks F.begins F.bars F.saves store.old store.new) asked.now (change R.remaining R.failure_count input.old input.new)
+        (change W.contents W.failure_count output.old output.new) (wants_of result.1) e) }
     ensures silent { (IsRunning asked.now → ⊥) → result.1 ≡ None }
     ensures kept { (IsSaving asked.now → ⊥) → store.new ≡ store.old }
     ensures unread { (IsReading asked.now → ⊥) → input.new ≡ input.old }
@@ -110,10 +110,8 @@ fn replay<F: Store, R: InputDevice, W: OutputDevice>(
     input: &mut R,
     output: &mut W,
 ) -> Result<Served, Failure>
-    ensures served { IfOk result (λ s. Serves (F.holds store.now) (requests.Replay file.entry composition.entry) (R.remaining input.old) (W.contents output.old) (W.contents output.new) s) }
-    ensures refused { IfErr result (λ e. Fails (F.holds store.now) (F.lacks store.now) (requests.Replay file.entry composition.entry) (R.remaining input.old)
-        (HasFailed (R.failure_count input.old) (R.failure_count input.new)) (HasFailed (W.failure_count output.old) (W.failure_count output.new))
-        (W.contents output.old) (W.contents output.new) e) }
+    ensures served { IfOk result (λ s. Serves (read_only F.holds F.lacks store.now) (requests.Replay file.entry composition.entry) (change R.remaining R.failure_count input.old input.new) (change W.contents W.failure_count output.old output.new) s) }
+    ensures refused { IfErr result (λ e. Fails (read_only F.holds F.lacks store.now) (requests.Replay file.entry composition.entry) (change R.remaining R.failure_count input.old input.new) (change W.contents W.failure_count output.old output.new) e) }
     ensures passed { (IsErrOf result (Failure.List LogErr.Io) → ⊥) → (R.failure_count input.new ≡ R.failure_count input.old) × (W.failure_count output.new ≡ W.failure_count output.old) }
     ensures once { FailedOnceAtMost (R.failure_count input.old) (R.failure_count input.new) × FailedOnceAtMost (W.failure_count output.old) (W.failure_count output.new) }
 {
@@ -131,10 +129,8 @@ fn replay_states<F: Store, R: InputDevice, W: OutputDevice>(
     input: &mut R,
     output: &mut W,
 ) -> Result<Served, Failure>
-    ensures served { IfOk result (λ s. Serves (F.holds store.now) (requests.ReplayStates file.entry composition.entry) (R.remaining input.old) (W.contents output.old) (W.contents output.new) s) }
-    ensures refused { IfErr result (λ e. Fails (F.holds store.now) (F.lacks store.now) (requests.ReplayStates file.entry composition.entry) (R.remaining input.old)
-        (HasFailed (R.failure_count input.old) (R.failure_count input.new)) (HasFailed (W.failure_count output.old) (W.failure_count output.new))
-        (W.contents output.old) (W.contents output.new) e) }
+    ensures served { IfOk result (λ s. Serves (read_only F.holds F.lacks store.now) (requests.ReplayStates file.entry composition.entry) (change R.remaining R.failure_count input.old input.new) (change W.contents W.failure_count output.old output.new) s) }
+    ensures refused { IfErr result (λ e. Fails (read_only F.holds F.lacks store.now) (requests.ReplayStates file.entry composition.entry) (change R.remaining R.failure_count input.old input.new) (change W.contents W.failure_count output.old output.new) e) }
     ensures passed { (IsErrOf result (Failure.List LogErr.Io) → ⊥) → (R.failure_count input.new ≡ R.failure_count input.old) × (W.failure_count output.new ≡ W.failure_count output.old) }
     ensures once { FailedOnceAtMost (R.failure_count input.old) (R.failure_count input.new) × FailedOnceAtMost (W.failure_count output.old) (W.failure_count output.new) }
 {
@@ -152,10 +148,8 @@ fn replay_log<F: Store, R: InputDevice, W: OutputDevice>(
     input: &mut R,
     output: &mut W,
 ) -> Result<Served, Failure>
-    ensures served { IfOk result (λ s. Serves (F.holds store.now) (requests.ReplayLog file.entry composition.entry) (R.remaining input.old) (W.contents output.old) (W.contents output.new) s) }
-    ensures refused { IfErr result (λ e. Fails (F.holds store.now) (F.lacks store.now) (requests.ReplayLog file.entry composition.entry) (R.remaining input.old)
-        (HasFailed (R.failure_count input.old) (R.failure_count input.new)) (HasFailed (W.failure_count output.old) (W.failure_count output.new))
-        (W.contents output.old) (W.contents output.new) e) }
+    ensures served { IfOk result (λ s. Serves (read_only F.holds F.lacks store.now) (requests.ReplayLog file.entry composition.entry) (change R.remaining R.failure_count input.old input.new) (change W.contents W.failure_count output.old output.new) s) }
+    ensures refused { IfErr result (λ e. Fails (read_only F.holds F.lacks store.now) (requests.ReplayLog file.entry composition.entry) (change R.remaining R.failure_count input.old input.new) (change W.contents W.failure_count output.old output.new) e) }
     ensures passed { (IsErrOf result (Failure.List LogErr.Io) → ⊥) → (R.failure_count input.new ≡ R.failure_count input.old) × (W.failure_count output.new ≡ W.failure_count output.old) }
     ensures once { FailedOnceAtMost (R.failure_count input.old) (R.failure_count input.new) × FailedOnceAtMost (W.failure_count output.old) (W.failure_count output.new) }
 {
@@ -173,10 +167,8 @@ fn replay_log_states<F: Store, R: InputDevice, W: OutputDevice>(
     input: &mut R,
     output: &mut W,
 ) -> Result<Served, Failure>
-    ensures served { IfOk result (λ s. Serves (F.holds store.now) (requests.ReplayLogStates file.entry composition.entry) (R.remaining input.old) (W.contents output.old) (W.contents output.new) s) }
-    ensures refused { IfErr result (λ e. Fails (F.holds store.now) (F.lacks store.now) (requests.ReplayLogStates file.entry composition.entry) (R.remaining input.old)
-        (HasFailed (R.failure_count input.old) (R.failure_count input.new)) (HasFailed (W.failure_count output.old) (W.failure_count output.new))
-        (W.contents output.old) (W.contents output.new) e) }
+    ensures served { IfOk result (λ s. Serves (read_only F.holds F.lacks store.now) (requests.ReplayLogStates file.entry composition.entry) (change R.remaining R.failure_count input.old input.new) (change W.contents W.failure_count output.old output.new) s) }
+    ensures refused { IfErr result (λ e. Fails (read_only F.holds F.lacks store.now) (requests.ReplayLogStates file.entry composition.entry) (change R.remaining R.failure_count input.old input.new) (change W.contents W.failure_count output.old output.new) e) }
     ensures passed { (IsErrOf result (Failure.List LogErr.Io) → ⊥) → (R.failure_count input.new ≡ R.failure_count input.old) × (W.failure_count output.new ≡ W.failure_count output.old) }
     ensures once { FailedOnceAtMost (R.failure_count input.old) (R.failure_count input.new) × FailedOnceAtMost (W.failure_count output.old) (W.failure_count output.new) }
 {
@@ -194,10 +186,8 @@ fn replay_invariants<F: Store, R: InputDevice, W: OutputDevice>(
     input: &mut R,
     output: &mut W,
 ) -> Result<Served, Failure>
-    ensures served { IfOk result (λ s. Serves (F.holds store.now) (requests.ReplayInvariants file.entry composition.entry) (R.remaining input.old) (W.contents output.old) (W.contents output.new) s) }
-    ensures refused { IfErr result (λ e. Fails (F.holds store.now) (F.lacks store.now) (requests.ReplayInvariants file.entry composition.entry) (R.remaining input.old)
-        (HasFailed (R.failure_count input.old) (R.failure_count input.new)) (HasFailed (W.failure_count output.old) (W.failure_count output.new))
-        (W.contents output.old) (W.contents output.new) e) }
+    ensures served { IfOk result (λ s. Serves (read_only F.holds F.lacks store.now) (requests.ReplayInvariants file.entry composition.entry) (change R.remaining R.failure_count input.old input.new) (change W.contents W.failure_count output.old output.new) s) }
+    ensures refused { IfErr result (λ e. Fails (read_only F.holds F.lacks store.now) (requests.ReplayInvariants file.entry composition.entry) (change R.remaining R.failure_count input.old input.new) (change W.contents W.failure_count output.old output.new) e) }
     ensures passed { (IsErrOf result (Failure.List LogErr.Io) → ⊥) → (R.failure_count input.new ≡ R.failure_count input.old) × (W.failure_count output.new ≡ W.failure_count output.old) }
     ensures once { FailedOnceAtMost (R.failure_count input.old) (R.failure_count input.new) × FailedOnceAtMost (W.failure_count output.old) (W.failure_count output.new) }
 {
@@ -215,10 +205,8 @@ fn log<F: Store, R: InputDevice, W: OutputDevice>(
     input: &mut R,
     output: &mut W,
 ) -> Result<Served, Failure>
-    ensures served { IfOk result (λ s. Serves (F.holds store.now) (requests.Log file.entry composition.entry) (R.remaining input.old) (W.contents output.old) (W.contents output.new) s) }
-    ensures refused { IfErr result (λ e. Fails (F.holds store.now) (F.lacks store.now) (requests.Log file.entry composition.entry) (R.remaining input.old)
-        (HasFailed (R.failure_count input.old) (R.failure_count input.new)) (HasFailed (W.failure_count output.old) (W.failure_count output.new))
-        (W.contents output.old) (W.contents output.new) e) }
+    ensures served { IfOk result (λ s. Serves (read_only F.holds F.lacks store.now) (requests.Log file.entry composition.entry) (change R.remaining R.failure_count input.old input.new) (change W.contents W.failure_count output.old output.new) s) }
+    ensures refused { IfErr result (λ e. Fails (read_only F.holds F.lacks store.now) (requests.Log file.entry composition.entry) (change R.remaining R.failure_count input.old input.new) (change W.contents W.failure_count output.old output.new) e) }
     ensures passed { (IsErrOf result (Failure.List LogErr.Io) → ⊥) → (R.failure_count input.new ≡ R.failure_count input.old) × (W.failure_count output.new ≡ W.failure_count output.old) }
     ensures once { FailedOnceAtMost (R.failure_count input.old) (R.failure_count input.new) × FailedOnceAtMost (W.failure_count output.old) (W.failure_count output.new) }
 {
@@ -236,10 +224,8 @@ fn monitor<F: Store, R: InputDevice, W: OutputDevice>(
     input: &mut R,
     output: &mut W,
 ) -> Result<Served, Failure>
-    ensures served { IfOk result (λ s. Serves (F.holds store.now) (requests.Monitor file.entry composition.entry) (R.remaining input.old) (W.contents output.old) (W.contents output.new) s) }
-    ensures refused { IfErr result (λ e. Fails (F.holds store.now) (F.lacks store.now) (requests.Monitor file.entry composition.entry) (R.remaining input.old)
-        (HasFailed (R.failure_count input.old) (R.failure_count input.new)) (HasFailed (W.failure_count output.old) (W.failure_count output.new))
-        (W.contents output.old) (W.contents output.new) e) }
+    ensures served { IfOk result (λ s. Serves (read_only F.holds F.lacks store.now) (requests.Monitor file.entry composition.entry) (change R.remaining R.failure_count input.old input.new) (change W.contents W.failure_count output.old output.new) s) }
+    ensures refused { IfErr result (λ e. Fails (read_only F.holds F.lacks store.now) (requests.Monitor file.entry composition.entry) (change R.remaining R.failure_count input.old input.new) (change W.contents W.failure_count output.old output.new) e) }
     ensures passed { (IsErrOf result (Failure.List LogErr.Io) → ⊥) → (R.failure_count input.new ≡ R.failure_count input.old) × (W.failure_count output.new ≡ W.failure_count output.old) }
     ensures once { FailedOnceAtMost (R.failure_count input.old) (R.failure_count input.new) × FailedOnceAtMost (W.failure_count output.old) (W.failure_count output.new) }
 {
@@ -257,10 +243,8 @@ fn chart<F: Store, R: InputDevice, W: OutputDevice>(
     input: &mut R,
     output: &mut W,
 ) -> Result<Served, Failure>
-    ensures served { IfOk result (λ s. Serves (F.holds store.now) (requests.Chart file.entry composition.entry) (R.remaining input.old) (W.contents output.old) (W.contents output.new) s) }
-    ensures refused { IfErr result (λ e. Fails (F.holds store.now) (F.lacks store.now) (requests.Chart file.entry composition.entry) (R.remaining input.old)
-        (HasFailed (R.failure_count input.old) (R.failure_count input.new)) (HasFailed (W.failure_count output.old) (W.failure_count output.new))
-        (W.contents output.old) (W.contents output.new) e) }
+    ensures served { IfOk result (λ s. Serves (read_only F.holds F.lacks store.now) (requests.Chart file.entry composition.entry) (change R.remaining R.failure_count input.old input.new) (change W.contents W.failure_count output.old output.new) s) }
+    ensures refused { IfErr result (λ e. Fails (read_only F.holds F.lacks store.now) (requests.Chart file.entry composition.entry) (change R.remaining R.failure_count input.old input.new) (change W.contents W.failure_count output.old output.new) e) }
     ensures passed { (IsErrOf result (Failure.List LogErr.Io) → ⊥) → (R.failure_count input.new ≡ R.failure_count input.old) × (W.failure_count output.new ≡ W.failure_count output.old) }
     ensures once { FailedOnceAtMost (R.failure_count input.old) (R.failure_count input.new) × FailedOnceAtMost (W.failure_count output.old) (W.failure_count output.new) }
 {
@@ -277,10 +261,8 @@ fn graph<F: Store, W: OutputDevice>(
     store: &F,
     output: &mut W,
 ) -> Result<Served, Failure>
-    ensures served { IfOk result (λ s. Serves (F.holds store.now) (requests.Graph file.entry composition.entry) None (W.contents output.old) (W.contents output.new) s) }
-    ensures refused { IfErr result (λ e. Fails (F.holds store.now) (F.lacks store.now) (requests.Graph file.entry composition.entry) None
-        ⊥ (HasFailed (W.failure_count output.old) (W.failure_count output.new))
-        (W.contents output.old) (W.contents output.new) e) }
+    ensures served { IfOk result (λ s. Serves (read_only F.holds F.lacks store.now) (requests.Graph file.entry composition.entry) unused (change W.contents W.failure_count output.old output.new) s) }
+    ensures refused { IfErr result (λ e. Fails (read_only F.holds F.lacks store.now) (requests.Graph file.entry composition.entry) unused (change W.contents W.failure_count output.old output.new) e) }
     ensures passed { (IsErrOf result (Failure.List LogErr.Io) → ⊥) → W.failure_count output.new ≡ W.failure_count output.old }
     ensures once { FailedOnceAtMost (W.failure_count output.old) (W.failure_count output.new) }
 {
@@ -297,10 +279,8 @@ fn check<F: Store, W: OutputDevice>(
     store: &F,
     output: &mut W,
 ) -> Result<Served, Failure>
-    ensures served { IfOk result (λ s. Serves (F.holds store.now) (requests.Check file.entry compositions) None (W.contents output.old) (W.contents output.new) s) }
-    ensures refused { IfErr result (λ e. Fails (F.holds store.now) (F.lacks store.now) (requests.Check file.entry compositions) None
-        ⊥ (HasFailed (W.failure_count output.old) (W.failure_count output.new))
-        (W.contents output.old) (W.contents output.new) e) }
+    ensures served { IfOk result (λ s. Serves (read_only F.holds F.lacks store.now) (requests.Check file.entry compositions) unused (change W.contents W.failure_count output.old output.new) s) }
+    ensures refused { IfErr result (λ e. Fails (read_only F.holds F.lacks store.now) (requests.Check file.entry compositions) unused (change W.contents W.failure_count output.old output.new) e) }
     ensures passed { (IsErrOf result (Failure.List LogErr.Io) → ⊥) → W.failure_count output.new ≡ W.failure_count output.old }
     ensures once { FailedOnceAtMost (W.failure_count output.old) (W.failure_count output.new) }
 {
@@ -316,10 +296,8 @@ fn dump<F: Store, W: OutputDevice>(
     store: &F,
     output: &mut W,
 ) -> Result<Served, Failure>
-    ensures served { IfOk result (λ s. Serves (F.holds store.now) (requests.Dump file.entry) None (W.contents output.old) (W.contents output.new) s) }
-    ensures refused { IfErr result (λ e. Fails (F.holds store.now) (F.lacks store.now) (requests.Dump file.entry) None
-        ⊥ (HasFailed (W.failure_count output.old) (W.failure_count output.new))
-        (W.contents output.old) (W.contents output.new) e) }
+    ensures served { IfOk result (λ s. Serves (read_only F.holds F.lacks store.now) (requests.Dump file.entry) unused (change W.contents W.failure_count output.old output.new) s) }
+    ensures refused { IfErr result (λ e. Fails (read_only F.holds F.lacks store.now) (requests.Dump file.entry) unused (change W.contents W.failure_count output.old output.new) e) }
     ensures passed { (IsErrOf result (Failure.List LogErr.Io) → ⊥) → W.failure_count output.new ≡ W.failure_count output.old }
     ensures once { FailedOnceAtMost (W.failure_count output.old) (W.failure_count output.new) }
 {
@@ -337,11 +315,8 @@ fn compile<F: Store, W: OutputDevice>(
     store: &mut F,
     output: &mut W,
 ) -> Result<Served, Failure>
-    ensures served { IfOk result (λ s. IsServed (F.holds store.old) (Places (F.begins store.old) (F.saves store.old store.new)) (requests.Compile file.entry out.entry composition.entry) None
-        (W.contents output.old) (W.contents output.new) (reports_of s) [] s.status) }
-    ensures refused { IfErr result (λ e. IsUnserved (F.holds store.old) (F.lacks store.old) (Blocks (F.begins store.old) (F.bars store.old)) (Places (F.begins store.old) (F.saves store.old store.new)) (store.new ≡ store.old)
-        (requests.Compile file.entry out.entry composition.entry) None ⊥ (HasFailed (W.failure_count output.old) (W.failure_count output.new))
-        (W.contents output.old) (W.contents output.new) [] e) }
+    ensures served { IfOk result (λ s. IsServed (files F.holds F.lacks F.begins F.bars F.saves store.old store.new) (requests.Compile file.entry out.entry composition.entry) unused (change W.contents W.failure_count output.old output.new) (reports_of s) [] s.status) }
+    ensures refused { IfErr result (λ e. IsUnserved (files F.holds F.lacks F.begins F.bars F.saves store.old store.new) (requests.Compile file.entry out.entry composition.entry) unused (change W.contents W.failure_count output.old output.new) [] e) }
     ensures passed { (IsErrOf result (Failure.List LogErr.Io) → ⊥) → W.failure_count output.new ≡ W.failure_count output.old }
     ensures once { FailedOnceAtMost (W.failure_count output.old) (W.failure_count output.new) }
 {
@@ -355,9 +330,8 @@ fn explain_topic<W: OutputDevice>(
     topic: Topic,
     output: &mut W,
 ) -> Result<Served, Failure>
-    ensures served { IfOk result (λ s. Serves (λ _ _. ⊥) (requests.Explain topic) None (W.contents output.old) (W.contents output.new) s) }
-    ensures refused { IfErr result (λ e. Fails (λ _ _. ⊥) (λ _. ⊥) (requests.Explain topic) None
-        ⊥ (HasFailed (W.failure_count output.old) (W.failure_count output.new)) (W.contents output.old) (W.contents output.new) e) }
+    ensures served { IfOk result (λ s. Serves no_files (requests.Explain topic) unused (change W.contents W.failure_count output.old output.new) s) }
+    ensures refused { IfErr result (λ e. Fails no_files (requests.Explain topic) unused (change W.contents W.failure_count output.old output.new) e) }
     ensures passed { (IsErrOf result (Failure.List LogErr.Io) → ⊥) → W.failure_count output.new ≡ W.failure_count output.old }
     ensures once { FailedOnceAtMost (W.failure_count output.old) (W.failure_count output.new) }
 {
@@ -367,9 +341,8 @@ fn explain_topic<W: OutputDevice>(
 
 /// Writes the library's source.
 fn library<W: OutputDevice>(output: &mut W) -> Result<Served, Failure>
-    ensures served { IfOk result (λ s. Serves (λ _ _. ⊥) requests.Library None (W.contents output.old) (W.contents output.new) s) }
-    ensures refused { IfErr result (λ e. Fails (λ _ _. ⊥) (λ _. ⊥) requests.Library None
-        ⊥ (HasFailed (W.failure_count output.old) (W.failure_count output.new)) (W.contents output.old) (W.contents output.new) e) }
+    ensures served { IfOk result (λ s. Serves no_files requests.Library unused (change W.contents W.failure_count output.old output.new) s) }
+    ensures refused { IfErr result (λ e. Fails no_files requests.Library unused (change W.contents W.failure_count output.old output.new) e) }
     ensures passed { (IsErrOf result (Failure.List LogErr.Io) → ⊥) → W.failure_count output.new ≡ W.failure_count output.old }
     ensures once { FailedOnceAtMost (W.failure_count output.old) (W.failure_count output.new) }
 {

@@ -1,8 +1,9 @@
 //! What is told of a request that was served, on standard error.
 
 ghost use Rattle.std.specs.Prelude.{◌≡◌};
-ghost use Rattle.ioa_log.specs.Failing.{FailedOnceAtMost, HasFailed};
+ghost use Rattle.ioa_log.specs.Failing.{FailedOnceAtMost};
 ghost use Rattle.ioac.specs.Commands.{IsFinished};
+ghost use Rattle.ioa_serving.specs.Devices.{change};
 ghost use Rattle.ioa_serving.specs.Serving.{reports_of, wants_of};
 ghost use Rattle.ioa_serving.specs.declared.status.Status.TheVariants as statuses;
 
@@ -13,7 +14,7 @@ use ioa_serving::{Ran, Served, Status};
 /// Tells what is left to tell on standard error, of the run's workers too, and answers the exit status, or that of `Unable` where the device failed.
 pub fn finish<E: OutputDevice>(served: &Served, ran: &Option<Ran>, errors: &mut E) -> Status
     ensures finishes { IsFinished (reports_of served.now) (wants_of ran.now) served.now.status
-        (E.contents errors.old) (E.contents errors.new) (HasFailed (E.failure_count errors.old) (E.failure_count errors.new)) result }
+        (change E.contents E.failure_count errors.old errors.new) result }
     ensures passed { (result ≡ statuses.Unable → ⊥) → E.failure_count errors.new ≡ E.failure_count errors.old }
     ensures once { FailedOnceAtMost (E.failure_count errors.old) (E.failure_count errors.new) }
 {

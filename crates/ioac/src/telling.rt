@@ -3,7 +3,8 @@
 ghost use Rattle.std.specs.Prelude.{◌≡◌, ◌≢◌, ◌≤◌, ◌++◌, ◌∷◌, [], IfOk};
 ghost use Rattle.std.specs.IoError.{error_kind};
 ghost use Rattle.std.specs.String.{string_bytes};
-ghost use Rattle.ioa_log.specs.Failing.{FailedOnceAtMost, HasFailed};
+ghost use Rattle.ioa_log.specs.Failing.{FailedOnceAtMost};
+ghost use Rattle.ioa_serving.specs.Devices.{change};
 ghost use Rattle.ioa_serving.specs.Printed.{failure_text};
 ghost use Rattle.ioa_serving.specs.Serving.{wants_of};
 ghost use Rattle.ioac.specs.Telling.{IsPut, IsReported, IsShort, unreadable_text};
@@ -17,7 +18,7 @@ use std::io::ErrorKind;
 
 /// Writes a text on standard error, and answers this exit status, or that of `Unable` where the device failed.
 pub fn put<E: OutputDevice>(text: &str, wanted: Status, errors: &mut E) -> Status
-    ensures puts { IsPut text.now wanted (E.contents errors.old) (E.contents errors.new) (HasFailed (E.failure_count errors.old) (E.failure_count errors.new)) result }
+    ensures puts { IsPut text.now wanted (change E.contents E.failure_count errors.old errors.new) result }
     ensures passed { (result ≡ statuses.Unable → ⊥) → E.failure_count errors.new ≡ E.failure_count errors.old }
     ensures once { FailedOnceAtMost (E.failure_count errors.old) (E.failure_count errors.new) }
     ensures counts { E.failure_count errors.old ≤ E.failure_count errors.new }
@@ -30,7 +31,7 @@ pub fn put<E: OutputDevice>(text: &str, wanted: Status, errors: &mut E) -> Statu
 
 /// Tells that a growth of memory was refused, which wants none, and answers the exit status.
 pub fn put_short<E: OutputDevice>(errors: &mut E) -> Status
-    ensures short { IsShort (E.contents errors.old) (E.contents errors.new) (HasFailed (E.failure_count errors.old) (E.failure_count errors.new)) result }
+    ensures short { IsShort (change E.contents E.failure_count errors.old errors.new) result }
     ensures passed { (result ≡ statuses.Unable → ⊥) → E.failure_count errors.new ≡ E.failure_count errors.old }
     ensures once { FailedOnceAtMost (E.failure_count errors.old) (E.failure_count errors.new) }
 {
@@ -45,7 +46,7 @@ pub fn put_with_wants<E: OutputDevice>(
     wanted: Status,
     errors: &mut E,
 ) -> Status
-    ensures puts { IsPut (text.now ++ wants_of ran.now) wanted (E.contents errors.old) (E.contents errors.new) (HasFailed (E.failure_count errors.old) (E.failure_count errors.new)) result }
+    ensures puts { IsPut (text.now ++ wants_of ran.now) wanted (change E.contents E.failure_count errors.old errors.new) result }
     ensures passed { (result ≡ statuses.Unable → ⊥) → E.failure_count errors.new ≡ E.failure_count errors.old }
     ensures once { FailedOnceAtMost (E.failure_count errors.old) (E.failure_count errors.new) }
 {
@@ -57,7 +58,7 @@ pub fn put_with_wants<E: OutputDevice>(
 
 /// The same without a text before: where memory was refused to no worker, nothing is written.
 pub fn put_wants<E: OutputDevice>(ran: &Option<Ran>, wanted: Status, errors: &mut E) -> Status
-    ensures puts { IsPut (wants_of ran.now) wanted (E.contents errors.old) (E.contents errors.new) (HasFailed (E.failure_count errors.old) (E.failure_count errors.new)) result }
+    ensures puts { IsPut (wants_of ran.now) wanted (change E.contents E.failure_count errors.old errors.new) result }
     ensures quiet { wants_of ran.now ≡ [] → (result ≡ wanted) × (errors.new ≡ errors.old) }
     ensures passed { (result ≡ statuses.Unable → ⊥) → E.failure_count errors.new ≡ E.failure_count errors.old }
     ensures once { FailedOnceAtMost (E.failure_count errors.old) (E.failure_count errors.new) }
@@ -78,7 +79,7 @@ pub fn reported<E: OutputDevice>(
     ran: &Option<Ran>,
     errors: &mut E,
 ) -> Status
-    ensures reports { IsReported failure.now (wants_of ran.now) (E.contents errors.old) (E.contents errors.new) (HasFailed (E.failure_count errors.old) (E.failure_count errors.new)) result }
+    ensures reports { IsReported failure.now (wants_of ran.now) (change E.contents E.failure_count errors.old errors.new) result }
     ensures passed { (result ≡ statuses.Unable → ⊥) → E.failure_count errors.new ≡ E.failure_count errors.old }
     ensures once { FailedOnceAtMost (E.failure_count errors.old) (E.failure_count errors.new) }
 {
@@ -98,9 +99,9 @@ fn failure_line(alloc: Global, failure: &Failure) -> Result<String, AllocError>
 /// Tells that the words of the command line could not be had, and answers the exit status: one of them is no UTF-8, or memory was short.
 pub fn told_unread<E: OutputDevice>(error: &io::Error, errors: &mut E) -> Status
     ensures short { error_kind error.now ≡ ErrorKind.OutOfMemory
-        → IsShort (E.contents errors.old) (E.contents errors.new) (HasFailed (E.failure_count errors.old) (E.failure_count errors.new)) result }
+        → IsShort (change E.contents E.failure_count errors.old errors.new) result }
     ensures unreadable { error_kind error.now ≢ ErrorKind.OutOfMemory → IsPut unreadable_text statuses.BadCommandLine
-        (E.contents errors.old) (E.contents errors.new) (HasFailed (E.failure_count errors.old) (E.failure_count errors.new)) result }
+        (change E.contents E.failure_count errors.old errors.new) result }
     ensures once { FailedOnceAtMost (E.failure_count errors.old) (E.failure_count errors.new) }
 {
     if error.kind() == ErrorKind::OutOfMemory {

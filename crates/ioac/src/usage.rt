@@ -4,10 +4,11 @@ ghost use Rattle.std.specs.Prelude.{◌≡◌, ◌<◌, length, IfOk};
 ghost use Rattle.std.specs.Option.{option_copied};
 ghost use Rattle.std.specs.String.{string_bytes};
 ghost use Rattle.clap.specs.Words.{found_of, kind_of, rows_of, subcommand_rows_of};
-ghost use Rattle.ioa_log.specs.Failing.{FailedOnceAtMost, HasFailed};
+ghost use Rattle.ioa_log.specs.Failing.{FailedOnceAtMost};
 ghost use Rattle.ioac.specs.Commands.{IsShown, IsUsage, usage_status};
 ghost use Rattle.ioac.specs.Telling as telling;
 ghost use Rattle.ioac.specs.Telling.{IsTold};
+ghost use Rattle.ioa_serving.specs.Devices.{change};
 ghost use Rattle.ioa_serving.specs.declared.status.Status.TheVariants as statuses;
 
 use crate::telling::{put, put_short, reported};
@@ -26,8 +27,8 @@ pub fn told<W: OutputDevice, E: OutputDevice>(
     errors: &mut E,
 ) -> Status
     ensures usage { IsUsage (usage_status (kind_of error.now))
-        (W.contents output.old) (W.contents output.new) (HasFailed (W.failure_count output.old) (W.failure_count output.new))
-        (E.contents errors.old) (E.contents errors.new) (HasFailed (E.failure_count errors.old) (E.failure_count errors.new)) result }
+        (change W.contents W.failure_count output.old output.new)
+        (change E.contents E.failure_count errors.old errors.new) result }
     ensures passed { (result ≡ statuses.Unable → ⊥) → (W.failure_count output.new ≡ W.failure_count output.old) × (E.failure_count errors.new ≡ E.failure_count errors.old) }
     ensures once { FailedOnceAtMost (W.failure_count output.old) (W.failure_count output.new) × FailedOnceAtMost (E.failure_count errors.old) (E.failure_count errors.new) }
 {
@@ -61,8 +62,8 @@ fn shown<W: OutputDevice, E: OutputDevice>(
     errors: &mut E,
 ) -> Status
     ensures shows { IsShown text.now
-        (W.contents output.old) (W.contents output.new) (HasFailed (W.failure_count output.old) (W.failure_count output.new))
-        (E.contents errors.old) (E.contents errors.new) (HasFailed (E.failure_count errors.old) (E.failure_count errors.new)) result }
+        (change W.contents W.failure_count output.old output.new)
+        (change E.contents E.failure_count errors.old errors.new) result }
     ensures passed { (result ≡ statuses.Unable → ⊥) → (W.failure_count output.new ≡ W.failure_count output.old) × (E.failure_count errors.new ≡ E.failure_count errors.old) }
     ensures once { FailedOnceAtMost (W.failure_count output.old) (W.failure_count output.new) × FailedOnceAtMost (E.failure_count errors.old) (E.failure_count errors.new) }
 {
@@ -80,7 +81,7 @@ pub fn told_unasked<E: OutputDevice>(
     errors: &mut E,
 ) -> Status
     ensures tells { IsTold (telling.unasked_text (subcommand_rows_of matches.now)) statuses.BadCommandLine
-        (E.contents errors.old) (E.contents errors.new) (HasFailed (E.failure_count errors.old) (E.failure_count errors.new)) result }
+        (change E.contents E.failure_count errors.old errors.new) result }
     ensures passed { (result ≡ statuses.Unable → ⊥) → E.failure_count errors.new ≡ E.failure_count errors.old }
     ensures once { FailedOnceAtMost (E.failure_count errors.old) (E.failure_count errors.new) }
 {

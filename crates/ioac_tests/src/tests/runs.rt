@@ -4,7 +4,7 @@ use crate::tests::shelf::{COUNTER, Ran, expect_answer, wanted_in, words};
 use ioa_log::Counted;
 use ioa_rows::{column, columns, is_row};
 use ioac::command::command;
-use ioac::{Tee, Store, StoreErr};
+use ioac::{Store, StoreErr, Tee};
 use std::alloc::{AllocError, Global};
 use std::process::Abort;
 use std::sync::Wait;

@@ -4,7 +4,7 @@ use ioa_log::{Counted, InputDevice, OutputDevice};
 pub use ioa_rows::COUNTER;
 use ioa_rows::{column, columns, is_row};
 use ioac::command::command;
-use ioac::{Tee, Store, StoreErr};
+use ioac::{Store, StoreErr, Tee};
 use std::alloc::{AllocError, Global};
 use std::process::Abort;
 use std::sync::Wait;

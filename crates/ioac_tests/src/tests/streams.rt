@@ -2,7 +2,7 @@
 
 use crate::tests::shelf::{COUNTER, Given, REPLAY, Ran, run_on};
 use ioa_log::{Counted, Device};
-use ioac::{Tee, Status};
+use ioac::{Status, Tee};
 use std::alloc::Global;
 use std::io;
 use std::io::{Read, Write};
@@ -208,7 +208,7 @@ const OBJECT: &str =
 
 /// The words, a file, standard input, and what stands in the end in rooms of these lengths for what is printed and for what is told of
 /// errors. They were zeros.
-const ROOMS: [(&str, &str, &str, &[u8], &[u8]); 12] = [
+const ROOMS: [(&str, &str, &str, &[u8], &[u8]); 13] = [
     ("check f", SMALL, "", b"ok", b"L8\n\0"),
     ("compile f o", COUNTER, "", b"ok", b"L8\n\0"),
     ("dump f", OBJECT, "", b"comp", b"L8\n\0"),
@@ -218,6 +218,7 @@ const ROOMS: [(&str, &str, &str, &[u8], &[u8]); 12] = [
     ("replay f", COUNTER, LIST, b"", b""),
     ("replay g", COUNTER, LIST, b"", b""),
     ("replay f --comp Nine", COUNTER, LIST, b"", b""),
+    ("replay f --comp Nine --explain", COUNTER, LIST, b"", b""),
     ("replay f --invariants", COUNTER, LIST, b"", b""),
     ("--help", COUNTER, LIST, b"", b""),
     ("", COUNTER, LIST, b"", b""),
