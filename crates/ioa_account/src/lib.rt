@@ -25,7 +25,7 @@ pub use ends::{Account, account_of};
 pub use laws::{actions_have_lines, ends_are_found};
 pub use lines::{line_at, line_of_action};
 pub use objects::put_object_monitored;
-pub use quoted::{put_line, put_transition};
+pub use quoted::{put_line, put_shown, put_transition};
 pub use remarks::{
     Told, actions_in, put_difference, put_inspected, put_list_end, put_log_end, put_monitored,
 };

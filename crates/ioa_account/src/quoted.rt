@@ -114,7 +114,7 @@ fn begins_anew(rest: &[u8]) -> bool
 }
 
 /// Puts a line, indented; its beginning, where it is long. What is no text, and what would move the cursor of a terminal, is replaced.
-fn put_shown(alloc: Global, text: &mut String, line: &[u8]) -> Result<(), OutOfMemory>
+pub fn put_shown(alloc: Global, text: &mut String, line: &[u8]) -> Result<(), OutOfMemory>
     ensures { OnOk result (string_bytes text.new ≡ string_bytes text.old ++ spec.shown_text line.now) }
 {
     let count = MOST_SHOWN.min(line.len());

@@ -1,7 +1,8 @@
 -- What is told, where an explanation is asked for, of a request that was served: by what the files may hold now, and by what was heard of standard input.
 use Rattle.std.specs.Prelude.{◌≡◌, ◌≢◌, ◌⊎◌, ◌++◌, ℕ, true, false, if◌then◌else◌, List, [], Option, Some, None, codes}
 use Rattle.std.specs.Borrow.{Bor}
-use Rattle.std.specs.Option.{option_copied, option_map}
+use Rattle.std.specs.Fmt.{decimal}
+use Rattle.std.specs.Option.{option_copied, option_map, option_map_or}
 use Rattle.ioa_value.specs.Actions.{Act, Name}
 use Rattle.ioa_value.specs.Lists.{BadLine, ReadsList}
 use Rattle.ioa_value.specs.Table.{Table}
@@ -16,10 +17,13 @@ use Rattle.ioa_system.specs.Logs.{Logged, actions_of, is_fault, log_end, logged}
 use Rattle.ioa_log.specs.LogTexts.{GoesOnAt, HasNoEnd, NoEntryAt, NotJsonAt, ReadsLog, log_text}
 use Rattle.ioa_account.specs.declared.remarks.Told.{Told}
 use Rattle.ioa_account.specs.Objects.{TellsObject}
-use Rattle.ioa_account.specs.Quoted.{line_text}
+use Rattle.ioa_account.specs.Lines.{line_at}
+use Rattle.ioa_account.specs.Quoted.{shown_text}
 use Rattle.ioa_account.specs.Remarks.{TellsDifference, TellsEnd, TellsInspected, TellsMonitored, list_line, log_line}
 use Rattle.ioac.specs.declared.remarks.ended.Ended.{Ended}
+use Rattle.ioa_request.specs.declared.code.Code.{Code}
 use Rattle.ioa_request.specs.declared.request.Request.{Request}
+use Rattle.ioa_request.specs.Codes.{spelling}
 use Rattle.ioa_serving.specs.declared.status.Status.{Status}
 use Rattle.ioa_serving.specs.declared.failure.Failure.{Failure}
 use Rattle.ioa_serving.specs.declared.run.Ran.{Ran}
@@ -208,10 +212,28 @@ abbrev pub IsRemark : (Name → List ℕ → Type 0) → (Name → Type 0) → R
 IsRemark holds lacks request input status text =
     (warnings : List ℕ) × ((IsChecking request → ⊥) → warnings ≡ []) × TellsEnded holds lacks request (source_of request) (Ended.Served status) input warnings text
 
+-- ---- the line by which an editor jumps
+
+-- the file, the line and the code, behind which words follow
+abbrev pub head_text : Name → ℕ → Code → List ℕ
+head_text file n code = file ++ (codes ":" ++ (decimal n ++ (codes ": " ++ (spelling code ++ codes ": "))))
+
+-- the line of this number, as it is shown; nothing, where there is none
+abbrev pub shown_line : List ℕ → ℕ → List ℕ
+shown_line bytes n = option_map_or shown_text (line_at bytes n) []
+
+-- what is told of the line of a log that differs
+abbrev pub differing_head : ℕ → List ℕ
+differing_head n = head_text (codes "log") n Code.L4 ++ codes "the composition's run differs from here on\n"
+
+-- and the line
+abbrev pub differing_text : List ℕ → ℕ → List ℕ
+differing_text input n = differing_head n ++ shown_line input n
+
 -- of a log that is of another run: the line of the log that differs, and then how
 abbrev pub TellsDiverged : (Name → List ℕ → Type 0) → (Name → Type 0) → Request → List ℕ → ℕ → List ℕ → List ℕ → Type 0
 TellsDiverged holds lacks request input n before after =
-    TellsEnded holds lacks request (source_of request) Ended.Diverged input (before ++ line_text (codes "log") input n) after
+    TellsEnded holds lacks request (source_of request) Ended.Diverged input (before ++ differing_text input n) after
 
 -- behind that stand words for people
 abbrev pub IsDifference : (Name → List ℕ → Type 0) → (Name → Type 0) → Request → List ℕ → ℕ → List ℕ → List ℕ → Type 0

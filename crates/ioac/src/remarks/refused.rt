@@ -8,10 +8,11 @@ ghost use Rattle.ioac.specs.Remarks as spec;
 ghost use Rattle.ioac.specs.Remarks.{IsDifference};
 
 use crate::remarks::ended::{Ended, loaded};
+use crate::remarks::heads::{put_differing, put_head, put_shown_line};
 use crate::remarks::places::{Place, input_name, inputs_of, place_of, source_of, words_of};
 use crate::remarks::sources::component_line;
-use crate::remarks::{ended, warned};
-use ioa_account::{line_of_action, put_line};
+use crate::remarks::{ended, warned, words};
+use ioa_account::line_of_action;
 use ioa_log::LogErr;
 use ioa_request::explanations::explanation;
 use ioa_request::{Request, Topic};
@@ -51,7 +52,7 @@ fn put_found<F: Store>(
         → OnOk result (spec.TellsDiverged (F.holds store.now) (F.lacks store.now) asked.now input.now n (string_bytes text.old) (string_bytes text.new)) }
 {
     if let Failure::List(LogErr::Diverges(line)) = failure {
-        put_line(alloc, text, "log", input, *line as usize)?;
+        put_differing(alloc, text, input, *line as usize)?;
         return ended::put(alloc, text, asked, Ended::Diverged, store, input);
     }
     put_place(alloc, text, asked, failure, store, input)?;
@@ -69,13 +70,13 @@ fn put_place<F: Store>(
 ) -> Result<(), OutOfMemory> {
     match place_of(failure) {
         Place::Nowhere => Ok(()),
-        Place::Source(line) => put_source_line(alloc, text, asked, line, store),
-        Place::Component(number) => put_component(alloc, text, asked, number, store),
-        Place::Words(line) => put_file_line(alloc, text, words_of(asked), line, store),
-        Place::Action(index) => put_script_action(alloc, text, asked, index, store),
+        Place::Source(line) => put_source_line(alloc, text, asked, failure, line, store),
+        Place::Component(number) => put_component(alloc, text, asked, failure, number, store),
+        Place::Words(line) => put_file_line(alloc, text, words_of(asked), failure, line, store),
+        Place::Action(index) => put_script_action(alloc, text, asked, failure, index, store),
         Place::Input(line) => match inputs_of(asked) {
-            Some(name) => put_file_line(alloc, text, Some(name), line, store),
-            None => put_line(alloc, text, input_name(asked), input, line),
+            Some(name) => put_file_line(alloc, text, Some(name), failure, line, store),
+            None => put_told_line(alloc, text, input_name(asked), failure, input, line),
         },
     }
 }
@@ -93,20 +94,22 @@ fn put_source_line<F: Store>(
     alloc: Global,
     text: &mut String,
     asked: &Request<'_>,
+    failure: &Failure,
     line: usize,
     store: &F,
 ) -> Result<(), OutOfMemory> {
     match source_of(asked) {
-        Some((name, _)) => put_file_line(alloc, text, Some(name), line, store),
+        Some((name, _)) => put_file_line(alloc, text, Some(name), failure, line, store),
         None => Ok(()),
     }
 }
 
-/// Puts a line of a file. Nothing, where it cannot be read now.
+/// Puts what a failure tells of a line of a file.
 fn put_file_line<F: Store>(
     alloc: Global,
     text: &mut String,
     file: Option<&str>,
+    failure: &Failure,
     line: usize,
     store: &F,
 ) -> Result<(), OutOfMemory> {
@@ -114,7 +117,22 @@ fn put_file_line<F: Store>(
         return Ok(());
     };
     let bytes = loaded_whole(alloc, name, store)?;
-    put_line(alloc, text, name, bytes.as_slice(), line)
+    put_told_line(alloc, text, name, failure, bytes.as_slice(), line)
+}
+
+/// Puts what a failure tells of a line of the bytes, with their name, and shows the line.
+fn put_told_line(
+    alloc: Global,
+    text: &mut String,
+    name: &str,
+    failure: &Failure,
+    bytes: &[u8],
+    line: usize,
+) -> Result<(), OutOfMemory> {
+    put_head(text, name, line, failure.code())?;
+    words::put(alloc, text, failure, bytes)?;
+    text.push('\n')?;
+    put_shown_line(alloc, text, bytes, line)
 }
 
 /// Puts the line on which the composition names the component of this number.
@@ -122,6 +140,7 @@ fn put_component<F: Store>(
     alloc: Global,
     text: &mut String,
     asked: &Request<'_>,
+    failure: &Failure,
     number: usize,
     store: &F,
 ) -> Result<(), OutOfMemory> {
@@ -130,7 +149,7 @@ fn put_component<F: Store>(
     };
     let source = loaded(alloc, name, store)?;
     match component_line(alloc, source.as_slice(), composition, number)? {
-        Some(line) => put_line(alloc, text, name, source.as_slice(), line),
+        Some(line) => put_told_line(alloc, text, name, failure, source.as_slice(), line),
         None => Ok(()),
     }
 }
@@ -140,6 +159,7 @@ fn put_script_action<F: Store>(
     alloc: Global,
     text: &mut String,
     asked: &Request<'_>,
+    failure: &Failure,
     index: usize,
     store: &F,
 ) -> Result<(), OutOfMemory> {
@@ -148,7 +168,7 @@ fn put_script_action<F: Store>(
     };
     let script = loaded_whole(alloc, name, store)?;
     match line_of_action(script.as_slice(), index) {
-        Some(line) => put_line(alloc, text, name, script.as_slice(), line),
+        Some(line) => put_told_line(alloc, text, name, failure, script.as_slice(), line),
         None => Ok(()),
     }
 }

@@ -1,0 +1,261 @@
+//! The token at which a rule of names or types is broken, and the names that a source declares.
+
+use ioa_lex::{Kind, Terminal, Token};
+use ioa_rules::source_fine;
+use ioa_syntax::{Numbered, Refusal, parse_numbered};
+use ioa_tree::{
+    Assembly, Automaton, Declaration, Field, Name, Position, TypeDeclaration, TypeForm,
+};
+use ioa_value::OutOfMemory;
+use std::alloc::Global;
+
+/// A source that breaks a rule, whose lines are indices of its tokens.
+#[derive(Drop)]
+pub struct Broken {
+    /// The trees, whose lines are indices of tokens.
+    pub numbered: Numbered,
+    /// Why it is refused, by the rules themselves: at the token of this index.
+    pub refusal: Refusal,
+}
+
+/// What rule a text breaks, and at which token. None, where it breaks none of its own.
+pub fn broken_in(alloc: Global, text: &[u8]) -> Result<Option<Broken>, OutOfMemory> {
+    let numbered = match parse_numbered(alloc, text) {
+        Ok(numbered) => numbered,
+        Err(Refusal::OutOfMemory) => return Err(OutOfMemory),
+        Err(_) => return Ok(None),
+    };
+    let refusal = match source_fine(alloc, numbered.source.declarations()) {
+        Ok(_) => return Ok(None),
+        Err(Refusal::OutOfMemory) => return Err(OutOfMemory),
+        Err(refusal) => refusal,
+    };
+    Ok(Some(Broken { numbered, refusal }))
+}
+
+/// The line of the token of this index.
+pub fn line_of(tokens: &[Token], index: u32) -> u32 {
+    match tokens.get(index as usize) {
+        Some(token) => token.line,
+        None => 0,
+    }
+}
+
+/// The name that the token of this index is.
+pub fn name_at(tokens: &[Token], index: u32) -> Option<&str> {
+    match tokens.get(index as usize) {
+        Some(
+            Token {
+                kind: Kind::Name(name),
+                ..
+            },
+        ) => Some(name.as_str()),
+        _ => None,
+    }
+}
+
+/// Whether the token of this index is this word or sign.
+pub fn is_word_at(tokens: &[Token], index: Option<u32>, word: Terminal) -> bool {
+    let Some(index) = index else {
+        return false;
+    };
+    match tokens.get(index as usize) {
+        Some(
+            Token {
+                kind: Kind::Terminal(found),
+                ..
+            },
+        ) => *found == word,
+        _ => false,
+    }
+}
+
+/// What a name is declared as.
+#[derive(Clone, Copy, PartialEq, Eq)]
+pub enum What {
+    Type,
+    /// A name of an enumeration.
+    Constant,
+    Automaton,
+    Composition,
+    Formal,
+    Variable,
+    Parameter,
+    Entry,
+    Component,
+}
+
+impl What {
+    /// As it is told.
+    pub fn words(self) -> &'static str {
+        match self {
+            What::Type => "a type",
+            What::Constant => "a name of the enumeration",
+            What::Automaton => "an automaton",
+            What::Composition => "a composition",
+            What::Formal => "a formal",
+            What::Variable => "a variable",
+            What::Parameter => "a parameter",
+            What::Entry => "an entry",
+            What::Component => "a component",
+        }
+    }
+
+    /// Whether the name is known in the whole source.
+    pub fn is_global(self) -> bool {
+        match self {
+            What::Type | What::Constant | What::Automaton | What::Composition => true,
+            What::Formal | What::Variable | What::Parameter | What::Entry | What::Component => {
+                false
+            }
+        }
+    }
+}
+
+/// A name where it is declared: in the place of its line it has the index of its token.
+#[derive(Clone, Copy)]
+pub struct Known<'a> {
+    pub name: &'a Name,
+    pub what: What,
+    /// The name of the entry that has the parameter, and else that of the declaration itself.
+    pub of: &'a Name,
+    /// Which declaration has it.
+    pub within: usize,
+}
+
+/// The names that the declarations declare, in their order.
+pub fn known_names(
+    alloc: Global,
+    declarations: &[Declaration],
+) -> Result<Vec<Known<'_>>, OutOfMemory> {
+    let mut found = Vec::new(alloc);
+    let mut within: usize = 0;
+    for declaration in declarations {
+        match declaration {
+            Declaration::Type(declared) => push_type(&mut found, declared, within)?,
+            Declaration::Automaton(automaton) => push_automaton(&mut found, automaton, within)?,
+            Declaration::Composition(assembly) => push_composition(&mut found, assembly, within)?,
+            Declaration::Invariant(_) => {}
+        }
+        within = within.saturating_add(1);
+    }
+    Ok(found)
+}
+
+fn push_type<'a>(
+    found: &mut Vec<Known<'a>>,
+    declared: &'a TypeDeclaration,
+    within: usize,
+) -> Result<(), OutOfMemory> {
+    let of = &declared.name;
+    found.push(Known {
+        name: of,
+        what: What::Type,
+        of,
+        within,
+    })?;
+    if let TypeForm::Enumeration(names) = &declared.form {
+        for name in names {
+            found.push(Known {
+                name,
+                what: What::Constant,
+                of,
+                within,
+            })?;
+        }
+    }
+    Ok(())
+}
+
+fn push_automaton<'a>(
+    found: &mut Vec<Known<'a>>,
+    automaton: &'a Automaton,
+    within: usize,
+) -> Result<(), OutOfMemory> {
+    let of = &automaton.name;
+    found.push(Known {
+        name: of,
+        what: What::Automaton,
+        of,
+        within,
+    })?;
+    push_fields(found, &automaton.formals, What::Formal, of, within)?;
+    for entry in &automaton.entries {
+        found.push(Known {
+            name: &entry.name,
+            what: What::Entry,
+            of,
+            within,
+        })?;
+        push_parameters(found, &entry.positions, &entry.name, within)?;
+    }
+    for variable in &automaton.variables {
+        found.push(Known {
+            name: &variable.field.name,
+            what: What::Variable,
+            of,
+            within,
+        })?;
+    }
+    Ok(())
+}
+
+fn push_fields<'a>(
+    found: &mut Vec<Known<'a>>,
+    fields: &'a [Field],
+    what: What,
+    of: &'a Name,
+    within: usize,
+) -> Result<(), OutOfMemory> {
+    for field in fields {
+        found.push(Known {
+            name: &field.name,
+            what,
+            of,
+            within,
+        })?;
+    }
+    Ok(())
+}
+
+fn push_parameters<'a>(
+    found: &mut Vec<Known<'a>>,
+    positions: &'a [Position],
+    of: &'a Name,
+    within: usize,
+) -> Result<(), OutOfMemory> {
+    for position in positions {
+        if let Position::Typed(field) = position {
+            found.push(Known {
+                name: &field.name,
+                what: What::Parameter,
+                of,
+                within,
+            })?;
+        }
+    }
+    Ok(())
+}
+
+fn push_composition<'a>(
+    found: &mut Vec<Known<'a>>,
+    assembly: &'a Assembly,
+    within: usize,
+) -> Result<(), OutOfMemory> {
+    let of = &assembly.name;
+    found.push(Known {
+        name: of,
+        what: What::Composition,
+        of,
+        within,
+    })?;
+    for instance in &assembly.instances {
+        found.push(Known {
+            name: &instance.name,
+            what: What::Component,
+            of,
+            within,
+        })?;
+    }
+    Ok(())
+}
