@@ -41,7 +41,7 @@ pub use laws::{
 };
 pub use logs::{read_log, write_log};
 pub use monitors::{MonitorErr, monitor};
-pub use reading::{Replayed, push_line};
+pub use reading::Replayed;
 pub use replays::{perform_list, replay_list};
 pub use run_logs::log_list;
 pub use streams::send_all;

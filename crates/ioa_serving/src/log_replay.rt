@@ -13,11 +13,10 @@ ghost use Rattle.ioa_serving.specs.Headline.{IsLogReplay};
 
 use crate::compile::program_of;
 use crate::failure::Failure;
-use ioa_log::{InputDevice, OutputDevice, push_line, read_log, replay, send_all};
+use ioa_log::{InputDevice, OutputDevice, Trace, read_log, replay, send_all};
 use ioa_system::{End, Run};
 use ioa_value::{OutOfMemory, Types};
 use std::alloc::Global;
-use std::fmt::Write;
 
 /// Replays a log in a composition of a source, or in an object, by the bytes of both: where the log is of the composition's run, writes the
 /// external trace and how the log ends, and answers that end.
@@ -54,11 +53,9 @@ pub fn replay_log_text<R: InputDevice, W: OutputDevice>(
 pub fn run_text(alloc: Global, types: &Types, run: &Run) -> Result<String, OutOfMemory>
     ensures { IfOk result (λ text. string_bytes text ≡ replays.replay_text types.now (trace_of run.now) (ending_of run.now.end)) }
 {
-    let mut text = String::new(alloc);
+    let mut trace = Trace::new(alloc);
     for action in run.trace.as_slice() {
-        push_line(&mut text, types, action)?;
+        trace.push(types, action)?;
     }
-    let end = run.end;
-    writeln!(text, "end: {end}")?;
-    Ok(text)
+    trace.end(run.end)
 }

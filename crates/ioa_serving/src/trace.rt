@@ -10,24 +10,22 @@ ghost use Rattle.ioa_system.specs.Logs.{logged};
 ghost use Rattle.ioa_serving.specs.Traces.{performed, traced_text};
 
 use ioa_compile::Program;
-use ioa_log::push_line;
+use ioa_log::Trace;
 use ioa_system::{Log, LogEnd, is_external};
 use ioa_value::{Action, OutOfMemory};
 use std::alloc::Global;
-use std::fmt::Write;
 
 /// The external trace of a run that a log tells, one action a line, and then a line with its end.
 pub fn trace_text(alloc: Global, program: &Program, log: &Log) -> Result<String, OutOfMemory>
     requires { performed log.now.end ≤ length log.now.entries.items }
     ensures { IfOk result (λ text. string_bytes text ≡ traced_text program.now (logged log.now) (performed log.now.end)) }
 {
-    let mut text = String::new(alloc);
+    let mut trace = Trace::new(alloc);
     for entry in &log.entries[..performed(log.end)] {
-        push_external(&mut text, program, &entry.action)?;
+        push_external(&mut trace, program, &entry.action)?;
     }
     let end = log.end.end();
-    writeln!(text, "end: {end}")?;
-    Ok(text)
+    trace.end(end)
 }
 
 /// How many actions of a log that ends so are performed.
@@ -40,13 +38,13 @@ fn performed(end: LogEnd) -> usize
     }
 }
 
-/// Puts a line with the action at the text's end, where it is external.
-fn push_external(text: &mut String, program: &Program, action: &Action) -> Result<(), OutOfMemory>
-    ensures { OnOk result (string_bytes text.new ≡ string_bytes text.old
+/// Puts the action at the trace's end, where it is external.
+fn push_external(trace: &mut Trace, program: &Program, action: &Action) -> Result<(), OutOfMemory>
+    ensures { OnOk result (trace.new ≡ trace.old
         ++ (if is_external program.now.hidden (tabled program.now) (act_of action.now) then written_action program.now.types (act_of action.now) ++ 10 ∷ [] else [])) }
 {
     if is_external(program, action) {
-        push_line(text, program.types(), action)?;
+        trace.push(program.types(), action)?;
     }
     Ok(())
 }
