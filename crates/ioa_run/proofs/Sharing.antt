@@ -23,12 +23,15 @@ use Rattle.ioa_value.specs.contracts.value.Ty as Ty
 use Rattle.ioa_value.specs.contracts.value.Value as Value
 use Rattle.ioa_value.proofs.types.Types.TheSendSync as types
 use Rattle.ioa_value.proofs.value.Value.TheLaws.TheKnot as values
+use Rattle.ioa_compose.specs.contracts.index.Index as Index
+use Rattle.ioa_compose.proofs.index.Index.TheSendSync as index
 use Rattle.ioa_code.specs.contracts.instr.Code as Code
 use Rattle.ioa_code.specs.contracts.instr.Instr as Instr
 use Rattle.ioa_code.specs.contracts.verified.Verified as Verified
 use Rattle.ioa_node.specs.contracts.state.NodeState as NodeState
 use Rattle.ioa_node.specs.contracts.state.Slots as Slots
 use Rattle.ioa_compile.specs.contracts.program.Program as Program
+use Rattle.ioa_compile.specs.contracts.sites.Site as Site
 use Rattle.ioa_compile.specs.contracts.table.Entry as Entry
 use Rattle.ioa_compile.specs.contracts.table.Member as Member
 use Rattle.ioa_system.specs.contracts.log.LogEntry as LogEntry
@@ -98,8 +101,14 @@ entry_sync = search (position_sync, verified_sync, crosses, sendable) depth 20
 member_sync : IsSync (Member.the_field).row
 member_sync = search (state_sync, entry_sync, crosses, sendable) depth 20
 
+site_sync : IsSync Site.the_row
+site_sync = search (crosses, sendable) depth 20
+
+index_sync : IsSync (Index.the_field Site.the_row).row
+index_sync = index.the_field_sync Site.the_row site_sync
+
 program_sync : IsSync Program.the_row
-program_sync = search (types_sync, member_sync, crosses, sendable) depth 20
+program_sync = search (types_sync, member_sync, index_sync, crosses, sendable) depth 20
 
 -- ---- rooms
 

@@ -83,7 +83,7 @@ returns-then-left-gt0 c =
     let d = c.tables.new.cursor in
     let some : d.rest ≢ [] = λ e. absurd (omega (arith, c.left.ensures, ap length e, c.if-left-gt0.true)) in
     answers_trailing c.args.bytes.now p d (are_bytes c.args.bytes.now c.type_inv.bytes) (read_all (goal.at.returns-then-left-gt0 c).In_ok-tables) some
-    (subst (λ x. Compatible (tabled x)) (c.program.view_is ∙ c.in-Ok.ensures.program) c.program.invariant.compatible)
+    (subst (λ x. Compatible (tabled x)) (c.program.view_is ∙ c.in-Ok.ensures.program) c.program.invariant.0.compatible)
 
 pub returns : goal.returns
 returns c =
@@ -92,4 +92,4 @@ returns c =
     let d = c.tables.new.cursor in
     let none : d.rest ≡ [] = nil_from_length d.rest (omega (arith, c.left.ensures, c.if-left-gt0.false)) in
     subst (λ x. Answers bytes (Ok x)) (sym c.in-Ok.ensures.program)
-    (answers_ok bytes p d (are_bytes bytes c.type_inv.bytes) (read_all (goal.at.returns c).In_ok-tables) none (subst (λ x. Compatible (tabled x)) (c.program.view_is ∙ c.in-Ok.ensures.program) c.program.invariant.compatible))
+    (answers_ok bytes p d (are_bytes bytes c.type_inv.bytes) (read_all (goal.at.returns c).In_ok-tables) none (subst (λ x. Compatible (tabled x)) (c.program.view_is ∙ c.in-Ok.ensures.program) c.program.invariant.0.compatible))
