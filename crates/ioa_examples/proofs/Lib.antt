@@ -18,3 +18,4 @@ pub mod Reasons
 pub mod LogTexts
 pub mod BrokenInvariants
 pub mod Judging
+pub mod LineByLine

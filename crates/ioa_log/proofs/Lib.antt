@@ -12,6 +12,8 @@ pub mod ReadBack
 pub mod LoggedLists
 pub mod Entries
 pub mod EntryByEntry
+pub mod LineLaws
+pub mod OneAnswer
 pub mod Judged
 pub mod Following
 pub mod Telling
@@ -22,3 +24,5 @@ pub mod Breaking
 pub mod FirstBroken
 pub mod FirstDifference
 pub mod Hosting
+pub mod LogReadings
+pub mod LogReplays

@@ -5,6 +5,8 @@ pub mod LogLines
 pub mod LogTexts
 pub mod Judging
 pub mod EntryByEntry
+pub mod LineByLine
+pub mod Reasons
 pub mod Following
 pub mod Breaking
 pub mod Monitoring
@@ -12,6 +14,8 @@ pub mod LinesRead
 pub mod Telling
 pub mod LineReading
 pub mod Readings
+pub mod LogReadings
+pub mod LogReplays
 pub mod RunLogs
 pub mod FirstBroken
 pub mod FirstDifference

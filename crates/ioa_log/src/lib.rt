@@ -24,6 +24,8 @@ mod logs;
 // What is asked of logs.
 mod broken_invariants;
 mod judge;
+mod log_reading;
+mod log_replays;
 mod monitors;
 
 // Laws.
@@ -35,10 +37,12 @@ pub use device::{Device, Failed, InputDevice, OutputDevice};
 pub use failure::LogErr;
 pub use judge::replay;
 pub use laws::{
-    first_broken_is_least, judged_entry_by_entry, judged_is_the_run, logs_tell_histories,
-    monitored_is_the_run, no_refusal, one_log, run_log_is_read, run_logs_agree,
-    verdict_is_the_first_difference, written_log_is_read,
+    accepted_logs_agree, first_broken_is_least, judged_entry_by_entry, judged_is_the_run,
+    logs_have_one_answer, logs_tell_histories, monitored_is_the_run, no_refusal, one_log,
+    refused_logs_have_reasons, run_log_is_read, run_logs_agree, verdict_is_the_first_difference,
+    written_log_is_read,
 };
+pub use log_replays::{perform_log, replay_log};
 pub use logs::{read_log, write_log};
 pub use monitors::{MonitorErr, monitor};
 pub use reading::Replayed;
