@@ -26,3 +26,4 @@ pub mod FirstDifference
 pub mod Hosting
 pub mod LogReadings
 pub mod LogReplays
+pub mod Begun

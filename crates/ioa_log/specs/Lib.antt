@@ -16,6 +16,8 @@ pub mod LineReading
 pub mod Readings
 pub mod LogReadings
 pub mod LogReplays
+pub mod Begun
+pub mod BegunLines
 pub mod RunLogs
 pub mod FirstBroken
 pub mod FirstDifference

@@ -17,6 +17,7 @@ mod run_logs;
 mod trace;
 
 // Texts of logs.
+mod begun_logs;
 mod end_texts;
 mod log_lines;
 mod logs;
@@ -31,6 +32,7 @@ mod monitors;
 // Laws.
 mod laws;
 
+pub use begun_logs::begun_log;
 pub use broken_invariants::{Broken, Inspection, inspect, invariants};
 pub use counted::Counted;
 pub use device::{Device, Failed, InputDevice, OutputDevice};
