@@ -6,6 +6,7 @@ pub mod LogReading
 pub mod OneLog
 pub mod PlainTexts
 pub mod WrittenLogs
+pub mod Spelling
 pub mod Replaying
 pub mod RunLogs
 pub mod ReadBack

@@ -3,6 +3,7 @@ pub mod Failing
 pub mod Replays
 pub mod LogLines
 pub mod LogTexts
+pub mod Spelled
 pub mod Judging
 pub mod EntryByEntry
 pub mod LineByLine

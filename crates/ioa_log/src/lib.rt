@@ -21,6 +21,7 @@ mod begun_logs;
 mod end_texts;
 mod log_lines;
 mod logs;
+mod spelled;
 
 // What is asked of logs.
 mod broken_invariants;
