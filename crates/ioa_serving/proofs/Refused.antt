@@ -20,7 +20,7 @@ use Rattle.ioa_log.specs.Judging.{IsReplayErr, judged, wrong_owner, diverges}
 use Rattle.ioa_log.specs.LogTexts.{GoesOnAt, HasNoEnd, NoEntryAt, NotJsonAt, ReadsLog}
 use Rattle.ioa_serving.specs.declared.failure.Failure.{Failure}
 use Rattle.ioa_serving.specs.Headline.{Declares, IsFileOf, Spells}
-use Rattle.ioa_serving.specs.Failing.{Given, IsFailure, IsLogFailure, IsMonitorFailure, IsRefusedGiven, IsRefusedSource, IsUnwritten}
+use Rattle.ioa_serving.specs.Failing.{Given, IsFailure, IsLogFailure, IsLogReplayFailure, IsMonitorFailure, IsNoLogOf, IsRefusedGiven, IsRefusedSource, IsUnwritten}
 use Rattle.ioa_serving.specs.Subjects.{IsOpen, Subject, its_components, its_starts, its_types}
 
 -- what checking and composing answer, told of the text
@@ -209,6 +209,45 @@ log_ungiven text name bytes failed (Failure.BadLog i) k = absurd k
 log_ungiven text name bytes failed Failure.EndedByFault k = absurd k
 log_ungiven text name bytes failed Failure.Io k = absurd k
 log_ungiven text name bytes failed Failure.OutOfMemory k = absurd k
+
+pub log_replay_ungiven : (text : List ℕ) (name : Option Name) (bytes : Option (List ℕ)) (failed : Type 0) (e : Failure) → IsRefusedGiven text name e → IsLogReplayFailure text name bytes failed e
+log_replay_ungiven text name bytes failed (Failure.Refused r) k = k
+log_replay_ungiven text name bytes failed (Failure.Object e) k = k
+log_replay_ungiven text name bytes failed Failure.SourceWanted k = absurd k
+log_replay_ungiven text name bytes failed (Failure.List e) k = absurd k
+log_replay_ungiven text name bytes failed Failure.SpecHasInternal k = absurd k
+log_replay_ungiven text name bytes failed (Failure.BadWords n) k = absurd k
+log_replay_ungiven text name bytes failed Failure.TooManyTurns k = absurd k
+log_replay_ungiven text name bytes failed (Failure.BadInput i) k = absurd k
+log_replay_ungiven text name bytes failed Failure.Threads k = absurd k
+log_replay_ungiven text name bytes failed (Failure.BadLog i) k = absurd k
+log_replay_ungiven text name bytes failed Failure.EndedByFault k = absurd k
+log_replay_ungiven text name bytes failed Failure.Io k = absurd k
+log_replay_ungiven text name bytes failed Failure.OutOfMemory k = absurd k
+
+-- a log that is read line by line is refused, where a device failed or the bytes are no log of the run
+pub log_replay_refused : (text : List ℕ) (name : Option Name) (bytes : Option (List ℕ)) (failed : Type 0) (s : Subject) (x : LogErr) → IsFileOf text name s
+    → (x ≡ LogErr.Io → failed) → IfSome bytes (λ xs. IsNoLogOf x s xs) → IsLogReplayFailure text name bytes failed (Failure.List x)
+log_replay_refused text name bytes failed s (LogErr.NotJson n) of io other = (s, of, other)
+log_replay_refused text name bytes failed s (LogErr.BadEntry n) of io other = (s, of, other)
+log_replay_refused text name bytes failed s (LogErr.WrongOwner n) of io other = (s, of, other)
+log_replay_refused text name bytes failed s (LogErr.Diverges n) of io other = (s, of, other)
+log_replay_refused text name bytes failed s LogErr.NoEnd of io other = (s, of, other)
+log_replay_refused text name bytes failed s LogErr.AfterEnd of io other = (s, of, other)
+log_replay_refused text name bytes failed s LogErr.Io of io other = (s, of, io refl)
+log_replay_refused text name bytes failed s LogErr.OutOfMemory of io other = tt
+
+-- after it nothing was written; where a device failed a beginning
+pub log_replay_unwritten : (begins : Option (List ℕ) → Option (List ℕ) → Type 0) (before after : Option (List ℕ)) (x : LogErr) → ((x ≡ LogErr.Io → ⊥) → Keeps before after)
+    → (x ≡ LogErr.Io → Keeps before after ⊎ begins before after) → IsUnwritten begins before after (Failure.List x)
+log_replay_unwritten begins before after (LogErr.NotJson n) kept io = kept (λ e. cc)
+log_replay_unwritten begins before after (LogErr.BadEntry n) kept io = kept (λ e. cc)
+log_replay_unwritten begins before after (LogErr.WrongOwner n) kept io = kept (λ e. cc)
+log_replay_unwritten begins before after (LogErr.Diverges n) kept io = kept (λ e. cc)
+log_replay_unwritten begins before after LogErr.NoEnd kept io = kept (λ e. cc)
+log_replay_unwritten begins before after LogErr.AfterEnd kept io = kept (λ e. cc)
+log_replay_unwritten begins before after LogErr.Io kept io = io refl
+log_replay_unwritten begins before after LogErr.OutOfMemory kept io = kept (λ e. cc)
 
 pub monitor_ungiven : (text : List ℕ) (name : Option Name) (bytes : Option (List ℕ)) (failed : Type 0) (e : Failure) → IsRefusedGiven text name e → IsMonitorFailure text name bytes failed e
 monitor_ungiven text name bytes failed (Failure.Refused r) k = k

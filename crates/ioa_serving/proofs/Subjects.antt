@@ -1,20 +1,26 @@
 -- What holds of a program's own table and of the hosts for which its composition stands holds of what the program runs as.
-use Rattle.std.proofs.Common.{◌≡◌, List, refl, sym, ap, ap₂, ◌∙◌, subst}
+use Rattle.std.proofs.Common.{◌≡◌, ℕ, List, Option, refl, sym, ap, ap₂, ◌∙◌, subst}
 use Rattle.ioa_value.specs.Actions.{Act}
 use Rattle.ioa_value.specs.Table.{Table}
 use Rattle.ioa_tree.specs.Compositions.{Composed}
 use Rattle.ioa_tree.specs.Hosts.{Hosted, hosts_of, host_starts}
-use Rattle.ioa_tree.specs.Runs.{run, trace}
+use Rattle.ioa_tree.specs.Runs.{Ending, run, trace}
 use Rattle.ioa_compose.specs.Simulates.{Simulates}
 use Rattle.ioa_compile.specs.Implements.{Implements}
 use Rattle.ioa_compile.specs.Programs.{Prog}
+use Rattle.ioa_compile.specs.Subjects as compiled
 use Rattle.ioa_compile.specs.Tables.{start_states, tabled}
 use Rattle.ioa_system.specs.declared.runs.Run.{Run}
 use Rattle.ioa_system.specs.Outcomes.{ending_of}
 use Rattle.ioa_system.specs.Logs.{Logged, actions_of}
 use Rattle.ioa_system.specs.Records.{IsHostRun, IsTableRun, trace_of}
+use Rattle.ioa_log.specs.declared.failure.LogErr.{LogErr}
 use Rattle.ioa_log.specs.Judging.{agrees, judged}
+use Rattle.ioa_log.specs.LogReplays as replays
+use Rattle.ioa_log.specs.LogReplays.{BeginsLogReplay, IsNoLog}
 use Rattle.ioa_log.specs.Replays.{replay_text, run_text}
+use Rattle.ioa_serving.specs.Failing.{IsNoLogOf}
+use Rattle.ioa_serving.specs.Logs.{BeginsLog, ReplaysLog}
 use Rattle.ioa_serving.specs.Running.{RunsAs}
 use Rattle.ioa_serving.specs.Subjects.{Subject, of_hosts, of_table, its_components, its_hidden, its_starts, its_types}
 
@@ -54,3 +60,25 @@ pub run_told : (s : Subject) (types : Table) (acts : List Act) (r : Run) → typ
 run_told s types acts r same k =
     ap (λ ts. replay_text ts (trace_of r) (ending_of r.end)) same
     ∙ ap₂ (λ xs end. replay_text (its_types s) xs end) (k.trace ∙ ap (trace (its_hidden s) (its_components s) acts) k.performed) k.ending
+
+-- ---- what is said of whatever a program runs as
+
+abbrev pub as_compiled : Subject → compiled.Subject
+as_compiled (of_hosts h) = compiled.of_hosts h
+as_compiled (of_table p) = compiled.of_table p
+
+pub runs_as : (p : Prog) (s : Subject) → RunsAs p s → compiled.RunsAs p (as_compiled s)
+runs_as p (of_hosts h) of = of
+runs_as p (of_table q) of = of
+
+pub no_log_as : (s : Subject) (bytes : List ℕ) (e : LogErr) → IsNoLog (as_compiled s) bytes e → IsNoLogOf e s bytes
+no_log_as (of_hosts h) bytes e k = k
+no_log_as (of_table p) bytes e k = k
+
+pub log_replay_as : (s : Subject) (bytes : List ℕ) (end : Ending) (before after : Option (List ℕ)) → replays.ReplaysLog (as_compiled s) bytes end before after → ReplaysLog s bytes end before after
+log_replay_as (of_hosts h) bytes end before after k = k
+log_replay_as (of_table p) bytes end before after k = k
+
+pub log_beginning_as : (s : Subject) (bytes : List ℕ) (before after : Option (List ℕ)) → BeginsLogReplay (as_compiled s) bytes before after → BeginsLog s bytes before after
+log_beginning_as (of_hosts h) bytes before after k = k
+log_beginning_as (of_table p) bytes before after k = k

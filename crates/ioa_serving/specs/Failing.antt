@@ -20,6 +20,7 @@ use Rattle.ioa_system.specs.Logs.{Logged}
 use Rattle.ioa_log.specs.declared.failure.LogErr.{LogErr}
 use Rattle.ioa_log.specs.Judging.{Verdict, wrong_owner, diverges, judged}
 use Rattle.ioa_log.specs.LogTexts.{ReadsLog, NotJsonAt, NoEntryAt, GoesOnAt, HasNoEnd}
+use Rattle.ioa_log.specs.Reasons.{TellsWhy}
 use Rattle.ioa_log.specs.Replays.{BeginsReplay}
 use Rattle.ioa_serving.specs.declared.failure.Failure.{Failure}
 use Rattle.ioa_serving.specs.Headline.{Spells, IsFileOf, begins_object}
@@ -117,8 +118,35 @@ IsFailure text name bytes failed Failure.EndedByFault = ⊥
 IsFailure text name bytes failed Failure.Io = ⊥
 IsFailure text name bytes failed Failure.OutOfMemory = Unit {0}
 
--- The file is refused; or the bytes are no log, by this line; or this line is the first by which the log is not of the run; or a
--- device failed, after the file was accepted.
+-- why the bytes are no log of what the subject does, of which the first line at fault is told
+abbrev pub IsNoLogOf : LogErr → Subject → List ℕ → Type 0
+IsNoLogOf e s bytes = TellsWhy (its_types s) (judged (its_components s) (its_starts s)) bytes e
+
+-- The file is refused; or the bytes are no log of the run, by their first line at fault; or a device failed, after the file was accepted.
+abbrev pub IsLogReplayFailure : List ℕ → Option Name → Option (List ℕ) → Type 0 → Failure → Type 0
+IsLogReplayFailure text name bytes failed (Failure.Refused r) = IsRefusedFile text name r
+IsLogReplayFailure text name bytes failed (Failure.Object e) = IsNoObject text e
+IsLogReplayFailure text name bytes failed Failure.SourceWanted = ⊥
+IsLogReplayFailure text name bytes failed (Failure.List (LogErr.NotJson n)) = Given text name bytes (IsNoLogOf (LogErr.NotJson n))
+IsLogReplayFailure text name bytes failed (Failure.List (LogErr.BadEntry n)) = Given text name bytes (IsNoLogOf (LogErr.BadEntry n))
+IsLogReplayFailure text name bytes failed (Failure.List (LogErr.WrongOwner n)) = Given text name bytes (IsNoLogOf (LogErr.WrongOwner n))
+IsLogReplayFailure text name bytes failed (Failure.List (LogErr.Diverges n)) = Given text name bytes (IsNoLogOf (LogErr.Diverges n))
+IsLogReplayFailure text name bytes failed (Failure.List LogErr.NoEnd) = Given text name bytes (IsNoLogOf LogErr.NoEnd)
+IsLogReplayFailure text name bytes failed (Failure.List LogErr.AfterEnd) = Given text name bytes (IsNoLogOf LogErr.AfterEnd)
+IsLogReplayFailure text name bytes failed (Failure.List LogErr.Io) = (s : Subject) × IsFileOf text name s × failed
+IsLogReplayFailure text name bytes failed (Failure.List LogErr.OutOfMemory) = Unit {0}
+IsLogReplayFailure text name bytes failed Failure.SpecHasInternal = ⊥
+IsLogReplayFailure text name bytes failed (Failure.BadWords n) = ⊥
+IsLogReplayFailure text name bytes failed Failure.TooManyTurns = ⊥
+IsLogReplayFailure text name bytes failed (Failure.BadInput i) = ⊥
+IsLogReplayFailure text name bytes failed Failure.Threads = ⊥
+IsLogReplayFailure text name bytes failed (Failure.BadLog i) = ⊥
+IsLogReplayFailure text name bytes failed Failure.EndedByFault = ⊥
+IsLogReplayFailure text name bytes failed Failure.Io = ⊥
+IsLogReplayFailure text name bytes failed Failure.OutOfMemory = Unit {0}
+
+-- The same of a log that is read whole before it is judged: the bytes are no log, by this line; or this line is the first by which the log is
+-- not of the run.
 abbrev pub IsLogFailure : List ℕ → Option Name → Option (List ℕ) → Type 0 → Failure → Type 0
 IsLogFailure text name bytes failed (Failure.Refused r) = IsRefusedFile text name r
 IsLogFailure text name bytes failed (Failure.Object e) = IsNoObject text e

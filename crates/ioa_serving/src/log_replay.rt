@@ -8,22 +8,22 @@ ghost use Rattle.ioa_system.specs.Records.{trace_of};
 ghost use Rattle.ioa_log.specs.declared.failure.LogErr.{LogErr};
 ghost use Rattle.ioa_log.specs.Failing.{FailedOnceAtMost, HasFailed};
 ghost use Rattle.ioa_log.specs.Replays as replays;
-ghost use Rattle.ioa_serving.specs.Failing.{BeginsLogOf, IsLogFailure, IsUnwritten};
+ghost use Rattle.ioa_serving.specs.Failing.{BeginsLogOf, IsLogReplayFailure, IsUnwritten};
 ghost use Rattle.ioa_serving.specs.Headline.{IsLogReplay};
 
 use crate::compile::program_of;
 use crate::failure::Failure;
-use ioa_log::{InputDevice, OutputDevice, Trace, read_log, replay, send_all};
+use ioa_log::{InputDevice, OutputDevice, Trace, replay_log};
 use ioa_system::{End, Run};
 use ioa_value::{OutOfMemory, Types};
 use std::alloc::Global;
 
 /// Replays a log in a composition of a source, or in an object, by the bytes of both: where the log is of the composition's run, writes the
-/// external trace and how the log ends, and answers that end.
+/// external trace and how the log ends, and answers that end. The log is read and judged line by line.
 ///
 /// # Errors
 /// As those of a replay of a list; and `List` where the bytes are no log, or a log of another run: of another worker, or of what the
-/// composition does not do.
+/// composition does not do. The first line at fault is told.
 pub fn replay_log_text<R: InputDevice, W: OutputDevice>(
     alloc: Global,
     text: &[u8],
@@ -33,7 +33,7 @@ pub fn replay_log_text<R: InputDevice, W: OutputDevice>(
 ) -> Result<End, Failure>
     ensures replays { IfOk result (λ end. IfSome (R.remaining input.old) (λ bytes.
         IsLogReplay text.now (option_copied composition.entry) bytes (ending_of end) (W.contents output.old) (W.contents output.new))) }
-    ensures refused { IfErr result (λ e. IsLogFailure text.now (option_copied composition.entry) (R.remaining input.old)
+    ensures refused { IfErr result (λ e. IsLogReplayFailure text.now (option_copied composition.entry) (R.remaining input.old)
         (HasFailed (R.failure_count input.old) (R.failure_count input.new) ⊎ HasFailed (W.failure_count output.old) (W.failure_count output.new)) e) }
     ensures unwritten { IfErr result (λ e. IsUnwritten (BeginsLogOf text.now (option_copied composition.entry) (R.remaining input.old))
         (W.contents output.old) (W.contents output.new) e) }
@@ -42,11 +42,8 @@ pub fn replay_log_text<R: InputDevice, W: OutputDevice>(
     ensures once { FailedOnceAtMost (R.failure_count input.old) (R.failure_count input.new) × FailedOnceAtMost (W.failure_count output.old) (W.failure_count output.new) }
 {
     let program = program_of(alloc, text, composition)?;
-    let log = read_log(alloc, program.types(), input)?;
-    let run = replay(alloc, &program, &log)?;
-    let told = run_text(alloc, program.types(), &run)?;
-    send_all(output, told.as_bytes())?;
-    Ok(run.end)
+    let end = replay_log(alloc, &program, input, output)?;
+    Ok(end)
 }
 
 /// A run's trace, one action a line, and then a line with its end.

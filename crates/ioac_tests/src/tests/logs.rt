@@ -75,9 +75,28 @@ replay f --log | {"\u0061ct":"\u0074ick\u00285)","who":0}^{"end":"done\u0020afte
 replay f --log | {"act":" tick ( 005 )","who":0}^{"end":"done after 1"}^ | tick(5)^end: done after 1^ |  | 0
 -- of doubled keys the last counts
 replay f --log | {"act":"x","act":"tick(5)","who":7,"who":0}^{"end":"done after 9","end":"done after 1"}^ | tick(5)^end: done after 1^ |  | 0
--- the whole log is read before it is replayed
-replay f --log | {"act":"tick(5)","who":1}^{"act":"tock","who":0}^x^ |  | L1 line 3^ | 4
-replay f --log | {"act":"tick(6)","who":0}^ |  | L5^ | 4
+-- a log is judged as its lines come: the first line at fault is told, and of the same line what is wrong with its text
+replay f --log | {"act":"tick(5)","who":1}^{"act":"tick(6)","who":0}^x^{"end":"done after 3"}^ |  | L3 line 1^ | 4
+replay f --log | {"act":"tick(5)","who":1}^{"act":"tock","who":0}^x^ |  | L3 line 1^ | 4
+replay f --log | {"act":"tick(6)","who":0}^ |  | L4 line 1^ | 4
+replay f --log | {"act":"tick(6)","who":0}^[]^ |  | L4 line 1^ | 4
+replay f --log | {"act":"tick(5)","who":0}^{"act":"tick(5)","who":1}^x^ |  | L3 line 2^ | 4
+replay f --log | x^{"act":"tick(5)","who":1}^ |  | L1 line 1^ | 4
+replay f --log | {"act":"tick(5)","who":0}^{"act":"tick(6","who":1}^x^ |  | L2 line 2^ | 4
+-- so is its end, whatever is behind it
+replay f --log | {"act":"tick(5)","who":0}^{"end":"done after 2"}^x^ |  | L4 line 2^ | 4
+replay f --log | {"end":"done after 1"}^{"end":"done after 0"}^ |  | L4 line 1^ | 4
+replay f --log | {"end":"fault 1 in component 0 at 0"}^x^ |  | L4 line 1^ | 4
+replay f --log | {"act":"tick(5)","who":0}^{"end":"done after 1"}^x |  | L6^ | 4
+-- logs and lines that are longer than what is read at once
+replay f --log | &{"act":"reset","who":1}^@3000&{"end":"done after 3000"}^ | &reset^@3000&end: done after 3000^ |  | 0
+replay f --log | {"act":"reset",& @70000&"who":1}^{"end":"done after 1"}^ | reset^end: done after 1^ |  | 0
+replay f --log | &{"act":"reset","who":1}^@3000&x^ |  | L1 line 3001^ | 4
+replay f --log | &{"act":"reset","who":1}^@3000&{"act":"reset","who":0}^x^ |  | L3 line 3001^ | 4
+replay f --log | &{"act":"reset","who":1}^@3000&{"act":"tick(6)","who":0}^[]^ |  | L4 line 3001^ | 4
+replay f --log | &{"act":"reset","who":1}^@3000&{"end":"done after 2999"}^x^ |  | L4 line 3001^ | 4
+replay f --log | &{"act":"reset","who":1}^@3000& |  | L5^ | 4
+replay f --log | {"end":"done after 0"}^&x@70000& |  | L6^ | 4
 -- a list is no log, and a log no list
 replay f | {"act":"tick(5)","who":0}^{"end":"done after 1"}^ |  | L2 line 1^ | 4
 -- the file and its composition come first
@@ -108,6 +127,20 @@ replay f --log | automaton Top signature output up; output see(x: Int) states n:
 replay f --log | automaton Top signature output up; output see(x: Int) states n: Int := 9223372036854775806 transitions output up eff n := n + 1 output see pre x = n propose x := n composition One components A: Top | {"act":"up","who":0}^{"act":"up","who":0}^{"act":"see(0)","who":0}^{"end":"fault 1 in component 0 at 1"}^ |  | L4 line 2^ | 4
 replay f --log | automaton Top signature output up; output see(x: Int) states n: Int := 9223372036854775806 transitions output up eff n := n + 1 output see pre x = n propose x := n composition One components A: Top | {"act":"up","who":0}^{"end":"fault 1 in component 0 at 0"}^ |  | L4 line 1^ | 4
 replay f --log | automaton Top signature output up; output see(x: Int) states n: Int := 9223372036854775806 transitions output up eff n := n + 1 output see pre x = n propose x := n composition One components A: Top | {"act":"up","who":0}^{"act":"up","who":1}^{"end":"fault 1 in component 0 at 1"}^ |  | L3 line 2^ | 4
+-- an action that faults is judged with the line after it: one that cannot be read, another action, the end, or none
+replay f --log | automaton Top signature output up; output see(x: Int) states n: Int := 9223372036854775806 transitions output up eff n := n + 1 output see pre x = n propose x := n composition One components A: Top | {"act":"up","who":0}^{"act":"up","who":0}^x^{"end":"fault 1 in component 0 at 1"}^ |  | L1 line 3^ | 4
+replay f --log | automaton Top signature output up; output see(x: Int) states n: Int := 9223372036854775806 transitions output up eff n := n + 1 output see pre x = n propose x := n composition One components A: Top | {"act":"up","who":0}^{"act":"up","who":0}^{}^{"end":"fault 1 in component 0 at 1"}^ |  | L2 line 3^ | 4
+replay f --log | automaton Top signature output up; output see(x: Int) states n: Int := 9223372036854775806 transitions output up eff n := n + 1 output see pre x = n propose x := n composition One components A: Top | {"act":"up","who":0}^{"act":"up","who":0}^{"act":"up(","who":0}^ |  | L2 line 3^ | 4
+replay f --log | automaton Top signature output up; output see(x: Int) states n: Int := 9223372036854775806 transitions output up eff n := n + 1 output see pre x = n propose x := n composition One components A: Top | {"act":"up","who":0}^{"act":"up","who":0}^{"act":"up","who":0}^ |  | L4 line 2^ | 4
+replay f --log | automaton Top signature output up; output see(x: Int) states n: Int := 9223372036854775806 transitions output up eff n := n + 1 output see pre x = n propose x := n composition One components A: Top | {"act":"up","who":0}^{"act":"up","who":0}^{"act":"up","who":1}^x^ |  | L4 line 2^ | 4
+replay f --log | automaton Top signature output up; output see(x: Int) states n: Int := 9223372036854775806 transitions output up eff n := n + 1 output see pre x = n propose x := n composition One components A: Top | {"act":"up","who":0}^{"act":"up","who":0}^{"act":"down","who":0}^ |  | L4 line 2^ | 4
+replay f --log | automaton Top signature output up; output see(x: Int) states n: Int := 9223372036854775806 transitions output up eff n := n + 1 output see pre x = n propose x := n composition One components A: Top | {"act":"up","who":0}^{"act":"up","who":0}^{"end":"done after 1"}^x^ |  | L4 line 2^ | 4
+replay f --log | automaton Top signature output up; output see(x: Int) states n: Int := 9223372036854775806 transitions output up eff n := n + 1 output see pre x = n propose x := n composition One components A: Top | {"act":"up","who":0}^{"act":"up","who":0}^{"end":"fault 2 in component 0 at 1"}^x^ |  | L4 line 3^ | 4
+replay f --log | automaton Top signature output up; output see(x: Int) states n: Int := 9223372036854775806 transitions output up eff n := n + 1 output see pre x = n propose x := n composition One components A: Top | {"act":"up","who":0}^{"act":"up","who":0}^ |  | L5^ | 4
+replay f --log | automaton Top signature output up; output see(x: Int) states n: Int := 9223372036854775806 transitions output up eff n := n + 1 output see pre x = n propose x := n composition One components A: Top | {"act":"up","who":0}^{"act":"up","who":0}^{"end":"fault 1 in component 0 at 1"}^{"end":"fault 1 in component 0 at 1"}^ |  | L6^ | 4
+-- its worker is asked first, whatever follows; an action that is performed before the end of a fault is told at once
+replay f --log | automaton Top signature output up; output see(x: Int) states n: Int := 9223372036854775806 transitions output up eff n := n + 1 output see pre x = n propose x := n composition One components A: Top | {"act":"up","who":0}^{"act":"up","who":1}^x^ |  | L3 line 2^ | 4
+replay f --log | automaton Top signature output up; output see(x: Int) states n: Int := 9223372036854775806 transitions output up eff n := n + 1 output see pre x = n propose x := n composition One components A: Top | {"act":"up","who":0}^{"end":"fault 1 in component 0 at 0"}^x^ |  | L4 line 1^ | 4
 -- workers are owners; who performs an input is the environment; hidden actions leave no trace
 replay f --log | automaton A signature output put(x: Int) states n: Int transitions output put pre x = n propose x := n eff n := n + 1 automaton B signature input put(x: Int); internal rest; input stop states n: Int transitions input put eff n := n + x internal rest pre n > 0 eff n := 0 input stop composition C components P: B; Q: A hidden put | {"act":"put(0)","who":1}^{"act":"put(1)","who":1}^{"act":"rest","who":0}^{"act":"stop","who":2}^{"end":"done after 4"}^ | stop^end: done after 4^ |  | 0
 replay f --log | automaton A signature output put(x: Int) states n: Int transitions output put pre x = n propose x := n eff n := n + 1 automaton B signature input put(x: Int); internal rest; input stop states n: Int transitions input put eff n := n + x internal rest pre n > 0 eff n := 0 input stop composition C components P: B; Q: A hidden put | {"act":"put(0)","who":0}^{"end":"done after 1"}^ |  | L3 line 1^ | 4

@@ -1,19 +1,14 @@
-use Rattle.std.proofs.Common.{◌≡◌, ◌⊎◌, ℕ, inl, inr, ◌∙◌, ap, subst, IfSome, take}
-use Rattle.std.specs.Io.KnownBytes.{Appends}
+use Rattle.std.proofs.Common.{◌≡◌, ◌⊎◌, inl, inr, ◌∙◌, Err, ap, sym}
 use Rattle.std.specs.Option.{option_copied}
 use Rattle.std.proofs.lemmas.Option.{IfSome_then}
 use Rattle.std.proofs.lemmas.Result.{err_from_is_err_and}
-use Rattle.ioa_system.specs.Logs.{actions_of, logged}
+use Rattle.ioa_system.specs.Outcomes.{ending_of}
 use Rattle.ioa_log.specs.declared.failure.LogErr.{LogErr}
 use Rattle.ioa_log.specs.Failing.{HasFailed}
-use Rattle.ioa_log.specs.LogTexts.{ReadsLog}
 use Rattle.ioa_serving.specs.declared.failure.Failure.{Failure}
-use Rattle.ioa_serving.specs.Logs.{log_run_text}
-use Rattle.ioa_log.specs.Judging.{diverges, judged, wrong_owner}
 use Rattle.ioa_serving.specs.Failing.{BeginsLogOf}
-use Rattle.ioa_serving.specs.Subjects.{its_components, its_starts}
-use Rattle.ioa_serving.proofs.Refused.{err_so, kept, log_judged, log_ungiven, log_unread, unread}
-use Rattle.ioa_serving.proofs.Subjects.{of_both, run_told, sound_as, types_as}
+use Rattle.ioa_serving.proofs.Refused.{err_so, kept, log_replay_refused, log_replay_ungiven, log_replay_unwritten}
+use Rattle.ioa_serving.proofs.Subjects.{as_compiled, log_beginning_as, log_replay_as, no_log_as, runs_as}
 use Rattle.ioa_serving.proofs.Kept.{keeps_same}
 use Rattle.ioa_serving.proofs.log_replay.replay_log_text.Goals as goal
 
@@ -21,7 +16,7 @@ pub returns-in_err-program-clause-refused : goal.returns-in_err-program-clause-r
 returns-in_err-program-clause-refused g c =
     let e = err_from_is_err_and c.from_residual.result c.from_residual.ensures.1 in
     err_so c.from_residual.result e.0 _ _ e.1 e.2
-    (log_ungiven c.args.text.now (option_copied c.args.composition) (g.R.Read.remaining c.args.input.now)
+    (log_replay_ungiven c.args.text.now (option_copied c.args.composition) (g.R.Read.remaining c.args.input.now)
     (HasFailed (g.R.Device.failure_count c.args.input.now) (g.R.Device.failure_count c.args.input.now)
     ⊎ HasFailed (g.W.Device.failure_count c.args.output.now) (g.W.Device.failure_count c.args.output.now))
     c.in_err-program.field-0.0 c.in_err-program.ensures.refused)
@@ -33,57 +28,31 @@ returns-in_err-program-clause-unwritten g c =
     (kept (BeginsLogOf c.args.text.now (option_copied c.args.composition) (g.R.Read.remaining c.args.input.now)) _ _ c.in_err-program.field-0.0
     (keeps_same (g.W.Write.contents c.args.output.now)))
 
-pub returns-in_err-log-clause-refused : goal.returns-in_err-log-clause-refused
-returns-in_err-log-clause-refused g c =
-    let e = err_from_is_err_and c.from_residual-in_err-log.result c.from_residual-in_err-log.ensures.1 in
-    let x = c.in_err-log.field-0.0 in
+pub returns-in_err-end-clause-refused : goal.returns-in_err-end-clause-refused
+returns-in_err-end-clause-refused g c =
+    let e = err_from_is_err_and c.from_residual-in_err-end.result c.from_residual-in_err-end.ensures.1 in
+    let x = c.in_err-end.field-0.0 in
     let of = c.in_ok-program.ensures.gives in
-    let said = c.in_err-log.ensures in
-    err_so c.from_residual-in_err-log.result e.0 _ _ e.1 e.2
-    (log_unread c.args.text.now (option_copied c.args.composition) _ _ of.0 c.types.result.now x of.1 (c.types.ensures.value ∙ types_as c.in_ok-program.program of.0 of.2)
-    (unread c.types.result.now _ _ x said.only said.not_json said.bad said.after_end said.no_end (λ h. inl (said.io h))))
+    err_so c.from_residual-in_err-end.result e.0 _ _ e.1 e.2
+    (log_replay_refused c.args.text.now (option_copied c.args.composition) _ _ of.0 x of.1 (λ h. c.in_err-end.ensures.io (ap Err h))
+    (IfSome_then (g.R.Read.remaining c.args.input.now) (c.in_err-end.ensures.refused (as_compiled of.0) (runs_as c.in_ok-program.program of.0 of.2))
+    (λ xs k. no_log_as of.0 xs x k)))
 
-pub returns-in_err-run-clause-refused : goal.returns-in_err-run-clause-refused
-returns-in_err-run-clause-refused g c =
-    let e = err_from_is_err_and c.from_residual-in_err-run.result c.from_residual-in_err-run.ensures.1 in
-    let x = c.in_err-run.field-0.0 in
+pub returns-in_err-end-clause-unwritten : goal.returns-in_err-end-clause-unwritten
+returns-in_err-end-clause-unwritten g c =
+    let e = err_from_is_err_and c.from_residual-in_err-end.result c.from_residual-in_err-end.ensures.1 in
+    let x = c.in_err-end.field-0.0 in
     let of = c.in_ok-program.ensures.gives in
-    let said = c.in_err-run.ensures in
-    let log = logged c.in_ok-log.log in
-    let reads = subst (λ ts. IfSome (g.R.Read.remaining c.args.input.now) (λ xs. ReadsLog ts xs log)) (c.types.ensures.value ∙ types_as c.in_ok-program.program of.0 of.2) c.in_ok-log.ensures.ok in
-    err_so c.from_residual-in_err-run.result e.0 _ _ e.1 e.2
-    (log_judged c.args.text.now (option_copied c.args.composition) _ _ of.0 log x of.1 reads said.only
-    (λ n h. of_both c.in_ok-program.program of.0 (λ s. judged (its_components s) (its_starts s) log ≡ wrong_owner n) of.2 (said.owner n h) (said.hosts_owner n h))
-    (λ n h. of_both c.in_ok-program.program of.0 (λ s. judged (its_components s) (its_starts s) log ≡ diverges n) of.2 (said.diverges n h) (said.hosts_diverges n h)))
-
-pub returns-in_err-send_all-clause-refused : goal.returns-in_err-send_all-clause-refused
-returns-in_err-send_all-clause-refused g c =
-    let e = err_from_is_err_and c.from_residual-in_err-send_all.result c.from_residual-in_err-send_all.ensures.1 in
-    let of = c.in_ok-program.ensures.gives in
-    err_so c.from_residual-in_err-send_all.result e.0 (Failure.List LogErr.Io) _ e.1 (e.2 ∙ ap Failure.List c.in_err-send_all.ensures.io.0)
-    (of.0, of.1, inr c.in_err-send_all.ensures.io.1)
-
-pub returns-in_err-send_all-clause-unwritten : goal.returns-in_err-send_all-clause-unwritten
-returns-in_err-send_all-clause-unwritten g c =
-    let e = err_from_is_err_and c.from_residual-in_err-send_all.result c.from_residual-in_err-send_all.ensures.1 in
-    let of = c.in_ok-program.ensures.gives in
-    let log = logged c.in_ok-log.log in
-    let reads = subst (λ ts. IfSome (g.R.Read.remaining c.args.input.now) (λ xs. ReadsLog ts xs log)) (c.types.ensures.value ∙ types_as c.in_ok-program.program of.0 of.2) c.in_ok-log.ensures.ok in
-    let sound = sound_as c.in_ok-program.program of.0 log c.in_ok-run.run' of.2 c.in_ok-run.ensures.table c.in_ok-run.ensures.hosts in
-    let told : c.as_bytes.result.now ≡ log_run_text of.0 log =
-    c.as_bytes.ensures.value ∙ c.in_ok-told.ensures ∙ run_told of.0 c.types-2.result.now (actions_of log) c.in_ok-run.run' (c.types-2.ensures.value ∙ types_as c.in_ok-program.program of.0 of.2) sound.1 in
-    let begun = subst (λ t. (k : ℕ) × Appends (g.W.Write.contents c.args.output.now) (g.W.Write.contents c.send_all.new.output) (take k t)) told c.in_err-send_all.ensures.begun in
-    err_so c.from_residual-in_err-send_all.result e.0 (Failure.List LogErr.Io) _ e.1 (e.2 ∙ ap Failure.List c.in_err-send_all.ensures.io.0)
-    (inr (of.0, of.1, IfSome_then (g.R.Read.remaining c.args.input.now) reads (λ xs r. (log, (r, sound.0), begun))))
+    let begins = BeginsLogOf c.args.text.now (option_copied c.args.composition) (g.R.Read.remaining c.args.input.now) in
+    err_so c.from_residual-in_err-end.result e.0 _ _ e.1 e.2
+    (log_replay_unwritten begins _ _ x c.in_err-end.ensures.unwritten
+    (λ h. elim (c.in_err-end.ensures.begun (ap Err h)) [
+      | inl k ↦ inl k
+      | inr k ↦ inr (of.0, of.1, IfSome_then (g.R.Read.remaining c.args.input.now) (k (as_compiled of.0) (runs_as c.in_ok-program.program of.0 of.2)) (λ xs b. log_beginning_as of.0 xs _ _ b))
+    ]))
 
 pub returns-clause-replays : goal.returns-clause-replays
 returns-clause-replays g c =
     let of = c.in_ok-program.ensures.gives in
-    let log = logged c.in_ok-log.log in
-    let reads = subst (λ ts. IfSome (g.R.Read.remaining c.args.input.now) (λ xs. ReadsLog ts xs log)) (c.types.ensures.value ∙ types_as c.in_ok-program.program of.0 of.2) c.in_ok-log.ensures.ok in
-    let sound = sound_as c.in_ok-program.program of.0 log c.in_ok-run.run' of.2 c.in_ok-run.ensures.table c.in_ok-run.ensures.hosts in
-    let told : c.as_bytes.result.now ≡ log_run_text of.0 log =
-    c.as_bytes.ensures.value ∙ c.in_ok-told.ensures ∙ run_told of.0 c.types-2.result.now (actions_of log) c.in_ok-run.run' (c.types-2.ensures.value ∙ types_as c.in_ok-program.program of.0 of.2) sound.1 in
-    let all = subst (λ t. Appends (g.W.Write.contents c.args.output.now) (g.W.Write.contents c.send_all.new.output) t) told c.in_ok-send_all.ensures.ok in
-    IfSome_then (g.R.Read.remaining c.args.input.now) reads
-    (λ xs r. (of.0, of.1, (log, (r, sound.0), sound.1.ending, all)))
+    IfSome_then (g.R.Read.remaining c.args.input.now) (c.in_ok-end.ensures.ok (as_compiled of.0) (runs_as c.in_ok-program.program of.0 of.2))
+    (λ xs k. (of.0, of.1, log_replay_as of.0 xs (ending_of c.in_ok-end.end) _ _ k))
