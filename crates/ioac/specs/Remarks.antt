@@ -14,6 +14,7 @@ use Rattle.ioa_compose.specs.Simulates.{Simulates}
 use Rattle.ioa_compile.specs.Programs.{Prog}
 use Rattle.ioa_object.specs.declared.failure.ObjErr.{ObjErr}
 use Rattle.ioa_system.specs.Logs.{Logged, actions_of, is_fault, log_end, logged}
+use Rattle.ioa_log.specs.Begun.{IsBegun, IsUnbegun}
 use Rattle.ioa_log.specs.LogTexts.{GoesOnAt, HasNoEnd, NoEntryAt, NotJsonAt, ReadsLog, log_text}
 use Rattle.ioa_account.specs.declared.remarks.Told.{Told}
 use Rattle.ioa_account.specs.Objects.{TellsObject}
@@ -87,6 +88,11 @@ OfLogOver types input tells before after = ((log : Logged) × ReadsLog types inp
 abbrev pub OfLog : Told → (Logged → List ℕ → List ℕ → Type 0) → List ℕ → List ℕ → Type 0
 OfLog t tells before after = OfLogOver t.composition.now.types t.input.now tells before after
 
+-- of the log that the first lines are, up to this one, whatever follows: of its entries, and of its end, where this comes next; of other lines nothing
+abbrev pub OfBegun : Told → ℕ → (Logged → List ℕ → List ℕ → Type 0) → List ℕ → List ℕ → Type 0
+OfBegun t n tells before after =
+    ((log : Logged) × IsBegun t.composition.now.types t.input.now n log × tells log before after) ⊎ (IsUnbegun t.composition.now.types t.input.now n × (after ≡ before))
+
 -- of each hosts that the composition stands for
 abbrev pub OfHosts : Told → (Hosted → List ℕ → List ℕ → Type 0) → List ℕ → List ℕ → Type 0
 OfHosts t tells before after = (h : Hosted) → Simulates h (composed_of t.composition.now) → tells h before after
@@ -106,9 +112,9 @@ TellsRunEnd Status.Refused t before after = after ≡ before
 TellsRunEnd Status.BadCommandLine t before after = after ≡ before
 TellsRunEnd Status.Unable t before after = after ≡ before
 
--- what is told of a request that was served to this status, or whose log is of another run
+-- what is told of a request that was served to this status, or whose log is of another run by this line
 abbrev pub Explains : Request → Ended → Told → List ℕ → List ℕ → Type 0
-Explains request Ended.Diverged t before after = OfLog t (λ log. TellsDifference t (actions_of log) log.ending) before after
+Explains request (Ended.Diverged n) t before after = OfBegun t n (λ log. TellsDifference t (actions_of log) log.ending) before after
 Explains (Request.Replay file composition) (Ended.Served status) t before after = TellsListEnd t before after
 Explains (Request.ReplayStates file composition) (Ended.Served status) t before after = TellsListEnd t before after
 Explains (Request.Log file composition) (Ended.Served status) t before after = TellsListEnd t before after
@@ -158,7 +164,7 @@ TellsOfObject (Request.Explain topic) object name input before after = after ≡
 TellsOfObject Request.Library object name input before after = after ≡ before
 
 abbrev pub TellsNameless : Request → Ended → List ℕ → Option Name → List ℕ → List ℕ → List ℕ → Type 0
-TellsNameless request Ended.Diverged object name input before after = after ≡ before
+TellsNameless request (Ended.Diverged n) object name input before after = after ≡ before
 TellsNameless request (Ended.Served status) object name input before after = TellsOfObject request object name input before after
 
 -- ---- of what the file holds
@@ -233,7 +239,7 @@ differing_text input n = differing_head n ++ shown_line input n
 -- of a log that is of another run: the line of the log that differs, and then how
 abbrev pub TellsDiverged : (Name → List ℕ → Type 0) → (Name → Type 0) → Request → List ℕ → ℕ → List ℕ → List ℕ → Type 0
 TellsDiverged holds lacks request input n before after =
-    TellsEnded holds lacks request (source_of request) Ended.Diverged input (before ++ differing_text input n) after
+    TellsEnded holds lacks request (source_of request) (Ended.Diverged n) input (before ++ differing_text input n) after
 
 -- behind that stand words for people
 abbrev pub IsDifference : (Name → List ℕ → Type 0) → (Name → Type 0) → Request → List ℕ → ℕ → List ℕ → List ℕ → Type 0

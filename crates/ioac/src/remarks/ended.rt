@@ -8,7 +8,7 @@ ghost use Rattle.ioa_log.specs.LogTexts.{ReadsLog};
 ghost use Rattle.ioa_account.specs.Remarks.{TellsDifference, TellsInspected, TellsMonitored};
 ghost use Rattle.ioa_serving.specs.Logs.{performed_in};
 ghost use Rattle.ioac.specs.Remarks as spec;
-ghost use Rattle.ioac.specs.Remarks.{IsComposed, IsLoaded, IsNoLog, OfHosts, OfLog, Explains, TellsEnded, TellsListEnd, TellsLogEnd, TellsRunEnd, TellsSource};
+ghost use Rattle.ioac.specs.Remarks.{IsComposed, IsLoaded, IsNoLog, OfBegun, OfHosts, OfLog, Explains, TellsEnded, TellsListEnd, TellsLogEnd, TellsRunEnd, TellsSource};
 
 use crate::remarks::nameless;
 use crate::remarks::places::source_of;
@@ -16,7 +16,7 @@ use ioa_account::{
     Told, actions_in, put_difference, put_inspected, put_list_end, put_log_end, put_monitored,
 };
 use ioa_compose::Composition;
-use ioa_log::{Counted, LogErr, read_log};
+use ioa_log::{Counted, LogErr, begun_log, read_log};
 use ioa_request::Request;
 use ioa_serving::{Status, Store, StoreErr, compose_text, is_object, performed_in};
 use ioa_syntax::Refusal;
@@ -29,8 +29,8 @@ use std::alloc::Global;
 pub enum Ended {
     /// It was served, to this exit status.
     Served(Status),
-    /// The log is not of the composition's run.
-    Diverged,
+    /// The log is not of the composition's run, by this line, lines counting from 1.
+    Diverged(usize),
 }
 
 /// Puts behind the text what there is to say of a request that ended so.
@@ -117,7 +117,7 @@ fn put_told(
 {
     match ended {
         Ended::Served(status) => put_served(alloc, text, asked, status, told),
-        Ended::Diverged => put_log_difference(alloc, text, told),
+        Ended::Diverged(line) => put_log_difference(alloc, text, told, line),
     }
 }
 
@@ -192,11 +192,17 @@ fn put_end_of_run(
     }
 }
 
-/// Puts why a log is not of the composition's run, by the run of its actions and its end.
-fn put_log_difference(alloc: Global, text: &mut String, told: &Told<'_>) -> Result<(), OutOfMemory>
-    ensures { OnOk result (OfLog told.now (λ log. TellsDifference told.now (actions_of log) log.ending) (string_bytes text.old) (string_bytes text.new)) }
+/// Puts why a log is not of the composition's run, by the run of its actions up to this line, and by its end, where this comes next: no more of
+/// it may be heard.
+fn put_log_difference(
+    alloc: Global,
+    text: &mut String,
+    told: &Told<'_>,
+    line: usize,
+) -> Result<(), OutOfMemory>
+    ensures { OnOk result (OfBegun told.now line (λ log. TellsDifference told.now (actions_of log) log.ending) (string_bytes text.old) (string_bytes text.new)) }
 {
-    match heard_log(alloc, told.composition.types(), told.input)? {
+    match begun_log(alloc, told.composition.types(), told.input, line)? {
         Some(log) => {
             let end = log.end;
             let actions = actions_in(alloc, log.entries)?;

@@ -31,7 +31,7 @@ pub fn put(
 {
     match ended {
         Ended::Served(_) => put_served(alloc, text, asked, object, name, input),
-        Ended::Diverged => Ok(()),
+        Ended::Diverged(_) => Ok(()),
     }
 }
 

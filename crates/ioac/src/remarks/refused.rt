@@ -51,9 +51,10 @@ fn put_found<F: Store>(
     ensures { (n : ℕ) → failure.now ≡ failures.Failure.List (errors.LogErr.Diverges n)
         → OnOk result (spec.TellsDiverged (F.holds store.now) (F.lacks store.now) asked.now input.now n (string_bytes text.old) (string_bytes text.new)) }
 {
-    if let Failure::List(LogErr::Diverges(line)) = failure {
-        put_differing(alloc, text, input, *line as usize)?;
-        return ended::put(alloc, text, asked, Ended::Diverged, store, input);
+    if let Failure::List(LogErr::Diverges(number)) = failure {
+        let line = *number as usize;
+        put_differing(alloc, text, input, line)?;
+        return ended::put(alloc, text, asked, Ended::Diverged(line), store, input);
     }
     put_place(alloc, text, asked, failure, store, input)?;
     warned::put(alloc, text, asked, store)
