@@ -64,6 +64,10 @@ words_rule = record (new_rule (codes "words")) { long = Some (codes "words"); va
 abbrev pub inputs_rule : Rule
 inputs_rule = record (new_rule (codes "inputs")) { long = Some (codes "inputs"); value_names = 1 }
 
+-- `--resume RFILE`
+abbrev pub resume_rule : Rule
+resume_rule = record (new_rule (codes "resume")) { long = Some (codes "resume"); value_names = 1 }
+
 -- `--reports`
 abbrev pub reports_rule : Rule
 reports_rule = record (new_rule (codes "reports")) { long = Some (codes "reports"); action = Some ArgAction.SetTrue }
@@ -105,8 +109,8 @@ graph_app = with_rule (with_rule (with_rule (new_app (codes "graph")) file_rule)
 
 abbrev pub run_app : App
 run_app =
-    with_rule (with_rule (with_rule (with_rule (with_rule (with_rule (with_rule (with_rule (with_rule (with_rule (new_app (codes "run")) file_rule) comp_rule) alone_rule)
-    turns_rule) seed_rule) words_rule) inputs_rule) log_rule) reports_rule) explain_rule
+    with_rule (with_rule (with_rule (with_rule (with_rule (with_rule (with_rule (with_rule (with_rule (with_rule (with_rule (new_app (codes "run")) file_rule) comp_rule) alone_rule)
+    turns_rule) seed_rule) words_rule) inputs_rule) resume_rule) log_rule) reports_rule) explain_rule
 
 -- a subcommand has to stand; where no word stands, help is given; there is a version, and a subcommand `help` of the crate that parses
 abbrev pub bare_app : App
@@ -156,6 +160,7 @@ pub record AreSettings (rows : List Row) (s : Settings) : Type 0 where
   pub turns : turns_in (first_of (codes "turns") rows) ≡ Some s.turns
   pub words : source_in (first_of (codes "seed") rows) (first_of (codes "words") rows) ≡ Some (source_of s.words)
   pub inputs : first_of (codes "inputs") rows ≡ option_copied s.inputs
+  pub resume : first_of (codes "resume") rows ≡ option_copied s.resume
   pub log : is_set (codes "log") rows ≡ s.log
   pub reports : is_set (codes "reports") rows ≡ s.reports
 

@@ -28,6 +28,7 @@ abbrev pub example_text : Example → List ℕ
 example_text (Example.Source source) = codes "For example, this source:" ++ (gap ++ (source.now ++ 10 ∷ []))
 example_text (Example.Replay source list) = input_text source.now (codes "with this list:") list.now
 example_text (Example.ReplayLog source log) = input_text source.now (codes "with this log:") log.now
+example_text (Example.Resume source log) = input_text source.now (codes "with a run that goes on from this log:") log.now
 example_text (Example.Monitor source log) = input_text source.now (codes "as a monitor of this log:") log.now
 example_text (Example.Object digits) = codes "For example, these bytes, in hexadecimal:" ++ (gap ++ (digits.now ++ 10 ∷ []))
 example_text (Example.Told sentence) = sentence.now ++ 10 ∷ []

@@ -28,6 +28,11 @@ pub enum Example {
         source: &'static str,
         log: &'static str,
     },
+    /// This source with this log, from which a run is to go on.
+    Resume {
+        source: &'static str,
+        log: &'static str,
+    },
     /// This source as a monitor of this log.
     Monitor {
         source: &'static str,
@@ -55,6 +60,10 @@ impl fmt::Display for Example {
             Example::ReplayLog { source, log } => write!(
                 f,
                 "For example, this source:\n\n{source}\n\nwith this log:\n\n{log}\n"
+            ),
+            Example::Resume { source, log } => write!(
+                f,
+                "For example, this source:\n\n{source}\n\nwith a run that goes on from this log:\n\n{log}\n"
             ),
             Example::Monitor { source, log } => write!(
                 f,

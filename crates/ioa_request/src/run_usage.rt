@@ -2,7 +2,7 @@
 
 ghost use Rattle.std.specs.Prelude.{◌≡◌, false, codes, IfOk};
 ghost use Rattle.clap.specs.Words.{app_of, new_app, rule_of};
-ghost use Rattle.ioa_request.specs.CommandLine.{IsLocal, alone_rule, inputs_rule, log_rule, reports_rule, run_app, seed_rule, turns_rule, words_rule};
+ghost use Rattle.ioa_request.specs.CommandLine.{IsLocal, alone_rule, inputs_rule, log_rule, reports_rule, resume_rule, run_app, seed_rule, turns_rule, words_rule};
 
 use crate::request::{composition_option, explain_flag, file_argument};
 use clap::{Arg, ArgAction, Command};
@@ -56,6 +56,16 @@ fn inputs_option<'a>(alloc: Global) -> Arg<'a>
         .help("A file with the list of inputs that the environment performs")
 }
 
+fn resume_option<'a>(alloc: Global) -> Arg<'a>
+    ensures rule { rule_of result ≡ resume_rule }
+    ensures local { result.global ≡ false }
+{
+    Arg::new(alloc, "resume")
+        .long("resume")
+        .value_name("RFILE")
+        .help("A file with the log of a run, from whose end this one goes on")
+}
+
 fn log_flag<'a>(alloc: Global) -> Arg<'a>
     ensures rule { rule_of result ≡ log_rule }
     ensures local { result.global ≡ false }
@@ -89,6 +99,7 @@ pub fn run_command<'a>(alloc: Global) -> Result<Command<'a>, AllocError>
         .arg(seed_option(alloc))?
         .arg(words_option(alloc))?
         .arg(inputs_option(alloc))?
+        .arg(resume_option(alloc))?
         .arg(log_flag(alloc))?
         .arg(reports_flag(alloc))?
         .arg(explain_flag(alloc))
@@ -105,11 +116,12 @@ fn described_run<'a>(alloc: Global) -> Command<'a>
             "Each component is a worker, which proposes actions by its words and performs those that are enabled.\n\
              The environment performs the inputs of LFILE in order, one action a line, as `reset`.\n\
              WFILE has the words of the first component on its first line, in decimal, as `9 17 4`; then they are 0.\n\
+             RFILE has a log as `ioac run --log` prints it: the run begins with its actions; turns, words and inputs begin anew.\n\
              Example: ioac run --alone --turns 20 protocol.ioa\n\
              Exit status: 0 done, 1 source or object refused, 2 bad command line, words or turns, 3 ended by a fault,\n\
-             4 inputs refused, 5 memory, a thread, a file or a device.",
+             4 inputs or log refused, 5 memory, a thread, a file or a device.",
         )
         .override_usage(
-            "ioac run [--comp <NAME>] [--alone] [--turns <N>] [--seed <HEX>|--words <WFILE>] [--inputs <LFILE>] [--log] [--reports] [--explain] <FILE>",
+            "ioac run [--comp <NAME>] [--alone] [--turns <N>] [--seed <HEX>|--words <WFILE>] [--inputs <LFILE>] [--resume <RFILE>] [--log] [--reports] [--explain] <FILE>",
         )
 }

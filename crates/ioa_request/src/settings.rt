@@ -24,6 +24,8 @@ pub struct Settings<'a> {
     pub words: WordsFrom<'a>,
     /// The file with the environment's script, if it has one.
     pub inputs: Option<&'a str>,
+    /// The file with the log from which the run goes on, if it does from one.
+    pub resume: Option<&'a str>,
     /// Whether the log is written, and not the trace.
     pub log: bool,
     /// Whether the workers' reports are told.
@@ -54,6 +56,7 @@ pub fn read_settings<'a>(found: &ArgMatches<'a>) -> Option<Settings<'a>>
     let listed = found.get_str("words");
     let words = read_words_from(seed, listed)?;
     let inputs = found.get_str("inputs");
+    let resume = found.get_str("resume");
     let log = is_set(found, "log");
     let reports = is_set(found, "reports");
     Some(Settings {
@@ -63,6 +66,7 @@ pub fn read_settings<'a>(found: &ArgMatches<'a>) -> Option<Settings<'a>>
         turns,
         words,
         inputs,
+        resume,
         log,
         reports,
     })

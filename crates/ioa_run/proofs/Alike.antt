@@ -19,7 +19,7 @@ use Rattle.ioa_run.specs.Played.{alone_events, attempt_events, first_events, rou
 use Rattle.ioa_run.specs.Reports.{blank, with_idle}
 use Rattle.ioa_run.specs.Schedules.{Event}
 use Rattle.ioa_run.specs.Subjects.{BoardsLike, TurnsLike}
-use Rattle.ioa_run.specs.Turns.{Proposer, Turns, after, all_done, alone, attempt, changed, chosen, first_turns, has_ended, is_last, meant, next_choice, next_input, not_own, own_attempt, rounds, told, turn, turned, turns_of_first, with_done}
+use Rattle.ioa_run.specs.Turns.{Proposer, Turns, after, all_done, alone_from, attempt, changed, chosen, has_ended, is_last, meant, next_choice, next_input, not_own, own_attempt, rounds, told, turn, turned, turns_from, turns_of_first, with_done}
 
 pub related_length : {S T : Type 0} (R : ℕ → S → T → Type 0) (i : ℕ) (xs : List S) (ys : List T) → AllRelated R i xs ys → length xs ≡ length ys
 related_length R i [] [] r = refl
@@ -109,7 +109,7 @@ module _ {S T : Type 0} (R : ℕ → S → T → Type 0) where
 
   -- ---- attempts
 
-  abbrev AttemptsLike : Answer × Standing S → Answer × Standing T → Type 0
+  abbrev pub AttemptsLike : Answer × Standing S → Answer × Standing T → Type 0
   AttemptsLike x y = (x.0 ≡ y.0) × BoardsLike R x.1 y.1
 
   either_like : (c : Bool) (x z : Answer × Standing S) (y u : Answer × Standing T) → AttemptsLike x y → AttemptsLike z u
@@ -135,7 +135,7 @@ module _ {S T : Type 0} (R : ℕ → S → T → Type 0) where
   module _ (ps : List (Component S)) (qs : List (Component T))
       (steps : (a : Act) (ss : List S) (ts : List T) → AllRelated R 0 ss ts → MovesLike R 0 (step ps a ss) (step qs a ts))
       (workers : (a : Act) → worker ps a ≡ worker qs a) where
-    attempt_like : (w : ℕ) (a : Act) (b : Standing S) (d : Standing T) → BoardsLike R b d → AttemptsLike (attempt ps w a b) (attempt qs w a d)
+    pub attempt_like : (w : ℕ) (a : Act) (b : Standing S) (d : Standing T) → BoardsLike R b d → AttemptsLike (attempt ps w a b) (attempt qs w a d)
     attempt_like w a b d l =
         let moves = steps a b.states d.states l.states in
         let own = subst (λ f. AttemptsLike (own_attempt w a b b.failure (step ps a b.states)) (own_attempt w a d f (step qs a d.states))) l.failure
@@ -207,9 +207,9 @@ module _ {S T : Type 0} (R : ℕ → S → T → Type 0) where
       done_like t u l =
           record { board = l.board; reports = ap (λ bs. with_done bs t.reports) l.ended ∙ ap (with_done u.ended) l.reports; words = l.words; ended = l.ended }
 
-      start_like : (n k : ℕ) (ss : List S) (ts : List T) (words : List Words) → n ≡ k → AllRelated R 0 ss ts → TurnsLike R (first_turns ss words n) (first_turns ts words k)
-      start_like n k ss ts words e r = record {
-        board = record { history = refl; failure = refl; states = r };
+      start_like : (n k : ℕ) (b : Standing S) (d : Standing T) (words : List Words) → n ≡ k → BoardsLike R b d → TurnsLike R (turns_from b words n) (turns_from d words k)
+      start_like n k b d words e l = record {
+        board = l;
         reports = ap (λ m. replicate (m + 1) blank) e;
         words = refl;
         ended = ap (λ m. replicate (m + 1) false) e;
@@ -242,18 +242,18 @@ module _ {S T : Type 0} (R : ℕ → S → T → Type 0) where
           (first_events_like (length entries + 1) t' u' (rounds_like n t u l) ∙ ap (λ k. first_events qs others inputs (k + 1) u') many)
 
       -- so are those of runs on one thread
-      pub events_like : (turns : ℕ) (ss : List S) (ts : List T) (words : List Words) → AllRelated R 0 ss ts
-          → alone_events ps entries inputs turns ss words ≡ alone_events qs others inputs turns ts words
-      events_like turns ss ts words r =
-          rounds_events_like turns (first_turns ss words (length entries)) (first_turns ts words (length others)) (start_like (length entries) (length others) ss ts words many r)
+      pub events_like : (turns : ℕ) (b : Standing S) (d : Standing T) (words : List Words) → BoardsLike R b d
+          → alone_events ps entries inputs turns b words ≡ alone_events qs others inputs turns d words
+      events_like turns b d words l =
+          rounds_events_like turns (turns_from b words (length entries)) (turns_from d words (length others)) (start_like (length entries) (length others) b d words many l)
 
       -- runs on one thread are alike
-      pub alone_like : (turns : ℕ) (ss : List S) (ts : List T) (words : List Words) → AllRelated R 0 ss ts
-          → TurnsLike R (alone ps entries inputs turns ss words) (alone qs others inputs turns ts words)
-      alone_like turns ss ts words r =
-          let first = start_like (length entries) (length others) ss ts words many r in
-          done_like (rounds ps entries inputs turns (first_turns ss words (length entries))) (rounds qs others inputs turns (first_turns ts words (length others)))
-          (rounds_like turns (first_turns ss words (length entries)) (first_turns ts words (length others)) first)
+      pub alone_like : (turns : ℕ) (b : Standing S) (d : Standing T) (words : List Words) → BoardsLike R b d
+          → TurnsLike R (alone_from ps entries inputs turns b words) (alone_from qs others inputs turns d words)
+      alone_like turns b d words l =
+          let first = start_like (length entries) (length others) b d words many l in
+          done_like (rounds ps entries inputs turns (turns_from b words (length entries))) (rounds qs others inputs turns (turns_from d words (length others)))
+          (rounds_like turns (turns_from b words (length entries)) (turns_from d words (length others)) first)
 
     -- ---- legal histories
 

@@ -1,51 +1,19 @@
 -- Schedules of components that step alike answer alike.
 use Rattle.std.proofs.Common.{◌≡◌, ℕ, zero, suc, ◌+◌, List, [], ◌∷◌, ◌++◌, length, Bool, true, false, cond, Option, None, Some, Result, Ok, Err, refl, sym, ◌∙◌, ap, subst, arith, replicate}
 use Rattle.std.specs.Prelude.{IsSome, slice_get, slice_set, unwrap_or}
-use Rattle.std.specs.List.{AllZip, list_any, cons_option}
-use Rattle.ioa_arithmetic.specs.declared.arithmetic.Fault.{Fault}
+use Rattle.std.specs.List.{AllZip, cons_option}
 use Rattle.ioa_value.specs.Actions.{Act}
-use Rattle.ioa_tree.specs.Components.{Component, has}
+use Rattle.ioa_tree.specs.Components.{Component}
 use Rattle.ioa_tree.specs.Likes.{AllRelated, MovesLike}
-use Rattle.ioa_tree.specs.Steps.{Moved, next, not_an_action, not_enabled, fault, Asked, free, owned, allowed, asked, effect_on, effects, participants, step, then_rest, with_state}
+use Rattle.ioa_tree.specs.Steps.{Moved, next, not_an_action, not_enabled, fault, participants, step}
 use Rattle.ioa_system.specs.Logs.{worker}
 use Rattle.ioa_system.specs.Participants.{taken}
 use Rattle.ioa_run.specs.declared.answer.Answer.{Answer}
 use Rattle.ioa_run.specs.Boards.{Commits, Failure, Intent, IsCurrent, Standing, now_of, with_entry, with_failure}
 use Rattle.ioa_run.specs.Subjects.{BoardsLike, IntentsLike, PlansLike, SchedulesLike}
-use Rattle.ioa_run.specs.Schedules.{Answers, Event, Plans, Plays, Schedule, Spends, commit, copy, intent, plan_of, start_schedule, with_plan}
+use Rattle.ioa_run.specs.Schedules.{Answers, Event, Plans, Plays, Schedule, Spends, commit, copy, intent, plan_of, schedule_from, with_plan}
 use Rattle.ioa_run.proofs.Alike.{Both, fault_back, next_back, related_at, related_length}
-
--- ---- as many states as before
-
-long_with : {S : Type 0} (s : S) (m : Moved S) (n : ℕ) → ((ts : List S) → m ≡ next ts → length ts ≡ n) → (us : List S) → with_state s m ≡ next us → length us ≡ suc n
-long_with s (next ts) n h us e = let q : s ∷ ts ≡ us = cc in ap length (sym q) ∙ ap suc (h ts refl)
-long_with s not_an_action n h us e = absurd (cc)
-long_with s not_enabled n h us e = absurd (cc)
-long_with s (fault c f) n h us e = absurd (cc)
-
-long_rest : {S : Type 0} (i : ℕ) (x : Result S Fault) (m : Moved S) (n : ℕ) → ((ts : List S) → m ≡ next ts → length ts ≡ n) → (us : List S) → then_rest i x m ≡ next us → length us ≡ suc n
-long_rest i (Ok s) m n h us e = long_with s m n h us e
-long_rest i (Err f) m n h us e = absurd (cc)
-
-long_effects : {S : Type 0} (i : ℕ) (ps : List (Component S)) (a : Act) (ss us : List S) → length ss ≡ length ps → effects i ps a ss ≡ next us → length us ≡ length ps
-long_effects i [] a ss us l e = let q : [] ≡ us = cc in ap length (sym q)
-long_effects i (p ∷ ps) a [] us l e = absurd (cc)
-long_effects i (p ∷ ps) a (s ∷ ss) us l e =
-    let m : length ss ≡ length ps = omega (arith, l) in
-    long_rest i (effect_on p a s) (effects (i + 1) ps a ss) (length ps) (λ ts k. long_effects (i + 1) ps a ss ts m k) us e
-
-long_allowed : {S : Type 0} (g : Asked) (m : Moved S) (us : List S) → allowed g m ≡ next us → m ≡ next us
-long_allowed free m us e = e
-long_allowed (owned i (Ok true)) m us e = e
-long_allowed (owned i (Ok false)) m us e = absurd (cc)
-long_allowed (owned i (Err f)) m us e = absurd (cc)
-
-long_step : {S : Type 0} (ps : List (Component S)) (a : Act) (ss us : List S) → length ss ≡ length ps → step ps a ss ≡ next us → length us ≡ length ps
-long_step {S} ps a ss us l e = go (list_any (has a) ps) e
-  where
-    go : (b : Bool) → cond b (allowed (asked 0 ps a ss) (effects 0 ps a ss)) not_an_action ≡ next us → length us ≡ length ps
-    go true k = long_effects 0 ps a ss us l (long_allowed (asked 0 ps a ss) (effects 0 ps a ss) us k)
-    go false k = absurd (cc)
+use Rattle.ioa_run.proofs.Lengths.{long_step}
 
 -- ---- copies of states
 
@@ -331,16 +299,16 @@ module _ {S T : Type 0} (R : ℕ → S → T → Type 0) (ps : List (Component S
   all_made_like (x ∷ xs) (y ∷ ys) h = (made_like x y h.0, all_made_like xs ys h.1)
 
   -- what the components on the right are answered, those on the left are
-  pub schedules_back : (es : List Event) (ss : List S) (ts : List T) (xs : List Answer) (u : Schedule T) → AllRelated R 0 ss ts → length ts ≡ length qs
-      → Plays qs es (start_schedule ts) xs u → (s : Schedule S) × Plays ps es (start_schedule ss) xs s × SchedulesLike R ps qs s u
-  schedules_back es ss ts xs u r l h =
-      let many : length ss + 1 ≡ length ts + 1 = ap (λ n. n + 1) (related_length R 0 ss ts r) in
-      let first : Follows (start_schedule ss) (start_schedule ts) = record {
-        board = record { history = refl; failure = refl; states = r };
-        plans = no_plans_like Made (length ss + 1) (length ts + 1) None None many tt;
-        whole = l;
+  pub schedules_back : (es : List Event) (b : Standing S) (d : Standing T) (xs : List Answer) (u : Schedule T) → BoardsLike R b d → length d.states ≡ length qs
+      → Plays qs es (schedule_from d) xs u → (s : Schedule S) × Plays ps es (schedule_from b) xs s × SchedulesLike R ps qs s u
+  schedules_back es b d xs u l whole h =
+      let many : length b.states + 1 ≡ length d.states + 1 = ap (λ n. n + 1) (related_length R 0 b.states d.states l.states) in
+      let first : Follows (schedule_from b) (schedule_from d) = record {
+        board = l;
+        plans = no_plans_like Made (length b.states + 1) (length d.states + 1) None None many tt;
+        whole = whole;
       } in
-      let k = plays_back es (start_schedule ss) (start_schedule ts) u xs first h in
+      let k = plays_back es (schedule_from b) (schedule_from d) u xs first h in
       (k.0, k.1, record { board = k.2.board; plans = all_made_like k.0.plans u.plans k.2.plans })
 
 -- ---- the other way round
@@ -382,12 +350,12 @@ all_plans_flip R ps qs (x ∷ xs) (y ∷ ys) h = (plans_flip R ps qs x y h.0, al
 pub schedules_on : {S T : Type 0} (R : ℕ → S → T → Type 0) (ps : List (Component S)) (qs : List (Component T))
     → ((a : Act) (ss : List S) (ts : List T) → AllRelated R 0 ss ts → MovesLike R 0 (step ps a ss) (step qs a ts)) → ((a : Act) → worker ps a ≡ worker qs a)
     → ((a : Act) → participants ps a ≡ participants qs a) → ((i : ℕ) (x y : S) (a b : T) → R i x a → R i y b → a ≡ b → x ≡ y)
-    → ((i : ℕ) (x y : S) (a b : T) → R i x a → R i y b → x ≡ y → a ≡ b) → (es : List Event) (ss : List S) (ts : List T) (xs : List Answer) (s : Schedule S)
-    → AllRelated R 0 ss ts → length ss ≡ length ps → Plays ps es (start_schedule ss) xs s
-    → (u : Schedule T) × Plays qs es (start_schedule ts) xs u × SchedulesLike R ps qs s u
-schedules_on R ps qs steps workers members once apart es ss ts xs s r l plays =
+    → ((i : ℕ) (x y : S) (a b : T) → R i x a → R i y b → x ≡ y → a ≡ b) → (es : List Event) (b : Standing S) (d : Standing T) (xs : List Answer) (s : Schedule S)
+    → BoardsLike R b d → length b.states ≡ length ps → Plays ps es (schedule_from b) xs s
+    → (u : Schedule T) × Plays qs es (schedule_from d) xs u × SchedulesLike R ps qs s u
+schedules_on R ps qs steps workers members once apart es b d xs s l whole plays =
     let w = schedules_back (flip R) qs ps
     (λ a us vs k. moves_flip R 0 (step ps a vs) (step qs a us) (steps a vs us (related_flip (flip R) 0 us vs k)))
     (λ a. sym (workers a)) (λ a. sym (members a)) (λ i x y a b h k e. apart i a b x y h k e) (λ i x y a b h k e. once i a b x y h k e)
-    es ts ss xs s (related_flip R 0 ss ts r) l plays in
+    es d b xs s (boards_flip R b d l) whole plays in
     (w.0, w.1, record { board = boards_flip (flip R) w.0.board s.board w.2.board; plans = all_plans_flip (flip R) qs ps w.0.plans s.plans w.2.plans })

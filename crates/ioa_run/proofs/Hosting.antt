@@ -9,23 +9,31 @@ use Rattle.ioa_tree.specs.Proposing.{Words}
 use Rattle.ioa_compose.specs.Simulates.{Simulates}
 use Rattle.ioa_compile.specs.Implements.{Implements}
 use Rattle.ioa_compile.specs.Programs.{Prog}
-use Rattle.ioa_compile.specs.Subjects.{of_hosts}
+use Rattle.ioa_compile.specs.Subjects.{of_hosts, of_table}
 use Rattle.ioa_compile.specs.Tables.{IsProgram, start_states, tabled}
-use Rattle.ioa_run.specs.Alone.{IsAlone, alone_in}
+use Rattle.ioa_system.specs.Logs.{Logged}
+use Rattle.ioa_run.specs.Alone.{IsAloneFrom, turns_since}
 use Rattle.ioa_run.specs.Boards.{IsSound, Standing}
-use Rattle.ioa_run.specs.Hosts.{Held, hosts_alone}
-use Rattle.ioa_run.specs.Subjects.{BoardsLike, IsAloneAs, TurnsLike}
+use Rattle.ioa_run.specs.Hosts.{Held}
+use Rattle.ioa_run.specs.Resuming.{resumption}
+use Rattle.ioa_run.specs.Subjects.{AreResumed, BoardsLike, IsAloneAs, ResumedLike, TurnsLike}
 use Rattle.ioa_run.specs.declared.outcome.Outcome.{Outcome}
 use Rattle.ioa_run.proofs.Subjects as of_any
-use Rattle.ioa_run.proofs.Subjects.{same_alone, same_turns, subject_history}
+use Rattle.ioa_run.proofs.Subjects.{same_alone, same_resumption, same_turns, subject_history}
 
-pub host_turns : (p : Prog) (h : Hosted) (c : Composed) (words : List Words) (inputs : List Act) (turns : ℕ) → IsProgram p → Simulates h c → Implements p c
-    → TurnsLike (Held h p) (hosts_alone h words inputs turns) (alone_in p words inputs turns)
-host_turns p h c words inputs turns program s m = same_turns p (of_hosts h) words inputs turns program (c, s, m)
+-- the program resumes a log just where the hosts do, or both refuse it alike
+pub host_resumption : (p : Prog) (h : Hosted) (c : Composed) (log : Logged) → Simulates h c → Implements p c
+    → ResumedLike (Held h p) (resumption (hosts_of h) (host_starts h) log) (resumption (tabled p) (start_states p) log)
+host_resumption p h c log s m = same_resumption p (of_hosts h) log (c, s, m)
 
-pub host_alone : (p : Prog) (h : Hosted) (c : Composed) (words : List Words) (inputs : List Act) (turns : ℕ) (o : Outcome) → IsProgram p → Simulates h c → Implements p c
-    → IsAlone p words inputs turns o → IsAloneAs p (of_hosts h) words inputs turns o
-host_alone p h c words inputs turns o program s m a = same_alone p (of_hosts h) words inputs turns o program (c, s, m) a
+pub host_turns : (p : Prog) (h : Hosted) (c : Composed) (log : Logged) (d : Standing (HostState Env)) (b : Standing (List Val)) (words : List Words) (inputs : List Act) (turns : ℕ)
+    → IsProgram p → Simulates h c → Implements p c → AreResumed p (of_hosts h) log d b
+    → TurnsLike (Held h p) (turns_since (of_hosts h) d words inputs turns) (turns_since (of_table p) b words inputs turns)
+host_turns p h c log d b words inputs turns program s m r = same_turns p (of_hosts h) log d b words inputs turns program (c, s, m) r
+
+pub host_alone : (p : Prog) (h : Hosted) (c : Composed) (log : Logged) (d : Standing (HostState Env)) (b : Standing (List Val)) (words : List Words) (inputs : List Act) (turns : ℕ)
+    (o : Outcome) → IsProgram p → Simulates h c → Implements p c → AreResumed p (of_hosts h) log d b → IsAloneFrom p b words inputs turns o → IsAloneAs p (of_hosts h) d words inputs turns o
+host_alone p h c log d b words inputs turns o program s m r a = same_alone p (of_hosts h) log d b words inputs turns o program (c, s, m) r a
 
 pub host_history : (p : Prog) (h : Hosted) (c : Composed) (b : Standing (List Val)) → Simulates h c → Implements p c → IsSound (tabled p) (start_states p) b
     → (d : Standing (HostState Env)) × IsSound (hosts_of h) (host_starts h) d × BoardsLike (Held h p) d b

@@ -29,3 +29,7 @@ pub mod Hosting
 pub mod Played
 pub mod Sharing
 pub mod Resumed
+pub mod Unresumed
+pub mod Playing
+pub mod Lengths
+pub mod ResumedLike

@@ -1,5 +1,5 @@
 -- A run on one thread is a play of the schedule machine.
-use Rattle.std.proofs.Common.{◌≡◌, ◌≢◌, ℕ, zero, suc, ◌+◌, ◌<◌, ◌≤◌, ◌++◌, List, [], ◌∷◌, length, Bool, true, false, cond, Option, None, Some, refl, sym, ◌∙◌, ap, subst, arith, replicate}
+use Rattle.std.proofs.Common.{◌≡◌, ◌≢◌, ℕ, zero, suc, ◌+◌, ◌<◌, ◌≤◌, ◌++◌, List, [], ◌∷◌, length, Bool, true, false, cond, Option, None, Some, Ok, refl, sym, ◌∙◌, ap, subst, arith, replicate}
 use Rattle.std.specs.Prelude.{All, slice_get, slice_set}
 use Rattle.std.proofs.lemmas.List.{length-map, length-replicate}
 use Rattle.std.proofs.lemmas.List.Elements.{All-append, All-cons, All-nil}
@@ -10,15 +10,18 @@ use Rattle.ioa_tree.specs.Hosts.{host_start}
 use Rattle.ioa_tree.specs.Instances.{state_of}
 use Rattle.ioa_tree.specs.Proposing.{Words, Tried, tries, idle}
 use Rattle.ioa_compile.specs.Programs.{MemberCode}
-use Rattle.ioa_compile.specs.Subjects.{Subject, its_components, its_starts, of_composition, of_hosts, of_table}
+use Rattle.ioa_compile.specs.Subjects.{State, Subject, its_components, its_starts, of_composition, of_hosts, of_table}
+use Rattle.ioa_system.specs.Logs.{Logged}
 use Rattle.ioa_run.specs.declared.answer.Answer.{Answer}
 use Rattle.ioa_run.specs.Attempts.{IsAttempt}
 use Rattle.ioa_run.specs.Boards.{Intent, Standing}
 use Rattle.ioa_run.specs.Played.{AlonePlays, NeverStale, PlaysAs, alone_events, attempt_events, first_events, played, rounds_events, tried_events, turn_events}
 use Rattle.ioa_run.specs.Proposers.{host_proposers_of, its_proposers, member_proposers_of, proposers_of}
-use Rattle.ioa_run.specs.Schedules.{Answers, Event, Schedule, Spends, commit, copy, plan_of, start_schedule, with_plan}
-use Rattle.ioa_run.specs.Turns.{Proposer, Turns, alone, attempt, first_turns, has_ended, meant, rounds, turned, turns_of_first}
+use Rattle.ioa_run.specs.Resuming.{resumption}
+use Rattle.ioa_run.specs.Schedules.{Answers, Event, Schedule, Spends, commit, copy, plan_of, schedule_from, with_plan}
+use Rattle.ioa_run.specs.Turns.{Proposer, Turns, alone_from, attempt, has_ended, meant, rounds, turned, turns_from, turns_of_first}
 use Rattle.ioa_run.proofs.Attempting.{attempt_answers}
+use Rattle.ioa_run.proofs.Lengths.{component_for_each, resumed_long}
 use Rattle.ioa_run.proofs.Scheduling.{set_got, set_over}
 
 -- ---- events after one another
@@ -148,13 +151,13 @@ module _ {S : Type 0} (ps : List (Component S)) (entries : List (List (Proposer 
       (first_goes (length entries + 1) u places)
 
 -- the whole run
-module _ {S : Type 0} (ps : List (Component S)) (entries : List (List (Proposer S))) (inputs : List Act) (turns : ℕ) (ss : List S) (words : List Words) where
-  run_goes : length entries ≡ length ss
-      → Goes ps entries inputs (length ss + 1) (alone_events ps entries inputs turns ss words) (first_turns ss words (length entries))
-      (rounds ps entries inputs turns (first_turns ss words (length entries)))
-  run_goes many = rounds_goes ps entries inputs (length ss + 1) (omega (arith, many)) turns (first_turns ss words (length entries))
+module _ {S : Type 0} (ps : List (Component S)) (entries : List (List (Proposer S))) (inputs : List Act) (turns : ℕ) (b : Standing S) (words : List Words) where
+  run_goes : length entries ≡ length b.states
+      → Goes ps entries inputs (length b.states + 1) (alone_events ps entries inputs turns b words) (turns_from b words (length entries))
+      (rounds ps entries inputs turns (turns_from b words (length entries)))
+  run_goes many = rounds_goes ps entries inputs (length b.states + 1) (omega (arith, many)) turns (turns_from b words (length entries))
 
-  run_plays : length entries ≡ length ss → PlaysAs ps (alone_events ps entries inputs turns ss words) (start_schedule ss) (played ss (alone ps entries inputs turns ss words).board)
+  run_plays : length entries ≡ length b.states → PlaysAs ps (alone_events ps entries inputs turns b words) (schedule_from b) (played b (alone_from ps entries inputs turns b words).board)
   run_plays many = (run_goes many).plays
 
 -- there is a state for each component that proposes
@@ -163,8 +166,11 @@ start_for_each (of_hosts h) = length-map h.hosts host_proposers_of ∙ sym (leng
 start_for_each (of_composition c) = length-map c.members member_proposers_of ∙ sym (length-map c.members (λ (q : Member). state_of q.instance.automaton q.starts))
 start_for_each (of_table p) = length-map p.members proposers_of ∙ sym (length-map p.members (λ (q : MemberCode). q.start.values))
 
+state_for_each : (s : Subject) (log : Logged) (b : Standing (State s)) → resumption (its_components s) (its_starts s) log ≡ Ok b → length (its_proposers s) ≡ length b.states
+state_for_each s log b h = start_for_each s ∙ component_for_each s ∙ sym (resumed_long s log b h)
+
 pub alone_plays : AlonePlays
-alone_plays s words inputs turns = run_plays (its_components s) (its_proposers s) inputs turns (its_starts s) words (start_for_each s)
+alone_plays s log b words inputs turns h = run_plays (its_components s) (its_proposers s) inputs turns b words (state_for_each s log b h)
 
 pub never_stale : NeverStale
-never_stale s words inputs turns = (run_goes (its_components s) (its_proposers s) inputs turns (its_starts s) words (start_for_each s)).fresh
+never_stale s log b words inputs turns h = (run_goes (its_components s) (its_proposers s) inputs turns b words (state_for_each s log b h)).fresh

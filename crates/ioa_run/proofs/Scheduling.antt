@@ -35,7 +35,7 @@ set_over [] i x y = refl
 set_over (z ∷ zs) zero x y = refl
 set_over (z ∷ zs) (suc i) x y = ap (λ ws. z ∷ ws) (set_over zs i x y)
 
-got_set : {X : Type 0} (xs : List X) (i j : ℕ) (y z : X) → slice_get (slice_set xs i y) j ≡ Some z → ((j ≡ i) × (z ≡ y)) ⊎ (slice_get xs j ≡ Some z)
+pub got_set : {X : Type 0} (xs : List X) (i j : ℕ) (y z : X) → slice_get (slice_set xs i y) j ≡ Some z → ((j ≡ i) × (z ≡ y)) ⊎ (slice_get xs j ≡ Some z)
 got_set [] i j y z e = inr e
 got_set (x ∷ xs) zero zero y z e = let q : z ≡ y = cc in inl (refl, q)
 got_set (x ∷ xs) zero (suc j) y z e = inr e

@@ -1,5 +1,5 @@
 -- What a program's workers do is what those of whatever it runs as do.
-use Rattle.std.proofs.Common.{◌≡◌, ℕ, zero, suc, ◌+◌, Bool, true, false, cond, not, ◌||◌, if◌then◌else◌, List, [], ◌∷◌, ◌++◌, length, map, filter, All, Option, Some, None, IfSome, refl, sym, ap, subst, ◌∙◌, arith}
+use Rattle.std.proofs.Common.{◌≡◌, ℕ, zero, suc, ◌+◌, Bool, true, false, cond, not, ◌||◌, if◌then◌else◌, List, [], ◌∷◌, ◌++◌, length, map, filter, All, Option, Some, None, IfSome, Result, Ok, refl, sym, ap, subst, ◌∙◌, arith}
 use Rattle.std.specs.Prelude.{slice_get}
 use Rattle.std.specs.List.{AllZip}
 use Rattle.std.specs.Option.{option_map}
@@ -46,25 +46,29 @@ use Rattle.ioa_compile.specs.Tables.{AreEntries, AreMembers, HasPropose, IsEntry
 use Rattle.ioa_compile.proofs.HostEntries.{entries_are_the_hosts}
 use Rattle.ioa_compile.proofs.Subjects.{as_many, does_as, participants_as, step_as}
 use Rattle.ioa_node.specs.Nodes.{Node}
-use Rattle.ioa_system.specs.Logs.{worker}
+use Rattle.ioa_system.specs.Logs.{Logged, worker}
 use Rattle.ioa_system.specs.declared.log.LogEnd.{LogEnd}
 use Rattle.ioa_system.specs.declared.log.LogEntry.{LogEntry}
 use Rattle.ioa_system.proofs.Subjects.{worker_as}
-use Rattle.ioa_run.specs.Alone.{turns_of}
+use Rattle.ioa_run.specs.Alone.{turns_since}
 use Rattle.ioa_run.specs.Boards.{Failure, IsFailureFrom, IsSound, Standing}
-use Rattle.ioa_run.specs.Histories.{acts_of}
+use Rattle.ioa_run.specs.Histories.{GoesOn, acts_of, since}
 use Rattle.ioa_run.specs.Outcomes.{IsLogOf, ending, logged}
 use Rattle.ioa_run.specs.Planning.{answer_of, intent_of}
-use Rattle.ioa_run.specs.Played.{events_of}
+use Rattle.ioa_run.specs.Played.{events_since}
 use Rattle.ioa_run.specs.Proposers.{by_code, by_entry, filled, filled_in, host_proposers_of, its_proposers, member_proposers_of, proposers, proposers_of}
 use Rattle.ioa_run.specs.Reports.{AreTold}
-use Rattle.ioa_run.specs.Subjects.{AreApart, BoardsLike, HostsApart, IsLogAs, ProgramHistory, ProgramSchedule, SameAlone, SameCopy, SameEvents, SameOutcome, SameTurns, SubjectHistory, SubjectSchedule, TurnsLike}
+use Rattle.ioa_run.specs.Resuming.{resumption}
+use Rattle.ioa_run.specs.Subjects.{AreApart, AreResumed, BoardsLike, HostsApart, IsLogAs, ProgramHistory, ProgramSchedule, ResumedLike, SameAlone, SameCopy, SameEvents, SameOutcome, SameResumption, SameTurns, SubjectHistory, SubjectSchedule, TurnsLike}
+use Rattle.ioa_run.specs.declared.run_err.RunErr.{RunErr}
 use Rattle.ioa_run.specs.Turns.{Proposer, after}
 use Rattle.ioa_run.proofs.Alike.{Both, OneLike, ProposeLike, alone_like, events_like, sound_back, sound_on}
 use Rattle.ioa_run.proofs.AlikeSchedules.{copy_like, schedules_back, schedules_on}
 use Rattle.ioa_run.proofs.Finishing.{faulted_last}
 use Rattle.ioa_run.proofs.HostProposals.{by_alike, filled_alike}
+use Rattle.ioa_run.proofs.Lengths.{resumed_long}
 use Rattle.ioa_run.proofs.Performing.{legal_run}
+use Rattle.ioa_run.proofs.ResumedLike.{resumption_like}
 use Rattle.ioa_run.proofs.Scheduling.{planned_now}
 
 some_same : {X : Type 0} (o : Option X) (x y : X) → o ≡ Some x → o ≡ Some y → x ≡ y
@@ -478,11 +482,6 @@ proposer_for_each (of_hosts h) = length-map h.hosts host_proposers_of ∙ sym (l
 proposer_for_each (of_composition c) = length-map c.members member_proposers_of ∙ sym (length-map c.members (λ (q : Member). q.name))
 proposer_for_each (of_table p) = length-map p.members proposers_of ∙ sym (length-map p.members (λ (q : MemberCode). q.name))
 
-component_for_each : (s : Subject) → length (its_starts s) ≡ length (its_components s)
-component_for_each (of_hosts h) = length-map h.hosts host_start ∙ sym (length-map h.hosts host_of)
-component_for_each (of_composition c) = length-map c.members (λ (q : Member). state_of q.instance.automaton q.starts) ∙ sym (length-map c.members (λ (q : Member). component_of q.instance))
-component_for_each (of_table p) = length-map p.members (λ (q : MemberCode). q.start.values) ∙ sym (length-map p.members table_component)
-
 module _ (p : Prog) (s : Subject) (runs : RunsAs p s) where
   starts : AllRelated (InSlots p s) 0 (its_starts s) (start_states p)
   starts = (does_as p s runs).starts
@@ -499,15 +498,26 @@ module _ (p : Prog) (s : Subject) (runs : RunsAs p s) where
   workers : (a : Act) → worker (its_components s) a ≡ worker (tabled p) a
   workers a = sym (worker_as p s runs a)
 
-  turns_alike : IsProgram p → (words : List Words) (inputs : List Act) (turns : ℕ) → TurnsLike (InSlots p s) (turns_of s words inputs turns) (turns_of (of_table p) words inputs turns)
-  turns_alike program words inputs turns =
-      alone_like (InSlots p s) (its_components s) (tabled p) steps workers (its_proposers s) (proposers p) inputs proposers_count
-      (propose p s program runs) turns (its_starts s) (start_states p) words starts
+  -- the same log is resumed at boards that are alike, or refused alike
+  pub resumption_alike : (log : Logged) → ResumedLike (InSlots p s) (resumption (its_components s) (its_starts s) log) (resumption (tabled p) (start_states p) log)
+  resumption_alike log = resumption_like (InSlots p s) (its_components s) (tabled p) steps workers (its_starts s) (start_states p) log starts
 
-  events_alike : IsProgram p → (words : List Words) (inputs : List Act) (turns : ℕ) → events_of s words inputs turns ≡ events_of (of_table p) words inputs turns
-  events_alike program words inputs turns =
+  pub boards_alike : (log : Logged) (d : Standing (State s)) (b : Standing (List Val)) → AreResumed p s log d b → BoardsLike (InSlots p s) d b
+  boards_alike log d b r =
+      subst (λ (x : Result (Standing (State s)) RunErr). ResumedLike (InSlots p s) x (Ok b)) r.subject
+      (subst (ResumedLike (InSlots p s) (resumption (its_components s) (its_starts s) log)) r.program (resumption_alike log))
+
+  turns_alike : IsProgram p → (log : Logged) (d : Standing (State s)) (b : Standing (List Val)) (words : List Words) (inputs : List Act) (turns : ℕ) → AreResumed p s log d b
+      → TurnsLike (InSlots p s) (turns_since s d words inputs turns) (turns_since (of_table p) b words inputs turns)
+  turns_alike program log d b words inputs turns r =
+      alone_like (InSlots p s) (its_components s) (tabled p) steps workers (its_proposers s) (proposers p) inputs proposers_count
+      (propose p s program runs) turns d b words (boards_alike log d b r)
+
+  events_alike : IsProgram p → (log : Logged) (d : Standing (State s)) (b : Standing (List Val)) (words : List Words) (inputs : List Act) (turns : ℕ) → AreResumed p s log d b
+      → events_since s d words inputs turns ≡ events_since (of_table p) b words inputs turns
+  events_alike program log d b words inputs turns r =
       events_like (InSlots p s) (its_components s) (tabled p) steps workers (its_proposers s) (proposers p) inputs proposers_count
-      (propose p s program runs) turns (its_starts s) (start_states p) words starts
+      (propose p s program runs) turns d b words (boards_alike log d b r)
 
   history_back : (b : Standing (List Val)) → IsSound (tabled p) (start_states p) b → (d : Standing (State s)) × IsSound (its_components s) (its_starts s) d × BoardsLike (InSlots p s) d b
   history_back b k = sound_back (InSlots p s) (its_components s) (tabled p) steps workers (its_starts s) (start_states p) b starts k
@@ -555,19 +565,22 @@ log_as p s b d log end ns runs l g =
       runs = sound_run (its_components s) (its_starts s) d sound;
     }
 
+pub same_resumption : SameResumption
+same_resumption p s log runs = resumption_alike p s runs log
+
 pub same_turns : SameTurns
-same_turns p s words inputs turns program runs = turns_alike p s runs program words inputs turns
+same_turns p s log d b words inputs turns program runs r = turns_alike p s runs program log d b words inputs turns r
 
 pub same_alone : SameAlone
-same_alone p s words inputs turns o program runs a =
-    let l = turns_alike p s runs program words inputs turns in
+same_alone p s log d b words inputs turns o program runs r a =
+    let l = turns_alike p s runs program log d b words inputs turns r in
     record {
-      log = log_as p s (turns_of (of_table p) words inputs turns).board (turns_of s words inputs turns).board o.log.items o.end o.states.items runs l.board a.log;
+      log = log_as p s (turns_since (of_table p) b words inputs turns).board (turns_since s d words inputs turns).board o.log.items o.end o.states.items runs l.board a.log;
       reports = a.reports ∙ sym l.reports;
     }
 
 pub same_events : SameEvents
-same_events p s words inputs turns program runs = events_alike p s runs program words inputs turns
+same_events p s log d b words inputs turns program runs r = events_alike p s runs program log d b words inputs turns r
 
 pub same_copy : SameCopy
 same_copy p s w a t u r runs l like made =
@@ -581,21 +594,22 @@ pub program_history : ProgramHistory
 program_history p s d runs k = history_on p s runs d k
 
 pub same_outcome : SameOutcome
-same_outcome p s inputs turns o runs (b, log, told) =
+same_outcome p s before inputs turns o runs (b, log, goes, told) =
     let w = history_back p s runs b log.sound in (
       w.0,
       log_as p s b w.0 o.log.items o.end o.states.items runs w.2 log,
-      subst (λ n. AreTold n inputs turns w.0.history w.0.failure o.reports.items) (names_count p s runs)
-          (subst (λ f. AreTold (length p.members) inputs turns w.0.history f o.reports.items) (sym w.2.failure)
-          (subst (λ hs. AreTold (length p.members) inputs turns hs b.failure o.reports.items) (sym w.2.history) told)),
+      subst (GoesOn before) (sym w.2.history) goes,
+      subst (λ n. AreTold n inputs turns (since before w.0.history) w.0.failure o.reports.items) (names_count p s runs)
+          (subst (λ f. AreTold (length p.members) inputs turns (since before w.0.history) f o.reports.items) (sym w.2.failure)
+          (subst (λ hs. AreTold (length p.members) inputs turns (since before hs) b.failure o.reports.items) (sym w.2.history) told)),
     )
 
 pub subject_schedule : SubjectSchedule
-subject_schedule p s es xs u apart runs plays =
+subject_schedule p s log d b es xs u apart runs r plays =
     schedules_back (InSlots p s) (its_components s) (tabled p) (steps p s runs) (workers p s runs) (λ a. sym (participants_as p s runs a)) (same_once p s) (same_apart p s apart)
-    es (its_starts s) (start_states p) xs u (starts p s runs) (component_for_each (of_table p)) plays
+    es d b xs u (boards_alike p s runs log d b r) (resumed_long (of_table p) log b r.program) plays
 
 pub program_schedule : ProgramSchedule
-program_schedule p s es xs t apart runs plays =
+program_schedule p s log d b es xs t apart runs r plays =
     schedules_on (InSlots p s) (its_components s) (tabled p) (steps p s runs) (workers p s runs) (λ a. sym (participants_as p s runs a)) (same_once p s) (same_apart p s apart)
-    es (its_starts s) (start_states p) xs t (starts p s runs) (component_for_each s) plays
+    es d b xs t (boards_alike p s runs log d b r) (resumed_long s log d r.subject) plays

@@ -6,7 +6,7 @@ use Rattle.ioa_tree.specs.Components.{Component}
 use Rattle.ioa_tree.specs.Proposing.{Words}
 use Rattle.ioa_tree.specs.Steps.{owner, participants}
 use Rattle.ioa_compile.specs.Programs.{Prog}
-use Rattle.ioa_compile.specs.Subjects.{State, Subject, its_components, its_starts, of_table}
+use Rattle.ioa_compile.specs.Subjects.{State, Subject, its_components}
 use Rattle.ioa_compile.specs.Tables.{start_states, tabled}
 use Rattle.ioa_system.specs.Logs.{Logged}
 use Rattle.ioa_run.specs.Boards.{Standing, begun}
@@ -15,20 +15,16 @@ use Rattle.ioa_run.specs.Resuming.{resumption}
 use Rattle.ioa_run.specs.Outcomes.{IsLogOf}
 use Rattle.ioa_run.specs.Proposers.{its_proposers, proposers}
 use Rattle.ioa_run.specs.Reports.{AreTold}
-use Rattle.ioa_run.specs.Turns.{Turns, alone, alone_from}
+use Rattle.ioa_run.specs.Turns.{Turns, alone_from}
 use Rattle.ioa_run.specs.declared.outcome.Outcome.{Outcome}
 use Rattle.ioa_run.specs.declared.report.Report.{Report}
 use Rattle.ioa_run.specs.declared.report.Why.{Why}
 use Rattle.ioa_run.specs.declared.run_err.RunErr.{RunErr}
 
--- turns of all workers on one thread, so many rounds of them: in each round the components in order, each by its own words, and then the
+-- turns of all workers on one thread since this board, so many rounds of them: in each round the components in order, each by its own words, and then the
 -- environment
-abbrev pub turns_of : (s : Subject) → List Words → List Act → ℕ → Turns (State s)
-turns_of s words inputs turns = alone (its_components s) (its_proposers s) inputs turns (its_starts s) words
-
--- of a program's own table
-abbrev pub alone_in : Prog → List Words → List Act → ℕ → Turns (List Val)
-alone_in p words inputs turns = turns_of (of_table p) words inputs turns
+abbrev pub turns_since : (s : Subject) → Standing (State s) → List Words → List Act → ℕ → Turns (State s)
+turns_since s b words inputs turns = alone_from (its_components s) (its_proposers s) inputs turns b words
 
 -- ---- what it gives
 
@@ -55,6 +51,11 @@ pub record IsAloneFrom (p : Prog) (b : Standing (List Val)) (words : List Words)
 -- the same from the start
 abbrev pub IsAlone : Prog → List Words → List Act → ℕ → Outcome → Type 0
 IsAlone p words inputs turns o = IsAloneFrom p (begun (start_states p)) words inputs turns o
+
+-- the same from where the run ended that the log tells
+abbrev pub IsAloneSince : Prog → Logged → List Words → List Act → ℕ → Outcome → Type 0
+IsAloneSince p log words inputs turns o =
+    (b : Standing (List Val)) × (resumption (tabled p) (start_states p) log ≡ Ok b) × IsAloneFrom p b words inputs turns o
 
 -- ---- when there is none
 

@@ -1,14 +1,16 @@
 -- A run on one thread as a play of the schedule machine: the events of its turns, each with its answer.
-use Rattle.std.specs.Prelude.{◌≢◌, ◌+◌, ◌++◌, ℕ, zero, suc, List, [], ◌∷◌, All, cond, length, map}
+use Rattle.std.specs.Prelude.{◌≡◌, ◌≢◌, ◌+◌, ◌++◌, ℕ, zero, suc, List, [], ◌∷◌, All, Ok, cond, length, map}
 use Rattle.ioa_value.specs.Actions.{Act}
 use Rattle.ioa_tree.specs.Components.{Component}
 use Rattle.ioa_tree.specs.Proposing.{Words, Tried, tries, idle}
-use Rattle.ioa_compile.specs.Subjects.{Subject, its_components, its_starts}
-use Rattle.ioa_run.specs.Alone.{turns_of}
+use Rattle.ioa_compile.specs.Subjects.{State, Subject, its_components, its_starts}
+use Rattle.ioa_system.specs.Logs.{Logged}
+use Rattle.ioa_run.specs.Alone.{turns_since}
 use Rattle.ioa_run.specs.Boards.{Standing}
 use Rattle.ioa_run.specs.Proposers.{its_proposers}
-use Rattle.ioa_run.specs.Schedules.{Event, Plays, Schedule, commit, copy, start_schedule}
-use Rattle.ioa_run.specs.Turns.{Proposer, Turns, attempt, first_turns, has_ended, meant, rounds, turns_of_first}
+use Rattle.ioa_run.specs.Resuming.{resumption}
+use Rattle.ioa_run.specs.Schedules.{Event, Plays, Schedule, commit, copy, schedule_from}
+use Rattle.ioa_run.specs.Turns.{Proposer, Turns, attempt, has_ended, meant, rounds, turns_from, turns_of_first}
 use Rattle.ioa_run.specs.declared.answer.Answer.{Answer}
 
 -- the events of a worker's attempt that is answered so: it copies and, where it can plan the action, commits at once
@@ -44,30 +46,32 @@ module _ {S : Type 0} (ps : List (Component S)) (entries : List (List (Proposer 
   rounds_events zero t = []
   rounds_events (suc n) t = rounds_events n t ++ first_events (length entries + 1) (rounds ps entries inputs n t)
 
--- of a whole run
-abbrev pub alone_events : {S : Type 0} → List (Component S) → List (List (Proposer S)) → List Act → ℕ → List S → List Words → List (Event × Answer)
-alone_events ps entries inputs turns ss words = rounds_events ps entries inputs turns (first_turns ss words (length entries))
+-- of a whole run since this board
+abbrev pub alone_events : {S : Type 0} → List (Component S) → List (List (Proposer S)) → List Act → ℕ → Standing S → List Words → List (Event × Answer)
+alone_events ps entries inputs turns b words = rounds_events ps entries inputs turns (turns_from b words (length entries))
 
 -- each of these events is answered so, one after another
 abbrev pub PlaysAs : {S : Type 0} → List (Component S) → List (Event × Answer) → Schedule S → Schedule S → Type 0
 PlaysAs ps es s t = Plays ps (map (λ e. e.0) es) s (map (λ e. e.1) es) t
 
--- the board stands so, and no worker has a plan, as at the start
-abbrev pub played : {S : Type 0} → List S → Standing S → Schedule S
-played ss b = record (start_schedule ss) { board = b }
+-- this board stands, and no worker has a plan, as at the beginning, when that one stood
+abbrev pub played : {S : Type 0} → Standing S → Standing S → Schedule S
+played first b = record (schedule_from first) { board = b }
 
 -- ---- laws
 
--- of a run of whatever a program runs as
-abbrev pub events_of : Subject → List Words → List Act → ℕ → List (Event × Answer)
-events_of s words inputs turns = alone_events (its_components s) (its_proposers s) inputs turns (its_starts s) words
+-- of a run of whatever a program runs as, since this board
+abbrev pub events_since : (s : Subject) → Standing (State s) → List Words → List Act → ℕ → List (Event × Answer)
+events_since s b words inputs turns = alone_events (its_components s) (its_proposers s) inputs turns b words
 
--- the machine answers so, and comes to the board of the run
+-- since a board that is resumed the machine answers so, and comes to the board of the run
 abbrev pub AlonePlays : Type 0
 AlonePlays =
-    (s : Subject) (words : List Words) (inputs : List Act) (turns : ℕ)
-    → PlaysAs (its_components s) (events_of s words inputs turns) (start_schedule (its_starts s)) (played (its_starts s) (turns_of s words inputs turns).board)
+    (s : Subject) (log : Logged) (b : Standing (State s)) (words : List Words) (inputs : List Act) (turns : ℕ) → resumption (its_components s) (its_starts s) log ≡ Ok b
+    → PlaysAs (its_components s) (events_since s b words inputs turns) (schedule_from b) (played b (turns_since s b words inputs turns).board)
 
 -- no plan is stale
 abbrev pub NeverStale : Type 0
-NeverStale = (s : Subject) (words : List Words) (inputs : List Act) (turns : ℕ) → All (λ e. e.1 ≢ Answer.Stale) (events_of s words inputs turns)
+NeverStale =
+    (s : Subject) (log : Logged) (b : Standing (State s)) (words : List Words) (inputs : List Act) (turns : ℕ) → resumption (its_components s) (its_starts s) log ≡ Ok b
+    → All (λ e. e.1 ≢ Answer.Stale) (events_since s b words inputs turns)

@@ -13,8 +13,12 @@ pub record Schedule (S : Type 0) : Type 0 where
   pub board : Standing S
   pub plans : List (Option (Intent S))
 
+-- the board stands, and no worker has a plan
+abbrev pub schedule_from : {S : Type 0} → Standing S → Schedule S
+schedule_from b = record { board = b; plans = replicate (length b.states + 1) None }
+
 abbrev pub start_schedule : {S : Type 0} → List S → Schedule S
-start_schedule ss = record { board = begun ss; plans = replicate (length ss + 1) None }
+start_schedule ss = schedule_from (begun ss)
 
 -- a worker copies the states of an action's participants and plans it, or commits its plan
 pub data Event : Type 0 where

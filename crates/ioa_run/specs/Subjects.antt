@@ -1,5 +1,5 @@
 -- What a program's workers do is what those of whatever it runs as do: of the hosts, of their composition, and of its own table.
-use Rattle.std.specs.Prelude.{◌≡◌, ℕ, IsTrue, List, Option, None, Some, length, map, slice_get}
+use Rattle.std.specs.Prelude.{◌≡◌, ℕ, IsTrue, List, Option, None, Some, Result, Ok, Err, length, map, slice_get}
 use Rattle.std.specs.List.{AllZip}
 use Rattle.ioa_value.specs.Actions.{Act}
 use Rattle.ioa_value.specs.Plain.{Val}
@@ -17,18 +17,19 @@ use Rattle.ioa_compile.specs.Programs.{Prog}
 use Rattle.ioa_compile.specs.Subjects.{InSlots, RunsAs, State, Subject, its_components, its_names, its_starts, of_composition, of_hosts, of_table}
 use Rattle.ioa_compile.specs.Tables.{IsProgram, start_states, tabled}
 use Rattle.ioa_node.specs.Nodes.{Node}
-use Rattle.ioa_system.specs.Logs.{log_end, log_entry}
+use Rattle.ioa_system.specs.Logs.{Logged, log_end, log_entry}
 use Rattle.ioa_system.specs.Systems.{values_of}
 use Rattle.ioa_system.specs.declared.log.LogEnd.{LogEnd}
 use Rattle.ioa_system.specs.declared.log.LogEntry.{LogEntry}
-use Rattle.ioa_run.specs.Alone.{IsAlone, IsOutcome, turns_of}
+use Rattle.ioa_run.specs.Alone.{IsAloneFrom, IsOutcomeFrom, turns_since}
 use Rattle.ioa_run.specs.Boards.{Intent, IsSound, Standing, now_of}
-use Rattle.ioa_run.specs.Histories.{acts_of}
+use Rattle.ioa_run.specs.Histories.{GoesOn, acts_of, since}
 use Rattle.ioa_run.specs.Outcomes.{ending, logged}
 use Rattle.ioa_run.specs.Planning.{Makes, answer_of, intent_of}
-use Rattle.ioa_run.specs.Played.{events_of}
+use Rattle.ioa_run.specs.Played.{events_since}
 use Rattle.ioa_run.specs.Reports.{AreTold}
-use Rattle.ioa_run.specs.Schedules.{Answers, Event, Plays, Schedule, copy, intent, start_schedule, with_plan}
+use Rattle.ioa_run.specs.Resuming.{resumption}
+use Rattle.ioa_run.specs.Schedules.{Answers, Event, Plays, Schedule, copy, intent, schedule_from, with_plan}
 use Rattle.ioa_run.specs.Turns.{Turns}
 use Rattle.ioa_run.specs.declared.answer.Answer.{Answer}
 use Rattle.ioa_run.specs.declared.outcome.Outcome.{Outcome}
@@ -70,6 +71,18 @@ pub record SchedulesLike {S T : Type 0} (R : ℕ → S → T → Type 0) (ps : L
   pub board : BoardsLike R s.board u.board
   pub plans : AllZip (PlansLike R ps qs) s.plans u.plans
 
+-- both are refused alike, or stand for boards that are alike
+abbrev pub ResumedLike : {S T E : Type 0} → (ℕ → S → T → Type 0) → Result (Standing S) E → Result (Standing T) E → Type 0
+ResumedLike R (Ok b) (Ok d) = BoardsLike R b d
+ResumedLike R (Ok b) (Err e) = ⊥
+ResumedLike R (Err e) (Ok d) = ⊥
+ResumedLike R (Err e) (Err f) = e ≡ f
+
+-- the log is resumed by the subject and by the program, at these boards
+pub record AreResumed (p : Prog) (s : Subject) (log : Logged) (d : Standing (State s)) (b : Standing (List Val)) : Type 0 where
+  pub subject : resumption (its_components s) (its_starts s) log ≡ Ok d
+  pub program : resumption (tabled p) (start_states p) log ≡ Ok b
+
 -- ---- what is given
 
 -- the log, its end and the slots are those of the subject's board, whose history is legal and whose fault is its action's; and they are those
@@ -82,29 +95,38 @@ pub record IsLogAs (p : Prog) (s : Subject) (b : Standing (State s)) (log : List
   pub runs : run (its_components s) (acts_of (logged b.history b.failure)) (its_starts s)
       ≡ record { performed = length b.history; states = b.states; ending = ending b.history b.failure }
 
--- and the reports tell of the history
-abbrev pub IsOutcomeAs : Prog → Subject → List Act → ℕ → Outcome → Type 0
-IsOutcomeAs p s inputs turns o =
-    (b : Standing (State s)) × IsLogAs p s b o.log.items o.end o.states.items × AreTold (length (its_names s)) inputs turns b.history b.failure o.reports.items
+-- it goes on from what was done before, and the reports tell of what is new
+abbrev pub IsOutcomeAs : Prog → Subject → List (ℕ × Act) → List Act → ℕ → Outcome → Type 0
+IsOutcomeAs p s before inputs turns o =
+    (b : Standing (State s)) × IsLogAs p s b o.log.items o.end o.states.items × GoesOn before b.history
+    × AreTold (length (its_names s)) inputs turns (since before b.history) b.failure o.reports.items
 
--- the log, the end, the slots and the reports are those of the subject's run on one thread
-pub record IsAloneAs (p : Prog) (s : Subject) (words : List Words) (inputs : List Act) (turns : ℕ) (o : Outcome) : Type 0 where
-  pub log : IsLogAs p s (turns_of s words inputs turns).board o.log.items o.end o.states.items
-  pub reports : o.reports.items ≡ (turns_of s words inputs turns).reports
+-- the log, the end, the slots and the reports are those of the subject's run on one thread since this board
+pub record IsAloneAs (p : Prog) (s : Subject) (b : Standing (State s)) (words : List Words) (inputs : List Act) (turns : ℕ) (o : Outcome) : Type 0 where
+  pub log : IsLogAs p s (turns_since s b words inputs turns).board o.log.items o.end o.states.items
+  pub reports : o.reports.items ≡ (turns_since s b words inputs turns).reports
 
 -- ---- laws
 
--- the subject's run on one thread has the same history, fault, reports and words left, and the program's slots hold the states that it reaches
+-- a log is resumed by the program just where it is by the subject, with the same history, and the slots hold the states to which it leads; else both refuse it
+-- alike
+abbrev pub SameResumption : Type 0
+SameResumption =
+    (p : Prog) (s : Subject) (log : Logged) → RunsAs p s
+    → ResumedLike (InSlots p s) (resumption (its_components s) (its_starts s) log) (resumption (tabled p) (start_states p) log)
+
+-- since a log that is resumed, that of nothing among them, the subject's run on one thread has the same history, fault, reports and words left, and the
+-- program's slots hold the states that it reaches
 abbrev pub SameTurns : Type 0
 SameTurns =
-    (p : Prog) (s : Subject) (words : List Words) (inputs : List Act) (turns : ℕ) → IsProgram p → RunsAs p s
-    → TurnsLike (InSlots p s) (turns_of s words inputs turns) (turns_of (of_table p) words inputs turns)
+    (p : Prog) (s : Subject) (log : Logged) (d : Standing (State s)) (b : Standing (List Val)) (words : List Words) (inputs : List Act) (turns : ℕ)
+    → IsProgram p → RunsAs p s → AreResumed p s log d b → TurnsLike (InSlots p s) (turns_since s d words inputs turns) (turns_since (of_table p) b words inputs turns)
 
 -- so of what such a run gives
 abbrev pub SameAlone : Type 0
 SameAlone =
-    (p : Prog) (s : Subject) (words : List Words) (inputs : List Act) (turns : ℕ) (o : Outcome) → IsProgram p → RunsAs p s → IsAlone p words inputs turns o
-    → IsAloneAs p s words inputs turns o
+    (p : Prog) (s : Subject) (log : Logged) (d : Standing (State s)) (b : Standing (List Val)) (words : List Words) (inputs : List Act) (turns : ℕ) (o : Outcome)
+    → IsProgram p → RunsAs p s → AreResumed p s log d b → IsAloneFrom p b words inputs turns o → IsAloneAs p s d words inputs turns o
 
 -- a legal history and its fault are the subject's, and the slots hold the states to which it leads it
 abbrev pub SubjectHistory : Type 0
@@ -118,9 +140,11 @@ ProgramHistory =
     (p : Prog) (s : Subject) (d : Standing (State s)) → RunsAs p s → IsSound (its_components s) (its_starts s) d
     → (b : Standing (List Val)) × IsSound (tabled p) (start_states p) b × BoardsLike (InSlots p s) d b
 
--- so of what any run gives
+-- so of what any run gives, whatever was done before it
 abbrev pub SameOutcome : Type 0
-SameOutcome = (p : Prog) (s : Subject) (inputs : List Act) (turns : ℕ) (o : Outcome) → RunsAs p s → IsOutcome p inputs turns o → IsOutcomeAs p s inputs turns o
+SameOutcome =
+    (p : Prog) (s : Subject) (before : List (ℕ × Act)) (inputs : List Act) (turns : ℕ) (o : Outcome) → RunsAs p s → IsOutcomeFrom p before inputs turns o
+    → IsOutcomeAs p s before inputs turns o
 
 -- the variables of each component have names of their own, as those of a well formed source have; a table's have none, but places
 abbrev pub AreApart : Subject → Type 0
@@ -131,25 +155,25 @@ AreApart (of_table p) = Unit {0}
 abbrev pub HostsApart : Type 0
 HostsApart = (s : SourceTree) (t : CompositionTree) (h : Hosted) → WellFormed s → IsHosted s t h → AreApart (of_hosts h)
 
--- the subject's workers are answered the same to every list of events
+-- since a log that is resumed, that of nothing among them, the subject's workers are answered the same to every list of events
 abbrev pub SubjectSchedule : Type 0
 SubjectSchedule =
-    (p : Prog) (s : Subject) (es : List Event) (xs : List Answer) (u : Schedule (List Val)) → AreApart s → RunsAs p s
-    → Plays (tabled p) es (start_schedule (start_states p)) xs u
-    → (t : Schedule (State s)) × Plays (its_components s) es (start_schedule (its_starts s)) xs t × SchedulesLike (InSlots p s) (its_components s) (tabled p) t u
+    (p : Prog) (s : Subject) (log : Logged) (d : Standing (State s)) (b : Standing (List Val)) (es : List Event) (xs : List Answer) (u : Schedule (List Val))
+    → AreApart s → RunsAs p s → AreResumed p s log d b → Plays (tabled p) es (schedule_from b) xs u
+    → (t : Schedule (State s)) × Plays (its_components s) es (schedule_from d) xs t × SchedulesLike (InSlots p s) (its_components s) (tabled p) t u
 
 -- and so are the program's, as the subject's are
 abbrev pub ProgramSchedule : Type 0
 ProgramSchedule =
-    (p : Prog) (s : Subject) (es : List Event) (xs : List Answer) (t : Schedule (State s)) → AreApart s → RunsAs p s
-    → Plays (its_components s) es (start_schedule (its_starts s)) xs t
-    → (u : Schedule (List Val)) × Plays (tabled p) es (start_schedule (start_states p)) xs u × SchedulesLike (InSlots p s) (its_components s) (tabled p) t u
+    (p : Prog) (s : Subject) (log : Logged) (d : Standing (State s)) (b : Standing (List Val)) (es : List Event) (xs : List Answer) (t : Schedule (State s))
+    → AreApart s → RunsAs p s → AreResumed p s log d b → Plays (its_components s) es (schedule_from d) xs t
+    → (u : Schedule (List Val)) × Plays (tabled p) es (schedule_from b) xs u × SchedulesLike (InSlots p s) (its_components s) (tabled p) t u
 
--- the subject's run on one thread is a play of the same events with the same answers as the program's
+-- since a log that is resumed, the subject's run on one thread is a play of the same events with the same answers as the program's
 abbrev pub SameEvents : Type 0
 SameEvents =
-    (p : Prog) (s : Subject) (words : List Words) (inputs : List Act) (turns : ℕ) → IsProgram p → RunsAs p s
-    → events_of s words inputs turns ≡ events_of (of_table p) words inputs turns
+    (p : Prog) (s : Subject) (log : Logged) (d : Standing (State s)) (b : Standing (List Val)) (words : List Words) (inputs : List Act) (turns : ℕ)
+    → IsProgram p → RunsAs p s → AreResumed p s log d b → events_since s d words inputs turns ≡ events_since (of_table p) b words inputs turns
 
 -- what planning by a copy of the program's slots answers a worker is what the subject's machine answers to its copy, and the plans are of the
 -- same action in related states

@@ -6,7 +6,7 @@ use Rattle.ioa_tree.specs.Components.{Component}
 use Rattle.ioa_tree.specs.Proposing.{Words, Tried, tries, idle}
 use Rattle.ioa_tree.specs.Steps.{Moved, next, not_an_action, not_enabled, fault, step}
 use Rattle.ioa_system.specs.Logs.{worker}
-use Rattle.ioa_run.specs.Boards.{Failure, Standing, begun, with_entry, with_failure}
+use Rattle.ioa_run.specs.Boards.{Failure, Standing, with_entry, with_failure}
 use Rattle.ioa_run.specs.Reports.{blank, with_committed, with_idle, with_stale, with_why}
 use Rattle.ioa_run.specs.declared.answer.Answer.{Answer}
 use Rattle.ioa_run.specs.declared.report.Report.{Report}
@@ -143,14 +143,6 @@ all_done t = record { board = t.board; reports = with_done t.ended t.reports; wo
 abbrev pub turns_from : {S : Type 0} → Standing S → List Words → ℕ → Turns S
 turns_from b words n = record { board = b; reports = replicate (n + 1) blank; words = words; ended = replicate (n + 1) false }
 
--- nothing is done yet
-abbrev pub first_turns : {S : Type 0} → List S → List Words → ℕ → Turns S
-first_turns ss words n = turns_from (begun ss) words n
-
 -- the run of so many rounds from this board, by these words for each component
 abbrev pub alone_from : {S : Type 0} → List (Component S) → List (List (Proposer S)) → List Act → ℕ → Standing S → List Words → Turns S
 alone_from ps entries inputs turns b words = all_done (rounds ps entries inputs turns (turns_from b words (length entries)))
-
--- the run of so many rounds from these states
-abbrev pub alone : {S : Type 0} → List (Component S) → List (List (Proposer S)) → List Act → ℕ → List S → List Words → Turns S
-alone ps entries inputs turns ss words = alone_from ps entries inputs turns (begun ss) words

@@ -1,15 +1,12 @@
 //! Runs on one thread, whose history the words and the script decide.
 
-ghost use Rattle.std.specs.Prelude.{◌≡◌, ◌+◌, ◌<◌, ◌≤◌, All, List, Ok, IfOk, IsErrOf, false, length, map, replicate};
+ghost use Rattle.std.specs.Prelude.{◌≡◌, ◌+◌, ◌<◌, ◌≤◌, All, IfOk, IsErrOf, false, length, map, replicate};
 ghost use Rattle.std.specs.Option.{option_map};
 ghost use Rattle.ioa_value.specs.Actions.{act_of};
-ghost use Rattle.ioa_compile.specs.Tables.{start_states, tabled};
+ghost use Rattle.ioa_compile.specs.Tables.{tabled};
 ghost use Rattle.ioa_system.specs.Logs.{log_end, logged};
-ghost use Rattle.ioa_run.specs.Alone.{IsAlone, IsAloneFrom, IsInput, IsOutcome, IsOutcomeFrom, NoMemory, Refuses, RefusesResumed, most_turns};
-ghost use Rattle.ioa_run.specs.Boards.{Standing};
+ghost use Rattle.ioa_run.specs.Alone.{IsAlone, IsAloneFrom, IsAloneSince, IsInput, IsOutcome, IsOutcomeFrom, NoMemory, Refuses, RefusesResumed, most_turns};
 ghost use Rattle.ioa_run.specs.ProgramRooms.{room_on};
-ghost use Rattle.ioa_run.specs.Resuming.{resumption};
-ghost use Rattle.ioa_value.specs.Plain.{Val};
 ghost use Rattle.ioa_run.specs.declared.run_err.RunErr.{RunErr};
 ghost use Rattle.ioa_run.specs.Outcomes.{HaveEnded};
 ghost use Rattle.ioa_run.specs.Rounds.{Dismisses, GoesRound, GoesRounds};
@@ -74,7 +71,7 @@ pub fn resume_alone<W: Words + Drop>(
     requires sources { length words.items ≡ length program.now.members }
     ensures outcome { IfOk result (λ o. IsOutcomeFrom program.now (logged log.now).entries (map act_of inputs.now) turns o) }
     ensures ended { IfOk result (λ o. HaveEnded turns (log_end o.end) o.reports.items) }
-    ensures alone { IfOk result (λ o. NoMemory o.reports.items → (b : Standing (List Val)) × (resumption (tabled program.now) (start_states program.now) (logged log.now) ≡ Ok b) × IsAloneFrom program.now b (map W.stream words.items) (map act_of inputs.now) turns o) }
+    ensures alone { IfOk result (λ o. NoMemory o.reports.items → IsAloneSince program.now (logged log.now) (map W.stream words.items) (map act_of inputs.now) turns o) }
     ensures refused { RefusesResumed program.now (map act_of inputs.now) turns (logged log.now) result }
     ensures threads { IsErrOf result RunErr.Threads → ⊥ }
 {

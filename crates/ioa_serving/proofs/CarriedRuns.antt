@@ -1,10 +1,12 @@
 -- Runs by an object that is compiled of a source are those of the source's composition.
-use Rattle.std.proofs.Common.{◌≡◌, ◌∙◌, ◌↔◌, ℕ, Bool, true, false, List, Option, refl, sym, ap, length, subst}
+use Rattle.std.proofs.Common.{◌≡◌, ◌∙◌, ◌↔◌, ℕ, Bool, true, false, List, Option, Ok, Err, refl, sym, ap, length, subst}
 use Rattle.std.specs.Io.KnownBytes.{Appends}
 use Rattle.std.proofs.lemmas.Bool.{false≢true}
 use Rattle.ioa_value.specs.Actions.{Act, Name}
+use Rattle.ioa_value.specs.Plain.{Val}
 use Rattle.ioa_tree.specs.Compositions.{Composed, components_of, starts_of}
-use Rattle.ioa_tree.specs.Hosts.{Hosted, hosts_of, host_starts}
+use Rattle.ioa_tree.specs.Hosts.{HostState, Hosted, hosts_of, host_starts}
+use Rattle.ioa_tree.specs.Meaning.{Env}
 use Rattle.ioa_tree.specs.Proposing.{Words}
 use Rattle.ioa_compose.specs.Simulates.{Simulates}
 use Rattle.ioa_compile.specs.Implements.{Implements}
@@ -19,19 +21,21 @@ use Rattle.ioa_log.proofs.Histories.{agrees_to_history}
 use Rattle.ioa_log.proofs.Hosting.{hosts_judged}
 use Rattle.ioa_log.proofs.Judged.{judged_means}
 use Rattle.ioa_run.specs.declared.report.Report.{Report}
-use Rattle.ioa_run.specs.Alone.{alone_in}
 use Rattle.ioa_run.specs.Boards.{Standing}
-use Rattle.ioa_run.specs.Hosts.{hosts_alone}
+use Rattle.ioa_run.specs.Histories.{since}
 use Rattle.ioa_run.specs.Outcomes.{ending, logged}
 use Rattle.ioa_run.specs.Reports.{AreTold}
+use Rattle.ioa_run.specs.Resuming.{resumption}
+use Rattle.ioa_run.specs.declared.run_err.RunErr.{RunErr}
 use Rattle.ioa_run.proofs.Hosting.{host_history, host_turns, program_history}
-use Rattle.ioa_serving.specs.Alone.{IsRoundRobin, IsRun, told_of, wants_of_run, written}
-use Rattle.ioa_serving.specs.Carried.{ComesTo, HistoriesAsSource, RunsAsSource, TakesTurnsAsSource}
+use Rattle.ioa_serving.specs.Alone.{AreTurnsSince, IsRoundRobin, IsRun, told_of, turns_since, wants_of_run, written}
+use Rattle.ioa_serving.specs.Carried.{ComesTo, HistoriesAsSource, RefusesAsSource, RunsAsSource, TakesTurnsAsSource}
 use Rattle.ioa_serving.specs.Headline.{IsFileOf}
 use Rattle.ioa_serving.specs.Running.{Runs}
-use Rattle.ioa_serving.specs.Subjects.{Subject, of_hosts, of_table, its_names}
+use Rattle.ioa_serving.specs.Subjects.{Subject, of_hosts, of_table, its_components, its_names, its_starts}
 use Rattle.ioa_serving.proofs.Carried.{begins, same_text}
 use Rattle.ioa_serving.proofs.Declared.{one_composition}
+use Rattle.ioa_serving.proofs.Going.{hosts_refuse, hosts_resumed, table_refuses, table_resumed}
 use Rattle.ioa_serving.proofs.Hosted.{count_same, told_same, wants_same}
 
 -- ---- the program's own table and the hosts
@@ -59,60 +63,76 @@ module _ (p : Prog) (h : Hosted) (c : Composed) (s : Simulates h c) (m : Impleme
   same_wants : (reports : List Report) → wants_of_run (of_table p) reports ≡ wants_of_run (of_hosts h) reports
   same_wants reports = sym (wants_same p (of_table p) refl reports) ∙ wants_same p (of_hosts h) (c, s, m) reports
 
-  hosts_run : (script : List Act) (turns : ℕ) (log : Logged) (reports : List Report) → IsRun (of_table p) script turns log reports → IsRun (of_hosts h) script turns log reports
-  hosts_run script turns log reports k = record {
+  hosts_run : (before : List (ℕ × Act)) (script : List Act) (turns : ℕ) (log : Logged) (reports : List Report)
+      → IsRun (of_table p) before script turns log reports → IsRun (of_hosts h) before script turns log reports
+  hosts_run before script turns log reports k = record {
     legal = (same_legal log).0 k.legal;
     history = k.history;
     failure = k.failure;
     entries = k.entries;
     ends = k.ends;
-    told = subst (λ n. AreTold n script turns k.history k.failure reports) same_count k.told;
+    goes_on = k.goes_on;
+    told = subst (λ n. AreTold n script turns (since before k.history) k.failure reports) same_count k.told;
     ended = k.ended;
   }
 
-  table_run : (script : List Act) (turns : ℕ) (log : Logged) (reports : List Report) → IsRun (of_hosts h) script turns log reports → IsRun (of_table p) script turns log reports
-  table_run script turns log reports k = record {
+  table_run : (before : List (ℕ × Act)) (script : List Act) (turns : ℕ) (log : Logged) (reports : List Report)
+      → IsRun (of_hosts h) before script turns log reports → IsRun (of_table p) before script turns log reports
+  table_run before script turns log reports k = record {
     legal = (same_legal log).1 k.legal;
     history = k.history;
     failure = k.failure;
     entries = k.entries;
     ends = k.ends;
-    told = subst (λ n. AreTold n script turns k.history k.failure reports) (sym same_count) k.told;
+    goes_on = k.goes_on;
+    told = subst (λ n. AreTold n script turns (since before k.history) k.failure reports) (sym same_count) k.told;
     ended = k.ended;
   }
 
-  comes_alike : (script : List Act) (turns : ℕ) (log : Logged) (reports : List Report) (as_log told : Bool) (before after telling : Option (List ℕ)) (wants : List ℕ)
-      → ComesTo (of_table p) script turns log reports as_log told before after telling wants ↔ ComesTo (of_hosts h) script turns log reports as_log told before after telling wants
-  comes_alike script turns log reports as_log told before after telling wants = (
+  comes_alike : (first : Logged) (script : List Act) (turns : ℕ) (log : Logged) (reports : List Report) (as_log told : Bool) (before after telling : Option (List ℕ)) (wants : List ℕ)
+      → ComesTo (of_table p) first script turns log reports as_log told before after telling wants ↔ ComesTo (of_hosts h) first script turns log reports as_log told before after telling wants
+  comes_alike first script turns log reports as_log told before after telling wants = (
     λ k. record {
-      run = hosts_run script turns log reports k.run;
+      resumed = hosts_resumed p h c s m first k.resumed.0 k.resumed.1;
+      run = hosts_run first.entries script turns log reports k.run;
       output = subst (Appends before after) (same_written as_log log) k.output;
       tells = k.tells ∙ same_told told reports;
       wanting = k.wanting ∙ same_wants reports;
     },
     λ k. record {
-      run = table_run script turns log reports k.run;
+      resumed = table_resumed p h c s m first k.resumed.0 k.resumed.1;
+      run = table_run first.entries script turns log reports k.run;
       output = subst (Appends before after) (sym (same_written as_log log)) k.output;
       tells = k.tells ∙ sym (same_told told reports);
       wanting = k.wanting ∙ sym (same_wants reports);
     },
   )
 
-  turns_alike : IsProgram p → (words : List Words) (script : List Act) (turns : ℕ) (log : Logged) (reports : List Report)
-      → IsRoundRobin (of_table p) words script turns log reports ↔ IsRoundRobin (of_hosts h) words script turns log reports
-  turns_alike program words script turns log reports =
-      let l = host_turns p h c words script turns program s m in
-      let entries = logged_same (hosts_alone h words script turns).board (alone_in p words script turns).board l.board.history l.board.failure in
-      let ends = ending_same (hosts_alone h words script turns).board (alone_in p words script turns).board l.board.history l.board.failure in (
-        λ k. record { entries = k.entries ∙ sym entries; ends = k.ends ∙ sym ends; told = k.told ∙ sym l.reports },
-        λ k. record { entries = k.entries ∙ entries; ends = k.ends ∙ ends; told = k.told ∙ l.reports },
-      )
+  turns_alike : IsProgram p → (first : Logged) (words : List Words) (script : List Act) (turns : ℕ) (log : Logged) (reports : List Report)
+      → AreTurnsSince (of_table p) first words script turns log reports ↔ AreTurnsSince (of_hosts h) first words script turns log reports
+  turns_alike program first words script turns log reports = (
+    λ k. let d = hosts_resumed p h c s m first k.0 k.1 in (d.0, d.1, (both d.0 k.0 d.1 k.1).0 k.2),
+    λ k. let b = table_resumed p h c s m first k.0 k.1 in (b.0, b.1, (both k.0 b.0 k.1 b.1).1 k.2),
+  )
     where
       logged_same : {S T : Type 0} (b : Standing S) (d : Standing T) → b.history ≡ d.history → b.failure ≡ d.failure → logged b.history b.failure ≡ logged d.history d.failure
       logged_same b d e f = ap (λ es. logged es b.failure) e ∙ ap (logged d.history) f
 
       ending_same : {S T : Type 0} (b : Standing S) (d : Standing T) → b.history ≡ d.history → b.failure ≡ d.failure → ending b.history b.failure ≡ ending d.history d.failure
       ending_same b d e f = ap (λ es. ending es b.failure) e ∙ ap (ending d.history) f
+
+      both : (d : Standing (HostState Env)) (b : Standing (List Val)) → resumption (hosts_of h) (host_starts h) first ≡ Ok d → resumption (tabled p) (start_states p) first ≡ Ok b
+          → IsRoundRobin (of_table p) b words script turns log reports ↔ IsRoundRobin (of_hosts h) d words script turns log reports
+      both d b hosts table =
+          let l = host_turns p h c first d b words script turns program s m (record { subject = hosts; program = table }) in
+          let entries = logged_same (turns_since (of_hosts h) d words script turns).board (turns_since (of_table p) b words script turns).board l.board.history l.board.failure in
+          let ends = ending_same (turns_since (of_hosts h) d words script turns).board (turns_since (of_table p) b words script turns).board l.board.history l.board.failure in (
+            λ k. record { entries = k.entries ∙ sym entries; ends = k.ends ∙ sym ends; told = k.told ∙ sym l.reports },
+            λ k. record { entries = k.entries ∙ entries; ends = k.ends ∙ ends; told = k.told ∙ l.reports },
+          )
+
+  refuses_alike : (log : Logged) (e : RunErr) → (resumption (tabled p) (start_states p) log ≡ Err e) ↔ (resumption (hosts_of h) (host_starts h) log ≡ Err e)
+  refuses_alike log e = (hosts_refuse p h c s m log e, table_refuses p h c s m log e)
 
 -- ---- the object and its source
 
@@ -129,17 +149,24 @@ module _ (text object : List ℕ) (name of : Option Name) (p : Prog) (h : Hosted
   to_object (of_table q, gives, holds) = absurd (false≢true (sym declares.0 ∙ begins text q gives.object))
 
 pub runs_as_source : RunsAsSource
-runs_as_source text object name of p script turns log reports as_log told before after telling wants (h, declares, (q, runs, is)) given =
+runs_as_source text object name of p first script turns log reports as_log told before after telling wants (h, declares, (q, runs, is)) given =
     let r : Runs p h = subst (λ x. Runs x h) (one_program object q p is given.object) runs in
-    let same = comes_alike p h r.0 r.1 r.2 script turns log reports as_log told before after telling wants in
-    let P : Subject → Type 0 = λ x. ComesTo x script turns log reports as_log told before after telling wants in
+    let same = comes_alike p h r.0 r.1 r.2 first script turns log reports as_log told before after telling wants in
+    let P : Subject → Type 0 = λ x. ComesTo x first script turns log reports as_log told before after telling wants in
     (to_source text object name of p h declares given P same, to_object text object name of p h declares given P same)
 
 pub turns_as_source : TakesTurnsAsSource
-turns_as_source text object name of p words script turns log reports (h, declares, (q, runs, is)) given =
+turns_as_source text object name of p first words script turns log reports (h, declares, (q, runs, is)) given =
     let r : Runs p h = subst (λ x. Runs x h) (one_program object q p is given.object) runs in
-    let same = turns_alike p h r.0 r.1 r.2 given.object.program words script turns log reports in
-    let P : Subject → Type 0 = λ x. IsRoundRobin x words script turns log reports in
+    let same = turns_alike p h r.0 r.1 r.2 given.object.program first words script turns log reports in
+    let P : Subject → Type 0 = λ x. AreTurnsSince x first words script turns log reports in
+    (to_source text object name of p h declares given P same, to_object text object name of p h declares given P same)
+
+pub refuses_as_source : RefusesAsSource
+refuses_as_source text object name of p log e (h, declares, (q, runs, is)) given =
+    let r : Runs p h = subst (λ x. Runs x h) (one_program object q p is given.object) runs in
+    let same = refuses_alike p h r.0 r.1 r.2 log e in
+    let P : Subject → Type 0 = λ x. resumption (its_components x) (its_starts x) log ≡ Err e in
     (to_source text object name of p h declares given P same, to_object text object name of p h declares given P same)
 
 pub histories_as_source : HistoriesAsSource

@@ -27,7 +27,7 @@ use Rattle.ioa_log.proofs.Telling.{agrees_to_tell}
 use Rattle.ioa_run.specs.declared.report.Report.{Report}
 use Rattle.ioa_run.specs.Alone.{IsFirstOther, IsInput}
 use Rattle.ioa_run.specs.Boards.{Failure, IsFailureFrom, Standing}
-use Rattle.ioa_run.specs.Histories.{acts_of}
+use Rattle.ioa_run.specs.Histories.{GoesOn, acts_of, since}
 use Rattle.ioa_run.proofs.Performing.{legal_workers}
 use Rattle.ioa_run.specs.Outcomes.{HaveEnded, IsLogOf, ending, logged}
 use Rattle.ioa_run.specs.Reports.{AreTold}
@@ -147,15 +147,16 @@ module _ (p : Prog) (x : Subject) (runs : RunsAs p x) where
       workers = subst (All (λ (e : ℕ × Act). e.0 ≡ worker (its_components x) e.1)) (sym l.entries) (λ k d lt. all_workers k d lt ∙ worker_same _);
     }
 
-    pub is_run : (script : List Act) (turns : ℕ) (rs : List Report) → AreTold (length p.members) script turns b.history b.failure rs → HaveEnded turns (log_end end) rs
-        → IsRun x script turns (log_of es end) rs
-    is_run script turns rs told ended = record {
+    pub is_run : (before : List (ℕ × Act)) (script : List Act) (turns : ℕ) (rs : List Report) → GoesOn before b.history
+        → AreTold (length p.members) script turns (since before b.history) b.failure rs → HaveEnded turns (log_end end) rs → IsRun x before script turns (log_of es end) rs
+    is_run before script turns rs goes told ended = record {
       legal = (agrees_to_history (its_components x) (its_starts x) (log_of es end)).0 ((agrees_to_tell (its_components x) (its_starts x) (log_of es end)).1 subject_tells);
       history = b.history;
       failure = b.failure;
       entries = l.entries;
       ends = l.ends;
-      told = subst (λ n. AreTold n script turns b.history b.failure rs) count_same told;
+      goes_on = goes;
+      told = subst (λ n. AreTold n script turns (since before b.history) b.failure rs) count_same told;
       ended = ended;
     }
 

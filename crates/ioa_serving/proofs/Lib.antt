@@ -4,6 +4,7 @@ pub mod Composed
 pub mod Declared
 pub mod Delivering
 pub mod Given
+pub mod Going
 pub mod Hosted
 pub mod Kept
 pub mod ListedLines
@@ -15,6 +16,7 @@ pub mod Pictured
 pub mod Pieces
 pub mod Refused
 pub mod RoundRobin
+pub mod RunLogs
 pub mod RunServed
 pub mod Streams
 pub mod Subjects

@@ -22,6 +22,7 @@ unmade f file out name output text (Failure.BadInput i) held k same keeps = absu
 unmade f file out name output text Failure.Threads held k same keeps = absurd k
 unmade f file out name output text (Failure.BadLog i) held k same keeps = absurd k
 unmade f file out name output text Failure.EndedByFault held k same keeps = absurd k
+unmade f file out name output text (Failure.RunLog e) held k same keeps = absurd k
 unmade f file out name output text Failure.Io held k same keeps = absurd k
 unmade f file out name output text Failure.OutOfMemory held k same keeps = (same, keeps)
 

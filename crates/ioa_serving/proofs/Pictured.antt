@@ -48,5 +48,6 @@ ungraphed text name failed before after (Failure.BadInput i) h k = absurd h
 ungraphed text name failed before after Failure.Threads h k = absurd h
 ungraphed text name failed before after (Failure.BadLog i) h k = absurd h
 ungraphed text name failed before after Failure.EndedByFault h k = absurd h
+ungraphed text name failed before after (Failure.RunLog e) h k = absurd h
 ungraphed text name failed before after Failure.Io h k = absurd h
 ungraphed text name failed before after Failure.OutOfMemory h k = k

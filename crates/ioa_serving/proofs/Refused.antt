@@ -192,6 +192,7 @@ list_ungiven text name bytes failed (Failure.BadInput i) k = absurd k
 list_ungiven text name bytes failed Failure.Threads k = absurd k
 list_ungiven text name bytes failed (Failure.BadLog i) k = absurd k
 list_ungiven text name bytes failed Failure.EndedByFault k = absurd k
+list_ungiven text name bytes failed (Failure.RunLog e) k = absurd k
 list_ungiven text name bytes failed Failure.Io k = absurd k
 list_ungiven text name bytes failed Failure.OutOfMemory k = absurd k
 
@@ -207,6 +208,7 @@ log_ungiven text name bytes failed (Failure.BadInput i) k = absurd k
 log_ungiven text name bytes failed Failure.Threads k = absurd k
 log_ungiven text name bytes failed (Failure.BadLog i) k = absurd k
 log_ungiven text name bytes failed Failure.EndedByFault k = absurd k
+log_ungiven text name bytes failed (Failure.RunLog e) k = absurd k
 log_ungiven text name bytes failed Failure.Io k = absurd k
 log_ungiven text name bytes failed Failure.OutOfMemory k = absurd k
 
@@ -261,5 +263,6 @@ monitor_ungiven text name bytes failed (Failure.BadInput i) k = absurd k
 monitor_ungiven text name bytes failed Failure.Threads k = absurd k
 monitor_ungiven text name bytes failed (Failure.BadLog i) k = absurd k
 monitor_ungiven text name bytes failed Failure.EndedByFault k = absurd k
+monitor_ungiven text name bytes failed (Failure.RunLog e) k = absurd k
 monitor_ungiven text name bytes failed Failure.Io k = absurd k
 monitor_ungiven text name bytes failed Failure.OutOfMemory k = absurd k

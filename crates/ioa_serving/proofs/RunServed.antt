@@ -8,11 +8,12 @@ use Rattle.ioa_value.specs.Actions.{Act, Name}
 use Rattle.ioa_compile.specs.Programs.{Prog}
 use Rattle.ioa_compile.specs.Tables.{tabled}
 use Rattle.ioa_system.specs.declared.log.LogEntry.{LogEntry}
-use Rattle.ioa_system.specs.Logs.{log_end, logged}
+use Rattle.ioa_system.specs.Logs.{Logged, log_end, logged}
 use Rattle.ioa_log.specs.declared.failure.LogErr.{LogErr}
 use Rattle.ioa_run.specs.declared.outcome.Outcome.{Outcome}
 use Rattle.ioa_run.specs.declared.report.Report.{Report}
-use Rattle.ioa_run.specs.Alone.{IsInput, IsOutcome, most_turns}
+use Rattle.ioa_run.specs.Alone.{HasResumed, IsInput, IsOutcomeFrom, most_turns}
+use Rattle.ioa_run.specs.Histories.{since}
 use Rattle.ioa_run.specs.Outcomes.{HaveEnded, IsLogOf}
 use Rattle.ioa_run.specs.Reports.{AreTold}
 use Rattle.ioa_serving.specs.declared.failure.Failure.{Failure}
@@ -27,29 +28,34 @@ use Rattle.ioa_serving.specs.Serving.{reports_of, wants_of}
 use Rattle.ioa_serving.specs.Statuses.{ending_status}
 use Rattle.ioa_serving.specs.Subjects.{Subject}
 use Rattle.ioa_serving.specs.Traces.{performed, ran_text, table_reports}
+use Rattle.ioa_serving.proofs.Going.{resumed_as}
 use Rattle.ioa_serving.proofs.Hosted.{inputs_same, is_run, log_of, performed_within, text_same, told_same, wants_same}
 
 -- the program, its log and its reports, of what the run gave
-pub has_run : (holds : Name → List ℕ → Type 0) (s : Settings) (r : Ran) (p : Prog) (o : Outcome) (x : Subject) (script : List Act) → r.program ≡ p → r.log.entries ≡ o.log
-    → r.log.end ≡ o.end → r.reports ≡ o.reports → IsReady holds s x script → RunsAs p x → (s.turns ≤ most_turns) × All (IsInput (tabled p)) script
-    → IsOutcome p script s.turns o → HaveEnded s.turns (log_end o.end) o.reports.items → IsExact holds s x script (log_of o.log.items o.end) o.reports.items → HasRun holds s r
-has_run holds s r p o x script of entries end reports ready runs fine (b, log, told) ended exact = record {
+pub has_run : (holds : Name → List ℕ → Type 0) (s : Settings) (r : Ran) (p : Prog) (o : Outcome) (x : Subject) (script : List Act) (before : Logged) → r.program ≡ p
+    → r.log.entries ≡ o.log → r.log.end ≡ o.end → r.reports ≡ o.reports → IsReady holds s x script before → RunsAs p x
+    → (s.turns ≤ most_turns) × All (IsInput (tabled p)) script × HasResumed p before → IsOutcomeFrom p before.entries script s.turns o
+    → HaveEnded s.turns (log_end o.end) o.reports.items → IsExact holds s x before script (log_of o.log.items o.end) o.reports.items → HasRun holds s r
+has_run holds s r p o x script before of entries end reports ready runs fine (b, log, goes, told) ended exact = record {
   subject = x;
   script = script;
+  before = before;
   ready = ready;
   runs = subst (λ q. RunsAs q x) (sym of) runs;
   turns = fine.0;
   inputs = subst (λ (q : Prog). All (IsInput (tabled q)) script) (sym of) fine.1;
+  resumed = subst (λ (q : Prog). HasResumed q before) (sym of) fine.2;
   board = b;
   states = o.states.items;
   log = subst (λ q. IsLogOf q b r.log.entries.items r.log.end o.states.items) (sym of)
       (subst (λ (es : Vec LogEntry Global). IsLogOf p b es.items r.log.end o.states.items) (sym entries) (subst (λ e. IsLogOf p b o.log.items e o.states.items) (sym end) log));
-  told = subst (λ (q : Prog). AreTold (length q.members) script s.turns b.history b.failure r.reports.items) (sym of)
-      (subst (λ (rs : Vec Report Global). AreTold (length p.members) script s.turns b.history b.failure rs.items) (sym reports) told);
+  goes_on = goes;
+  told = subst (λ (q : Prog). AreTold (length q.members) script s.turns (since before.entries b.history) b.failure r.reports.items) (sym of)
+      (subst (λ (rs : Vec Report Global). AreTold (length p.members) script s.turns (since before.entries b.history) b.failure rs.items) (sym reports) told);
   ended = subst (λ e. HaveEnded s.turns (log_end e) r.reports.items) (sym end) (subst (λ (rs : Vec Report Global). HaveEnded s.turns (log_end o.end) rs.items) (sym reports) ended);
-  exact = subst (λ (es : Vec LogEntry Global). IsExact holds s x script (log_of es.items r.log.end) r.reports.items) (sym entries)
-      (subst (λ e. IsExact holds s x script (log_of o.log.items e) r.reports.items) (sym end)
-      (subst (λ (rs : Vec Report Global). IsExact holds s x script (log_of o.log.items o.end) rs.items) (sym reports) exact));
+  exact = subst (λ (es : Vec LogEntry Global). IsExact holds s x before script (log_of es.items r.log.end) r.reports.items) (sym entries)
+      (subst (λ e. IsExact holds s x before script (log_of o.log.items e) r.reports.items) (sym end)
+      (subst (λ (rs : Vec Report Global). IsExact holds s x before script (log_of o.log.items o.end) rs.items) (sym reports) exact));
 }
 
 module _ (holds : Name → List ℕ → Type 0) (s : Settings) (r : Ran) (k : HasRun holds s r) where
@@ -59,10 +65,12 @@ module _ (holds : Name → List ℕ → Type 0) (s : Settings) (r : Ran) (k : Ha
   came : CameOf holds s k.subject (logged r.log) r.reports.items
   came = record {
     script = k.script;
+    before = k.before;
     ready = k.ready;
     turns = k.turns;
     inputs = inputs_same r.program k.subject k.runs k.script k.inputs;
-    run = is_run r.program k.subject k.runs k.board r.log.entries.items r.log.end k.states k.log k.script s.turns r.reports.items k.told k.ended;
+    resumed = resumed_as r.program k.subject k.runs k.before k.resumed.0 k.resumed.1;
+    run = is_run r.program k.subject k.runs k.board r.log.entries.items r.log.end k.states k.log k.before.entries k.script s.turns r.reports.items k.goes_on k.told k.ended;
     exact = k.exact;
   }
 

@@ -8,18 +8,21 @@ use Rattle.ioa_value.specs.Table.{Table}
 use Rattle.ioa_compile.specs.Programs.{Prog}
 use Rattle.ioa_log.specs.declared.failure.LogErr.{LogErr}
 use Rattle.ioa_run.specs.declared.run_err.RunErr.{RunErr}
-use Rattle.ioa_run.specs.Alone.{Refuses}
+use Rattle.ioa_system.specs.Logs.{Logged}
+use Rattle.ioa_run.specs.Alone.{RefusesResumed}
 use Rattle.ioa_serving.specs.declared.failure.Failure.{Failure}
 use Rattle.ioa_request.specs.declared.settings.Settings.{Settings}
 use Rattle.ioa_request.specs.declared.settings.WordsFrom.{WordsFrom}
 use Rattle.ioa_serving.specs.declared.store.StoreErr.{StoreErr}
 use Rattle.ioa_serving.specs.declared.word_sources.WordSources.{WordSources}
-use Rattle.ioa_serving.specs.Alone.{AreSources, HasBadLine, HasBadWords, HasWords, IsReady, IsScript, IsScriptless, IsUnrun, IsWordless, MayGive, count_of}
+use Rattle.ioa_serving.specs.Alone.{AreSources, HasBadLine, HasBadWords, HasScript, HasWords, IsReady, IsScript, IsScriptless, IsUnrun, IsWordless, MayGive, count_of}
 use Rattle.ioa_serving.specs.Failing.{IsRefusedGiven}
+use Rattle.ioa_serving.specs.Resuming.{HasBadText, IsFrom, IsLogless}
 use Rattle.ioa_serving.specs.Running.{RunsAs}
 use Rattle.ioa_serving.specs.Serving.{failure_of, run_failure}
 use Rattle.ioa_serving.specs.Subjects.{Subject, its_names, its_types}
 use Rattle.ioa_serving.specs.WordLists.{AreWords, listed}
+use Rattle.ioa_serving.proofs.Going.{refused_as, resumed_as}
 use Rattle.ioa_serving.proofs.Hosted.{inputs_same, other_same}
 
 -- the source is not read
@@ -56,13 +59,17 @@ module _ (holds : Name → List ℕ → Type 0) (lacks : Name → Type 0) where
   wordless s x m Failure.Threads d same k = absurd k
   wordless s x m (Failure.BadLog i) d same k = absurd k
   wordless s x m Failure.EndedByFault d same k = absurd k
+  wordless s x m (Failure.RunLog e) d same k = absurd k
+
+  pub has_log : (types own : Table) (file : Option Name) (log : Logged) → own ≡ types → IsFrom holds own file log → IsFrom holds types file log
+  has_log types own file log e k = subst (λ ts. IsFrom holds ts file log) e k
 
   -- there is no script
   pub scriptless : (s : Settings) (x : Subject) (own : Table) (e : Failure) → MayGive holds s x → HasWords holds s.words (length (its_names x)) → own ≡ its_types x
       → IsScriptless holds lacks own (option_copied s.inputs) e → IsUnrun holds lacks s e
   scriptless s x own (Failure.List (LogErr.BadEntry n)) d w same k =
       (x, d, w, subst (λ ts. HasBadLine holds ts (option_copied s.inputs) n) same k)
-  scriptless s x own Failure.Io d w same k = inr (x, d, inr (w, k))
+  scriptless s x own Failure.Io d w same k = inr (x, d, inr (w, inl k))
   scriptless s x own Failure.OutOfMemory d w same k = tt
   scriptless s x own (Failure.List (LogErr.NotJson n)) d w same k = absurd k
   scriptless s x own (Failure.List (LogErr.WrongOwner n)) d w same k = absurd k
@@ -81,6 +88,25 @@ module _ (holds : Name → List ℕ → Type 0) (lacks : Name → Type 0) where
   scriptless s x own Failure.Threads d w same k = absurd k
   scriptless s x own (Failure.BadLog i) d w same k = absurd k
   scriptless s x own Failure.EndedByFault d w same k = absurd k
+  scriptless s x own (Failure.RunLog e) d w same k = absurd k
+
+  -- there is no log
+  pub logless : (s : Settings) (x : Subject) (own : Table) (e : Failure) → MayGive holds s x → HasWords holds s.words (length (its_names x)) → own ≡ its_types x
+      → HasScript holds (its_types x) (option_copied s.inputs) → IsLogless holds lacks own (option_copied s.resume) e → IsUnrun holds lacks s e
+  logless s x own (Failure.RunLog e) d w same l k = (x, d, w, l, subst (λ ts. HasBadText holds ts (option_copied s.resume) e) same k)
+  logless s x own Failure.Io d w same l k = inr (x, d, inr (w, inr (l, k)))
+  logless s x own Failure.OutOfMemory d w same l k = tt
+  logless s x own (Failure.List e) d w same l k = absurd k
+  logless s x own (Failure.Refused r) d w same l k = absurd k
+  logless s x own (Failure.Object e) d w same l k = absurd k
+  logless s x own Failure.SourceWanted d w same l k = absurd k
+  logless s x own (Failure.BadWords n) d w same l k = absurd k
+  logless s x own Failure.SpecHasInternal d w same l k = absurd k
+  logless s x own Failure.TooManyTurns d w same l k = absurd k
+  logless s x own (Failure.BadInput i) d w same l k = absurd k
+  logless s x own Failure.Threads d w same l k = absurd k
+  logless s x own (Failure.BadLog i) d w same l k = absurd k
+  logless s x own Failure.EndedByFault d w same l k = absurd k
 
 pub count_is : (holds : Name → List ℕ → Type 0) (from : WordsFrom) (workers : ℕ) (sources : WordSources) → AreSources holds from workers sources → count_of sources ≡ workers
 count_is holds (WordsFrom.Key key) workers (WordSources.Seeded v) k = k.count
@@ -89,14 +115,18 @@ count_is holds (WordsFrom.File file) workers (WordSources.Seeded v) k = absurd k
 count_is holds (WordsFrom.File file) workers (WordSources.Listed v) k = sym (length-map v.items listed) ∙ k.2.count
 
 -- the run is refused
-pub unrun_by : (p : Prog) (x : Subject) (holds : Name → List ℕ → Type 0) (lacks : Name → Type 0) (s : Settings) (script : List Act) (e : RunErr) {T : Type 0} → RunsAs p x
-    → IsReady holds s x script → Refuses p script s.turns (Err e) → (IsErrOf {T = T} (Err e) RunErr.Threads → s.alone ≡ false) → IsUnrun holds lacks s (run_failure e)
-unrun_by p x holds lacks s script RunErr.TooManyTurns runs ready k own = (x, script, ready, k)
-unrun_by p x holds lacks s script (RunErr.BadInput i) runs ready k own = (x, script, ready, k.0, other_same p x runs script i k.1)
-unrun_by p x holds lacks s script RunErr.Threads runs ready k own = (x, script, ready, k.0, inputs_same p x runs script k.1, own refl)
-unrun_by p x holds lacks s script (RunErr.BadLog i) runs ready k own = absurd k
-unrun_by p x holds lacks s script RunErr.EndedByFault runs ready k own = absurd k
-unrun_by p x holds lacks s script RunErr.OutOfMemory runs ready k own = tt
+pub unrun_by : (p : Prog) (x : Subject) (holds : Name → List ℕ → Type 0) (lacks : Name → Type 0) (s : Settings) (script : List Act) (before : Logged) (e : RunErr) {T : Type 0}
+    → RunsAs p x → IsReady holds s x script before → RefusesResumed p script s.turns before (Err e) → (IsErrOf {T = T} (Err e) RunErr.Threads → s.alone ≡ false)
+    → IsUnrun holds lacks s (run_failure e)
+unrun_by p x holds lacks s script before RunErr.TooManyTurns runs ready k own = (x, script, before, ready, k)
+unrun_by p x holds lacks s script before (RunErr.BadInput i) runs ready k own = (x, script, before, ready, k.0, other_same p x runs script i k.1)
+unrun_by p x holds lacks s script before RunErr.Threads runs ready k own =
+    (x, script, before, (ready, k.0, inputs_same p x runs script k.1), resumed_as p x runs before k.2.0 k.2.1, own refl)
+unrun_by p x holds lacks s script before (RunErr.BadLog i) runs ready k own =
+    (x, (script, before, (ready, k.0, inputs_same p x runs script k.1), refused_as p x runs before (RunErr.BadLog i) k.2))
+unrun_by p x holds lacks s script before RunErr.EndedByFault runs ready k own =
+    (x, (script, before, (ready, k.0, inputs_same p x runs script k.1), refused_as p x runs before RunErr.EndedByFault k.2))
+unrun_by p x holds lacks s script before RunErr.OutOfMemory runs ready k own = tt
 
 -- the file gives nothing
 pub ungiven : (holds : Name → List ℕ → Type 0) (lacks : Name → Type 0) (s : Settings) (text : List ℕ) (e : Failure) → holds s.file.now text
@@ -112,5 +142,6 @@ ungiven holds lacks s text (Failure.BadInput i) held k = absurd k
 ungiven holds lacks s text Failure.Threads held k = absurd k
 ungiven holds lacks s text (Failure.BadLog i) held k = absurd k
 ungiven holds lacks s text Failure.EndedByFault held k = absurd k
+ungiven holds lacks s text (Failure.RunLog e) held k = absurd k
 ungiven holds lacks s text Failure.Io held k = absurd k
 ungiven holds lacks s text Failure.OutOfMemory held k = absurd k

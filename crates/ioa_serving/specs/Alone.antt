@@ -1,5 +1,5 @@
 -- What a run of a composition writes and tells, whose workers take turns on one thread or have a thread each, and why there is none.
-use Rattle.std.specs.Prelude.{◌≡◌, ◌<◌, ◌≤◌, ◌⊎◌, ℕ, Bool, true, false, List, [], Option, Some, None, All, length, map, slice_get, take}
+use Rattle.std.specs.Prelude.{◌≡◌, ◌<◌, ◌≤◌, ◌⊎◌, ℕ, Bool, true, false, List, [], Option, Some, None, Ok, Err, All, length, map, slice_get, take}
 use Rattle.std.specs.Io.KnownBytes.{Appends, Keeps}
 use Rattle.std.specs.Option.{option_copied}
 use Rattle.ioa_value.specs.Actions.{Act, Name}
@@ -14,12 +14,15 @@ use Rattle.ioa_log.specs.LogTexts.{log_text}
 use Rattle.ioa_run.specs.declared.report.Report.{Report}
 use Rattle.ioa_run.specs.Alone.{IsFirstOther, IsInput, NoMemory, most_turns}
 use Rattle.ioa_run.specs.Boards as boards
+use Rattle.ioa_run.specs.Histories.{GoesOn, since}
 use Rattle.ioa_run.specs.Hosts.{host_proposers}
 use Rattle.ioa_run.specs.Outcomes.{HaveEnded, ending, logged}
 use Rattle.ioa_run.specs.Proposers.{proposers}
 use Rattle.ioa_run.specs.Reports.{AreTold}
+use Rattle.ioa_run.specs.Resuming.{resumption}
 use Rattle.ioa_run.specs.Seeds.{words_from}
-use Rattle.ioa_run.specs.Turns.{Proposer, Turns, alone}
+use Rattle.ioa_run.specs.Turns.{Proposer, Turns, alone_from}
+use Rattle.ioa_run.specs.declared.run_err.RunErr.{RunErr}
 use Rattle.ioa_serving.specs.declared.failure.Failure.{Failure}
 use Rattle.ioa_request.specs.declared.settings.Settings.{Settings}
 use Rattle.ioa_request.specs.declared.settings.WordsFrom.{WordsFrom}
@@ -29,6 +32,7 @@ use Rattle.ioa_serving.specs.Failing.{IsNoObject, IsRefusedFile}
 use Rattle.ioa_serving.specs.Headline.{IsFileOf}
 use Rattle.ioa_serving.specs.Streams.{AreStreams, key_words}
 use Rattle.ioa_serving.specs.Logs.{log_run_text}
+use Rattle.ioa_serving.specs.Resuming.{HasBadText, IsFrom, IsResumable, LacksFile}
 use Rattle.ioa_serving.specs.RunReports.{reports_text, wants_text}
 use Rattle.ioa_serving.specs.Statuses.{ending_status}
 use Rattle.ioa_serving.specs.Subjects.{State, Subject, of_hosts, of_table, its_components, its_names, its_starts, its_types}
@@ -36,16 +40,17 @@ use Rattle.ioa_serving.specs.WordLists.{AreWords, IsBadWords, line_words, listed
 
 -- ---- what a run is
 
--- The log tells a legal history of the subject, and the fault by which it ends, if it does. Of this the reports tell: each counts what its
--- worker performed, and the environment performed the script's first actions, in order. All turns of each worker are counted, or fewer,
--- where its action faulted or another's did, which then ends the log, or memory was refused to it, which is told.
-pub record IsRun (s : Subject) (script : List Act) (turns : ℕ) (log : Logged) (reports : List Report) : Type 0 where
+-- The log tells a legal history of the subject, which begins with what was done before, and the fault by which it ends, if it does. Of what is new the
+-- reports tell: each counts what its worker performed, and the environment performed the script's first actions, in order. All turns of each worker are
+-- counted, or fewer, where its action faulted or another's did, which then ends the log, or memory was refused to it, which is told.
+pub record IsRun (s : Subject) (before : List (ℕ × Act)) (script : List Act) (turns : ℕ) (log : Logged) (reports : List Report) : Type 0 where
   pub legal : TellsHistory (its_components s) (its_starts s) log
   pub history : List (ℕ × Act)
   pub failure : Option boards.Failure
   pub entries : log.entries ≡ logged history failure
   pub ends : log.ending ≡ ending history failure
-  pub told : AreTold (length (its_names s)) script turns history failure reports
+  pub goes_on : GoesOn before history
+  pub told : AreTold (length (its_names s)) script turns (since before history) failure reports
   pub ended : HaveEnded turns log.ending reports
 
 -- what the entries that each component performs propose, in their order
@@ -53,16 +58,21 @@ abbrev pub its_proposers : (s : Subject) → List (List (Proposer (State s)))
 its_proposers (of_hosts h) = host_proposers h
 its_proposers (of_table p) = proposers p
 
--- turns of all workers on one thread, so many rounds of them: in each round the components in order, each by its own words, and then the
+-- turns of all workers on one thread since this board, so many rounds of them: in each round the components in order, each by its own words, and then the
 -- environment
-abbrev pub turns_of : (s : Subject) → List Words → List Act → ℕ → Turns (State s)
-turns_of s words script turns = alone (its_components s) (its_proposers s) script turns (its_starts s) words
+abbrev pub turns_since : (s : Subject) → boards.Standing (State s) → List Words → List Act → ℕ → Turns (State s)
+turns_since s b words script turns = alone_from (its_components s) (its_proposers s) script turns b words
 
 -- the log and the reports are those of these turns
-pub record IsRoundRobin (s : Subject) (words : List Words) (script : List Act) (turns : ℕ) (log : Logged) (reports : List Report) : Type 0 where
-  pub entries : log.entries ≡ logged (turns_of s words script turns).board.history (turns_of s words script turns).board.failure
-  pub ends : log.ending ≡ ending (turns_of s words script turns).board.history (turns_of s words script turns).board.failure
-  pub told : reports ≡ (turns_of s words script turns).reports
+pub record IsRoundRobin (s : Subject) (b : boards.Standing (State s)) (words : List Words) (script : List Act) (turns : ℕ) (log : Logged) (reports : List Report) : Type 0 where
+  pub entries : log.entries ≡ logged (turns_since s b words script turns).board.history (turns_since s b words script turns).board.failure
+  pub ends : log.ending ≡ ending (turns_since s b words script turns).board.history (turns_since s b words script turns).board.failure
+  pub told : reports ≡ (turns_since s b words script turns).reports
+
+-- so they are since the log from which the subject goes on, by these words
+abbrev pub AreTurnsSince : Subject → Logged → List Words → List Act → ℕ → Logged → List Report → Type 0
+AreTurnsSince s before words script turns log reports =
+    (b : boards.Standing (State s)) × (resumption (its_components s) (its_starts s) before ≡ Ok b) × IsRoundRobin s b words script turns log reports
 
 -- what is written of it: the log, or the external trace and how the run ends
 abbrev pub written : Subject → Bool → Logged → List ℕ
@@ -106,27 +116,30 @@ abbrev pub IsScript : (Name → List ℕ → Type 0) → Table → Option Name �
 IsScript holds types None script = script ≡ []
 IsScript holds types (Some file) script = (text : List ℕ) × holds file text × ReadsList types text script
 
--- all that is read for a run of this subject with this script
-pub record IsReady (holds : Name → List ℕ → Type 0) (s : Settings) (x : Subject) (script : List Act) : Type 0 where
+-- all that is read for a run of this subject with this script, which goes on from this log
+pub record IsReady (holds : Name → List ℕ → Type 0) (s : Settings) (x : Subject) (script : List Act) (before : Logged) : Type 0 where
   pub gives : MayGive holds s x
   pub words : HasWords holds s.words (length (its_names x))
   pub inputs : IsScript holds (its_types x) (option_copied s.inputs) script
+  pub log : IsFrom holds (its_types x) (option_copied s.resume) before
 
 -- ---- what comes of it
 
 -- a run that is asked for on one thread is that of the turns that are defined, by words that are given, where memory is refused to no worker
-abbrev pub IsExact : (Name → List ℕ → Type 0) → Settings → Subject → List Act → Logged → List Report → Type 0
-IsExact holds s x script log reports =
-    s.alone ≡ true → NoMemory reports → (words : List Words) × AreGiven holds s.words (length (its_names x)) words × IsRoundRobin x words script s.turns log reports
+abbrev pub IsExact : (Name → List ℕ → Type 0) → Settings → Subject → Logged → List Act → Logged → List Report → Type 0
+IsExact holds s x before script log reports =
+    s.alone ≡ true → NoMemory reports → (words : List Words) × AreGiven holds s.words (length (its_names x)) words × AreTurnsSince x before words script s.turns log reports
 
--- all is read; the turns are not too many, and the script is of inputs; and this came of the run
+-- all is read; the turns are not too many, the script is of inputs, and the subject goes on from the log; and this came of the run
 pub record CameOf (holds : Name → List ℕ → Type 0) (s : Settings) (x : Subject) (log : Logged) (reports : List Report) : Type 0 where
   pub script : List Act
-  pub ready : IsReady holds s x script
+  pub before : Logged
+  pub ready : IsReady holds s x script before
   pub turns : s.turns ≤ most_turns
   pub inputs : All (IsInput (its_components x)) script
-  pub run : IsRun x script s.turns log reports
-  pub exact : IsExact holds s x script log reports
+  pub resumed : IsResumable x before
+  pub run : IsRun x before.entries script s.turns log reports
+  pub exact : IsExact holds s x before script log reports
 
 -- a run's text is written, and its reports, where they are asked for, and the workers to which memory was refused are left to be told
 pub record IsRunServed (holds : Name → List ℕ → Type 0) (s : Settings) (before after : Option (List ℕ)) (telling : Option (List ℕ)) (wants : List ℕ) (done : Status) : Type 0 where
@@ -156,14 +169,10 @@ pub record IsRunCut (holds : Name → List ℕ → Type 0) (s : Settings) (faile
 
 -- ---- why there is none
 
--- a load of the file of words, or of the script, may fail
+-- a load of the file of words may fail
 abbrev pub LacksWords : (Name → Type 0) → WordsFrom → Type 0
 LacksWords lacks (WordsFrom.Key key) = ⊥
 LacksWords lacks (WordsFrom.File file) = lacks file.now
-
-abbrev pub LacksScript : (Name → Type 0) → Option Name → Type 0
-LacksScript lacks None = ⊥
-LacksScript lacks (Some file) = lacks file
 
 -- the words are from there: of the key, each worker's stream; of the file, each worker's line, from its first word
 abbrev pub AreSources : (Name → List ℕ → Type 0) → WordsFrom → ℕ → WordSources → Type 0
@@ -207,10 +216,11 @@ IsWordless holds lacks from workers (Failure.BadInput i) = ⊥
 IsWordless holds lacks from workers Failure.Threads = ⊥
 IsWordless holds lacks from workers (Failure.BadLog i) = ⊥
 IsWordless holds lacks from workers Failure.EndedByFault = ⊥
+IsWordless holds lacks from workers (Failure.RunLog e) = ⊥
 
 abbrev pub IsScriptless : (Name → List ℕ → Type 0) → (Name → Type 0) → Table → Option Name → Failure → Type 0
 IsScriptless holds lacks types file (Failure.List (LogErr.BadEntry n)) = HasBadLine holds types file n
-IsScriptless holds lacks types file Failure.Io = LacksScript lacks file
+IsScriptless holds lacks types file Failure.Io = LacksFile lacks file
 IsScriptless holds lacks types file Failure.OutOfMemory = Unit {0}
 IsScriptless holds lacks types file (Failure.List (LogErr.NotJson n)) = ⊥
 IsScriptless holds lacks types file (Failure.List (LogErr.WrongOwner n)) = ⊥
@@ -229,17 +239,32 @@ IsScriptless holds lacks types file (Failure.BadInput i) = ⊥
 IsScriptless holds lacks types file Failure.Threads = ⊥
 IsScriptless holds lacks types file (Failure.BadLog i) = ⊥
 IsScriptless holds lacks types file Failure.EndedByFault = ⊥
+IsScriptless holds lacks types file (Failure.RunLog e) = ⊥
 
--- a file is not read: the first one; or where that gives a subject, the words'; or where all have words, the script's
+-- the script is read, if there is one
+abbrev pub HasScript : (Name → List ℕ → Type 0) → Table → Option Name → Type 0
+HasScript holds types file = (script : List Act) × IsScript holds types file script
+
+-- a file is not read: the first one; or where that gives a subject, the words'; or where all have words, the script's; or where that is read, the log's
 abbrev pub IsUnloaded : (Name → List ℕ → Type 0) → (Name → Type 0) → Settings → Type 0
 IsUnloaded holds lacks s =
     lacks s.file.now
     ⊎ ((x : Subject) × MayGive holds s x
-    × (LacksWords lacks s.words ⊎ (HasWords holds s.words (length (its_names x)) × LacksScript lacks (option_copied s.inputs))))
+    × (LacksWords lacks s.words
+    ⊎ (HasWords holds s.words (length (its_names x))
+    × (LacksFile lacks (option_copied s.inputs) ⊎ (HasScript holds (its_types x) (option_copied s.inputs) × LacksFile lacks (option_copied s.resume))))))
+
+-- all is read, the turns are not too many, and the script is of inputs
+abbrev pub IsSetOut : (Name → List ℕ → Type 0) → Settings → Subject → List Act → Logged → Type 0
+IsSetOut holds s x script before = IsReady holds s x script before × (s.turns ≤ most_turns) × All (IsInput (its_components x)) script
+
+-- but the subject does not go on from the log, for this reason
+abbrev pub IsUnresumed : (Name → List ℕ → Type 0) → Settings → Subject → RunErr → Type 0
+IsUnresumed holds s x e = (script : List Act) × (before : Logged) × IsSetOut holds s x script before × (resumption (its_components x) (its_starts x) before ≡ Err e)
 
 -- Each reason comes only where those before it do not hold: a file is not read; the source or its composition, or the object, is refused; a line of
--- words is none; a line of the script is no action; there are too many turns; an action of the script is no input; a thread is refused, of which a run
--- on one thread takes none. Memory may be short at any time.
+-- words is none; a line of the script is no action; the log is none; there are too many turns; an action of the script is no input; the log ends by a
+-- fault; the subject does not go on from it; a thread is refused, of which a run on one thread takes none. Memory may be short at any time.
 abbrev pub IsUnrun : (Name → List ℕ → Type 0) → (Name → Type 0) → Settings → Failure → Type 0
 IsUnrun holds lacks s (Failure.Refused r) = (text : List ℕ) × holds s.file.now text × IsRefusedFile text (option_copied s.composition) r
 IsUnrun holds lacks s (Failure.Object e) = (text : List ℕ) × holds s.file.now text × IsNoObject text e
@@ -247,13 +272,15 @@ IsUnrun holds lacks s Failure.SourceWanted = ⊥
 IsUnrun holds lacks s (Failure.BadWords n) = (x : Subject) × MayGive holds s x × HasBadWords holds s.words (length (its_names x)) n
 IsUnrun holds lacks s (Failure.List (LogErr.BadEntry n)) =
     (x : Subject) × MayGive holds s x × HasWords holds s.words (length (its_names x)) × HasBadLine holds (its_types x) (option_copied s.inputs) n
-IsUnrun holds lacks s Failure.TooManyTurns = (x : Subject) × (script : List Act) × IsReady holds s x script × (most_turns < s.turns)
+IsUnrun holds lacks s (Failure.RunLog e) =
+    (x : Subject) × MayGive holds s x × HasWords holds s.words (length (its_names x)) × HasScript holds (its_types x) (option_copied s.inputs)
+    × HasBadText holds (its_types x) (option_copied s.resume) e
+IsUnrun holds lacks s Failure.TooManyTurns = (x : Subject) × (script : List Act) × (before : Logged) × IsReady holds s x script before × (most_turns < s.turns)
 IsUnrun holds lacks s (Failure.BadInput i) =
-    (x : Subject) × (script : List Act) × IsReady holds s x script × (s.turns ≤ most_turns) × IsFirstOther (its_components x) script i
-IsUnrun holds lacks s Failure.Threads =
-    (x : Subject) × (script : List Act) × IsReady holds s x script × (s.turns ≤ most_turns) × All (IsInput (its_components x)) script × (s.alone ≡ false)
-IsUnrun holds lacks s (Failure.BadLog i) = ⊥
-IsUnrun holds lacks s Failure.EndedByFault = ⊥
+    (x : Subject) × (script : List Act) × (before : Logged) × IsReady holds s x script before × (s.turns ≤ most_turns) × IsFirstOther (its_components x) script i
+IsUnrun holds lacks s Failure.EndedByFault = (x : Subject) × IsUnresumed holds s x RunErr.EndedByFault
+IsUnrun holds lacks s (Failure.BadLog i) = (x : Subject) × IsUnresumed holds s x (RunErr.BadLog i)
+IsUnrun holds lacks s Failure.Threads = (x : Subject) × (script : List Act) × (before : Logged) × IsSetOut holds s x script before × IsResumable x before × (s.alone ≡ false)
 IsUnrun holds lacks s (Failure.List LogErr.Io) = ⊥
 IsUnrun holds lacks s Failure.Io = IsUnloaded holds lacks s
 IsUnrun holds lacks s Failure.OutOfMemory = Unit {0}

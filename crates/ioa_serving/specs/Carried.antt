@@ -1,5 +1,5 @@
 -- What is so of an object that is compiled of a source: it does as the source.
-use Rattle.std.specs.Prelude.{◌≡◌, ◌↔◌, ℕ, Bool, List, Option}
+use Rattle.std.specs.Prelude.{◌≡◌, ◌↔◌, ℕ, Bool, List, Option, Err}
 use Rattle.std.specs.Io.KnownBytes.{Appends}
 use Rattle.ioa_value.specs.Actions.{Act, Name}
 use Rattle.ioa_value.specs.Plain.{Val}
@@ -13,12 +13,15 @@ use Rattle.ioa_system.specs.Logs.{Logged}
 use Rattle.ioa_run.specs.declared.report.Report.{Report}
 use Rattle.ioa_run.specs.Boards.{IsSound, Standing}
 use Rattle.ioa_run.specs.Hosts.{BoardsLike, Held}
-use Rattle.ioa_serving.specs.Alone.{IsRoundRobin, IsRun, told_of, wants_of_run, written}
+use Rattle.ioa_run.specs.Resuming.{resumption}
+use Rattle.ioa_run.specs.declared.run_err.RunErr.{RunErr}
+use Rattle.ioa_serving.specs.Alone.{AreTurnsSince, IsRun, told_of, wants_of_run, written}
 use Rattle.ioa_serving.specs.Compiling.{IsCompiled}
 use Rattle.ioa_serving.specs.Headline.{Declares, IsFileOf, IsReplay, IsLogReplay, IsMonitoring}
 use Rattle.ioa_serving.specs.ListLogs.{IsListLog}
 use Rattle.ioa_serving.specs.Pictures.{IsGraphed, IsLogChart}
-use Rattle.ioa_serving.specs.Subjects.{Subject, of_table}
+use Rattle.ioa_serving.specs.Resuming.{IsResumable}
+use Rattle.ioa_serving.specs.Subjects.{Subject, its_components, its_starts, of_table}
 
 -- what a replay of a list by the object writes, a replay by the source's composition writes
 abbrev pub ReplaysAsSource : Type 0
@@ -63,31 +66,41 @@ HistoriesAsSource = (text object : List ℕ) (name of : Option Name) (p : Prog) 
     → ((b : Standing (List Val)) → IsSound (tabled p) (start_states p) b → (d : Standing (HostState Env)) × IsSound (hosts_of h) (host_starts h) d × BoardsLike (Held h p) d b)
     × ((d : Standing (HostState Env)) → IsSound (hosts_of h) (host_starts h) d → (b : Standing (List Val)) × IsSound (tabled p) (start_states p) b × BoardsLike (Held h p) d b)
 
--- a run of the subject has this log and these reports, of which this is written and told
-pub record ComesTo (s : Subject) (script : List Act) (turns : ℕ) (log : Logged) (reports : List Report) (as_log told : Bool) (before after telling : Option (List ℕ)) (wants : List ℕ) : Type 0 where
-  pub run : IsRun s script turns log reports
+-- a run of the subject that goes on from the first log has the other and these reports, of which this is written and told
+pub record ComesTo (s : Subject) (first : Logged) (script : List Act) (turns : ℕ) (log : Logged) (reports : List Report) (as_log told : Bool) (before after telling : Option (List ℕ)) (wants : List ℕ) : Type 0 where
+  pub resumed : IsResumable s first
+  pub run : IsRun s first.entries script turns log reports
   pub output : Appends before after (written s as_log log)
   pub tells : telling ≡ told_of s told reports
   pub wanting : wants ≡ wants_of_run s reports
 
 -- so of what the file gives
-abbrev pub IsRunOf : List ℕ → Option Name → List Act → ℕ → Logged → List Report → Bool → Bool → Option (List ℕ) → Option (List ℕ) → Option (List ℕ) → List ℕ → Type 0
-IsRunOf text name script turns log reports as_log told before after telling wants =
-    (s : Subject) × IsFileOf text name s × ComesTo s script turns log reports as_log told before after telling wants
+abbrev pub IsRunOf : List ℕ → Option Name → Logged → List Act → ℕ → Logged → List Report → Bool → Bool → Option (List ℕ) → Option (List ℕ) → Option (List ℕ) → List ℕ → Type 0
+IsRunOf text name first script turns log reports as_log told before after telling wants =
+    (s : Subject) × IsFileOf text name s × ComesTo s first script turns log reports as_log told before after telling wants
 
--- What a run by the object may come to, a run by the source's composition may come to, and the other way: the same log with the same end, the
--- same reports, and the same text of both, whatever the words and the schedule.
+-- What a run by the object may come to, a run by the source's composition may come to, and the other way, from whatever log they go on: the same log with
+-- the same end, the same reports, and the same text of both, whatever the words and the schedule.
 abbrev pub RunsAsSource : Type 0
-RunsAsSource = (text object : List ℕ) (name of : Option Name) (p : Prog) (script : List Act) (turns : ℕ) (log : Logged) (reports : List Report) (as_log told : Bool)
+RunsAsSource = (text object : List ℕ) (name of : Option Name) (p : Prog) (first : Logged) (script : List Act) (turns : ℕ) (log : Logged) (reports : List Report) (as_log told : Bool)
     (before after telling : Option (List ℕ)) (wants : List ℕ) → IsCompiled text name object → IsFileOf object of (of_table p)
-    → IsRunOf object of script turns log reports as_log told before after telling wants ↔ IsRunOf text name script turns log reports as_log told before after telling wants
+    → IsRunOf object of first script turns log reports as_log told before after telling wants ↔ IsRunOf text name first script turns log reports as_log told before after telling wants
 
--- the log and the reports are those of turns of what the file gives, by these words
-abbrev pub AreTurnsOf : List ℕ → Option Name → List Words → List Act → ℕ → Logged → List Report → Type 0
-AreTurnsOf text name words script turns log reports = (s : Subject) × IsFileOf text name s × IsRoundRobin s words script turns log reports
+-- the log and the reports are those of turns of what the file gives, since the first log and by these words
+abbrev pub AreTurnsOf : List ℕ → Option Name → Logged → List Words → List Act → ℕ → Logged → List Report → Type 0
+AreTurnsOf text name first words script turns log reports = (s : Subject) × IsFileOf text name s × AreTurnsSince s first words script turns log reports
 
--- by the same words the turns of both are the same: the same log and the same reports
+-- by the same words the turns of both are the same, from whatever log they go on: the same log and the same reports
 abbrev pub TakesTurnsAsSource : Type 0
-TakesTurnsAsSource = (text object : List ℕ) (name of : Option Name) (p : Prog) (words : List Words) (script : List Act) (turns : ℕ) (log : Logged) (reports : List Report)
+TakesTurnsAsSource = (text object : List ℕ) (name of : Option Name) (p : Prog) (first : Logged) (words : List Words) (script : List Act) (turns : ℕ) (log : Logged) (reports : List Report)
     → IsCompiled text name object → IsFileOf object of (of_table p)
-    → AreTurnsOf object of words script turns log reports ↔ AreTurnsOf text name words script turns log reports
+    → AreTurnsOf object of first words script turns log reports ↔ AreTurnsOf text name first words script turns log reports
+
+-- why what the file gives does not go on from the log
+abbrev pub RefusesLog : List ℕ → Option Name → Logged → RunErr → Type 0
+RefusesLog text name log e = (s : Subject) × IsFileOf text name s × (resumption (its_components s) (its_starts s) log ≡ Err e)
+
+-- the object goes on from the logs from which its source does, and refuses the others alike
+abbrev pub RefusesAsSource : Type 0
+RefusesAsSource = (text object : List ℕ) (name of : Option Name) (p : Prog) (log : Logged) (e : RunErr)
+    → IsCompiled text name object → IsFileOf object of (of_table p) → RefusesLog object of log e ↔ RefusesLog text name log e

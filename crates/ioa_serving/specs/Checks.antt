@@ -67,6 +67,7 @@ IsUnfine text asked (Failure.BadInput i) = ⊥
 IsUnfine text asked Failure.Threads = ⊥
 IsUnfine text asked (Failure.BadLog i) = ⊥
 IsUnfine text asked Failure.EndedByFault = ⊥
+IsUnfine text asked (Failure.RunLog e) = ⊥
 IsUnfine text asked Failure.Io = ⊥
 IsUnfine text asked Failure.OutOfMemory = ⊥
 
@@ -83,6 +84,7 @@ IsCheckFailure text asked failed (Failure.BadInput i) = ⊥
 IsCheckFailure text asked failed Failure.Threads = ⊥
 IsCheckFailure text asked failed (Failure.BadLog i) = ⊥
 IsCheckFailure text asked failed Failure.EndedByFault = ⊥
+IsCheckFailure text asked failed (Failure.RunLog e) = ⊥
 IsCheckFailure text asked failed Failure.Io = ⊥
 IsCheckFailure text asked failed Failure.OutOfMemory = ⊥
 

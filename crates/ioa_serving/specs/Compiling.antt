@@ -29,6 +29,7 @@ IsUncompiled text name (Failure.BadInput i) = ⊥
 IsUncompiled text name Failure.Threads = ⊥
 IsUncompiled text name (Failure.BadLog i) = ⊥
 IsUncompiled text name Failure.EndedByFault = ⊥
+IsUncompiled text name (Failure.RunLog e) = ⊥
 IsUncompiled text name Failure.Io = ⊥
 IsUncompiled text name Failure.OutOfMemory = Unit {0}
 
@@ -57,6 +58,7 @@ IsUnmade f file out name output (Failure.BadInput i) = ⊥
 IsUnmade f file out name output Failure.Threads = ⊥
 IsUnmade f file out name output (Failure.BadLog i) = ⊥
 IsUnmade f file out name output Failure.EndedByFault = ⊥
+IsUnmade f file out name output (Failure.RunLog e) = ⊥
 IsUnmade f file out name output Failure.Io =
     (f.lacks file ⊎ (f.blocks out × ((text object : List ℕ) × f.holds file text × IsCompiled text name object))) × f.kept × Untouched output
 IsUnmade f file out name output Failure.OutOfMemory = f.kept × Untouched output

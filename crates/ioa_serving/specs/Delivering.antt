@@ -23,7 +23,7 @@ abbrev pub DeliversInOrder : Standing (List Val) → Type 0
 DeliversInOrder b = Begins (delivered (acts_of b.history)) (sent (acts_of b.history))
 
 -- A text spells the protocol's source with at most n crashes, and a program runs the hosts of its composition. So it is in every history that
--- is legal for the program.
+-- is legal for the program: of one run, or of any number of runs of which each goes on from the log of the one before.
 abbrev pub HistoriesDeliver : Type 0
 HistoriesDeliver =
     (n : ℕ) (text : List ℕ) (h : Hosted) (p : Prog) (b : Standing (List Val)) → n < 2 ^ 63 → Spells text (stenning_source n) → Declares text (Some protocol_name) h

@@ -30,5 +30,6 @@ IsUndumped bytes failed before after (Failure.BadInput i) = ⊥
 IsUndumped bytes failed before after Failure.Threads = ⊥
 IsUndumped bytes failed before after (Failure.BadLog i) = ⊥
 IsUndumped bytes failed before after Failure.EndedByFault = ⊥
+IsUndumped bytes failed before after (Failure.RunLog e) = ⊥
 IsUndumped bytes failed before after Failure.Io = ⊥
 IsUndumped bytes failed before after Failure.OutOfMemory = Keeps before after

@@ -25,5 +25,6 @@ IsUnexplained topic failed before after (Failure.BadInput i) = ⊥
 IsUnexplained topic failed before after Failure.Threads = ⊥
 IsUnexplained topic failed before after (Failure.BadLog i) = ⊥
 IsUnexplained topic failed before after Failure.EndedByFault = ⊥
+IsUnexplained topic failed before after (Failure.RunLog e) = ⊥
 IsUnexplained topic failed before after Failure.Io = ⊥
 IsUnexplained topic failed before after Failure.OutOfMemory = Keeps before after

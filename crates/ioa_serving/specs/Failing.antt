@@ -79,6 +79,7 @@ IsRefusedGiven text name (Failure.BadInput i) = ⊥
 IsRefusedGiven text name Failure.Threads = ⊥
 IsRefusedGiven text name (Failure.BadLog i) = ⊥
 IsRefusedGiven text name Failure.EndedByFault = ⊥
+IsRefusedGiven text name (Failure.RunLog e) = ⊥
 IsRefusedGiven text name Failure.Io = ⊥
 IsRefusedGiven text name Failure.OutOfMemory = ⊥
 
@@ -115,6 +116,7 @@ IsFailure text name bytes failed (Failure.BadInput i) = ⊥
 IsFailure text name bytes failed Failure.Threads = ⊥
 IsFailure text name bytes failed (Failure.BadLog i) = ⊥
 IsFailure text name bytes failed Failure.EndedByFault = ⊥
+IsFailure text name bytes failed (Failure.RunLog e) = ⊥
 IsFailure text name bytes failed Failure.Io = ⊥
 IsFailure text name bytes failed Failure.OutOfMemory = Unit {0}
 
@@ -166,6 +168,7 @@ IsLogFailure text name bytes failed (Failure.BadInput i) = ⊥
 IsLogFailure text name bytes failed Failure.Threads = ⊥
 IsLogFailure text name bytes failed (Failure.BadLog i) = ⊥
 IsLogFailure text name bytes failed Failure.EndedByFault = ⊥
+IsLogFailure text name bytes failed (Failure.RunLog e) = ⊥
 IsLogFailure text name bytes failed Failure.Io = ⊥
 IsLogFailure text name bytes failed Failure.OutOfMemory = Unit {0}
 
@@ -200,6 +203,7 @@ IsMonitorFailure text name bytes failed (Failure.BadInput i) = ⊥
 IsMonitorFailure text name bytes failed Failure.Threads = ⊥
 IsMonitorFailure text name bytes failed (Failure.BadLog i) = ⊥
 IsMonitorFailure text name bytes failed Failure.EndedByFault = ⊥
+IsMonitorFailure text name bytes failed (Failure.RunLog e) = ⊥
 IsMonitorFailure text name bytes failed Failure.Io = ⊥
 IsMonitorFailure text name bytes failed Failure.OutOfMemory = Unit {0}
 
@@ -243,6 +247,7 @@ IsLeft broken other (Failure.BadInput i) = other
 IsLeft broken other Failure.Threads = other
 IsLeft broken other (Failure.BadLog i) = other
 IsLeft broken other Failure.EndedByFault = other
+IsLeft broken other (Failure.RunLog e) = other
 IsLeft broken other Failure.Io = other
 IsLeft broken other Failure.OutOfMemory = other
 

@@ -57,5 +57,6 @@ failure_code (Failure.BadInput i) = Code.N2
 failure_code Failure.Threads = Code.N3
 failure_code (Failure.BadLog i) = Code.N4
 failure_code Failure.EndedByFault = Code.N5
+failure_code (Failure.RunLog e) = log_code e
 failure_code Failure.Io = Code.Io
 failure_code Failure.OutOfMemory = Code.Memory

@@ -4,29 +4,33 @@ use Rattle.ioa_value.specs.Actions.{Act, Name}
 use Rattle.ioa_value.specs.Plain.{Val}
 use Rattle.ioa_node.specs.Nodes.{Node}
 use Rattle.ioa_compile.specs.Tables.{tabled}
-use Rattle.ioa_run.specs.Alone.{IsInput, most_turns}
+use Rattle.ioa_run.specs.Alone.{HasResumed, IsInput, most_turns}
 use Rattle.ioa_run.specs.Boards.{Standing}
+use Rattle.ioa_run.specs.Histories.{GoesOn, since}
 use Rattle.ioa_run.specs.Outcomes.{HaveEnded, IsLogOf}
 use Rattle.ioa_run.specs.Reports.{AreTold}
-use Rattle.ioa_system.specs.Logs.{log_end, logged}
+use Rattle.ioa_system.specs.Logs.{Logged, log_end, logged}
 use Rattle.ioa_serving.specs.declared.run.Ran.{Ran}
 use Rattle.ioa_request.specs.declared.settings.Settings.{Settings}
 use Rattle.ioa_serving.specs.Alone.{IsExact, IsReady}
 use Rattle.ioa_serving.specs.Running.{RunsAs}
 use Rattle.ioa_serving.specs.Subjects.{Subject}
 
--- all was read, and the program was run as this subject: the log is that of a board, the reports tell of its history and of all turns that its
--- workers had, and on one thread both are those of the subject's turns
+-- all was read, and the program was run as this subject: the log is that of a board, whose history begins with that of the log from which the run went
+-- on, the reports tell of what is new in it and of all turns that its workers had, and on one thread both are those of the subject's turns
 pub record HasRun (holds : Name → List ℕ → Type 0) (s : Settings) (r : Ran) : Type 0 where
   pub subject : Subject
   pub script : List Act
-  pub ready : IsReady holds s subject script
+  pub before : Logged
+  pub ready : IsReady holds s subject script before
   pub runs : RunsAs r.program subject
   pub turns : s.turns ≤ most_turns
   pub inputs : All (IsInput (tabled r.program)) script
+  pub resumed : HasResumed r.program before
   pub board : Standing (List Val)
   pub states : List Node
   pub log : IsLogOf r.program board r.log.entries.items r.log.end states
-  pub told : AreTold (length r.program.members) script s.turns board.history board.failure r.reports.items
+  pub goes_on : GoesOn before.entries board.history
+  pub told : AreTold (length r.program.members) script s.turns (since before.entries board.history) board.failure r.reports.items
   pub ended : HaveEnded s.turns (log_end r.log.end) r.reports.items
-  pub exact : IsExact holds s subject script (logged r.log) r.reports.items
+  pub exact : IsExact holds s subject before script (logged r.log) r.reports.items

@@ -17,6 +17,7 @@ pub mod Pacing
 pub mod Pictures
 pub mod Placing
 pub mod Printed
+pub mod Resuming
 pub mod RunReports
 pub mod Running
 pub mod Serving

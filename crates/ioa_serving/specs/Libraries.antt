@@ -18,5 +18,6 @@ IsUnlisted failed before after (Failure.BadInput i) = ⊥
 IsUnlisted failed before after Failure.Threads = ⊥
 IsUnlisted failed before after (Failure.BadLog i) = ⊥
 IsUnlisted failed before after Failure.EndedByFault = ⊥
+IsUnlisted failed before after (Failure.RunLog e) = ⊥
 IsUnlisted failed before after Failure.Io = ⊥
 IsUnlisted failed before after Failure.OutOfMemory = ⊥

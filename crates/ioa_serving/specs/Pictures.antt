@@ -60,5 +60,6 @@ IsUngraphed text name failed before after (Failure.BadInput i) = ⊥
 IsUngraphed text name failed before after Failure.Threads = ⊥
 IsUngraphed text name failed before after (Failure.BadLog i) = ⊥
 IsUngraphed text name failed before after Failure.EndedByFault = ⊥
+IsUngraphed text name failed before after (Failure.RunLog e) = ⊥
 IsUngraphed text name failed before after Failure.Io = ⊥
 IsUngraphed text name failed before after Failure.OutOfMemory = Keeps before after

@@ -67,6 +67,7 @@ failure_details (Failure.BadInput i) = codes " index " ++ decimal i
 failure_details Failure.Threads = []
 failure_details (Failure.BadLog i) = codes " index " ++ decimal i
 failure_details Failure.EndedByFault = []
+failure_details (Failure.RunLog e) = log_details e
 failure_details Failure.Io = []
 failure_details Failure.OutOfMemory = []
 

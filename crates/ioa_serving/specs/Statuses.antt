@@ -88,5 +88,6 @@ failure_status (Failure.BadInput i) = Status.NotAccepted
 failure_status Failure.Threads = Status.Unable
 failure_status (Failure.BadLog i) = Status.NotAccepted
 failure_status Failure.EndedByFault = Status.NotAccepted
+failure_status (Failure.RunLog e) = log_status e
 failure_status Failure.Io = Status.Unable
 failure_status Failure.OutOfMemory = Status.Unable

@@ -42,6 +42,8 @@ pub enum Failure {
     BadLog(usize),
     /// The log from which a run was to go on ends by a fault.
     EndedByFault,
+    /// The file from which a run was to go on holds no log.
+    RunLog(LogErr),
     /// A file was not read or not written.
     Io,
     /// A growth of memory was refused.
@@ -61,7 +63,7 @@ impl Failure {
             Failure::Refused(refusal) => refusal_code(refusal),
             Failure::Object(error) => object_code(*error),
             Failure::SourceWanted => Code::Object,
-            Failure::List(error) => log_code(*error),
+            Failure::List(error) | Failure::RunLog(error) => log_code(*error),
             Failure::SpecHasInternal => Code::L7,
             Failure::BadWords(_) => Code::Words,
             Failure::TooManyTurns => Code::N1,
@@ -81,7 +83,7 @@ impl Failure {
         match self {
             Failure::Refused(refusal) => refusal_status(refusal),
             Failure::Object(error) => object_status(*error),
-            Failure::List(error) => log_status(*error),
+            Failure::List(error) | Failure::RunLog(error) => log_status(*error),
             Failure::SpecHasInternal
             | Failure::BadInput(_)
             | Failure::BadLog(_)
@@ -147,12 +149,19 @@ impl fmt::Display for Failure {
                 | LogErr::BadEntry(line)
                 | LogErr::WrongOwner(line)
                 | LogErr::Diverges(line),
+            )
+            | Failure::RunLog(
+                LogErr::NotJson(line)
+                | LogErr::BadEntry(line)
+                | LogErr::WrongOwner(line)
+                | LogErr::Diverges(line),
             ) => write!(f, "{code} line {line}"),
             Failure::BadWords(line) => write!(f, "{code} line {line}"),
             Failure::BadInput(index) | Failure::BadLog(index) => {
                 write!(f, "{code} index {index}")
             }
             Failure::List(LogErr::NoEnd | LogErr::AfterEnd | LogErr::Io | LogErr::OutOfMemory)
+            | Failure::RunLog(LogErr::NoEnd | LogErr::AfterEnd | LogErr::Io | LogErr::OutOfMemory)
             | Failure::SourceWanted
             | Failure::SpecHasInternal
             | Failure::TooManyTurns

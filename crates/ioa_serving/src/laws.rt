@@ -1,6 +1,6 @@
 //! What follows from the definitions alone. The functions do nothing: what they say is in their contracts.
 
-ghost use Rattle.ioa_serving.specs.Carried.{ChartsAsSource, GraphsAsSource, HistoriesAsSource, LogsListsAsSource, MonitorsAsSource, OneComposition, ReplaysAsSource, ReplaysLogsAsSource, RunsAsSource, TakesTurnsAsSource};
+ghost use Rattle.ioa_serving.specs.Carried.{ChartsAsSource, GraphsAsSource, HistoriesAsSource, LogsListsAsSource, MonitorsAsSource, OneComposition, RefusesAsSource, ReplaysAsSource, ReplaysLogsAsSource, RunsAsSource, TakesTurnsAsSource};
 ghost use Rattle.ioa_serving.specs.Delivering.{HistoriesDeliver, ObjectsDeliver};
 ghost use Rattle.ioa_serving.specs.RunReports.{SilenceMeans};
 
@@ -17,8 +17,8 @@ pub fn objects_do_as_their_sources()
 {}
 
 /// In every history of the compiled form of Stenning's protocol, by its source or by an object, whatever the schedule, the words and the script,
-/// with channels that lose, duplicate and reorder and hosts that crash and recover, the delivered messages are a beginning of the sent ones.
-/// Nothing is said of whether a message is delivered.
+/// with channels that lose, duplicate and reorder and hosts that crash and recover, the delivered messages are a beginning of the sent ones. A history is
+/// whatever a run leads to, or any number of runs of which each goes on from the log of the one before. Nothing is said of whether a message is delivered.
 pub fn stenning_delivers()
     ensures histories { HistoriesDeliver }
     ensures objects { ObjectsDeliver }
@@ -31,11 +31,12 @@ pub fn one_composition()
 
 /// Runs by an object that was compiled of a source are those of the source's composition: the same histories, with the same fault, and in slots
 /// that hold the hosts' states; the same logs, ends, reports and texts of these, also where memory is refused to a worker; and on one thread, by
-/// the same words, the same turns.
+/// the same words, the same turns. So it is from whatever log they go on; and the logs from which the one does not go on the other refuses alike.
 pub fn objects_run_as_their_sources()
     ensures histories { HistoriesAsSource }
     ensures runs { RunsAsSource }
     ensures turns { TakesTurnsAsSource }
+    ensures refusals { RefusesAsSource }
 {}
 
 /// Where of no worker it is told that memory was refused to it, it was refused to none; so where no fault ends the run each worker has had

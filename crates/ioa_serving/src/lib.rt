@@ -30,6 +30,7 @@ mod states_replay;
 // Runs.
 mod reports;
 mod run;
+mod run_log;
 mod script;
 mod seed;
 mod trace;

@@ -9,7 +9,7 @@ ghost use Rattle.ioa_system.specs.Outcomes.{ending_of};
 ghost use Rattle.ioa_system.specs.Logs.{log_end, logged};
 ghost use Rattle.ioa_log.specs.declared.failure.LogErr.{LogErr};
 ghost use Rattle.ioa_log.specs.Failing.{FailedOnceAtMost, HasFailed};
-ghost use Rattle.ioa_run.specs.Alone.{IsAlone, IsOutcome, NoMemory, Refuses};
+ghost use Rattle.ioa_run.specs.Alone.{IsAloneSince, IsOutcomeFrom, NoMemory, RefusesResumed};
 ghost use Rattle.ioa_run.specs.Outcomes.{HaveEnded};
 ghost use Rattle.ioa_run.specs.declared.run_err.RunErr.{RunErr};
 ghost use Rattle.ioa_serving.specs.Alone.{IsCutShort, IsRunServed, IsRunUnserved, IsUnrun, count_of, streams_of};
@@ -22,6 +22,7 @@ use crate::compile::program_of;
 use crate::failure::Failure;
 use crate::pacer::Pacer;
 use crate::reports::reports_text;
+use crate::run_log::load_log;
 use crate::script::load_script;
 use crate::served::Served;
 use crate::status::status_of;
@@ -32,26 +33,28 @@ use ioa_compile::Program;
 use ioa_log::{Log, LogErr, OutputDevice, send_all, write_log};
 use ioa_node::Words;
 use ioa_request::Settings;
-use ioa_run::{OpenGate, Outcome, Report, RunErr, run_alone, run_threads};
+use ioa_run::{OpenGate, Outcome, Report, RunErr, resume_alone, resume_threads};
 use ioa_value::Action;
 use std::alloc::{AllocError, Global};
 use std::sync::Wait;
 use std::thread::Threads;
 use std::time::Clock;
 
-/// Runs a composition of a source, or an object, on one thread or on one for each worker, and writes its trace and how it ends, or its log.
+/// Runs a composition of a source, or an object, on one thread or on one for each worker, and writes its trace and how it ends, or its log. Where a log
+/// is named, the run goes on from where that one ended, and its history begins with what it tells.
 /// Answers what came of it, and the run, where there was one, whose workers may have something to be told.
 ///
 /// Whatever the words and the schedule: where the answer is `Ok`, what was written is the trace and the end, or the log, of a legal
-/// history of what the source declares or the object is of, in which the environment performs its script in order. The workers to which
-/// memory was refused in their turns are those of which `send_wants` tells. Where there is none, each worker has had its turns, or a fault
+/// history of what the source declares or the object is of, in which the environment, once the run goes on, performs its script in order. The workers to
+/// which memory was refused in their turns are those of which `send_wants` tells. Where there is none, each worker has had its turns, or a fault
 /// ends the run; and on one thread it is the one history in which all workers take turns, round by round, each by its own words.
 ///
 /// # Errors
 /// `Io` where a file is not read; `Refused` where the source or its composition is, `Object` where the object is; `BadWords` where a line of
-/// the file of words is no list of words; `List` where a line of the script is no action; `TooManyTurns`, `BadInput`; `Threads`, unless the run is on one thread;
-/// or want of memory: there was no run then, and nothing was written. Or there was one: `List` where the device failed, which has taken no
-/// more than a beginning of the text, and want of memory for the text, of which nothing was written.
+/// the file of words is no list of words; `List` where a line of the script is no action; `RunLog` where the file to go on from is no log; `TooManyTurns`,
+/// `BadInput`; `EndedByFault`, `BadLog`; `Threads`, unless the run is on one thread; or want of memory: there was no run then, and nothing was written.
+/// Or there was one: `List` where the device failed, which has taken no more than a beginning of the text, and want of memory for the text, of which
+/// nothing was written.
 pub fn run_file<H: Threads + Wait + Clock + Sync, F: Store, W: OutputDevice>(
     rt: &H,
     alloc: Global,
@@ -119,7 +122,16 @@ fn run_settings<H: Threads + Wait + Clock + Sync, F: Store>(
     let components = program.members().len();
     let words = load_words(alloc, settings.words, components, store)?;
     let script = load_script(alloc, program.types(), settings.inputs, store)?;
-    let outcome = run_sources(rt, alloc, &program, settings, words, script.as_slice())?;
+    let log = load_log(alloc, program.types(), settings.resume, store)?;
+    let outcome = run_sources(
+        rt,
+        alloc,
+        &program,
+        settings,
+        &log,
+        words,
+        script.as_slice(),
+    )?;
     Ok(ran_of(program, outcome))
 }
 
@@ -143,25 +155,26 @@ fn ran_of(program: Program, outcome: Outcome) -> Ran
     }
 }
 
-/// Runs the program by these words, one source for each component.
+/// Runs the program by these words, one source for each component, from where the run ended that the log tells. That of nothing leads to the start.
 fn run_sources<H: Threads + Wait + Clock + Sync>(
     rt: &H,
     alloc: Global,
     program: &Program,
     settings: &Settings<'_>,
+    log: &Log,
     words: WordSources,
     script: &[Action],
 ) -> Result<Outcome, RunErr>
     requires sources { count_of words ≡ length program.now.members }
-    ensures outcome { IfOk result (λ o. IsOutcome program.now (map act_of script.now) settings.now.turns o) }
+    ensures outcome { IfOk result (λ o. IsOutcomeFrom program.now (logged log.now).entries (map act_of script.now) settings.now.turns o) }
     ensures ended { IfOk result (λ o. HaveEnded settings.now.turns (log_end o.end) o.reports.items) }
-    ensures alone { IfOk result (λ o. settings.now.alone ≡ true → NoMemory o.reports.items → IsAlone program.now (streams_of words) (map act_of script.now) settings.now.turns o) }
-    ensures refused { Refuses program.now (map act_of script.now) settings.now.turns result }
+    ensures alone { IfOk result (λ o. settings.now.alone ≡ true → NoMemory o.reports.items → IsAloneSince program.now (logged log.now) (streams_of words) (map act_of script.now) settings.now.turns o) }
+    ensures refused { RefusesResumed program.now (map act_of script.now) settings.now.turns (logged log.now) result }
     ensures threads { IsErrOf result RunErr.Threads → settings.now.alone ≡ false }
 {
     match words {
-        WordSources::Seeded(sources) => run_by(rt, alloc, program, settings, sources, script),
-        WordSources::Listed(sources) => run_by(rt, alloc, program, settings, sources, script),
+        WordSources::Seeded(sources) => run_by(rt, alloc, program, settings, log, sources, script),
+        WordSources::Listed(sources) => run_by(rt, alloc, program, settings, log, sources, script),
     }
 }
 
@@ -171,26 +184,27 @@ fn run_by<H: Threads + Wait + Clock + Sync, W: Words + Send + Drop>(
     alloc: Global,
     program: &Program,
     settings: &Settings<'_>,
+    log: &Log,
     words: Vec<W>,
     script: &[Action],
 ) -> Result<Outcome, RunErr>
     requires sources { length words.items ≡ length program.now.members }
-    ensures outcome { IfOk result (λ o. IsOutcome program.now (map act_of script.now) settings.now.turns o) }
+    ensures outcome { IfOk result (λ o. IsOutcomeFrom program.now (logged log.now).entries (map act_of script.now) settings.now.turns o) }
     ensures ended { IfOk result (λ o. HaveEnded settings.now.turns (log_end o.end) o.reports.items) }
-    ensures alone { IfOk result (λ o. settings.now.alone ≡ true → NoMemory o.reports.items → IsAlone program.now (map W.stream words.items) (map act_of script.now) settings.now.turns o) }
-    ensures refused { Refuses program.now (map act_of script.now) settings.now.turns result }
+    ensures alone { IfOk result (λ o. settings.now.alone ≡ true → NoMemory o.reports.items → IsAloneSince program.now (logged log.now) (map W.stream words.items) (map act_of script.now) settings.now.turns o) }
+    ensures refused { RefusesResumed program.now (map act_of script.now) settings.now.turns (logged log.now) result }
     ensures threads { IsErrOf result RunErr.Threads → settings.now.alone ≡ false }
 {
     let turns = settings.turns;
     if settings.alone {
-        return run_alone(alloc, program, turns, words, script);
+        return resume_alone(alloc, program, log, turns, words, script);
     }
     let workers = program.members().len().saturating_add(1);
     let Ok(gate) = Pacer::new(rt, alloc, workers) else {
         // memory is short for the gate, so nobody is held
-        return run_threads(rt, alloc, program, turns, words, script, &OpenGate);
+        return resume_threads(rt, alloc, program, log, turns, words, script, &OpenGate);
     };
-    run_threads(rt, alloc, program, turns, words, script, &gate)
+    resume_threads(rt, alloc, program, log, turns, words, script, &gate)
 }
 
 /// The text of the reports, where they are to be told.

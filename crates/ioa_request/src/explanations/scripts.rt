@@ -4,6 +4,12 @@ use crate::code::Code;
 use crate::explanation::{Example, Explanation};
 use crate::topic::Topic;
 
+/// A switch that can always be turned on.
+const SWITCH: &str = "automaton Switch\n\
+    signature output on\n\
+    transitions output on\n\
+    composition Room components s: Switch";
+
 pub const N1: Explanation = Explanation {
     topic: Topic::Code(Code::N1),
     meaning: "A worker may have 100,000 turns at most. Nothing was run.",
@@ -37,18 +43,22 @@ pub const N4: Explanation = Explanation {
     meaning: "A run goes on only from a log of the composition itself: each action is performed, by the worker that is told with it, and the\n\
         end counts them all. The log's action of this index is the first that is not so; or, where the end alone has another count,\n\
         the index is the number of the log's actions. Actions count from 0. Nothing was run.",
-    example: Example::Told(
-        "A log gives it that tells an output with another component's number, or that ends by `done after 2` behind three actions.",
-    ),
+    example: Example::Resume {
+        source: SWITCH,
+        log: "{\"act\":\"on\",\"who\":0}\n\
+        {\"end\":\"done after 2\"}",
+    },
     mending: "Take the log as a run of this composition wrote it.",
 };
 
 pub const N5: Explanation = Explanation {
     topic: Topic::Code(Code::N5),
     meaning: "The log from which the run was to go on ends by a fault, and after a fault nothing is performed. Nothing was run.",
-    example: Example::Told(
-        "A log gives it with the last line `{\"end\":\"fault 1 in component 0 at 0\"}`.",
-    ),
+    example: Example::Resume {
+        source: SWITCH,
+        log: "{\"act\":\"on\",\"who\":0}\n\
+        {\"end\":\"fault 1 in component 0 at 0\"}",
+    },
     mending: "Take a log that ends by `done`.",
 };
 

@@ -21,6 +21,8 @@ pub enum Place {
     Action(usize),
     /// On this line of a run's file of words.
     Words(usize),
+    /// On this line of the log from which a run was to go on.
+    Log(usize),
     Nowhere,
 }
 
@@ -34,15 +36,23 @@ pub fn place_of(failure: &Failure) -> Place {
             | LogErr::WrongOwner(line)
             | LogErr::Diverges(line),
         ) => Place::Input(*line as usize),
+        Failure::RunLog(
+            LogErr::NotJson(line)
+            | LogErr::BadEntry(line)
+            | LogErr::WrongOwner(line)
+            | LogErr::Diverges(line),
+        ) => Place::Log(*line as usize),
         Failure::BadInput(index) => Place::Action(*index),
         Failure::BadWords(line) => Place::Words(*line),
+        // each entry of a log has a line of its own, and so has its end
+        Failure::BadLog(index) => Place::Log(index.saturating_add(1)),
         Failure::List(LogErr::NoEnd | LogErr::AfterEnd | LogErr::Io | LogErr::OutOfMemory)
+        | Failure::RunLog(LogErr::NoEnd | LogErr::AfterEnd | LogErr::Io | LogErr::OutOfMemory)
         | Failure::Object(_)
         | Failure::SourceWanted
         | Failure::SpecHasInternal
         | Failure::TooManyTurns
         | Failure::Threads
-        | Failure::BadLog(_)
         | Failure::EndedByFault
         | Failure::Io
         | Failure::OutOfMemory => Place::Nowhere,
@@ -99,13 +109,13 @@ pub fn source_of<'a>(asked: &Request<'a>) -> Option<(&'a str, Option<&'a str>)>
     }
 }
 
-/// The files that a request reads: the source or the object, a run's file of words and its script.
-pub fn files_of<'a>(asked: &Request<'a>) -> [Option<&'a str>; 3] {
+/// The files that a request reads: the source or the object, a run's file of words, its script and the log from which it goes on.
+pub fn files_of<'a>(asked: &Request<'a>) -> [Option<&'a str>; 4] {
     let file = match source_of(asked) {
         Some((name, _)) => Some(name),
         None => None,
     };
-    [file, words_of(asked), inputs_of(asked)]
+    [file, words_of(asked), inputs_of(asked), resume_of(asked)]
 }
 
 /// A run's file of words.
@@ -123,6 +133,14 @@ pub fn words_of<'a>(asked: &Request<'a>) -> Option<&'a str> {
 pub fn inputs_of<'a>(asked: &Request<'a>) -> Option<&'a str> {
     match asked {
         Request::Run(settings) => settings.inputs,
+        _ => None,
+    }
+}
+
+/// The log from which a run goes on.
+pub fn resume_of<'a>(asked: &Request<'a>) -> Option<&'a str> {
+    match asked {
+        Request::Run(settings) => settings.resume,
         _ => None,
     }
 }

@@ -9,7 +9,9 @@ ghost use Rattle.ioac.specs.Remarks.{IsDifference};
 
 use crate::remarks::ended::{Ended, loaded};
 use crate::remarks::heads::{put_differing, put_head, put_shown_line};
-use crate::remarks::places::{Place, input_name, inputs_of, place_of, source_of, words_of};
+use crate::remarks::places::{
+    Place, input_name, inputs_of, place_of, resume_of, source_of, words_of,
+};
 use crate::remarks::sources::component_line;
 use crate::remarks::{ended, warned, words};
 use ioa_account::line_of_action;
@@ -74,6 +76,7 @@ fn put_place<F: Store>(
         Place::Source(line) => put_source_line(alloc, text, asked, failure, line, store),
         Place::Component(number) => put_component(alloc, text, asked, failure, number, store),
         Place::Words(line) => put_file_line(alloc, text, words_of(asked), failure, line, store),
+        Place::Log(line) => put_file_line(alloc, text, resume_of(asked), failure, line, store),
         Place::Action(index) => put_script_action(alloc, text, asked, failure, index, store),
         Place::Input(line) => match inputs_of(asked) {
             Some(name) => put_file_line(alloc, text, Some(name), failure, line, store),

@@ -23,6 +23,7 @@ pub fn wording(code: Code) -> &'static str {
         Code::L2 => "this line cannot be read",
         Code::L3 => "this action is another worker's",
         Code::N2 => "this action is no input of the composition",
+        Code::N4 => "this line is not of the composition's run",
         Code::Words => "this line is no list of words",
         Code::E1
         | Code::E15
@@ -41,7 +42,6 @@ pub fn wording(code: Code) -> &'static str {
         | Code::L8
         | Code::N1
         | Code::N3
-        | Code::N4
         | Code::N5
         | Code::Object
         | Code::Memory

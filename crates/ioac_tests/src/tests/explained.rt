@@ -28,6 +28,8 @@ fn example(
             let bytes = hex::decode(alloc, digits.as_bytes()).expect(rt, "digits");
             return Some(("check f", bytes, ""));
         }
+        // its log is a file (`resumed`)
+        Example::Resume { .. } => return None,
         Example::Told(_) if code == Code::E1 => (REPLAY, long, ""),
         Example::Told(_) => return None,
     };
@@ -186,7 +188,7 @@ fn source_and_input(example: Example) -> Option<(&'static str, &'static str)> {
         Example::ReplayLog { source, log } | Example::Monitor { source, log } => Some((
             source, log,
         )),
-        Example::Source(_) | Example::Object(_) | Example::Told(_) => None,
+        Example::Source(_) | Example::Resume { .. } | Example::Object(_) | Example::Told(_) => None,
     }
 }
 

@@ -26,6 +26,7 @@ returns-clause-some c =
       words = ap₂ source_in (given found (codes "seed") (option_copied c.get_str-seed.result) c.get_str-seed.ensures)
           (given found (codes "words") (option_copied c.get_str-listed.result) c.get_str-listed.ensures) ∙ sym c.in_ok-words.ensures;
       inputs = given found (codes "inputs") (option_copied c.get_str-inputs.result) c.get_str-inputs.ensures;
+      resume = given found (codes "resume") (option_copied c.get_str-resume.result) c.get_str-resume.ensures;
       log = sym c.is_set-log.ensures;
       reports = sym c.is_set-reports.ensures;
     }

@@ -17,7 +17,7 @@ use Rattle.ioa_run.proofs.alone.run_in.Goals.{After-finish}
 none_has : (g : Over) (c : After-finish g) → c.in_ok-ended.ended.items ≡ (turns_from c.args.room.board (map g.W.Words.stream c.args.words.items) (length (proposers c.args.room.program))).ended
 none_has g c =
     let many : length c.members.result.now ≡ length (proposers c.args.room.program) =
-    sym (length-map c.members.result.now member_code) ∙ ap length c.members.ensures.value ∙ ap (λ (p : Prog). length p.members) (c.program.ensures ∙ ap (λ (x : ProgramBoard). x.program) c.board.ensures) ∙ sym (length-map c.args.room.program.members proposers_of) in
+    sym (length-map c.members.result.now member_code) ∙ ap length c.members.ensures.value ∙ ap (λ (p : Prog). length p.members) (c.program.ensures ∙ ap (λ (x : ProgramBoard). x.program) c.board.ensures.value) ∙ sym (length-map c.args.room.program.members proposers_of) in
     c.in_ok-ended.ensures ∙ ap (λ n. replicate (n + 1) false) many
 
 goes : (g : Over) (c : After-finish g)

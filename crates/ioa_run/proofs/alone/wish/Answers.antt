@@ -24,7 +24,7 @@ use Rattle.ioa_run.proofs.alone.wish.Goals as goal
 use Rattle.ioa_run.proofs.alone.wish.Goals.{After-index-words-who, After-members-members}
 
 program_is : (g : Over) (c : After-members-members g) → c.program.result.now ≡ c.args.room.now.program
-program_is g c = c.program.ensures ∙ ap (λ (b : ProgramBoard). b.program) c.board.ensures
+program_is g c = c.program.ensures ∙ ap (λ (b : ProgramBoard). b.program) c.board.ensures.value
 
 members_are : (g : Over) (c : After-members-members g) → map member_code c.members-members.result.now ≡ c.args.room.now.program.members
 members_are g c = c.members-members.ensures.value ∙ ap (λ (p : Prog). p.members) (program_is g c)
@@ -44,7 +44,7 @@ entries_are g c = c.deref.ensures.value ∙ sym (ap (λ (m : Member). m.entries.
 
 state_there : (g : Over) (c : After-index-words-who g) → slice_get c.states.result.now c.args.who ≡ Some c.index-states-who.result
 state_there g c =
-    let types : types_of c.states.result.now ≡ slot_types c.args.room.now.program.members = c.states.ensures.types ∙ ap (λ (b : ProgramBoard). slot_types b.program.members) c.board-then-who-members.ensures in
+    let types : types_of c.states.result.now ≡ slot_types c.args.room.now.program.members = c.states.ensures.types ∙ ap (λ (b : ProgramBoard). slot_types b.program.members) c.board-then-who-members.ensures.value in
     let many : length c.states.result.now ≡ length c.args.room.now.program.members = same_length c.args.room.now.program.members c.states.result.now types in
     got c.states.result.now c.args.who c.index-states-who.result (omega (arith, many, inside g c)) c.index-states-who.is
 
@@ -53,7 +53,7 @@ choose-requires g c =
     subst (λ (es : List Entry). AreOfState c.index-states-who.result (map entry_code es)) (sym (entries_are g c))
     (over_state c.args.room.now.program c.states.result.now c.args.who c.index-states-who.result (member_code c.index-members-who.result)
     (subst IsProgram (program_is g (goal.at.choose-requires g c).After-members-members) c.members-members.ensures.sound)
-    (c.states.ensures.types ∙ ap (λ (b : ProgramBoard). slot_types b.program.members) c.board-then-who-members.ensures)
+    (c.states.ensures.types ∙ ap (λ (b : ProgramBoard). slot_types b.program.members) c.board-then-who-members.ensures.value)
     (state_there g c) (member_there g c))
 
 pub returns-in_ok-action : goal.returns-in_ok-action
@@ -64,7 +64,7 @@ returns-in_ok-action g c =
     (stream c.index-words-who.result) (stream c.choose.new.words) (option_map act_of c.in_ok-action.action)
     (member_there g at)
     (subst (λ (ss : List (List Val)). slice_get ss c.args.who ≡ Some c.index-states-who.result.values)
-    (c.states.ensures.values ∙ ap (λ (b : ProgramBoard). b.board.states) c.board-then-who-members.ensures)
+    (c.states.ensures.values ∙ ap (λ (b : ProgramBoard). b.board.states) c.board-then-who-members.ensures.value)
     (image_at (λ (n : Node). n.values) c.states.result.now c.args.who c.index-states-who.result (state_there g at)))
     (image_at stream c.args.words.now c.args.who c.index-words-who.result (got c.args.words.now c.args.who c.index-words-who.result (omega (arith, inside g at, c.requires.words)) c.index-words-who.is))
     (map-set stream c.args.words.now c.args.who c.choose.new.words)

@@ -1,4 +1,4 @@
-use Rattle.ioa_serving.proofs.CarriedRuns.{histories_as_source, runs_as_source, turns_as_source}
+use Rattle.ioa_serving.proofs.CarriedRuns.{histories_as_source, refuses_as_source, runs_as_source, turns_as_source}
 use Rattle.ioa_serving.proofs.laws.objects_run_as_their_sources.Goals as goal
 
 pub returns-clause-histories : goal.returns-clause-histories
@@ -9,3 +9,6 @@ returns-clause-runs c = runs_as_source
 
 pub returns-clause-turns : goal.returns-clause-turns
 returns-clause-turns c = turns_as_source
+
+pub returns-clause-refusals : goal.returns-clause-refusals
+returns-clause-refusals c = refuses_as_source
