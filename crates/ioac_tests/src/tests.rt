@@ -21,6 +21,7 @@ mod pictures;
 mod proposals;
 mod remarked;
 mod requests;
+mod resumed;
 mod rows;
 mod runs;
 mod shelf;

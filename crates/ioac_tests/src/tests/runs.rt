@@ -21,7 +21,7 @@ composition Zero components D: Dice(0); K: Keep \
 composition Game components D: Dice(6); K: Keep";
 
 /// A component whose action faults in another one.
-const FAULTY: &str = "\
+pub const FAULTY: &str = "\
 type S = seq 1 of Int \
 automaton Go signature output go states n: Int transitions output go eff n := n + 1 \
 automaton Pick signature input go states s: S; x: Int transitions input go eff x := at(s, 0) \
@@ -95,12 +95,13 @@ const FAULTS: &str = "\
 --turns 1 --log --reports |  |  | {\"act\":\"go\",\"who\":0}^{\"end\":\"fault 4 in component 1 at 0\"}^ | G: 0 committed, 0 idle, 0 stale, faulted^P: 0 committed, 1 idle, 0 stale, turns done^environment: 0 committed, 1 idle, 0 stale, turns done^ | 3
 ";
 
-/// Three files in memory: the source `f`, the words `w` and the script `l`.
+/// Four files in memory: the source or the object `f`, the words `w`, the script `l`, and the log `r`.
 #[derive(Drop)]
-struct Rack<'a> {
-    source: &'a str,
-    words: &'a str,
-    script: &'a str,
+pub struct Rack<'a> {
+    pub file: &'a [u8],
+    pub words: &'a str,
+    pub script: &'a str,
+    pub log: &'a [u8],
 }
 
 impl<'a> Store for Rack<'a> {
@@ -115,13 +116,14 @@ impl<'a> Store for Rack<'a> {
     ghost saves = { λ _ _ _ _. ⊥ };
 
     fn load(&self, alloc: Global, name: &str) -> Result<Vec<u8>, StoreErr> {
-        let text = match name {
-            "f" => self.source,
-            "w" => self.words,
-            "l" => self.script,
+        let bytes = match name {
+            "f" => self.file,
+            "w" => self.words.as_bytes(),
+            "l" => self.script.as_bytes(),
+            "r" => self.log,
             _ => return Err(StoreErr::Io),
         };
-        Ok(Vec::from_slice(alloc, text.as_bytes())?)
+        Ok(Vec::from_slice(alloc, bytes)?)
     }
 
     fn load_whole(&self, alloc: Global, name: &str) -> Result<Vec<u8>, StoreErr> {
@@ -142,7 +144,7 @@ impl<'a> Store for Rack<'a> {
 }
 
 /// Runs the program by these words after `run f`.
-fn run_by<H: Abort + Threads + Wait + Clock + Sync>(
+pub fn run_by<H: Abort + Threads + Wait + Clock + Sync>(
     rt: &H,
     alloc: Global,
     options: &str,
@@ -179,9 +181,10 @@ fn expect_run<H: Abort + Threads + Wait + Clock + Sync>(
 ) {
     let columns = columns(alloc, row).expect(rt, "a row");
     let mut rack = Rack {
-        source,
+        file: source.as_bytes(),
         words: column(&columns, 1),
         script: column(&columns, 2),
+        log: b"",
     };
     let ran = run_by(rt, alloc, column(&columns, 0), &mut rack);
     let wanted = wanted_in(rt, &columns, 3);
@@ -216,9 +219,10 @@ fn printed<H: Abort + Threads + Wait + Clock + Sync>(
     options: &str,
 ) -> Vec<u8> {
     let mut rack = Rack {
-        source: GAME,
+        file: GAME.as_bytes(),
         words: "",
         script: "",
+        log: b"",
     };
     let ran = run_by(rt, alloc, options, &mut rack);
     assert_eq!(rt; ran.status, 0);
