@@ -3,8 +3,9 @@
 #
 # Runs each protocol with 20,000 turns of each worker, a component or the environment, and prints the worker turns a second of the best
 # of five runs. ANCHOR is a folder with a plain interpreter of the language, which its build.sh compiles to the file that it is given: with
-# it the runs of both take turns, their answers are compared, and the ratio of the two is printed. Last come the seconds of 10,000
-# and of 100,000 turns of Stenning's protocol, and their ratio. The figures are of this machine and this run.
+# it the runs of both take turns, their answers are compared, and the ratio of the two is printed. Then come the seconds of 10,000
+# and of 100,000 turns of Stenning's protocol, and their ratio. Last those in which a run goes on from the log of the 100,000, with no turn more, beside a
+# replay of the log; and those of 10,000 turns more behind it, beside 10,000 from the start. The figures are of this machine and this run.
 set -eu
 program=$1
 case $program in /*) ;; *) program=$PWD/$program ;; esac
@@ -55,3 +56,24 @@ measure Handshake 7
 small=$(best 10000)
 large=$(best 100000)
 awk -v s="$small" -v l="$large" 'BEGIN { printf "Stenning, 10000 turns: %.3f s; 100000: %.3f s; ratio %.1f\n", s, l, l / s }'
+
+# took COMMAND..: the seconds of the best of five
+took() {
+  for _ in 1 2 3 4 5; do
+    from=$(date +%s.%N)
+    "$@" > "$work/printed"
+    till=$(date +%s.%N)
+    awk -v a="$from" -v b="$till" 'BEGIN { print b - a }'
+  done | least
+}
+replayed() { "$program" replay "$source" --comp Stenning --log < "$work/first"; }
+resumed() { "$program" run "$source" --comp Stenning --alone --turns "$1" --resume "$work/$2"; }
+cp "$work/log" "$work/first"
+echo '{"end":"done after 0"}' > "$work/none"
+replay=$(took replayed)
+again=$(took resumed 0 first)
+more=$(took resumed 10000 first)
+anew=$(took resumed 10000 none)
+awk -v n="$(wc -l < "$work/first")" -v r="$replay" -v a="$again" -v m="$more" -v w="$anew" 'BEGIN {
+  printf "Stenning, from a log of %d lines: %.3f s; replayed: %.3f s; ratio %.2f; 10000 turns behind it: %.3f s; from the start: %.3f s; ratio %.2f\n", n, a, r, a / r, m - a, w, (m - a) / w
+}'

@@ -49,6 +49,23 @@ for source in "$top"/*/*.ioa; do
 done
 [ "$runs" -gt 0 ] || fail "examples" "there are none"
 
+# A run of the library goes on from the log of another: the whole log begins with that, is replayed and accepted, and the reports count what is new
+links=$top/links/links.ioa
+for digit in 0 1 2; do
+  seed=$(printf '%064d' "$digit")
+  timeout 60 "$program" run "$links" --comp Stenning --turns 200 --seed "$seed" --log > "$work/first" || fail "Stenning" "the run of seed $seed fails"
+  timeout 60 "$program" run "$links" --comp Stenning --turns 50 --seed "$seed" --resume "$work/first" --log --reports > "$work/log" 2> "$work/reports" ||
+    fail "Stenning" "the run of seed $seed does not go on"
+  count=$(($(wc -l < "$work/first") - 1))
+  sed '$d' "$work/first" > "$work/before"
+  head -n "$count" "$work/log" | cmp -s - "$work/before" || fail "Stenning" "the log of seed $seed does not begin with what was done before"
+  tail -n "+$((count + 1))" "$work/log" > "$work/new"
+  awk -v turns=50 -f "$top/counted.awk" "$work/new" "$work/reports" || fail "Stenning" "the reports of seed $seed do not count what is new"
+  "$program" replay "$links" --comp Stenning --log < "$work/log" > "$work/replayed" || fail "Stenning" "the log of seed $seed is not replayed"
+  "$program" monitor "$links" --comp ReliableFifo < "$work/log" > "$work/accepted" || fail "Stenning" "the log of seed $seed is not accepted"
+  runs=$((runs + 1))
+done
+
 # A source of four components whose turns are long, and one of two whose turns are short
 {
   echo "automaton Work(i: Int) signature internal go(const i) states a: Int; b: Int transitions internal go"

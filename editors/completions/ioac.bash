@@ -22,7 +22,7 @@ _ioac() {
     dump) options='--explain --help' ;;
     replay) options='--comp --log --invariants --states --explain --help' ;;
     log) options='--comp --explain --help' ;;
-    run) options='--comp --alone --turns --seed --words --inputs --log --reports --explain --help' ;;
+    run) options='--comp --alone --turns --seed --words --inputs --resume --log --reports --explain --help' ;;
     monitor) options='--comp --explain --help' ;;
     chart) options='--comp --explain --help' ;;
     graph) options='--comp --explain --help' ;;
@@ -34,7 +34,7 @@ _ioac() {
   case $before in
     --comp) mapfile -t COMPREPLY < <(compgen -W "$(_ioac_compositions "${COMP_WORDS[@]:2}")" -- "$word") ;;
     --turns | --seed) COMPREPLY=() ;;
-    --words | --inputs) mapfile -t COMPREPLY < <(compgen -f -- "$word") ;;
+    --words | --inputs | --resume) mapfile -t COMPREPLY < <(compgen -f -- "$word") ;;
     *)
       case ${COMP_WORDS[1]}:$word in
         help:*) mapfile -t COMPREPLY < <(compgen -W "$commands" -- "$word") ;;
