@@ -27,6 +27,7 @@ PROGRAM, WORK, SOURCE, TEXT = sys.argv[1], Path(sys.argv[2]), 1 << 20, 1 << 23
 END = "\nautomaton Z signature input z transitions input z\ncomposition One components C: Z\n"
 BEGIN = "automaton A signature output go states v: Int transitions output go pre "
 EFFECT = "automaton A signature input a states v: Int transitions input a eff "
+LOOP = "type S = seq 3 of Int\nautomaton A signature input a states s: S; v: Int transitions input a eff "
 
 
 def put(name, content):
@@ -123,6 +124,14 @@ def components(automaton):
     return "components " + "; ".join(f"C{it}: {automaton}" for it in range(32)) + "\n"
 
 
+def loops():
+    """An automaton of 40 entries, of 1,000 loops each."""
+    names = [f"e{it}" for it in range(40)]
+    signature = "; ".join(f"input {it}" for it in names)
+    effects = "".join(f"  input {it} eff {'for y in s do v := y od; ' * 1000}\n" for it in names)
+    return f"type S = seq 3 of Int\nautomaton A signature {signature}\nstates s: S; v: Int\ntransitions\n{effects}composition One components C: A\n"
+
+
 def sources():
     # 24 letters that bring a hash of a fixed seed to zero
     put("names.ioa", names("abcdefghijklmnopqrstuvwx"))
@@ -137,6 +146,8 @@ def sources():
     source("source: ~ up to its end", "nots.ioa", filled(BEGIN, "~", "true" + END))
     source("source: an if in an if", "ifs.ioa", filled(EFFECT, "if true then ", END))
     source("source: elseif after elseif", "elseifs.ioa", filled(EFFECT + "if true then v:=1 ", "elseif true then v:=1 ", "fi" + END))
+    source("source: a for in a for", "fors.ioa", filled(LOOP, "for x in s do ", END))
+    source("source: loops one after another", "loops.ioa", loops())
     source("source: an effect", "effect.ioa", filled(EFFECT + "v:=1", ";v:=1", END))
     source("source: empty lines", "lines.ioa", filled("", "\n", END))
     source("source: empty comments", "comments.ioa", filled("", "%\n", END))
@@ -145,6 +156,7 @@ def sources():
     once = "".join(automaton(it, 50) for it in range(1))
     source("compilation: an automaton", "once.ioa", once + "composition One components C: A0\n", "compile", "FILE", "out")
     source("compilation: an automaton, 32 times*", "again.ioa", once + "composition One " + components("A0"), "compile", "FILE", "out")
+    source("compilation: loops one after another", "loops_compiled.ioa", loops(), "compile", "FILE", "out")
     values = "automaton A signature input a states " + "; ".join(f"v{it}: W3" for it in range(64)) + " transitions input a\n"
     source("compilation: 64 variables of 4,096 words, 32 times*", "values.ioa", wide() + values + "composition One " + components("A"), "compile", "FILE", "out")
     again = once + "".join(f"composition X{it} " + components("A0") for it in range(4))

@@ -2,10 +2,10 @@
 # How the verifier's time and memory grow with the code: bench/verify.sh
 #
 # Builds crates/verify_bench and has it verify hostile code of 6,553 and of 65,535 instructions, each so often that it is as
-# many instructions in all: a deep stack that a jump at each place takes down (jumps), or that jumps take to one place from
-# everywhere (meets); and on one stack as many types as a source may have (types), or the one that takes the longest search
-# (bits). It prints the processor time of one verification, the ratio, and the greatest memory. The figures are of this
-# machine and this run.
+# many instructions in all: a deep stack that a jump at each place takes down (jumps), that jumps take to one place from
+# everywhere (meets), or of which items half way down are copied (locals); and on one stack as many types as a source may
+# have (types), or the one that takes the longest search (bits). It prints the processor time of one verification, the ratio,
+# and the greatest memory. The figures are of this machine and this run.
 set -eu
 top=$(cd "$(dirname "$0")/.." && pwd)
 program=$top/crates/verify_bench/out/verify_bench
@@ -34,7 +34,7 @@ if ! (cd "$top/crates/verify_bench" && rt run -- bits 101 2) > "$work/built" 2>&
   cat "$work/built"
   exit 1
 fi
-for kind in jumps meets types bits; do
+for kind in jumps meets types bits locals; do
   for run in 1 2 3; do
     measure $kind $small $((turns * 10))
     measure $kind $large $turns

@@ -9,16 +9,20 @@ use Rattle.ioa_code.specs.declared.instr.Instr.{Instr}
 use Rattle.ioa_code.specs.declared.pending.Pending.{Pending}
 use Rattle.ioa_code.specs.declared.pending.Pending.TheVariants.{Nothing, Stack, Clash}
 use Rattle.ioa_code.specs.declared.reason.Reason.{Reason}
-use Rattle.ioa_code.specs.declared.reason.Reason.TheVariants.{NotForward, NotOne, WrongResult}
+use Rattle.ioa_code.specs.declared.reason.Reason.TheVariants.{NotForward, NotOne, WrongResult, BadLoop}
 use Rattle.ioa_code.specs.declared.exits.Exit.{Exit}
 use Rattle.ioa_code.specs.declared.exits.Exits.{Exits}
-use Rattle.ioa_code.specs.Valid.{Part, Way, after}
-use Rattle.ioa_code.specs.Scan.{Brought, none, some, clash, good, bad, same_types, joined, bring, targets, all_forward, onward, at_end, arrived, passed, scan_from, at_first, scan}
+use Rattle.ioa_code.specs.Valid.{Part, Way, after, fast_at, IsAhead}
+use Rattle.ioa_code.specs.Scan.{Brought, none, some, clash, good, bad, same_types, joined, types_in, came, bring, targets, all_forward, onward, loops, looped, at_end, arrived, passed, scan_from, at_first, scan}
+use Rattle.ioa_code.specs.Bound.{brought_on, traced}
 use Rattle.ioa_code.specs.Stacks.{Numbering, IsStack, IsNumber, Grows, listed, AreWays, AgreeOn, LeadsOn}
 use Rattle.ioa_code.specs.Pending.{Meets, Represents, RepresentAll, AreBelow, Brings, IsFirst, Reached}
 use Rattle.ioa_value.proofs.ItemLemmas.{get_last}
+use Rattle.ioa_value.proofs.RowLemmas.{drop_there}
 use Rattle.ioa_code.proofs.Lists.{get_before, slice_get-set_same, slice_get-set_other}
 use Rattle.ioa_code.proofs.Numbered.{stack_kept, is_number}
+use Rattle.ioa_code.proofs.Ahead.{ahead}
+use Rattle.ioa_code.proofs.Ways.{forward_is}
 use Rattle.ioa_code.proofs.Judged.{led, rest, scan_at, scan_end, unclear_bad}
 
 -- ---- one place
@@ -99,7 +103,7 @@ first_more xs f lt = record {
 }
 
 pub first_reached : (part : Part) (s : Numbering) (pending : List Pending) → length pending ≡ length part.code.instrs + 1 → IsFirst pending → Reached part s pending 0
-first_reached part s pending long f = record { long = long; brought = at_first; holds = holds; is = refl }
+first_reached part s pending long f = record { long = long; brought = at_first; holds = holds; is = refl; trace = refl }
   where
     holds : RepresentAll s pending at_first
     holds zero = subst (λ o. Represents s.nodes o (some [])) (sym f.start) ([], refl, refl)
@@ -116,7 +120,20 @@ means_kept old new keeps (Some Clash) b m = m
 means_kept old new keeps (Some Nothing) b m = m
 means_kept old new keeps None b m = m
 
+-- the same place, with more stacks
+pub reached_kept : (part : Part) (old new : Numbering) (pending : List Pending) (p : ℕ) → Reached part old pending p → Grows old new → Reached part new pending p
+reached_kept part old new pending p r g = record {
+  long = r.long;
+  brought = r.brought;
+  holds = λ q. means_kept old new g (slice_get pending q) (r.brought q) (r.holds q);
+  is = r.is;
+  trace = r.trace;
+}
+
 module _ (part : Part) (old : Numbering) (pending : List Pending) (p : ℕ) (reached : Reached part old pending p) where
+  abbrev fast : ℕ
+  fast = fast_at part (came reached.brought) p
+
   -- what was read of the place
   pub pending_at : (x : Pending) → p < length part.code.instrs → x ≡ get_or pending p x → slice_get pending p ≡ Some x
   pending_at x lt is =
@@ -144,48 +161,69 @@ module _ (part : Part) (old : Numbering) (pending : List Pending) (p : ℕ) (rea
       come = reached.is ∙ scan_at part p i reached.brought at ∙ ap (λ b. arrived p b (rest part i p reached.brought)) here.1
 
       -- where the instruction lacks something
-      pub lacks_found : (why : Reason) → LeadsOn old new k (Err why) (after part p i) → scan part ≡ bad p why
-      lacks_found why leads = come ∙ go (after part p i here.0) (leads.1 here.0 here.2)
+      pub lacks_found : (why : Reason) → LeadsOn old new k (Err why) (after part (fast_at part (came reached.brought) p) p i) → scan part ≡ bad p why
+      lacks_found why leads = come ∙ go (after part fast p i here.0) (leads.1 here.0 here.2)
         where
-          go : (r : Result (List Way) Reason) → AgreeOn new.nodes (Err why) r → passed p r (led part p reached.brought) ≡ bad p why
+          go : (r : Result (List Way) Reason) → AgreeOn new.nodes (Err why) r → passed p r (led part i p reached.brought here.0) ≡ bad p why
           go (Ok ways) x = absurd x
           go (Err reason) x = ap (bad p) (sym x)
 
-      module _ (exits : Exits) (leads : LeadsOn old new k (Ok exits) (after part p i)) where
-        after_is : (ways : List Way) × (after part p i here.0 ≡ Ok ways) × AreWays new.nodes (listed exits) ways
-        after_is = go (after part p i here.0) refl (leads.1 here.0 here.2)
+      module _ (exits : Exits) (leads : LeadsOn old new k (Ok exits) (after part (fast_at part (came reached.brought) p) p i)) where
+        after_is : (ways : List Way) × (after part fast p i here.0 ≡ Ok ways) × AreWays new.nodes (listed exits) ways
+        after_is = go (after part fast p i here.0) refl (leads.1 here.0 here.2)
           where
-            go : (r : Result (List Way) Reason) → after part p i here.0 ≡ r → AgreeOn new.nodes (Ok exits) r → (ways : List Way) × (after part p i here.0 ≡ Ok ways) × AreWays new.nodes (listed exits) ways
+            go : (r : Result (List Way) Reason) → after part fast p i here.0 ≡ r → AgreeOn new.nodes (Ok exits) r → (ways : List Way) × (after part fast p i here.0 ≡ Ok ways) × AreWays new.nodes (listed exits) ways
             go (Ok ways) f x = (ways, f, x)
             go (Err reason) f x = absurd x
 
         forward_same : (c : Bool) → all_forward (length part.code.instrs) p (map (λ e. e.to) (listed exits)) ≡ c → all_forward (length part.code.instrs) p (targets after_is.0) ≡ c
         forward_same c t = ap (all_forward (length part.code.instrs) p) (sym (same_targets new.nodes (listed exits) after_is.0 after_is.2)) ∙ t
 
-        led_on : (c : Bool) → all_forward (length part.code.instrs) p (map (λ e. e.to) (listed exits)) ≡ c → scan part ≡ onward p c (scan_from part (drop (p + 1) part.code.instrs) (p + 1) (bring after_is.0 reached.brought))
+        led_on : (c : Bool) → all_forward (length part.code.instrs) p (map (λ e. e.to) (listed exits)) ≡ c → scan part ≡ onward p c (looped p (loops part (came reached.brought) p i here.0) (scan_from part (drop (p + 1) part.code.instrs) (p + 1) (bring after_is.0 reached.brought)))
         led_on c t =
-            come ∙ ap (λ r. passed p r (led part p reached.brought)) after_is.1 ∙ ap (λ c. onward p c (scan_from part (drop (p + 1) part.code.instrs) (p + 1) (bring after_is.0 reached.brought))) (forward_same c t)
+            come ∙ ap (λ r. passed p r (led part i p reached.brought here.0)) after_is.1 ∙ ap (λ c. onward p c (looped p (loops part (came reached.brought) p i here.0) (scan_from part (drop (p + 1) part.code.instrs) (p + 1) (bring after_is.0 reached.brought)))) (forward_same c t)
+
+        traced_on : traced part (drop p part.code.instrs) p reached.brought ≡ traced part (drop (p + 1) part.code.instrs) (p + 1) (bring after_is.0 reached.brought)
+        traced_on =
+            ap (λ l. traced part l p reached.brought) (drop_there part.code.instrs p i at)
+            ∙ ap (λ r. traced part (drop (p + 1) part.code.instrs) (p + 1) (brought_on r reached.brought)) (ap (λ b. after part fast p i (types_in b)) here.1 ∙ after_is.1)
 
         -- where it leads back, or past the end
         pub back_found : all_forward (length part.code.instrs) p (map (λ e. e.to) (listed exits)) ≡ false → scan part ≡ bad p NotForward
         back_found t = led_on false t
 
-        pub goes_on : (next : List Pending) → all_forward (length part.code.instrs) p (map (λ e. e.to) (listed exits)) ≡ true → Brings new pending next (listed exits) → Reached part new next (p + 1)
-        goes_on next t brings = record {
+        -- where it leads forward
+        pub is_ahead : all_forward (length part.code.instrs) p (map (λ e. e.to) (listed exits)) ≡ true → IsAhead (length part.code.instrs) p i
+        is_ahead t = ahead part fast p i here.0 after_is.0 after_is.1 (forward_is (length part.code.instrs) p after_is.0 (forward_same true t))
+
+        -- what is told of loops, of the types that are here
+        abbrev Told : Bool → Type 0
+        Told c = (brought : ℕ → Brought) (ts : List ℕ) → RepresentAll new pending brought → IsStack new.nodes k ts → c ≡ loops part (came brought) p i ts
+
+        told : (c : Bool) → Told c → c ≡ loops part (came reached.brought) p i here.0
+        told c f = f reached.brought here.0 (λ q. means_kept old new leads.0 (slice_get pending q) (reached.brought q) (reached.holds q)) (stack_kept old new leads.0 k here.0 here.2)
+
+        -- where loops are not closed
+        pub loop_found : all_forward (length part.code.instrs) p (map (λ e. e.to) (listed exits)) ≡ true → (c : Bool) → c ≡ false → ((brought : ℕ → Brought) (ts : List ℕ) → RepresentAll new pending brought → IsStack new.nodes k ts → c ≡ loops part (came brought) p i ts) → scan part ≡ bad p BadLoop
+        loop_found t c e f = led_on true t ∙ ap (λ b. looped p b (scan_from part (drop (p + 1) part.code.instrs) (p + 1) (bring after_is.0 reached.brought))) (sym (told c f) ∙ e)
+
+        pub goes_on : (next : List Pending) → all_forward (length part.code.instrs) p (map (λ e. e.to) (listed exits)) ≡ true → (c : Bool) → c ≡ true → ((brought : ℕ → Brought) (ts : List ℕ) → RepresentAll new pending brought → IsStack new.nodes k ts → c ≡ loops part (came brought) p i ts) → Brings new pending next (listed exits) → Reached part new next (p + 1)
+        goes_on next t c e f brings = record {
           long = brings.long ∙ reached.long;
           brought = bring after_is.0 reached.brought;
           holds = brings.holds reached.brought after_is.0 (λ q. means_kept old new leads.0 (slice_get pending q) (reached.brought q) (reached.holds q)) after_is.2;
-          is = led_on true t;
+          trace = reached.trace ∙ traced_on;
+          is = led_on true t ∙ ap (λ b. looped p b (scan_from part (drop (p + 1) part.code.instrs) (p + 1) (bring after_is.0 reached.brought))) (sym (told c f) ∙ e);
         }
 
     -- ---- the end
 
     module _ (new : Numbering) (grows : Grows old new) (j : ℕ) (result : IsStack new.nodes j part.result) (end : p ≡ length part.code.instrs) where
-      came : scan part ≡ (if same_types here.0 part.result then good else bad p WrongResult)
-      came = reached.is ∙ scan_end part p reached.brought (omega arith) ∙ ap (at_end part p) here.1
+      at_end_is : scan part ≡ (if same_types here.0 part.result then good else bad p WrongResult)
+      at_end_is = reached.is ∙ scan_end part p reached.brought (omega arith) ∙ ap (at_end part p) here.1
 
       mine : IsStack new.nodes k here.0
       mine = stack_kept old new grows k here.0 here.2
 
       pub ended : (b : Bool) → ((ts us : List ℕ) → IsStack new.nodes k ts → IsStack new.nodes j us → b ≡ same_types ts us) → scan part ≡ (if b then good else bad p WrongResult)
-      ended b same = came ∙ ap (λ c. if c then good else bad p WrongResult) (sym (same here.0 part.result mine result))
+      ended b same = at_end_is ∙ ap (λ c. if c then good else bad p WrongResult) (sym (same here.0 part.result mine result))

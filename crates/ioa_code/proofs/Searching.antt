@@ -1,14 +1,18 @@
 -- The search for a stack, and what it finds once another stack is added.
 use Rattle.std.proofs.Common.{◌≡◌, ◌≢◌, ℕ, zero, suc, ◌+◌, ◌/◌, ◌%◌, ◌==◌, ◌<◌, ◌≤◌, ⊎_elim, Bool, true, false, if◌then◌else◌, List, [], ◌∷◌, ◌++◌, length, Some, Err, refl, sym, ap, ◌∙◌, subst, arith}
-use Rattle.std.specs.Prelude.{slice_get}
+use Rattle.std.specs.Prelude.{slice_get, reverse}
 use Rattle.std.proofs.lemmas.Bool.{cases_lt}
-use Rattle.std.proofs.lemmas.List.{length-append}
+use Rattle.std.proofs.lemmas.List.{length-append, append_assoc, reverse-reverse}
 use Rattle.ioa_code.specs.declared.links.Links.{Links}
+use Rattle.ioa_code.specs.declared.stacks.Depth.{Depth}
 use Rattle.ioa_code.specs.declared.links.Link.{Link}
 use Rattle.ioa_code.specs.declared.links.Link.TheVariants.{Children, Left, Right}
 use Rattle.ioa_code.specs.Links.{owner, linked, leads, Hangs, turned, bits_from, searched}
-use Rattle.ioa_code.specs.Stacks.{Numbering, node_at, IsNumber, Reaches, Searched, IsNumbered}
-use Rattle.ioa_code.proofs.Nodes.{node_within, node_either}
+use Rattle.std.proofs.lemmas.Option.{slice_get_within}
+use Rattle.ioa_value.proofs.ItemLemmas.{get_last}
+use Rattle.ioa_code.proofs.Lists.{get_before}
+use Rattle.ioa_code.specs.Stacks.{Numbering, node_at, Spells, IsStack, IsNumber, LiesBeneath, IsDepth, Deepens, Reaches, Searched, IsNumbered}
+use Rattle.ioa_code.proofs.Nodes.{node_within, node_old, node_new, node_either, split_top}
 
 -- ---- the search
 
@@ -96,7 +100,7 @@ pub hung : (old mid new : List Links) (link : Link) (k : ℕ) → mid ≡ old ++
 hung old mid new link k e h = subst (λ l. Hangs l new link k) e h
 
 -- where the search for a stack ended, a new one hangs
-module _ (old new : Numbering) (key : ℕ × ℕ) (k : ℕ) (link : Link) (h : IsNumbered old) (number : IsNumber old key.0) (ended : Searched old key (Err link)) (more : new.nodes ≡ old.nodes ++ key ∷ []) (last : k ≡ length new.nodes) (hangs : Hangs (old.links ++ none ∷ []) new.links link k) where
+module _ (old new : Numbering) (key : ℕ × ℕ) (k : ℕ) (link : Link) (h : IsNumbered old) (number : IsNumber old key.0) (ended : Searched old key (Err link)) (more : new.nodes ≡ old.nodes ++ key ∷ []) (last : k ≡ length new.nodes) (hangs : Hangs (old.links ++ none ∷ []) new.links link k) (depth : Depth) (deepens : Deepens old key.0 depth) (deeper : new.depths ≡ old.depths ++ depth ∷ []) where
   longer : length new.nodes ≡ length old.nodes + 1
   longer = ap length more ∙ length-append old.nodes (key ∷ [])
 
@@ -146,9 +150,75 @@ module _ (old new : Numbering) (key : ℕ × ℕ) (k : ℕ) (link : Link) (h : I
       (omega arith, omega arith))
       (hangs.others l)
 
+  -- stacks that were there have the types that they had
+  spells_old : (j : ℕ) (ts : List ℕ) → Spells new.nodes j ts → j ≤ length old.nodes → Spells old.nodes j ts
+  spells_old j [] x le = x
+  spells_old j (t ∷ ts) x le =
+      ⊎_elim
+      (λ y. let lt = h.earlier (x.0, t) j y in (x.0, y, spells_old x.0 ts x.2 (omega arith)))
+      (λ y. let e = y.1 in let c = longer in absurd (omega arith))
+      (node_either old.nodes new.nodes key more j (x.0, t) x.1)
+
+  stack_old : (j : ℕ) (ts : List ℕ) → IsStack new.nodes j ts → j ≤ length old.nodes → IsStack old.nodes j ts
+  stack_old j ts x le = spells_old j (reverse ts) x le
+
+  spells_new : (j : ℕ) (ts : List ℕ) → Spells old.nodes j ts → Spells new.nodes j ts
+  spells_new j [] x = x
+  spells_new j (t ∷ ts) x = (x.0, node_old old.nodes new.nodes key more j (x.0, t) x.1, spells_new x.0 ts x.2)
+
+  beneath_kept : (i j : ℕ) → j ≤ length old.nodes → LiesBeneath old.nodes i j → LiesBeneath new.nodes i j
+  beneath_kept i j le f ts x = let y = f ts (stack_old j ts x le) in (y.0, spells_new i (reverse y.0) y.1, y.2)
+
+  old_depth : (j : ℕ) (d : Depth) → j ≤ length old.nodes → IsDepth old.nodes j d → IsDepth new.nodes j d
+  old_depth j d le x = record {
+    height = λ ts y. x.height ts (stack_old j ts y le);
+    low = x.low;
+    earlier = x.earlier;
+    beneath = beneath_kept d.under j le x.beneath;
+  }
+
+  -- the stack below the new one, with its types
+  below_new : (j : ℕ) (ts : List ℕ) → j ≡ length new.nodes → IsStack new.nodes j ts → (us : List ℕ) × (ts ≡ us ++ key.1 ∷ []) × IsStack old.nodes key.0 us
+  below_new j ts at x =
+      let y = split_top new.nodes j key ts x (node_new old.nodes new.nodes key j more at) in
+      (y.0, y.1, stack_old key.0 y.0 y.2 number)
+
+  new_depth : (j : ℕ) → j ≡ length new.nodes → IsDepth new.nodes j depth
+  new_depth j at = record {
+    height = λ ts x.
+        let y = below_new j ts at x in
+        let h = deepens.height y.0 y.2 in
+        h ∙ sym (ap length y.1 ∙ length-append y.0 (key.1 ∷ []));
+    low = let l = deepens.low in let n = number in let c = longer in omega arith;
+    earlier = let l = deepens.earlier in let n = number in let c = longer in omega arith;
+    beneath = λ ts x.
+        let y = below_new j ts at x in
+        let z = deepens.beneath y.0 y.2 in
+        (z.0, spells_new depth.under (reverse z.0) z.1, (z.2.0 ++ key.1 ∷ [], y.1 ∙ ap (λ l. l ++ key.1 ∷ []) z.2.1 ∙ append_assoc z.0 z.2.0 (key.1 ∷ [])));
+  }
+
+  depths_are : (j : ℕ) (d : Depth) → slice_get new.depths j ≡ Some d → IsDepth new.nodes j d
+  depths_are j d e =
+      let e' = subst (λ l. slice_get l j ≡ Some d) deeper e in
+      let lt = slice_get_within (old.depths ++ depth ∷ []) j d e' in
+      let len = length-append old.depths (depth ∷ []) in
+      let tall = h.tall in
+      let c = longer in
+      ⊎_elim
+      (λ (less : j < length old.depths). old_depth j d (omega arith) (h.depths j d (get_before old.depths (depth ∷ []) j less ∙ e')))
+      (λ (ge : length old.depths ≤ j).
+      let place : j ≡ length old.depths = omega arith in
+      let last = subst (λ m. slice_get (old.depths ++ depth ∷ []) m ≡ Some d) place e' in
+      let get = get_last old.depths depth in
+      let same : depth ≡ d = cc in
+      subst (IsDepth new.nodes j) same (new_depth j (omega arith)))
+      (cases_lt j (length old.depths))
+
   pub grown : IsNumbered new
   grown = record {
     long = let a = hangs.long in let b = h.long in let c = longer in omega (arith, length-append old.links (none ∷ []));
+    tall = let a = h.tall in let c = longer in omega (arith, ap length deeper, length-append old.depths (depth ∷ []));
+    depths = depths_are;
     earlier = λ q j x. ⊎_elim
         (λ y. h.earlier q j y)
         (λ y. let below : q.0 ≡ key.0 = ap (λ p. p.0) y.0 in let c = longer in omega arith)
@@ -163,3 +233,53 @@ module _ (old new : Numbering) (key : ℕ × ℕ) (k : ℕ) (link : Link) (h : I
         (λ y. (link, subst (λ p. Reaches new p link) (sym y.0) (reaches_kept key link ended.0), hangs.here ∙ last ∙ sym y.1))
         (node_either old.nodes new.nodes key more j q x);
   }
+
+-- ---- no stack but the empty one
+
+no_node : (nodes : List (ℕ × ℕ)) (k : ℕ) (key : ℕ × ℕ) → nodes ≡ [] → node_at nodes k ≡ Some key → ⊥
+no_node nodes zero key e h = absurd (cc)
+no_node nodes (suc k) key e h = let x = subst (λ l. slice_get l k ≡ Some key) e h in absurd (cc)
+
+no_link : (links : List Links) (link : Link) → links ≡ none ∷ [] → leads links link ≡ 0
+no_link links link e = ap (λ l. leads l link) e ∙ go link
+  where
+    go : (l : Link) → leads (none ∷ []) l ≡ 0
+    go (Children zero) = refl
+    go (Children (suc k)) = refl
+    go (Left zero) = refl
+    go (Left (suc k)) = refl
+    go (Right zero) = refl
+    go (Right (suc k)) = refl
+
+-- how deep the empty stack is
+abbrev pub at_bottom : Depth
+at_bottom = record { height = 0; under = 0 }
+
+pub empty_numbered : (s : Numbering) → s.nodes ≡ [] → s.links ≡ none ∷ [] → s.depths ≡ at_bottom ∷ [] → IsNumbered s
+empty_numbered s a b c = record {
+  long = omega (arith, ap length a, ap length b);
+  earlier = λ key k h. absurd (no_node s.nodes k key a h);
+  later = λ link ne. absurd (ne (no_link s.links link b));
+  each = λ key k h. absurd (no_node s.nodes k key a h);
+  tall = omega (arith, ap length a, ap length c);
+  depths = λ k d e. depths k d (subst (λ l. slice_get l k ≡ Some d) c e);
+}
+  where
+    no_types : (ts : List ℕ) → IsStack s.nodes 0 ts → ts ≡ []
+    no_types ts x = go (reverse ts) refl x
+      where
+        go : (rs : List ℕ) → reverse ts ≡ rs → Spells s.nodes 0 rs → ts ≡ []
+        go [] e y = sym (reverse-reverse ts) ∙ ap reverse e
+        go (t ∷ rs) e y = absurd (no_node s.nodes 0 (y.0, t) a y.1)
+
+    bottom : IsDepth s.nodes 0 at_bottom
+    bottom = record {
+      height = λ ts x. sym (ap length (no_types ts x));
+      low = omega arith;
+      earlier = omega arith;
+      beneath = λ ts x. ([], refl, (ts, refl));
+    }
+
+    depths : (k : ℕ) (d : Depth) → slice_get (at_bottom ∷ []) k ≡ Some d → IsDepth s.nodes k d
+    depths zero d e = let same : at_bottom ≡ d = cc in subst (IsDepth s.nodes 0) same bottom
+    depths (suc k) d e = absurd (cc)

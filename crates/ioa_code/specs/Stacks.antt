@@ -1,21 +1,23 @@
 -- Stacks of types, each known by a number.
-use Rattle.std.specs.Prelude.{◌≡◌, ◌≢◌, ◌<◌, ◌≤◌, ℕ, zero, suc, ◌+◌, List, [], ◌∷◌, ◌++◌, length, map, reverse, Vec, Option, Some, None, Result, Ok, Err, slice_get}
+use Rattle.std.specs.Prelude.{◌≡◌, ◌≢◌, ◌<◌, ◌≤◌, ℕ, zero, suc, ◌+◌, ◌-◌, List, [], ◌∷◌, ◌++◌, length, map, reverse, Vec, Option, Some, None, Result, Ok, Err, slice_get}
 use Rattle.std.specs.Global.{Global}
 use Rattle.ioa_value.specs.declared.value.Ty.{Ty}
 use Rattle.ioa_value.specs.Plain.{number}
 use Rattle.ioa_code.specs.declared.reason.Reason.{Reason}
 use Rattle.ioa_code.specs.declared.links.Links.{Links}
+use Rattle.ioa_code.specs.declared.stacks.Depth.{Depth}
 use Rattle.ioa_code.specs.declared.links.Link.{Link}
 use Rattle.ioa_code.specs.declared.exits.Exit.{Exit}
 use Rattle.ioa_code.specs.declared.exits.Exits.{Exits}
-use Rattle.ioa_code.specs.declared.exits.Exits.TheVariants.{One, Two}
+use Rattle.ioa_code.specs.declared.exits.Exits.TheVariants.{Back, One, Two}
 use Rattle.ioa_code.specs.Links.{owner, leads, searched}
 use Rattle.ioa_code.specs.Valid.{Way}
 
--- stacks by their numbers: what each but the empty one lies on, with the type on its top, and the links by which it is found
+-- stacks by their numbers: what each but the empty one lies on, with the type on its top, the links by which it is found, and how deep it is
 pub record Numbering : Type 0 where
   pub nodes : List (ℕ × ℕ)
   pub links : List Links
+  pub depths : List Depth
 
 -- stack 0 is empty; stack k + 1 has the number of a stack, and on it a type
 abbrev pub node_at : List (ℕ × ℕ) → ℕ → Option (ℕ × ℕ)
@@ -47,12 +49,32 @@ abbrev pub Searched : Numbering → ℕ × ℕ → Result ℕ Link → Type 0
 Searched s key (Ok k) = node_at s.nodes k ≡ Some key
 Searched s key (Err link) = Reaches s key link × (owner link < length s.links) × (leads s.links link ≡ 0)
 
--- a stack lies on an earlier one, links lead to later ones, and the search for a stack finds it
+-- the types of stack j are the first ones of those of stack k, from the bottom
+abbrev pub LiesBeneath : List (ℕ × ℕ) → (j k : ℕ) → Type 0
+LiesBeneath nodes j k = (ts : List ℕ) → IsStack nodes k ts → (us : List ℕ) × IsStack nodes j us × ((vs : List ℕ) × (ts ≡ us ++ vs))
+
+-- what is kept of how deep a stack is: how many types are on it, and an earlier stack that lies beneath it
+pub record IsDepth (nodes : List (ℕ × ℕ)) (k : ℕ) (d : Depth) : Type 0 where
+  pub height : (ts : List ℕ) → IsStack nodes k ts → d.height ≡ length ts
+  pub low : d.height ≤ k
+  pub earlier : d.under ≤ k - 1
+  pub beneath : LiesBeneath nodes d.under k
+
+-- the same of a stack that is still to be added, with one type more on this one
+pub record Deepens (s : Numbering) (below : ℕ) (d : Depth) : Type 0 where
+  pub height : (ts : List ℕ) → IsStack s.nodes below ts → d.height ≡ length ts + 1
+  pub low : d.height ≤ below + 1
+  pub earlier : d.under ≤ below
+  pub beneath : LiesBeneath s.nodes d.under below
+
+-- a stack lies on an earlier one, links lead to later ones, the search for a stack finds it, and each is as deep as is kept
 pub record IsNumbered (s : Numbering) : Type 0 where
   pub long : length s.links ≡ length s.nodes + 1
   pub earlier : (key : ℕ × ℕ) (k : ℕ) → node_at s.nodes k ≡ Some key → key.0 < k
   pub later : (link : Link) → leads s.links link ≢ 0 → (owner link < leads s.links link) × IsNumber s (leads s.links link)
   pub each : (key : ℕ × ℕ) (k : ℕ) → node_at s.nodes k ≡ Some key → (link : Link) × Reaches s key link × (leads s.links link ≡ k)
+  pub tall : length s.depths ≡ length s.nodes + 1
+  pub depths : (k : ℕ) (d : Depth) → slice_get s.depths k ≡ Some d → IsDepth s.nodes k d
 
 -- there may be more stacks, and none has changed its types
 abbrev pub Grows : Numbering → Numbering → Type 0
@@ -88,6 +110,7 @@ Passes old new k r after = Grows old new × ((ts : List ℕ) → IsStack old.nod
 
 -- the exits in order
 abbrev pub listed : Exits → List Exit
+listed Back = []
 listed (One e) = e ∷ []
 listed (Two e f) = e ∷ f ∷ []
 

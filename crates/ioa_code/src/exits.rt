@@ -16,6 +16,8 @@ pub(crate) struct Exit {
 /// Where an instruction leads.
 #[derive(Clone, Copy)]
 pub(crate) enum Exits {
+    /// Back alone, to where it came from.
+    Back,
     One(Exit),
     Two(Exit, Exit),
 }
@@ -60,6 +62,7 @@ pub(crate) fn are_forward(exits: Exits, place: usize, end: usize) -> bool
     ensures { result ≡ all_forward end place (map (λ e. e.to) (listed exits)) }
 {
     match exits {
+        Exits::Back => true,
         Exits::One(exit) => is_forward(exit, place, end),
         Exits::Two(first, second) => {
             is_forward(first, place, end) && is_forward(second, place, end)

@@ -1,6 +1,6 @@
 //! What the ways of code bring to places further on, where they have to agree.
 
-ghost use Rattle.std.specs.Prelude.{◌≡◌, ◌<◌, ◌+◌, ◌∷◌, [], length, IfOk};
+ghost use Rattle.std.specs.Prelude.{◌≡◌, ◌<◌, ◌+◌, ◌∷◌, [], length, slice_get, Some, IfOk};
 ghost use Rattle.ioa_code.specs.Stacks.{listed};
 ghost use Rattle.ioa_code.specs.Pending.{Meets, AreBelow, Brings, IsFirst};
 
@@ -64,10 +64,19 @@ pub(crate) fn bring_on(stacks: &Stacks, pending: &mut Vec<Pending>, exits: Exits
     ensures { Brings stacks.now pending.old.items pending.new.items (listed exits) }
 {
     match exits {
+        Exits::Back => {}
         Exits::One(exit) => bring(stacks, pending, exit),
         Exits::Two(first, second) => {
             bring(stacks, pending, first);
             bring(stacks, pending, second);
         }
     }
+}
+
+// What is pending at a place.
+pub(crate) fn at(pending: &[Pending], place: usize) -> Pending
+    requires { place < length pending.now }
+    ensures { slice_get pending.now place ≡ Some result }
+{
+    pending[place]
 }

@@ -22,6 +22,8 @@ pub(crate) enum Reason {
     NotOne,
     /// The stack at the end is not the result.
     WrongResult,
+    /// A loop is not closed, or crosses another one or a jump, or is nested too deeply.
+    BadLoop,
 }
 
 impl Reason {
@@ -38,6 +40,7 @@ impl Reason {
             Reason::NotForward => 6,
             Reason::NotOne => 7,
             Reason::WrongResult => 8,
+            Reason::BadLoop => 9,
         }
     }
 }

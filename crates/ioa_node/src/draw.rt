@@ -1,10 +1,11 @@
 //! The machine's instructions as a proposal has them, which takes words.
 
-ghost use Rattle.std.specs.Prelude.{◌≡◌, ◌≢◌, [], ◌+◌, ◌<◌, ◌^◌, IfOk, IfErr};
+ghost use Rattle.std.specs.Prelude.{◌≡◌, ◌≢◌, [], ◌+◌, ◌<◌, ◌^◌, map, IfOk, IfErr};
+ghost use Rattle.ioa_value.specs.Plain.{plain};
 ghost use Rattle.ioa_code.specs.Machine.{act, stuck};
 ghost use Rattle.ioa_node.specs.Steps.{at};
 ghost use Rattle.ioa_node.specs.Proposals.{TakesAtMost};
-ghost use Rattle.ioa_node.specs.Draws.{ChangesNoVariable, Draws};
+ghost use Rattle.ioa_node.specs.Draws.{StandsInProposals, Draws};
 
 use crate::machine::Machine;
 use crate::picks::{below, pick};
@@ -23,8 +24,8 @@ impl<'a> Machine<'a> {
         words: &mut W,
     ) -> Result<Option<usize>, OutOfMemory>
         requires none { self.now.args ≡ [] }
-        requires fine { act self.now.part.code instr (at place stack.old.items self.now.slots []) ≢ stuck }
-        requires keeps { ChangesNoVariable instr }
+        requires fine { act self.now.part.code instr (at place (map plain stack.old.items) self.now.slots []) ≢ stuck }
+        requires keeps { StandsInProposals instr }
         requires small { place + 1 < 2 ^ 64 }
         ensures draws { IfOk result (λ r. Draws self.now.part.code instr place stack.old.items self.now.slots (W.stream words.old) r stack.new.items (W.stream words.new)) }
         ensures memory { IfErr result (λ _. TakesAtMost 1 (W.stream words.old) (W.stream words.new)) }
@@ -43,7 +44,7 @@ impl<'a> Machine<'a> {
                 put(stack, pick(words.next(), self.types(), ty))?;
                 Ok(Some(place + 1))
             }
-            Instr::Store(_) => unreachable!(),
+            Instr::Store(_) | Instr::Each(_) | Instr::Again(_) | Instr::Local(_) => unreachable!(),
             Instr::Const(_)
             | Instr::Slot(_)
             | Instr::Arg(_)

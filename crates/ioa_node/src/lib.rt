@@ -14,6 +14,7 @@ mod words;
 
 // The machine.
 mod draw;
+mod loop_stack;
 mod machine;
 mod stack;
 mod workspace;

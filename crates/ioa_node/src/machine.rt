@@ -1,15 +1,16 @@
 //! The machine, and its instructions, but for those that take words.
 
-ghost use Rattle.std.specs.Prelude.{◌≡◌, ◌≢◌, List, ◌+◌, ◌<◌, ◌^◌, map, IfOk};
-ghost use Rattle.ioa_value.specs.Plain.{Val, plain};
+ghost use Rattle.std.specs.Prelude.{◌≡◌, ◌≢◌, ◌+◌, ◌<◌, ◌^◌, map, IfOk};
+ghost use Rattle.ioa_value.specs.Plain.{plain};
 ghost use Rattle.ioa_value.specs.Typing.{HaveTypes};
 ghost use Rattle.ioa_code.specs.Machine.{act, stuck, Wordless};
 ghost use Rattle.ioa_code.specs.Parts.{IsVerified};
 ghost use Rattle.ioa_node.specs.Drafts.{standing};
 ghost use Rattle.ioa_node.specs.Machines.{IsSetting};
-ghost use Rattle.ioa_node.specs.Steps.{at, moved, LeavesVariables, OnlyReads};
+ghost use Rattle.ioa_node.specs.Steps.{at, moved, OnlyReads};
 
 use crate::draft::Draft;
+use crate::loop_stack::LoopStack;
 use crate::stack::{pop, push, truth_of};
 use crate::state::NodeState;
 use ioa_code::{Instr, Verified};
@@ -87,35 +88,65 @@ impl<'a> Machine<'a> {
         &self,
         instr: Instr,
         place: usize,
-        stack: &mut Vec<Value>,
+        stack: &mut LoopStack,
         draft: &mut Draft,
     ) -> Result<Result<usize, Fault>, OutOfMemory>
-        requires fine { act self.now.part.code instr (at place stack.old.items (standing draft.old self.now.slots) self.now.args) ≢ stuck }
+        requires fine { act self.now.part.code instr (at place stack.old (standing draft.old self.now.slots) self.now.args) ≢ stuck }
         requires wordless { Wordless instr }
         requires small { place + 1 < 2 ^ 64 }
-        ensures { IfOk result (λ r. moved r stack.new.items (standing draft.new self.now.slots) self.now.args ≡ act self.now.part.code instr (at place stack.old.items (standing draft.old self.now.slots) self.now.args)) }
+        ensures { IfOk result (λ r. moved r stack.new (standing draft.new self.now.slots) self.now.args ≡ act self.now.part.code instr (at place stack.old (standing draft.old self.now.slots) self.now.args)) }
     {
         match instr {
+            Instr::Const(k) => {
+                stack.push(self.alloc, &self.code.consts()[k as usize])?;
+                Ok(Ok(place + 1))
+            }
             Instr::Slot(i) => {
-                push(self.alloc, stack, draft.read(self.slots, i as usize))?;
+                stack.push(self.alloc, draft.read(self.slots, i as usize))?;
+                Ok(Ok(place + 1))
+            }
+            Instr::Arg(i) => {
+                stack.push(self.alloc, &self.arguments[i as usize])?;
                 Ok(Ok(place + 1))
             }
             Instr::Store(i) => {
-                let value = pop(stack);
+                let value = stack.pop(self.alloc)?;
                 draft.write(i as usize, value)?;
                 Ok(Ok(place + 1))
             }
-            Instr::Const(_)
-            | Instr::Arg(_)
-            | Instr::Jump(_)
-            | Instr::JumpIfFalse(_)
-            | Instr::Apply(_) => self.common_instruction(instr, place, stack),
+            Instr::Jump(t) => Ok(Ok(t as usize)),
+            Instr::JumpIfFalse(t) => {
+                if truth_of(&stack.pop(self.alloc)?) {
+                    Ok(Ok(place + 1))
+                } else {
+                    Ok(Ok(t as usize))
+                }
+            }
+            Instr::Apply(op) => match stack.apply(self.alloc, self.code.types(), op)? {
+                Ok(()) => Ok(Ok(place + 1)),
+                Err(fault) => Ok(Err(fault)),
+            },
+            Instr::Each(t) => {
+                if stack.turn(self.alloc)? {
+                    Ok(Ok(place + 1))
+                } else {
+                    Ok(Ok(t as usize))
+                }
+            }
+            Instr::Again(t) => {
+                let _item = stack.pop(self.alloc)?;
+                Ok(Ok(t as usize))
+            }
+            Instr::Local(d) => {
+                stack.push_again(self.alloc, d as usize)?;
+                Ok(Ok(place + 1))
+            }
             Instr::Any | Instr::Pick(_) => unreachable!(),
         }
     }
 
-    /// One instruction of a precondition, which finds what it needs, changes no variable and takes no word: the next place, or a
-    /// fault.
+    /// One instruction of a precondition, which finds what it needs, changes no variable, takes no word and is none of a loop's: the next
+    /// place, or a fault.
     #[inline(always)]
     pub(crate) fn guard_instruction(
         &self,
@@ -123,41 +154,18 @@ impl<'a> Machine<'a> {
         place: usize,
         stack: &mut Vec<Value>,
     ) -> Result<Result<usize, Fault>, OutOfMemory>
-        requires fine { act self.now.part.code instr (at place stack.old.items self.now.slots self.now.args) ≢ stuck }
+        requires fine { act self.now.part.code instr (at place (map plain stack.old.items) self.now.slots self.now.args) ≢ stuck }
         requires reads { OnlyReads instr }
         requires small { place + 1 < 2 ^ 64 }
-        ensures { IfOk result (λ r. moved r stack.new.items self.now.slots self.now.args ≡ act self.now.part.code instr (at place stack.old.items self.now.slots self.now.args)) }
-    {
-        match instr {
-            Instr::Slot(i) => {
-                push(self.alloc, stack, &self.slots[i as usize])?;
-                Ok(Ok(place + 1))
-            }
-            Instr::Const(_)
-            | Instr::Arg(_)
-            | Instr::Jump(_)
-            | Instr::JumpIfFalse(_)
-            | Instr::Apply(_) => self.common_instruction(instr, place, stack),
-            Instr::Store(_) | Instr::Any | Instr::Pick(_) => unreachable!(),
-        }
-    }
-
-    // One instruction that finds what it needs, names no variable and takes no word, so what the variables are is all one.
-    #[inline(always)]
-    fn common_instruction(
-        &self,
-        instr: Instr,
-        place: usize,
-        stack: &mut Vec<Value>,
-    ) -> Result<Result<usize, Fault>, OutOfMemory>
-        requires fine { (slots : List Val) × (act self.now.part.code instr (at place stack.old.items slots self.now.args) ≢ stuck) }
-        requires leaves { LeavesVariables instr }
-        requires small { place + 1 < 2 ^ 64 }
-        ensures { IfOk result (λ r. (slots : List Val) → act self.now.part.code instr (at place stack.old.items slots self.now.args) ≢ stuck → moved r stack.new.items slots self.now.args ≡ act self.now.part.code instr (at place stack.old.items slots self.now.args)) }
+        ensures { IfOk result (λ r. moved r (map plain stack.new.items) self.now.slots self.now.args ≡ act self.now.part.code instr (at place (map plain stack.old.items) self.now.slots self.now.args)) }
     {
         match instr {
             Instr::Const(k) => {
                 push(self.alloc, stack, &self.code.consts()[k as usize])?;
+                Ok(Ok(place + 1))
+            }
+            Instr::Slot(i) => {
+                push(self.alloc, stack, &self.slots[i as usize])?;
                 Ok(Ok(place + 1))
             }
             Instr::Arg(i) => {
@@ -176,7 +184,12 @@ impl<'a> Machine<'a> {
                 Ok(()) => Ok(Ok(place + 1)),
                 Err(fault) => Ok(Err(fault)),
             },
-            Instr::Slot(_) | Instr::Store(_) | Instr::Any | Instr::Pick(_) => unreachable!(),
+            Instr::Store(_)
+            | Instr::Any
+            | Instr::Pick(_)
+            | Instr::Each(_)
+            | Instr::Again(_)
+            | Instr::Local(_) => unreachable!(),
         }
     }
 }

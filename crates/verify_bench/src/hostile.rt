@@ -19,6 +19,8 @@ pub enum Kind {
     Types,
     /// On one stack, one type again and again, which is found after as many others as a type has bits.
     Bits,
+    /// A deep stack, of which items half way down are then copied.
+    Locals,
 }
 
 impl Kind {
@@ -29,6 +31,7 @@ impl Kind {
             "meets" => Some(Kind::Meets),
             "types" => Some(Kind::Types),
             "bits" => Some(Kind::Bits),
+            "locals" => Some(Kind::Locals),
             _ => None,
         }
     }
@@ -40,7 +43,7 @@ const BITS: u16 = 16;
 // How deep the deep stack is.
 fn depth(kind: Kind, places: u16) -> u16 {
     match kind {
-        Kind::Jumps => places / 2,
+        Kind::Jumps | Kind::Locals => places / 2,
         Kind::Meets => places / 6 * 2,
         Kind::Types | Kind::Bits => 0,
     }
@@ -76,6 +79,7 @@ fn instr(kind: Kind, place: u16, places: u16) -> Instr
         }
         Kind::Types => to_and_fro(place, place / 2 % (2 + LIMITS.types) as u16),
         Kind::Bits => to_and_fro(place, (place / 2).min(BITS)),
+        Kind::Locals => Instr::Local(place / 2),
     }
 }
 
@@ -108,18 +112,25 @@ fn slots(alloc: Global, kind: Kind) -> Result<Vec<Ty>, AllocError> {
             }
             slots.push(Ty(0))?;
         }
-        Kind::Jumps | Kind::Meets => {}
+        Kind::Jumps | Kind::Meets | Kind::Locals => {}
     }
     Ok(slots)
+}
+
+// How deep the stack is at the end.
+fn height(kind: Kind, places: u16) -> u16 {
+    match kind {
+        Kind::Meets => depth(kind, places),
+        Kind::Locals => places / 2 * 2,
+        Kind::Jumps | Kind::Types | Kind::Bits => 0,
+    }
 }
 
 // What is on the stack at the end.
 fn left(alloc: Global, kind: Kind, places: u16) -> Result<Vec<Ty>, AllocError> {
     let mut left = Vec::new(alloc);
-    if matches!(kind, Kind::Meets) {
-        for _item in 0..depth(kind, places) {
-            left.push(Ty::BOOL)?;
-        }
+    for _item in 0..height(kind, places) {
+        left.push(Ty::BOOL)?;
     }
     Ok(left)
 }

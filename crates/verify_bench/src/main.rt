@@ -32,7 +32,7 @@ fn main(rt: HostRuntime) -> Result<()> {
     let alloc = rt.alloc();
     let words: Vec<String> = env::args(&rt)?.collect(alloc)?;
     let asked = read(words.as_slice()).context(
-        "usage: verify_bench jumps|meets|types|bits PLACES TURNS",
+        "usage: verify_bench jumps|meets|types|bits|locals PLACES TURNS",
     )?;
     let types = Declarations::new(alloc)?.finish(alloc)?;
     for _turn in 0..asked.turns {

@@ -1,4 +1,4 @@
-use Rattle.std.proofs.Common.{◌≡◌, ◌≢◌, ◌++◌, ◌∷◌, [], Some, Ok, Err, true, pos, w64, to_z, of_z, sym, ap, ◌∙◌, subst, arith, rules}
+use Rattle.std.proofs.Common.{◌≡◌, map, ◌≢◌, ◌++◌, ◌∷◌, [], Some, Ok, Err, true, pos, w64, to_z, of_z, sym, ap, ◌∙◌, subst, arith, rules}
 use Rattle.std.specs.Int.Signed.{lt_z}
 use Rattle.std.proofs.lemmas.Int.{to_z-of_z}
 use Rattle.ioa_value.specs.declared.value.Value.TheVariants.{Num}
@@ -42,27 +42,27 @@ returns-in_ok-put-in-Pick-clause-draws g c =
 pub guard_instruction-requires-clause-fine : goal.guard_instruction-requires-clause-fine
 guard_instruction-requires-clause-fine g c =
     let m = c.args.self.now in
-    subst (λ l. act m.part.code c.args.instr (at c.args.place c.args.stack.now.items m.slots l) ≢ stuck) (sym c.requires.none) c.requires.fine
+    subst (λ l. act m.part.code c.args.instr (at c.args.place (map plain c.args.stack.now.items) m.slots l) ≢ stuck) (sym c.requires.none) c.requires.fine
 
 pub returns-in-Ok : goal.returns-in-Ok
 returns-in-Ok g c =
     let m = c.args.self.now in
-    let new = c.guard_instruction.new.stack.items in
-    let e : moved (Ok c.in-Ok.next) new m.slots m.args ≡ act m.part.code c.args.instr (at c.args.place c.args.stack.now.items m.slots m.args) = ap (λ r. moved r new m.slots m.args) (sym c.in-Ok.is) ∙ c.in_ok-next-in-Const.ensures in
+    let new = map plain c.guard_instruction.new.stack.items in
+    let e : moved (Ok c.in-Ok.next) new m.slots m.args ≡ act m.part.code c.args.instr (at c.args.place (map plain c.args.stack.now.items) m.slots m.args) = ap (λ r. moved r new m.slots m.args) (sym c.in-Ok.is) ∙ c.in_ok-next-in-Const.ensures in
     let reads : OnlyReads c.args.instr = search rules in
     record {
-      draws = draws_on m.part.code c.args.instr c.args.place c.args.stack.now.items m.slots (g.W.Words.stream c.args.words.now) new reads c.in-Ok.next (subst (λ l. moved (Ok c.in-Ok.next) new m.slots l ≡ act m.part.code c.args.instr (at c.args.place c.args.stack.now.items m.slots l)) c.requires.none e);
+      draws = draws_on m.part.code c.args.instr c.args.place c.args.stack.now.items m.slots (g.W.Words.stream c.args.words.now) c.guard_instruction.new.stack.items reads c.in-Ok.next (subst (λ l. moved (Ok c.in-Ok.next) new m.slots l ≡ act m.part.code c.args.instr (at c.args.place (map plain c.args.stack.now.items) m.slots l)) c.requires.none e);
       memory = tt;
     }
 
 pub returns-in-Err : goal.returns-in-Err
 returns-in-Err g c =
     let m = c.args.self.now in
-    let new = c.guard_instruction.new.stack.items in
+    let new = map plain c.guard_instruction.new.stack.items in
     let f = c.in-Err.field-0 in
-    let e : moved (Err f) new m.slots m.args ≡ act m.part.code c.args.instr (at c.args.place c.args.stack.now.items m.slots m.args) = ap (λ r. moved r new m.slots m.args) (sym c.in-Err.is) ∙ c.in_ok-next-in-Const.ensures in
+    let e : moved (Err f) new m.slots m.args ≡ act m.part.code c.args.instr (at c.args.place (map plain c.args.stack.now.items) m.slots m.args) = ap (λ r. moved r new m.slots m.args) (sym c.in-Err.is) ∙ c.in_ok-next-in-Const.ensures in
     let reads : OnlyReads c.args.instr = search rules in
     record {
-      draws = draws_fault m.part.code c.args.instr c.args.place c.args.stack.now.items m.slots (g.W.Words.stream c.args.words.now) new reads f (subst (λ l. moved (Err f) new m.slots l ≡ act m.part.code c.args.instr (at c.args.place c.args.stack.now.items m.slots l)) c.requires.none e);
+      draws = draws_fault m.part.code c.args.instr c.args.place c.args.stack.now.items m.slots (g.W.Words.stream c.args.words.now) c.guard_instruction.new.stack.items reads f (subst (λ l. moved (Err f) new m.slots l ≡ act m.part.code c.args.instr (at c.args.place (map plain c.args.stack.now.items) m.slots l)) c.requires.none e);
       memory = tt;
     }
