@@ -12,7 +12,7 @@ use Rattle.ioa_value.specs.Written.{written_values}
 use Rattle.ioa_value.specs.declared.operator.Op.{Op}
 use Rattle.ioa_value.specs.declared.operator.Op.TheVariants.{Neg, Add, Sub, Mul, Div, Mod, Lt, Le, Gt, Ge, Not, Eq, Ne, Len, Head, Tail, Last, Init, Append, At, Member, Without, Make, Field}
 use Rattle.ioa_code.specs.declared.instr.Instr.{Instr}
-use Rattle.ioa_code.specs.declared.instr.Instr.TheVariants.{Const, Slot, Arg, Store, Jump, JumpIfFalse, Any, Pick, Apply}
+use Rattle.ioa_code.specs.declared.instr.Instr.TheVariants.{Const, Slot, Arg, Store, Jump, JumpIfFalse, Any, Pick, Apply, Each, Again, Local}
 use Rattle.ioa_code.specs.Valid.{Part}
 use Rattle.ioa_tree.specs.declared.tree.Kind.{Kind}
 use Rattle.ioa_tree.specs.declared.tree.Kind.TheVariants.{Input, Output, Internal}
@@ -101,6 +101,9 @@ instruction_text types part (JumpIfFalse t) = codes "JumpIfFalse " ++ decimal t
 instruction_text types part Any = codes "Any"
 instruction_text types part (Pick ty) = codes "Pick " ++ type_name types ty.0
 instruction_text types part (Apply op) = operator_text types op
+instruction_text types part (Each t) = codes "Each " ++ decimal t
+instruction_text types part (Again t) = codes "Again " ++ decimal t
+instruction_text types part (Local d) = codes "Local " ++ decimal d
 
 -- it stands behind its place
 abbrev pub instruction_line : Table → Part → ℕ → Instr → List ℕ

@@ -96,6 +96,9 @@ fn instruction_text(
             Ok(format!(in alloc; "Pick {name}")?)
         }
         Instr::Apply(op) => operator_text(alloc, types, op),
+        Instr::Each(t) => Ok(format!(in alloc; "Each {t}")?),
+        Instr::Again(t) => Ok(format!(in alloc; "Again {t}")?),
+        Instr::Local(d) => Ok(format!(in alloc; "Local {d}")?),
     }
 }
 

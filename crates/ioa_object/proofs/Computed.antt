@@ -51,6 +51,11 @@ pub is_read : read bytes ≡ Ok (program, record { place = 39; rest = []; parts 
 unfolding read versioned_at byte_at tables_at types_at count_at short_at bytes_at items_at list_at name_at named_at component_at hidden_at entry_at opening_at coded_at kind_at value_at type_at payload_in truth_at part_at local_at instrs_at instr_at instr_of is_name is_reserved reserved
 is_read = refl
 
+-- under the version with loops it is read as well: read_object refuses it, since it has none
+pub needless_read : read (slice_set bytes 4 0x02) ≡ Ok (program, record { place = 39; rest = []; parts = 3 })
+unfolding read versioned_at byte_at tables_at types_at count_at short_at bytes_at items_at list_at name_at named_at component_at hidden_at entry_at opening_at coded_at kind_at value_at type_at payload_in truth_at part_at local_at instrs_at instr_at instr_of is_name is_reserved reserved
+needless_read = refl
+
 -- no kind
 pub kind_refused : read (slice_set bytes 17 0x03) ≡ Err (errors.BadTable 17)
 unfolding read versioned_at byte_at tables_at types_at count_at short_at bytes_at items_at list_at name_at named_at component_at entry_at opening_at kind_at is_name is_reserved reserved
@@ -60,6 +65,11 @@ kind_refused = refl
 pub payload_refused : read (slice_set bytes 27 0x02) ≡ Err (errors.BadTable 27)
 unfolding read versioned_at byte_at tables_at types_at count_at short_at bytes_at items_at list_at name_at named_at component_at entry_at opening_at kind_at value_at type_at payload_in truth_at is_name is_reserved reserved
 payload_refused = refl
+
+-- an instruction of loops, which are not there under the version without
+pub loop_refused : read (slice_set bytes 30 0x28) ≡ Err (errors.BadCode 0 0)
+unfolding read versioned_at byte_at tables_at types_at count_at short_at bytes_at items_at list_at name_at named_at component_at entry_at opening_at coded_at kind_at value_at type_at payload_in truth_at part_at local_at instrs_at instr_at instr_of is_name is_reserved reserved
+loop_refused = refl
 
 -- a variable that is not there
 pub code_refused : read (slice_set bytes 30 0x02) ≡ Err (errors.BadCode 0 0)

@@ -1,5 +1,5 @@
 -- Entries, read and spelled: what stands before the code, and the code.
-use Rattle.std.proofs.Common.{◌≡◌, ℕ, zero, suc, ◌^◌, ◌<◌, ◌≤◌, false, nat_le, ◌==◌, List, [], ◌∷◌, ◌++◌, length, map, Option, Some, None, refl, sym, ap, ◌∙◌, subst, All, arith, if◌then◌else◌, IfSome}
+use Rattle.std.proofs.Common.{◌≡◌, ℕ, zero, suc, ◌^◌, ◌<◌, ◌≤◌, Bool, false, ◌||◌, nat_le, ◌==◌, List, [], ◌∷◌, ◌++◌, length, map, Option, Some, None, refl, sym, ap, ◌∙◌, subst, All, arith, if◌then◌else◌, IfSome}
 use Rattle.std.proofs.lemmas.Bool.{leb-true}
 use Rattle.std.proofs.lemmas.List.{append_assoc, length-map}
 use Rattle.ioa_value.specs.Names.{IsName}
@@ -20,6 +20,7 @@ use Rattle.ioa_compile.specs.declared.limits.TheConstants.{MOST_PLACES}
 use Rattle.ioa_object.specs.Reading.{built, list_at, kind_of, kind_from, kind_at, position_at, type_at, value_at, Opening, opening_at, coded_at, entry_at, part_at, local_at}
 use Rattle.ioa_object.specs.Spelling.{short, text, list_of, value, kind_byte, position, code, local_code, entry}
 use Rattle.ioa_object.specs.Spots.{Spot}
+use Rattle.ioa_object.specs.Versions.{MayStand, part_loops, local_loops, entry_loops}
 use Rattle.ioa_object.proofs.Formats.{AreBytes, Finds, finds_ok, finds_on, finds_built, Yields, yields_ok, yields_none, yields_on, yields_right, yields_weaker, Taken, IsFormat, chained}
 use Rattle.ioa_object.proofs.Numbers.{IsAny, byte_format, type_format}
 use Rattle.ioa_object.proofs.Texts.{name_format}
@@ -27,6 +28,7 @@ use Rattle.ioa_object.proofs.Lists.{AreListed, plain_list_format}
 use Rattle.ioa_object.proofs.Fresh.{IsNew}
 use Rattle.ioa_object.proofs.ValueFormats.{value_format, few_types}
 use Rattle.ioa_object.proofs.PartFormats.{over, own_types, types_own, IsPartHere, part_format, local_format}
+use Rattle.ioa_object.proofs.Standing.{both_stand, each_stands, some_stands, local_stands}
 
 -- ---- kinds
 
@@ -137,10 +139,10 @@ local_some P Q f Output (Some x) h = f x h
 local_some P Q f Internal None h = absurd h
 local_some P Q f Internal (Some x) h = f x h
 
-module _ (types : Table) (are : AreTypes types) (slots : List ℕ) (few_slots : length slots < 2 ^ 16) where
+module _ (loops : Bool) (types : Table) (are : AreTypes types) (slots : List ℕ) (few_slots : length slots < 2 ^ 16) where
   module _ (o : Opening) (few_consts : length o.consts ≤ MOST_PLACES) (typed : OwnTypes types o.consts) (few_positions : length o.positions ≤ LIMITS.parameters) where
     abbrev Here : PartKind → List ℕ → List ℕ → Part → Type 0
-    Here = IsPartHere types are slots few_slots o.consts few_consts typed
+    Here = IsPartHere loops types are slots few_slots o.consts few_consts typed
 
     -- the entry has what stands before the code, and code that fits it
     pub record IsCoded (e : EntryCode) : Type 0 where
@@ -154,36 +156,36 @@ module _ (types : Table) (are : AreTypes types) (slots : List ℕ) (few_slots : 
     abbrev pub coded : EntryCode → List ℕ
     coded e = local_code e.pre ++ (local_code e.propose ++ code e.effect)
 
-    part_here : (kind : PartKind) (args end : List ℕ) → length args < 2 ^ 16 → IsFormat (part_at types slots o.consts kind args end) code (Here kind args end)
-    part_here = part_format types are slots few_slots o.consts few_consts typed
+    part_here : (kind : PartKind) (args end : List ℕ) → length args < 2 ^ 16 → IsFormat (part_at loops types slots o.consts kind args end) code (Here kind args end)
+    part_here = part_format loops types are slots few_slots o.consts few_consts typed
 
     few_args : length (position_types o.positions) < 2 ^ 16
     few_args = omega (arith, length-map o.positions domain_type)
 
-    pre_format : IsFormat (local_at o.kind (part_at types slots o.consts Pre (position_types o.positions) (0 ∷ []))) local_code (HasLocal (Here Pre (position_types o.positions) (0 ∷ [])) o.kind)
+    pre_format : IsFormat (local_at o.kind (part_at loops types slots o.consts Pre (position_types o.positions) (0 ∷ []))) local_code (HasLocal (Here Pre (position_types o.positions) (0 ∷ [])) o.kind)
     pre_format = local_format o.kind _ _ (part_here Pre (position_types o.positions) (0 ∷ []) few_args)
 
-    propose_format : IsFormat (local_at o.kind (part_at types slots o.consts Propose [] (parameter_types o.positions))) local_code (HasLocal (Here Propose [] (parameter_types o.positions)) o.kind)
+    propose_format : IsFormat (local_at o.kind (part_at loops types slots o.consts Propose [] (parameter_types o.positions))) local_code (HasLocal (Here Propose [] (parameter_types o.positions)) o.kind)
     propose_format = local_format o.kind _ _ (part_here Propose [] (parameter_types o.positions) (omega arith))
 
-    effect_format : IsFormat (part_at types slots o.consts Eff (position_types o.positions) []) code (Here Eff (position_types o.positions) [])
+    effect_format : IsFormat (part_at loops types slots o.consts Eff (position_types o.positions) []) code (Here Eff (position_types o.positions) [])
     effect_format = part_here Eff (position_types o.positions) [] few_args
 
-    pub coded_format : IsFormat (coded_at types slots o) coded IsCoded
+    pub coded_format : IsFormat (coded_at loops types slots o) coded IsCoded
     unfolding coded_at
     coded_format = record { finds = finds; yields = yields }
       where
-        finds : (e : EntryCode) → IsCoded e → (c : Spot) (more : List ℕ) → c.rest ≡ coded e ++ more → Finds (coded_at types slots o c) e more
+        finds : (e : EntryCode) → IsCoded e → (c : Spot) (more : List ℕ) → c.rest ≡ coded e ++ more → Finds (coded_at loops types slots o c) e more
         finds e h c more front =
             let tail = local_code e.propose ++ code e.effect in
             let same : record { kind = o.kind; name = o.name; positions = o.positions; pre = e.pre; propose = e.propose; effect = e.effect } ≡ e =
             λ i. record { kind = sym h.kind i; name = sym h.name i; positions = sym h.positions i; pre = e.pre; propose = e.propose; effect = e.effect } in
-            subst (λ (x : EntryCode). Finds (coded_at types slots o c) x more) same
+            subst (λ (x : EntryCode). Finds (coded_at loops types slots o c) x more) same
             (finds_on _ _ _ _ _ _ (pre_format.finds e.pre h.pre c (tail ++ more) (front ∙ append_assoc (local_code e.pre) tail more))
             (λ d1 at1. finds_on _ _ _ _ _ _ (propose_format.finds e.propose h.propose d1 (code e.effect ++ more) (at1 ∙ append_assoc (local_code e.propose) (code e.effect) more))
             (λ d2 at2. finds_on _ _ _ _ _ _ (effect_format.finds e.effect h.effect d2 more at2) (λ d3 at3. finds_ok _ d3 more at3))))
 
-        yields : (c : Spot) → AreBytes c.rest → Yields (coded_at types slots o c) (Taken coded IsCoded c.rest)
+        yields : (c : Spot) → AreBytes c.rest → Yields (coded_at loops types slots o c) (Taken coded IsCoded c.rest)
         yields c bytes =
             yields_on _ _ _ _ (pre_format.yields c bytes) (λ pre d1 h1.
             yields_on _ _ _ _ (propose_format.yields d1 h1.after) (λ propose d2 h2.
@@ -200,6 +202,7 @@ module _ (types : Table) (are : AreTypes types) (slots : List ℕ) (few_slots : 
   pub record IsEntryHere (before : List EntryCode) (e : EntryCode) : Type 0 where
     pub entry : IsEntry (over types slots) e
     pub new : IsNew (λ e. e.name) before e
+    pub stand : MayStand loops (entry_loops e)
 
   -- what stands of an entry before its code
   abbrev opening_of : EntryCode → Opening
@@ -218,14 +221,17 @@ module _ (types : Table) (are : AreTypes types) (slots : List ℕ) (few_slots : 
 
   is_coded : (before : List EntryCode) (e : EntryCode) (h : IsEntryHere before e)
       → let o = is_opening before e h in IsCoded (opening_of e) o.consts.few (own_types types e.effect.code.consts o.consts.fine) o.positions.few e
-  is_coded before e h = record {
-    kind = refl;
-    name = refl;
-    positions = refl;
-    pre = local_both _ _ _ (λ p k same. record { part = k; same_consts = same }) e.kind e.pre h.entry.pre h.entry.consts;
-    propose = local_both _ _ _ (λ p k same. record { part = k; same_consts = same }) e.kind e.propose h.entry.propose h.entry.same_consts;
-    effect = record { part = h.entry.effect; same_consts = refl };
-  }
+  is_coded before e h =
+      let first = each_stands loops (local_loops e.pre) (local_loops e.propose || part_loops e.effect) h.stand in
+      let others = each_stands loops (local_loops e.propose) (part_loops e.effect) first.1 in
+      record {
+        kind = refl;
+        name = refl;
+        positions = refl;
+        pre = local_both _ _ _ (λ p k q. record { part = k; same_consts = q.0; stand = q.1 }) e.kind e.pre h.entry.pre (some_stands loops _ e.pre h.entry.consts first.0);
+        propose = local_both _ _ _ (λ p k q. record { part = k; same_consts = q.0; stand = q.1 }) e.kind e.propose h.entry.propose (some_stands loops _ e.propose h.entry.same_consts others.0);
+        effect = record { part = h.entry.effect; same_consts = refl; stand = others.1 };
+      }
 
   entry_is : (before : List EntryCode) (o : Opening) (opened : IsOpening types are before o) (e : EntryCode)
       → IsCoded o opened.consts.few (own_types types o.consts opened.consts.fine) opened.positions.few e → IsEntryHere before e
@@ -242,6 +248,8 @@ module _ (types : Table) (are : AreTypes types) (slots : List ℕ) (few_slots : 
       few_consts = subst (λ (vs : List Val). length vs ≤ MOST_PLACES) (sym h.effect.same_consts) opened.consts.few;
     };
     new = ap (contains (map (λ e. e.name) before)) h.name ∙ opened.new;
+    stand = both_stand loops (local_loops e.pre) (local_loops e.propose || part_loops e.effect) (local_stands loops _ (λ p k. k.stand) o.kind e.pre h.pre)
+        (both_stand loops (local_loops e.propose) (part_loops e.effect) (local_stands loops _ (λ p k. k.stand) o.kind e.propose h.propose) h.effect.stand);
   }
     where
       locally : (x : Option Part) (P : List Domain → Part → Type 0) → HasLocal (P o.positions) o.kind x → HasLocal (P e.positions) e.kind x
@@ -262,7 +270,7 @@ module _ (types : Table) (are : AreTypes types) (slots : List ℕ) (few_slots : 
       ∙ ap (λ ds. kind_byte e.kind ∷ (text e.name ++ (list_of position ds ++ (list_of value o.consts ++ back)))) (sym h.positions)
       ∙ ap (λ vs. kind_byte e.kind ∷ (text e.name ++ (list_of position e.positions ++ (list_of value vs ++ back)))) (sym h.effect.same_consts)
 
-  pub entry_format : (before : List EntryCode) → IsFormat (entry_at types slots before) entry (IsEntryHere before)
+  pub entry_format : (before : List EntryCode) → IsFormat (entry_at loops types slots before) entry (IsEntryHere before)
   unfolding entry_at
   entry_format before = record {
     finds = λ e h c more front.

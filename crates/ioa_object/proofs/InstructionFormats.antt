@@ -1,14 +1,18 @@
 -- Instructions, read and spelled: a byte and, where it has one, an operand.
-use Rattle.std.proofs.Common.{◌≡◌, ℕ, ◌^◌, ◌<◌, Bool, true, false, ◌==◌, List, [], ◌∷◌, ◌++◌, length, Option, Some, None, IfSome, if◌then◌else◌, refl, sym, ap, ◌∙◌, subst, Ok}
+use Rattle.std.proofs.Common.{◌≡◌, ℕ, ◌^◌, ◌<◌, Bool, true, false, not, ◌&&◌, ◌==◌, List, [], ◌∷◌, ◌++◌, length, Option, Some, None, IfSome, if◌then◌else◌, refl, sym, ap, ◌∙◌, subst, Ok, Err}
+use Rattle.std.proofs.lemmas.Bool.{false≢true}
 use Rattle.ioa_value.specs.declared.operator.Op.{Op}
 use Rattle.ioa_value.specs.declared.operator.Op.TheVariants.{Neg, Add, Sub, Mul, Div, Mod, Lt, Le, Gt, Ge, Not, Eq, Ne, Len, Head, Tail, Last, Init, Append, At, Member, Without, Make, Field}
 use Rattle.ioa_value.proofs.SameLemmas.{equal_numbers}
 use Rattle.ioa_code.specs.declared.instr.Instr.{Instr}
-use Rattle.ioa_code.specs.declared.instr.Instr.TheVariants.{Const, Slot, Arg, Store, Jump, JumpIfFalse, Any, Pick, Apply}
-use Rattle.ioa_object.specs.Reading.{Outcome, built, short_at, operator_at, type_operand, applied, instr_of, instr_at}
+use Rattle.ioa_code.specs.declared.instr.Instr.TheVariants.{Const, Slot, Arg, Store, Jump, JumpIfFalse, Any, Pick, Apply, Each, Again, Local}
+use Rattle.ioa_code.specs.Loops.{of_loops}
+use Rattle.ioa_object.specs.Reading.{Outcome, built, short_at, operator_at, type_operand, applied, instr_of, is_of_loops, instr_at}
 use Rattle.ioa_object.specs.Spelling.{short, operator, instruction}
 use Rattle.ioa_object.specs.Spots.{Spot}
-use Rattle.ioa_object.proofs.Formats.{AreBytes, Finds, finds_ok, finds_on, finds_built, Yields, yields_ok, yields_none, yields_on, yields_if, yields_weaker, IsFormat}
+use Rattle.ioa_object.specs.Versions.{MayStand}
+use Rattle.ioa_object.specs.declared.failure.ObjErr.TheVariants as errors
+use Rattle.ioa_object.proofs.Formats.{AreBytes, Finds, finds_ok, finds_on, finds_built, Yields, yields_ok, yields_none, yields_on, yields_if, yields_weaker, Taken, IsFormat}
 use Rattle.ioa_object.proofs.Numbers.{byte_format, short_format}
 
 -- the operator's operand, if it has one, fits 16 bits
@@ -49,6 +53,9 @@ IsShort (JumpIfFalse t) = t < 2 ^ 16
 IsShort Any = Unit {0}
 IsShort (Pick ty) = ty.0 < 2 ^ 16
 IsShort (Apply op) = IsShortOp op
+IsShort (Each e) = e < 2 ^ 16
+IsShort (Again t) = t < 2 ^ 16
+IsShort (Local d) = d < 2 ^ 16
 
 -- ---- operators' bytes
 
@@ -112,6 +119,9 @@ module _ (part at : ℕ) where
   operand (Apply Without) = []
   operand (Apply (Make ty)) = short ty.0
   operand (Apply (Field j)) = short j
+  operand (Each e) = short e
+  operand (Again t) = short t
+  operand (Local d) = short d
 
   abbrev byte : Instr → ℕ
   byte (Const k) = 1
@@ -146,6 +156,9 @@ module _ (part at : ℕ) where
   byte (Apply Without) = 37
   byte (Apply (Make ty)) = 38
   byte (Apply (Field j)) = 39
+  byte (Each e) = 40
+  byte (Again t) = 41
+  byte (Local d) = 42
 
   byte_first : (i : Instr) → instruction i ≡ byte i ∷ operand i
   byte_first (Const k) = refl
@@ -180,6 +193,9 @@ module _ (part at : ℕ) where
   byte_first (Apply Without) = refl
   byte_first (Apply (Make ty)) = refl
   byte_first (Apply (Field j)) = refl
+  byte_first (Each e) = refl
+  byte_first (Again t) = refl
+  byte_first (Local d) = refl
 
   of_finds : (i : Instr) → IsShort i → (d : Spot) (more : List ℕ) → d.rest ≡ operand i ++ more → Finds (instr_of part at (byte i) d) i more
   unfolding instr_of operator_at
@@ -215,6 +231,9 @@ module _ (part at : ℕ) where
   of_finds (Apply Without) h d more e = alone 37 (Apply Without) (λ d. refl) d more e
   of_finds (Apply (Make ty)) h d more e = with_operand 38 (λ n. Apply (Make (type_operand n))) (λ d. refl) (ty.0) h d more e
   of_finds (Apply (Field j)) h d more e = with_operand 39 (λ n. Apply (Field n)) (λ d. refl) j h d more e
+  of_finds (Each t) h d more e = with_operand 40 Each (λ d. refl) t h d more e
+  of_finds (Again t) h d more e = with_operand 41 Again (λ d. refl) t h d more e
+  of_finds (Local k) h d more e = with_operand 42 Local (λ d. refl) k h d more e
 
   -- ---- what it was
 
@@ -243,14 +262,92 @@ module _ (part at : ℕ) where
       yields_if (b == 8) _ _ _ (λ t. operand_yields b (λ n. Pick (type_operand n)) 8 (λ n. refl) (λ n h. h) t d bytes) (λ f.
       yields_if (b == 38) _ _ _ (λ t. operand_yields b (λ n. Apply (Make (type_operand n))) 38 (λ n. refl) (λ n h. h) t d bytes) (λ f.
       yields_if (b == 39) _ _ _ (λ t. operand_yields b (λ n. Apply (Field n)) 39 (λ n. refl) (λ n h. h) t d bytes) (λ f.
-      applied_yields b (operator_at b) (operator_of b) d bytes))))))))))
+      yields_if (b == 40) _ _ _ (λ t. operand_yields b Each 40 (λ n. refl) (λ n h. h) t d bytes) (λ f.
+      yields_if (b == 41) _ _ _ (λ t. operand_yields b Again 41 (λ n. refl) (λ n h. h) t d bytes) (λ f.
+      yields_if (b == 42) _ _ _ (λ t. operand_yields b Local 42 (λ n. refl) (λ n h. h) t d bytes) (λ f.
+      applied_yields b (operator_at b) (operator_of b) d bytes)))))))))))))
 
-pub instr_format : (part : ℕ) (before : List Instr) → IsFormat (instr_at part before) instruction IsShort
+  -- ---- instructions of loops
+
+  byte_loops : (i : Instr) → is_of_loops (byte i) ≡ of_loops i
+  byte_loops (Const k) = refl
+  byte_loops (Slot i) = refl
+  byte_loops (Arg i) = refl
+  byte_loops (Store i) = refl
+  byte_loops (Jump t) = refl
+  byte_loops (JumpIfFalse t) = refl
+  byte_loops Any = refl
+  byte_loops (Pick ty) = refl
+  byte_loops (Apply Neg) = refl
+  byte_loops (Apply Add) = refl
+  byte_loops (Apply Sub) = refl
+  byte_loops (Apply Mul) = refl
+  byte_loops (Apply Div) = refl
+  byte_loops (Apply Mod) = refl
+  byte_loops (Apply Lt) = refl
+  byte_loops (Apply Le) = refl
+  byte_loops (Apply Gt) = refl
+  byte_loops (Apply Ge) = refl
+  byte_loops (Apply Not) = refl
+  byte_loops (Apply Eq) = refl
+  byte_loops (Apply Ne) = refl
+  byte_loops (Apply Len) = refl
+  byte_loops (Apply Head) = refl
+  byte_loops (Apply Tail) = refl
+  byte_loops (Apply Last) = refl
+  byte_loops (Apply Init) = refl
+  byte_loops (Apply Append) = refl
+  byte_loops (Apply At) = refl
+  byte_loops (Apply Member) = refl
+  byte_loops (Apply Without) = refl
+  byte_loops (Apply (Make ty)) = refl
+  byte_loops (Apply (Field j)) = refl
+  byte_loops (Each e) = refl
+  byte_loops (Again t) = refl
+  byte_loops (Local d) = refl
+
+  -- the byte of an instruction that is spelled there
+  byte_of_spelled : (b : ℕ) (bytes rest : List ℕ) (i : Instr) → b ∷ bytes ≡ instruction i ++ rest → is_of_loops b ≡ of_loops i
+  byte_of_spelled b bytes rest i e =
+      let both : b ∷ bytes ≡ byte i ∷ (operand i ++ rest) = e ∙ ap (λ l. l ++ rest) (byte_first i) in
+      let same : b ≡ byte i = cc in
+      ap is_of_loops same ∙ byte_loops i
+
+-- its operand fits 16 bits, and it may stand where loops may, or may not
+abbrev pub IsAllowed : Bool → Instr → Type 0
+IsAllowed loops i = IsShort i × MayStand loops (of_loops i)
+
+stands_known : (loops has : Bool) → MayStand loops has → (not loops && has) ≡ false
+stands_known true has h = refl
+stands_known false true h = sym (h refl)
+stands_known false false h = refl
+
+known_stands : (loops has : Bool) → (not loops && has) ≡ false → MayStand loops has
+known_stands true has h e = refl
+known_stands false has h e = sym h ∙ e
+
+pub instr_format : (loops : Bool) (part : ℕ) (before : List Instr) → IsFormat (instr_at loops part before) instruction (IsAllowed loops)
 unfolding instr_at
-instr_format part before = record {
-  finds = λ i h c more e.
-      finds_on _ _ _ _ _ _ (byte_format.finds (byte part (length before) i) tt c (operand part (length before) i ++ more) (e ∙ ap (λ l. l ++ more) (byte_first part (length before) i)))
-      (λ d at. of_finds part (length before) i h d more at);
-  yields = λ c bytes. yields_on _ _ _ _ (byte_format.yields c bytes) (λ b d h.
-      yields_weaker _ _ _ (of_yields part (length before) b d h.after) (λ i rest k. record { fine = k.0; front = h.front ∙ k.1; after = k.2 }));
-}
+instr_format loops part before = record { finds = finds; yields = yields }
+  where
+    at : ℕ
+    at = length before
+
+    found : (i : Instr) → IsAllowed loops i → (b : Bool) → (not loops && is_of_loops (byte part at i)) ≡ b → (d : Spot) (more : List ℕ) → d.rest ≡ operand part at i ++ more
+        → Finds (if b then Err (errors.BadCode part at) else instr_of part at (byte part at i) d) i more
+    found i h true is d more e = absurd (false≢true (sym (stands_known loops (of_loops i) h.1) ∙ ap (λ b. not loops && b) (sym (byte_loops part at i)) ∙ is))
+    found i h false is d more e = of_finds part at i h.0 d more e
+
+    finds : (i : Instr) → IsAllowed loops i → (c : Spot) (more : List ℕ) → c.rest ≡ instruction i ++ more → Finds (instr_at loops part before c) i more
+    finds i h c more e =
+        finds_on _ _ _ _ _ _ (byte_format.finds (byte part at i) tt c (operand part at i ++ more) (e ∙ ap (λ l. l ++ more) (byte_first part at i)))
+        (λ d there. found i h (not loops && is_of_loops (byte part at i)) refl d more there)
+
+    yields : (c : Spot) → AreBytes c.rest → Yields (instr_at loops part before c) (Taken instruction (IsAllowed loops) c.rest)
+    yields c bytes = yields_on _ _ _ _ (byte_format.yields c bytes) (λ b d h.
+        yields_if (not loops && is_of_loops b) _ _ _ (λ unknown. yields_none _ _) (λ known.
+        yields_weaker _ _ _ (of_yields part at b d h.after) (λ i rest k. record {
+          fine = (k.0, known_stands loops (of_loops i) (ap (λ b. not loops && b) (sym (byte_of_spelled part at b d.rest rest i k.1)) ∙ known));
+          front = h.front ∙ k.1;
+          after = k.2;
+        })))

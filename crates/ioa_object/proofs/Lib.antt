@@ -7,6 +7,7 @@ pub mod Local
 pub mod Formats
 pub mod Numbers
 pub mod Lists
+pub mod Standing
 pub mod Texts
 pub mod Fresh
 pub mod Forms

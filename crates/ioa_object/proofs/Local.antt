@@ -9,7 +9,7 @@ use Rattle.ioa_value.specs.declared.operator.Op.{Op}
 use Rattle.ioa_value.specs.declared.operator.Op.TheVariants.{Make, Field}
 use Rattle.ioa_code.specs.declared.instr.PartKind.{PartKind}
 use Rattle.ioa_code.specs.declared.instr.Instr.{Instr}
-use Rattle.ioa_code.specs.declared.instr.Instr.TheVariants.{Const, Slot, Arg, Store, Jump, JumpIfFalse, Any, Pick, Apply}
+use Rattle.ioa_code.specs.declared.instr.Instr.TheVariants.{Const, Slot, Arg, Store, Jump, JumpIfFalse, Any, Pick, Apply, Each, Again, Local}
 use Rattle.ioa_code.specs.Scan.{Verdict, good, bad, scan}
 use Rattle.ioa_code.specs.Valid.{Part}
 use Rattle.ioa_tree.specs.declared.tree.Kind.{Kind}
@@ -176,26 +176,34 @@ instr_of_local part at b = record {
       stays_if more (b == 7) _ _ _ _ (stays_ok more Any c) (
       stays_if more (b == 8) _ _ _ _ (operand_local (λ n. Pick (type_operand n)) c more) (
       stays_if more (b == 38) _ _ _ _ (operand_local (λ n. Apply (Make (type_operand n))) c more) (
-      stays_if more (b == 39) _ _ _ _ (operand_local (λ n. Apply (Field n)) c more) ((applied_local part at (operator_at b)).stays c more))))))))));
+      stays_if more (b == 39) _ _ _ _ (operand_local (λ n. Apply (Field n)) c more) (
+      stays_if more (b == 40) _ _ _ _ (operand_local Each c more) (
+      stays_if more (b == 41) _ _ _ _ (operand_local Again c more) (
+      stays_if more (b == 42) _ _ _ _ (operand_local Local c more) ((applied_local part at (operator_at b)).stays c more)))))))))))));
 }
 
-pub instr_local : (part : ℕ) (before : List Instr) → IsLocal (instr_at part before)
+pub instr_local : (loops : Bool) (part : ℕ) (before : List Instr) → IsLocal (instr_at loops part before)
 unfolding instr_at
-instr_local part before = record { stays = λ c more. stays_on more _ _ _ _ (byte_local.stays c more) (λ b d. (instr_of_local part (length before) b).stays d more) }
+instr_local loops part before = record {
+  stays = λ c more. stays_on more _ _ _ _ (byte_local.stays c more)
+      (λ b d. stays_if more _ _ _ _ _ (stays_wrong more _ tt) ((instr_of_local part (length before) b).stays d more));
+}
 
-pub instrs_local : IsLocal instrs_at
+pub instrs_local : (loops : Bool) → IsLocal (instrs_at loops)
 unfolding instrs_at
-instrs_local = record { stays = λ c more. stays_on more _ _ _ _ (short_local.stays c more) (λ n d. (items_local (instr_at c.parts) (instr_local c.parts) [] n).stays d more) }
+instrs_local loops = record {
+  stays = λ c more. stays_on more _ _ _ _ (short_local.stays c more) (λ n d. (items_local (instr_at loops c.parts) (instr_local loops c.parts) [] n).stays d more);
+}
 
 verified_local : (verdict : Verdict) (part : Part) → IsLocal (verified verdict part)
 verified_local good part = record { stays = λ c more. stays_ok more part (counted c) }
 verified_local (bad at why) part = record { stays = λ c more. stays_wrong more _ tt }
 
-module _ (types : Table) (slots : List ℕ) where
-  pub part_local : (consts : List Val) (kind : PartKind) (args end : List ℕ) → IsLocal (part_at types slots consts kind args end)
+module _ (loops : Bool) (types : Table) (slots : List ℕ) where
+  pub part_local : (consts : List Val) (kind : PartKind) (args end : List ℕ) → IsLocal (part_at loops types slots consts kind args end)
   unfolding part_at
   part_local consts kind args end = record {
-    stays = λ c more. stays_on more _ _ _ _ (instrs_local.stays c more)
+    stays = λ c more. stays_on more _ _ _ _ ((instrs_local loops).stays c more)
         (λ is d. (verified_local (scan (part_of types slots consts kind args end is)) (part_of types slots consts kind args end is)).stays d more);
   }
 
@@ -205,7 +213,7 @@ module _ (types : Table) (slots : List ℕ) where
   local_local Output part l = record { stays = λ c more. stays_built more _ _ _ (l.stays c more) }
   local_local Internal part l = record { stays = λ c more. stays_built more _ _ _ (l.stays c more) }
 
-  pub coded_local : (o : Opening) → IsLocal (coded_at types slots o)
+  pub coded_local : (o : Opening) → IsLocal (coded_at loops types slots o)
   unfolding coded_at
   coded_local o = record {
     stays = λ c more. stays_on more _ _ _ _ ((local_local o.kind _ (part_local _ _ _ _)).stays c more) (λ pre d.
@@ -238,18 +246,18 @@ opening_local types before = record {
       stays_on more _ _ _ _ ((list_local 0 _ _ (λ _. value_local types)).stays f more) (λ consts g. stays_ok more _ g))));
 }
 
-pub entry_local : (types : Table) (slots : List ℕ) (before : List EntryCode) → IsLocal (entry_at types slots before)
+pub entry_local : (loops : Bool) (types : Table) (slots : List ℕ) (before : List EntryCode) → IsLocal (entry_at loops types slots before)
 unfolding entry_at
-entry_local types slots before = record {
-  stays = λ c more. stays_on more _ _ _ _ ((opening_local types before).stays c more) (λ o d. (coded_local types slots o).stays d more);
+entry_local loops types slots before = record {
+  stays = λ c more. stays_on more _ _ _ _ ((opening_local types before).stays c more) (λ o d. (coded_local loops types slots o).stays d more);
 }
 
-pub component_local : (types : Table) (before : List MemberCode) → IsLocal (component_at types before)
+pub component_local : (loops : Bool) (types : Table) (before : List MemberCode) → IsLocal (component_at loops types before)
 unfolding component_at
-component_local types before = record {
+component_local loops types before = record {
   stays = λ c more. stays_on more _ _ _ _ ((name_local _).stays c more) (λ x d.
       stays_on more _ _ _ _ ((list_local 0 _ _ (λ _. value_local types)).stays d more) (λ vs e.
-      stays_on more _ _ _ _ ((list_local 1 _ _ (entry_local types _)).stays e more) (λ es f. stays_ok more _ f)));
+      stays_on more _ _ _ _ ((list_local 1 _ _ (entry_local loops types _)).stays e more) (λ es f. stays_ok more _ f)));
 }
 
 -- ---- programs
@@ -258,10 +266,10 @@ pub hidden_local : (ms : List MemberCode) (before : List Name) → IsLocal (hidd
 unfolding hidden_at
 hidden_local ms before = record { stays = (name_local _).stays }
 
-pub tables_local : IsLocal tables_at
+pub tables_local : (loops : Bool) → IsLocal (tables_at loops)
 unfolding tables_at
-tables_local = record {
+tables_local loops = record {
   stays = λ c more. stays_on more _ _ _ _ (types_local.stays c more) (λ types d. stays_on more _ _ _ _ ((name_local _).stays d more) (λ x e.
-      stays_on more _ _ _ _ ((list_local 1 _ _ (component_local types)).stays e more) (λ ms f.
+      stays_on more _ _ _ _ ((list_local 1 _ _ (component_local loops types)).stays e more) (λ ms f.
       stays_on more _ _ _ _ ((list_local 0 _ _ (hidden_local ms)).stays f more) (λ hidden g. stays_ok more _ g))));
 }

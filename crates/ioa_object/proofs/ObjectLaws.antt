@@ -1,24 +1,26 @@
 -- Objects: what is read of them, and what follows for all.
-use Rattle.std.proofs.Common.{◌≡◌, ℕ, List, [], ◌∷◌, ◌++◌, refl, sym, ap, ◌∙◌, subst, Ok}
+use Rattle.std.proofs.Common.{◌≡◌, ℕ, Bool, true, false, List, [], ◌∷◌, ◌++◌, refl, sym, ap, ◌∙◌, subst, Ok}
 use Rattle.std.proofs.lemmas.List.{append-nil}
 use Rattle.ioa_compile.specs.Programs.{Prog}
 use Rattle.ioa_compile.specs.Tables.{AreTables, AreRight, IsProgram, tabled}
 use Rattle.ioa_tree.specs.Components.{Compatible}
 use Rattle.ioa_object.specs.Objects.{IsObject, OneObject, OneProgram, NoneBeginsAnother}
 use Rattle.ioa_object.specs.Reading.{Outcome, byte_at, versioned_at, tables_at, read}
-use Rattle.ioa_object.specs.Spelling.{mark, version, tables, object}
+use Rattle.ioa_object.specs.Spelling.{mark, tables, under, object}
 use Rattle.ioa_object.specs.Spots.{Spot}
+use Rattle.ioa_object.specs.Versions.{loops_in, version_byte}
 use Rattle.ioa_object.proofs.Formats.{Finds}
-use Rattle.ioa_object.proofs.Tables.{tables_format}
+use Rattle.ioa_object.proofs.Tables.{AreUnder, tables_format}
 
 -- the place behind the mark and the version, with these bytes to come
 abbrev pub begun : List ℕ → Spot
 begun rest = record { place = 5; rest = rest; parts = 0 }
 
--- behind the mark and the version the tables are read
-pub read_begun : (rest : List ℕ) → read (mark ++ (version ∷ rest)) ≡ tables_at (begun rest)
+-- behind the mark and a version the tables are read
+pub read_begun : (loops : Bool) (rest : List ℕ) → read (mark ++ (version_byte loops ∷ rest)) ≡ tables_at loops (begun rest)
 unfolding read versioned_at byte_at
-read_begun rest = refl
+read_begun true rest = refl
+read_begun false rest = refl
 
 -- tables of whose components something else is so together
 retold : {S T : Type 0} (p : Prog) → AreTables S p → T → AreTables T p
@@ -45,11 +47,16 @@ is_program p h k = retold p h k
 -- ---- objects are read
 
 -- what is spelled of tables that are right is found, whatever follows
-pub tables_found : (p : Prog) (more : List ℕ) → AreRight p → Finds (tables_at (begun (tables p ++ more))) p more
-tables_found p more h = tables_format.finds p h (begun (tables p ++ more)) more refl
+pub tables_found : (loops : Bool) (p : Prog) (more : List ℕ) → AreUnder loops p → Finds (tables_at loops (begun (tables p ++ more))) p more
+tables_found loops p more h = (tables_format loops).finds p h (begun (tables p ++ more)) more refl
 
-pub object_found : (bytes : List ℕ) (p : Prog) (more : List ℕ) → AreRight p → bytes ≡ object p ++ more → Finds (read bytes) p more
-object_found bytes p more h e = subst (λ (o : Outcome Prog). Finds o p more) (sym (ap read e ∙ read_begun (tables p ++ more))) (tables_found p more h)
+pub spelling_found : (loops : Bool) (bytes : List ℕ) (p : Prog) (more : List ℕ) → AreUnder loops p → bytes ≡ under loops p ++ more → Finds (read bytes) p more
+spelling_found loops bytes p more h e =
+    subst (λ (o : Outcome Prog). Finds o p more) (sym (ap read e ∙ read_begun loops (tables p ++ more))) (tables_found loops p more h)
+
+-- a program may stand under its own version
+pub own_version : {T : Type 0} (p : Prog) → AreTables T p → AreUnder (loops_in p) p
+own_version p h = record { right = are_right p h; stand = λ e. e }
 
 -- an outcome finds one thing
 found_once : (o : Outcome Prog) (p q : Prog) (m n : List ℕ) → Finds o p m → Finds o q n → (p ≡ q) × (m ≡ n)
@@ -58,7 +65,7 @@ found_once o p q m n h k =
     (ap (λ x. x.0) same, sym h.left ∙ ap (λ x. x.1.rest) same ∙ k.left)
 
 pub whole : (bytes : List ℕ) (p : Prog) → IsObject bytes p → Finds (read bytes) p []
-whole bytes p h = object_found bytes p [] (are_right p h.program) (h.spelled ∙ sym (append-nil (object p)))
+whole bytes p h = spelling_found (loops_in p) bytes p [] (own_version p h.program) (h.spelled ∙ sym (append-nil (object p)))
 
 pub one_object : OneObject
 one_object p a b h k = h.spelled ∙ sym k.spelled
@@ -68,4 +75,4 @@ one_program bytes p q h k = (found_once (read bytes) p q [] [] (whole bytes p h)
 
 pub none_begins_another : NoneBeginsAnother
 none_begins_another front more p q h k =
-    (found_once (read (front ++ more)) p q more [] (object_found (front ++ more) p more (are_right p h.program) (ap (λ l. l ++ more) h.spelled)) (whole (front ++ more) q k)).1
+    (found_once (read (front ++ more)) p q more [] (spelling_found (loops_in p) (front ++ more) p more (own_version p h.program) (ap (λ l. l ++ more) h.spelled)) (whole (front ++ more) q k)).1

@@ -1,5 +1,5 @@
 -- The tables of a program, read and spelled: what is read is right, and what is right is read.
-use Rattle.std.proofs.Common.{All, ◌≡◌, ℕ, zero, suc, ◌<◌, ◌≤◌, true, false, not, ◌&&◌, ◌||◌, List, [], ◌∷◌, ◌++◌, length, map, Some, refl, sym, ap, ◌∙◌, subst, arith}
+use Rattle.std.proofs.Common.{All, ◌≡◌, ℕ, zero, suc, Bool, ◌<◌, ◌≤◌, true, false, not, ◌&&◌, ◌||◌, List, [], ◌∷◌, ◌++◌, length, map, Some, refl, sym, ap, ◌∙◌, subst, arith}
 use Rattle.std.specs.Prelude.{slice_get}
 use Rattle.std.specs.List.{list_any, list_all}
 use Rattle.std.specs.Str.{bytes_eq}
@@ -17,19 +17,21 @@ use Rattle.ioa_compile.specs.Tables.{IsEntry, AreEntries, IsMember, AreMembers, 
 use Rattle.ioa_object.specs.Reading.{list_at, component_at, hidden_at, tables_at}
 use Rattle.ioa_object.specs.Spelling.{text, list_of, declaration, declared, component, tables}
 use Rattle.ioa_object.specs.Spots.{Spot}
+use Rattle.ioa_object.specs.Versions.{MayStand, member_loops, loops_in}
 use Rattle.ioa_object.proofs.Formats.{AreBytes, Finds, finds_ok, finds_on, Yields, yields_ok, yields_on, Taken, IsFormat, same_format, chained}
 use Rattle.ioa_object.proofs.Texts.{name_format}
 use Rattle.ioa_object.proofs.Lists.{AreFine, IsListed, Anywhere, all_fine, list_format}
 use Rattle.ioa_object.proofs.Fresh.{fine_weaker, fine_both, IsNew, distinct_new, new_distinct}
 use Rattle.ioa_object.proofs.TypeFormats.{types_format}
 use Rattle.ioa_object.proofs.ComponentFormats.{IsComponent, component_format}
+use Rattle.ioa_object.proofs.Standing.{fine_stand, stand_fine}
 
 -- ---- components
 
 module _ (types : Table) (are : AreTypes types) where
-  members_format : IsFormat (list_at 1 LIMITS.components (component_at types)) (list_of component) (IsListed 1 LIMITS.components (IsComponent types are))
-  members_format =
-      list_format (component_at types) component (IsComponent types are) (λ n before. Unit {0}) (λ n before h. component_format types are before) (λ n before m h k. tt) 1 LIMITS.components (omega arith) (λ n less. tt)
+  members_format : (loops : Bool) → IsFormat (list_at 1 LIMITS.components (component_at loops types)) (list_of component) (IsListed 1 LIMITS.components (IsComponent loops types are))
+  members_format loops =
+      list_format (component_at loops types) component (IsComponent loops types are) (λ n before. Unit {0}) (λ n before h. component_format loops types are before) (λ n before m h k. tt) 1 LIMITS.components (omega arith) (λ n less. tt)
 
   members_fine : (before ms : List MemberCode) → AreMembers types ms → AreFine (Anywhere (IsMember types)) before ms
   members_fine before [] h = tt
@@ -39,11 +41,15 @@ module _ (types : Table) (are : AreTypes types) where
   fine_members before [] h = tt
   fine_members before (m ∷ ms) h = (h.0, fine_members (before ++ m ∷ []) ms h.1)
 
-  listed_members : (ms : List MemberCode) → 0 < length ms → length ms ≤ LIMITS.components → AreMembers types ms → distinct (map (λ m. m.name) ms) ≡ true → IsListed 1 LIMITS.components (IsComponent types are) ms
-  listed_members ms some few h names = record {
+  listed_members : (loops : Bool) (ms : List MemberCode) → 0 < length ms → length ms ≤ LIMITS.components → AreMembers types ms → distinct (map (λ m. m.name) ms) ≡ true
+      → MayStand loops (list_any member_loops ms) → IsListed 1 LIMITS.components (IsComponent loops types are) ms
+  listed_members loops ms some few h names stand = record {
     some = some;
     few = few;
-    fine = fine_both (Anywhere (IsMember types)) (IsNew (λ m. m.name)) (IsComponent types are) (λ before m k n. record { member = k; new = n }) [] ms (members_fine [] ms h) (distinct_new (λ m. m.name) [] ms names);
+    fine = fine_both (Anywhere (λ m. IsMember types m × MayStand loops (member_loops m))) (IsNew (λ m. m.name)) (IsComponent loops types are)
+        (λ before m k n. record { member = k.0; new = n; stand = k.1 }) [] ms
+        (fine_both (Anywhere (IsMember types)) (Anywhere (λ m. MayStand loops (member_loops m))) _ (λ before m k s. (k, s)) [] ms (members_fine [] ms h) (fine_stand loops member_loops [] ms stand))
+        (distinct_new (λ m. m.name) [] ms names);
   }
 
 -- ---- hidden names
@@ -110,40 +116,48 @@ hidden_legal p h = all_fine IsName [] p.hidden (fine_weaker _ _ (λ before x k. 
 
 -- ---- all tables
 
-pub tables_format : IsFormat tables_at tables AreRight
+-- the tables are right, and have loops only where they may stand
+pub record AreUnder (loops : Bool) (p : Prog) : Type 0 where
+  pub right : AreRight p
+  pub stand : MayStand loops (loops_in p)
+
+pub tables_format : (loops : Bool) → IsFormat (tables_at loops) tables (AreUnder loops)
 unfolding tables_at
-tables_format = record { finds = finds; yields = yields }
+tables_format loops = record { finds = λ p h. found p h.right h.stand; yields = yields }
   where
-    finds : (p : Prog) → AreRight p → (c : Spot) (more : List ℕ) → c.rest ≡ tables p ++ more → Finds (tables_at c) p more
-    finds p h c more e =
+    found : (p : Prog) → AreRight p → MayStand loops (loops_in p) → (c : Spot) (more : List ℕ) → c.rest ≡ tables p ++ more → Finds (tables_at loops c) p more
+    found p h stand c more e =
         let last = list_of component p.members ++ list_of text p.hidden in
         let tail = text p.name ++ last in
         finds_on _ _ _ _ _ _ (types_format.finds p.types h.types c (tail ++ more) (e ∙ append_assoc (list_of declaration (declared p.types)) tail more))
         (λ d1 at1. finds_on _ _ _ _ _ _ ((name_format _).finds p.name (record { legal = h.legal; free = not-true (contains (all_names p.types) p.name) h.apart }) d1 (last ++ more) (at1 ∙ append_assoc (text p.name) last more))
-        (λ d2 at2. finds_on _ _ _ _ _ _ ((members_format p.types h.types).finds p.members (listed_members p.types h.types p.members h.some_members h.few_members h.members h.names) d2 (list_of text p.hidden ++ more) (at2 ∙ append_assoc (list_of component p.members) (list_of text p.hidden) more))
+        (λ d2 at2. finds_on _ _ _ _ _ _ ((members_format p.types h.types loops).finds p.members (listed_members p.types h.types loops p.members h.some_members h.few_members h.members h.names stand) d2 (list_of text p.hidden ++ more) (at2 ∙ append_assoc (list_of component p.members) (list_of text p.hidden) more))
         (λ d3 at3. finds_on _ _ _ _ _ _ ((hiddens_format p.types p.members h.members).finds p.hidden (listed_hidden p.types p.members h.members p.hidden h.few_hidden h.hidden h.outputs) d3 more at3)
         (λ d4 at4. finds_ok _ d4 more at4))))
 
-    yields : (c : Spot) → AreBytes c.rest → Yields (tables_at c) (Taken tables AreRight c.rest)
+    yields : (c : Spot) → AreBytes c.rest → Yields (tables_at loops c) (Taken tables (AreUnder loops) c.rest)
     yields c bytes =
         yields_on _ _ _ _ (types_format.yields c bytes) (λ types d1 h1.
         yields_on _ _ _ _ ((name_format _).yields d1 h1.after) (λ x d2 h2.
-        yields_on _ _ _ _ ((members_format types h1.fine).yields d2 h2.after) (λ ms d3 h3.
+        yields_on _ _ _ _ ((members_format types h1.fine loops).yields d2 h2.after) (λ ms d3 h3.
         let members : AreMembers types ms = fine_members types h1.fine [] ms (fine_weaker _ _ (λ before m k. k.member) [] ms h3.fine.fine) in
         yields_on _ _ _ _ ((hiddens_format types ms members).yields d3 h3.after) (λ hidden d4 h4.
         yields_ok _ d4 _ (record {
           fine = record {
-            types = h1.fine;
-            legal = h2.fine.legal;
-            apart = not_from_false (contains (all_names types) x) h2.fine.free;
-            some_members = h3.fine.some;
-            few_members = h3.fine.few;
-            names = new_distinct (λ m. m.name) [] ms refl (fine_weaker _ _ (λ before m k. k.new) [] ms h3.fine.fine);
-            members = members;
-            compatible = tt;
-            few_hidden = h4.fine.few;
-            hidden = ap distinct (sym (map-id hidden)) ∙ new_distinct (λ x. x) [] hidden refl (fine_weaker _ _ (λ before y k. k.new) [] hidden h4.fine.fine);
-            outputs = fine_outputs types ms members [] hidden (fine_weaker _ _ (λ before y k. k.output) [] hidden h4.fine.fine);
+            right = record {
+              types = h1.fine;
+              legal = h2.fine.legal;
+              apart = not_from_false (contains (all_names types) x) h2.fine.free;
+              some_members = h3.fine.some;
+              few_members = h3.fine.few;
+              names = new_distinct (λ m. m.name) [] ms refl (fine_weaker _ _ (λ before m k. k.new) [] ms h3.fine.fine);
+              members = members;
+              compatible = tt;
+              few_hidden = h4.fine.few;
+              hidden = ap distinct (sym (map-id hidden)) ∙ new_distinct (λ x. x) [] hidden refl (fine_weaker _ _ (λ before y k. k.new) [] hidden h4.fine.fine);
+              outputs = fine_outputs types ms members [] hidden (fine_weaker _ _ (λ before y k. k.output) [] hidden h4.fine.fine);
+            };
+            stand = stand_fine loops member_loops [] ms (fine_weaker _ _ (λ before m k. k.stand) [] ms h3.fine.fine);
           };
           front = chained c.rest (list_of declaration (declared types)) d1.rest (text x ++ (list_of component ms ++ list_of text hidden)) d4.rest h1.front
               (chained d1.rest (text x) d2.rest (list_of component ms ++ list_of text hidden) d4.rest h2.front (chained d2.rest (list_of component ms) d3.rest (list_of text hidden) d4.rest h3.front h4.front));

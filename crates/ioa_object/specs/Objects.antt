@@ -1,13 +1,21 @@
 -- Objects: the bytes of programs.
-use Rattle.std.specs.Prelude.{◌≡◌, List, [], ◌++◌, ℕ}
+use Rattle.std.specs.Prelude.{◌≡◌, Bool, List, [], ◌++◌, ℕ}
 use Rattle.ioa_compile.specs.Programs.{Prog}
 use Rattle.ioa_compile.specs.Tables.{IsProgram}
-use Rattle.ioa_object.specs.Spelling.{object}
+use Rattle.ioa_object.specs.Spelling.{under, object}
+use Rattle.ioa_object.specs.Versions.{MayStand, loops_in}
 
 -- the bytes are the object of the program
 pub record IsObject (bytes : List ℕ) (p : Prog) : Type 0 where
   pub program : IsProgram p
   pub spelled : bytes ≡ object p
+
+-- the bytes spell the program under this version, under which its code may stand. Where it has no loops there are two such spellings,
+-- and one is its object
+pub record IsUnder (loops : Bool) (bytes : List ℕ) (p : Prog) : Type 0 where
+  pub program : IsProgram p
+  pub stand : MayStand loops (loops_in p)
+  pub spelled : bytes ≡ under loops p
 
 -- a program has one object
 abbrev pub OneObject : Type 0

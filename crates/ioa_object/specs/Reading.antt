@@ -14,7 +14,7 @@ use Rattle.ioa_value.specs.declared.operator.Op.{Op}
 use Rattle.ioa_value.specs.declared.operator.Op.TheVariants.{Neg, Add, Sub, Mul, Div, Mod, Lt, Le, Gt, Ge, Not, Eq, Ne, Len, Head, Tail, Last, Init, Append, At, Member, Without, Make, Field}
 use Rattle.ioa_value.specs.declared.value.Ty.{Ty}
 use Rattle.ioa_code.specs.declared.instr.Instr.{Instr}
-use Rattle.ioa_code.specs.declared.instr.Instr.TheVariants.{Const, Slot, Arg, Store, Jump, JumpIfFalse, Any, Pick, Apply}
+use Rattle.ioa_code.specs.declared.instr.Instr.TheVariants.{Const, Slot, Arg, Store, Jump, JumpIfFalse, Any, Pick, Apply, Each, Again, Local}
 use Rattle.ioa_code.specs.declared.instr.PartKind.{PartKind}
 use Rattle.ioa_code.specs.declared.instr.PartKind.TheVariants.{Pre, Propose, Eff}
 use Rattle.ioa_code.specs.Scan.{Verdict, good, bad, scan}
@@ -26,7 +26,8 @@ use Rattle.ioa_compile.specs.Programs.{EntryCode, MemberCode, Prog}
 use Rattle.ioa_compile.specs.Tables.{have_output, parameter_types, position_types}
 use Rattle.ioa_compile.specs.declared.limits.TheConstants.{MOST_PLACES}
 use Rattle.ioa_object.specs.Spots.{Spot}
-use Rattle.ioa_object.specs.Spelling.{mark, version}
+use Rattle.ioa_object.specs.Spelling.{mark}
+use Rattle.ioa_object.specs.Versions.{version_of}
 use Rattle.ioa_object.specs.declared.failure.ObjErr.{ObjErr}
 use Rattle.ioa_object.specs.declared.failure.ObjErr.TheVariants as errors
 
@@ -244,13 +245,21 @@ instr_of part at b c =
     if b == 7 then Ok (Any, c) else (
     if b == 8 then built (λ n. Pick (type_operand n)) (short_at c) else (
     if b == 38 then built (λ n. Apply (Make (type_operand n))) (short_at c) else (
-    if b == 39 then built (λ n. Apply (Field n)) (short_at c) else
-    applied part at (operator_at b) c)))))))))
+    if b == 39 then built (λ n. Apply (Field n)) (short_at c) else (
+    if b == 40 then built Each (short_at c) else (
+    if b == 41 then built Again (short_at c) else (
+    if b == 42 then built Local (short_at c) else
+    applied part at (operator_at b) c))))))))))))
 
-unfoldable pub instr_at : ℕ → List Instr → Reader Instr
-instr_at part before c = do
+-- the byte is that of an instruction of loops
+abbrev pub is_of_loops : ℕ → Bool
+is_of_loops b = nat_le 40 b && nat_le b 42
+
+-- the instruction that comes after these, as one of this part; where loops may not stand, their instructions are unknown
+unfoldable pub instr_at : Bool → ℕ → List Instr → Reader Instr
+instr_at loops part before c = do
   b ← byte_at c
-  instr_of part (length before) b.0 b.1
+  if not loops && is_of_loops b.0 then Err (errors.BadCode part (length before)) else instr_of part (length before) b.0 b.1
 
 -- one more part came before
 abbrev pub counted : Spot → Spot
@@ -266,14 +275,14 @@ abbrev pub part_of : Table → List ℕ → List Val → PartKind → List ℕ �
 part_of types slots consts kind args end instrs =
     record { code = record { types = types; instrs = instrs; consts = consts }; kind = kind; slots = slots; args = args; result = end }
 
-unfoldable pub instrs_at : Reader (List Instr)
-instrs_at c = do
+unfoldable pub instrs_at : Bool → Reader (List Instr)
+instrs_at loops c = do
   n ← short_at c
-  items_at (instr_at c.parts) [] n.0 n.1
+  items_at (instr_at loops c.parts) [] n.0 n.1
 
-unfoldable pub part_at : Table → List ℕ → List Val → PartKind → List ℕ → List ℕ → Reader Part
-part_at types slots consts kind args end c = do
-  instrs ← instrs_at c
+unfoldable pub part_at : Bool → Table → List ℕ → List Val → PartKind → List ℕ → List ℕ → Reader Part
+part_at loops types slots consts kind args end c = do
+  instrs ← instrs_at loops c
   verified (scan (part_of types slots consts kind args end instrs.0)) (part_of types slots consts kind args end instrs.0) instrs.1
 
 -- a part that an input has not
@@ -323,25 +332,25 @@ opening_at types before c = do
   Ok (record { kind = kind.0; name = x.0; positions = ds.0; consts = consts.0 }, consts.1)
 
 -- the entry, with its code over variables of these types
-unfoldable pub coded_at : Table → List ℕ → Opening → Reader EntryCode
-coded_at types slots o c = do
-  pre ← local_at o.kind (part_at types slots o.consts Pre (position_types o.positions) (0 ∷ [])) c
-  propose ← local_at o.kind (part_at types slots o.consts Propose [] (parameter_types o.positions)) pre.1
-  effect ← part_at types slots o.consts Eff (position_types o.positions) [] propose.1
+unfoldable pub coded_at : Bool → Table → List ℕ → Opening → Reader EntryCode
+coded_at loops types slots o c = do
+  pre ← local_at o.kind (part_at loops types slots o.consts Pre (position_types o.positions) (0 ∷ [])) c
+  propose ← local_at o.kind (part_at loops types slots o.consts Propose [] (parameter_types o.positions)) pre.1
+  effect ← part_at loops types slots o.consts Eff (position_types o.positions) [] propose.1
   Ok (record { kind = o.kind; name = o.name; positions = o.positions; pre = pre.0; propose = propose.0; effect = effect.0 }, effect.1)
 
 -- the entry that comes after these, over variables of these types
-unfoldable pub entry_at : Table → List ℕ → List EntryCode → Reader EntryCode
-entry_at types slots before c = do
+unfoldable pub entry_at : Bool → Table → List ℕ → List EntryCode → Reader EntryCode
+entry_at loops types slots before c = do
   o ← opening_at types before c
-  coded_at types slots o.0 o.1
+  coded_at loops types slots o.0 o.1
 
 -- the component that comes after these
-unfoldable pub component_at : Table → List MemberCode → Reader MemberCode
-component_at types before c = do
+unfoldable pub component_at : Bool → Table → List MemberCode → Reader MemberCode
+component_at loops types before c = do
   x ← name_at (contains (map (λ m. m.name) before)) c
   vs ← list_at 0 component_limits.variables (λ _. value_at types) x.1
-  es ← list_at 1 component_limits.entries (entry_at types (map own vs.0)) vs.1
+  es ← list_at 1 component_limits.entries (entry_at loops types (map own vs.0)) vs.1
   Ok (record { name = x.0; start = record { table = types; types = map own vs.0; values = vs.0 }; entries = es.0 }, es.1)
 
 -- ---- programs
@@ -354,11 +363,12 @@ program_of types x ms hidden = record { types = types; name = x; members = ms; h
 unfoldable pub hidden_at : List MemberCode → List Name → Reader Name
 hidden_at ms before c = name_at (λ x. contains before x || not (have_output ms x)) c
 
-unfoldable pub tables_at : Reader Prog
-tables_at c = do
+-- the tables, in whose code loops may stand or not
+unfoldable pub tables_at : Bool → Reader Prog
+tables_at loops c = do
   types ← types_at c
   x ← name_at (contains (all_names types.0)) types.1
-  ms ← list_at 1 LIMITS.components (component_at types.0) x.1
+  ms ← list_at 1 LIMITS.components (component_at loops types.0) x.1
   hidden ← list_at 0 LIMITS.hidden (hidden_at ms.0) ms.1
   Ok (program_of types.0 x.0 ms.0 hidden.0, hidden.1)
 
@@ -368,11 +378,16 @@ begins [] bytes = Bool.true
 begins (b ∷ bs) [] = Bool.false
 begins (b ∷ bs) (c ∷ cs) = (b == c) && begins bs cs
 
+-- the tables under this version, if it is one
+abbrev pub under_version : Option Bool → Reader Prog
+under_version (Some loops) c = tables_at loops c
+under_version None c = Err errors.Version
+
 -- behind the mark the version, and then the tables
 unfoldable pub versioned_at : Reader Prog
 versioned_at c = do
   v ← byte_at c
-  if v.0 == version then tables_at v.1 else Err errors.Version
+  under_version (version_of v.0) v.1
 
 -- the tables that stand at the front of the bytes, behind the mark and the version
 unfoldable pub read : List ℕ → Outcome Prog

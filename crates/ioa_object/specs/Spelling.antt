@@ -10,11 +10,12 @@ use Rattle.ioa_value.specs.Typing.{own}
 use Rattle.ioa_value.specs.declared.operator.Op.{Op}
 use Rattle.ioa_value.specs.declared.operator.Op.TheVariants.{Neg, Add, Sub, Mul, Div, Mod, Lt, Le, Gt, Ge, Not, Eq, Ne, Len, Head, Tail, Last, Init, Append, At, Member, Without, Make, Field}
 use Rattle.ioa_code.specs.declared.instr.Instr.{Instr}
-use Rattle.ioa_code.specs.declared.instr.Instr.TheVariants.{Const, Slot, Arg, Store, Jump, JumpIfFalse, Any, Pick, Apply}
+use Rattle.ioa_code.specs.declared.instr.Instr.TheVariants.{Const, Slot, Arg, Store, Jump, JumpIfFalse, Any, Pick, Apply, Each, Again, Local}
 use Rattle.ioa_code.specs.Valid.{Part}
 use Rattle.ioa_tree.specs.declared.tree.Kind.{Kind}
 use Rattle.ioa_tree.specs.declared.tree.Kind.TheVariants.{Input, Output, Internal}
 use Rattle.ioa_compile.specs.Programs.{EntryCode, MemberCode, Prog}
+use Rattle.ioa_object.specs.Versions.{version_byte, loops_in}
 
 -- ---- numbers, texts and lists
 
@@ -118,6 +119,9 @@ instruction (JumpIfFalse t) = 6 ∷ short t
 instruction Any = 7 ∷ []
 instruction (Pick ty) = 8 ∷ short ty.0
 instruction (Apply op) = operator op
+instruction (Each e) = 40 ∷ short e
+instruction (Again t) = 41 ∷ short t
+instruction (Local d) = 42 ∷ short d
 
 -- a part: its instructions
 abbrev pub code : Part → List ℕ
@@ -160,10 +164,10 @@ tables p = list_of declaration (declared p.types) ++ (text p.name ++ (list_of co
 abbrev pub mark : List ℕ
 mark = 127 ∷ codes "IOA"
 
--- the version of this format
-abbrev pub version : ℕ
-version = 1
+-- the mark, the byte of the version with loops or of the one without, and the tables
+abbrev pub under : Bool → Prog → List ℕ
+under loops p = mark ++ (version_byte loops ∷ tables p)
 
--- an object: the mark, the version's byte, and the tables
+-- an object: under the version with loops exactly where the program has some
 abbrev pub object : Prog → List ℕ
-object p = mark ++ (version ∷ tables p)
+object p = under (loops_in p) p

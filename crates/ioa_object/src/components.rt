@@ -25,24 +25,33 @@ use ioa_tree::Kind;
 use ioa_value::{LIMITS, OutOfMemory, Position, Ty, Types, Value};
 use std::alloc::Global;
 
-/// The components of a program over these types.
-pub(crate) fn components(cursor: &mut Cursor<'_>, types: &Types) -> Result<Vec<Member>, ObjErr>
+/// The components of a program over these types, in whose code loops may stand or not.
+pub(crate) fn components(
+    cursor: &mut Cursor<'_>,
+    loops: bool,
+    types: &Types,
+) -> Result<Vec<Member>, ObjErr>
     requires { AreTypes types.now }
-    ensures { ReadsItem (λ v. map member_code v.items) (spec.list_at 1 most.components (spec.component_at types.now) cursor.old) result cursor.new }
+    ensures { ReadsItem (λ v. map member_code v.items) (spec.list_at 1 most.components (spec.component_at loops types.now) cursor.old) result cursor.new }
 {
     let count = cursor.count(1, LIMITS.components)?;
     let mut found = Vec::new(cursor.alloc());
     for _ in 0..count {
-        found.push(component(cursor, types, &found)?)?;
+        found.push(component(cursor, loops, types, &found)?)?;
     }
     Ok(found)
 }
 
 /// The component that comes after these.
 #[tactic(auto, unfolding(crate::specs::Reading::component_at, crate::specs::Reading::name_at))]
-fn component(cursor: &mut Cursor<'_>, types: &Types, before: &[Member]) -> Result<Member, ObjErr>
+fn component(
+    cursor: &mut Cursor<'_>,
+    loops: bool,
+    types: &Types,
+    before: &[Member],
+) -> Result<Member, ObjErr>
     requires { AreTypes types.now }
-    ensures { ReadsItem member_code (spec.component_at types.now (map member_code before.now) cursor.old) result cursor.new }
+    ensures { ReadsItem member_code (spec.component_at loops types.now (map member_code before.now) cursor.old) result cursor.new }
 {
     let alloc = cursor.alloc();
     let name = cursor.name()?;
@@ -51,7 +60,7 @@ fn component(cursor: &mut Cursor<'_>, types: &Types, before: &[Member]) -> Resul
     }
     let starts = values(cursor, types, COMPONENT_LIMITS.variables)?;
     let slots = types_of(alloc, &starts)?;
-    let entries = entries(cursor, types, &slots)?;
+    let entries = entries(cursor, loops, types, &slots)?;
     Ok(Member {
         name: text(alloc, name.text)?,
         start: from_values(alloc, types, &slots, &starts)?,
@@ -79,14 +88,19 @@ fn types_of(alloc: Global, values: &[Value]) -> Result<Vec<Ty>, OutOfMemory>
 
 /// The entries of a component, over variables of these types.
 #[tactic(auto, unfolding(crate::specs::Reading::list_at))]
-fn entries(cursor: &mut Cursor<'_>, types: &Types, slots: &[Ty]) -> Result<Vec<Entry>, ObjErr>
+fn entries(
+    cursor: &mut Cursor<'_>,
+    loops: bool,
+    types: &Types,
+    slots: &[Ty],
+) -> Result<Vec<Entry>, ObjErr>
     requires { AreTypes types.now }
-    ensures { ReadsItem (λ v. map entry_code v.items) (spec.list_at 1 component_limits.entries (spec.entry_at types.now (map number slots.now)) cursor.old) result cursor.new }
+    ensures { ReadsItem (λ v. map entry_code v.items) (spec.list_at 1 component_limits.entries (spec.entry_at loops types.now (map number slots.now)) cursor.old) result cursor.new }
 {
     let count = cursor.count(1, COMPONENT_LIMITS.entries)?;
     let mut found = Vec::new(cursor.alloc());
     for _ in 0..count {
-        found.push(entry(cursor, types, slots, &found)?)?;
+        found.push(entry(cursor, loops, types, slots, &found)?)?;
     }
     Ok(found)
 }
@@ -104,15 +118,16 @@ struct Front {
 #[tactic(auto, unfolding(crate::specs::Reading::entry_at))]
 fn entry(
     cursor: &mut Cursor<'_>,
+    loops: bool,
     types: &Types,
     slots: &[Ty],
     before: &[Entry],
 ) -> Result<Entry, ObjErr>
     requires { AreTypes types.now }
-    ensures { ReadsItem entry_code (spec.entry_at types.now (map number slots.now) (map entry_code before.now) cursor.old) result cursor.new }
+    ensures { ReadsItem entry_code (spec.entry_at loops types.now (map number slots.now) (map entry_code before.now) cursor.old) result cursor.new }
 {
     let front = front_of(cursor, types, before)?;
-    coded(cursor, types, slots, front)
+    coded(cursor, loops, types, slots, front)
 }
 
 /// What the entry is that comes after these, before its code.
@@ -181,12 +196,13 @@ fn position(cursor: &mut Cursor<'_>, types: &Types) -> Result<Position, ObjErr>
 #[tactic(auto, unfolding(crate::specs::Reading::coded_at))]
 fn coded(
     cursor: &mut Cursor<'_>,
+    loops: bool,
     types: &Types,
     slots: &[Ty],
     front: Front,
 ) -> Result<Entry, ObjErr>
     requires { OwnTypes types.now (map plain front.consts.items) }
-    ensures { ReadsItem entry_code (spec.coded_at types.now (map number slots.now) (opening front) cursor.old) result cursor.new }
+    ensures { ReadsItem entry_code (spec.coded_at loops types.now (map number slots.now) (opening front) cursor.old) result cursor.new }
 {
     let alloc = cursor.alloc();
     let arguments = position_types(alloc, &front.positions)?;
@@ -213,9 +229,9 @@ fn coded(
         result: &[],
     };
     Ok(Entry {
-        pre: local_part(cursor, front.kind, &front.consts, &pre)?,
-        propose: local_part(cursor, front.kind, &front.consts, &propose)?,
-        effect: part(cursor, &front.consts, &effect)?,
+        pre: local_part(cursor, loops, front.kind, &front.consts, &pre)?,
+        propose: local_part(cursor, loops, front.kind, &front.consts, &propose)?,
+        effect: part(cursor, loops, &front.consts, &effect)?,
         kind: front.kind,
         name: front.name,
         positions: front.positions,

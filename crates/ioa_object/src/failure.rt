@@ -10,7 +10,7 @@ pub enum ObjErr {
     /// The first four bytes are not all there, or are others.
     #[error("no object")]
     Magic,
-    /// The object is of another version.
+    /// The byte is no version's, or the program has no need of the version.
     #[error("another version")]
     Version,
     /// The bytes end inside an item.

@@ -9,18 +9,30 @@ use crate::failure::ObjErr;
 use ioa_code::Instr;
 use ioa_value::{Op, Ty};
 
-/// The instruction of this part that comes after these.
+/// The instruction of this part that comes after these. Where loops may not stand, those that they
+/// have are unknown.
 #[tactic(auto, unfolding(crate::specs::Reading::instr_at))]
 pub(crate) fn instruction(
     cursor: &mut Cursor<'_>,
+    loops: bool,
     part: usize,
     before: &[Instr],
 ) -> Result<Instr, ObjErr>
-    ensures read { ReadsItem (λ i. i) (spec.instr_at part before.now cursor.old) result cursor.new }
+    ensures read { ReadsItem (λ i. i) (spec.instr_at loops part before.now cursor.old) result cursor.new }
     ensures further { OnOk result ((cursor.old.place ≤ cursor.new.place) × (cursor.new.parts ≡ cursor.old.parts)) }
 {
     let byte = cursor.byte()?;
+    if !loops && is_of_loops(byte) {
+        return Err(ObjErr::BadCode(part, before.len()));
+    }
     of_byte(cursor, part, before.len(), byte)
+}
+
+/// Whether the byte is that of an instruction of loops.
+fn is_of_loops(byte: u8) -> bool
+    ensures { result ≡ spec.is_of_loops byte }
+{
+    0x28 <= byte && byte <= 0x2A
 }
 
 /// The instruction of this byte, with its operand, as the one at this place of this part.
@@ -40,6 +52,9 @@ fn of_byte(cursor: &mut Cursor<'_>, part: usize, at: usize, byte: u8) -> Result<
         0x08 => Ok(Instr::Pick(Ty(cursor.short()?))),
         0x26 => Ok(Instr::Apply(Op::Make(Ty(cursor.short()?)))),
         0x27 => Ok(Instr::Apply(Op::Field(cursor.short()?))),
+        0x28 => Ok(Instr::Each(cursor.short()?)),
+        0x29 => Ok(Instr::Again(cursor.short()?)),
+        0x2A => Ok(Instr::Local(cursor.short()?)),
         _ => match operator(byte) {
             Some(op) => Ok(Instr::Apply(op)),
             None => Err(ObjErr::BadCode(part, at)),

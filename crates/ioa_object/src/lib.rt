@@ -6,6 +6,7 @@
 mod cursor;
 mod failure;
 mod mark;
+mod versions;
 
 // Items of a program.
 mod components;

@@ -17,31 +17,33 @@ use ioa_value::{Value, copies};
 #[tactic(auto, unfolding(crate::specs::Reading::local_at))]
 pub(crate) fn local_part(
     cursor: &mut Cursor<'_>,
+    loops: bool,
     kind: Kind,
     consts: &[Value],
     env: &Env<'_>,
 ) -> Result<Option<Verified>, ObjErr>
     requires { OwnTypes env.now.types.now (map plain consts.now) }
-    ensures { ReadsItem (λ part. part) (spec.local_at kind (spec.part_at env.now.types.now (map number env.now.slots.now) (map plain consts.now) env.now.kind (map number env.now.arguments.now) (map number env.now.result.now)) cursor.old) result cursor.new }
+    ensures { ReadsItem (λ part. part) (spec.local_at kind (spec.part_at loops env.now.types.now (map number env.now.slots.now) (map plain consts.now) env.now.kind (map number env.now.arguments.now) (map number env.now.result.now)) cursor.old) result cursor.new }
 {
     match kind {
         Kind::Input => Ok(None),
-        Kind::Output | Kind::Internal => Ok(Some(part(cursor, consts, env)?)),
+        Kind::Output | Kind::Internal => Ok(Some(part(cursor, loops, consts, env)?)),
     }
 }
 
-/// A part of code over these constants, verified.
+/// A part of code over these constants, in which loops may stand or not, verified.
 #[tactic(auto, unfolding(crate::specs::Reading::part_at))]
 pub(crate) fn part(
     cursor: &mut Cursor<'_>,
+    loops: bool,
     consts: &[Value],
     env: &Env<'_>,
 ) -> Result<Verified, ObjErr>
     requires { OwnTypes env.now.types.now (map plain consts.now) }
-    ensures { ReadsItem (λ v. v) (spec.part_at env.now.types.now (map number env.now.slots.now) (map plain consts.now) env.now.kind (map number env.now.arguments.now) (map number env.now.result.now) cursor.old) result cursor.new }
+    ensures { ReadsItem (λ v. v) (spec.part_at loops env.now.types.now (map number env.now.slots.now) (map plain consts.now) env.now.kind (map number env.now.arguments.now) (map number env.now.result.now) cursor.old) result cursor.new }
 {
     let alloc = cursor.alloc();
-    let instrs = instructions(cursor)?;
+    let instrs = instructions(cursor, loops)?;
     let code = Code {
         instrs,
         consts: copies(alloc, consts)?,
@@ -58,15 +60,15 @@ pub(crate) fn part(
 
 /// The instructions of a part.
 #[tactic(auto, unfolding(crate::specs::Reading::instrs_at))]
-fn instructions(cursor: &mut Cursor<'_>) -> Result<Vec<Instr>, ObjErr>
-    ensures read { ReadsItem (λ v. v.items) (spec.instrs_at cursor.old) result cursor.new }
+fn instructions(cursor: &mut Cursor<'_>, loops: bool) -> Result<Vec<Instr>, ObjErr>
+    ensures read { ReadsItem (λ v. v.items) (spec.instrs_at loops cursor.old) result cursor.new }
     ensures further { OnOk result ((cursor.old.place < cursor.new.place) × (cursor.new.parts ≡ cursor.old.parts)) }
 {
     let part = cursor.parts();
     let count = cursor.short()? as usize;
     let mut found = Vec::new(cursor.alloc());
     for _ in 0..count {
-        found.push(instruction(cursor, part, &found)?)?;
+        found.push(instruction(cursor, loops, part, &found)?)?;
     }
     Ok(found)
 }

@@ -9,15 +9,16 @@ ghost use Rattle.ioa_compile.specs.Programs.{Prog};
 ghost use Rattle.ioa_compile.specs.Shown.{member_code};
 ghost use Rattle.ioa_object.specs.Objects.{IsObject};
 ghost use Rattle.ioa_object.specs.Reading as spec;
-ghost use Rattle.ioa_object.specs.Refusals.{HasNoMark, HasOtherVersion, GoesOn, IsCut, IsRefused, IsRefusal};
+ghost use Rattle.ioa_object.specs.Refusals.{HasNoMark, HasUnknownVersion, HasOtherVersion, GoesOn, IsCut, IsRefused, IsRefusal};
 ghost use Rattle.ioa_object.specs.Spelling.{mark};
 ghost use Rattle.ioa_object.specs.declared.failure.ObjErr.{ObjErr};
 
 use crate::components::components;
 use crate::cursor::Cursor;
 use crate::failure::ObjErr;
-use crate::mark::{MARK, VERSION};
+use crate::mark::MARK;
 use crate::types::types;
+use crate::versions::{is_needless, version_of};
 use ioa_compile::{Member, Program, TableErr, Tables, is_given, is_named, is_output};
 use ioa_value::{LIMITS, Types};
 use std::alloc::Global;
@@ -39,19 +40,21 @@ fn is_marked(bytes: &[u8]) -> bool
 ///
 /// # Errors
 /// - `Magic`, exactly where the first four bytes are not all there, or are others.
-/// - `Version`, exactly where they are, and another version's byte behind them.
+/// - `Version`, exactly where they are, and behind them a byte that is no version's; or where the bytes are all of a program
+///   without loops, but under version 2: it has one object, which is under version 1.
 /// - `Truncated`, where the bytes end inside an item, and so where they are a beginning of an object, of four bytes or more.
 /// - `BadTable`, where a tag, a number, a name or a payload may not stand in its place: the first byte of it.
 /// - `BadCode`, where a part of code is not valid: the part's number, and the first place at which it is not, or which has an unknown
-///   instruction.
+///   instruction, as those of loops are under version 1.
 /// - `Clash`, where all this is right, and two components clash.
-/// - `Trailing`, exactly where an object ends before the bytes do.
+/// - `Trailing`, exactly where a program under one of the versions ends before the bytes do.
 /// - `OutOfMemory`.
 pub fn read_object(alloc: Global, bytes: &[u8]) -> Result<Program, ObjErr>
     ensures found { IfOk result (IsObject bytes.now) }
     ensures only { (p : Prog) → IsObject bytes.now p → IfErr result (λ e. e ≡ ObjErr.OutOfMemory) }
     ensures magic { IsErrOf result ObjErr.Magic ↔ HasNoMark bytes.now }
-    ensures version { IsErrOf result ObjErr.Version ↔ HasOtherVersion bytes.now }
+    ensures unknown { HasUnknownVersion bytes.now → IsErrOf result ObjErr.Version }
+    ensures version { (IsErrOf result ObjErr.Version → HasOtherVersion bytes.now) × (HasOtherVersion bytes.now → IsRefusal result ObjErr.Version) }
     ensures cut { IsCut bytes.now → IsRefusal result ObjErr.Truncated }
     ensures trailing { GoesOn bytes.now → IsRefusal result ObjErr.Trailing }
     ensures refused { IfErr result (IsRefused bytes.now) }
@@ -60,10 +63,11 @@ pub fn read_object(alloc: Global, bytes: &[u8]) -> Result<Program, ObjErr>
         return Err(ObjErr::Magic);
     }
     let mut cursor = Cursor::new(alloc, bytes, MARK.len());
-    if cursor.byte()? != VERSION {
-        return Err(ObjErr::Version);
-    }
-    let tables = tables(&mut cursor)?;
+    let loops = match version_of(cursor.byte()?) {
+        Some(loops) => loops,
+        None => return Err(ObjErr::Version),
+    };
+    let tables = tables(&mut cursor, loops)?;
     let program = match Program::from_right(alloc, tables) {
         Ok(program) => program,
         Err(TableErr::Clash(..)) => return Err(ObjErr::Clash),
@@ -73,17 +77,20 @@ pub fn read_object(alloc: Global, bytes: &[u8]) -> Result<Program, ObjErr>
     if cursor.left() > 0 {
         return Err(ObjErr::Trailing);
     }
+    if is_needless(loops, program.members()) {
+        return Err(ObjErr::Version);
+    }
     Ok(program)
 }
 
-/// The tables of a program.
+/// The tables of a program, in whose code loops may stand or not.
 #[tactic(auto, unfolding(crate::specs::Reading::tables_at))]
-fn tables(cursor: &mut Cursor<'_>) -> Result<Tables, ObjErr>
-    ensures { spec.ReadsItem prog_of (spec.tables_at cursor.old) result cursor.new }
+fn tables(cursor: &mut Cursor<'_>, loops: bool) -> Result<Tables, ObjErr>
+    ensures { spec.ReadsItem prog_of (spec.tables_at loops cursor.old) result cursor.new }
 {
     let types = types(cursor)?;
     let name = name(cursor, &types)?;
-    let members = components(cursor, &types)?;
+    let members = components(cursor, loops, &types)?;
     let hidden = hidden_names(cursor, &members)?;
     Ok(Tables {
         types,

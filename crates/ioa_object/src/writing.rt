@@ -14,7 +14,8 @@ ghost use Rattle.ioa_compile.specs.Tables.{AreMembers, AreEntries, IsEntry};
 ghost use Rattle.ioa_object.specs.Objects.{IsObject};
 ghost use Rattle.ioa_object.specs.Spelling as spelling;
 
-use crate::mark::{MARK, VERSION};
+use crate::mark::MARK;
+use crate::versions::{have_loops, version_byte};
 use ioa_code::{Instr, Verified};
 use ioa_compile::{Entry, Member, Program};
 use ioa_node::state_values;
@@ -22,7 +23,7 @@ use ioa_tree::Kind;
 use ioa_value::{Declared, Field, Form, Op, OutOfMemory, Position, Ty, Types, Value};
 use std::alloc::Global;
 
-/// The object of a program.
+/// The object of a program: under version 2 where its code has loops, else under version 1.
 ///
 /// # Errors
 /// `OutOfMemory`.
@@ -31,7 +32,7 @@ pub fn write_object(alloc: Global, program: &Program) -> Result<Vec<u8>, OutOfMe
 {
     let mut out = Vec::new(alloc);
     out.extend_from_slice(&MARK)?;
-    out.push(VERSION)?;
+    out.push(version_byte(have_loops(program.members())))?;
     put_types(&mut out, program.types())?;
     put_text(&mut out, program.name())?;
     put_members(alloc, &mut out, program.members())?;
@@ -306,6 +307,9 @@ fn put_instr(out: &mut Vec<u8>, instr: Instr) -> Result<(), OutOfMemory>
         Instr::Any => put_byte(out, 0x07),
         Instr::Pick(ty) => put_with(out, 0x08, ty.0),
         Instr::Apply(op) => put_operator(out, op),
+        Instr::Each(t) => put_with(out, 0x28, t),
+        Instr::Again(t) => put_with(out, 0x29, t),
+        Instr::Local(d) => put_with(out, 0x2A, d),
     }
 }
 

@@ -16,8 +16,9 @@ pub const O1: Explanation = Explanation {
 
 pub const O2: Explanation = Explanation {
     topic: Topic::Code(Code::O2),
-    meaning: "The object is of another version than 1, which this program reads.",
-    example: Example::Object("7f494f4102"),
+    meaning: "The object is of another version than 1 and 2, which this program reads; or it is of version 2, which is for objects with\n\
+        loops, and has none.",
+    example: Example::Object("7f494f4103"),
     mending: COMPILE,
 };
 

@@ -28,7 +28,7 @@ pub const E3: Explanation = Explanation {
     meaning: "The words up to this line are no beginning of a source: something is missing before the first word on this\n\
         line that does not fit, or that word is too many. What is often the cause: a reserved word as a name, as `output` or\n\
         `len`; `==` for `=`, or `:=` for `=` in a condition; `and`, `or` and `not` for `/\\`, `\\/` and `~`; `else if` for `elseif`;\n\
-        a missing `fi`, or a missing `;` between two parts, which is told at the part that follows; and parameters in\n\
+        a missing `fi` or `od`, or a missing `;` between two parts, which is told at the part that follows; and parameters in\n\
         `transitions`, where an entry stands by its name alone.",
     example: Example::Source(
         "automaton Door\n\

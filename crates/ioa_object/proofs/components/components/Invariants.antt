@@ -5,4 +5,4 @@ use Rattle.ioa_object.specs.Reading.{list_at, items_at, component_at}
 use Rattle.ioa_object.proofs.components.components.Given as goal
 
 abbrev pub invariant-loop : goal.invariant-loop
-invariant-loop l = list_at 1 most.components (component_at l.types) l.fn.cursor ≡ items_at (component_at l.types) (map member_code l.found.items) (l.count - l.counter) l.cursor
+invariant-loop l = list_at 1 most.components (component_at l.loops l.types) l.fn.cursor ≡ items_at (component_at l.loops l.types) (map member_code l.found.items) (l.count - l.counter) l.cursor

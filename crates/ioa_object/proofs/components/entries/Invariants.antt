@@ -6,4 +6,4 @@ use Rattle.ioa_object.specs.Reading.{list_at, items_at, entry_at}
 use Rattle.ioa_object.proofs.components.entries.Given as goal
 
 abbrev pub invariant-loop : goal.invariant-loop
-invariant-loop l = list_at 1 component_limits.entries (entry_at l.types (map number l.slots)) l.fn.cursor ≡ items_at (entry_at l.types (map number l.slots)) (map entry_code l.found.items) (l.count - l.counter) l.cursor
+invariant-loop l = list_at 1 component_limits.entries (entry_at l.loops l.types (map number l.slots)) l.fn.cursor ≡ items_at (entry_at l.loops l.types (map number l.slots)) (map entry_code l.found.items) (l.count - l.counter) l.cursor

@@ -4,7 +4,7 @@ use Rattle.ioa_object.proofs.parts.instructions.Given as goal
 
 abbrev pub invariant-loop : goal.invariant-loop
 invariant-loop l = record {
-  read : instrs_at l.fn.cursor ≡ items_at (instr_at l.part) l.found.items (l.count - l.counter) l.cursor;
+  read : instrs_at l.loops l.fn.cursor ≡ items_at (instr_at l.loops l.part) l.found.items (l.count - l.counter) l.cursor;
   further : l.fn.cursor.place < l.cursor.place;
   parts : l.cursor.parts ≡ l.fn.cursor.parts;
 }
