@@ -16,7 +16,8 @@ use Rattle.ioa_value.proofs.TypingLemmas.{HaveTypes-length}
 use Rattle.ioa_value.proofs.NameLemmas.{outside_both}
 use Rattle.ioa_code.specs.Machine.{Listing, State, state, End, done, fault, Ends}
 use Rattle.ioa_code.specs.Outcome.{outcome}
-use Rattle.ioa_code.specs.Valid.{Part, bound}
+use Rattle.ioa_code.specs.Bound.{bound}
+use Rattle.ioa_code.specs.Valid.{Part}
 use Rattle.ioa_code.proofs.Ends.{outcome_is_end}
 use Rattle.ioa_code.proofs.Remaining.{ends_within}
 use Rattle.ioa_code.specs.declared.instr.PartKind.{PartKind}
@@ -48,9 +49,10 @@ use Rattle.ioa_compile.specs.Matching.{AreTypesOf, MatchesEntry}
 use Rattle.ioa_compile.specs.Translated.{IsGuard, IsGuardFor, IsProposing, codes_of, IsEntryOf, IsTranslated, IsFor}
 use Rattle.ioa_compile.proofs.Looks.{look, values_look, look_outside, look_inside, distinct_apart, apart_outside}
 use Rattle.ioa_compile.proofs.Parameters.{passed, passed_outside, values_passed}
-use Rattle.ioa_compile.proofs.Standing.{stands}
+use Rattle.ioa_compile.proofs.Standing.{stands, lies_itself}
 use Rattle.ioa_compile.proofs.Fits.{fit_have, have_fit}
-use Rattle.ioa_compile.proofs.Fine.{Setting, setting, bare_setting, bare, kind_of, is_scope, variables_long, parameters_long, type_look, fine_of, domains_of, guard_typed, effect_typed, GuardTyped, StmtsTyped}
+use Rattle.ioa_compile.proofs.Fine.{Setting, setting, bare_setting, bare, kind_of, variables_long, names_of, no_other, fine_of, domains_of, guard_typed, effect_typed}
+use Rattle.ioa_compile.proofs.Typed.{GuardTyped, StmtsTyped}
 use Rattle.ioa_compile.proofs.Validity.{found_slot}
 use Rattle.ioa_compile.proofs.Running as running
 use Rattle.ioa_compile.proofs.Running.{Comes, Breaks, Reaches, Knows, on, push_comes, expr_runs}
@@ -124,16 +126,13 @@ module _ (m : Member) (e : EntryTree) (vs ps : List ℕ) (h : Setting m e vs ps)
           let local = (outside_both h.globals (local_names m.instance.types m.instance.types h.globals m.instance.automaton) x out).1 in
           let no = (outside_both (field_names m.instance.automaton.formals) (variable_names m.instance.automaton) x local).1 in absurd (cc)
 
-  stood : (slots : List Val) (x : Name) → or_else (look (field_names m.instance.automaton.formals) m.instance.arguments x) (or_else (passed e.positions args x) (look (variable_names m.instance.automaton) slots x)) ≡ stands (scope_of m e) slots m.instance.arguments args x
+  stood : (slots : List Val) (x : Name) → or_else (look (field_names m.instance.automaton.formals) m.instance.arguments x) (or_else (passed e.positions args x) (look (variable_names m.instance.automaton) slots x)) ≡ stands (scope_of m e) [] slots m.instance.arguments args x
   stood slots x =
       swapped _ _ _ (go (separate x))
     where
       go : (contains (variable_names m.instance.automaton) x ≡ false) ⊎ ((contains (field_names m.instance.automaton.formals) x ≡ false) × (contains (parameter_names e) x ≡ false)) → (look (variable_names m.instance.automaton) slots x ≡ None) ⊎ ((look (field_names m.instance.automaton.formals) m.instance.arguments x ≡ None) × (passed e.positions args x ≡ None))
       go (inl k) = inl (look_outside (variable_names m.instance.automaton) slots x k)
       go (inr k) = inr (look_outside (field_names m.instance.automaton.formals) m.instance.arguments x k.0, passed_outside e.positions args x k.1)
-
-  args_long : length e.positions ≡ length args
-  args_long = parameters_long m e vs ps h ∙ sym (HaveTypes-length m.instance.types args ps values)
 
   module _ (part : Part) (kind : PartKind) (end : List ℕ) (is : IsFor part m.instance.types kind end vs ps) where
     declared : AreTypes m.instance.types
@@ -150,24 +149,22 @@ module _ (m : Member) (e : EntryTree) (vs ps : List ℕ) (h : Setting m e vs ps)
     abbrev variables_in : Context
     variables_in = context_of m.instance.types (variable_fields m.instance.automaton)
 
-    pub knows : Knows part.code (scope_of m e) args no_words 0 m.instance.types names_in variables_in vs h.types ps
+    pub knows : Knows part.code (scope_of m e) args no_words 0 m.instance.types names_in variables_in [] [] vs h.types ps
     knows = record {
       same_types = is.types_are;
-      own_types = refl;
-      context = refl;
       declared = declared;
-      variables = variables_long m e vs ps h;
-      formals = (is_scope m e vs ps h).given;
-      parameters = args_long;
+      has = names_of m e vs ps h;
+      stacked = tt;
       given = h.given;
       values = values;
-      names = type_look m e vs ps h;
       found = found_slot m e vs ps h part.code;
+      others = no_other m e vs ps h;
+      apart = λ x i k. refl;
     }
 
     -- what statements keep, in this entry
     abbrev pub Holds : Env → List Val → Type 0
-    Holds env slots = running.Holds part.code (scope_of m e) args no_words 0 m.instance.types names_in variables_in vs h.types ps knows env slots
+    Holds env slots = running.Holds part.code (scope_of m e) args no_words 0 m.instance.types names_in variables_in [] [] vs h.types ps knows env slots
 
     holds : (env : Env) (slots : List Val) → Corresponds m.instance env slots → Holds (environment m.instance e args env) slots
     holds env slots c = record {
@@ -189,9 +186,9 @@ module _ (m : Member) (e : EntryTree) (vs ps : List ℕ) (h : Setting m e vs ps)
     condition_comes x inner slots own t k =
         let s = scope_of m e in
         let types = m.instance.types in
-        let suits = running.suits part.code s args no_words 0 types names_in variables_in vs h.types ps knows inner slots own in
-        let agree = running.agree part.code s args no_words 0 types names_in variables_in vs h.types ps knows inner slots own in
-        answer_comes part s slots args (within slots no_words own.typed) (val types x inner) (some_answer 0 (val types x inner) (val_typed types declared names_in inner x 0 suits t)) (expr_runs part.code s args no_words 0 types is.types_are refl declared names_in refl inner suits slots agree x 0 0 (length part.code.instrs) [] t k.has)
+        let suits = running.suits part.code s args no_words 0 types names_in variables_in [] [] vs h.types ps knows inner slots own in
+        let agree = running.agree part.code s args no_words 0 types names_in variables_in [] [] vs h.types ps knows inner slots own in
+        answer_comes part s slots args (within slots no_words own.typed) (val types x inner) (some_answer 0 (val types x inner) (val_typed types declared names_in inner x 0 suits t)) (expr_runs part.code s args no_words 0 types is.types_are refl declared names_in refl inner suits [] slots agree x 0 0 (length part.code.instrs) [] (lies_itself []) t k.has)
 
     guard_comes : (g : Option Expr) (env : Env) (slots : List Val) → Corresponds m.instance env slots → GuardTyped m.instance.types names_in g → IsGuard part.code (scope_of m e) g → GuardEnds part slots args (required m.instance.types g (environment m.instance e args env))
     guard_comes None env slots c t k =
@@ -217,16 +214,16 @@ module _ (m : Member) (e : EntryTree) (vs ps : List ℕ) (h : Setting m e vs ps)
             k.agrees x ∙ ap (λ o. or_else o (or_else (look (field_names m.instance.automaton.formals) m.instance.arguments x) (passed e.positions args x))) there.1 ∙ sym there.1
         go x false t = sym (look_outside (variable_names m.instance.automaton) slots x t)
 
-    outcome_comes : (slots : List Val) → HaveTypes m.instance.types slots vs → (o : Outcome) → running.RunsTo part.code (scope_of m e) args no_words 0 m.instance.types names_in variables_in vs h.types ps knows (on part.code (scope_of m e) args no_words 0 0 [] slots) (length part.code.instrs) o → EffectEnds m.instance part slots args o
+    outcome_comes : (slots : List Val) → HaveTypes m.instance.types slots vs → (o : Outcome) → running.RunsTo part.code (scope_of m e) args no_words 0 m.instance.types names_in variables_in [] [] vs h.types ps knows (on part.code (scope_of m e) args no_words 0 0 [] slots) (length part.code.instrs) o → EffectEnds m.instance part slots args o
     outcome_comes slots typed (becomes after) r =
         (r.0, kept_corresponds after r.0 r.1, came part (scope_of m e) slots args (within slots no_words typed) [] r.0 r.2)
     outcome_comes slots typed (breaks f) r = broke part (scope_of m e) slots args (within slots no_words typed) f r
     outcome_comes slots typed nowhere r = absurd r
 
-    effect_comes : (ts : Stmts) (env : Env) (slots : List Val) → Corresponds m.instance env slots → StmtsTyped m.instance.types names_in variables_in ts → HasStmts part.code (scope_of m e) ts 0 (length part.code.instrs) → EffectEnds m.instance part slots args (eff m.instance.types ts (environment m.instance e args env))
+    effect_comes : (ts : Stmts) (env : Env) (slots : List Val) → Corresponds m.instance env slots → StmtsTyped m.instance.types names_in variables_in [] ts → HasStmts part.code (scope_of m e) ts 0 (length part.code.instrs) → EffectEnds m.instance part slots args (eff m.instance.types ts (environment m.instance e args env))
     effect_comes ts env slots c t k =
         outcome_comes slots (holds env slots c).typed (eff m.instance.types ts (environment m.instance e args env))
-        (running.stmts_run part.code (scope_of m e) args no_words 0 m.instance.types names_in variables_in vs h.types ps knows ts 0 (length part.code.instrs) (environment m.instance e args env) slots (holds env slots c) t k)
+        (running.stmts_run part.code args no_words 0 m.instance.types names_in variables_in vs h.types ps ts (scope_of m e) [] [] [] knows 0 (length part.code.instrs) (environment m.instance e args env) slots (holds env slots c) t k)
 
 -- ---- proposals
 
@@ -243,8 +240,8 @@ module _ (m : Member) (e : EntryTree) (vs ps : List ℕ) (h : Setting m e vs ps)
       let inner = over (formal_values m.instance) env in
       let known = knows m bare vs [] b none tt part kind end is in
       let own = holds m bare vs [] b none tt part kind end is env slots c in
-      let suits = running.suits part.code s none no_words 0 types names variables vs h.types [] known inner slots own in
-      let agree = running.agree part.code s none no_words 0 types names variables vs h.types [] known inner slots own in
+      let suits = running.suits part.code s none no_words 0 types names variables [] [] vs h.types [] known inner slots own in
+      let agree = running.agree part.code s none no_words 0 types names variables [] [] vs h.types [] known inner slots own in
       let runs = proposals_try part.code s words slots types is.types_are refl declared names refl inner suits agree t.proposals e.positions 0 0 (length part.code.instrs) [] (bare_typed m e vs ps h t.proposals e.positions typed) k in
       subst (λ o. ProposalEnds part slots words (option_map_or (λ r. parameters words types inner r.proposals e.positions 0) o (meaning.idle 0))) (sym found)
       (tried_ends part s slots words (within m bare vs [] b none tt part kind end is slots words own.typed) (parameters words types inner t.proposals e.positions 0) runs)

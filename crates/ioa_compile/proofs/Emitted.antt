@@ -16,12 +16,12 @@ use Rattle.ioa_value.specs.Table.{place_from, type_named}
 use Rattle.ioa_value.specs.Typing.{HasType, OwnTypes, own}
 use Rattle.ioa_value.proofs.ItemLemmas.{get_append, get_last}
 use Rattle.ioa_value.proofs.TypingLemmas.{OwnTypes-push}
-use Rattle.ioa_code.specs.declared.instr.Instr.TheVariants.{Const, Slot, Arg, Store, Jump, JumpIfFalse, Any, Pick, Apply}
+use Rattle.ioa_code.specs.declared.instr.Instr.TheVariants.{Const, Slot, Arg, Store, Jump, JumpIfFalse, Any, Pick, Apply, Each, Again, Local}
 use Rattle.ioa_code.specs.Machine.{Listing}
 use Rattle.ioa_tree.specs.declared.tree.Infix.{Infix}
 use Rattle.ioa_tree.specs.declared.tree.Infix.TheVariants.{Operator, And, Or, Implies}
-use Rattle.ioa_tree.specs.Tree.{Expr, number, truth, named, parens, prefix, binary, empty, make, select, Exprs, no_expr, also, Stmt, assign, choose, Stmts, stop, seq, Arms, no_arm, arm, FieldTree, PositionTree, typed, only, ChoiceTree, exactly, any_below, ProposalTree}
-use Rattle.ioa_compile.specs.Scopes.{Scope, Origin, slot, formal, parameter, fixed, unknown, origin, IsOrigin, parameter_from, place_of, proposal_for, AreKnownProposals}
+use Rattle.ioa_tree.specs.Tree.{Expr, number, truth, named, parens, prefix, binary, empty, make, select, Exprs, no_expr, also, Stmt, assign, choose, each, Stmts, stop, seq, Arms, no_arm, arm, FieldTree, PositionTree, typed, only, ChoiceTree, exactly, any_below, ProposalTree}
+use Rattle.ioa_compile.specs.Scopes.{Scope, within, Origin, on_stack, slot, formal, parameter, fixed, unknown, origin, IsOrigin, item_place, item_of, parameter_from, place_of, proposal_for, AreKnownProposals}
 use Rattle.ioa_tree.specs.Types.{constant, empty_of}
 use Rattle.ioa_compile.specs.Placed.{Stretch, At, Pushes, PushesTruth, Brings, Applies, Chooses, Combines, HasExpr, HasExprs, HasGuard, HasStmt, HasStmts, HasArms, HasChoice, HasProposal, HasProposals}
 use Rattle.ioa_compile.specs.Emitting.{KeepsCode, Adds, AddsInstr, AddsConst, AddsExpr, AddsExprs, AddsCombined, AddsTrueSide, AddsFalseSide, AddsStmt, AddsStmts, AddsChoice, AddsProposal, AddsProposals, proposals_nodes, IsGrown}
@@ -68,33 +68,41 @@ adds_const c d v k k-is t-is i-is c-is ty = record {
   few = omega (arith, ap length c-is, length-append c.consts (v ∷ []));
 }
 
-pub origin_formal : (s : Scope) (x : Name) (i : ℕ) → place_from 0 s.variables x ≡ None → place_from 0 s.formals x ≡ Some i → origin s x ≡ formal i
-origin_formal s x i e f =
+pub origin_item : (s : Scope) (x : Name) (d : ℕ) → item_place s.loops x ≡ Some d → origin s x ≡ on_stack d
+origin_item s x d a = rw a refl
+
+pub origin_formal : (s : Scope) (x : Name) (i : ℕ) → item_place s.loops x ≡ None → place_from 0 s.variables x ≡ None → place_from 0 s.formals x ≡ Some i → origin s x ≡ formal i
+origin_formal s x i a e f =
     let third : Origin = option_map_or parameter (parameter_from 0 s.parameters x) (option_map_or fixed (constant s.types x) unknown) in
     let second : Option ℕ → Origin = λ o. option_map_or formal o third in
-    ap (λ o. option_map_or slot o (second (place_from 0 s.formals x))) e ∙ ap second f
+    let first : Option ℕ → Origin = λ o. option_map_or slot o (second (place_from 0 s.formals x)) in
+    ap (λ o. option_map_or on_stack o (first (place_from 0 s.variables x))) a ∙ ap first e ∙ ap second f
 
-pub origin_slot : (s : Scope) (x : Name) (i : ℕ) → place_from 0 s.variables x ≡ Some i → origin s x ≡ slot i
-origin_slot s x i e = rw e refl
+pub origin_slot : (s : Scope) (x : Name) (i : ℕ) → item_place s.loops x ≡ None → place_from 0 s.variables x ≡ Some i → origin s x ≡ slot i
+origin_slot s x i a e = rw a (rw e refl)
 
-pub origin_parameter : (s : Scope) (x : Name) (i : ℕ) → place_from 0 s.variables x ≡ None → place_from 0 s.formals x ≡ None → parameter_from 0 s.parameters x ≡ Some i → origin s x ≡ parameter i
-origin_parameter s x i e f g = rw e (rw f (rw g refl))
+pub origin_parameter : (s : Scope) (x : Name) (i : ℕ) → item_place s.loops x ≡ None → place_from 0 s.variables x ≡ None → place_from 0 s.formals x ≡ None → parameter_from 0 s.parameters x ≡ Some i → origin s x ≡ parameter i
+origin_parameter s x i a e f g = rw a (rw e (rw f (rw g refl)))
 
 -- a name that has no place is an enumeration's
-pub known_constant : (s : Scope) (x : Name) → place_from 0 s.variables x ≡ None → place_from 0 s.formals x ≡ None → parameter_from 0 s.parameters x ≡ None → IsOrigin (origin s x) → IsSome (constant s.types x)
-known_constant s x e f g h =
+pub known_constant : (s : Scope) (x : Name) → item_place s.loops x ≡ None → place_from 0 s.variables x ≡ None → place_from 0 s.formals x ≡ None → parameter_from 0 s.parameters x ≡ None → IsOrigin (origin s x) → IsSome (constant s.types x)
+known_constant s x a e f g h =
     let last : Origin = option_map_or fixed (constant s.types x) unknown in
-    let is : origin s x ≡ last = rw e (rw f (rw g refl)) in
+    let is : origin s x ≡ last = rw a (rw e (rw f (rw g refl))) in
     go (constant s.types x) (subst IsOrigin is h)
   where
     go : (o : Option Val) → IsOrigin (option_map_or fixed o unknown) → IsSome o
     go (Some v) k = refl
     go None k = absurd k
 
-pub origin_fixed : (s : Scope) (x : Name) (v : Val) → place_from 0 s.variables x ≡ None → place_from 0 s.formals x ≡ None → parameter_from 0 s.parameters x ≡ None → constant s.types x ≡ Some v → origin s x ≡ fixed v
-origin_fixed s x v e f g h = rw e (rw f (rw g (rw h refl)))
+pub origin_fixed : (s : Scope) (x : Name) (v : Val) → item_place s.loops x ≡ None → place_from 0 s.variables x ≡ None → place_from 0 s.formals x ≡ None → parameter_from 0 s.parameters x ≡ None → constant s.types x ≡ Some v → origin s x ≡ fixed v
+origin_fixed s x v a e f g h = rw a (rw e (rw f (rw g (rw h refl))))
 
 -- an instruction that brings the name's value
+pub adds_item : (c d : Listing) (s : Scope) (x : Name) (i : ℕ) → origin s x ≡ on_stack i → AddsInstr c d (Local i) → AddsExpr c d s (named x)
+adds_item c d s x i e h =
+    record { keeps = h.keeps; has = (subst (Brings d s (length c.instrs)) (sym e) h.has.0, h.has.1); few = omega (arith, h.few) }
+
 pub adds_slot : (c d : Listing) (s : Scope) (x : Name) (i : ℕ) → origin s x ≡ slot i → AddsInstr c d (Slot i) → AddsExpr c d s (named x)
 adds_slot c d s x i e h =
     record { keeps = h.keeps; has = (subst (Brings d s (length c.instrs)) (sym e) h.has.0, h.has.1); few = omega (arith, h.few) }
@@ -129,6 +137,7 @@ truth_kept b c d k p q h = (Pushes-keeps c d k p _ h.0, h.1)
 
 module _ (c d : Listing) (k : KeepsCode c d) where
   Brings-keeps : (s : Scope) (p : ℕ) (o : Origin) → Brings c s p o → Brings d s p o
+  Brings-keeps s p (on_stack i) h = k.instr p _ h
   Brings-keeps s p (slot i) h = k.instr p _ h
   Brings-keeps s p (formal i) h = (h.0, h.1, Pushes-keeps c d k p h.0 h.2)
   Brings-keeps s p (parameter i) h = k.instr p _ h
@@ -179,6 +188,8 @@ module _ (c d : Listing) (k : KeepsCode c d) where
     pub HasStmt-keeps : (s : Scope) (t : Stmt) (p q : ℕ) → HasStmt c s t p q → HasStmt d s t p q
     HasStmt-keeps s (assign x e) p q h = (h.0, h.1, HasExpr-keeps s e p h.0 h.2, k.instr h.0 _ h.3, h.4, h.5)
     HasStmt-keeps s (choose arms others) p q h = HasArms-keeps s arms others (HasStmts-keeps s others) p q h
+    HasStmt-keeps s (each x e ss) p q h =
+        (h.0, h.1, h.2, HasExpr-keeps s e p h.0 h.3, h.4, k.instr h.0 _ h.5, HasStmts-keeps (within s x h.2) ss (h.0 + 1) h.1 h.6, k.instr h.1 _ h.7, h.8)
 
     pub HasStmts-keeps : (s : Scope) (ts : Stmts) (p q : ℕ) → HasStmts c s ts p q → HasStmts d s ts p q
     HasStmts-keeps s stop p q h = h
@@ -290,6 +301,31 @@ adds_assign c0 c1 c2 s x e i at y z = record {
   has = (length c1.instrs, i, HasExpr-keeps c1 c2 z.keeps s e _ _ y.has, z.has.0, at, z.has.1);
   few = omega (arith, y.few, z.few);
 }
+
+-- a loop counts as a node
+pub adds_each : (c0 c1 c2 c3 c4 : Listing) (s : Scope) (x : Name) (e : Expr) (ss : Stmts) (ty past start : ℕ) → item_of s e ≡ Some ty → AddsExpr c0 c1 s e → AddsInstr c1 c2 (Each past) → AddsStmts c2 c3 (within s x ty) ss → AddsInstr c3 c4 (Again start) → start ≡ length c1.instrs → past ≡ start + stmts_extent ss + 2 → AddsStmt c0 c4 s (each x e ss)
+adds_each c0 c1 c2 c3 c4 s x e ss ty past start items v w y z start-is past-is =
+    let k24 = KeepsCode-trans c2 c3 c4 y.keeps z.keeps in
+    let k14 = KeepsCode-trans c1 c2 c4 w.keeps k24 in
+    let m = length c1.instrs in
+    let n = length c3.instrs in
+    let long = stmts_long c3 (within s x ty) ss (length c2.instrs) n y.has in
+    let ends : past ≡ n + 1 = omega (arith, start-is, past-is, w.has.1, long) in
+    record {
+      keeps = KeepsCode-trans c0 c1 c4 v.keeps k14;
+      has = (
+        m,
+        n,
+        ty,
+        HasExpr-keeps c1 c4 k14 s e _ _ v.has,
+        items,
+        subst (λ i. At c4 m (Each i)) ends (k24.instr m (Each past) w.has.0),
+        subst (λ i. HasStmts c4 (within s x ty) ss i n) w.has.1 (HasStmts-keeps c3 c4 z.keeps (within s x ty) ss (length c2.instrs) n y.has),
+        subst (λ i. At c4 n (Again i)) start-is z.has.0,
+        z.has.1,
+      );
+      few = omega (arith, v.few, w.few, y.few, z.few);
+    }
 
 pub adds_none : (c : Listing) (s : Scope) → AddsStmts c c s stop
 adds_none c s = record { keeps = KeepsCode-self c; has = refl; few = omega arith }

@@ -1,46 +1,47 @@
 -- What a well-formed automaton's entry keeps.
-use Rattle.std.proofs.Common.{All, inl, inr, ◌≡◌, ℕ, ◌+◌, ◌<◌, ◌≤◌, Bool, true, false, cond, not, ◌&&◌, ◌||◌, ◌==◌, nat_le, if◌then◌else◌, IsTrue, List, [], map, length, Option, Some, None, IsSome, pos, refl, sym, ap, ◌∙◌, subst, arith}
-use Rattle.std.specs.Prelude.{slice_get, sum, IfSome}
+use Rattle.std.proofs.Common.{All, inl, inr, ◌≡◌, ℕ, ◌+◌, ◌<◌, ◌≤◌, Bool, true, false, cond, not, ◌&&◌, ◌||◌, ◌==◌, nat_le, nat_lt, if◌then◌else◌, IsTrue, List, [], ◌∷◌, ◌++◌, map, length, option_and_then, Option, Some, None, IsSome, pos, refl, sym, ap, ◌∙◌, subst, arith}
+use Rattle.std.specs.Prelude.{slice_get, sum}
 use Rattle.std.specs.List.{list_all, list_any, filter}
 use Rattle.std.specs.Option.{option_map_or}
 use Rattle.std.specs.Str.{bytes_eq}
-use Rattle.std.proofs.lemmas.Bool.{and_parts}
+use Rattle.std.proofs.lemmas.Bool.{and_parts, or_parts}
 use Rattle.std.proofs.lemmas.Bool.Decides.{nat_tests}
 use Rattle.std.proofs.lemmas.List.{length-map}
 use Rattle.ioa_value.specs.Actions.{Name}
 use Rattle.ioa_arithmetic.specs.Arithmetic.{fits}
 use Rattle.ioa_value.specs.Operators.{op_type}
 use Rattle.ioa_value.specs.Positions.{Domain, IsDomain}
-use Rattle.ioa_value.specs.Table.{Table, AreTypes, place_from, type_named}
+use Rattle.ioa_value.specs.Table.{Table, AreTypes, place_from, type_named, item_type}
 use Rattle.ioa_value.specs.Typing.{HaveTypes, own}
 use Rattle.ioa_value.specs.declared.limits.TheConstants.{LIMITS}
 use Rattle.ioa_value.proofs.ItemLemmas.{all_at, some_at}
 use Rattle.ioa_value.proofs.TypingLemmas.{HaveTypes-length, HaveTypes-owns}
-use Rattle.ioa_value.proofs.NameLemmas.{same_name}
+use Rattle.ioa_value.proofs.NameLemmas.{same_name, outside_both}
 use Rattle.ioa_tree.specs.declared.tree.Kind.{Kind}
 use Rattle.ioa_tree.specs.declared.tree.Kind.TheVariants.{Input, Output, Internal}
-use Rattle.ioa_tree.specs.Tree.{Expr, number, truth, named, parens, prefix, binary, empty, make, select, Exprs, no_expr, also, Stmt, assign, choose, Stmts, stop, seq, Arms, no_arm, arm, expr_in, AutomatonTree, EntryTree, TransitionTree}
-use Rattle.ioa_tree.specs.Meaning.{or_else}
-use Rattle.ioa_tree.specs.Types.{constant_type}
-use Rattle.ioa_tree.specs.Instances.{variable_names, transition_for}
+use Rattle.ioa_tree.specs.Tree.{Expr, number, truth, named, parens, prefix, binary, empty, make, select, Exprs, no_expr, also, Stmt, assign, choose, each, Stmts, stop, seq, Arms, no_arm, arm, expr_in, AutomatonTree, EntryTree, TransitionTree, VariableTree}
+use Rattle.ioa_tree.specs.Types.{empty_of}
+use Rattle.ioa_tree.specs.Instances.{field_names, variable_names, transition_for}
+use Rattle.ioa_tree.specs.declared.tree.TheConstants.{NESTED_LOOPS}
 use Rattle.ioa_tree.specs.Domains.{AreDomainsOf}
 use Rattle.ioa_tree.specs.Compositions.{Member}
-use Rattle.ioa_tree.specs.WellFormed.{Context, type_in, type_of, types_of_all, infix_type, is_some_of, has_ty, nodes, stmts_nodes, is_type, context_of, variable_fields, same_kind, is_input, scope, entry_fine, matches, pre_fine, stmt_fine, stmts_fine, arms_fine, effect_fine, input_fine, proposals_fine, all_proposed, transition_fine, pre_within, proposals_within, effect_within, transition_within, entry_within}
+use Rattle.ioa_tree.specs.WellFormed.{Context, type_in, type_of, types_of_all, infix_type, is_some_of, has_ty, nodes, stmts_nodes, is_type, contains, parameter_names, local_names, taken, item_in, context_of, variable_fields, same_kind, is_input, scope, entry_fine, matches, pre_fine, stmt_fine, stmts_fine, arms_fine, effect_fine, input_fine, proposals_fine, all_proposed, transition_fine, pre_within, proposals_within, effect_within, transition_within, entry_within}
 use Rattle.ioa_tree.proofs.FineParts.{FineParts, fine_parts, EntryParts, entry_parts, within_parts}
 use Rattle.ioa_tree.proofs.Domains.{domains_are}
 use Rattle.ioa_tree.proofs.ValTyped.{type_of_one, types_of_both, types_of_row}
 use Rattle.ioa_compose.specs.Fine.{IsFine, component_limits}
-use Rattle.ioa_compile.specs.Scopes.{scope_of, Origin, slot, formal, parameter, fixed, unknown, origin, IsOrigin, IsKnown, AreAllKnown, IsKnownStmt, AreKnown, AreKnownArms, IsKnownGuard, IsScope, place_of}
+use Rattle.ioa_compile.specs.Scopes.{Scope, within, scope_of, Origin, on_stack, slot, formal, parameter, fixed, unknown, origin, IsOrigin, IsKnown, AreAllKnown, IsKnownStmt, AreKnown, AreKnownArms, IsKnownGuard, IsScope, place_of}
 use Rattle.ioa_compile.specs.Emitting.{guard_nodes}
 use Rattle.ioa_compile.specs.Matching.{AreTypesOf}
 use Rattle.ioa_compile.specs.Tables.{position_types}
 use Rattle.ioa_compile.specs.Translated.{IsEntryOf}
-use Rattle.ioa_compile.proofs.Looks.{look, looks, Looked, name_same}
+use Rattle.ioa_compile.proofs.Looks.{look, looks, look_inside, Looked, name_same, not_true}
 use Rattle.ioa_compile.proofs.Parameters.{types_of_domains}
-use Rattle.ioa_compile.proofs.Standing.{at, stands, stands_at}
+use Rattle.ioa_compile.proofs.Standing.{at, stands, in_turn, Names, named_at, names_within}
 use Rattle.ioa_compile.proofs.Fits.{fit_types, types_long, scope_look, fields_look, variables_names}
-use Rattle.ioa_compile.proofs.Fixed.{own_constant, empty_known}
-use Rattle.ioa_compile.proofs.Tuples.{of_make, of_select, place_is}
+use Rattle.ioa_compile.proofs.Fixed.{empty_known}
+use Rattle.ioa_compile.proofs.Tuples.{of_make, of_select, place_is, item_is}
+use Rattle.ioa_compile.proofs.Typed.{GuardTyped, StmtTyped, StmtsTyped, ArmsTyped}
 use Rattle.ioa_compile.proofs.Finds.{IsFirst, finds, same_item}
 
 -- ---- the transition of an entry
@@ -101,21 +102,19 @@ module _ (types : Table) (g : List Name) (a : AutomatonTree) (p : FineParts type
 
 -- ---- typed preconditions and statements
 
-abbrev pub GuardTyped : Table → Context → Option Expr → Type 0
-GuardTyped types c o = IfSome o (λ p. type_of types types c p ≡ Some 0)
+-- no type is known of a name that is no variable's
+unknown_variable : (types : Table) (vs : List VariableTree) (x : Name) → contains (map (λ v. v.field.name) vs) x ≡ false → type_in (context_of types (map (λ v. v.field) vs)) x ≡ None
+unknown_variable types [] x h = refl
+unknown_variable types (v ∷ vs) x h =
+    let parts = or_parts (bytes_eq v.field.name x) (contains (map (λ v. v.field.name) vs) x) h in
+    go (type_named types v.field.ty) parts.0 (unknown_variable types vs x parts.1)
+  where
+    rest : Context
+    rest = context_of types (map (λ v. v.field) vs)
 
-abbrev mutual
-  pub StmtTyped : Table → Context → Context → Stmt → Type 0
-  StmtTyped types c v (assign x e) = (ty : ℕ) × (type_in v x ≡ Some ty) × (type_of types types c e ≡ Some ty)
-  StmtTyped types c v (choose arms others) = ArmsTyped types c v arms × StmtsTyped types c v others
-
-  pub StmtsTyped : Table → Context → Context → Stmts → Type 0
-  StmtsTyped types c v stop = Unit {0}
-  StmtsTyped types c v (seq s ss) = StmtTyped types c v s × StmtsTyped types c v ss
-
-  pub ArmsTyped : Table → Context → Context → Arms → Type 0
-  ArmsTyped types c v no_arm = Unit {0}
-  ArmsTyped types c v (arm e ss more) = (type_of types types c e ≡ Some 0) × StmtsTyped types c v ss × ArmsTyped types c v more
+    go : (o : Option ℕ) → bytes_eq v.field.name x ≡ false → type_in rest x ≡ None → type_in (option_map_or (λ n. (v.field.name, n) ∷ []) o [] ++ rest) x ≡ None
+    go (Some n) other none = ap (λ b. cond b (Some n) (type_in rest x)) other ∙ none
+    go None other none = none
 
 some_of : (o : Option ℕ) (ty : ℕ) → IsTrue (is_some_of o ty) → o ≡ Some ty
 some_of (Some t) ty h = let same : t ≡ ty = grind (arith, nat_tests) in ap Some same
@@ -139,35 +138,67 @@ module _ (types : Table) (g : List Name) (a : AutomatonTree) (e : EntryTree) whe
   pub guard_typed : (r : TransitionTree) → IsTrue (transition_fine types types g a e r) → GuardTyped types (scope types types g a e) r.pre
   guard_typed r h = guard_cases (is_input r.kind) r (and_parts (effect_fine types types g a e r) _ h).1
 
-  assign_tests : (x : Name) (v : Expr) → IsTrue (stmt_fine types types g a e (assign x v)) → StmtTyped types (scope types types g a e) (context_of types (variable_fields a)) (assign x v)
-  assign_tests x v h = go (type_in (context_of types (variable_fields a)) x) refl h
+  -- the types of what statements may name, and of the variables
+  abbrev named_there : Context
+  named_there = scope types types g a e
+
+  abbrev written_there : Context
+  written_there = context_of types (variable_fields a)
+
+  assign_tests : (loops : Context) (x : Name) (v : Expr) → IsTrue (stmt_fine types types g a e loops (assign x v)) → StmtTyped types named_there written_there loops (assign x v)
+  assign_tests loops x v h = go (type_in written_there x) refl h
     where
-      go : (o : Option ℕ) → type_in (context_of types (variable_fields a)) x ≡ o → IsTrue (option_map_or (λ ty. is_some_of (type_of types types (scope types types g a e) v) ty) o false) → StmtTyped types (scope types types g a e) (context_of types (variable_fields a)) (assign x v)
+      go : (o : Option ℕ) → type_in written_there x ≡ o → IsTrue (option_map_or (λ ty. is_some_of (type_of types types (loops ++ named_there) v) ty) o false) → StmtTyped types named_there written_there loops (assign x v)
       go None t h = absurd (cc)
-      go (Some ty) t h = (ty, t, some_of (type_of types types (scope types types g a e) v) ty h)
+      go (Some ty) t h = (ty, t, some_of (type_of types types (loops ++ named_there) v) ty h)
+
+  -- a name that is taken by nothing is no variable's
+  no_variable : (loops : Context) (x : Name) → contains (taken types types g a e loops) x ≡ false → type_in written_there x ≡ None
+  no_variable loops x h =
+      let inner = (outside_both (map (λ p. p.0) loops) (parameter_names e ++ (g ++ local_names types types g a)) x h).1 in
+      let local = (outside_both g (local_names types types g a) x (outside_both (parameter_names e) (g ++ local_names types types g a) x inner).1).1 in
+      unknown_variable types a.variables x (outside_both (field_names a.formals) (variable_names a) x local).1
+
+  abbrev body_fine : Context → Name → Stmts → ℕ → Bool
+  body_fine loops x ss item = stmts_fine types types g a e ((x, item) ∷ loops) ss
+
+  loop_tests : (loops : Context) (x : Name) (v : Expr) (ss : Stmts) → IsTrue (stmt_fine types types g a e loops (each x v ss)) → ((item : ℕ) → IsTrue (stmts_fine types types g a e ((x, item) ∷ loops) ss) → StmtsTyped types named_there written_there ((x, item) ∷ loops) ss) → StmtTyped types named_there written_there loops (each x v ss)
+  loop_tests loops x v ss h body =
+      let new = and_parts (not (contains (taken types types g a e loops) x)) (nat_lt (length loops) NESTED_LOOPS && option_map_or (body_fine loops x ss) (item_in types types g a e loops v) false) h in
+      let few = and_parts (nat_lt (length loops) NESTED_LOOPS) (option_map_or (body_fine loops x ss) (item_in types types g a e loops v) false) new.1 in
+      of_type (no_variable loops x (not_true (contains (taken types types g a e loops) x) new.0)) (grind (arith, nat_tests)) (type_of types types (loops ++ named_there) v) refl few.1
+    where
+      of_item : type_in written_there x ≡ None → length loops < NESTED_LOOPS → (ty : ℕ) → type_of types types (loops ++ named_there) v ≡ Some ty → (o : Option ℕ) → item_type types ty ≡ o → IsTrue (option_map_or (body_fine loops x ss) o false) → StmtTyped types named_there written_there loops (each x v ss)
+      of_item fresh few ty t None is h = absurd (cc)
+      of_item fresh few ty t (Some item) is h = (ty, item, t, is, fresh, few, body item h)
+
+      of_type : type_in written_there x ≡ None → length loops < NESTED_LOOPS → (o : Option ℕ) → type_of types types (loops ++ named_there) v ≡ o → IsTrue (option_map_or (body_fine loops x ss) (option_and_then (item_type types) o) false) → StmtTyped types named_there written_there loops (each x v ss)
+      of_type fresh few None t h = absurd (cc)
+      of_type fresh few (Some ty) t h = of_item fresh few ty t (item_type types ty) refl h
 
   mutual
-    stmt_tests : (s : Stmt) → IsTrue (stmt_fine types types g a e s) → StmtTyped types (scope types types g a e) (context_of types (variable_fields a)) s
-    stmt_tests (assign x v) h = assign_tests x v h
-    stmt_tests (choose arms others) h =
-        let parts = and_parts (arms_fine types types g a e arms) (stmts_fine types types g a e others) h in
-        (arms_tests arms parts.0, stmts_tests others parts.1)
+    stmt_tests : (loops : Context) (s : Stmt) → IsTrue (stmt_fine types types g a e loops s) → StmtTyped types named_there written_there loops s
+    stmt_tests loops (assign x v) h = assign_tests loops x v h
+    stmt_tests loops (choose arms others) h =
+        let parts = and_parts (arms_fine types types g a e loops arms) (stmts_fine types types g a e loops others) h in
+        (arms_tests loops arms parts.0, stmts_tests loops others parts.1)
+    stmt_tests loops (each x v ss) h = loop_tests loops x v ss h (λ item k. stmts_tests ((x, item) ∷ loops) ss k)
 
-    stmts_tests : (ss : Stmts) → IsTrue (stmts_fine types types g a e ss) → StmtsTyped types (scope types types g a e) (context_of types (variable_fields a)) ss
-    stmts_tests stop h = tt
-    stmts_tests (seq s ss) h =
-        let parts = and_parts (stmt_fine types types g a e s) (stmts_fine types types g a e ss) h in
-        (stmt_tests s parts.0, stmts_tests ss parts.1)
+    stmts_tests : (loops : Context) (ss : Stmts) → IsTrue (stmts_fine types types g a e loops ss) → StmtsTyped types named_there written_there loops ss
+    stmts_tests loops stop h = tt
+    stmts_tests loops (seq s ss) h =
+        let parts = and_parts (stmt_fine types types g a e loops s) (stmts_fine types types g a e loops ss) h in
+        (stmt_tests loops s parts.0, stmts_tests loops ss parts.1)
 
-    arms_tests : (arms : Arms) → IsTrue (arms_fine types types g a e arms) → ArmsTyped types (scope types types g a e) (context_of types (variable_fields a)) arms
-    arms_tests no_arm h = tt
-    arms_tests (arm c ss more) h =
-        let parts = and_parts (has_ty types types (scope types types g a e) c 0) (stmts_fine types types g a e ss && arms_fine types types g a e more) h in
-        let inner = and_parts (stmts_fine types types g a e ss) (arms_fine types types g a e more) parts.1 in
-        (some_of (type_of types types (scope types types g a e) c) 0 parts.0, stmts_tests ss inner.0, arms_tests more inner.1)
+    arms_tests : (loops : Context) (arms : Arms) → IsTrue (arms_fine types types g a e loops arms) → ArmsTyped types named_there written_there loops arms
+    arms_tests loops no_arm h = tt
+    arms_tests loops (arm c ss more) h =
+        let parts = and_parts (has_ty types types (loops ++ named_there) c 0) (stmts_fine types types g a e loops ss && arms_fine types types g a e loops more) h in
+        let inner = and_parts (stmts_fine types types g a e loops ss) (arms_fine types types g a e loops more) parts.1 in
+        (some_of (type_of types types (loops ++ named_there) c) 0 parts.0, stmts_tests loops ss inner.0, arms_tests loops more inner.1)
 
-  pub effect_typed : (r : TransitionTree) → IsTrue (transition_fine types types g a e r) → StmtsTyped types (scope types types g a e) (context_of types (variable_fields a)) r.effect
-  effect_typed r h = stmts_tests r.effect (and_parts (effect_fine types types g a e r) _ h).0
+  pub effect_typed : (r : TransitionTree) → IsTrue (transition_fine types types g a e r) → StmtsTyped types (scope types types g a e) (context_of types (variable_fields a)) [] r.effect
+  effect_typed r h = stmts_tests [] r.effect (and_parts (effect_fine types types g a e r) _ h).0
 
 -- ---- the sizes of a transition's trees
 
@@ -255,7 +286,7 @@ module _ (m : Member) (e : EntryTree) (h : IsFine component_limits m) (own : IsE
   pub domains_of : (ds : List Domain) → AreTypes m.instance.types → AreDomainsOf m.instance e.positions ds → All (IsDomain m.instance.types) ds
   domains_of ds declared hp = domains_are m.instance declared h.arguments e.positions ds entry_of.positions hp
 
-  pub setting : (vs ps : List ℕ) (ds : List Domain) → AreTypesOf m.instance.types (variable_fields m.instance.automaton) vs → AreDomainsOf m.instance e.positions ds → ps ≡ position_types ds → Setting m e vs ps
+  abbrev pub setting : (vs ps : List ℕ) (ds : List Domain) → AreTypesOf m.instance.types (variable_fields m.instance.automaton) vs → AreDomainsOf m.instance e.positions ds → ps ≡ position_types ds → Setting m e vs ps
   setting vs ps ds hv hp types-are =
       let a = m.instance.automaton in
       let f = fit_types m.instance.types a.formals m.instance.arguments h.arguments in
@@ -298,6 +329,7 @@ bare_setting m e vs ps h = record {
 module _ (m : Member) (e : EntryTree) (vs ps : List ℕ) (h : Setting m e vs ps) where
   pub is_scope : IsScope (scope_of m e)
   is_scope = record {
+    loops = omega arith;
     variables = omega (arith, length-map m.instance.automaton.variables (λ v. v.field.name), h.few_variables);
     parameters = h.few_positions;
     given = types_long m.instance.types m.instance.automaton.formals h.types h.formals ∙ sym (HaveTypes-length m.instance.types m.instance.arguments h.types h.given);
@@ -311,15 +343,20 @@ module _ (m : Member) (e : EntryTree) (vs ps : List ℕ) (h : Setting m e vs ps)
   parameters_long = types_of_domains m.instance e.positions h.domains h.parameters ∙ ap length (sym h.types_are)
 
   -- the types of names, but for those of enumerations
-  pub type_look : (x : Name) → type_in (scope m.instance.types m.instance.types h.globals m.instance.automaton e) x ≡ stands (scope_of m e) vs h.types ps x
+  pub type_look : (x : Name) → type_in (scope m.instance.types m.instance.types h.globals m.instance.automaton e) x ≡ stands (scope_of m e) [] vs h.types ps x
   type_look x =
-      scope_look h.globals m e vs h.types h.domains x h.variables h.formals h.parameters ∙ ap (λ l. stands (scope_of m e) vs h.types l x) (sym h.types_are)
+      scope_look h.globals m e vs h.types h.domains x h.variables h.formals h.parameters ∙ ap (λ l. stands (scope_of m e) [] vs h.types l x) (sym h.types_are)
 
-  pub type_at : (x : Name) → or_else (type_in (scope m.instance.types m.instance.types h.globals m.instance.automaton e) x) (constant_type m.instance.types x) ≡ at own (origin (scope_of m e) x) vs h.types ps
-  type_at x =
-      ap (λ o. or_else o (constant_type m.instance.types x)) (type_look x)
-      ∙ ap (or_else (stands (scope_of m e) vs h.types ps x)) (own_constant m.instance.types x)
-      ∙ stands_at own (scope_of m e) vs h.types ps x variables_long (types_long m.instance.types m.instance.automaton.formals h.types h.formals) parameters_long
+  pub names_of : Names (scope_of m e) m.instance.types (scope m.instance.types m.instance.types h.globals m.instance.automaton e) [] vs h.types ps
+  names_of = record {
+    table = refl;
+    context = refl;
+    loops = refl;
+    variables = variables_long;
+    formals = types_long m.instance.types m.instance.automaton.formals h.types h.formals;
+    parameters = parameters_long;
+    names = type_look;
+  }
 
   -- a variable's place, and its type there
   pub variable_at : (x : Name) (ty : ℕ) → type_in (context_of m.instance.types (variable_fields m.instance.automaton)) x ≡ Some ty → (i : ℕ) × (place_from 0 (variable_names m.instance.automaton) x ≡ Some i) × (slice_get vs i ≡ Some ty)
@@ -332,7 +369,26 @@ module _ (m : Member) (e : EntryTree) (vs ps : List ℕ) (h : Setting m e vs ps)
       go place o e (inl r) = let n : 0 + r.at ≡ r.at = omega arith in (r.at, r.place_is ∙ ap Some n, r.item_is ∙ sym r.look_is ∙ e)
       go place o e (inr r) = let no = r.no_look in absurd (cc)
 
-  origin_there : (o : Origin) (ty : ℕ) → at own o vs h.types ps ≡ Some ty → IsOrigin o
+  -- no loop, and no name that is not declared, stands for a variable
+  pub no_other : (x : Name) → type_in (context_of m.instance.types (variable_fields m.instance.automaton)) x ≡ None → contains (variable_names m.instance.automaton) x ≡ false
+  no_other x t = go (contains (variable_names m.instance.automaton) x) refl
+    where
+      is : look (variable_names m.instance.automaton) vs x ≡ None
+      is =
+          ap (λ ns. look ns vs x) (sym (variables_names m.instance.automaton)) ∙ sym (fields_look m.instance.types (variable_fields m.instance.automaton) vs x h.variables) ∙ t
+
+      go : (b : Bool) → contains (variable_names m.instance.automaton) x ≡ b → b ≡ false
+      go false c = refl
+      go true c = let there = look_inside (variable_names m.instance.automaton) vs x variables_long c in let both : Some there.0 ≡ None = sym there.1 ∙ is in absurd (cc)
+
+-- ---- typed trees are known
+
+is_some : (o : Option ℕ) (i : ℕ) → o ≡ Some i → IsSome o
+is_some o i t = rw t refl
+
+module _ (s : Scope) (types : Table) (c : Context) (bs vs fs ps : List ℕ) (h : Names s types c bs vs fs ps) where
+  origin_there : (o : Origin) (ty : ℕ) → at own o bs vs fs ps ≡ Some ty → IsOrigin o
+  origin_there (on_stack d) ty t = tt
   origin_there (slot i) ty t = tt
   origin_there (formal i) ty t = tt
   origin_there (parameter i) ty t = tt
@@ -343,59 +399,72 @@ module _ (m : Member) (e : EntryTree) (vs ps : List ℕ) (h : Setting m e vs ps)
   number_fits n ty true f t = f
   number_fits n ty false f t = absurd (cc)
 
-  is_some : (o : Option ℕ) (i : ℕ) → o ≡ Some i → IsSome o
-  is_some o i t = rw t refl
-
-  abbrev names_typed : Context
-  names_typed = scope m.instance.types m.instance.types h.globals m.instance.automaton e
-
   mutual
-    pub known : (x : Expr) (ty : ℕ) → type_of m.instance.types m.instance.types names_typed x ≡ Some ty → IsKnown (scope_of m e) x
-    known (number n) ty t = number_fits n ty (fits (pos n)) refl t
-    known (truth b) ty t = tt
-    known (named x) ty t = origin_there (origin (scope_of m e) x) ty (sym (type_at x) ∙ t)
-    known (parens y) ty t = known y ty t
-    known (prefix o y) ty t =
-        let operand = type_of_one (type_of m.instance.types m.instance.types names_typed y) (op_type m.instance.types o) ty t in
-        known y operand.0 operand.1
-    known (binary l o r) ty t =
-        let both = types_of_both (type_of m.instance.types m.instance.types names_typed l) (type_of m.instance.types m.instance.types names_typed r) (infix_type m.instance.types o) ty t in
-        (known l both.0 both.2, known r both.1 both.3)
-    known (empty x) ty t = empty_known m.instance.types x ty t
-    known (make x es) ty t =
-        let parts = of_make m.instance.types names_typed x es ty t in
-        (is_some (type_named m.instance.types x) parts.0 parts.2, all_known es parts.1 parts.3)
-    known (select y x) ty t =
-        let parts = of_select m.instance.types names_typed y x ty t in
-        let place = place_is m.instance.types names_typed (scope_of m e) y x parts.0 refl refl parts.2 ∙ parts.3 in
-        (is_some (place_of (scope_of m e) y x) parts.1 place, known y parts.0 parts.2)
+    known_in : (x : Expr) (ty : ℕ) → type_of types types c x ≡ Some ty → IsKnown s x
+    known_in (number n) ty t = number_fits n ty (fits (pos n)) refl t
+    known_in (truth b) ty t = tt
+    known_in (named x) ty t = origin_there (origin s x) ty (sym (named_at s types c bs vs fs ps h x) ∙ t)
+    known_in (parens y) ty t = known_in y ty t
+    known_in (prefix o y) ty t =
+        let operand = type_of_one (type_of types types c y) (op_type types o) ty t in
+        known_in y operand.0 operand.1
+    known_in (binary l o r) ty t =
+        let both = types_of_both (type_of types types c l) (type_of types types c r) (infix_type types o) ty t in
+        (known_in l both.0 both.2, known_in r both.1 both.3)
+    known_in (empty x) ty t = subst (λ l. IsSome (empty_of l x)) (sym h.table) (empty_known types x ty t)
+    known_in (make x es) ty t =
+        let parts = of_make types c x es ty t in
+        (subst (λ l. IsSome (type_named l x)) (sym h.table) (is_some (type_named types x) parts.0 parts.2), all_known es parts.1 parts.3)
+    known_in (select y x) ty t =
+        let parts = of_select types c y x ty t in
+        let place = place_is types c s y x parts.0 h.table h.context parts.2 ∙ parts.3 in
+        (is_some (place_of s y x) parts.1 place, known_in y parts.0 parts.2)
 
-    all_known : (es : Exprs) (tys : List ℕ) → types_of_all m.instance.types m.instance.types names_typed es ≡ Some tys → AreAllKnown (scope_of m e) es
+    all_known : (es : Exprs) (tys : List ℕ) → types_of_all types types c es ≡ Some tys → AreAllKnown s es
     all_known no_expr tys t = tt
     all_known (also y ys) tys t =
-        let parts = types_of_row (type_of m.instance.types m.instance.types names_typed y) (types_of_all m.instance.types m.instance.types names_typed ys) tys t in (known y parts.0 parts.2, all_known ys parts.1 parts.3)
+        let parts = types_of_row (type_of types types c y) (types_of_all types types c ys) tys t in (known_in y parts.0 parts.2, all_known ys parts.1 parts.3)
 
-  pub known_guard : (o : Option Expr) → GuardTyped m.instance.types (scope m.instance.types m.instance.types h.globals m.instance.automaton e) o → IsKnownGuard (scope_of m e) o
-  known_guard None t = tt
-  known_guard (Some x) t = known x 0 t
+module _ (types : Table) (c v : Context) (variables : List Name) (vs fs ps : List ℕ) (places : (x : Name) (ty : ℕ) → type_in v x ≡ Some ty → IsSome (place_from 0 variables x)) where
+  mutual
+    known_stmt : (t : Stmt) (s : Scope) (loops : Context) (bs : List ℕ) → Names s types (loops ++ c) bs vs fs ps → s.variables ≡ variables → length s.loops ≡ length loops → StmtTyped types c v loops t → IsKnownStmt s t
+    known_stmt (assign x e) s loops bs h own deep t =
+        (subst (λ (l : List Name). IsSome (place_from 0 l x)) (sym own) (places x t.0 t.1), known_in s types (loops ++ c) bs vs fs ps h e t.0 t.2)
+    known_stmt (choose arms others) s loops bs h own deep t =
+        (known_arms arms s loops bs h own deep t.0, known_all others s loops bs h own deep t.1)
+    known_stmt (each x e ss) s loops bs h own deep t =
+        let few = t.5 in (
+          known_in s types (loops ++ c) bs vs fs ps h e t.0 t.2,
+          omega (arith, deep, few),
+          (t.1, item_is types (loops ++ c) s e t.0 h.table h.context t.2 ∙ t.3, known_all ss (within s x t.1) ((x, t.1) ∷ loops) (in_turn bs t.0 t.1) (names_within s types (loops ++ c) bs vs fs ps x t.0 t.1 h) own (omega (arith, deep)) t.6),
+        )
+
+    known_all : (ss : Stmts) (s : Scope) (loops : Context) (bs : List ℕ) → Names s types (loops ++ c) bs vs fs ps → s.variables ≡ variables → length s.loops ≡ length loops → StmtsTyped types c v loops ss → AreKnown s ss
+    known_all stop s loops bs h own deep t = tt
+    known_all (seq u us) s loops bs h own deep t = (known_stmt u s loops bs h own deep t.0, known_all us s loops bs h own deep t.1)
+
+    known_arms : (arms : Arms) (s : Scope) (loops : Context) (bs : List ℕ) → Names s types (loops ++ c) bs vs fs ps → s.variables ≡ variables → length s.loops ≡ length loops → ArmsTyped types c v loops arms → AreKnownArms s arms
+    known_arms no_arm s loops bs h own deep t = tt
+    known_arms (arm e ss more) s loops bs h own deep t =
+        (known_in s types (loops ++ c) bs vs fs ps h e 0 t.0, (known_all ss s loops bs h own deep t.1, known_arms more s loops bs h own deep t.2))
+
+module _ (m : Member) (e : EntryTree) (vs ps : List ℕ) (h : Setting m e vs ps) where
+  abbrev names_typed : Context
+  names_typed = scope m.instance.types m.instance.types h.globals m.instance.automaton e
 
   abbrev variables_typed : Context
   variables_typed = context_of m.instance.types (variable_fields m.instance.automaton)
 
-  mutual
-    known_stmt : (s : Stmt) → StmtTyped m.instance.types names_typed variables_typed s → IsKnownStmt (scope_of m e) s
-    known_stmt (assign x v) t =
-        let place = variable_at x t.0 t.1 in
-        (is_some (place_from 0 (variable_names m.instance.automaton) x) place.0 place.1, known v t.0 t.2)
-    known_stmt (choose arms others) t = (known_arms arms t.0, known_stmts others t.1)
+  pub known : (x : Expr) (ty : ℕ) → type_of m.instance.types m.instance.types names_typed x ≡ Some ty → IsKnown (scope_of m e) x
+  known x ty t = known_in (scope_of m e) m.instance.types names_typed [] vs h.types ps (names_of m e vs ps h) x ty t
 
-    pub known_stmts : (ss : Stmts) → StmtsTyped m.instance.types names_typed variables_typed ss → AreKnown (scope_of m e) ss
-    known_stmts stop t = tt
-    known_stmts (seq s ss) t = (known_stmt s t.0, known_stmts ss t.1)
+  pub known_guard : (o : Option Expr) → GuardTyped m.instance.types names_typed o → IsKnownGuard (scope_of m e) o
+  known_guard None t = tt
+  known_guard (Some x) t = known x 0 t
 
-    known_arms : (arms : Arms) → ArmsTyped m.instance.types names_typed variables_typed arms → AreKnownArms (scope_of m e) arms
-    known_arms no_arm t = tt
-    known_arms (arm c ss more) t = (known c 0 t.0, (known_stmts ss t.1, known_arms more t.2))
+  pub known_stmts : (ss : Stmts) → StmtsTyped m.instance.types names_typed variables_typed [] ss → AreKnown (scope_of m e) ss
+  known_stmts ss t =
+      known_all m.instance.types names_typed variables_typed (variable_names m.instance.automaton) vs h.types ps (λ x ty k. let place = variable_at m e vs ps h x ty k in is_some (place_from 0 (variable_names m.instance.automaton) x) place.0 place.1) ss (scope_of m e) [] [] (names_of m e vs ps h) refl refl t
 
 pub variables_known : (m : Member) → IsFine component_limits m → IsTrue (list_all (is_type m.instance.types) (variable_fields m.instance.automaton))
 variables_known m h = (fine_parts m.instance.types m.instance.types h.automaton.0 m.instance.automaton h.automaton.1).variable_types

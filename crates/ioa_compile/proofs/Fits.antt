@@ -71,7 +71,7 @@ pub variables_names : (a : AutomatonTree) → field_names (variable_fields a) �
 variables_names a = map-map (λ f. f.name) (λ v. v.field) a.variables
 
 -- the types of the names that code may use
-pub scope_look : (globals : List Name) (m : Member) (e : EntryTree) (vs fs : List ℕ) (ds : List Domain) (x : Name) → AreTypesOf m.instance.types (variable_fields m.instance.automaton) vs → AreTypesOf m.instance.types m.instance.automaton.formals fs → AreDomainsOf m.instance e.positions ds → type_in (scope m.instance.types m.instance.types globals m.instance.automaton e) x ≡ stands (scope_of m e) vs fs (position_types ds) x
+pub scope_look : (globals : List Name) (m : Member) (e : EntryTree) (vs fs : List ℕ) (ds : List Domain) (x : Name) → AreTypesOf m.instance.types (variable_fields m.instance.automaton) vs → AreTypesOf m.instance.types m.instance.automaton.formals fs → AreDomainsOf m.instance e.positions ds → type_in (scope m.instance.types m.instance.types globals m.instance.automaton e) x ≡ stands (scope_of m e) [] vs fs (position_types ds) x
 scope_look globals m e vs fs ds x hv hf hp =
     let a = m.instance.automaton in
     let v = context_of m.instance.types (variable_fields a) in

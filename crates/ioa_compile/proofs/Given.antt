@@ -1,12 +1,12 @@
 -- Names that types give, and tables that are given.
-use Rattle.std.proofs.Common.{◌≡◌, ℕ, ◌+◌, Bool, true, false, ◌||◌, ◌↔◌, ◌<◌, cond, List, [], ◌∷◌, ◌++◌, map, drop, length, get_or, Option, Some, None, is_some, refl, sym, ap, subst, ◌∙◌}
+use Rattle.std.proofs.Common.{◌≡◌, ℕ, ◌+◌, Bool, true, false, ◌||◌, ◌↔◌, ◌<◌, cond, List, [], ◌∷◌, map, drop, length, get_or, Option, Some, None, is_some, refl, sym, ap, subst, ◌∙◌}
 use Rattle.std.specs.Option.{option_map, option_or}
 use Rattle.std.specs.Str.{bytes_eq}
 use Rattle.std.proofs.lemmas.List.Concat.{flat_map-cons}
 use Rattle.std.proofs.lemmas.Simd.{map-map}
 use Rattle.ioa_value.specs.Actions.{Name}
 use Rattle.ioa_value.proofs.ItemLemmas.{drop_item}
-use Rattle.ioa_value.specs.Table.{Table, Declaration, contains, names_in, given_names, all_names, place_from, type_named, constant_from, constant_named}
+use Rattle.ioa_value.specs.Table.{Table, contains, names_in, given_names, all_names, place_from, type_named, constant_from, constant_named}
 use Rattle.ioa_compile.specs.Tables.{AreFew}
 use Rattle.std.proofs.lemmas.List.Folds.{list_any-append}
 

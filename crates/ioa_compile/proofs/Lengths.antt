@@ -3,9 +3,9 @@ use Rattle.std.proofs.Common.{◌≡◌, ℕ, ◌+◌, ◌*◌, ◌≤◌, true,
 use Rattle.ioa_code.specs.Machine.{Listing}
 use Rattle.ioa_tree.specs.declared.tree.Infix.{Infix}
 use Rattle.ioa_tree.specs.declared.tree.Infix.TheVariants.{Operator, And, Or, Implies}
-use Rattle.ioa_tree.specs.Tree.{Expr, number, truth, named, parens, prefix, binary, empty, make, select, Exprs, no_expr, also, Stmt, assign, choose, Stmts, stop, seq, Arms, no_arm, arm, FieldTree, PositionTree, typed, only, ChoiceTree, exactly, any_below, expr_in, ProposalTree}
+use Rattle.ioa_tree.specs.Tree.{Expr, number, truth, named, parens, prefix, binary, empty, make, select, Exprs, no_expr, also, Stmt, assign, choose, each, Stmts, stop, seq, Arms, no_arm, arm, FieldTree, PositionTree, typed, only, ChoiceTree, exactly, any_below, expr_in, ProposalTree}
 use Rattle.ioa_tree.specs.WellFormed.{nodes, exprs_nodes, stmt_nodes, stmts_nodes, arms_nodes}
-use Rattle.ioa_compile.specs.Scopes.{Scope, proposal_for}
+use Rattle.ioa_compile.specs.Scopes.{Scope, within, proposal_for}
 use Rattle.ioa_compile.specs.Placed.{Stretch, PushesTruth, Chooses, Combines, HasExpr, HasExprs, HasGuard, HasStmt, HasStmts, HasArms, HasChoice, HasProposal, HasProposals}
 use Rattle.ioa_compile.specs.Emitting.{guard_nodes, proposal_nodes, proposals_nodes}
 use Rattle.ioa_compile.specs.Extents.{extent, exprs_extent, infix_extent, guard_extent, stmt_extent, stmts_extent, arms_extent, choice_extent, proposal_extent, proposals_extent}
@@ -45,23 +45,25 @@ module _ (code : Listing) where
     guard_long None p q h = h.1
     guard_long (Some e) p q h = expr_long e p q h
 
-    mutual
-      pub stmt_long : (t : Stmt) (p q : ℕ) → HasStmt code s t p q → q ≡ p + stmt_extent t
-      stmt_long (assign x e) p q h = omega (arith, expr_long e p h.0 h.2, h.5)
-      stmt_long (choose arms others) p q h = arms_long arms others (stmts_long others) p q h
+  mutual
+    pub stmt_long : (s : Scope) (t : Stmt) (p q : ℕ) → HasStmt code s t p q → q ≡ p + stmt_extent t
+    stmt_long s (assign x e) p q h = omega (arith, expr_long s e p h.0 h.2, h.5)
+    stmt_long s (choose arms others) p q h = arms_long s arms others (stmts_long s others) p q h
+    stmt_long s (each x e ss) p q h = omega (arith, expr_long s e p h.0 h.3, stmts_long (within s x h.2) ss (h.0 + 1) h.1 h.6, h.8)
 
-      pub stmts_long : (ts : Stmts) (p q : ℕ) → HasStmts code s ts p q → q ≡ p + stmts_extent ts
-      stmts_long stop p q h = omega (arith, h)
-      stmts_long (seq t ts) p q h = omega (arith, stmt_long t p h.0 h.1, stmts_long ts h.0 q h.2)
+    pub stmts_long : (s : Scope) (ts : Stmts) (p q : ℕ) → HasStmts code s ts p q → q ≡ p + stmts_extent ts
+    stmts_long s stop p q h = omega (arith, h)
+    stmts_long s (seq t ts) p q h = omega (arith, stmt_long s t p h.0 h.1, stmts_long s ts h.0 q h.2)
 
-      pub arms_long : (arms : Arms) (others : Stmts) → ((p q : ℕ) → HasStmts code s others p q → q ≡ p + stmts_extent others) → (p q : ℕ) → HasArms code s arms (HasStmts code s others) p q → q ≡ p + (arms_extent arms + stmts_extent others)
-      arms_long no_arm others f p q h = omega (arith, f p q h)
-      arms_long (arm c ts more) others f p q h =
-          omega (arith, expr_long c p h.0 h.1, chooses_long (HasStmts code s ts) (HasArms code s more (HasStmts code s others)) (stmts_extent ts) (arms_extent more + stmts_extent others) (stmts_long ts) (arms_long more others f) h.0 q h.2)
+    pub arms_long : (s : Scope) (arms : Arms) (others : Stmts) → ((p q : ℕ) → HasStmts code s others p q → q ≡ p + stmts_extent others) → (p q : ℕ) → HasArms code s arms (HasStmts code s others) p q → q ≡ p + (arms_extent arms + stmts_extent others)
+    arms_long s no_arm others f p q h = omega (arith, f p q h)
+    arms_long s (arm c ts more) others f p q h =
+        omega (arith, expr_long s c p h.0 h.1, chooses_long (HasStmts code s ts) (HasArms code s more (HasStmts code s others)) (stmts_extent ts) (arms_extent more + stmts_extent others) (stmts_long s ts) (arms_long s more others f) h.0 q h.2)
 
+  module _ (s : Scope) where
     choice_long : (c : ChoiceTree) (p q : ℕ) → HasChoice code s c p q → q ≡ p + choice_extent c
-    choice_long (exactly e) p q h = expr_long e p q h
-    choice_long (any_below e) p q h = omega (arith, expr_long e p h.0 h.1, h.3)
+    choice_long (exactly e) p q h = expr_long s e p q h
+    choice_long (any_below e) p q h = omega (arith, expr_long s e p h.0 h.1, h.3)
 
     proposal_long : (f : FieldTree) (r : Option ProposalTree) (p q : ℕ) → HasProposal code s f r p q → q ≡ p + proposal_extent r
     proposal_long f None p q h = h.3
@@ -102,6 +104,7 @@ mutual
   stmt_small : (t : Stmt) → stmt_extent t ≤ 4 * stmt_nodes t
   stmt_small (assign x e) = omega (arith, expr_small e)
   stmt_small (choose arms others) = omega (arith, arms_small arms, stmts_small others)
+  stmt_small (each x e ss) = omega (arith, expr_small e, stmts_small ss)
 
   pub stmts_small : (ts : Stmts) → stmts_extent ts ≤ 4 * stmts_nodes ts
   stmts_small stop = omega arith

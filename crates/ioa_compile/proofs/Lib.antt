@@ -10,6 +10,8 @@ pub mod Fixed
 pub mod Fits
 pub mod Finds
 pub mod Sited
+pub mod Typed
+pub mod Sequences
 pub mod Fine
 pub mod Proposed
 pub mod Blocks

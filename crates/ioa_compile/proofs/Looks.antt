@@ -17,7 +17,7 @@ use Rattle.ioa_value.proofs.NameLemmas.{same_name, outside_both}
 pub name_same : (x y : Name) → x ≡ y → bytes_eq x y ≡ true
 name_same x y e = (bytes_eq-Decides x y).1 e
 
-true_false : {b : Bool} → b ≡ true → b ≡ false → ⊥
+pub true_false : {b : Bool} → b ≡ true → b ≡ false → ⊥
 true_false {b} e f = absurd (cc)
 
 -- the names, one after another, stand for these

@@ -9,7 +9,8 @@ use Rattle.ioa_value.proofs.TypingLemmas.{is_number}
 use Rattle.ioa_code.specs.declared.instr.Instr.TheVariants.{Any, Pick}
 use Rattle.ioa_code.specs.Machine.{Listing, State, state, End, done, fault, idle, Move, over, stuck, drawn_below, any_popped, picked, move, After, Ends}
 use Rattle.ioa_code.specs.Picks.{number_picked, value_of}
-use Rattle.ioa_code.specs.Valid.{Part, bound}
+use Rattle.ioa_code.specs.Bound.{bound}
+use Rattle.ioa_code.specs.Valid.{Part}
 use Rattle.ioa_code.proofs.Lists.{on_top-append}
 use Rattle.ioa_node.specs.Proposals.{proposing}
 use Rattle.ioa_tree.specs.Tree.{FieldTree, PositionTree, typed, only, ChoiceTree, exactly, any_below, ProposalTree}
@@ -25,6 +26,7 @@ use Rattle.ioa_compile.specs.Scopes.{Scope, proposal_for}
 use Rattle.ioa_compile.proofs.Proposed.{ChoiceTyped, ProposalTyped, ProposalsTyped}
 use Rattle.ioa_compile.proofs.Running as running
 use Rattle.ioa_compile.proofs.Running.{Comes, comes_on, step, moves, Reaches, Agrees, expr_runs}
+use Rattle.ioa_compile.proofs.Standing.{lies_on_none}
 
 module _ (code : Listing) (s : Scope) (words : Words) (slots : List Val) where
   abbrev pub at : ℕ → ℕ → List Val → State
@@ -93,15 +95,15 @@ module _ (code : Listing) (s : Scope) (words : Words) (slots : List Val) where
   pick_tries taken p ty stack (Some (sequence most of)) e n h = absurd (cc)
   pick_tries taken p ty stack None e n h = absurd (cc)
 
-  module _ (types : Table) (same_types : code.types ≡ types) (own_types : s.types ≡ types) (declared : AreTypes types) (c : Context) (own_context : s.context ≡ c) (env : Env) (suits : Suits types c env) (agrees : Agrees code s [] words 0 types env slots) where
+  module _ (types : Table) (same_types : code.types ≡ types) (own_types : s.types ≡ types) (declared : AreTypes types) (c : Context) (own_context : (s.loops ++ s.context) ≡ c) (env : Env) (suits : Suits types c env) (agrees : Agrees code s [] words 0 types env [] slots) where
     choice_tries : (k : ChoiceTree) (ty taken p q : ℕ) (stack : List Val) → ChoiceTyped types c k ty → HasChoice code s k p q → Tries (at taken p stack) q stack (choice words types env k taken)
     choice_tries (exactly e) ty taken p q stack t h =
-        exact_tries taken q (at taken p stack) stack ty types (val types e env) (val_typed types declared c env e ty suits t) (expr_runs code s [] words taken types same_types own_types declared c own_context env suits slots agrees e ty p q stack t h)
+        exact_tries taken q (at taken p stack) stack ty types (val types e env) (val_typed types declared c env e ty suits t) (expr_runs code s [] words taken types same_types own_types declared c own_context env suits [] slots agrees e ty p q stack (lies_on_none stack) t h)
     choice_tries (any_below e) ty taken p q stack t h =
         let m = h.0 in
         let answer = val types e env in
         let known = val_typed types declared c env e 1 suits t.1 in
-        let run = exact_tries taken m (at taken p stack) stack 1 types answer known (expr_runs code s [] words taken types same_types own_types declared c own_context env suits slots agrees e 1 p m stack t.1 h.1) in
+        let run = exact_tries taken m (at taken p stack) stack 1 types answer known (expr_runs code s [] words taken types same_types own_types declared c own_context env suits [] slots agrees e 1 p m stack (lies_on_none stack) t.1 h.1) in
         subst (λ k. Tries (at taken p stack) k stack (then_try (exact answer taken) (below words))) (sym h.3) (go answer known run)
       where
         go : (a : Answer) → IsTypedAnswer types 1 a → Tries (at taken p stack) h.0 stack (exact a taken) → Tries (at taken p stack) (h.0 + 1) stack (then_try (exact a taken) (below words))

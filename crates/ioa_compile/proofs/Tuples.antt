@@ -1,17 +1,17 @@
--- The types that tuples and fields of tuples are made of.
-use Rattle.std.proofs.Common.{◌≡◌, ℕ, List, [], ◌∷◌, Some, option_and_then, ap, ◌∙◌}
+-- The types that tuples, fields of tuples and items of sequences are made of.
+use Rattle.std.proofs.Common.{◌≡◌, ℕ, List, [], ◌∷◌, ◌++◌, Some, option_and_then, ap, ◌∙◌}
 use Rattle.std.specs.Option.{option_map_or}
 use Rattle.ioa_value.specs.declared.operator.Op.TheVariants.{Make, Field}
 use Rattle.ioa_value.specs.Actions.{Name}
 use Rattle.ioa_value.specs.Operators.{nothing, op_type, operate}
 use Rattle.ioa_value.specs.Plain.{Val}
-use Rattle.ioa_value.specs.Table.{Table, type_named, field_place}
+use Rattle.ioa_value.specs.Table.{Table, type_named, item_type, field_place}
 use Rattle.ioa_value.specs.Typing.{own}
 use Rattle.ioa_tree.specs.Meaning.{made, selected}
 use Rattle.ioa_tree.specs.Tree.{Expr, make, select, Exprs}
 use Rattle.ioa_tree.specs.WellFormed.{Context, type_of, types_of_all, made_type, selected_type}
 use Rattle.ioa_tree.proofs.ValTyped.{type_there}
-use Rattle.ioa_compile.specs.Scopes.{Scope, place_of}
+use Rattle.ioa_compile.specs.Scopes.{Scope, item_of, place_of}
 
 module _ (types : Table) (c : Context) where
   -- a tuple, where its name is a type's and its fields have types that this takes
@@ -29,11 +29,18 @@ module _ (types : Table) (c : Context) where
       (operand.0, place.0, operand.1, place.1, place.2)
 
   -- a scope of these types and this context finds the field where the type has it
-  pub place_is : (s : Scope) (e : Expr) (x : Name) (a : ℕ) → s.types ≡ types → s.context ≡ c → type_of types types c e ≡ Some a → place_of s e x ≡ field_place types a x
+  pub place_is : (s : Scope) (e : Expr) (x : Name) (a : ℕ) → s.types ≡ types → (s.loops ++ s.context) ≡ c → type_of types types c e ≡ Some a → place_of s e x ≡ field_place types a x
   place_is s e x a over within t =
-      ap (λ l. option_and_then (λ ty. field_place l ty x) (type_of l l s.context e)) over
+      ap (λ l. option_and_then (λ ty. field_place l ty x) (type_of l l (s.loops ++ s.context) e)) over
       ∙ ap (λ d. option_and_then (λ ty. field_place types ty x) (type_of types types d e)) within
       ∙ ap (option_and_then (λ ty. field_place types ty x)) t
+
+  -- and it finds the type of a sequence's items
+  pub item_is : (s : Scope) (e : Expr) (a : ℕ) → s.types ≡ types → (s.loops ++ s.context) ≡ c → type_of types types c e ≡ Some a → item_of s e ≡ item_type types a
+  item_is s e a over within t =
+      ap (λ l. option_and_then (item_type l) (type_of l l (s.loops ++ s.context) e)) over
+      ∙ ap (λ d. option_and_then (item_type types) (type_of types types d e)) within
+      ∙ ap (option_and_then (item_type types)) t
 
 -- what the tuple is, by its type's number
 pub made_is : (types : Table) (x : Name) (n : ℕ) (vs : List Val) → type_named types x ≡ Some n → made types x vs ≡ operate types (Make (record { 0 = n })) vs

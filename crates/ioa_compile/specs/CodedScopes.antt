@@ -60,7 +60,7 @@ coded_position =
 
 abbrev pub coded_scope : Coded Scope
 coded_scope =
-    code_by (Table × (List Name × (List Name × (List Val × (List PositionTree × Context)))))
-    (coded× coded_table (coded× (coded_list coded_name) (coded× (coded_list coded_name) (coded× coded_vals (coded× (coded_list coded_position) (coded_list (coded× coded_name coded_ℕ)))))))
-    (λ s. (s.types, (s.variables, (s.formals, (s.arguments, (s.parameters, s.context))))))
-    (λ p. record { types = p.0; variables = p.1.0; formals = p.1.1.0; arguments = p.1.1.1.0; parameters = p.1.1.1.1.0; context = p.1.1.1.1.1 }) (λ _. refl)
+    code_by (Table × (Context × (List Name × (List Name × (List Val × (List PositionTree × Context))))))
+    (coded× coded_table (coded× (coded_list (coded× coded_name coded_ℕ)) (coded× (coded_list coded_name) (coded× (coded_list coded_name) (coded× coded_vals (coded× (coded_list coded_position) (coded_list (coded× coded_name coded_ℕ))))))))
+    (λ s. (s.types, (s.loops, (s.variables, (s.formals, (s.arguments, (s.parameters, s.context)))))))
+    (λ p. record { types = p.0; loops = p.1.0; variables = p.1.1.0; formals = p.1.1.1.0; arguments = p.1.1.1.1.0; parameters = p.1.1.1.1.1.0; context = p.1.1.1.1.1.1 }) (λ _. refl)

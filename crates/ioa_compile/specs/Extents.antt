@@ -2,7 +2,7 @@
 use Rattle.std.specs.Prelude.{ℕ, ◌+◌, List, [], ◌∷◌, Option, Some, None}
 use Rattle.ioa_tree.specs.declared.tree.Infix.{Infix}
 use Rattle.ioa_tree.specs.declared.tree.Infix.TheVariants.{Operator, And, Or, Implies}
-use Rattle.ioa_tree.specs.Tree.{Expr, number, truth, named, parens, prefix, binary, empty, make, select, Exprs, no_expr, also, Stmt, assign, choose, Stmts, stop, seq, Arms, no_arm, arm, PositionTree, typed, only, ChoiceTree, exactly, any_below, ProposalTree}
+use Rattle.ioa_tree.specs.Tree.{Expr, number, truth, named, parens, prefix, binary, empty, make, select, Exprs, no_expr, also, Stmt, assign, choose, each, Stmts, stop, seq, Arms, no_arm, arm, PositionTree, typed, only, ChoiceTree, exactly, any_below, ProposalTree}
 use Rattle.ioa_compile.specs.Scopes.{proposal_for}
 
 -- beside the operands' code: the operator, or two jumps and a constant
@@ -33,11 +33,12 @@ abbrev pub guard_extent : Option Expr → ℕ
 guard_extent None = 1
 guard_extent (Some e) = extent e
 
--- an arm has two jumps
+-- an arm has two jumps, and a loop an instruction before its body and one at its end
 abbrev mutual
   pub stmt_extent : Stmt → ℕ
   stmt_extent (assign x e) = extent e + 1
   stmt_extent (choose arms others) = arms_extent arms + stmts_extent others
+  stmt_extent (each x e ss) = extent e + 2 + stmts_extent ss
 
   pub stmts_extent : Stmts → ℕ
   stmts_extent stop = 0

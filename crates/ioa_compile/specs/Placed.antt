@@ -5,14 +5,14 @@ use Rattle.ioa_value.specs.declared.operator.Op.TheVariants.{Make, Field}
 use Rattle.ioa_value.specs.Plain as plain
 use Rattle.ioa_value.specs.Plain.{Val}
 use Rattle.ioa_code.specs.declared.instr.Instr.{Instr}
-use Rattle.ioa_code.specs.declared.instr.Instr.TheVariants.{Const, Slot, Arg, Store, Jump, JumpIfFalse, Any, Pick, Apply}
+use Rattle.ioa_code.specs.declared.instr.Instr.TheVariants.{Const, Slot, Arg, Store, Jump, JumpIfFalse, Any, Pick, Apply, Each, Again, Local}
 use Rattle.ioa_code.specs.Machine.{Listing}
 use Rattle.ioa_tree.specs.declared.tree.Infix.{Infix}
 use Rattle.ioa_tree.specs.declared.tree.Infix.TheVariants.{Operator, And, Or, Implies}
-use Rattle.ioa_tree.specs.Tree.{Expr, number, truth, named, parens, prefix, binary, empty, make, select, Exprs, no_expr, also, Stmt, assign, choose, Stmts, stop, seq, Arms, no_arm, arm, FieldTree, PositionTree, typed, only, ChoiceTree, exactly, any_below, ProposalTree}
+use Rattle.ioa_tree.specs.Tree.{Expr, number, truth, named, parens, prefix, binary, empty, make, select, Exprs, no_expr, also, Stmt, assign, choose, each, Stmts, stop, seq, Arms, no_arm, arm, FieldTree, PositionTree, typed, only, ChoiceTree, exactly, any_below, ProposalTree}
 use Rattle.ioa_tree.specs.Types.{empty_of}
 use Rattle.ioa_value.specs.Table.{place_from, type_named}
-use Rattle.ioa_compile.specs.Scopes.{Scope, Origin, slot, formal, parameter, fixed, unknown, origin, place_of, proposal_for}
+use Rattle.ioa_compile.specs.Scopes.{Scope, within, Origin, on_stack, slot, formal, parameter, fixed, unknown, origin, item_of, place_of, proposal_for}
 
 -- the instruction stands at this place
 abbrev pub At : Listing → ℕ → Instr → Type 0
@@ -24,6 +24,7 @@ Pushes code p v = (k : ℕ) × At code p (Const k) × (slice_get code.consts k �
 
 -- the value is pushed from where it comes; a formal's and an enumeration's name's are constants
 abbrev pub Brings : Listing → Scope → ℕ → Origin → Type 0
+Brings code s p (on_stack d) = At code p (Local d)
 Brings code s p (slot i) = At code p (Slot i)
 Brings code s p (formal i) = (v : Val) × (slice_get s.arguments i ≡ Some v) × Pushes code p v
 Brings code s p (parameter i) = At code p (Arg i)
@@ -78,12 +79,15 @@ abbrev pub HasGuard : Listing → Scope → Option Expr → Stretch
 HasGuard code s None p q = PushesTruth code true p q
 HasGuard code s (Some e) p q = HasExpr code s e p q
 
--- the code of a statement, of statements in sequence, and of arms with what stands after the last
+-- the code of a statement, of statements in sequence, and of arms with what stands after the last; a loop's sequence is evaluated before
+-- its first turn, and the last place of its body leads back to where a turn begins or the loop ends
 abbrev mutual
   pub HasStmt : Listing → Scope → Stmt → Stretch
   HasStmt code s (assign x e) p q =
       (m : ℕ) × (i : ℕ) × HasExpr code s e p m × At code m (Store i) × (place_from 0 s.variables x ≡ Some i) × (q ≡ m + 1)
   HasStmt code s (choose arms others) p q = HasArms code s arms (HasStmts code s others) p q
+  HasStmt code s (each x e ss) p q =
+      (m : ℕ) × (n : ℕ) × (ty : ℕ) × HasExpr code s e p m × (item_of s e ≡ Some ty) × At code m (Each (n + 1)) × HasStmts code (within s x ty) ss (m + 1) n × At code n (Again m) × (q ≡ n + 1)
 
   pub HasStmts : Listing → Scope → Stmts → Stretch
   HasStmts code s stop p q = q ≡ p

@@ -7,7 +7,7 @@ ghost use Rattle.ioa_value.specs.Plain.{plain};
 ghost use Rattle.ioa_value.specs.Typing.{HasType, own};
 ghost use Rattle.ioa_code.specs.Parts.{listing};
 ghost use Rattle.ioa_tree.specs.View.{name_of, expr_of, exprs_of, stmt_of, stmts_of, arms_of};
-ghost use Rattle.ioa_tree.specs.Tree.{named, assign, choose};
+ghost use Rattle.ioa_tree.specs.Tree.{named, assign, choose, each};
 ghost use Rattle.ioa_tree.specs.WellFormed.{nodes, exprs_nodes, stmt_nodes, stmts_nodes};
 ghost use Rattle.ioa_compile.specs.Scopes.{IsScope, IsKnown, AreAllKnown, IsKnownStmt, AreKnown, IsKnownGuard, IsOrigin, origin};
 ghost use Rattle.ioa_compile.specs.Extents.{extent, exprs_extent, infix_extent, guard_extent, stmt_extent, stmts_extent};
@@ -43,11 +43,11 @@ pub(crate) fn emit_guard(
 
 /// The code of statements, one after another.
 #[cycle(statements)]
-pub(crate) fn emit_statements(
+pub(crate) fn emit_statements<'a>(
     alloc: Global,
     out: &mut Code,
-    scope: &Scope<'_>,
-    statements: &[Statement],
+    scope: &Scope<'a>,
+    statements: &'a [Statement],
 ) -> Result<(), OutOfMemory>
     requires scope { IsScope scope.now }
     requires known { AreKnown scope.now (stmts_of statements.now) }
@@ -63,11 +63,11 @@ pub(crate) fn emit_statements(
 
 /// The code of a statement.
 #[cycle(statements)]
-fn emit_statement(
+fn emit_statement<'a>(
     alloc: Global,
     out: &mut Code,
-    scope: &Scope<'_>,
-    statement: &Statement,
+    scope: &Scope<'a>,
+    statement: &'a Statement,
 ) -> Result<(), OutOfMemory>
     requires scope { IsScope scope.now }
     requires known { IsKnownStmt scope.now (stmt_of statement.now) }
@@ -78,17 +78,18 @@ fn emit_statement(
     match statement {
         Statement::Assign(name, e) => emit_assignment(alloc, out, scope, name, e),
         Statement::If(arms, others, _) => emit_choice(alloc, out, scope, arms, others),
+        Statement::For(name, items, body, _) => emit_loop(alloc, out, scope, name, items, body),
     }
 }
 
 /// The code of a choice: arms, each a condition and statements that end with a jump over the rest, and the other statements.
 #[cycle(statements)]
-fn emit_choice(
+fn emit_choice<'a>(
     alloc: Global,
     out: &mut Code,
-    scope: &Scope<'_>,
-    arms: &[Arm],
-    others: &[Statement],
+    scope: &Scope<'a>,
+    arms: &'a [Arm],
+    others: &'a [Statement],
 ) -> Result<(), OutOfMemory>
     requires scope { IsScope scope.now }
     requires known { IsKnownStmt scope.now (choose (arms_of arms.now) (stmts_of others.now)) }
@@ -105,6 +106,31 @@ fn emit_choice(
         put(out, Instr::Jump(end as u16))?;
     }
     emit_statements(alloc, out, scope, others)
+}
+
+/// The code of a loop: its sequence, which is evaluated once, and its body, which the place before it enters for each item and
+/// which leads back there.
+#[cycle(statements)]
+fn emit_loop<'a>(
+    alloc: Global,
+    out: &mut Code,
+    scope: &Scope<'a>,
+    name: &'a Name,
+    items: &Expression,
+    body: &'a [Statement],
+) -> Result<(), OutOfMemory>
+    requires scope { IsScope scope.now }
+    requires known { IsKnownStmt scope.now (each (name_of name.now) (expr_of items.now) (stmts_of body.now)) }
+    requires room { length out.old.consts.items + stmt_nodes (each (name_of name.now) (expr_of items.now) (stmts_of body.now)) < 2 ^ 16 }
+    requires short { length out.old.instrs.items + stmt_extent (each (name_of name.now) (expr_of items.now) (stmts_of body.now)) < 2 ^ 16 }
+    ensures { OnOk result (AddsStmt (listing scope.now.types out.old) (listing scope.now.types out.new) scope.now (each (name_of name.now) (expr_of items.now) (stmts_of body.now))) }
+{
+    emit_expression(alloc, out, scope, items)?;
+    let start = out.instrs.len();
+    let past = start + statements_extent(body) + 2;
+    put(out, Instr::Each(past as u16))?;
+    emit_statements(alloc, out, &scope.within(name, items), body)?;
+    put(out, Instr::Again(start as u16))
 }
 
 /// The code of an assignment: the expression's value, and its store.
@@ -257,7 +283,8 @@ fn emit_where_false(
     emit_expression(alloc, out, scope, e)
 }
 
-/// The code that brings the value of a variable, a formal or a parameter, or what an enumeration's name stands for.
+/// The code that brings the item of a loop, the value of a variable, a formal or a parameter, or what an enumeration's name
+/// stands for.
 fn emit_name(
     alloc: Global,
     out: &mut Code,
@@ -269,6 +296,9 @@ fn emit_name(
     requires room { length out.old.consts.items + 1 < 2 ^ 16 }
     ensures { OnOk result (AddsExpr (listing scope.now.types out.old) (listing scope.now.types out.new) scope.now (named (name_of name.now))) }
 {
+    if let Some(d) = scope.item_place(name) {
+        return put(out, Instr::Local(d as u16));
+    }
     if let Some(i) = scope.variable(name) {
         return put(out, Instr::Slot(i as u16));
     }

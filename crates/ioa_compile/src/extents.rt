@@ -72,6 +72,7 @@ fn statement_extent(statement: &Statement) -> usize
     match statement {
         Statement::Assign(_, e) => expression_extent(e) + 1,
         Statement::If(arms, others, _) => arms_extent(arms) + statements_extent(others),
+        Statement::For(_, items, body, _) => expression_extent(items) + 2 + statements_extent(body),
     }
 }
 

@@ -208,7 +208,10 @@ impl Alike for Instr {
             | (Instr::Arg(a), Instr::Arg(b))
             | (Instr::Store(a), Instr::Store(b))
             | (Instr::Jump(a), Instr::Jump(b))
-            | (Instr::JumpIfFalse(a), Instr::JumpIfFalse(b)) => a == b,
+            | (Instr::JumpIfFalse(a), Instr::JumpIfFalse(b))
+            | (Instr::Each(a), Instr::Each(b))
+            | (Instr::Again(a), Instr::Again(b))
+            | (Instr::Local(a), Instr::Local(b)) => a == b,
             (Instr::Any, Instr::Any) => true,
             (Instr::Pick(a), Instr::Pick(b)) => a.is_like(b),
             (Instr::Apply(a), Instr::Apply(b)) => a.is_like(b),

@@ -1,24 +1,31 @@
 //! Scopes of code: an emitter asks what a name stands for, and knows of no component and no entry.
 
-ghost use Rattle.std.specs.Prelude.{◌≡◌, ℕ, map, length, Some, None, IfSome, IfNone, IsSome, slice_get};
-ghost use Rattle.ioa_value.specs.Plain.{plain};
+ghost use Rattle.std.specs.Prelude.{◌≡◌, ℕ, ◌<◌, ◌++◌, map, length, Some, None, IfSome, IfNone, IsSome, slice_get};
+ghost use Rattle.ioa_value.specs.Plain.{plain, number};
+ghost use Rattle.std.specs.Option.{option_map};
 ghost use Rattle.ioa_value.specs.Table.{place_from};
+ghost use Rattle.ioa_tree.specs.WellFormed.{type_of};
 ghost use Rattle.ioa_tree.specs.View.{name_of, expr_of, position_of};
 ghost use Rattle.ioa_compose.specs.Held.{member_of};
-ghost use Rattle.ioa_compile.specs.Scopes.{scope_in, scope_over, scope_of_proposals, place_of, parameter_from};
+ghost use Rattle.ioa_rules.specs.Loops.{loops_of};
+ghost use Rattle.ioa_tree.specs.declared.tree.TheConstants.{NESTED_LOOPS};
+ghost use Rattle.ioa_compile.specs.Scopes.{scope_in, scope_over, scope_of_proposals, within, item_of, item_place, place_of, parameter_from};
 
-use crate::name_places::{field_place, parameter_place, variable_place};
+use crate::name_places::{
+    field_place, item_place as place_of_item, parameter_place, variable_place,
+};
 use ioa_compose::Member;
-use ioa_rules::expression_type;
+use ioa_rules::{Loop, Loops, expression_type};
 use ioa_tree::{Entry, Expression, Field, Name, Position, Variable};
-use ioa_value::{Types, Value};
+use ioa_value::{Form, Ty, Types, Value};
 use std::marker::Model;
 
-/// What names stand for where code is emitted: variables, formals with their values, and the parameters among positions, beside
-/// what the types name.
+/// What names stand for where code is emitted: items of the loops round it, variables, formals with their values, and the
+/// parameters among positions, beside what the types name.
 #[derive(Drop)]
 pub(crate) struct Scope<'a> {
     types: &'a Types,
+    loops: Loops<'a>,
     variables: &'a [Variable],
     formals: &'a [Field],
     arguments: &'a [Value],
@@ -33,19 +40,21 @@ impl<'a> Model for Scope<'a> {
 
     ghost coded = { coded_scope };
 
-    ghost use Rattle.std.specs.Prelude.{map};
+    ghost use Rattle.std.specs.Prelude.{[], map};
     ghost use Rattle.ioa_value.specs.Plain.{plain};
     ghost use Rattle.ioa_tree.specs.View.{field_of, position_of, variable_of};
     ghost use Rattle.ioa_tree.specs.Instances.{field_names};
+    ghost use Rattle.ioa_rules.specs.Loops.{loops_of};
     ghost use Rattle.ioa_rules.specs.Scopes.{context_in};
 
     ghost view = { λ s. record {
       types = s.types.now;
+      loops = loops_of s.loops;
       variables = map (λ v. v.field.name) (map variable_of s.variables.now);
       formals = field_names (map field_of s.formals.now);
       arguments = map plain s.arguments.now;
       parameters = map position_of s.positions.now;
-      context = context_in s.types.now (map (λ v. v.field) (map variable_of s.variables.now)) (map field_of s.formals.now) (map position_of s.positions.now);
+      context = context_in s.types.now [] (map (λ v. v.field) (map variable_of s.variables.now)) (map field_of s.formals.now) (map position_of s.positions.now);
     } };
 }
 
@@ -70,6 +79,7 @@ impl<'a> Scope<'a> {
     {
         Scope {
             types: &member.types,
+            loops: Loops::None,
             variables: &member.automaton.variables,
             formals: &member.automaton.formals,
             arguments: &member.arguments,
@@ -82,6 +92,47 @@ impl<'a> Scope<'a> {
         ensures { result.now ≡ self.now.types }
     {
         self.types
+    }
+
+    /// The scope of statements within one loop more, of this name and over these items.
+    pub(crate) fn within(&self, name: &'a Name, items: &Expression) -> Scope<'a>
+        requires few { length self.now.loops < NESTED_LOOPS }
+        requires sequence { IsSome (item_of self.now (expr_of items.now)) }
+        ensures { (ty : ℕ) × (item_of self.now (expr_of items.now) ≡ Some ty) × (result ≡ within self.now (name_of name.now) ty) }
+    {
+        let item = self.item(items);
+        let Some(loops) = self.loops.with(Loop { name, item }) else {
+            unreachable!()
+        };
+        Scope {
+            types: self.types,
+            loops,
+            variables: self.variables,
+            formals: self.formals,
+            arguments: self.arguments,
+            positions: self.positions,
+        }
+    }
+
+    /// The place on the stack of the item for which the name stands.
+    pub(crate) fn item_place(&self, name: &Name) -> Option<usize>
+        ensures { result ≡ item_place self.now.loops (name_of name.now) }
+    {
+        place_of_item(&self.loops, name)
+    }
+
+    /// The type of the items of the sequences that an expression gives.
+    fn item(&self, e: &Expression) -> Ty
+        requires { IsSome (item_of self.now (expr_of e.now)) }
+        ensures { item_of self.now (expr_of e.now) ≡ Some (number result) }
+    {
+        match self.ty(e) {
+            Some(ty) => match self.types.form(ty) {
+                Some(Form::Sequence(_, item)) => *item,
+                _ => unreachable!(),
+            },
+            None => unreachable!(),
+        }
     }
 
     /// The place of the variable of this name.
@@ -115,12 +166,26 @@ impl<'a> Scope<'a> {
         requires { IsSome (place_of self.now (expr_of e.now) (name_of name.now)) }
         ensures { place_of self.now (expr_of e.now) (name_of name.now) ≡ Some result }
     {
-        match expression_type(self.types, self.variables, self.formals, self.positions, e) {
+        match self.ty(e) {
             Some(ty) => match self.types.field(ty, name.text.as_str()) {
                 Some(place) => place,
                 None => unreachable!(),
             },
             None => unreachable!(),
         }
+    }
+
+    /// The type of an expression, where it has one.
+    fn ty(&self, e: &Expression) -> Option<Ty>
+        ensures { option_map number result ≡ type_of self.now.types self.now.types (self.now.loops ++ self.now.context) (expr_of e.now) }
+    {
+        expression_type(
+            self.types,
+            self.variables,
+            self.formals,
+            self.positions,
+            &self.loops,
+            e,
+        )
     }
 }

@@ -30,12 +30,12 @@ pub(crate) struct TransitionCode {
 }
 
 /// The code of an entry's transition over a scope, and of its proposals over the one that is theirs.
-pub(crate) fn transition_code(
+pub(crate) fn transition_code<'a>(
     alloc: Global,
-    scope: &Scope<'_>,
+    scope: &Scope<'a>,
     held: &Scope<'_>,
     entry: &Entry,
-    transition: &Transition,
+    transition: &'a Transition,
 ) -> Result<TransitionCode, OutOfMemory>
     requires scope { IsScope scope.now }
     requires held { IsScope held.now }
@@ -130,11 +130,11 @@ fn proposals_code(
 }
 
 /// The code of statements, with constants after these.
-fn effect_code(
+fn effect_code<'a>(
     alloc: Global,
     consts: Vec<Value>,
-    scope: &Scope<'_>,
-    statements: &[Statement],
+    scope: &Scope<'a>,
+    statements: &'a [Statement],
 ) -> Result<Code, OutOfMemory>
     requires scope { IsScope scope.now }
     requires known { AreKnown scope.now (stmts_of statements.now) }

@@ -29,7 +29,7 @@ use Rattle.ioa_compose.specs.Rewriting.{spelled, up_name, start_name, up_variabl
 use Rattle.ioa_compose.specs.Crashes.{Corresponds, MayCrash, MeansCrash, RewritingMeansCrash}
 use Rattle.ioa_compose.proofs.SpelledNames.{not_both, or_none, absent, known, appended, all_of, apart_from, unspelled, none_unspelled}
 use Rattle.ioa_compose.proofs.SpelledTrees.{parameters_spelled, parts_spelled}
-use Rattle.ioa_compose.proofs.RewrittenNames.{names_of, volatile_length, volatile_among, names_more, behind, Matches, matches_kept, kept_up, kept_more, kept_at, kept_not, names, starts_length, formals_same, formals_start, up_stands, entry_matches}
+use Rattle.ioa_compose.proofs.RewrittenNames.{names_of, volatile_length, volatile_among, names_more, behind, Matches, matches_kept, matches_back, kept_up, kept_more, kept_at, kept_not, names, starts_length, formals_same, formals_start, up_stands, entry_matches}
 use Rattle.ioa_compose.proofs.RewrittenEntries.{parts, local_kinds, crash_found, recover_found, others_found, found_kind, View, crashes, recovers, within, neither, view}
 use Rattle.ioa_compose.proofs.ResetLemmas.{IsReset, resets_do, reset_is}
 
@@ -208,7 +208,7 @@ module _ (n : CrashTree) (i : Instance) (starts : List Val) (h : MayCrash n i st
             subst (λ (o : Outcome). AreLike (Corresponds i.automaton) (when_ok (host_state true) (next_state i.automaton s.inner (eff i.types u.effect l))) (next_state (rewritten n i.automaton) t o))
             (sym (up_does i.types u.effect m (matches.up ∙ ap (λ (b : Bool). Some (truth_value b)) up)))
             (ends_like up (eff i.types u.effect m) (eff i.types u.effect l)
-            (eff_like i.types spelled (Matches (variable_names i.automaton) s.up) (λ v w r. r.agree) (matches_kept (variable_names i.automaton) s.up)
+            (eff_like i.types spelled (Matches (variable_names i.automaton) s.up) (λ v w r. r.agree) (matches_kept (variable_names i.automaton) s.up) (matches_back (variable_names i.automaton) s.up)
             u.effect m l (parts_spelled u (spelled_parts u z)).effect matches))
 
     makes_down : s.up ≡ false → AreLike (Corresponds i.automaton) (Ok s) (makes (crashing n i starts) a.vals t e)

@@ -18,7 +18,7 @@ use Rattle.ioa_tree.specs.Meaning.{or_else}
 use Rattle.ioa_tree.specs.Instances.{field_names, variable_names, position_fields}
 use Rattle.ioa_tree.specs.WellFormed.{Context, type_in, type_of, both_types, infix_type, has_ty, is_some_of, same_type, context_of, is_type, variable_fields, same_kind, is_input, constant_fine, position_fine, parameter_names, formals, held, scope, local_names, fields_fine, start_fine, entry_fine, one_to_one, pre_fine, choice_fine, proposal_fine, proposals_fine, all_proposed, stmts_fine, effect_fine, input_fine, transition_fine, automaton_fine}
 use Rattle.ioa_tree.proofs.Agreement.{all_both}
-use Rattle.ioa_tree.proofs.TypeAgreement.{type_same, stmts_same}
+use Rattle.ioa_tree.proofs.TypeAgreement.{type_same, stmts_still}
 use Rattle.ioa_tree.proofs.EffectTyped.{some_type}
 use Rattle.ioa_tree.proofs.Early.{all_imply, each_implies}
 use Rattle.ioa_tree.proofs.FineParts.{FineParts, entry_parts}
@@ -243,21 +243,22 @@ module _ (types : Table) (declared : AreTypes types) (g : List Name) (n : CrashT
   entry_names_still : distinct (entry_names more.entries) ≡ true
   entry_names_still = signals_distinct n a free fine.entry_names
 
+  -- a spelled name that is free stays so
+  still_free : (x : Name) → spelled x ≡ true → contains (g ++ local_names types types g a) x ≡ false → contains (formal_list ++ variable_list) x ≡ false
+  still_free x s h =
+      let k = outside_both (field_names a.formals) (variable_names a) x (outside_both g (local_names types types g a) x h).1 in
+      outside formal_list variable_list x (no_formal x s k.0) (no_variable x s k.1)
+
   entry_still : (e : EntryTree) → list_all spelled (names_of_entry e) ≡ true → entry_fine types types g a e ≡ true → entry_fine types types [] more e ≡ true
   entry_still e s h =
       let p = entry_parts types types g a e h in
       let ns = parameter_names e in
       let own : list_all spelled ns ≡ true = parameters_spelled e s in
       let positions = (and_parts (spelled e.name) (list_all spelled (flat_map names_of_position e.positions)) s).1 in
-      let away : apart ns (formal_list ++ variable_list) ≡ true = apart_all ns (formal_list ++ variable_list) (λ x c. from x (all_of spelled ns x own c) (apart_outside ns (g ++ local_names types types g a) x p.apart_names c)) in
+      let away : apart ns (formal_list ++ variable_list) ≡ true = apart_all ns (formal_list ++ variable_list) (λ x c. still_free x (all_of spelled ns x own c) (apart_outside ns (g ++ local_names types types g a) x p.apart_names c)) in
       and_from (distinct ns && apart ns ([] ++ local_names types types [] more)) (list_all (position_fine types (formals types types [] more)) e.positions)
       (and_from (distinct ns) (apart ns ([] ++ local_names types types [] more)) p.distinct_names (ap (apart ns) locals ∙ away))
       (positions_still types (formals types types g a) (formals types types [] more) (formals_same types declared g n a names) e.positions positions p.positions)
-    where
-      from : (x : Name) → spelled x ≡ true → contains (g ++ local_names types types g a) x ≡ false → contains (formal_list ++ variable_list) x ≡ false
-      from x s h =
-          let k = outside_both (field_names a.formals) (variable_names a) x (outside_both g (local_names types types g a) x h).1 in
-          outside formal_list variable_list x (no_formal x s k.0) (no_variable x s k.1)
 
   entries_still : list_all (entry_fine types types [] more) more.entries ≡ true
   entries_still =
@@ -395,9 +396,10 @@ module _ (types : Table) (declared : AreTypes types) (g : List Name) (n : CrashT
 
     effect_still : (t : TransitionTree) → list_all spelled (names_of_stmts t.effect) ≡ true → effect_fine types types g a e t ≡ true → effect_fine types types [] more e (guarded t) ≡ true
     effect_still t s h =
-        let inner : stmts_fine types types [] more e t.effect ≡ true =
-        sym (stmts_same types types g [] a more e spelled (scope_same types declared g n a names e) (variables_same types declared g n a names) t.effect s) ∙ h in
-        ap (λ b. ((b && (stmts_fine types types [] more e t.effect && true)) && true) && true) up_bool ∙ ap (λ b. ((b && true) && true) && true) inner
+        let inner : stmts_fine types types [] more e [] t.effect ≡ true =
+        stmts_still types types g [] a more e spelled (scope_same types declared g n a names e) (variables_same types declared g n a names)
+        (λ x c k. ap (λ (ns : List Name). contains ns x) locals ∙ still_free x c k) [] t.effect s h in
+        ap (λ b. ((b && (stmts_fine types types [] more e [] t.effect && true)) && true) && true) up_bool ∙ ap (λ b. ((b && true) && true) && true) inner
 
     type_held : (v : Expr) → list_all spelled (names_of_expr v) ≡ true → type_of types types (held types types g a) v ≡ type_of types types (held types types [] more) v
     type_held v s = type_same types types spelled (held types types g a) (held types types [] more) (held_same types declared g n a names) v s
@@ -472,7 +474,7 @@ module _ (types : Table) (declared : AreTypes types) (g : List Name) (n : CrashT
       (and_from (tested e (recover_transition n.recover)) true (unpaired e (recover_transition n.recover) p.1) refl))
 
   resets_fine : (vs : List VariableTree) → ((x : Name) → contains (names_of vs) x ≡ true → contains volatile_names x ≡ true)
-      → stmts_fine types types [] more (signal_entry n.crash) (resets vs) ≡ true
+      → stmts_fine types types [] more (signal_entry n.crash) [] (resets vs) ≡ true
   resets_fine [] k = ap (λ o. option_map_or (λ ty. is_some_of (Some 0) ty) o false && true) (up_variable_typed types declared g n a names)
   resets_fine (v ∷ vs) k =
       let x : Name = v.field.name in
@@ -483,7 +485,7 @@ module _ (types : Table) (declared : AreTypes types) (g : List Name) (n : CrashT
       let here : option_map_or (λ ty. is_some_of (or_else (type_in (scope types types [] more (signal_entry n.crash)) (start_name x)) (constant_type types (start_name x))) ty) (type_in (context_of types (variable_fields more)) x) false ≡ true =
       ap (λ o. option_map_or (λ ty. is_some_of (or_else (type_in (scope types types [] more (signal_entry n.crash)) (start_name x)) (constant_type types (start_name x))) ty) o false) variable
       ∙ ap (λ o. is_some_of (or_else o (constant_type types (start_name x))) w.0) value ∙ eq-eqb w.0 w.0 refl in
-      and_from _ (stmts_fine types types [] more (signal_entry n.crash) (resets vs)) here (resets_fine vs (λ y c. k y (or_right (bytes_eq x y) (contains (names_of vs) y) c)))
+      and_from _ (stmts_fine types types [] more (signal_entry n.crash) [] (resets vs)) here (resets_fine vs (λ y c. k y (or_right (bytes_eq x y) (contains (names_of vs) y) c)))
 
   crash_tested : list_all (tested (signal_entry n.crash)) more.transitions ≡ true
   crash_tested =

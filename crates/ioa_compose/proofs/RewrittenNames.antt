@@ -11,7 +11,7 @@ use Rattle.ioa_value.specs.Plain.{Val, truth as truth_value}
 use Rattle.ioa_value.specs.Table.{Table, contains}
 use Rattle.ioa_value.proofs.NameLemmas.{same_name, own_name}
 use Rattle.ioa_tree.specs.Tree.{CrashTree, FieldTree, EntryTree, VariableTree}
-use Rattle.ioa_tree.specs.Meaning.{Env, values_of, or_else, kept, with_name}
+use Rattle.ioa_tree.specs.Meaning.{Env, values_of, or_else, kept, with_name, without}
 use Rattle.ioa_tree.specs.Instances.{Instance, field_names, variable_names, formal_values, position_fields, parameter_values, environment, start_value, with_value, all_values, Fit}
 use Rattle.ioa_tree.specs.Hosts.{HostState}
 use Rattle.ioa_compose.specs.Rewriting.{spelled, up_name, start_name, up_variable, volatile, volatile_values, start_formal, crashing}
@@ -107,6 +107,27 @@ matches_kept ns b m n x v h r = record {
     present : (c : Bool) (o : Option Val) → (w : Val) × (o ≡ Some w) → (w : Val) × (cond c (Some v) o ≡ Some w)
     present true o k = (v, refl)
     present false o k = k
+
+-- a spelled name that is given back
+pub matches_back : (ns : List Name) (b : Bool) (m n u w : Env) (x : Name) → spelled x ≡ true → Matches ns b m n → Matches ns b u w
+    → Matches ns b (without x m u) (without x n w)
+matches_back ns b m n u w x h r q = record {
+  up = up (bytes_eq x up_name) refl;
+  agree = λ y k. agree (bytes_eq x y) (m y) (n y) (u y) (w y) (r.agree y k) (q.agree y k);
+  present = λ y k. present (bytes_eq x y) (n y) (w y) (r.present y k) (q.present y k);
+}
+  where
+    up : (c : Bool) → bytes_eq x up_name ≡ c → cond c (m up_name) (u up_name) ≡ Some (truth_value b)
+    up true e = let same : x ≡ up_name = same_name x up_name e in not_both (spelled x) h (ap spelled same)
+    up false e = q.up
+
+    agree : (c : Bool) (f g o p : Option Val) → f ≡ g → o ≡ p → cond c f o ≡ cond c g p
+    agree true f g o p e k = e
+    agree false f g o p e k = k
+
+    present : (c : Bool) (o p : Option Val) → (v : Val) × (o ≡ Some v) → (v : Val) × (p ≡ Some v) → (v : Val) × (cond c o p ≡ Some v)
+    present true o p k l = k
+    present false o p k l = l
 
 -- ---- what is kept of an environment
 

@@ -215,6 +215,12 @@ fn copied_statement(alloc: Global, statement: &Statement) -> Result<Statement, O
             let others = copied_statements(alloc, others)?;
             Ok(Statement::If(arms, others, *line))
         }
+        Statement::For(name, items, body, line) => {
+            let name = copied_name(alloc, name)?;
+            let items = copied_expression(alloc, items)?;
+            let body = copied_statements(alloc, body)?;
+            Ok(Statement::For(name, items, body, *line))
+        }
     }
 }
 

@@ -5,11 +5,11 @@ use Rattle.ioa_value.specs.declared.terminal.Terminal.TheVariants as terminals
 use Rattle.ioa_lex.specs.Tokens as tokens
 use Rattle.ioa_lex.specs.Tokens.{Tok, terminal}
 use Rattle.ioa_value.specs.Actions.{Name}
-use Rattle.ioa_tree.specs.Tree.{Expr, Stmt, assign, choose, Stmts, stop, seq, Arms, no_arm, arm}
+use Rattle.ioa_tree.specs.Tree.{Expr, Stmt, assign, choose, each, Stmts, stop, seq, Arms, no_arm, arm}
 use Rattle.ioa_tree.specs.Depth.{depth_of, deepest, deep_stmt, deep_stmts, deep_arms, stmt_depth, stmts_depth, arms_depth}
 use Rattle.ioa_grammar.specs.Grammar as grammar
 use Rattle.ioa_grammar.specs.Grammar.{Language, SameHead, ◌▹◌, word, called, nothing, empty, each_after, perhaps, SpellsExpr, SpellsStmt, SpellsStmts, SpellsMore, SpellsAfter, SpellsArms}
-use Rattle.ioa_grammar.specs.Reading.{Reader, built, sees, sees_name, is_name, is_terminal, sees_statement, same_terminal, sign, ◌▸◌, terminal_at, operator_of, expression, assignment, in_sequence, introduced, an_arm, more_arms, choice}
+use Rattle.ioa_grammar.specs.Reading.{Reader, built, sees, sees_name, is_name, is_terminal, sees_statement, same_terminal, sign, ◌▸◌, terminal_at, operator_of, expression, assignment, in_sequence, introduced, an_arm, more_arms, choice, a_loop}
 use Rattle.ioa_tree.specs.Rows.{sequence, choices}
 use Rattle.ioa_grammar.proofs.Outcomes.{LooksAhead, head_alike}
 use Rattle.ioa_grammar.proofs.Exact.{ExactFor, any, deep_as, before, then, built_as, said_as}
@@ -112,7 +112,7 @@ items_to (c ∷ cs) ts s =
 
 pub sees_statement_alike : LooksAhead sees_statement
 unfolding sees_statement sees_name sees
-sees_statement_alike = head_alike sees_statement false (λ x. is_name x || is_terminal terminals.If x) refl (λ x ts. refl)
+sees_statement_alike = head_alike sees_statement false (λ x. is_name x || (is_terminal terminals.If x || is_terminal terminals.For x)) refl (λ x ts. refl)
 
 name_begins : (n : Name) (z : List Tok) → sees_statement (tokens.name n ∷ z) ≡ true
 unfolding sees_statement sees_name
@@ -121,6 +121,18 @@ name_begins n z = refl
 if_begins : (z : List Tok) → sees_statement (terminal terminals.If ∷ z) ≡ true
 unfolding sees_statement sees_name sees same_terminal
 if_begins z = refl
+
+for_begins : (z : List Tok) → sees_statement (terminal terminals.For ∷ z) ≡ true
+unfolding sees_statement sees_name sees same_terminal
+for_begins z = refl
+
+for_is_no_if : (z : List Tok) → sees terminals.If (terminal terminals.For ∷ z) ≡ false
+unfolding sees same_terminal
+for_is_no_if z = refl
+
+name_is_no_for : (n : Name) (z : List Tok) → sees terminals.For (tokens.name n ∷ z) ≡ false
+unfolding sees
+name_is_no_for n z = refl
 
 name_is_no_if : (n : Name) (z : List Tok) → sees terminals.If (tokens.name n ∷ z) ≡ false
 unfolding sees
@@ -131,20 +143,53 @@ abbrev pub ByChoice : Stmt → Language
 ByChoice (assign n e) = empty
 ByChoice (choose no_arm others) = empty
 ByChoice (choose (arm c ss more) others) = SpellsExpr 0 c ▹ (word terminals.Then ▹ (SpellsStmts ss ▹ (SpellsArms more ▹ (SpellsAfter terminals.Else others ▹ word terminals.Fi))))
+ByChoice (each x e ss) = empty
+
+-- what follows `for`
+abbrev pub ByLoop : Stmt → Language
+ByLoop (assign n e) = empty
+ByLoop (choose arms others) = empty
+ByLoop (each x e ss) = called x ▹ (word terminals.In ▹ (SpellsExpr 0 e ▹ (word terminals.Do ▹ (SpellsStmts ss ▹ word terminals.Od))))
 
 abbrev pub ByAssignment : Stmt → Language
 ByAssignment (assign n e) = called n ▹ (word terminals.Becomes ▹ SpellsExpr 0 e)
 ByAssignment (choose arms others) = empty
+ByAssignment (each x e ss) = empty
+
+-- all but choices
+abbrev pub Unconditional : Stmt → Language
+Unconditional (assign n e) = ByAssignment (assign n e)
+Unconditional (choose arms others) = empty
+Unconditional (each x e ss) = word terminals.For ▹ ByLoop (each x e ss)
+
+abbrev Other : Stmt → Language
+Other x = λ ts. ((word terminals.For ▹ ByLoop x) ts) ⊎ ByAssignment x ts
+
+pub other_of : (x : Stmt) (ts : List Tok) → Unconditional x ts → Other x ts
+other_of (assign n e) ts s = inr s
+other_of (choose arms others) ts s = absurd s
+other_of (each x e ss) ts s = inl s
+
+pub other_to : (x : Stmt) (ts : List Tok) → Other x ts → Unconditional x ts
+other_to (assign n e) ts (inl s) = absurd (s.3)
+other_to (assign n e) ts (inr s) = s
+other_to (choose arms others) ts (inl s) = absurd (s.3)
+other_to (choose arms others) ts (inr s) = absurd s
+other_to (each x e ss) ts (inl s) = s
+other_to (each x e ss) ts (inr s) = absurd s
 
 abbrev Either : Stmt → Language
-Either x = λ ts. ((word terminals.If ▹ ByChoice x) ts) ⊎ ByAssignment x ts
+Either x = λ ts. ((word terminals.If ▹ ByChoice x) ts) ⊎ Unconditional x ts
 
 pub either_of : (x : Stmt) (ts : List Tok) → SpellsStmt x ts → Either x ts
 either_of (assign n e) ts s = inr s
+either_of (each x e ss) ts s = inr s
 either_of (choose no_arm others) ts s = absurd s
 either_of (choose (arm c ss more) others) ts s = inl s
 
 pub either_to : (x : Stmt) (ts : List Tok) → Either x ts → SpellsStmt x ts
+either_to (each x e ss) ts (inr s) = s
+either_to (each x e ss) ts (inl s) = absurd (s.3)
 either_to (assign n e) ts (inr s) = s
 either_to (assign n e) ts (inl s) = absurd (s.3)
 either_to (choose no_arm others) ts (inl s) = absurd (s.3)
@@ -152,18 +197,26 @@ either_to (choose no_arm others) ts (inr s) = absurd s
 either_to (choose (arm c ss more) others) ts (inl s) = s
 either_to (choose (arm c ss more) others) ts (inr s) = absurd s
 
-pub assignment_unseen : (x : Stmt) (ts left : List Tok) → ByAssignment x ts → sees terminals.If (ts ++ left) ≡ false
-assignment_unseen (assign n e) ts left s = leads (λ z. sees terminals.If z ≡ false) (tokens.name n) (word terminals.Becomes ▹ SpellsExpr 0 e) ts left (name_is_no_if n) s
+pub assignment_unseen : (x : Stmt) (ts left : List Tok) → ByAssignment x ts → sees terminals.For (ts ++ left) ≡ false
+assignment_unseen (assign n e) ts left s = leads (λ z. sees terminals.For z ≡ false) (tokens.name n) (word terminals.Becomes ▹ SpellsExpr 0 e) ts left (name_is_no_for n) s
 assignment_unseen (choose arms others) ts left s = absurd s
+assignment_unseen (each x e ss) ts left s = absurd s
+
+pub unconditional_unseen : (x : Stmt) (ts left : List Tok) → Unconditional x ts → sees terminals.If (ts ++ left) ≡ false
+unconditional_unseen (assign n e) ts left s = leads (λ z. sees terminals.If z ≡ false) (tokens.name n) (word terminals.Becomes ▹ SpellsExpr 0 e) ts left (name_is_no_if n) s
+unconditional_unseen (choose arms others) ts left s = absurd s
+unconditional_unseen (each x e ss) ts left s = leads (λ z. sees terminals.If z ≡ false) (terminal terminals.For) (ByLoop (each x e ss)) ts left for_is_no_if s
 
 pub statement_some : (x : Stmt) (ts : List Tok) → SpellsStmt x ts → 0 < length ts
 statement_some (assign n e) ts s = first_some (tokens.name n) (word terminals.Becomes ▹ SpellsExpr 0 e) ts s
 statement_some (choose no_arm others) ts s = absurd s
+statement_some (each x e ss) ts s = first_some (terminal terminals.For) (ByLoop (each x e ss)) ts s
 statement_some (choose (arm c ss more) others) ts s = first_some (terminal terminals.If) (ByChoice (choose (arm c ss more) others)) ts s
 
 pub statement_begins : (x : Stmt) (ts left : List Tok) → SpellsStmt x ts → sees_statement (ts ++ left) ≡ true
 statement_begins (assign n e) ts left s = leads (λ z. sees_statement z ≡ true) (tokens.name n) (word terminals.Becomes ▹ SpellsExpr 0 e) ts left (name_begins n) s
 statement_begins (choose no_arm others) ts left s = absurd s
+statement_begins (each x e ss) ts left s = leads (λ z. sees_statement z ≡ true) (terminal terminals.For) (ByLoop (each x e ss)) ts left for_begins s
 statement_begins (choose (arm c ss more) others) ts left s = leads (λ z. sees_statement z ≡ true) (terminal terminals.If) (ByChoice (choose (arm c ss more) others)) ts left if_begins s
 
 item_some : (c : Expr × Stmts) (ts : List Tok) → SpellsItem c ts → 0 < length ts
@@ -185,6 +238,14 @@ ends_semicolon z = (tt, refl, refl)
 ends_then : (z : List Tok) → Ends 0 (terminal terminals.Then ∷ z)
 unfolding terminal_at operator_of sees same_terminal
 ends_then z = (tt, refl, refl)
+
+ends_do : (z : List Tok) → Ends 0 (terminal terminals.Do ∷ z)
+unfolding terminal_at operator_of sees same_terminal
+ends_do z = (tt, refl, refl)
+
+at_od : (z : List Tok) → AfterStatements (terminal terminals.Od ∷ z)
+unfolding sees same_terminal terminal_at operator_of sees_statement sees_name
+at_od z = record { ends = (tt, refl, refl); semicolon = refl; begins = refl }
 
 at_elseif : (z : List Tok) → AfterStatements (terminal terminals.Elseif ∷ z)
 unfolding sees same_terminal terminal_at operator_of sees_statement sees_name
@@ -282,9 +343,19 @@ choice_needs k c s t a b o p =
     ∙ ap (λ z. max z (max (o - k) p)) (max_regroup (c - k) (s - k) (a - k) t b)
     ∙ max_last (max (c - k) (max (s - k) t)) (max (a - k) b) (max (o - k) p)
 
+-- what a loop needs, of what it goes over and its statements
+loop_needs : (k e s t : ℕ) → max (max e s - k) (t + 1 - 1) ≡ max 0 (max 0 (max (e - k) (max 0 (max (max (s - k) t) 0))))
+loop_needs k e s t =
+    let same : t + 1 - 1 ≡ t = omega arith in
+    ap (λ z. max z (t + 1 - 1)) (max_less e s k) ∙ ap (max (max (e - k) (s - k))) same ∙ regrouped (e - k) (s - k) t
+  where
+    regrouped : (a b c : ℕ) → max (max a b) c ≡ max 0 (max 0 (max a (max 0 (max (max b c) 0))))
+    regrouped a b c = omega arith
+
 pub stmt_positive : (s : Stmt) → 0 < stmt_depth s
 stmt_positive (assign n e) = omega arith
 stmt_positive (choose arms others) = omega arith
+stmt_positive (each x e ss) = omega arith
 
 -- expressions that may be k levels deeper
 expressions_for : {I : Type 0} {levels : I → ℕ} (depth : I → ℕ) (k : ℕ) → ((i : I) → depth i ≡ levels i + k) → ExactFor levels (SpellsExpr 0) (λ e. depth_of e - k) (Ends 0) (λ i. expression (depth i))
@@ -304,6 +375,7 @@ assignments_for depth k is =
     of : (y : Stmt) (ts : List Tok) → ByAssignment y ts → (x : Name × (Unit {0} × Expr)) × (assign x.0 x.1.1 ≡ y) × (called x.0 ▹ (word terminals.Becomes ▹ SpellsExpr 0 x.1.1)) ts
     of (assign n e) ts s = ((n, (tt, e)), refl, s)
     of (choose arms others) ts s = absurd s
+    of (each x e ss) ts s = absurd s
 
 pub sequences_for : {I : Type 0} {levels : I → ℕ} (k : ℕ) (one : I → Reader Stmt) → ExactFor levels SpellsStmt (stmt_needs k) (Ends 0) one → ExactFor levels SpellsStmts (stmts_need k) AfterStatements (λ i. in_sequence (one i))
 unfolding in_sequence
@@ -355,6 +427,28 @@ module _ {I : Type 0} {levels : I → ℕ} (depth : I → ℕ) (k : ℕ) (is : (
       (λ c ts left s. leads AfterStatements (terminal terminals.Elseif) (SpellsArm c) ts left at_elseif s)
       (λ c ts left s. leads (λ z. sees terminals.Elseif z ≡ true) (terminal terminals.Elseif) (SpellsArm c) ts left elseif_seen s)))
 
+  pub loop_for : ExactFor levels ByLoop (parts_need k) any (λ i. a_loop (depth i) (inner i))
+  unfolding a_loop
+  loop_for =
+      into_exact (λ p. each p.0 p.1.1.0 p.1.1.1.1.0)
+      (then name_for
+      (then (sign_for terminals.In)
+      (then (expressions_for depth k is)
+      (then (sign_for terminals.Do)
+      (then p (sign_for terminals.Od) (λ y ts left s g. subst (λ z. AfterStatements (z ++ left)) (sym s) (at_od left)))
+      (λ y ts left s g. tt))
+      (λ y ts left s g. leads (Ends 0) (terminal terminals.Do) (SpellsStmts y.1.0 ▹ word terminals.Od) ts left ends_do s))
+      (λ y ts left s g. tt))
+      (λ y ts left s g. tt))
+      ByLoop (parts_need k) of (λ x ts s. s) (λ x. loop_needs k (depth_of x.1.1.0) (deep_stmts x.1.1.1.1.0) (stmts_depth x.1.1.1.1.0))
+    where
+      of : (y : Stmt) (ts : List Tok) → ByLoop y ts →
+          (x : Name × (Unit {0} × (Expr × (Unit {0} × (Stmts × Unit {0}))))) × (each x.0 x.1.1.0 x.1.1.1.1.0 ≡ y)
+          × (called x.0 ▹ (word terminals.In ▹ (SpellsExpr 0 x.1.1.0 ▹ (word terminals.Do ▹ (SpellsStmts x.1.1.1.1.0 ▹ word terminals.Od))))) ts
+      of (assign n e) ts s = absurd s
+      of (choose arms others) ts s = absurd s
+      of (each x e ss) ts s = ((x, (tt, (e, (tt, (ss, tt))))), refl, s)
+
   pub choice_for : ExactFor levels ByChoice (parts_need k) any (λ i. choice (depth i) (inner i))
   unfolding choice
   choice_for =
@@ -370,6 +464,7 @@ module _ {I : Type 0} {levels : I → ℕ} (depth : I → ℕ) (k : ℕ) (is : (
       of : (y : Stmt) (ts : List Tok) → ByChoice y ts →
           (x : (Expr × Stmts) × (List (Expr × Stmts) × (Stmts × Unit {0}))) × (choose (arm x.0.0 x.0.1 (choices x.1.0)) x.1.1.0 ≡ y) × (SpellsArm x.0 ▹ (SpellsChoices x.1.0 ▹ Ending x.1.1.0)) ts
       of (assign n e) ts s = absurd s
+      of (each x e ss) ts s = absurd s
       of (choose no_arm others) ts s = absurd s
       of (choose (arm c ss more) others) ts s =
           let same = choices_pairs more in (

@@ -1,5 +1,5 @@
 -- One operator more, or one field.
-use Rattle.std.proofs.Common.{◌≡◌, ℕ, suc, ◌+◌, ◌-◌, ◌<◌, ◌≤◌, List, refl, ap, sym, ◌∙◌, arith, Some, Ok, Err, true, nat_le}
+use Rattle.std.proofs.Common.{◌≡◌, ℕ, suc, ◌+◌, ◌-◌, ◌<◌, ◌≤◌, List, refl, ap, sym, ◌∙◌, arith, Some, Ok, Err, true}
 use Rattle.ioa_lex.specs.Tokens.{Tok}
 use Rattle.ioa_tree.specs.declared.tree.Infix.{Infix}
 use Rattle.ioa_value.specs.declared.terminal.Terminal.TheVariants as terminals

@@ -7,15 +7,15 @@ use Rattle.ioa_grammar.specs.declared.fault.Fault.TheVariants.{Syntax, TooDeep}
 use Rattle.ioa_tree.specs.Tree.{Stmt, Stmts}
 use Rattle.ioa_tree.specs.Depth.{deep_stmts, stmts_depth}
 use Rattle.ioa_grammar.specs.Grammar.{Language, SameHead, SpellsStmt, SpellsStmts, SpellsAfter}
-use Rattle.ioa_grammar.specs.Reading.{Reader, rest, sees, after, a_name, assignment, in_sequence, introduced, choice, no_statement, statement, statements}
+use Rattle.ioa_grammar.specs.Reading.{Reader, rest, sees, after, a_name, assignment, in_sequence, introduced, choice, a_loop, unconditional, no_statement, statement, statements}
 use Rattle.ioa_grammar.proofs.Outcomes.{AtMost, Shrinks, Alike, refused_at}
 use Rattle.ioa_grammar.proofs.Exact.{Found, ExactFor, Exact, Below, any, deep_as, said_as}
 use Rattle.ioa_grammar.proofs.Singles.{seen, after_seen, after_unseen, either_exact}
 use Rattle.ioa_grammar.proofs.Endings.{Ends}
-use Rattle.ioa_grammar.proofs.ChoiceLemmas.{ByChoice, ByAssignment, either_of, either_to, assignment_unseen, stmt_needs, stmts_need, parts_need, stmt_positive, AfterStatements, assignments_for, sequences_for, introduced_for, choice_for}
+use Rattle.ioa_grammar.proofs.ChoiceLemmas.{ByChoice, ByLoop, ByAssignment, Unconditional, either_of, either_to, other_of, other_to, assignment_unseen, unconditional_unseen, stmt_needs, stmts_need, parts_need, stmt_positive, AfterStatements, assignments_for, sequences_for, introduced_for, loop_for, choice_for}
 
 statement_none : (depth levels : ℕ) → statement depth levels [] ≡ Err (Syntax 0)
-unfolding statement assignment a_name after sees
+unfolding statement unconditional assignment a_name after sees
 statement_none depth zero = refl
 statement_none depth (suc levels) = refl
 
@@ -35,20 +35,33 @@ module _ {I : Type 0} (depth levels : I → ℕ) (k : ℕ) (is : (i : I) → dep
   abbrev choosing : Inner levels → Reader Stmt
   choosing j = choice (depth j.0) (in_sequence (statement (depth j.0) j.1))
 
+  abbrev looping : Inner levels → Reader Stmt
+  looping j = a_loop (depth j.0) (in_sequence (statement (depth j.0) j.1))
+
   abbrev assigning : Inner levels → Reader Stmt
   assigning j = assignment (depth j.0)
+
+  abbrev other : Inner levels → Reader Stmt
+  other j = unconditional (depth j.0) (in_sequence (statement (depth j.0) j.1))
 
   chosen : ExactFor {I = Inner levels} (λ j. j.1) ByChoice (parts_need (suc k)) any choosing
   chosen = choice_for (λ j. depth j.0) (suc k) inner_is (λ j. in_sequence (statement (depth j.0) j.1)) (sequences_for (suc k) (λ j. statement (depth j.0) j.1) inner)
 
+  looped : ExactFor {I = Inner levels} (λ j. j.1) ByLoop (parts_need (suc k)) any looping
+  looped = loop_for (λ j. depth j.0) (suc k) inner_is (λ j. in_sequence (statement (depth j.0) j.1)) (sequences_for (suc k) (λ j. statement (depth j.0) j.1) inner)
+
   assigned : ExactFor {I = Inner levels} (λ j. j.1) ByAssignment (parts_need (suc k)) (Ends 0) assigning
   assigned = assignments_for (λ j. depth j.0) (suc k) inner_is
 
+  other_exact : ExactFor {I = Inner levels} (λ j. j.1) Unconditional (parts_need (suc k)) (Ends 0) other
+  unfolding unconditional
+  other_exact = said_as Unconditional other_of other_to (either_exact terminals.For looped assigned (Ends 0) (λ left f. tt) (λ left f. f) (λ x ts left s f. assignment_unseen x ts left s))
+
   abbrev one : Inner levels → Reader Stmt
-  one j ts = if sees terminals.If ts then choosing j (after terminals.If ts) else assigning j (after terminals.If ts)
+  one j ts = if sees terminals.If ts then choosing j (after terminals.If ts) else other j (after terminals.If ts)
 
   one_exact : ExactFor {I = Inner levels} (λ j. j.1) SpellsStmt (parts_need (suc k)) (Ends 0) one
-  one_exact = said_as SpellsStmt either_of either_to (either_exact terminals.If chosen assigned (Ends 0) (λ left f. tt) (λ left f. f) (λ x ts left s f. assignment_unseen x ts left s))
+  one_exact = said_as SpellsStmt either_of either_to (either_exact terminals.If chosen other_exact (Ends 0) (λ left f. tt) (λ left f. f) (λ x ts left s f. unconditional_unseen x ts left s))
 
   statement_one : (j : Inner levels) (ts : List Tok) → statement (depth j.0) (levels j.0) ts ≡ one j ts
   unfolding statement
@@ -110,6 +123,17 @@ module _ {I : Type 0} (depth levels : I → ℕ) (k : ℕ) (is : (i : I) → dep
       refuses (x ∷ s) s' same [] = inl tt
       refuses s s' same (x ∷ c) = inl tt
 
+  -- the word `for` stands before a loop, and expressions may be as deep as statements
+  other_long : (j : Inner levels) (ts : List Tok) → other j ts ≡ Err TooDeep → levels j.0 < length ts
+  unfolding unconditional
+  other_long j ts h = by (sees terminals.For ts) refl h
+    where
+      by : (v : Bool) → sees terminals.For ts ≡ v → (if v then looping j (after terminals.For ts) else assigning j (after terminals.For ts)) ≡ Err TooDeep → levels j.0 < length ts
+      by true e h = let far = looped.long j (rest ts) (ap (looping j) (sym (after_seen terminals.For ts e)) ∙ h) in omega (arith, j.2, ap length (seen terminals.For ts e))
+      by false e h =
+          let far = (assignments_for {levels = λ n. n} (λ n. n) 0 (λ n. omega arith)).long (depth j.0) ts (ap (assigning j) (sym (after_unseen terminals.For ts e)) ∙ h) in
+          omega (arith, is j.0)
+
   level_long : (i : I) (ts : List Tok) → statement (depth i) (levels i) ts ≡ Err TooDeep → levels i < length ts
   level_long i ts h =
       elim (at_level i) [
@@ -121,12 +145,10 @@ module _ {I : Type 0} (depth levels : I → ℕ) (k : ℕ) (is : (i : I) → dep
       refuses [] none h = absurd (cc)
       refuses (y ∷ ts) none h = omega (arith, none)
 
-      -- the word `if` stands before a choice, and expressions may be as deep as statements
-      by : (j : Inner levels) (v : Bool) → sees terminals.If ts ≡ v → (if v then choosing j (after terminals.If ts) else assigning j (after terminals.If ts)) ≡ Err TooDeep → levels j.0 < length ts
+      -- the word `if` stands before a choice
+      by : (j : Inner levels) (v : Bool) → sees terminals.If ts ≡ v → (if v then choosing j (after terminals.If ts) else other j (after terminals.If ts)) ≡ Err TooDeep → levels j.0 < length ts
       by j true e h = let far = chosen.long j (rest ts) (ap (choosing j) (sym (after_seen terminals.If ts e)) ∙ h) in omega (arith, j.2, ap length (seen terminals.If ts e))
-      by j false e h =
-          let far = (assignments_for {levels = λ n. n} (λ n. n) 0 (λ n. omega arith)).long (depth j.0) ts (ap (assigning j) (sym (after_unseen terminals.If ts e)) ∙ h) in
-          omega (arith, is j.0)
+      by j false e h = other_long j ts (ap (other j) (sym (after_unseen terminals.If ts e)) ∙ h)
 
   level_exact : ExactFor levels SpellsStmt (stmt_needs k) (Ends 0) (λ i. statement (depth i) (levels i))
   level_exact = record { complete = level_complete; sound = level_sound; shrinks = level_shrinks; alike = level_alike; long = level_long }

@@ -1,6 +1,7 @@
 -- Statements and arms, as lists and as trees of their own.
 use Rattle.std.proofs.Common.{◌≡◌, ℕ, zero, suc, ◌-◌, ◌<◌, arith, Bool, true, false, List, [], ◌∷◌, ◌++◌, length, map, refl, ap, ◌∙◌, Vec, Global, Result, Ok, Err}
 use Rattle.ioa_value.specs.declared.terminal.Terminal.TheVariants as terminals
+use Rattle.ioa_value.specs.Actions.{Name}
 use Rattle.ioa_lex.specs.Tokens.{Tok, tokens_shown, kind_shown}
 use Rattle.ioa_lex.specs.declared.token.Token.{Token}
 use Rattle.std.proofs.lemmas.List.{length-map}
@@ -8,10 +9,9 @@ use Rattle.ioa_grammar.specs.declared.fault.Fault.{Fault}
 use Rattle.ioa_grammar.specs.declared.fault.ReadError.{ReadError}
 use Rattle.ioa_grammar.specs.declared.fault.ReadError.TheVariants as errors
 use Rattle.ioa_tree.specs.declared.tree.Statement.{Statement}
-use Rattle.ioa_tree.specs.declared.tree.Statement.TheVariants.{If}
 use Rattle.ioa_tree.specs.declared.tree.Arm.{Arm}
-use Rattle.ioa_tree.specs.Tree.{Expr, Stmt, Stmts, choose, arm}
-use Rattle.ioa_grammar.specs.Reading.{Outcome, Reader, ReadsAs, Fails, ◌>>=◌, ◌▸◌, built, many, many_from, sees, after, assignment, statement, sees_statement, terminated, in_sequence, an_arm, more_arms, introduced, sign, choice}
+use Rattle.ioa_tree.specs.Tree.{Expr, Stmt, Stmts, choose, each, arm}
+use Rattle.ioa_grammar.specs.Reading.{Outcome, Reader, ReadsAs, Fails, ◌>>=◌, ◌▸◌, built, many, many_from, sees, after, unconditional, statement, sees_statement, terminated, in_sequence, an_arm, more_arms, introduced, sign, a_name, expression, choice, a_loop}
 use Rattle.ioa_tree.specs.Rows.{sequence, choices}
 use Rattle.ioa_tree.specs.View.{stmt_of, stmts_of, arm_of, arms_of}
 use Rattle.ioa_grammar.proofs.Outcomes.{ok_pair}
@@ -33,10 +33,11 @@ pub sequence_reads : (one : Reader Stmt) (ts left : List Tok) (r : Result (Vec S
 sequence_reads one ts left (Ok v) read = sequence_read one ts left v.items read
 sequence_reads one ts left (Err e) read = sequence_fails one ts e read
 
-pub statement_plain : (depth levels : ℕ) (ts : List Tok) → 0 < levels → sees terminals.If ts ≡ false → statement depth levels ts ≡ assignment depth (after terminals.If ts)
+pub statement_plain : (depth levels : ℕ) (ts : List Tok) → 0 < levels → sees terminals.If ts ≡ false
+    → statement depth levels ts ≡ unconditional depth (in_sequence (statement depth (levels - 1))) (after terminals.If ts)
 unfolding statement
 statement_plain depth zero ts some unseen = absurd (omega arith)
-statement_plain depth (suc levels) ts some unseen = rw unseen refl
+statement_plain depth (suc levels) ts some unseen = let e : suc levels - 1 ≡ levels = omega arith in rw (unseen, e) refl
 
 pub statement_choice : (depth levels : ℕ) (ts : List Tok) → 0 < levels → sees terminals.If ts ≡ true → statement depth levels ts ≡ choice depth (in_sequence (statement depth (levels - 1))) (after terminals.If ts)
 unfolding statement
@@ -100,3 +101,11 @@ choice_fails depth inner a ts after_first errors.OutOfMemory first failed = tt
 choice_fails depth inner a ts after_first (errors.Fault f) first failed =
     let more_failed : more_arms depth inner after_first ≡ Err f = arms_failed a (more_arms depth inner after_first) f failed in
     rw (first, more_failed) refl
+
+pub loop_read : (depth : ℕ) (inner : Reader Stmts) (x : Name) (v : Expr) (ss : Stmts) (ts after_name after_in after_items after_do after_body left : List Tok) →
+    a_name ts ≡ Ok (x, after_name) → sign terminals.In after_name ≡ Ok (tt, after_in) → expression depth after_in ≡ Ok (v, after_items) →
+    sign terminals.Do after_items ≡ Ok (tt, after_do) → inner after_do ≡ Ok (ss, after_body) → sign terminals.Od after_body ≡ Ok (tt, left) →
+    a_loop depth inner ts ≡ Ok (each x v ss, left)
+unfolding a_loop
+loop_read depth inner x v ss ts after_name after_in after_items after_do after_body left named said read done statements closed =
+    rw (named, said, read, done, statements, closed) refl

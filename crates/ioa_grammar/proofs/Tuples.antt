@@ -3,7 +3,6 @@ use Rattle.std.proofs.Common.{◌≡◌, List, [], ◌∷◌, ◌++◌, max, tru
 use Rattle.ioa_lex.specs.Tokens.{Tok}
 use Rattle.ioa_value.specs.Actions as actions
 use Rattle.ioa_value.specs.declared.terminal.Terminal.TheVariants as terminals
-use Rattle.ioa_tree.specs.declared.tree.Name.{Name}
 use Rattle.ioa_tree.specs.declared.tree.Expression.{Expression}
 use Rattle.ioa_tree.specs.Tree.{Expr, make}
 use Rattle.ioa_tree.specs.Depth.{depth_of, exprs_depth}

@@ -10,7 +10,7 @@ use Rattle.ioa_tree.specs.declared.tree.Kind.TheVariants.{Input, Output, Interna
 use Rattle.ioa_tree.specs.declared.tree.Infix.TheVariants.{Operator}
 use Rattle.ioa_grammar.specs.Operators.{stands_before, stands_between, encloses, level_of, left_of, right_of, operator_word, tightest}
 use Rattle.ioa_tree.specs.Tree as tree
-use Rattle.ioa_tree.specs.Tree.{Expr, number, truth, named, parens, prefix, binary, make, select, Exprs, no_expr, also, FieldTree, ConstantTree, positive, negative, truth_literal, reference, PositionTree, typed, only, EntryTree, VariableTree, ChoiceTree, exactly, any_below, ProposalTree, Stmt, assign, choose, Stmts, stop, seq, Arms, no_arm, arm, TransitionTree, AutomatonTree, CrashTree, InstanceTree, CompositionTree, InvariantTree, FormTree, enumeration, tuple, sequence, TypeTree, DeclarationTree, declared_type, automaton, composition, invariant, SourceTree}
+use Rattle.ioa_tree.specs.Tree.{Expr, number, truth, named, parens, prefix, binary, make, select, Exprs, no_expr, also, FieldTree, ConstantTree, positive, negative, truth_literal, reference, PositionTree, typed, only, EntryTree, VariableTree, ChoiceTree, exactly, any_below, ProposalTree, Stmt, assign, choose, each, Stmts, stop, seq, Arms, no_arm, arm, TransitionTree, AutomatonTree, CrashTree, InstanceTree, CompositionTree, InvariantTree, FormTree, enumeration, tuple, sequence, TypeTree, DeclarationTree, declared_type, automaton, composition, invariant, SourceTree}
 
 abbrev pub Language : Type 1
 Language = List Tok → Type 0
@@ -162,6 +162,8 @@ abbrev mutual
   SpellsStmt (choose no_arm others) = empty
   SpellsStmt (choose (arm c ss more) others) =
       word terminals.If ▹ (SpellsExpr 0 c ▹ (word terminals.Then ▹ (SpellsStmts ss ▹ (SpellsArms more ▹ (SpellsAfter terminals.Else others ▹ word terminals.Fi)))))
+  SpellsStmt (each x e ss) =
+      word terminals.For ▹ (called x ▹ (word terminals.In ▹ (SpellsExpr 0 e ▹ (word terminals.Do ▹ (SpellsStmts ss ▹ word terminals.Od)))))
 
   pub SpellsStmts : Stmts → Language
   SpellsStmts stop = empty

@@ -17,7 +17,7 @@ use Rattle.ioa_grammar.specs.declared.fault.ReadError.TheVariants as errors
 use Rattle.ioa_tree.specs.declared.tree.Kind.{Kind}
 use Rattle.ioa_tree.specs.declared.tree.Kind.TheVariants as kinds
 use Rattle.ioa_tree.specs.Tree as tree
-use Rattle.ioa_tree.specs.Tree.{Expr, truth, named, parens, prefix, binary, make, select, Exprs, no_expr, also, FieldTree, ConstantTree, positive, negative, truth_literal, reference, PositionTree, typed, only, EntryTree, VariableTree, ChoiceTree, exactly, any_below, ProposalTree, Stmt, assign, choose, Stmts, stop, seq, Arms, no_arm, arm, TransitionTree, AutomatonTree, CrashTree, InstanceTree, CompositionTree, InvariantTree, FormTree, enumeration, tuple, TypeTree, DeclarationTree, declared_type, automaton, composition, invariant, SourceTree}
+use Rattle.ioa_tree.specs.Tree.{Expr, truth, named, parens, prefix, binary, make, select, Exprs, no_expr, also, FieldTree, ConstantTree, positive, negative, truth_literal, reference, PositionTree, typed, only, EntryTree, VariableTree, ChoiceTree, exactly, any_below, ProposalTree, Stmt, assign, choose, each, Stmts, stop, seq, Arms, no_arm, arm, TransitionTree, AutomatonTree, CrashTree, InstanceTree, CompositionTree, InvariantTree, FormTree, enumeration, tuple, TypeTree, DeclarationTree, declared_type, automaton, composition, invariant, SourceTree}
 use Rattle.ioa_tree.specs.Rows.{in_order, sequence, choices}
 use Rattle.ioa_tree.specs.Depth.{depth_of}
 use Rattle.ioa_tree.specs.declared.tree.Infix.{Infix}
@@ -405,7 +405,7 @@ assignment depth = built (λ p. assign p.0 p.1.1) (a_name ▸ (sign terminals.Be
 
 -- the next token begins a statement
 unfoldable pub sees_statement : List Tok → Bool
-sees_statement ts = sees_name ts || sees terminals.If ts
+sees_statement ts = sees_name ts || (sees terminals.If ts || sees terminals.For ts)
 
 -- statements that are read so, in sequence
 unfoldable pub in_sequence : Reader Stmt → Reader Stmts
@@ -428,6 +428,16 @@ choice depth inner =
     built (λ p. choose (arm p.0.0 p.0.1 (choices p.1.0)) p.1.1.0)
     (an_arm depth inner ▸ (more_arms depth inner ▸ (introduced terminals.Else inner ▸ sign terminals.Fi)))
 
+-- after `for`, with the statements of the body read so
+unfoldable pub a_loop : ℕ → Reader Stmts → Reader Stmt
+a_loop depth inner =
+    built (λ p. each p.0 p.1.1.0 p.1.1.1.1.0)
+    (a_name ▸ (sign terminals.In ▸ (expression depth ▸ (sign terminals.Do ▸ (inner ▸ sign terminals.Od)))))
+
+-- all but a choice
+unfoldable pub unconditional : ℕ → Reader Stmts → Reader Stmt
+unconditional depth inner ts = if sees terminals.For ts then a_loop depth inner (after terminals.For ts) else assignment depth (after terminals.For ts)
+
 -- At the end of the tokens there is no statement of any depth.
 abbrev pub no_statement : Reader Stmt
 no_statement [] = Err (Syntax 0)
@@ -437,7 +447,8 @@ no_statement (x ∷ ts) = Err TooDeep
 unfoldable pub statement : ℕ → ℕ → Reader Stmt
 statement depth zero ts = no_statement ts
 statement depth (suc levels) ts =
-    if sees terminals.If ts then choice depth (in_sequence (statement depth levels)) (after terminals.If ts) else assignment depth (after terminals.If ts)
+    if sees terminals.If ts then choice depth (in_sequence (statement depth levels)) (after terminals.If ts)
+    else unconditional depth (in_sequence (statement depth levels)) (after terminals.If ts)
 
 unfoldable pub statements : ℕ → Reader Stmts
 statements depth = in_sequence (statement depth depth)

@@ -265,7 +265,7 @@ impl<'a> Cursor<'a> {
     pub fn sees_statement(&self) -> bool
         ensures { result ≡ spec.sees_statement (tokens_shown self.now) }
     {
-        self.sees_name() || self.sees(Terminal::If)
+        self.sees_name() || self.sees(Terminal::If) || self.sees(Terminal::For)
     }
 
     /// Whether a variable comes next.

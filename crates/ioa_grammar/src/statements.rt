@@ -32,10 +32,22 @@ fn statement(cursor: &mut Cursor<'_>, levels: u32) -> Result<Statement, ReadErro
         return Err(cursor.too_deep());
     }
     let line = cursor.line();
-    if !cursor.take(Terminal::If) {
-        return assignment(cursor);
+    if cursor.take(Terminal::If) {
+        return choice(cursor, levels - 1, line);
     }
-    choice(cursor, levels - 1, line)
+    unconditional(cursor, levels - 1, line)
+}
+
+/// A statement that is no choice and stands on this line, of at most `levels` levels within it.
+#[cycle(statement)]
+#[tactic(auto, unfolding(crate::specs::Reading::unconditional))]
+fn unconditional(cursor: &mut Cursor<'_>, levels: u32, line: u32) -> Result<Statement, ReadError>
+    ensures { ReadsAs stmt_of (spec.unconditional LIMITS.depth (spec.in_sequence (spec.statement LIMITS.depth levels)) (tokens_shown cursor.old)) result (tokens_shown cursor.new) }
+{
+    if cursor.take(Terminal::For) {
+        return a_loop(cursor, levels, line);
+    }
+    assignment(cursor)
 }
 
 /// Statements of at most `levels` levels, one by one.
@@ -131,4 +143,19 @@ fn choice(cursor: &mut Cursor<'_>, levels: u32, line: u32) -> Result<Statement, 
     let others = introduced(cursor, Terminal::Else, levels)?;
     cursor.expect(Terminal::Fi)?;
     Ok(Statement::If(arms, others, line))
+}
+
+/// A loop that stands on this line, after `for`.
+#[cycle(statement)]
+#[tactic(auto, unfolding(crate::specs::Reading::a_loop), using(ioa_tree::proofs::StatementRows::stmt_each))]
+fn a_loop(cursor: &mut Cursor<'_>, levels: u32, line: u32) -> Result<Statement, ReadError>
+    ensures { ReadsAs stmt_of (spec.a_loop LIMITS.depth (spec.in_sequence (spec.statement LIMITS.depth levels)) (tokens_shown cursor.old)) result (tokens_shown cursor.new) }
+{
+    let name = cursor.name()?;
+    cursor.expect(Terminal::In)?;
+    let items = whole_expression(cursor)?;
+    cursor.expect(Terminal::Do)?;
+    let body = statements(cursor, levels)?;
+    cursor.expect(Terminal::Od)?;
+    Ok(Statement::For(name, items, body, line))
 }

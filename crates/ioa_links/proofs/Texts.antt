@@ -10,7 +10,7 @@ use Rattle.ioa_lex.specs.Lexing.{Lexes}
 use Rattle.ioa_lex.specs.Spaced.{Spaced}
 use Rattle.ioa_lex.proofs.SpacedLemmas.{spaced_append, spaced_lexes}
 use Rattle.ioa_grammar.specs.Grammar.{SpellsSource}
-use Rattle.ioa_grammar.specs.Reading.{same_terminal, terminal_at, sees, after, sign, a_name, a_number, kind_of, kind_at, a_kind, optional, optional_list, items_from, separated, terminated, closing, enclosed, braced, perhaps, many_from, many, sees_name, sees_kind, operator_of, prefix_of, prefix_at, operator_at, around_of, start_of, start_at, around_one, around_two, around, an_empty, after_name, primary, fields_from, operand, climb, first, expr, expression, field, fields, literal_of, literal_at, literal, a_constant, position, positions, entry, entries, flag, variable, sees_variable, variables, a_choice, proposal, proposals, assignment, sees_statement, in_sequence, introduced, an_arm, more_arms, choice, statement, statements, transition, transitions, an_automaton, arguments, a_crash, instance, instances, hidden_names, a_composition, composed, an_enumeration, a_tuple, a_sequence, sequence_form, compound_form, type_form, a_type, an_invariant, machine, about_machines, declaration, source, source_from}
+use Rattle.ioa_grammar.specs.Reading.{same_terminal, terminal_at, sees, after, sign, a_name, a_number, kind_of, kind_at, a_kind, optional, optional_list, items_from, separated, terminated, closing, enclosed, braced, perhaps, many_from, many, sees_name, sees_kind, operator_of, prefix_of, prefix_at, operator_at, around_of, start_of, start_at, around_one, around_two, around, an_empty, after_name, primary, fields_from, operand, climb, first, expr, expression, field, fields, literal_of, literal_at, literal, a_constant, position, positions, entry, entries, flag, variable, sees_variable, variables, a_choice, proposal, proposals, assignment, sees_statement, in_sequence, introduced, an_arm, more_arms, choice, a_loop, unconditional, statement, statements, transition, transitions, an_automaton, arguments, a_crash, instance, instances, hidden_names, a_composition, composed, an_enumeration, a_tuple, a_sequence, sequence_form, compound_form, type_form, a_type, an_invariant, machine, about_machines, declaration, source, source_from}
 use Rattle.ioa_lex.proofs.Covers.{same_tokens}
 use Rattle.ioa_tree.specs.Depth.{source_deep}
 use Rattle.ioa_tree.specs.Tree.{SourceTree}
@@ -43,7 +43,7 @@ no_lines : ℕ → ℕ
 no_lines n = 0
 
 reads : (n : ℕ) → source 64 no_lines (tokens n) ≡ Ok (stenning_source n)
-unfolding same_terminal terminal_at sees after sign a_name a_number kind_of kind_at a_kind optional optional_list items_from separated terminated closing enclosed braced perhaps many_from many sees_name sees_kind operator_of prefix_of prefix_at operator_at around_of start_of start_at around_one around_two around an_empty after_name primary fields_from operand climb first expr expression field fields literal_of literal_at literal a_constant position positions entry entries flag variable sees_variable variables a_choice proposal proposals assignment sees_statement in_sequence introduced an_arm more_arms choice statement statements transition transitions an_automaton arguments a_crash instance instances hidden_names a_composition composed an_enumeration a_tuple a_sequence sequence_form compound_form type_form a_type an_invariant machine about_machines declaration source source_from
+unfolding same_terminal terminal_at sees after sign a_name a_number kind_of kind_at a_kind optional optional_list items_from separated terminated closing enclosed braced perhaps many_from many sees_name sees_kind operator_of prefix_of prefix_at operator_at around_of start_of start_at around_one around_two around an_empty after_name primary fields_from operand climb first expr expression field fields literal_of literal_at literal a_constant position positions entry entries flag variable sees_variable variables a_choice proposal proposals assignment sees_statement in_sequence introduced an_arm more_arms choice a_loop unconditional statement statements transition transitions an_automaton arguments a_crash instance instances hidden_names a_composition composed an_enumeration a_tuple a_sequence sequence_form compound_form type_form a_type an_invariant machine about_machines declaration source source_from
 reads n = refl
 
 pub text_spells : (n : ℕ) → n ≤ 9223372036854775807 → (us : List (Tok × ℕ)) × Lexes (text n) us × SpellsSource (stenning_source n) (map (λ t. t.0) us)

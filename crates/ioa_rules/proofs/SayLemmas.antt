@@ -7,7 +7,7 @@ use Rattle.std.specs.Result.{IsErrAnd}
 use Rattle.std.proofs.lemmas.Bool.{and_left, and_right, and_from, or_left, or_right, not_from_false}
 use Rattle.ioa_lex.specs.declared.refusal.Refusal.{Refusal}
 use Rattle.ioa_rules.specs.Codes.{Code, tells}
-use Rattle.ioa_rules.specs.Reasons.{Reasons, broken, in_any}
+use Rattle.ioa_rules.specs.Reasons.{Reasons, ◌or◌, broken, in_any}
 use Rattle.ioa_rules.specs.Verdicts.{Says, SaysOrMemory}
 use Rattle.ioa_value.proofs.ItemLemmas.{drop_item, all_fails}
 
@@ -51,6 +51,14 @@ says-passed {T} q (Err y) e b w p h k =
     let P : Result T Refusal → Type 0 = λ o. Says o b w in
     let at : Says {T = T} (Err e) b w = subst P p k in
     (ap w h ∙ at.0, at.1)
+
+-- an error that `?` hands on, at the second of two tests
+pub second-passed : {T U : Type 0} (q : Result T Refusal) (r : Result U Refusal) (e : Refusal) (a b : Bool) (w v : Reasons) → q ≡ Err e → IsErrAnd r (λ x. x ≡ e) → Says q b w → Says r (a && b) (w or v)
+second-passed q (Ok y) e a b w v p h k = absurd h
+second-passed {T} q (Err y) e a b w v p h k =
+    let P : Result T Refusal → Type 0 = λ o. Says o b w in
+    let at : P (Err y) = subst P (p ∙ ap Err (sym h)) k in
+    (or_left (w y) (v y) at.0, and_right a b at.1)
 
 -- an error at one item is one for the list
 pub says-in-list : {T U X Y : Type 0} (q : Result T Refusal) (r : Result U Refusal) (e : Refusal) (f : Y → Bool) (w : Y → Reasons) (v : X → Y) (xs ys : List X) (i : ℕ) (x : X) → ys ≡ xs → i < length ys → x ≡ get_or ys i x → list_all f (map v (drop i xs)) ≡ list_all f (map v xs) →

@@ -8,6 +8,7 @@ use Rattle.ioa_tree.specs.View.{field_of}
 use Rattle.ioa_value.specs.Table.{Table, type_named}
 use Rattle.ioa_tree.specs.WellFormed.{Context, type_in, context_of}
 use Rattle.ioa_rules.specs.declared.scope.Scope.{Scope}
+use Rattle.ioa_rules.specs.Loops.{loops_of}
 use Rattle.ioa_rules.specs.Scopes.{context}
 use Rattle.ioa_rules.specs.Fields.{parameters, type_under}
 use Rattle.ioa_tree.specs.View.{variable_of}
@@ -42,10 +43,15 @@ pub types-stop : {T : Type 0} (t : Table) (tree : T → FieldTree) (xs : List T)
 types-stop t tree xs i y x n l e h k =
     sym (ap (λ zs. type_in (context_of t (map tree zs)) x) (drop_item xs i y l e) ∙ type_in-field t (tree y) (map tree (drop (i + 1) xs)) x ∙ ap (λ o. option_or o (type_in (context_of t (map tree (drop (i + 1) xs))) x)) k) ∙ h
 
-chained : (a b c : Context) (x : Name) → type_in ((a ++ b) ++ c) x ≡ option_or (option_or (type_in a x) (type_in b x)) (type_in c x)
-chained a b c x = type_in-append (a ++ b) c x ∙ ap (λ o. option_or o (type_in c x)) (type_in-append a b x)
+chained : (l a b c : Context) (x : Name) → type_in (l ++ ((a ++ b) ++ c)) x ≡ option_or (type_in l x) (option_or (option_or (type_in a x) (type_in b x)) (type_in c x))
+chained l a b c x =
+    type_in-append l ((a ++ b) ++ c) x
+    ∙ ap (option_or (type_in l x)) (type_in-append (a ++ b) c x ∙ ap (λ o. option_or o (type_in c x)) (type_in-append a b x))
 
 module _ (s : Scope) (x : Name) where
+  abbrev at_loop : Option ℕ
+  at_loop = type_in (loops_of s.loops) x
+
   abbrev at_variable : Option ℕ
   at_variable = type_in (context_of (early s.known) (map (λ v. field_of v.field) s.variables.now)) x
 
@@ -55,20 +61,30 @@ module _ (s : Scope) (x : Name) where
   abbrev at_parameter : Option ℕ
   at_parameter = type_in (context_of (early s.known) (parameters s.positions.now)) x
 
-  -- a name of a scope is a variable, or else a formal, or else a parameter
-  lookup-is : type_in (context s) x ≡ option_or (option_or at_variable at_formal) at_parameter
+  -- a name of a scope is a loop's, or else a variable, or else a formal, or else a parameter
+  lookup-is : type_in (context s) x ≡ option_or at_loop (option_or (option_or at_variable at_formal) at_parameter)
   lookup-is =
       let k = early s.known in
-      chained (context_of k (map (λ v. v.field) (map variable_of s.variables.now))) (context_of k (map field_of s.formals.now))
+      chained (loops_of s.loops) (context_of k (map (λ v. v.field) (map variable_of s.variables.now))) (context_of k (map field_of s.formals.now))
       (context_of k (parameters s.positions.now)) x
-      ∙ ap (λ fs. option_or (option_or (type_in (context_of k fs) x) at_formal) at_parameter) (fields-of_variables s.variables.now)
+      ∙ ap (λ fs. option_or at_loop (option_or (option_or (type_in (context_of k fs) x) at_formal) at_parameter)) (fields-of_variables s.variables.now)
 
-  pub lookup-variable : (n : ℕ) → Some n ≡ at_variable → Some n ≡ type_in (context s) x
-  lookup-variable n h = ap (λ o. option_or (option_or o at_formal) at_parameter) h ∙ sym lookup-is
+  pub lookup-loop : (n : ℕ) → Some n ≡ at_loop → Some n ≡ type_in (context s) x
+  lookup-loop n h = ap (λ o. option_or o (option_or (option_or at_variable at_formal) at_parameter)) h ∙ sym lookup-is
 
-  pub lookup-formal : (n : ℕ) → None ≡ at_variable → Some n ≡ at_formal → Some n ≡ type_in (context s) x
-  lookup-formal n g h = ap (λ o. option_or (option_or None o) at_parameter) h ∙ ap (λ o. option_or (option_or o at_formal) at_parameter) g ∙ sym lookup-is
+  pub lookup-variable : (n : ℕ) → None ≡ at_loop → Some n ≡ at_variable → Some n ≡ type_in (context s) x
+  lookup-variable n l h =
+      ap (λ o. option_or None (option_or (option_or o at_formal) at_parameter)) h
+      ∙ ap (λ o. option_or o (option_or (option_or at_variable at_formal) at_parameter)) l ∙ sym lookup-is
 
-  pub lookup-parameter : (r : Option ℕ) → None ≡ at_variable → None ≡ at_formal → r ≡ at_parameter → r ≡ type_in (context s) x
-  lookup-parameter r f g h =
-      h ∙ ap (λ o. option_or (option_or None o) at_parameter) g ∙ ap (λ o. option_or (option_or o at_formal) at_parameter) f ∙ sym lookup-is
+  pub lookup-formal : (n : ℕ) → None ≡ at_loop → None ≡ at_variable → Some n ≡ at_formal → Some n ≡ type_in (context s) x
+  lookup-formal n l g h =
+      ap (λ o. option_or None (option_or (option_or None o) at_parameter)) h
+      ∙ ap (λ o. option_or None (option_or (option_or o at_formal) at_parameter)) g
+      ∙ ap (λ o. option_or o (option_or (option_or at_variable at_formal) at_parameter)) l ∙ sym lookup-is
+
+  pub lookup-parameter : (r : Option ℕ) → None ≡ at_loop → None ≡ at_variable → None ≡ at_formal → r ≡ at_parameter → r ≡ type_in (context s) x
+  lookup-parameter r l f g h =
+      h ∙ ap (λ o. option_or None (option_or (option_or None o) at_parameter)) g
+      ∙ ap (λ o. option_or None (option_or (option_or o at_formal) at_parameter)) f
+      ∙ ap (λ o. option_or o (option_or (option_or at_variable at_formal) at_parameter)) l ∙ sym lookup-is

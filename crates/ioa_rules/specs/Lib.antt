@@ -5,7 +5,9 @@ pub mod NameSets
 pub mod Globals
 pub mod Fields
 pub mod KnownTypes
+pub mod Loops
 pub mod Scopes
+pub mod Places
 pub mod Sizes
 pub mod Types
 pub mod Tuples

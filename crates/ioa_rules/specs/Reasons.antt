@@ -1,14 +1,15 @@
 -- Why a source is refused: the rules that are broken in it, each with the code that tells it.
-use Rattle.std.specs.Prelude.{ℕ, ◌==◌, Bool, true, false, not, ◌&&◌, ◌||◌, List, [], ◌∷◌, ◌++◌, map, length, Option, Some, None, is_some, pos, neg_ℤ}
+use Rattle.std.specs.Prelude.{ℕ, ◌==◌, nat_lt, Bool, true, false, not, ◌&&◌, ◌||◌, List, [], ◌∷◌, ◌++◌, map, length, Option, Some, None, is_some, pos, neg_ℤ}
 use Rattle.std.specs.List.{list_any, list_all}
 use Rattle.std.specs.Option.{option_map_or}
 use Rattle.ioa_value.specs.Actions.{Name}
 use Rattle.ioa_arithmetic.specs.Arithmetic.{fits}
 use Rattle.ioa_value.specs.Operators.{op_type}
-use Rattle.ioa_value.specs.Table.{Table, type_named, item_type, field_types, field_place}
+use Rattle.ioa_value.specs.Table.{Table, type_named, item_type, field_types, field_place, contains}
 use Rattle.ioa_lex.specs.declared.refusal.Refusal.{Refusal}
-use Rattle.ioa_tree.specs.Tree.{Expr, number, truth, named, parens, prefix, binary, empty, make, select, Exprs, no_expr, also, ConstantTree, positive, negative, truth_literal, reference, PositionTree, typed, only, EntryTree, VariableTree, ChoiceTree, exactly, any_below, ProposalTree, Stmt, assign, choose, Stmts, stop, seq, Arms, no_arm, arm, TransitionTree, AutomatonTree, InstanceTree, CompositionTree, InvariantTree, FormTree, enumeration, tuple, sequence, DeclarationTree, declared_type, automaton, composition, invariant, SourceTree}
+use Rattle.ioa_tree.specs.Tree.{Expr, number, truth, named, parens, prefix, binary, empty, make, select, Exprs, no_expr, also, ConstantTree, positive, negative, truth_literal, reference, PositionTree, typed, only, EntryTree, VariableTree, ChoiceTree, exactly, any_below, ProposalTree, Stmt, assign, choose, each, Stmts, stop, seq, Arms, no_arm, arm, TransitionTree, AutomatonTree, InstanceTree, CompositionTree, InvariantTree, FormTree, enumeration, tuple, sequence, DeclarationTree, declared_type, automaton, composition, invariant, SourceTree}
 use Rattle.ioa_tree.specs.Instances.{field_names}
+use Rattle.ioa_tree.specs.declared.tree.TheConstants.{NESTED_LOOPS}
 use Rattle.ioa_tree.specs.Meaning.{or_else}
 use Rattle.ioa_value.specs.declared.limits.TheConstants.{LIMITS}
 use Rattle.ioa_tree.specs.Types.{with_type, types_of, constant_type}
@@ -132,9 +133,15 @@ module _ (t early : Table) (globals : List Name) (a : AutomatonTree) where
   abbrev pub in_entries : Reasons
   in_entries = broken duplicate_name (distinct (map (λ e. e.name) a.entries)) or in_any in_entry a.entries
 
-  -- a precondition, or the condition of a choice
-  abbrev pub in_condition : EntryTree → Expr → Reasons
-  in_condition e c = in_place t early (Some 0) (well_formed.scope t early globals a e) c
+  -- a precondition, or the condition of a choice within loops over these names
+  abbrev pub in_condition : EntryTree → Context → Expr → Reasons
+  in_condition e loops c = in_place t early (Some 0) (well_formed.scope_in t early globals a e loops) c
+
+  -- what a loop goes over: it is a sequence
+  abbrev pub in_items : EntryTree → Context → Expr → Reasons
+  in_items e loops v =
+      in_expression t early (well_formed.scope_in t early globals a e loops) v
+      or broken type_mismatch (option_map_or (λ ty. is_some (item_type t ty)) (type_of t early (well_formed.scope_in t early globals a e loops) v) true)
 
   -- what a proposal gives a parameter of the type: any number below one is of an Int alone, and so is the expression
   abbrev pub in_choice : ChoiceTree → Option ℕ → Reasons
@@ -150,28 +157,31 @@ module _ (t early : Table) (globals : List Name) (a : AutomatonTree) where
 
   -- what an output or internal transition has before its effect
   abbrev pub in_local : EntryTree → TransitionTree → Reasons
-  in_local e r = in_some (in_condition e) r.pre or in_proposals e r or broken no_proposal (well_formed.all_proposed t early globals a e r)
+  in_local e r = in_some (in_condition e []) r.pre or in_proposals e r or broken no_proposal (well_formed.all_proposed t early globals a e r)
 
   abbrev pub before_effect : EntryTree → TransitionTree → Reasons
   before_effect e r = in_case (is_input r.kind) (broken bad_signature (well_formed.input_fine t early globals a r)) or in_case (not (is_input r.kind))
       (in_local e r)
 
-  -- statements: assignments and conditions, also those within arms
+  -- statements: assignments, conditions, and the names of loops and what they go over, also those within arms and loops
   abbrev mutual
-    pub in_stmt : EntryTree → Stmt → Reasons
-    in_stmt e (assign x v) = in_place t early (type_in (context_of early (variable_fields a)) x) (well_formed.scope t early globals a e) v
-    in_stmt e (choose arms others) = in_arms e arms or in_stmts e others
+    pub in_stmt : EntryTree → Context → Stmt → Reasons
+    in_stmt e loops (assign x v) = in_place t early (type_in (context_of early (variable_fields a)) x) (well_formed.scope_in t early globals a e loops) v
+    in_stmt e loops (choose arms others) = in_arms e loops arms or in_stmts e loops others
+    in_stmt e loops (each x v ss) =
+        broken duplicate_name (not (contains (well_formed.taken t early globals a e loops) x)) or broken too_many (nat_lt (length loops) NESTED_LOOPS)
+        or in_items e loops v or in_some (λ item. in_stmts e ((x, item) ∷ loops) ss) (well_formed.item_in t early globals a e loops v)
 
-    pub in_stmts : EntryTree → Stmts → Reasons
-    in_stmts e stop = none
-    in_stmts e (seq s ss) = in_stmt e s or in_stmts e ss
+    pub in_stmts : EntryTree → Context → Stmts → Reasons
+    in_stmts e loops stop = none
+    in_stmts e loops (seq s ss) = in_stmt e loops s or in_stmts e loops ss
 
-    pub in_arms : EntryTree → Arms → Reasons
-    in_arms e no_arm = none
-    in_arms e (arm c ss more) = in_condition e c or in_stmts e ss or in_arms e more
+    pub in_arms : EntryTree → Context → Arms → Reasons
+    in_arms e loops no_arm = none
+    in_arms e loops (arm c ss more) = in_condition e loops c or in_stmts e loops ss or in_arms e loops more
 
   abbrev pub in_transition : EntryTree → TransitionTree → Reasons
-  in_transition e r = before_effect e r or in_stmts e r.effect
+  in_transition e r = before_effect e r or in_stmts e [] r.effect
 
   -- a transition, if it is the entry's
   abbrev pub in_pair : EntryTree → TransitionTree → Reasons

@@ -48,7 +48,7 @@ pub(crate) fn automaton_fine(
     starts_fine(known, automaton)?;
     entries_fine(known, automaton, globals)?;
     one_to_one(automaton)?;
-    transitions_fine(known, automaton)
+    transitions_fine(known, automaton, globals)
 }
 
 /// Whether formals and variables have names of their own and known types.

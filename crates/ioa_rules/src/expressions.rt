@@ -9,6 +9,7 @@ ghost use Rattle.ioa_tree.specs.View.{expr_of, exprs_of, name_of, field_of, posi
 ghost use Rattle.ioa_tree.specs.Tree.{number, make};
 ghost use Rattle.ioa_tree.specs.WellFormed as well_formed;
 ghost use Rattle.ioa_rules.specs.KnownTypes.{whole, early};
+ghost use Rattle.ioa_rules.specs.Loops.{loops_of};
 ghost use Rattle.ioa_rules.specs.Scopes.{context, context_in};
 ghost use Rattle.ioa_rules.specs.Codes.{type_mismatch, tells};
 ghost use Rattle.ioa_rules.specs.Reasons as reasons;
@@ -16,27 +17,30 @@ ghost use Rattle.ioa_rules.specs.Tuples.{are_fields, in_fields_made};
 ghost use Rattle.ioa_rules.specs.Verdicts.{Says, Finds};
 
 use crate::known_types::KnownTypes;
+use crate::loops::Loops;
 use crate::scope::Scope;
 use crate::tuples::{is_field, selected_type, tuple_named};
 use ioa_lex::Refusal;
 use ioa_tree::{Expression, Field, Infix, Name, Position, Variable};
 use ioa_value::{Form, Op, Ty, Types, op_type};
 
-/// The type of an expression that may use these variables, formals and parameters, where it has one.
+/// The type of an expression that may use these variables, formals, parameters and names of loops, where it has one.
 pub fn expression_type(
     types: &Types,
     variables: &[Variable],
     formals: &[Field],
     positions: &[Position],
+    loops: &Loops<'_>,
     expression: &Expression,
 ) -> Option<Ty>
-    ensures { option_map number_of_type result ≡ well_formed.type_of types.now types.now (context_in types.now (map (λ v. v.field) (map variable_of variables.now)) (map field_of formals.now) (map position_of positions.now)) (expr_of expression.now) }
+    ensures { option_map number_of_type result ≡ well_formed.type_of types.now types.now (context_in types.now (loops_of loops.now) (map (λ v. v.field) (map variable_of variables.now)) (map field_of formals.now) (map position_of positions.now)) (expr_of expression.now) }
 {
     let scope = Scope {
         known: KnownTypes::of_all(types),
         variables,
         formals,
         positions,
+        loops: *loops,
     };
     match type_of(&scope, expression) {
         Ok(ty) => Some(ty),

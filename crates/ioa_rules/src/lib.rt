@@ -13,6 +13,7 @@ mod names;
 // Types, and what names stand for.
 mod fields;
 mod known_types;
+mod loops;
 mod scope;
 mod types;
 
@@ -32,4 +33,5 @@ pub use automata::automaton_named;
 pub use declarations::source_fine;
 pub use expressions::expression_type;
 pub use ioa_lex::Refusal;
+pub use loops::{Loop, Loops};
 pub use name_set::NameSet;

@@ -228,6 +228,10 @@ fn statement_counted(before: usize, statement: &Statement) -> Result<usize, Refu
             let with_arms = arms_counted(with_own, arms)?;
             statements_counted(with_arms, others)
         }
+        Statement::For(_, items, body, line) => {
+            let with_items = count_on(before, nodes(items) + 1, *line)?;
+            statements_counted(with_items, body)
+        }
     }
 }
 

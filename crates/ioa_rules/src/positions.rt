@@ -58,7 +58,7 @@ pub(crate) fn parameters_distinct(positions: &[Position]) -> Result<(), Refusal>
 }
 
 /// The name of the first of the parameters that has this name.
-fn parameter_named<'a>(positions: &'a [Position], name: &Name) -> Option<&'a Name>
+pub(crate) fn parameter_named<'a>(positions: &'a [Position], name: &Name) -> Option<&'a Name>
     ensures { is_some result ≡ well_formed.contains (field_names (parameters positions.now)) (name_of name.now) }
 {
     for position in positions {
@@ -91,7 +91,7 @@ pub(crate) fn parameters_apart(
 
 /// Whether a formal, a variable or something global has this name.
 #[tactic(auto, using(crate::proofs::ViewLemmas::views, crate::proofs::NameLemmas::joins))]
-fn is_taken(automaton: &Automaton, name: &Name, globals: &NameSet) -> bool
+pub(crate) fn is_taken(automaton: &Automaton, name: &Name, globals: &NameSet) -> bool
     ensures { result ≡ well_formed.contains (globals.now ++ well_formed.local_names [] [] [] (automaton_of automaton.now)) (name_of name.now) }
 {
     is_global(name, globals)

@@ -15,10 +15,12 @@ ghost use Rattle.ioa_rules.specs.Verdicts.{Says};
 
 use crate::expressions::expect_type;
 use crate::known_types::KnownTypes;
+use crate::loops::Loops;
+use crate::name_set::NameSet;
 use crate::names::{distinct, find_name, same_name};
 use crate::positions::find_parameter;
 use crate::scope::Scope;
-use crate::statements::{condition_fine, statements_fine};
+use crate::statements::{Place, statements_fine};
 use ioa_lex::Refusal;
 use ioa_tree::{Automaton, Choice, Entry, Field, Kind, Name, Position, Proposal, Transition};
 use ioa_value::{Form, Ty};
@@ -93,11 +95,15 @@ fn matches(entry: &Entry, transition: &Transition) -> bool
 }
 
 /// Whether the transitions of each entry are well formed.
-pub(crate) fn transitions_fine(known: &KnownTypes, automaton: &Automaton) -> Result<(), Refusal>
-    ensures { let a = automaton_of automaton.now in Says result (list_all (λ e. list_all (λ r. not (well_formed.matches (whole known.now) (early known.now) [] a e r) || well_formed.transition_fine (whole known.now) (early known.now) [] a e r) a.transitions) a.entries) (reasons.in_transitions (whole known.now) (early known.now) [] a) }
+pub(crate) fn transitions_fine(
+    known: &KnownTypes,
+    automaton: &Automaton,
+    globals: &NameSet,
+) -> Result<(), Refusal>
+    ensures { let a = automaton_of automaton.now in Says result (list_all (λ e. list_all (λ r. not (well_formed.matches (whole known.now) (early known.now) globals.now a e r) || well_formed.transition_fine (whole known.now) (early known.now) globals.now a e r) a.transitions) a.entries) (reasons.in_transitions (whole known.now) (early known.now) globals.now a) }
 {
     for entry in &automaton.entries {
-        transitions_of_entry_fine(known, automaton, entry)?;
+        transitions_of_entry_fine(known, automaton, globals, entry)?;
     }
     Ok(())
 }
@@ -105,13 +111,14 @@ pub(crate) fn transitions_fine(known: &KnownTypes, automaton: &Automaton) -> Res
 fn transitions_of_entry_fine(
     known: &KnownTypes,
     automaton: &Automaton,
+    globals: &NameSet,
     entry: &Entry,
 ) -> Result<(), Refusal>
-    ensures { let a = automaton_of automaton.now in let e = entry_of entry.now in Says result (list_all (λ r. not (well_formed.matches (whole known.now) (early known.now) [] a e r) || well_formed.transition_fine (whole known.now) (early known.now) [] a e r) a.transitions)
-        (reasons.in_any (reasons.in_pair (whole known.now) (early known.now) [] a e) a.transitions) }
+    ensures { let a = automaton_of automaton.now in let e = entry_of entry.now in Says result (list_all (λ r. not (well_formed.matches (whole known.now) (early known.now) globals.now a e r) || well_formed.transition_fine (whole known.now) (early known.now) globals.now a e r) a.transitions)
+        (reasons.in_any (reasons.in_pair (whole known.now) (early known.now) globals.now a e) a.transitions) }
 {
     for transition in &automaton.transitions {
-        pair_fine(known, automaton, entry, transition)?;
+        pair_fine(known, automaton, globals, entry, transition)?;
     }
     Ok(())
 }
@@ -120,29 +127,38 @@ fn transitions_of_entry_fine(
 fn pair_fine(
     known: &KnownTypes,
     automaton: &Automaton,
+    globals: &NameSet,
     entry: &Entry,
     transition: &Transition,
 ) -> Result<(), Refusal>
     ensures { let a = automaton_of automaton.now in let e = entry_of entry.now in let r = transition_of transition.now in
-        Says result (not (well_formed.matches (whole known.now) (early known.now) [] a e r) || well_formed.transition_fine (whole known.now) (early known.now) [] a e r) (reasons.in_pair (whole known.now) (early known.now) [] a e r) }
+        Says result (not (well_formed.matches (whole known.now) (early known.now) globals.now a e r) || well_formed.transition_fine (whole known.now) (early known.now) globals.now a e r) (reasons.in_pair (whole known.now) (early known.now) globals.now a e r) }
 {
     if matches(entry, transition) {
-        transition_fine(known, automaton, entry, transition)
+        transition_fine(known, automaton, globals, entry, transition)
     } else {
         Ok(())
     }
 }
 
-fn transition_fine(
-    known: &KnownTypes,
-    automaton: &Automaton,
-    entry: &Entry,
-    transition: &Transition,
+fn transition_fine<'a>(
+    known: &KnownTypes<'a>,
+    automaton: &'a Automaton,
+    globals: &'a NameSet<'_>,
+    entry: &'a Entry,
+    transition: &'a Transition,
 ) -> Result<(), Refusal>
-    ensures { let a = automaton_of automaton.now in let e = entry_of entry.now in let r = transition_of transition.now in Says result (well_formed.transition_fine (whole known.now) (early known.now) [] a e r) (reasons.in_transition (whole known.now) (early known.now) [] a e r) }
+    ensures { let a = automaton_of automaton.now in let e = entry_of entry.now in let r = transition_of transition.now in Says result (well_formed.transition_fine (whole known.now) (early known.now) globals.now a e r) (reasons.in_transition (whole known.now) (early known.now) globals.now a e r) }
 {
     before_effect_fine(known, automaton, entry, transition)?;
-    statements_fine(known, automaton, entry, &transition.effect)
+    let place = Place {
+        known: *known,
+        automaton,
+        entry,
+        globals,
+        loops: Loops::None,
+    };
+    statements_fine(&place, &transition.effect)
 }
 
 /// Whether an input has neither precondition nor proposals, and those of an output or internal transition are well formed.
@@ -194,11 +210,11 @@ fn pre_fine(
     entry: &Entry,
     transition: &Transition,
 ) -> Result<(), Refusal>
-    ensures { let a = automaton_of automaton.now in let e = entry_of entry.now in let r = transition_of transition.now in Says result (well_formed.pre_fine (whole known.now) (early known.now) [] a e r) (reasons.in_some (reasons.in_condition (whole known.now) (early known.now) [] a e) r.pre) }
+    ensures { let a = automaton_of automaton.now in let e = entry_of entry.now in let r = transition_of transition.now in Says result (well_formed.pre_fine (whole known.now) (early known.now) [] a e r) (reasons.in_some (reasons.in_condition (whole known.now) (early known.now) [] a e []) r.pre) }
 {
     match &transition.pre {
         None => Ok(()),
-        Some(pre) => condition_fine(known, automaton, entry, pre),
+        Some(pre) => expect_type(&Scope::of_entry(known, automaton, entry), pre, Ty::BOOL),
     }
 }
 

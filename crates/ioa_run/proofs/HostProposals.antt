@@ -17,7 +17,8 @@ use Rattle.ioa_value.proofs.SameLemmas.{same_equal, same-refl}
 use Rattle.ioa_code.specs.Machine.{State, End, done, fault}
 use Rattle.ioa_code.specs.Machine as machine
 use Rattle.ioa_code.specs.Outcome.{outcome}
-use Rattle.ioa_code.specs.Valid.{Part, bound}
+use Rattle.ioa_code.specs.Bound.{bound}
+use Rattle.ioa_code.specs.Valid.{Part}
 use Rattle.ioa_code.proofs.Ends.{computed}
 use Rattle.ioa_node.specs.Proposals.{proposed_at, proposing, words_at}
 use Rattle.ioa_node.specs.Runs.{Comes}

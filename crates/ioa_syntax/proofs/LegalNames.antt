@@ -8,7 +8,7 @@ use Rattle.ioa_lex.specs.Tokens as tokens
 use Rattle.ioa_lex.specs.Tokens.{Tok}
 use Rattle.ioa_value.specs.Actions.{Name}
 use Rattle.ioa_value.specs.Names.{IsName}
-use Rattle.ioa_tree.specs.Tree.{Expr, number, truth, named, parens, prefix, binary, empty, make, select, Exprs, no_expr, also, FieldTree, ConstantTree, positive, negative, truth_literal, reference, PositionTree, typed, only, EntryTree, VariableTree, ChoiceTree, exactly, any_below, expr_in, ProposalTree, Stmt, assign, choose, Stmts, stop, seq, Arms, no_arm, arm, TransitionTree, AutomatonTree, CrashTree, InstanceTree, CompositionTree, InvariantTree, FormTree, enumeration, tuple, sequence, TypeTree, DeclarationTree, declared_type, automaton, composition, invariant, SourceTree}
+use Rattle.ioa_tree.specs.Tree.{Expr, number, truth, named, parens, prefix, binary, empty, make, select, Exprs, no_expr, also, FieldTree, ConstantTree, positive, negative, truth_literal, reference, PositionTree, typed, only, EntryTree, VariableTree, ChoiceTree, exactly, any_below, expr_in, ProposalTree, Stmt, assign, choose, each as looped, Stmts, stop, seq, Arms, no_arm, arm, TransitionTree, AutomatonTree, CrashTree, InstanceTree, CompositionTree, InvariantTree, FormTree, enumeration, tuple, sequence, TypeTree, DeclarationTree, declared_type, automaton, composition, invariant, SourceTree}
 use Rattle.ioa_tree.specs.declared.tree.Infix.TheVariants.{Operator}
 use Rattle.ioa_grammar.specs.Operators.{left_of, right_of, operator_word, tightest}
 use Rattle.ioa_grammar.specs.Grammar.{Language, ◌▹◌, word, called, perhaps, optional, optional_list, flagged, each_after, separated, terminated, many, single, enclosed, braced, kind_word, SpellsExpr, SpellsExprs, SpellsOthers, SpellsField, SpellsFields, SpellsConstant, SpellsPosition, SpellsPositions, SpellsEntry, SpellsVariable, SpellsChoice, SpellsProposal, SpellsStmt, SpellsStmts, SpellsMore, SpellsAfter, SpellsArms, SpellsTransition, SpellsAutomaton, SpellsArguments, SpellsCrash, SpellsInstance, SpellsInstances, SpellsHidden, SpellsComposition, SpellsForm, SpellsType, SpellsInvariant, SpellsDeclaration}
@@ -159,6 +159,14 @@ arm_lawful c L M ns ms first second =
 mutual
   stmt_lawful : (s : Stmt) → Lawful (SpellsStmt s) (names_of_stmt s)
   stmt_lawful (assign x e) = assignment_lawful x e
+  stmt_lawful (looped x e ss) =
+      let body = SpellsStmts ss ▹ word terminals.Od in
+      let items = SpellsExpr 0 e ▹ (word terminals.Do ▹ body) in
+      let names = names_of_expr e ++ names_of_stmts ss in
+      after_word terminals.For (called x ▹ (word terminals.In ▹ items)) (x ∷ names)
+      (name_then x (word terminals.In ▹ items) names (after_word terminals.In items names
+      (then_lawful (SpellsExpr 0 e) (word terminals.Do ▹ body) (names_of_expr e) (names_of_stmts ss) (expr_lawful 0 e)
+      (after_word terminals.Do body (names_of_stmts ss) (before_lawful (SpellsStmts ss) (word terminals.Od) (names_of_stmts ss) (stmts_lawful ss))))))
   stmt_lawful (choose no_arm others) = λ ts h s. absurd s
   stmt_lawful (choose (arm c ss more) others) = λ ts h s.
       let rest = SpellsArms more ▹ (SpellsAfter terminals.Else others ▹ word terminals.Fi) in

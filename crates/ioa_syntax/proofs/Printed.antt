@@ -7,7 +7,7 @@ use Rattle.ioa_lex.specs.Tokens.{Tok, terminal}
 use Rattle.ioa_lex.specs.Lexing.{Lexes, is_blank}
 use Rattle.ioa_lex.specs.Spaced.{Spaced, IsToken, text_of}
 use Rattle.ioa_lex.proofs.SpacedLemmas.{spaced_lexes, spaced_append, spaced_one}
-use Rattle.ioa_tree.specs.Tree.{Expr, number, truth, named, parens, prefix, binary, empty, make, select, Exprs, no_expr, also, FieldTree, ConstantTree, positive, negative, truth_literal, reference, PositionTree, typed, only, EntryTree, VariableTree, ChoiceTree, exactly, any_below, ProposalTree, Stmt, assign, choose, Stmts, stop, seq, Arms, no_arm, arm, TransitionTree, AutomatonTree, CrashTree, InstanceTree, CompositionTree, InvariantTree, FormTree, enumeration, tuple, sequence, TypeTree, DeclarationTree, declared_type, automaton, composition, invariant, SourceTree}
+use Rattle.ioa_tree.specs.Tree.{Expr, number, truth, named, parens, prefix, binary, empty, make, select, Exprs, no_expr, also, FieldTree, ConstantTree, positive, negative, truth_literal, reference, PositionTree, typed, only, EntryTree, VariableTree, ChoiceTree, exactly, any_below, ProposalTree, Stmt, assign, choose, each as looped, Stmts, stop, seq, Arms, no_arm, arm, TransitionTree, AutomatonTree, CrashTree, InstanceTree, CompositionTree, InvariantTree, FormTree, enumeration, tuple, sequence, TypeTree, DeclarationTree, declared_type, automaton, composition, invariant, SourceTree}
 use Rattle.ioa_value.specs.declared.operator.Op.{Op}
 use Rattle.ioa_tree.specs.declared.tree.Infix.{Infix}
 use Rattle.ioa_tree.specs.declared.tree.Infix.TheVariants.{Operator}
@@ -237,6 +237,17 @@ arm_reprints c ss L a statements more =
 mutual
   stmt_reprints : (s : Stmt) → Reprints (SpellsStmt s) (text_stmt s)
   stmt_reprints (assign n e) = assignment_reprints n e
+  stmt_reprints (looped x e ss) =
+      let body = SpellsStmts ss ▹ word terminals.Od in
+      let items = SpellsExpr 0 e ▹ (word terminals.Do ▹ body) in
+      let text_body = text_stmts ss ++ text_word line terminals.Od in
+      let text_items = text_expr space e ++ (text_word line terminals.Do ++ text_body) in
+      then_reprints (word terminals.For) (called x ▹ (word terminals.In ▹ items)) (text_word space terminals.For) (text_name space x ++ (text_word space terminals.In ++ text_items)) (word_reprints terminals.For space space_blank)
+      (then_reprints (called x) (word terminals.In ▹ items) (text_name space x) (text_word space terminals.In ++ text_items) (name_reprints x space space_blank)
+      (then_reprints (word terminals.In) items (text_word space terminals.In) text_items (word_reprints terminals.In space space_blank)
+      (then_reprints (SpellsExpr 0 e) (word terminals.Do ▹ body) (text_expr space e) (text_word line terminals.Do ++ text_body) (expr_reprints e 0 space space_blank)
+      (then_reprints (word terminals.Do) body (text_word line terminals.Do) text_body (word_reprints terminals.Do line line_blank)
+      (then_reprints (SpellsStmts ss) (word terminals.Od) (text_stmts ss) (text_word line terminals.Od) (stmts_reprint ss) (word_reprints terminals.Od line line_blank))))))
   stmt_reprints (choose no_arm others) = λ ts s are. absurd s
   stmt_reprints (choose (arm c ss more) others) =
       let ending = then_reprints (SpellsAfter terminals.Else others) (word terminals.Fi) (text_after (text_word line terminals.Else) others) (text_word line terminals.Fi) (after_reprints terminals.Else line line_blank others) (word_reprints terminals.Fi line line_blank) in

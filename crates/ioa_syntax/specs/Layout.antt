@@ -7,7 +7,7 @@ use Rattle.ioa_value.specs.declared.terminal.Terminal.TheVariants as terminals
 use Rattle.ioa_value.specs.Spelling.{spelling_of}
 use Rattle.ioa_value.specs.Actions.{Name}
 use Rattle.ioa_tree.specs.Tree as tree
-use Rattle.ioa_tree.specs.Tree.{Expr, truth, named, parens, prefix, binary, make, select, Exprs, no_expr, also, FieldTree, ConstantTree, positive, negative, truth_literal, reference, PositionTree, typed, only, EntryTree, VariableTree, ChoiceTree, exactly, any_below, ProposalTree, Stmt, assign, choose, Stmts, stop, seq, Arms, no_arm, arm, TransitionTree, AutomatonTree, CrashTree, InstanceTree, CompositionTree, InvariantTree, FormTree, enumeration, tuple, sequence, TypeTree, DeclarationTree, declared_type, automaton, composition, invariant, SourceTree}
+use Rattle.ioa_tree.specs.Tree.{Expr, truth, named, parens, prefix, binary, make, select, Exprs, no_expr, also, FieldTree, ConstantTree, positive, negative, truth_literal, reference, PositionTree, typed, only, EntryTree, VariableTree, ChoiceTree, exactly, any_below, ProposalTree, Stmt, assign, choose, each, Stmts, stop, seq, Arms, no_arm, arm, TransitionTree, AutomatonTree, CrashTree, InstanceTree, CompositionTree, InvariantTree, FormTree, enumeration, tuple, sequence, TypeTree, DeclarationTree, declared_type, automaton, composition, invariant, SourceTree}
 use Rattle.ioa_tree.specs.declared.tree.Infix.TheVariants.{Operator}
 use Rattle.ioa_grammar.specs.Operators.{operator_word, stands_around}
 use Rattle.ioa_grammar.specs.Grammar.{kind_word}
@@ -141,6 +141,9 @@ abbrev mutual
   text_stmt (choose (arm c ss more) others) =
       text_word space terminals.If ++ (text_expr space c ++ (text_word line terminals.Then
       ++ (text_stmts ss ++ (text_arms more ++ (text_after (text_word line terminals.Else) others ++ text_word line terminals.Fi)))))
+  text_stmt (each x e ss) =
+      text_word space terminals.For ++ (text_name space x ++ (text_word space terminals.In ++ (text_expr space e
+      ++ (text_word line terminals.Do ++ (text_stmts ss ++ text_word line terminals.Od)))))
 
   pub text_stmts : Stmts → List ℕ
   text_stmts stop = []

@@ -4,13 +4,13 @@ use Rattle.std.specs.List.{list_all}
 use Rattle.std.proofs.lemmas.Bool.{and_parts}
 use Rattle.std.proofs.lemmas.List.Folds.{list_all-append}
 use Rattle.ioa_value.specs.Actions.{Name}
-use Rattle.ioa_value.specs.Plain.{Val, truth as truth_value, num, name, tuple, items}
+use Rattle.ioa_value.specs.Plain.{Val, Vals, none as no_item, more as one_item, truth as truth_value, num, name, tuple, items}
 use Rattle.ioa_value.specs.Table.{Table}
 use Rattle.ioa_value.specs.Operators.{Answer, gives, faults, nothing, operate}
-use Rattle.ioa_tree.specs.Tree.{Expr, number, truth, named, parens, prefix, binary, empty, make, select, Exprs, no_expr, also, Stmt, assign, choose, Stmts, stop, seq, Arms, no_arm, arm}
+use Rattle.ioa_tree.specs.Tree.{Expr, number, truth, named, parens, prefix, binary, empty, make, select, Exprs, no_expr, also, Stmt, assign, choose, each, Stmts, stop, seq, Arms, no_arm, arm}
 use Rattle.ioa_tree.specs.Names.{names_of_expr, names_of_exprs, names_of_stmt, names_of_stmts, names_of_arms}
 use Rattle.ioa_tree.specs.Types.{constant}
-use Rattle.ioa_tree.specs.Meaning.{Env, or_else, then_value, value_of, combined, made, selected, val, then_all, Outcome, becomes, breaks, nowhere, assigned, then_do, chosen, does, picks, eff, with_name}
+use Rattle.ioa_tree.specs.Meaning.{Env, or_else, then_value, value_of, combined, made, selected, val, then_all, Outcome, becomes, breaks, nowhere, assigned, then_do, chosen, turns, looped, does, picks, eff, with_name, without}
 
 -- names that stand in one list and then another
 pub all_both : (p : Name → Bool) (xs ys : List Name) → list_all p (xs ++ ys) ≡ true → (list_all p xs ≡ true) × (list_all p ys ≡ true)
@@ -59,9 +59,10 @@ OutcomesLike R nowhere (becomes n) = ⊥
 OutcomesLike R nowhere (breaks g) = ⊥
 OutcomesLike R nowhere nowhere = Unit {0}
 
--- what assignments to names that pass the test keep, statements keep
+-- what assignments to names that pass the test keep, and names that are given back, statements keep
 module _ (types : Table) (p : Name → Bool) (R : Env → Env → Type 0) (agree : (m n : Env) → R m n → (x : Name) → p x ≡ true → m x ≡ n x)
-    (keep : (m n : Env) (x : Name) (v : Val) → p x ≡ true → R m n → R (with_name m x v) (with_name n x v)) where
+    (keep : (m n : Env) (x : Name) (v : Val) → p x ≡ true → R m n → R (with_name m x v) (with_name n x v))
+    (back : (m n u w : Env) (x : Name) → p x ≡ true → R m n → R u w → R (without x m u) (without x n w)) where
   then_like : (o q : Outcome) (go to : Env → Outcome) → OutcomesLike R o q → ((m n : Env) → R m n → OutcomesLike R (go m) (to n))
       → OutcomesLike R (then_do o go) (then_do q to)
   then_like (becomes m) (becomes n) go to h k = k m n h
@@ -97,6 +98,28 @@ module _ (types : Table) (p : Name → Bool) (R : Env → Env → Type 0) (agree
       go (faults f) = refl
       go nothing = tt
 
+  -- turns of what keeps it
+  turns_like : (body : Env → Outcome) (x : Name) (vs : Vals) (m n : Env) → ((u w : Env) → R u w → OutcomesLike R (body u) (body w)) → p x ≡ true → R m n
+      → OutcomesLike R (turns body x vs m) (turns body x vs n)
+  turns_like body x no_item m n b h r = r
+  turns_like body x (one_item v vs) m n b h r =
+      then_like (body (with_name m x v)) (body (with_name n x v)) (λ next. turns body x vs (without x m next)) (λ next. turns body x vs (without x n next))
+      (b (with_name m x v) (with_name n x v) (keep m n x v h r))
+      (λ u w q. turns_like body x vs (without x m u) (without x n w) b h (back m n u w x h r q))
+
+  looped_like : (body : Env → Outcome) (x : Name) (m n : Env) (a b : Answer) → a ≡ b → ((u w : Env) → R u w → OutcomesLike R (body u) (body w)) → p x ≡ true → R m n
+      → OutcomesLike R (looped body x m a) (looped body x n b)
+  looped_like body x m n a b e k h r = rw e (go b)
+    where
+      go : (c : Answer) → OutcomesLike R (looped body x m c) (looped body x n c)
+      go (gives (items t vs)) = turns_like body x vs m n k h r
+      go (gives (truth_value t)) = tt
+      go (gives (num i)) = tt
+      go (gives (name t i)) = tt
+      go (gives (tuple t vs)) = tt
+      go (faults f) = refl
+      go nothing = tt
+
   mutual
     does_like : (s : Stmt) (m n : Env) → list_all p (names_of_stmt s) ≡ true → R m n → OutcomesLike R (does types s m) (does types s n)
     does_like (assign x e) m n h r =
@@ -105,6 +128,11 @@ module _ (types : Table) (p : Name → Bool) (R : Env → Env → Type 0) (agree
     does_like (choose arms others) m n h r =
         let k = all_both p (names_of_arms arms) (names_of_stmts others) h in
         picks_like arms m n (eff types others m) (eff types others n) k.0 r (eff_like others m n k.1 r)
+    does_like (each x e ss) m n h r =
+        let k = and_parts (p x) (list_all p (names_of_expr e ++ names_of_stmts ss)) h in
+        let j = all_both p (names_of_expr e) (names_of_stmts ss) k.1 in
+        looped_like (eff types ss) x m n (val types e m) (val types e n) (val_same types p m n (agree m n r) e j.0)
+        (λ u w q. eff_like ss u w j.1 q) k.0 r
 
     picks_like : (arms : Arms) (m n : Env) (o q : Outcome) → list_all p (names_of_arms arms) ≡ true → R m n → OutcomesLike R o q
         → OutcomesLike R (picks types arms m o) (picks types arms n q)

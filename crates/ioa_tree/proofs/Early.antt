@@ -1,5 +1,5 @@
 -- What is fine over the types that are declared before is fine over all types.
-use Rattle.std.proofs.Common.{◌≡◌, inl, inr, ℕ, ◌+◌, ◌==◌, Bool, true, false, cond, not, ◌&&◌, ◌||◌, ◌++◌, List, [], ◌∷◌, map, Option, Some, None, is_some, option_and_then, refl, sym, ap, ◌∙◌}
+use Rattle.std.proofs.Common.{◌≡◌, inl, inr, ℕ, ◌+◌, ◌==◌, Bool, true, false, cond, not, ◌&&◌, ◌||◌, nat_lt, ◌++◌, length, List, [], ◌∷◌, map, Option, Some, None, is_some, option_and_then, refl, sym, ap, ◌∙◌}
 use Rattle.std.specs.Prelude.{slice_get}
 use Rattle.std.specs.List.{list_any, list_all}
 use Rattle.std.specs.Option.{option_map, option_map_or, option_or}
@@ -12,10 +12,11 @@ use Rattle.ioa_value.specs.declared.operator.Op.TheVariants.{Make}
 use Rattle.ioa_value.specs.Operators.{op_type}
 use Rattle.ioa_value.specs.Table.{Table, Declaration, Shape, names_in, shape_at, item_of, item_type, place_from, type_named, constant_from, constant_named}
 use Rattle.ioa_value.proofs.ItemLemmas.{get_append}
-use Rattle.ioa_tree.specs.Tree.{Expr, number, truth, named, parens, prefix, binary, empty, make, select, Exprs, no_expr, also, FieldTree, ConstantTree, positive, negative, truth_literal, reference, PositionTree, typed, only, EntryTree, VariableTree, ChoiceTree, exactly, any_below, ProposalTree, Stmt, assign, choose, Stmts, stop, seq, Arms, no_arm, arm, TransitionTree, AutomatonTree, InstanceTree, CompositionTree, SourceTree}
+use Rattle.ioa_tree.specs.Tree.{Expr, number, truth, named, parens, prefix, binary, empty, make, select, Exprs, no_expr, also, FieldTree, ConstantTree, positive, negative, truth_literal, reference, PositionTree, typed, only, EntryTree, VariableTree, ChoiceTree, exactly, any_below, ProposalTree, Stmt, assign, choose, each, Stmts, stop, seq, Arms, no_arm, arm, TransitionTree, AutomatonTree, InstanceTree, CompositionTree, SourceTree}
 use Rattle.ioa_tree.specs.Meaning.{or_else}
+use Rattle.ioa_tree.specs.declared.tree.TheConstants.{NESTED_LOOPS}
 use Rattle.ioa_tree.specs.Types.{sequence_named, constant_type}
-use Rattle.ioa_tree.specs.WellFormed.{Context, type_in, type_of, types_of_all, one_type, both_types, infix_type, made_type, selected_type, is_some_of, same_type, has_ty, contains, distinct, apart, is_type, typed_field, context_of, position_fields, constant_fine, position_fine, parameter_names, variable_fields, is_input, is_numbered, is_tried, formals, held, scope, local_names, fields_fine, start_fine, entry_fine, matches, one_to_one, pre_fine, choice_fine, proposal_fine, proposals_fine, all_proposed, stmt_fine, stmts_fine, arms_fine, input_fine, transition_fine, automaton_fine, is_automaton_of, instance_fine, composition_fine}
+use Rattle.ioa_tree.specs.WellFormed.{Context, type_in, type_of, types_of_all, one_type, both_types, infix_type, made_type, selected_type, is_some_of, same_type, has_ty, contains, distinct, apart, is_type, typed_field, context_of, position_fields, constant_fine, position_fine, parameter_names, variable_fields, is_input, is_numbered, is_tried, formals, held, scope, scope_in, taken, item_in, local_names, fields_fine, start_fine, entry_fine, matches, one_to_one, pre_fine, choice_fine, proposal_fine, proposals_fine, all_proposed, stmt_fine, stmts_fine, arms_fine, input_fine, transition_fine, automaton_fine, is_automaton_of, instance_fine, composition_fine}
 use Rattle.ioa_tree.proofs.ValTyped.{types_of_both, types_of_row, type_of_one}
 use Rattle.ioa_tree.proofs.EffectTyped.{some_type}
 use Rattle.ioa_tree.proofs.FineParts.{FineParts, fine_parts, EntryParts, entry_parts}
@@ -269,28 +270,56 @@ module _ (types early : Table) (begins : Begins early types) where
       placed_stays c d same places there x v h =
           ap (λ k. placed types d k x v) there ∙ some_implies _ (λ ty. has_ty types types d v ty) false (type_in (context_of early places) x) (has_ty_there c d same v) h
 
+      scope_in_stays : (loops : Context) → scope_in types types globals a e loops ≡ scope_in types early globals a e loops
+      scope_in_stays loops = ap (λ c. loops ++ c) scope_stays
+
+      condition_in_stays : (loops : Context) (c : Expr) → Implies (has_ty types early (scope_in types early globals a e loops) c 0) (has_ty types types (scope_in types types globals a e loops) c 0)
+      condition_in_stays loops c = has_ty_there (scope_in types early globals a e loops) (scope_in types types globals a e loops) (scope_in_stays loops) c 0
+
+      -- what a loop goes over is of the same items
+      items_stay : (loops : Context) (v : Expr) (item : ℕ) → item_in types early globals a e loops v ≡ Some item → item_in types types globals a e loops v ≡ Some item
+      items_stay loops v item h =
+          option_and_then_some (item_type types) (type_of types early (scope_in types early globals a e loops) v) item h
+          (λ ty known is. ap (λ c. option_and_then (item_type types) (type_of types types c v)) (scope_in_stays loops)
+          ∙ ap (option_and_then (item_type types)) (expr_stays (scope_in types early globals a e loops) v ty known) ∙ is)
+
+      -- what is done for each item is fine
+      turns_stay : (f g : ℕ → Bool) (o q : Option ℕ) → ((item : ℕ) → o ≡ Some item → q ≡ Some item) → ((item : ℕ) → Implies (f item) (g item))
+          → Implies (option_map_or f o false) (option_map_or g q false)
+      turns_stay f g (Some item) q there k h = ap (λ o. option_map_or g o false) (there item refl) ∙ k item h
+      turns_stay f g None q there k h = absurd (cc)
+
       mutual
-        stmt_stays : (s : Stmt) → Implies (stmt_fine types early globals a e s) (stmt_fine types types globals a e s)
-        stmt_stays (assign x v) h =
-            placed_stays (scope types early globals a e) (scope types types globals a e) scope_stays (variable_fields a) variables_stay x v h
-        stmt_stays (choose arms others) h =
-            let p = and_parts (arms_fine types early globals a e arms) (stmts_fine types early globals a e others) h in
-            and_from (arms_fine types types globals a e arms) (stmts_fine types types globals a e others) (arms_stay arms p.0) (stmts_stay others p.1)
+        stmt_stays : (loops : Context) (s : Stmt) → Implies (stmt_fine types early globals a e loops s) (stmt_fine types types globals a e loops s)
+        stmt_stays loops (assign x v) h =
+            placed_stays (scope_in types early globals a e loops) (scope_in types types globals a e loops) (scope_in_stays loops) (variable_fields a) variables_stay x v h
+        stmt_stays loops (choose arms others) h =
+            let p = and_parts (arms_fine types early globals a e loops arms) (stmts_fine types early globals a e loops others) h in
+            and_from (arms_fine types types globals a e loops arms) (stmts_fine types types globals a e loops others) (arms_stay loops arms p.0) (stmts_stay loops others p.1)
+        stmt_stays loops (each x v ss) h =
+            let within = nat_lt (length loops) NESTED_LOOPS in
+            let new = not (contains (taken types types globals a e loops) x) in
+            let done : Table → Bool = λ t. option_map_or (λ item. stmts_fine types t globals a e ((x, item) ∷ loops) ss) (item_in types t globals a e loops v) false in
+            let p = and_parts new (within && done early) h in
+            let q = and_parts within (done early) p.1 in
+            and_from new (within && done types) p.0 (and_from within (done types) q.0
+            (turns_stay (λ item. stmts_fine types early globals a e ((x, item) ∷ loops) ss) (λ item. stmts_fine types types globals a e ((x, item) ∷ loops) ss)
+            (item_in types early globals a e loops v) (item_in types types globals a e loops v) (items_stay loops v) (λ item k. stmts_stay ((x, item) ∷ loops) ss k) q.1))
 
-        stmts_stay : (ss : Stmts) → Implies (stmts_fine types early globals a e ss) (stmts_fine types types globals a e ss)
-        stmts_stay stop h = h
-        stmts_stay (seq s ss) h =
-            let p = and_parts (stmt_fine types early globals a e s) (stmts_fine types early globals a e ss) h in
-            and_from (stmt_fine types types globals a e s) (stmts_fine types types globals a e ss) (stmt_stays s p.0) (stmts_stay ss p.1)
+        stmts_stay : (loops : Context) (ss : Stmts) → Implies (stmts_fine types early globals a e loops ss) (stmts_fine types types globals a e loops ss)
+        stmts_stay loops stop h = h
+        stmts_stay loops (seq s ss) h =
+            let p = and_parts (stmt_fine types early globals a e loops s) (stmts_fine types early globals a e loops ss) h in
+            and_from (stmt_fine types types globals a e loops s) (stmts_fine types types globals a e loops ss) (stmt_stays loops s p.0) (stmts_stay loops ss p.1)
 
-        arms_stay : (arms : Arms) → Implies (arms_fine types early globals a e arms) (arms_fine types types globals a e arms)
-        arms_stay no_arm h = h
-        arms_stay (arm c ss more) h =
-            let inner = stmts_fine types types globals a e ss && arms_fine types types globals a e more in
-            let p = and_parts (has_ty types early (scope types early globals a e) c 0) _ h in
-            let q = and_parts (stmts_fine types early globals a e ss) (arms_fine types early globals a e more) p.1 in
-            and_from (has_ty types types (scope types types globals a e) c 0) inner (condition_stays c p.0)
-            (and_from (stmts_fine types types globals a e ss) (arms_fine types types globals a e more) (stmts_stay ss q.0) (arms_stay more q.1))
+        arms_stay : (loops : Context) (arms : Arms) → Implies (arms_fine types early globals a e loops arms) (arms_fine types types globals a e loops arms)
+        arms_stay loops no_arm h = h
+        arms_stay loops (arm c ss more) h =
+            let inner = stmts_fine types types globals a e loops ss && arms_fine types types globals a e loops more in
+            let p = and_parts (has_ty types early (scope_in types early globals a e loops) c 0) _ h in
+            let q = and_parts (stmts_fine types early globals a e loops ss) (arms_fine types early globals a e loops more) p.1 in
+            and_from (has_ty types types (scope_in types types globals a e loops) c 0) inner (condition_in_stays loops c p.0)
+            (and_from (stmts_fine types types globals a e loops ss) (arms_fine types types globals a e loops more) (stmts_stay loops ss q.0) (arms_stay loops more q.1))
 
       choice_stays : (c : ChoiceTree) (ty : ℕ) → Implies (choice_fine types early globals a c ty) (choice_fine types types globals a c ty)
       choice_stays (exactly v) ty = has_ty_there (held types early globals a) (held types types globals a) held_stays v ty
@@ -331,9 +360,9 @@ module _ (types early : Table) (begins : Begins early types) where
       transition_stays : (r : TransitionTree) → Implies (transition_fine types early globals a e r) (transition_fine types types globals a e r)
       transition_stays r =
           let input = input_fine types types globals a r in
-          and_implies (stmts_fine types early globals a e r.effect) (cond (is_input r.kind) input (local early r))
-          (stmts_fine types types globals a e r.effect) (cond (is_input r.kind) input (local types r))
-          (stmts_stay r.effect) (cond_implies (is_input r.kind) input (local early r) input (local types r) (λ h. h) (local_stays r))
+          and_implies (stmts_fine types early globals a e [] r.effect) (cond (is_input r.kind) input (local early r))
+          (stmts_fine types types globals a e [] r.effect) (cond (is_input r.kind) input (local types r))
+          (stmts_stay [] r.effect) (cond_implies (is_input r.kind) input (local early r) input (local types r) (λ h. h) (local_stays r))
 
     -- a transition is fine, if it is the entry's
     abbrev paired : Table → EntryTree → TransitionTree → Bool

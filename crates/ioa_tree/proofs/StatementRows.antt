@@ -1,12 +1,14 @@
 -- Statements and arms, as lists and as trees of their own.
 use Rattle.std.proofs.Common.{◌≡◌, ℕ, List, [], ◌∷◌, map, refl, sym, ap, ◌∙◌, rules, Vec, Global}
 use Rattle.ioa_tree.specs.declared.tree.Statement.{Statement, Row_of-Statement, end_of-Statement, more_of-Statement, items-the_row-Statement}
-use Rattle.ioa_tree.specs.declared.tree.Statement.TheVariants.{If}
+use Rattle.ioa_tree.specs.declared.tree.Statement.TheVariants.{If, For}
 use Rattle.ioa_tree.specs.declared.tree.Statement.TheViews.{the_lemmas}
 use Rattle.ioa_tree.specs.declared.tree.Statement.TheBlock.{Row_of-Arm, end_of-Arm, more_of-Arm, items-the_row-Arm, shown-the_row-Statement-0}
+use Rattle.ioa_tree.specs.declared.tree.Name.{Name}
+use Rattle.ioa_tree.specs.declared.tree.Expression.{Expression}
 use Rattle.ioa_tree.specs.declared.tree.Arm.{Arm}
-use Rattle.ioa_tree.specs.Tree.{Expr, Stmt, Stmts, stop, seq, choose, Arms, no_arm, arm}
-use Rattle.ioa_tree.specs.View.{expr_of, stmt_of, stmts_of, arm_of, arms_of, row_stmts, row_arms}
+use Rattle.ioa_tree.specs.Tree.{Expr, Stmt, Stmts, stop, seq, choose, each, Arms, no_arm, arm}
+use Rattle.ioa_tree.specs.View.{name_of, expr_of, stmt_of, stmts_of, arm_of, arms_of, row_stmts, row_arms}
 use Rattle.ioa_tree.specs.Rows.{sequence, choices}
 
 -- ---- rows inside a statement
@@ -33,6 +35,13 @@ pub chosen_arms : (s u : Statement) (arms those : Vec Arm Global) (others rest :
 chosen_arms s u arms those others rest l k this that same =
     let e : choose (arms_of arms.items) (stmts_of others.items) ≡ choose (arms_of those.items) (stmts_of rest.items) = sym (stmt_chosen s arms others l this) ∙ same ∙ stmt_chosen u those rest k that in
     cc
+
+pub stmt_each : (x : Name) (e : Expression) (body : Vec Statement Global) (line : ℕ) → stmt_of (For x e body line) ≡ each (name_of x) (expr_of e) (stmts_of body.items)
+stmt_each x e body line = search (rules, the_lemmas, row_stmts-items)
+
+pub stmt_looped : (s : Statement) (x : Name) (e : Expression) (body : Vec Statement Global) (line : ℕ) → s ≡ For x e body line
+    → stmt_of s ≡ each (name_of x) (expr_of e) (stmts_of body.items)
+stmt_looped s x e body line is = ap stmt_of is ∙ stmt_each x e body line
 
 -- ---- lists
 

@@ -1,5 +1,5 @@
 -- Well typed expressions and statements have a meaning: a value or a state of the right types, or a fault.
-use Rattle.std.specs.Prelude.{◌≡◌, ℕ, List, All, Option, Some, None, IsTrue}
+use Rattle.std.specs.Prelude.{◌≡◌, ℕ, List, [], All, Option, Some, None, IsTrue}
 use Rattle.ioa_value.specs.Actions.{Name}
 use Rattle.ioa_value.specs.Operators.{IsTypedAnswer}
 use Rattle.ioa_value.specs.Plain.{Val}
@@ -37,7 +37,7 @@ ExpressionsAnswer =
 abbrev pub EffectsAnswer : Type 0
 EffectsAnswer =
     (types : Table) (globals : List Name) (a : AutomatonTree) (e : EntryTree) (ss : Stmts) (env : Env) → AreTypes types
-    → IsTrue (stmts_fine types types globals a e ss)
+    → IsTrue (stmts_fine types types globals a e [] ss)
     → Suits types (scope types types globals a e) env → IsTypedOutcome types (scope types types globals a e) (eff types ss env)
 
 -- the variable starts with a value of its type, or a fault

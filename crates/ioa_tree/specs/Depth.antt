@@ -1,7 +1,7 @@
--- How deep trees are: parentheses, operators, tuples and fields are one deeper than the deepest part, and so is a choice than the deepest
--- statement in it.
+-- How deep trees are: parentheses, operators, tuples and fields are one deeper than the deepest part, and so is a choice or a loop than the
+-- deepest statement in it.
 use Rattle.std.specs.Prelude.{ℕ, ◌+◌, max, List, [], ◌∷◌, Option, Some, None}
-use Rattle.ioa_tree.specs.Tree.{Expr, number, truth, named, parens, prefix, binary, empty, make, select, Exprs, no_expr, also, VariableTree, expr_in, ProposalTree, Stmt, assign, choose, Stmts, stop, seq, Arms, no_arm, arm, TransitionTree, AutomatonTree, InstanceTree, CompositionTree, DeclarationTree, declared_type, automaton, composition, invariant, SourceTree}
+use Rattle.ioa_tree.specs.Tree.{Expr, number, truth, named, parens, prefix, binary, empty, make, select, Exprs, no_expr, also, VariableTree, expr_in, ProposalTree, Stmt, assign, choose, each, Stmts, stop, seq, Arms, no_arm, arm, TransitionTree, AutomatonTree, InstanceTree, CompositionTree, DeclarationTree, declared_type, automaton, composition, invariant, SourceTree}
 
 abbrev mutual
   pub depth_of : Expr → ℕ
@@ -40,6 +40,7 @@ abbrev mutual
   pub deep_stmt : Stmt → ℕ
   deep_stmt (assign n e) = depth_of e
   deep_stmt (choose arms others) = max (deep_arms arms) (deep_stmts others)
+  deep_stmt (each x e ss) = max (depth_of e) (deep_stmts ss)
 
   pub deep_stmts : Stmts → ℕ
   deep_stmts stop = 0
@@ -49,11 +50,12 @@ abbrev mutual
   deep_arms no_arm = 0
   deep_arms (arm c ss more) = max (depth_of c) (max (deep_stmts ss) (deep_arms more))
 
--- how deep statements are themselves: an assignment is one deep whatever its expression, and conditions do not count
+-- how deep statements are themselves: an assignment is one deep whatever its expression, and neither conditions nor what a loop goes over count
 abbrev mutual
   pub stmt_depth : Stmt → ℕ
   stmt_depth (assign n e) = 1
   stmt_depth (choose arms others) = max (arms_depth arms) (stmts_depth others) + 1
+  stmt_depth (each x e ss) = stmts_depth ss + 1
 
   pub stmts_depth : Stmts → ℕ
   stmts_depth stop = 0

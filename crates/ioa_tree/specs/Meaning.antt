@@ -5,14 +5,14 @@ use Rattle.std.specs.Option.{option_map_or}
 use Rattle.std.specs.Str.{bytes_eq}
 use Rattle.ioa_arithmetic.specs.declared.arithmetic.Fault.{Fault}
 use Rattle.ioa_value.specs.Actions.{Name}
-use Rattle.ioa_value.specs.Plain.{Val, truth as truth_value, num, name, tuple, items}
+use Rattle.ioa_value.specs.Plain.{Val, Vals, none as no_item, more as one_item, truth as truth_value, num, name, tuple, items}
 use Rattle.ioa_value.specs.Table.{Table, type_named, field_place}
 use Rattle.ioa_value.specs.Typing.{own}
 use Rattle.ioa_value.specs.declared.operator.Op.TheVariants.{Make, Field}
 use Rattle.ioa_value.specs.Operators.{Answer, gives, faults, nothing, operate}
 use Rattle.ioa_tree.specs.declared.tree.Infix.{Infix}
 use Rattle.ioa_tree.specs.declared.tree.Infix.TheVariants.{Operator, And, Or, Implies}
-use Rattle.ioa_tree.specs.Tree.{Expr, number, truth, named, parens, prefix, binary, empty, make, select, Exprs, no_expr, also, Stmt, assign, choose, Stmts, stop, seq, Arms, no_arm, arm}
+use Rattle.ioa_tree.specs.Tree.{Expr, number, truth, named, parens, prefix, binary, empty, make, select, Exprs, no_expr, also, Stmt, assign, choose, each, Stmts, stop, seq, Arms, no_arm, arm}
 use Rattle.ioa_tree.specs.Types.{constant, empty_of}
 
 -- what each name stands for, but for those of enumerations
@@ -126,10 +126,30 @@ chosen (gives (items ty vs)) this other = nowhere
 chosen (faults f) this other = breaks f
 chosen nothing this other = nowhere
 
+-- the second environment, but for one name, which stands for what it stood for in the first
+abbrev pub without : Name → Env → Env → Env
+without x env next y = if bytes_eq x y then env y else next y
+
+-- a body once for each value in order, with the name for the value, on what the turn before left: the name is gone after each turn
+abbrev pub turns : (Env → Outcome) → Name → Vals → Env → Outcome
+turns body x no_item env = becomes env
+turns body x (one_item v vs) env = then_do (body (with_name env x v)) (λ next. turns body x vs (without x env next))
+
+-- a body once for each item of a sequence, as it is before the first turn; the sequence's fault is the effect's
+abbrev pub looped : (Env → Outcome) → Name → Env → Answer → Outcome
+looped body x env (gives (items ty vs)) = turns body x vs env
+looped body x env (gives (truth_value b)) = nowhere
+looped body x env (gives (num z)) = nowhere
+looped body x env (gives (name ty n)) = nowhere
+looped body x env (gives (tuple ty vs)) = nowhere
+looped body x env (faults f) = breaks f
+looped body x env nothing = nowhere
+
 abbrev mutual
   pub does : Table → Stmt → Env → Outcome
   does types (assign x e) env = assigned x env (val types e env) (env x)
   does types (choose arms others) env = picks types arms env (eff types others env)
+  does types (each x e ss) env = looped (eff types ss) x env (val types e env)
 
   -- what the first arm with a true condition does, and otherwise the given
   pub picks : Table → Arms → Env → Outcome → Outcome

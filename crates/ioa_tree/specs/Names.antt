@@ -3,7 +3,7 @@ use Rattle.std.specs.Prelude.{List, [], ◌∷◌, ◌++◌, Option, Some, None,
 use Rattle.std.specs.List.{flat_map}
 use Rattle.ioa_value.specs.Actions.{Name}
 use Rattle.ioa_value.specs.Names.{IsName}
-use Rattle.ioa_tree.specs.Tree.{Expr, number, truth, named, parens, prefix, binary, empty, make, select, Exprs, no_expr, also, FieldTree, ConstantTree, positive, negative, truth_literal, reference, PositionTree, typed, only, EntryTree, VariableTree, expr_in, ProposalTree, Stmt, assign, choose, Stmts, stop, seq, Arms, no_arm, arm, TransitionTree, AutomatonTree, CrashTree, InstanceTree, CompositionTree, InvariantTree, FormTree, enumeration, tuple, sequence, TypeTree, DeclarationTree, declared_type, automaton, composition, invariant, SourceTree}
+use Rattle.ioa_tree.specs.Tree.{Expr, number, truth, named, parens, prefix, binary, empty, make, select, Exprs, no_expr, also, FieldTree, ConstantTree, positive, negative, truth_literal, reference, PositionTree, typed, only, EntryTree, VariableTree, expr_in, ProposalTree, Stmt, assign, choose, each, Stmts, stop, seq, Arms, no_arm, arm, TransitionTree, AutomatonTree, CrashTree, InstanceTree, CompositionTree, InvariantTree, FormTree, enumeration, tuple, sequence, TypeTree, DeclarationTree, declared_type, automaton, composition, invariant, SourceTree}
 
 abbrev mutual
   pub names_of_expr : Expr → List Name
@@ -51,6 +51,7 @@ abbrev mutual
   pub names_of_stmt : Stmt → List Name
   names_of_stmt (assign x e) = x ∷ names_of_expr e
   names_of_stmt (choose arms others) = names_of_arms arms ++ names_of_stmts others
+  names_of_stmt (each x e ss) = x ∷ (names_of_expr e ++ names_of_stmts ss)
 
   pub names_of_stmts : Stmts → List Name
   names_of_stmts stop = []

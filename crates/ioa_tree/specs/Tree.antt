@@ -66,11 +66,13 @@ pub record ProposalTree : Type 0 where
   pub name : Name
   pub choice : ChoiceTree
 
--- statements in sequence: each assigns a whole variable, or chooses by conditions, with statements for where none is true
+-- statements in sequence: each assigns a whole variable, chooses by conditions, with statements for where none is true, or does statements
+-- once for each item of a sequence, with a name for the item
 mutual
   pub data Stmt : Type 0 where
     assign : Name → Expr → Stmt
     choose : Arms → Stmts → Stmt
+    each : Name → Expr → Stmts → Stmt
 
   pub data Stmts : Type 0 where
     stop : Stmts

@@ -17,7 +17,7 @@ use Rattle.ioa_tree.specs.declared.tree.Choice.{Choice}
 use Rattle.ioa_tree.specs.declared.tree.Choice.TheVariants as choices
 use Rattle.ioa_tree.specs.declared.tree.Proposal.{Proposal}
 use Rattle.ioa_tree.specs.declared.tree.Statement.{Statement, Row_of-Statement, end_of-Statement, more_of-Statement}
-use Rattle.ioa_tree.specs.declared.tree.Statement.TheVariants.{Assign, If'}
+use Rattle.ioa_tree.specs.declared.tree.Statement.TheVariants.{Assign, If', For'}
 use Rattle.ioa_tree.specs.declared.tree.Statement.TheBlock.{Row_of-Arm, end_of-Arm, more_of-Arm}
 use Rattle.ioa_tree.specs.declared.tree.Arm.{Arm}
 use Rattle.ioa_tree.specs.declared.tree.Transition.{Transition}
@@ -31,7 +31,7 @@ use Rattle.ioa_tree.specs.declared.tree.TypeForm.TheVariants as forms
 use Rattle.ioa_tree.specs.declared.tree.TypeDeclaration.{TypeDeclaration}
 use Rattle.ioa_tree.specs.declared.tree.Declaration.{Declaration}
 use Rattle.ioa_tree.specs.declared.tree.Declaration.TheVariants as declarations
-use Rattle.ioa_tree.specs.Tree.{Expr, number, truth, named, parens, prefix, binary, empty, make, select, Exprs, no_expr, also, FieldTree, ConstantTree, positive, negative, truth_literal, reference, PositionTree, typed, only, EntryTree, VariableTree, ChoiceTree, exactly, any_below, ProposalTree, Stmt, assign, choose, Stmts, stop, seq, Arms, no_arm, arm, TransitionTree, AutomatonTree, CrashTree, InstanceTree, CompositionTree, InvariantTree, FormTree, enumeration, tuple, sequence, TypeTree, DeclarationTree, declared_type, automaton, composition, invariant, SourceTree}
+use Rattle.ioa_tree.specs.Tree.{Expr, number, truth, named, parens, prefix, binary, empty, make, select, Exprs, no_expr, also, FieldTree, ConstantTree, positive, negative, truth_literal, reference, PositionTree, typed, only, EntryTree, VariableTree, ChoiceTree, exactly, any_below, ProposalTree, Stmt, assign, choose, each, Stmts, stop, seq, Arms, no_arm, arm, TransitionTree, AutomatonTree, CrashTree, InstanceTree, CompositionTree, InvariantTree, FormTree, enumeration, tuple, sequence, TypeTree, DeclarationTree, declared_type, automaton, composition, invariant, SourceTree}
 
 abbrev pub name_of : Name → actions.Name
 name_of n = string_bytes n.text
@@ -106,6 +106,7 @@ abbrev mutual
   pub stmt_of : Statement → Stmt
   stmt_of (Assign n e) = assign (name_of n) (expr_of e)
   stmt_of (If' shape arms shape_of_others others line) = choose (row_arms arms) (row_stmts others)
+  stmt_of (For' x e shape statements line) = each (name_of x) (expr_of e) (row_stmts statements)
 
   pub row_stmts : {m : _} → Row_of-Statement m → Stmts
   row_stmts end_of-Statement = stop

@@ -1,5 +1,5 @@
 -- Which sources are well formed.
-use Rattle.std.specs.Prelude.{ℕ, ◌+◌, ◌==◌, nat_le, Bool, true, false, not, ◌&&◌, ◌||◌, List, [], ◌∷◌, ◌++◌, map, filter, length, sum, Option, Some, None, is_some, option_and_then, pos, neg_ℤ, IsTrue, if◌then◌else◌}
+use Rattle.std.specs.Prelude.{ℕ, ◌+◌, ◌==◌, nat_le, nat_lt, Bool, true, false, not, ◌&&◌, ◌||◌, List, [], ◌∷◌, ◌++◌, map, filter, length, sum, Option, Some, None, is_some, option_and_then, pos, neg_ℤ, IsTrue, if◌then◌else◌}
 use Rattle.std.specs.List.{list_any, list_all, flat_map}
 use Rattle.std.specs.Option.{option_map, option_map_or}
 use Rattle.std.specs.Str.{bytes_eq}
@@ -7,15 +7,16 @@ use Rattle.ioa_value.specs.Actions.{Name}
 use Rattle.ioa_arithmetic.specs.Arithmetic.{fits}
 use Rattle.ioa_value.specs.Operators.{op_type, of_two, given}
 pub use Rattle.ioa_value.specs.Table.{contains, distinct, apart}
-use Rattle.ioa_value.specs.Table.{Table, Shape, truths, numbers, names, fields, basic, shape_at, type_named, field_place}
+use Rattle.ioa_value.specs.Table.{Table, Shape, truths, numbers, names, fields, basic, shape_at, type_named, item_type, field_place}
 use Rattle.ioa_value.specs.declared.operator.Op.TheVariants.{Make, Field}
 use Rattle.ioa_value.specs.Table.{sequence as sequence_shape}
 use Rattle.ioa_value.specs.Widths.{widths}
 use Rattle.ioa_tree.specs.declared.tree.Infix.{Infix}
 use Rattle.ioa_tree.specs.declared.tree.Infix.TheVariants.{Operator, And, Or, Implies}
 use Rattle.ioa_tree.specs.declared.tree.Kind.{Kind}
+use Rattle.ioa_tree.specs.declared.tree.TheConstants.{NESTED_LOOPS}
 use Rattle.ioa_tree.specs.declared.tree.Kind.TheVariants.{Input, Output, Internal}
-use Rattle.ioa_tree.specs.Tree.{Expr, number, truth, named, parens, prefix, binary, empty, make, select, Exprs, no_expr, also, FieldTree, ConstantTree, positive, negative, truth_literal, reference, PositionTree, typed, only, EntryTree, VariableTree, ChoiceTree, exactly, any_below, expr_in, ProposalTree, Stmt, assign, choose, Stmts, stop, seq, Arms, no_arm, arm, TransitionTree, AutomatonTree, InstanceTree, CompositionTree, InvariantTree, FormTree, enumeration, tuple, sequence, TypeTree, DeclarationTree, declared_type, automaton, composition, invariant, SourceTree}
+use Rattle.ioa_tree.specs.Tree.{Expr, number, truth, named, parens, prefix, binary, empty, make, select, Exprs, no_expr, also, FieldTree, ConstantTree, positive, negative, truth_literal, reference, PositionTree, typed, only, EntryTree, VariableTree, ChoiceTree, exactly, any_below, expr_in, ProposalTree, Stmt, assign, choose, each, Stmts, stop, seq, Arms, no_arm, arm, TransitionTree, AutomatonTree, InstanceTree, CompositionTree, InvariantTree, FormTree, enumeration, tuple, sequence, TypeTree, DeclarationTree, declared_type, automaton, composition, invariant, SourceTree}
 use Rattle.ioa_tree.specs.Meaning.{or_else}
 use Rattle.ioa_tree.specs.Types.{types_of, sequence_named, constant_type}
 use Rattle.ioa_value.specs.declared.limits.Limits.{Limits}
@@ -230,22 +231,38 @@ module _ (t early : Table) (globals : List Name) (a : AutomatonTree) where
   abbrev pub all_proposed : EntryTree → TransitionTree → Bool
   all_proposed e r = list_all (λ f. is_tried early f || contains (map (λ p. p.name) r.proposals) f.name) (position_fields e.positions)
 
-  -- an assignment is to a variable, of its type, and a condition is a Bool
+  -- what effects may name within loops over these names, each with the type of its items, the innermost first
+  abbrev pub scope_in : EntryTree → Context → Context
+  scope_in e loops = loops ++ scope e
+
+  -- the names that are taken there: those of the loops, of parameters, formals and variables, and the global ones
+  abbrev pub taken : EntryTree → Context → List Name
+  taken e loops = map (λ p. p.0) loops ++ (parameter_names e ++ (globals ++ local_names))
+
+  -- the type of the items of what a loop goes over, where this is a sequence
+  abbrev pub item_in : EntryTree → Context → Expr → Option ℕ
+  item_in e loops v = option_and_then (item_type t) (type_of t early (scope_in e loops) v)
+
+  -- an assignment is to a variable, of its type, and a condition is a Bool; a loop's name is new and stands for items of a sequence in its
+  -- statements alone, and loops stand within each other up to their limit
   abbrev mutual
-    pub stmt_fine : EntryTree → Stmt → Bool
-    stmt_fine e (assign x v) = option_map_or (λ ty. has_ty t early (scope e) v ty) (type_in (context_of early (variable_fields a)) x) false
-    stmt_fine e (choose arms others) = arms_fine e arms && stmts_fine e others
+    pub stmt_fine : EntryTree → Context → Stmt → Bool
+    stmt_fine e loops (assign x v) = option_map_or (λ ty. has_ty t early (scope_in e loops) v ty) (type_in (context_of early (variable_fields a)) x) false
+    stmt_fine e loops (choose arms others) = arms_fine e loops arms && stmts_fine e loops others
+    stmt_fine e loops (each x v ss) =
+        not (contains (taken e loops) x) && (nat_lt (length loops) NESTED_LOOPS
+        && option_map_or (λ item. stmts_fine e ((x, item) ∷ loops) ss) (item_in e loops v) false)
 
-    pub stmts_fine : EntryTree → Stmts → Bool
-    stmts_fine e stop = true
-    stmts_fine e (seq s ss) = stmt_fine e s && stmts_fine e ss
+    pub stmts_fine : EntryTree → Context → Stmts → Bool
+    stmts_fine e loops stop = true
+    stmts_fine e loops (seq s ss) = stmt_fine e loops s && stmts_fine e loops ss
 
-    pub arms_fine : EntryTree → Arms → Bool
-    arms_fine e no_arm = true
-    arms_fine e (arm c ss more) = has_ty t early (scope e) c 0 && (stmts_fine e ss && arms_fine e more)
+    pub arms_fine : EntryTree → Context → Arms → Bool
+    arms_fine e loops no_arm = true
+    arms_fine e loops (arm c ss more) = has_ty t early (scope_in e loops) c 0 && (stmts_fine e loops ss && arms_fine e loops more)
 
   abbrev pub effect_fine : EntryTree → TransitionTree → Bool
-  effect_fine e r = stmts_fine e r.effect
+  effect_fine e r = stmts_fine e [] r.effect
 
   -- an input has neither precondition nor proposals
   abbrev pub input_fine : TransitionTree → Bool
@@ -309,6 +326,7 @@ abbrev mutual
   pub stmt_nodes : Stmt → ℕ
   stmt_nodes (assign x e) = nodes e + 1
   stmt_nodes (choose arms others) = arms_nodes arms + stmts_nodes others + 1
+  stmt_nodes (each x e ss) = nodes e + stmts_nodes ss + 1
 
   pub stmts_nodes : Stmts → ℕ
   stmts_nodes stop = 0

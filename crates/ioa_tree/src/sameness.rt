@@ -221,7 +221,7 @@ impl Same for Proposal {
 }
 
 #[cycle(same_statement)]
-#[tactic(auto, using(crate::proofs::StatementRows::stmt_chosen))]
+#[tactic(auto, using(crate::proofs::StatementRows::stmt_chosen, crate::proofs::StatementRows::stmt_looped))]
 fn same_statement(this: &Statement, that: &Statement) -> bool
     ensures { IsTrue result ↔ (stmt_of this.now ≡ stmt_of that.now) }
 {
@@ -229,6 +229,9 @@ fn same_statement(this: &Statement, that: &Statement) -> bool
         (Statement::Assign(a, x), Statement::Assign(b, y)) => a.same(b) && x.same(y),
         (Statement::If(arms, others, _), Statement::If(those, rest, _)) => {
             same_arms(arms, those) && same_statements(others, rest)
+        }
+        (Statement::For(a, x, body, _), Statement::For(b, y, other, _)) => {
+            a.same(b) && x.same(y) && same_statements(body, other)
         }
         _ => false,
     }

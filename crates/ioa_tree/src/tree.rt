@@ -192,7 +192,12 @@ pub enum Statement {
     Assign(Name, Expression),
     /// The first arm whose condition is true, and otherwise the statements after `else`. It keeps the line of `if`.
     If(Vec<Arm>, Vec<Statement>, u32),
+    /// The statements once for each item of a sequence, in order, with the name for the item. It keeps the line of `for`.
+    For(Name, Expression, Vec<Statement>, u32),
 }
+
+/// How many loops may stand within each other.
+pub const NESTED_LOOPS: usize = 3;
 
 /// A condition, and what is done where it is true.
 #[derive(Drop)]

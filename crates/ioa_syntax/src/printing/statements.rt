@@ -3,6 +3,7 @@
 ghost use Rattle.std.specs.Prelude.{◌≡◌, ◌++◌, ◌<◌, OnOk};
 ghost use Rattle.std.specs.String.{string_bytes};
 ghost use Rattle.ioa_syntax.specs.Layout as spec;
+ghost use Rattle.ioa_tree.specs.Tree.{each};
 ghost use Rattle.ioa_tree.specs.View.{expr_of, name_of, stmt_of, stmts_of, arms_of};
 
 use crate::printing::expressions::expression;
@@ -20,12 +21,13 @@ fn assignment(text: &mut String, called: &Name, value: &Expression) -> Result<()
 }
 
 #[cycle(statement)]
-#[tactic(auto, using(ioa_tree::proofs::StatementRows::stmt_chosen))]
+#[tactic(auto, using(ioa_tree::proofs::StatementRows::stmt_chosen, ioa_tree::proofs::StatementRows::stmt_looped))]
 fn statement(text: &mut String, statement: &Statement) -> Result<(), OutOfMemory>
     ensures { OnOk result (string_bytes text.new ≡ string_bytes text.old ++ spec.text_stmt (stmt_of statement.now)) }
 {
     let (arms, others) = match statement {
         Statement::Assign(called, value) => return assignment(text, called, value),
+        Statement::For(called, items, body, _) => return a_loop(text, called, body, items),
         Statement::If(arms, others, _) => (arms, others),
     };
     let Some((first, more)) = arms.split_first() else {
@@ -50,6 +52,28 @@ fn more_statements(text: &mut String, statements: &[Statement]) -> Result<(), Ou
         statement(text, each)?;
     }
     Ok(())
+}
+
+/// Writes a loop: its name, what it goes over and its statements.
+#[cycle(statement)]
+fn a_loop(
+    text: &mut String,
+    called: &Name,
+    body: &[Statement],
+    items: &Expression,
+) -> Result<(), OutOfMemory>
+    ensures { OnOk result (string_bytes text.new ≡ string_bytes text.old ++ spec.text_stmt (each (name_of called.now) (expr_of items.now) (stmts_of body.now))) }
+{
+    word(text, Terminal::For, SPACE)?;
+    name(text, called, SPACE)?;
+    word(text, Terminal::In, SPACE)?;
+    expression(text, items, SPACE)?;
+    word(text, Terminal::Do, LINE)?;
+    if let Some((first, more)) = body.split_first() {
+        statement(text, first)?;
+        more_statements(text, more)?;
+    }
+    word(text, Terminal::Od, LINE)
 }
 
 /// Writes a word, a condition and what is done where it is true.

@@ -12,7 +12,7 @@ use Rattle.ioa_compile.specs.Emitting.{AddsStmts}
 use Rattle.ioa_compile.proofs.Emitted.{AddsArms}
 use Rattle.ioa_compile.proofs.emitter.+statements.Given as goal
 
--- a choice is ranked between its statement and its parts
+-- a choice and a loop are ranked between their statement and its parts
 abbrev pub decreases-emit_statement : goal.decreases-emit_statement
 decreases-emit_statement l = 3 * goal.size-emit_statement l
 
@@ -21,6 +21,9 @@ decreases-emit_statements l = 3 * goal.size-emit_statements l + 1
 
 abbrev pub decreases-emit_choice : goal.decreases-emit_choice
 decreases-emit_choice l = 3 * max (most the_size_of_arm l.arms.now) (most the_size l.others.now) + 2
+
+abbrev pub decreases-emit_loop : goal.decreases-emit_loop
+decreases-emit_loop l = 3 * most the_size l.body.now + 2
 
 abbrev pub invariant-emit_statements-loop-statement : goal.invariant-emit_statements-loop-statement
 invariant-emit_statements-loop-statement l = record {

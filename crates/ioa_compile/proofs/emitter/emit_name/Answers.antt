@@ -1,4 +1,4 @@
-use Rattle.std.proofs.Common.{◌≡◌, ◌<◌, ◌≤◌, Some, None, sym, ap, ◌∙◌, length, rules, arith}
+use Rattle.std.proofs.Common.{◌≡◌, ◌<◌, ◌≤◌, ◌*◌, Some, None, sym, ap, ◌∙◌, length, rules, arith}
 use Rattle.std.specs.Prelude.{slice_get}
 use Rattle.std.proofs.lemmas.Result.{on_ok_weaker}
 use Rattle.ioa_value.specs.declared.limits.TheConstants.{LIMITS}
@@ -10,24 +10,40 @@ use Rattle.ioa_tree.specs.View.{name_of}
 use Rattle.ioa_compose.specs.Fine.{component_limits}
 use Rattle.ioa_value.proofs.PlaceLemmas.{place_below}
 use Rattle.ioa_value.proofs.TypingLemmas.{OwnTypes-get}
-use Rattle.ioa_compile.proofs.Emitted.{none_from, origin_slot, origin_parameter, adds_slot, adds_argument, origin_formal, adds_named, missing_from, origin_fixed, adds_fixed}
+use Rattle.ioa_compile.proofs.Emitted.{none_from, origin_item, origin_slot, origin_parameter, adds_item, adds_slot, adds_argument, origin_formal, adds_named, missing_from, origin_fixed, adds_fixed}
 use Rattle.ioa_compile.proofs.Fixed.{constant_own}
 use Rattle.ioa_compile.proofs.Parameters.{parameter_below}
+use Rattle.ioa_compile.proofs.Standing.{item_low}
 use Rattle.ioa_compile.proofs.emitter.emit_name.Goals as goal
 
-pub overflow_cast-i : goal.overflow_cast-i
-overflow_cast-i c =
+pub overflow_cast-d : goal.overflow_cast-d
+overflow_cast-d c =
     let s = c.args.scope.now in
-    let below : c.in-Some.i < length s.variables = place_below s.variables (name_of c.args.name.now) c.in-Some.i (sym c.variable.ensures ∙ c.in-Some.is) in
-    let few : length s.variables ≤ component_limits.variables = c.requires.scope.variables in
-    let lt : c.in-Some.i < component_limits.variables = omega arith in
+    let below : c.in-Some.d < 2 * length s.loops = item_low s.loops (name_of c.args.name.now) c.in-Some.d (sym c.item_place.ensures ∙ c.in-Some.is) in
+    let few : length s.loops ≤ 3 = c.requires.scope.loops in
+    let lt : c.in-Some.d < 65536 = omega arith in
     search rules
 
 pub returns-in-Some : goal.returns-in-Some
 returns-in-Some c =
     let s = c.args.scope.now in
     let x = name_of c.args.name.now in
-    on_ok_weaker c.put.result (λ more. adds_slot (listing s.types c.args.out.now) (listing s.types c.put.new.out) s x c.in-Some.i (origin_slot s x c.in-Some.i (sym c.variable.ensures ∙ c.in-Some.is)) (more s.types)) c.put.ensures
+    on_ok_weaker c.put.result (λ more. adds_item (listing s.types c.args.out.now) (listing s.types c.put.new.out) s x c.in-Some.d (origin_item s x c.in-Some.d (sym c.item_place.ensures ∙ c.in-Some.is)) (more s.types)) c.put.ensures
+
+pub overflow_cast-i : goal.overflow_cast-i
+overflow_cast-i c =
+    let s = c.args.scope.now in
+    let below : c.in-Some-variable.i < length s.variables = place_below s.variables (name_of c.args.name.now) c.in-Some-variable.i (sym c.variable.ensures ∙ c.in-Some-variable.is) in
+    let few : length s.variables ≤ component_limits.variables = c.requires.scope.variables in
+    let lt : c.in-Some-variable.i < component_limits.variables = omega arith in
+    search rules
+
+pub returns-in-Some-variable : goal.returns-in-Some-variable
+returns-in-Some-variable c =
+    let s = c.args.scope.now in
+    let x = name_of c.args.name.now in
+    let no_item = sym c.item_place.ensures ∙ none_from c.item_place.result c.in_default.not-Some in
+    on_ok_weaker c.put-in-Some-variable.result (λ more. adds_slot (listing s.types c.args.out.now) (listing s.types c.put-in-Some-variable.new.out) s x c.in-Some-variable.i (origin_slot s x c.in-Some-variable.i no_item (sym c.variable.ensures ∙ c.in-Some-variable.is)) (more s.types)) c.put-in-Some-variable.ensures
 
 pub returns-in-Some-formal : goal.returns-in-Some-formal
 returns-in-Some-formal c =
@@ -36,7 +52,8 @@ returns-in-Some-formal c =
     let v = plain c.in_ok-try_copy.field-0 in
     let found = c.in-Some-formal.ensures.found in
     let at : slice_get s.arguments found.0 ≡ Some v = found.2 ∙ ap Some (sym c.in_ok-try_copy.ensures) in
-    let from = origin_formal s x found.0 (sym c.variable.ensures ∙ none_from c.variable.result c.in_default.not-Some) found.1 in
+    let no_item = sym c.item_place.ensures ∙ none_from c.item_place.result c.in_default.not-Some in
+    let from = origin_formal s x found.0 no_item (sym c.variable.ensures ∙ none_from c.variable.result c.in_default-variable.not-Some) found.1 in
     on_ok_weaker c.put_constant.result (λ more. adds_named (listing s.types c.args.out.now) (listing s.types c.put_constant.new.out) s x found.0 v from at (more s.types (OwnTypes-get s.types s.arguments found.0 v c.requires.scope.typed at))) c.put_constant.ensures
 
 pub overflow_cast-i-in-Some-parameter : goal.overflow_cast-i-in-Some-parameter
@@ -53,9 +70,10 @@ returns-in-Some-parameter c =
     let s = c.args.scope.now in
     let x = name_of c.args.name.now in
     let i = c.in-Some-parameter.i in
-    let first = sym c.variable.ensures ∙ none_from c.variable.result c.in_default.not-Some in
+    let no_item = sym c.item_place.ensures ∙ none_from c.item_place.result c.in_default.not-Some in
+    let first = sym c.variable.ensures ∙ none_from c.variable.result c.in_default-variable.not-Some in
     let second = missing_from c.formal.result (place_from 0 s.formals x ≡ None) c.in_default-formal.not-Some c.formal.ensures.missing in
-    let from = origin_parameter s x i first second (sym c.parameter.ensures ∙ c.in-Some-parameter.is) in
+    let from = origin_parameter s x i no_item first second (sym c.parameter.ensures ∙ c.in-Some-parameter.is) in
     on_ok_weaker c.put-in-Some-parameter.result (λ more. adds_argument (listing s.types c.args.out.now) (listing s.types c.put-in-Some-parameter.new.out) s x i from (more s.types)) c.put-in-Some-parameter.ensures
 
 pub returns-in-None : goal.returns-in-None
@@ -63,8 +81,9 @@ returns-in-None c =
     let s = c.args.scope.now in
     let x = name_of c.args.name.now in
     let v = plain c.constant.result in
-    let first = sym c.variable.ensures ∙ none_from c.variable.result c.in_default.not-Some in
+    let no_item = sym c.item_place.ensures ∙ none_from c.item_place.result c.in_default.not-Some in
+    let first = sym c.variable.ensures ∙ none_from c.variable.result c.in_default-variable.not-Some in
     let second = missing_from c.formal.result (place_from 0 s.formals x ≡ None) c.in_default-formal.not-Some c.formal.ensures.missing in
     let is : constant s.types x ≡ Some v = ap (λ l. constant l x) (sym c.types.ensures) ∙ c.constant.ensures in
-    let from = origin_fixed s x v first second (sym c.parameter.ensures ∙ c.in-None.is) is in
+    let from = origin_fixed s x v no_item first second (sym c.parameter.ensures ∙ c.in-None.is) is in
     on_ok_weaker c.put_constant-in-None.result (λ more. adds_fixed (listing s.types c.args.out.now) (listing s.types c.put_constant-in-None.new.out) s x v from (more s.types (constant_own s.types x v is))) c.put_constant-in-None.ensures

@@ -31,7 +31,7 @@ use Rattle.ioa_compile.proofs.Assembled.{on_local, translated}
 use Rattle.ioa_compile.proofs.entries.compile_entry.Goals as goal
 
 -- what is known of the entry and its positions, and the types of what stands in them
-settled : (m : held.Member) (entry : tree.Entry) (slots : List Ty) → IsFine component_limits (member_of m) → IsEntryOf (member_of m) (entry_of entry)
+abbrev settled : (m : held.Member) (entry : tree.Entry) (slots : List Ty) → IsFine component_limits (member_of m) → IsEntryOf (member_of m) (entry_of entry)
     → AreTypesOf m.types (variable_fields (automaton_of m.automaton)) (map number slots) → (ps : List Position) → AreDomainsOf (member_of m).instance (entry_of entry).positions (map domain_of ps)
     → (args : List Ty) → map number args ≡ position_types (map domain_of ps) → Setting (member_of m) (entry_of entry) (map number slots) (map number args)
 settled m entry slots is_fine own variables ps h args types_are =

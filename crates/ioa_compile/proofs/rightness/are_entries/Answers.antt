@@ -2,7 +2,7 @@ use Rattle.std.proofs.Common.{◌↔◌, IsTrue, map}
 use Rattle.std.proofs.lemmas.Result.{IfOk-weaker}
 use Rattle.ioa_compose.specs.Fine.{component_limits}
 use Rattle.ioa_compile.specs.Shown.{entry_code, member_code}
-use Rattle.ioa_compile.specs.Tables.{AreFew, AreEntries}
+use Rattle.ioa_compile.specs.Tables.{AreEntries}
 use Rattle.ioa_compile.proofs.Given.{few_seen}
 use Rattle.ioa_compile.proofs.rightness.are_entries.Goals as goal
 

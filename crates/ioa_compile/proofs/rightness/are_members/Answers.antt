@@ -2,7 +2,7 @@ use Rattle.std.proofs.Common.{◌↔◌, IsTrue, map}
 use Rattle.std.proofs.lemmas.Result.{IfOk-weaker}
 use Rattle.ioa_value.specs.declared.limits.TheConstants.{LIMITS}
 use Rattle.ioa_compile.specs.Shown.{member_code}
-use Rattle.ioa_compile.specs.Tables.{AreFew, AreMembers}
+use Rattle.ioa_compile.specs.Tables.{AreMembers}
 use Rattle.ioa_compile.proofs.Given.{few_seen}
 use Rattle.ioa_compile.proofs.rightness.are_members.Goals as goal
 

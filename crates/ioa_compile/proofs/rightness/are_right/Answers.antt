@@ -1,4 +1,4 @@
-use Rattle.std.proofs.Common.{◌↔◌, IsTrue, map, length, not, arith}
+use Rattle.std.proofs.Common.{◌↔◌, IsTrue, map, not, arith}
 use Rattle.std.proofs.lemmas.Bool.{and_parts}
 use Rattle.std.proofs.lemmas.List.{length-map}
 use Rattle.std.proofs.lemmas.Result.{IfOk-weaker}
@@ -6,7 +6,6 @@ use Rattle.ioa_value.specs.Names.{is_name}
 use Rattle.ioa_value.specs.Table.{all_names, contains}
 use Rattle.ioa_value.specs.declared.limits.TheConstants.{LIMITS}
 use Rattle.ioa_compile.specs.Given.{prog_of}
-use Rattle.ioa_compile.specs.Shown.{member_code}
 use Rattle.ioa_compile.specs.Tables.{AreFew, AreMembers}
 use Rattle.ioa_compile.proofs.rightness.are_right.Goals as goal
 

@@ -1,9 +1,9 @@
 use Rattle.std.proofs.Common.{map, sym, ap, ◌∙◌}
 use Rattle.std.proofs.lemmas.List.{take_all}
-use Rattle.ioa_tree.specs.Tree.{choose}
-use Rattle.ioa_tree.specs.View.{stmt_of, stmts_of, arms_of}
+use Rattle.ioa_tree.specs.Tree.{choose, each}
+use Rattle.ioa_tree.specs.View.{name_of, expr_of, stmt_of, stmts_of, arms_of}
 use Rattle.ioa_tree.specs.View.{arm_of}
-use Rattle.ioa_tree.proofs.StatementRows.{stmt_choose, alike_stmts, alike_arms}
+use Rattle.ioa_tree.proofs.StatementRows.{stmt_choose, stmt_each, alike_stmts, alike_arms}
 use Rattle.ioa_compose.proofs.copies.+statement.Goals as goal
 
 pub copied_statement-returns-in_ok-others-in-If : goal.copied_statement-returns-in_ok-others-in-If
@@ -21,3 +21,14 @@ copied_statements-returns t c =
 pub copied_arms-returns : goal.copied_arms-returns
 copied_arms-returns t c =
     alike_arms _ _ (c.loop-arm.invariant ∙ ap (map arm_of) (take_all c.loop-arm.arm-index c.args.arms.now c.loop-arm-test.false))
+
+pub copied_statement-returns-in_ok-body-in-For : goal.copied_statement-returns-in_ok-body-in-For
+copied_statement-returns-in_ok-body-in-For t c =
+    let copy = stmts_of c.in_ok-body-in-For.body.items in
+    let items = expr_of c.in_ok-items-in-For.items in
+    stmt_each c.in_ok-name-in-For.name c.in_ok-items-in-For.items c.in_ok-body-in-For.body c.in-For.line
+    ∙ ap (λ x. each x items copy) c.in_ok-name-in-For.ensures
+    ∙ ap (λ e. each (name_of c.in-For.name) e copy) c.in_ok-items-in-For.ensures
+    ∙ ap (each (name_of c.in-For.name) (expr_of c.in-For.items)) (c.in_ok-body-in-For.ensures ∙ ap stmts_of c.deref-in-For.ensures.value)
+    ∙ sym (stmt_each c.in-For.name c.in-For.items c.in-For.body c.in-For.line)
+    ∙ ap stmt_of (sym c.in-For.is)

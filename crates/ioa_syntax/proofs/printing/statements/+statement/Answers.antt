@@ -23,7 +23,7 @@ more_arms-returns t c =
 
 pub statement-returns-in_default : goal.statement-returns-in_default
 statement-returns-in_default t c =
-    let none : c.in-If.arms.items ≡ [] = none_of c.deref.result.now c.in-If.arms.items c.deref.ensures.value c.in_default.ensures.cases in
+    let none : c.in-If.arms.items ≡ [] = none_of c.deref-2.result.now c.in-If.arms.items c.deref-2.ensures.value c.in_default.ensures.cases in
     let chosen : stmt_of c.args.statement.now ≡ choose no_arm (stmts_of c.in-If.others.items) = stmt_chosen _ _ _ _ c.in-If.is ∙ ap (λ l. choose (arms_of l) (stmts_of c.in-If.others.items)) none in
     sym (ap (λ s. string_bytes c.args.text.now ++ text_stmt s) chosen ∙ append-nil (string_bytes c.args.text.now))
 
@@ -47,7 +47,7 @@ statement-returns t c =
           ∙ append_assoc before word (text_stmt (stmt_of other) ++ text_more_stmts (stmts_of left))
           ∙ ap (λ l. before ++ text_after word (stmts_of l)) (sym found)
       | statement-in_default-split_first w ↦
-          let none : c.in-If.others.items ≡ [] = none_of c.deref-2.result.now c.in-If.others.items c.deref-2.ensures.value w.in_default-split_first.ensures.cases in
+          let none : c.in-If.others.items ≡ [] = none_of c.deref-3.result.now c.in-If.others.items c.deref-3.ensures.value w.in_default-split_first.ensures.cases in
           ap string_bytes w.text-is ∙ sym (append-nil before) ∙ ap (λ l. before ++ text_after word (stmts_of l)) (sym none)
     ] in
     let more = text_arms (arms_of c.in-Some.more.now) in
