@@ -28,7 +28,7 @@ use Rattle.ioa_run.specs.Reports.{AreTold}
 use Rattle.ioa_run.specs.Resuming.{resumption}
 use Rattle.ioa_run.specs.declared.run_err.RunErr.{RunErr}
 use Rattle.ioa_run.proofs.Hosting.{host_history, host_turns, program_history}
-use Rattle.ioa_serving.specs.Alone.{AreTurnsSince, IsRoundRobin, IsRun, told_of, turns_since, wants_of_run, written}
+use Rattle.ioa_serving.specs.Alone.{AreTurnsSince, IsRoundRobin, IsRun, told_of, round_robin_since, wants_of_run, written}
 use Rattle.ioa_serving.specs.Carried.{ComesTo, HistoriesAsSource, RefusesAsSource, RunsAsSource, TakesTurnsAsSource}
 use Rattle.ioa_serving.specs.Headline.{IsFileOf}
 use Rattle.ioa_serving.specs.Running.{Runs}
@@ -125,8 +125,8 @@ module _ (p : Prog) (h : Hosted) (c : Composed) (s : Simulates h c) (m : Impleme
           → IsRoundRobin (of_table p) b words script turns log reports ↔ IsRoundRobin (of_hosts h) d words script turns log reports
       both d b hosts table =
           let l = host_turns p h c first d b words script turns program s m (record { subject = hosts; program = table }) in
-          let entries = logged_same (turns_since (of_hosts h) d words script turns).board (turns_since (of_table p) b words script turns).board l.board.history l.board.failure in
-          let ends = ending_same (turns_since (of_hosts h) d words script turns).board (turns_since (of_table p) b words script turns).board l.board.history l.board.failure in (
+          let entries = logged_same (round_robin_since (of_hosts h) d words script turns).board (round_robin_since (of_table p) b words script turns).board l.board.history l.board.failure in
+          let ends = ending_same (round_robin_since (of_hosts h) d words script turns).board (round_robin_since (of_table p) b words script turns).board l.board.history l.board.failure in (
             λ k. record { entries = k.entries ∙ sym entries; ends = k.ends ∙ sym ends; told = k.told ∙ sym l.reports },
             λ k. record { entries = k.entries ∙ entries; ends = k.ends ∙ ends; told = k.told ∙ l.reports },
           )

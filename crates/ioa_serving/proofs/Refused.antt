@@ -224,6 +224,7 @@ log_replay_ungiven text name bytes failed (Failure.BadInput i) k = absurd k
 log_replay_ungiven text name bytes failed Failure.Threads k = absurd k
 log_replay_ungiven text name bytes failed (Failure.BadLog i) k = absurd k
 log_replay_ungiven text name bytes failed Failure.EndedByFault k = absurd k
+log_replay_ungiven text name bytes failed (Failure.RunLog e) k = absurd k
 log_replay_ungiven text name bytes failed Failure.Io k = absurd k
 log_replay_ungiven text name bytes failed Failure.OutOfMemory k = absurd k
 

@@ -60,14 +60,14 @@ its_proposers (of_table p) = proposers p
 
 -- turns of all workers on one thread since this board, so many rounds of them: in each round the components in order, each by its own words, and then the
 -- environment
-abbrev pub turns_since : (s : Subject) → boards.Standing (State s) → List Words → List Act → ℕ → Turns (State s)
-turns_since s b words script turns = alone_from (its_components s) (its_proposers s) script turns b words
+abbrev pub round_robin_since : (s : Subject) → boards.Standing (State s) → List Words → List Act → ℕ → Turns (State s)
+round_robin_since s b words script turns = alone_from (its_components s) (its_proposers s) script turns b words
 
 -- the log and the reports are those of these turns
 pub record IsRoundRobin (s : Subject) (b : boards.Standing (State s)) (words : List Words) (script : List Act) (turns : ℕ) (log : Logged) (reports : List Report) : Type 0 where
-  pub entries : log.entries ≡ logged (turns_since s b words script turns).board.history (turns_since s b words script turns).board.failure
-  pub ends : log.ending ≡ ending (turns_since s b words script turns).board.history (turns_since s b words script turns).board.failure
-  pub told : reports ≡ (turns_since s b words script turns).reports
+  pub entries : log.entries ≡ logged (round_robin_since s b words script turns).board.history (round_robin_since s b words script turns).board.failure
+  pub ends : log.ending ≡ ending (round_robin_since s b words script turns).board.history (round_robin_since s b words script turns).board.failure
+  pub told : reports ≡ (round_robin_since s b words script turns).reports
 
 -- so they are since the log from which the subject goes on, by these words
 abbrev pub AreTurnsSince : Subject → Logged → List Words → List Act → ℕ → Logged → List Report → Type 0
@@ -259,8 +259,8 @@ abbrev pub IsSetOut : (Name → List ℕ → Type 0) → Settings → Subject �
 IsSetOut holds s x script before = IsReady holds s x script before × (s.turns ≤ most_turns) × All (IsInput (its_components x)) script
 
 -- but the subject does not go on from the log, for this reason
-abbrev pub IsUnresumed : (Name → List ℕ → Type 0) → Settings → Subject → RunErr → Type 0
-IsUnresumed holds s x e = (script : List Act) × (before : Logged) × IsSetOut holds s x script before × (resumption (its_components x) (its_starts x) before ≡ Err e)
+abbrev pub IsNotGoneOnFrom : (Name → List ℕ → Type 0) → Settings → Subject → RunErr → Type 0
+IsNotGoneOnFrom holds s x e = (script : List Act) × (before : Logged) × IsSetOut holds s x script before × (resumption (its_components x) (its_starts x) before ≡ Err e)
 
 -- Each reason comes only where those before it do not hold: a file is not read; the source or its composition, or the object, is refused; a line of
 -- words is none; a line of the script is no action; the log is none; there are too many turns; an action of the script is no input; the log ends by a
@@ -278,8 +278,8 @@ IsUnrun holds lacks s (Failure.RunLog e) =
 IsUnrun holds lacks s Failure.TooManyTurns = (x : Subject) × (script : List Act) × (before : Logged) × IsReady holds s x script before × (most_turns < s.turns)
 IsUnrun holds lacks s (Failure.BadInput i) =
     (x : Subject) × (script : List Act) × (before : Logged) × IsReady holds s x script before × (s.turns ≤ most_turns) × IsFirstOther (its_components x) script i
-IsUnrun holds lacks s Failure.EndedByFault = (x : Subject) × IsUnresumed holds s x RunErr.EndedByFault
-IsUnrun holds lacks s (Failure.BadLog i) = (x : Subject) × IsUnresumed holds s x (RunErr.BadLog i)
+IsUnrun holds lacks s Failure.EndedByFault = (x : Subject) × IsNotGoneOnFrom holds s x RunErr.EndedByFault
+IsUnrun holds lacks s (Failure.BadLog i) = (x : Subject) × IsNotGoneOnFrom holds s x (RunErr.BadLog i)
 IsUnrun holds lacks s Failure.Threads = (x : Subject) × (script : List Act) × (before : Logged) × IsSetOut holds s x script before × IsResumable x before × (s.alone ≡ false)
 IsUnrun holds lacks s (Failure.List LogErr.Io) = ⊥
 IsUnrun holds lacks s Failure.Io = IsUnloaded holds lacks s

@@ -144,6 +144,7 @@ IsLogReplayFailure text name bytes failed (Failure.BadInput i) = ⊥
 IsLogReplayFailure text name bytes failed Failure.Threads = ⊥
 IsLogReplayFailure text name bytes failed (Failure.BadLog i) = ⊥
 IsLogReplayFailure text name bytes failed Failure.EndedByFault = ⊥
+IsLogReplayFailure text name bytes failed (Failure.RunLog e) = ⊥
 IsLogReplayFailure text name bytes failed Failure.Io = ⊥
 IsLogReplayFailure text name bytes failed Failure.OutOfMemory = Unit {0}
 
