@@ -1,0 +1,9 @@
+pub mod LayoutLemmas
+pub mod WordLemmas
+pub mod ReadLemmas
+pub mod SequenceWords
+pub mod ItemLemmas
+pub mod PlaceLemmas
+pub mod RowOperators
+pub mod OperatorLemmas
+pub mod DraftLemmas

@@ -1,0 +1,4 @@
+pub mod Layout
+pub mod WordOperators
+pub mod Decoding
+pub mod Drafts
