@@ -7,6 +7,7 @@ mod given;
 mod library;
 mod logs;
 mod made;
+mod memory;
 mod operators;
 mod proposals;
 mod reached;

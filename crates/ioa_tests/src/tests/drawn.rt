@@ -48,8 +48,8 @@ fn seeds_give_words(rt: HostRuntime) {
 
 /// Words that are given, and then 0 for ever.
 #[derive(Drop)]
-struct Given<'a> {
-    words: &'a [u32],
+pub struct Given<'a> {
+    pub words: &'a [u32],
 }
 
 impl<'a> Words for Given<'a> {
@@ -114,7 +114,7 @@ const DRAWS: [Draw; 9] = [
 ];
 
 /// The code that proposes, of the entry in this place of the component of this number, with the state in which the component starts.
-fn proposing(program: &Program, number: usize, place: usize) -> Option<(&Verified, &NodeState)>
+pub fn proposing(program: &Program, number: usize, place: usize) -> Option<(&Verified, &NodeState)>
     ensures { IfSome result (λ r. (r.0.now.kind ≡ kinds.Propose) × (r.0.now.args ≡ []) × (r.1.now.table ≡ r.0.now.code.types) × (r.1.now.types ≡ r.0.now.slots)) }
 {
     let member = program.members().get(number)?;

@@ -21,7 +21,7 @@ use std::sync::Wait;
 use std::thread::Threads;
 
 /// The counter ticks twice, and the environment resets it.
-const TICKED: &str =
+pub const TICKED: &str =
     "{\"act\":\"tick(5)\",\"who\":0}\n{\"act\":\"tick(6)\",\"who\":0}\n{\"act\":\"reset\",\"who\":1}\n{\"end\":\"done after 3\"}\n";
 
 /// The same with the first of them by the environment.
@@ -209,7 +209,7 @@ fn logged(rt: &impl Abort, alloc: Global, program: &Program, text: &str) -> Log 
 }
 
 /// A source of words for each of the components, of which there are so many.
-fn seeded(alloc: Global, components: usize) -> Result<Vec<Seeded>, AllocError>
+pub fn seeded(alloc: Global, components: usize) -> Result<Vec<Seeded>, AllocError>
     ensures { IfOk result (λ sources. length sources.items ≡ components) }
 {
     let mut sources = Vec::new(alloc);
@@ -246,7 +246,7 @@ fn on_threads<H: Abort + Threads + Wait + Sync>(
 }
 
 /// The log of what a run gives.
-fn log_of(outcome: Outcome) -> Log {
+pub fn log_of(outcome: Outcome) -> Log {
     Log {
         entries: outcome.log,
         end: outcome.end,

@@ -134,7 +134,7 @@ fn told_record(
     }
 }
 
-fn told_board(rt: &impl Abort, alloc: Global, board: &Board<'_>) -> String {
+pub fn told_board(rt: &impl Abort, alloc: Global, board: &Board<'_>) -> String {
     let types = board.program().types();
     let entries = told_entries(alloc, types, board.history()).expect(rt, "memory");
     let states = told_states(alloc, types, board.states()).expect(rt, "memory");

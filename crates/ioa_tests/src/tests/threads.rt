@@ -192,7 +192,14 @@ const SOLO: &str = "
 automaton Go signature output go states n: Int transitions output go eff n := n + 1
 composition Solo components G: Go";
 
-const CASES: [Case; 6] = [
+/// A host that sums up a sequence each time that it tells the sum before.
+const FOLD: &str = "
+type S = seq 4 of Int
+automaton Fold(t: S) signature output tell(k: Int) states stable s: S := t; n: Int
+transitions output tell pre k = n propose k := n eff n := 0; for y in s do n := n + y od
+composition One components A: Fold(append(append(empty(S), 2), 5)) crash down recover up";
+
+const CASES: [Case; 8] = [
     Case {
         source: SOLO,
         turns: 100,
@@ -282,6 +289,40 @@ composition Both components F: Full; G: Go",
         turns: 50,
         words: &[],
         script: &["reset", "reset", "reset"],
+        holds: &[],
+        logs: &[],
+        reports: &[],
+        points: &[],
+    },
+    // a crash after two loops, and one more loop after the host has recovered
+    Case {
+        source: FOLD,
+        turns: 3,
+        words: &[],
+        script: &["down", "up"],
+        holds: &[
+            (
+                Stop::At(1, 0, Point::Turn),
+                Stop::At(0, 1, Point::Committed),
+            ),
+            (
+                Stop::At(0, 2, Point::Turn),
+                Stop::At(1, 1, Point::Committed),
+            ),
+        ],
+        logs: &[
+            "0 tell(0); 0 tell(7); 1 down; 1 up; 0 tell(0), state(S[2, 5], 7, true), done after 5",
+        ],
+        reports: &[
+            "3 committed, 0 idle, 0 stale, TurnsDone; 2 committed, 1 idle, 0 stale, TurnsDone",
+        ],
+        points: &[],
+    },
+    Case {
+        source: FOLD,
+        turns: 50,
+        words: &[],
+        script: &["down", "up", "down", "down", "up", "up"],
         holds: &[],
         logs: &[],
         reports: &[],

@@ -1,0 +1,174 @@
+//! Plans, commits and events with little memory.
+
+ghost use Rattle.std.specs.Prelude.{◌≡◌, IfOk, IfSome};
+ghost use Rattle.ioa_value.specs.Actions.{act_of};
+ghost use Rattle.ioa_tree.specs.Steps as steps;
+ghost use Rattle.ioa_compile.specs.Tables.{tabled};
+ghost use Rattle.ioa_system.specs.Participants.{taken};
+ghost use Rattle.ioa_system.specs.Systems.{slot_types, types_of};
+
+use crate::tests::made;
+use crate::tests::memory::steps::logged;
+use crate::tests::memory::{Came, all_but};
+use crate::tests::resumed::TICKED;
+use crate::tests::schedules::told_board;
+use ioa_compile::Program;
+use ioa_node::NodeState;
+use ioa_rows::{COUNTER, GAME};
+use ioa_run::{Answer, Board, Core, Event, Plan, Planned, RunErr, Verdict};
+use ioa_system::participants;
+use ioa_value::{Action, OutOfMemory};
+use std::alloc::Global;
+use std::process::Abort;
+
+/// Equals of the states of the action's participants.
+fn copied(alloc: Global, board: &Board<'_>, action: &Action) -> Result<Vec<NodeState>, OutOfMemory>
+    ensures { IfOk result (λ states. types_of states.items ≡ taken (steps.participants (tabled board.now.program) (act_of action.now)) (slot_types board.now.program.members)) }
+{
+    let program = board.program();
+    let numbers = participants(alloc, program, action)?;
+    board.copy(&numbers)
+}
+
+/// A plan for a roll of the die.
+pub fn made(rt: &impl Abort, alloc: Global, spare: usize) -> Came {
+    let program = made::program(rt, alloc, GAME, None);
+    let board = Board::start(alloc, &program).expect(rt, "memory");
+    let action = made::action(rt, alloc, program.types(), "roll(5)");
+    let states = copied(alloc, &board, &action).expect(rt, "memory");
+    let hoard = all_but(rt, alloc, spare);
+    let answer = Plan::make(alloc, board.program(), 0, action, states);
+    drop(hoard);
+    match answer {
+        Ok(Planned::Ready(_)) => Came::Answered(true),
+        Ok(_) => Came::Answered(false),
+        Err(_) => Came::Wanting(true),
+    }
+}
+
+/// How many actions are committed, so that some want more room than was taken before.
+const COMMITS: usize = 12;
+
+/// The plan of worker 0 for its action by the board's states, if it has one.
+fn planned<'p>(
+    alloc: Global,
+    board: &Board<'p>,
+    action: Action,
+) -> Result<Option<Plan<'p>>, OutOfMemory>
+    ensures { IfOk result (λ o. IfSome o (λ plan. (plan.program ≡ board.now.program) × (plan.who ≡ 0))) }
+{
+    let states = copied(alloc, board, &action)?;
+    match Plan::make(alloc, board.program(), 0, action, states)? {
+        Planned::Ready(plan) => Ok(Some(plan)),
+        _ => Ok(None),
+    }
+}
+
+/// The counter's tick of this number, from 0.
+fn tick(rt: &impl Abort, alloc: Global, program: &Program, number: usize) -> Action {
+    let count = number.saturating_add(5);
+    let text = format!(in alloc; "tick({count})").expect(rt, "memory");
+    made::action(rt, alloc, program.types(), text.as_str())
+}
+
+/// Commits a tick with so many bytes. One that is given back for want of memory is committed again with ample memory, in the same place.
+fn commit(
+    rt: &impl Abort,
+    alloc: Global,
+    board: &mut Board<'_>,
+    number: usize,
+    spare: usize,
+) -> Came {
+    let before = told_board(rt, alloc, board);
+    let action = tick(rt, alloc, board.program(), number);
+    let plan = planned(alloc, board, action).expect(rt, "memory");
+    let plan = plan.expect(rt, "a plan");
+    let hoard = all_but(rt, alloc, spare);
+    let verdict = board.commit(0, plan);
+    drop(hoard);
+    match verdict {
+        Verdict::Committed(index) => Came::Answered(index == number),
+        Verdict::Memory(plan) => {
+            let is_kept = told_board(rt, alloc, board).as_str() == before.as_str();
+            let again = board.commit(0, plan);
+            Came::Wanting(is_kept && matches!(again, Verdict::Committed(index) if index == number))
+        }
+        _ => Came::Answered(false),
+    }
+}
+
+/// Commits of some actions, one after another, up to the first that is refused memory.
+pub fn committed(rt: &impl Abort, alloc: Global, spare: usize) -> Came {
+    let program = made::program(rt, alloc, COUNTER, None);
+    let mut board = Board::start(alloc, &program).expect(rt, "memory");
+    for number in 0..COMMITS {
+        match commit(rt, alloc, &mut board, number, spare) {
+            Came::Answered(true) => {}
+            other => return other,
+        }
+    }
+    Came::Answered(true)
+}
+
+/// The event's answer, which with ample memory is this one; and what stands where it is refused memory.
+fn event(
+    rt: &impl Abort,
+    alloc: Global,
+    core: &mut Core<'_>,
+    event: Event,
+    wanted: Answer,
+    spare: usize,
+) -> Came {
+    let before = told_board(rt, alloc, core.board());
+    let hoard = all_but(rt, alloc, spare);
+    let answer = core.event(event);
+    drop(hoard);
+    match answer {
+        Ok(answer) => Came::Answered(answer == wanted),
+        Err(_) => { Came::Wanting(told_board(rt, alloc, core.board()).as_str() == before.as_str()) }
+    }
+}
+
+/// A worker that copies and commits: where its copy is refused memory it has no plan, and where its commit is it has the one from before.
+pub fn answered(rt: &impl Abort, alloc: Global, spare: usize) -> Came {
+    let program = made::program(rt, alloc, COUNTER, None);
+    let mut core = Core::start(alloc, &program).expect(rt, "memory");
+    for number in 0..COMMITS {
+        let copy = Event::Copy(0, tick(rt, alloc, &program, number));
+        match event(rt, alloc, &mut core, copy, Answer::Planned, spare) {
+            Came::Answered(true) => {}
+            Came::Wanting(is_kept) => {
+                let after = core.event(Event::Commit(0)).expect(rt, "memory");
+                return Came::Wanting(is_kept && after == Answer::NoPlan);
+            }
+            Came::Answered(false) => return Came::Answered(false),
+        }
+        let wanted = Answer::Committed(number);
+        match event(rt, alloc, &mut core, Event::Commit(0), wanted, spare) {
+            Came::Answered(true) => {}
+            Came::Wanting(is_kept) => {
+                let after = core.event(Event::Commit(0)).expect(rt, "memory");
+                return Came::Wanting(is_kept && after == wanted);
+            }
+            Came::Answered(false) => return Came::Answered(false),
+        }
+    }
+    Came::Answered(true)
+}
+
+/// A board that goes on from a log.
+pub fn resumed(rt: &impl Abort, alloc: Global, spare: usize) -> Came {
+    let program = made::program(rt, alloc, COUNTER, None);
+    let log = logged(rt, alloc, program.types(), TICKED);
+    let hoard = all_but(rt, alloc, spare);
+    let answer = Board::resume(alloc, &program, &log);
+    drop(hoard);
+    match answer {
+        Ok(board) => {
+            let told = told_board(rt, alloc, &board);
+            Came::Answered(told.as_str() == "0 tick(5); 0 tick(6); 1 reset, state(5)")
+        }
+        Err(RunErr::OutOfMemory) => Came::Wanting(true),
+        Err(_) => Came::Answered(false),
+    }
+}

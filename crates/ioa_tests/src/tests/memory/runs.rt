@@ -1,0 +1,105 @@
+//! Whole runs with little memory: they begin or not, and a worker's own want of memory ends that worker alone.
+
+use crate::tests::made;
+use crate::tests::memory::steps::logged;
+use crate::tests::memory::{Came, all_but};
+use crate::tests::resumed::{TICKED, log_of, seeded};
+use crate::tests::rooms::told_outcome;
+use crate::tests::threads::told_reports;
+use ioa_compile::Program;
+use ioa_log::replay;
+use ioa_rows::COUNTER;
+use ioa_run::{
+    OpenGate, Outcome, RunErr, Why, resume_alone, resume_threads, run_alone, run_threads,
+};
+use std::alloc::Global;
+use std::process::Abort;
+use std::sync::Wait;
+use std::thread::Threads;
+
+/// How many turns each worker has.
+const TURNS: u64 = 4;
+
+/// The counter ticks at each of its turns; the environment has nothing to do.
+const REPORTS: &str =
+    "4 committed, 0 idle, 0 stale, TurnsDone; 0 committed, 4 idle, 0 stale, TurnsDone";
+
+/// What is performed from the start, and behind a log.
+const RUN: &str = "0 tick(5); 0 tick(6); 0 tick(7); 0 tick(8), state(9), done after 4";
+
+const RESUMED: &str =
+    "0 tick(5); 0 tick(6); 1 reset; 0 tick(5); 0 tick(6); 0 tick(7); 0 tick(8), state(9), done after 7";
+
+/// A thread wants a stack of some megabytes: so many times as much more a run on threads has at each step.
+const STACKS: usize = 4096;
+
+/// What came of a run that does this with ample memory. Its log is accepted, whatever became of its workers.
+fn judged(
+    rt: &impl Abort,
+    alloc: Global,
+    program: &Program,
+    answer: Result<Outcome, RunErr>,
+    given: &str,
+) -> Came {
+    let outcome = match answer {
+        Ok(outcome) => outcome,
+        Err(error) => {
+            return match error {
+                RunErr::OutOfMemory | RunErr::Threads => Came::Wanting(true),
+                _ => Came::Answered(false),
+            };
+        }
+    };
+    let mut reports = outcome.reports.iter();
+    let is_short = reports.any(|report| report.why == Why::Memory);
+    let is_told = told_reports(rt, alloc, &outcome.reports).as_str() == REPORTS;
+    let is_given = told_outcome(rt, alloc, program.types(), &outcome).as_str() == given;
+    let is_log = replay(alloc, program, &log_of(outcome)).is_ok();
+    if is_short {
+        Came::Wanting(is_log)
+    } else {
+        Came::Answered(is_log && is_told && is_given)
+    }
+}
+
+pub fn alone(rt: &impl Abort, alloc: Global, spare: usize) -> Came {
+    let program = made::program(rt, alloc, COUNTER, None);
+    let words = seeded(alloc, program.members().len()).expect(rt, "memory");
+    let hoard = all_but(rt, alloc, spare);
+    let answer = run_alone(alloc, &program, TURNS, words, &[]);
+    drop(hoard);
+    judged(rt, alloc, &program, answer, RUN)
+}
+
+pub fn resumed_alone(rt: &impl Abort, alloc: Global, spare: usize) -> Came {
+    let program = made::program(rt, alloc, COUNTER, None);
+    let log = logged(rt, alloc, program.types(), TICKED);
+    let words = seeded(alloc, program.members().len()).expect(rt, "memory");
+    let hoard = all_but(rt, alloc, spare);
+    let answer = resume_alone(alloc, &program, &log, TURNS, words, &[]);
+    drop(hoard);
+    judged(rt, alloc, &program, answer, RESUMED)
+}
+
+pub fn on_threads<H: Abort + Threads + Wait + Sync>(rt: &H, alloc: Global, spare: usize) -> Came {
+    let program = made::program(rt, alloc, COUNTER, None);
+    let words = seeded(alloc, program.members().len()).expect(rt, "memory");
+    let hoard = all_but(rt, alloc, spare.saturating_mul(STACKS));
+    let answer = run_threads(rt, alloc, &program, TURNS, words, &[], &OpenGate);
+    drop(hoard);
+    judged(rt, alloc, &program, answer, RUN)
+}
+
+pub fn resumed_on_threads<H: Abort + Threads + Wait + Sync>(
+    rt: &H,
+    alloc: Global,
+    spare: usize,
+) -> Came {
+    let program = made::program(rt, alloc, COUNTER, None);
+    let log = logged(rt, alloc, program.types(), TICKED);
+    let words = seeded(alloc, program.members().len()).expect(rt, "memory");
+    let hoard = all_but(rt, alloc, spare.saturating_mul(STACKS));
+    let answer = resume_threads(rt, alloc, &program, &log, TURNS, words, &[], &OpenGate);
+    drop(hoard);
+    judged(rt, alloc, &program, answer, RESUMED)
+}
