@@ -19,3 +19,5 @@ pub mod LogTexts
 pub mod BrokenInvariants
 pub mod Judging
 pub mod LineByLine
+pub mod Loops
+pub mod WordRows

@@ -23,7 +23,7 @@ use Rattle.ioa_value.specs.declared.terminal.Terminal.TheVariants as terminals
 use Rattle.ioa_value.specs.declared.operator.Op.{Op}
 use Rattle.ioa_lex.specs.Tokens as tokens
 use Rattle.ioa_lex.specs.Tokens.{Tok, terminal}
-use Rattle.ioa_grammar.specs.Reading.{Outcome, expression, expr, first, operand, fields_from, after_name, primary, start_at, start_of, climb, operator_at, operator_of, prefix_at, prefix_of, terminal_at, same_terminal, sees, sign, statements, statement, in_sequence, terminated, items_from, sees_statement, sees_name, after, choice, an_arm, more_arms, many, many_from, introduced, assignment, a_name}
+use Rattle.ioa_grammar.specs.Reading.{Outcome, expression, expr, first, operand, fields_from, after_name, primary, start_at, start_of, climb, operator_at, operator_of, prefix_at, prefix_of, terminal_at, same_terminal, sees, sign, statements, statement, in_sequence, terminated, items_from, sees_statement, sees_name, after, choice, an_arm, more_arms, many, many_from, introduced, unconditional, assignment, a_name}
 
 abbrev pub field : Name → Name → FieldTree
 field x t = record { name = x; ty = t }
@@ -379,22 +379,22 @@ tested ts = word terminals.True ∷ word terminals.Then ∷ ts
 
 chooses : statements 3 (word terminals.If ∷ tested (setting 1 (word terminals.Elseif ∷ tested (setting 2 (word terminals.Else ∷ setting 3 (word terminals.Fi ∷ []))))))
     ≡ Ok (seq (choose (arm (truth true) (set 1) (arm (truth true) (set 2) no_arm)) (set 3)) stop, [])
-unfolding statements statement in_sequence terminated items_from sees_statement sees_name sees after choice an_arm more_arms many many_from introduced assignment sign a_name expression expr first prefix_at prefix_of operand primary after_name fields_from start_at start_of climb operator_at operator_of terminal_at same_terminal
+unfolding statements statement in_sequence terminated items_from sees_statement sees_name sees after choice an_arm more_arms many many_from introduced unconditional assignment sign a_name expression expr first prefix_at prefix_of operand primary after_name fields_from start_at start_of climb operator_at operator_of terminal_at same_terminal
 chooses = refl
 
 -- an arm has statements
 chooses_nothing : shown (statements 3 (word terminals.If ∷ tested (word terminals.Fi ∷ []))) ≡ Err (refusals.Syntax 1)
-unfolding statements statement in_sequence terminated items_from sees_statement sees_name sees after choice an_arm more_arms many many_from introduced assignment sign a_name expression expr first prefix_at prefix_of operand primary after_name fields_from start_at start_of climb operator_at operator_of terminal_at same_terminal
+unfolding statements statement in_sequence terminated items_from sees_statement sees_name sees after choice an_arm more_arms many many_from introduced unconditional assignment sign a_name expression expr first prefix_at prefix_of operand primary after_name fields_from start_at start_of climb operator_at operator_of terminal_at same_terminal
 chooses_nothing = refl
 
 -- a choice ends with `fi`
 never_ends : shown (statements 3 (word terminals.If ∷ tested (setting 1 []))) ≡ Err (refusals.Syntax 0)
-unfolding statements statement in_sequence terminated items_from sees_statement sees_name sees after choice an_arm more_arms many many_from introduced assignment sign a_name expression expr first prefix_at prefix_of operand primary after_name fields_from start_at start_of climb operator_at operator_of terminal_at same_terminal
+unfolding statements statement in_sequence terminated items_from sees_statement sees_name sees after choice an_arm more_arms many many_from introduced unconditional assignment sign a_name expression expr first prefix_at prefix_of operand primary after_name fields_from start_at start_of climb operator_at operator_of terminal_at same_terminal
 never_ends = refl
 
 -- an assignment in a choice is two levels deep
 chooses_too_deep : shown (statements 1 (word terminals.If ∷ tested (setting 1 (word terminals.Fi ∷ [])))) ≡ Err (refusals.TooDeep 0)
-unfolding statements statement in_sequence terminated items_from sees_statement sees_name sees after choice an_arm more_arms many many_from introduced assignment sign a_name expression expr first prefix_at prefix_of operand primary after_name fields_from start_at start_of climb operator_at operator_of terminal_at same_terminal
+unfolding statements statement in_sequence terminated items_from sees_statement sees_name sees after choice an_arm more_arms many many_from introduced unconditional assignment sign a_name expression expr first prefix_at prefix_of operand primary after_name fields_from start_at start_of climb operator_at operator_of terminal_at same_terminal
 chooses_too_deep = refl
 
 -- ---- what the composition does

@@ -202,8 +202,8 @@ not_a_type : told (scan (tries (Pick (ty 9) ∷ []) (9 ∷ []))) ≡ Some (0, 5)
 not_a_type = refl
 
 -- the type of a number below another is Int
-leaves_a_number : after (tries [] []) 4 Any (0 ∷ 1 ∷ []) ≡ Ok (way 5 (0 ∷ 1 ∷ []) ∷ [])
+leaves_a_number : after (tries [] []) 0 4 Any (0 ∷ 1 ∷ []) ≡ Ok (way 5 (0 ∷ 1 ∷ []) ∷ [])
 leaves_a_number = refl
 
-leaves_a_name : after (tries [] []) 4 (Pick (ty 2)) (1 ∷ []) ≡ Ok (way 5 (1 ∷ 2 ∷ []) ∷ [])
+leaves_a_name : after (tries [] []) 0 4 (Pick (ty 2)) (1 ∷ []) ≡ Ok (way 5 (1 ∷ 2 ∷ []) ∷ [])
 leaves_a_name = refl

@@ -15,11 +15,11 @@ syntax keyword ioaSection signature states transitions
 syntax keyword ioaKind input output internal const stable
 syntax keyword ioaClause pre propose eff
 syntax keyword ioaConditional if then elseif else fi
+syntax keyword ioaRepeat for in do od
 syntax keyword ioaFunction any empty len head tail last init append at member without
 syntax keyword ioaWordOperator div mod
 syntax keyword ioaBoolean true false
 syntax keyword ioaType Bool Int
-syntax keyword ioaReserved for in do od
 
 syntax match ioaError "[^ \t\r0-9A-Za-z]"
 syntax match ioaPunctuation "[;,.:(){}]"
@@ -32,6 +32,7 @@ highlight default link ioaSection Structure
 highlight default link ioaKind StorageClass
 highlight default link ioaClause Statement
 highlight default link ioaConditional Conditional
+highlight default link ioaRepeat Repeat
 highlight default link ioaFunction Function
 highlight default link ioaWordOperator Operator
 highlight default link ioaOperator Operator
@@ -39,7 +40,6 @@ highlight default link ioaPunctuation Delimiter
 highlight default link ioaBoolean Boolean
 highlight default link ioaType Type
 highlight default link ioaNumber Number
-highlight default link ioaReserved Error
 highlight default link ioaError Error
 highlight default link ioaComment Comment
 

@@ -4,7 +4,7 @@ use ioa_lex::{Kind, Terminal, Token};
 use ioa_rules::source_fine;
 use ioa_syntax::{Numbered, Refusal, parse_numbered};
 use ioa_tree::{
-    Assembly, Automaton, Declaration, Field, Name, Position, TypeDeclaration, TypeForm,
+    Assembly, Automaton, Declaration, Field, Name, Position, Statement, TypeDeclaration, TypeForm,
 };
 use ioa_value::OutOfMemory;
 use std::alloc::Global;
@@ -81,6 +81,8 @@ pub enum What {
     Formal,
     Variable,
     Parameter,
+    /// The name of a loop.
+    Loop,
     Entry,
     Component,
 }
@@ -96,6 +98,7 @@ impl What {
             What::Formal => "a formal",
             What::Variable => "a variable",
             What::Parameter => "a parameter",
+            What::Loop => "the name of a loop",
             What::Entry => "an entry",
             What::Component => "a component",
         }
@@ -105,9 +108,12 @@ impl What {
     pub fn is_global(self) -> bool {
         match self {
             What::Type | What::Constant | What::Automaton | What::Composition => true,
-            What::Formal | What::Variable | What::Parameter | What::Entry | What::Component => {
-                false
-            }
+            What::Formal
+            | What::Variable
+            | What::Parameter
+            | What::Loop
+            | What::Entry
+            | What::Component => false,
         }
     }
 }
@@ -117,7 +123,7 @@ impl What {
 pub struct Known<'a> {
     pub name: &'a Name,
     pub what: What,
-    /// The name of the entry that has the parameter, and else that of the declaration itself.
+    /// The name of the entry that has the parameter, or of the transition that has the loop, and else that of the declaration itself.
     pub of: &'a Name,
     /// Which declaration has it.
     pub within: usize,
@@ -196,6 +202,38 @@ fn push_automaton<'a>(
             of,
             within,
         })?;
+    }
+    for transition in &automaton.transitions {
+        push_loops(found, &transition.effect, &transition.name, within)?;
+    }
+    Ok(())
+}
+
+fn push_loops<'a>(
+    found: &mut Vec<Known<'a>>,
+    statements: &'a [Statement],
+    of: &'a Name,
+    within: usize,
+) -> Result<(), OutOfMemory> {
+    for statement in statements {
+        match statement {
+            Statement::Assign(_, _) => {}
+            Statement::If(arms, others, _) => {
+                for arm in arms {
+                    push_loops(found, &arm.statements, of, within)?;
+                }
+                push_loops(found, others, of, within)?;
+            }
+            Statement::For(name, _, body, _) => {
+                found.push(Known {
+                    name,
+                    what: What::Loop,
+                    of,
+                    within,
+                })?;
+                push_loops(found, body, of, within)?;
+            }
+        }
     }
     Ok(())
 }

@@ -7,7 +7,7 @@ use std::alloc::Global;
 use std::fmt::Write;
 
 /// The words and signs of the grammar, in the order in which they are told.
-const TERMINALS: [Terminal; 64] = [
+const TERMINALS: [Terminal; 68] = [
     Terminal::Semicolon,
     Terminal::Comma,
     Terminal::Colon,
@@ -20,7 +20,11 @@ const TERMINALS: [Terminal; 64] = [
     Terminal::Elseif,
     Terminal::Else,
     Terminal::Fi,
+    Terminal::In,
+    Terminal::Do,
+    Terminal::Od,
     Terminal::If,
+    Terminal::For,
     Terminal::Pre,
     Terminal::Propose,
     Terminal::Eff,

@@ -35,12 +35,15 @@ integer Int
 "#;
 
 /// Words that are tried before the token that does not fit, one after the other: where it fits behind one of them, that one is missing.
-const MISSING: [Terminal; 16] = [
+const MISSING: [Terminal; 19] = [
     Terminal::Semicolon,
     Terminal::Fi,
+    Terminal::Od,
     Terminal::Close,
     Terminal::CloseBrace,
     Terminal::Then,
+    Terminal::In,
+    Terminal::Do,
     Terminal::Becomes,
     Terminal::Open,
     Terminal::OpenBrace,
@@ -378,11 +381,17 @@ fn word_in(kind: &Kind) -> Option<Terminal> {
 }
 
 fn opens(word: Terminal) -> bool {
-    matches!(word, Terminal::If | Terminal::Open | Terminal::OpenBrace)
+    matches!(
+        word,
+        Terminal::If | Terminal::For | Terminal::Open | Terminal::OpenBrace
+    )
 }
 
 fn closes(word: Terminal) -> bool {
-    matches!(word, Terminal::Fi | Terminal::Close | Terminal::CloseBrace)
+    matches!(
+        word,
+        Terminal::Fi | Terminal::Od | Terminal::Close | Terminal::CloseBrace
+    )
 }
 
 /// What closes what this word or sign opens.
@@ -390,6 +399,7 @@ fn closing(word: Terminal) -> Terminal {
     match word {
         Terminal::Open => Terminal::Close,
         Terminal::OpenBrace => Terminal::CloseBrace,
+        Terminal::For => Terminal::Od,
         _ => Terminal::Fi,
     }
 }

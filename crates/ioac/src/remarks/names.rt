@@ -74,10 +74,12 @@ fn put_what(text: &mut String, known: &Known<'_>) -> Result<(), OutOfMemory> {
     let of = known.of.text.as_str();
     match known.what {
         What::Constant => write!(text, "{what} {of}")?,
-        What::Formal | What::Variable | What::Parameter | What::Entry | What::Component => write!(
-            text,
-            "{what} of {of}"
-        )?,
+        What::Formal
+        | What::Variable
+        | What::Parameter
+        | What::Loop
+        | What::Entry
+        | What::Component => write!(text, "{what} of {of}")?,
         What::Type | What::Automaton | What::Composition => text.push_str(what)?,
     }
     Ok(())
@@ -86,12 +88,17 @@ fn put_what(text: &mut String, known: &Known<'_>) -> Result<(), OutOfMemory> {
 /// The other declaration of the name that is declared by the token of this index.
 fn other_of<'a, 'b>(known: &'b [Known<'a>], name: &str, index: u32) -> Option<&'b Known<'a>> {
     let own = declared_at(known, index)?;
+    let mut around = None;
     for other in known {
         if other.name.line != index && other.name.is(name) && shares_names(own, other) {
-            return Some(other);
+            if other.what != What::Loop {
+                return Some(other);
+            }
+            // Of loops before it with its name the last one is round it: another would have been told first.
+            around = Some(other);
         }
     }
-    None
+    around
 }
 
 /// What the token of this index declares.
@@ -112,10 +119,23 @@ fn shares_names(own: &Known<'_>, other: &Known<'_>) -> bool {
     if other.what.is_global() {
         return true;
     }
+    if own.what == What::Loop || other.what == What::Loop {
+        return own.what == What::Loop && own.within == other.within && is_round(own, other);
+    }
     let parameters = own.what == What::Parameter && other.what == What::Parameter;
     own.within == other.within
         && other.what != What::Entry
         && (!parameters || own.of.line == other.of.line)
+}
+
+/// Whether a loop may stand where the other name of its automaton does.
+fn is_round(own: &Known<'_>, other: &Known<'_>) -> bool {
+    match other.what {
+        What::Loop => own.of.line == other.of.line && other.name.line < own.name.line,
+        What::Parameter => own.of.is(other.of.text.as_str()),
+        What::Entry => false,
+        _ => true,
+    }
 }
 
 /// Puts which name is not known where the token of this index stands, and what it is elsewhere. Answers whether it is a name.

@@ -3,7 +3,7 @@
 use crate::tests::shelf::{COUNTER, First, expect_rows};
 use crate::tests::{
     bounds, changes, choices, commands, composed, constants, crashes, declared, invariants, lines,
-    list_logs, lists, logs, objects, pictures, proposals, requests, states,
+    list_logs, lists, logs, loops, objects, pictures, proposals, requests, states, turns,
 };
 use std::alloc::Global;
 use std::process::Abort;
@@ -17,7 +17,7 @@ const LONG: [(&str, First<'static>); 2] = [
     (lines::ROWS, First::Check),
 ];
 
-const SHORT: [(&str, First<'static>); 30] = [
+const SHORT: [(&str, First<'static>); 34] = [
     (lists::ROWS, First::List(COUNTER)),
     (lists::ROWS, First::Object(COUNTER)),
     (proposals::REPLAYS, First::Object(proposals::GAME)),
@@ -39,6 +39,9 @@ const SHORT: [(&str, First<'static>); 30] = [
     (logs::BLANKS, First::Words(COUNTER)),
     (logs::FAULTS, First::All),
     (logs::MONITORS, First::All),
+    (loops::CHECKS, First::Request),
+    (loops::REPLAYS, First::File),
+    (loops::SUMS, First::Object(loops::SUM)),
     (list_logs::ROWS, First::Words(COUNTER)),
     (list_logs::COMPOSED, First::All),
     (pictures::ROWS, First::Words(COUNTER)),
@@ -47,6 +50,7 @@ const SHORT: [(&str, First<'static>); 30] = [
     (proposals::REPLAYS, First::List(proposals::GAME)),
     (requests::ROWS, First::Request),
     (states::ROWS, First::All),
+    (turns::ROWS, First::All),
     (commands::ROWS, First::Words(commands::TWO)),
 ];
 

@@ -95,6 +95,20 @@ const FAULTS: &str = "\
 --turns 1 --log --reports |  |  | {\"act\":\"go\",\"who\":0}^{\"end\":\"fault 4 in component 1 at 0\"}^ | G: 0 committed, 0 idle, 0 stale, faulted^P: 0 committed, 1 idle, 0 stale, turns done^environment: 0 committed, 1 idle, 0 stale, turns done^ | 3
 ";
 
+/// A host that sums up a sequence each time that it tells the sum before.
+const FOLD: &str = "\
+type S = seq 4 of Int \
+automaton Fold signature output tell(k: Int); input put(a: Int) states stable s: S; n: Int \
+transitions output tell pre k = n propose k := n eff n := 0; for y in s do n := n + y od \
+input put eff s := append(s, a) \
+composition One components A: Fold crash down recover up";
+
+/// The same.
+const LOOPS: &str = "\
+--alone --turns 6 --inputs l |  | put(2)^put(5)^down^up | tell(0)^put(2)^tell(0)^put(5)^tell(2)^down^up^tell(0)^tell(7)^end: done after 9^ |  | 0
+--turns 3 |  |  | tell(0)^tell(0)^tell(0)^end: done after 3^ |  | 0
+";
+
 /// Four files in memory: the source or the object `f`, the words `w`, the script `l`, and the log `r`.
 #[derive(Drop)]
 pub struct Rack<'a> {
@@ -210,6 +224,7 @@ fn runs_print_what_is_wanted(rt: HostRuntime) {
     expect_runs(&rt, rt.alloc(), GAMES, GAME);
     expect_runs(&rt, rt.alloc(), COUNTS, COUNTER);
     expect_runs(&rt, rt.alloc(), FAULTS, FAULTY);
+    expect_runs(&rt, rt.alloc(), LOOPS, FOLD);
 }
 
 /// What a run of the game prints by these words.
