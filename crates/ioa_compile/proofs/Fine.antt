@@ -22,7 +22,6 @@ use Rattle.ioa_tree.specs.declared.tree.Kind.TheVariants.{Input, Output, Interna
 use Rattle.ioa_tree.specs.Tree.{Expr, number, truth, named, parens, prefix, binary, empty, make, select, Exprs, no_expr, also, Stmt, assign, choose, each, Stmts, stop, seq, Arms, no_arm, arm, expr_in, AutomatonTree, EntryTree, TransitionTree, VariableTree}
 use Rattle.ioa_tree.specs.Types.{empty_of}
 use Rattle.ioa_tree.specs.Instances.{field_names, variable_names, transition_for}
-use Rattle.ioa_tree.specs.declared.tree.TheConstants.{NESTED_LOOPS}
 use Rattle.ioa_tree.specs.Domains.{AreDomainsOf}
 use Rattle.ioa_tree.specs.Compositions.{Member}
 use Rattle.ioa_tree.specs.WellFormed.{Context, type_in, type_of, types_of_all, infix_type, is_some_of, has_ty, nodes, stmts_nodes, is_type, contains, parameter_names, local_names, taken, item_in, context_of, variable_fields, same_kind, is_input, scope, entry_fine, matches, pre_fine, stmt_fine, stmts_fine, arms_fine, effect_fine, input_fine, proposals_fine, all_proposed, transition_fine, pre_within, proposals_within, effect_within, transition_within, entry_within}
@@ -164,15 +163,15 @@ module _ (types : Table) (g : List Name) (a : AutomatonTree) (e : EntryTree) whe
 
   loop_tests : (loops : Context) (x : Name) (v : Expr) (ss : Stmts) → IsTrue (stmt_fine types types g a e loops (each x v ss)) → ((item : ℕ) → IsTrue (stmts_fine types types g a e ((x, item) ∷ loops) ss) → StmtsTyped types named_there written_there ((x, item) ∷ loops) ss) → StmtTyped types named_there written_there loops (each x v ss)
   loop_tests loops x v ss h body =
-      let new = and_parts (not (contains (taken types types g a e loops) x)) (nat_lt (length loops) NESTED_LOOPS && option_map_or (body_fine loops x ss) (item_in types types g a e loops v) false) h in
-      let few = and_parts (nat_lt (length loops) NESTED_LOOPS) (option_map_or (body_fine loops x ss) (item_in types types g a e loops v) false) new.1 in
+      let new = and_parts (not (contains (taken types types g a e loops) x)) (nat_lt (length loops) LIMITS.loops && option_map_or (body_fine loops x ss) (item_in types types g a e loops v) false) h in
+      let few = and_parts (nat_lt (length loops) LIMITS.loops) (option_map_or (body_fine loops x ss) (item_in types types g a e loops v) false) new.1 in
       of_type (no_variable loops x (not_true (contains (taken types types g a e loops) x) new.0)) (grind (arith, nat_tests)) (type_of types types (loops ++ named_there) v) refl few.1
     where
-      of_item : type_in written_there x ≡ None → length loops < NESTED_LOOPS → (ty : ℕ) → type_of types types (loops ++ named_there) v ≡ Some ty → (o : Option ℕ) → item_type types ty ≡ o → IsTrue (option_map_or (body_fine loops x ss) o false) → StmtTyped types named_there written_there loops (each x v ss)
+      of_item : type_in written_there x ≡ None → length loops < LIMITS.loops → (ty : ℕ) → type_of types types (loops ++ named_there) v ≡ Some ty → (o : Option ℕ) → item_type types ty ≡ o → IsTrue (option_map_or (body_fine loops x ss) o false) → StmtTyped types named_there written_there loops (each x v ss)
       of_item fresh few ty t None is h = absurd (cc)
       of_item fresh few ty t (Some item) is h = (ty, item, t, is, fresh, few, body item h)
 
-      of_type : type_in written_there x ≡ None → length loops < NESTED_LOOPS → (o : Option ℕ) → type_of types types (loops ++ named_there) v ≡ o → IsTrue (option_map_or (body_fine loops x ss) (option_and_then (item_type types) o) false) → StmtTyped types named_there written_there loops (each x v ss)
+      of_type : type_in written_there x ≡ None → length loops < LIMITS.loops → (o : Option ℕ) → type_of types types (loops ++ named_there) v ≡ o → IsTrue (option_map_or (body_fine loops x ss) (option_and_then (item_type types) o) false) → StmtTyped types named_there written_there loops (each x v ss)
       of_type fresh few None t h = absurd (cc)
       of_type fresh few (Some ty) t h = of_item fresh few ty t (item_type types ty) refl h
 

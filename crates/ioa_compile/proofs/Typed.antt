@@ -1,7 +1,7 @@
 -- Typed preconditions and statements.
 use Rattle.std.specs.Prelude.{◌≡◌, ℕ, ◌<◌, ◌∷◌, ◌++◌, length, Option, Some, None, IfSome}
 use Rattle.ioa_value.specs.Table.{Table, item_type}
-use Rattle.ioa_tree.specs.declared.tree.TheConstants.{NESTED_LOOPS}
+use Rattle.ioa_value.specs.declared.limits.TheConstants.{LIMITS}
 use Rattle.ioa_tree.specs.Tree.{Expr, Stmt, assign, choose, each, Stmts, stop, seq, Arms, no_arm, arm}
 use Rattle.ioa_tree.specs.WellFormed.{Context, type_in, type_of}
 
@@ -14,7 +14,7 @@ abbrev mutual
   StmtTyped types c v loops (assign x e) = (ty : ℕ) × (type_in v x ≡ Some ty) × (type_of types types (loops ++ c) e ≡ Some ty)
   StmtTyped types c v loops (choose arms others) = ArmsTyped types c v loops arms × StmtsTyped types c v loops others
   StmtTyped types c v loops (each x e ss) =
-      (ty : ℕ) × (item : ℕ) × (type_of types types (loops ++ c) e ≡ Some ty) × (item_type types ty ≡ Some item) × (type_in v x ≡ None) × (length loops < NESTED_LOOPS) × StmtsTyped types c v ((x, item) ∷ loops) ss
+      (ty : ℕ) × (item : ℕ) × (type_of types types (loops ++ c) e ≡ Some ty) × (item_type types ty ≡ Some item) × (type_in v x ≡ None) × (length loops < LIMITS.loops) × StmtsTyped types c v ((x, item) ∷ loops) ss
 
   pub StmtsTyped : Table → Context → Context → Context → Stmts → Type 0
   StmtsTyped types c v loops stop = Unit {0}

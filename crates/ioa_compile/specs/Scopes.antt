@@ -15,7 +15,6 @@ use Rattle.ioa_tree.specs.Instances.{field_names, position_fields, variable_name
 use Rattle.ioa_tree.specs.WellFormed.{Context, type_of, held as held_names, context_of}
 use Rattle.ioa_tree.specs.Compositions.{Member}
 use Rattle.ioa_tree.specs.declared.tree.Entry as tree
-use Rattle.ioa_tree.specs.declared.tree.TheConstants.{NESTED_LOOPS}
 use Rattle.ioa_tree.specs.View.{entry_of}
 use Rattle.ioa_compose.specs.declared.member.Member as held
 use Rattle.ioa_compose.specs.Held.{member_of}
@@ -133,7 +132,7 @@ abbrev mutual
 
 -- what scopes of well-formed automata keep
 pub record IsScope (s : Scope) : Type 0 where
-  pub loops : length s.loops ≤ NESTED_LOOPS
+  pub loops : length s.loops ≤ LIMITS.loops
   pub variables : length s.variables ≤ component_limits.variables
   pub parameters : length s.parameters ≤ LIMITS.parameters
   pub given : length s.formals ≡ length s.arguments
@@ -145,7 +144,7 @@ abbrev mutual
   IsKnownStmt s (assign x e) = IsSome (place_from 0 s.variables x) × IsKnown s e
   IsKnownStmt s (choose arms others) = AreKnownArms s arms × AreKnown s others
   IsKnownStmt s (each x e ss) =
-      IsKnown s e × (length s.loops < NESTED_LOOPS) × ((ty : ℕ) × (item_of s e ≡ Some ty) × AreKnown (within s x ty) ss)
+      IsKnown s e × (length s.loops < LIMITS.loops) × ((ty : ℕ) × (item_of s e ≡ Some ty) × AreKnown (within s x ty) ss)
 
   pub AreKnown : Scope → Stmts → Type 0
   AreKnown s stop = Unit {0}

@@ -8,7 +8,7 @@ ghost use Rattle.ioa_tree.specs.WellFormed.{type_of};
 ghost use Rattle.ioa_tree.specs.View.{name_of, expr_of, position_of};
 ghost use Rattle.ioa_compose.specs.Held.{member_of};
 ghost use Rattle.ioa_rules.specs.Loops.{loops_of};
-ghost use Rattle.ioa_tree.specs.declared.tree.TheConstants.{NESTED_LOOPS};
+ghost use Rattle.ioa_value.specs.declared.limits.TheConstants.{LIMITS};
 ghost use Rattle.ioa_compile.specs.Scopes.{scope_in, scope_over, scope_of_proposals, within, item_of, item_place, place_of, parameter_from};
 
 use crate::name_places::{
@@ -96,7 +96,7 @@ impl<'a> Scope<'a> {
 
     /// The scope of statements within one loop more, of this name and over these items.
     pub(crate) fn within(&self, name: &'a Name, items: &Expression) -> Scope<'a>
-        requires few { length self.now.loops < NESTED_LOOPS }
+        requires few { length self.now.loops < LIMITS.loops }
         requires sequence { IsSome (item_of self.now (expr_of items.now)) }
         ensures { (ty : ℕ) × (item_of self.now (expr_of items.now) ≡ Some ty) × (result ≡ within self.now (name_of name.now) ty) }
     {

@@ -51,6 +51,9 @@ entries_of_an_automaton = refl
 nodes_of_a_part : LIMITS.nodes ≡ 4096
 nodes_of_a_part = refl
 
+loops_within_each_other : LIMITS.loops ≡ 3
+loops_within_each_other = refl
+
 -- one that crashes and recovers has a variable and two entries more than its automaton in the source, a formal more for each variable,
 -- and two nodes more in a part
 variables_of_a_component : component_limits.variables ≡ 65

@@ -16,7 +16,6 @@ use Rattle.ioa_tree.specs.declared.tree.Expression.{Expression}
 use Rattle.ioa_tree.specs.declared.tree.Statement.{Statement}
 use Rattle.ioa_tree.specs.declared.tree.Statement.TheVariants.{If, For}
 use Rattle.ioa_tree.specs.declared.tree.Arm.{Arm}
-use Rattle.ioa_tree.specs.declared.tree.TheConstants.{NESTED_LOOPS}
 use Rattle.ioa_tree.specs.Tree.{Expr, Stmt, Stmts, choose, each}
 use Rattle.ioa_tree.specs.View.{name_of, expr_of, stmt_of, stmts_of, arm_of, arms_of}
 use Rattle.ioa_tree.specs.WellFormed.{Context, type_in, parameter_names, local_names, nodes, stmt_nodes, stmts_nodes, arms_nodes}
@@ -120,7 +119,7 @@ module _ (p : Place) where
   new x = not (contains (taken p) x)
 
   abbrev few : Bool
-  few = nat_lt (length (loops p)) NESTED_LOOPS
+  few = nat_lt (length (loops p)) LIMITS.loops
 
   abbrev before : Name → Expr → Reasons
   before x v = broken duplicate_name (new x) or broken too_many few or in_items p v

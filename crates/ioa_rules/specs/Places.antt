@@ -3,7 +3,7 @@ use Rattle.std.specs.Prelude.{◌≡◌, ℕ, nat_lt, Bool, true, false, ◌&&�
 use Rattle.ioa_value.specs.Actions.{Name}
 use Rattle.ioa_value.specs.Table.{Table, contains}
 use Rattle.ioa_lex.specs.declared.refusal.Refusal.{Refusal}
-use Rattle.ioa_tree.specs.declared.tree.TheConstants.{NESTED_LOOPS}
+use Rattle.ioa_value.specs.declared.limits.TheConstants.{LIMITS}
 use Rattle.ioa_tree.specs.Tree.{Expr, Stmt, each, Stmts, Arms, EntryTree, AutomatonTree}
 use Rattle.ioa_tree.specs.View.{automaton_of, entry_of}
 use Rattle.ioa_tree.specs.WellFormed as well_formed
@@ -79,7 +79,7 @@ in_arm p a = in_condition p a.0 or in_stmts p a.1
 -- the second place is within one loop more than the first, whose name is new there and stands for items of the type
 pub record IsWithin (p inner : Place) (x : Name) (item : ℕ) : Type 0 where
   pub new : contains (taken p) x ≡ false
-  pub few : nat_lt (length (loops p)) NESTED_LOOPS ≡ true
+  pub few : nat_lt (length (loops p)) LIMITS.loops ≡ true
   pub fine : (ss : Stmts) → stmts_fine inner ss ≡ well_formed.stmts_fine (whole p) (early p) (globals p) (machine p) (entry p) ((x, item) ∷ loops p) ss
   pub reasons : (ss : Stmts) (r : Refusal) → in_stmts inner ss r ≡ reasons.in_stmts (whole p) (early p) (globals p) (machine p) (entry p) ((x, item) ∷ loops p) ss r
 

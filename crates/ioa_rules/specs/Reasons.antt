@@ -9,7 +9,6 @@ use Rattle.ioa_value.specs.Table.{Table, type_named, item_type, field_types, fie
 use Rattle.ioa_lex.specs.declared.refusal.Refusal.{Refusal}
 use Rattle.ioa_tree.specs.Tree.{Expr, number, truth, named, parens, prefix, binary, empty, make, select, Exprs, no_expr, also, ConstantTree, positive, negative, truth_literal, reference, PositionTree, typed, only, EntryTree, VariableTree, ChoiceTree, exactly, any_below, ProposalTree, Stmt, assign, choose, each, Stmts, stop, seq, Arms, no_arm, arm, TransitionTree, AutomatonTree, InstanceTree, CompositionTree, InvariantTree, FormTree, enumeration, tuple, sequence, DeclarationTree, declared_type, automaton, composition, invariant, SourceTree}
 use Rattle.ioa_tree.specs.Instances.{field_names}
-use Rattle.ioa_tree.specs.declared.tree.TheConstants.{NESTED_LOOPS}
 use Rattle.ioa_tree.specs.Meaning.{or_else}
 use Rattle.ioa_value.specs.declared.limits.TheConstants.{LIMITS}
 use Rattle.ioa_tree.specs.Types.{with_type, types_of, constant_type}
@@ -169,7 +168,7 @@ module _ (t early : Table) (globals : List Name) (a : AutomatonTree) where
     in_stmt e loops (assign x v) = in_place t early (type_in (context_of early (variable_fields a)) x) (well_formed.scope_in t early globals a e loops) v
     in_stmt e loops (choose arms others) = in_arms e loops arms or in_stmts e loops others
     in_stmt e loops (each x v ss) =
-        broken duplicate_name (not (contains (well_formed.taken t early globals a e loops) x)) or broken too_many (nat_lt (length loops) NESTED_LOOPS)
+        broken duplicate_name (not (contains (well_formed.taken t early globals a e loops) x)) or broken too_many (nat_lt (length loops) LIMITS.loops)
         or in_items e loops v or in_some (λ item. in_stmts e ((x, item) ∷ loops) ss) (well_formed.item_in t early globals a e loops v)
 
     pub in_stmts : EntryTree → Context → Stmts → Reasons

@@ -3,7 +3,7 @@
 ghost use Rattle.std.specs.Prelude.{◌≡◌, ◌∷◌, length, nat_lt, true, false, IfSome, IfNone};
 ghost use Rattle.std.specs.Option.{option_map};
 ghost use Rattle.ioa_value.specs.Plain.{number};
-ghost use Rattle.ioa_tree.specs.declared.tree.TheConstants.{NESTED_LOOPS};
+ghost use Rattle.ioa_value.specs.declared.limits.TheConstants.{LIMITS};
 ghost use Rattle.ioa_tree.specs.View.{name_of};
 ghost use Rattle.ioa_tree.specs.WellFormed.{type_in};
 ghost use Rattle.ioa_rules.specs.Loops.{loop_of, loops_of, item_under};
@@ -45,8 +45,8 @@ impl<'a> Loops<'a> {
     /// These and one more within them. None where this is one too many.
     pub fn with(&self, inner: Loop<'a>) -> Option<Loops<'a>>
         ensures more { IfSome result (λ loops. loops_of loops ≡ loop_of inner.entry ∷ loops_of self.now) }
-        ensures within { IfSome result (λ loops. nat_lt (length (loops_of self.now)) NESTED_LOOPS ≡ true) }
-        ensures full { IfNone result (nat_lt (length (loops_of self.now)) NESTED_LOOPS ≡ false) }
+        ensures within { IfSome result (λ loops. nat_lt (length (loops_of self.now)) LIMITS.loops ≡ true) }
+        ensures full { IfNone result (nat_lt (length (loops_of self.now)) LIMITS.loops ≡ false) }
     {
         match *self {
             Loops::None => Some(Loops::One(inner)),

@@ -14,7 +14,7 @@ use Rattle.ioa_value.specs.Table.{Table, Declaration, Shape, names_in, shape_at,
 use Rattle.ioa_value.proofs.ItemLemmas.{get_append}
 use Rattle.ioa_tree.specs.Tree.{Expr, number, truth, named, parens, prefix, binary, empty, make, select, Exprs, no_expr, also, FieldTree, ConstantTree, positive, negative, truth_literal, reference, PositionTree, typed, only, EntryTree, VariableTree, ChoiceTree, exactly, any_below, ProposalTree, Stmt, assign, choose, each, Stmts, stop, seq, Arms, no_arm, arm, TransitionTree, AutomatonTree, InstanceTree, CompositionTree, SourceTree}
 use Rattle.ioa_tree.specs.Meaning.{or_else}
-use Rattle.ioa_tree.specs.declared.tree.TheConstants.{NESTED_LOOPS}
+use Rattle.ioa_value.specs.declared.limits.TheConstants.{LIMITS}
 use Rattle.ioa_tree.specs.Types.{sequence_named, constant_type}
 use Rattle.ioa_tree.specs.WellFormed.{Context, type_in, type_of, types_of_all, one_type, both_types, infix_type, made_type, selected_type, is_some_of, same_type, has_ty, contains, distinct, apart, is_type, typed_field, context_of, position_fields, constant_fine, position_fine, parameter_names, variable_fields, is_input, is_numbered, is_tried, formals, held, scope, scope_in, taken, item_in, local_names, fields_fine, start_fine, entry_fine, matches, one_to_one, pre_fine, choice_fine, proposal_fine, proposals_fine, all_proposed, stmt_fine, stmts_fine, arms_fine, input_fine, transition_fine, automaton_fine, is_automaton_of, instance_fine, composition_fine}
 use Rattle.ioa_tree.proofs.ValTyped.{types_of_both, types_of_row, type_of_one}
@@ -297,7 +297,7 @@ module _ (types early : Table) (begins : Begins early types) where
             let p = and_parts (arms_fine types early globals a e loops arms) (stmts_fine types early globals a e loops others) h in
             and_from (arms_fine types types globals a e loops arms) (stmts_fine types types globals a e loops others) (arms_stay loops arms p.0) (stmts_stay loops others p.1)
         stmt_stays loops (each x v ss) h =
-            let within = nat_lt (length loops) NESTED_LOOPS in
+            let within = nat_lt (length loops) LIMITS.loops in
             let new = not (contains (taken types types globals a e loops) x) in
             let done : Table → Bool = λ t. option_map_or (λ item. stmts_fine types t globals a e ((x, item) ∷ loops) ss) (item_in types t globals a e loops v) false in
             let p = and_parts new (within && done early) h in

@@ -14,7 +14,7 @@ use Rattle.ioa_value.proofs.NameLemmas.{not_true, outside_both}
 use Rattle.ioa_value.specs.Typing.{HasType, is_of, items_are}
 use Rattle.ioa_tree.specs.Tree.{Expr, Stmt, assign, choose, each, Stmts, stop, seq, Arms, no_arm, arm, VariableTree, EntryTree, AutomatonTree}
 use Rattle.ioa_tree.specs.Instances.{field_names, variable_names}
-use Rattle.ioa_tree.specs.declared.tree.TheConstants.{NESTED_LOOPS}
+use Rattle.ioa_value.specs.declared.limits.TheConstants.{LIMITS}
 use Rattle.ioa_tree.specs.Meaning.{Env, val, with_name, Outcome, becomes, breaks, nowhere, assigned, then_do, chosen, without, turns, looped, does, picks, eff}
 use Rattle.ioa_tree.specs.WellFormed.{Context, type_in, type_of, is_some_of, has_ty, context_of, variable_fields, parameter_names, local_names, scope, scope_in, taken, item_in, stmt_fine, stmts_fine, arms_fine}
 use Rattle.ioa_tree.specs.Answers.{HasValueOf, Suits, IsTypedOutcome}
@@ -238,8 +238,8 @@ module _ (types : Table) (declared : AreTypes types) (globals : List Name) (a : 
         picks_typed loops arms env (eff types others env) out parts.0 suits (stmts_typed loops others env out parts.1 suits)
     stmt_typed loops (each x v ss) env out h suits =
         let there = option_map_or (λ item. stmts_fine types types globals a e ((x, item) ∷ loops) ss) (item_in types types globals a e loops v) false in
-        let parts = and_parts (not (contains (taken types types globals a e loops) x)) (nat_lt (length loops) NESTED_LOOPS && there) h in
-        let inner = and_parts (nat_lt (length loops) NESTED_LOOPS) there parts.1 in
+        let parts = and_parts (not (contains (taken types types globals a e loops) x)) (nat_lt (length loops) LIMITS.loops && there) h in
+        let inner = and_parts (nat_lt (length loops) LIMITS.loops) there parts.1 in
         looped_typed loops x v ss env suits
         (λ item fine next s. stmts_typed ((x, item) ∷ loops) ss next (still_apart loops x item out (not_true (contains (taken types types globals a e loops) x) parts.0)) fine s)
         inner.1

@@ -14,7 +14,7 @@ use Rattle.ioa_tree.specs.Names.{names_of_expr, names_of_exprs, names_of_stmt, n
 use Rattle.ioa_tree.specs.Types.{constant_type}
 use Rattle.ioa_tree.specs.Meaning.{or_else}
 use Rattle.ioa_tree.specs.WellFormed.{Context, type_in, type_of, types_of_all, one_type, both_types, infix_type, made_type, selected_type, is_some_of, context_of, variable_fields, parameter_names, local_names, scope, scope_in, taken, item_in, stmt_fine, stmts_fine, arms_fine}
-use Rattle.ioa_tree.specs.declared.tree.TheConstants.{NESTED_LOOPS}
+use Rattle.ioa_value.specs.declared.limits.TheConstants.{LIMITS}
 use Rattle.ioa_tree.proofs.Agreement.{all_both, two}
 
 module _ (types early : Table) (p : Name → Bool) (c d : Context) (same : (x : Name) → p x ≡ true → type_in c x ≡ type_in d x) where
@@ -91,12 +91,12 @@ module _ (types early : Table) (g k : List Name) (a b : AutomatonTree) (e : Entr
         let q = and_parts (p x) (list_all p (names_of_expr v ++ names_of_stmts ss)) h in
         let r = all_both p (names_of_expr v) (names_of_stmts ss) q.1 in
         let there : List Name → AutomatonTree → Option ℕ → Bool = λ g a o. option_map_or (λ item. stmts_fine types early g a e ((x, item) ∷ loops) ss) o false in
-        let c = and_parts (not (contains (taken types early g a e loops) x)) (nat_lt (length loops) NESTED_LOOPS && there g a (item_in types early g a e loops v)) f in
-        let d = and_parts (nat_lt (length loops) NESTED_LOOPS) (there g a (item_in types early g a e loops v)) c.1 in
+        let c = and_parts (not (contains (taken types early g a e loops) x)) (nat_lt (length loops) LIMITS.loops && there g a (item_in types early g a e loops v)) f in
+        let d = and_parts (nat_lt (length loops) LIMITS.loops) (there g a (item_in types early g a e loops v)) c.1 in
         let items : item_in types early g a e loops v ≡ item_in types early k b e loops v = ap (option_and_then (item_type types)) (expr_same loops v r.0) in
-        and_from (not (contains (taken types early k b e loops) x)) (nat_lt (length loops) NESTED_LOOPS && there k b (item_in types early k b e loops v))
+        and_from (not (contains (taken types early k b e loops) x)) (nat_lt (length loops) LIMITS.loops && there k b (item_in types early k b e loops v))
         (ap not (new_still loops x q.0 (not_true (contains (taken types early g a e loops) x) c.0)))
-        (and_from (nat_lt (length loops) NESTED_LOOPS) (there k b (item_in types early k b e loops v)) d.0
+        (and_from (nat_lt (length loops) LIMITS.loops) (there k b (item_in types early k b e loops v)) d.0
         (some_still (λ item. stmts_fine types early g a e ((x, item) ∷ loops) ss) (λ item. stmts_fine types early k b e ((x, item) ∷ loops) ss)
         (item_in types early g a e loops v) (item_in types early k b e loops v) items (λ item t. stmts_still ((x, item) ∷ loops) ss r.1 t) d.1))
 

@@ -14,7 +14,6 @@ use Rattle.ioa_value.specs.Widths.{widths}
 use Rattle.ioa_tree.specs.declared.tree.Infix.{Infix}
 use Rattle.ioa_tree.specs.declared.tree.Infix.TheVariants.{Operator, And, Or, Implies}
 use Rattle.ioa_tree.specs.declared.tree.Kind.{Kind}
-use Rattle.ioa_tree.specs.declared.tree.TheConstants.{NESTED_LOOPS}
 use Rattle.ioa_tree.specs.declared.tree.Kind.TheVariants.{Input, Output, Internal}
 use Rattle.ioa_tree.specs.Tree.{Expr, number, truth, named, parens, prefix, binary, empty, make, select, Exprs, no_expr, also, FieldTree, ConstantTree, positive, negative, truth_literal, reference, PositionTree, typed, only, EntryTree, VariableTree, ChoiceTree, exactly, any_below, expr_in, ProposalTree, Stmt, assign, choose, each, Stmts, stop, seq, Arms, no_arm, arm, TransitionTree, AutomatonTree, InstanceTree, CompositionTree, InvariantTree, FormTree, enumeration, tuple, sequence, TypeTree, DeclarationTree, declared_type, automaton, composition, invariant, SourceTree}
 use Rattle.ioa_tree.specs.Meaning.{or_else}
@@ -250,7 +249,7 @@ module _ (t early : Table) (globals : List Name) (a : AutomatonTree) where
     stmt_fine e loops (assign x v) = option_map_or (λ ty. has_ty t early (scope_in e loops) v ty) (type_in (context_of early (variable_fields a)) x) false
     stmt_fine e loops (choose arms others) = arms_fine e loops arms && stmts_fine e loops others
     stmt_fine e loops (each x v ss) =
-        not (contains (taken e loops) x) && (nat_lt (length loops) NESTED_LOOPS
+        not (contains (taken e loops) x) && (nat_lt (length loops) LIMITS.loops
         && option_map_or (λ item. stmts_fine e ((x, item) ∷ loops) ss) (item_in e loops v) false)
 
     pub stmts_fine : EntryTree → Context → Stmts → Bool

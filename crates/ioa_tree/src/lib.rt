@@ -11,6 +11,6 @@ pub use laws::{well_formed_starts, well_typed_answers, well_typed_proposals};
 pub use sameness::{Same, same_list};
 pub use tree::{
     Arm, Assembly, Automaton, Choice, Constant, Crash, Declaration, Entry, Expression, Field,
-    Infix, Instance, Invariant, Kind, NESTED_LOOPS, Name, Position, Proposal, Statement,
-    Transition, TypeDeclaration, TypeForm, Variable,
+    Infix, Instance, Invariant, Kind, Name, Position, Proposal, Statement, Transition,
+    TypeDeclaration, TypeForm, Variable,
 };

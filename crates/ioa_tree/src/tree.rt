@@ -196,9 +196,6 @@ pub enum Statement {
     For(Name, Expression, Vec<Statement>, u32),
 }
 
-/// How many loops may stand within each other.
-pub const NESTED_LOOPS: usize = 3;
-
 /// A condition, and what is done where it is true.
 #[derive(Drop)]
 #[cycle(statement)]

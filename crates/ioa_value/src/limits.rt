@@ -35,6 +35,8 @@ pub struct Limits {
     pub entries: usize,
     /// Nodes of the trees of a precondition, of a transition's proposals together, and of an effect.
     pub nodes: usize,
+    /// Loops of an effect within each other.
+    pub loops: usize,
 }
 
 /// The limits of a source.
@@ -55,4 +57,5 @@ pub const LIMITS: Limits = Limits {
     variables: 64,
     entries: 64,
     nodes: 4_096,
+    loops: 3,
 };
