@@ -9,7 +9,7 @@ ghost use Rattle.ioa_code.specs.Parts.{listing};
 ghost use Rattle.ioa_tree.specs.View.{name_of, expr_of, exprs_of, stmt_of, stmts_of, arms_of};
 ghost use Rattle.ioa_tree.specs.Tree.{named, assign, choose, each};
 ghost use Rattle.ioa_tree.specs.WellFormed.{nodes, exprs_nodes, stmt_nodes, stmts_nodes};
-ghost use Rattle.ioa_compile.specs.Scopes.{IsScope, IsKnown, AreAllKnown, IsKnownStmt, AreKnown, IsKnownGuard, IsOrigin, origin};
+ghost use Rattle.ioa_compile.specs.Scopes.{IsKnown, AreAllKnown, IsKnownStmt, AreKnown, IsKnownGuard, IsOrigin, origin};
 ghost use Rattle.ioa_compile.specs.Extents.{extent, exprs_extent, infix_extent, guard_extent, stmt_extent, stmts_extent};
 ghost use Rattle.ioa_compile.specs.Emitting.{AddsInstr, AddsConst, AddsExpr, AddsExprs, AddsCombined, AddsTrueSide, AddsFalseSide, AddsGuard, AddsStmt, AddsStmts, guard_nodes};
 
@@ -29,7 +29,6 @@ pub(crate) fn emit_guard(
     scope: &Scope<'_>,
     guard: &Option<Expression>,
 ) -> Result<(), OutOfMemory>
-    requires scope { IsScope scope.now }
     requires known { IsKnownGuard scope.now (option_map expr_of guard.now) }
     requires room { length out.old.consts.items + guard_nodes (option_map expr_of guard.now) < 2 ^ 16 }
     requires short { length out.old.instrs.items + guard_extent (option_map expr_of guard.now) < 2 ^ 16 }
@@ -49,7 +48,6 @@ pub(crate) fn emit_statements<'a>(
     scope: &Scope<'a>,
     statements: &'a [Statement],
 ) -> Result<(), OutOfMemory>
-    requires scope { IsScope scope.now }
     requires known { AreKnown scope.now (stmts_of statements.now) }
     requires room { length out.old.consts.items + stmts_nodes (stmts_of statements.now) < 2 ^ 16 }
     requires short { length out.old.instrs.items + stmts_extent (stmts_of statements.now) < 2 ^ 16 }
@@ -69,7 +67,6 @@ fn emit_statement<'a>(
     scope: &Scope<'a>,
     statement: &'a Statement,
 ) -> Result<(), OutOfMemory>
-    requires scope { IsScope scope.now }
     requires known { IsKnownStmt scope.now (stmt_of statement.now) }
     requires room { length out.old.consts.items + stmt_nodes (stmt_of statement.now) < 2 ^ 16 }
     requires short { length out.old.instrs.items + stmt_extent (stmt_of statement.now) < 2 ^ 16 }
@@ -91,7 +88,6 @@ fn emit_choice<'a>(
     arms: &'a [Arm],
     others: &'a [Statement],
 ) -> Result<(), OutOfMemory>
-    requires scope { IsScope scope.now }
     requires known { IsKnownStmt scope.now (choose (arms_of arms.now) (stmts_of others.now)) }
     requires room { length out.old.consts.items + stmt_nodes (choose (arms_of arms.now) (stmts_of others.now)) < 2 ^ 16 }
     requires short { length out.old.instrs.items + stmt_extent (choose (arms_of arms.now) (stmts_of others.now)) < 2 ^ 16 }
@@ -119,7 +115,6 @@ fn emit_loop<'a>(
     items: &Expression,
     body: &'a [Statement],
 ) -> Result<(), OutOfMemory>
-    requires scope { IsScope scope.now }
     requires known { IsKnownStmt scope.now (each (name_of name.now) (expr_of items.now) (stmts_of body.now)) }
     requires room { length out.old.consts.items + stmt_nodes (each (name_of name.now) (expr_of items.now) (stmts_of body.now)) < 2 ^ 16 }
     requires short { length out.old.instrs.items + stmt_extent (each (name_of name.now) (expr_of items.now) (stmts_of body.now)) < 2 ^ 16 }
@@ -141,7 +136,6 @@ fn emit_assignment(
     name: &Name,
     e: &Expression,
 ) -> Result<(), OutOfMemory>
-    requires scope { IsScope scope.now }
     requires known { IsKnownStmt scope.now (assign (name_of name.now) (expr_of e.now)) }
     requires room { length out.old.consts.items + nodes (expr_of e.now) + 1 < 2 ^ 16 }
     requires short { length out.old.instrs.items + extent (expr_of e.now) + 1 < 2 ^ 16 }
@@ -149,7 +143,7 @@ fn emit_assignment(
 {
     emit_expression(alloc, out, scope, e)?;
     match scope.variable(name) {
-        Some(i) => put(out, Instr::Store(i as u16)),
+        Some(i) => put(out, Instr::Store(i)),
         None => unreachable!(),
     }
 }
@@ -162,7 +156,6 @@ pub(crate) fn emit_expression(
     scope: &Scope<'_>,
     e: &Expression,
 ) -> Result<(), OutOfMemory>
-    requires scope { IsScope scope.now }
     requires known { IsKnown scope.now (expr_of e.now) }
     requires room { length out.old.consts.items + nodes (expr_of e.now) < 2 ^ 16 }
     requires short { length out.old.instrs.items + extent (expr_of e.now) < 2 ^ 16 }
@@ -202,7 +195,6 @@ fn emit_expressions(
     scope: &Scope<'_>,
     expressions: &[Expression],
 ) -> Result<(), OutOfMemory>
-    requires scope { IsScope scope.now }
     requires known { AreAllKnown scope.now (exprs_of expressions.now) }
     requires room { length out.old.consts.items + exprs_nodes (exprs_of expressions.now) < 2 ^ 16 }
     requires short { length out.old.instrs.items + exprs_extent (exprs_of expressions.now) < 2 ^ 16 }
@@ -223,7 +215,6 @@ fn emit_combined(
     operator: Infix,
     right: &Expression,
 ) -> Result<(), OutOfMemory>
-    requires scope { IsScope scope.now }
     requires known { IsKnown scope.now (expr_of right.now) }
     requires room { length out.old.consts.items + (nodes (expr_of right.now) + 1) < 2 ^ 16 }
     requires short { length out.old.instrs.items + (extent (expr_of right.now) + infix_extent operator) < 2 ^ 16 }
@@ -249,7 +240,6 @@ fn emit_where_true(
     e: &Expression,
     other: bool,
 ) -> Result<(), OutOfMemory>
-    requires scope { IsScope scope.now }
     requires known { IsKnown scope.now (expr_of e.now) }
     requires room { length out.old.consts.items + (nodes (expr_of e.now) + 1) < 2 ^ 16 }
     requires short { length out.old.instrs.items + (extent (expr_of e.now) + 3) < 2 ^ 16 }
@@ -270,7 +260,6 @@ fn emit_where_false(
     scope: &Scope<'_>,
     e: &Expression,
 ) -> Result<(), OutOfMemory>
-    requires scope { IsScope scope.now }
     requires known { IsKnown scope.now (expr_of e.now) }
     requires room { length out.old.consts.items + (nodes (expr_of e.now) + 1) < 2 ^ 16 }
     requires short { length out.old.instrs.items + (extent (expr_of e.now) + 3) < 2 ^ 16 }
@@ -291,22 +280,21 @@ fn emit_name(
     scope: &Scope<'_>,
     name: &Name,
 ) -> Result<(), OutOfMemory>
-    requires scope { IsScope scope.now }
     requires known { IsOrigin (origin scope.now (name_of name.now)) }
     requires room { length out.old.consts.items + 1 < 2 ^ 16 }
     ensures { OnOk result (AddsExpr (listing scope.now.types out.old) (listing scope.now.types out.new) scope.now (named (name_of name.now))) }
 {
     if let Some(d) = scope.item_place(name) {
-        return put(out, Instr::Local(d as u16));
+        return put(out, Instr::Local(d));
     }
     if let Some(i) = scope.variable(name) {
-        return put(out, Instr::Slot(i as u16));
+        return put(out, Instr::Slot(i));
     }
     if let Some(value) = scope.formal(name) {
         return put_constant(out, value.try_copy(alloc)?);
     }
     match scope.parameter(name) {
-        Some(i) => put(out, Instr::Arg(i as u16)),
+        Some(i) => put(out, Instr::Arg(i)),
         None => put_constant(out, constant(scope.types(), name)),
     }
 }

@@ -6,7 +6,7 @@ ghost use Rattle.ioa_code.specs.Parts.{listing};
 ghost use Rattle.ioa_tree.specs.View.{field_of, choice_of, position_of, proposal_of};
 ghost use Rattle.ioa_tree.specs.Tree.{expr_in};
 ghost use Rattle.ioa_tree.specs.WellFormed.{nodes};
-ghost use Rattle.ioa_compile.specs.Scopes.{IsScope, IsKnown, IsKnownProposal, AreKnownProposals, proposal_for as proposal_tree};
+ghost use Rattle.ioa_compile.specs.Scopes.{IsKnown, IsKnownProposal, AreKnownProposals, proposal_for as proposal_tree};
 ghost use Rattle.ioa_compile.specs.Extents.{choice_extent, proposal_extent, proposals_extent};
 ghost use Rattle.ioa_compile.specs.Emitting.{proposal_nodes, proposals_nodes, AddsChoice, AddsProposal, AddsProposals};
 
@@ -26,7 +26,6 @@ pub(crate) fn emit_proposals(
     proposals: &[Proposal],
     positions: &[Position],
 ) -> Result<(), OutOfMemory>
-    requires scope { IsScope scope.now }
     requires known { AreKnownProposals scope.now (map proposal_of proposals.now) (map position_of positions.now) }
     requires room { length out.old.consts.items + proposals_nodes (map proposal_of proposals.now) (map position_of positions.now) < 2 ^ 16 }
     requires short { length out.old.instrs.items + proposals_extent (map proposal_of proposals.now) (map position_of positions.now) < 2 ^ 16 }
@@ -46,7 +45,6 @@ fn emit_position(
     proposals: &[Proposal],
     position: &Position,
 ) -> Result<(), OutOfMemory>
-    requires scope { IsScope scope.now }
     requires known { AreKnownProposals scope.now (map proposal_of proposals.now) (position_of position.now ∷ []) }
     requires room { length out.old.consts.items + proposals_nodes (map proposal_of proposals.now) (position_of position.now ∷ []) < 2 ^ 16 }
     requires short { length out.old.instrs.items + proposals_extent (map proposal_of proposals.now) (position_of position.now ∷ []) < 2 ^ 16 }
@@ -80,7 +78,6 @@ fn emit_proposal(
     field: &Field,
     proposal: Option<&Proposal>,
 ) -> Result<(), OutOfMemory>
-    requires scope { IsScope scope.now }
     requires known { IsKnownProposal scope.now (field_of field.now) (option_map (λ r. proposal_of r.now) proposal) }
     requires room { length out.old.consts.items + proposal_nodes (option_map (λ r. proposal_of r.now) proposal) < 2 ^ 16 }
     requires short { length out.old.instrs.items + proposal_extent (option_map (λ r. proposal_of r.now) proposal) < 2 ^ 16 }
@@ -99,7 +96,6 @@ fn emit_choice(
     scope: &Scope<'_>,
     choice: &Choice,
 ) -> Result<(), OutOfMemory>
-    requires scope { IsScope scope.now }
     requires known { IsKnown scope.now (expr_in (choice_of choice.now)) }
     requires room { length out.old.consts.items + nodes (expr_in (choice_of choice.now)) < 2 ^ 16 }
     requires short { length out.old.instrs.items + choice_extent (choice_of choice.now) < 2 ^ 16 }

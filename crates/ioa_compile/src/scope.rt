@@ -4,12 +4,13 @@ ghost use Rattle.std.specs.Prelude.{◌≡◌, ℕ, ◌<◌, ◌++◌, map, leng
 ghost use Rattle.ioa_value.specs.Plain.{plain, number};
 ghost use Rattle.std.specs.Option.{option_map};
 ghost use Rattle.ioa_value.specs.Table.{place_from};
+ghost use Rattle.ioa_value.specs.Typing.{OwnTypes};
 ghost use Rattle.ioa_tree.specs.WellFormed.{type_of};
 ghost use Rattle.ioa_tree.specs.View.{name_of, expr_of, position_of};
 ghost use Rattle.ioa_compose.specs.Held.{member_of};
 ghost use Rattle.ioa_rules.specs.Loops.{loops_of};
 ghost use Rattle.ioa_value.specs.declared.limits.TheConstants.{LIMITS};
-ghost use Rattle.ioa_compile.specs.Scopes.{scope_in, scope_over, scope_of_proposals, within, item_of, item_place, place_of, parameter_from};
+ghost use Rattle.ioa_compile.specs.Scopes.{IsScope, scope_in, scope_over, scope_of_proposals, within, item_of, item_place, place_of, parameter_from};
 
 use crate::name_places::{
     field_place, item_place as place_of_item, parameter_place, variable_place,
@@ -21,7 +22,7 @@ use ioa_value::{Form, Ty, Types, Value};
 use std::marker::Model;
 
 /// What names stand for where code is emitted: items of the loops round it, variables, formals with their values, and the
-/// parameters among positions, beside what the types name.
+/// parameters among positions, beside what the types name. They are as few as those of well-formed automata, so that an instruction holds each place.
 #[derive(Drop)]
 pub(crate) struct Scope<'a> {
     types: &'a Types,
@@ -56,11 +57,24 @@ impl<'a> Model for Scope<'a> {
       parameters = map position_of s.positions.now;
       context = context_in s.types.now [] (map (λ v. v.field) (map variable_of s.variables.now)) (map field_of s.formals.now) (map position_of s.positions.now);
     } };
+
+    ghost use Rattle.ioa_compile.specs.Scopes.{IsScope};
+
+    ghost invariant = { λ s. IsScope (record {
+      types = s.types.now;
+      loops = loops_of s.loops;
+      variables = map (λ v. v.field.name) (map variable_of s.variables.now);
+      formals = field_names (map field_of s.formals.now);
+      arguments = map plain s.arguments.now;
+      parameters = map position_of s.positions.now;
+      context = context_in s.types.now [] (map (λ v. v.field) (map variable_of s.variables.now)) (map field_of s.formals.now) (map position_of s.positions.now);
+    }) };
 }
 
 impl<'a> Scope<'a> {
     /// The scope of a transition: the automaton's variables and formals, and the parameters of its entry.
     pub(crate) fn of(member: &'a Member, entry: &'a Entry) -> Scope<'a>
+        requires { IsScope (scope_in member.now entry.now) }
         ensures { result ≡ scope_in member.now entry.now }
     {
         Scope::over(member, &entry.positions)
@@ -68,6 +82,7 @@ impl<'a> Scope<'a> {
 
     /// The scope of a transition's proposals: the automaton's variables and formals.
     pub(crate) fn of_proposals(member: &'a Member) -> Scope<'a>
+        requires { IsScope (scope_of_proposals (member_of member.now)) }
         ensures { result ≡ scope_of_proposals (member_of member.now) }
     {
         Scope::over(member, &[])
@@ -75,6 +90,7 @@ impl<'a> Scope<'a> {
 
     /// The scope of the automaton's variables and formals, and the parameters among these positions.
     fn over(member: &'a Member, positions: &'a [Position]) -> Scope<'a>
+        requires { IsScope (scope_over (member_of member.now) (map position_of positions.now)) }
         ensures { result ≡ scope_over (member_of member.now) (map position_of positions.now) }
     {
         Scope {
@@ -115,10 +131,11 @@ impl<'a> Scope<'a> {
     }
 
     /// The place on the stack of the item for which the name stands.
-    pub(crate) fn item_place(&self, name: &Name) -> Option<usize>
+    pub(crate) fn item_place(&self, name: &Name) -> Option<u16>
         ensures { result ≡ item_place self.now.loops (name_of name.now) }
     {
-        place_of_item(&self.loops, name)
+        let place = place_of_item(&self.loops, name)?;
+        Some(place as u16)
     }
 
     /// The type of the items of the sequences that an expression gives.
@@ -136,16 +153,19 @@ impl<'a> Scope<'a> {
     }
 
     /// The place of the variable of this name.
-    pub(crate) fn variable(&self, name: &Name) -> Option<usize>
+    pub(crate) fn variable(&self, name: &Name) -> Option<u16>
         ensures { result ≡ place_from 0 self.now.variables (name_of name.now) }
     {
-        variable_place(self.variables, name)
+        match variable_place(self.variables, name) {
+            Some(place) => Some(place as u16),
+            None => None,
+        }
     }
 
     /// The value of the formal of this name.
     pub(crate) fn formal(&self, name: &Name) -> Option<&'a Value>
-        requires { length self.now.formals ≡ length self.now.arguments }
         ensures found { IfSome result (λ v. (i : ℕ) × (place_from 0 self.now.formals (name_of name.now) ≡ Some i) × (slice_get self.now.arguments i ≡ Some (plain v.now))) }
+        ensures typed { OwnTypes self.now.types self.now.arguments }
         ensures missing { IfNone result (place_from 0 self.now.formals (name_of name.now) ≡ None) }
     {
         match field_place(self.formals, name) {
@@ -155,10 +175,13 @@ impl<'a> Scope<'a> {
     }
 
     /// The place of the parameter of this name among all positions.
-    pub(crate) fn parameter(&self, name: &Name) -> Option<usize>
+    pub(crate) fn parameter(&self, name: &Name) -> Option<u16>
         ensures { result ≡ parameter_from 0 self.now.parameters (name_of name.now) }
     {
-        parameter_place(self.positions, name)
+        match parameter_place(self.positions, name) {
+            Some(place) => Some(place as u16),
+            None => None,
+        }
     }
 
     /// The place of the field of this name in the tuples that an expression gives.

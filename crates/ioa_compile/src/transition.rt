@@ -9,7 +9,7 @@ ghost use Rattle.ioa_tree.specs.View.{expr_of, stmts_of, entry_of, transition_of
 ghost use Rattle.ioa_tree.specs.WellFormed.{stmts_nodes};
 ghost use Rattle.ioa_value.specs.declared.limits.TheConstants.{LIMITS};
 ghost use Rattle.ioa_compose.specs.Fine.{component_limits};
-ghost use Rattle.ioa_compile.specs.Scopes.{IsScope, AreKnown, AreKnownProposals, IsKnownGuard};
+ghost use Rattle.ioa_compile.specs.Scopes.{AreKnown, AreKnownProposals, IsKnownGuard};
 ghost use Rattle.ioa_compile.specs.Emitting.{guard_nodes, proposals_nodes, IsGrown};
 ghost use Rattle.ioa_compile.specs.Translated.{IsGuard, IsProposing, IsEffect, IsTransition};
 
@@ -37,8 +37,6 @@ pub(crate) fn transition_code<'a>(
     entry: &Entry,
     transition: &'a Transition,
 ) -> Result<TransitionCode, OutOfMemory>
-    requires scope { IsScope scope.now }
-    requires held { IsScope held.now }
     requires types { held.now.types ≡ scope.now.types }
     requires guard { IsKnownGuard scope.now (transition_of transition.now).pre }
     requires proposals { AreKnownProposals held.now (transition_of transition.now).proposals (entry_of entry.now).positions }
@@ -89,7 +87,6 @@ fn guard_code(
     scope: &Scope<'_>,
     guard: &Option<Expression>,
 ) -> Result<Code, OutOfMemory>
-    requires scope { IsScope scope.now }
     requires known { IsKnownGuard scope.now (option_map expr_of guard.now) }
     requires size { guard_nodes (option_map expr_of guard.now) ≤ component_limits.nodes }
     ensures guard { IfOk result (λ code. IsGuard (listing scope.now.types code) scope.now (option_map expr_of guard.now)) }
@@ -111,7 +108,6 @@ fn proposals_code(
     entry: &Entry,
     proposals: &[Proposal],
 ) -> Result<Code, OutOfMemory>
-    requires scope { IsScope scope.now }
     requires known { AreKnownProposals scope.now (map proposal_of proposals.now) (entry_of entry.now).positions }
     requires size { proposals_nodes (map proposal_of proposals.now) (entry_of entry.now).positions ≤ component_limits.nodes }
     requires positions { length (entry_of entry.now).positions ≤ LIMITS.parameters }
@@ -136,7 +132,6 @@ fn effect_code<'a>(
     scope: &Scope<'a>,
     statements: &'a [Statement],
 ) -> Result<Code, OutOfMemory>
-    requires scope { IsScope scope.now }
     requires known { AreKnown scope.now (stmts_of statements.now) }
     requires size { stmts_nodes (stmts_of statements.now) ≤ component_limits.nodes }
     requires few { length consts.items ≤ 2 * component_limits.nodes }

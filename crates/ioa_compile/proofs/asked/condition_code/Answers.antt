@@ -6,15 +6,14 @@ use Rattle.ioa_code.specs.Parts.{listing}
 use Rattle.ioa_code.specs.Valid.{Part}
 use Rattle.ioa_tree.specs.View.{expr_of}
 use Rattle.ioa_compose.specs.Held.{member_of}
-use Rattle.ioa_compile.specs.Scopes.{IsScope, IsKnown, scope_of_proposals}
+use Rattle.ioa_compile.specs.Scopes.{IsKnown, scope_of_proposals}
 use Rattle.ioa_compile.specs.Translated.{IsFor, IsGuard}
 use Rattle.ioa_compile.proofs.Asking.{asks, condition_known, condition_made, condition_scope, condition_valid}
 use Rattle.ioa_compile.proofs.asked.condition_code.Goals as goal
 
-pub emit_expression-requires-clause-scope : goal.emit_expression-requires-clause-scope
-emit_expression-requires-clause-scope c =
-    subst IsScope (sym c.of_proposals-scope.ensures)
-    (condition_scope (member_of c.args.member.now) c.requires.fine (map number c.args.slots.now) c.requires.slots (expr_of c.args.condition.now) c.requires.typed)
+pub of_proposals-scope-requires : goal.of_proposals-scope-requires
+of_proposals-scope-requires c =
+    condition_scope (member_of c.args.member.now) c.requires.fine (map number c.args.slots.now) c.requires.slots (expr_of c.args.condition.now) c.requires.typed
 
 pub emit_expression-requires-clause-known : goal.emit_expression-requires-clause-known
 emit_expression-requires-clause-known c =

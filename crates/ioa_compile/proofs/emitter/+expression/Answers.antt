@@ -92,7 +92,7 @@ emit_expression-emit_combined-requires t c =
     let short : length c.args.out.now.instrs.items + (extent l + extent r + infix_extent c.in-Binary.operator) < 2 ^ 16 = subst (λ x. length c.args.out.now.instrs.items + extent x < 65536) is c.requires.short in
     let x = subst (λ e. AddsExpr c0 c1 s (expr_of e)) c.deref-in-Binary.ensures c.in_ok-emit_expression-in-Binary.ensures in
     let long : length c1.instrs ≡ length c0.instrs + extent l = expr_long c1 s l (length c0.instrs) (length c1.instrs) x.has in
-    (search (rules, the_lemmas), (c.requires.scope, (known.1, (omega (arith, room, x.few, length-map c.args.out.now.consts.items plain, length-map c.emit_expression-in-Binary.new.out.consts.items plain), omega (arith, short, long)))))
+    (search (rules, the_lemmas), (known.1, (omega (arith, room, x.few, length-map c.args.out.now.consts.items plain, length-map c.emit_expression-in-Binary.new.out.consts.items plain), omega (arith, short, long))))
 
 pub emit_expression-returns-in_ok-emit_expression-in-Binary : goal.emit_expression-returns-in_ok-emit_expression-in-Binary
 emit_expression-returns-in_ok-emit_expression-in-Binary t c =
@@ -116,7 +116,7 @@ emit_expression-emit_expressions-requires t c =
     let known : IsSome (type_named s.types x) × AreAllKnown s fields = subst (IsKnown s) is c.requires.known in
     let room : length c.args.out.now.consts.items + (exprs_nodes fields + 1) < 2 ^ 16 = subst (λ e. length c.args.out.now.consts.items + nodes e < 65536) is c.requires.room in
     let short : length c.args.out.now.instrs.items + (exprs_extent fields + 1) < 2 ^ 16 = subst (λ e. length c.args.out.now.instrs.items + extent e < 65536) is c.requires.short in
-    (search (rules, the_lemmas), (c.requires.scope, (known.1, (omega (arith, room), omega (arith, short)))))
+    (search (rules, the_lemmas), (known.1, (omega (arith, room), omega (arith, short))))
 
 pub emit_expression-returns-in_ok-emit_expressions-in-Make : goal.emit_expression-returns-in_ok-emit_expressions-in-Make
 emit_expression-returns-in_ok-emit_expressions-in-Make t c =
@@ -198,7 +198,7 @@ emit_where_true-emit_expression-requires t c =
     let types = c.args.scope.now.types in
     let x = c.in_ok-put.ensures types in
     let long : length c.put.new.out.instrs.items ≡ length c.args.out.now.instrs.items + 1 = x.has.1 in
-    (search (rules, the_lemmas), (c.requires.scope, (c.requires.known, (omega (arith, c.requires.room, x.few, length-map c.args.out.now.consts.items plain, length-map c.put.new.out.consts.items plain), omega (arith, c.requires.short, long)))))
+    (search (rules, the_lemmas), (c.requires.known, (omega (arith, c.requires.room, x.few, length-map c.args.out.now.consts.items plain, length-map c.put.new.out.consts.items plain), omega (arith, c.requires.short, long))))
 
 pub emit_where_true-put_constant-requires : goal.emit_where_true-put_constant-requires
 emit_where_true-put_constant-requires t c =
@@ -234,7 +234,7 @@ emit_where_false-emit_expression-requires t c =
     let first : length c.put.new.out.instrs.items ≡ length c.args.out.now.instrs.items + 1 = x.has.1 in
     let second : length c.put_constant.new.out.instrs.items ≡ length c.put.new.out.instrs.items + 1 = y.has.1 in
     let third : length c.put-2.new.out.instrs.items ≡ length c.put_constant.new.out.instrs.items + 1 = z.has.1 in
-    (search (rules, the_lemmas), (c.requires.scope, (c.requires.known, (omega (arith, c.requires.room, x.few, y.few, z.few, length-map c.args.out.now.consts.items plain, length-map c.put.new.out.consts.items plain, length-map c.put_constant.new.out.consts.items plain, length-map c.put-2.new.out.consts.items plain), omega (arith, c.requires.short, first, second, third)))))
+    (search (rules, the_lemmas), (c.requires.known, (omega (arith, c.requires.room, x.few, y.few, z.few, length-map c.args.out.now.consts.items plain, length-map c.put.new.out.consts.items plain, length-map c.put_constant.new.out.consts.items plain, length-map c.put-2.new.out.consts.items plain), omega (arith, c.requires.short, first, second, third))))
 
 pub emit_where_false-returns : goal.emit_where_false-returns
 emit_where_false-returns t c =

@@ -12,7 +12,7 @@ use Rattle.ioa_tree.specs.declared.tree.Statement.{Statement}
 use Rattle.ioa_tree.specs.declared.tree.Statement.TheViews.{the_lemmas}
 use Rattle.ioa_tree.specs.declared.tree.Arm.{Arm}
 use Rattle.ioa_compile.specs.Extents.{extent, stmt_extent, stmts_extent, arms_extent}
-use Rattle.ioa_compile.specs.Scopes.{within, IsScope, IsKnown, IsKnownStmt, AreKnown, AreKnownArms}
+use Rattle.ioa_compile.specs.Scopes.{within, IsKnown, IsKnownStmt, AreKnown, AreKnownArms}
 use Rattle.ioa_compile.specs.Emitting.{AddsStmt, AddsStmts}
 use Rattle.ioa_compile.proofs.Lengths.{expr_long, stmt_long, stmts_long}
 use Rattle.ioa_compile.proofs.Emitted.{AddsArms, adds_first, adds_none, adds_arm, adds_others, adds_choose, adds_each}
@@ -75,7 +75,7 @@ emit_choice-emit_statements-requires t c = (
       let those = c.deref-in-loop-arm.result.now in
       let size : stmts_extent (stmts_of those) ≡ stmts_extent ss = ap (λ (l : List Statement). stmts_extent (stmts_of l)) c.deref-in-loop-arm.ensures.value in
       let count : stmts_nodes (stmts_of those) ≡ stmts_nodes ss = ap (λ (l : List Statement). stmts_nodes (stmts_of l)) c.deref-in-loop-arm.ensures.value in
-      (c.requires.scope, (subst (λ (l : List Statement). AreKnown s (stmts_of l)) (sym c.deref-in-loop-arm.ensures.value) known.1.0, (omega (arith, room, x.few, y.few, count, length-map out.consts.items plain, length-map c.emit_expression.new.out.consts.items plain, length-map c.put.new.out.consts.items plain), omega (arith, size, long, one, ends, small)))),
+      (subst (λ (l : List Statement). AreKnown s (stmts_of l)) (sym c.deref-in-loop-arm.ensures.value) known.1.0, (omega (arith, room, x.few, y.few, count, length-map out.consts.items plain, length-map c.emit_expression.new.out.consts.items plain, length-map c.put.new.out.consts.items plain), omega (arith, size, long, one, ends, small))),
 )
 
 pub emit_choice-loop-arm-preserved : goal.emit_choice-loop-arm-preserved
@@ -132,7 +132,7 @@ emit_choice-emit_statements-requires-2 t c =
     subst (λ (l : List Arm). end ≡ length out.instrs.items + (arms_extent (arms_of l) + stmts_extent others)) none c.loop-arm.invariant.ends in
     let room : length out.consts.items + (0 + stmts_nodes others) < 65536 =
     subst (λ (l : List Arm). length out.consts.items + (arms_nodes (arms_of l) + stmts_nodes others) < 65536) none c.loop-arm.invariant.room in
-    (search (rules, the_lemmas), (c.requires.scope, (c.requires.known.1, (omega (arith, room), omega (arith, ends, small)))))
+    (search (rules, the_lemmas), (c.requires.known.1, (omega (arith, room), omega (arith, ends, small))))
 
 pub emit_choice-returns : goal.emit_choice-returns
 emit_choice-returns t c =
@@ -201,16 +201,8 @@ emit_loop-emit_statements-requires t c =
     let known = c.requires.known in
     let both : Some known.2.0 ≡ Some inner.0 = sym known.2.1 ∙ inner.1 in
     let same : known.2.0 ≡ inner.0 = cc in
-    let few = known.1 in
-    let scope : IsScope (within s x inner.0) = record {
-      loops = omega arith;
-      variables = c.requires.scope.variables;
-      parameters = c.requires.scope.parameters;
-      given = c.requires.scope.given;
-      typed = c.requires.scope.typed;
-    } in
     let body = subst (λ ty. AreKnown (within s x ty) ss) same known.2.2 in
-    (search (rules, the_lemmas), (subst IsScope (sym inner.2) scope, (subst (λ z. AreKnown z ss) (sym inner.2) body, (omega (arith, room, v.few, w.few, length-map c.args.out.now.consts.items plain, length-map c.emit_expression.new.out.consts.items plain, length-map c.put.new.out.consts.items plain), omega (arith, short, long, one)))))
+    (search (rules, the_lemmas), (subst (λ z. AreKnown z ss) (sym inner.2) body, (omega (arith, room, v.few, w.few, length-map c.args.out.now.consts.items plain, length-map c.emit_expression.new.out.consts.items plain, length-map c.put.new.out.consts.items plain), omega (arith, short, long, one))))
 
 pub emit_loop-overflow_cast-start : goal.emit_loop-overflow_cast-start
 emit_loop-overflow_cast-start t c =
@@ -250,7 +242,7 @@ pub emit_statement-emit_loop-requires : goal.emit_statement-emit_loop-requires
 emit_statement-emit_loop-requires t c =
     let s = c.args.scope.now in
     let shown = stmt_over c.args.statement.now c.in-For.name c.in-For.items c.in-For.body c.in-For.field-3 c.deref-in-For.result.now c.in-For.is c.deref-in-For.ensures.value in
-    (search (rules, the_lemmas), (c.requires.scope, (subst (IsKnownStmt s) shown c.requires.known, (subst (λ t. length c.args.out.now.consts.items + stmt_nodes t < 65536) shown c.requires.room, subst (λ t. length c.args.out.now.instrs.items + stmt_extent t < 65536) shown c.requires.short))))
+    (search (rules, the_lemmas), (subst (IsKnownStmt s) shown c.requires.known, (subst (λ t. length c.args.out.now.consts.items + stmt_nodes t < 65536) shown c.requires.room, subst (λ t. length c.args.out.now.instrs.items + stmt_extent t < 65536) shown c.requires.short)))
 
 pub emit_statement-returns-in-For : goal.emit_statement-returns-in-For
 emit_statement-returns-in-For t c =
@@ -265,7 +257,7 @@ pub emit_statement-emit_choice-requires : goal.emit_statement-emit_choice-requir
 emit_statement-emit_choice-requires t c =
     let s = c.args.scope.now in
     let shown = stmt_chosen c.args.statement.now c.in-If.arms c.in-If.others c.in-If.field-2 c.deref.result.now c.deref-in-If.result.now c.in-If.is c.deref.ensures.value c.deref-in-If.ensures.value in
-    (search (rules, the_lemmas), (c.requires.scope, (subst (IsKnownStmt s) shown c.requires.known, (subst (λ t. length c.args.out.now.consts.items + stmt_nodes t < 65536) shown c.requires.room, subst (λ t. length c.args.out.now.instrs.items + stmt_extent t < 65536) shown c.requires.short))))
+    (search (rules, the_lemmas), (subst (IsKnownStmt s) shown c.requires.known, (subst (λ t. length c.args.out.now.consts.items + stmt_nodes t < 65536) shown c.requires.room, subst (λ t. length c.args.out.now.instrs.items + stmt_extent t < 65536) shown c.requires.short)))
 
 pub emit_statement-returns-in-If : goal.emit_statement-returns-in-If
 emit_statement-returns-in-If t c =

@@ -1,42 +1,21 @@
-use Rattle.std.proofs.Common.{◌≡◌, ◌<◌, ◌≤◌, ◌*◌, Some, None, sym, ap, ◌∙◌, length, rules, arith}
+use Rattle.std.proofs.Common.{◌≡◌, Some, None, sym, ap, ◌∙◌}
 use Rattle.std.specs.Prelude.{slice_get}
 use Rattle.std.proofs.lemmas.Result.{on_ok_weaker}
-use Rattle.ioa_value.specs.declared.limits.TheConstants.{LIMITS}
 use Rattle.ioa_value.specs.Plain.{plain}
 use Rattle.ioa_value.specs.Table.{place_from}
+use Rattle.ioa_value.proofs.TypingLemmas.{OwnTypes-get}
 use Rattle.ioa_code.specs.Parts.{listing}
 use Rattle.ioa_tree.specs.Types.{constant}
 use Rattle.ioa_tree.specs.View.{name_of}
-use Rattle.ioa_compose.specs.Fine.{component_limits}
-use Rattle.ioa_value.proofs.PlaceLemmas.{place_below}
-use Rattle.ioa_value.proofs.TypingLemmas.{OwnTypes-get}
 use Rattle.ioa_compile.proofs.Emitted.{none_from, origin_item, origin_slot, origin_parameter, adds_item, adds_slot, adds_argument, origin_formal, adds_named, missing_from, origin_fixed, adds_fixed}
 use Rattle.ioa_compile.proofs.Fixed.{constant_own}
-use Rattle.ioa_compile.proofs.Parameters.{parameter_below}
-use Rattle.ioa_compile.proofs.Standing.{item_low}
 use Rattle.ioa_compile.proofs.emitter.emit_name.Goals as goal
-
-pub overflow_cast-d : goal.overflow_cast-d
-overflow_cast-d c =
-    let s = c.args.scope.now in
-    let below : c.in-Some.d < 2 * length s.loops = item_low s.loops (name_of c.args.name.now) c.in-Some.d (sym c.item_place.ensures ∙ c.in-Some.is) in
-    let few : length s.loops ≤ 3 = c.requires.scope.loops in
-    let lt : c.in-Some.d < 65536 = omega arith in
-    search rules
 
 pub returns-in-Some : goal.returns-in-Some
 returns-in-Some c =
     let s = c.args.scope.now in
     let x = name_of c.args.name.now in
     on_ok_weaker c.put.result (λ more. adds_item (listing s.types c.args.out.now) (listing s.types c.put.new.out) s x c.in-Some.d (origin_item s x c.in-Some.d (sym c.item_place.ensures ∙ c.in-Some.is)) (more s.types)) c.put.ensures
-
-pub overflow_cast-i : goal.overflow_cast-i
-overflow_cast-i c =
-    let s = c.args.scope.now in
-    let below : c.in-Some-variable.i < length s.variables = place_below s.variables (name_of c.args.name.now) c.in-Some-variable.i (sym c.variable.ensures ∙ c.in-Some-variable.is) in
-    let few : length s.variables ≤ component_limits.variables = c.requires.scope.variables in
-    let lt : c.in-Some-variable.i < component_limits.variables = omega arith in
-    search rules
 
 pub returns-in-Some-variable : goal.returns-in-Some-variable
 returns-in-Some-variable c =
@@ -54,16 +33,7 @@ returns-in-Some-formal c =
     let at : slice_get s.arguments found.0 ≡ Some v = found.2 ∙ ap Some (sym c.in_ok-try_copy.ensures) in
     let no_item = sym c.item_place.ensures ∙ none_from c.item_place.result c.in_default.not-Some in
     let from = origin_formal s x found.0 no_item (sym c.variable.ensures ∙ none_from c.variable.result c.in_default-variable.not-Some) found.1 in
-    on_ok_weaker c.put_constant.result (λ more. adds_named (listing s.types c.args.out.now) (listing s.types c.put_constant.new.out) s x found.0 v from at (more s.types (OwnTypes-get s.types s.arguments found.0 v c.requires.scope.typed at))) c.put_constant.ensures
-
-pub overflow_cast-i-in-Some-parameter : goal.overflow_cast-i-in-Some-parameter
-overflow_cast-i-in-Some-parameter c =
-    let s = c.args.scope.now in
-    let i = c.in-Some-parameter.i in
-    let below : i < length s.parameters = parameter_below s.parameters (name_of c.args.name.now) i (sym c.parameter.ensures ∙ c.in-Some-parameter.is) in
-    let few : length s.parameters ≤ LIMITS.parameters = c.requires.scope.parameters in
-    let lt : i < LIMITS.parameters = omega arith in
-    search rules
+    on_ok_weaker c.put_constant.result (λ more. adds_named (listing s.types c.args.out.now) (listing s.types c.put_constant.new.out) s x found.0 v from at (more s.types (OwnTypes-get s.types s.arguments found.0 v c.formal.ensures.typed at))) c.put_constant.ensures
 
 pub returns-in-Some-parameter : goal.returns-in-Some-parameter
 returns-in-Some-parameter c =

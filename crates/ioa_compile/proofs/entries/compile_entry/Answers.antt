@@ -48,19 +48,19 @@ pub transition_of-transition-requires : goal.transition_of-transition-requires
 transition_of-transition-requires c =
     is_some_of_found (member_of c.args.member.now) (entry_of c.args.entry.now) c.requires.fine c.requires.own
 
-pub transition_code-requires-clause-scope : goal.transition_code-requires-clause-scope
-transition_code-requires-clause-scope c =
+pub of-scope-requires : goal.of-scope-requires
+of-scope-requires c =
     let all = settled c.args.member.now c.args.entry.now c.args.slots.now c.requires.fine c.requires.own c.requires.slots
     c.args.positions.now c.requires.positions c.in_ok-arguments.arguments.items c.in_ok-arguments.ensures in
-    subst IsScope (sym c.of-scope.ensures) (is_scope (member_of c.args.member.now) (entry_of c.args.entry.now) _ _ all)
+    is_scope (member_of c.args.member.now) (entry_of c.args.entry.now) _ _ all
 
-pub transition_code-requires-clause-held : goal.transition_code-requires-clause-held
-transition_code-requires-clause-held c =
+pub of_proposals-held-requires : goal.of_proposals-held-requires
+of_proposals-held-requires c =
     let m = member_of c.args.member.now in
     let e = entry_of c.args.entry.now in
     let all = settled c.args.member.now c.args.entry.now c.args.slots.now c.requires.fine c.requires.own c.requires.slots
     c.args.positions.now c.requires.positions c.in_ok-arguments.arguments.items c.in_ok-arguments.ensures in
-    subst IsScope (sym c.of_proposals-held.ensures) (is_scope m bare _ _ (bare_setting m e _ _ all))
+    is_scope m bare _ _ (bare_setting m e _ _ all)
 
 pub transition_code-requires-clause-types : goal.transition_code-requires-clause-types
 transition_code-requires-clause-types c = ap (λ (s : Scope). s.types) c.of_proposals-held.ensures ∙ sym (ap (λ (s : Scope). s.types) c.of-scope.ensures)

@@ -20,7 +20,7 @@ returns-in-Some-clause-missing c =
     let names = field_names (map field_of c.self.inside.formals.now) in
     let values = c.self.inside.arguments.now in
     let below : i < length names = place_below names (name_of c.args.name.now) i (sym c.field_place.ensures ∙ c.in-Some.is) in
-    let long : length names ≡ length (map plain values) = ap (λ s. length s.formals) c.self.view_is ∙ c.requires ∙ sym (ap (λ s. length s.arguments) c.self.view_is) in
+    let long : length names ≡ length (map plain values) = c.self.invariant.given in
     let within : i < length values = omega (arith, below, long, length-map values plain) in
     let there : nat_lt i (length values) ≡ true = grind (arith, nat_tests) in
     not_none c.get.result _ (c.get.ensures.lookup.0 ∙ there)
