@@ -27,4 +27,7 @@ pub mod FirstDifference
 pub mod Hosting
 pub mod LogReadings
 pub mod LogReplays
+pub mod LogInspections
+pub mod Watching
+pub mod LogMonitors
 pub mod Begun

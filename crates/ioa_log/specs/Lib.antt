@@ -13,10 +13,15 @@ pub mod Breaking
 pub mod Monitoring
 pub mod LinesRead
 pub mod Telling
+pub mod LineParsing
 pub mod LineReading
 pub mod Readings
 pub mod LogReadings
 pub mod LogReplays
+pub mod LogInspections
+pub mod Watching
+pub mod LogMonitors
+pub mod LogMonitorings
 pub mod Begun
 pub mod BegunLines
 pub mod RunLogs

@@ -19,6 +19,7 @@ mod trace;
 // Texts of logs.
 mod begun_logs;
 mod end_texts;
+mod line_parser;
 mod log_lines;
 mod logs;
 mod spelled;
@@ -26,9 +27,12 @@ mod spelled;
 // What is asked of logs.
 mod broken_invariants;
 mod judge;
+mod log_inspections;
+mod log_monitors;
 mod log_reading;
 mod log_replays;
 mod monitors;
+mod watch;
 
 // Laws.
 mod laws;
@@ -45,9 +49,11 @@ pub use laws::{
     refused_logs_have_reasons, run_log_is_read, run_logs_agree, verdict_is_the_first_difference,
     written_log_is_read,
 };
+pub use log_inspections::{LogInspection, inspect_log};
+pub use log_monitors::monitor_log;
 pub use log_replays::{perform_log, replay_log};
 pub use logs::{read_log, write_log};
-pub use monitors::{MonitorErr, monitor};
+pub use monitors::{MonitorErr, hides_actions, monitor};
 pub use reading::Replayed;
 pub use replays::{perform_list, replay_list};
 pub use run_logs::log_list;

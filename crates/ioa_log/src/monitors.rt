@@ -1,6 +1,6 @@
 //! Monitors: specifications that accept actions.
 
-ghost use Rattle.std.specs.Prelude.{◌≡◌, ◌||◌, false, IfErr, OnOk, map, None};
+ghost use Rattle.std.specs.Prelude.{◌≡◌, ◌||◌, false, true, IfErr, OnOk, map, None};
 ghost use Rattle.std.specs.List.{list_any};
 ghost use Rattle.ioa_value.specs.Actions.{act_of};
 ghost use Rattle.ioa_tree.specs.Compositions.{Composed, components_of, starts_of};
@@ -8,9 +8,11 @@ ghost use Rattle.ioa_tree.specs.Hosts.{Hosted, hosts_of, host_starts};
 ghost use Rattle.ioa_compose.specs.Simulates.{Simulates};
 ghost use Rattle.ioa_compile.specs.Implements.{Implements};
 ghost use Rattle.ioa_compile.specs.Shown.{entry_code, member_code};
+ghost use Rattle.ioa_compile.specs.Subjects.{RunsAs, Subject};
 ghost use Rattle.ioa_compile.specs.Tables.{start_states, tabled};
 ghost use Rattle.ioa_log.specs.Monitoring as spec;
 ghost use Rattle.ioa_log.specs.Monitoring.{IsHostRefusal, IsRefusal, IsSeen, hides_in, monitored};
+ghost use Rattle.ioa_log.specs.LogMonitors.{IsClosed, IsOpen};
 
 use ioa_compile::{Entry, Member, Program};
 use ioa_system::{Step, System};
@@ -78,7 +80,16 @@ fn monitor_table(alloc: Global, program: &Program, actions: &[Action]) -> Result
     Ok(())
 }
 
-/// Whether an entry is internal, or a name is hidden.
+/// Whether an entry is internal, or a name is hidden: then not all that the specification does is seen, and it is none to monitor by.
+pub fn hides_actions(program: &Program) -> bool
+    ensures table { result ≡ spec.hides program.now }
+    ensures open { result ≡ false → (s : Subject) → RunsAs program.now s → IsOpen s }
+    ensures closed { result ≡ true → (s : Subject) → RunsAs program.now s → IsClosed s }
+{
+    hides(program)
+}
+
+/// The same, said of the program's own table.
 fn hides(program: &Program) -> bool
     ensures { result ≡ spec.hides program.now }
 {

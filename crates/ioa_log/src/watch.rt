@@ -1,0 +1,70 @@
+//! A specification that is handed actions one after another.
+
+ghost use Rattle.std.specs.Prelude.{◌≡◌, ◌++◌, ◌∷◌, [], List, None, IfOk, OnOk};
+ghost use Rattle.ioa_value.specs.Actions.{Act, act_of};
+ghost use Rattle.ioa_compile.specs.Programs.{Prog};
+ghost use Rattle.ioa_log.specs.Watching.{HasWatched};
+
+use ioa_compile::Program;
+use ioa_system::{End, Step, System};
+use ioa_value::{Action, OutOfMemory};
+use std::alloc::Global;
+
+/// A specification on its way, which performs those of the actions that its components have.
+#[derive(Drop)]
+pub(crate) struct Watch<'a> {
+    system: System<'a>,
+    /// How many actions came before the one that is not accepted.
+    count: usize,
+    /// Why that one is not accepted. No later one is performed.
+    answer: Option<End>,
+}
+
+impl<'a> Watch<'a> {
+    /// Before the first action.
+    pub fn start(alloc: Global, program: &'a Program) -> Result<Watch<'a>, OutOfMemory>
+        ensures { IfOk result (HasWatched program.now []) }
+    {
+        Ok(Watch {
+            system: System::start(alloc, program)?,
+            count: 0,
+            answer: None,
+        })
+    }
+
+    /// Hands on the next action. Behind one that is not accepted it is passed over. A count past 64 bits is a want of memory.
+    pub fn follow(&mut self, action: &Action) -> Result<(), OutOfMemory>
+        ensures { OnOk result ((p : Prog) (acts : List Act) → HasWatched p acts self.old → HasWatched p (acts ++ act_of action.now ∷ []) self.new) }
+    {
+        match self.answer {
+            Some(_) => Ok(()),
+            None => self.perform(action),
+        }
+    }
+
+    /// Performs the next action, where some component has it.
+    fn perform(&mut self, action: &Action) -> Result<(), OutOfMemory>
+        ensures { OnOk result ((p : Prog) (acts : List Act) → HasWatched p acts self.old → self.old.answer ≡ None
+            → HasWatched p (acts ++ act_of action.now ∷ []) self.new) }
+    {
+        let Some(count) = self.count.checked_add(1) else {
+            return Err(OutOfMemory);
+        };
+        let step = self.system.step(action)?;
+        match step {
+            Step::Next | Step::NotAnAction => self.count = count,
+            Step::NotEnabled => self.answer = Some(End::NotEnabled(self.count)),
+            Step::Fault(component, fault) => {
+                self.answer = Some(End::Fault(component, fault, self.count));
+            }
+        }
+        Ok(())
+    }
+
+    /// Why the first of the actions so far that is not accepted is not, if there is one: with its index.
+    pub fn answer(&self) -> Option<End>
+        ensures { result ≡ self.now.answer }
+    {
+        self.answer
+    }
+}
