@@ -20,4 +20,5 @@ pub mod BrokenInvariants
 pub mod Judging
 pub mod LineByLine
 pub mod Loops
+pub mod LoopCode
 pub mod WordRows

@@ -160,7 +160,7 @@ no_type = refl
 -- ---- valid code
 
 -- the place and the number of the reason with which code is refused
-abbrev told : Verdict → Option (ℕ × ℕ)
+abbrev pub told : Verdict → Option (ℕ × ℕ)
 told good = None
 told (bad at why) = Some (at, number_of why)
 
