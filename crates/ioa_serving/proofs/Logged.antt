@@ -1,23 +1,20 @@
 -- From the clauses of the layers to what a replay and a monitor of a log write.
-use Rattle.std.proofs.Common.{◌≡◌, ℕ, ◌-◌, ◌<◌, List, [], ◌∷◌, ◌++◌, map, length, take, Option, Some, None, IfSome, IfNone, IsSome, true, if◌then◌else◌, sym, ap, ap₂, ◌∙◌, subst, arith, append-nil, length-append}
+use Rattle.std.proofs.Common.{◌≡◌, ℕ, ◌-◌, ◌<◌, List, [], ◌∷◌, ◌++◌, map, length, take, Option, Some, None, IsSome, true, if◌then◌else◌, sym, ap, ap₂, ◌∙◌, arith, append-nil, length-append}
 use Rattle.std.specs.Option.{option_map, option_map_or, option_to_list}
 use Rattle.std.proofs.Math.Seq.{take-append_seam}
 use Rattle.std.proofs.lemmas.Bool.{false≢true}
 use Rattle.std.proofs.lemmas.List.{length-map, take-map}
 use Rattle.ioa_value.specs.declared.action.Action.{Action}
 use Rattle.ioa_value.specs.Actions.{Act, act_of}
-use Rattle.ioa_value.specs.Plain.{Val}
 use Rattle.ioa_tree.specs.Hosts.{Hosted, hosts_of, host_starts, first_broken_host}
-use Rattle.ioa_tree.specs.Runs.{Ending, Reached, after, not_an_action_at, run}
+use Rattle.ioa_tree.specs.Runs.{run}
 use Rattle.ioa_system.specs.declared.outcomes.End.{End}
-use Rattle.ioa_system.specs.declared.outcomes.Step.{Step}
 use Rattle.ioa_system.specs.declared.log.Log.{Log}
 use Rattle.ioa_system.specs.declared.log.LogEnd.{LogEnd}
-use Rattle.ioa_system.specs.Outcomes.{ending_of, step_of}
+use Rattle.ioa_system.specs.Outcomes.{ending_of}
 use Rattle.ioa_system.specs.Logs.{Logged, actions_of, is_fault, log_end, logged}
 use Rattle.ioa_log.specs.declared.broken_invariants.Broken.{Broken}
 use Rattle.ioa_log.specs.Breaking.{broken_of}
-use Rattle.ioa_log.specs.Monitoring.{IsRefusedAt}
 use Rattle.ioa_account.proofs.Remarking.{entered, entered_are}
 use Rattle.ioa_serving.specs.declared.invariant_replay.Finding.{Finding}
 use Rattle.ioa_serving.specs.Logs.{broken, found_in, found_of, performed_in, unbroken}
@@ -62,23 +59,3 @@ last_faulted l end all rest o is fault e left some =
     ∙ ap₂ (λ k acts. take (k - 1) acts) n e
     ∙ sym (ap (λ b. if b then take (length (entered l.entries.items) - 1) (entered l.entries.items) else entered l.entries.items) f)
     ∙ sym (performed_are l)
-
--- the end that an answer makes is the monitor's
-pub told_at : (s : Step) (n : ℕ) (r : Option End) (o : Option Ending) → IsRefusedAt n s o
-    → IfSome r (λ end. (ss ts : List (List Val)) → (more : List (List Val) → Reached (List Val))
-    → after n ss (step_of s ts) more ≡ record { performed = n; states = ss; ending = ending_of end })
-    → IfNone r (s ≡ Step.Next) → option_map ending_of r ≡ o
-told_at s n None o refused some none = absurd (subst (λ t. IsRefusedAt n t o) none refused)
-told_at s n (Some end) o refused some none = go s refused some
-  where
-    start : List (List Val) → Reached (List Val)
-    start ss = record { performed = 0; states = ss; ending = not_an_action_at 0 }
-
-    go : (s : Step) → IsRefusedAt n s o
-        → ((ss ts : List (List Val)) → (more : List (List Val) → Reached (List Val))
-        → after n ss (step_of s ts) more ≡ record { performed = n; states = ss; ending = ending_of end })
-        → Some (ending_of end) ≡ o
-    go Step.Next h e = absurd h
-    go Step.NotAnAction h e = ap (λ (r : Reached (List Val)). Some r.ending) (sym (e [] [] start)) ∙ sym h
-    go Step.NotEnabled h e = ap (λ (r : Reached (List Val)). Some r.ending) (sym (e [] [] start)) ∙ sym h
-    go (Step.Fault c f) h e = ap (λ (r : Reached (List Val)). Some r.ending) (sym (e [] [] start)) ∙ sym h

@@ -17,6 +17,7 @@ use Rattle.ioa_system.specs.Logs.{Logged}
 use Rattle.ioa_log.specs.declared.failure.LogErr.{LogErr}
 use Rattle.ioa_log.specs.Failing.{IsListErr, IsTextErr}
 use Rattle.ioa_log.specs.Judging.{IsReplayErr, judged, wrong_owner, diverges}
+use Rattle.ioa_log.specs.LogMonitors.{IsNoText}
 use Rattle.ioa_log.specs.LogTexts.{GoesOnAt, HasNoEnd, NoEntryAt, NotJsonAt, ReadsLog}
 use Rattle.ioa_serving.specs.declared.failure.Failure.{Failure}
 use Rattle.ioa_serving.specs.Headline.{Declares, IsFileOf, Spells}
@@ -126,19 +127,18 @@ log_unread text name bytes failed s types x of same u = go x (subst (λ ts. IsUn
     go (LogErr.WrongOwner n) u = absurd u
     go (LogErr.Diverges n) u = absurd u
 
-pub monitor_unread : (text : List ℕ) (name : Option Name) (bytes : Option (List ℕ)) (failed : Type 0) (s : Subject) (types : Table) (x : LogErr)
-    → IsFileOf text name s → types ≡ its_types s → IsOpen s → IsUnread types bytes failed x → IsMonitorFailure text name bytes failed (Failure.List x)
-monitor_unread text name bytes failed s types x of same seen u = go x (subst (λ ts. IsUnread ts bytes failed x) same u)
-  where
-    go : (x : LogErr) → IsUnread (its_types s) bytes failed x → IsMonitorFailure text name bytes failed (Failure.List x)
-    go (LogErr.NotJson n) u = (s, of, seen, u)
-    go (LogErr.BadEntry n) u = (s, of, seen, u)
-    go LogErr.NoEnd u = (s, of, seen, u)
-    go LogErr.AfterEnd u = (s, of, seen, u)
-    go LogErr.Io u = (s, of, seen, u)
-    go LogErr.OutOfMemory u = tt
-    go (LogErr.WrongOwner n) u = absurd u
-    go (LogErr.Diverges n) u = absurd u
+-- the bytes that a monitor reads are no text of a log, or a device failed
+pub monitor_refused : (text : List ℕ) (name : Option Name) (bytes : Option (List ℕ)) (failed : Type 0) (s : Subject) (x : LogErr)
+    → IsFileOf text name s → IsOpen s → IsTextErr x → (x ≡ LogErr.Io → failed) → IfSome bytes (λ xs. IsNoText (its_types s) xs x)
+    → IsMonitorFailure text name bytes failed (Failure.List x)
+monitor_refused text name bytes failed s (LogErr.NotJson n) of seen only io k = (s, of, seen, k)
+monitor_refused text name bytes failed s (LogErr.BadEntry n) of seen only io k = (s, of, seen, k)
+monitor_refused text name bytes failed s (LogErr.WrongOwner n) of seen only io k = absurd only
+monitor_refused text name bytes failed s (LogErr.Diverges n) of seen only io k = absurd only
+monitor_refused text name bytes failed s LogErr.NoEnd of seen only io k = (s, of, seen, k)
+monitor_refused text name bytes failed s LogErr.AfterEnd of seen only io k = (s, of, seen, k)
+monitor_refused text name bytes failed s LogErr.Io of seen only io k = (s, of, seen, io refl)
+monitor_refused text name bytes failed s LogErr.OutOfMemory of seen only io k = tt
 
 -- a log that is not the run's
 pub log_judged : (text : List ℕ) (name : Option Name) (bytes : Option (List ℕ)) (failed : Type 0) (s : Subject) (log : Logged) (x : LogErr) {T : Type 0}

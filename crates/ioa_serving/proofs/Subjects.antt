@@ -16,13 +16,16 @@ use Rattle.ioa_system.specs.Logs.{Logged, actions_of}
 use Rattle.ioa_system.specs.Records.{IsHostRun, IsTableRun, trace_of}
 use Rattle.ioa_log.specs.declared.failure.LogErr.{LogErr}
 use Rattle.ioa_log.specs.Judging.{agrees, judged}
+use Rattle.ioa_log.specs.LogMonitors as monitors
+use Rattle.ioa_log.specs.LogMonitors.{IsNoText, MonitorsLog}
 use Rattle.ioa_log.specs.LogReplays as replays
 use Rattle.ioa_log.specs.LogReplays.{BeginsLogReplay, IsNoLog}
+use Rattle.ioa_log.specs.LogTexts.{ReadsLog}
 use Rattle.ioa_log.specs.Replays.{replay_text, run_text}
 use Rattle.ioa_serving.specs.Failing.{IsNoLogOf}
-use Rattle.ioa_serving.specs.Logs.{BeginsLog, ReplaysLog}
+use Rattle.ioa_serving.specs.Logs.{BeginsLog, ReplaysLog, answer_to}
 use Rattle.ioa_serving.specs.Running.{RunsAs}
-use Rattle.ioa_serving.specs.Subjects.{Subject, of_hosts, of_table, its_components, its_hidden, its_starts, its_types}
+use Rattle.ioa_serving.specs.Subjects.{IsClosed, IsOpen, Subject, of_hosts, of_table, its_components, its_hidden, its_starts, its_types}
 
 pub of_both : (p : Prog) (s : Subject) (P : Subject → Type 0) → RunsAs p s → P (of_table p) → ((h : Hosted) (c : Composed) → Simulates h c → Implements p c → P (of_hosts h)) → P s
 of_both p (of_hosts h) P of own other = other h of.0 of.1 of.2
@@ -82,3 +85,20 @@ log_replay_as (of_table p) bytes end before after k = k
 pub log_beginning_as : (s : Subject) (bytes : List ℕ) (before after : Option (List ℕ)) → BeginsLogReplay (as_compiled s) bytes before after → BeginsLog s bytes before after
 log_beginning_as (of_hosts h) bytes before after k = k
 log_beginning_as (of_table p) bytes before after k = k
+
+pub open_as : (s : Subject) → monitors.IsOpen (as_compiled s) → IsOpen s
+open_as (of_hosts h) k = k
+open_as (of_table p) k = k
+
+pub closed_as : (s : Subject) → monitors.IsClosed (as_compiled s) → IsClosed s
+closed_as (of_hosts h) k = k
+closed_as (of_table p) k = k
+
+pub text_of : (s : Subject) (bytes : List ℕ) (e : LogErr) → IsNoText (compiled.its_types (as_compiled s)) bytes e → IsNoText (its_types s) bytes e
+text_of (of_hosts h) bytes e k = k
+text_of (of_table p) bytes e k = k
+
+pub answer_as : (s : Subject) (bytes : List ℕ) (answer : Option Ending) → MonitorsLog (as_compiled s) bytes answer
+    → (log : Logged) × ReadsLog (its_types s) bytes log × (answer ≡ answer_to s log)
+answer_as (of_hosts h) bytes answer k = k
+answer_as (of_table p) bytes answer k = k

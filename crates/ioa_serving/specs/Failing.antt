@@ -148,7 +148,12 @@ IsLogReplayFailure text name bytes failed (Failure.RunLog e) = ⊥
 IsLogReplayFailure text name bytes failed Failure.Io = ⊥
 IsLogReplayFailure text name bytes failed Failure.OutOfMemory = Unit {0}
 
--- The same of a log that is read whole before it is judged: the bytes are no log, by this line; or this line is the first by which the log is
+-- the same where invariants or states are asked for, of which a source alone tells; or the file is an object
+abbrev pub IsInvariantFailure : List ℕ → Option Name → Option (List ℕ) → Type 0 → Failure → Type 0
+IsInvariantFailure text name bytes failed e =
+    ((begins_object text ≡ false) × IsLogReplayFailure text name bytes failed e) ⊎ ((begins_object text ≡ true) × (e ≡ Failure.SourceWanted))
+
+-- The same of a replay whose log is read whole before it is judged: the bytes are no log, by this line; or this line is the first by which the log is
 -- not of the run.
 abbrev pub IsLogFailure : List ℕ → Option Name → Option (List ℕ) → Type 0 → Failure → Type 0
 IsLogFailure text name bytes failed (Failure.Refused r) = IsRefusedFile text name r
@@ -172,11 +177,6 @@ IsLogFailure text name bytes failed Failure.EndedByFault = ⊥
 IsLogFailure text name bytes failed (Failure.RunLog e) = ⊥
 IsLogFailure text name bytes failed Failure.Io = ⊥
 IsLogFailure text name bytes failed Failure.OutOfMemory = Unit {0}
-
--- the same where invariants or states are asked for, of which a source alone tells; or the file is an object
-abbrev pub IsInvariantFailure : List ℕ → Option Name → Option (List ℕ) → Type 0 → Failure → Type 0
-IsInvariantFailure text name bytes failed e =
-    ((begins_object text ≡ false) × IsLogFailure text name bytes failed e) ⊎ ((begins_object text ≡ true) × (e ≡ Failure.SourceWanted))
 
 -- so of a list where states are asked for
 abbrev pub IsStatesFailure : List ℕ → Option Name → Option (List ℕ) → Type 0 → Failure → Type 0

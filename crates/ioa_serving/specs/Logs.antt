@@ -1,5 +1,5 @@
 -- What a replay of a log writes, also where it is asked for invariants, and what a monitor of one.
-use Rattle.std.specs.Prelude.{◌≡◌, ℕ, ◌-◌, ◌++◌, ◌∷◌, [], if◌then◌else◌, List, length, take, codes, Option, Some, None}
+use Rattle.std.specs.Prelude.{◌≡◌, ℕ, ◌++◌, ◌∷◌, [], List, take, codes, Option, Some, None}
 use Rattle.std.specs.Fmt.{decimal}
 use Rattle.std.specs.Io.KnownBytes.{Appends}
 use Rattle.std.specs.Option.{option_map_or}
@@ -9,9 +9,10 @@ use Rattle.ioa_tree.specs.Invariants.{Broken}
 use Rattle.ioa_tree.specs.Runs.{Ending, run}
 use Rattle.ioa_system.specs.Outcomes.{ending_of}
 use Rattle.ioa_system.specs.Endings.{ending_text}
-use Rattle.ioa_system.specs.Logs.{Logged, actions_of, is_fault}
+use Rattle.ioa_system.specs.Logs.{Logged, actions_of}
 use Rattle.ioa_log.specs.Breaking.{broken_of}
 use Rattle.ioa_log.specs.Judging.{agrees, judged}
+pub use Rattle.ioa_log.specs.LogMonitors.{performed_in}
 use Rattle.ioa_log.specs.LogTexts.{ReadsLog}
 use Rattle.ioa_log.specs.Monitoring.{monitored}
 use Rattle.ioa_log.specs.Replays.{run_text}
@@ -58,6 +59,11 @@ abbrev pub found_text : Hosted → Logged → Found → List ℕ
 found_text h log (broken b) = broken_line b
 found_text h log (unbroken end) = log_run_text (of_hosts h) log
 
+-- this is what is found in the run, and its text
+abbrev pub IsFoundInLog : Hosted → List ℕ → Found → List ℕ → Type 0
+IsFoundInLog h bytes found text =
+    (log : Logged) × IsRunLog (of_hosts h) bytes log × (found ≡ found_in h log) × (text ≡ found_text h log (found_in h log))
+
 -- what is found in the run is the answer, and its text is written
 abbrev pub FindsInLog : Hosted → List ℕ → Found → Option (List ℕ) → Option (List ℕ) → Type 0
 FindsInLog h bytes found before after =
@@ -67,10 +73,6 @@ FindsInLog h bytes found before after =
 abbrev pub BeginsFound : Hosted → List ℕ → Option (List ℕ) → Option (List ℕ) → Type 0
 BeginsFound h bytes before after =
     (log : Logged) × IsRunLog (of_hosts h) bytes log × ((k : ℕ) × Appends before after (take k (found_text h log (found_in h log))))
-
--- the actions that a log tells to be performed: all, but the last one where it ends by a fault
-abbrev pub performed_in : Logged → List Act
-performed_in log = if is_fault log.ending then take (length log.entries - 1) (actions_of log) else actions_of log
 
 -- why the subject does not accept what the log tells to be performed; none where it does
 abbrev pub answer_to : Subject → Logged → Option Ending

@@ -3,24 +3,22 @@
 ghost use Rattle.std.specs.Prelude.{◌≡◌, ◌⊎◌, ℕ, IfOk, IfErr, IfSome, IsErrOf};
 ghost use Rattle.std.specs.Option.{option_copied};
 ghost use Rattle.std.specs.String.{string_bytes};
-ghost use Rattle.ioa_tree.specs.Hosts.{Hosted, hosts_of, host_starts};
+ghost use Rattle.ioa_tree.specs.Hosts.{Hosted};
 ghost use Rattle.ioa_compose.specs.Held.{composed_of};
 ghost use Rattle.ioa_compose.specs.Simulates.{Simulates};
-ghost use Rattle.ioa_system.specs.Logs.{logged};
 ghost use Rattle.ioa_log.specs.declared.failure.LogErr.{LogErr};
 ghost use Rattle.ioa_log.specs.Breaking.{broken_of};
 ghost use Rattle.ioa_log.specs.Failing.{FailedOnceAtMost, HasFailed};
-ghost use Rattle.ioa_log.specs.Judging.{IsReplayErr, agrees, diverges, judged, wrong_owner};
-ghost use Rattle.ioa_serving.specs.Failing.{BeginsFoundOf, IsInvariantFailure, IsUnwritten};
+ghost use Rattle.ioa_serving.specs.Failing.{BeginsFoundOf, IsInvariantFailure, IsNoLogOf, IsUnwritten};
 ghost use Rattle.ioa_serving.specs.Headline.{IsInvariantReplay};
-ghost use Rattle.ioa_serving.specs.Logs.{broken_line, found_in, found_of, found_text};
+ghost use Rattle.ioa_serving.specs.Logs.{IsFoundInLog, broken_line, found_of};
+ghost use Rattle.ioa_serving.specs.Subjects.{of_hosts};
 
 use crate::compile::{compose_text, is_object};
 use crate::failure::Failure;
-use crate::log_replay::run_text;
 use ioa_compose::Composition;
-use ioa_log::{Broken, InputDevice, LogErr, OutputDevice, read_log, send_all};
-use ioa_system::{End, Log};
+use ioa_log::{Broken, InputDevice, LogErr, OutputDevice, inspect_log, send_all};
+use ioa_system::End;
 use ioa_value::OutOfMemory;
 use std::alloc::Global;
 use std::fmt::Write;
@@ -36,7 +34,7 @@ pub enum Finding {
 
 /// Replays a log in a composition of a source, both given as texts, and asks for the source's invariants in each of its states: where
 /// the log is of the composition's run, writes the first invariant that is broken, or else what a replay of the log writes, and answers
-/// which it is.
+/// which it is. The log is read and judged line by line.
 ///
 /// # Errors
 /// `SourceWanted` where the bytes are an object, which has no invariants; else as those of a replay of a log. They are found before a
@@ -62,33 +60,34 @@ pub fn replay_invariants_text<R: InputDevice, W: OutputDevice>(
         return Err(Failure::SourceWanted);
     }
     let composed = compose_text(alloc, text, composition)?;
-    let log = read_log(alloc, composed.types(), input)?;
-    let (told, finding) = inspect(alloc, &composed, &log)?;
+    let (told, finding) = inspect(alloc, &composed, input)?;
     send_all(output, told.as_bytes())?;
     Ok(finding)
 }
 
 /// What is found in a log of the run of the hosts that the composition stands for, and the text that tells it.
-fn inspect(alloc: Global, composition: &Composition, log: &Log) -> Result<(String, Finding), LogErr>
-    ensures judged { IfOk result (λ _. (h : Hosted) → Simulates h (composed_of composition.now) → judged (hosts_of h) (host_starts h) (logged log.now) ≡ agrees) }
-    ensures finding { IfOk result (λ told. (h : Hosted) → Simulates h (composed_of composition.now) → found_of told.1 ≡ found_in h (logged log.now)) }
-    ensures text { IfOk result (λ told. (h : Hosted) → Simulates h (composed_of composition.now)
-        → string_bytes told.0 ≡ found_text h (logged log.now) (found_in h (logged log.now))) }
-    ensures owner { (n : ℕ) → IsErrOf result (LogErr.WrongOwner n) → (h : Hosted) → Simulates h (composed_of composition.now)
-        → judged (hosts_of h) (host_starts h) (logged log.now) ≡ wrong_owner n }
-    ensures diverges { (n : ℕ) → IsErrOf result (LogErr.Diverges n) → (h : Hosted) → Simulates h (composed_of composition.now)
-        → judged (hosts_of h) (host_starts h) (logged log.now) ≡ diverges n }
-    ensures only { IfErr result IsReplayErr }
+fn inspect<R: InputDevice>(
+    alloc: Global,
+    composition: &Composition,
+    input: &mut R,
+) -> Result<(String, Finding), LogErr>
+    ensures finds { IfOk result (λ told. (h : Hosted) → Simulates h (composed_of composition.now)
+        → IfSome (R.remaining input.old) (λ bytes. IsFoundInLog h bytes (found_of told.1) (string_bytes told.0))) }
+    ensures refused { IfErr result (λ e. (h : Hosted) → Simulates h (composed_of composition.now)
+        → IfSome (R.remaining input.old) (λ bytes. IsNoLogOf e (of_hosts h) bytes)) }
+    ensures io { IsErrOf result LogErr.Io → HasFailed (R.failure_count input.old) (R.failure_count input.new) }
+    ensures passed { (IsErrOf result LogErr.Io → ⊥) → R.failure_count input.new ≡ R.failure_count input.old }
+    ensures once { FailedOnceAtMost (R.failure_count input.old) (R.failure_count input.new) }
 {
-    let inspection = ioa_log::inspect(alloc, composition, log)?;
+    let inspection = inspect_log(alloc, composition, input)?;
     match inspection.broken {
         Some(broken) => {
             let line = broken_text(alloc, broken)?;
             Ok((line, Finding::Broken(broken)))
         }
         None => {
-            let trace = run_text(alloc, composition.types(), &inspection.run)?;
-            Ok((trace, Finding::Unbroken(inspection.run.end)))
+            let replayed = inspection.replayed;
+            Ok((replayed.text, Finding::Unbroken(replayed.end)))
         }
     }
 }

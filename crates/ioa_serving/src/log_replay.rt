@@ -2,20 +2,16 @@
 
 ghost use Rattle.std.specs.Prelude.{◌≡◌, ◌⊎◌, IfOk, IfErr, IfSome, IsErrOf};
 ghost use Rattle.std.specs.Option.{option_copied};
-ghost use Rattle.std.specs.String.{string_bytes};
 ghost use Rattle.ioa_system.specs.Outcomes.{ending_of};
-ghost use Rattle.ioa_system.specs.Records.{trace_of};
 ghost use Rattle.ioa_log.specs.declared.failure.LogErr.{LogErr};
 ghost use Rattle.ioa_log.specs.Failing.{FailedOnceAtMost, HasFailed};
-ghost use Rattle.ioa_log.specs.Replays as replays;
 ghost use Rattle.ioa_serving.specs.Failing.{BeginsLogOf, IsLogReplayFailure, IsUnwritten};
 ghost use Rattle.ioa_serving.specs.Headline.{IsLogReplay};
 
 use crate::compile::program_of;
 use crate::failure::Failure;
-use ioa_log::{InputDevice, OutputDevice, Trace, replay_log};
-use ioa_system::{End, Run};
-use ioa_value::{OutOfMemory, Types};
+use ioa_log::{InputDevice, OutputDevice, replay_log};
+use ioa_system::End;
 use std::alloc::Global;
 
 /// Replays a log in a composition of a source, or in an object, by the bytes of both: where the log is of the composition's run, writes the
@@ -44,15 +40,4 @@ pub fn replay_log_text<R: InputDevice, W: OutputDevice>(
     let program = program_of(alloc, text, composition)?;
     let end = replay_log(alloc, &program, input, output)?;
     Ok(end)
-}
-
-/// A run's trace, one action a line, and then a line with its end.
-pub fn run_text(alloc: Global, types: &Types, run: &Run) -> Result<String, OutOfMemory>
-    ensures { IfOk result (λ text. string_bytes text ≡ replays.replay_text types.now (trace_of run.now) (ending_of run.now.end)) }
-{
-    let mut trace = Trace::new(alloc);
-    for action in run.trace.as_slice() {
-        trace.push(types, action)?;
-    }
-    trace.end(run.end)
 }

@@ -8,26 +8,22 @@ ghost use Rattle.ioa_system.specs.Outcomes.{ending_of};
 ghost use Rattle.ioa_system.specs.Logs.{logged};
 ghost use Rattle.ioa_log.specs.declared.failure.LogErr.{LogErr};
 ghost use Rattle.ioa_log.specs.Failing.{FailedOnceAtMost, HasFailed};
-ghost use Rattle.ioa_log.specs.Monitoring.{monitored};
 ghost use Rattle.ioa_serving.specs.Failing.{BeginsMonitorOf, IsMonitorFailure, IsUnwritten};
 ghost use Rattle.ioa_serving.specs.Headline.{IsMonitoring};
 ghost use Rattle.ioa_serving.specs.Logs as logs;
 ghost use Rattle.ioa_serving.specs.Logs.{answer_line};
-ghost use Rattle.ioa_serving.specs.Running.{RunsAs};
-ghost use Rattle.ioa_serving.specs.Subjects.{IsClosed, IsOpen, Subject, its_components, its_starts};
 
 use crate::compile::program_of;
 use crate::failure::Failure;
 use ioa_account::actions_in;
-use ioa_compile::Program;
-use ioa_log::{InputDevice, MonitorErr, OutputDevice, monitor, read_log, send_all};
+use ioa_log::{InputDevice, OutputDevice, hides_actions, monitor_log, send_all};
 use ioa_system::{End, Log, LogEnd};
 use ioa_value::{Action, OutOfMemory};
 use std::alloc::Global;
 use std::fmt::Write;
 
 /// Monitors a log by a composition of a source, or by an object, given the bytes of both: writes whether the composition accepts the actions that the log
-/// tells to be performed, and answers why not.
+/// tells to be performed, and answers why not. The log is read line by line.
 ///
 /// # Errors
 /// As those of a replay of a log, but whose run the log is does not matter; and `SpecHasInternal` where not all that the composition
@@ -50,28 +46,13 @@ pub fn monitor_text<R: InputDevice, W: OutputDevice>(
     ensures once { FailedOnceAtMost (R.failure_count input.old) (R.failure_count input.new) × FailedOnceAtMost (W.failure_count output.old) (W.failure_count output.new) }
 {
     let program = program_of(alloc, text, composition)?;
-    // It has an answer to no action at all where it may be a monitor.
-    answer_to(alloc, &program, &[])?;
-    let log = read_log(alloc, program.types(), input)?;
-    let actions = performed_in(alloc, log)?;
-    let answer = answer_to(alloc, &program, &actions)?;
+    if hides_actions(&program) {
+        return Err(Failure::SpecHasInternal);
+    }
+    let answer = monitor_log(alloc, &program, input)?;
     let line = answer_text(alloc, answer)?;
     send_all(output, line.as_bytes())?;
     Ok(answer)
-}
-
-/// Why the program, as a monitor, does not accept the actions, if it does not.
-fn answer_to(alloc: Global, program: &Program, actions: &[Action]) -> Result<Option<End>, Failure>
-    ensures answers { IfOk result (λ answer. (s : Subject) → RunsAs program.now s
-        → IsOpen s × (option_map ending_of answer ≡ monitored (its_components s) (map act_of actions.now) (its_starts s))) }
-    ensures refused { IfErr result (λ e. (e ≡ Failure.OutOfMemory) ⊎ ((e ≡ Failure.SpecHasInternal) × ((s : Subject) → RunsAs program.now s → IsClosed s))) }
-{
-    match monitor(alloc, program, actions) {
-        Ok(()) => Ok(None),
-        Err(MonitorErr::SpecHasInternal) => Err(Failure::SpecHasInternal),
-        Err(MonitorErr::At { index, answer }) => Ok(answer.end_at(index)),
-        Err(MonitorErr::OutOfMemory) => Err(Failure::OutOfMemory),
-    }
 }
 
 /// The actions that a log tells to be performed: the last one of a log that ends by a fault is not.

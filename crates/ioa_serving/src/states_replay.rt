@@ -4,27 +4,24 @@ ghost use Rattle.std.specs.Prelude.{◌≡◌, ◌⊎◌, ℕ, IfOk, IfErr, IfSo
 ghost use Rattle.std.specs.Option.{option_copied};
 ghost use Rattle.std.specs.String.{string_bytes};
 ghost use Rattle.ioa_value.specs.Lists.{BadLine};
-ghost use Rattle.ioa_tree.specs.Hosts.{Hosted, hosts_of, host_starts};
-ghost use Rattle.ioa_tree.specs.Runs.{run};
+ghost use Rattle.ioa_tree.specs.Hosts.{Hosted};
 ghost use Rattle.ioa_compose.specs.Held.{composed_of};
 ghost use Rattle.ioa_compose.specs.Simulates.{Simulates};
-ghost use Rattle.ioa_system.specs.Logs.{actions_of, logged};
 ghost use Rattle.ioa_system.specs.Outcomes.{ending_of};
 ghost use Rattle.ioa_log.specs.declared.failure.LogErr.{LogErr};
 ghost use Rattle.ioa_log.specs.Failing.{FailedOnceAtMost, HasFailed, IsListErr};
-ghost use Rattle.ioa_log.specs.Judging.{IsReplayErr, agrees, diverges, judged, wrong_owner};
-ghost use Rattle.ioa_serving.specs.Failing.{BeginsLogStatesOf, BeginsStatesOf, IsInvariantFailure, IsStatesFailure, IsUnwritten};
+ghost use Rattle.ioa_serving.specs.Failing.{BeginsLogStatesOf, BeginsStatesOf, IsInvariantFailure, IsNoLogOf, IsStatesFailure, IsUnwritten};
 ghost use Rattle.ioa_serving.specs.Headline.{IsLogStatesReplay, IsStatesReplay};
-ghost use Rattle.ioa_serving.specs.States.{Reaches, states_text};
+ghost use Rattle.ioa_serving.specs.States.{Reaches, ReachesByLog};
+ghost use Rattle.ioa_serving.specs.Subjects.{of_hosts};
 
 use crate::compile::{compose_text, is_object};
 use crate::failure::Failure;
-use crate::log_replay::run_text;
 use ioa_account::put_states;
 use ioa_compile::compile;
 use ioa_compose::Composition;
-use ioa_log::{InputDevice, LogErr, OutputDevice, perform_list, read_log, replay, send_all};
-use ioa_system::{End, Log};
+use ioa_log::{InputDevice, LogErr, OutputDevice, perform_list, perform_log, send_all};
+use ioa_system::End;
 use std::alloc::Global;
 
 /// Replays a list of actions in a composition of a source, by the bytes of both: writes what a replay of the list does, and then each
@@ -59,7 +56,8 @@ pub fn replay_states_text<R: InputDevice, W: OutputDevice>(
 }
 
 /// Replays a log in a composition of a source, by the bytes of both: where the log is of the composition's run, writes what a replay of
-/// the log does, and then each component's variables in the state in which the log ends, and answers that end.
+/// the log does, and then each component's variables in the state in which the log ends, and answers that end. The log is read and judged
+/// line by line.
 ///
 /// # Errors
 /// `SourceWanted` where the bytes are an object, which has no names of variables; else as those of a replay of a log.
@@ -84,8 +82,7 @@ pub fn replay_log_states_text<R: InputDevice, W: OutputDevice>(
         return Err(Failure::SourceWanted);
     }
     let composed = compose_text(alloc, text, composition)?;
-    let log = read_log(alloc, composed.types(), input)?;
-    let (told, end) = reached_by_log(alloc, &composed, &log)?;
+    let (told, end) = reached_by_log(alloc, &composed, input)?;
     send_all(output, told.as_bytes())?;
     Ok(end)
 }
@@ -111,25 +108,23 @@ fn reached<R: InputDevice>(
     Ok((told, replayed.end))
 }
 
-/// The same of a log that is of the hosts' run.
-fn reached_by_log(
+/// The same of a log that is of the hosts' run, which is read and judged line by line.
+fn reached_by_log<R: InputDevice>(
     alloc: Global,
     composition: &Composition,
-    log: &Log,
+    input: &mut R,
 ) -> Result<(String, End), LogErr>
-    ensures judged { IfOk result (λ _. (h : Hosted) → Simulates h (composed_of composition.now) → judged (hosts_of h) (host_starts h) (logged log.now) ≡ agrees) }
-    ensures ending { IfOk result (λ told. (h : Hosted) → Simulates h (composed_of composition.now)
-        → ending_of told.1 ≡ (run (hosts_of h) (actions_of (logged log.now)) (host_starts h)).ending) }
-    ensures text { IfOk result (λ told. (h : Hosted) → Simulates h (composed_of composition.now) → string_bytes told.0 ≡ states_text h (actions_of (logged log.now))) }
-    ensures owner { (n : ℕ) → IsErrOf result (LogErr.WrongOwner n) → (h : Hosted) → Simulates h (composed_of composition.now)
-        → judged (hosts_of h) (host_starts h) (logged log.now) ≡ wrong_owner n }
-    ensures diverges { (n : ℕ) → IsErrOf result (LogErr.Diverges n) → (h : Hosted) → Simulates h (composed_of composition.now)
-        → judged (hosts_of h) (host_starts h) (logged log.now) ≡ diverges n }
-    ensures only { IfErr result IsReplayErr }
+    ensures reaches { IfOk result (λ told. (h : Hosted) → Simulates h (composed_of composition.now)
+        → IfSome (R.remaining input.old) (λ bytes. ReachesByLog h bytes (ending_of told.1) (string_bytes told.0))) }
+    ensures refused { IfErr result (λ e. (h : Hosted) → Simulates h (composed_of composition.now)
+        → IfSome (R.remaining input.old) (λ bytes. IsNoLogOf e (of_hosts h) bytes)) }
+    ensures io { IsErrOf result LogErr.Io → HasFailed (R.failure_count input.old) (R.failure_count input.new) }
+    ensures passed { (IsErrOf result LogErr.Io → ⊥) → R.failure_count input.new ≡ R.failure_count input.old }
+    ensures once { FailedOnceAtMost (R.failure_count input.old) (R.failure_count input.new) }
 {
     let program = compile(alloc, composition)?;
-    let run = replay(alloc, &program, log)?;
-    let mut told = run_text(alloc, composition.types(), &run)?;
-    put_states(&mut told, composition, &run.states)?;
-    Ok((told, run.end))
+    let performed = perform_log(alloc, &program, input)?;
+    let mut told = performed.text;
+    put_states(&mut told, composition, &performed.states)?;
+    Ok((told, performed.end))
 }

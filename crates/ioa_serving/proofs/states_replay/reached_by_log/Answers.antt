@@ -1,39 +1,35 @@
 use Rattle.std.proofs.Common.{◌++◌, ap, subst, sym, ◌∙◌}
+use Rattle.std.proofs.lemmas.Option.{IfSome_then}
 use Rattle.std.proofs.lemmas.Result.{err_from_is_err_and}
 use Rattle.ioa_tree.specs.Hosts.{hosts_of, host_starts}
 use Rattle.ioa_tree.specs.Likes.{AllRelated}
 use Rattle.ioa_tree.specs.Runs.{run}
 use Rattle.ioa_compose.specs.Held.{composed_of}
 use Rattle.ioa_compose.specs.Simulates.{SlotsHoldAt}
-use Rattle.ioa_system.specs.Logs.{actions_of, logged}
+use Rattle.ioa_compile.specs.Subjects as compiled
+use Rattle.ioa_compile.proofs.Subjects.{all_held}
+use Rattle.ioa_system.specs.Logs.{actions_of}
 use Rattle.ioa_system.specs.Systems.{values_of}
 use Rattle.ioa_account.specs.States.{state_lines}
-use Rattle.ioa_serving.specs.Subjects.{of_hosts}
-use Rattle.ioa_serving.proofs.Refused.{err_as}
-use Rattle.ioa_serving.proofs.Subjects.{host_reaches, run_told}
+use Rattle.ioa_serving.proofs.Refused.{err_so}
 use Rattle.ioa_serving.proofs.states_replay.reached_by_log.Goals as goal
 
-pub returns-in_err-run-clause-owner : goal.returns-in_err-run-clause-owner
-returns-in_err-run-clause-owner c = λ n r h stands.
-    let e = err_from_is_err_and c.from_residual-in_err-run.result c.from_residual-in_err-run.ensures.1 in
-    c.in_err-run.ensures.hosts_owner n (err_as c.from_residual-in_err-run.result e.0 c.in_err-run.field-0.0 _ e.1 e.2 r) h (composed_of c.args.composition.now) stands c.in_ok-program.ensures
+pub returns-in_err-performed-clause-refused : goal.returns-in_err-performed-clause-refused
+returns-in_err-performed-clause-refused g c =
+    let e = err_from_is_err_and c.from_residual-in_err-performed.result c.from_residual-in_err-performed.ensures.1 in
+    err_so c.from_residual-in_err-performed.result e.0 _ _ e.1 e.2
+    (λ h stands. c.in_err-performed.ensures.subjects_refused (compiled.of_hosts h) (composed_of c.args.composition.now, stands, c.in_ok-program.ensures))
 
-pub returns-in_err-run-clause-diverges : goal.returns-in_err-run-clause-diverges
-returns-in_err-run-clause-diverges c = λ n r h stands.
-    let e = err_from_is_err_and c.from_residual-in_err-run.result c.from_residual-in_err-run.ensures.1 in
-    c.in_err-run.ensures.hosts_diverges n (err_as c.from_residual-in_err-run.result e.0 c.in_err-run.field-0.0 _ e.1 e.2 r) h (composed_of c.args.composition.now) stands c.in_ok-program.ensures
-
-pub returns-clause-judged : goal.returns-clause-judged
-returns-clause-judged c = λ h stands. (c.in_ok-run.ensures.hosts h (composed_of c.args.composition.now) stands c.in_ok-program.ensures).0
-
-pub returns-clause-ending : goal.returns-clause-ending
-returns-clause-ending c = λ h stands. sym (c.in_ok-run.ensures.hosts h (composed_of c.args.composition.now) stands c.in_ok-program.ensures).1.reached.ending
-
-pub returns-clause-text : goal.returns-clause-text
-returns-clause-text c = λ h stands.
-    let acts = actions_of (logged c.args.log.now) in
-    let sound = (c.in_ok-run.ensures.hosts h (composed_of c.args.composition.now) stands c.in_ok-program.ensures).1 in
-    let states = (run (hosts_of h) acts (host_starts h)).states in
-    c.in_ok-put_states.ensures h states stands (subst (λ ns. AllRelated (SlotsHoldAt h.hosts) 0 states (values_of ns)) (sym c.deref.ensures.value) sound.reached.states)
-    ∙ ap (λ told. told ++ state_lines h.types h.hosts states)
-    (c.in_ok-told.ensures ∙ run_told (of_hosts h) c.types.result.now acts c.in_ok-run.run' (c.types.ensures.value ∙ stands.types) (host_reaches h acts c.in_ok-run.run' sound))
+pub returns-clause-reaches : goal.returns-clause-reaches
+returns-clause-reaches g c = λ h stands.
+    IfSome_then (g.R.Read.remaining c.args.input.now)
+    (c.in_ok-performed.ensures.subjects (compiled.of_hosts h) (composed_of c.args.composition.now, stands, c.in_ok-program.ensures))
+    (λ xs k.
+    let states = (run (hosts_of h) (actions_of k.log) (host_starts h)).states in (
+      k.log,
+      k.is_log,
+      k.ending,
+      c.in_ok-put_states.ensures h states stands
+          (subst (λ ns. AllRelated (SlotsHoldAt h.hosts) 0 states (values_of ns)) (sym c.deref.ensures.value) (all_held c.in_ok-program.program h 0 states _ k.states))
+          ∙ ap (λ told. told ++ state_lines h.types h.hosts states) k.text,
+    ))
