@@ -1,7 +1,6 @@
 -- What holds of a program's own table and of the hosts for which its composition stands holds of what the program runs as.
-use Rattle.std.proofs.Common.{◌≡◌, ℕ, List, Option, refl, sym, ap, ap₂, ◌∙◌, subst}
+use Rattle.std.proofs.Common.{◌≡◌, ℕ, List, Option, refl, sym, ap, ◌∙◌, subst}
 use Rattle.ioa_value.specs.Actions.{Act}
-use Rattle.ioa_value.specs.Table.{Table}
 use Rattle.ioa_tree.specs.Compositions.{Composed}
 use Rattle.ioa_tree.specs.Hosts.{Hosted, hosts_of, host_starts}
 use Rattle.ioa_tree.specs.Runs.{Ending, run, trace}
@@ -21,7 +20,6 @@ use Rattle.ioa_log.specs.LogMonitors.{IsNoText, MonitorsLog}
 use Rattle.ioa_log.specs.LogReplays as replays
 use Rattle.ioa_log.specs.LogReplays.{BeginsLogReplay, IsNoLog}
 use Rattle.ioa_log.specs.LogTexts.{ReadsLog}
-use Rattle.ioa_log.specs.Replays.{replay_text, run_text}
 use Rattle.ioa_serving.specs.Failing.{IsNoLogOf}
 use Rattle.ioa_serving.specs.Logs.{BeginsLog, ReplaysLog, answer_to}
 use Rattle.ioa_serving.specs.Running.{RunsAs}
@@ -56,13 +54,6 @@ pub sound_as : (p : Prog) (s : Subject) (log : Logged) (r : Run) → RunsAs p s 
 sound_as p s log r of own other =
     of_both p s (λ x. IsSound x log r) of (own.0, table_reaches p (actions_of log) r own.1)
     (λ h c stands means. let k = other h c stands means in (k.0, host_reaches h (actions_of log) r k.1))
-
--- the text of a run is the text of the subject's run
-pub run_told : (s : Subject) (types : Table) (acts : List Act) (r : Run) → types ≡ its_types s → Reaches s acts r
-    → replay_text types (trace_of r) (ending_of r.end) ≡ run_text (its_types s) (its_hidden s) (its_components s) (its_starts s) acts
-run_told s types acts r same k =
-    ap (λ ts. replay_text ts (trace_of r) (ending_of r.end)) same
-    ∙ ap₂ (λ xs end. replay_text (its_types s) xs end) (k.trace ∙ ap (trace (its_hidden s) (its_components s) acts) k.performed) k.ending
 
 -- ---- what is said of whatever a program runs as
 

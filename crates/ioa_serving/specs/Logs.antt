@@ -3,7 +3,6 @@ use Rattle.std.specs.Prelude.{◌≡◌, ℕ, ◌++◌, ◌∷◌, [], List, tak
 use Rattle.std.specs.Fmt.{decimal}
 use Rattle.std.specs.Io.KnownBytes.{Appends}
 use Rattle.std.specs.Option.{option_map_or}
-use Rattle.ioa_value.specs.Actions.{Act}
 use Rattle.ioa_tree.specs.Hosts.{Hosted, hosts_of, host_starts, first_broken_host}
 use Rattle.ioa_tree.specs.Invariants.{Broken}
 use Rattle.ioa_tree.specs.Runs.{Ending, run}

@@ -15,16 +15,16 @@ returns-in_err-inspection-clause-refused g c =
     let e = err_from_is_err_and c.from_residual.result c.from_residual.ensures.1 in
     err_so c.from_residual.result e.0 _ _ e.1 e.2 (λ h stands. c.in_err-inspection.ensures.hosts_refused h stands)
 
-pub returns-in-Some-clause-finds : goal.returns-in-Some-clause-finds
-returns-in-Some-clause-finds g c = λ h stands.
+pub returns-in_ok-line-in-Some-clause-finds : goal.returns-in_ok-line-in-Some-clause-finds
+returns-in_ok-line-in-Some-clause-finds g c = λ h stands.
     IfSome_then (g.R.Read.remaining c.args.input.now) (c.in_ok-inspection.ensures.hosts h stands)
     (λ xs k.
     let first : Some (broken_of c.in-Some.broken) ≡ first_broken_host h (actions_of k.log) = ap (option_map broken_of) (sym c.in-Some.is) ∙ k.broken in
     let found = found_broken h k.log c.in-Some.broken first in
     (k.log, k.is_log, found, c.in_ok-line-in-Some.ensures ∙ ap (found_text h k.log) found))
 
-pub returns-clause-finds : goal.returns-clause-finds
-returns-clause-finds g c = λ h stands.
+pub returns-in-None-clause-finds : goal.returns-in-None-clause-finds
+returns-in-None-clause-finds g c = λ h stands.
     IfSome_then (g.R.Read.remaining c.args.input.now) (c.in_ok-inspection.ensures.hosts h stands)
     (λ xs k.
     let none : None ≡ first_broken_host h (actions_of k.log) = ap (option_map broken_of) (sym c.in-None.is) ∙ k.broken in

@@ -45,11 +45,15 @@ returns-in_err-send_all-clause-unwritten g c =
     let of = c.in_ok-composed.ensures.composes in
     let source = sym c.is_object.ensures ∙ c.if-is_object.false in
     err_so c.from_residual-in_err-send_all.result e.0 (Failure.List LogErr.Io) _ e.1 (e.2 ∙ ap Failure.List c.in_err-send_all.ensures.io.0)
-    (inr (of.0, (source, of.1), IfSome_then (g.R.Read.remaining c.args.input.now) (c.in_ok-told.ensures.finds of.0 of.2)
-    (λ xs r.
-    let begun = subst (λ t. (k : ℕ) × Appends (g.W.Write.contents c.args.output.now) (g.W.Write.contents c.send_all.new.output) (take k t)) (c.as_bytes.ensures.value ∙ r.3)
-    c.in_err-send_all.ensures.begun in
-    (r.0, r.1, begun))))
+    (inr (
+      of.0,
+      (source, of.1),
+      IfSome_then (g.R.Read.remaining c.args.input.now) (c.in_ok-told.ensures.finds of.0 of.2)
+          (λ xs r.
+          let begun = subst (λ t. (k : ℕ) × Appends (g.W.Write.contents c.args.output.now) (g.W.Write.contents c.send_all.new.output) (take k t)) (c.as_bytes.ensures.value ∙ r.3)
+          c.in_err-send_all.ensures.begun in
+          (r.0, r.1, begun)),
+    ))
 
 pub returns-clause-replays : goal.returns-clause-replays
 returns-clause-replays g c =

@@ -1,4 +1,4 @@
-use Rattle.std.proofs.Common.{◌≡◌, ◌⊎◌, ℕ, inl, inr, Err, ◌∙◌, ap, subst, take}
+use Rattle.std.proofs.Common.{◌⊎◌, ℕ, inl, inr, Err, ◌∙◌, ap, subst, take}
 use Rattle.std.specs.Io.KnownBytes.{Appends}
 use Rattle.std.specs.Option.{option_copied, option_map}
 use Rattle.std.proofs.lemmas.Option.{IfSome_then}
@@ -73,9 +73,13 @@ returns-in_err-send_all-clause-unwritten g c =
     let seen = open_as of.0 (c.hides_actions.ensures.open c.if-hides_actions.false (as_compiled of.0) runs) in
     let line = c.as_bytes.ensures.value ∙ c.in_ok-line.ensures in
     err_so c.from_residual-in_err-send_all.result e.0 (Failure.List LogErr.Io) _ e.1 (e.2 ∙ ap Failure.List c.in_err-send_all.ensures.io.0)
-    (inr (of.0, of.1, IfSome_then (g.R.Read.remaining c.args.input.now) (c.in_ok-answer.ensures.answers (as_compiled of.0) runs)
-    (λ xs k.
-    let told = answer_as of.0 xs (option_map ending_of c.in_ok-answer.answer) k in
-    let begun = subst (λ t. (n : ℕ) × Appends (g.W.Write.contents c.args.output.now) (g.W.Write.contents c.send_all.new.output) (take n t)) (line ∙ ap answer_line told.2)
-    c.in_err-send_all.ensures.begun in
-    (seen, (told.0, told.1, begun)))))
+    (inr (
+      of.0,
+      of.1,
+      IfSome_then (g.R.Read.remaining c.args.input.now) (c.in_ok-answer.ensures.answers (as_compiled of.0) runs)
+          (λ xs k.
+          let told = answer_as of.0 xs (option_map ending_of c.in_ok-answer.answer) k in
+          let begun = subst (λ t. (n : ℕ) × Appends (g.W.Write.contents c.args.output.now) (g.W.Write.contents c.send_all.new.output) (take n t)) (line ∙ ap answer_line told.2)
+          c.in_err-send_all.ensures.begun in
+          (seen, (told.0, told.1, begun))),
+    ))
