@@ -22,6 +22,7 @@ use Rattle.ioa_account.specs.Lines.{line_at}
 use Rattle.ioa_account.specs.Quoted.{shown_text}
 use Rattle.ioa_account.specs.Remarks.{TellsDifference, TellsEnd, TellsInspected, TellsMonitored, list_line, log_line}
 use Rattle.ioac.specs.declared.remarks.ended.Ended.{Ended}
+use Rattle.ioac.specs.Hints.{TellsHint}
 use Rattle.ioa_request.specs.declared.code.Code.{Code}
 use Rattle.ioa_request.specs.declared.request.Request.{Request}
 use Rattle.ioa_request.specs.Codes.{spelling}
@@ -97,8 +98,12 @@ OfBegun t n tells before after =
 abbrev pub OfHosts : Told → (Hosted → List ℕ → List ℕ → Type 0) → List ℕ → List ℕ → Type 0
 OfHosts t tells before after = (h : Hosted) → Simulates h (composed_of t.composition.now) → tells h before after
 
+-- why the run of a list ends, and of an action that no component has which entries it may mean
+abbrev pub TellsListed : Told → List Act → List ℕ → List ℕ → Type 0
+TellsListed t acts before after = (told : List ℕ) × TellsEnd t (list_line t) acts before told × TellsHint t acts told after
+
 abbrev pub TellsListEnd : Told → List ℕ → List ℕ → Type 0
-TellsListEnd t before after = OfList t (TellsEnd t (list_line t)) before after
+TellsListEnd t before after = OfList t (TellsListed t) before after
 
 abbrev pub TellsLogEnd : Told → List ℕ → List ℕ → Type 0
 TellsLogEnd t before after = OfLog t (λ log. TellsEnd t (log_line t) (actions_of log)) before after

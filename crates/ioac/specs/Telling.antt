@@ -60,9 +60,17 @@ missing_log_text =
 abbrev pub two_questions_text : List ℕ
 two_questions_text = codes "error: the argument '--invariants' cannot be used with '--states'" ++ try_help
 
--- of a value that an option does not take
-abbrev pub invalid_value_text : Text → List ℕ → List ℕ
-invalid_value_text word option = codes "error: invalid value '" ++ (word ++ (codes "' for '" ++ (option ++ (codes "'" ++ try_help))))
+-- of a value that an option does not take, with what it takes
+abbrev pub invalid_value_text : Text → List ℕ → List ℕ → List ℕ
+invalid_value_text word option wanted =
+    codes "error: invalid value '" ++ (word ++ (codes "' for '" ++ (option ++ (codes "'\n  [wanted: " ++ (wanted ++ (codes "]" ++ try_help))))))
+
+-- what is wanted of a seed, and of turns
+abbrev pub seed_wanted : List ℕ
+seed_wanted = codes "64 hexadecimal digits"
+
+abbrev pub turns_wanted : List ℕ
+turns_wanted = codes "a whole number from 0 to 100000"
 
 -- of words that are given twice
 abbrev pub two_sources_text : List ℕ
@@ -71,14 +79,14 @@ two_sources_text = codes "error: the argument '--seed <HEX>' cannot be used with
 -- of a seed that is no key, or that is given together with a file of words
 abbrev pub bad_source_text : Option Text → Option Text → List ℕ
 bad_source_text None file = two_sources_text
-bad_source_text (Some digits) None = invalid_value_text digits (codes "--seed <HEX>")
+bad_source_text (Some digits) None = invalid_value_text digits (codes "--seed <HEX>") seed_wanted
 bad_source_text (Some digits) (Some file) = two_sources_text
 
 -- of turns that are no number, or else of the words' source
 abbrev pub bad_settings_text : Option Text → Option Text → Option Text → List ℕ
 bad_settings_text None seed file = bad_source_text seed file
 bad_settings_text (Some word) seed file =
-    if is_some (turns_in (Some word)) then bad_source_text seed file else invalid_value_text word (codes "--turns <N>")
+    if is_some (turns_in (Some word)) then bad_source_text seed file else invalid_value_text word (codes "--turns <N>") turns_wanted
 
 -- invariants and states are asked for
 abbrev pub asks_both : List Row → Bool

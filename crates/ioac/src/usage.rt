@@ -130,7 +130,12 @@ fn bad_settings_text(
 {
     match turns {
         Some(word) if read_turns(turns).is_none() => {
-            invalid_value_text(alloc, word, "--turns <N>")
+            invalid_value_text(
+                alloc,
+                word,
+                "--turns <N>",
+                "a whole number from 0 to 100000",
+            )
         }
         _ => bad_source_text(alloc, seed, file),
     }
@@ -145,7 +150,9 @@ fn bad_source_text(
     ensures { IfOk result (λ text. string_bytes text ≡ telling.bad_source_text (option_copied seed.entry) (option_copied file.entry)) }
 {
     match (seed, file) {
-        (Some(digits), None) => invalid_value_text(alloc, digits, "--seed <HEX>"),
+        (Some(digits), None) => {
+            invalid_value_text(alloc, digits, "--seed <HEX>", "64 hexadecimal digits")
+        }
         _ => two_sources_text(alloc),
     }
 }
@@ -161,12 +168,17 @@ fn bad_request_text(alloc: Global, first: Option<&str>, both: bool) -> Result<St
     }
 }
 
-/// That an option does not take the word, in the manner of `clap`.
-fn invalid_value_text(alloc: Global, word: &str, option: &str) -> Result<String, AllocError>
-    ensures { IfOk result (λ text. string_bytes text ≡ telling.invalid_value_text word.now option.now) }
+/// That an option does not take the word, and what it takes, in the manner of `clap`.
+fn invalid_value_text(
+    alloc: Global,
+    word: &str,
+    option: &str,
+    wanted: &str,
+) -> Result<String, AllocError>
+    ensures { IfOk result (λ text. string_bytes text ≡ telling.invalid_value_text word.now option.now wanted.now) }
 {
     format!(in alloc;
-        "error: invalid value '{word}' for '{option}'\n\nFor more information, try '--help'.\n"
+        "error: invalid value '{word}' for '{option}'\n  [wanted: {wanted}]\n\nFor more information, try '--help'.\n"
     )
 }
 

@@ -1,17 +1,18 @@
 //! What there is to say of how a list, a log or a run ended: of the action that was not performed, and of the states before it.
 
-ghost use Rattle.std.specs.Prelude.{◌≡◌, IfOk, IfSome, None, OnOk};
+ghost use Rattle.std.specs.Prelude.{◌≡◌, IfOk, IfSome, None, OnOk, map};
 ghost use Rattle.std.specs.Option.{option_copied};
 ghost use Rattle.std.specs.String.{string_bytes};
+ghost use Rattle.ioa_value.specs.Actions.{act_of};
 ghost use Rattle.ioa_system.specs.Logs.{actions_of, logged};
 ghost use Rattle.ioa_log.specs.LogTexts.{ReadsLog};
 ghost use Rattle.ioa_account.specs.Remarks.{TellsDifference, TellsInspected, TellsMonitored};
 ghost use Rattle.ioa_serving.specs.Logs.{performed_in};
 ghost use Rattle.ioac.specs.Remarks as spec;
-ghost use Rattle.ioac.specs.Remarks.{IsComposed, IsLoaded, IsNoLog, OfBegun, OfHosts, OfLog, Explains, TellsEnded, TellsListEnd, TellsLogEnd, TellsRunEnd, TellsSource};
+ghost use Rattle.ioac.specs.Remarks.{IsComposed, IsLoaded, IsNoLog, OfBegun, OfHosts, OfLog, Explains, TellsEnded, TellsListEnd, TellsListed, TellsLogEnd, TellsRunEnd, TellsSource};
 
-use crate::remarks::nameless;
 use crate::remarks::places::source_of;
+use crate::remarks::{hints, nameless};
 use ioa_account::{
     Told, actions_in, put_difference, put_inspected, put_list_end, put_log_end, put_monitored,
 };
@@ -21,7 +22,7 @@ use ioa_request::Request;
 use ioa_serving::{Status, Store, StoreErr, compose_text, is_object, performed_in};
 use ioa_syntax::Refusal;
 use ioa_system::Log;
-use ioa_value::{OutOfMemory, Types, read_list};
+use ioa_value::{Action, OutOfMemory, Types, read_list};
 use std::alloc::Global;
 
 /// What came of a request that had something to read.
@@ -91,8 +92,21 @@ pub fn loaded<F: Store>(alloc: Global, name: &str, store: &F) -> Result<Vec<u8>,
     }
 }
 
+/// The bytes of a file, however many. None at all, where it cannot be read now.
+pub fn loaded_whole<F: Store>(
+    alloc: Global,
+    name: &str,
+    store: &F,
+) -> Result<Vec<u8>, OutOfMemory> {
+    match store.load_whole(alloc, name) {
+        Ok(bytes) => Ok(bytes),
+        Err(StoreErr::Io) => Ok(Vec::new(alloc)),
+        Err(StoreErr::OutOfMemory) => Err(OutOfMemory),
+    }
+}
+
 /// The composition of this name, where the source has it.
-fn composed(
+pub fn composed(
     alloc: Global,
     source: &[u8],
     name: Option<&str>,
@@ -132,9 +146,11 @@ fn put_served(
     ensures { OnOk result (Explains asked.now (Ended.Served status) told.now (string_bytes text.old) (string_bytes text.new)) }
 {
     match asked {
-        Request::Replay { .. } => put_end_of_list(alloc, text, told),
-        Request::ReplayStates { .. } => put_end_of_list(alloc, text, told),
-        Request::Log { .. } => put_end_of_list(alloc, text, told),
+        Request::Replay { composition, .. } => put_end_of_list(alloc, text, told, *composition),
+        Request::ReplayStates { composition, .. } => {
+            put_end_of_list(alloc, text, told, *composition)
+        }
+        Request::Log { composition, .. } => put_end_of_list(alloc, text, told, *composition),
         Request::ReplayLog { .. } => put_end_of_log(alloc, text, told),
         Request::ReplayLogStates { .. } => put_end_of_log(alloc, text, told),
         Request::Chart { .. } => put_end_of_log(alloc, text, told),
@@ -150,14 +166,32 @@ fn put_served(
     }
 }
 
-/// Puts the action of a list that was not performed, and why.
-fn put_end_of_list(alloc: Global, text: &mut String, told: &Told<'_>) -> Result<(), OutOfMemory>
+/// Puts the action of a list that was not performed, and why; and of one that no component has which entries it may mean.
+fn put_end_of_list(
+    alloc: Global,
+    text: &mut String,
+    told: &Told<'_>,
+    name: Option<&str>,
+) -> Result<(), OutOfMemory>
     ensures { OnOk result (TellsListEnd told.now (string_bytes text.old) (string_bytes text.new)) }
 {
     match read_list(alloc, told.composition.types(), told.input)? {
-        Ok(actions) => put_list_end(alloc, text, told, actions.as_slice()),
+        Ok(actions) => put_listed(alloc, text, told, name, actions.as_slice()),
         Err(_) => Ok(()),
     }
+}
+
+fn put_listed(
+    alloc: Global,
+    text: &mut String,
+    told: &Told<'_>,
+    name: Option<&str>,
+    actions: &[Action],
+) -> Result<(), OutOfMemory>
+    ensures { OnOk result (TellsListed told.now (map act_of actions.now) (string_bytes text.old) (string_bytes text.new)) }
+{
+    put_list_end(alloc, text, told, actions)?;
+    hints::put(alloc, text, told, name, actions)
 }
 
 /// Puts the action of a log that was not performed, and why.

@@ -110,7 +110,7 @@ fn kind_of(alloc: Global, kind: &Kind) -> Result<Kind, OutOfMemory> {
 }
 
 /// Puts a token as it is written.
-fn put_token(text: &mut String, kind: &Kind) -> Result<(), OutOfMemory> {
+pub fn put_token(text: &mut String, kind: &Kind) -> Result<(), OutOfMemory> {
     match kind {
         Kind::Number(number) => write!(text, "`{number}`")?,
         Kind::Name(name) => {

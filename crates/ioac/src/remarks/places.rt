@@ -13,8 +13,12 @@ use ioa_syntax::Refusal;
 pub enum Place {
     /// On this line of the source.
     Source(usize),
-    /// At the component of this number, from 0.
-    Component(usize),
+    /// In the composition, at a component or at a hidden name.
+    Composition,
+    /// In the source, which has no such composition.
+    Missing,
+    /// In what the composition does unseen.
+    Unseen,
     /// On this line of the list or the log, also of a run's script.
     Input(usize),
     /// At the action of this index of a run's script, from 0.
@@ -23,6 +27,10 @@ pub enum Place {
     Words(usize),
     /// On this line of the log from which a run was to go on.
     Log(usize),
+    /// Behind the end of the log.
+    BehindEnd,
+    /// Behind the end of the log from which a run was to go on.
+    BehindLogEnd,
     Nowhere,
 }
 
@@ -46,11 +54,13 @@ pub fn place_of(failure: &Failure) -> Place {
         Failure::BadWords(line) => Place::Words(*line),
         // each entry of a log has a line of its own, and so has its end
         Failure::BadLog(index) => Place::Log(index.saturating_add(1)),
-        Failure::List(LogErr::NoEnd | LogErr::AfterEnd | LogErr::Io | LogErr::OutOfMemory)
-        | Failure::RunLog(LogErr::NoEnd | LogErr::AfterEnd | LogErr::Io | LogErr::OutOfMemory)
+        Failure::List(LogErr::AfterEnd) => Place::BehindEnd,
+        Failure::RunLog(LogErr::AfterEnd) => Place::BehindLogEnd,
+        Failure::SpecHasInternal => Place::Unseen,
+        Failure::List(LogErr::NoEnd | LogErr::Io | LogErr::OutOfMemory)
+        | Failure::RunLog(LogErr::NoEnd | LogErr::Io | LogErr::OutOfMemory)
         | Failure::Object(_)
         | Failure::SourceWanted
-        | Failure::SpecHasInternal
         | Failure::TooManyTurns
         | Failure::Threads
         | Failure::EndedByFault
@@ -71,14 +81,13 @@ fn place_of_refusal(refusal: &Refusal) -> Place {
         | Refusal::NoProposal(line)
         | Refusal::TooMany(line)
         | Refusal::TooWide(line) => Place::Source(*line as usize),
-        Refusal::ArgMismatch(component)
-        | Refusal::CrashName(component)
-        | Refusal::StartFault(component, _) => Place::Component(*component),
-        Refusal::Clash(_, second, _) => Place::Component(*second),
-        Refusal::TextTooLong
+        Refusal::ArgMismatch(_)
+        | Refusal::CrashName(_)
+        | Refusal::Clash(_, _, _)
         | Refusal::HiddenUnknown(_)
-        | Refusal::NoComposition
-        | Refusal::OutOfMemory => Place::Nowhere,
+        | Refusal::StartFault(_, _) => Place::Composition,
+        Refusal::NoComposition => Place::Missing,
+        Refusal::TextTooLong | Refusal::OutOfMemory => Place::Nowhere,
     }
 }
 

@@ -120,7 +120,7 @@ fn is_same(a: &Name, b: &Name) -> bool {
 }
 
 /// The entry of this name.
-fn entry_of<'a>(automaton: &'a Automaton, name: &Name) -> Option<&'a Entry> {
+pub fn entry_of<'a>(automaton: &'a Automaton, name: &Name) -> Option<&'a Entry> {
     automaton
         .entries
         .iter()

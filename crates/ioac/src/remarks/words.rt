@@ -2,7 +2,7 @@
 
 use crate::remarks::broken::broken_in;
 use crate::remarks::wordings::wording;
-use crate::remarks::{misfits, names, signatures, signs};
+use crate::remarks::{misfits, mistyped, names, signatures, signs};
 use ioa_serving::Failure;
 use ioa_syntax::Refusal;
 use ioa_value::OutOfMemory;
@@ -37,11 +37,11 @@ fn put_refusal(
         Refusal::Syntax(_) => misfits::put(alloc, text, source),
         Refusal::DuplicateName(_)
         | Refusal::UnknownName(_)
+        | Refusal::TypeMismatch(_)
         | Refusal::BadSignature(_)
         | Refusal::NoProposal(_) => put_broken(alloc, text, source),
         Refusal::TextTooLong
         | Refusal::TooDeep(_)
-        | Refusal::TypeMismatch(_)
         | Refusal::TooMany(_)
         | Refusal::TooWide(_)
         | Refusal::ArgMismatch(_)
@@ -64,6 +64,7 @@ fn put_broken(alloc: Global, text: &mut String, source: &[u8]) -> Result<bool, O
     match broken.refusal {
         Refusal::DuplicateName(at) => names::put_twice(alloc, text, declarations, tokens, at),
         Refusal::UnknownName(at) => names::put_unknown(alloc, text, declarations, tokens, at),
+        Refusal::TypeMismatch(at) => mistyped::put(alloc, text, declarations, tokens, at),
         Refusal::BadSignature(at) => signatures::put_unmatched(text, declarations, tokens, at),
         Refusal::NoProposal(at) => signatures::put_unproposed(text, declarations, at),
         _ => Ok(false),

@@ -90,9 +90,12 @@ const OVERFLOWS: &str = r#"
 
 /// What `--explain` tells of a log first: its line, and not that of the script.
 const REMARKS: &str = r#"
---alone --inputs l --resume r --explain |  | reset^% two^reset | {"act":"reset","who":1}^{"act":"tick(red)","who":0}^{"end":"done after 2"}^ |  | L2 line 2^r:2: L2: this line cannot be read^    {"act":"tick(red)","who":0}^^L2: | 4
---alone --inputs l --resume r --explain |  | reset^tick( | {"act":"reset","who":1}^{"end":"done after 1"}^ |  | L2 line 2^l:2: L2: this line cannot be read^    tick(^^L2: | 4
---alone --inputs l --resume r --explain |  | reset | x |  | L1 line 1^r:1: L1: this line is no JSON^    x^^L1: | 4
+--alone --inputs l --resume r --explain |  | reset^% two^reset | {"act":"reset","who":1}^{"act":"tick(red)","who":0}^{"end":"done after 2"}^ |  | L2 line 2^r:2: L2: the source has neither a type nor a name of an enumeration `red`^    {"act":"tick(red)","who":0}^^L2: | 4
+--alone --inputs l --resume r --explain |  | reset^tick( | {"act":"reset","who":1}^{"end":"done after 1"}^ |  | L2 line 2^l:2: L2: this line cannot be read: an action is written as `tick(5)`^    tick(^^L2: | 4
+--alone --inputs l --resume r --explain |  | reset | x |  | L1 line 1^r:1: L1: this is an action, as a list has, and a log is wanted here: `ioac log` makes one of a list^    x^^L1: | 4
+--alone --inputs l --resume r --explain |  | reset | {"end":"done after 0"}^{"act":"reset","who":1}^ |  | L6^r:2: L6: the log ends on line 1, and nothing stands behind its end^    {"act":"reset","who":1}^^L6: | 4
+--alone --inputs l --resume r --explain |  | reset^tick(5) | {"end":"done after 0"}^ |  | N2 index 1^l:2: N2: tick(5) is an output of A, and the environment performs inputs alone^    tick(5)^^N2: | 4
+--alone --inputs l --resume r --explain |  | tock | {"end":"done after 0"}^ |  | N2 index 0^l:1: N2: no component has tock as an input^    tock^^N2: | 4
 --alone --inputs l --resume r --explain |  | reset | {"act":"reset","who":1}^{"act":"tick(6)","who":0}^{"end":"done after 2"}^ |  | N4 index 1^r:2: N4: this line is not of the composition's run^    {"act":"tick(6)","who":0}^^N4: | 4
 --alone --inputs l --resume r --explain |  | reset | {"act":"reset","who":1}^{"end":"done after 2"}^ |  | N4 index 1^r:2: N4: this line is not of the composition's run^    {"end":"done after 2"}^^N4: | 4
 --alone --inputs l --resume r --explain |  | reset | {"end":"fault 1 in component 0 at 0"}^ |  | N5^^N5: | 4

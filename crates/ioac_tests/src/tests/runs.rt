@@ -78,12 +78,12 @@ const COUNTS: &str = "\
 --turns 100001 --inputs l |  | tick( |  | L2 line 1^ | 4
 --inputs q |  |  |  | io^ | 5
 -- words that are none of a run's
---alone --turns x |  |  |  | error: invalid value 'x' for '--turns <N>'^^For more information, try '--help'.^ | 2
---alone --turns +5 |  |  |  | error: invalid value '+5' for '--turns <N>'^^For more information, try '--help'.^ | 2
---alone --turns 18446744073709551616 |  |  |  | error: invalid value '18446744073709551616' for '--turns <N>'^^For more information, try '--help'.^ | 2
---alone --seed 12 |  |  |  | error: invalid value '12' for '--seed <HEX>'^^For more information, try '--help'.^ | 2
---alone --seed 00000000000000000000000000000000000000000000000000000000000000000 |  |  |  | error: invalid value '00000000000000000000000000000000000000000000000000000000000000000' for '--seed <HEX>'^^For more information, try '--help'.^ | 2
---alone --seed g000000000000000000000000000000000000000000000000000000000000000 |  |  |  | error: invalid value 'g000000000000000000000000000000000000000000000000000000000000000' for '--seed <HEX>'^^For more information, try '--help'.^ | 2
+--alone --turns x |  |  |  | error: invalid value 'x' for '--turns <N>'^  [wanted: a whole number from 0 to 100000]^^For more information, try '--help'.^ | 2
+--alone --turns +5 |  |  |  | error: invalid value '+5' for '--turns <N>'^  [wanted: a whole number from 0 to 100000]^^For more information, try '--help'.^ | 2
+--alone --turns 18446744073709551616 |  |  |  | error: invalid value '18446744073709551616' for '--turns <N>'^  [wanted: a whole number from 0 to 100000]^^For more information, try '--help'.^ | 2
+--alone --seed 12 |  |  |  | error: invalid value '12' for '--seed <HEX>'^  [wanted: 64 hexadecimal digits]^^For more information, try '--help'.^ | 2
+--alone --seed 00000000000000000000000000000000000000000000000000000000000000000 |  |  |  | error: invalid value '00000000000000000000000000000000000000000000000000000000000000000' for '--seed <HEX>'^  [wanted: 64 hexadecimal digits]^^For more information, try '--help'.^ | 2
+--alone --seed g000000000000000000000000000000000000000000000000000000000000000 |  |  |  | error: invalid value 'g000000000000000000000000000000000000000000000000000000000000000' for '--seed <HEX>'^  [wanted: 64 hexadecimal digits]^^For more information, try '--help'.^ | 2
 --alone --seed 12 --words w |  |  |  | error: the argument '--seed <HEX>' cannot be used with '--words <WFILE>'^^For more information, try '--help'.^ | 2
 ";
 
