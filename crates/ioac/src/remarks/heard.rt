@@ -13,7 +13,7 @@ use ioa_serving::{Failure, program_of};
 use ioa_syntax::Refusal;
 use ioa_system::{Participation, owner};
 use ioa_tree::Kind;
-use ioa_value::{Action, OutOfMemory, Types, first_line, print_action, read_action};
+use ioa_value::{Action, OutOfMemory, Types, print_action, read_action};
 use std::alloc::Global;
 use std::fmt::Write;
 
@@ -225,30 +225,16 @@ fn put_behind_end(text: &mut String, line: usize) -> Result<bool, OutOfMemory> {
     Ok(true)
 }
 
-/// The first line behind a log's end, by its number from 1. None, where there is no end or nothing behind it.
+/// The first line behind a log's end, by its number from 1. None, where a line before is neither an entry nor the end.
 pub fn line_behind_end(
     alloc: Global,
     types: &Types,
     log: &[u8],
 ) -> Result<Option<usize>, OutOfMemory> {
-    let mut rest = log;
-    let mut number: usize = 0;
-    while !rest.is_empty() {
-        let (line, after) = first_line(rest);
-        rest = after;
-        number = number.saturating_add(1);
-        if is_end(alloc, types, line)? && !rest.is_empty() {
-            return Ok(Some(number.saturating_add(1)));
-        }
-    }
-    Ok(None)
-}
-
-/// Whether a line is the end of a log: it is one by itself.
-fn is_end(alloc: Global, types: &Types, line: &[u8]) -> Result<bool, OutOfMemory> {
-    match begun_log(alloc, types, line, 1)? {
-        Some(log) => Ok(log.entries.is_empty()),
-        None => Ok(false),
+    // Each line has a byte of its own, so that there are no more lines.
+    match begun_log(alloc, types, log, log.len())? {
+        Some(begun) => Ok(begun.entries.len().checked_add(2)),
+        None => Ok(None),
     }
 }
 

@@ -206,7 +206,7 @@ fn of_operands<'a>(
     left: (&'a Expression, Ty),
     right: (&'a Expression, Ty),
 ) -> Misfit<'a>
-    ensures { (s : Scope) → spec.type_in s (expr_of left.0.now) ≡ Some left.1.0 → spec.type_in s (expr_of right.0.now) ≡ Some right.1.0 → IsFound s result }
+    ensures { (s : Scope) → spec.type_in s (expr_of left.entry.0.now) ≡ Some left.entry.1.0 → spec.type_in s (expr_of right.entry.0.now) ≡ Some right.entry.1.0 → IsFound s result }
 {
     let part = Part::Word(word_of(operator));
     if taken_right(types, operator, left.1).is_some() {
