@@ -92,19 +92,6 @@ pub fn loaded<F: Store>(alloc: Global, name: &str, store: &F) -> Result<Vec<u8>,
     }
 }
 
-/// The bytes of a file, however many. None at all, where it cannot be read now.
-pub fn loaded_whole<F: Store>(
-    alloc: Global,
-    name: &str,
-    store: &F,
-) -> Result<Vec<u8>, OutOfMemory> {
-    match store.load_whole(alloc, name) {
-        Ok(bytes) => Ok(bytes),
-        Err(StoreErr::Io) => Ok(Vec::new(alloc)),
-        Err(StoreErr::OutOfMemory) => Err(OutOfMemory),
-    }
-}
-
 /// The composition of this name, where the source has it.
 pub fn composed(
     alloc: Global,

@@ -7,7 +7,7 @@ ghost use Rattle.ioa_serving.specs.declared.failure.Failure as failures;
 ghost use Rattle.ioac.specs.Remarks as spec;
 ghost use Rattle.ioac.specs.Remarks.{IsDifference};
 
-use crate::remarks::ended::{Ended, loaded_whole};
+use crate::remarks::ended::Ended;
 use crate::remarks::heads::{put_differing, put_head, put_shown_line};
 use crate::remarks::heard::{Heard, line_behind_end, program_in};
 use crate::remarks::hints::hint_of_log;
@@ -21,7 +21,7 @@ use ioa_compile::Program;
 use ioa_log::LogErr;
 use ioa_request::explanations::explanation;
 use ioa_request::{Request, Topic};
-use ioa_serving::{Failure, Store};
+use ioa_serving::{Failure, Store, StoreErr};
 use ioa_value::OutOfMemory;
 use std::alloc::Global;
 use std::fmt::Write;
@@ -40,6 +40,7 @@ pub fn put<F: Store>(
 {
     let hint = hint_text(alloc, asked, failure, store, input)?;
     put_found(alloc, text, asked, failure, store, input)?;
+    let hint = hint.as_str();
     let explained = explanation(Topic::Code(failure.code()));
     write!(text, "{hint}\n{explained}")?;
     Ok(())
@@ -106,6 +107,15 @@ fn put_place<F: Store>(
             None => put_input(alloc, text, asked, failure, Some(line), store, input),
         },
         Place::BehindEnd => put_input(alloc, text, asked, failure, None, store, input),
+    }
+}
+
+/// The bytes of a file, however many. None at all, where it cannot be read now.
+fn loaded_whole<F: Store>(alloc: Global, name: &str, store: &F) -> Result<Vec<u8>, OutOfMemory> {
+    match store.load_whole(alloc, name) {
+        Ok(bytes) => Ok(bytes),
+        Err(StoreErr::Io) => Ok(Vec::new(alloc)),
+        Err(StoreErr::OutOfMemory) => Err(OutOfMemory),
     }
 }
 
