@@ -309,13 +309,19 @@ pub fn put_missing(
         Some(name) => write!(text, "the source declares no composition `{name}`")?,
         None => text.push_str("the source declares no composition")?,
     }
-    let mut sign = ": there is ";
+    let mut is_first = true;
     for declaration in declarations {
         if let Declaration::Composition(assembly) = declaration {
-            let name = assembly.name.text.as_str();
-            write!(text, "{sign}`{name}`")?;
-            sign = ", ";
+            put_listed(text, assembly.name.text.as_str(), is_first)?;
+            is_first = false;
         }
     }
+    Ok(())
+}
+
+/// Puts one of the compositions that there are.
+fn put_listed(text: &mut String, name: &str, is_first: bool) -> Result<(), OutOfMemory> {
+    let sign = if is_first { ": there is " } else { ", " };
+    write!(text, "{sign}`{name}`")?;
     Ok(())
 }

@@ -64,7 +64,6 @@ fn name_of(declaration: &Declaration) -> &Name {
 }
 
 /// The types that are known at the declaration of this place: those of the source up to it. None, where this breaks a rule itself.
-#[tactic(auto, using(crate::proofs::LegalFronts::legal_front))]
 fn types_before(
     alloc: Global,
     declarations: &[Declaration],
