@@ -2,10 +2,12 @@
 # How time and memory grow: bench/ratios.sh PROGRAM
 #
 # Replays lists and logs of 100,000 and 1,000,000 actions, sources of 100 KiB and 1 MiB, and sources of 25 and 255 automata with
-# as many variables and entries as there may be, and prints the seconds, their ratio, and the actions a second; and the
-# greatest memory of a replay beside its list and trace. The figures are of this machine and this run.
+# as many variables and entries as there may be, and prints the seconds, their ratio, and the actions a second; then how long a log takes
+# beside its list, with an invariant and a monitor beside the log, of a counter and of Stenning's protocol; and the greatest memory of a
+# replay beside its list and trace, of a log beside its list, and of logs whose actions are hidden. Seconds are those of a processor, the
+# best of three runs. The figures are of this machine and this run.
 #
-# Everything is written into a temporary folder, which goes with the script.
+# Everything is written into a temporary folder, which goes with the script. It wants Python 3.
 set -eu
 program=$1
 case $program in /*) ;; *) program=$PWD/$program ;; esac
@@ -44,33 +46,45 @@ crowd() {
 }
 bytes() { wc -c < "$work/$1"; }
 log() { awk -v n="$1" 'BEGIN { for (i = 0; i < n; i++) print "{\"act\":\"tick(" 5 + i ")\",\"who\":0}"; print "{\"end\":\"done after " n "\"}" }'; }
-# replay SOURCE LIST [FLAGS]: replays the list or, with --log, the log, both in the temporary folder
-replay() { "$program" replay "$work/$1" ${3-} < "$work/$2" > "$work/trace"; }
-# seconds SOURCE LIST [FLAGS]: of the best of three replays
-seconds() {
-  best=
-  for turn in 1 2 3; do
-    from=$(date +%s.%N)
-    replay "$1" "$2" "${3-}"
-    till=$(date +%s.%N)
-    best=$(awk -v a="$from" -v b="$till" -v best="$best" 'BEGIN { took = b - a; print (best == "" || took < best) ? took : best }')
-  done
-  echo "$best"
+# measured COMMAND..: runs the program with these words on the file `input`, and prints the seconds of a processor, of the best of three runs, and the
+# greatest memory in bytes; what it prints stays in the file `printed`
+measured() {
+  python3 - "$work" "$program" "$@" << 'END'
+import os, subprocess, sys
+work, best, peak = sys.argv[1], None, 0
+for _ in range(3):
+    with open(f"{work}/input", "rb") as text, open(f"{work}/printed", "wb") as out:
+        child = subprocess.Popen(sys.argv[2:], stdin=text, stdout=out)
+        _, status, used = os.wait4(child.pid, 0)
+    if status:
+        sys.exit(f"{sys.argv[2:]} ends with {os.waitstatus_to_exitcode(status)}")
+    took = used.ru_utime + used.ru_stime
+    best, peak = took if best is None else min(best, took), max(peak, used.ru_maxrss * 1024)
+print(best, peak)
+END
 }
-# peak SOURCE LIST: the greatest memory of a replay, in KiB; nothing where the machine cannot tell
-peak() {
-  if [ -x /usr/bin/time ]; then
-    /usr/bin/time -f %M -o "$work/peak" "$program" replay "$work/$1" < "$work/$2" > "$work/trace" && cat "$work/peak"
-  elif command -v python3 > "$work/found"; then
-    python3 -c 'import resource, subprocess, sys
-subprocess.run(sys.argv[1:], check=True)
-sys.stderr.write(str(resource.getrusage(resource.RUSAGE_CHILDREN).ru_maxrss))' \
-      "$program" replay "$work/$1" < "$work/$2" > "$work/trace" 2> "$work/peak" && cat "$work/peak"
-  fi
+# of INPUT COMMAND..: the same, on a file of the temporary folder
+of() { cp "$work/$1" "$work/input"; shift; measured "$@"; }
+# seconds SOURCE LIST [FLAGS]: of a replay of the list or, with --log, of the log
+seconds() {
+  # shellcheck disable=SC2086
+  of "$2" replay "$work/$1" ${3-} | cut -d ' ' -f 1
+}
+# beside WHAT ONE OTHER: the ratio of two measures
+beside() { echo "$2 $3" | awk -v what="$1" '{ printf "%s: %.3f s, beside %.3f s; ratio %.2f\n", what, $1, $3, $1 / $3 }'; }
+# logged NAME SOURCE COMPOSITION SPECIFICATION LIST LOG: a log beside its list, and what is asked of it beside the log
+logged() {
+  by_list=$(of "$5" replay "$2" --comp "$3")
+  by_log=$(of "$6" replay "$2" --comp "$3" --log)
+  beside "log of $1, beside its list" "$by_log" "$by_list"
+  beside "invariants of $1, beside the log" "$(of "$6" replay "$2" --comp "$3" --log --invariants)" "$by_log"
+  beside "monitor of $1, beside the log" "$(of "$6" monitor "$2" --comp "$4")" "$by_log"
+  echo "$by_log $by_list" | awk -v what="$1" '{ printf "memory of the log of %s: %d bytes, of its list %d; ratio %.2f\n", what, $2, $4, $2 / $4 }'
 }
 
 cp "$top/examples/counter/counter.ioa" "$work/counter.ioa"
 (cat "$work/counter.ioa"; echo 'invariant of Counter: c >= start') > "$work/bounded.ioa"
+(cat "$work/counter.ioa"; echo 'composition Hidden components A: Counter(5) hidden tick') > "$work/hidden.ioa"
 list 100000 > "$work/small.list"
 list 1000000 > "$work/large.list"
 log 100000 > "$work/small.log"
@@ -97,10 +111,12 @@ awk -v s="$small" -v l="$large" -v a="$(bytes small.ioa)" -v b="$(bytes large.io
 small=$(seconds few.ioa last.list)
 large=$(seconds many.ioa last.list)
 awk -v s="$small" -v l="$large" -v a="$(bytes few.ioa)" -v b="$(bytes many.ioa)" 'BEGIN { printf "25 automata (%d bytes): %.3f s; 255 (%d bytes): %.3f s; ratio %.1f\n", a, s, b, l, l / s }'
-most=$(peak counter.ioa large.list)
-if [ -n "$most" ]; then
-  awk -v most="$most" -v list="$(bytes large.list)" -v trace="$(bytes trace)" \
-    'BEGIN { printf "memory of 1000000 actions: %d bytes at most; list and trace: %d bytes; ratio %.1f\n", most * 1024, list + trace, most * 1024 / (list + trace) }'
-else
-  echo "memory: neither /usr/bin/time nor python3 is here to measure it"
-fi
+logged 'the counter' "$work/bounded.ioa" One One large.list large.log
+links=$top/examples/links/links.ioa
+"$program" run "$links" --comp Stenning --alone --turns 100000 --log > "$work/stenning.log"
+sed -n 's/^{"act":"\(.*\)","who":[0-9]*}$/\1/p' "$work/stenning.log" > "$work/stenning.list"
+logged "Stenning's protocol" "$links" Stenning ReliableFifo stenning.list stenning.log
+of large.list replay "$work/counter.ioa" | awk -v list="$(bytes large.list)" -v trace="$(bytes printed)" '
+  { printf "memory of 1000000 actions: %d bytes at most; list and trace: %d bytes; ratio %.1f\n", $2, list + trace, $2 / (list + trace) }'
+echo "$(of large.log replay "$work/hidden.ioa" --log) $(of small.log replay "$work/hidden.ioa" --log)" | awk '
+  { printf "memory of a log of 1000000 hidden actions: %d bytes, of 100000: %d; ratio %.2f\n", $2, $4, $2 / $4 }'
