@@ -42,13 +42,14 @@ pictures: all
 	@tools/pages $(PROGRAM) --pictures
 
 # Figures: how time and memory grow with the list, with the source, with the components, and with the code that is verified; how fast
-# the protocols of the library run; how fast objects are read and written; what names cost that were chosen to collide, and other bytes of strangers; and what threads
-# gain. Last, some thousand runs on threads are replayed.
+# the protocols of the library run; what an item of a loop costs; how fast objects are read and written; what names cost that were chosen to collide, and other bytes of strangers; and
+# what threads gain. Last, some thousand runs on threads are replayed.
 bench: all
 	@sh bench/ratios.sh $(PROGRAM)
 	@sh bench/compose.sh $(PROGRAM)
 	@sh bench/verify.sh
 	@sh bench/links.sh $(PROGRAM)
+	@sh bench/loops.sh $(PROGRAM)
 	@sh bench/objects.sh $(PROGRAM)
 	@sh bench/names.sh $(PROGRAM)
 	@sh bench/hostile.sh $(PROGRAM)

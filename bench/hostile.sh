@@ -5,7 +5,8 @@
 # others of 8 MiB. It prints the seconds of a processor (the best of three runs, or of as many as take 2 seconds) with their ratio, and the greatest memory with K, how many times the
 # bytes it is, beyond what the program takes for its version. Ratios are to be 3 at most, and K is to be below 100. What is marked `*` is not so: its bytes name something large again and again,
 # which is there each time. Such are the automata of components and the first values of variables, and, of objects, values whose items have a byte each, or whose types are
-# declared over one another. The figures are of this machine and this run.
+# declared over one another. Last it runs an effect of as many instructions as there may be, each of which copies a value of as many words as there may be, and the same on numbers, and prints
+# beside the seconds what an instruction costs a word. The figures are of this machine and this run.
 #
 # Everything is written into a temporary folder, which goes with the script. It wants Python 3; no more than 4 GB of memory is taken.
 set -eu
@@ -226,11 +227,21 @@ def words():
     told("script: the least actions", "resets.list", "plain.list", *run, "--inputs", "FILE")
 
 
+def running():
+    """An effect of 4,096 instructions that copies what is as wide as it may be, and one on numbers, with lists of so many of it."""
+    for name, kind in (("copies", "W3"), ("numbers", "Int")):
+        effect = "; ".join(["v := w", "w := v"] * 1024)
+        put(f"{name}.ioa", wide() + f"automaton A signature input a states v: {kind}; w: {kind} transitions input a eff {effect}\ncomposition One components C: A\n")
+    put("4.actions", "a\n" * 4)
+    put("2000.actions", "a\n" * 2000)
+
+
 sources()
 objects()
 lists()
 logs()
 words()
+running()
 END
 }
 
@@ -287,3 +298,7 @@ while IFS=$tab read -r what name plain words; do
     print ""
   }'
 done < table
+awk -v wide="$(seconds 4.actions "$program" replay copies.ioa '<')" -v plain="$(seconds 2000.actions "$program" replay numbers.ioa '<')" 'BEGIN {
+  printf "running: 4 actions of 4096 instructions on values of 4096 words: %.3f s, %.1f ns a word of an instruction; 2000 actions of 4096 on numbers: %.3f s, %.1f ns\n",
+    wide, wide / (4 * 4096 * 4096) * 1e9, plain, plain / (2000 * 4096) * 1e9
+}'
