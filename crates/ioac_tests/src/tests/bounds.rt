@@ -13,6 +13,8 @@ automaton A signature internal \u{0} |  |  | E2 line 1^ | 1
 type T = enum { a b } |  |  | E3 line 1^ | 1
 automaton^A^ |  |  | E3 line 3^ | 1
 automaton A signature internal a transitions internal a pre ((( |  |  | E3 line 1^ | 1
+automaton A signature internal a transitions internal a pre &(@1048516 |  |  | E4 line 1^ | 1
+automaton A signature internal a transitions internal a pre &(@400000&true&)@400000 |  |  | E4 line 1^ | 1
 -- names of 64 and of 65 letters
 automaton &A@64& signature internal a transitions internal a composition One components A: &A@64 |  | end: done after 0^ |  | 0
 automaton B signature internal b transitions internal b^automaton &A@65& signature internal a transitions internal a |  |  | E2 line 2^ | 1
@@ -23,6 +25,9 @@ automaton Counter(start: Int) signature output tick(k: Int) states c: Int := &1+
 automaton Counter(start: Int) signature output tick(k: Int) states c: Int := &1+@64&1 transitions output tick pre k = c propose k := c eff c := c + 1 composition One components A: Counter(0) |  |  | E4 line 1^ | 1
 automaton Counter(start: Int) signature output tick(k: Int) states c: Int := &(@400000&true&)@400000& transitions output tick pre k = c propose k := c eff c := c + 1 composition One components A: Counter(0) |  |  | E4 line 1^ | 1
 automaton B signature internal b transitions internal b^automaton Counter(start: Int) signature output tick(k: Int) states c: Int := &^(@64&1&)@64& transitions output tick pre k = c propose k := c eff c := c + 1 composition One components A: Counter(0) |  |  | E4 line 2^ | 1
+-- an effect of 63 and of 64 choices within each other: the line is that of the automaton's first word
+automaton B signature internal b transitions internal b^automaton A signature internal a states v: Int transitions internal a eff^&if true then @63&v := 1& fi@63& composition One components X: A |  | end: done after 0^ |  | 0
+automaton B signature internal b transitions internal b^automaton A signature internal a states v: Int transitions internal a eff^&if true then @64&v := 1& fi@64& composition One components X: A |  |  | E4 line 2^ | 1
 -- 64 and 65 entries
 automaton A signature internal a&; input e#@63& transitions internal a& input e#@63& composition One components A: A | e62 | e62^end: done after 1^ |  | 0
 automaton A signature internal a&; input e#@64& transitions internal a& input e#@64& composition One components A: A |  |  | E10 line 1^ | 1

@@ -68,6 +68,26 @@ const COUNTS: &str = r#"
 --inputs l --resume r --turns 1 |  | tick(5) | {"act":"tick(9)","who":1}^{"end":"fault 1 in component 0 at 0"}^ |  | N2 index 0^ | 4
 --inputs l --resume r --turns 1 |  | reset | {"act":"tick(9)","who":1}^{"end":"fault 1 in component 0 at 0"}^ |  | N5^ | 4
 --inputs l --resume r --turns 1 |  | reset | {"act":"tick(9)","who":1}^{"end":"done after 1"}^ |  | N4 index 0^ | 4
+-- the same where files are not read, and of each code of a log
+--alone --comp Nine --words q --inputs q --resume q --turns 100001 |  |  |  |  | E17^ | 1
+--alone --words w --inputs q --resume q --turns 100001 | x |  |  |  | words line 1^ | 2
+--alone --words q --inputs q --resume q --turns 100001 |  |  |  |  | io^ | 5
+--alone --inputs l --resume q --turns 100001 |  | tick( |  |  | L2 line 1^ | 4
+--alone --inputs l --resume r --turns 100001 |  | tick(5) | {"act":"tick(","who":0}^x^ |  | L2 line 1^ | 4
+--alone --inputs l --resume r --turns 100001 |  | tick(5) | {"act":"tick(5)","who":1}^ |  | L5^ | 4
+--alone --inputs l --resume r --turns 100001 |  | tick(5) | {"end":"fault 1 in component 0 at 0"}^x^ |  | L6^ | 4
+--alone --inputs l --resume r --turns 1 |  | tick(5) | {"end":"done after 1"}^ |  | N2 index 0^ | 4
+--alone --resume r --turns 100001 |  |  | {"end":"done after 1"}^ |  | N1^ | 2
+--alone --resume r --turns 1 |  |  | {"act":"tick(9)","who":0}^{"act":"tick(5)","who":1}^{"end":"done after 7"}^ |  | N4 index 0^ | 4
+--comp Nine --words w --inputs l --resume r --turns 100001 | x | tick( | x |  | E17^ | 1
+--words w --inputs l --resume r --turns 100001 | x | tick( | x |  | words line 1^ | 2
+--words q --inputs l --resume r |  | tick( | x |  | io^ | 5
+--inputs l --resume r --turns 100001 |  | reset^tick( | x |  | L2 line 2^ | 4
+--inputs q --resume r |  |  | x |  | io^ | 5
+--inputs l --resume r --turns 100001 |  | tick(5) | x |  | L1 line 1^ | 4
+--inputs l --resume q --turns 100001 |  | tick(5) |  |  | io^ | 5
+--inputs l --resume r --turns 100001 |  | tick(5) | {"act":"tick(5)","who":1}^ |  | L5^ | 4
+--inputs l --resume r --turns 1 |  | tick(5) | {"act":"tick(9)","who":1}^{"end":"done after 1"}^ |  | N2 index 0^ | 4
 "#;
 
 /// The same of a component whose action faults in another one.
