@@ -5,7 +5,8 @@
 # of five runs. ANCHOR is a folder with a plain interpreter of the language, which its build.sh compiles to the file that it is given: with
 # it the runs of both take turns, their answers are compared, and the ratio of the two is printed. Then come the seconds of 10,000
 # and of 100,000 turns of Stenning's protocol, and their ratio. Last those in which a run goes on from the log of the 100,000, with no turn more, beside a
-# replay of the log; and those of 10,000 turns more behind it, beside 10,000 from the start. The figures are of this machine and this run.
+# replay of the log; and those of 100,000 turns more behind it, beside 100,000 from the start (goal of both ratios: 1.2 at most). Where valgrind is there, the same of the
+# instructions of 500 turns, which are the same on a busy machine. The other figures are of this machine and this run.
 set -eu
 program=$1
 case $program in /*) ;; *) program=$PWD/$program ;; esac
@@ -72,8 +73,27 @@ cp "$work/log" "$work/first"
 echo '{"end":"done after 0"}' > "$work/none"
 replay=$(took replayed)
 again=$(took resumed 0 first)
-more=$(took resumed 10000 first)
-anew=$(took resumed 10000 none)
+more=$(took resumed 100000 first)
+anew=$(took resumed 100000 none)
 awk -v n="$(wc -l < "$work/first")" -v r="$replay" -v a="$again" -v m="$more" -v w="$anew" 'BEGIN {
-  printf "Stenning, from a log of %d lines: %.3f s; replayed: %.3f s; ratio %.2f; 10000 turns behind it: %.3f s; from the start: %.3f s; ratio %.2f\n", n, a, r, a / r, m - a, w, (m - a) / w
+  printf "Stenning, from a log of %d lines: %.3f s; replayed: %.3f s; ratio %.2f; 100000 turns behind it: %.3f s; from the start: %.3f s; ratio %.2f\n", n, a, r, a / r, m - a, w, (m - a) / w
 }'
+
+if command -v valgrind > "$work/found"; then
+  # count WORDS..: the instructions of the program
+  count() {
+    valgrind --tool=callgrind --callgrind-out-file="$work/out" "$program" "$@" > "$work/printed" 2> "$work/said"
+    awk '$2 == "Collected" { print $4 }' "$work/said"
+  }
+  "$program" run "$source" --comp Stenning --alone --turns 500 --log > "$work/first"
+  cp "$work/first" "$work/given"
+  no_turn=$(count run "$source" --comp Stenning --alone --turns 0)
+  replay=$(count replay "$source" --comp Stenning --log < "$work/given")
+  again=$(count run "$source" --comp Stenning --alone --turns 0 --resume "$work/first")
+  more=$(count run "$source" --comp Stenning --alone --turns 500 --resume "$work/first")
+  anew=$(count run "$source" --comp Stenning --alone --turns 500)
+  awk -v n="$(wc -l < "$work/first")" -v z="$no_turn" -v r="$replay" -v a="$again" -v m="$more" -v w="$anew" 'BEGIN {
+    printf "counted, from a log of %d lines: %.0f instructions a line; replayed: %.0f; ratio %.2f; a turn behind it: %.0f; from the start: %.0f; ratio %.2f\n",
+      n, (a - z) / n, (r - z) / n, (a - z) / (r - z), (m - a) / 500, (w - z) / 500, (m - a) / (w - z)
+  }'
+fi
