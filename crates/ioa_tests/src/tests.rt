@@ -8,6 +8,7 @@ mod library;
 mod logs;
 mod made;
 mod memory;
+mod objects;
 mod operators;
 mod proposals;
 mod reached;
