@@ -6,7 +6,9 @@ ghost use Rattle.ioa_value.specs.Table as tables;
 use ioa_check::check;
 use ioa_compile::{Program, compile};
 use ioa_compose::compose;
+use ioa_log::{Counted, read_log};
 use ioa_syntax::{Source, parse};
+use ioa_system::Log;
 use ioa_value::{Action, Declarations, OutOfMemory, Types, read_action};
 use std::alloc::Global;
 use std::process::Abort;
@@ -22,6 +24,12 @@ pub fn basic(alloc: Global) -> Result<Types, OutOfMemory>
 pub fn action(rt: &impl Abort, alloc: Global, types: &Types, text: &str) -> Action {
     let read = read_action(alloc, types, text.as_bytes()).expect(rt, "memory");
     read.expect(rt, "an action")
+}
+
+/// The log of this text.
+pub fn log(rt: &impl Abort, alloc: Global, types: &Types, text: &str) -> Log {
+    let mut input = Counted::new(text.as_bytes());
+    read_log(alloc, types, &mut input).expect(rt, "a log")
 }
 
 /// The source of this text.

@@ -7,7 +7,7 @@ use crate::tests::reached::PUTS;
 use crate::tests::rooms::{script, told_outcome};
 use crate::tests::threads::told_reports;
 use ioa_compile::Program;
-use ioa_log::{Counted, monitor, read_log, replay};
+use ioa_log::{monitor, replay};
 use ioa_rows::COUNTER;
 use ioa_run::{
     Board, OpenGate, Outcome, Room, RunErr, Seeded, resume_alone, resume_threads, run_alone,
@@ -202,12 +202,6 @@ const REFUSED: [Refused; 17] = [
     ),
 ];
 
-/// The log of this text.
-fn logged(rt: &impl Abort, alloc: Global, program: &Program, text: &str) -> Log {
-    let mut input = Counted::new(text.as_bytes());
-    read_log(alloc, program.types(), &mut input).expect(rt, "a log")
-}
-
 /// A source of words for each of the components, of which there are so many.
 pub fn seeded(alloc: Global, components: usize) -> Result<Vec<Seeded>, AllocError>
     ensures { IfOk result (λ sources. length sources.items ≡ components) }
@@ -255,7 +249,7 @@ pub fn log_of(outcome: Outcome) -> Log {
 
 fn expect_case(rt: &impl Abort, alloc: Global, case: &Case) {
     let program = made::program(rt, alloc, case.source, None);
-    let log = logged(rt, alloc, &program, case.log);
+    let log = made::log(rt, alloc, program.types(), case.log);
     let script = script(rt, alloc, program.types(), case.script);
     let outcome = alone(rt, alloc, &program, &log, case.turns, &script).expect(rt, "a run");
     let given = told_outcome(rt, alloc, program.types(), &outcome);
@@ -285,7 +279,7 @@ fn other_logs_are_refused(rt: HostRuntime) {
     let alloc = rt.alloc();
     for (source, text, turns, inputs, error) in &REFUSED {
         let program = made::program(&rt, alloc, source, None);
-        let log = logged(&rt, alloc, &program, text);
+        let log = made::log(&rt, alloc, program.types(), text);
         let script = script(&rt, alloc, program.types(), inputs);
         let answer = alone(&rt, alloc, &program, &log, *turns, &script);
         assert!(rt; is_refused(answer, *error), "{text}");
@@ -299,7 +293,7 @@ fn other_logs_are_refused(rt: HostRuntime) {
 fn a_run_goes_on_ten_times(rt: HostRuntime) {
     let alloc = rt.alloc();
     let program = made::program(&rt, alloc, COUNTER, None);
-    let mut log = logged(&rt, alloc, &program, EMPTY);
+    let mut log = made::log(&rt, alloc, program.types(), EMPTY);
     for turn in 0..10 {
         let answer = if turn % 2 == 0 {
             alone(&rt, alloc, &program, &log, 1, &[])
@@ -330,8 +324,8 @@ fn a_run_goes_on_ten_times(rt: HostRuntime) {
 fn a_room_goes_on_from_a_log(rt: HostRuntime) {
     let alloc = rt.alloc();
     let program = made::program(&rt, alloc, COUNTER, None);
-    let log = logged(&rt, alloc, &program, TICKED);
-    let other = logged(&rt, alloc, &program, ANOTHERS);
+    let log = made::log(&rt, alloc, program.types(), TICKED);
+    let other = made::log(&rt, alloc, program.types(), ANOTHERS);
     let board = Board::resume(alloc, &program, &log).expect(&rt, "a board");
     assert!(rt; board.history().len() == 3 && board.recorded().is_none());
     let room = Room::resume(alloc, &program, &log, &[], 1).expect(&rt, "a room");
@@ -376,7 +370,7 @@ fn a_run_goes_on_from_nothing(rt: HostRuntime) {
     let alloc = rt.alloc();
     let library = str::from_utf8(ioa_links::text()).expect(&rt, "a text");
     let program = made::program(&rt, alloc, library, Some("AltBit"));
-    let log = logged(&rt, alloc, &program, EMPTY);
+    let log = made::log(&rt, alloc, program.types(), EMPTY);
     let words = seeded(alloc, program.members().len()).expect(&rt, "memory");
     let first = run_alone(alloc, &program, 100, words, &[]).expect(&rt, "a run");
     let second = alone(&rt, alloc, &program, &log, 100, &[]).expect(&rt, "a run");
