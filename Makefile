@@ -26,10 +26,12 @@ test:
 planted:
 	@tools/planted $(CRATES)
 
-# What no proof reaches, tried on the program that stands: memory that is refused, at each request in turn, devices that fail, and bytes of
-# strangers. Wants `cc`.
+# What no proof reaches, tried on the program that stands, and of memory on the calls below it, too: memory that is refused, at each request in turn,
+# devices that fail, and bytes of strangers. Wants `cc`.
 hostile: all
 	@tools/refused $(PROGRAM)
+	@cd crates/ioa_tests && rt test -- calls_answer
+	@tools/refused_calls crates/ioa_tests/out/ioa_tests_tests
 	@sh examples/devices.sh $(PROGRAM)
 	@tools/foreign $(PROGRAM)
 

@@ -1,4 +1,4 @@
-// Refuses memory to a program before which it is preloaded, or fails its devices; tools/refused compiles it, and says what for.
+// Refuses memory to a program before which it is preloaded, or fails its devices; tools/refused and tools/refused_calls compile it, and say what for.
 //
 // REFUSED_WHAT tells what is refused:
 //   memory      a request of malloc and its kin, or for a thread, whose stack is memory
@@ -7,6 +7,7 @@
 //   pieces      one that reads or writes: it does so with a byte at most
 //   kills       one of all these: the program is killed as it calls, and of what it writes half is written
 // REFUSED_AT is the number of the call, counted from 1 since main began, over all threads (0: none is refused), and REFUSED_ON is 1 where all such calls that follow are, too.
+// With REFUSED_MARK requests of memory count only while the program holds a block of so many bytes. (That block is none of them.)
 // REFUSED_COUNTS names a file of two numbers of eight bytes, which are kept up to date while the program runs: its calls, and those that were refused. A program
 // that is not done after REFUSED_SECONDS is ended by SIGALRM.
 
@@ -33,6 +34,8 @@ static struct { atomic_ullong calls, refused; } *counts; // nothing until main b
 static const char *what;
 static unsigned long long at;
 static int on;
+static size_t mark; // the size of the block by which the program marks what counts; 0: all does
+static _Atomic(void *) marking; // that block, while the program holds it
 static Main *real_main;
 static __typeof__(pthread_create) *real_create;
 
@@ -54,7 +57,7 @@ static int is_refused(void) {
 // Memory
 
 static int refuses(void) {
-  if (!refuses_these("memory") || !is_refused()) return 0;
+  if (!refuses_these("memory") || (mark && !atomic_load(&marking)) || !is_refused()) return 0;
   errno = ENOMEM;
   return 1;
 }
@@ -62,7 +65,23 @@ static int refuses(void) {
 // The library's functions by these names, which take what is not refused.
 extern void *__libc_malloc(size_t), *__libc_calloc(size_t, size_t), *__libc_realloc(void *, size_t), *__libc_memalign(size_t, size_t);
 
-void *malloc(size_t size) { return refuses() ? NULL : __libc_malloc(size); }
+extern void __libc_free(void *);
+
+void *malloc(size_t size) {
+  if (mark && size == mark) {
+    void *found = __libc_malloc(size);
+    atomic_store(&marking, found);
+    return found;
+  }
+  return refuses() ? NULL : __libc_malloc(size);
+}
+
+void free(void *block) {
+  void *marked = block;
+  if (block) atomic_compare_exchange_strong(&marking, &marked, NULL);
+  __libc_free(block);
+}
+
 void *calloc(size_t count, size_t size) { return refuses() ? NULL : __libc_calloc(count, size); }
 void *realloc(void *old, size_t size) { return refuses() ? NULL : __libc_realloc(old, size); }
 void *memalign(size_t align, size_t size) { return refuses() ? NULL : __libc_memalign(align, size); }
@@ -140,6 +159,7 @@ static int counted_main(int count, char **words, char **environment) {
   what = getenv("REFUSED_WHAT");
   at = number("REFUSED_AT");
   on = number("REFUSED_ON") == 1;
+  mark = number("REFUSED_MARK");
   alarm(number("REFUSED_SECONDS"));
   counts = page;
   return real_main(count, words, environment);

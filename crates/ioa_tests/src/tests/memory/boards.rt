@@ -8,15 +8,17 @@ ghost use Rattle.ioa_system.specs.Participants.{taken};
 ghost use Rattle.ioa_system.specs.Systems.{slot_types, types_of};
 
 use crate::tests::made;
-use crate::tests::memory::steps::logged;
+use crate::tests::memory::hoard::Spare;
+use crate::tests::memory::lent::{is_log, is_program};
 use crate::tests::memory::{Came, all_but};
 use crate::tests::resumed::TICKED;
+use crate::tests::rooms::script;
 use crate::tests::schedules::told_board;
 use ioa_compile::Program;
 use ioa_node::NodeState;
 use ioa_rows::{COUNTER, GAME};
-use ioa_run::{Answer, Board, Core, Event, Plan, Planned, RunErr, Verdict};
-use ioa_system::participants;
+use ioa_run::{Answer, Board, Core, Event, Plan, Planned, Room, RunErr, Verdict};
+use ioa_system::{Log, participants};
 use ioa_value::{Action, OutOfMemory};
 use std::alloc::Global;
 use std::process::Abort;
@@ -31,7 +33,7 @@ fn copied(alloc: Global, board: &Board<'_>, action: &Action) -> Result<Vec<NodeS
 }
 
 /// A plan for a roll of the die.
-pub fn made(rt: &impl Abort, alloc: Global, spare: usize) -> Came {
+pub fn made(rt: &impl Abort, alloc: Global, spare: Spare) -> Came {
     let program = made::program(rt, alloc, GAME, None);
     let board = Board::start(alloc, &program).expect(rt, "memory");
     let action = made::action(rt, alloc, program.types(), "roll(5)");
@@ -42,7 +44,7 @@ pub fn made(rt: &impl Abort, alloc: Global, spare: usize) -> Came {
     match answer {
         Ok(Planned::Ready(_)) => Came::Answered(true),
         Ok(_) => Came::Answered(false),
-        Err(_) => Came::Wanting(true),
+        Err(_) => Came::Wanting(is_program(rt, alloc, &program, GAME)),
     }
 }
 
@@ -77,7 +79,7 @@ fn commit(
     alloc: Global,
     board: &mut Board<'_>,
     number: usize,
-    spare: usize,
+    spare: Spare,
 ) -> Came {
     let before = told_board(rt, alloc, board);
     let action = tick(rt, alloc, board.program(), number);
@@ -98,7 +100,7 @@ fn commit(
 }
 
 /// Commits of some actions, one after another, up to the first that is refused memory.
-pub fn committed(rt: &impl Abort, alloc: Global, spare: usize) -> Came {
+pub fn committed(rt: &impl Abort, alloc: Global, spare: Spare) -> Came {
     let program = made::program(rt, alloc, COUNTER, None);
     let mut board = Board::start(alloc, &program).expect(rt, "memory");
     for number in 0..COMMITS {
@@ -117,7 +119,7 @@ fn event(
     core: &mut Core<'_>,
     event: Event,
     wanted: Answer,
-    spare: usize,
+    spare: Spare,
 ) -> Came {
     let before = told_board(rt, alloc, core.board());
     let hoard = all_but(rt, alloc, spare);
@@ -130,7 +132,7 @@ fn event(
 }
 
 /// A worker that copies and commits: where its copy is refused memory it has no plan, and where its commit is it has the one from before.
-pub fn answered(rt: &impl Abort, alloc: Global, spare: usize) -> Came {
+pub fn answered(rt: &impl Abort, alloc: Global, spare: Spare) -> Came {
     let program = made::program(rt, alloc, COUNTER, None);
     let mut core = Core::start(alloc, &program).expect(rt, "memory");
     for number in 0..COMMITS {
@@ -141,7 +143,7 @@ pub fn answered(rt: &impl Abort, alloc: Global, spare: usize) -> Came {
                 let after = core.event(Event::Commit(0)).expect(rt, "memory");
                 return Came::Wanting(is_kept && after == Answer::NoPlan);
             }
-            Came::Answered(false) => return Came::Answered(false),
+            Came::Unbegun(..) | Came::Answered(false) => return Came::Answered(false),
         }
         let wanted = Answer::Committed(number);
         match event(rt, alloc, &mut core, Event::Commit(0), wanted, spare) {
@@ -150,16 +152,16 @@ pub fn answered(rt: &impl Abort, alloc: Global, spare: usize) -> Came {
                 let after = core.event(Event::Commit(0)).expect(rt, "memory");
                 return Came::Wanting(is_kept && after == wanted);
             }
-            Came::Answered(false) => return Came::Answered(false),
+            Came::Unbegun(..) | Came::Answered(false) => return Came::Answered(false),
         }
     }
     Came::Answered(true)
 }
 
 /// A board that goes on from a log.
-pub fn resumed(rt: &impl Abort, alloc: Global, spare: usize) -> Came {
+pub fn resumed(rt: &impl Abort, alloc: Global, spare: Spare) -> Came {
     let program = made::program(rt, alloc, COUNTER, None);
-    let log = logged(rt, alloc, program.types(), TICKED);
+    let log = made::log(rt, alloc, program.types(), TICKED);
     let hoard = all_but(rt, alloc, spare);
     let answer = Board::resume(alloc, &program, &log);
     drop(hoard);
@@ -168,7 +170,37 @@ pub fn resumed(rt: &impl Abort, alloc: Global, spare: usize) -> Came {
             let told = told_board(rt, alloc, &board);
             Came::Answered(told.as_str() == "0 tick(5); 0 tick(6); 1 reset, state(5)")
         }
-        Err(RunErr::OutOfMemory) => Came::Wanting(true),
-        Err(_) => Came::Answered(false),
+        Err(error) => refused(rt, alloc, &program, &log, error),
+    }
+}
+
+/// What came of it that is refused so, when this was lent.
+fn refused(rt: &impl Abort, alloc: Global, program: &Program, log: &Log, error: RunErr) -> Came {
+    match error {
+        RunErr::OutOfMemory => Came::Wanting(
+            is_program(rt, alloc, program, COUNTER)
+                && is_log(rt, alloc, program.types(), log, TICKED),
+        ),
+        _ => Came::Answered(false),
+    }
+}
+
+/// A room that goes on from a log.
+pub fn room_resumed(rt: &impl Abort, alloc: Global, spare: Spare) -> Came {
+    let program = made::program(rt, alloc, COUNTER, None);
+    let log = made::log(rt, alloc, program.types(), TICKED);
+    let inputs = script(rt, alloc, program.types(), &["reset"]);
+    let hoard = all_but(rt, alloc, spare);
+    let answer = Room::resume(alloc, &program, &log, &inputs, 3);
+    drop(hoard);
+    match answer {
+        Ok(room) => {
+            let told = told_board(rt, alloc, room.board());
+            Came::Answered(
+                told.as_str() == "0 tick(5); 0 tick(6); 1 reset, state(5)"
+                    && room.is_of(&program, &inputs, 3, &log.entries),
+            )
+        }
+        Err(error) => refused(rt, alloc, &program, &log, error),
     }
 }

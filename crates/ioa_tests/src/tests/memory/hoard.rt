@@ -1,4 +1,4 @@
-//! Memory that a test takes away, so that the next requests are refused.
+//! Memory that a test takes away, so that the next requests are refused, and how much it leaves.
 
 use std::alloc::{AllocError, Global};
 
@@ -16,6 +16,28 @@ pub const STEP: usize = 16;
 /// A piece that is larger than this is not kept for requests of its own size when it is given back.
 const APART: usize = 2048;
 
+/// The size of a block that no call asks for. While one is held, `tools/refused_calls` counts the requests of memory, and refuses one.
+const MARK: usize = 24_301;
+
+/// How much memory is left to a call.
+#[derive(Clone, Copy, Debug)]
+pub enum Spare {
+    /// So many bytes.
+    Bytes(usize),
+    /// All that there is.
+    All,
+}
+
+impl Spare {
+    /// So many times as much.
+    pub fn times(self, times: usize) -> Spare {
+        match self {
+            Spare::Bytes(count) => Spare::Bytes(count.saturating_mul(times)),
+            Spare::All => Spare::All,
+        }
+    }
+}
+
 /// Blocks that are held and never read, so that nobody else has their memory.
 #[derive(Drop)]
 pub struct Hoard {
@@ -23,8 +45,22 @@ pub struct Hoard {
 }
 
 impl Hoard {
+    /// Takes all memory but what is left to a call: of that nothing but the block that marks when it works.
+    pub fn all_but(alloc: Global, spare: Spare) -> Result<Hoard, AllocError> {
+        match spare {
+            Spare::Bytes(count) => Hoard::all_but_bytes(alloc, count),
+            Spare::All => Hoard::mark(alloc),
+        }
+    }
+
+    fn mark(alloc: Global) -> Result<Hoard, AllocError> {
+        let mut blocks = Vec::with_capacity(alloc, 1)?;
+        blocks.push(Vec::with_capacity(alloc, MARK)?)?;
+        Ok(Hoard { blocks })
+    }
+
     /// Takes all memory but so many bytes, which lie in one piece.
-    pub fn all_but(alloc: Global, spare: usize) -> Result<Hoard, AllocError> {
+    fn all_but_bytes(alloc: Global, spare: usize) -> Result<Hoard, AllocError> {
         let mut hoard = Hoard {
             blocks: Vec::with_capacity(alloc, BLOCKS)?,
         };

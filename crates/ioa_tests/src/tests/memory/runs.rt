@@ -1,7 +1,8 @@
 //! Whole runs with little memory: they begin or not, and a worker's own want of memory ends that worker alone.
 
 use crate::tests::made;
-use crate::tests::memory::steps::logged;
+use crate::tests::memory::hoard::Spare;
+use crate::tests::memory::lent::{is_log, is_program};
 use crate::tests::memory::{Came, all_but};
 use crate::tests::resumed::{TICKED, log_of, seeded};
 use crate::tests::rooms::told_outcome;
@@ -12,6 +13,7 @@ use ioa_rows::COUNTER;
 use ioa_run::{
     OpenGate, Outcome, RunErr, Why, resume_alone, resume_threads, run_alone, run_threads,
 };
+use ioa_system::Log;
 use std::alloc::Global;
 use std::process::Abort;
 use std::sync::Wait;
@@ -33,7 +35,22 @@ const RESUMED: &str =
 /// A thread wants a stack of some megabytes: so many times as much more a run on threads has at each step.
 const STACKS: usize = 4096;
 
-/// What came of a run that does this with ample memory. Its log is accepted, whatever became of its workers.
+/// What came of a run that goes on from the log, which stays.
+fn judged_resumed(
+    rt: &impl Abort,
+    alloc: Global,
+    program: &Program,
+    log: &Log,
+    answer: Result<Outcome, RunErr>,
+) -> Came {
+    if is_log(rt, alloc, program.types(), log, TICKED) {
+        judged(rt, alloc, program, answer, RESUMED)
+    } else {
+        Came::Answered(false)
+    }
+}
+
+/// What came of a run that does this with ample memory. Its log is accepted, whatever became of its workers, and the program stays.
 fn judged(
     rt: &impl Abort,
     alloc: Global,
@@ -41,11 +58,12 @@ fn judged(
     answer: Result<Outcome, RunErr>,
     given: &str,
 ) -> Came {
+    let is_kept = is_program(rt, alloc, program, COUNTER);
     let outcome = match answer {
         Ok(outcome) => outcome,
         Err(error) => {
             return match error {
-                RunErr::OutOfMemory | RunErr::Threads => Came::Wanting(true),
+                RunErr::OutOfMemory | RunErr::Threads => Came::Unbegun(error, is_kept),
                 _ => Came::Answered(false),
             };
         }
@@ -56,13 +74,13 @@ fn judged(
     let is_given = told_outcome(rt, alloc, program.types(), &outcome).as_str() == given;
     let is_log = replay(alloc, program, &log_of(outcome)).is_ok();
     if is_short {
-        Came::Wanting(is_log)
+        Came::Wanting(is_log && is_kept)
     } else {
-        Came::Answered(is_log && is_told && is_given)
+        Came::Answered(is_log && is_kept && is_told && is_given)
     }
 }
 
-pub fn alone(rt: &impl Abort, alloc: Global, spare: usize) -> Came {
+pub fn alone(rt: &impl Abort, alloc: Global, spare: Spare) -> Came {
     let program = made::program(rt, alloc, COUNTER, None);
     let words = seeded(alloc, program.members().len()).expect(rt, "memory");
     let hoard = all_but(rt, alloc, spare);
@@ -71,20 +89,20 @@ pub fn alone(rt: &impl Abort, alloc: Global, spare: usize) -> Came {
     judged(rt, alloc, &program, answer, RUN)
 }
 
-pub fn resumed_alone(rt: &impl Abort, alloc: Global, spare: usize) -> Came {
+pub fn resumed_alone(rt: &impl Abort, alloc: Global, spare: Spare) -> Came {
     let program = made::program(rt, alloc, COUNTER, None);
-    let log = logged(rt, alloc, program.types(), TICKED);
+    let log = made::log(rt, alloc, program.types(), TICKED);
     let words = seeded(alloc, program.members().len()).expect(rt, "memory");
     let hoard = all_but(rt, alloc, spare);
     let answer = resume_alone(alloc, &program, &log, TURNS, words, &[]);
     drop(hoard);
-    judged(rt, alloc, &program, answer, RESUMED)
+    judged_resumed(rt, alloc, &program, &log, answer)
 }
 
-pub fn on_threads<H: Abort + Threads + Wait + Sync>(rt: &H, alloc: Global, spare: usize) -> Came {
+pub fn on_threads<H: Abort + Threads + Wait + Sync>(rt: &H, alloc: Global, spare: Spare) -> Came {
     let program = made::program(rt, alloc, COUNTER, None);
     let words = seeded(alloc, program.members().len()).expect(rt, "memory");
-    let hoard = all_but(rt, alloc, spare.saturating_mul(STACKS));
+    let hoard = all_but(rt, alloc, spare.times(STACKS));
     let answer = run_threads(rt, alloc, &program, TURNS, words, &[], &OpenGate);
     drop(hoard);
     judged(rt, alloc, &program, answer, RUN)
@@ -93,13 +111,13 @@ pub fn on_threads<H: Abort + Threads + Wait + Sync>(rt: &H, alloc: Global, spare
 pub fn resumed_on_threads<H: Abort + Threads + Wait + Sync>(
     rt: &H,
     alloc: Global,
-    spare: usize,
+    spare: Spare,
 ) -> Came {
     let program = made::program(rt, alloc, COUNTER, None);
-    let log = logged(rt, alloc, program.types(), TICKED);
+    let log = made::log(rt, alloc, program.types(), TICKED);
     let words = seeded(alloc, program.members().len()).expect(rt, "memory");
-    let hoard = all_but(rt, alloc, spare.saturating_mul(STACKS));
+    let hoard = all_but(rt, alloc, spare.times(STACKS));
     let answer = resume_threads(rt, alloc, &program, &log, TURNS, words, &[], &OpenGate);
     drop(hoard);
-    judged(rt, alloc, &program, answer, RESUMED)
+    judged_resumed(rt, alloc, &program, &log, answer)
 }

@@ -1,26 +1,37 @@
 //! Sources that become programs with little memory.
 
 use crate::tests::made;
+use crate::tests::memory::hoard::Spare;
+use crate::tests::memory::lent::is_program;
 use crate::tests::memory::{Came, all_but};
 use ioa_check::{Checked, check};
-use ioa_compile::{Program, compile};
+use ioa_compile::compile;
 use ioa_compose::{Composition, compose};
-use ioa_rows::GAME;
 use ioa_syntax::{Refusal, parse};
 use std::alloc::Global;
 use std::process::Abort;
 
-/// What came of it that is refused so, where nothing was lent that could change.
-fn refused(refusal: Refusal) -> Came {
+/// Dice that crash, and one who sums up what was thrown, by a loop.
+pub const THROWS: &str = "\
+type S = seq 4 of Int \
+automaton Dice(n: Int) signature output roll(d: Int) states stable k: Int \
+transitions output roll pre k < 2 propose d := any(n) eff k := k + 1 \
+automaton Keep signature input roll(d: Int); output tell(s: Int); internal add states all: S; sum: Int \
+transitions input roll eff all := append(all, d) output tell pre s = sum propose s := sum \
+internal add pre len(all) > 0 eff for x in all do sum := sum + x od; all := empty(S) \
+composition Game components D: Dice(6) crash down recover up; K: Keep";
+
+/// What came of it that is refused so, when what was lent is as it was.
+fn refused(refusal: Refusal, is_kept: bool) -> Came {
     match refusal {
-        Refusal::OutOfMemory => Came::Wanting(true),
+        Refusal::OutOfMemory => Came::Wanting(is_kept),
         _ => Came::Answered(false),
     }
 }
 
 /// The source that keeps the rules.
 fn checked_source(rt: &impl Abort, alloc: Global) -> Checked {
-    let source = made::parsed(rt, alloc, GAME.as_bytes());
+    let source = made::parsed(rt, alloc, THROWS.as_bytes());
     check(alloc, source).expect(rt, "a checked source")
 }
 
@@ -29,58 +40,57 @@ fn composition(rt: &impl Abort, alloc: Global) -> Composition {
     compose(alloc, &checked, None).expect(rt, "a composition")
 }
 
+/// Whether the source is composed to the composition that there is with ample memory.
+fn is_checked(rt: &impl Abort, alloc: Global, checked: &Checked) -> bool {
+    let composed = compose(alloc, checked, None).expect(rt, "a composition");
+    is_composed(rt, alloc, &composed)
+}
+
 /// Whether the composition is compiled to the program that there is with ample memory.
 fn is_composed(rt: &impl Abort, alloc: Global, composition: &Composition) -> bool {
     let program = compile(alloc, composition).expect(rt, "memory");
-    is_program(rt, alloc, &program)
+    is_program(rt, alloc, &program, THROWS)
 }
 
-fn is_program(rt: &impl Abort, alloc: Global, program: &Program) -> bool {
-    program.same(&made::program(rt, alloc, GAME, None))
-}
-
-pub fn parsed(rt: &impl Abort, alloc: Global, spare: usize) -> Came {
+pub fn parsed(rt: &impl Abort, alloc: Global, spare: Spare) -> Came {
     let hoard = all_but(rt, alloc, spare);
-    let answer = parse(alloc, GAME.as_bytes());
+    let answer = parse(alloc, THROWS.as_bytes());
     drop(hoard);
     match answer {
-        Ok(source) => Came::Answered(source.same(&made::parsed(rt, alloc, GAME.as_bytes()))),
-        Err(refusal) => refused(refusal),
+        Ok(source) => Came::Answered(source.same(&made::parsed(rt, alloc, THROWS.as_bytes()))),
+        Err(refusal) => refused(refusal, true),
     }
 }
 
-pub fn checked(rt: &impl Abort, alloc: Global, spare: usize) -> Came {
-    let source = made::parsed(rt, alloc, GAME.as_bytes());
+pub fn checked(rt: &impl Abort, alloc: Global, spare: Spare) -> Came {
+    let source = made::parsed(rt, alloc, THROWS.as_bytes());
     let hoard = all_but(rt, alloc, spare);
     let answer = check(alloc, source);
     drop(hoard);
     match answer {
-        Ok(checked) => {
-            let composed = compose(alloc, &checked, None).expect(rt, "a composition");
-            Came::Answered(is_composed(rt, alloc, &composed))
-        }
-        Err(refusal) => refused(refusal),
+        Ok(checked) => Came::Answered(is_checked(rt, alloc, &checked)),
+        Err(refusal) => refused(refusal, true),
     }
 }
 
-pub fn composed(rt: &impl Abort, alloc: Global, spare: usize) -> Came {
+pub fn composed(rt: &impl Abort, alloc: Global, spare: Spare) -> Came {
     let checked = checked_source(rt, alloc);
     let hoard = all_but(rt, alloc, spare);
     let answer = compose(alloc, &checked, None);
     drop(hoard);
     match answer {
         Ok(composition) => Came::Answered(is_composed(rt, alloc, &composition)),
-        Err(refusal) => refused(refusal),
+        Err(refusal) => refused(refusal, is_checked(rt, alloc, &checked)),
     }
 }
 
-pub fn compiled(rt: &impl Abort, alloc: Global, spare: usize) -> Came {
+pub fn compiled(rt: &impl Abort, alloc: Global, spare: Spare) -> Came {
     let composition = composition(rt, alloc);
     let hoard = all_but(rt, alloc, spare);
     let answer = compile(alloc, &composition);
     drop(hoard);
     match answer {
-        Ok(program) => Came::Answered(is_program(rt, alloc, &program)),
-        Err(_) => Came::Wanting(true),
+        Ok(program) => Came::Answered(is_program(rt, alloc, &program, THROWS)),
+        Err(_) => Came::Wanting(is_composed(rt, alloc, &composition)),
     }
 }

@@ -1,31 +1,46 @@
 //! Parts of code, steps, and whole lists and logs, with little memory.
 
-use crate::tests::code::{BOOLS, DIFFERENCE, EQUALITY, verdict};
+use crate::tests::code::{BOOLS, DIFFERENCE, EQUALITY, SEQUENCES, SUMMING, looping, verdict};
 use crate::tests::drawn::{Given, proposing};
 use crate::tests::made;
-use crate::tests::memory::hoard::Hoard;
+use crate::tests::memory::hoard::{Hoard, Spare};
+use crate::tests::memory::lent::{are_actions, is_log, is_program};
 use crate::tests::memory::{Came, all_but};
+use crate::tests::objects::SUMS;
 use crate::tests::reached::told_states;
 use crate::tests::resumed::TICKED;
 use crate::tests::rooms::script;
 use ioa_check::check;
 use ioa_code::{CodeErr, PartKind};
-use ioa_compile::Program;
+use ioa_compile::{Program, compile};
 use ioa_compose::{Composition, compose};
-use ioa_log::{Broken, Counted, LogErr, MonitorErr, invariants, monitor, read_log};
+use ioa_log::{Broken, LogErr, MonitorErr, invariants, monitor, replay};
 use ioa_node::{NodeState, propose};
 use ioa_rows::{COUNTER, GAME};
-use ioa_system::{End, Log, Run, Step, System, run_list};
-use ioa_value::{Ty, Types, Value};
+use ioa_system::{End, Run, Step, System, run_list};
+use ioa_value::{Ty, Value};
 use std::alloc::Global;
 use std::process::Abort;
 
+/// The code of a loop that adds the items of a sequence to a number.
+pub fn verified(rt: &impl Abort, alloc: Global, spare: Spare) -> Came {
+    let program = made::program(rt, alloc, SEQUENCES, None);
+    let hoard = all_but(rt, alloc, spare);
+    let answer = looping(alloc, program.types(), SUMMING);
+    drop(hoard);
+    match answer {
+        Ok(code) => Came::Answered(code.bound() == 20),
+        Err(CodeErr::OutOfMemory) => Came::Wanting(is_program(rt, alloc, &program, SEQUENCES)),
+        Err(_) => Came::Answered(false),
+    }
+}
+
 /// A precondition of a variable and an argument.
-pub fn enabled(rt: &impl Abort, alloc: Global, spare: usize) -> Came {
+pub fn enabled(rt: &impl Abort, alloc: Global, spare: Spare) -> Came {
     compared(alloc, spare).expect(rt, "a precondition")
 }
 
-fn compared(alloc: Global, spare: usize) -> Result<Came, CodeErr> {
+fn compared(alloc: Global, spare: Spare) -> Result<Came, CodeErr> {
     let types = made::basic(alloc)?;
     let code = verdict(alloc, &types, PartKind::Pre, EQUALITY, BOOLS)?;
     let state = ioa_node::from_values(alloc, &types, &[Ty::INT], &[Value::Num(5)])?;
@@ -40,11 +55,11 @@ fn compared(alloc: Global, spare: usize) -> Result<Came, CodeErr> {
 }
 
 /// An effect that lessens a variable by an argument.
-pub fn effect(rt: &impl Abort, alloc: Global, spare: usize) -> Came {
+pub fn effect(rt: &impl Abort, alloc: Global, spare: Spare) -> Came {
     lessened(alloc, spare).expect(rt, "an effect")
 }
 
-fn lessened(alloc: Global, spare: usize) -> Result<Came, CodeErr> {
+fn lessened(alloc: Global, spare: Spare) -> Result<Came, CodeErr> {
     let types = made::basic(alloc)?;
     let code = verdict(alloc, &types, PartKind::Eff, DIFFERENCE, &[])?;
     let state = ioa_node::from_values(alloc, &types, &[Ty::INT], &[Value::Num(5)])?;
@@ -61,7 +76,7 @@ fn lessened(alloc: Global, spare: usize) -> Result<Came, CodeErr> {
 }
 
 /// A proposal by a word, which a refusal may have taken.
-pub fn proposed(rt: &impl Abort, alloc: Global, spare: usize) -> Came {
+pub fn proposed(rt: &impl Abort, alloc: Global, spare: Spare) -> Came {
     let program = made::program(rt, alloc, GAME, None);
     let (code, state) = proposing(&program, 0, 0).expect(rt, "a proposal");
     let kept = state.try_copy(alloc).expect(rt, "memory");
@@ -85,7 +100,7 @@ fn told(rt: &impl Abort, alloc: Global, program: &Program, states: &[NodeState])
 }
 
 /// A step of two components.
-pub fn stepped(rt: &impl Abort, alloc: Global, spare: usize) -> Came {
+pub fn stepped(rt: &impl Abort, alloc: Global, spare: Spare) -> Came {
     let program = made::program(rt, alloc, GAME, None);
     let action = made::action(rt, alloc, program.types(), "roll(5)");
     let mut system = System::start(alloc, &program).expect(rt, "memory");
@@ -101,11 +116,29 @@ pub fn stepped(rt: &impl Abort, alloc: Global, spare: usize) -> Came {
     }
 }
 
+/// A step whose effect is a loop over two items.
+pub fn folded(rt: &impl Abort, alloc: Global, spare: Spare) -> Came {
+    let program = made::program(rt, alloc, SUMS, None);
+    let mut system = System::start(alloc, &program).expect(rt, "memory");
+    for action in &script(rt, alloc, program.types(), &["put(2)", "put(5)"]) {
+        assert!(rt; system.step(action).expect(rt, "memory") == Step::Next);
+    }
+    let fold = made::action(rt, alloc, program.types(), "fold");
+    let hoard = all_but(rt, alloc, spare);
+    let answer = system.step(&fold);
+    drop(hoard);
+    let now = told(rt, alloc, &program, system.states());
+    match answer {
+        Ok(step) => Came::Answered(step == Step::Next && now.as_str() == ", state(S[], 7)"),
+        Err(_) => Came::Wanting(now.as_str() == ", state(S[2, 5], 0)"),
+    }
+}
+
 /// What some actions of the game come to.
 const PLAYED: &[&str] = &["roll(5)", "down", "roll(1)"];
 
 /// A list whose last action is not enabled.
-pub fn run(rt: &impl Abort, alloc: Global, spare: usize) -> Came {
+pub fn run(rt: &impl Abort, alloc: Global, spare: Spare) -> Came {
     let program = made::program(rt, alloc, GAME, None);
     let actions = script(rt, alloc, program.types(), PLAYED);
     let hoard = all_but(rt, alloc, spare);
@@ -113,7 +146,10 @@ pub fn run(rt: &impl Abort, alloc: Global, spare: usize) -> Came {
     drop(hoard);
     match answer {
         Ok(run) => Came::Answered(is_played(rt, alloc, &program, &run)),
-        Err(_) => Came::Wanting(true),
+        Err(_) => Came::Wanting(
+            is_program(rt, alloc, &program, GAME)
+                && are_actions(rt, alloc, program.types(), &actions, PLAYED),
+        ),
     }
 }
 
@@ -125,15 +161,36 @@ fn is_played(rt: &impl Abort, alloc: Global, program: &Program, run: &Run) -> bo
         && states.as_str() == ", state(1, false), state(5)"
 }
 
-/// A specification that does not accept the third action.
-pub fn monitored(rt: &impl Abort, alloc: Global, spare: usize) -> Came {
+/// The log of the counter's run.
+pub fn replayed(rt: &impl Abort, alloc: Global, spare: Spare) -> Came {
     let program = made::program(rt, alloc, COUNTER, None);
-    let actions = script(rt, alloc, program.types(), &["tick(5)", "other", "tick(7)"]);
+    let log = made::log(rt, alloc, program.types(), TICKED);
+    let hoard = all_but(rt, alloc, spare);
+    let answer = replay(alloc, &program, &log);
+    drop(hoard);
+    let is_kept = is_program(rt, alloc, &program, COUNTER)
+        && is_log(rt, alloc, program.types(), &log, TICKED);
+    match answer {
+        Ok(run) => Came::Answered(run.end == End::Done(3) && run.performed == 3 && is_kept),
+        Err(LogErr::OutOfMemory) => Came::Wanting(is_kept),
+        Err(_) => Came::Answered(false),
+    }
+}
+
+/// Actions of which the specification does not accept the third one.
+const MONITORED: &[&str] = &["tick(5)", "other", "tick(7)"];
+
+pub fn monitored(rt: &impl Abort, alloc: Global, spare: Spare) -> Came {
+    let program = made::program(rt, alloc, COUNTER, None);
+    let actions = script(rt, alloc, program.types(), MONITORED);
     let hoard = all_but(rt, alloc, spare);
     let answer = monitor(alloc, &program, &actions);
     drop(hoard);
     match answer {
-        Err(MonitorErr::OutOfMemory) => Came::Wanting(true),
+        Err(MonitorErr::OutOfMemory) => Came::Wanting(
+            is_program(rt, alloc, &program, COUNTER)
+                && are_actions(rt, alloc, program.types(), &actions, MONITORED),
+        ),
         answer => Came::Answered(
             answer
                 == Err(MonitorErr::At {
@@ -149,35 +206,40 @@ const BELOW: &str = "automaton Counter(start: Int) signature output tick(k: Int)
     states c: Int := start transitions output tick pre k = c propose k := c eff c := c + 1 \
     input reset eff c := start composition One components A: Counter(5) invariant of Counter: c < 7";
 
-fn composition(rt: &impl Abort, alloc: Global) -> Composition {
+pub fn bounded(rt: &impl Abort, alloc: Global) -> Composition {
     let source = made::parsed(rt, alloc, BELOW.as_bytes());
     let checked = check(alloc, source).expect(rt, "a checked source");
     compose(alloc, &checked, None).expect(rt, "a composition")
 }
 
-/// The log of this text.
-pub fn logged(rt: &impl Abort, alloc: Global, types: &Types, text: &str) -> Log {
-    let mut input = Counted::new(text.as_bytes());
-    read_log(alloc, types, &mut input).expect(rt, "a log")
+/// Whether the composition is compiled as it is with ample memory, and its invariant is broken.
+pub fn is_bounded(rt: &impl Abort, alloc: Global, composition: &Composition) -> bool {
+    let program = compile(alloc, composition).expect(rt, "memory");
+    let log = made::log(rt, alloc, program.types(), TICKED);
+    let broken = invariants(alloc, composition, &log).expect(rt, "a log of the program");
+    broken == Some(BROKEN) && is_program(rt, alloc, &program, BELOW)
 }
 
+/// What is broken of the log's run.
+pub const BROKEN: Broken = Broken {
+    state: 2,
+    component: 0,
+    invariant: 0,
+};
+
 /// An invariant that is broken after two actions.
-pub fn asked(rt: &impl Abort, alloc: Global, spare: usize) -> Came {
-    let composition = composition(rt, alloc);
-    let log = logged(rt, alloc, composition.types(), TICKED);
+pub fn asked(rt: &impl Abort, alloc: Global, spare: Spare) -> Came {
+    let composition = bounded(rt, alloc);
+    let log = made::log(rt, alloc, composition.types(), TICKED);
     let hoard = all_but(rt, alloc, spare);
     let answer = invariants(alloc, &composition, &log);
     drop(hoard);
     match answer {
-        Err(LogErr::OutOfMemory) => Came::Wanting(true),
-        Err(_) => Came::Answered(false),
-        Ok(broken) => Came::Answered(
-            broken
-                == Some(Broken {
-                    state: 2,
-                    component: 0,
-                    invariant: 0,
-                }),
+        Err(LogErr::OutOfMemory) => Came::Wanting(
+            is_bounded(rt, alloc, &composition)
+                && is_log(rt, alloc, composition.types(), &log, TICKED),
         ),
+        Err(_) => Came::Answered(false),
+        Ok(broken) => Came::Answered(broken == Some(BROKEN)),
     }
 }

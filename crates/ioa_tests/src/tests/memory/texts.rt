@@ -1,12 +1,19 @@
 //! Objects, logs and lists that are written and read with little memory.
 
 use crate::tests::made;
-use crate::tests::memory::steps::logged;
+use crate::tests::memory::hoard::Spare;
+use crate::tests::memory::lent::{is_log, is_program};
+use crate::tests::memory::sources::THROWS;
+use crate::tests::memory::steps::{BROKEN, bounded, is_bounded};
 use crate::tests::memory::{Came, all_but};
 use crate::tests::resumed::TICKED;
-use ioa_log::{Counted, LogErr, read_log, replay_list, write_log};
+use ioa_compile::Program;
+use ioa_log::{
+    Counted, LogErr, hides_actions, inspect_log, log_list, monitor_log, read_log, replay_list,
+    replay_log, write_log,
+};
 use ioa_object::{ObjErr, read_object, write_object};
-use ioa_rows::{COUNTER, GAME};
+use ioa_rows::COUNTER;
 use ioa_system::End;
 use std::alloc::Global;
 use std::process::Abort;
@@ -14,31 +21,33 @@ use std::process::Abort;
 /// A writer has room for so many bytes, so that it fails for no want of memory of its own.
 const ROOM: usize = 4096;
 
-/// The object of the game.
+/// The object of the throws.
 fn object(rt: &impl Abort, alloc: Global) -> Vec<u8> {
-    let program = made::program(rt, alloc, GAME, None);
+    let program = made::program(rt, alloc, THROWS, None);
     write_object(alloc, &program).expect(rt, "memory")
 }
 
-pub fn object_written(rt: &impl Abort, alloc: Global, spare: usize) -> Came {
-    let program = made::program(rt, alloc, GAME, None);
+pub fn object_written(rt: &impl Abort, alloc: Global, spare: Spare) -> Came {
+    let program = made::program(rt, alloc, THROWS, None);
     let hoard = all_but(rt, alloc, spare);
     let answer = write_object(alloc, &program);
     drop(hoard);
     match answer {
         Ok(bytes) => Came::Answered(bytes.as_slice() == object(rt, alloc).as_slice()),
-        Err(_) => Came::Wanting(true),
+        Err(_) => Came::Wanting(is_program(rt, alloc, &program, THROWS)),
     }
 }
 
-pub fn object_read(rt: &impl Abort, alloc: Global, spare: usize) -> Came {
+pub fn object_read(rt: &impl Abort, alloc: Global, spare: Spare) -> Came {
     let bytes = object(rt, alloc);
     let hoard = all_but(rt, alloc, spare);
     let answer = read_object(alloc, &bytes);
     drop(hoard);
     match answer {
-        Ok(program) => Came::Answered(program.same(&made::program(rt, alloc, GAME, None))),
-        Err(ObjErr::OutOfMemory) => Came::Wanting(true),
+        Ok(program) => Came::Answered(is_program(rt, alloc, &program, THROWS)),
+        Err(ObjErr::OutOfMemory) => {
+            Came::Wanting(bytes.as_slice() == object(rt, alloc).as_slice())
+        }
         Err(_) => Came::Answered(false),
     }
 }
@@ -48,17 +57,37 @@ fn writer(rt: &impl Abort, alloc: Global) -> Counted<Vec<u8>> {
     Counted::new(Vec::with_capacity(alloc, ROOM).expect(rt, "memory"))
 }
 
-/// What came of it that is refused so, when this was written.
-fn refused(error: LogErr, written: &[u8]) -> Came {
+/// What came of it that is refused so, when what was lent is as it was, a writer as it was when nothing is written.
+fn refused(error: LogErr, is_kept: bool) -> Came {
     match error {
-        LogErr::OutOfMemory => Came::Wanting(written.is_empty()),
+        LogErr::OutOfMemory => Came::Wanting(is_kept),
         _ => Came::Answered(false),
     }
 }
 
-pub fn log_written(rt: &impl Abort, alloc: Global, spare: usize) -> Came {
+/// What came of a call on the counter that answers so with ample memory, and writes this.
+fn judged(
+    rt: &impl Abort,
+    alloc: Global,
+    program: &Program,
+    output: Counted<Vec<u8>>,
+    answer: Result<End, LogErr>,
+    wanted: (End, &str),
+) -> Came {
+    let written = output.into_inner();
+    let is_kept = is_program(rt, alloc, program, COUNTER);
+    match answer {
+        Ok(end) => {
+            let is_wanted = end == wanted.0 && written.as_slice() == wanted.1.as_bytes();
+            Came::Answered(is_wanted && is_kept)
+        }
+        Err(error) => refused(error, written.is_empty() && is_kept),
+    }
+}
+
+pub fn log_written(rt: &impl Abort, alloc: Global, spare: Spare) -> Came {
     let program = made::program(rt, alloc, COUNTER, None);
-    let log = logged(rt, alloc, program.types(), TICKED);
+    let log = made::log(rt, alloc, program.types(), TICKED);
     let mut output = writer(rt, alloc);
     let hoard = all_but(rt, alloc, spare);
     let answer = write_log(alloc, program.types(), &log, &mut output);
@@ -66,23 +95,22 @@ pub fn log_written(rt: &impl Abort, alloc: Global, spare: usize) -> Came {
     let written = output.into_inner();
     match answer {
         Ok(()) => Came::Answered(written.as_slice() == TICKED.as_bytes()),
-        Err(error) => refused(error, &written),
+        Err(error) => {
+            let is_kept = is_log(rt, alloc, program.types(), &log, TICKED);
+            refused(error, written.is_empty() && is_kept)
+        }
     }
 }
 
-pub fn log_read(rt: &impl Abort, alloc: Global, spare: usize) -> Came {
+pub fn log_read(rt: &impl Abort, alloc: Global, spare: Spare) -> Came {
     let program = made::program(rt, alloc, COUNTER, None);
     let mut input = Counted::new(TICKED.as_bytes());
     let hoard = all_but(rt, alloc, spare);
     let answer = read_log(alloc, program.types(), &mut input);
     drop(hoard);
     match answer {
-        Ok(log) => {
-            let mut output = writer(rt, alloc);
-            write_log(alloc, program.types(), &log, &mut output).expect(rt, "memory");
-            Came::Answered(output.into_inner().as_slice() == TICKED.as_bytes())
-        }
-        Err(error) => refused(error, &[]),
+        Ok(log) => Came::Answered(is_log(rt, alloc, program.types(), &log, TICKED)),
+        Err(error) => refused(error, is_program(rt, alloc, &program, COUNTER)),
     }
 }
 
@@ -91,18 +119,75 @@ const LIST: &str = "tick(5)\ntick(6)\nreset\ntick(6)\n";
 
 const REPLAYED: &str = "tick(5)\ntick(6)\nreset\nend: not enabled at 3\n";
 
-pub fn list_replayed(rt: &impl Abort, alloc: Global, spare: usize) -> Came {
+pub fn list_replayed(rt: &impl Abort, alloc: Global, spare: Spare) -> Came {
     let program = made::program(rt, alloc, COUNTER, None);
     let mut input = Counted::new(LIST.as_bytes());
     let mut output = writer(rt, alloc);
     let hoard = all_but(rt, alloc, spare);
     let answer = replay_list(alloc, &program, &mut input, &mut output);
     drop(hoard);
-    let written = output.into_inner();
+    let wanted = (End::NotEnabled(3), REPLAYED);
+    judged(rt, alloc, &program, output, answer, wanted)
+}
+
+/// What is written of the run that the log tells.
+const TRACE: &str = "tick(5)\ntick(6)\nreset\nend: done after 3\n";
+
+pub fn log_replayed(rt: &impl Abort, alloc: Global, spare: Spare) -> Came {
+    let program = made::program(rt, alloc, COUNTER, None);
+    let mut input = Counted::new(TICKED.as_bytes());
+    let mut output = writer(rt, alloc);
+    let hoard = all_but(rt, alloc, spare);
+    let answer = replay_log(alloc, &program, &mut input, &mut output);
+    drop(hoard);
+    judged(rt, alloc, &program, output, answer, (End::Done(3), TRACE))
+}
+
+/// The list whose log is read elsewhere, and an action that is not enabled.
+const LOGGED: &str = "tick(5)\ntick(6)\nreset\ntick(6)\n";
+
+pub fn list_logged(rt: &impl Abort, alloc: Global, spare: Spare) -> Came {
+    let program = made::program(rt, alloc, COUNTER, None);
+    let mut input = Counted::new(LOGGED.as_bytes());
+    let mut output = writer(rt, alloc);
+    let hoard = all_but(rt, alloc, spare);
+    let answer = log_list(alloc, &program, &mut input, &mut output);
+    drop(hoard);
+    let wanted = (End::NotEnabled(3), TICKED);
+    judged(rt, alloc, &program, output, answer, wanted)
+}
+
+/// A log that the counter accepts as a specification, less its last action.
+const UNACCEPTED: &str =
+    "{\"act\":\"tick(5)\",\"who\":0}\n{\"act\":\"tock\",\"who\":3}\n{\"act\":\"tick(7)\",\"who\":0}\n{\"end\":\"done after 3\"}\n";
+
+pub fn log_monitored(rt: &impl Abort, alloc: Global, spare: Spare) -> Came {
+    let program = made::program(rt, alloc, COUNTER, None);
+    let mut input = Counted::new(UNACCEPTED.as_bytes());
+    if hides_actions(&program) {
+        return Came::Answered(false);
+    }
+    let hoard = all_but(rt, alloc, spare);
+    let answer = monitor_log(alloc, &program, &mut input);
+    drop(hoard);
     match answer {
-        Ok(end) => Came::Answered(
-            end == End::NotEnabled(3) && written.as_slice() == REPLAYED.as_bytes(),
+        Ok(answer) => Came::Answered(answer == Some(End::NotEnabled(2))),
+        Err(error) => refused(error, is_program(rt, alloc, &program, COUNTER)),
+    }
+}
+
+pub fn log_inspected(rt: &impl Abort, alloc: Global, spare: Spare) -> Came {
+    let composition = bounded(rt, alloc);
+    let mut input = Counted::new(TICKED.as_bytes());
+    let hoard = all_but(rt, alloc, spare);
+    let answer = inspect_log(alloc, &composition, &mut input);
+    drop(hoard);
+    match answer {
+        Ok(found) => Came::Answered(
+            found.broken == Some(BROKEN)
+                && found.replayed.end == End::Done(3)
+                && found.replayed.text.as_str() == TRACE,
         ),
-        Err(error) => refused(error, &written),
+        Err(error) => refused(error, is_bounded(rt, alloc, &composition)),
     }
 }
