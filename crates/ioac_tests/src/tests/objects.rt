@@ -1,13 +1,7 @@
 //! Objects: what is told of their bytes, and what is read of them and written.
 
-use crate::tests::loops::SUM;
-use crate::tests::shelf::{COUNTER, object};
-use ioa_object::{ObjErr, objects_are_their_programs, read_object, write_object};
-use ioac::{
-    compile_text, objects_do_as_their_sources, objects_run_as_their_sources, one_composition,
-};
-use std::alloc::Global;
-use std::process::Abort;
+use ioa_object::objects_are_their_programs;
+use ioac::{objects_do_as_their_sources, objects_run_as_their_sources, one_composition};
 
 /// The words after the program's name, a file's bytes, standard input, what is printed, what is told of errors, and the exit status.
 pub const ROWS: &str = r#"
@@ -151,69 +145,6 @@ check f | 7f494f4101000001580100014100000100010161000002000000010100050000000000
 check f | 7f494f410100000158010001410000020000016100000000000000016200000000010007 |  |  | O6 part 1 at 0^ | 1
 "#;
 
-/// An object of a composition `X`, whose component `A` has the output `go`, with a precondition that is true.
-const SMALLEST: [u8; 39] = [
-    0x7F, 0x49, 0x4F, 0x41, 0x01, 0, 0, 1, 0x58, 1, 0, 1, 0x41, 0, 0, 1, 0, 1, 2, 0x67, 0x6F, 0, 0,
-    1, 0, 0, 0, 1, 1, 0, 1, 0, 0, 0, 0, 0, 0, 0, 0,
-];
-
-/// A source with each form of type, of position and of value, and a component that crashes.
-const STORE: &str = "type Hue = enum { red, green, blue } type S = seq 3 of Int \
-    type P = tuple { hue: Hue, list: S, on: Bool } type Ps = seq 2 of P \
-    automaton Store(n: Int, h: Hue) signature output put(const n, p: P); input take(p: P, const h); internal drop(k: Hue) \
-    states ps: Ps; old: P; h0: Hue := h; m: Int := -n \
-    transitions output put pre len(ps) > 0 /\\ p = head(ps) propose p := head(ps) \
-    eff ps := tail(ps); if p.on then m := m * 2 else m := m mod 3 fi \
-    input take eff if len(ps) < 2 then ps := append(ps, P(h0, append(empty(S), m), ~p.on)) fi; old := p \
-    internal drop pre member(old, ps) \\/ k = green propose k := red eff ps := without(ps, old) \
-    automaton Other signature input put(const 4, p: P); output take(p: P, const red) states x: Bool; stable y: Int \
-    transitions input put eff x := ~x; y := y + 1 \
-    output take pre x => at(p.list, 0) <= 4 propose p := P(blue, empty(S), true) \
-    composition Both components A: Store(4, red); B: Other crash down recover up hidden take";
-
-/// Whether the bytes are the one object of the program that is read of them, if one is.
-fn is_object_read(rt: &impl Abort, alloc: Global, bytes: &[u8]) -> Option<bool> {
-    match read_object(alloc, bytes) {
-        Ok(program) => {
-            let again = write_object(alloc, &program).expect(rt, "memory");
-            Some(again.as_slice() == bytes)
-        }
-        Err(_) => None,
-    }
-}
-
-/// The smallest object with this byte in this place is refused, or is another object. Whether it is an object.
-fn is_taken(rt: &impl Abort, alloc: Global, place: usize, byte: u8) -> bool {
-    let mut bytes = SMALLEST;
-    if let Some(changed) = bytes.get_mut(place) {
-        *changed = byte;
-    }
-    match is_object_read(rt, alloc, &bytes) {
-        Some(same) => {
-            assert!(rt; same, "{place} {byte}");
-            true
-        }
-        None => {
-            assert!(rt; bytes != SMALLEST);
-            false
-        }
-    }
-}
-
-/// Each other byte in each place of the smallest object is refused, or gives another object.
-#[test]
-fn each_byte_is_changed(rt: HostRuntime) {
-    let mut taken: u32 = 0;
-    for place in 0..SMALLEST.len() {
-        for byte in 0..=255 {
-            if is_taken(&rt, rt.alloc(), place, byte) {
-                taken = taken.saturating_add(1);
-            }
-        }
-    }
-    assert!(rt; 39 < taken);
-}
-
 /// The laws of objects are calls.
 #[test]
 fn laws_are_called(_rt: HostRuntime) {
@@ -221,38 +152,4 @@ fn laws_are_called(_rt: HostRuntime) {
     objects_do_as_their_sources();
     objects_run_as_their_sources();
     one_composition();
-}
-
-/// Whether no part of the bytes that ends before them is an object, but is told to be none or a cut one.
-fn is_cut(alloc: Global, bytes: &[u8]) -> bool {
-    for length in 0..bytes.len() {
-        let wanted = if length < 4 {
-            ObjErr::Magic
-        } else {
-            ObjErr::Truncated
-        };
-        match read_object(alloc, &bytes[..length]) {
-            Err(error) if error == wanted => {}
-            _ => return false,
-        }
-    }
-    true
-}
-
-/// The bytes are an object, and cut anywhere are told to be no object or a cut one.
-fn expect_whole(rt: &impl Abort, alloc: Global, bytes: &[u8]) {
-    assert!(rt; is_cut(alloc, bytes));
-    assert!(rt; is_object_read(rt, alloc, bytes) == Some(true));
-}
-
-#[test]
-fn objects_are_whole(rt: HostRuntime) {
-    expect_whole(&rt, rt.alloc(), &SMALLEST);
-    for source in [COUNTER, STORE, SUM] {
-        let bytes = object(&rt, rt.alloc(), source);
-        expect_whole(&rt, rt.alloc(), &bytes);
-        let read = read_object(rt.alloc(), &bytes).expect(&rt, "an object");
-        let program = compile_text(rt.alloc(), source.as_bytes(), None);
-        assert!(rt; read.same(&program.expect(&rt, "a program")));
-    }
 }
