@@ -2,65 +2,14 @@
 
 use crate::tests::shelf::{COUNTER, Given, REPLAY, Ran, run_on};
 use ioa_log::{Counted, Device};
+use ioa_rows::{Dripping, KINDS, Slow};
 use ioac::{Status, Tee};
 use std::alloc::Global;
-use std::io;
-use std::io::{Read, Write};
+use std::io::ErrorKind;
 use std::process::Abort;
 use std::sync::Wait;
 use std::thread::Threads;
 use std::time::Clock;
-
-/// Takes one byte a call, and fails after so many calls. No flush of it passes.
-#[derive(Drop)]
-struct Slow {
-    held: Vec<u8>,
-    left: u64,
-}
-
-impl Write for Slow {
-    fn write(&mut self, buf: &[u8]) -> io::Result<usize> {
-        if self.left == 0 {
-            return Err(io::Error::from(io::ErrorKind::Interrupted));
-        }
-        self.left -= 1;
-        match buf.first() {
-            None => Ok(0),
-            Some(byte) => {
-                self.held.push(*byte)?;
-                Ok(1)
-            }
-        }
-    }
-
-    fn flush(&mut self) -> io::Result<()> {
-        Err(io::Error::from(io::ErrorKind::Interrupted))
-    }
-}
-
-/// Gives one byte a call, and fails after so many calls.
-#[derive(Drop)]
-struct Dripping<'a> {
-    bytes: &'a [u8],
-    left: u64,
-}
-
-impl<'a> Read for Dripping<'a> {
-    fn read(&mut self, buf: &mut [u8]) -> io::Result<usize> {
-        if self.left == 0 {
-            return Err(io::Error::from(io::ErrorKind::Interrupted));
-        }
-        self.left -= 1;
-        match self.bytes.split_first() {
-            Some((first, rest)) if !buf.is_empty() => {
-                buf[0] = *first;
-                self.bytes = rest;
-                Ok(1)
-            }
-            _ => Ok(0),
-        }
-    }
-}
 
 const LIST: &str = "tick(5)\ntick(6)\nreset\n";
 
@@ -72,14 +21,34 @@ const BOUNDED: &str = "automaton Counter signature output tick(k: Int); input re
     states c: Int := 5 transitions output tick pre k = c propose k := c eff c := c + 1 \
     input reset eff c := 5 composition One components A: Counter invariant of Counter: c < 7";
 
+/// How a device fails: a call that is interrupted is made again elsewhere.
+const INTERRUPTED: ErrorKind = ErrorKind::Interrupted;
+
 /// What is printed of the list, and of its log.
 const PRINTED: &str = "tick(5)\ntick(6)\nreset\nend: done after 3\n";
 
 /// The same with the state in which it ends.
 const REACHED: &str = "tick(5)\ntick(6)\nreset\nend: done after 3\nA.c = 5\n";
 
-/// The words, a file, and what stands on standard input; what is printed, and the exit status.
-const GIVEN: [(&str, &str, &str, &str, Status); 8] = [
+/// The log as a chart.
+const CHART: &str =
+    "sequenceDiagram\n  participant P0 as A\n  participant P1 as environment\n  Note over P0: tick(5)\n  Note over P0: tick(6)\n  P1->>P0: reset\n";
+
+const GRAPH: &str =
+    "digraph \"One\" {\n  node [shape=box];\n  P0 [label=\"A\"];\n  P1 [label=\"environment\", shape=ellipse];\n  P0 -> P1 [label=\"tick\"];\n  P1 -> P0 [label=\"reset\"];\n}\n";
+
+/// A source that is well formed.
+const SMALL: &str = "automaton A signature input a transitions input a";
+
+/// An object of 39 bytes, and its dump.
+const OBJECT: &str =
+    "\x7fIOA\x01\0\0\x01X\x01\0\x01A\0\0\x01\0\x01\x02go\0\0\x01\0\0\0\x01\x01\0\x01\0\0\0\0\0\0\0\0";
+
+const DUMP: &str =
+    "composition X\ncomponent 0 A\n  output go\n    constant 0: Bool (true)\n    precondition\n      0 Const 0: Bool (true)\n    proposals\n    effect\n";
+
+/// The words, a file, and what stands on standard input, which is read where there is something; what is printed, and the exit status.
+const GIVEN: [(&str, &str, &str, &str, Status); 18] = [
     (REPLAY, COUNTER, LIST, PRINTED, Status::Done),
     ("replay f --states", COUNTER, LIST, REACHED, Status::Done),
     (
@@ -106,6 +75,40 @@ const GIVEN: [(&str, &str, &str, &str, Status); 8] = [
     ),
     ("log f", COUNTER, LIST, LOG, Status::Done),
     ("monitor f", COUNTER, LOG, "monitor: ok\n", Status::Done),
+    ("chart f", COUNTER, LOG, CHART, Status::Done),
+    ("graph f", COUNTER, "", GRAPH, Status::Done),
+    ("dump f", OBJECT, "", DUMP, Status::Done),
+    ("check f", SMALL, "", "ok\n", Status::Done),
+    ("compile f o", COUNTER, "", "ok\n", Status::Done),
+    ("--version", SMALL, "", "ioac 0.2.0\n", Status::Done),
+    (
+        "run f --alone --turns 2",
+        COUNTER,
+        "",
+        "tick(5)\ntick(6)\nend: done after 2\n",
+        Status::Done,
+    ),
+    (
+        "run f --alone --turns 1 --log",
+        COUNTER,
+        "",
+        "{\"act\":\"tick(5)\",\"who\":0}\n{\"end\":\"done after 1\"}\n",
+        Status::Done,
+    ),
+    (
+        "run f --turns 1",
+        COUNTER,
+        "",
+        "tick(5)\nend: done after 1\n",
+        Status::Done,
+    ),
+    (
+        "run f --turns 1 --log",
+        COUNTER,
+        "",
+        "{\"act\":\"tick(5)\",\"who\":0}\n{\"end\":\"done after 1\"}\n",
+        Status::Done,
+    ),
 ];
 
 /// Replays what is given on a device that fails after so many calls, and the answer is printed on one that takes so many;
@@ -114,16 +117,19 @@ fn replayed<H: Abort + Threads + Wait + Clock + Sync>(
     rt: &H,
     alloc: Global,
     given: &Given<'_>,
+    kind: ErrorKind,
     reads: u64,
     writes: u64,
 ) -> (Ran, u64) {
     let mut input = Tee::new(Counted::new(Dripping {
         bytes: given.list.as_bytes(),
         left: reads,
+        kind,
     }));
     let mut output = Counted::new(Slow {
         held: Vec::new(alloc),
         left: writes,
+        kind,
     });
     let mut errors = Counted::new(Vec::new(alloc));
     let (status, saved) = run_on(rt, alloc, given, &mut input, &mut output, &mut errors);
@@ -145,14 +151,31 @@ fn fails_with_its_devices(rt: HostRuntime) {
             file: file.as_bytes(),
             list,
         };
-        expect_failures(&rt, rt.alloc(), &given, printed.as_bytes());
+        expect_failures(&rt, rt.alloc(), &given, printed.as_bytes(), INTERRUPTED);
         expect_success(&rt, rt.alloc(), &given, printed.as_bytes(), status);
+    }
+}
+
+/// A failure of any kind is one: no call is made again, and none follows it.
+#[test]
+fn fails_in_each_way(rt: HostRuntime) {
+    let given = Given {
+        words: REPLAY,
+        file: COUNTER.as_bytes(),
+        list: "reset\n",
+    };
+    for kind in KINDS {
+        let printed = b"reset\nend: done after 1\n".as_slice();
+        expect_failures(&rt, rt.alloc(), &given, printed, kind);
     }
 }
 
 /// How many reads the input takes on a device that gives one byte a call: the end is one more read.
 fn reads_of(given: &Given<'_>) -> u64 {
-    (given.list.len() as u64).saturating_add(1)
+    match given.list.len() as u64 {
+        0 => 0,
+        bytes => bytes.saturating_add(1),
+    }
 }
 
 /// Replays on devices that fail at each call in turn.
@@ -161,16 +184,17 @@ fn expect_failures<H: Abort + Threads + Wait + Clock + Sync>(
     alloc: Global,
     given: &Given<'_>,
     printed: &[u8],
+    kind: ErrorKind,
 ) {
     let all = reads_of(given);
     let calls = printed.len() as u64;
     for reads in 0..all {
-        let (ran, failures) = replayed(rt, alloc, given, reads, calls);
+        let (ran, failures) = replayed(rt, alloc, given, kind, reads, calls);
         assert_failed(rt, &ran, failures);
         assert!(rt; ran.output.is_empty());
     }
     for writes in 0..calls {
-        let (ran, failures) = replayed(rt, alloc, given, all, writes);
+        let (ran, failures) = replayed(rt, alloc, given, kind, all, writes);
         assert_failed(rt, &ran, failures);
         assert_eq!(rt; ran.output.len() as u64, writes);
         assert!(rt; printed.starts_with(ran.output.as_slice()));
@@ -186,7 +210,7 @@ fn expect_success<H: Abort + Threads + Wait + Clock + Sync>(
     status: Status,
 ) {
     let calls = printed.len() as u64;
-    let (ran, failures) = replayed(rt, alloc, given, reads_of(given), calls);
+    let (ran, failures) = replayed(rt, alloc, given, INTERRUPTED, reads_of(given), calls);
     assert_eq!(rt; ran.status, status.number());
     assert_eq!(rt; failures, 0);
     assert!(rt; ran.output.as_slice() == printed);
@@ -198,13 +222,6 @@ fn assert_failed(rt: &impl Abort, ran: &Ran, failures: u64) {
     assert_eq!(rt; failures, 1);
     assert!(rt; ran.errors.as_slice() == b"L8\n".as_slice());
 }
-
-/// A source that is well formed.
-const SMALL: &str = "automaton A signature input a transitions input a";
-
-/// An object of 39 bytes.
-const OBJECT: &str =
-    "\x7fIOA\x01\0\0\x01X\x01\0\x01A\0\0\x01\0\x01\x02go\0\0\x01\0\0\0\x01\x01\0\x01\0\0\0\0\0\0\0\0";
 
 /// The words, a file, standard input, and what stands in the end in rooms of these lengths for what is printed and for what is told of
 /// errors. They were zeros.
