@@ -245,3 +245,32 @@ fn a_run_goes_on_ten_times(rt: HostRuntime) {
     let trace = gone_on(&rt, alloc, "--alone --turns 0 --resume r", &log);
     assert!(rt; trace == gone_on(&rt, alloc, "--alone --turns 11", b""));
 }
+
+/// What stands before the end of a log.
+fn entries(log: &[u8]) -> &[u8] {
+    match str::from_utf8(log) {
+        Ok(text) => match text.split_once("{\"end\":") {
+            Some((entries, _end)) => entries.as_bytes(),
+            None => &[],
+        },
+        Err(_) => &[],
+    }
+}
+
+/// With inputs, which begin anew each time, each log begins with the one that it goes on from.
+#[test]
+fn a_run_goes_on_with_inputs(rt: HostRuntime) {
+    let alloc = rt.alloc();
+    let mut log = gone_on(&rt, alloc, "--alone --turns 2 --inputs l --log", b"");
+    for time in 0..20usize {
+        let options = if time % 2 == 0 {
+            "--turns 2 --inputs l --log --resume r"
+        } else {
+            "--alone --turns 2 --inputs l --log --resume r"
+        };
+        let next = gone_on(&rt, alloc, options, &log);
+        assert!(rt; next.starts_with(entries(&log)) && next.len() > log.len());
+        log = next;
+    }
+    assert!(rt; log == gone_on(&rt, alloc, "--alone --turns 0 --log --resume r", &log));
+}
