@@ -1,5 +1,5 @@
 -- A list text, line by line.
-use Rattle.std.proofs.Common.{◌≡◌, ℕ, ◌+◌, ◌<◌, true, false, List, [], ◌∷◌, ◌++◌, length, refl, sym, ◌∙◌, ap, subst, Option, None, Some, Err, IfSome, inl, inr}
+use Rattle.std.proofs.Common.{◌≡◌, ℕ, ◌+◌, ◌-◌, ◌^◌, ◌<◌, ◌≤◌, true, false, List, [], ◌∷◌, ◌++◌, length, refl, sym, ◌∙◌, ap, subst, Option, None, Some, Err, IfSome, inl, inr, arith}
 use Rattle.std.specs.Result.{IsErrOf}
 use Rattle.std.specs.Io.KnownBytes.{Consumes}
 use Rattle.std.proofs.lemmas.List.{append-nil}
@@ -12,12 +12,25 @@ use Rattle.ioa_value.specs.Reads.{Reads}
 use Rattle.ioa_value.specs.Lists.{lines, is_skipped, ReadsLines, IsLine, BadLine, first_line, after_line}
 use Rattle.ioa_value.proofs.ListLemmas.{good, one_more}
 use Rattle.ioa_compile.specs.Programs.{Prog}
+use Rattle.ioa_system.specs.Progress.{CountsOneMore}
+use Rattle.ioa_system.proofs.Tracing.{performed_within}
 use Rattle.ioa_log.specs.declared.reading.Reading.{Reading}
 use Rattle.ioa_log.specs.declared.reading.Replayed.{Replayed}
 use Rattle.ioa_log.specs.Failing.{HasFailed}
 use Rattle.ioa_log.specs.LineReading.{AreTaken}
 use Rattle.ioa_log.specs.Readings.{HasPerformed, HasRead, IsReplayed, ReadsOneMore}
 use Rattle.ioa_log.proofs.LineReading.{all_taken, parted}
+
+-- a line has one action at most
+few_actions : (types : Table) (ls : List (List ℕ)) (acts : List Act) → ReadsLines types ls acts → length acts ≤ length ls
+few_actions types [] acts e = omega (arith, ap length e)
+few_actions types (l ∷ ls) acts (inl (skipped, read)) = let few : length acts ≤ length ls = few_actions types ls acts read in omega (arith, few)
+few_actions types (l ∷ ls) acts (inr (a, others, is, read, e)) =
+    let few : length others ≤ length ls = few_actions types ls others read in omega (arith, few, ap length e)
+
+-- a number of 64 bits counts an action more
+pub counts_line : (p : Prog) (ls : List (List ℕ)) (r : Reading) → HasRead p ls r → length ls < 2 ^ 64 - 1 → CountsOneMore r.runner.end
+counts_line p ls r h l = omega (arith, l, few_actions p.types ls h.acts h.reads, performed_within p h.acts h.performed.traced r.runner h.performed.run)
 
 -- ---- one line more
 

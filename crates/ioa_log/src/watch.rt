@@ -1,6 +1,6 @@
 //! A specification that is handed actions one after another.
 
-ghost use Rattle.std.specs.Prelude.{◌≡◌, ◌++◌, ◌∷◌, [], List, None, IfOk, OnOk};
+ghost use Rattle.std.specs.Prelude.{◌≡◌, ◌++◌, ◌∷◌, ◌<◌, ◌-◌, ◌^◌, [], List, None, IfOk, OnOk};
 ghost use Rattle.ioa_value.specs.Actions.{Act, act_of};
 ghost use Rattle.ioa_compile.specs.Programs.{Prog};
 ghost use Rattle.ioa_log.specs.Watching.{HasWatched};
@@ -32,8 +32,9 @@ impl<'a> Watch<'a> {
         })
     }
 
-    /// Hands on the next action. Behind one that is not accepted it is passed over. A count past 64 bits is a want of memory.
+    /// Hands on the next action. Behind one that is not accepted it is passed over.
     pub fn follow(&mut self, action: &Action) -> Result<(), OutOfMemory>
+        requires { self.old.count < 2 ^ 64 - 1 }
         ensures { OnOk result ((p : Prog) (acts : List Act) → HasWatched p acts self.old → HasWatched p (acts ++ act_of action.now ∷ []) self.new) }
     {
         match self.answer {
@@ -44,15 +45,13 @@ impl<'a> Watch<'a> {
 
     /// Performs the next action, where some component has it.
     fn perform(&mut self, action: &Action) -> Result<(), OutOfMemory>
+        requires { self.old.count < 2 ^ 64 - 1 }
         ensures { OnOk result ((p : Prog) (acts : List Act) → HasWatched p acts self.old → self.old.answer ≡ None
             → HasWatched p (acts ++ act_of action.now ∷ []) self.new) }
     {
-        let Some(count) = self.count.checked_add(1) else {
-            return Err(OutOfMemory);
-        };
         let step = self.system.step(action)?;
         match step {
-            Step::Next | Step::NotAnAction => self.count = count,
+            Step::Next | Step::NotAnAction => self.count += 1,
             Step::NotEnabled => self.answer = Some(End::NotEnabled(self.count)),
             Step::Fault(component, fault) => {
                 self.answer = Some(End::Fault(component, fault, self.count));

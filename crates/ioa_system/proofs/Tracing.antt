@@ -101,10 +101,15 @@ over_begin p r e = record {
   trace = sym (ap (λ (q : Progress). trace p.hidden (tabled p) [] (performed_by q.end)) e);
 }
 
+-- no more actions are performed than came
+pub performed_within : (p : Prog) (acts traced : List Act) (r : Progress) → IsRunOver p acts traced r → performed_by r.end ≤ length acts
+performed_within p acts traced r over =
+    let c : Counts (length acts) (run (tabled p) acts (start_states p)) = counts (tabled p) acts (start_states p) in
+    subst (λ (x : Reached (List Val)). x.performed ≤ length acts) (sym over.reached) c.within
+
 module _ (p : Prog) (acts traced : List Act) (a : Act) (r : Progress) (over : IsRunOver p acts traced r) where
   within : performed_by r.end ≤ length acts
-  within = let c : Counts (length acts) (run (tabled p) acts (start_states p)) = counts (tabled p) acts (start_states p) in
-      subst (λ (x : Reached (List Val)). x.performed ≤ length acts) (sym over.reached) c.within
+  within = performed_within p acts traced r over
 
   more : run (tabled p) (acts ++ a ∷ []) (start_states p) ≡ with_next (tabled p) a (reached_by r)
   more = run_more 0 (tabled p) acts (start_states p) a ∙ ap (with_next (tabled p) a) (sym over.reached)

@@ -1,5 +1,5 @@
 -- A run whose actions come one by one.
-use Rattle.std.specs.Prelude.{◌≡◌, ℕ, List, Option, Some, None, refl}
+use Rattle.std.specs.Prelude.{◌≡◌, ◌<◌, ◌-◌, ◌^◌, ℕ, List, Option, Some, None, refl}
 use Rattle.std.specs.Coded.{Coded, code_by, coded×, coded_list}
 use Rattle.ioa_value.specs.Actions.{Act}
 use Rattle.ioa_value.specs.Plain.{Val}
@@ -31,6 +31,10 @@ pub record IsRunOver (p : Prog) (acts traced : List Act) (r : Progress) : Type 0
   pub program : r.program ≡ p
   pub reached : reached_by r ≡ run (tabled p) acts (start_states p)
   pub trace : traced ≡ trace p.hidden (tabled p) acts (performed_by r.end)
+
+-- a number of 64 bits counts one action more
+abbrev pub CountsOneMore : End → Type 0
+CountsOneMore end = performed_by end < 2 ^ 64 - 1
 
 -- the worker of the next action, where the run goes on
 abbrev pub worker_after : End → ℕ → Option ℕ

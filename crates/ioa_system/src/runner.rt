@@ -3,7 +3,7 @@
 ghost use Rattle.std.specs.Prelude.{◌≡◌, ◌++◌, ◌∷◌, [], List, IfOk, OnErr, OnOk, if◌then◌else◌, map};
 ghost use Rattle.ioa_value.specs.Actions.{Act, act_of};
 ghost use Rattle.ioa_compile.specs.Programs.{Prog};
-ghost use Rattle.ioa_system.specs.Progress.{IsRunOver, next_worker};
+ghost use Rattle.ioa_system.specs.Progress.{CountsOneMore, IsRunOver, next_worker};
 ghost use Rattle.ioa_system.specs.Records.{IsTableRun};
 ghost use Rattle.ioa_system.specs.Systems.{slot_types, types_of, values_of};
 
@@ -54,8 +54,9 @@ impl<'a> Runner<'a> {
     }
 
     /// Hands the run its next action, and says whose work it is and whether the trace goes on with it. Where the run has ended,
-    /// nothing changes. A refusal of memory changes nothing; an action past the greatest count is refused so.
+    /// nothing changes. A refusal of memory changes nothing.
     pub fn take(&mut self, action: &Action) -> Result<RunStep, OutOfMemory>
+        requires { CountsOneMore self.old.end }
         ensures run { IfOk result (λ t. (p : Prog) (acts traced : List Act) → IsRunOver p acts traced self.old
             → IsRunOver p (acts ++ act_of action.now ∷ []) (traced ++ (if t.traced then act_of action.now ∷ [] else [])) self.new) }
         ensures worker { IfOk result (λ t. t.worker ≡ next_worker self.old (act_of action.now)) }
@@ -67,13 +68,10 @@ impl<'a> Runner<'a> {
                 traced: false,
             });
         };
-        let Some(next) = count.checked_add(1) else {
-            return Err(OutOfMemory);
-        };
         let performed = self.system.perform(action)?;
         let (end, traced) = match performed.step.end_at(count) {
             Some(end) => (end, false),
-            None => (End::Done(next), performed.external),
+            None => (End::Done(count + 1), performed.external),
         };
         self.end = end;
         Ok(RunStep {
@@ -90,6 +88,7 @@ impl<'a> Runner<'a> {
         action: &Action,
         trace: &mut Vec<Action>,
     ) -> Result<Option<usize>, OutOfMemory>
+        requires { CountsOneMore self.old.end }
         ensures run { OnOk result ((p : Prog) (acts : List Act) → IsRunOver p acts (map act_of trace.old.items) self.old
             → IsRunOver p (acts ++ act_of action.now ∷ []) (map act_of trace.new.items) self.new) }
         ensures worker { IfOk result (λ worker. worker ≡ next_worker self.old (act_of action.now)) }

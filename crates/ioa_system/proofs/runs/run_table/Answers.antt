@@ -1,9 +1,17 @@
-use Rattle.std.proofs.Common.{◌≡◌, ◌+◌, ◌++◌, [], ◌∷◌, ℕ, List, map, take, subst, sym, ap, ◌∙◌}
-use Rattle.std.proofs.lemmas.List.{map-append}
+use Rattle.std.proofs.Common.{◌≡◌, ◌+◌, ◌++◌, [], ◌∷◌, ℕ, List, map, take, subst, sym, ap, ◌∙◌, arith}
+use Rattle.std.proofs.lemmas.List.{length-map, length-take, map-append}
 use Rattle.ioa_value.proofs.ItemLemmas.{take_item}
 use Rattle.ioa_value.specs.Actions.{Act, act_of}
 use Rattle.ioa_system.specs.Progress.{IsRunOver}
+use Rattle.ioa_system.proofs.Tracing.{performed_within}
 use Rattle.ioa_system.proofs.runs.run_table.Goals as goal
+
+pub record-requires : goal.record-requires
+record-requires c =
+    let i : ℕ = c.loop-action.action-index in
+    let before : List Act = map act_of (take i c.args.actions.now) in
+    let few = performed_within c.args.program.now before (map act_of c.loop-action.trace.items) c.loop-action.runner c.loop-action.invariant in
+    omega (arith, few, length-map (take i c.args.actions.now) act_of, length-take i c.args.actions.now, c.loop-action-test.true)
 
 pub loop-action-preserved : goal.loop-action-preserved
 loop-action-preserved c =

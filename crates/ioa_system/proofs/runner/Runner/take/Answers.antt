@@ -11,7 +11,7 @@ use Rattle.ioa_system.specs.Logs.{worker}
 use Rattle.ioa_system.specs.Progress.{Progress, IsRunOver, next_worker, worker_after}
 use Rattle.ioa_system.proofs.Tracing.{none_after, over_ended, over_refused, over_next}
 use Rattle.ioa_system.proofs.runner.Runner.take.Goals as goal
-use Rattle.ioa_system.proofs.runner.Runner.take.Goals.{in-Some-end_at, in-None}
+use Rattle.ioa_system.proofs.runner.Runner.take.Goals.{in-Some, in-None}
 
 abbrev progress : Prog → List (List Val) → End → Progress
 progress p ss e = record { program = p; states = ss; end = e }
@@ -36,20 +36,19 @@ returns-clause-run c =
     let e : p ≡ q = ap (λ (r : Progress). r.program) c.self.view_is ∙ over.program in
     let o : IsRunOver p acts traced old = subst (λ x. IsRunOver x acts traced old) (sym e) (subst (λ (r : Progress). IsRunOver q acts traced r) (sym c.self.view_is) over) in
     elim c.match-end_at.branch [
-      | in-Some-end_at w ↦
+      | in-Some w ↦
           subst (P q) (sym w.end-is)
-          (subst (λ (x : Prog). P x (w.in-Some-end_at.end, false)) e
-          (over_refused p acts traced a old o c.in-Done.count w.in-Some-end_at.end (step_of c.in_ok-performed.performed.step us)
-          (progress c.perform.new.self.program us w.in-Some-end_at.end) c.in-Done.is c.in_ok-performed.ensures.step
-          (λ ts f. w.in-Some-end_at.ensures.some ss us f) w.in-Some-end_at.ensures.performed c.in_ok-performed.ensures.program
-          (w.in-Some-end_at.ensures.kept ss us c.in_ok-performed.ensures.kept) refl))
+          (subst (λ (x : Prog). P x (w.in-Some.end, false)) e
+          (over_refused p acts traced a old o c.in-Done.count w.in-Some.end (step_of c.in_ok-performed.performed.step us)
+          (progress c.perform.new.self.program us w.in-Some.end) c.in-Done.is c.in_ok-performed.ensures.step
+          (λ ts f. w.in-Some.ensures.some ss us f) w.in-Some.ensures.performed c.in_ok-performed.ensures.program
+          (w.in-Some.ensures.kept ss us c.in_ok-performed.ensures.kept) refl))
       | in-None w ↦
           let s : next us ≡ step (tabled p) a ss = sym (ap (λ (x : Step). step_of x us) w.in-None.ensures.none) ∙ c.in_ok-performed.ensures.step in
-          let n : c.in-Some.next ≡ c.in-Done.count + 1 = search rules in
           subst (P q) (sym w.end-is)
-          (subst (λ (x : Prog). P x (End.Done c.in-Some.next, c.in_ok-performed.performed.external)) e
-          (over_next p acts traced a old o c.in-Done.count c.in_ok-performed.performed.external (progress c.perform.new.self.program us (End.Done c.in-Some.next)) c.in-Done.is s
-          (sym c.in_ok-performed.ensures.external) c.in_ok-performed.ensures.program (ap (λ k. End.Done k) n)))
+          (subst (λ (x : Prog). P x (End.Done (c.in-Done.count + 1), c.in_ok-performed.performed.external)) e
+          (over_next p acts traced a old o c.in-Done.count c.in_ok-performed.performed.external (progress c.perform.new.self.program us (End.Done (c.in-Done.count + 1))) c.in-Done.is s
+          (sym c.in_ok-performed.ensures.external) c.in_ok-performed.ensures.program refl))
     ]
 
 pub returns-clause-worker : goal.returns-clause-worker
