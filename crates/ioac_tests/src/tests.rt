@@ -16,6 +16,7 @@ mod list_logs;
 mod lists;
 mod logs;
 mod loops;
+mod mistakes;
 mod objects;
 mod pacing;
 mod pictures;
