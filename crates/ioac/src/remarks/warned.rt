@@ -8,6 +8,7 @@ use crate::remarks::ended::loaded;
 use ioa_request::Request;
 use ioa_serving::{Store, is_object};
 use ioa_syntax::{Refusal, parse};
+use ioa_tree::Declaration;
 use ioa_value::OutOfMemory;
 use ioa_warnings::{FreeParameter, comments_in_statements, free_parameters};
 use std::alloc::Global;
@@ -41,13 +42,24 @@ fn put_of_source(
 ) -> Result<(), OutOfMemory> {
     put_comments(alloc, text, file, source)?;
     match parse(alloc, source) {
-        Ok(parsed) => {
-            let found = free_parameters(alloc, parsed.declarations())?;
-            put_free(text, file, &found)
-        }
+        Ok(parsed) => put_of_declarations(alloc, text, file, parsed.declarations()),
         Err(Refusal::OutOfMemory) => Err(OutOfMemory),
         Err(_) => Ok(()),
     }
+}
+
+/// Puts that nothing is declared, or the parameters that are free.
+fn put_of_declarations(
+    alloc: Global,
+    text: &mut String,
+    file: &str,
+    declarations: &[Declaration],
+) -> Result<(), OutOfMemory> {
+    if declarations.is_empty() {
+        writeln!(text, "warning: {file}: nothing is declared")?;
+    }
+    let found = free_parameters(alloc, declarations)?;
+    put_free(text, file, &found)
 }
 
 fn put_comments(

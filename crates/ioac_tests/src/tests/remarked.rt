@@ -183,6 +183,8 @@ replay f --log --invariants | automaton D^signature internal a^states n: Int^tra
 replay f --log --invariants | automaton D^signature internal a^states n: Int := 1^transitions internal a eff n := n - 1^composition One components X: D^invariant of D: 0 <= n^invariant of D: 1 div n = 1 | {"act":"a","who":0}^{"act":"a","who":0}^{"end":"done after 2"}^ | invariants asked: 2 in each of 2 states^log, line 1:^    {"act":"a","who":0}^after this action an invariant of X has fault 2: the divisor is 0^f, line 7:^    invariant of D: 1 div n = 1^X.n = 0^
 replay f --log --invariants | type Q = seq 2 of Int^automaton A^signature internal a^states q: Q^transitions internal a eff q := append(q, 7)^automaton B^signature input b^transitions input b^invariant of A: head(q) = 7^composition Two components Y: B; X: A crash down recover up | {"end":"done after 0"}^ | invariants asked: 1 in each of 1 states^in the first state an invariant of X has fault 3: the sequence is empty^f, line 9:^    invariant of A: head(q) = 7^X.q = Q[]^X.up = true^
 -- warnings
+check f |  |  | warning: f: nothing is declared^
+check f --compositions | % only this |  | warning: f: nothing is declared^
 check f | automaton C^signature output tick(k: Int)^states c: Int^transitions^  output tick^  pre c < 9^  propose k := c^  eff c := c + 1 |  | warning: f, line 5: no precondition names k, so tick is enabled with any value of it^
 check f | automaton C^signature internal a^states c: Int^transitions internal a^  eff c := c % 2^ |  | warning: f, line 5: a comment begins within a statement; a remainder is written `mod`^
 check f | automaton C^signature internal a^states c: Int^transitions internal a^  eff c := c + 1   % count up^
