@@ -9,7 +9,8 @@ use Rattle.ioa_serving.specs.declared.failure.Failure.{Failure}
 use Rattle.ioa_request.specs.declared.request.Request.{Request}
 use Rattle.ioa_serving.specs.declared.status.Status.{Status}
 use Rattle.ioa_request.specs.CommandLine.{ioac_app, is_explained, HasNoFault, IsAsked}
-use Rattle.ioac.specs.Remarks.{IsDifference, IsRemark}
+use Rattle.ioac.specs.Refused.{IsFailureRemark}
+use Rattle.ioac.specs.Remarks.{IsRemark}
 use Rattle.ioa_serving.specs.Devices.{Change, Passed, Seen, Untouched, World, Wrote, onward, until}
 use Rattle.ioa_serving.specs.Serving.{IsRunning, IsServed, IsUnserved}
 use Rattle.ioac.specs.Telling.{IsCut, IsPut, IsReported, IsShort, IsTold, unasked_text}
@@ -37,12 +38,12 @@ IsAnswered w request status =
 abbrev pub MayRemark : (List ℕ → List ℕ → Type 0) → List ℕ → Type 0
 MayRemark remarks text = (text ≡ []) ⊎ ((heard : List ℕ) × remarks heard text)
 
--- what there is to say of a request that was served to this status; of one that was not, where a log is of another run
+-- what there is to say of a request that was served to this status, and of one that was not
 abbrev pub IsServedRemark : (Name → List ℕ → Type 0) → (Name → Type 0) → Request → Status → List ℕ → Type 0
 IsServedRemark holds lacks request done text = MayRemark (λ heard. IsRemark holds lacks request heard done) text
 
 abbrev pub IsUnservedRemark : (Name → List ℕ → Type 0) → (Name → Type 0) → Request → Failure → List ℕ → Type 0
-IsUnservedRemark holds lacks request e text = (n : ℕ) → e ≡ Failure.List (LogErr.Diverges n) → MayRemark (λ heard. IsDifference holds lacks request heard n []) text
+IsUnservedRemark holds lacks request e text = MayRemark (λ heard. IsFailureRemark holds lacks request heard e []) text
 
 -- Such words follow what was told, and the status is still that of the answer; or the device failed then. Where it had failed before, nothing follows.
 abbrev pub IsFollowed : (List ℕ → Type 0) → Status → Change → Change → Status → Type 0

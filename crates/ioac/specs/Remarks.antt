@@ -233,6 +233,14 @@ head_text file n code = file ++ (codes ":" ++ (decimal n ++ (codes ": " ++ (spel
 abbrev pub shown_line : List ℕ → ℕ → List ℕ
 shown_line bytes n = option_map_or shown_text (line_at bytes n) []
 
+-- such a line with its words, and below it the line of the bytes that it names
+abbrev pub jump_text : Name → ℕ → Code → List ℕ → List ℕ → List ℕ
+jump_text file n code words bytes = head_text file n code ++ (words ++ (codes "\n" ++ shown_line bytes n))
+
+-- where no line is named, the file and the code alone
+abbrev pub flat_text : Name → Code → List ℕ → List ℕ
+flat_text file code words = file ++ (codes ": " ++ (spelling code ++ (codes ": " ++ (words ++ codes "\n"))))
+
 -- what is told of the line of a log that differs
 abbrev pub differing_head : ℕ → List ℕ
 differing_head n = head_text (codes "log") n Code.L4 ++ codes "the composition's run differs from here on\n"

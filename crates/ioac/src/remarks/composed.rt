@@ -1,23 +1,31 @@
 //! What there is to say of a refusal that no line of the file itself breaks: of its composition, at a component or a hidden name; that there is none; or of what it
 //! does unseen.
 
+ghost use Rattle.std.specs.Prelude.{◌≡◌, ◌⊎◌, ℕ, List, OnOk};
+ghost use Rattle.std.specs.String.{string_bytes};
+ghost use Rattle.ioa_serving.specs.FailureCodes.{failure_code};
+ghost use Rattle.ioac.specs.Places as places;
+ghost use Rattle.ioac.specs.Refused.{MayTellFile, MayTellLine};
+
 use crate::remarks::composing;
 use crate::remarks::ended::loaded;
-use crate::remarks::heads::put_head;
+use crate::remarks::heads::{put_flat, put_jump};
 use crate::remarks::heard::program_in;
-use crate::remarks::places::source_of;
-use crate::remarks::refused::put_below;
+use crate::remarks::places::{file_of, source_of};
 use crate::remarks::sources::{assembly_in, checked_in, picked};
 use crate::remarks::unseen::{self, Unseen, line_of_unseen, unseen_in};
 use crate::remarks::wordings::wording;
-use ioa_compile::Program;
 use ioa_request::{Code, Request};
 use ioa_serving::{Failure, Store, is_object};
-use ioa_syntax::Refusal;
-use ioa_tree::Assembly;
 use ioa_value::OutOfMemory;
 use std::alloc::Global;
-use std::fmt::Write;
+
+/// What there is to say of a line of a source.
+#[derive(Drop)]
+struct Said {
+    line: usize,
+    words: String,
+}
 
 /// Puts the line on which the composition names what it is refused for, and why.
 pub fn put_refused<F: Store>(
@@ -26,25 +34,59 @@ pub fn put_refused<F: Store>(
     asked: &Request<'_>,
     failure: &Failure,
     store: &F,
-) -> Result<(), OutOfMemory> {
-    let (Some((name, composition)), Failure::Refused(refusal)) = (source_of(asked), failure) else {
+) -> Result<(), OutOfMemory>
+    ensures { OnOk result (MayTellLine (F.holds store.now) (F.lacks store.now) (places.file_of asked.now) (failure_code failure.now) (string_bytes text.old) (string_bytes text.new)) }
+{
+    let Some(name) = file_of(asked) else {
         return Ok(());
     };
     let source = loaded(alloc, name, store)?;
-    let Some(checked) = checked_in(alloc, source.as_slice())? else {
-        return Ok(());
+    match refused_in(alloc, asked, failure, source.as_slice())? {
+        Some(said) => put_jump(
+            alloc,
+            text,
+            name,
+            said.line,
+            failure.code(),
+            said.words.as_str(),
+            source.as_slice(),
+        ),
+        None => Ok(()),
+    }
+}
+
+/// Where a source has the composition that is refused, and why it is. None, where the source is refused itself, or is another one by now.
+fn refused_in(
+    alloc: Global,
+    asked: &Request<'_>,
+    failure: &Failure,
+    source: &[u8],
+) -> Result<Option<Said>, OutOfMemory> {
+    let Failure::Refused(refusal) = failure else {
+        return Ok(None);
     };
-    let Some(assembly) = assembly_in(alloc, asked, composition, &checked)? else {
-        return Ok(());
+    let Some(checked) = checked_in(alloc, source)? else {
+        return Ok(None);
+    };
+    let Some(assembly) = assembly_in(alloc, asked, composition_of(asked), &checked)? else {
+        return Ok(None);
     };
     let Some(line) = composing::line_of_refusal(assembly, refusal) else {
-        return Ok(());
+        return Ok(None);
     };
-    put_head(text, name, line, failure.code())?;
-    if !composing::put(alloc, text, &checked, assembly, refusal)? {
-        text.push_str(wording(failure.code()))?;
+    let mut words = String::new(alloc);
+    if !composing::put(alloc, &mut words, &checked, assembly, refusal)? {
+        words.push_str(wording(failure.code()))?;
     }
-    put_below(alloc, text, source.as_slice(), line)
+    Ok(Some(Said { line, words }))
+}
+
+/// The composition that a request names.
+fn composition_of<'a>(asked: &Request<'a>) -> Option<&'a str> {
+    match source_of(asked) {
+        Some((_, composition)) => composition,
+        None => None,
+    }
 }
 
 /// Puts that there is no such composition, and which there are.
@@ -52,33 +94,47 @@ pub fn put_missing<F: Store>(
     alloc: Global,
     text: &mut String,
     asked: &Request<'_>,
+    code: Code,
     store: &F,
-) -> Result<(), OutOfMemory> {
-    let Some((name, composition)) = source_of(asked) else {
+) -> Result<(), OutOfMemory>
+    ensures { OnOk result (MayTellFile (places.file_of asked.now) code (string_bytes text.old) (string_bytes text.new)) }
+{
+    let Some(name) = file_of(asked) else {
         return Ok(());
     };
     let source = loaded(alloc, name, store)?;
-    let code = Code::E17;
-    if is_object(source.as_slice()) {
-        return match program_in(alloc, source.as_slice(), None)? {
-            Some(program) => {
-                let own = program.name();
-                writeln!(
-                    text,
-                    "{name}: {code}: the object is of the composition `{own}`"
-                )?;
-                Ok(())
-            }
-            None => Ok(()),
-        };
+    match missing_words(alloc, asked, source.as_slice())? {
+        Some(words) => put_flat(text, name, code, words.as_str()),
+        None => Ok(()),
     }
-    let Some(checked) = checked_in(alloc, source.as_slice())? else {
-        return Ok(());
+}
+
+/// That a file has no such composition, and which it has. None, where it is refused.
+fn missing_words(
+    alloc: Global,
+    asked: &Request<'_>,
+    source: &[u8],
+) -> Result<Option<String>, OutOfMemory> {
+    if is_object(source) {
+        return object_words(alloc, source);
+    }
+    let Some(checked) = checked_in(alloc, source)? else {
+        return Ok(None);
     };
-    write!(text, "{name}: {code}: ")?;
-    composing::put_missing(text, checked.declarations(), composition)?;
-    text.push_str("\n")?;
-    Ok(())
+    let mut words = String::new(alloc);
+    composing::put_missing(&mut words, checked.declarations(), composition_of(asked))?;
+    Ok(Some(words))
+}
+
+/// Of which composition an object is. None, where it is refused.
+fn object_words(alloc: Global, object: &[u8]) -> Result<Option<String>, OutOfMemory> {
+    match program_in(alloc, object, None)? {
+        Some(program) => {
+            let own = program.name();
+            Ok(Some(format!(in alloc; "the object is of the composition `{own}`")?))
+        }
+        None => Ok(None),
+    }
 }
 
 /// Puts what the composition does unseen, so that it is no monitor: of a source with the line that declares it.
@@ -86,32 +142,52 @@ pub fn put_unseen<F: Store>(
     alloc: Global,
     text: &mut String,
     asked: &Request<'_>,
+    code: Code,
     store: &F,
-) -> Result<(), OutOfMemory> {
-    let Some((name, composition)) = source_of(asked) else {
+) -> Result<(), OutOfMemory>
+    ensures { OnOk result (MayTellLine (F.holds store.now) (F.lacks store.now) (places.file_of asked.now) code (string_bytes text.old) (string_bytes text.new)
+        ⊎ MayTellFile (places.file_of asked.now) code (string_bytes text.old) (string_bytes text.new)) }
+{
+    let Some(name) = file_of(asked) else {
         return Ok(());
     };
     let bytes = loaded(alloc, name, store)?;
-    let Some(program) = program_in(alloc, bytes.as_slice(), composition)? else {
-        return Ok(());
+    match unseen_words(alloc, asked, bytes.as_slice())? {
+        Some(hiding) => {
+            let words = hiding.words.as_str();
+            match hiding.line {
+                Some(line) => put_jump(alloc, text, name, line, code, words, bytes.as_slice()),
+                None => put_flat(text, name, code, words),
+            }
+        }
+        None => Ok(()),
+    }
+}
+
+/// What a composition does unseen, and where a source declares it.
+#[derive(Drop)]
+struct Hiding {
+    line: Option<usize>,
+    words: String,
+}
+
+/// What the composition of a file does unseen. None, where the file is refused, or is another one by now.
+fn unseen_words(
+    alloc: Global,
+    asked: &Request<'_>,
+    bytes: &[u8],
+) -> Result<Option<Hiding>, OutOfMemory> {
+    let composition = composition_of(asked);
+    let Some(program) = program_in(alloc, bytes, composition)? else {
+        return Ok(None);
     };
     let Some(found) = unseen_in(&program) else {
-        return Ok(());
+        return Ok(None);
     };
-    let code = Code::L7;
-    match line_in(alloc, bytes.as_slice(), composition, found)? {
-        Some(line) => {
-            put_head(text, name, line, code)?;
-            unseen::put(text, found)?;
-            put_below(alloc, text, bytes.as_slice(), line)
-        }
-        None => {
-            write!(text, "{name}: {code}: ")?;
-            unseen::put(text, found)?;
-            text.push_str("\n")?;
-            Ok(())
-        }
-    }
+    let line = line_in(alloc, bytes, composition, found)?;
+    let mut words = String::new(alloc);
+    unseen::put(&mut words, found)?;
+    Ok(Some(Hiding { line, words }))
 }
 
 /// The line on which a source declares what is unseen. None in an object.

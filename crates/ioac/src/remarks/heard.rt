@@ -1,7 +1,8 @@
 //! What is wrong with a line of a list, of a log or of a run's script: what is not known in it, or whose action it is.
 
-ghost use Rattle.std.specs.Prelude.{◌≡◌, false, IfSome};
+ghost use Rattle.std.specs.Prelude.{◌≡◌, ◌+◌, false, IfOk, IfSome};
 ghost use Rattle.ioac.specs.Hints.{IsUnknown};
+ghost use Rattle.ioac.specs.Refused.{IsBehindEnd};
 
 use crate::remarks::composing::kind_words;
 use ioa_account::line_at;
@@ -230,12 +231,25 @@ pub fn line_behind_end(
     alloc: Global,
     types: &Types,
     log: &[u8],
-) -> Result<Option<usize>, OutOfMemory> {
+) -> Result<Option<usize>, OutOfMemory>
+    ensures { IfOk result (IsBehindEnd log.now) }
+{
     // Each line has a byte of its own, so that there are no more lines.
-    match begun_log(alloc, types, log, log.len())? {
-        Some(begun) => Ok(begun.entries.len().checked_add(2)),
+    let found = begun_log(alloc, types, log, log.len())?;
+    match found {
+        Some(begun) => {
+            let count = begun.entries.len();
+            Ok(line_behind(count))
+        }
         None => Ok(None),
     }
+}
+
+/// The line behind the end of a log of so many entries.
+fn line_behind(count: usize) -> Option<usize>
+    ensures { IfSome result (λ n. n ≡ count + 2) }
+{
+    count.checked_add(2)
 }
 
 /// Puts what the action on a line of a script is, which is no input of the composition.

@@ -1,10 +1,12 @@
 //! Which files a request names, and where what a failure tells of stands.
 
-ghost use Rattle.std.specs.Prelude.{◌≡◌};
+ghost use Rattle.std.specs.Prelude.{◌≡◌, ◌∷◌, [], map};
+ghost use Rattle.std.specs.Option.{option_copied, option_map};
+ghost use Rattle.ioac.specs.Places as places;
 ghost use Rattle.ioac.specs.Remarks as spec;
 
 use ioa_log::LogErr;
-use ioa_request::{Request, WordsFrom};
+use ioa_request::{Request, Settings, WordsFrom};
 use ioa_serving::Failure;
 use ioa_syntax::Refusal;
 
@@ -35,41 +37,31 @@ pub enum Place {
 }
 
 /// Where what a failure tells of stands.
-pub fn place_of(failure: &Failure) -> Place {
+pub fn place_of(failure: &Failure) -> Place
+    ensures { result ≡ places.place_of failure.now }
+{
     match failure {
         Failure::Refused(refusal) => place_of_refusal(refusal),
-        Failure::List(
-            LogErr::NotJson(line)
-            | LogErr::BadEntry(line)
-            | LogErr::WrongOwner(line)
-            | LogErr::Diverges(line),
-        ) => Place::Input(*line as usize),
-        Failure::RunLog(
-            LogErr::NotJson(line)
-            | LogErr::BadEntry(line)
-            | LogErr::WrongOwner(line)
-            | LogErr::Diverges(line),
-        ) => Place::Log(*line as usize),
+        Failure::List(error) => place_heard(*error),
+        Failure::RunLog(error) => place_resumed(*error),
         Failure::BadInput(index) => Place::Action(*index),
         Failure::BadWords(line) => Place::Words(*line),
         // each entry of a log has a line of its own, and so has its end
         Failure::BadLog(index) => Place::Log(index.saturating_add(1)),
-        Failure::List(LogErr::AfterEnd) => Place::BehindEnd,
-        Failure::RunLog(LogErr::AfterEnd) => Place::BehindLogEnd,
         Failure::SpecHasInternal => Place::Unseen,
-        Failure::List(LogErr::NoEnd | LogErr::Io | LogErr::OutOfMemory)
-        | Failure::RunLog(LogErr::NoEnd | LogErr::Io | LogErr::OutOfMemory)
-        | Failure::Object(_)
-        | Failure::SourceWanted
-        | Failure::TooManyTurns
-        | Failure::Threads
-        | Failure::EndedByFault
-        | Failure::Io
-        | Failure::OutOfMemory => Place::Nowhere,
+        Failure::Object(_) => Place::Nowhere,
+        Failure::SourceWanted => Place::Nowhere,
+        Failure::TooManyTurns => Place::Nowhere,
+        Failure::Threads => Place::Nowhere,
+        Failure::EndedByFault => Place::Nowhere,
+        Failure::Io => Place::Nowhere,
+        Failure::OutOfMemory => Place::Nowhere,
     }
 }
 
-fn place_of_refusal(refusal: &Refusal) -> Place {
+fn place_of_refusal(refusal: &Refusal) -> Place
+    ensures { result ≡ places.refusal_place refusal.now }
+{
     match refusal {
         Refusal::BadByte(line)
         | Refusal::Syntax(line)
@@ -88,6 +80,34 @@ fn place_of_refusal(refusal: &Refusal) -> Place {
         | Refusal::StartFault(_, _) => Place::Composition,
         Refusal::NoComposition => Place::Missing,
         Refusal::TextTooLong | Refusal::OutOfMemory => Place::Nowhere,
+    }
+}
+
+/// Where what is wrong with a list or a log stands that was heard.
+fn place_heard(error: LogErr) -> Place
+    ensures { result ≡ places.heard_place error }
+{
+    match error {
+        LogErr::NotJson(line)
+        | LogErr::BadEntry(line)
+        | LogErr::WrongOwner(line)
+        | LogErr::Diverges(line) => Place::Input(line as usize),
+        LogErr::AfterEnd => Place::BehindEnd,
+        LogErr::NoEnd | LogErr::Io | LogErr::OutOfMemory => Place::Nowhere,
+    }
+}
+
+/// Where what is wrong with the log stands from which a run was to go on.
+fn place_resumed(error: LogErr) -> Place
+    ensures { result ≡ places.resumed_place error }
+{
+    match error {
+        LogErr::NotJson(line)
+        | LogErr::BadEntry(line)
+        | LogErr::WrongOwner(line)
+        | LogErr::Diverges(line) => Place::Log(line as usize),
+        LogErr::AfterEnd => Place::BehindLogEnd,
+        LogErr::NoEnd | LogErr::Io | LogErr::OutOfMemory => Place::Nowhere,
     }
 }
 
@@ -119,53 +139,131 @@ pub fn source_of<'a>(asked: &Request<'a>) -> Option<(&'a str, Option<&'a str>)>
 }
 
 /// The files that a request reads: the source or the object, a run's file of words, its script and the log from which it goes on.
-pub fn files_of<'a>(asked: &Request<'a>) -> [Option<&'a str>; 4] {
-    let file = match source_of(asked) {
+pub fn files_of<'a>(asked: &Request<'a>) -> [Option<&'a str>; 4]
+    ensures { map option_copied result ≡ places.files_of asked.now }
+{
+    [
+        file_of(asked),
+        words_of(asked),
+        inputs_of(asked),
+        resume_of(asked),
+    ]
+}
+
+/// The source or the object that a request names.
+pub fn file_of<'a>(asked: &Request<'a>) -> Option<&'a str>
+    ensures { option_copied result ≡ places.file_of asked.now }
+{
+    match source_of(asked) {
         Some((name, _)) => Some(name),
         None => None,
-    };
-    [file, words_of(asked), inputs_of(asked), resume_of(asked)]
+    }
+}
+
+/// What a run is asked to be.
+fn settings_of<'b, 'a>(asked: &'b Request<'a>) -> Option<&'b Settings<'a>>
+    ensures { option_map (λ s. s.now) result ≡ places.settings_of asked.now }
+{
+    match asked {
+        Request::Run(settings) => Some(settings),
+        Request::Replay { .. } => None,
+        Request::ReplayStates { .. } => None,
+        Request::ReplayLog { .. } => None,
+        Request::ReplayLogStates { .. } => None,
+        Request::ReplayInvariants { .. } => None,
+        Request::Log { .. } => None,
+        Request::Monitor { .. } => None,
+        Request::Chart { .. } => None,
+        Request::Graph { .. } => None,
+        Request::Check { .. } => None,
+        Request::Compile { .. } => None,
+        Request::Dump { .. } => None,
+        Request::Explain { .. } => None,
+        Request::Library => None,
+    }
 }
 
 /// A run's file of words.
-pub fn words_of<'a>(asked: &Request<'a>) -> Option<&'a str> {
-    match asked {
-        Request::Run(settings) => match settings.words {
-            WordsFrom::File(name) => Some(name),
-            WordsFrom::Key(_) => None,
-        },
-        _ => None,
+pub fn words_of<'a>(asked: &Request<'a>) -> Option<&'a str>
+    ensures { option_copied result ≡ places.words_of asked.now }
+{
+    match settings_of(asked) {
+        Some(settings) => words_file(settings.words),
+        None => None,
+    }
+}
+
+fn words_file<'a>(words: WordsFrom<'a>) -> Option<&'a str>
+    ensures { option_copied result ≡ places.words_file words.entry }
+{
+    match words {
+        WordsFrom::File(name) => Some(name),
+        WordsFrom::Key(_) => None,
     }
 }
 
 /// A run's script.
-pub fn inputs_of<'a>(asked: &Request<'a>) -> Option<&'a str> {
-    match asked {
-        Request::Run(settings) => settings.inputs,
-        _ => None,
+pub fn inputs_of<'a>(asked: &Request<'a>) -> Option<&'a str>
+    ensures { option_copied result ≡ places.inputs_of asked.now }
+{
+    match settings_of(asked) {
+        Some(settings) => settings.inputs,
+        None => None,
     }
 }
 
 /// The log from which a run goes on.
-pub fn resume_of<'a>(asked: &Request<'a>) -> Option<&'a str> {
-    match asked {
-        Request::Run(settings) => settings.resume,
-        _ => None,
+pub fn resume_of<'a>(asked: &Request<'a>) -> Option<&'a str>
+    ensures { option_copied result ≡ places.resume_of asked.now }
+{
+    match settings_of(asked) {
+        Some(settings) => settings.resume,
+        None => None,
     }
 }
 
 /// The file that a request writes.
-pub fn out_of<'a>(asked: &Request<'a>) -> Option<&'a str> {
+pub fn out_of<'a>(asked: &Request<'a>) -> Option<&'a str>
+    ensures { option_copied result ≡ places.out_of asked.now }
+{
     match asked {
         Request::Compile { out, .. } => Some(*out),
-        _ => None,
+        Request::Run(_) => None,
+        Request::Replay { .. } => None,
+        Request::ReplayStates { .. } => None,
+        Request::ReplayLog { .. } => None,
+        Request::ReplayLogStates { .. } => None,
+        Request::ReplayInvariants { .. } => None,
+        Request::Log { .. } => None,
+        Request::Monitor { .. } => None,
+        Request::Chart { .. } => None,
+        Request::Graph { .. } => None,
+        Request::Check { .. } => None,
+        Request::Dump { .. } => None,
+        Request::Explain { .. } => None,
+        Request::Library => None,
     }
 }
 
 /// What stands on standard input.
-pub fn input_name(asked: &Request<'_>) -> &'static str {
+pub fn input_name(asked: &Request<'_>) -> &'static str
+    ensures { result.now ≡ places.input_name asked.now }
+{
     match asked {
-        Request::Replay { .. } | Request::ReplayStates { .. } | Request::Log { .. } => "list",
-        _ => "log",
+        Request::Replay { .. } => "list",
+        Request::ReplayStates { .. } => "list",
+        Request::Log { .. } => "list",
+        Request::ReplayLog { .. } => "log",
+        Request::ReplayLogStates { .. } => "log",
+        Request::ReplayInvariants { .. } => "log",
+        Request::Monitor { .. } => "log",
+        Request::Chart { .. } => "log",
+        Request::Graph { .. } => "log",
+        Request::Run(_) => "log",
+        Request::Check { .. } => "log",
+        Request::Compile { .. } => "log",
+        Request::Dump { .. } => "log",
+        Request::Explain { .. } => "log",
+        Request::Library => "log",
     }
 }

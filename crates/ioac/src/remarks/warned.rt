@@ -1,6 +1,6 @@
 //! What is likely a mistake in a source, also where it is accepted.
 
-ghost use Rattle.std.specs.Prelude.{◌≡◌, OnOk};
+ghost use Rattle.std.specs.Prelude.{◌≡◌, [], IfOk, OnOk};
 ghost use Rattle.std.specs.String.{string_bytes};
 ghost use Rattle.ioac.specs.Remarks.{IsChecking};
 
@@ -23,14 +23,29 @@ pub fn put<F: Store>(
 ) -> Result<(), OutOfMemory>
     ensures { (IsChecking asked.now → ⊥) → OnOk result (string_bytes text.new ≡ string_bytes text.old) }
 {
+    let found = warnings(alloc, asked, store)?;
+    text.push_str(found.as_str())?;
+    Ok(())
+}
+
+/// The warnings of a source that was to be checked.
+pub fn warnings<F: Store>(
+    alloc: Global,
+    asked: &Request<'_>,
+    store: &F,
+) -> Result<String, OutOfMemory>
+    ensures { (IsChecking asked.now → ⊥) → IfOk result (λ found. string_bytes found ≡ []) }
+{
+    let mut text = String::new(alloc);
     let Request::Check { file, .. } = asked else {
-        return Ok(());
+        return Ok(text);
     };
     let source = loaded(alloc, file, store)?;
     if is_object(source.as_slice()) {
-        return Ok(());
+        return Ok(text);
     }
-    put_of_source(alloc, text, file, source.as_slice())
+    put_of_source(alloc, &mut text, file, source.as_slice())?;
+    Ok(text)
 }
 
 /// Puts those of a source. Of what is no source there are none but those of its lines.

@@ -8,21 +8,17 @@ use ioa_syntax::Refusal;
 use ioa_value::OutOfMemory;
 use std::alloc::Global;
 
-/// Puts what is wrong with the bytes, of which a failure tells.
-pub fn put(
-    alloc: Global,
-    text: &mut String,
-    failure: &Failure,
-    bytes: &[u8],
-) -> Result<(), OutOfMemory> {
-    let told = match failure {
-        Failure::Refused(refusal) => put_refusal(alloc, text, refusal, bytes)?,
+/// What is wrong with a source, of which a failure tells.
+pub fn of_source(alloc: Global, failure: &Failure, source: &[u8]) -> Result<String, OutOfMemory> {
+    let mut words = String::new(alloc);
+    let is_told = match failure {
+        Failure::Refused(refusal) => put_refusal(alloc, &mut words, refusal, source)?,
         _ => false,
     };
-    if !told {
-        text.push_str(wording(failure.code()))?;
+    if !is_told {
+        words.push_str(wording(failure.code()))?;
     }
-    Ok(())
+    Ok(words)
 }
 
 /// Puts what is wrong with a source, and answers whether that is known.

@@ -8,4 +8,4 @@ pub returns-in-Ok-clause-served : goal.returns-in-Ok-clause-served
 returns-in-Ok-clause-served g c = if_ok _ _ c.args.served.now (λ s remark. inr (unwrap_or (fault_log_of c.args.ran.now) c.match-heard.input.now, remark)) c.in-Ok.ensures.served
 
 pub returns-in-Ok-clause-unserved : goal.returns-in-Ok-clause-unserved
-returns-in-Ok-clause-unserved g c = if_err _ _ c.args.served.now (λ e differs n is. inr (c.match-heard.input.now, differs n is)) c.in-Ok.ensures.unserved
+returns-in-Ok-clause-unserved g c = if_err _ _ c.args.served.now (λ e told. inr (c.match-heard.input.now, told)) c.in-Ok.ensures.unserved

@@ -1,0 +1,96 @@
+-- What is told, where an explanation is asked for, of a request that was not served: the line by which an editor jumps to what is wrong, and below it that line;
+-- then what its code means.
+use Rattle.std.specs.Prelude.{◌≡◌, ◌≢◌, ◌⊎◌, ◌++◌, ◌∷◌, ◌+◌, ℕ, List, [], Option, Some, None, length}
+use Rattle.ioa_value.specs.Actions.{Name}
+use Rattle.ioa_value.specs.Table.{Table}
+use Rattle.ioa_system.specs.Logs.{Logged}
+use Rattle.ioa_log.specs.declared.failure.LogErr.{LogErr}
+use Rattle.ioa_log.specs.Begun.{IsBegun}
+use Rattle.ioa_account.specs.Lines.{line_of_action}
+use Rattle.ioa_request.specs.declared.code.Code.{Code}
+use Rattle.ioa_request.specs.declared.explanation.Explanation.{Explanation}
+use Rattle.ioa_request.specs.declared.request.Request.{Request}
+use Rattle.ioa_request.specs.declared.topic.Topic.{Topic}
+use Rattle.ioa_request.specs.Explained.{explanation_text}
+use Rattle.ioa_serving.specs.declared.failure.Failure.{Failure}
+use Rattle.ioa_serving.specs.FailureCodes.{failure_code}
+use Rattle.ioac.specs.declared.remarks.places.Place.{Place}
+use Rattle.ioac.specs.Places.{file_of, input_name, inputs_of, place_of, resume_of, words_of}
+use Rattle.ioac.specs.Remarks.{IsDifference, IsLoaded, flat_text, jump_text}
+
+-- ---- one line
+
+-- such a line, with words for people
+abbrev pub TellsLine : Name → ℕ → Code → List ℕ → List ℕ → List ℕ → Type 0
+TellsLine file n code bytes before after = (words : List ℕ) × (after ≡ before ++ jump_text file n code words bytes)
+
+-- of a file, as it may be now; nothing, where none is named
+abbrev pub TellsFileLine : (Name → List ℕ → Type 0) → (Name → Type 0) → Option Name → ℕ → Code → List ℕ → List ℕ → Type 0
+TellsFileLine holds lacks None n code before after = after ≡ before
+TellsFileLine holds lacks (Some file) n code before after = (bytes : List ℕ) × IsLoaded holds lacks file bytes × TellsLine file n code bytes before after
+
+-- of the line of a script that holds the action of this index; nothing, where none does
+abbrev pub TellsActionOn : Name → Option ℕ → Code → List ℕ → List ℕ → List ℕ → Type 0
+TellsActionOn file None code script before after = after ≡ before
+TellsActionOn file (Some n) code script before after = TellsLine file n code script before after
+
+abbrev pub TellsAction : (Name → List ℕ → Type 0) → (Name → Type 0) → Option Name → ℕ → Code → List ℕ → List ℕ → Type 0
+TellsAction holds lacks None i code before after = after ≡ before
+TellsAction holds lacks (Some file) i code before after =
+    (script : List ℕ) × IsLoaded holds lacks file script × TellsActionOn file (line_of_action script i) code script before after
+
+-- of a line of what was heard, or of a run's script
+abbrev pub TellsInput : (Name → List ℕ → Type 0) → (Name → Type 0) → Name → Option Name → List ℕ → ℕ → Code → List ℕ → List ℕ → Type 0
+TellsInput holds lacks heard None input n code before after = TellsLine heard n code input before after
+TellsInput holds lacks heard (Some file) input n code before after = TellsFileLine holds lacks (Some file) n code before after
+
+-- the first line behind a log's end, whose entries stand before it; or none is told
+abbrev pub IsBehindEnd : List ℕ → Option ℕ → Type 0
+IsBehindEnd log None = Unit {0}
+IsBehindEnd log (Some n) = (types : Table) × (begun : Logged) × IsBegun types log (length log) begun × (n ≡ length begun.entries + 2)
+
+abbrev pub TellsBehindEnd : Name → Code → List ℕ → List ℕ → List ℕ → Type 0
+TellsBehindEnd file code log before after = (line : Option ℕ) × IsBehindEnd log line × TellsActionOn file line code log before after
+
+abbrev pub TellsBehindFileEnd : (Name → List ℕ → Type 0) → (Name → Type 0) → Option Name → Code → List ℕ → List ℕ → Type 0
+TellsBehindFileEnd holds lacks None code before after = after ≡ before
+TellsBehindFileEnd holds lacks (Some file) code before after = (log : List ℕ) × IsLoaded holds lacks file log × TellsBehindEnd file code log before after
+
+-- ---- what no line of the source itself breaks
+
+-- nothing; or a line of the file
+abbrev pub MayTellLine : (Name → List ℕ → Type 0) → (Name → Type 0) → Option Name → Code → List ℕ → List ℕ → Type 0
+MayTellLine holds lacks None code before after = after ≡ before
+MayTellLine holds lacks (Some file) code before after = (after ≡ before) ⊎ ((n : ℕ) × TellsFileLine holds lacks (Some file) n code before after)
+
+-- the file alone
+abbrev pub MayTellFile : Option Name → Code → List ℕ → List ℕ → Type 0
+MayTellFile None code before after = after ≡ before
+MayTellFile (Some file) code before after = (after ≡ before) ⊎ ((words : List ℕ) × (after ≡ before ++ flat_text file code words))
+
+-- ---- by the place
+
+abbrev pub TellsAt : (Name → List ℕ → Type 0) → (Name → Type 0) → Request → List ℕ → Failure → Place → List ℕ → List ℕ → Type 0
+TellsAt holds lacks request input e Place.Nowhere before after = after ≡ before
+TellsAt holds lacks request input e (Place.Source n) before after = TellsFileLine holds lacks (file_of request) n (failure_code e) before after
+TellsAt holds lacks request input e (Place.Words n) before after = TellsFileLine holds lacks (words_of request) n (failure_code e) before after
+TellsAt holds lacks request input e (Place.Log n) before after = TellsFileLine holds lacks (resume_of request) n (failure_code e) before after
+TellsAt holds lacks request input e (Place.Action i) before after = TellsAction holds lacks (inputs_of request) i (failure_code e) before after
+TellsAt holds lacks request input e (Place.Input n) before after = TellsInput holds lacks (input_name request) (inputs_of request) input n (failure_code e) before after
+TellsAt holds lacks request input e Place.BehindEnd before after = TellsBehindEnd (input_name request) (failure_code e) input before after
+TellsAt holds lacks request input e Place.BehindLogEnd before after = TellsBehindFileEnd holds lacks (resume_of request) (failure_code e) before after
+TellsAt holds lacks request input e Place.Composition before after = MayTellLine holds lacks (file_of request) (failure_code e) before after
+TellsAt holds lacks request input e Place.Missing before after = MayTellFile (file_of request) (failure_code e) before after
+TellsAt holds lacks request input e Place.Unseen before after =
+    MayTellLine holds lacks (file_of request) (failure_code e) before after ⊎ MayTellFile (file_of request) (failure_code e) before after
+
+-- where what the failure tells of stands, and behind that, and other words, what its code means
+abbrev pub IsToldAt : (Name → List ℕ → Type 0) → (Name → Type 0) → Request → List ℕ → Failure → List ℕ → List ℕ → Type 0
+IsToldAt holds lacks request input e before text =
+    (told : List ℕ) × TellsAt holds lacks request input e (place_of e) before told
+    × ((rest : List ℕ) × (x : Explanation) × (x.topic ≡ Topic.Code (failure_code e)) × (text ≡ told ++ (rest ++ (10 ∷ explanation_text x))))
+
+-- What is told of a failure: of a log that differs how it does; of others, but that no file could be read or written, where what they tell of stands.
+pub record IsFailureRemark (holds : Name → List ℕ → Type 0) (lacks : Name → Type 0) (request : Request) (input : List ℕ) (e : Failure) (before text : List ℕ) : Type 0 where
+  pub differs : (n : ℕ) → e ≡ Failure.List (LogErr.Diverges n) → IsDifference holds lacks request input n before text
+  pub told : ((n : ℕ) → e ≡ Failure.List (LogErr.Diverges n) → ⊥) → e ≢ Failure.Io → IsToldAt holds lacks request input e before text
