@@ -19,4 +19,4 @@ returns-in-Some c =
     let begins : IsBegun c.args.types.now log (length log) (logged begun) =
     subst (λ o. IfSome o (λ l. IsBegun c.args.types.now log (length log) (logged l))) c.in-Some.is c.in_ok-found.ensures.begun in
     let counted : length begun.entries.items ≡ c.len-count.result = search rules in
-    behind log c.args.types.now (logged begun) c.len-count.result c.line_behind.result begins (length-map log_entry begun.entries.items ∙ counted) c.line_behind.ensures
+    behind log c.args.types.now (logged begun) c.len-count.result c.line_behind.result begins (length-map begun.entries.items log_entry ∙ counted) c.line_behind.ensures
