@@ -56,13 +56,16 @@ impl Refusals {
         }
     }
 
-    /// Whether the call was refused memory in each way in which it may be.
+    /// Whether the call was refused memory in each way in which it may be. Of a run on threads either a thread was refused or a worker in its turn:
+    /// a thread may find its memory where one before it had its own.
     fn are_those_of(self, call: Call) -> bool {
         match call {
             Call::RunAlone | Call::ResumeAlone => {
                 self.wanting > 0 && self.unbegun > 0 && self.threadless == 0
             }
-            Call::RunThreads | Call::ResumeThreads => self.unbegun > 0 && self.threadless > 0,
+            Call::RunThreads | Call::ResumeThreads => {
+                self.unbegun > 0 && (self.threadless > 0 || self.wanting > 0)
+            }
             _ => self.wanting > 0 && self.unbegun == 0 && self.threadless == 0,
         }
     }
