@@ -1,0 +1,5 @@
+pub mod Newest
+pub mod Placing
+pub mod Turning
+pub mod Chances
+pub mod Ends
