@@ -112,13 +112,13 @@ def names(prefix):
 
 
 def deep(count):
-    return "type T0 = tuple { f: Int }\n" + "".join(f"type T{it} = tuple {{ f: T{it - 1} }}\n" for it in range(1, count))
+    return "type Deep0 = tuple { f: Int }\n" + "".join(f"type Deep{it} = tuple {{ f: Deep{it - 1} }}\n" for it in range(1, count))
 
 
 def wide():
     """A type of 4,096 words."""
     fields = lambda item: ", ".join(f"f{it}: {item}" for it in range(16))
-    return f"type W1 = tuple {{ {fields('Int')} }}\ntype W2 = tuple {{ {fields('W1')} }}\ntype W3 = tuple {{ {fields('W2')} }}\n"
+    return f"type Row = tuple {{ {fields('Int')} }}\ntype Rows = tuple {{ {fields('Row')} }}\ntype Wide = tuple {{ {fields('Rows')} }}\n"
 
 
 def components(automaton):
@@ -153,12 +153,12 @@ def sources():
     source("source: empty lines", "lines.ioa", filled("", "\n", END))
     source("source: empty comments", "comments.ioa", filled("", "%\n", END))
     source("source: types 1,024 deep", "deep.ioa", deep(1024) + END)
-    source("source: types of 4,096 words", "wide.ioa", wide() + "".join(f"type S{it} = tuple {{ f: W3 }}\n" for it in range(1000)) + END)
+    source("source: types of 4,096 words", "wide.ioa", wide() + "".join(f"type S{it} = tuple {{ f: Wide }}\n" for it in range(1000)) + END)
     once = "".join(automaton(it, 50) for it in range(1))
     source("compilation: an automaton", "once.ioa", once + "composition One components C: A0\n", "compile", "FILE", "out")
     source("compilation: an automaton, 32 times*", "again.ioa", once + "composition One " + components("A0"), "compile", "FILE", "out")
     source("compilation: loops one after another", "loops_compiled.ioa", loops(), "compile", "FILE", "out")
-    values = "automaton A signature input a states " + "; ".join(f"v{it}: W3" for it in range(64)) + " transitions input a\n"
+    values = "automaton A signature input a states " + "; ".join(f"v{it}: Wide" for it in range(64)) + " transitions input a\n"
     source("compilation: 64 variables of 4,096 words, 32 times*", "values.ioa", wide() + values + "composition One " + components("A"), "compile", "FILE", "out")
     again = once + "".join(f"composition X{it} " + components("A0") for it in range(4))
     source("its compositions: an automaton, 4 times 32 times*", "compositions.ioa", again, "check", "--compositions", "FILE")
@@ -229,7 +229,7 @@ def words():
 
 def running():
     """An effect of 4,096 instructions that copies what is as wide as it may be, and one on numbers, with lists of so many of it."""
-    for name, kind in (("copies", "W3"), ("numbers", "Int")):
+    for name, kind in (("copies", "Wide"), ("numbers", "Int")):
         effect = "; ".join(["v := w", "w := v"] * 1024)
         put(f"{name}.ioa", wide() + f"automaton A signature input a states v: {kind}; w: {kind} transitions input a eff {effect}\ncomposition One components C: A\n")
     put("4.actions", "a\n" * 4)
