@@ -25,8 +25,10 @@ pub mod Breaking
 pub mod FirstBroken
 pub mod FirstDifference
 pub mod Hosting
+pub mod LineJudging
 pub mod LogReadings
 pub mod LogReplays
+pub mod LogEntries
 pub mod LogInspections
 pub mod Watching
 pub mod LogMonitors

@@ -16,8 +16,10 @@ pub mod Telling
 pub mod LineParsing
 pub mod LineReading
 pub mod Readings
+pub mod LineJudging
 pub mod LogReadings
 pub mod LogReplays
+pub mod LogEntries
 pub mod LogInspections
 pub mod Watching
 pub mod LogMonitors

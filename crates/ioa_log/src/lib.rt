@@ -27,6 +27,8 @@ mod spelled;
 // What is asked of logs.
 mod broken_invariants;
 mod judge;
+mod line_judge;
+mod log_entries;
 mod log_inspections;
 mod log_monitors;
 mod log_reading;
@@ -49,6 +51,7 @@ pub use laws::{
     refused_logs_have_reasons, run_log_is_read, run_logs_agree, verdict_is_the_first_difference,
     written_log_is_read,
 };
+pub use log_entries::{EntryWriter, write_entries};
 pub use log_inspections::{LogInspection, inspect_log};
 pub use log_monitors::monitor_log;
 pub use log_replays::{perform_log, replay_log};

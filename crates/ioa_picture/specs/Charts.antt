@@ -50,6 +50,10 @@ end_lines (not_an_action_at i) = []
 end_lines (not_enabled_at i) = []
 end_lines (fault_at c f i) = note c (ending_text (fault_at c f i))
 
+-- what stands before the entries
+abbrev pub front : List Name → List ℕ
+front names = codes "sequenceDiagram\n" ++ workers names
+
 -- the workers, each entry in order, and the end
 abbrev pub chart : {S : Type 0} → Table → List Name → List (Component S) → Logged → List ℕ
 chart types names ps log =

@@ -3,32 +3,89 @@
 ghost use Rattle.std.specs.Prelude.{◌≡◌, ◌++◌, ◌==◌, not, filter, IfOk, OnOk, map};
 ghost use Rattle.std.specs.List.{flat_map};
 ghost use Rattle.std.specs.String.{string_bytes};
+ghost use Rattle.ioa_value.specs.Actions.{act_of};
 ghost use Rattle.ioa_compile.specs.Shown.{member_code};
 ghost use Rattle.ioa_compile.specs.Tables.{tabled};
-ghost use Rattle.ioa_system.specs.Logs.{log_end, log_entry, logged};
+ghost use Rattle.ioa_system.specs.Outcomes.{ending_of};
 ghost use Rattle.ioa_picture.specs.Charts as spec;
 ghost use Rattle.ioa_picture.specs.Charts.{names_of};
 ghost use Rattle.ioa_picture.specs.Lines.{numbered};
 
 use ioa_compile::{Member, Program};
-use ioa_system::{End, Log, LogEnd, LogEntry, participants};
-use ioa_value::{OutOfMemory, print_action};
+use ioa_system::{End, participants};
+use ioa_value::{Action, OutOfMemory, print_action};
 use std::alloc::Global;
 use std::fmt::Write;
+use std::marker::Model;
 
-/// A log as a sequence diagram in the form of Mermaid: the components and the environment, and each action as arrows from the worker
-/// that performs it to the other components that have it.
-///
-/// # Errors
-/// `OutOfMemory`.
-pub fn chart(alloc: Global, program: &Program, log: &Log) -> Result<String, OutOfMemory>
-    ensures { IfOk result (λ text. string_bytes text ≡ spec.chart program.now.types (names_of program.now) (tabled program.now) (logged log.now)) }
-{
-    let mut text = String::from_str(alloc, "sequenceDiagram\n")?;
-    put_workers(&mut text, program.members())?;
-    put_entries(alloc, &mut text, program, &log.entries)?;
-    put_end(&mut text, log.end)?;
-    Ok(text)
+/// A chart of a log that is drawn entry by entry: a sequence diagram in the form of Mermaid. The components and the environment stand first; each
+/// action is arrows from the worker that performs it to the other components that have it. Kept is the chart's text.
+#[derive(Drop)]
+pub struct Chart {
+    text: String,
+}
+
+impl Model for Chart {
+    ghost use Rattle.std.specs.Prelude.{ℕ, List};
+    ghost use Rattle.std.specs.Coded.{coded_list, coded_ℕ};
+    ghost use Rattle.std.specs.String.{string_bytes};
+
+    ghost Value = { List ℕ };
+
+    ghost coded = { coded_list coded_ℕ };
+
+    ghost view = { λ c. string_bytes c.text };
+}
+
+impl Chart {
+    /// The chart of no entry.
+    ///
+    /// # Errors
+    /// `OutOfMemory`.
+    pub fn start(alloc: Global, program: &Program) -> Result<Chart, OutOfMemory>
+        ensures { IfOk result (λ c. c ≡ spec.front (names_of program.now)) }
+    {
+        let mut text = String::from_str(alloc, "sequenceDiagram\n")?;
+        put_workers(&mut text, program.members())?;
+        Ok(Chart { text })
+    }
+
+    /// Draws the next entry: arrows to the other components that have its action or, where there are none, a note.
+    ///
+    /// # Errors
+    /// `OutOfMemory`: the chart may end within the entry's lines.
+    pub fn draw(
+        &mut self,
+        alloc: Global,
+        program: &Program,
+        who: usize,
+        action: &Action,
+    ) -> Result<(), OutOfMemory>
+        ensures { OnOk result (self.new ≡ self.old ++ spec.entry_lines program.now.types (tabled program.now) (who, act_of action.now)) }
+    {
+        let label = print_action(alloc, program.types(), action)?;
+        let others = others(alloc, program, who, action)?;
+        if others.is_empty() {
+            return put_note(&mut self.text, who, label.as_str());
+        }
+        put_arrows(&mut self.text, who, label.as_str(), &others)
+    }
+
+    /// The whole text: the chart, and an end that is a fault as a note over the component that faults.
+    ///
+    /// # Errors
+    /// `OutOfMemory`.
+    pub fn finish(mut self, end: End) -> Result<String, OutOfMemory>
+        ensures { IfOk result (λ text. string_bytes text ≡ self ++ spec.end_lines (ending_of end)) }
+    {
+        match end {
+            End::Done(_) | End::NotAnAction(_) | End::NotEnabled(_) => {}
+            End::Fault(component, _, _) => {
+                writeln!(self.text, "  Note over P{component}: {end}")?;
+            }
+        }
+        Ok(self.text)
+    }
 }
 
 /// The components, and the environment.
@@ -64,44 +121,17 @@ fn put_worker(text: &mut String, number: usize, name: &str) -> Result<(), OutOfM
     Ok(())
 }
 
-/// The entries of a log.
-fn put_entries(
+/// The numbers of the components that have the action, without its worker's.
+fn others(
     alloc: Global,
-    text: &mut String,
     program: &Program,
-    entries: &[LogEntry],
-) -> Result<(), OutOfMemory>
-    ensures { OnOk result (string_bytes text.new ≡ string_bytes text.old ++ flat_map (spec.entry_lines program.now.types (tabled program.now)) (map log_entry entries.now)) }
+    who: usize,
+    action: &Action,
+) -> Result<Vec<usize>, OutOfMemory>
+    ensures { IfOk result (λ found. found.items ≡ spec.others (tabled program.now) (who, act_of action.now)) }
 {
-    for entry in entries {
-        put_entry(alloc, text, program, entry)?;
-    }
-    Ok(())
-}
-
-/// An entry of a log: arrows to the other components that have its action or, where there are none, a note.
-fn put_entry(
-    alloc: Global,
-    text: &mut String,
-    program: &Program,
-    entry: &LogEntry,
-) -> Result<(), OutOfMemory>
-    ensures { OnOk result (string_bytes text.new ≡ string_bytes text.old ++ spec.entry_lines program.now.types (tabled program.now) (log_entry entry.now)) }
-{
-    let action = print_action(alloc, program.types(), &entry.action)?;
-    let others = others(alloc, program, entry)?;
-    if others.is_empty() {
-        return put_note(text, entry.who, action.as_str());
-    }
-    put_arrows(text, entry.who, action.as_str(), &others)
-}
-
-/// The numbers of the components that have the entry's action, without its worker's.
-fn others(alloc: Global, program: &Program, entry: &LogEntry) -> Result<Vec<usize>, OutOfMemory>
-    ensures { IfOk result (λ found. found.items ≡ spec.others (tabled program.now) (log_entry entry.now)) }
-{
-    let all = participants(alloc, program, &entry.action)?;
-    without(alloc, entry.who, &all)
+    let all = participants(alloc, program, action)?;
+    without(alloc, who, &all)
 }
 
 /// The numbers that are not this one.
@@ -143,19 +173,5 @@ fn put_note(text: &mut String, over: usize, label: &str) -> Result<(), OutOfMemo
     ensures { OnOk result (string_bytes text.new ≡ string_bytes text.old ++ spec.note over label.now) }
 {
     writeln!(text, "  Note over P{over}: {label}")?;
-    Ok(())
-}
-
-/// The end of a log that is not done.
-fn put_end(text: &mut String, end: LogEnd) -> Result<(), OutOfMemory>
-    ensures { OnOk result (string_bytes text.new ≡ string_bytes text.old ++ spec.end_lines (log_end end)) }
-{
-    match end {
-        LogEnd::Done(_) => {}
-        LogEnd::Fault(component, fault, index) => {
-            let told = End::Fault(component, fault, index);
-            writeln!(text, "  Note over P{component}: {told}")?;
-        }
-    }
     Ok(())
 }

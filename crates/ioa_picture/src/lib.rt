@@ -6,6 +6,6 @@ mod charts;
 mod graphs;
 mod laws;
 
-pub use charts::chart;
+pub use charts::Chart;
 pub use graphs::graph;
 pub use laws::{edges_are_actions, labels_need_no_escape};

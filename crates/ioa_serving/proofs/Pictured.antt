@@ -1,5 +1,5 @@
 -- The chart of a log by a program is that by what the program runs as; and why no graph is written.
-use Rattle.std.proofs.Common.{◌≡◌, ◌==◌, ℕ, List, [], ◌∷◌, ◌++◌, codes, filter, not, Option, refl, ap, ap₂, ◌∙◌}
+use Rattle.std.proofs.Common.{◌≡◌, ◌==◌, ℕ, List, [], ◌∷◌, ◌++◌, codes, filter, not, Option, refl, ap, ap₂, ◌∙◌, append_assoc}
 use Rattle.std.specs.Io.KnownBytes.{Keeps}
 use Rattle.std.specs.List.{flat_map}
 use Rattle.ioa_value.specs.Actions.{Act, Name}
@@ -10,7 +10,7 @@ use Rattle.ioa_tree.specs.Steps.{participants}
 use Rattle.ioa_compile.specs.Programs.{Prog}
 use Rattle.ioa_compile.specs.Tables.{tabled}
 use Rattle.ioa_system.specs.Logs.{Logged}
-use Rattle.ioa_picture.specs.Charts.{arrows_or_note, chart, end_lines, entry_lines, names_of, workers}
+use Rattle.ioa_picture.specs.Charts.{arrows_or_note, chart, end_lines, entry_lines, front, names_of, workers}
 use Rattle.ioa_serving.specs.declared.failure.Failure.{Failure}
 use Rattle.ioa_serving.specs.Failing.{IsRefusedGiven}
 use Rattle.ioa_serving.specs.Pictures.{IsUngraphed, chart_by}
@@ -33,6 +33,14 @@ pub charted_as : (p : Prog) (s : Subject) (log : Logged) → RunsAs p s → char
 charted_as p s log runs =
     ap₂ (λ ts ns. chart ts ns (tabled p) log) (types_as p s runs) (names_same p s runs)
     ∙ chart_same (its_types s) (tabled p) (its_components s) (participants_same p s runs) (its_names s) log
+
+-- so is what is drawn entry by entry, and then of the end
+pub drawn_as : (p : Prog) (s : Subject) (log : Logged) → RunsAs p s
+    → (front (names_of p) ++ flat_map (entry_lines p.types (tabled p)) log.entries) ++ end_lines log.ending ≡ chart_by s log
+drawn_as p s log runs =
+    let entries : List ℕ = flat_map (entry_lines p.types (tabled p)) log.entries in
+    append_assoc (front (names_of p)) entries (end_lines log.ending)
+    ∙ append_assoc (codes "sequenceDiagram\n") (workers (names_of p)) (entries ++ end_lines log.ending) ∙ charted_as p s log runs
 
 -- a file that gives nothing is why no graph is written
 pub ungraphed : (text : List ℕ) (name : Option Name) (failed : Type 0) (before after : Option (List ℕ)) (e : Failure) → IsRefusedGiven text name e → Keeps before after

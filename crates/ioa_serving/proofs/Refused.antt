@@ -1,7 +1,6 @@
 -- From the clauses of the layers to why a replay or a monitor does not come to an end.
 use Rattle.std.proofs.Common.{◌≡◌, ◌⊎◌, ℕ, inl, inr, List, Option, Some, None, Result, Ok, Err, IfErr, IfSome, refl, sym, ap, ◌∙◌, subst}
 use Rattle.std.specs.Result.{IsErrOf}
-use Rattle.std.proofs.lemmas.Option.{IfSome_then}
 use Rattle.std.specs.Io.KnownBytes.{Keeps}
 use Rattle.ioa_value.specs.Actions.{Name}
 use Rattle.ioa_value.specs.Lists as lists
@@ -13,16 +12,13 @@ use Rattle.ioa_tree.specs.WellFormed.{WellFormed}
 use Rattle.ioa_tree.specs.Compositions.{picked}
 use Rattle.ioa_tree.specs.Hosts.{Hosted, IsHosted}
 use Rattle.ioa_compose.specs.Refusals as compositions
-use Rattle.ioa_system.specs.Logs.{Logged}
 use Rattle.ioa_log.specs.declared.failure.LogErr.{LogErr}
 use Rattle.ioa_log.specs.Failing.{IsListErr, IsTextErr}
-use Rattle.ioa_log.specs.Judging.{IsReplayErr, judged, wrong_owner, diverges}
 use Rattle.ioa_log.specs.LogMonitors.{IsNoText}
-use Rattle.ioa_log.specs.LogTexts.{GoesOnAt, HasNoEnd, NoEntryAt, NotJsonAt, ReadsLog}
 use Rattle.ioa_serving.specs.declared.failure.Failure.{Failure}
 use Rattle.ioa_serving.specs.Headline.{Declares, IsFileOf, Spells}
-use Rattle.ioa_serving.specs.Failing.{Given, IsFailure, IsLogFailure, IsLogReplayFailure, IsMonitorFailure, IsNoLogOf, IsRefusedGiven, IsRefusedSource, IsUnwritten}
-use Rattle.ioa_serving.specs.Subjects.{IsOpen, Subject, its_components, its_starts, its_types}
+use Rattle.ioa_serving.specs.Failing.{Given, IsFailure, IsLogReplayFailure, IsMonitorFailure, IsNoLogOf, IsRefusedGiven, IsRefusedSource, IsUnwritten}
+use Rattle.ioa_serving.specs.Subjects.{IsOpen, Subject, its_types}
 
 -- what checking and composing answer, told of the text
 pub declared : (text : List ℕ) (name : Option Name) (s u : SourceTree) (t : CompositionTree) (h : Hosted) → Spells text s → u ≡ s → WellFormed s
@@ -86,47 +82,6 @@ list_failed text name bytes failed s types (LogErr.Diverges n) of same only bad 
 list_failed text name bytes failed s types LogErr.NoEnd of same only bad io = absurd only
 list_failed text name bytes failed s types LogErr.AfterEnd of same only bad io = absurd only
 
--- why a log is not read
-abbrev pub IsUnread : Table → Option (List ℕ) → Type 0 → LogErr → Type 0
-IsUnread types bytes failed (LogErr.NotJson n) = IfSome bytes (λ xs. NotJsonAt types xs n)
-IsUnread types bytes failed (LogErr.BadEntry n) = IfSome bytes (λ xs. NoEntryAt types xs n)
-IsUnread types bytes failed (LogErr.WrongOwner n) = ⊥
-IsUnread types bytes failed (LogErr.Diverges n) = ⊥
-IsUnread types bytes failed LogErr.NoEnd = IfSome bytes (HasNoEnd types)
-IsUnread types bytes failed LogErr.AfterEnd = IfSome bytes (λ xs. (n : ℕ) × GoesOnAt types xs n)
-IsUnread types bytes failed LogErr.Io = failed
-IsUnread types bytes failed LogErr.OutOfMemory = Unit {0}
-
-pub unread : (types : Table) (bytes : Option (List ℕ)) (failed : Type 0) (x : LogErr) {T : Type 0} → IsTextErr x
-    → ((n : ℕ) → IsErrOf {T = T} (Err x) (LogErr.NotJson n) → IfSome bytes (λ xs. NotJsonAt types xs n))
-    → ((n : ℕ) → IsErrOf {T = T} (Err x) (LogErr.BadEntry n) → IfSome bytes (λ xs. NoEntryAt types xs n))
-    → (IsErrOf {T = T} (Err x) LogErr.AfterEnd → IfSome bytes (λ xs. (n : ℕ) × GoesOnAt types xs n))
-    → (IsErrOf {T = T} (Err x) LogErr.NoEnd → IfSome bytes (HasNoEnd types))
-    → (IsErrOf {T = T} (Err x) LogErr.Io → failed)
-    → IsUnread types bytes failed x
-unread types bytes failed (LogErr.NotJson n) only not_json bad after no_end io = not_json n refl
-unread types bytes failed (LogErr.BadEntry n) only not_json bad after no_end io = bad n refl
-unread types bytes failed LogErr.NoEnd only not_json bad after no_end io = no_end refl
-unread types bytes failed LogErr.AfterEnd only not_json bad after no_end io = after refl
-unread types bytes failed LogErr.Io only not_json bad after no_end io = io refl
-unread types bytes failed LogErr.OutOfMemory only not_json bad after no_end io = tt
-unread types bytes failed (LogErr.WrongOwner n) only not_json bad after no_end io = absurd only
-unread types bytes failed (LogErr.Diverges n) only not_json bad after no_end io = absurd only
-
-pub log_unread : (text : List ℕ) (name : Option Name) (bytes : Option (List ℕ)) (failed : Type 0) (s : Subject) (types : Table) (x : LogErr)
-    → IsFileOf text name s → types ≡ its_types s → IsUnread types bytes failed x → IsLogFailure text name bytes failed (Failure.List x)
-log_unread text name bytes failed s types x of same u = go x (subst (λ ts. IsUnread ts bytes failed x) same u)
-  where
-    go : (x : LogErr) → IsUnread (its_types s) bytes failed x → IsLogFailure text name bytes failed (Failure.List x)
-    go (LogErr.NotJson n) u = (s, of, u)
-    go (LogErr.BadEntry n) u = (s, of, u)
-    go LogErr.NoEnd u = (s, of, u)
-    go LogErr.AfterEnd u = (s, of, u)
-    go LogErr.Io u = (s, of, u)
-    go LogErr.OutOfMemory u = tt
-    go (LogErr.WrongOwner n) u = absurd u
-    go (LogErr.Diverges n) u = absurd u
-
 -- the bytes that a monitor reads are no text of a log, or a device failed
 pub monitor_refused : (text : List ℕ) (name : Option Name) (bytes : Option (List ℕ)) (failed : Type 0) (s : Subject) (x : LogErr)
     → IsFileOf text name s → IsOpen s → IsTextErr x → (x ≡ LogErr.Io → failed) → IfSome bytes (λ xs. IsNoText (its_types s) xs x)
@@ -139,23 +94,6 @@ monitor_refused text name bytes failed s LogErr.NoEnd of seen only io k = (s, of
 monitor_refused text name bytes failed s LogErr.AfterEnd of seen only io k = (s, of, seen, k)
 monitor_refused text name bytes failed s LogErr.Io of seen only io k = (s, of, seen, io refl)
 monitor_refused text name bytes failed s LogErr.OutOfMemory of seen only io k = tt
-
--- a log that is not the run's
-pub log_judged : (text : List ℕ) (name : Option Name) (bytes : Option (List ℕ)) (failed : Type 0) (s : Subject) (log : Logged) (x : LogErr) {T : Type 0}
-    → IsFileOf text name s → IfSome bytes (λ xs. ReadsLog (its_types s) xs log) → IsReplayErr x
-    → ((n : ℕ) → IsErrOf {T = T} (Err x) (LogErr.WrongOwner n) → judged (its_components s) (its_starts s) log ≡ wrong_owner n)
-    → ((n : ℕ) → IsErrOf {T = T} (Err x) (LogErr.Diverges n) → judged (its_components s) (its_starts s) log ≡ diverges n)
-    → IsLogFailure text name bytes failed (Failure.List x)
-log_judged text name bytes failed s log (LogErr.WrongOwner n) of reads only owner diverging =
-    (s, of, IfSome_then bytes reads (λ xs r. (log, r, owner n refl)))
-log_judged text name bytes failed s log (LogErr.Diverges n) of reads only owner diverging =
-    (s, of, IfSome_then bytes reads (λ xs r. (log, r, diverging n refl)))
-log_judged text name bytes failed s log LogErr.OutOfMemory of reads only owner diverging = tt
-log_judged text name bytes failed s log (LogErr.NotJson n) of reads only owner diverging = absurd only
-log_judged text name bytes failed s log (LogErr.BadEntry n) of reads only owner diverging = absurd only
-log_judged text name bytes failed s log LogErr.NoEnd of reads only owner diverging = absurd only
-log_judged text name bytes failed s log LogErr.AfterEnd of reads only owner diverging = absurd only
-log_judged text name bytes failed s log LogErr.Io of reads only owner diverging = absurd only
 
 -- what was written for a list where a device failed
 pub list_unwritten : (text : List ℕ) (name : Option Name) (bytes before after : Option (List ℕ)) (begins : Option (List ℕ) → Option (List ℕ) → Subject → List ℕ → Type 0)
@@ -195,22 +133,6 @@ list_ungiven text name bytes failed Failure.EndedByFault k = absurd k
 list_ungiven text name bytes failed (Failure.RunLog e) k = absurd k
 list_ungiven text name bytes failed Failure.Io k = absurd k
 list_ungiven text name bytes failed Failure.OutOfMemory k = absurd k
-
-pub log_ungiven : (text : List ℕ) (name : Option Name) (bytes : Option (List ℕ)) (failed : Type 0) (e : Failure) → IsRefusedGiven text name e → IsLogFailure text name bytes failed e
-log_ungiven text name bytes failed (Failure.Refused r) k = k
-log_ungiven text name bytes failed (Failure.Object e) k = k
-log_ungiven text name bytes failed Failure.SourceWanted k = absurd k
-log_ungiven text name bytes failed (Failure.List e) k = absurd k
-log_ungiven text name bytes failed Failure.SpecHasInternal k = absurd k
-log_ungiven text name bytes failed (Failure.BadWords n) k = absurd k
-log_ungiven text name bytes failed Failure.TooManyTurns k = absurd k
-log_ungiven text name bytes failed (Failure.BadInput i) k = absurd k
-log_ungiven text name bytes failed Failure.Threads k = absurd k
-log_ungiven text name bytes failed (Failure.BadLog i) k = absurd k
-log_ungiven text name bytes failed Failure.EndedByFault k = absurd k
-log_ungiven text name bytes failed (Failure.RunLog e) k = absurd k
-log_ungiven text name bytes failed Failure.Io k = absurd k
-log_ungiven text name bytes failed Failure.OutOfMemory k = absurd k
 
 pub log_replay_ungiven : (text : List ℕ) (name : Option Name) (bytes : Option (List ℕ)) (failed : Type 0) (e : Failure) → IsRefusedGiven text name e → IsLogReplayFailure text name bytes failed e
 log_replay_ungiven text name bytes failed (Failure.Refused r) k = k

@@ -1,29 +1,26 @@
 -- What holds of a program's own table and of the hosts for which its composition stands holds of what the program runs as.
-use Rattle.std.proofs.Common.{◌≡◌, ℕ, List, Option, refl, sym, ap, ◌∙◌, subst}
+use Rattle.std.proofs.Common.{◌≡◌, ◌++◌, ℕ, List, Option, refl, subst, ◌∙◌}
+use Rattle.std.specs.List.{flat_map}
 use Rattle.ioa_value.specs.Actions.{Act}
 use Rattle.ioa_tree.specs.Compositions.{Composed}
-use Rattle.ioa_tree.specs.Hosts.{Hosted, hosts_of, host_starts}
-use Rattle.ioa_tree.specs.Runs.{Ending, run, trace}
+use Rattle.ioa_tree.specs.Hosts.{Hosted}
+use Rattle.ioa_tree.specs.Runs.{Ending, run}
 use Rattle.ioa_compose.specs.Simulates.{Simulates}
 use Rattle.ioa_compile.specs.Implements.{Implements}
 use Rattle.ioa_compile.specs.Programs.{Prog}
 use Rattle.ioa_compile.specs.Subjects as compiled
-use Rattle.ioa_compile.specs.Tables.{start_states, tabled}
-use Rattle.ioa_system.specs.declared.runs.Run.{Run}
-use Rattle.ioa_system.specs.Outcomes.{ending_of}
 use Rattle.ioa_system.specs.Logs.{Logged, actions_of}
-use Rattle.ioa_system.specs.Records.{IsHostRun, IsTableRun, trace_of}
 use Rattle.ioa_log.specs.declared.failure.LogErr.{LogErr}
-use Rattle.ioa_log.specs.Judging.{agrees, judged}
+use Rattle.ioa_log.specs.LogEntries.{WritesEntries}
 use Rattle.ioa_log.specs.LogMonitors as monitors
 use Rattle.ioa_log.specs.LogMonitors.{IsNoText, MonitorsLog}
 use Rattle.ioa_log.specs.LogReplays as replays
 use Rattle.ioa_log.specs.LogReplays.{BeginsLogReplay, IsNoLog}
 use Rattle.ioa_log.specs.LogTexts.{ReadsLog}
 use Rattle.ioa_serving.specs.Failing.{IsNoLogOf}
-use Rattle.ioa_serving.specs.Logs.{BeginsLog, ReplaysLog, answer_to}
+use Rattle.ioa_serving.specs.Logs.{BeginsLog, IsRunLog, ReplaysLog, answer_to}
 use Rattle.ioa_serving.specs.Running.{RunsAs}
-use Rattle.ioa_serving.specs.Subjects.{IsClosed, IsOpen, Subject, of_hosts, of_table, its_components, its_hidden, its_starts, its_types}
+use Rattle.ioa_serving.specs.Subjects.{IsClosed, IsOpen, Subject, of_hosts, of_table, its_components, its_starts, its_types}
 
 pub of_both : (p : Prog) (s : Subject) (P : Subject → Type 0) → RunsAs p s → P (of_table p) → ((h : Hosted) (c : Composed) → Simulates h c → Implements p c → P (of_hosts h)) → P s
 of_both p (of_hosts h) P of own other = other h of.0 of.1 of.2
@@ -31,29 +28,6 @@ of_both p (of_table q) P same own other = subst (λ x. P (of_table x)) same own
 
 pub types_as : (p : Prog) (s : Subject) → RunsAs p s → p.types ≡ its_types s
 types_as p s of = of_both p s (λ x. p.types ≡ its_types x) of refl (λ h c stands means. means.types ∙ stands.types)
-
--- as many actions are performed as the subject performs, for the same end, with its trace
-pub record Reaches (s : Subject) (acts : List Act) (r : Run) : Type 0 where
-  pub performed : r.performed ≡ (run (its_components s) acts (its_starts s)).performed
-  pub ending : ending_of r.end ≡ (run (its_components s) acts (its_starts s)).ending
-  pub trace : trace_of r ≡ trace (its_hidden s) (its_components s) acts r.performed
-
-pub host_reaches : (h : Hosted) (acts : List Act) (r : Run) → IsHostRun h acts r → Reaches (of_hosts h) acts r
-host_reaches h acts r k = record { performed = sym k.reached.performed; ending = sym k.reached.ending; trace = k.trace }
-
-table_reaches : (p : Prog) (acts : List Act) (r : Run) → IsTableRun p acts r → Reaches (of_table p) acts r
-table_reaches p acts r k = record { performed = ap (λ x. x.performed) k.reached; ending = ap (λ x. x.ending) k.reached; trace = k.trace }
-
--- the run of a log that agrees
-abbrev pub IsSound : Subject → Logged → Run → Type 0
-IsSound s log r = (judged (its_components s) (its_starts s) log ≡ agrees) × Reaches s (actions_of log) r
-
-pub sound_as : (p : Prog) (s : Subject) (log : Logged) (r : Run) → RunsAs p s → (judged (tabled p) (start_states p) log ≡ agrees) × IsTableRun p (actions_of log) r
-    → ((h : Hosted) (c : Composed) → Simulates h c → Implements p c → (judged (hosts_of h) (host_starts h) log ≡ agrees) × IsHostRun h (actions_of log) r)
-    → IsSound s log r
-sound_as p s log r of own other =
-    of_both p s (λ x. IsSound x log r) of (own.0, table_reaches p (actions_of log) r own.1)
-    (λ h c stands means. let k = other h c stands means in (k.0, host_reaches h (actions_of log) r k.1))
 
 -- ---- what is said of whatever a program runs as
 
@@ -76,6 +50,12 @@ log_replay_as (of_table p) bytes end before after k = k
 pub log_beginning_as : (s : Subject) (bytes : List ℕ) (before after : Option (List ℕ)) → BeginsLogReplay (as_compiled s) bytes before after → BeginsLog s bytes before after
 log_beginning_as (of_hosts h) bytes before after k = k
 log_beginning_as (of_table p) bytes before after k = k
+
+pub entries_as : (s : Subject) (bytes : List ℕ) (end : Ending) (lines_of : ℕ × Act → List ℕ) (before after : List ℕ) → WritesEntries (as_compiled s) bytes end lines_of before after
+    → (log : Logged) × IsRunLog s bytes log × (log.ending ≡ end) × (end ≡ (run (its_components s) (actions_of log) (its_starts s)).ending)
+    × (after ≡ before ++ flat_map lines_of log.entries)
+entries_as (of_hosts h) bytes end lines_of before after k = (k.log, k.is_log, k.told, k.ending, k.written)
+entries_as (of_table p) bytes end lines_of before after k = (k.log, k.is_log, k.told, k.ending, k.written)
 
 pub open_as : (s : Subject) → monitors.IsOpen (as_compiled s) → IsOpen s
 open_as (of_hosts h) k = k

@@ -16,10 +16,9 @@ use Rattle.ioa_compile.specs.Programs.{Prog}
 use Rattle.ioa_object.specs.Objects.{IsObject}
 use Rattle.ioa_object.specs.Refusals as objects
 use Rattle.ioa_object.specs.declared.failure.ObjErr.{ObjErr}
-use Rattle.ioa_system.specs.Logs.{Logged}
 use Rattle.ioa_log.specs.declared.failure.LogErr.{LogErr}
-use Rattle.ioa_log.specs.Judging.{Verdict, wrong_owner, diverges, judged}
-use Rattle.ioa_log.specs.LogTexts.{ReadsLog, NotJsonAt, NoEntryAt, GoesOnAt, HasNoEnd}
+use Rattle.ioa_log.specs.Judging.{judged}
+use Rattle.ioa_log.specs.LogTexts.{NotJsonAt, NoEntryAt, GoesOnAt, HasNoEnd}
 use Rattle.ioa_log.specs.Reasons.{TellsWhy}
 use Rattle.ioa_log.specs.Replays.{BeginsReplay}
 use Rattle.ioa_serving.specs.declared.failure.Failure.{Failure}
@@ -91,10 +90,6 @@ Given text name bytes holds = (s : Subject) × IsFileOf text name s × IfSome by
 abbrev pub GivenMonitor : List ℕ → Option Name → Option (List ℕ) → (Subject → List ℕ → Type 0) → Type 0
 GivenMonitor text name bytes holds = (s : Subject) × IsFileOf text name s × IsOpen s × IfSome bytes (holds s)
 
--- the bytes are a text of a log, which is not the run's in this way
-abbrev pub IsJudged : Verdict → Subject → List ℕ → Type 0
-IsJudged v s bytes = (log : Logged) × ReadsLog (its_types s) bytes log × (judged (its_components s) (its_starts s) log ≡ v)
-
 -- The file is refused; or the first line of the list that is no action has this number; or a device failed, after the file was accepted. Memory may be
 -- short at any time.
 abbrev pub IsFailure : List ℕ → Option Name → Option (List ℕ) → Type 0 → Failure → Type 0
@@ -152,31 +147,6 @@ IsLogReplayFailure text name bytes failed Failure.OutOfMemory = Unit {0}
 abbrev pub IsInvariantFailure : List ℕ → Option Name → Option (List ℕ) → Type 0 → Failure → Type 0
 IsInvariantFailure text name bytes failed e =
     ((begins_object text ≡ false) × IsLogReplayFailure text name bytes failed e) ⊎ ((begins_object text ≡ true) × (e ≡ Failure.SourceWanted))
-
--- The same of a replay whose log is read whole before it is judged: the bytes are no log, by this line; or this line is the first by which the log is
--- not of the run.
-abbrev pub IsLogFailure : List ℕ → Option Name → Option (List ℕ) → Type 0 → Failure → Type 0
-IsLogFailure text name bytes failed (Failure.Refused r) = IsRefusedFile text name r
-IsLogFailure text name bytes failed (Failure.Object e) = IsNoObject text e
-IsLogFailure text name bytes failed Failure.SourceWanted = ⊥
-IsLogFailure text name bytes failed (Failure.List (LogErr.NotJson n)) = Given text name bytes (λ s xs. NotJsonAt (its_types s) xs n)
-IsLogFailure text name bytes failed (Failure.List (LogErr.BadEntry n)) = Given text name bytes (λ s xs. NoEntryAt (its_types s) xs n)
-IsLogFailure text name bytes failed (Failure.List (LogErr.WrongOwner n)) = Given text name bytes (IsJudged (wrong_owner n))
-IsLogFailure text name bytes failed (Failure.List (LogErr.Diverges n)) = Given text name bytes (IsJudged (diverges n))
-IsLogFailure text name bytes failed (Failure.List LogErr.NoEnd) = Given text name bytes (λ s xs. HasNoEnd (its_types s) xs)
-IsLogFailure text name bytes failed (Failure.List LogErr.AfterEnd) = Given text name bytes (λ s xs. (n : ℕ) × GoesOnAt (its_types s) xs n)
-IsLogFailure text name bytes failed (Failure.List LogErr.Io) = (s : Subject) × IsFileOf text name s × failed
-IsLogFailure text name bytes failed (Failure.List LogErr.OutOfMemory) = Unit {0}
-IsLogFailure text name bytes failed Failure.SpecHasInternal = ⊥
-IsLogFailure text name bytes failed (Failure.BadWords n) = ⊥
-IsLogFailure text name bytes failed Failure.TooManyTurns = ⊥
-IsLogFailure text name bytes failed (Failure.BadInput i) = ⊥
-IsLogFailure text name bytes failed Failure.Threads = ⊥
-IsLogFailure text name bytes failed (Failure.BadLog i) = ⊥
-IsLogFailure text name bytes failed Failure.EndedByFault = ⊥
-IsLogFailure text name bytes failed (Failure.RunLog e) = ⊥
-IsLogFailure text name bytes failed Failure.Io = ⊥
-IsLogFailure text name bytes failed Failure.OutOfMemory = Unit {0}
 
 -- so of a list where states are asked for
 abbrev pub IsStatesFailure : List ℕ → Option Name → Option (List ℕ) → Type 0 → Failure → Type 0

@@ -2,13 +2,16 @@
 -- written.
 use Rattle.std.specs.Prelude.{◌≡◌, ℕ, List, Option, take}
 use Rattle.std.specs.Io.KnownBytes.{Appends, Keeps}
+use Rattle.std.specs.String.{string_bytes}
 use Rattle.ioa_value.specs.Actions.{Name}
 use Rattle.ioa_tree.specs.Runs.{Ending, run}
 use Rattle.ioa_compile.specs.Programs.{Prog}
 use Rattle.ioa_system.specs.Logs.{Logged, actions_of}
+use Rattle.ioa_system.specs.Outcomes.{ending_of}
 use Rattle.ioa_picture.specs.Charts.{chart}
 use Rattle.ioa_picture.specs.Graphs.{graph}
 use Rattle.ioa_serving.specs.declared.failure.Failure.{Failure}
+use Rattle.ioa_serving.specs.declared.log_chart.Drawn.{Drawn}
 use Rattle.ioa_serving.specs.Failing.{Given, IsDeviceErr, IsNoObject, IsRefusedFile}
 use Rattle.ioa_serving.specs.Headline.{IsFileOf}
 use Rattle.ioa_serving.specs.Logs.{IsRunLog}
@@ -23,6 +26,13 @@ chart_by s log = chart (its_types s) (its_names s) (its_components s) log
 abbrev pub ChartsLog : Subject → List ℕ → Ending → Option (List ℕ) → Option (List ℕ) → Type 0
 ChartsLog s bytes end before after =
     (log : Logged) × IsRunLog s bytes log × (end ≡ (run (its_components s) (actions_of log) (its_starts s)).ending) × Appends before after (chart_by s log)
+
+-- the same before it is written
+pub record IsDrawn (s : Subject) (bytes : List ℕ) (d : Drawn) : Type 0 where
+  pub log : Logged
+  pub is_log : IsRunLog s bytes log
+  pub ending : ending_of d.end ≡ (run (its_components s) (actions_of log) (its_starts s)).ending
+  pub text : string_bytes d.text ≡ chart_by s log
 
 -- The bytes are a log of the run that the hosts or the program do, and what is written is its chart.
 abbrev pub IsLogChart : List ℕ → Option Name → List ℕ → Ending → Option (List ℕ) → Option (List ℕ) → Type 0

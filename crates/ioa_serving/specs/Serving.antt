@@ -23,7 +23,7 @@ use Rattle.ioa_serving.specs.Logs.{Found}
 use Rattle.ioa_serving.specs.RunReports.{wants_text}
 use Rattle.ioa_serving.specs.Pictures.{BeginsChartOf, IsGraphed, IsLogChart, IsUngraphed}
 use Rattle.ioa_serving.specs.Alone.{IsRunServed, IsRunUnserved}
-use Rattle.ioa_serving.specs.Failing.{IsFailure, IsInvariantFailure, IsLogFailure, IsLogReplayFailure, IsMonitorFailure, IsStatesFailure, IsUnwritten, BeginsReplayOf, BeginsLogOf, BeginsLogStatesOf, BeginsFoundOf, BeginsMonitorOf, BeginsStatesOf}
+use Rattle.ioa_serving.specs.Failing.{IsFailure, IsInvariantFailure, IsLogReplayFailure, IsMonitorFailure, IsStatesFailure, IsUnwritten, BeginsReplayOf, BeginsLogOf, BeginsLogStatesOf, BeginsFoundOf, BeginsMonitorOf, BeginsStatesOf}
 use Rattle.ioa_serving.specs.Statuses.{answer_status, ending_status, found_status}
 
 -- what is left to be told
@@ -128,7 +128,7 @@ IsUnserved f (Request.Monitor file composition) input output wants e =
     × IsUnwritten (BeginsMonitorOf text (option_copied composition) input.before.bytes) output.before.bytes output.after.bytes e)
 IsUnserved f (Request.Chart file composition) input output wants e =
     IsUnread (f.lacks file.now) output e
-    ⊎ ((text : List ℕ) × f.holds file.now text × IsLogFailure text (option_copied composition) input.before.bytes (Failed input ⊎ Failed output) e
+    ⊎ ((text : List ℕ) × f.holds file.now text × IsLogReplayFailure text (option_copied composition) input.before.bytes (Failed input ⊎ Failed output) e
     × IsUnwritten (BeginsChartOf text (option_copied composition) input.before.bytes) output.before.bytes output.after.bytes e)
 IsUnserved f (Request.Graph file composition) input output wants e =
     IsUnread (f.lacks file.now) output e

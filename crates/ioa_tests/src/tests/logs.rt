@@ -1,15 +1,21 @@
 //! Logs that are written as they are read, and devices that fail while lists and logs are read and written.
 
+ghost use Rattle.std.specs.Prelude.{◌++◌, ◌∷◌, []};
+ghost use Rattle.std.specs.Fmt.{decimal};
+ghost use Rattle.std.specs.String.{string_bytes};
+
 use crate::tests::made::{basic, log, program};
 use crate::tests::resumed::TICKED;
 use ioa_compile::Program;
 use ioa_log::{
-    Counted, Device, LogErr, OutputDevice, hides_actions, log_list, monitor_log, read_log,
-    replay_list, replay_log, write_log,
+    Counted, Device, EntryWriter, LogErr, OutputDevice, hides_actions, log_list, monitor_log,
+    read_log, replay_list, replay_log, write_entries, write_log,
 };
 use ioa_rows::{COUNTER, Dripping, KINDS, Slow};
-use ioa_system::Log;
+use ioa_system::{End, Log};
+use ioa_value::{Action, OutOfMemory};
 use std::alloc::Global;
+use std::fmt::Write;
 use std::io::ErrorKind;
 use std::process::Abort;
 
@@ -48,6 +54,45 @@ fn writes_logs(rt: HostRuntime) {
     }
 }
 
+/// The workers of a log's entries, one a line.
+#[derive(Drop)]
+struct Workers {
+    text: String,
+}
+
+impl Workers {
+    fn none(alloc: Global) -> Workers {
+        Workers {
+            text: String::new(alloc),
+        }
+    }
+}
+
+impl EntryWriter for Workers {
+    ghost written = { λ w. string_bytes w.text };
+
+    ghost lines_of = { λ _ e. decimal e.0 ++ 10 ∷ [] };
+
+    fn put(&mut self, who: usize, _action: &Action) -> Result<(), OutOfMemory> {
+        writeln!(self.text, "{who}")?;
+        Ok(())
+    }
+}
+
+#[test]
+fn hands_on_entries(rt: HostRuntime) {
+    let program = program(&rt, rt.alloc(), COUNTER, None);
+    let mut input = Counted::new(TICKED.as_bytes());
+    let mut workers = Workers::none(rt.alloc());
+    let end = write_entries(rt.alloc(), &program, &mut input, &mut workers);
+    assert!(rt; end == Ok(End::Done(3)), "{end:?}");
+    assert!(rt;
+        workers.text.as_str() == "0\n0\n1\n",
+        "{}",
+        workers.text.as_str()
+    );
+}
+
 /// A call that reads a list or a log, or writes one.
 #[derive(Clone, Copy, Debug)]
 enum Call {
@@ -55,6 +100,7 @@ enum Call {
     ReplayLog,
     LogList,
     Monitor,
+    Entries,
     Read,
     Write,
 }
@@ -65,11 +111,12 @@ const LIST: &str = "tick(5)\ntick(6)\nreset\n";
 const PRINTED: &str = "tick(5)\ntick(6)\nreset\nend: done after 3\n";
 
 /// Calls, what they read, and what they write.
-const CALLS: [(Call, &str, &str); 6] = [
+const CALLS: [(Call, &str, &str); 7] = [
     (Call::ReplayList, LIST, PRINTED),
     (Call::ReplayLog, TICKED, PRINTED),
     (Call::LogList, LIST, TICKED),
     (Call::Monitor, TICKED, ""),
+    (Call::Entries, TICKED, ""),
     (Call::Read, TICKED, ""),
     (Call::Write, "", TICKED),
 ];
@@ -97,6 +144,9 @@ fn called<W: OutputDevice>(
             if !hides_actions(program) {
                 monitor_log(alloc, program, input)?;
             }
+        }
+        Call::Entries => {
+            write_entries(alloc, program, input, &mut Workers::none(alloc))?;
         }
         Call::Read => {
             read_log(alloc, program.types(), input)?;

@@ -159,8 +159,14 @@ const MOST: usize = 20_000;
 /// A reader's piece, which a call that reads wants at once.
 const PIECE: usize = 65_536;
 
+/// A run on threads has with each turn so much of what it has more, once this is more than a step: its worker wants some bytes, a thread some megabytes.
+const PART: usize = 32;
+
 /// How much the call is left in its so many-th turn: first nothing, and then, if it reads, what its reader takes and more.
 fn left(call: Call, turn: usize) -> Spare {
+    if matches!(call, Call::RunThreads | Call::ResumeThreads) {
+        return Spare::Bytes(grown(turn));
+    }
     let reads = matches!(
         call,
         Call::ReadLog
@@ -172,6 +178,16 @@ fn left(call: Call, turn: usize) -> Spare {
     );
     let least = if reads && turn > 0 { PIECE } else { 0 };
     Spare::Bytes(turn.saturating_mul(STEP).saturating_add(least))
+}
+
+/// A step more with each turn, and later a part of it.
+fn grown(turn: usize) -> usize {
+    let mut size: usize = 0;
+    for _ in 0..turn {
+        let part = size / PART;
+        size = size.saturating_add(if part > STEP { part } else { STEP });
+    }
+    size
 }
 
 /// All memory but this.

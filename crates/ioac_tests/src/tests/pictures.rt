@@ -18,6 +18,11 @@ chart f | {"act":"tock","who":0}^{"end":"done after 1"}^ |  | L4 line 1^ | 4
 chart f | {"act":"tick(5)","who":0}^{"end":"done after 2"}^ |  | L4 line 2^ | 4
 chart f | {"act":"tick(5)","who":0}^ |  | L5^ | 4
 chart f | {"end":"done after 0"}^{"end":"done after 0"}^ |  | L6^ | 4
+-- the first line at fault is told
+chart f | {"act":"tick(5)","who":1}^tick(5)^ |  | L3 line 1^ | 4
+chart f | {"act":"tick(6)","who":0}^{"act":"tick(5","who":0}^ |  | L4 line 1^ | 4
+chart f | {"act":"tick(5)","who":0}^tick(6)^{"act":"reset","who":0}^ |  | L1 line 2^ | 4
+chart f | {"act":"tick(5)","who":0}^{"end":"done after 2"}^{"end":"done after 1"}^ |  | L4 line 2^ | 4
 -- a graph reads no standard input
 graph f | tick(5)^ | digraph "One" {^  node [shape=box];^  P0 [label="A"];^  P1 [label="environment", shape=ellipse];^  P0 -> P1 [label="tick"];^  P1 -> P0 [label="reset"];^}^ |  | 0
 graph --comp One f |  | digraph "One" {^  node [shape=box];^  P0 [label="A"];^  P1 [label="environment", shape=ellipse];^  P0 -> P1 [label="tick"];^  P1 -> P0 [label="reset"];^}^ |  | 0

@@ -28,16 +28,6 @@ pub enum Spare {
     All,
 }
 
-impl Spare {
-    /// So many times as much.
-    pub fn times(self, times: usize) -> Spare {
-        match self {
-            Spare::Bytes(count) => Spare::Bytes(count.saturating_mul(times)),
-            Spare::All => Spare::All,
-        }
-    }
-}
-
 /// Blocks that are held and never read, so that nobody else has their memory.
 #[derive(Drop)]
 pub struct Hoard {

@@ -32,9 +32,6 @@ const RUN: &str = "0 tick(5); 0 tick(6); 0 tick(7); 0 tick(8), state(9), done af
 const RESUMED: &str =
     "0 tick(5); 0 tick(6); 1 reset; 0 tick(5); 0 tick(6); 0 tick(7); 0 tick(8), state(9), done after 7";
 
-/// A thread wants a stack of some megabytes: so many times as much more a run on threads has at each step.
-const STACKS: usize = 4096;
-
 /// What came of a run that goes on from the log, which stays.
 fn judged_resumed(
     rt: &impl Abort,
@@ -102,7 +99,7 @@ pub fn resumed_alone(rt: &impl Abort, alloc: Global, spare: Spare) -> Came {
 pub fn on_threads<H: Abort + Threads + Wait + Sync>(rt: &H, alloc: Global, spare: Spare) -> Came {
     let program = made::program(rt, alloc, COUNTER, None);
     let words = seeded(alloc, program.members().len()).expect(rt, "memory");
-    let hoard = all_but(rt, alloc, spare.times(STACKS));
+    let hoard = all_but(rt, alloc, spare);
     let answer = run_threads(rt, alloc, &program, TURNS, words, &[], &OpenGate);
     drop(hoard);
     judged(rt, alloc, &program, answer, RUN)
@@ -116,7 +113,7 @@ pub fn resumed_on_threads<H: Abort + Threads + Wait + Sync>(
     let program = made::program(rt, alloc, COUNTER, None);
     let log = made::log(rt, alloc, program.types(), TICKED);
     let words = seeded(alloc, program.members().len()).expect(rt, "memory");
-    let hoard = all_but(rt, alloc, spare.times(STACKS));
+    let hoard = all_but(rt, alloc, spare);
     let answer = resume_threads(rt, alloc, &program, &log, TURNS, words, &[], &OpenGate);
     drop(hoard);
     judged_resumed(rt, alloc, &program, &log, answer)
