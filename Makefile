@@ -44,7 +44,7 @@ pictures: all
 	@tools/pages $(PROGRAM) --pictures
 
 # Figures: how time and memory grow with the list, with the source, with the components, and with the code that is verified; how fast
-# the protocols of the library run; what an item of a loop costs; how fast objects are read and written; what names cost that were chosen to collide, and other bytes of strangers; and
+# the protocols of the library run; what an item of a loop costs; what many seeds in one call cost; how fast objects are read and written; what names cost that were chosen to collide, and other bytes of strangers; and
 # what threads gain. Last, some thousand runs on threads are replayed.
 bench: all
 	@sh bench/ratios.sh $(PROGRAM)
@@ -52,6 +52,7 @@ bench: all
 	@sh bench/verify.sh
 	@sh bench/links.sh $(PROGRAM)
 	@sh bench/loops.sh $(PROGRAM)
+	@sh bench/seeds.sh $(PROGRAM)
 	@sh bench/objects.sh $(PROGRAM)
 	@sh bench/names.sh $(PROGRAM)
 	@sh bench/hostile.sh $(PROGRAM)

@@ -4,7 +4,7 @@
 # Each composition of a source that the program accepts is run over ten seeds, 1,000 turns each; the environment performs the inputs of the
 # folder's inputs.script, where it has one that fits. The log has to be accepted by `replay --log`, which has to print what the run
 # prints without `--log`, with the same exit status. Each worker's report has to count the actions that the log tells of it, and all turns where the
-# log ends as done; without reports nothing is told. Last, a script and words that are longer than a source may be are read to their ends.
+# log ends as done; without reports nothing is told. The ten runs in one call tell the same ends. Last, a script and words that are longer than a source may be are read to their ends.
 set -u
 program=$1
 case $program in /*) ;; *) program=$PWD/$program ;; esac
@@ -32,11 +32,13 @@ for source in "$top"/*/*.ioa; do
   for composition in $(sed -n 's/^ *composition \([A-Za-z0-9_]*\).*/\1/p' "$source"); do
     "$program" run "$source" --comp "$composition" --alone --turns 0 > "$work/fits" 2>&1 || continue
     asked=$(named "$source" "$composition")
-    for digit in 0 1 2 3 4 5 6 7 8 9; do
-      seed=$(printf '%064d' "$digit")
+    : > "$work/lines"
+    for number in 1 2 3 4 5 6 7 8 9 10; do
+      seed=$(printf '%064d' "$number")
       # shellcheck disable=SC2086
       "$program" run $asked --alone --seed "$seed" > "$work/printed" 2> "$work/errors"
       status=$?
+      echo "$seed $(tail -n 1 "$work/printed")" >> "$work/lines"
       # shellcheck disable=SC2086
       "$program" run $asked --alone --seed "$seed" --log --reports > "$work/log" 2> "$work/reports"
       [ $? -eq "$status" ] || fail "$asked" "with and without --log the exit statuses of seed $seed differ"
@@ -48,6 +50,14 @@ for source in "$top"/*/*.ioa; do
       [ -s "$work/errors" ] && fail "$asked" "seed $seed tells of an error"
       runs=$((runs + 1))
     done
+    faults=$(grep -c ' end: fault ' "$work/lines")
+    echo "seeds 10; done $((10 - faults)); fault $faults" >> "$work/lines"
+    # shellcheck disable=SC2086
+    "$program" run $asked --alone --seeds 1..10 > "$work/printed" 2> "$work/errors"
+    status=$?
+    [ "$status" -eq $((faults > 0 ? 3 : 0)) ] || fail "$asked" "the runs by ten seeds have exit status $status"
+    cmp -s "$work/lines" "$work/printed" || fail "$asked" "the runs by ten seeds are not those by each of them"
+    [ -s "$work/errors" ] && fail "$asked" "the runs by ten seeds tell of an error"
   done
 done
 [ "$runs" -gt 0 ] || fail "examples" "there are none"

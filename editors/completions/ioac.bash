@@ -22,7 +22,7 @@ _ioac() {
     dump) options='--explain --help' ;;
     replay) options='--comp --log --invariants --states --explain --help' ;;
     log) options='--comp --explain --help' ;;
-    run) options='--comp --alone --turns --seed --words --inputs --resume --log --reports --explain --help' ;;
+    run) options='--comp --alone --turns --seed --words --seeds --inputs --resume --log --reports --explain --help' ;;
     monitor) options='--comp --explain --help' ;;
     chart) options='--comp --explain --help' ;;
     graph) options='--comp --explain --help' ;;
@@ -33,7 +33,7 @@ _ioac() {
   esac
   case $before in
     --comp) mapfile -t COMPREPLY < <(compgen -W "$(_ioac_compositions "${COMP_WORDS[@]:2}")" -- "$word") ;;
-    --turns | --seed) COMPREPLY=() ;;
+    --turns | --seed | --seeds) COMPREPLY=() ;;
     --words | --inputs | --resume) mapfile -t COMPREPLY < <(compgen -f -- "$word") ;;
     *)
       case ${COMP_WORDS[1]}:$word in

@@ -1,6 +1,7 @@
 -- What the matches of a command line ask for.
 use Rattle.std.proofs.Common.{◌≡◌, List, Option, Some, None, IfSome, IfNone, refl, sym, ◌∙◌, ap, ap₂, subst, codes, option_map, true, false}
-use Rattle.std.specs.Option.{option_copied, option_map_or}
+use Rattle.std.specs.Option.{option_and_then, option_copied, option_map_or}
+use Rattle.std.specs.Prelude.{ℕ, is_some}
 use Rattle.std.specs.Str.{bytes_eq}
 use Rattle.std.proofs.lemmas.Bool.{false≢true}
 use Rattle.std.specs.Box.{box_value}
@@ -10,10 +11,12 @@ use Rattle.clap.specs.declared.parser.matches.ArgMatches.{ArgMatches}
 use Rattle.clap.specs.declared.parser.matches.ArgMatches.TheViews.{out-ArgMatches, out-SubCommand}
 use Rattle.clap.proofs.WalkLemmas.{first_value-rows}
 use Rattle.ioa_request.specs.declared.request.Request.{Request}
+use Rattle.ioa_request.specs.declared.seeds.Seeds.{Seeds}
 use Rattle.ioa_request.specs.declared.settings.Settings.{Settings}
 use Rattle.ioa_request.specs.declared.topic.Topic.{Topic}
 use Rattle.ioa_request.specs.Pasted.{IsPasted}
-use Rattle.ioa_request.specs.CommandLine.{AreSettings, IsAskedBy, Names, is_set}
+use Rattle.ioa_request.specs.CommandLine.{AreSeeds, AreSettings, IsAskedBy, Names, is_set}
+use Rattle.ioa_request.specs.Seeds.{range_in}
 use Rattle.ioa_request.specs.Settings.{source_in, source_of, turns_in}
 
 name_in : (m : ArgMatches) → subcommand_name_of m ≡ option_map (λ p. p.0) (subcommand_rows_of m)
@@ -70,7 +73,8 @@ no_file word rows other another none (Request.Log file composition) h = let z : 
 no_file word rows other another none (Request.Monitor file composition) h = let z : None ≡ Some file.now = sym none ∙ h.1.0 in cc
 no_file word rows other another none (Request.Chart file composition) h = let z : None ≡ Some file.now = sym none ∙ h.1.0 in cc
 no_file word rows other another none (Request.Graph file composition) h = let z : None ≡ Some file.now = sym none ∙ h.1.0 in cc
-no_file word rows other another none (Request.Run s) h = let z : None ≡ Some s.file.now = sym none ∙ h.1.names.0 in cc
+no_file word rows other another none (Request.Run s) h = let z : None ≡ Some s.file.now = sym none ∙ h.2.names.0 in cc
+no_file word rows other another none (Request.Seeds s) h = let z : None ≡ Some s.run.file.now = sym none ∙ h.1.run.names.0 in cc
 no_file word rows other another none (Request.Check file compositions) h = let z : None ≡ Some file.now = sym none ∙ h.1 in cc
 no_file word rows other another none (Request.Compile file out composition) h = let z : None ≡ Some file.now = sym none ∙ h.1.0 in cc
 no_file word rows other another none (Request.Dump file) h = let z : None ≡ Some file.now = sym none ∙ h.1 in cc
@@ -90,6 +94,7 @@ no_explanation rows none (Request.Monitor file composition) h = apart (codes "ex
 no_explanation rows none (Request.Chart file composition) h = apart (codes "explain") (codes "chart") refl refl h.0
 no_explanation rows none (Request.Graph file composition) h = apart (codes "explain") (codes "graph") refl refl h.0
 no_explanation rows none (Request.Run s) h = apart (codes "explain") (codes "run") refl refl h.0
+no_explanation rows none (Request.Seeds s) h = apart (codes "explain") (codes "run") refl refl h.0
 no_explanation rows none (Request.Check file compositions) h = apart (codes "explain") (codes "check") refl refl h.0
 no_explanation rows none (Request.Compile file out composition) h = apart (codes "explain") (codes "compile") refl refl h.0
 no_explanation rows none (Request.Dump file) h = apart (codes "explain") (codes "dump") refl refl h.0
@@ -108,6 +113,7 @@ no_out rows none (Request.Monitor file composition) h = apart (codes "compile") 
 no_out rows none (Request.Chart file composition) h = apart (codes "compile") (codes "chart") refl refl h.0
 no_out rows none (Request.Graph file composition) h = apart (codes "compile") (codes "graph") refl refl h.0
 no_out rows none (Request.Run s) h = apart (codes "compile") (codes "run") refl refl h.0
+no_out rows none (Request.Seeds s) h = apart (codes "compile") (codes "run") refl refl h.0
 no_out rows none (Request.Check file compositions) h = apart (codes "compile") (codes "check") refl refl h.0
 no_out rows none (Request.Compile file out composition) h = let z : None ≡ Some out.now = sym none ∙ h.2 in cc
 no_out rows none (Request.Dump file) h = apart (codes "compile") (codes "dump") refl refl h.0
@@ -126,6 +132,7 @@ no_log word rows is log invariants (Request.Monitor file composition) h = apart 
 no_log word rows is log invariants (Request.Chart file composition) h = apart (codes "replay") (codes "chart") refl refl (sym is ∙ h.0)
 no_log word rows is log invariants (Request.Graph file composition) h = apart (codes "replay") (codes "graph") refl refl (sym is ∙ h.0)
 no_log word rows is log invariants (Request.Run s) h = apart (codes "replay") (codes "run") refl refl (sym is ∙ h.0)
+no_log word rows is log invariants (Request.Seeds s) h = apart (codes "replay") (codes "run") refl refl (sym is ∙ h.0)
 no_log word rows is log invariants (Request.Check file compositions) h = apart (codes "replay") (codes "check") refl refl (sym is ∙ h.0)
 no_log word rows is log invariants (Request.Compile file out composition) h = apart (codes "replay") (codes "compile") refl refl (sym is ∙ h.0)
 no_log word rows is log invariants (Request.Dump file) h = apart (codes "replay") (codes "dump") refl refl (sym is ∙ h.0)
@@ -144,6 +151,7 @@ no_both word rows is invariants states (Request.Monitor file composition) h = ap
 no_both word rows is invariants states (Request.Chart file composition) h = apart (codes "replay") (codes "chart") refl refl (sym is ∙ h.0)
 no_both word rows is invariants states (Request.Graph file composition) h = apart (codes "replay") (codes "graph") refl refl (sym is ∙ h.0)
 no_both word rows is invariants states (Request.Run s) h = apart (codes "replay") (codes "run") refl refl (sym is ∙ h.0)
+no_both word rows is invariants states (Request.Seeds s) h = apart (codes "replay") (codes "run") refl refl (sym is ∙ h.0)
 no_both word rows is invariants states (Request.Check file compositions) h = apart (codes "replay") (codes "check") refl refl (sym is ∙ h.0)
 no_both word rows is invariants states (Request.Compile file out composition) h = apart (codes "replay") (codes "compile") refl refl (sym is ∙ h.0)
 no_both word rows is invariants states (Request.Dump file) h = apart (codes "replay") (codes "dump") refl refl (sym is ∙ h.0)
@@ -161,26 +169,16 @@ pub set_as : (found : ArgMatches) (flag : Text) (o : Option Text) → o ≡ firs
 set_as found flag o e =
     ap (λ (p : Option Text). option_map_or (λ value. bytes_eq value (codes "true")) p false) (sym (first_value-rows (found_of found) flag) ∙ sym e)
 
--- where the settings of a run are none
-abbrev AreNone : List Row → Type 0
-AreNone rows = (s : Settings) → AreSettings rows s → ⊥
+-- where there are no runs by many seeds
+abbrev AreNoSeeds : List Row → Type 0
+AreNoSeeds rows = (s : Seeds) → AreSeeds rows s → ⊥
 
-pub no_run : (rows : List Row) → AreNone rows → AsksNothing (Some (codes "run", rows))
-no_run rows none (Request.Replay file composition) h = apart (codes "run") (codes "replay") refl refl h.0.0
-no_run rows none (Request.ReplayStates file composition) h = apart (codes "run") (codes "replay") refl refl h.0.0
-no_run rows none (Request.ReplayLog file composition) h = apart (codes "run") (codes "replay") refl refl h.0.0
-no_run rows none (Request.ReplayLogStates file composition) h = apart (codes "run") (codes "replay") refl refl h.0.0
-no_run rows none (Request.ReplayInvariants file composition) h = apart (codes "run") (codes "replay") refl refl h.0.0
-no_run rows none (Request.Run s) h = none s h.1
-no_run rows none (Request.Log file composition) h = apart (codes "run") (codes "log") refl refl h.0
-no_run rows none (Request.Monitor file composition) h = apart (codes "run") (codes "monitor") refl refl h.0
-no_run rows none (Request.Chart file composition) h = apart (codes "run") (codes "chart") refl refl h.0
-no_run rows none (Request.Graph file composition) h = apart (codes "run") (codes "graph") refl refl h.0
-no_run rows none (Request.Check file compositions) h = apart (codes "run") (codes "check") refl refl h.0
-no_run rows none (Request.Compile file out composition) h = apart (codes "run") (codes "compile") refl refl h.0
-no_run rows none (Request.Dump file) h = apart (codes "run") (codes "dump") refl refl h.0
-no_run rows none (Request.Explain topic) h = apart (codes "run") (codes "explain") refl refl h.0
-no_run rows none Request.Library h = apart (codes "run") (codes "library") refl refl h
+no_range : (o : Option Text) (p : ℕ × ℕ) → o ≡ None → option_and_then range_in o ≡ Some p → ⊥
+no_range None p e h = cc
+no_range (Some word) p e h = cc
+
+unnumbered : (rows : List Row) → first_of (codes "seeds") rows ≡ None → AreNoSeeds rows
+unnumbered rows none s h = no_range (first_of (codes "seeds") rows) (s.first, s.last) none h.range
 
 -- settings without a file, without turns, or without a source of words
 pub unfiled_run : (found : ArgMatches) (r : Option Settings) → None ≡ first_value (found_of found) (codes "FILE") → r ≡ None
@@ -207,3 +205,26 @@ unworded found seed file r a b none is =
 -- an option, as it is lent
 pub given : (found : ArgMatches) (name : Text) (o : Option Text) → o ≡ first_value (found_of found) name → first_of name (rows_of (found_of found)) ≡ o
 given found name o e = sym (first_value-rows (found_of found) name) ∙ sym e
+
+-- ---- runs by many seeds
+
+-- an option stands, as it is lent
+pub stands : (found : ArgMatches) (name : Text) (o : Option (Bor Text)) → option_copied o ≡ first_value (found_of found) name
+    → is_some o ≡ is_some (first_of name (rows_of (found_of found)))
+stands found name None e = ap is_some (sym (given found name None e))
+stands found name (Some b) e = ap is_some (sym (given found name (Some b.now) e))
+
+pub unasked_seeds : (found : ArgMatches) (r : Option Seeds) → None ≡ first_value (found_of found) (codes "seeds") → r ≡ None
+    → IfNone r (AreNoSeeds (rows_of (found_of found)))
+unasked_seeds found r none is = none_so r (AreNoSeeds (rows_of (found_of found))) is (unnumbered (rows_of (found_of found)) (given found (codes "seeds") None none))
+
+pub unranged : (found : ArgMatches) (word : Text) (r : Option Seeds) → Some word ≡ first_value (found_of found) (codes "seeds") → None ≡ range_in word → r ≡ None
+    → IfNone r (AreNoSeeds (rows_of (found_of found)))
+unranged found word r there none is =
+    none_so r (AreNoSeeds (rows_of (found_of found))) is
+    (λ s h.
+    let z : None ≡ Some (s.first, s.last) = none ∙ sym (ap (option_and_then range_in) (given found (codes "seeds") (Some word) there)) ∙ h.range in cc)
+
+pub range_read : (found : ArgMatches) (word : Text) (p : ℕ × ℕ) → Some word ≡ first_value (found_of found) (codes "seeds") → Some p ≡ range_in word
+    → option_and_then range_in (first_of (codes "seeds") (rows_of (found_of found))) ≡ Some p
+range_read found word p there e = ap (option_and_then range_in) (given found (codes "seeds") (Some word) there) ∙ sym e

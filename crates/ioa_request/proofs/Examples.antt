@@ -1,14 +1,17 @@
--- What some command lines ask for, computed from the definition of the command line.
-use Rattle.std.proofs.Common.{◌≡◌, Bool, true, false, List, [], ◌∷◌, Option, Some, None, inl, inr, refl, sym, ◌∙◌, codes, option_map}
+-- What some command lines ask for, and the key of a number, computed from the definitions.
+use Rattle.std.proofs.Common.{◌≡◌, Bool, true, false, List, [], ◌∷◌, ◌++◌, replicate, Option, Some, None, inl, inr, refl, sym, ◌∙◌, codes, option_map}
 use Rattle.clap.specs.Words.{Text, fault_of, all_of, first_of, subcommand_of}
 use Rattle.clap.specs.declared.error.kind.ErrorKind.{ErrorKind}
 use Rattle.clap.specs.declared.error.kind.ErrorKind.TheVariants as kinds
 use Rattle.clap.proofs.OnLiterals.{clap_on_literals}
+use Rattle.hex.specs.Hex.{decode_pairs}
+use Rattle.std.specs.Fmt.{digits}
 use Rattle.ioa_arithmetic.specs.declared.arithmetic.Fault.{Fault}
 use Rattle.ioa_request.specs.declared.code.Code.{Code}
 use Rattle.ioa_request.specs.declared.request.Request.{Request}
 use Rattle.ioa_request.specs.declared.topic.Topic.{Topic}
 use Rattle.ioa_request.specs.CommandLine.{IsAsked, ioac_app, is_set}
+use Rattle.ioa_request.specs.Keys.{numbered_digits, numbered_key}
 use Rattle.ioa_request.specs.Pasted.{IsPasted}
 
 -- the command, its file and its composition
@@ -165,3 +168,12 @@ help_beside_file = refl
 
 replayed_with_help : (request : Request) → IsAsked (codes "ioac" ∷ codes "replay" ∷ codes "f" ∷ codes "--help" ∷ []) request → ⊥
 replayed_with_help = faulty (codes "ioac" ∷ codes "replay" ∷ codes "f" ∷ codes "--help" ∷ []) kinds.DisplayHelp help_beside_file
+
+-- ten as `printf %064d` writes it, and its key, whose last byte has both digits
+ten_written : numbered_digits 10 ≡ codes "0000000000000000000000000000000000000000000000000000000000000010"
+unfolding numbered_digits digits
+ten_written = refl
+
+ten_spelled : numbered_key 10 ≡ replicate 31 0 ++ (16 ∷ [])
+unfolding numbered_key numbered_digits digits decode_pairs
+ten_spelled = refl

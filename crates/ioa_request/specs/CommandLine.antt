@@ -1,6 +1,6 @@
 -- The command line that the program reads, in the words of the crate that parses it, and what it asks for.
-use Rattle.std.specs.Prelude.{◌≡◌, Bool, true, false, List, [], Option, Some, None, codes}
-use Rattle.std.specs.Option.{option_copied, option_map_or}
+use Rattle.std.specs.Prelude.{◌≡◌, ◌&&◌, not, Bool, true, false, is_some, List, [], Option, Some, None, codes}
+use Rattle.std.specs.Option.{option_and_then, option_copied, option_map_or}
 use Rattle.std.specs.Str.{bytes_eq}
 use Rattle.clap.specs.Lexer.{usize_max}
 use Rattle.clap.specs.Words.{App, Row, Rule, Text, all_of, fault_of, first_of, new_app, new_rule, subcommand_of, with_rule, with_subcommand}
@@ -9,8 +9,10 @@ use Rattle.clap.specs.declared.builder.action.ArgAction.{ArgAction}
 use Rattle.clap.specs.declared.builder.command.Command.{Command}
 use Rattle.clap.specs.declared.builder.command.Command.TheViews.{out-Command}
 use Rattle.ioa_request.specs.declared.request.Request.{Request}
+use Rattle.ioa_request.specs.declared.seeds.Seeds.{Seeds}
 use Rattle.ioa_request.specs.declared.settings.Settings.{Settings}
 use Rattle.ioa_request.specs.Pasted.{IsPasted}
+use Rattle.ioa_request.specs.Seeds.{range_in}
 use Rattle.ioa_request.specs.Settings.{source_in, source_of, turns_in}
 
 -- words that have to stand
@@ -59,6 +61,10 @@ seed_rule = record (new_rule (codes "seed")) { long = Some (codes "seed"); value
 -- `--words WFILE`
 abbrev pub words_rule : Rule
 words_rule = record (new_rule (codes "words")) { long = Some (codes "words"); value_names = 1 }
+
+-- `--seeds A..B`
+abbrev pub seeds_rule : Rule
+seeds_rule = record (new_rule (codes "seeds")) { long = Some (codes "seeds"); value_names = 1 }
 
 -- `--inputs LFILE`
 abbrev pub inputs_rule : Rule
@@ -109,8 +115,8 @@ graph_app = with_rule (with_rule (with_rule (new_app (codes "graph")) file_rule)
 
 abbrev pub run_app : App
 run_app =
-    with_rule (with_rule (with_rule (with_rule (with_rule (with_rule (with_rule (with_rule (with_rule (with_rule (with_rule (new_app (codes "run")) file_rule) comp_rule) alone_rule)
-    turns_rule) seed_rule) words_rule) inputs_rule) resume_rule) log_rule) reports_rule) explain_rule
+    with_rule (with_rule (with_rule (with_rule (with_rule (with_rule (with_rule (with_rule (with_rule (with_rule (with_rule (with_rule (new_app (codes "run")) file_rule) comp_rule)
+    alone_rule) turns_rule) seed_rule) words_rule) seeds_rule) inputs_rule) resume_rule) log_rule) reports_rule) explain_rule
 
 -- a subcommand has to stand; where no word stands, help is given; there is a version, and a subcommand `help` of the crate that parses
 abbrev pub bare_app : App
@@ -164,6 +170,18 @@ pub record AreSettings (rows : List Row) (s : Settings) : Type 0 where
   pub log : is_set (codes "log") rows ≡ s.log
   pub reports : is_set (codes "reports") rows ≡ s.reports
 
+-- the runs are alone, and nothing is asked for that one run has
+abbrev pub admits_seeds : List Row → Bool
+admits_seeds rows =
+    is_set (codes "alone") rows && not (is_set (codes "log") rows) && not (is_set (codes "reports") rows) && not (is_some (first_of (codes "seed") rows))
+    && not (is_some (first_of (codes "words") rows)) && not (is_some (first_of (codes "resume") rows))
+
+-- runs of these settings by seeds of these numbers are what a subcommand's values ask for
+pub record AreSeeds (rows : List Row) (s : Seeds) : Type 0 where
+  pub run : AreSettings rows s.run
+  pub admitted : admits_seeds rows ≡ true
+  pub range : option_and_then range_in (first_of (codes "seeds") rows) ≡ Some (s.first, s.last)
+
 -- a subcommand with its values, if there is one, asks for this; a replay of a list cannot be asked for invariants, and no replay for
 -- invariants and states
 abbrev pub IsAskedBy : Option (Text × List Row) → Request → Type 0
@@ -182,7 +200,8 @@ IsAskedBy (Some found) (Request.Log file composition) = (found.0 ≡ codes "log"
 IsAskedBy (Some found) (Request.Monitor file composition) = (found.0 ≡ codes "monitor") × Names found.1 file.now (option_copied composition)
 IsAskedBy (Some found) (Request.Chart file composition) = (found.0 ≡ codes "chart") × Names found.1 file.now (option_copied composition)
 IsAskedBy (Some found) (Request.Graph file composition) = (found.0 ≡ codes "graph") × Names found.1 file.now (option_copied composition)
-IsAskedBy (Some found) (Request.Run settings) = (found.0 ≡ codes "run") × AreSettings found.1 settings
+IsAskedBy (Some found) (Request.Run settings) = (found.0 ≡ codes "run") × (first_of (codes "seeds") found.1 ≡ None) × AreSettings found.1 settings
+IsAskedBy (Some found) (Request.Seeds seeds) = (found.0 ≡ codes "run") × AreSeeds found.1 seeds
 IsAskedBy (Some found) (Request.Check file compositions) =
     (found.0 ≡ codes "check") × (first_of (codes "FILE") found.1 ≡ Some file.now) × (is_set (codes "compositions") found.1 ≡ compositions)
 IsAskedBy (Some found) (Request.Compile file out composition) =

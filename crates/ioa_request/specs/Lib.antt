@@ -5,4 +5,5 @@ pub mod Fields
 pub mod Keys
 pub mod Numerals
 pub mod Pasted
+pub mod Seeds
 pub mod Settings

@@ -1,12 +1,13 @@
-//! What the words of a command line ask for: a `Request`, with `Settings` where it is a run. No
-//! file is read for it. Each `Code` and each `Topic` of what the program prints has an explanation
-//! here.
+//! What the words of a command line ask for: a `Request`, with `Settings` where it is a run, and
+//! `Seeds` where it is one for each of many seeds. No file is read for it. Each `Code` and each
+//! `Topic` of what the program prints has an explanation here.
 #![tactic(auto)]
 
 // What is asked for.
 mod reading;
 mod request;
 mod run_usage;
+mod seeds;
 mod settings;
 
 // Words, and what they spell.
@@ -23,8 +24,10 @@ mod topic;
 
 pub use code::Code;
 pub use fields::first_field;
+pub use key::{numbered_digits, numbered_key};
 pub use numerals::numeral;
 pub use reading::{is_explained, is_set, read_request};
 pub use request::{Request, parse};
+pub use seeds::{Seeds, is_given, read_range};
 pub use settings::{Settings, WordsFrom, read_turns};
 pub use topic::Topic;

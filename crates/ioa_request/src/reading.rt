@@ -9,11 +9,12 @@ ghost use Rattle.ioa_request.specs.declared.request.Request.{Request};
 
 use crate::pasted::pasted;
 use crate::request::Request;
+use crate::seeds::{is_given, read_seeds};
 use crate::settings::read_settings;
 use clap::ArgMatches;
 
 /// The request of a command line without a fault. None where a word is missing, which a parse rules out, where there is nothing to explain,
-/// where the invariants of a list are asked for, or invariants and states, or where the settings of a run are none.
+/// where the invariants of a list are asked for, or invariants and states, or where the settings of a run, or of runs by many seeds, are none.
 pub fn read_request<'a>(matches: &ArgMatches<'a>) -> Option<Request<'a>>
     ensures some { IfSome result (λ asked. IsAskedBy (subcommand_rows_of matches.now) asked) }
     ensures none { IfNone result ((asked : Request) → IsAskedBy (subcommand_rows_of matches.now) asked → ⊥) }
@@ -97,6 +98,10 @@ fn read_run<'a>(found: &ArgMatches<'a>) -> Option<Request<'a>>
     ensures some { IfSome result (λ asked. IsAskedBy (Some (codes "run", rows_of (found_of found.now))) asked) }
     ensures none { IfNone result ((asked : Request) → IsAskedBy (Some (codes "run", rows_of (found_of found.now))) asked → ⊥) }
 {
+    if is_given(found, "seeds") {
+        let seeds = read_seeds(found)?;
+        return Some(Request::Seeds(seeds));
+    }
     let settings = read_settings(found)?;
     Some(Request::Run(settings))
 }

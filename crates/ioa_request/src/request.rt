@@ -5,6 +5,7 @@ ghost use Rattle.clap.specs.Words.{FailsBy, app_of, fault_of, new_app, rule_of, 
 ghost use Rattle.ioa_request.specs.CommandLine.{IsLocal, chart_app, check_app, comp_rule, compile_app, compositions_rule, dump_app, explain_app, explain_rule, file_rule, graph_app, invariants_rule, ioac_app, library_app, log_app, log_rule, monitor_app, out_rule, replay_app, states_rule, text_rule};
 
 use crate::run_usage::run_command;
+use crate::seeds::Seeds;
 use crate::settings::Settings;
 use crate::topic::Topic;
 use clap::{Arg, ArgAction, ArgMatches, Command, Error};
@@ -46,6 +47,8 @@ pub enum Request<'a> {
     },
     /// To run a composition of a source, or an object.
     Run(Settings<'a>),
+    /// To run a composition of a source, or an object, by each of many seeds.
+    Seeds(Seeds<'a>),
     /// To monitor the log on standard input by a composition of a source, or by an object.
     Monitor {
         file: &'a str,

@@ -2,7 +2,7 @@
 
 ghost use Rattle.std.specs.Prelude.{◌≡◌, false, codes, IfOk};
 ghost use Rattle.clap.specs.Words.{app_of, new_app, rule_of};
-ghost use Rattle.ioa_request.specs.CommandLine.{IsLocal, alone_rule, inputs_rule, log_rule, reports_rule, resume_rule, run_app, seed_rule, turns_rule, words_rule};
+ghost use Rattle.ioa_request.specs.CommandLine.{IsLocal, alone_rule, inputs_rule, log_rule, reports_rule, resume_rule, run_app, seed_rule, seeds_rule, turns_rule, words_rule};
 
 use crate::request::{composition_option, explain_flag, file_argument};
 use clap::{Arg, ArgAction, Command};
@@ -44,6 +44,18 @@ fn words_option<'a>(alloc: Global) -> Arg<'a>
         .long("words")
         .value_name("WFILE")
         .help("In place of a seed: a file with a line of words for each component")
+}
+
+fn seeds_option<'a>(alloc: Global) -> Arg<'a>
+    ensures rule { rule_of result ≡ seeds_rule }
+    ensures local { result.global ≡ false }
+{
+    Arg::new(alloc, "seeds")
+        .long("seeds")
+        .value_name("A..B")
+        .help(
+            "With --alone: a run for each seed from number A to B, and its end on a line; then counts",
+        )
 }
 
 fn inputs_option<'a>(alloc: Global) -> Arg<'a>
@@ -98,6 +110,7 @@ pub fn run_command<'a>(alloc: Global) -> Result<Command<'a>, AllocError>
         .arg(turns_option(alloc))?
         .arg(seed_option(alloc))?
         .arg(words_option(alloc))?
+        .arg(seeds_option(alloc))?
         .arg(inputs_option(alloc))?
         .arg(resume_option(alloc))?
         .arg(log_flag(alloc))?
@@ -105,7 +118,7 @@ pub fn run_command<'a>(alloc: Global) -> Result<Command<'a>, AllocError>
         .arg(explain_flag(alloc))
 }
 
-/// The subcommand without its arguments. Its usage is written out, since a seed and a file of words are not given together.
+/// The subcommand without its arguments. Its usage is written out, since a seed, a file of words and numbers of seeds are not given together.
 fn described_run<'a>(alloc: Global) -> Command<'a>
     ensures app { app_of result ≡ new_app (codes "run") }
     ensures local { IsLocal result }
@@ -116,12 +129,14 @@ fn described_run<'a>(alloc: Global) -> Command<'a>
             "Each component is a worker, which proposes actions by its words and performs those that are enabled.\n\
              The environment performs the inputs of LFILE in order, one action a line, as `reset`.\n\
              WFILE has the words of the first component on its first line, in decimal, as `9 17 4`; then they are 0.\n\
+             With --seeds each line has the 64 digits of a seed and the end of its run; the last line counts them. Such runs have\n\
+             no seed, words, log or reports of their own, and go on from none.\n\
              RFILE has a log as `ioac run --log` prints it: the run begins with its actions; turns, words and inputs begin anew.\n\
              Example: ioac run --alone --turns 20 protocol.ioa\n\
              Exit status: 0 done, 1 source or object refused, 2 bad command line, words or turns, 3 ended by a fault,\n\
              4 inputs or log refused, 5 memory, a thread, a file or a device.",
         )
         .override_usage(
-            "ioac run [--comp <NAME>] [--alone] [--turns <N>] [--seed <HEX>|--words <WFILE>] [--inputs <LFILE>] [--resume <RFILE>] [--log] [--reports] [--explain] <FILE>",
+            "ioac run [--comp <NAME>] [--alone] [--turns <N>] [--seed <HEX>|--words <WFILE>|--seeds <A..B>] [--inputs <LFILE>] [--resume <RFILE>] [--log] [--reports] [--explain] <FILE>",
         )
 }

@@ -34,7 +34,7 @@ stream_words key i g ws is e k =
     let first : 0 + k ≡ k = omega arith in
     ap (λ (f : Words). f k) (sym e) ∙ ap (λ (h : ChaCha). words_from h k) is ∙ ap (λ n. word_at 4 (key_of key) i (n % 2 ^ 68)) first
 
-key_given : (key : List ℕ) (n : ℕ) (sources : List ChaCha) → AreStreams key n sources → HaveOwn n (key_words key) (map words_from sources)
+pub key_given : (key : List ℕ) (n : ℕ) (sources : List ChaCha) → AreStreams key n sources → HaveOwn n (key_words key) (map words_from sources)
 key_given key n sources a = record {
   count = length-map sources words_from ∙ a.count;
   each = λ i ws at. let m = mapped words_from sources i ws at in stream_words key i m.0 ws (a.each i m.0 m.1) m.2;

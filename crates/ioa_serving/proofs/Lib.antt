@@ -18,6 +18,9 @@ pub mod Refused
 pub mod RoundRobin
 pub mod RunLogs
 pub mod RunServed
+pub mod SeedCuts
+pub mod SeedLines
+pub mod SeedsServed
 pub mod Streams
 pub mod Subjects
 pub mod Traced

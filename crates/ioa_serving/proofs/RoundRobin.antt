@@ -18,7 +18,7 @@ use Rattle.ioa_serving.proofs.Going.{hosts_resumed}
 use Rattle.ioa_serving.proofs.Hosted.{log_of}
 use Rattle.ioa_serving.proofs.Subjects.{of_both}
 
-turned : (p : Prog) (x : Subject) (before : Logged) (words : List Words) (script : List Act) (turns : ℕ) (o : Outcome) → IsProgram p → RunsAs p x
+pub turned : (p : Prog) (x : Subject) (before : Logged) (words : List Words) (script : List Act) (turns : ℕ) (o : Outcome) → IsProgram p → RunsAs p x
     → IsAloneSince p before words script turns o → AreTurnsSince x before words script turns (log_of o.log.items o.end) o.reports.items
 turned p x before words script turns o program runs (b, resumed, a) =
     of_both p x (λ y. AreTurnsSince y before words script turns (log_of o.log.items o.end) o.reports.items) runs

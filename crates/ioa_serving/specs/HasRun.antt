@@ -1,20 +1,29 @@
--- What was run: the program's run, before anything is written.
-use Rattle.std.specs.Prelude.{◌≤◌, ℕ, List, All, length}
-use Rattle.ioa_value.specs.Actions.{Act, Name}
+-- What was read for a run, and what was run: the program's run, before anything is written.
+use Rattle.std.specs.Prelude.{◌≤◌, ℕ, List, All, length, map}
+use Rattle.ioa_value.specs.Actions.{Act, Name, act_of}
 use Rattle.ioa_value.specs.Plain.{Val}
 use Rattle.ioa_node.specs.Nodes.{Node}
-use Rattle.ioa_compile.specs.Tables.{tabled}
+use Rattle.ioa_compile.specs.Tables.{IsProgram, tabled}
 use Rattle.ioa_run.specs.Alone.{HasResumed, IsInput, most_turns}
 use Rattle.ioa_run.specs.Boards.{Standing}
 use Rattle.ioa_run.specs.Histories.{GoesOn, since}
 use Rattle.ioa_run.specs.Outcomes.{HaveEnded, IsLogOf}
 use Rattle.ioa_run.specs.Reports.{AreTold}
 use Rattle.ioa_system.specs.Logs.{Logged, log_end, logged}
+use Rattle.ioa_serving.specs.declared.ready.Ready.{Ready}
 use Rattle.ioa_serving.specs.declared.run.Ran.{Ran}
 use Rattle.ioa_request.specs.declared.settings.Settings.{Settings}
-use Rattle.ioa_serving.specs.Alone.{IsExact, IsReady}
+use Rattle.ioa_serving.specs.Alone.{AreSources, IsExact, IsReady}
 use Rattle.ioa_serving.specs.Running.{RunsAs}
 use Rattle.ioa_serving.specs.Subjects.{Subject}
+
+-- all was read, and the program does what this subject does
+pub record HasReady (holds : Name → List ℕ → Type 0) (s : Settings) (r : Ready) : Type 0 where
+  pub subject : Subject
+  pub ready : IsReady holds s subject (map act_of r.script.items) (logged r.log)
+  pub runs : RunsAs r.program subject
+  pub program : IsProgram r.program
+  pub words : AreSources holds s.words (length r.program.members) r.words
 
 -- all was read, and the program was run as this subject: the log is that of a board, whose history begins with that of the log from which the run went
 -- on, the reports tell of what is new in it and of all turns that its workers had, and on one thread both are those of the subject's turns

@@ -20,6 +20,8 @@ pub mod Printed
 pub mod Resuming
 pub mod RunReports
 pub mod Running
+pub mod SeedRuns
+pub mod Seeds
 pub mod Serving
 pub mod States
 pub mod Statuses

@@ -23,6 +23,7 @@ use Rattle.ioa_serving.specs.Logs.{Found}
 use Rattle.ioa_serving.specs.RunReports.{wants_text}
 use Rattle.ioa_serving.specs.Pictures.{BeginsChartOf, IsGraphed, IsLogChart, IsUngraphed}
 use Rattle.ioa_serving.specs.Alone.{IsRunServed, IsRunUnserved}
+use Rattle.ioa_serving.specs.Seeds.{IsSeedsServed, IsSeedsUnserved}
 use Rattle.ioa_serving.specs.Failing.{IsFailure, IsInvariantFailure, IsLogReplayFailure, IsMonitorFailure, IsStatesFailure, IsUnwritten, BeginsReplayOf, BeginsLogOf, BeginsLogStatesOf, BeginsFoundOf, BeginsMonitorOf, BeginsStatesOf}
 use Rattle.ioa_serving.specs.Statuses.{answer_status, ending_status, found_status}
 
@@ -51,7 +52,7 @@ run_failure RunErr.OutOfMemory = Failure.OutOfMemory
 
 -- the file may hold a text such that the list or the log was replayed, or monitored, or the log of the list's run was written, in the
 -- composition that is asked for, the last one where none is, with or without the states in which it ends; or the log or the composition was drawn; or that passed the check; or its object was put
--- in a file; or it was dumped; or a composition was run; or the topic was explained; or the library's text was written. Reports of a run are left to be told, and the
+-- in a file; or it was dumped; or a composition was run, or so it was by many seeds; or the topic was explained; or the library's text was written. Reports of a run are left to be told, and the
 -- workers to which memory was refused
 abbrev pub IsServed : Files → Request → Change → Change → Option (List ℕ) → List ℕ → Status → Type 0
 IsServed f (Request.Replay file composition) input output told wants status =
@@ -81,6 +82,7 @@ IsServed f (Request.Chart file composition) input output told wants status =
 IsServed f (Request.Graph file composition) input output told wants status =
     ((text : List ℕ) × f.holds file.now text × IsGraphed text (option_copied composition) output.before.bytes output.after.bytes) × (status ≡ Status.Done) × (told ≡ None)
 IsServed f (Request.Run settings) input output told wants status = IsRunServed f.holds settings output.before.bytes output.after.bytes told wants status
+IsServed f (Request.Seeds seeds) input output told wants status = IsSeedsServed f.holds seeds output.before.bytes output.after.bytes status × (told ≡ None)
 IsServed f (Request.Check file compositions) input output told wants status =
     ((text : List ℕ) × f.holds file.now text × IsCheck text compositions output.before.bytes output.after.bytes) × (status ≡ Status.Done) × (told ≡ None)
 IsServed f (Request.Compile file out composition) input output told wants status =
@@ -95,7 +97,7 @@ abbrev pub IsUnread : Type 0 → Change → Failure → Type 0
 IsUnread lacks output e = (((e ≡ Failure.Io) × lacks) ⊎ (e ≡ Failure.OutOfMemory)) × Untouched output
 
 -- The file is not read, or it may hold a text with which the replay, the log of a list, the monitor, the chart, the graph, the check or the dump fails so; or no object is
--- made; or nothing is run, or the run's text is not all written; or the topic is not explained; or the library's text is not written. The reader of standard input and the writer failed
+-- made; or nothing is run, or the run's text, or that of runs by many seeds, is not all written; or the topic is not explained; or the library's text is not written. The reader of standard input and the writer failed
 -- where these say so.
 abbrev pub IsUnserved : Files → Request → Change → Change → List ℕ → Failure → Type 0
 IsUnserved f (Request.Replay file composition) input output wants e =
@@ -135,6 +137,7 @@ IsUnserved f (Request.Graph file composition) input output wants e =
     ⊎ ((text : List ℕ) × f.holds file.now text × IsUngraphed text (option_copied composition) (Failed output) output.before.bytes output.after.bytes e)
 IsUnserved f (Request.Run settings) input output wants e =
     IsRunUnserved f.holds f.lacks settings (Failed output) output.before.bytes output.after.bytes wants e
+IsUnserved f (Request.Seeds seeds) input output wants e = IsSeedsUnserved f.holds f.lacks seeds (Failed output) output.before.bytes output.after.bytes e
 IsUnserved f (Request.Check file compositions) input output wants e =
     IsUnread (f.lacks file.now) output e
     ⊎ ((text : List ℕ) × f.holds file.now text × IsCheckFailure text compositions (Failed output) e × IsUnchecked output.before.bytes output.after.bytes e)
@@ -157,6 +160,7 @@ IsReading (Request.Monitor file composition) = Unit {0}
 IsReading (Request.Chart file composition) = Unit {0}
 IsReading (Request.Graph file composition) = ⊥
 IsReading (Request.Run settings) = ⊥
+IsReading (Request.Seeds seeds) = ⊥
 IsReading (Request.Check file compositions) = ⊥
 IsReading (Request.Compile file out composition) = ⊥
 IsReading (Request.Dump file) = ⊥
@@ -175,6 +179,7 @@ IsRunning (Request.Monitor file composition) = ⊥
 IsRunning (Request.Chart file composition) = ⊥
 IsRunning (Request.Graph file composition) = ⊥
 IsRunning (Request.Run settings) = Unit {0}
+IsRunning (Request.Seeds seeds) = ⊥
 IsRunning (Request.Check file compositions) = ⊥
 IsRunning (Request.Compile file out composition) = ⊥
 IsRunning (Request.Dump file) = ⊥
@@ -193,6 +198,7 @@ IsSaving (Request.Monitor file composition) = ⊥
 IsSaving (Request.Chart file composition) = ⊥
 IsSaving (Request.Graph file composition) = ⊥
 IsSaving (Request.Run settings) = ⊥
+IsSaving (Request.Seeds seeds) = ⊥
 IsSaving (Request.Check file compositions) = ⊥
 IsSaving (Request.Compile file out composition) = Unit {0}
 IsSaving (Request.Dump file) = ⊥

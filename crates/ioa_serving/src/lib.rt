@@ -28,11 +28,13 @@ mod replay;
 mod states_replay;
 
 // Runs.
+mod ready;
 mod reports;
 mod run;
 mod run_log;
 mod script;
 mod seed;
+mod seeds;
 mod trace;
 mod word_sources;
 mod words_file;
@@ -70,6 +72,7 @@ pub use progress::Progress;
 pub use replay::replay_text;
 pub use reports::send_wants;
 pub use run::{Ran, run_file};
+pub use seeds::run_seeds_file;
 pub use served::{Served, silent};
 pub use states_replay::{replay_log_states_text, replay_states_text};
 pub use status::{Status, status_of};

@@ -18,17 +18,15 @@ ghost use Rattle.ioa_serving.specs.Serving.{reports_of, wants_of};
 ghost use Rattle.ioa_serving.specs.Statuses.{ending_status};
 ghost use Rattle.ioa_serving.specs.Traces.{performed, ran_text, table_reports, table_text};
 
-use crate::compile::program_of;
 use crate::failure::Failure;
 use crate::pacer::Pacer;
+use crate::ready::{Ready, load_run};
 use crate::reports::reports_text;
-use crate::run_log::load_log;
-use crate::script::load_script;
 use crate::served::Served;
 use crate::status::status_of;
 use crate::store::Store;
 use crate::trace::trace_text;
-use crate::word_sources::{WordSources, load_words};
+use crate::word_sources::WordSources;
 use ioa_compile::Program;
 use ioa_log::{Log, LogErr, OutputDevice, send_all, write_log};
 use ioa_node::Words;
@@ -117,12 +115,13 @@ fn run_settings<H: Threads + Wait + Clock + Sync, F: Store>(
     ensures ran { IfOk result (λ r. HasRun (F.holds store.now) settings.now r) }
     ensures refused { IfErr result (λ e. IsUnrun (F.holds store.now) (F.lacks store.now) settings.now e) }
 {
-    let text = store.load(alloc, settings.file)?;
-    let program = program_of(alloc, text.as_slice(), settings.composition)?;
-    let components = program.members().len();
-    let words = load_words(alloc, settings.words, components, store)?;
-    let script = load_script(alloc, program.types(), settings.inputs, store)?;
-    let log = load_log(alloc, program.types(), settings.resume, store)?;
+    let ready = load_run(alloc, settings, store)?;
+    let Ready {
+        program,
+        words,
+        script,
+        log,
+    } = ready;
     let outcome = run_sources(
         rt,
         alloc,

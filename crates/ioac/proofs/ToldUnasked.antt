@@ -3,23 +3,37 @@ use Rattle.std.proofs.Common.{◌≡◌, Bool, List, Option, Some, None, refl, s
 use Rattle.std.specs.Str.{bytes_eq}
 use Rattle.clap.specs.Words.{Row, Text, first_of, first_value, found_of, rows_of, subcommand_name_of, subcommand_rows_of}
 use Rattle.clap.specs.declared.parser.matches.ArgMatches.{ArgMatches}
-use Rattle.ioac.specs.Telling.{asks_both, bad_request_text, bad_settings_text, missing_log_text, unasked_text}
+use Rattle.ioac.specs.Telling.{asks_both, bad_request_text, bad_run_text, bad_run_text_by, bad_seeds_text, bad_settings_text, missing_log_text, unasked_text}
 use Rattle.ioa_request.proofs.Asked.{given, lent}
 
--- what is told of a run whose settings are none, and of another request
-pub told_run : (m found : ArgMatches) (name : Text) (turns seed file : Option Text) → Some name ≡ subcommand_name_of m
+-- what is told of a run, and of another request
+pub told_run : (m found : ArgMatches) (name : Text) → Some name ≡ subcommand_name_of m
     → Some (rows_of (found_of found)) ≡ option_map (λ p. p.1) (subcommand_rows_of m) → bytes_eq name (codes "run") ≡ true
-    → turns ≡ first_value (found_of found) (codes "turns") → seed ≡ first_value (found_of found) (codes "seed") → file ≡ first_value (found_of found) (codes "words")
-    → bad_settings_text turns seed file ≡ unasked_text (subcommand_rows_of m)
-told_run m found name turns seed file e f is t s w =
+    → bad_run_text (rows_of (found_of found)) ≡ unasked_text (subcommand_rows_of m)
+told_run m found name e f is =
     let rows = rows_of (found_of found) in
     let here = lent m found name name e f refl in
+    let chosen : unasked_text (Some (name, rows)) ≡ bad_run_text rows = rw is refl in
+    sym chosen ∙ ap unasked_text (sym here)
+
+-- of a run whose settings are none
+pub told_settings : (found : ArgMatches) (turns seed file : Option Text) → None ≡ first_value (found_of found) (codes "seeds")
+    → turns ≡ first_value (found_of found) (codes "turns") → seed ≡ first_value (found_of found) (codes "seed") → file ≡ first_value (found_of found) (codes "words")
+    → bad_settings_text turns seed file ≡ bad_run_text (rows_of (found_of found))
+told_settings found turns seed file none t s w =
+    let rows = rows_of (found_of found) in
     let values : bad_settings_text turns seed file ≡ bad_settings_text (first_of (codes "turns") rows) (first_of (codes "seed") rows) (first_of (codes "words") rows) =
     ap (λ x. bad_settings_text x seed file) (sym (given found (codes "turns") turns t))
     ∙ ap (λ x. bad_settings_text (first_of (codes "turns") rows) x file) (sym (given found (codes "seed") seed s))
     ∙ ap (λ x. bad_settings_text (first_of (codes "turns") rows) (first_of (codes "seed") rows) x) (sym (given found (codes "words") file w)) in
-    let chosen : unasked_text (Some (name, rows)) ≡ bad_settings_text (first_of (codes "turns") rows) (first_of (codes "seed") rows) (first_of (codes "words") rows) = rw is refl in
-    values ∙ sym chosen ∙ ap unasked_text (sym here)
+    values ∙ sym (ap (λ o. bad_run_text_by o rows) (given found (codes "seeds") None none))
+
+-- of runs by many seeds
+pub told_seeds : (found : ArgMatches) (word : Text) (turns : Option Text) → Some word ≡ first_value (found_of found) (codes "seeds")
+    → turns ≡ first_value (found_of found) (codes "turns") → bad_seeds_text word turns ≡ bad_run_text (rows_of (found_of found))
+told_seeds found word turns there t =
+    let rows = rows_of (found_of found) in
+    ap (bad_seeds_text word) (sym (given found (codes "turns") turns t)) ∙ sym (ap (λ o. bad_run_text_by o rows) (given found (codes "seeds") (Some word) there))
 
 pub told_other : (m found : ArgMatches) (name : Text) (code : Option Text) (both : Bool) → Some name ≡ subcommand_name_of m
     → Some (rows_of (found_of found)) ≡ option_map (λ p. p.1) (subcommand_rows_of m) → bytes_eq name (codes "run") ≡ false

@@ -16,6 +16,7 @@ use Rattle.ioac.specs.Remarks.{source_of}
 -- what a run is asked to be
 abbrev pub settings_of : Request → Option Settings
 settings_of (Request.Run settings) = Some settings
+settings_of (Request.Seeds seeds) = Some seeds.run
 settings_of (Request.Replay file composition) = None
 settings_of (Request.ReplayStates file composition) = None
 settings_of (Request.ReplayLog file composition) = None
@@ -57,6 +58,7 @@ files_of request = file_of request ∷ words_of request ∷ inputs_of request �
 abbrev pub out_of : Request → Option Name
 out_of (Request.Compile file out composition) = Some out.now
 out_of (Request.Run settings) = None
+out_of (Request.Seeds seeds) = None
 out_of (Request.Replay file composition) = None
 out_of (Request.ReplayStates file composition) = None
 out_of (Request.ReplayLog file composition) = None
@@ -83,6 +85,7 @@ input_name (Request.Monitor file composition) = codes "log"
 input_name (Request.Chart file composition) = codes "log"
 input_name (Request.Graph file composition) = codes "log"
 input_name (Request.Run settings) = codes "log"
+input_name (Request.Seeds seeds) = codes "log"
 input_name (Request.Check file compositions) = codes "log"
 input_name (Request.Compile file out composition) = codes "log"
 input_name (Request.Dump file) = codes "log"

@@ -9,6 +9,7 @@ use Rattle.ioa_request.specs.Codes.{all_codes, spelling}
 use Rattle.ioa_request.specs.CommandLine.{is_set}
 use Rattle.ioa_serving.specs.Devices.{Change, Failed, Wrote}
 use Rattle.ioa_serving.specs.Printed.{failure_text}
+use Rattle.ioa_request.specs.Seeds.{range_in}
 use Rattle.ioa_request.specs.Settings.{turns_in}
 use Rattle.ioa_serving.specs.Statuses.{failure_status}
 
@@ -72,6 +73,14 @@ seed_wanted = codes "64 hexadecimal digits"
 abbrev pub turns_wanted : List ℕ
 turns_wanted = codes "a whole number from 0 to 100000"
 
+-- and of the numbers of seeds
+abbrev pub seeds_wanted : List ℕ
+seeds_wanted = codes "two whole numbers, the first no greater, as 1..500"
+
+-- of turns that are no number
+abbrev pub bad_turns_text : Text → List ℕ
+bad_turns_text word = invalid_value_text word (codes "--turns <N>") turns_wanted
+
 -- of words that are given twice
 abbrev pub two_sources_text : List ℕ
 two_sources_text = codes "error: the argument '--seed <HEX>' cannot be used with '--words <WFILE>'" ++ try_help
@@ -86,7 +95,30 @@ bad_source_text (Some digits) (Some file) = two_sources_text
 abbrev pub bad_settings_text : Option Text → Option Text → Option Text → List ℕ
 bad_settings_text None seed file = bad_source_text seed file
 bad_settings_text (Some word) seed file =
-    if is_some (turns_in (Some word)) then bad_source_text seed file else invalid_value_text word (codes "--turns <N>") turns_wanted
+    if is_some (turns_in (Some word)) then bad_source_text seed file else bad_turns_text word
+
+-- of runs by many seeds, which have not what one run has
+abbrev pub misplaced_seeds_text : List ℕ
+misplaced_seeds_text =
+    codes "error: the argument '--seeds <A..B>' needs '--alone', and cannot be used with '--seed', '--words', '--resume', '--log' or '--reports'" ++ try_help
+
+-- of turns that are no number, or else of what stands with numbers of seeds
+abbrev pub bad_seeds_turns_text : Option Text → List ℕ
+bad_seeds_turns_text None = misplaced_seeds_text
+bad_seeds_turns_text (Some word) = if is_some (turns_in (Some word)) then misplaced_seeds_text else bad_turns_text word
+
+-- of numbers of seeds that are none, or else of what stands with them
+abbrev pub bad_seeds_text : Text → Option Text → List ℕ
+bad_seeds_text word turns =
+    if is_some (range_in word) then bad_seeds_turns_text turns else invalid_value_text word (codes "--seeds <A..B>") seeds_wanted
+
+-- of a run, or of runs by many seeds
+abbrev pub bad_run_text_by : Option Text → List Row → List ℕ
+bad_run_text_by None rows = bad_settings_text (first_of (codes "turns") rows) (first_of (codes "seed") rows) (first_of (codes "words") rows)
+bad_run_text_by (Some word) rows = bad_seeds_text word (first_of (codes "turns") rows)
+
+abbrev pub bad_run_text : List Row → List ℕ
+bad_run_text rows = bad_run_text_by (first_of (codes "seeds") rows) rows
 
 -- invariants and states are asked for
 abbrev pub asks_both : List Row → Bool
@@ -106,5 +138,5 @@ bad_request_text (Some word) both = unknown_code_text word known_codes
 abbrev pub unasked_text : Option (Text × List Row) → List ℕ
 unasked_text None = missing_log_text
 unasked_text (Some found) =
-    if bytes_eq found.0 (codes "run") then bad_settings_text (first_of (codes "turns") found.1) (first_of (codes "seed") found.1) (first_of (codes "words") found.1)
+    if bytes_eq found.0 (codes "run") then bad_run_text found.1
     else bad_request_text (first_of (codes "TEXT") found.1) (asks_both found.1)

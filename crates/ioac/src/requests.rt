@@ -18,8 +18,8 @@ use ioa_serving::explain::explain;
 use ioa_serving::{
     Failure, Finding, Ran, Served, Status, Store, chart_log_text, check_text, compile_file,
     dump_object, graph_text, log_list_text, monitor_text, replay_invariants_text,
-    replay_log_states_text, replay_log_text, replay_states_text, replay_text, run_file, silent,
-    status_of, write_library,
+    replay_log_states_text, replay_log_text, replay_states_text, replay_text, run_file,
+    run_seeds_file, silent, status_of, write_library,
 };
 use ioa_system::End;
 use std::alloc::Global;
@@ -76,6 +76,7 @@ pub(crate) fn serve<H: Threads + Wait + Clock + Sync, F: Store, R: InputDevice, 
             None,
         ),
         Request::Run(settings) => run_file(rt, alloc, settings, store, output),
+        Request::Seeds(seeds) => (run_seeds_file(alloc, seeds, store, output), None),
         Request::Monitor { file, composition } => (
             monitor(alloc, file, *composition, store, input, output),
             None,

@@ -15,7 +15,7 @@ use crate::telling::{put, put_short, reported};
 use clap::ArgMatches;
 use clap::error::ErrorKind;
 use ioa_log::{OutputDevice, send_all};
-use ioa_request::{Code, is_set, read_turns};
+use ioa_request::{Code, is_set, read_range, read_turns};
 use ioa_serving::{Failure, Status};
 use std::alloc::{AllocError, Global};
 
@@ -100,14 +100,61 @@ fn unasked_text(alloc: Global, matches: &ArgMatches<'_>) -> Result<String, Alloc
         return missing_log_text(alloc);
     };
     if name == "run" {
-        return bad_settings_text(
-            alloc,
-            found.get_str("turns"),
-            found.get_str("seed"),
-            found.get_str("words"),
-        );
+        return bad_run_text(alloc, found);
     }
     bad_request_text(alloc, found.get_str("TEXT"), asks_both(found))
+}
+
+/// What is wrong with the words for a run, or for runs by many seeds.
+#[tactic(auto, using(crate::proofs::ToldUnasked::told_settings, crate::proofs::ToldUnasked::told_seeds))]
+fn bad_run_text(alloc: Global, found: &ArgMatches<'_>) -> Result<String, AllocError>
+    ensures { IfOk result (λ text. string_bytes text ≡ telling.bad_run_text (rows_of (found_of found.now))) }
+{
+    let turns = found.get_str("turns");
+    match found.get_str("seeds") {
+        Some(word) => bad_seeds_text(alloc, word, turns),
+        None => bad_settings_text(alloc, turns, found.get_str("seed"), found.get_str("words")),
+    }
+}
+
+/// What is wrong with runs by many seeds: with their numbers, or else with the turns, or with what stands besides.
+fn bad_seeds_text(alloc: Global, word: &str, turns: Option<&str>) -> Result<String, AllocError>
+    ensures { IfOk result (λ text. string_bytes text ≡ telling.bad_seeds_text word.now (option_copied turns.entry)) }
+{
+    if read_range(word).is_none() {
+        return invalid_value_text(
+            alloc,
+            word,
+            "--seeds <A..B>",
+            "two whole numbers, the first no greater, as 1..500",
+        );
+    }
+    match turns {
+        Some(digits) if read_turns(turns).is_none() => bad_turns_text(alloc, digits),
+        _ => misplaced_seeds_text(alloc),
+    }
+}
+
+/// What is wrong with turns that are no number.
+fn bad_turns_text(alloc: Global, word: &str) -> Result<String, AllocError>
+    ensures { IfOk result (λ text. string_bytes text ≡ telling.bad_turns_text word.now) }
+{
+    invalid_value_text(
+        alloc,
+        word,
+        "--turns <N>",
+        "a whole number from 0 to 100000",
+    )
+}
+
+/// That runs by many seeds are alone, and have nothing that one run has, in the manner of `clap`.
+fn misplaced_seeds_text(alloc: Global) -> Result<String, AllocError>
+    ensures { IfOk result (λ text. string_bytes text ≡ telling.misplaced_seeds_text) }
+{
+    String::from_str(
+        alloc,
+        "error: the argument '--seeds <A..B>' needs '--alone', and cannot be used with '--seed', '--words', '--resume', '--log' or '--reports'\n\nFor more information, try '--help'.\n",
+    )
 }
 
 /// Whether a replay is asked for invariants and for states.
@@ -129,14 +176,7 @@ fn bad_settings_text(
     ensures { IfOk result (λ text. string_bytes text ≡ telling.bad_settings_text (option_copied turns.entry) (option_copied seed.entry) (option_copied file.entry)) }
 {
     match turns {
-        Some(word) if read_turns(turns).is_none() => {
-            invalid_value_text(
-                alloc,
-                word,
-                "--turns <N>",
-                "a whole number from 0 to 100000",
-            )
-        }
+        Some(word) if read_turns(turns).is_none() => bad_turns_text(alloc, word),
         _ => bad_source_text(alloc, seed, file),
     }
 }

@@ -2,23 +2,31 @@
 #![tactic(auto)]
 
 mod files;
+mod progress;
 
 use crate::files::Files;
+use crate::progress::{Emptying, Metered};
 use ioa_log::Counted;
 use ioac::command::command;
 use ioac::{Tee, told_unread};
+use std::io::IsTerminal;
 use std::process::ExitCode;
 use std::{env, io};
 
 fn main(rt: HostRuntime) -> ExitCode {
-    let mut errors = Counted::new(rt.stderr());
     let words = match words_of(&rt) {
         Ok(words) => words,
-        Err(error) => return ExitCode::from(told_unread(&error, &mut errors).number()),
+        Err(error) => {
+            let mut errors = Counted::new(rt.stderr());
+            return ExitCode::from(told_unread(&error, &mut errors).number());
+        }
     };
+    let shows = has_progress(&rt, words.as_slice());
+    let terminal = if shows { Some(rt.stderr()) } else { None };
     let mut store = Files::new(&rt);
     let mut input = Tee::new(Counted::new(rt.stdin()));
-    let mut output = Counted::new(rt.stdout());
+    let mut output = Counted::new(Metered::new(rt.stdout(), terminal));
+    let mut errors = Counted::new(Emptying::new(rt.stderr(), shows));
     let status = command(
         &rt,
         rt.alloc(),
@@ -28,7 +36,16 @@ fn main(rt: HostRuntime) -> ExitCode {
         &mut output,
         &mut errors,
     );
+    errors.into_inner().empty();
     ExitCode::from(status)
+}
+
+/// Whether how far it is is shown: of runs by many seeds, on a terminal that does not have their lines.
+fn has_progress(rt: &HostRuntime, words: &[String]) -> bool {
+    let has_seeds = words
+        .iter()
+        .any(|word| word.as_str().starts_with("--seeds"));
+    has_seeds && rt.stderr().is_terminal() && !rt.stdout().is_terminal()
 }
 
 /// The words of the command line, the program's own first.

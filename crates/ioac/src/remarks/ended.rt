@@ -144,6 +144,7 @@ fn put_served(
         Request::ReplayInvariants { .. } => put_invariants(alloc, text, told),
         Request::Monitor { .. } => put_monitor(alloc, text, told),
         Request::Run(_) => put_end_of_run(alloc, text, status, told),
+        Request::Seeds(_) => Ok(()),
         Request::Graph { .. } => Ok(()),
         Request::Check { .. } => Ok(()),
         Request::Compile { .. } => Ok(()),

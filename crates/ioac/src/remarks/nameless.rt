@@ -57,6 +57,7 @@ fn put_served(
         Request::ReplayInvariants { .. } => Ok(()),
         Request::Chart { .. } => Ok(()),
         Request::Run(_) => Ok(()),
+        Request::Seeds(_) => Ok(()),
         Request::Graph { .. } => Ok(()),
         Request::Check { .. } => Ok(()),
         Request::Compile { .. } => Ok(()),

@@ -131,6 +131,7 @@ pub fn source_of<'a>(asked: &Request<'a>) -> Option<(&'a str, Option<&'a str>)>
             ..
         } => Some((*file, *composition)),
         Request::Run(settings) => Some((settings.file, settings.composition)),
+        Request::Seeds(seeds) => Some((seeds.run.file, seeds.run.composition)),
         Request::Check { file, .. } => Some((*file, None)),
         Request::Dump { file } => Some((*file, None)),
         Request::Explain { .. } => None,
@@ -166,6 +167,7 @@ fn settings_of<'b, 'a>(asked: &'b Request<'a>) -> Option<&'b Settings<'a>>
 {
     match asked {
         Request::Run(settings) => Some(settings),
+        Request::Seeds(seeds) => Some(&seeds.run),
         Request::Replay { .. } => None,
         Request::ReplayStates { .. } => None,
         Request::ReplayLog { .. } => None,
@@ -229,6 +231,7 @@ pub fn out_of<'a>(asked: &Request<'a>) -> Option<&'a str>
     match asked {
         Request::Compile { out, .. } => Some(*out),
         Request::Run(_) => None,
+        Request::Seeds(_) => None,
         Request::Replay { .. } => None,
         Request::ReplayStates { .. } => None,
         Request::ReplayLog { .. } => None,
@@ -260,6 +263,7 @@ pub fn input_name(asked: &Request<'_>) -> &'static str
         Request::Chart { .. } => "log",
         Request::Graph { .. } => "log",
         Request::Run(_) => "log",
+        Request::Seeds(_) => "log",
         Request::Check { .. } => "log",
         Request::Compile { .. } => "log",
         Request::Dump { .. } => "log",

@@ -85,12 +85,47 @@ const COUNTS: &str = "\
 --alone --seed 00000000000000000000000000000000000000000000000000000000000000000 |  |  |  | error: invalid value '00000000000000000000000000000000000000000000000000000000000000000' for '--seed <HEX>'^  [wanted: 64 hexadecimal digits]^^For more information, try '--help'.^ | 2
 --alone --seed g000000000000000000000000000000000000000000000000000000000000000 |  |  |  | error: invalid value 'g000000000000000000000000000000000000000000000000000000000000000' for '--seed <HEX>'^  [wanted: 64 hexadecimal digits]^^For more information, try '--help'.^ | 2
 --alone --seed 12 --words w |  |  |  | error: the argument '--seed <HEX>' cannot be used with '--words <WFILE>'^^For more information, try '--help'.^ | 2
+-- runs by many seeds: the decimal digits of each number, in order, from the first to the last
+--alone --turns 2 --seeds 9..11 |  |  | 0000000000000000000000000000000000000000000000000000000000000009 end: done after 2^0000000000000000000000000000000000000000000000000000000000000010 end: done after 2^0000000000000000000000000000000000000000000000000000000000000011 end: done after 2^seeds 3; done 3; fault 0^ |  | 0
+--alone --turns 2 --inputs l --seeds 7..7 |  | reset | 0000000000000000000000000000000000000000000000000000000000000007 end: done after 3^seeds 1; done 1; fault 0^ |  | 0
+--alone --turns 0 --seeds 000255..256 |  |  | 0000000000000000000000000000000000000000000000000000000000000255 end: done after 0^0000000000000000000000000000000000000000000000000000000000000256 end: done after 0^seeds 2; done 2; fault 0^ |  | 0
+--alone --turns 1 --seeds 18446744073709551615..18446744073709551615 |  |  | 0000000000000000000000000000000000000000000018446744073709551615 end: done after 1^seeds 1; done 1; fault 0^ |  | 0
+-- what refuses a run refuses these before a line
+--alone --turns 100001 --seeds 1..2 |  |  |  | N1^ | 2
+--alone --turns 2 --inputs l --seeds 1..2 |  | tick(5) |  | N2 index 0^ | 4
+--alone --inputs l --seeds 1..2 |  | reset^tick( |  | L2 line 2^ | 4
+--alone --inputs q --seeds 1..2 |  |  |  | io^ | 5
+--alone --comp Nine --seeds 1..2 |  |  |  | E17^ | 1
+-- numbers that are none
+--alone --seeds 2..1 |  |  |  | error: invalid value '2..1' for '--seeds <A..B>'^  [wanted: two whole numbers, the first no greater, as 1..500]^^For more information, try '--help'.^ | 2
+--alone --seeds 1 |  |  |  | error: invalid value '1' for '--seeds <A..B>'^  [wanted: two whole numbers, the first no greater, as 1..500]^^For more information, try '--help'.^ | 2
+--alone --seeds 1.. |  |  |  | error: invalid value '1..' for '--seeds <A..B>'^  [wanted: two whole numbers, the first no greater, as 1..500]^^For more information, try '--help'.^ | 2
+--alone --seeds ..2 |  |  |  | error: invalid value '..2' for '--seeds <A..B>'^  [wanted: two whole numbers, the first no greater, as 1..500]^^For more information, try '--help'.^ | 2
+--alone --seeds 1...2 |  |  |  | error: invalid value '1...2' for '--seeds <A..B>'^  [wanted: two whole numbers, the first no greater, as 1..500]^^For more information, try '--help'.^ | 2
+--alone --seeds 1.2 |  |  |  | error: invalid value '1.2' for '--seeds <A..B>'^  [wanted: two whole numbers, the first no greater, as 1..500]^^For more information, try '--help'.^ | 2
+--alone --seeds 1..18446744073709551616 |  |  |  | error: invalid value '1..18446744073709551616' for '--seeds <A..B>'^  [wanted: two whole numbers, the first no greater, as 1..500]^^For more information, try '--help'.^ | 2
+--alone --seeds a..b |  |  |  | error: invalid value 'a..b' for '--seeds <A..B>'^  [wanted: two whole numbers, the first no greater, as 1..500]^^For more information, try '--help'.^ | 2
+--alone --seeds +1..2 |  |  |  | error: invalid value '+1..2' for '--seeds <A..B>'^  [wanted: two whole numbers, the first no greater, as 1..500]^^For more information, try '--help'.^ | 2
+--alone --seeds 1..2..3 |  |  |  | error: invalid value '1..2..3' for '--seeds <A..B>'^  [wanted: two whole numbers, the first no greater, as 1..500]^^For more information, try '--help'.^ | 2
+--alone --seeds 2..1 --turns x |  |  |  | error: invalid value '2..1' for '--seeds <A..B>'^  [wanted: two whole numbers, the first no greater, as 1..500]^^For more information, try '--help'.^ | 2
+--alone --seeds 1..2 --turns x |  |  |  | error: invalid value 'x' for '--turns <N>'^  [wanted: a whole number from 0 to 100000]^^For more information, try '--help'.^ | 2
+-- what does not go with them
+--seeds 1..2 |  |  |  | error: the argument '--seeds <A..B>' needs '--alone', and cannot be used with '--seed', '--words', '--resume', '--log' or '--reports'^^For more information, try '--help'.^ | 2
+--seeds 1..2 --turns 2 |  |  |  | error: the argument '--seeds <A..B>' needs '--alone', and cannot be used with '--seed', '--words', '--resume', '--log' or '--reports'^^For more information, try '--help'.^ | 2
+--alone --seeds 1..2 --seed 12 |  |  |  | error: the argument '--seeds <A..B>' needs '--alone', and cannot be used with '--seed', '--words', '--resume', '--log' or '--reports'^^For more information, try '--help'.^ | 2
+--alone --seeds 1..2 --seed 0000000000000000000000000000000000000000000000000000000000000000 |  |  |  | error: the argument '--seeds <A..B>' needs '--alone', and cannot be used with '--seed', '--words', '--resume', '--log' or '--reports'^^For more information, try '--help'.^ | 2
+--alone --seeds 1..2 --words w |  |  |  | error: the argument '--seeds <A..B>' needs '--alone', and cannot be used with '--seed', '--words', '--resume', '--log' or '--reports'^^For more information, try '--help'.^ | 2
+--alone --seeds 1..2 --resume r |  |  |  | error: the argument '--seeds <A..B>' needs '--alone', and cannot be used with '--seed', '--words', '--resume', '--log' or '--reports'^^For more information, try '--help'.^ | 2
+--alone --seeds 1..2 --log |  |  |  | error: the argument '--seeds <A..B>' needs '--alone', and cannot be used with '--seed', '--words', '--resume', '--log' or '--reports'^^For more information, try '--help'.^ | 2
+--alone --seeds 1..2 --reports |  |  |  | error: the argument '--seeds <A..B>' needs '--alone', and cannot be used with '--seed', '--words', '--resume', '--log' or '--reports'^^For more information, try '--help'.^ | 2
 ";
 
 /// The same.
 const FAULTS: &str = "\
 --alone --turns 1 |  |  | end: fault 4 in component 1 at 0^ |  | 3
 --alone --turns 1 --log --reports |  |  | {\"act\":\"go\",\"who\":0}^{\"end\":\"fault 4 in component 1 at 0\"}^ | G: 0 committed, 0 idle, 0 stale, faulted^P: 0 committed, 1 idle, 0 stale, turns done^environment: 0 committed, 1 idle, 0 stale, turns done^ | 3
+--alone --turns 1 --seeds 0..1 |  |  | 0000000000000000000000000000000000000000000000000000000000000000 end: fault 4 in component 1 at 0^0000000000000000000000000000000000000000000000000000000000000001 end: fault 4 in component 1 at 0^seeds 2; done 0; fault 2^ |  | 3
+--alone --turns 0 --seeds 3..3 |  |  | 0000000000000000000000000000000000000000000000000000000000000003 end: done after 0^seeds 1; done 1; fault 0^ |  | 0
 --turns 1 |  |  | end: fault 4 in component 1 at 0^ |  | 3
 --turns 1 --log --reports |  |  | {\"act\":\"go\",\"who\":0}^{\"end\":\"fault 4 in component 1 at 0\"}^ | G: 0 committed, 0 idle, 0 stale, faulted^P: 0 committed, 1 idle, 0 stale, turns done^environment: 0 committed, 1 idle, 0 stale, turns done^ | 3
 ";

@@ -30,6 +30,13 @@ const PRINTED: &str = "tick(5)\ntick(6)\nreset\nend: done after 3\n";
 /// The same with the state in which it ends.
 const REACHED: &str = "tick(5)\ntick(6)\nreset\nend: done after 3\nA.c = 5\n";
 
+/// Of a run by each of two seeds.
+const SEEDED: &str = "\
+0000000000000000000000000000000000000000000000000000000000000008 end: done after 1
+0000000000000000000000000000000000000000000000000000000000000009 end: done after 1
+seeds 2; done 2; fault 0
+";
+
 /// The log as a chart.
 const CHART: &str =
     "sequenceDiagram\n  participant P0 as A\n  participant P1 as environment\n  Note over P0: tick(5)\n  Note over P0: tick(6)\n  P1->>P0: reset\n";
@@ -48,7 +55,7 @@ const DUMP: &str =
     "composition X\ncomponent 0 A\n  output go\n    constant 0: Bool (true)\n    precondition\n      0 Const 0: Bool (true)\n    proposals\n    effect\n";
 
 /// The words, a file, and what stands on standard input, which is read where there is something; what is printed, and the exit status.
-const GIVEN: [(&str, &str, &str, &str, Status); 18] = [
+const GIVEN: [(&str, &str, &str, &str, Status); 19] = [
     (REPLAY, COUNTER, LIST, PRINTED, Status::Done),
     ("replay f --states", COUNTER, LIST, REACHED, Status::Done),
     (
@@ -93,6 +100,13 @@ const GIVEN: [(&str, &str, &str, &str, Status); 18] = [
         COUNTER,
         "",
         "{\"act\":\"tick(5)\",\"who\":0}\n{\"end\":\"done after 1\"}\n",
+        Status::Done,
+    ),
+    (
+        "run f --alone --turns 1 --seeds 8..9",
+        COUNTER,
+        "",
+        SEEDED,
         Status::Done,
     ),
     (

@@ -1,0 +1,16 @@
+use Rattle.std.proofs.Common.{sym}
+use Rattle.ioa_request.proofs.Asked.{range_read, unasked_seeds, unranged}
+use Rattle.ioa_request.proofs.seeds.read_seeds.Goals as goal
+
+pub returns-in_err-word-clause-none : goal.returns-in_err-word-clause-none
+returns-in_err-word-clause-none c = unasked_seeds c.args.found.now _ c.in_err-word.ensures c.from_residual.ensures
+
+pub returns-in_err-first-clause-none : goal.returns-in_err-first-clause-none
+returns-in_err-first-clause-none c = unranged c.args.found.now c.in_ok-word.word.now _ c.in_ok-word.ensures c.in_err-first.ensures c.from_residual-in_err-first.ensures
+
+pub returns-then-admits_seeds-clause-some : goal.returns-then-admits_seeds-clause-some
+returns-then-admits_seeds-clause-some c = record {
+  run = c.in_ok-run.ensures.some;
+  admitted = sym c.if-admits_seeds.ensures;
+  range = range_read c.args.found.now c.in_ok-word.word.now (c.in_ok-first.first, c.in_ok-first.last) c.in_ok-word.ensures c.in_ok-first.ensures;
+}
