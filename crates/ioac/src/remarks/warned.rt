@@ -4,9 +4,8 @@ ghost use Rattle.std.specs.Prelude.{◌≡◌, [], IfOk, OnOk};
 ghost use Rattle.std.specs.String.{string_bytes};
 ghost use Rattle.ioac.specs.Remarks.{IsChecking};
 
-use crate::remarks::ended::loaded;
 use ioa_request::Request;
-use ioa_serving::{Store, is_object};
+use ioa_serving::{Store, StoreErr, is_object};
 use ioa_syntax::{Refusal, parse};
 use ioa_tree::Declaration;
 use ioa_value::OutOfMemory;
@@ -28,7 +27,7 @@ pub fn put<F: Store>(
     Ok(())
 }
 
-/// The warnings of a source that was to be checked.
+/// The warnings of a source that was to be checked. None, where it cannot be read now.
 pub fn warnings<F: Store>(
     alloc: Global,
     asked: &Request<'_>,
@@ -40,7 +39,11 @@ pub fn warnings<F: Store>(
     let Request::Check { file, .. } = asked else {
         return Ok(text);
     };
-    let source = loaded(alloc, file, store)?;
+    let source = match store.load(alloc, file) {
+        Ok(source) => source,
+        Err(StoreErr::Io) => return Ok(text),
+        Err(StoreErr::OutOfMemory) => return Err(OutOfMemory),
+    };
     if is_object(source.as_slice()) {
         return Ok(text);
     }
