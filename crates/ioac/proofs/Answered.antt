@@ -1,5 +1,5 @@
 -- What was served, or not, and what is told of it.
-use Rattle.std.proofs.Common.{◌≡◌, ◌∙◌, ◌⊎◌, ℕ, List, Option, Result, Ok, Err, IfOk, inl, inr}
+use Rattle.std.proofs.Common.{◌≡◌, ◌∙◌, ◌⊎◌, ℕ, List, Option, None, Some, Result, Ok, Err, IfOk, IfSome, inl, inr}
 use Rattle.std.specs.Prelude.{IfErr}
 use Rattle.ioa_serving.specs.declared.failure.Failure.{Failure}
 use Rattle.ioa_serving.specs.declared.served.Served.{Served}
@@ -25,6 +25,11 @@ if_ok P Q (Err e) f p = tt
 pub if_err : {A E : Type 0} (P Q : E → Type 0) (r : Result A E) → ((e : E) → P e → Q e) → IfErr r P → IfErr r Q
 if_err P Q (Ok x) f p = tt
 if_err P Q (Err e) f p = f e p
+
+-- what follows of what a call found
+pub if_some : {A : Type 0} (P Q : A → Type 0) (o : Option A) → ((x : A) → P x → Q x) → IfSome o P → IfSome o Q
+if_some P Q None f p = tt
+if_some P Q (Some x) f p = f x p
 
 -- one of both is so, with what there is to tell of workers
 pub answered : (r : Result Served Failure) (of : List ℕ → Type 0) (served finished : Option (List ℕ) → List ℕ → Status → Type 0) (unserved reported : List ℕ → Failure → Type 0)

@@ -1,5 +1,5 @@
 -- What the words of a command line ask for, by what is read of them.
-use Rattle.std.proofs.Common.{◌≡◌, ℕ, List, Option, inr, sym, subst}
+use Rattle.std.proofs.Common.{◌≡◌, List, Option, inr, sym, subst}
 use Rattle.clap.specs.Words.{Row, Text, subcommand_of}
 use Rattle.ioa_serving.specs.declared.status.Status.{Status}
 use Rattle.ioa_serving.specs.Devices.{Change, Untouched}

@@ -1,6 +1,6 @@
 -- What is told, where an explanation is asked for, of a request that was not served: the line by which an editor jumps to what is wrong, and below it that line;
 -- then what its code means.
-use Rattle.std.specs.Prelude.{◌≡◌, ◌≢◌, ◌⊎◌, ◌++◌, ◌∷◌, ◌+◌, ℕ, List, [], Option, Some, None, length}
+use Rattle.std.specs.Prelude.{◌≡◌, ◌≢◌, ◌⊎◌, ◌++◌, ◌∷◌, ◌+◌, ℕ, List, Option, Some, None, length}
 use Rattle.ioa_value.specs.Actions.{Name}
 use Rattle.ioa_value.specs.Table.{Table}
 use Rattle.ioa_system.specs.Logs.{Logged}
@@ -16,6 +16,7 @@ use Rattle.ioa_serving.specs.declared.failure.Failure.{Failure}
 use Rattle.ioa_serving.specs.FailureCodes.{failure_code}
 use Rattle.ioac.specs.declared.remarks.places.Place.{Place}
 use Rattle.ioac.specs.Places.{file_of, input_name, inputs_of, place_of, resume_of, words_of}
+use Rattle.ioac.specs.Worded.{TellsCause}
 use Rattle.ioac.specs.Remarks.{IsDifference, IsLoaded, flat_text, jump_text}
 
 -- ---- one line
@@ -28,6 +29,12 @@ TellsLine file n code bytes before after = (words : List ℕ) × (after ≡ befo
 abbrev pub TellsFileLine : (Name → List ℕ → Type 0) → (Name → Type 0) → Option Name → ℕ → Code → List ℕ → List ℕ → Type 0
 TellsFileLine holds lacks None n code before after = after ≡ before
 TellsFileLine holds lacks (Some file) n code before after = (bytes : List ℕ) × IsLoaded holds lacks file bytes × TellsLine file n code bytes before after
+
+-- of a source, as it may be now, with words that tell the failure's cause; nothing, where none is named
+abbrev pub TellsSourceLine : (Name → List ℕ → Type 0) → (Name → Type 0) → Option Name → ℕ → Failure → List ℕ → List ℕ → Type 0
+TellsSourceLine holds lacks None n e before after = after ≡ before
+TellsSourceLine holds lacks (Some file) n e before after =
+    (bytes words : List ℕ) × IsLoaded holds lacks file bytes × TellsCause e bytes words × (after ≡ before ++ jump_text file n (failure_code e) words bytes)
 
 -- of the line of a script that holds the action of this index; nothing, where none does
 abbrev pub TellsActionOn : Name → Option ℕ → Code → List ℕ → List ℕ → List ℕ → Type 0
@@ -72,7 +79,7 @@ MayTellFile (Some file) code before after = (after ≡ before) ⊎ ((words : Lis
 
 abbrev pub TellsAt : (Name → List ℕ → Type 0) → (Name → Type 0) → Request → List ℕ → Failure → Place → List ℕ → List ℕ → Type 0
 TellsAt holds lacks request input e Place.Nowhere before after = after ≡ before
-TellsAt holds lacks request input e (Place.Source n) before after = TellsFileLine holds lacks (file_of request) n (failure_code e) before after
+TellsAt holds lacks request input e (Place.Source n) before after = TellsSourceLine holds lacks (file_of request) n e before after
 TellsAt holds lacks request input e (Place.Words n) before after = TellsFileLine holds lacks (words_of request) n (failure_code e) before after
 TellsAt holds lacks request input e (Place.Log n) before after = TellsFileLine holds lacks (resume_of request) n (failure_code e) before after
 TellsAt holds lacks request input e (Place.Action i) before after = TellsAction holds lacks (inputs_of request) i (failure_code e) before after

@@ -1,5 +1,5 @@
 -- What is told, where an explanation is asked for, of a request that was served: by what the files may hold now, and by what was heard of standard input.
-use Rattle.std.specs.Prelude.{◌≡◌, ◌≢◌, ◌⊎◌, ◌++◌, ℕ, true, false, if◌then◌else◌, List, [], Option, Some, None, codes}
+use Rattle.std.specs.Prelude.{◌≡◌, ◌≢◌, ◌⊎◌, ◌++◌, ℕ, true, false, List, [], Option, Some, None, codes}
 use Rattle.std.specs.Borrow.{Bor}
 use Rattle.std.specs.Fmt.{decimal}
 use Rattle.std.specs.Option.{option_copied, option_map, option_map_or}
@@ -13,7 +13,7 @@ use Rattle.ioa_compose.specs.Held.{composed_of}
 use Rattle.ioa_compose.specs.Simulates.{Simulates}
 use Rattle.ioa_compile.specs.Programs.{Prog}
 use Rattle.ioa_object.specs.declared.failure.ObjErr.{ObjErr}
-use Rattle.ioa_system.specs.Logs.{Logged, actions_of, is_fault, log_end, logged}
+use Rattle.ioa_system.specs.Logs.{Logged, actions_of, logged}
 use Rattle.ioa_log.specs.Begun.{IsBegun, IsUnbegun}
 use Rattle.ioa_log.specs.LogTexts.{GoesOnAt, HasNoEnd, NoEntryAt, NotJsonAt, ReadsLog, log_text}
 use Rattle.ioa_account.specs.declared.remarks.Told.{Told}
@@ -23,6 +23,7 @@ use Rattle.ioa_account.specs.Quoted.{shown_text}
 use Rattle.ioa_account.specs.Remarks.{TellsDifference, TellsEnd, TellsInspected, TellsMonitored, list_line, log_line}
 use Rattle.ioac.specs.declared.remarks.ended.Ended.{Ended}
 use Rattle.ioac.specs.Hints.{TellsHint}
+use Rattle.ioac.specs.Idle.{idle_text}
 use Rattle.ioa_request.specs.declared.code.Code.{Code}
 use Rattle.ioa_request.specs.declared.request.Request.{Request}
 use Rattle.ioa_request.specs.Codes.{spelling}
@@ -109,10 +110,14 @@ TellsListEnd t before after = OfList t (TellsListed t) before after
 abbrev pub TellsLogEnd : Told → List ℕ → List ℕ → Type 0
 TellsLogEnd t before after = OfLog t (λ log. TellsEnd t (log_line t) (actions_of log)) before after
 
+-- of a run that is done which of their actions the components never performed; behind that stand words for people
+abbrev pub TellsIdle : Told → Logged → List ℕ → List ℕ → Type 0
+TellsIdle t log before after = (rest : List ℕ) × (after ≡ before ++ (idle_text log.entries 0 t.composition.now.members ++ rest))
+
 -- of a run that a fault ended the same as of its log
 abbrev pub TellsRunEnd : Status → Told → List ℕ → List ℕ → Type 0
 TellsRunEnd Status.Faulted t before after = TellsLogEnd t before after
-TellsRunEnd Status.Done t before after = after ≡ before
+TellsRunEnd Status.Done t before after = OfLog t (TellsIdle t) before after
 TellsRunEnd Status.NotAccepted t before after = after ≡ before
 TellsRunEnd Status.Refused t before after = after ≡ before
 TellsRunEnd Status.BadCommandLine t before after = after ≡ before
@@ -217,10 +222,10 @@ IsChecking (Request.Dump file) = ⊥
 IsChecking (Request.Explain topic) = ⊥
 IsChecking Request.Library = ⊥
 
--- the log of a run that a fault ended, which stands for what would be heard
-abbrev pub fault_log_of : Option Ran → Option (List ℕ)
-fault_log_of None = None
-fault_log_of (Some r) = if is_fault (log_end r.log.end) then Some (log_text r.program.types (logged r.log)) else None
+-- the log of a run, which stands for what would be heard
+abbrev pub log_of_run : Option Ran → Option (List ℕ)
+log_of_run None = None
+log_of_run (Some r) = Some (log_text r.program.types (logged r.log))
 
 -- what is told of a request that was served to this status, behind the warnings
 abbrev pub IsRemark : (Name → List ℕ → Type 0) → (Name → Type 0) → Request → List ℕ → Status → List ℕ → Type 0

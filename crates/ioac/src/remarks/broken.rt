@@ -1,5 +1,14 @@
 //! The token at which a rule of names or types is broken, and the names that a source declares.
 
+ghost use Rattle.std.specs.Prelude.{◌≡◌, ℕ, List, IfOk, IfSome, true};
+ghost use Rattle.ioa_lex.specs.Lexing.{placed};
+ghost use Rattle.ioa_lex.specs.Tokens as lexed;
+ghost use Rattle.ioa_lex.specs.Tokens.{kind_shown};
+ghost use Rattle.ioa_tree.specs.Names.{LegalNames};
+ghost use Rattle.ioa_tree.specs.View.{tree_of};
+ghost use Rattle.ioa_syntax.specs.Stuck.{IsNumbered};
+ghost use Rattle.ioac.specs.Words as spec;
+
 use ioa_lex::{Kind, Terminal, Token};
 use ioa_rules::source_fine;
 use ioa_syntax::{Numbered, Refusal, parse_numbered};
@@ -18,8 +27,22 @@ pub struct Broken {
     pub refusal: Refusal,
 }
 
+impl Broken {
+    /// The declarations, whose lines are indices of tokens, and the tokens.
+    pub fn parts(&self) -> (&[Declaration], &[Token])
+        ensures numbered { (text : List ℕ) → IsNumbered text (placed self.now.numbered.tokens.items) (tree_of self.now.numbered.source)
+            → IsNumbered text (placed result.1.now) (tree_of result.0.now) }
+        ensures legal { LegalNames (tree_of result.0.now) }
+    {
+        let declarations = self.numbered.source.declarations();
+        (declarations, self.numbered.tokens.as_slice())
+    }
+}
+
 /// What rule a text breaks, and at which token. None, where it breaks none of its own.
-pub fn broken_in(alloc: Global, text: &[u8]) -> Result<Option<Broken>, OutOfMemory> {
+pub fn broken_in(alloc: Global, text: &[u8]) -> Result<Option<Broken>, OutOfMemory>
+    ensures { IfOk result (λ found. IfSome found (λ broken. IsNumbered text.now (placed broken.numbered.tokens.items) (tree_of broken.numbered.source))) }
+{
     let numbered = match parse_numbered(alloc, text) {
         Ok(numbered) => numbered,
         Err(Refusal::OutOfMemory) => return Err(OutOfMemory),
@@ -42,15 +65,42 @@ pub fn line_of(tokens: &[Token], index: u32) -> u32 {
 }
 
 /// The name that the token of this index is.
-pub fn name_at(tokens: &[Token], index: u32) -> Option<&str> {
+pub fn name_at(tokens: &[Token], index: u32) -> Option<&str>
+    ensures { IfSome result (λ x. spec.StandsAt tokens.now index (lexed.name x.now)) }
+{
     match tokens.get(index as usize) {
-        Some(
-            Token {
-                kind: Kind::Name(name),
-                ..
-            },
-        ) => Some(name.as_str()),
-        _ => None,
+        Some(token) => name_in(&token.kind),
+        None => None,
+    }
+}
+
+fn name_in(kind: &Kind) -> Option<&str>
+    ensures { IfSome result (λ x. kind_shown kind.now ≡ lexed.name x.now) }
+{
+    match kind {
+        Kind::Name(name) => Some(name.as_str()),
+        Kind::Number(_) | Kind::Terminal(_) => None,
+    }
+}
+
+/// The line of the token of this index, where it is this name.
+pub fn line_of_name(tokens: &[Token], index: u32, name: &str) -> Option<u32>
+    ensures { IfSome result (λ line. spec.StandsOn tokens.now index (lexed.name name.now) line) }
+{
+    let token = tokens.get(index as usize)?;
+    if is_name(&token.kind, name) {
+        Some(token.line)
+    } else {
+        None
+    }
+}
+
+fn is_name(kind: &Kind, name: &str) -> bool
+    ensures { result ≡ true → kind_shown kind.now ≡ lexed.name name.now }
+{
+    match name_in(kind) {
+        Some(found) => found == name,
+        None => false,
     }
 }
 

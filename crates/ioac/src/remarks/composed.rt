@@ -13,7 +13,7 @@ use crate::remarks::heads::{put_flat, put_jump};
 use crate::remarks::heard::program_in;
 use crate::remarks::places::{file_of, source_of};
 use crate::remarks::sources::{assembly_in, checked_in, picked};
-use crate::remarks::unseen::{self, Unseen, line_of_unseen, unseen_in};
+use crate::remarks::unseen::{Unseen, line_of_unseen, unseen_in, unseen_words};
 use crate::remarks::wordings::wording;
 use ioa_request::{Code, Request};
 use ioa_serving::{Failure, Store, is_object};
@@ -152,7 +152,7 @@ pub fn put_unseen<F: Store>(
         return Ok(());
     };
     let bytes = loaded(alloc, name, store)?;
-    match unseen_words(alloc, asked, bytes.as_slice())? {
+    match hiding_of(alloc, asked, bytes.as_slice())? {
         Some(hiding) => {
             let words = hiding.words.as_str();
             match hiding.line {
@@ -172,7 +172,7 @@ struct Hiding {
 }
 
 /// What the composition of a file does unseen. None, where the file is refused, or is another one by now.
-fn unseen_words(
+fn hiding_of(
     alloc: Global,
     asked: &Request<'_>,
     bytes: &[u8],
@@ -185,8 +185,7 @@ fn unseen_words(
         return Ok(None);
     };
     let line = line_in(alloc, bytes, composition, found)?;
-    let mut words = String::new(alloc);
-    unseen::put(&mut words, found)?;
+    let words = unseen_words(alloc, found)?;
     Ok(Some(Hiding { line, words }))
 }
 

@@ -9,8 +9,10 @@ ghost use Rattle.ioa_log.specs.LogTexts.{ReadsLog};
 ghost use Rattle.ioa_account.specs.Remarks.{TellsDifference, TellsInspected, TellsMonitored};
 ghost use Rattle.ioa_serving.specs.Logs.{performed_in};
 ghost use Rattle.ioac.specs.Remarks as spec;
-ghost use Rattle.ioac.specs.Remarks.{IsComposed, IsLoaded, IsNoLog, OfBegun, OfHosts, OfLog, Explains, TellsEnded, TellsListEnd, TellsListed, TellsLogEnd, TellsRunEnd, TellsSource};
+ghost use Rattle.ioac.specs.Remarks.{IsComposed, IsLoaded, IsNoLog, OfBegun, OfHosts, OfLog, Explains, TellsEnded, TellsIdle, TellsListEnd, TellsListed, TellsLogEnd, TellsRunEnd, TellsSource};
 
+use crate::remarks::hints::taken_text;
+use crate::remarks::idle::put_idle_and;
 use crate::remarks::places::source_of;
 use crate::remarks::{hints, nameless};
 use ioa_account::{
@@ -143,7 +145,9 @@ fn put_served(
         Request::Chart { .. } => put_end_of_log(alloc, text, told),
         Request::ReplayInvariants { .. } => put_invariants(alloc, text, told),
         Request::Monitor { .. } => put_monitor(alloc, text, told),
-        Request::Run(_) => put_end_of_run(alloc, text, status, told),
+        Request::Run(settings) => {
+            put_end_of_run(alloc, text, status, told, settings.composition)
+        }
         Request::Seeds(_) => Ok(()),
         Request::Graph { .. } => Ok(()),
         Request::Check { .. } => Ok(()),
@@ -195,23 +199,57 @@ fn put_end_of_log(alloc: Global, text: &mut String, told: &Told<'_>) -> Result<(
     }
 }
 
-/// Puts the action at which a fault ended a run, and which fault it is: the same as of its log. Of a run that no fault ended there is nothing to say.
+/// Puts the action at which a fault ended a run, and which fault it is, the same as of its log; or of a run that is done what was never performed.
 fn put_end_of_run(
     alloc: Global,
     text: &mut String,
     status: Status,
     told: &Told<'_>,
+    name: Option<&str>,
 ) -> Result<(), OutOfMemory>
     ensures { OnOk result (TellsRunEnd status told.now (string_bytes text.old) (string_bytes text.new)) }
 {
     match status {
         Status::Faulted => put_end_of_log(alloc, text, told),
-        Status::Done => Ok(()),
+        Status::Done => put_done_run(alloc, text, told, name),
         Status::NotAccepted => Ok(()),
         Status::Refused => Ok(()),
         Status::BadCommandLine => Ok(()),
         Status::Unable => Ok(()),
     }
+}
+
+/// Puts which actions of its components a run that is done never performed, and which composition was taken, where none was named.
+fn put_done_run(
+    alloc: Global,
+    text: &mut String,
+    told: &Told<'_>,
+    name: Option<&str>,
+) -> Result<(), OutOfMemory>
+    ensures { OnOk result (OfLog told.now (TellsIdle told.now) (string_bytes text.old) (string_bytes text.new)) }
+{
+    match heard_log(alloc, told.composition.types(), told.input)? {
+        Some(log) => put_performed(alloc, text, told, name, &log),
+        None => Ok(()),
+    }
+}
+
+fn put_performed(
+    alloc: Global,
+    text: &mut String,
+    told: &Told<'_>,
+    name: Option<&str>,
+    log: &Log,
+) -> Result<(), OutOfMemory>
+    ensures { OnOk result (TellsIdle told.now (logged log.now) (string_bytes text.old) (string_bytes text.new)) }
+{
+    let taken = taken_text(alloc, told.composition, told.source, name)?;
+    put_idle_and(
+        text,
+        told.composition.members(),
+        &log.entries,
+        taken.as_str(),
+    )
 }
 
 /// Puts why a log is not of the composition's run, by the run of its actions up to this line, and by its end, where this comes next: no more of

@@ -116,17 +116,29 @@ fn rest_text(
             writeln!(text, "is `{near}` meant?")?;
         }
     }
-    if name.is_none() {
-        let count = count_compositions(alloc, source)?;
-        if count > 1 {
-            let taken = composition.name();
-            writeln!(
-                text,
-                "no composition was named, so that `{taken}` was taken, the last of {count}"
-            )?;
-        }
-    }
+    let taken = taken_text(alloc, composition, source, name)?;
+    text.push_str(taken.as_str())?;
     Ok(text)
+}
+
+/// Which composition was taken, where none was named and there are several.
+pub fn taken_text(
+    alloc: Global,
+    composition: &Composition,
+    source: &[u8],
+    name: Option<&str>,
+) -> Result<String, OutOfMemory> {
+    if name.is_some() {
+        return Ok(String::new(alloc));
+    }
+    let count = count_compositions(alloc, source)?;
+    if count < 2 {
+        return Ok(String::new(alloc));
+    }
+    let taken = composition.name();
+    Ok(format!(in alloc;
+        "no composition was named, so that `{taken}` was taken, the last of {count}\n"
+    )?)
 }
 
 /// How many compositions a source declares.

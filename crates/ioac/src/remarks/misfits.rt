@@ -1,5 +1,13 @@
 //! The token at which no source goes on, and what may stand in its place.
 
+ghost use Rattle.std.specs.Prelude.{◌≡◌, ◌++◌, ℕ, List, IfOk, MatchOption, OnOk};
+ghost use Rattle.std.specs.String.{string_bytes};
+ghost use Rattle.ioa_lex.specs.Lexing.{placed};
+ghost use Rattle.ioa_lex.specs.Spaced.{text_of};
+ghost use Rattle.ioa_lex.specs.Tokens.{kind_shown};
+ghost use Rattle.ioa_syntax.specs.Stuck.{IsStuckIn};
+ghost use Rattle.ioac.specs.Words as spec;
+
 use crate::remarks::expected::Expected;
 use crate::remarks::nearest::nearest;
 use ioa_grammar::goes_on;
@@ -57,20 +65,64 @@ const MISSING: [Terminal; 19] = [
     Terminal::Equal,
 ];
 
-/// Puts the token of a source at which none goes on, and answers whether there is one.
-pub fn put(alloc: Global, text: &mut String, source: &[u8]) -> Result<bool, OutOfMemory> {
-    let Some(stuck) = stuck_in(alloc, source)? else {
-        return Ok(false);
-    };
-    let Stuck { tokens, at } = stuck;
-    let mut front = declaration_before(alloc, tokens.as_slice(), at)?;
+/// At which token of a source none goes on, and what may stand in its place. None, where one goes on at each.
+pub fn said(alloc: Global, source: &[u8]) -> Result<Option<String>, OutOfMemory>
+    ensures { IfOk result (λ found. MatchOption found (spec.IsUnstuck source.now) (λ words. spec.TellsStuck source.now (string_bytes words))) }
+{
+    match stuck_in(alloc, source)? {
+        Some(stuck) => Ok(Some(stuck_words(alloc, tokens_of(&stuck), stuck.at)?)),
+        None => Ok(None),
+    }
+}
+
+/// The tokens of a text that is no source.
+fn tokens_of(stuck: &Stuck) -> &[Token]
+    ensures { (text : List ℕ) → IsStuckIn text (placed stuck.now.tokens.items) stuck.now.at → IsStuckIn text (placed result.now) stuck.now.at }
+{
+    stuck.tokens.as_slice()
+}
+
+/// What is wrong with the token of this index, or that none stands there, and what may stand in its place.
+fn stuck_words(alloc: Global, tokens: &[Token], at: usize) -> Result<String, OutOfMemory>
+    ensures { IfOk result (λ words. spec.TellsToken tokens.now at (string_bytes words)) }
+{
+    let mut front = declaration_before(alloc, tokens, at)?;
     let expected = Expected::behind(alloc, &mut front)?;
     match tokens.get(at) {
-        Some(token) => put_misfit(alloc, text, token, &mut front, &expected)?,
-        None => put_end(alloc, text, &expected)?,
+        Some(token) => {
+            let more = misfit_text(alloc, token, &mut front, &expected)?;
+            Ok(misfit_words(alloc, token, more.as_str())?)
+        }
+        None => {
+            let more = place_text(alloc, front.as_slice(), &expected)?;
+            Ok(end_words(alloc, more.as_str())?)
+        }
     }
-    put_open(text, front.as_slice(), &expected)?;
-    Ok(true)
+}
+
+/// That a token does not fit.
+fn misfit_words(alloc: Global, token: &Token, more: &str) -> Result<String, OutOfMemory>
+    ensures { IfOk result (λ words. string_bytes words ≡ spec.misfit_words (kind_shown token.now.kind) more.now) }
+{
+    let mut text = String::new(alloc);
+    put_token(&mut text, &token.kind)?;
+    write!(text, " does not fit: {more}")?;
+    Ok(text)
+}
+
+/// That the source ends too early.
+fn end_words(alloc: Global, more: &str) -> Result<String, OutOfMemory>
+    ensures { IfOk result (λ words. string_bytes words ≡ spec.end_words more.now) }
+{
+    Ok(format!(in alloc; "the source ends here, where only this may stand: {more}")?)
+}
+
+/// What may stand in a place, and what is open there.
+fn place_text(alloc: Global, front: &[Token], expected: &Expected) -> Result<String, OutOfMemory> {
+    let mut text = String::new(alloc);
+    expected.put(alloc, &mut text)?;
+    put_open(&mut text, front, expected)?;
+    Ok(text)
 }
 
 /// The tokens before this one, from the beginning of its declaration on.
@@ -110,7 +162,9 @@ fn kind_of(alloc: Global, kind: &Kind) -> Result<Kind, OutOfMemory> {
 }
 
 /// Puts a token as it is written.
-pub fn put_token(text: &mut String, kind: &Kind) -> Result<(), OutOfMemory> {
+pub fn put_token(text: &mut String, kind: &Kind) -> Result<(), OutOfMemory>
+    ensures { OnOk result (string_bytes text.new ≡ string_bytes text.old ++ spec.quoted (text_of (kind_shown kind.now))) }
+{
     match kind {
         Kind::Number(number) => write!(text, "`{number}`")?,
         Kind::Name(name) => {
@@ -125,27 +179,21 @@ pub fn put_token(text: &mut String, kind: &Kind) -> Result<(), OutOfMemory> {
     Ok(())
 }
 
-/// Puts that the source ends too early.
-fn put_end(alloc: Global, text: &mut String, expected: &Expected) -> Result<(), OutOfMemory> {
-    text.push_str("the source ends here, where only this may stand: ")?;
-    expected.put(alloc, text)
-}
-
-/// Puts what is wrong with a token, and what may stand in its place.
-fn put_misfit(
+/// What is wrong with a token, and what may stand in its place.
+fn misfit_text(
     alloc: Global,
-    text: &mut String,
     token: &Token,
     front: &mut Vec<Token>,
     expected: &Expected,
-) -> Result<(), OutOfMemory> {
-    put_token(text, &token.kind)?;
-    text.push_str(" does not fit: ")?;
-    if !put_known(alloc, text, token, front.as_slice(), expected)? {
-        put_missing(alloc, text, token, front, expected)?;
+) -> Result<String, OutOfMemory> {
+    let mut text = String::new(alloc);
+    if !put_known(alloc, &mut text, token, front.as_slice(), expected)? {
+        put_missing(alloc, &mut text, token, front, expected)?;
     }
     text.push_str("here may stand ")?;
-    expected.put(alloc, text)
+    let place = place_text(alloc, front.as_slice(), expected)?;
+    text.push_str(place.as_str())?;
+    Ok(text)
 }
 
 /// Puts what is often meant by such a token here, and answers whether that is known.

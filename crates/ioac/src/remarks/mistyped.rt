@@ -1,7 +1,17 @@
 //! Which type is wanted and which is found where a source breaks a rule of types.
 
+ghost use Rattle.std.specs.Prelude.{◌≡◌, ◌++◌, IfOk, IfSome, OnOk, Some, [], codes, map, slice_get};
+ghost use Rattle.std.specs.Option.{option_map_or};
+ghost use Rattle.std.specs.String.{string_bytes};
+ghost use Rattle.ioa_value.specs.Shapes.{tuple_field};
+ghost use Rattle.ioa_value.specs.Table as table;
 ghost use Rattle.ioa_tree.specs.Names.{LegalNames};
-ghost use Rattle.ioa_tree.specs.View.{tree_of};
+ghost use Rattle.ioa_tree.specs.Types.{types_of};
+ghost use Rattle.ioa_tree.specs.View.{expr_of, name_of, tree_of};
+ghost use Rattle.ioac.specs.declared.remarks.typing.Scope.{Scope};
+ghost use Rattle.ioac.specs.Typing as spec;
+ghost use Rattle.ioac.specs.Typing.{IsFound, IsFoundOver};
+ghost use Rattle.ioac.specs.Words.{quoted};
 
 use crate::remarks::misfits::put_token;
 use crate::remarks::signatures::entry_of;
@@ -13,33 +23,30 @@ use ioa_tree::{
     Arm, Assembly, Automaton, Choice, Declaration, Entry, Expression, Invariant, Name, Position,
     Statement, Transition,
 };
-use ioa_value::{Form, OutOfMemory, Ty, Types};
+use ioa_value::{Field, Form, OutOfMemory, Ty, Types};
 use std::alloc::Global;
 use std::fmt::Write;
 
-/// Puts which type is wanted at the token of this index, and which is found. Answers whether that is known.
-pub fn put(
+/// Which type is wanted at the token of this index, and which is found. None, where that is not known.
+pub fn mistyped_words(
     alloc: Global,
-    text: &mut String,
     declarations: &[Declaration],
     tokens: &[Token],
     index: u32,
-) -> Result<bool, OutOfMemory>
+) -> Result<Option<String>, OutOfMemory>
     requires { LegalNames (tree_of declarations.now) }
+    ensures { IfOk result (λ found. IfSome found (λ words. spec.TellsMistyped tokens.now declarations.now (string_bytes words))) }
 {
-    let place = place_of(declarations, index);
-    let Some(types) = types_before(alloc, declarations, place)? else {
-        return Ok(false);
+    let place = place_of(declarations, index).min(declarations.len());
+    let Some(types) = types_before(alloc, &declarations[..place])? else {
+        return Ok(None);
     };
     let Some(declaration) = declarations.get(place) else {
-        return Ok(false);
+        return Ok(None);
     };
     match misfit_in(&types, declarations, declaration, index) {
-        Some(misfit) => {
-            put_misfit(text, &types, tokens, &misfit)?;
-            Ok(true)
-        }
-        None => Ok(false),
+        Some(misfit) => Ok(Some(misfit_words(alloc, &types, tokens, &misfit)?)),
+        None => Ok(None),
     }
 }
 
@@ -63,15 +70,11 @@ fn name_of(declaration: &Declaration) -> &Name {
     }
 }
 
-/// The types that are known at the declaration of this place: those of the source up to it. None, where this breaks a rule itself.
-fn types_before(
-    alloc: Global,
-    declarations: &[Declaration],
-    place: usize,
-) -> Result<Option<Types>, OutOfMemory>
-    requires { LegalNames (tree_of declarations.now) }
+/// The types that these declarations know. None, where they break a rule themselves.
+fn types_before(alloc: Global, front: &[Declaration]) -> Result<Option<Types>, OutOfMemory>
+    requires { LegalNames (tree_of front.now) }
+    ensures { IfOk result (λ found. IfSome found (λ types. types ≡ types_of (tree_of front.now))) }
 {
-    let front = &declarations[..place.min(declarations.len())];
     match source_fine(alloc, front) {
         Ok(types) => Ok(Some(types)),
         Err(Refusal::OutOfMemory) => Err(OutOfMemory),
@@ -85,7 +88,9 @@ fn misfit_in<'a>(
     declarations: &'a [Declaration],
     declaration: &'a Declaration,
     index: u32,
-) -> Option<Misfit<'a>> {
+) -> Option<Misfit<'a>>
+    ensures { IfSome result (IsFoundOver types.now) }
+{
     match declaration {
         Declaration::Type(_) => None,
         Declaration::Automaton(automaton) => Places {
@@ -99,15 +104,21 @@ fn misfit_in<'a>(
     }
 }
 
-/// The misfit, where it is the one at the token of this index.
-fn at_index<'a>(misfit: Option<Misfit<'a>>, index: u32) -> Option<Misfit<'a>> {
-    match misfit {
-        Some(found) if found.index() == index => Some(found),
-        _ => None,
+/// The misfit over these names, where it is the one at the token of this index.
+fn at_index<'a>(scope: &Scope<'a>, misfit: Misfit<'a>, index: u32) -> Option<Misfit<'a>>
+    requires { IsFound scope.now misfit }
+    ensures { IfSome result (IsFoundOver scope.now.types.now) }
+{
+    if misfit.index() == index {
+        Some(misfit)
+    } else {
+        None
     }
 }
 
-fn in_arguments<'a>(types: &'a Types, assembly: &'a Assembly, index: u32) -> Option<Misfit<'a>> {
+fn in_arguments<'a>(types: &'a Types, assembly: &'a Assembly, index: u32) -> Option<Misfit<'a>>
+    ensures { IfSome result (IsFoundOver types.now) }
+{
     let scope = Scope {
         types,
         variables: &[],
@@ -117,9 +128,10 @@ fn in_arguments<'a>(types: &'a Types, assembly: &'a Assembly, index: u32) -> Opt
     };
     for instance in &assembly.instances {
         for argument in &instance.arguments {
-            let found = at_index(misfit_within(&scope, argument), index);
-            if found.is_some() {
-                return found;
+            if let Some(misfit) = misfit_within(&scope, argument)
+                && let Some(found) = at_index(&scope, misfit, index)
+            {
+                return Some(found);
             }
         }
     }
@@ -131,7 +143,9 @@ fn in_invariant<'a>(
     declarations: &'a [Declaration],
     invariant: &'a Invariant,
     index: u32,
-) -> Option<Misfit<'a>> {
+) -> Option<Misfit<'a>>
+    ensures { IfSome result (IsFoundOver types.now) }
+{
     let automaton = automaton_named(declarations, &invariant.automaton)?;
     let scope = Scope {
         types,
@@ -140,8 +154,8 @@ fn in_invariant<'a>(
         positions: &[],
         loops: Loops::None,
     };
-    let found = misfit_of(&scope, Part::Invariant, Ty::BOOL, &invariant.condition);
-    at_index(found, index)
+    let misfit = misfit_of(&scope, Part::Invariant, Ty::BOOL, &invariant.condition)?;
+    at_index(&scope, misfit, index)
 }
 
 /// The places of an automaton that want expressions of a type, of which one breaks a rule at the token of this index.
@@ -154,7 +168,9 @@ struct Places<'a> {
 
 impl<'a> Places<'a> {
     /// How the automaton breaks a rule of types there.
-    fn misfit(&self) -> Option<Misfit<'a>> {
+    fn misfit(&self) -> Option<Misfit<'a>>
+        ensures { IfSome result (IsFoundOver self.now.types.now) }
+    {
         let found = self.in_starts();
         if found.is_some() {
             return found;
@@ -169,7 +185,9 @@ impl<'a> Places<'a> {
     }
 
     /// What the expressions of an entry may name, or of start values, where there is none.
-    fn scope(&self, positions: &'a [Position], loops: Loops<'a>) -> Scope<'a> {
+    fn scope(&self, positions: &'a [Position], loops: Loops<'a>) -> Scope<'a>
+        ensures { result.types.now ≡ self.now.types.now }
+    {
         Scope {
             types: self.types,
             variables: &self.automaton.variables,
@@ -186,11 +204,16 @@ impl<'a> Places<'a> {
         part: Part<'a>,
         wanted: Ty,
         expression: &'a Expression,
-    ) -> Option<Misfit<'a>> {
-        at_index(misfit_of(scope, part, wanted, expression), self.index)
+    ) -> Option<Misfit<'a>>
+        ensures { IfSome result (IsFoundOver scope.now.types.now) }
+    {
+        let misfit = misfit_of(scope, part, wanted, expression)?;
+        at_index(scope, misfit, self.index)
     }
 
-    fn in_starts(&self) -> Option<Misfit<'a>> {
+    fn in_starts(&self) -> Option<Misfit<'a>>
+        ensures { IfSome result (IsFoundOver self.now.types.now) }
+    {
         let scope = Scope {
             types: self.types,
             variables: &[],
@@ -212,7 +235,9 @@ impl<'a> Places<'a> {
         None
     }
 
-    fn in_transition(&self, transition: &'a Transition) -> Option<Misfit<'a>> {
+    fn in_transition(&self, transition: &'a Transition) -> Option<Misfit<'a>>
+        ensures { IfSome result (IsFoundOver self.now.types.now) }
+    {
         let entry = entry_of(self.automaton, &transition.name)?;
         let scope = self.scope(&entry.positions, Loops::None);
         if let Some(pre) = &transition.pre {
@@ -228,7 +253,9 @@ impl<'a> Places<'a> {
         self.in_statements(&scope, &transition.effect)
     }
 
-    fn in_proposals(&self, entry: &'a Entry, transition: &'a Transition) -> Option<Misfit<'a>> {
+    fn in_proposals(&self, entry: &'a Entry, transition: &'a Transition) -> Option<Misfit<'a>>
+        ensures { IfSome result (IsFoundOver self.now.types.now) }
+    {
         for proposal in &transition.proposals {
             let name = &proposal.name;
             if let Some(ty) = parameter_type(self.types, entry, name) {
@@ -242,19 +269,23 @@ impl<'a> Places<'a> {
     }
 
     /// How a proposal for the parameter of this name and type breaks a rule there.
-    fn in_choice(&self, name: &'a Name, ty: Ty, choice: &'a Choice) -> Option<Misfit<'a>> {
+    fn in_choice(&self, name: &'a Name, ty: Ty, choice: &'a Choice) -> Option<Misfit<'a>>
+        ensures { IfSome result (IsFoundOver self.now.types.now) }
+    {
         let scope = self.scope(&[], Loops::None);
         match choice {
             Choice::Value(value) => self.in_part(&scope, Part::Named(name), ty, value),
             Choice::Any(_, index) if ty.0 != Ty::INT.0 => {
-                at_index(Some(Misfit::Any(name, ty, *index)), self.index)
+                at_index(&scope, Misfit::Any(name, ty, *index), self.index)
             }
             Choice::Any(bound, _) => self.in_part(&scope, Part::Bound, Ty::INT, bound),
         }
     }
 
     #[cycle(statements)]
-    fn in_statements(&self, scope: &Scope<'a>, statements: &'a [Statement]) -> Option<Misfit<'a>> {
+    fn in_statements(&self, scope: &Scope<'a>, statements: &'a [Statement]) -> Option<Misfit<'a>>
+        ensures { IfSome result (IsFoundOver scope.now.types.now) }
+    {
         for statement in statements {
             let found = self.in_statement(scope, statement);
             if found.is_some() {
@@ -265,7 +296,9 @@ impl<'a> Places<'a> {
     }
 
     #[cycle(statements)]
-    fn in_statement(&self, scope: &Scope<'a>, statement: &'a Statement) -> Option<Misfit<'a>> {
+    fn in_statement(&self, scope: &Scope<'a>, statement: &'a Statement) -> Option<Misfit<'a>>
+        ensures { IfSome result (IsFoundOver scope.now.types.now) }
+    {
         match statement {
             Statement::Assign(name, value) => {
                 let ty = variable_type(self.types, self.automaton, name)?;
@@ -284,15 +317,17 @@ impl<'a> Places<'a> {
                         let loops = scope.loops.with(Loop { name, item })?;
                         self.in_statements(&Scope { loops, ..*scope }, body)
                     }
-                    None => at_index(Some(no_items(items, ty)), self.index),
+                    None => at_index(scope, no_items(items, ty), self.index),
                 },
-                None => at_index(misfit_within(scope, items), self.index),
+                None => at_index(scope, misfit_within(scope, items)?, self.index),
             },
         }
     }
 
     #[cycle(statements)]
-    fn in_arms(&self, scope: &Scope<'a>, arms: &'a [Arm]) -> Option<Misfit<'a>> {
+    fn in_arms(&self, scope: &Scope<'a>, arms: &'a [Arm]) -> Option<Misfit<'a>>
+        ensures { IfSome result (IsFoundOver scope.now.types.now) }
+    {
         for arm in arms {
             let found = self.in_part(scope, Part::Condition, Ty::BOOL, &arm.condition);
             if found.is_some() {
@@ -308,7 +343,9 @@ impl<'a> Places<'a> {
 }
 
 /// What a loop goes over is of this type, which has no items.
-fn no_items(items: &Expression, found: Ty) -> Misfit<'_> {
+fn no_items(items: &Expression, found: Ty) -> Misfit<'_>
+    ensures { (s : Scope) → spec.type_in s (expr_of items.now) ≡ Some found.0 → IsFound s result }
+{
     Misfit::Type {
         part: Part::Word(ioa_lex::Terminal::For),
         wanted: Wanted::Sequence,
@@ -345,11 +382,27 @@ fn parameter_type(types: &Types, entry: &Entry, name: &Name) -> Option<Ty> {
 }
 
 /// The name of a type.
-pub fn type_name(types: &Types, ty: Ty) -> &str {
+pub fn type_name(types: &Types, ty: Ty) -> &str
+    ensures { result.now ≡ table.type_name types.now ty.0 }
+{
     match types.declared(ty) {
         Some(declared) => declared.name.as_str(),
         None => "",
     }
+}
+
+/// How a rule of types is broken.
+fn misfit_words(
+    alloc: Global,
+    types: &Types,
+    tokens: &[Token],
+    misfit: &Misfit<'_>,
+) -> Result<String, OutOfMemory>
+    ensures { IfOk result (λ words. string_bytes words ≡ spec.misfit_text types.now tokens.now misfit.now) }
+{
+    let mut text = String::new(alloc);
+    put_misfit(&mut text, types, tokens, misfit)?;
+    Ok(text)
 }
 
 /// Puts how a rule of types is broken.
@@ -358,7 +411,9 @@ fn put_misfit(
     types: &Types,
     tokens: &[Token],
     misfit: &Misfit<'_>,
-) -> Result<(), OutOfMemory> {
+) -> Result<(), OutOfMemory>
+    ensures { OnOk result (string_bytes text.new ≡ string_bytes text.old ++ spec.misfit_text types.now tokens.now misfit.now) }
+{
     match misfit {
         Misfit::Type {
             part,
@@ -368,38 +423,78 @@ fn put_misfit(
         } => {
             put_part(text, types, *part)?;
             put_wanted(text, types, *part, *wanted)?;
-            put_expression(text, tokens, expression)?;
-            let found = type_name(types, *found);
-            write!(text, " is of type {found}")?;
+            put_found(text, types, tokens, expression, *found)
         }
-        Misfit::Any(name, ty, _) => {
-            let name = name.text.as_str();
-            let ty = type_name(types, *ty);
-            write!(text, "`any` gives an Int, and `{name}` is of type {ty}")?;
-        }
-        Misfit::NoTuples(name) => {
-            let name = name.text.as_str();
-            write!(text, "`{name}` is no type of tuples")?;
-        }
-        Misfit::NoSequences(name) => {
-            let name = name.text.as_str();
-            write!(
-                text,
-                "`empty` wants a type of sequences, and `{name}` is none"
-            )?;
-        }
-        Misfit::Count(name, wanted, given) => put_count(text, name, *wanted, *given)?,
+        Misfit::Any(name, ty, _) => put_any(text, types, name, *ty),
+        Misfit::NoTuples(name) => put_no_tuples(text, name),
+        Misfit::NoSequences(name) => put_no_sequences(text, name),
+        Misfit::Count(name, wanted, given) => put_count(text, name, *wanted, *given),
     }
+}
+
+/// Puts an expression and its type.
+fn put_found(
+    text: &mut String,
+    types: &Types,
+    tokens: &[Token],
+    expression: &Expression,
+    found: Ty,
+) -> Result<(), OutOfMemory>
+    ensures { OnOk result (string_bytes text.new ≡ string_bytes text.old ++ spec.found_text types.now tokens.now expression.now found) }
+{
+    put_expression(text, tokens, expression)?;
+    put_type(text, types, found)
+}
+
+fn put_type(text: &mut String, types: &Types, found: Ty) -> Result<(), OutOfMemory>
+    ensures { OnOk result (string_bytes text.new ≡ string_bytes text.old ++ spec.type_text types.now found) }
+{
+    put_type_name(text, type_name(types, found))
+}
+
+fn put_type_name(text: &mut String, name: &str) -> Result<(), OutOfMemory>
+    ensures { OnOk result (string_bytes text.new ≡ string_bytes text.old ++ (codes " is of type " ++ name.now)) }
+{
+    write!(text, " is of type {name}")?;
+    Ok(())
+}
+
+fn put_any(text: &mut String, types: &Types, name: &Name, ty: Ty) -> Result<(), OutOfMemory>
+    ensures { OnOk result (string_bytes text.new ≡ string_bytes text.old ++ spec.any_text types.now (name_of name.now) ty) }
+{
+    put_any_name(text, name.text.as_str(), type_name(types, ty))
+}
+
+fn put_any_name(text: &mut String, name: &str, ty: &str) -> Result<(), OutOfMemory>
+    ensures { OnOk result (string_bytes text.new ≡ string_bytes text.old ++ (codes "`any` gives an Int, and `" ++ (name.now ++ (codes "` is of type " ++ ty.now)))) }
+{
+    write!(text, "`any` gives an Int, and `{name}` is of type {ty}")?;
+    Ok(())
+}
+
+fn put_no_tuples(text: &mut String, name: &Name) -> Result<(), OutOfMemory>
+    ensures { OnOk result (string_bytes text.new ≡ string_bytes text.old ++ spec.no_tuples_text (name_of name.now)) }
+{
+    let name = name.text.as_str();
+    write!(text, "`{name}` is no type of tuples")?;
+    Ok(())
+}
+
+fn put_no_sequences(text: &mut String, name: &Name) -> Result<(), OutOfMemory>
+    ensures { OnOk result (string_bytes text.new ≡ string_bytes text.old ++ spec.no_sequences_text (name_of name.now)) }
+{
+    let name = name.text.as_str();
+    write!(
+        text,
+        "`empty` wants a type of sequences, and `{name}` is none"
+    )?;
     Ok(())
 }
 
 /// Puts how many fields a tuple of the type of this name has, and how many are given.
-fn put_count(
-    text: &mut String,
-    name: &Name,
-    wanted: usize,
-    given: usize,
-) -> Result<(), OutOfMemory> {
+fn put_count(text: &mut String, name: &Name, wanted: usize, given: usize) -> Result<(), OutOfMemory>
+    ensures { OnOk result (string_bytes text.new ≡ string_bytes text.old ++ spec.count_text (name_of name.now) wanted given) }
+{
     let name = name.text.as_str();
     let fields = counted(wanted, "field", "fields");
     let are = counted(given, "is", "are");
@@ -411,42 +506,65 @@ fn put_count(
 }
 
 /// The word that stands behind a number.
-pub fn counted(number: usize, one: &'static str, other: &'static str) -> &'static str {
+pub fn counted(number: usize, one: &'static str, other: &'static str) -> &'static str
+    ensures { result.now ≡ spec.counted number one.now other.now }
+{
     if number == 1 { one } else { other }
 }
 
 /// Puts what wants another type.
-fn put_part(text: &mut String, types: &Types, part: Part<'_>) -> Result<(), OutOfMemory> {
+fn put_part(text: &mut String, types: &Types, part: Part<'_>) -> Result<(), OutOfMemory>
+    ensures { OnOk result (string_bytes text.new ≡ string_bytes text.old ++ spec.part_text types.now part.entry) }
+{
     match part {
-        Part::Named(name) => {
-            let name = name.text.as_str();
-            write!(text, "`{name}`")?;
-        }
+        Part::Named(name) => put_quoted(text, name.text.as_str())?,
         Part::Precondition => text.push_str("a precondition")?,
         Part::Condition => text.push_str("a condition")?,
         Part::Invariant => text.push_str("an invariant")?,
         Part::Bound => text.push_str("the bound of `any`")?,
-        Part::Word(word) => {
-            let word = word.text();
-            write!(text, "`{word}`")?;
-        }
+        Part::Word(word) => put_quoted(text, word.text())?,
         Part::Field(tuple, place) => {
-            let name = field_name(types, tuple, place);
-            let tuple = type_name(types, tuple);
-            write!(text, "the field `{name}` of {tuple}")?;
+            put_field(
+                text,
+                field_name(types, tuple, place),
+                type_name(types, tuple),
+            )?
         }
     }
     Ok(())
 }
 
+fn put_field(text: &mut String, name: &str, tuple: &str) -> Result<(), OutOfMemory>
+    ensures { OnOk result (string_bytes text.new ≡ string_bytes text.old ++ (codes "the field `" ++ (name.now ++ (codes "` of " ++ tuple.now)))) }
+{
+    write!(text, "the field `{name}` of {tuple}")?;
+    Ok(())
+}
+
+fn put_quoted(text: &mut String, word: &str) -> Result<(), OutOfMemory>
+    ensures { OnOk result (string_bytes text.new ≡ string_bytes text.old ++ quoted word.now) }
+{
+    write!(text, "`{word}`")?;
+    Ok(())
+}
+
 /// The name of the field at this place of a tuple.
-fn field_name(types: &Types, tuple: Ty, place: usize) -> &str {
-    if let Some(Form::Fields(fields)) = types.form(tuple) {
-        if let Some(field) = fields.get(place) {
-            return field.name.as_str();
-        }
+fn field_name(types: &Types, tuple: Ty, place: usize) -> &str
+    ensures { result.now ≡ spec.field_name types.now tuple.0 place }
+{
+    match types.form(tuple) {
+        Some(Form::Fields(fields)) => name_at(fields, place),
+        _ => "",
     }
-    ""
+}
+
+fn name_at(fields: &[Field], place: usize) -> &str
+    ensures { result.now ≡ option_map_or (λ f. f.name) (slice_get (map tuple_field fields.now) place) [] }
+{
+    match fields.get(place) {
+        Some(field) => field.name.as_str(),
+        None => "",
+    }
 }
 
 /// Puts which types a part wants, and that something else stands there.
@@ -455,18 +573,13 @@ fn put_wanted(
     types: &Types,
     part: Part<'_>,
     wanted: Wanted,
-) -> Result<(), OutOfMemory> {
+) -> Result<(), OutOfMemory>
+    ensures { OnOk result (string_bytes text.new ≡ string_bytes text.old ++ spec.wanted_text types.now part.entry wanted) }
+{
     match wanted {
-        Wanted::One(ty) => {
-            let verb = verb_of(part);
-            let ty = type_name(types, ty);
-            write!(text, " {verb} type {ty}, and ")?;
-        }
+        Wanted::One(ty) => put_one(text, verb_of(part), type_name(types, ty))?,
         Wanted::Sequence => text.push_str(" wants a sequence here, and ")?,
-        Wanted::SequenceOf(ty) => {
-            let ty = type_name(types, ty);
-            write!(text, " wants a sequence of {ty} here, and ")?;
-        }
+        Wanted::SequenceOf(ty) => put_sequence_of(text, type_name(types, ty))?,
         Wanted::Tuple => text.push_str(" wants a tuple here, and ")?,
         Wanted::ItemAndSequence => {
             text.push_str(" wants a value and then a sequence of such values, and ")?
@@ -476,11 +589,34 @@ fn put_wanted(
     Ok(())
 }
 
+/// Puts that just the type of this name is wanted.
+fn put_one(text: &mut String, verb: &str, ty: &str) -> Result<(), OutOfMemory>
+    ensures { OnOk result (string_bytes text.new ≡ string_bytes text.old ++ (codes " " ++ (verb.now ++ (codes " type " ++ (ty.now ++ codes ", and "))))) }
+{
+    write!(text, " {verb} type {ty}, and ")?;
+    Ok(())
+}
+
+/// Puts that a sequence of items of the type of this name is wanted.
+fn put_sequence_of(text: &mut String, ty: &str) -> Result<(), OutOfMemory>
+    ensures { OnOk result (string_bytes text.new ≡ string_bytes text.old ++ (codes " wants a sequence of " ++ (ty.now ++ codes " here, and "))) }
+{
+    write!(text, " wants a sequence of {ty} here, and ")?;
+    Ok(())
+}
+
 /// How a type belongs to a part.
-fn verb_of(part: Part<'_>) -> &'static str {
+fn verb_of(part: Part<'_>) -> &'static str
+    ensures { result.now ≡ spec.verb part.entry }
+{
     match part {
         Part::Word(_) => "wants",
-        _ => "is of",
+        Part::Named(_)
+        | Part::Precondition
+        | Part::Condition
+        | Part::Invariant
+        | Part::Bound
+        | Part::Field(_, _) => "is of",
     }
 }
 
@@ -489,13 +625,33 @@ fn put_expression(
     text: &mut String,
     tokens: &[Token],
     expression: &Expression,
-) -> Result<(), OutOfMemory> {
-    let Some(token) = tokens.get(expression.line() as usize) else {
-        return Ok(());
-    };
-    match expression {
-        Expression::Number(_, _) | Expression::Truth(_, _) | Expression::Name(_) => {}
-        _ => text.push_str("what begins with ")?,
+) -> Result<(), OutOfMemory>
+    ensures { OnOk result (string_bytes text.new ≡ string_bytes text.old ++ spec.expression_text tokens.now expression.now) }
+{
+    match tokens.get(expression.line() as usize) {
+        Some(token) => put_first(text, token, expression),
+        None => Ok(()),
     }
+}
+
+fn put_first(text: &mut String, token: &Token, expression: &Expression) -> Result<(), OutOfMemory>
+    ensures { OnOk result (string_bytes text.new ≡ string_bytes text.old ++ spec.first_text expression.now token.now) }
+{
+    text.push_str(beginning(expression))?;
     put_token(text, &token.kind)
+}
+
+/// What stands before the first token of an expression that has several.
+fn beginning(expression: &Expression) -> &'static str
+    ensures { result.now ≡ spec.beginning expression.now }
+{
+    match expression {
+        Expression::Number(_, _) | Expression::Truth(_, _) | Expression::Name(_) => "",
+        Expression::Parentheses(_, _)
+        | Expression::Prefix(_, _, _)
+        | Expression::Binary(_, _, _, _)
+        | Expression::Empty(_, _)
+        | Expression::Make(_, _)
+        | Expression::Select(_, _, _) => "what begins with ",
+    }
 }

@@ -1,6 +1,12 @@
 //! Which name is declared twice, or is not known, and what else it is.
 
-use crate::remarks::broken::{Known, What, is_word_at, known_names, line_of, name_at};
+ghost use Rattle.std.specs.Prelude.{◌≡◌, IfOk, IfSome};
+ghost use Rattle.std.specs.String.{string_bytes};
+ghost use Rattle.ioac.specs.Words as spec;
+
+use crate::remarks::broken::{
+    Known, What, is_word_at, known_names, line_of, line_of_name, name_at,
+};
 use crate::remarks::nearest::nearest;
 use ioa_lex::{Terminal, Token};
 use ioa_tree::Declaration;
@@ -20,69 +26,138 @@ boolean Bool
 bool Bool
 "#;
 
-/// Puts which name the token of this index declares again, and where it is declared first. Answers whether it is a name.
-pub fn put_twice(
+/// Which name the token of this index declares again, and where it is declared first. None, where it is no name.
+pub fn twice_words(
     alloc: Global,
-    text: &mut String,
     declarations: &[Declaration],
     tokens: &[Token],
     index: u32,
-) -> Result<bool, OutOfMemory> {
-    let Some(name) = name_at(tokens, index) else {
-        return Ok(false);
-    };
-    let known = known_names(alloc, declarations)?;
-    match other_of(&known, name, index) {
-        Some(other) => {
-            let line = line_of(tokens, other.name.line);
-            write!(text, "`{name}` is declared on line {line} already, as ")?;
-            put_what(text, other)?;
-        }
-        None if is_built_in(name) => write!(text, "`{name}` is a type without a declaration")?,
-        None => put_again(text, tokens, name, index)?,
+) -> Result<Option<String>, OutOfMemory>
+    ensures { IfOk result (λ found. IfSome found (λ words. spec.TellsTwice tokens.now (string_bytes words))) }
+{
+    match name_at(tokens, index) {
+        Some(name) => Ok(Some(again_words(alloc, declarations, tokens, name, index)?)),
+        None => Ok(None),
     }
-    Ok(true)
 }
 
-/// Puts that a name that is declared by no more than a proposal or as hidden stands there again.
-fn put_again(
-    text: &mut String,
+/// Where a name is declared that the token of this index declares again.
+fn again_words(
+    alloc: Global,
+    declarations: &[Declaration],
     tokens: &[Token],
     name: &str,
     index: u32,
-) -> Result<(), OutOfMemory> {
-    write!(text, "`{name}` stands here again")?;
-    let mut found = 0;
-    for at in 0..index {
-        if name_at(tokens, at) == Some(name) {
-            found = line_of(tokens, at);
+) -> Result<String, OutOfMemory>
+    ensures { IfOk result (λ words. spec.TellsAgain tokens.now index name.now (string_bytes words)) }
+{
+    let known = known_names(alloc, declarations)?;
+    match other_of(&known, name, index) {
+        Some(other) => first_words(alloc, tokens, name, index, other),
+        None if is_built_in(name) => Ok(built_in_words(alloc, name)?),
+        None => Ok(repeated_words(alloc, tokens, name, index)?),
+    }
+}
+
+/// On which line a name is declared already, and as what.
+fn first_words(
+    alloc: Global,
+    tokens: &[Token],
+    name: &str,
+    index: u32,
+    other: &Known<'_>,
+) -> Result<String, OutOfMemory>
+    ensures { IfOk result (λ words. spec.TellsAgain tokens.now index name.now (string_bytes words)) }
+{
+    let at = other.name.line;
+    match line_of_name(tokens, at, name) {
+        Some(line) if at != index => Ok(declared_words(alloc, name, line, other)?),
+        _ => Ok(repeated_words(alloc, tokens, name, index)?),
+    }
+}
+
+fn declared_words(
+    alloc: Global,
+    name: &str,
+    line: u32,
+    other: &Known<'_>,
+) -> Result<String, OutOfMemory>
+    ensures { IfOk result (λ words. spec.TellsLine name.now line (string_bytes words)) }
+{
+    let what = what_text(alloc, other)?;
+    Ok(already_words(alloc, name, line, what.as_str())?)
+}
+
+fn already_words(alloc: Global, name: &str, line: u32, what: &str) -> Result<String, OutOfMemory>
+    ensures { IfOk result (λ words. string_bytes words ≡ spec.already_words name.now line what.now) }
+{
+    Ok(format!(in alloc; "`{name}` is declared on line {line} already, as {what}")?)
+}
+
+fn built_in_words(alloc: Global, name: &str) -> Result<String, OutOfMemory>
+    ensures { IfOk result (λ words. string_bytes words ≡ spec.built_in_words name.now) }
+{
+    Ok(format!(in alloc; "`{name}` is a type without a declaration")?)
+}
+
+/// That a name that is declared by no more than a proposal or as hidden stands there again.
+fn repeated_words(
+    alloc: Global,
+    tokens: &[Token],
+    name: &str,
+    index: u32,
+) -> Result<String, OutOfMemory>
+    ensures { IfOk result (λ words. spec.TellsRepeated tokens.now index name.now (string_bytes words)) }
+{
+    match line_before(tokens, name, index) {
+        Some(line) => Ok(line_words(alloc, name, line)?),
+        None => Ok(bare_words(alloc, name)?),
+    }
+}
+
+fn line_words(alloc: Global, name: &str, line: u32) -> Result<String, OutOfMemory>
+    ensures { IfOk result (λ words. string_bytes words ≡ spec.repeated_words name.now line) }
+{
+    Ok(format!(in alloc; "`{name}` stands here again, as on line {line}")?)
+}
+
+fn bare_words(alloc: Global, name: &str) -> Result<String, OutOfMemory>
+    ensures { IfOk result (λ words. string_bytes words ≡ spec.again_words name.now) }
+{
+    Ok(format!(in alloc; "`{name}` stands here again")?)
+}
+
+/// The line of the last token before this one that is the name.
+fn line_before(tokens: &[Token], name: &str, index: u32) -> Option<u32>
+    ensures { IfSome result (spec.IsLineBefore tokens.now index name.now) }
+{
+    for back in 0..index {
+        let found = line_of_name(tokens, index - 1 - back, name);
+        if found.is_some() {
+            return found;
         }
     }
-    if found > 0 {
-        write!(text, ", as on line {found}")?;
-    }
-    Ok(())
+    None
 }
 
 fn is_built_in(name: &str) -> bool {
     name == "Int" || name == "Bool"
 }
 
-/// Puts what a name is declared as.
-fn put_what(text: &mut String, known: &Known<'_>) -> Result<(), OutOfMemory> {
+/// What a name is declared as.
+fn what_text(alloc: Global, known: &Known<'_>) -> Result<String, OutOfMemory> {
     let what = known.what.words();
     let of = known.of.text.as_str();
     match known.what {
-        What::Constant => write!(text, "{what} {of}")?,
+        What::Constant => Ok(format!(in alloc; "{what} {of}")?),
         What::Formal
         | What::Variable
         | What::Parameter
         | What::Loop
         | What::Entry
-        | What::Component => write!(text, "{what} of {of}")?,
-        What::Type | What::Automaton | What::Composition => text.push_str(what)?,
+        | What::Component => Ok(format!(in alloc; "{what} of {of}")?),
+        What::Type | What::Automaton | What::Composition => Ok(String::from_str(alloc, what)?),
     }
-    Ok(())
 }
 
 /// The other declaration of the name that is declared by the token of this index.
@@ -138,32 +213,68 @@ fn is_round(own: &Known<'_>, other: &Known<'_>) -> bool {
     }
 }
 
-/// Puts which name is not known where the token of this index stands, and what it is elsewhere. Answers whether it is a name.
-pub fn put_unknown(
+/// Which name is not known where the token of this index stands, and what it is elsewhere. None, where it is no name.
+pub fn unknown_words(
     alloc: Global,
-    text: &mut String,
     declarations: &[Declaration],
     tokens: &[Token],
     index: u32,
-) -> Result<bool, OutOfMemory> {
-    let Some(name) = name_at(tokens, index) else {
-        return Ok(false);
-    };
-    if is_word_at(tokens, index.checked_sub(1), Terminal::Dot) {
-        write!(text, "the tuple has no field `{name}`")?;
-        return Ok(true);
+) -> Result<Option<String>, OutOfMemory>
+    ensures { IfOk result (λ found. IfSome found (λ words. spec.TellsUnknown tokens.now (string_bytes words))) }
+{
+    match name_at(tokens, index) {
+        Some(name) => Ok(Some(unknown_name_words(alloc, declarations, tokens, name, index)?)),
+        None => Ok(None),
     }
+}
+
+/// What a name is that is not known where the token of this index stands.
+fn unknown_name_words(
+    alloc: Global,
+    declarations: &[Declaration],
+    tokens: &[Token],
+    name: &str,
+    index: u32,
+) -> Result<String, OutOfMemory>
+    ensures { IfOk result (λ words. spec.TellsName name.now (string_bytes words)) }
+{
+    if is_word_at(tokens, index.checked_sub(1), Terminal::Dot) {
+        return Ok(field_words(alloc, name)?);
+    }
+    let what = meaning(alloc, declarations, tokens, name, index)?;
+    Ok(meaning_words(alloc, name, what.as_str())?)
+}
+
+fn field_words(alloc: Global, name: &str) -> Result<String, OutOfMemory>
+    ensures { IfOk result (λ words. string_bytes words ≡ spec.field_words name.now) }
+{
+    Ok(format!(in alloc; "the tuple has no field `{name}`")?)
+}
+
+fn meaning_words(alloc: Global, name: &str, what: &str) -> Result<String, OutOfMemory>
+    ensures { IfOk result (λ words. string_bytes words ≡ spec.meaning_words name.now what.now) }
+{
+    Ok(format!(in alloc; "`{name}` is {what}")?)
+}
+
+/// What a name is, and why it is not known where the token of this index stands.
+fn meaning(
+    alloc: Global,
+    declarations: &[Declaration],
+    tokens: &[Token],
+    name: &str,
+    index: u32,
+) -> Result<String, OutOfMemory> {
     let known = known_names(alloc, declarations)?;
     let within = declaration_of(&known, index);
     match meant(&known, name, within) {
         Some(other) => {
-            write!(text, "`{name}` is ")?;
-            put_what(text, other)?;
-            put_why(text, tokens, other, within, index)?;
+            let mut text = what_text(alloc, other)?;
+            put_why(&mut text, tokens, other, within, index)?;
+            Ok(text)
         }
-        None => put_nowhere(alloc, text, &known, name)?,
+        None => nowhere(alloc, &known, name),
     }
-    Ok(true)
 }
 
 /// The declaration in which the token of this index stands: the last one that is named up to it.
@@ -226,17 +337,12 @@ fn why_not_assigned(what: What) -> &'static str {
     }
 }
 
-/// Puts that a name is declared nowhere, and the nearest that is.
-fn put_nowhere(
-    alloc: Global,
-    text: &mut String,
-    known: &[Known<'_>],
-    name: &str,
-) -> Result<(), OutOfMemory> {
-    write!(text, "`{name}` is declared nowhere")?;
+/// That a name is declared nowhere, and the nearest that is.
+fn nowhere(alloc: Global, known: &[Known<'_>], name: &str) -> Result<String, OutOfMemory> {
+    let mut text = String::from_str(alloc, "declared nowhere")?;
     if let Some(ty) = type_for(name) {
         write!(text, ": write `{ty}`")?;
-        return Ok(());
+        return Ok(text);
     }
     let mut names = Vec::new(alloc);
     for other in known {
@@ -245,7 +351,7 @@ fn put_nowhere(
     if let Some(near) = nearest(name, &names) {
         write!(text, ": is `{near}` meant?")?;
     }
-    Ok(())
+    Ok(text)
 }
 
 /// The type that another language calls so.

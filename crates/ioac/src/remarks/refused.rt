@@ -8,7 +8,7 @@ ghost use Rattle.ioa_request.specs.Explained.{explanation_text};
 ghost use Rattle.ioa_serving.specs.declared.failure.Failure as failures;
 ghost use Rattle.ioa_serving.specs.FailureCodes.{failure_code};
 ghost use Rattle.ioac.specs.Places as places;
-ghost use Rattle.ioac.specs.Refused.{IsBehindEnd, IsToldAt, TellsAction, TellsActionOn, TellsAt, TellsBehindEnd, TellsBehindFileEnd, TellsFileLine, TellsInput, TellsLine};
+ghost use Rattle.ioac.specs.Refused.{IsBehindEnd, IsToldAt, TellsAction, TellsActionOn, TellsAt, TellsBehindEnd, TellsBehindFileEnd, TellsFileLine, TellsInput, TellsLine, TellsSourceLine};
 ghost use Rattle.ioac.specs.Remarks as spec;
 ghost use Rattle.ioac.specs.Remarks.{IsDifference, IsLoaded};
 
@@ -153,13 +153,13 @@ fn put_source_line<F: Store>(
     line: usize,
     store: &F,
 ) -> Result<(), OutOfMemory>
-    ensures { OnOk result (TellsFileLine (F.holds store.now) (F.lacks store.now) (places.file_of asked.now) line (failure_code failure.now) (string_bytes text.old) (string_bytes text.new)) }
+    ensures { OnOk result (TellsSourceLine (F.holds store.now) (F.lacks store.now) (places.file_of asked.now) line failure.now (string_bytes text.old) (string_bytes text.new)) }
 {
     let Some(name) = file_of(asked) else {
         return Ok(());
     };
     let source = loaded_whole(alloc, name, store)?;
-    let words = words::of_source(alloc, failure, source.as_slice())?;
+    let words = words::of_source(alloc, failure, &source)?;
     put_jump(
         alloc,
         text,

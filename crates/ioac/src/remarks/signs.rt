@@ -1,9 +1,15 @@
 //! What stands in a source that is no token, and what is written in its place.
 
+ghost use Rattle.std.specs.Prelude.{◌≡◌, IfOk, IfSome, MatchOption, None, true};
+ghost use Rattle.std.specs.List.{prefix_len};
+ghost use Rattle.std.specs.String.{string_bytes};
+ghost use Rattle.ioa_lex.specs.Stops.{IsStop};
+ghost use Rattle.ioa_value.specs.Names.{is_digit, is_letter, is_word_byte};
+ghost use Rattle.ioac.specs.Words as spec;
+
 use ioa_lex::stop_of;
 use ioa_value::OutOfMemory;
 use std::alloc::Global;
-use std::fmt::Write;
 
 /// Signs of other languages, and what there is to say of each. One that begins another stands below it.
 const SIGNS: &str = r#"
@@ -57,86 +63,152 @@ const MOST_TOLD: usize = 24;
 /// How many bytes the letter at the front of a text has at most.
 const LONGEST_LETTER: usize = 4;
 
-/// Puts what stands where the text stops, and answers whether it stops.
-pub fn put(alloc: Global, text: &mut String, source: &[u8]) -> Result<bool, OutOfMemory> {
-    let Some(at) = stop_of(alloc, source)? else {
-        return Ok(false);
-    };
-    let Some(rest) = source.get(at..) else {
-        return Ok(false);
-    };
-    put_front(alloc, text, rest)?;
-    Ok(true)
+/// A sign of another language, and what there is to say of it.
+#[derive(Clone, Copy)]
+struct Foreign {
+    sign: &'static str,
+    said: &'static str,
 }
 
-/// Puts what is wrong with the front of a text, where no token stands.
-fn put_front(alloc: Global, text: &mut String, rest: &[u8]) -> Result<(), OutOfMemory> {
-    match rest.first() {
-        Some(b'a'..=b'z' | b'A'..=b'Z') => put_long_name(alloc, text, rest),
-        Some(b'0'..=b'9') => put_large_number(text),
-        _ => put_sign(alloc, text, rest),
+/// What stands where a text stops. None, where it does not stop.
+pub fn said(alloc: Global, source: &[u8]) -> Result<Option<String>, OutOfMemory>
+    ensures { IfOk result (λ found. MatchOption found (IsStop source.now None) (λ words. spec.TellsStop source.now (string_bytes words))) }
+{
+    match stop_of(alloc, source)? {
+        Some(at) => Ok(Some(front_words(alloc, &source[at..])?)),
+        None => Ok(None),
     }
 }
 
-fn put_large_number(text: &mut String) -> Result<(), OutOfMemory> {
-    text.push_str("this number is above 9223372036854775807")?;
-    Ok(())
+/// What is wrong with the front of a text, where no token stands.
+fn front_words(alloc: Global, front: &[u8]) -> Result<String, OutOfMemory>
+    ensures { IfOk result (λ words. spec.TellsFront front.now (string_bytes words)) }
+{
+    match front.first() {
+        Some(byte) => Ok(first_words(alloc, front, *byte)?),
+        None => Ok(String::from_str(alloc, "nothing stands here")?),
+    }
 }
 
-fn put_long_name(alloc: Global, text: &mut String, rest: &[u8]) -> Result<(), OutOfMemory> {
-    let beginning = &rest[..MOST_TOLD.min(rest.len())];
+/// What is wrong with a text that begins with this byte.
+fn first_words(alloc: Global, front: &[u8], byte: u8) -> Result<String, OutOfMemory>
+    ensures { IfOk result (λ words. spec.TellsFirst front.now byte (string_bytes words)) }
+{
+    if is_letter(byte) {
+        Ok(long_name_words(alloc, front)?)
+    } else if is_digit(byte) {
+        Ok(large_number_words(alloc)?)
+    } else {
+        Ok(sign_words(alloc, front, byte)?)
+    }
+}
+
+fn is_letter(byte: u8) -> bool
+    ensures { result ≡ is_letter byte }
+{
+    byte.is_ascii_alphabetic()
+}
+
+fn is_digit(byte: u8) -> bool
+    ensures { result ≡ is_digit byte }
+{
+    byte.is_ascii_digit()
+}
+
+fn large_number_words(alloc: Global) -> Result<String, OutOfMemory>
+    ensures { IfOk result (λ words. string_bytes words ≡ spec.large_number_words) }
+{
+    Ok(String::from_str(alloc, "this number is above 9223372036854775807")?)
+}
+
+fn long_name_words(alloc: Global, front: &[u8]) -> Result<String, OutOfMemory>
+    ensures { IfOk result (λ words. string_bytes words ≡ spec.long_name_words front.now) }
+{
+    let beginning = &front[..MOST_TOLD.min(front.len())];
     let told = String::from_utf8_lossy(alloc, beginning)?;
     let told = told.as_str();
-    let size = name_size(rest);
-    write!(
-        text,
-        "a name has at most 64 bytes, and `{told}..` has {size}"
-    )?;
-    Ok(())
+    let size = name_size(front);
+    Ok(format!(in alloc; "a name has at most 64 bytes, and `{told}..` has {size}")?)
 }
 
 /// How many bytes at the front are letters, digits and `_`.
-fn name_size(rest: &[u8]) -> usize {
-    rest.iter()
+fn name_size(front: &[u8]) -> usize
+    ensures { result ≡ prefix_len is_word_byte front.now }
+{
+    front
+        .iter()
         .take_while(|byte| byte.is_ascii_alphanumeric() || **byte == b'_')
         .count()
 }
 
-/// Puts the sign at the front of a text, and what is written in its place, if that is known.
-fn put_sign(alloc: Global, text: &mut String, rest: &[u8]) -> Result<(), OutOfMemory> {
+/// What there is to say of the sign, or the byte, at the front of a text.
+fn sign_words(alloc: Global, front: &[u8], byte: u8) -> Result<String, OutOfMemory>
+    ensures { IfOk result (λ words. spec.TellsSign front.now byte (string_bytes words)) }
+{
+    if let Some(foreign) = foreign_at(front) {
+        return Ok(foreign_words(alloc, foreign)?);
+    }
+    match letter_at(front) {
+        Some(letter) => Ok(letter_words(alloc, letter)?),
+        None => Ok(byte_words(alloc, byte)?),
+    }
+}
+
+fn foreign_words(alloc: Global, foreign: Foreign) -> Result<String, OutOfMemory>
+    ensures { IfOk result (λ words. string_bytes words ≡ spec.foreign_words foreign.sign.now foreign.said.now) }
+{
+    let Foreign { sign, said } = foreign;
+    Ok(format!(in alloc; "`{sign}` is no sign of the language: {said}")?)
+}
+
+fn letter_words(alloc: Global, letter: &str) -> Result<String, OutOfMemory>
+    ensures { IfOk result (λ words. string_bytes words ≡ spec.letter_words letter.now) }
+{
+    Ok(format!(in alloc; "`{letter}` is no sign of the language")?)
+}
+
+fn byte_words(alloc: Global, byte: u8) -> Result<String, OutOfMemory>
+    ensures { IfOk result (λ words. string_bytes words ≡ spec.byte_words byte) }
+{
+    Ok(format!(in alloc; "the byte {byte} begins nothing in the language")?)
+}
+
+/// The sign of another language at the front of a text, if it is one of those that are known.
+fn foreign_at(front: &[u8]) -> Option<Foreign>
+    ensures { IfSome result (λ f. spec.IsFront front.now f.sign.now) }
+{
     for row in SIGNS.lines() {
         if let Some((sign, said)) = row.split_once(" ") {
-            if rest.starts_with(sign.as_bytes()) {
-                write!(text, "`{sign}` is no sign of the language: {said}")?;
-                return Ok(());
+            if begins_with(front, sign) {
+                return Some(Foreign { sign, said });
             }
         }
     }
-    put_letter(alloc, text, rest)
+    None
 }
 
-/// Puts the letter at the front of a text.
-fn put_letter(alloc: Global, text: &mut String, rest: &[u8]) -> Result<(), OutOfMemory> {
-    let beginning = &rest[..LONGEST_LETTER.min(rest.len())];
-    let letters = String::from_utf8_lossy(alloc, beginning)?;
-    match letters.as_str().chars().next() {
-        Some(letter) if is_shown(letter) => {
-            write!(text, "`{letter}` is no sign of the language")?;
+fn begins_with(text: &[u8], front: &str) -> bool
+    ensures { result ≡ true → spec.IsFront text.now front.now }
+{
+    text.starts_with(front.as_bytes())
+}
+
+/// The letter at the front of a text, if that has a shape.
+fn letter_at(front: &[u8]) -> Option<&str>
+    ensures { IfSome result (λ letter. spec.IsFront front.now letter.now) }
+{
+    for size in 1..=LONGEST_LETTER.min(front.len()) {
+        if let Ok(letter) = str::from_utf8(&front[..size]) {
+            return if has_shape(letter) {
+                Some(letter)
+            } else {
+                None
+            };
         }
-        _ => put_byte(text, rest)?,
     }
-    Ok(())
+    None
 }
 
-/// Whether a letter has a shape, and stands in the text itself.
-fn is_shown(letter: char) -> bool {
-    !letter.is_control() && letter != '\u{fffd}'
-}
-
-fn put_byte(text: &mut String, rest: &[u8]) -> Result<(), OutOfMemory> {
-    match rest.first() {
-        Some(byte) => write!(text, "the byte {byte} begins nothing in the language")?,
-        None => text.push_str("nothing stands here")?,
-    }
-    Ok(())
+fn has_shape(letter: &str) -> bool {
+    letter.chars().all(|letter| !letter.is_control())
 }

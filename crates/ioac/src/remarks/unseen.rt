@@ -1,11 +1,15 @@
 //! What a composition does unseen, so that it is no monitor.
 
+ghost use Rattle.std.specs.Prelude.{◌≡◌, IfOk, IfSome, MatchOption, None, Some};
+ghost use Rattle.std.specs.String.{string_bytes};
+ghost use Rattle.ioac.specs.Unseen as spec;
+
 use crate::remarks::entries::entry_named;
-use ioa_compile::Program;
+use ioa_compile::{Entry, Member, Program};
 use ioa_rules::automaton_named;
 use ioa_tree::{Assembly, Declaration, Kind};
 use ioa_value::OutOfMemory;
-use std::fmt::Write;
+use std::alloc::Global;
 
 /// What is unseen: an internal entry of a component, or a hidden name.
 #[derive(Clone, Copy)]
@@ -15,19 +19,88 @@ pub enum Unseen<'a> {
 }
 
 /// The first internal entry of a program's components, or else the first name that it hides.
-pub fn unseen_in(program: &Program) -> Option<Unseen<'_>> {
-    for member in program.members() {
-        for entry in &member.entries {
-            if entry.kind == Kind::Internal {
-                return Some(Unseen::Internal {
-                    action: entry.name.as_str(),
-                    component: member.name.as_str(),
-                });
-            }
+pub fn unseen_in(program: &Program) -> Option<Unseen<'_>>
+    ensures { IfSome result (spec.IsUnseen program.now) }
+{
+    match internal_of(program.members()) {
+        Some(found) => Some(found),
+        None => hidden_of(program),
+    }
+}
+
+/// The first internal entry of the components.
+fn internal_of(members: &[Member]) -> Option<Unseen<'_>>
+    ensures { IfSome result (spec.IsInternal members.now) }
+{
+    match busy_member(members) {
+        Some(member) => internal_in(member),
+        None => None,
+    }
+}
+
+/// The first internal entry of a component, with the component's name.
+fn internal_in(member: &Member) -> Option<Unseen<'_>>
+    ensures { IfSome result (spec.HasInternal member.now) }
+{
+    match internal_entry(member) {
+        Some(entry) => Some(Unseen::Internal {
+            action: entry.name.as_str(),
+            component: member.name.as_str(),
+        }),
+        None => None,
+    }
+}
+
+/// The first component that has an internal entry.
+fn busy_member(members: &[Member]) -> Option<&Member>
+    ensures { MatchOption result (spec.busy_member members.now ≡ None) (λ m. spec.busy_member members.now ≡ Some m.now) }
+{
+    for member in members {
+        if is_busy(member) {
+            return Some(member);
         }
     }
-    let name = program.hidden().first()?;
-    Some(Unseen::Hidden(name.as_str()))
+    None
+}
+
+fn is_busy(member: &Member) -> bool
+    ensures { result ≡ spec.is_busy member.now }
+{
+    match internal_entry(member) {
+        Some(_) => true,
+        None => false,
+    }
+}
+
+/// The first internal entry of a component.
+fn internal_entry(member: &Member) -> Option<&Entry>
+    ensures { MatchOption result (spec.internal_entry member.now ≡ None) (λ e. spec.internal_entry member.now ≡ Some e.now) }
+{
+    for entry in &member.entries {
+        if is_internal(entry.kind) {
+            return Some(entry);
+        }
+    }
+    None
+}
+
+fn is_internal(kind: Kind) -> bool
+    ensures { result ≡ spec.is_internal kind }
+{
+    match kind {
+        Kind::Internal => true,
+        Kind::Input | Kind::Output => false,
+    }
+}
+
+/// The first name that a program hides.
+fn hidden_of(program: &Program) -> Option<Unseen<'_>>
+    ensures { IfSome result (spec.IsUnseen program.now) }
+{
+    match program.hidden() {
+        [name, ..] => Some(Unseen::Hidden(name.as_str())),
+        [] => None,
+    }
 }
 
 /// The line on which a source declares it. None, where it does not.
@@ -53,14 +126,24 @@ pub fn line_of_unseen(
     }
 }
 
-/// Puts what is unseen.
-pub fn put(text: &mut String, unseen: Unseen<'_>) -> Result<(), OutOfMemory> {
+/// What is unseen, in words.
+pub fn unseen_words(alloc: Global, unseen: Unseen<'_>) -> Result<String, OutOfMemory>
+    ensures { IfOk result (λ words. string_bytes words ≡ spec.unseen_text unseen.entry) }
+{
     match unseen {
-        Unseen::Internal { action, component } => write!(
-            text,
-            "`{action}` is an internal action of {component}, which no log shows"
-        )?,
-        Unseen::Hidden(name) => write!(text, "`{name}` is hidden, and a log shows it")?,
+        Unseen::Internal { action, component } => Ok(internal_words(alloc, action, component)?),
+        Unseen::Hidden(name) => Ok(hidden_words(alloc, name)?),
     }
-    Ok(())
+}
+
+fn internal_words(alloc: Global, action: &str, component: &str) -> Result<String, OutOfMemory>
+    ensures { IfOk result (λ words. string_bytes words ≡ spec.internal_text action.now component.now) }
+{
+    Ok(format!(in alloc; "`{action}` is an internal action of {component}, which no log shows")?)
+}
+
+fn hidden_words(alloc: Global, name: &str) -> Result<String, OutOfMemory>
+    ensures { IfOk result (λ words. string_bytes words ≡ spec.hidden_text name.now) }
+{
+    Ok(format!(in alloc; "`{name}` is hidden, and a log shows it")?)
 }

@@ -1,9 +1,14 @@
 //! What a code says in a few words, where no more is said of its cause.
 
+ghost use Rattle.std.specs.Prelude.{◌≡◌};
+ghost use Rattle.ioac.specs.Worded as spec;
+
 use ioa_request::Code;
 
 /// What the code says of the line that it names. Nothing, for a code that names none, and for that of a log of another run, of which more is said.
-pub fn wording(code: Code) -> &'static str {
+pub fn wording(code: Code) -> &'static str
+    ensures { result.now ≡ spec.wording code }
+{
     match code {
         Code::E2 => "no token begins here",
         Code::E3 => "no source goes on so",

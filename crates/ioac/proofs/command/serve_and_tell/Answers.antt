@@ -1,4 +1,4 @@
-use Rattle.std.proofs.Common.{ap, ◌∙◌}
+use Rattle.std.proofs.Common.{ap}
 use Rattle.ioa_serving.specs.Devices.{change}
 use Rattle.ioa_serving.specs.Serving.{wants_of}
 use Rattle.ioac.proofs.Answered.{both_err, both_ok}
