@@ -1,5 +1,5 @@
 -- The participants' drafts, one by one.
-use Rattle.std.proofs.Common.{◌≡◌, ◌≢◌, ℕ, zero, suc, ◌+◌, ◌<◌, ◌≤◌, List, [], ◌∷◌, ◌++◌, length, get_or, take, drop, map, set, All, Option, Some, refl, sym, ◌∙◌, ap, ap₂, subst, arith}
+use Rattle.std.proofs.Common.{◌≡◌, ◌≢◌, ℕ, zero, suc, ◌+◌, ◌<◌, ◌≤◌, List, [], ◌∷◌, ◌++◌, length, get_or, take, drop, map, set, All, Some, refl, sym, ◌∙◌, ap, ap₂, subst, arith}
 use Rattle.std.specs.Prelude.{slice_get, nat_eq, false}
 use Rattle.std.specs.List.{AllByRecursion, IsDistinct}
 use Rattle.std.proofs.lemmas.Bool.{eqb-false}
@@ -8,18 +8,14 @@ use Rattle.std.proofs.lemmas.List.Elements.{All-head, All-tail, All-drop}
 use Rattle.std.proofs.lemmas.Map.Keys.{IsDistinct-head, IsDistinct-tail}
 use Rattle.std.proofs.lemmas.Option.{slice_get-get_or}
 use Rattle.ioa_value.proofs.ItemLemmas.{drop_item, image_at}
-use Rattle.ioa_value.specs.Plain.{Val}
 use Rattle.ioa_node.specs.Drafts.{with_draft}
 use Rattle.ioa_node.specs.Nodes.{Node}
 use Rattle.ioa_system.specs.declared.participation.Participant.{Participant}
-use Rattle.ioa_system.specs.Drafted.{AreDrafts, ArePlaces, IsTyped, drafted}
+use Rattle.ioa_system.specs.Drafted.{AllFit, AreDrafts, ArePlaces, Draft, Fits, drafted}
 use Rattle.ioa_system.specs.Found.{IsLent, lent_types, member_of, numbers_of, state_of}
 use Rattle.ioa_system.specs.Participants.{taken, put_back}
 use Rattle.ioa_system.specs.Systems.{Slots, types_of, slots_of}
 use Rattle.ioa_system.proofs.Readying.{taken_map}
-
-abbrev pub Draft : Type 0
-Draft = List (Option Val)
 
 -- ---- one more draft
 
@@ -46,16 +42,30 @@ drafted_later ns (q ∷ qs) (c ∷ ds) (suc k) d = ap (λ ts. with_draft c (stat
 pub drafted_whole : (ns : List Node) (qs : List Participant) (ds : List Draft) (k : ℕ) → length qs ≤ k → drafted ns (take k qs) ds ≡ drafted ns qs ds
 drafted_whole ns qs ds k l = ap (λ ps. drafted ns ps ds) (take_all k qs l)
 
--- what holds of the drafted states holds of the one at k
-pub drafted_at : (P : Node → Type 0) (ns : List Node) (qs : List Participant) (ds : List Draft) (k : ℕ) (q : Participant) (d : Draft) → k < length qs → q ≡ get_or qs k q → k < length ds → d ≡ get_or ds k d
-    → All P (drafted ns qs ds) → P (with_draft d (state_of ns q))
-drafted_at P ns [] ds k q d l e m f h = absurd (omega arith)
-drafted_at P ns (p ∷ qs) [] k q d l e m f h = absurd (omega arith)
-drafted_at P ns (p ∷ qs) (c ∷ ds) zero q d l e m f h =
-    subst (λ (x : Draft). P (with_draft x (state_of ns q))) (sym f)
-    (subst (λ (y : Participant). P (with_draft c (state_of ns y))) (sym e) (All-head P (with_draft c (state_of ns p)) (drafted ns qs ds) h))
-drafted_at P ns (p ∷ qs) (c ∷ ds) (suc k) q d l e m f h =
-    drafted_at P ns qs ds k q d (omega arith) e (omega arith) f (All-tail P (with_draft c (state_of ns p)) (drafted ns qs ds) h)
+-- ---- drafts that fit
+
+fit_suc : (ns : List Node) (qs : List Participant) (ds : List Draft) (k : ℕ) (q : Participant) (d : Draft) → k < length qs → q ≡ get_or qs k q → k < length ds
+    → AllFit ns (take k qs) ds → Fits d (state_of ns q) → AllFit ns (take (suc k) qs) (set ds k d)
+fit_suc ns [] ds k q d l e m a f = absurd (omega arith)
+fit_suc ns (p ∷ qs) [] k q d l e m a f = absurd (omega arith)
+fit_suc ns (p ∷ qs) (c ∷ ds) zero q d l e m a f = (subst (λ (y : Participant). Fits d (state_of ns y)) e f, tt)
+fit_suc ns (p ∷ qs) (c ∷ ds) (suc k) q d l e m a f = (a.0, fit_suc ns qs ds k q d (omega arith) e (omega arith) a.1 f)
+
+-- those of the participants before k do, and the next one does
+pub fit_more : (ns : List Node) (qs : List Participant) (ds : List Draft) (k : ℕ) (q : Participant) (d : Draft) → k < length qs → q ≡ get_or qs k q → k < length ds
+    → AllFit ns (take k qs) ds → Fits d (state_of ns q) → AllFit ns (take (k + 1) qs) (set ds k d)
+fit_more ns qs ds k q d l e m a f =
+    let s : k + 1 ≡ suc k = omega arith in
+    subst (λ j. AllFit ns (take j qs) (set ds k d)) (sym s) (fit_suc ns qs ds k q d l e m a f)
+
+-- the one at k does
+pub fit_at : (ns : List Node) (qs : List Participant) (ds : List Draft) (k : ℕ) (q : Participant) (d : Draft) → k < length qs → q ≡ get_or qs k q → k < length ds → d ≡ get_or ds k d
+    → AllFit ns qs ds → Fits d (state_of ns q)
+fit_at ns [] ds k q d l e m f h = absurd (omega arith)
+fit_at ns (p ∷ qs) [] k q d l e m f h = absurd (omega arith)
+fit_at ns (p ∷ qs) (c ∷ ds) zero q d l e m f h =
+    subst (λ (x : Draft). Fits x (state_of ns q)) (sym f) (subst (λ (y : Participant). Fits c (state_of ns y)) (sym e) h.0)
+fit_at ns (p ∷ qs) (c ∷ ds) (suc k) q d l e m f h = fit_at ns qs ds k q d (omega arith) e (omega arith) f h.1
 
 -- ---- the drafted states' types
 
@@ -96,14 +106,24 @@ drafted_apart ns n new (q ∷ qs) (d ∷ ds) h p =
     let s : state_of (set ns n new) q ≡ state_of ns q = get_or-set_other ns n q.place new (member_of q).start o in
     ap₂ (λ (x : Node) (ts : List Node). with_draft d x ∷ ts) s (drafted_apart ns n new qs ds h.1 (All-tail (λ (r : Participant). r.place ≡ r.component) q qs p))
 
+fit_apart : (ns : List Node) (n : ℕ) (new : Node) (qs : List Participant) (ds : List Draft) → AllByRecursion (λ m. nat_eq n m ≡ false) (numbers_of qs) → All (λ q. q.place ≡ q.component) qs
+    → AllFit ns qs ds → AllFit (set ns n new) qs ds
+fit_apart ns n new [] ds h p a = tt
+fit_apart ns n new (q ∷ qs) [] h p a = tt
+fit_apart ns n new (q ∷ qs) (d ∷ ds) h p a =
+    let c : q.place ≡ q.component = All-head (λ (r : Participant). r.place ≡ r.component) q qs p in
+    let o : q.place ≢ n = λ e. eqb-false n q.component h.0 (sym e ∙ c) in
+    let s : state_of (set ns n new) q ≡ state_of ns q = get_or-set_other ns n q.place new (member_of q).start o in
+    (subst (Fits d) (sym s) a.0, fit_apart ns n new qs ds h.1 (All-tail (λ (r : Participant). r.place ≡ r.component) q qs p) a.1)
+
 -- where the drafts before k are put in place, and the later ones are as at the start
 pub record Installs (first : List Node) (ds₀ : List Draft) (qs : List Participant) (k : ℕ) (ns : List Node) (ds : List Draft) : Type 0 where
   pub result : put_back (numbers_of (drop k qs)) (drafted ns (drop k qs) (drop k ds)) ns ≡ put_back (numbers_of qs) (drafted first qs ds₀) first
-  pub typed : All IsTyped (drafted ns (drop k qs) (drop k ds))
+  pub fit : AllFit ns (drop k qs) (drop k ds)
   pub distinct : IsDistinct nat_eq (numbers_of (drop k qs))
 
 pub installs_begin : (ns : List Node) (qs : List Participant) (ds : List Draft) → ArePlaces qs ns → AreDrafts ns qs ds → Installs ns ds qs 0 ns ds
-installs_begin ns qs ds p h = record { result = refl; typed = h.typed; distinct = p.distinct }
+installs_begin ns qs ds p h = record { result = refl; fit = h.fit; distinct = p.distinct }
 
 module _ (first : List Node) (ds₀ : List Draft) (qs : List Participant) (k : ℕ) (ns : List Node) (ds : List Draft) (q : Participant) (d₀ : Draft) (x₀ : Node)
     (s : Installs first ds₀ qs k ns ds) (p : ArePlaces qs first) (h : AreDrafts first qs ds₀) (states : length ns ≡ length first) (drafts : length ds ≡ length ds₀)
@@ -136,11 +156,11 @@ module _ (first : List Node) (ds₀ : List Draft) (qs : List Participant) (k : �
   all_here : drafted ns (drop k qs) (drop k ds) ≡ with_draft d x ∷ drafted ns (drop (k + 1) qs) (drop (k + 1) ds)
   all_here = ap₂ (drafted ns) later drafts_later ∙ ap (λ (y : Node). with_draft d y ∷ drafted ns (drop (k + 1) qs) (drop (k + 1) ds)) (sym state_here)
 
-  typed_here : All IsTyped (with_draft d x ∷ drafted ns (drop (k + 1) qs) (drop (k + 1) ds))
-  typed_here = subst (All IsTyped) all_here s.typed
+  fit_here : AllFit ns (q ∷ drop (k + 1) qs) (d ∷ drop (k + 1) ds)
+  fit_here = subst (λ ps. AllFit ns ps (d ∷ drop (k + 1) ds)) later (subst (AllFit ns (drop k qs)) drafts_later s.fit)
 
-  pub typed_next : IsTyped (with_draft d x)
-  typed_next = All-head IsTyped (with_draft d x) (drafted ns (drop (k + 1) qs) (drop (k + 1) ds)) typed_here
+  pub fit_next : Fits d x
+  fit_next = subst (Fits d) (sym state_here) fit_here.0
 
   distinct_here : IsDistinct nat_eq (q.component ∷ numbers_of (drop (k + 1) qs))
   distinct_here = subst (λ ps. IsDistinct nat_eq (numbers_of ps)) later s.distinct
@@ -150,13 +170,18 @@ module _ (first : List Node) (ds₀ : List Draft) (qs : List Participant) (k : �
       ap (drafted (set ns q.component (with_draft d x)) (drop (k + 1) qs)) (drop-set-lt (k + 1) ds k c (omega arith))
       ∙ drafted_apart ns q.component (with_draft d x) (drop (k + 1) qs) (drop (k + 1) ds) (IsDistinct-head nat_eq q.component (numbers_of (drop (k + 1) qs)) distinct_here) (All-drop (λ (r : Participant). r.place ≡ r.component) (k + 1) qs p.places)
 
+  fit_later : (c : Draft) → AllFit (set ns q.component (with_draft d x)) (drop (k + 1) qs) (drop (k + 1) (set ds k c))
+  fit_later c =
+      subst (AllFit (set ns q.component (with_draft d x)) (drop (k + 1) qs)) (sym (drop-set-lt (k + 1) ds k c (omega arith)))
+      (fit_apart ns q.component (with_draft d x) (drop (k + 1) qs) (drop (k + 1) ds) (IsDistinct-head nat_eq q.component (numbers_of (drop (k + 1) qs)) distinct_here) (All-drop (λ (r : Participant). r.place ≡ r.component) (k + 1) qs p.places) fit_here.1)
+
   pub installs_next : (c : Draft) → Installs first ds₀ qs (k + 1) (set ns q.component (with_draft d x)) (set ds k c)
   installs_next c = record {
     result =
         ap (λ ts. put_back (numbers_of (drop (k + 1) qs)) ts (set ns q.component (with_draft d x))) (apart c)
         ∙ sym (ap₂ (λ (ps : List Participant) (ts : List Node). put_back (numbers_of ps) ts ns) later all_here)
         ∙ s.result;
-    typed = subst (All IsTyped) (sym (apart c)) (All-tail IsTyped (with_draft d x) (drafted ns (drop (k + 1) qs) (drop (k + 1) ds)) typed_here);
+    fit = fit_later c;
     distinct = IsDistinct-tail nat_eq q.component (numbers_of (drop (k + 1) qs)) distinct_here;
   }
 
@@ -189,8 +214,8 @@ module _ (ns : List Node) (qs : List Participant) (first : List Draft) (k : ℕ)
   draft_is : new ≡ get_or first k new
   draft_is = let b = both in let e : new ≡ get_or first k d₀ = cc in e ∙ get_or_default first k d₀ new within
 
-  pub copy_typed : IsTyped (with_draft new (state_of ns q))
-  copy_typed = drafted_at IsTyped ns qs first k q new l e within draft_is h.typed
+  pub copy_fits : Fits new (state_of ns q)
+  copy_fits = fit_at ns qs first k q new l e within draft_is h.fit
 
   pub copies_next : (c : Draft) (more : List Node) → more ≡ after ++ with_draft new (state_of ns q) ∷ [] → Copies ns qs first (k + 1) more (set ds k c)
   copies_next c more g = record {

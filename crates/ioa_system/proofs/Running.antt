@@ -11,14 +11,14 @@ use Rattle.ioa_compile.specs.Tables.{tabled}
 use Rattle.ioa_system.specs.declared.participation.Participant.{Participant}
 use Rattle.ioa_system.specs.declared.outcomes.Step.{Step}
 use Rattle.ioa_system.specs.Outcomes.{KeepsUnlessNext, step_of}
-use Rattle.ioa_system.specs.Drafted.{AreDrafts, ArePlaces, drafted}
+use Rattle.ioa_system.specs.Drafted.{AreDrafts, ArePlaces, Draft, drafted}
 use Rattle.ioa_system.specs.Found.{components_of, numbers_of, AreParticipants, lent}
 use Rattle.ioa_system.specs.Participants.{put_back, renumbered, all_back}
 use Rattle.ioa_system.specs.Systems.{Running, types_of, values_of, slot_types, slots_of}
 use Rattle.ioa_system.proofs.Participating.{put_back-taken, map_put_back, step_taken, written_anew}
 use Rattle.ioa_system.proofs.Finding.{no_item, numbers_distinct}
 use Rattle.ioa_system.proofs.Readying.{lent_all, same_length, within_all}
-use Rattle.ioa_system.proofs.Drafting.{Draft, drafted_taken}
+use Rattle.ioa_system.proofs.Drafting.{drafted_taken}
 
 start_map : {X : Type 0} (f : Node → X) (ms : List MemberCode) → map f (map (λ (m : MemberCode). m.start) ms) ≡ map (λ (m : MemberCode). f m.start) ms
 start_map f [] = refl

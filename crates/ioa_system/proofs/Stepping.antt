@@ -1,9 +1,8 @@
 -- The step of participants, one by one.
-use Rattle.std.proofs.Common.{◌≡◌, ℕ, ◌+◌, ◌<◌, ◌≤◌, List, [], ◌∷◌, ◌++◌, length, get_or, take, drop, set, All, Bool, true, false, Some, Result, Ok, Err, IfOk, refl, sym, ◌∙◌, ap, subst, arith}
+use Rattle.std.proofs.Common.{◌≡◌, ℕ, ◌+◌, ◌<◌, ◌≤◌, List, [], ◌∷◌, ◌++◌, length, get_or, take, drop, set, Bool, true, false, Some, Result, Ok, Err, IfOk, refl, sym, ◌∙◌, ap, subst, arith}
 use Rattle.std.specs.Prelude.{slice_index}
 use Rattle.std.specs.List.{list_any}
-use Rattle.std.proofs.lemmas.List.{append-nil, drop_all, get_or_default, get_or-set_same, length-map, length-set, map-append}
-use Rattle.std.proofs.lemmas.List.Elements.{All-append}
+use Rattle.std.proofs.lemmas.List.{append-nil, drop_all, get_or_default, get_or-set_same, length-map, length-set, map-append, take_all}
 use Rattle.ioa_value.proofs.ItemLemmas.{drop_item}
 use Rattle.ioa_arithmetic.specs.declared.arithmetic.Fault.{Fault}
 use Rattle.ioa_value.specs.Actions.{Act}
@@ -18,13 +17,13 @@ use Rattle.ioa_system.specs.declared.outcomes.Step.{Step}
 use Rattle.ioa_system.specs.declared.participation.Participant.{Participant}
 use Rattle.ioa_system.specs.declared.steps.Consent.{Consent}
 use Rattle.ioa_system.specs.Outcomes.{step_of}
-use Rattle.ioa_system.specs.Drafted.{AreDrafts, IsTyped, drafted}
+use Rattle.ioa_system.specs.Drafted.{AllFit, AreDrafts, Draft, Fits, drafted}
 use Rattle.ioa_system.specs.Found.{member_of, component_of, components_of, consented, numbers_of, state_of, lent, IsLent, AreReady}
 use Rattle.ioa_system.specs.Participants.{renumbered}
 use Rattle.ioa_system.specs.Systems.{values_of}
 use Rattle.ioa_system.proofs.Participating.{asked_renumbered, put_before, put_before_more, put_before_none}
-use Rattle.ioa_system.proofs.Finding.{has_found, no_item, one_item, owns_found, read_map}
-use Rattle.ioa_system.proofs.Drafting.{Draft, drafted_more, drafted_later, drafted_whole}
+use Rattle.ioa_system.proofs.Finding.{has_found, owns_found, read_map}
+use Rattle.ioa_system.proofs.Drafting.{drafted_more, drafted_later, drafted_whole, fit_more}
 
 -- a participant at its turn
 pub record AtTurn (a : Act) (ns : List Node) (qs : List Participant) (k : ℕ) (q : Participant) : Type 0 where
@@ -76,10 +75,10 @@ acts_from a ns qs k = effects k (components_of (drop k qs)) a (lent ns (drop k q
 -- what stands where the participants before k have their drafts
 pub record ActsOn (a : Act) (ns : List Node) (qs : List Participant) (ds : List Draft) (k : ℕ) : Type 0 where
   pub rest : put_before (values_of (drafted ns (take k qs) ds)) (acts_from a ns qs k) ≡ acts_from a ns qs 0
-  pub typed : All IsTyped (drafted ns (take k qs) ds)
+  pub fit : AllFit ns (take k qs) ds
 
 pub acts_begin : (a : Act) (ns : List Node) (qs : List Participant) (ds : List Draft) → ActsOn a ns qs ds 0
-acts_begin a ns qs ds = record { rest = put_before_none (acts_from a ns qs 0); typed = no_item IsTyped }
+acts_begin a ns qs ds = record { rest = put_before_none (acts_from a ns qs 0); fit = tt }
 
 acts_here : (a : Act) (ns : List Node) (qs : List Participant) (k : ℕ) (q : Participant) → AtTurn a ns qs k q
     → acts_from a ns qs k ≡ then_rest k ((component_of q).effect a (state_of ns q).values) (acts_from a ns qs (k + 1))
@@ -87,8 +86,8 @@ acts_here a ns qs k q t = let h : has a (component_of q) ≡ true = t.has in rw 
 
 pub acts_next : (a : Act) (ns : List Node) (qs : List Participant) (ds : List Draft) (k : ℕ) (q : Participant) (d : Draft) → ActsOn a ns qs ds k → AtTurn a ns qs k q
     → k < length qs → q ≡ get_or qs k q → k < length ds
-    → Ok (with_draft d (state_of ns q)).values ≡ (component_of q).effect a (state_of ns q).values → IsTyped (with_draft d (state_of ns q)) → ActsOn a ns qs (set ds k d) (k + 1)
-acts_next a ns qs ds k q d s t l g m e ty =
+    → Ok (with_draft d (state_of ns q)).values ≡ (component_of q).effect a (state_of ns q).values → Fits d (state_of ns q) → ActsOn a ns qs (set ds k d) (k + 1)
+acts_next a ns qs ds k q d s t l g m e fits =
     let more : Moved (List Val) = acts_from a ns qs (k + 1) in
     let after : List Node = drafted ns (take k qs) ds in
     let new : Node = with_draft d (state_of ns q) in
@@ -99,7 +98,7 @@ acts_next a ns qs ds k q d s t l g m e ty =
     drafted_more ns qs (set ds k d) k q d l g (omega arith) (sym (get_or-set_same ds k d d m)) ∙ ap (λ ts. ts ++ new ∷ []) (drafted_later ns qs ds k d) in
     record {
       rest = rw (n, v) (sym (put_before_more (values_of after) new.values more) ∙ ap (put_before (values_of after)) (sym r) ∙ s.rest);
-      typed = subst (All IsTyped) (sym n) (All-append IsTyped after (new ∷ []) s.typed (one_item IsTyped new ty));
+      fit = fit_more ns qs ds k q d l g m s.fit fits;
     }
 
 pub acts_fault : (a : Act) (ns : List Node) (qs : List Participant) (ds : List Draft) (k : ℕ) (q : Participant) (f : Fault) → ActsOn a ns qs ds k → AtTurn a ns qs k q
@@ -119,7 +118,7 @@ acts_end a ns qs ds k s l =
     ap (λ (ts : List Node). next (values_of ts)) (sym (drafted_whole ns qs ds k l)) ∙ ap (renumbered (numbers_of qs)) w
 
 pub drafts_end : (a : Act) (ns : List Node) (qs : List Participant) (ds : List Draft) (k : ℕ) → ActsOn a ns qs ds k → length qs ≤ k → length qs ≤ length ds → AreDrafts ns qs ds
-drafts_end a ns qs ds k s l c = record { count = c; typed = subst (All IsTyped) (drafted_whole ns qs ds k l) s.typed }
+drafts_end a ns qs ds k s l c = record { count = c; fit = subst (λ ps. AllFit ns ps ds) (take_all k qs l) s.fit }
 
 -- ---- the step
 

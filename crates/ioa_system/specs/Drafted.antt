@@ -8,20 +8,30 @@ use Rattle.ioa_node.specs.Nodes.{Node}
 use Rattle.ioa_system.specs.declared.participation.Participant.{Participant}
 use Rattle.ioa_system.specs.Found.{numbers_of, state_of}
 
+-- new values of some of a component's variables
+abbrev pub Draft : Type 0
+Draft = List (Option Val)
+
 -- the participants' states, each with the new values of its draft
-abbrev pub drafted : List Node → List Participant → List (List (Option Val)) → List Node
+abbrev pub drafted : List Node → List Participant → List Draft → List Node
 drafted ns [] ds = []
 drafted ns (q ∷ qs) [] = []
 drafted ns (q ∷ qs) (d ∷ ds) = with_draft d (state_of ns q) ∷ drafted ns qs ds
 
--- the values are of the variables' types
-abbrev pub IsTyped : Node → Type 0
-IsTyped n = HaveTypes n.table n.values n.types
+-- the new values are of the variables' types
+abbrev pub Fits : Draft → Node → Type 0
+Fits d n = HaveTypes n.table (with_draft d n).values n.types
 
--- there is a draft for each participant, with new values of its variables' types
-pub record AreDrafts (ns : List Node) (qs : List Participant) (ds : List (List (Option Val))) : Type 0 where
+-- each participant's draft fits its state
+abbrev pub AllFit : List Node → List Participant → List Draft → Type 0
+AllFit ns [] ds = Unit {0}
+AllFit ns (q ∷ qs) [] = Unit {0}
+AllFit ns (q ∷ qs) (d ∷ ds) = Fits d (state_of ns q) × AllFit ns qs ds
+
+-- there is a draft for each participant, and fits its state
+pub record AreDrafts (ns : List Node) (qs : List Participant) (ds : List Draft) : Type 0 where
   pub count : length qs ≤ length ds
-  pub typed : All IsTyped (drafted ns qs ds)
+  pub fit : AllFit ns qs ds
 
 -- the participants are different components, each with its state in its place among those of all
 pub record ArePlaces (qs : List Participant) (ns : List Node) : Type 0 where

@@ -3,7 +3,7 @@
 ghost use Rattle.std.specs.Prelude.{◌≡◌, ◌≤◌, All, List, IfOk, OnOk, length, map, Some};
 ghost use Rattle.ioa_value.specs.Plain.{Val};
 ghost use Rattle.ioa_value.specs.Actions.{act_of};
-ghost use Rattle.ioa_node.specs.Drafts.{standing, with_draft};
+ghost use Rattle.ioa_node.specs.Drafts.{standing};
 ghost use Rattle.ioa_node.specs.Runs.{left_by};
 ghost use Rattle.ioa_tree.specs.Steps as steps;
 ghost use Rattle.ioa_compile.specs.Shown.{entry_code, member_code};
@@ -11,7 +11,7 @@ ghost use Rattle.ioa_compile.specs.Tables as tables;
 ghost use Rattle.ioa_compile.specs.Tables.{AreEntries, table_component, tabled};
 ghost use Rattle.ioa_system.specs.Outcomes.{AreOfTypes, IfNext, moved_of, step_of};
 ghost use Rattle.ioa_system.specs.Found.{AreReady, IsLent, components_of, consented, lent, lent_types, numbers_of, placed};
-ghost use Rattle.ioa_system.specs.Drafted.{AreDrafts, IsTyped, drafted};
+ghost use Rattle.ioa_system.specs.Drafted.{AreDrafts, Fits, drafted};
 ghost use Rattle.ioa_system.specs.Participants as spec;
 ghost use Rattle.ioa_system.specs.Preconditions as preconditions;
 ghost use Rattle.ioa_system.specs.Systems.{slot_types, slots_of, types_of, values_of};
@@ -307,7 +307,7 @@ fn effect_on(
     requires found { tables.entry_of (member_code member.now) (act_of action.now) ≡ Some (entry_code entry.now) }
     requires slots { slots_of state.now ≡ slots_of (member_code member.now).start }
     ensures value { IfOk result (λ r. left_by r (standing draft.new state.now.values) ≡ (table_component (member_code member.now)).effect (act_of action.now) state.now.values) }
-    ensures types { IfOk result (λ r. IfOk r (λ _. IsTyped (with_draft draft.new state.now))) }
+    ensures fits { IfOk result (λ r. IfOk r (λ _. Fits draft.new state.now)) }
 {
     draft_effect(alloc, workspace, draft, &entry.effect, state, &action.vals)
 }

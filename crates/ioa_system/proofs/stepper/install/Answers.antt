@@ -1,12 +1,12 @@
 use Rattle.std.proofs.Common.{◌+◌, List, set, sym, subst}
 use Rattle.ioa_node.specs.Nodes.{Node}
 use Rattle.ioa_system.specs.declared.participation.Participant.{Participant}
-use Rattle.ioa_system.proofs.Drafting.{Installs, installs_next, typed_next}
+use Rattle.ioa_system.proofs.Drafting.{Installs, fit_next, installs_next}
 use Rattle.ioa_system.proofs.stepper.install.Goals as goal
 
 pub change-requires : goal.change-requires
 change-requires c =
-    typed_next c.args.states.now c.args.drafts.now c.args.participants.now c.loop-i.i c.loop-i.states c.loop-i.drafts c.index-participants-i.result c.index-drafts-i.result c.index-states-participant.result
+    fit_next c.args.states.now c.args.drafts.now c.args.participants.now c.loop-i.i c.loop-i.states c.loop-i.drafts c.index-participants-i.result c.index-drafts-i.result c.index-states-participant.result
     c.loop-i.invariant c.requires.places c.requires.drafts c.loop-i.auto.states c.loop-i.auto.drafts c.loop-i-test.true c.index-participants-i.is
 
 pub loop-i-preserved : goal.loop-i-preserved

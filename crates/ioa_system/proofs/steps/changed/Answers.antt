@@ -2,9 +2,9 @@ use Rattle.std.proofs.Common.{◌≡◌, ◌++◌, ◌∷◌, [], List, get_or, 
 use Rattle.ioa_node.specs.Drafts.{with_draft}
 use Rattle.ioa_node.specs.Nodes.{Node}
 use Rattle.ioa_system.specs.declared.participation.Participant.{Participant}
-use Rattle.ioa_system.specs.Drafted.{IsTyped}
+use Rattle.ioa_system.specs.Drafted.{Draft, Fits}
 use Rattle.ioa_system.specs.Found.{IsLent, state_of}
-use Rattle.ioa_system.proofs.Drafting.{Draft, copies_next, copy_typed}
+use Rattle.ioa_system.proofs.Drafting.{copies_next, copy_fits}
 use Rattle.ioa_system.proofs.Stepping.{state_is}
 use Rattle.ioa_system.proofs.steps.changed.Goals as goal
 use Rattle.ioa_system.proofs.steps.changed.Goals.{In_ok-state}
@@ -21,8 +21,8 @@ pub change-requires : goal.change-requires
 change-requires c =
     let at = (goal.at.change-requires c).In_ok-state in
     let d : Draft = get_or c.loop-i.drafts c.loop-i.i c.index-drafts-i.result in
-    subst (λ (n : Node). IsTyped (with_draft d n)) (sym (copied at))
-    (copy_typed c.args.states.now c.args.participants.now c.args.drafts.now c.loop-i.i c.loop-i.after.items c.loop-i.drafts c.index-participants-i.result c.index-drafts-i.result
+    subst (Fits d) (sym (copied at))
+    (copy_fits c.args.states.now c.args.participants.now c.args.drafts.now c.loop-i.i c.loop-i.after.items c.loop-i.drafts c.index-participants-i.result c.index-drafts-i.result
     c.loop-i.invariant c.requires.drafts c.loop-i.auto.drafts c.loop-i-test.true c.index-participants-i.is)
 
 pub loop-i-preserved : goal.loop-i-preserved

@@ -7,11 +7,10 @@ use Rattle.ioa_compile.specs.Programs.{Prog}
 use Rattle.ioa_compile.specs.Tables.{tabled}
 use Rattle.ioa_system.specs.declared.participation.Participant.{Participant}
 use Rattle.ioa_system.specs.Outcomes.{AreOfTypes, moved_of, step_of}
-use Rattle.ioa_system.specs.Drafted.{drafted}
+use Rattle.ioa_system.specs.Drafted.{Draft, drafted}
 use Rattle.ioa_system.specs.Found.{AreReady, components_of, lent, numbers_of, placed}
 use Rattle.ioa_system.specs.Participants.{renumbered, step_from}
 use Rattle.ioa_system.specs.Systems.{values_of}
-use Rattle.ioa_system.proofs.Drafting.{Draft}
 use Rattle.ioa_system.proofs.Participating.{step_taken}
 use Rattle.ioa_system.proofs.Readying.{ready_alone, step_alone, types_alone}
 use Rattle.ioa_system.proofs.participation.Participation.step_from.Goals as goal
