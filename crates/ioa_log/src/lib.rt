@@ -51,6 +51,7 @@ pub use laws::{
     refused_logs_have_reasons, run_log_is_read, run_logs_agree, verdict_is_the_first_difference,
     written_log_is_read,
 };
+pub use line_reader::LineReader;
 pub use log_entries::{EntryWriter, write_entries};
 pub use log_inspections::{LogInspection, inspect_log};
 pub use log_monitors::monitor_log;
@@ -60,7 +61,7 @@ pub use monitors::{MonitorErr, hides_actions, monitor};
 pub use reading::Replayed;
 pub use replays::{perform_list, replay_list};
 pub use run_logs::log_list;
-pub use streams::send_all;
+pub use streams::{blamed, send_all};
 pub use trace::Trace;
 // What logs are is defined beside the runs that they tell.
 pub use ioa_system::{Log, LogEnd, LogEntry};

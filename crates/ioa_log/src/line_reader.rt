@@ -14,7 +14,7 @@ use std::alloc::Global;
 
 /// What has come of a text. Kept are a piece and one line.
 #[derive(Drop)]
-pub(crate) struct LineReader {
+pub struct LineReader {
     /// The piece that was read last: of it the bytes from `start` to `end` are still to come.
     pub room: Vec<u8>,
     pub start: usize,

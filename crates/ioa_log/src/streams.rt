@@ -33,7 +33,7 @@ pub(crate) fn read_all<R: InputDevice>(alloc: Global, input: &mut R) -> Result<V
 }
 
 /// The error, which the reader is to blame for where it is a device's: its count says so then.
-pub(crate) fn blamed<R: InputDevice>(input: &mut R, error: LogErr) -> LogErr
+pub fn blamed<R: InputDevice>(input: &mut R, error: LogErr) -> LogErr
     requires { error ≡ LogErr.Io → 2 ^ 64 - 1 ≤ R.given_count input.old }
     ensures same { result ≡ error }
     ensures failed { error ≡ LogErr.Io → HasFailed (R.failure_count input.old) (R.failure_count input.new) }

@@ -1,0 +1,10 @@
+pub mod Watched
+pub mod Counted
+pub mod Names
+pub mod Placed
+pub mod Watchers
+pub mod AsMonitors
+pub mod AsSubjects
+pub mod Streams
+pub mod Listening
+pub mod Streaming
