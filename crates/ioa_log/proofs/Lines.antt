@@ -1,5 +1,5 @@
 -- A list text, line by line.
-use Rattle.std.proofs.Common.{◌≡◌, ℕ, ◌+◌, ◌-◌, ◌^◌, ◌<◌, ◌≤◌, true, false, List, [], ◌∷◌, ◌++◌, length, refl, sym, ◌∙◌, ap, subst, Option, None, Some, Err, IfSome, inl, inr, arith}
+use Rattle.std.proofs.Common.{◌≡◌, ℕ, ◌+◌, ◌-◌, ◌^◌, ◌<◌, ◌≤◌, ◌⊎◌, true, false, List, [], ◌∷◌, ◌++◌, length, refl, sym, ◌∙◌, ap, subst, Option, None, Some, Err, IfSome, inl, inr, arith}
 use Rattle.std.specs.Result.{IsErrOf}
 use Rattle.std.specs.Io.KnownBytes.{Consumes}
 use Rattle.std.proofs.lemmas.List.{append-nil}
@@ -14,9 +14,10 @@ use Rattle.ioa_value.proofs.ListLemmas.{good, one_more}
 use Rattle.ioa_compile.specs.Programs.{Prog}
 use Rattle.ioa_system.specs.Progress.{CountsOneMore}
 use Rattle.ioa_system.proofs.Tracing.{performed_within}
+use Rattle.ioa_log.specs.declared.failure.LogErr.{LogErr}
 use Rattle.ioa_log.specs.declared.reading.Reading.{Reading}
 use Rattle.ioa_log.specs.declared.reading.Replayed.{Replayed}
-use Rattle.ioa_log.specs.Failing.{HasFailed}
+use Rattle.ioa_log.specs.Failing.{HasFailed, IsListErr}
 use Rattle.ioa_log.specs.LineReading.{AreTaken}
 use Rattle.ioa_log.specs.Readings.{HasPerformed, HasRead, IsReplayed, ReadsOneMore}
 use Rattle.ioa_log.proofs.LineReading.{all_taken, parted}
@@ -80,6 +81,12 @@ module _ (p : Prog) (ls : List (List ℕ)) (r : Reading) (h : HasRead p ls r) (k
       by : (o : Option (List ℕ)) → IfSome o (λ bytes. AreTaken bytes ls left) → IfSome o (λ bytes. BadLine p.types bytes n)
       by None t = tt
       by (Some bytes) t = (ls, line, lines (after_line t.0), good p.types ls h.acts h.reads, bad, parted bytes ls left mid new line t some came, k)
+
+-- no line is asked for any more: a list has no end before which none may come
+pub list_stopped : (e : LogErr) → (e ≡ LogErr.Io) ⊎ ((e ≡ LogErr.AfterEnd) ⊎ (e ≡ LogErr.OutOfMemory)) → (e ≡ LogErr.AfterEnd → ⊥) → IsListErr e
+list_stopped e (inl s) ended = subst IsListErr (sym s) tt
+list_stopped e (inr (inl s)) ended = absurd (ended s)
+list_stopped e (inr (inr s)) ended = subst IsListErr (sym s) tt
 
 -- ---- bytes that are known
 

@@ -105,4 +105,37 @@ impl LineReader {
         }
         Err(blamed(input, LogErr::Io))
     }
+
+    /// Takes the next line, where a byte is to come: the answer is whether one was. None may come where the text has ended.
+    pub(crate) fn advance<R: InputDevice>(
+        &mut self,
+        input: &mut R,
+        ended: bool,
+    ) -> Result<bool, LogErr>
+        requires within { IsWithin self.old }
+        requires over { IsOver (R.remaining input.old) self.old }
+        ensures within { IsWithin self.new }
+        ensures over { OnOk result (IsOver (R.remaining input.new) self.new) }
+        ensures going { result ≡ Ok true → ended ≡ false }
+        ensures line { result ≡ Ok true → IfSome (to_come (R.remaining input.old) self.old) (λ all. (0 < length all) × (self.new.line.items ≡ first_line all)
+            × (to_come (R.remaining input.new) self.new ≡ Some (after_line all))) }
+        ensures none { result ≡ Ok false → IfSome (to_come (R.remaining input.old) self.old) (λ all. all ≡ []) }
+        ensures longer { IsErrOf result LogErr.AfterEnd → (ended ≡ true) × IfSome (to_come (R.remaining input.old) self.old) (λ all. 0 < length all) }
+        ensures counted { result ≡ Ok true → (n : ℕ) → min (n + length (rest self.old)) (2 ^ 64 - 1) ≤ R.given_count input.old
+            → min (n + 1 + length (rest self.new)) (2 ^ 64 - 1) ≤ R.given_count input.new }
+        ensures io { IsErrOf result LogErr.Io → HasFailed (R.failure_count input.old) (R.failure_count input.new) }
+        ensures passed { (IsErrOf result LogErr.Io → ⊥) → R.failure_count input.new ≡ R.failure_count input.old }
+        ensures once { FailedOnceAtMost (R.failure_count input.old) (R.failure_count input.new) }
+        ensures only { IfErr result (λ e. (e ≡ LogErr.Io) ⊎ ((e ≡ LogErr.AfterEnd) ⊎ (e ≡ LogErr.OutOfMemory))) }
+    {
+        let some = self.has_more(input)?;
+        if !some {
+            return Ok(false);
+        }
+        if ended {
+            return Err(LogErr::AfterEnd);
+        }
+        self.next(input)?;
+        Ok(true)
+    }
 }
