@@ -102,10 +102,9 @@ choice_fails depth inner a ts after_first (errors.Fault f) first failed =
     let more_failed : more_arms depth inner after_first ≡ Err f = arms_failed a (more_arms depth inner after_first) f failed in
     rw (first, more_failed) refl
 
-pub loop_read : (depth : ℕ) (inner : Reader Stmts) (x : Name) (v : Expr) (ss : Stmts) (ts after_name after_in after_items after_do after_body left : List Tok) →
-    a_name ts ≡ Ok (x, after_name) → sign terminals.In after_name ≡ Ok (tt, after_in) → expression depth after_in ≡ Ok (v, after_items) →
-    sign terminals.Do after_items ≡ Ok (tt, after_do) → inner after_do ≡ Ok (ss, after_body) → sign terminals.Od after_body ≡ Ok (tt, left) →
+pub loop_read : (depth : ℕ) (inner : Reader Stmts) (x : Name) (v : Expr) (ss : Stmts) (ts after_name after_in left : List Tok) →
+    a_name ts ≡ Ok (x, after_name) → sign terminals.In after_name ≡ Ok (tt, after_in) → (expression depth ▸ (sign terminals.Do ▸ (inner ▸ sign terminals.Od))) after_in ≡ Ok ((v, (tt, (ss, tt))), left) →
     a_loop depth inner ts ≡ Ok (each x v ss, left)
 unfolding a_loop
-loop_read depth inner x v ss ts after_name after_in after_items after_do after_body left named said read done statements closed =
-    rw (named, said, read, done, statements, closed) refl
+loop_read depth inner x v ss ts after_name after_in left named said turns =
+    rw (named, said, turns) refl

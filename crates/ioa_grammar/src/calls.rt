@@ -3,8 +3,9 @@
 ghost use Rattle.std.specs.Prelude.{◌≡◌, ◌≤◌, ◌<◌, ◌+◌, IfOk, map};
 ghost use Rattle.ioa_lex.specs.Tokens.{tokens_shown};
 ghost use Rattle.ioa_grammar.specs.Reading as spec;
-ghost use Rattle.ioa_grammar.specs.Reading.{ReadsAs};
+ghost use Rattle.ioa_grammar.specs.Reading.{ReadsAs, built, ◌▸◌};
 ghost use Rattle.ioa_tree.specs.Depth.{exprs_depth};
+ghost use Rattle.ioa_tree.specs.Tree.{parens};
 ghost use Rattle.ioa_tree.specs.View.{expr_of, exprs_of, name_of};
 
 use crate::cursor::Cursor;
@@ -28,6 +29,23 @@ pub(crate) fn empty(cursor: &mut Cursor<'_>, line: u32) -> Result<Measured, Read
     Ok(Measured::empty(name, line))
 }
 
+/// An expression of at most `depth` levels and the parenthesis after it; the one before it stands on this line.
+#[cycle(expression)]
+#[tactic(auto, unfolding(crate::specs::Reading::closing))]
+pub(crate) fn parentheses(
+    cursor: &mut Cursor<'_>,
+    depth: u32,
+    line: u32,
+) -> Result<Measured, ReadError>
+    requires { depth < 999 }
+    ensures read { ReadsAs (λ m. expr_of m.expression) (built parens (spec.closing (spec.expr depth 0)) (tokens_shown cursor.old)) result (tokens_shown cursor.new) }
+    ensures within { IfOk result (λ m. m.depth ≤ depth + 1) }
+{
+    let inner = expression(cursor, depth, 0)?;
+    cursor.expect(Terminal::Close)?;
+    Ok(inner.parentheses(cursor.alloc(), line)?)
+}
+
 /// The operator on one expression of at most `depth` levels, after its word, which stands on this line.
 #[cycle(expression)]
 #[tactic(auto, unfolding(crate::specs::Reading::around_one, crate::specs::Reading::enclosed, crate::specs::Reading::closing))]
@@ -42,9 +60,22 @@ fn around_one(
     ensures within { IfOk result (λ m. m.depth ≤ depth + 1) }
 {
     cursor.expect(Terminal::Open)?;
-    let inner = expression(cursor, depth, 0)?;
+    let operand = expression(cursor, depth, 0)?;
     cursor.expect(Terminal::Close)?;
-    Ok(inner.prefix(cursor.alloc(), operator, line)?)
+    Ok(operand.prefix(cursor.alloc(), operator, line)?)
+}
+
+/// Two expressions of at most `depth` levels, with a comma between them.
+#[cycle(expression)]
+fn pair(cursor: &mut Cursor<'_>, depth: u32) -> Result<(Measured, Measured), ReadError>
+    requires { depth < 999 }
+    ensures read { ReadsAs (λ p. (expr_of p.0.expression, (tt, expr_of p.1.expression))) ((spec.expr depth 0 ▸ (spec.sign Terminal.Comma ▸ spec.expr depth 0)) (tokens_shown cursor.old)) result (tokens_shown cursor.new) }
+    ensures first { IfOk result (λ p. p.0.depth ≤ depth) }
+    ensures second { IfOk result (λ p. p.1.depth ≤ depth) }
+{
+    let first = expression(cursor, depth, 0)?;
+    cursor.expect(Terminal::Comma)?;
+    Ok((first, expression(cursor, depth, 0)?))
 }
 
 /// The operator on two expressions of at most `depth` levels, after its word, which stands on this line.
@@ -61,9 +92,7 @@ fn around_two(
     ensures within { IfOk result (λ m. m.depth ≤ depth + 1) }
 {
     cursor.expect(Terminal::Open)?;
-    let first = expression(cursor, depth, 0)?;
-    cursor.expect(Terminal::Comma)?;
-    let second = expression(cursor, depth, 0)?;
+    let (first, second) = pair(cursor, depth)?;
     cursor.expect(Terminal::Close)?;
     Ok(first.binary(cursor.alloc(), Infix::Operator(operator), second, line)?)
 }
@@ -100,13 +129,9 @@ fn fields(cursor: &mut Cursor<'_>, depth: u32) -> Result<(Vec<Expression>, u32),
     let mut found = Vec::new(cursor.alloc());
     let mut deepest = 0;
     for _turn in 0..cursor.left() {
-        let field = self::expression(cursor, depth, 0)?;
-        let Measured {
-            expression,
-            depth: own,
-        } = field;
-        found.push(expression)?;
-        deepest = own.max(deepest);
+        let field = expression(cursor, depth, 0)?;
+        deepest = field.depth.max(deepest);
+        found.push(field.alone())?;
         if !cursor.take(Terminal::Comma) {
             return Ok((found, deepest));
         }

@@ -6,7 +6,7 @@ ghost use Rattle.ioa_grammar.specs.Reading as spec;
 ghost use Rattle.ioa_grammar.specs.Reading.{ReadsAs};
 ghost use Rattle.ioa_tree.specs.View.{expr_of};
 
-use crate::calls::{after_name, around, empty, selected};
+use crate::calls::{after_name, around, empty, parentheses, selected};
 use crate::cursor::Cursor;
 use crate::fault::{Fault, ReadError};
 use crate::measured::Measured;
@@ -39,13 +39,20 @@ fn operator_at(cursor: &Cursor<'_>, least: u32, below: u32) -> Option<Infix>
     }
 }
 
-/// An expression, as deep as the limit allows.
+/// An expression with its depth, as deep as the limit allows.
 #[tactic(auto, unfolding(crate::specs::Reading::expression))]
+pub(crate) fn measured_expression(cursor: &mut Cursor<'_>) -> Result<Measured, ReadError>
+    ensures { ReadsAs (λ m. expr_of m.expression) (spec.expression LIMITS.depth (tokens_shown cursor.old)) result (tokens_shown cursor.new) }
+{
+    expression(cursor, MAX_DEPTH, 0)
+}
+
+/// An expression, as deep as the limit allows.
 pub(crate) fn whole_expression(cursor: &mut Cursor<'_>) -> Result<Expression, ReadError>
     ensures { ReadsAs expr_of (spec.expression LIMITS.depth (tokens_shown cursor.old)) result (tokens_shown cursor.new) }
 {
-    let Measured { expression, .. } = expression(cursor, MAX_DEPTH, 0)?;
-    Ok(expression)
+    let whole = measured_expression(cursor)?;
+    Ok(whole.alone())
 }
 
 /// An expression of at most `depth` levels, whose operators outside parentheses have a level from `least` on.
@@ -105,7 +112,7 @@ fn operand(cursor: &mut Cursor<'_>, depth: u32) -> Result<Measured, ReadError>
 /// A number, a truth value, a name, an empty sequence, or expressions of at most `depth` levels in parentheses, alone or
 /// after the word of an operator or the name of a type.
 #[cycle(expression)]
-#[tactic(auto, unfolding(crate::specs::Reading::primary, crate::specs::Reading::start_at, crate::specs::Reading::start_of, crate::specs::Reading::closing, crate::specs::Reading::a_name))]
+#[tactic(auto, unfolding(crate::specs::Reading::primary, crate::specs::Reading::start_at, crate::specs::Reading::start_of, crate::specs::Reading::a_name))]
 fn primary(cursor: &mut Cursor<'_>, depth: u32) -> Result<Measured, ReadError>
     requires { depth < 999 }
     ensures read { ReadsAs (λ m. expr_of m.expression) (spec.primary (spec.expr depth 0) (tokens_shown cursor.old)) result (tokens_shown cursor.new) }
@@ -133,9 +140,7 @@ fn primary(cursor: &mut Cursor<'_>, depth: u32) -> Result<Measured, ReadError>
         }
         Kind::Terminal(Terminal::Open) => {
             cursor.skip();
-            let inner = expression(cursor, depth, 0)?;
-            cursor.expect(Terminal::Close)?;
-            Ok(inner.parentheses(cursor.alloc(), *line)?)
+            parentheses(cursor, depth, *line)
         }
         Kind::Terminal(Terminal::Empty) => {
             cursor.skip();

@@ -11,14 +11,34 @@ use ioa_value::Op;
 use std::alloc::{AllocError, Global};
 
 /// An expression with its depth.
-#[derive(Drop)]
 pub(crate) struct Measured {
     pub expression: Expression,
     pub depth: u32,
     ghost exact: { depth ≡ depth_of (expr_of expression) },
 }
 
+/// Written out, so that a reader that fails calls it, and does not take the expression apart itself.
+impl Drop for Measured {
+    fn drop(self) {
+        let Measured {
+            expression: _,
+            depth: _,
+        } = self;
+    }
+}
+
 impl Measured {
+    /// The expression alone.
+    pub fn alone(self) -> Expression
+        ensures { result ≡ self.expression }
+    {
+        let Measured {
+            expression,
+            depth: _,
+        } = self;
+        expression
+    }
+
     pub fn number(n: u64, line: u32) -> Measured
         ensures { expr_of result.expression ≡ spec.number n }
     {

@@ -5,13 +5,13 @@ ghost use Rattle.std.specs.Prelude.{◌≡◌, ◌∷◌, map};
 ghost use Rattle.ioa_lex.specs.Tokens.{tokens_shown};
 ghost use Rattle.ioa_grammar.specs.Reading as spec;
 ghost use Rattle.ioa_grammar.specs.Reading.{ReadsAs, built, ◌▸◌};
-ghost use Rattle.ioa_tree.specs.View.{stmt_of, stmts_of, arm_of};
+ghost use Rattle.ioa_tree.specs.View.{expr_of, stmt_of, stmts_of, arm_of};
 
 use crate::cursor::Cursor;
-use crate::expressions::whole_expression;
+use crate::expressions::{measured_expression, whole_expression};
 use crate::fault::ReadError;
 use ioa_lex::Terminal;
-use ioa_tree::{Arm, Statement};
+use ioa_tree::{Arm, Expression, Statement};
 
 #[tactic(auto, unfolding(crate::specs::Reading::assignment))]
 fn assignment(cursor: &mut Cursor<'_>) -> Result<Statement, ReadError>
@@ -97,11 +97,12 @@ pub(crate) fn introduced(
 fn an_arm(cursor: &mut Cursor<'_>, levels: u32) -> Result<Arm, ReadError>
     ensures { ReadsAs arm_of (spec.an_arm LIMITS.depth (spec.in_sequence (spec.statement LIMITS.depth levels)) (tokens_shown cursor.old)) result (tokens_shown cursor.new) }
 {
-    let condition = whole_expression(cursor)?;
+    let condition = measured_expression(cursor)?;
     cursor.expect(Terminal::Then)?;
+    let statements = statements(cursor, levels)?;
     Ok(Arm {
-        condition,
-        statements: statements(cursor, levels)?,
+        condition: condition.alone(),
+        statements,
     })
 }
 
@@ -145,6 +146,18 @@ fn choice(cursor: &mut Cursor<'_>, levels: u32, line: u32) -> Result<Statement, 
     Ok(Statement::If(arms, others, line))
 }
 
+/// What a loop goes over, and what it does with each item.
+#[cycle(statement)]
+fn turns(cursor: &mut Cursor<'_>, levels: u32) -> Result<(Expression, Vec<Statement>), ReadError>
+    ensures { ReadsAs (λ p. (expr_of p.0, (tt, (stmts_of p.1.items, tt)))) ((spec.expression LIMITS.depth ▸ (spec.sign Terminal.Do ▸ (spec.in_sequence (spec.statement LIMITS.depth levels) ▸ spec.sign Terminal.Od))) (tokens_shown cursor.old)) result (tokens_shown cursor.new) }
+{
+    let items = measured_expression(cursor)?;
+    cursor.expect(Terminal::Do)?;
+    let body = statements(cursor, levels)?;
+    cursor.expect(Terminal::Od)?;
+    Ok((items.alone(), body))
+}
+
 /// A loop that stands on this line, after `for`.
 #[cycle(statement)]
 #[tactic(auto, unfolding(crate::specs::Reading::a_loop), using(ioa_tree::proofs::StatementRows::stmt_each))]
@@ -153,9 +166,6 @@ fn a_loop(cursor: &mut Cursor<'_>, levels: u32, line: u32) -> Result<Statement, 
 {
     let name = cursor.name()?;
     cursor.expect(Terminal::In)?;
-    let items = whole_expression(cursor)?;
-    cursor.expect(Terminal::Do)?;
-    let body = statements(cursor, levels)?;
-    cursor.expect(Terminal::Od)?;
+    let (items, body) = turns(cursor, levels)?;
     Ok(Statement::For(name, items, body, line))
 }

@@ -5,11 +5,11 @@ ghost use Rattle.std.specs.Prelude.{◌≡◌, map};
 ghost use Rattle.std.specs.Option.{option_map};
 ghost use Rattle.ioa_lex.specs.Tokens.{tokens_shown};
 ghost use Rattle.ioa_grammar.specs.Reading as spec;
-ghost use Rattle.ioa_grammar.specs.Reading.{ReadsAs};
+ghost use Rattle.ioa_grammar.specs.Reading.{ReadsAs, ◌▸◌};
 ghost use Rattle.ioa_tree.specs.View.{expr_of, choice_of, proposal_of, stmts_of, transition_of};
 
 use crate::cursor::Cursor;
-use crate::expressions::{MAX_DEPTH, whole_expression};
+use crate::expressions::{MAX_DEPTH, measured_expression, whole_expression};
 use crate::fault::ReadError;
 use crate::statements::introduced;
 use ioa_lex::Terminal;
@@ -35,9 +35,9 @@ fn choice(cursor: &mut Cursor<'_>) -> Result<Choice, ReadError>
         return Ok(Choice::Value(whole_expression(cursor)?));
     }
     cursor.expect(Terminal::Open)?;
-    let expression = whole_expression(cursor)?;
+    let expression = measured_expression(cursor)?;
     cursor.expect(Terminal::Close)?;
-    Ok(Choice::Any(expression, line))
+    Ok(Choice::Any(expression.alone(), line))
 }
 
 #[tactic(auto, unfolding(crate::specs::Reading::proposal))]
@@ -81,6 +81,14 @@ fn effect(cursor: &mut Cursor<'_>) -> Result<Vec<Statement>, ReadError>
     introduced(cursor, Terminal::Eff, MAX_DEPTH)
 }
 
+/// What is proposed, and what is done.
+fn outcome(cursor: &mut Cursor<'_>) -> Result<(Vec<Proposal>, Vec<Statement>), ReadError>
+    ensures { ReadsAs (λ p. (map proposal_of p.0.items, stmts_of p.1.items)) ((spec.optional_list Terminal.Propose (spec.proposals LIMITS.depth) ▸ spec.introduced Terminal.Eff (spec.statements LIMITS.depth)) (tokens_shown cursor.old)) result (tokens_shown cursor.new) }
+{
+    let proposals = proposals(cursor)?;
+    Ok((proposals, effect(cursor)?))
+}
+
 /// A transition: a kind, a name, and the parts that it has.
 #[tactic(auto, unfolding(crate::specs::Reading::transition))]
 fn transition(cursor: &mut Cursor<'_>) -> Result<Transition, ReadError>
@@ -89,8 +97,7 @@ fn transition(cursor: &mut Cursor<'_>) -> Result<Transition, ReadError>
     let kind = cursor.kind()?;
     let name = cursor.name()?;
     let pre = precondition(cursor)?;
-    let proposals = proposals(cursor)?;
-    let effect = effect(cursor)?;
+    let (proposals, effect) = outcome(cursor)?;
     Ok(Transition {
         kind,
         name,

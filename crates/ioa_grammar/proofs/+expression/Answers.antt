@@ -1,4 +1,4 @@
-use Rattle.std.proofs.Common.{rules, arith, ◌≡◌, ◌≤◌, ◌+◌, ◌-◌, ◌∙◌, Some, Ok, map, refl, ap, sym, subst}
+use Rattle.std.proofs.Common.{rules, arith, ◌≡◌, ◌≤◌, ◌+◌, ◌-◌, ◌∙◌, Some, Ok, [], ◌∷◌, ◌++◌, map, refl, ap, sym, subst}
 use Rattle.ioa_value.specs.declared.terminal.Terminal.TheVariants as terminals
 use Rattle.ioa_lex.specs.Tokens.{tokens_shown}
 use Rattle.ioa_grammar.specs.Reading as spec
@@ -43,21 +43,21 @@ calls::after_name-returns-clause-read t c =
 pub calls::fields-returns-then-not-take-clause-read : goal.calls::fields-returns-then-not-take-clause-read
 calls::fields-returns-then-not-take-clause-read t c =
     sym c.loop-turn.invariant.same
-    ∙ items_close expr_of spec.always terminals.Comma (spec.expr c.args.depth 0) _ _ _ _ _ _ _ _ c.loop-turn-test.true c.in_ok-field.ensures.read c.take.ensures.after (sym c.take.ensures.found ∙ c.if-not-take.true) c.in_ok-push.ensures.items
+    ∙ items_close expr_of spec.always terminals.Comma (spec.expr c.args.depth 0) _ _ _ _ _ _ _ _ c.loop-turn-test.true c.in_ok-field.ensures.read c.take.ensures.after (sym c.take.ensures.found ∙ c.if-not-take.true) (c.in_ok-push.ensures.items ∙ ap (λ e. c.loop-turn.found.items ++ e ∷ []) c.alone.ensures)
 
 pub calls::fields-returns-then-not-take-clause-exact : goal.calls::fields-returns-then-not-take-clause-exact
 calls::fields-returns-then-not-take-clause-exact t c =
-    let pushed = ap (λ xs. exprs_depth (exprs_of xs)) c.in_ok-push.ensures.items ∙ depth_pushed c.loop-turn.found.items c.in_ok-field.field.expression in
+    let pushed = ap (λ xs. exprs_depth (exprs_of xs)) (c.in_ok-push.ensures.items ∙ ap (λ e. c.loop-turn.found.items ++ e ∷ []) c.alone.ensures) ∙ depth_pushed c.loop-turn.found.items c.in_ok-field.field.expression in
     omega (arith, pushed, c.max-deepest.ensures, c.in_ok-field.field.exact, c.loop-turn.invariant.exact)
 
 pub calls::fields-loop-turn-preserved : goal.calls::fields-loop-turn-preserved
 calls::fields-loop-turn-preserved t c = record {
   same =
-      ap (λ xs. spec.items_from spec.always terminals.Comma (spec.expr c.args.depth 0) (c.left-turn-end.result - (c.loop-turn._turn + 1)) (map expr_of xs) (tokens_shown c.take.new.self)) c.in_ok-push.ensures.items
+      ap (λ xs. spec.items_from spec.always terminals.Comma (spec.expr c.args.depth 0) (c.left-turn-end.result - (c.loop-turn._turn + 1)) (map expr_of xs) (tokens_shown c.take.new.self)) (c.in_ok-push.ensures.items ∙ ap (λ e. c.loop-turn.found.items ++ e ∷ []) c.alone.ensures)
       ∙ items_turn expr_of spec.always terminals.Comma (spec.expr c.args.depth 0) _ _ _ _ _ _ _ c.loop-turn-test.true c.in_ok-field.ensures.read (sym c.take.ensures.found ∙ c.if-not-take.false) c.take.ensures.after refl
       ∙ c.loop-turn.invariant.same;
   exact =
-      let pushed = ap (λ xs. exprs_depth (exprs_of xs)) c.in_ok-push.ensures.items ∙ depth_pushed c.loop-turn.found.items c.in_ok-field.field.expression in
+      let pushed = ap (λ xs. exprs_depth (exprs_of xs)) (c.in_ok-push.ensures.items ∙ ap (λ e. c.loop-turn.found.items ++ e ∷ []) c.alone.ensures) ∙ depth_pushed c.loop-turn.found.items c.in_ok-field.field.expression in
       omega (arith, pushed, c.max-deepest.ensures, c.in_ok-field.field.exact, c.loop-turn.invariant.exact);
   within = omega (arith, c.max-deepest.ensures, c.in_ok-field.ensures.within, c.loop-turn.invariant.within);
 }

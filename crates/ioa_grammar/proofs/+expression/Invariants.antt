@@ -7,34 +7,40 @@ use Rattle.ioa_tree.specs.View.{expr_of, exprs_of}
 use Rattle.ioa_grammar.proofs.+expression.Given as goal
 
 abbrev pub decreases-expressions::climb : goal.decreases-expressions::climb
-decreases-expressions::climb l = 6 * l.depth + 1
+decreases-expressions::climb l = 7 * l.depth + 1
 
 abbrev pub decreases-expressions::expression : goal.decreases-expressions::expression
-decreases-expressions::expression l = 6 * l.depth
+decreases-expressions::expression l = 7 * l.depth
 
 abbrev pub decreases-expressions::first : goal.decreases-expressions::first
-decreases-expressions::first l = 6 * l.depth + 5
+decreases-expressions::first l = 7 * l.depth + 6
 
 abbrev pub decreases-expressions::operand : goal.decreases-expressions::operand
-decreases-expressions::operand l = 6 * l.depth + 4
+decreases-expressions::operand l = 7 * l.depth + 5
 
 abbrev pub decreases-expressions::primary : goal.decreases-expressions::primary
-decreases-expressions::primary l = 6 * l.depth + 3
+decreases-expressions::primary l = 7 * l.depth + 4
 
 abbrev pub decreases-calls::after_name : goal.decreases-calls::after_name
-decreases-calls::after_name l = 6 * l.depth + 2
+decreases-calls::after_name l = 7 * l.depth + 2
 
 abbrev pub decreases-calls::fields : goal.decreases-calls::fields
-decreases-calls::fields l = 6 * l.depth + 1
+decreases-calls::fields l = 7 * l.depth + 1
 
 abbrev pub decreases-calls::around : goal.decreases-calls::around
-decreases-calls::around l = 6 * l.depth + 2
+decreases-calls::around l = 7 * l.depth + 3
 
 abbrev pub decreases-calls::around_one : goal.decreases-calls::around_one
-decreases-calls::around_one l = 6 * l.depth + 1
+decreases-calls::around_one l = 7 * l.depth + 2
 
 abbrev pub decreases-calls::around_two : goal.decreases-calls::around_two
-decreases-calls::around_two l = 6 * l.depth + 1
+decreases-calls::around_two l = 7 * l.depth + 2
+
+abbrev pub decreases-calls::parentheses : goal.decreases-calls::parentheses
+decreases-calls::parentheses l = 7 * l.depth + 1
+
+abbrev pub decreases-calls::pair : goal.decreases-calls::pair
+decreases-calls::pair l = 7 * l.depth + 1
 
 abbrev pub invariant-expressions::climb-loop-turn : goal.invariant-expressions::climb-loop-turn
 invariant-expressions::climb-loop-turn l = record {

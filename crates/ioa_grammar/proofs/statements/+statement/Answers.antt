@@ -50,6 +50,5 @@ choice-returns t c =
 
 pub a_loop-returns : goal.a_loop-returns
 a_loop-returns t c =
-    loop_read LIMITS.depth (in_sequence (statement LIMITS.depth c.args.levels)) (name_of c.in_ok-name.name) (expr_of c.in_ok-items.items) (stmts_of c.in_ok-body.body.items) _ _ _ _ _ _ _
-    c.in_ok-name.ensures c.in_ok-expect.ensures c.in_ok-items.ensures c.in_ok-expect-2.ensures c.in_ok-body.ensures c.in_ok-expect-3.ensures
-    ∙ ap (λ s. Ok (s, tokens_shown c.expect-3.new.self)) (sym (stmt_each c.in_ok-name.name c.in_ok-items.items c.in_ok-body.body c.args.line))
+    loop_read LIMITS.depth (in_sequence (statement LIMITS.depth c.args.levels)) (name_of c.in_ok-name.name) (expr_of c.in_ok-items.items) (stmts_of c.in_ok-items.body.items) _ _ _ _ c.in_ok-name.ensures c.in_ok-expect.ensures c.in_ok-items.ensures
+    ∙ ap (λ s. Ok (s, tokens_shown c.turns.new.cursor)) (sym (stmt_each c.in_ok-name.name c.in_ok-items.items c.in_ok-items.body c.args.line))

@@ -31,10 +31,13 @@ abbrev pub decreases-choice : goal.decreases-choice
 decreases-choice l = 7 * l.levels + 6
 
 abbrev pub decreases-a_loop : goal.decreases-a_loop
-decreases-a_loop l = 7 * l.levels + 3
+decreases-a_loop l = 7 * l.levels + 4
+
+abbrev pub decreases-turns : goal.decreases-turns
+decreases-turns l = 7 * l.levels + 3
 
 abbrev pub decreases-unconditional : goal.decreases-unconditional
-decreases-unconditional l = 7 * l.levels + 4
+decreases-unconditional l = 7 * l.levels + 5
 
 abbrev pub invariant-each_statement-loop-turn : goal.invariant-each_statement-loop-turn
 invariant-each_statement-loop-turn l = items_from sees_statement terminals.Semicolon (statement LIMITS.depth l.levels) (l._turn-end - l._turn) (map stmt_of l.found.items) (tokens_shown l.cursor) ≡ terminated sees_statement terminals.Semicolon (statement LIMITS.depth l.levels) (tokens_shown l.initial.cursor)
