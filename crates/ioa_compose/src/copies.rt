@@ -1,4 +1,5 @@
-//! Copies of trees, since a composition keeps automata and invariants, and no source.
+//! Copies of trees, since a composition keeps automata and invariants, and no source. An expression is copied last, or boxed at
+//! once: where memory is short behind it, all of its kinds would have to be told apart to drop it.
 
 ghost use Rattle.std.specs.Prelude.{◌≡◌, IfOk, map};
 ghost use Rattle.std.specs.Option.{option_map};
@@ -32,18 +33,17 @@ pub(crate) fn copied_expression(
         Expression::Truth(b, line) => Ok(Expression::Truth(*b, *line)),
         Expression::Name(name) => Ok(Expression::Name(copied_name(alloc, name)?)),
         Expression::Parentheses(inner, line) => {
-            let inner = copied_expression(alloc, inner)?;
-            Ok(Expression::Parentheses(Box::new(alloc, inner)?, *line))
+            let inner = Box::new(alloc, copied_expression(alloc, inner)?)?;
+            Ok(Expression::Parentheses(inner, *line))
         }
         Expression::Prefix(operator, operand, line) => {
-            let operand = copied_expression(alloc, operand)?;
-            Ok(Expression::Prefix(*operator, Box::new(alloc, operand)?, *line))
+            let operand = Box::new(alloc, copied_expression(alloc, operand)?)?;
+            Ok(Expression::Prefix(*operator, operand, *line))
         }
         Expression::Binary(left, operator, right, line) => {
-            let left = copied_expression(alloc, left)?;
-            let right = copied_expression(alloc, right)?;
-            let left = Box::new(alloc, left)?;
-            Ok(Expression::Binary(left, *operator, Box::new(alloc, right)?, *line))
+            let left = Box::new(alloc, copied_expression(alloc, left)?)?;
+            let right = Box::new(alloc, copied_expression(alloc, right)?)?;
+            Ok(Expression::Binary(left, *operator, right, *line))
         }
         Expression::Empty(name, line) => Ok(Expression::Empty(copied_name(alloc, name)?, *line)),
         Expression::Make(name, fields) => {
@@ -51,9 +51,8 @@ pub(crate) fn copied_expression(
             Ok(Expression::Make(name, copied_expressions(alloc, fields)?))
         }
         Expression::Select(tuple, name, line) => {
-            let tuple = copied_expression(alloc, tuple)?;
-            let name = copied_name(alloc, name)?;
-            Ok(Expression::Select(Box::new(alloc, tuple)?, name, *line))
+            let tuple = Box::new(alloc, copied_expression(alloc, tuple)?)?;
+            Ok(Expression::Select(tuple, copied_name(alloc, name)?, *line))
         }
     }
 }
@@ -217,8 +216,8 @@ fn copied_statement(alloc: Global, statement: &Statement) -> Result<Statement, O
         }
         Statement::For(name, items, body, line) => {
             let name = copied_name(alloc, name)?;
-            let items = copied_expression(alloc, items)?;
             let body = copied_statements(alloc, body)?;
+            let items = copied_expression(alloc, items)?;
             Ok(Statement::For(name, items, body, *line))
         }
     }
@@ -245,8 +244,8 @@ fn copied_arms(alloc: Global, arms: &[Arm]) -> Result<Vec<Arm>, OutOfMemory>
     let mut out = Vec::new(alloc);
     for arm in arms {
         out.push(Arm {
-            condition: copied_expression(alloc, &arm.condition)?,
             statements: copied_statements(alloc, &arm.statements)?,
+            condition: copied_expression(alloc, &arm.condition)?,
         })?;
     }
     Ok(out)
@@ -258,9 +257,9 @@ fn copied_transition(alloc: Global, transition: &Transition) -> Result<Transitio
     Ok(Transition {
         kind: transition.kind,
         name: copied_name(alloc, &transition.name)?,
-        pre: copied_option(alloc, &transition.pre)?,
         proposals: copied_proposals(alloc, &transition.proposals)?,
         effect: copied_statements(alloc, &transition.effect)?,
+        pre: copied_option(alloc, &transition.pre)?,
     })
 }
 

@@ -173,9 +173,9 @@ fn guarded(alloc: Global, line: u32, transition: &Transition) -> Result<Transiti
     Ok(Transition {
         kind: transition.kind,
         name: copied_name(alloc, &transition.name)?,
-        pre: guarded_precondition(alloc, line, transition)?,
         proposals: copied_proposals(alloc, &transition.proposals)?,
         effect: if_up(alloc, line, effect)?,
+        pre: guarded_precondition(alloc, line, transition)?,
     })
 }
 
@@ -201,12 +201,12 @@ fn only_up(
 ) -> Result<Expression, OutOfMemory>
     ensures { IfOk result (λ e. expr_of e ≡ spec.only_up (option_map expr_of condition.now)) }
 {
-    let up = Expression::Name(up_name(alloc, line)?);
+    let up = up_name(alloc, line)?;
     match condition {
-        None => Ok(up),
+        None => Ok(Expression::Name(up)),
         Some(condition) => {
+            let up = Box::new(alloc, Expression::Name(up))?;
             let condition = copied_expression(alloc, condition)?;
-            let up = Box::new(alloc, up)?;
             Ok(Expression::Binary(up, Infix::And, Box::new(alloc, condition)?, line))
         }
     }
@@ -287,8 +287,9 @@ fn resets(alloc: Global, line: u32, variables: &[Variable]) -> Result<Vec<Statem
 fn reset(alloc: Global, variable: &Variable) -> Result<Statement, OutOfMemory>
     ensures { IfOk result (λ s. stmt_of s ≡ spec.reset (variable_of variable.now)) }
 {
-    let value = Expression::Name(start_name(alloc, &variable.field.name)?);
-    Ok(Statement::Assign(copied_name(alloc, &variable.field.name)?, value))
+    let value = start_name(alloc, &variable.field.name)?;
+    let name = copied_name(alloc, &variable.field.name)?;
+    Ok(Statement::Assign(name, Expression::Name(value)))
 }
 
 /// The statement by which the host is up or down.

@@ -22,8 +22,8 @@ pub copied_arms-returns : goal.copied_arms-returns
 copied_arms-returns t c =
     alike_arms _ _ (c.loop-arm.invariant ∙ ap (map arm_of) (take_all c.loop-arm.arm-index c.args.arms.now c.loop-arm-test.false))
 
-pub copied_statement-returns-in_ok-body-in-For : goal.copied_statement-returns-in_ok-body-in-For
-copied_statement-returns-in_ok-body-in-For t c =
+pub copied_statement-returns-in_ok-items-in-For : goal.copied_statement-returns-in_ok-items-in-For
+copied_statement-returns-in_ok-items-in-For t c =
     let copy = stmts_of c.in_ok-body-in-For.body.items in
     let items = expr_of c.in_ok-items-in-For.items in
     stmt_each c.in_ok-name-in-For.name c.in_ok-items-in-For.items c.in_ok-body-in-For.body c.in-For.line
