@@ -190,7 +190,33 @@ impl Alike for Op {
     ghost part = { λ op. op };
 
     fn is_like(&self, other: &Op) -> bool {
-        self == other
+        match (self, other) {
+            (Op::Neg, Op::Neg)
+            | (Op::Add, Op::Add)
+            | (Op::Sub, Op::Sub)
+            | (Op::Mul, Op::Mul)
+            | (Op::Div, Op::Div)
+            | (Op::Mod, Op::Mod)
+            | (Op::Lt, Op::Lt)
+            | (Op::Le, Op::Le)
+            | (Op::Gt, Op::Gt)
+            | (Op::Ge, Op::Ge)
+            | (Op::Not, Op::Not)
+            | (Op::Eq, Op::Eq)
+            | (Op::Ne, Op::Ne)
+            | (Op::Len, Op::Len)
+            | (Op::Head, Op::Head)
+            | (Op::Tail, Op::Tail)
+            | (Op::Last, Op::Last)
+            | (Op::Init, Op::Init)
+            | (Op::Append, Op::Append)
+            | (Op::At, Op::At)
+            | (Op::Member, Op::Member)
+            | (Op::Without, Op::Without) => true,
+            (Op::Make(a), Op::Make(b)) => a.is_like(b),
+            (Op::Field(a), Op::Field(b)) => a == b,
+            _ => false,
+        }
     }
 }
 
